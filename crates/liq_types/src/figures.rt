@@ -1,0 +1,25 @@
+//! Amounts that belong together.
+
+/// What an account has outside troves and deposits: collateral in gwei, LUSD in micro-LUSD.
+#[derive(Clone, Copy, Debug, PartialEq, Eq)]
+pub struct Wallet {
+    pub coll: u64,
+    pub lusd: u64,
+}
+
+/// What the rules on troves read of a state.
+#[derive(Clone, Copy, Debug, PartialEq, Eq)]
+pub struct Market {
+    /// Micro-LUSD per ether.
+    pub price: u64,
+    pub minute: u64,
+    /// The base rate as of its minute, over 10^18.
+    pub base: u64,
+    /// The minute of the last fee.
+    pub fee_minute: u64,
+    /// Active and default collateral, in gwei.
+    pub total_coll: u64,
+    /// Active and default debt, in micro-LUSD.
+    pub total_debt: u64,
+    pub troves: u64,
+}

@@ -1,0 +1,21 @@
+//! Where a trove may stand in the ordered list. A hint saves steps and changes no reply.
+
+/// The two hint words of a command.
+#[derive(Clone, Copy, Debug, PartialEq, Eq)]
+pub struct HintWords {
+    /// The account before the place, nearer the front.
+    pub prev: Option<u32>,
+    /// The account after the place.
+    pub next: Option<u32>,
+}
+
+/// A place that was found in some version of the ordered list.
+#[derive(Clone, Copy, Debug, PartialEq, Eq)]
+pub struct Hint {
+    /// The account before the place, nearer the front.
+    pub prev: Option<u32>,
+    /// The account after the place.
+    pub next: Option<u32>,
+    /// The number of the version.
+    pub version: u64,
+}

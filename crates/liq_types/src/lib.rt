@@ -1,0 +1,17 @@
+//! The plain data that every crate of liq speaks of: requests, replies, refusals, amounts and their limits.
+//!
+//! Debt and LUSD are in micro-LUSD, collateral in gwei, the price in micro-LUSD per ether, time in whole minutes.
+#![tactic(auto)]
+
+pub mod amounts;
+pub mod events;
+pub mod figures;
+pub mod hints;
+pub mod replies;
+pub mod requests;
+
+pub use events::{ListChange, PoolEvent};
+pub use figures::{Market, Wallet};
+pub use hints::{Hint, HintWords};
+pub use replies::{Answer, Done, Info, NoMemory, Refusal, Reply};
+pub use requests::{Call, Command, Query, Request};
