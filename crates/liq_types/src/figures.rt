@@ -1,10 +1,20 @@
 //! Amounts that belong together.
 
+use crate::replies::Done;
+
 /// What an account has outside troves and deposits: collateral in gwei, LUSD in micro-LUSD.
 #[derive(Clone, Copy, Debug, PartialEq, Eq)]
 pub struct Wallet {
     pub coll: u64,
     pub lusd: u64,
+}
+
+/// What is kept for a client, so that a command that comes again acts once: the last number that was accepted, 0 for none,
+/// and the reply to it.
+#[derive(Clone, Copy, Debug, PartialEq, Eq)]
+pub struct Client {
+    pub last: u64,
+    pub kept: Done,
 }
 
 /// What the rules on troves read of a state.

@@ -4,14 +4,16 @@
 #![tactic(auto)]
 
 pub mod amounts;
+pub mod counting;
 pub mod events;
 pub mod figures;
 pub mod hints;
 pub mod replies;
 pub mod requests;
 
+pub use counting::Steps;
 pub use events::{ListChange, PoolEvent};
-pub use figures::{Market, Wallet};
+pub use figures::{Client, Market, Wallet};
 pub use hints::{Hint, HintWords};
 pub use replies::{Answer, Done, Info, NoMemory, Refusal, Reply};
 pub use requests::{Call, Command, Query, Request};

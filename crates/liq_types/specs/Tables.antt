@@ -1,0 +1,24 @@
+-- Tables: entries in ascending keys, each key once.
+use Rattle.std.specs.Prelude.{ℕ, Bool, List, Option, filter}
+use Rattle.std.specs.BTreeMap.{insert_entry, is_at}
+use Rattle.std.specs.Map.{lookup, remove_entry}
+use Rattle.std.specs.Ordering.{nat_cmp}
+
+abbrev pub Table : Type 0 → Type 0
+Table X = List (ℕ × X)
+
+-- what the table has at a key
+abbrev pub at : {X : Type 0} → Table X → ℕ → Option X
+at table key = lookup (is_at (nat_cmp key)) table
+
+-- the table with x at a key
+abbrev pub put : {X : Type 0} → Table X → ℕ → X → Table X
+put table key x = insert_entry nat_cmp table key x
+
+-- the table with nothing at a key
+abbrev pub without : {X : Type 0} → Table X → ℕ → Table X
+without table key = remove_entry (is_at (nat_cmp key)) table
+
+-- the rows that a test keeps
+abbrev pub rows : {X : Type 0} → (X → Bool) → Table X → Table X
+rows test table = filter (λ row. test row.1) table
