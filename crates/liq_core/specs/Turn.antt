@@ -1,0 +1,17 @@
+-- What planning answers.
+use Rattle.std.specs.Prelude.{◌≡◌, Result, Ok, Err}
+use Rattle.liq_types.specs.declared.requests.Command.{Command}
+use Rattle.liq_types.specs.State.{State}
+use Rattle.liq_core.specs.declared.turns.Turn.{Turn}
+use Rattle.liq_core.specs.declared.turns.Turn.TheVariants.{Again, New}
+use Rattle.liq_core.specs.declared.turns.PlanFault.{PlanFault}
+use Rattle.liq_core.specs.declared.turns.PlanFault.TheVariants.{No, NoMemory}
+use Rattle.liq_core.specs.Plan.{IsPlan}
+use Rattle.liq_core.specs.Step.{Refused, Repeated, ruling}
+
+-- Planning gives the ruling. Only want of memory says nothing of it.
+abbrev pub Plans : State → Command → Result Turn PlanFault → Type 0
+Plans s c (Ok (Again kept)) = ruling s c ≡ Repeated kept
+Plans s c (Ok (New plan)) = (plan.command ≡ c) × IsPlan s plan
+Plans s c (Err (No refusal)) = ruling s c ≡ Refused refusal
+Plans s c (Err NoMemory) = Unit {0}
