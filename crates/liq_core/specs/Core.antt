@@ -39,3 +39,13 @@ pub record SameContent (old new : Core) : Type 0 where
 pub record HasRoom (core : Core) (c : Command) : Type 0 where
   pub wallets : AllByRecursion (λ account. IsSome (at core.wallets account)) (accounts c.call)
   pub client : IsSome (at core.clients c.client)
+
+-- the plainest of the states for which the core stands
+abbrev pub state_of : Core → State
+state_of core =
+    record {
+      brought = core.brought;
+      records = core.records;
+      wallets = rows is_used_wallet core.wallets;
+      clients = rows is_used_client core.clients;
+    }

@@ -1,12 +1,21 @@
 //! The protocol's state, and its steps.
 
-ghost use Rattle.std.specs.Prelude.{◌≡◌};
-ghost use Rattle.liq_core.specs.Step.{built};
+ghost use Rattle.std.specs.Prelude.{◌≡◌, ◌≤◌, ◌<◌, ◌+◌, ◌-◌, ◌++◌, IsTrue, IsSome, OnOk, MatchResult, None, Some, Ok, map, filter};
+ghost use Rattle.liq_types.specs.declared.requests.Request.TheVariants.{Do, Ask};
+ghost use Rattle.liq_types.specs.declared.requests.Call.TheVariants.{Fund, Take};
+ghost use Rattle.liq_types.specs.State.{State, opening, wallet_of, client_of};
+ghost use Rattle.liq_types.specs.Tables.{at, put};
+ghost use Rattle.liq_core.specs.Step.{built, built_call, accounts, rules, in_range, first_refusal, done_of, step};
 
+use std::alloc::Global;
 use std::collections::BTreeMap;
 use std::marker::Model;
+use std::sync::ledger::Ledger;
 
-use liq_types::{Call, Client, Query, Request, Wallet};
+use crate::tables;
+use crate::turns::{PlanFault, Planned, Turn};
+use liq_types::amounts::{ACCOUNTS, LIM, RECORDS_MOST};
+use liq_types::{Call, Client, Command, Done, Hint, Info, NoMemory, Query, Refusal, Reply, Request, Steps, Wallet};
 
 /// The protocol: wallets and clients, and the collateral inside.
 #[derive(Drop)]
@@ -27,6 +36,51 @@ impl Model for Protocol {
     ghost view = { core_of };
 
     ghost invariant = { λ p. IsSound (core_of p) };
+}
+
+/// A wallet of nothing.
+const NO_WALLET: Wallet = Wallet { coll: 0, lusd: 0 };
+
+/// A client of which no command was accepted.
+const NO_CLIENT: Client = Client {
+    last: 0,
+    kept: Done {
+        kind: 0,
+        values: [0; 6],
+    },
+};
+
+impl Protocol {
+    ghost use Rattle.liq_core.specs.Core.{StandsFor, SameContent, HasRoom, state_of};
+    ghost use Rattle.liq_core.specs.Plan.{IsPlannedOn};
+    ghost use Rattle.liq_core.specs.Turn.{Plans};
+
+    /// The protocol as it opens: nothing is inside.
+    pub fn new(alloc: Global) -> Protocol
+        ensures { StandsFor result opening }
+    {
+        Protocol {
+            brought: 0,
+            records: 0,
+            wallets: BTreeMap::new(alloc),
+            clients: BTreeMap::new(alloc),
+        }
+    }
+
+    fn wallet(&self, account: u32) -> Wallet
+        ensures seen { result ≡ wallet_of (state_of self.now) account }
+        ensures within { result.coll ≤ self.now.brought }
+        ensures limit { self.now.brought ≤ LIM }
+    {
+        self.wallets.get(&account).copied().unwrap_or(NO_WALLET)
+    }
+
+    fn client(&self, client: u32) -> Client
+        ensures last { result.last ≡ (client_of (state_of self.now) client).last }
+        ensures kept { 0 < result.last → result.kept ≡ (client_of (state_of self.now) client).kept }
+    {
+        self.clients.get(&client).copied().unwrap_or(NO_CLIENT)
+    }
 }
 
 /// Whether the protocol answers such a request yet.

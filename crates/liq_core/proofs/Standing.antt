@@ -1,0 +1,50 @@
+-- The states for which a core stands, and what is read of them.
+use Rattle.std.proofs.Common.{◌≡◌, ℕ, Bool, true, false, cond, refl, ap, sym, ◌∙◌, arith, not, nat_eq, ◌<◌, Some, None, Option}
+use Rattle.std.specs.Prelude.{unwrap_or, ◌==◌, ◌&&◌}
+use Rattle.liq_types.specs.declared.figures.Wallet.{Wallet}
+use Rattle.liq_types.specs.declared.figures.Client.{Client}
+use Rattle.liq_types.specs.State.{State, no_wallet, no_client, is_used_wallet, is_used_client, wallet_of, client_of}
+use Rattle.liq_types.specs.Tables.{Table, at}
+use Rattle.liq_core.specs.Core.{Core, StandsFor, state_of}
+use Rattle.liq_core.specs.Sound.{IsSound}
+use Rattle.liq_core.proofs.UsedRows.{at-rows, seen_or}
+use Rattle.std.proofs.lemmas.Bool.Decides.{nat_tests}
+use Rattle.std.proofs.lemmas.Map.Entries.{option_filter}
+
+pub stands_itself : (core : Core) → StandsFor core (state_of core)
+stands_itself core = record { image = refl; records = refl }
+
+-- no other state has its image and its records
+pub stands_only : (core : Core) (s : State) → StandsFor core s → state_of core ≡ s
+stands_only core s h =
+    ap (λ i. record { brought = i.brought; records = core.records; wallets = i.wallets; clients = i.clients }) h.image
+    ∙ ap (λ n. record { brought = s.brought; records = n; wallets = s.wallets; clients = s.clients }) h.records
+
+unused_wallet : (w : Wallet) → is_used_wallet w ≡ false → w ≡ no_wallet
+unused_wallet w h =
+    let coll : w.coll ≡ 0 = grind (arith, nat_tests, h) in
+    let lusd : w.lusd ≡ 0 = grind (arith, nat_tests, h) in
+    ap (λ n. record { coll = n; lusd = w.lusd }) coll ∙ ap (λ n. record { coll = 0; lusd = n }) lusd
+
+unused_client : (k : Client) → is_used_client k ≡ false → k.last ≡ 0
+unused_client k h = grind (arith, nat_tests, h)
+
+pub seen_wallet : (core : Core) → IsSound core → (account : ℕ) → unwrap_or (at core.wallets account) no_wallet ≡ wallet_of (state_of core) account
+seen_wallet core sound account =
+    sym (ap (λ o. unwrap_or o no_wallet) (at-rows is_used_wallet core.wallets account sound.wallets_ascend)
+        ∙ seen_or is_used_wallet (λ (w : Wallet). w) no_wallet unused_wallet (at core.wallets account))
+
+pub seen_last : (core : Core) → IsSound core → (client : ℕ) → (unwrap_or (at core.clients client) no_client).last ≡ (client_of (state_of core) client).last
+seen_last core sound client =
+    sym (ap (λ o. (unwrap_or o no_client).last) (at-rows is_used_client core.clients client sound.clients_ascend)
+        ∙ seen_or is_used_client (λ (k : Client). k.last) no_client unused_client (at core.clients client))
+
+kept_of : (o : Option Client) → 0 < (unwrap_or o no_client).last → option_filter is_used_client o ≡ o
+kept_of None h = refl
+kept_of (Some k) h =
+    let used : is_used_client k ≡ true = grind (arith, nat_tests, h) in
+    ap (λ b. cond b (Some k) None) used
+
+pub seen_kept : (core : Core) → IsSound core → (client : ℕ) → 0 < (unwrap_or (at core.clients client) no_client).last → (unwrap_or (at core.clients client) no_client).kept ≡ (client_of (state_of core) client).kept
+seen_kept core sound client h =
+    sym (ap (λ o. (unwrap_or o no_client).kept) (at-rows is_used_client core.clients client sound.clients_ascend ∙ kept_of (at core.clients client) h))

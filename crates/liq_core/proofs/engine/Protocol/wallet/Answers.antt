@@ -1,0 +1,14 @@
+use Rattle.std.proofs.Common.{ap, ◌∙◌}
+use Rattle.std.specs.Prelude.{unwrap_or}
+use Rattle.liq_types.specs.State.{no_wallet, wallet_of}
+use Rattle.liq_core.specs.Core.{state_of}
+use Rattle.liq_core.specs.Sound.{core_of}
+use Rattle.liq_core.proofs.Standing.{seen_wallet}
+use Rattle.liq_core.proofs.engine.Protocol.wallet.Goals as goal
+
+pub returns-clause-seen : goal.returns-clause-seen
+returns-clause-seen c =
+    c.unwrap_or.ensures
+    ∙ ap (λ o. unwrap_or o no_wallet) (c.copied.ensures ∙ c.get.ensures.value)
+    ∙ seen_wallet (core_of c.self.inside) c.self.invariant c.args.account
+    ∙ ap (λ core. wallet_of (state_of core) c.args.account) c.self.view_is
