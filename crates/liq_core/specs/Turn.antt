@@ -1,5 +1,8 @@
 -- What planning answers.
-use Rattle.std.specs.Prelude.{◌≡◌, Result, Ok, Err}
+use Rattle.std.specs.Prelude.{◌≡◌, ◌++◌, map, Result, Ok, Err, Some, None}
+use Rattle.liq_types.specs.declared.replies.Done.{Done}
+use Rattle.liq_types.specs.declared.replies.Refusal.{Refusal}
+use Rattle.liq_types.specs.declared.requests.Call.{Call}
 use Rattle.liq_types.specs.declared.requests.Command.{Command}
 use Rattle.liq_types.specs.State.{State}
 use Rattle.liq_core.specs.declared.turns.Turn.{Turn}
@@ -7,7 +10,7 @@ use Rattle.liq_core.specs.declared.turns.Turn.TheVariants.{Again, New}
 use Rattle.liq_core.specs.declared.turns.PlanFault.{PlanFault}
 use Rattle.liq_core.specs.declared.turns.PlanFault.TheVariants.{No, NoMemory}
 use Rattle.liq_core.specs.Plan.{IsPlan}
-use Rattle.liq_core.specs.Step.{Refused, Repeated, ruling}
+use Rattle.liq_core.specs.Step.{Refused, Repeated, ruling, first_refusal, in_range, accounts, rules, done_of}
 
 -- Planning gives the ruling. Only want of memory says nothing of it.
 abbrev pub Plans : State → Command → Result Turn PlanFault → Type 0
@@ -15,3 +18,8 @@ Plans s c (Ok (Again kept)) = ruling s c ≡ Repeated kept
 Plans s c (Ok (New plan)) = (plan.command ≡ c) × IsPlan s plan
 Plans s c (Err (No refusal)) = ruling s c ≡ Refused refusal
 Plans s c (Err NoMemory) = Unit {0}
+
+-- the refusal of the call's accounts and of what its verb tests, or its reply
+abbrev pub IsRuled : State → Call → Result Done Refusal → Type 0
+IsRuled s call (Ok done) = (first_refusal (map in_range (accounts call) ++ rules s call) ≡ None) × (done ≡ done_of s call)
+IsRuled s call (Err refusal) = first_refusal (map in_range (accounts call) ++ rules s call) ≡ Some refusal

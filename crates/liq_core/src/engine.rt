@@ -1,6 +1,6 @@
 //! The protocol's state, and its steps.
 
-ghost use Rattle.std.specs.Prelude.{◌≡◌, ◌≤◌, ◌<◌, ◌+◌, ◌-◌, ◌++◌, IsTrue, IsSome, OnOk, MatchResult, None, Some, Ok, map, filter};
+ghost use Rattle.std.specs.Prelude.{◌≡◌, ◌≤◌, ◌<◌, ◌+◌, ◌-◌, ◌++◌, IsTrue, IsSome, OnOk, MatchResult, None, Some, replicate};
 ghost use Rattle.liq_types.specs.declared.requests.Request.TheVariants.{Do, Ask};
 ghost use Rattle.liq_types.specs.declared.requests.Call.TheVariants.{Fund, Take};
 ghost use Rattle.liq_types.specs.State.{State, opening, wallet_of, client_of};
@@ -53,7 +53,7 @@ const NO_CLIENT: Client = Client {
 impl Protocol {
     ghost use Rattle.liq_core.specs.Core.{StandsFor, SameContent, HasRoom, state_of};
     ghost use Rattle.liq_core.specs.Plan.{IsPlannedOn};
-    ghost use Rattle.liq_core.specs.Turn.{Plans};
+    ghost use Rattle.liq_core.specs.Turn.{Plans, IsRuled};
 
     /// The protocol as it opens: nothing is inside.
     pub fn new(alloc: Global) -> Protocol
@@ -80,6 +80,88 @@ impl Protocol {
         ensures kept { 0 < result.last → result.kept ≡ (client_of (state_of self.now) client).kept }
     {
         self.clients.get(&client).copied().unwrap_or(NO_CLIENT)
+    }
+
+    /// Rules on a command, and plans it where it is allowed. A refusal is the first whose condition holds, in the order
+    /// of the rules.
+    pub fn plan(&self, command: &Command) -> Result<Turn, PlanFault>
+        requires built { IsTrue (built (Do command.now)) }
+        requires few { self.now.records < RECORDS_MOST }
+        ensures { (s : State) → StandsFor self.now s → Plans s command.now result }
+    {
+        if command.client >= ACCOUNTS {
+            let value = command.client;
+            return Err(PlanFault::No(Refusal::AccountRange { value }));
+        }
+        let client = self.client(command.client);
+        if command.number == client.last && command.number != 0 {
+            return Ok(Turn::Again(client.kept));
+        }
+        if command.number == 0 || command.number - 1 != client.last {
+            let expected = client.last.saturating_add(1);
+            return Err(PlanFault::No(Refusal::OutOfTurn { expected }));
+        }
+        match self.plan_call(&command.call) {
+            Ok(done) => Ok(Turn::New(Planned {
+                command: *command,
+                done,
+            })),
+            Err(refusal) => Err(PlanFault::No(refusal)),
+        }
+    }
+
+    /// What a call has beside its client and number.
+    fn plan_call(&self, call: &Call) -> Result<Done, Refusal>
+        requires { IsTrue (built_call call.now) }
+        ensures { IsRuled (state_of self.now) call.now result }
+    {
+        match *call {
+            Call::Fund(account, coll) => self.plan_fund(account, coll),
+            Call::Take(account, coll) => self.plan_take(account, coll),
+            _ => unreachable!(),
+        }
+    }
+
+    fn plan_fund(&self, account: u32, coll: u64) -> Result<Done, Refusal>
+        ensures { IsRuled (state_of self.now) (Fund account coll) result }
+    {
+        if account >= ACCOUNTS {
+            return Err(Refusal::AccountRange { value: account });
+        }
+        if coll == 0 {
+            return Err(Refusal::AmountZero);
+        }
+        let sum = u128::from(self.brought) + u128::from(coll);
+        if sum > u128::from(LIM) {
+            return Err(Refusal::AmountLimit { sum, limit: LIM });
+        }
+        Ok(done(3))
+    }
+
+    fn plan_take(&self, account: u32, coll: u64) -> Result<Done, Refusal>
+        ensures { IsRuled (state_of self.now) (Take account coll) result }
+    {
+        if account >= ACCOUNTS {
+            return Err(Refusal::AccountRange { value: account });
+        }
+        if coll == 0 {
+            return Err(Refusal::AmountZero);
+        }
+        let have = self.wallet(account).coll;
+        if have < coll {
+            return Err(Refusal::ShortCollateral { need: coll, have });
+        }
+        Ok(done(4))
+    }
+}
+
+/// A reply without values.
+fn done(kind: u8) -> Done
+    ensures { result ≡ record { kind = kind; values = replicate 6 0 } }
+{
+    Done {
+        kind,
+        values: [0; 6],
     }
 }
 
