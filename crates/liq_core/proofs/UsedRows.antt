@@ -1,5 +1,5 @@
 -- Tables of which only the used rows are seen, and what writing a row does to what is seen.
-use Rattle.std.proofs.Common.{◌≡◌, ℕ, Bool, true, false, cond, List, [], ◌∷◌, refl, ap, sym, subst, ◌∙◌, Some, None, Option, arith}
+use Rattle.std.proofs.Common.{◌≡◌, ℕ, Bool, true, false, cond, List, [], ◌∷◌, refl, ap, sym, subst, ◌∙◌, Some, None, Option, arith, inl, inr}
 use Rattle.std.specs.Prelude.{◌⊎◌, unwrap_or, IsSome, map, filter, sum_by, ◌+◌}
 use Rattle.std.specs.Option.{option_map}
 use Rattle.std.specs.List.{AllByRecursion}
@@ -12,6 +12,7 @@ use Rattle.std.specs.Map.{keys_of, values_of}
 use Rattle.std.proofs.lemmas.Map.Keys.{sorted_head, sorted_tail, IsDistinct-from_sorted}
 use Rattle.std.proofs.lemmas.Map.Entries.{option_filter, lookup-filter-values, sum_by-insert_entry}
 use Rattle.std.proofs.lemmas.Map.Lookups.{exact_unsigned}
+use Rattle.liq_core.specs.Rows.{Reserves}
 use Rattle.liq_types.specs.Tables.{Table, at, put, without, rows}
 
 module _ {X : Type 0} where
@@ -96,3 +97,16 @@ module _ {X : Type 0} where
     by : (b : Bool) → test x ≡ b → f (unwrap_or (cond b (Some x) None) none) ≡ f x
     by true h = refl
     by false h = sym (same x h)
+
+  -- reserving changes nothing that is seen
+  pub rows-reserve : (test : X → Bool) (old new : Table X) (key : ℕ) (empty : X) → test empty ≡ false → Reserves old new key empty → rows test new ≡ rows test old
+  rows-reserve test old new key empty u (inl same) = ap (λ (t : Table X). rows test t) same
+  rows-reserve test old new key empty u (inr made) = ap (λ (t : Table X). rows test t) made.1 ∙ rows-put_unused test old key empty u made.0
+
+  -- nor a sum in which an empty row counts nothing
+  pub sum_by-reserve : (f : X → ℕ) (old new : Table X) (key : ℕ) (empty : X) → f empty ≡ 0 → IsStrictlySortedBy nat_cmp (keys_of old) → Reserves old new key empty → sum_by f (values_of new) ≡ sum_by f (values_of old)
+  sum_by-reserve f old new key empty z s (inl same) = ap (λ (t : Table X). sum_by f (values_of t)) same
+  sum_by-reserve f old new key empty z s (inr made) =
+      let law = sum_by-insert_entry f nat_cmp_total old key empty s in
+      let none : unwrap_or (option_map f (at old key)) 0 ≡ 0 = ap (λ o. unwrap_or (option_map f o) 0) made.0 in
+      ap (λ (t : Table X). sum_by f (values_of t)) made.1 ∙ omega (arith, law, none, z)

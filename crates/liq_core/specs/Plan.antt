@@ -1,12 +1,11 @@
 -- A planned command, and the states on which it may be applied.
-use Rattle.std.specs.Prelude.{◌≡◌, ◌<◌, IsTrue}
+use Rattle.std.specs.Prelude.{◌≡◌, ◌<◌}
 use Rattle.liq_types.specs.declared.amounts.TheConstants.{RECORDS_MOST}
 use Rattle.liq_types.specs.declared.replies.Done.{Done}
 use Rattle.liq_types.specs.declared.requests.Command.{Command}
-use Rattle.liq_types.specs.declared.requests.Request.TheVariants.{Do}
 use Rattle.liq_types.specs.State.{State}
 use Rattle.liq_core.specs.Core.{Core, StandsFor}
-use Rattle.liq_core.specs.Step.{Allowed, ruling, done_of, built}
+use Rattle.liq_core.specs.Step.{Allowed, ruling, done_of}
 
 -- a command that is allowed, with its reply
 pub record Plan : Type 0 where
@@ -15,7 +14,6 @@ pub record Plan : Type 0 where
 
 -- the command is allowed in the state, and the reply is what it then has
 pub record IsPlan (s : State) (plan : Plan) : Type 0 where
-  pub built : IsTrue (built (Do plan.command))
   pub allowed : ruling s plan.command ≡ Allowed
   pub done : plan.done ≡ done_of s plan.command.call
   pub few : s.records < RECORDS_MOST

@@ -153,6 +153,34 @@ impl Protocol {
         }
         Ok(done(4))
     }
+
+    /// Makes room for what the planned command writes, so that [`Protocol::apply`] takes no memory. What is seen of the
+    /// protocol stays, also where there is no memory.
+    pub fn reserve(&mut self, planned: &Planned) -> Result<(), NoMemory>
+        ensures same { SameContent self.old self.new }
+        ensures room { OnOk result (HasRoom self.new planned.now.command) }
+    {
+        self.reserve_client(planned.command.client)?;
+        match planned.command.call {
+            Call::Fund(account, _) | Call::Take(account, _) => self.reserve_wallet(account),
+            _ => unreachable!(),
+        }
+    }
+
+    fn reserve_wallet(&mut self, account: u32) -> Result<(), NoMemory>
+        ensures same { SameContent self.old self.new }
+        ensures room { OnOk result (IsSome (at self.new.wallets account)) }
+        ensures clients { self.new.clients ≡ self.old.clients }
+    {
+        tables::reserve(&mut self.wallets, account, NO_WALLET)
+    }
+
+    fn reserve_client(&mut self, client: u32) -> Result<(), NoMemory>
+        ensures same { SameContent self.old self.new }
+        ensures room { OnOk result (IsSome (at self.new.clients client)) }
+    {
+        tables::reserve(&mut self.clients, client, NO_CLIENT)
+    }
 }
 
 /// A reply without values.

@@ -17,6 +17,11 @@ impl Model for Planned {
     ghost Value = { Plan };
 
     ghost view = { λ p. record { command = p.command; done = p.done } };
+
+    ghost use Rattle.std.specs.Prelude.{IsTrue};
+    ghost use Rattle.liq_core.specs.Step.{built_call};
+
+    ghost invariant = { λ p. IsTrue (built_call p.command.call) };
 }
 
 impl Planned {
