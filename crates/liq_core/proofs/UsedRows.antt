@@ -110,3 +110,13 @@ module _ {X : Type 0} where
       let law = sum_by-insert_entry f nat_cmp_total old key empty s in
       let none : unwrap_or (option_map f (at old key)) 0 ≡ 0 = ap (λ o. unwrap_or (option_map f o) 0) made.0 in
       ap (λ (t : Table X). sum_by f (values_of t)) made.1 ∙ omega (arith, law, none, z)
+
+  -- what a sum counts after a row is written
+  pub sum_by-put : (f : X → ℕ) (table : Table X) (key : ℕ) (x none : X) → f none ≡ 0 → IsStrictlySortedBy nat_cmp (keys_of table) → sum_by f (values_of (put table key x)) + f (unwrap_or (at table key) none) ≡ sum_by f (values_of table) + f x
+  sum_by-put f table key x none z s =
+      let law = sum_by-insert_entry f nat_cmp_total table key x s in
+      let same = by (at table key) in
+      omega (arith, law, same) where
+    by : (o : Option X) → unwrap_or (option_map f o) 0 ≡ f (unwrap_or o none)
+    by None = sym z
+    by (Some y) = refl

@@ -1,11 +1,14 @@
 //! The protocol's state, and its steps.
 
-ghost use Rattle.std.specs.Prelude.{◌≡◌, ◌≤◌, ◌<◌, ◌+◌, ◌-◌, ◌++◌, IsTrue, IsSome, OnOk, MatchResult, None, Some, replicate};
+ghost use Rattle.std.specs.Prelude.{◌≡◌, ◌≤◌, ◌<◌, ◌+◌, ◌-◌, ◌++◌, IsTrue, IsSome, OnOk, MatchResult, None, Some, replicate, unwrap_or};
+ghost use Rattle.std.specs.List.{AllByRecursion};
 ghost use Rattle.liq_types.specs.declared.requests.Request.TheVariants.{Do, Ask};
+ghost use Rattle.liq_types.specs.declared.replies.Reply.TheVariants.{Said};
 ghost use Rattle.liq_types.specs.declared.requests.Call.TheVariants.{Fund, Take};
-ghost use Rattle.liq_types.specs.State.{State, opening, wallet_of, client_of};
+ghost use Rattle.liq_types.specs.declared.requests.Query.TheVariants as asked;
+ghost use Rattle.liq_types.specs.State.{State, opening, no_wallet, wallet_of, client_of, with_wallet};
 ghost use Rattle.liq_types.specs.Tables.{at, put};
-ghost use Rattle.liq_core.specs.Step.{built, built_call, accounts, rules, in_range, first_refusal, done_of, step};
+ghost use Rattle.liq_core.specs.Step.{built, built_call, accounts, rules, in_range, first_refusal, done_of, effect, noted, step, answer};
 
 use std::alloc::Global;
 use std::collections::BTreeMap;
@@ -68,6 +71,7 @@ impl Protocol {
     }
 
     fn wallet(&self, account: u32) -> Wallet
+        ensures row { result ≡ unwrap_or (at self.now.wallets account) no_wallet }
         ensures seen { result ≡ wallet_of (state_of self.now) account }
         ensures within { result.coll ≤ self.now.brought }
         ensures limit { self.now.brought ≤ LIM }
@@ -180,6 +184,122 @@ impl Protocol {
         ensures room { OnOk result (IsSome (at self.new.clients client)) }
     {
         tables::reserve(&mut self.clients, client, NO_CLIENT)
+    }
+
+    /// Makes the planned command's step. It takes no memory and cannot fail: the command was planned on this state, and
+    /// its room was reserved. A hint never changes what is seen.
+    pub fn apply<L: Ledger>(
+        &mut self,
+        planned: Planned,
+        _hint: &Hint,
+        _steps: &mut Steps<L>,
+    ) -> Done
+        requires planned { IsPlannedOn self.old planned }
+        requires room { HasRoom self.old planned.command }
+        ensures state { (s : State) → StandsFor self.old s → StandsFor self.new (step s (Do planned.command)).0 }
+        ensures reply { (s : State) → StandsFor self.old s → (step s (Do planned.command)).1 ≡ Said result }
+    {
+        let Planned { command, done } = planned;
+        self.change(&command.call);
+        self.note(&command, done);
+        done
+    }
+
+    /// The effect of a call that is allowed.
+    fn change(&mut self, call: &Call)
+        requires built { IsTrue (built_call call.now) }
+        requires allowed { first_refusal (rules (state_of self.old) call.now) ≡ None }
+        requires room { AllByRecursion (λ account. IsSome (at self.old.wallets account)) (accounts call.now) }
+        ensures effect { state_of self.new ≡ effect (state_of self.old) call.now }
+        ensures clients { self.new.clients ≡ self.old.clients }
+    {
+        match *call {
+            Call::Fund(account, coll) => self.bring_in(account, coll),
+            Call::Take(account, coll) => self.take_out(account, coll),
+            _ => unreachable!(),
+        }
+    }
+
+    /// Collateral from outside into a wallet.
+    fn bring_in(&mut self, account: u32, coll: u64)
+        requires row { IsSome (at self.old.wallets account) }
+        requires limit { self.old.brought + coll ≤ LIM }
+        ensures effect { state_of self.new ≡ effect (state_of self.old) (Fund account coll) }
+        ensures clients { self.new.clients ≡ self.old.clients }
+    {
+        let mut wallet = self.wallet(account);
+        let brought = self.brought + coll;
+        wallet.coll += coll;
+        self.set_wallet(account, wallet, brought);
+    }
+
+    /// Collateral from a wallet to the outside.
+    fn take_out(&mut self, account: u32, coll: u64)
+        requires row { IsSome (at self.old.wallets account) }
+        requires enough { coll ≤ (wallet_of (state_of self.old) account).coll }
+        ensures effect { state_of self.new ≡ effect (state_of self.old) (Take account coll) }
+        ensures clients { self.new.clients ≡ self.old.clients }
+    {
+        let mut wallet = self.wallet(account);
+        let brought = self.brought - coll;
+        wallet.coll -= coll;
+        self.set_wallet(account, wallet, brought);
+    }
+
+    /// Writes a wallet, and the collateral inside beside it.
+    fn set_wallet(&mut self, account: u32, wallet: Wallet, brought: u64)
+        requires row { IsSome (at self.old.wallets account) }
+        requires moved { brought + (unwrap_or (at self.old.wallets account) no_wallet).coll ≡ self.old.brought + wallet.coll }
+        requires limit { brought ≤ LIM }
+        ensures rows { self.new ≡ record self.old { brought = brought; wallets = put self.old.wallets account wallet } }
+        ensures seen { state_of self.new ≡ record (state_of self.old) { brought = brought; wallets = with_wallet (state_of self.old).wallets account wallet } }
+    {
+        self.brought = brought;
+        tables::write(&mut self.wallets, account, wallet);
+    }
+
+    /// Counts the command, and keeps its reply under its number.
+    fn note(&mut self, command: &Command, done: Done)
+        requires row { IsSome (at self.old.clients command.now.client) }
+        requires number { 0 < command.now.number }
+        requires few { self.old.records < RECORDS_MOST }
+        ensures { state_of self.new ≡ noted (state_of self.old) command.now done }
+    {
+        self.records += 1;
+        let last = command.number;
+        tables::write(&mut self.clients, command.client, Client { last, kept: done });
+    }
+
+    /// The answer to a query.
+    pub fn query(&self, query: &Query) -> Reply
+        requires { IsTrue (built (Ask query.now)) }
+        ensures { (s : State) → StandsFor self.now s → (step s (Ask query.now)).1 ≡ result }
+    {
+        match *query {
+            Query::Wallet(account) => self.wallet_info(account),
+            Query::NextNumber(client) => self.next_number_info(client),
+            _ => unreachable!(),
+        }
+    }
+
+    fn wallet_info(&self, account: u32) -> Reply
+        ensures { result ≡ answer (state_of self.now) (asked.Wallet account) }
+    {
+        if account >= ACCOUNTS {
+            return Reply::No(Refusal::AccountRange { value: account });
+        }
+        let Wallet { coll, lusd } = self.wallet(account);
+        Reply::Told(Info::Wallet { coll, lusd })
+    }
+
+    fn next_number_info(&self, client: u32) -> Reply
+        ensures { result ≡ answer (state_of self.now) (asked.NextNumber client) }
+    {
+        if client >= ACCOUNTS {
+            return Reply::No(Refusal::AccountRange { value: client });
+        }
+        let number = self.client(client).last.saturating_add(1);
+        Reply::Told(Info::Next { number })
     }
 }
 

@@ -1,0 +1,67 @@
+-- What is known of a command that is allowed.
+use Rattle.std.proofs.Common.{◌≡◌, ℕ, ◌+◌, ◌≤◌, Bool, true, false, not, nat_eq, nat_lt, cond, List, [], ◌∷◌, ◌++◌, Some, None, Option, refl, arith}
+use Rattle.std.specs.Prelude.{map, ◌&&◌, ◌==◌}
+use Rattle.std.proofs.lemmas.Bool.Decides.{nat_tests}
+use Rattle.liq_types.specs.declared.amounts.TheConstants.{LIM}
+use Rattle.liq_types.specs.declared.replies.Done.{Done}
+use Rattle.liq_types.specs.declared.replies.Refusal.{Refusal}
+use Rattle.liq_types.specs.declared.replies.Refusal.TheVariants.{AmountZero, AmountLimit, ShortCollateral}
+use Rattle.liq_types.specs.declared.requests.Call.{Call}
+use Rattle.liq_types.specs.declared.requests.Call.TheVariants.{Fund, Take}
+use Rattle.liq_types.specs.declared.requests.Command.{Command}
+use Rattle.liq_types.specs.State.{State, wallet_of, client_of}
+use Rattle.liq_core.specs.Step.{Rule, first_refusal, Ruling, Refused, Repeated, Allowed, unless_refused, ruling, rules, accounts, in_range, in_turn, is_repeated, effect}
+
+unless_allowed : (o : Option Refusal) (r : Ruling) → unless_refused o r ≡ Allowed → (o ≡ None) × (r ≡ Allowed)
+unless_allowed None r h = (refl, h)
+unless_allowed (Some refusal) r h = cc
+
+not_repeated : (b : Bool) (kept : Done) (r : Ruling) → cond b (Repeated kept) r ≡ Allowed → r ≡ Allowed
+not_repeated true kept r h = cc
+not_repeated false kept r h = h
+
+pub none_first : (rule : Rule) (more : List Rule) → first_refusal (rule ∷ more) ≡ None → (rule.0 ≡ false) × (first_refusal more ≡ None)
+none_first rule more = by rule.0 where
+  by : (b : Bool) → cond b (Some rule.1) (first_refusal more) ≡ None → (b ≡ false) × (first_refusal more ≡ None)
+  by true h = cc
+  by false h = (refl, h)
+
+pub none_after : (first more : List Rule) → first_refusal (first ++ more) ≡ None → first_refusal more ≡ None
+none_after [] more h = h
+none_after (rule ∷ first) more h = none_after first more (none_first rule (first ++ more) h).1
+
+-- its tests beside that of its client give no refusal
+passes : (s : State) (c : Command) → ruling s c ≡ Allowed → first_refusal (in_turn s c ∷ map in_range (accounts c.call) ++ rules s c.call) ≡ None
+passes s c h =
+    let later = (unless_allowed (first_refusal (in_range c.client ∷ [])) _ h).1 in
+    (unless_allowed _ Allowed (not_repeated (is_repeated s c) (client_of s c.client).kept _ later)).0
+
+pub allowed_number : (s : State) (c : Command) → ruling s c ≡ Allowed → c.number ≡ (client_of s c.client).last + 1
+allowed_number s c h =
+    let turn = (none_first (in_turn s c) (map in_range (accounts c.call) ++ rules s c.call) (passes s c h)).0 in
+    grind (arith, nat_tests, turn)
+
+pub allowed_rules : (s : State) (c : Command) → ruling s c ≡ Allowed → first_refusal (rules s c.call) ≡ None
+allowed_rules s c h =
+    none_after (map in_range (accounts c.call)) (rules s c.call)
+    (none_first (in_turn s c) (map in_range (accounts c.call) ++ rules s c.call) (passes s c h)).1
+
+second_false : (first second : Rule) → first_refusal (first ∷ second ∷ []) ≡ None → second.0 ≡ false
+second_false first second h = (none_first second [] (none_first first (second ∷ []) h).1).0
+
+pub fund_within : (s : State) (account coll : ℕ) → first_refusal (rules s (Fund account coll)) ≡ None → s.brought + coll ≤ LIM
+fund_within s account coll h =
+    let fits : nat_lt LIM (s.brought + coll) ≡ false = second_false (coll == 0, AmountZero) (nat_lt LIM (s.brought + coll), AmountLimit (s.brought + coll) LIM) h in
+    grind (arith, nat_tests, fits)
+
+pub take_enough : (s : State) (account coll : ℕ) → first_refusal (rules s (Take account coll)) ≡ None → coll ≤ (wallet_of s account).coll
+take_enough s account coll h =
+    let have = (wallet_of s account).coll in
+    let enough : nat_lt have coll ≡ false = second_false (coll == 0, AmountZero) (nat_lt have coll, ShortCollateral coll have) h in
+    grind (arith, nat_tests, enough)
+
+-- the effect of a call leaves the count of records
+pub effect-records : (s : State) (call : Call) → (effect s call).records ≡ s.records
+effect-records s (Fund account coll) = refl
+effect-records s (Take account coll) = refl
+effect-records s _ = refl

@@ -1,0 +1,30 @@
+use Rattle.std.proofs.Common.{◌≡◌, ◌+◌, ap, subst, sym, ◌∙◌, arith, refl}
+use Rattle.std.specs.Prelude.{unwrap_or, sum_by}
+use Rattle.std.specs.Map.{values_of}
+use Rattle.liq_types.specs.declared.figures.Wallet.{Wallet}
+use Rattle.liq_types.specs.State.{no_wallet, is_used_wallet, is_used_client, with_wallet}
+use Rattle.liq_types.specs.Tables.{Table, at, rows}
+use Rattle.liq_core.specs.Core.{Core}
+use Rattle.liq_core.proofs.UsedRows.{rows-put, sum_by-put}
+use Rattle.liq_core.proofs.engine.Protocol.set_wallet.Goals as goal
+
+pub invariant_of-self : goal.invariant_of-self
+invariant_of-self c =
+    let moved =
+        subst (λ (core : Core). c.args.brought + (unwrap_or (at core.wallets c.args.account) no_wallet).coll ≡ core.brought + c.args.wallet.coll)
+        (sym c.self.view_is) c.requires.moved in
+    let put_sum = sum_by-put (λ (w : Wallet). w.coll) c.self.inside.wallets.entries c.args.account c.args.wallet no_wallet refl c.self.invariant.wallets_ascend in
+    let written_sum = ap (λ (t : Table Wallet). sum_by (λ w. w.coll) (values_of t)) c.write.ensures.written in
+    record {
+      wallets_ascend = c.write.ensures.ordered;
+      clients_ascend = c.self.invariant.clients_ascend;
+      brought = omega (arith, moved, put_sum, written_sum, c.self.invariant.brought);
+      limit = c.requires.limit;
+    }
+
+pub returns-clause-seen : goal.returns-clause-seen
+returns-clause-seen c =
+    ap (λ wallets. record { brought = c.args.brought; records = c.self.inside.records; wallets = wallets; clients = rows is_used_client c.self.inside.clients.entries })
+    (ap (λ (t : Table Wallet). rows is_used_wallet t) c.write.ensures.written ∙ rows-put is_used_wallet c.self.inside.wallets.entries c.args.account c.args.wallet c.self.invariant.wallets_ascend)
+    ∙ ap (λ (core : Core). record { brought = c.args.brought; records = core.records; wallets = with_wallet (rows is_used_wallet core.wallets) c.args.account c.args.wallet; clients = rows is_used_client core.clients })
+    c.self.view_is
