@@ -5,10 +5,18 @@
 //! over std's readers and writers tell the count alone.
 #![tactic(auto)]
 
+mod adapters;
 mod failed;
+mod memory;
+mod schedule;
 mod sink;
 mod source;
 
+pub use adapters::{StdSink, StdSource};
 pub use failed::Failed;
+pub use memory::{MemorySink, MemorySource};
 pub use sink::Sink;
 pub use source::Source;
+
+#[cfg(test)]
+mod tests;
