@@ -1,4 +1,4 @@
-use Rattle.std.specs.Prelude.{ℕ, List, ◌++◌, take, drop, length, min}
+use Rattle.std.specs.Prelude.{ℕ, List, ◌++◌, drop, length, min}
 use Rattle.liq_outside.specs.Calls.{Calls, begun, faulted}
 
 -- a source in memory
