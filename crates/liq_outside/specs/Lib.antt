@@ -1,0 +1,4 @@
+pub mod Adapters
+pub mod Calls
+pub mod Faults
+pub mod Memory

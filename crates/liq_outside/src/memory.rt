@@ -1,0 +1,161 @@
+// A source and a sink in memory, whose calls fail where they are told to.
+ghost use Rattle.std.specs.Prelude.{◌≡◌, ◌≤◌, ◌<◌, ◌↔◌, ◌⊎◌, ◌++◌, [], Some, length, take, drop, option_map, IfOk, OnOk, OnErr, IsErr};
+ghost use Rattle.liq_outside.specs.Calls.{FailsNext, not_begun};
+ghost use Rattle.liq_outside.specs.Faults.{Rose};
+ghost use Rattle.liq_outside.specs.Memory.{after_failed_read, after_failed_write, after_read, after_write, count_taken};
+
+use super::failed::Failed;
+use super::schedule::Schedule;
+use super::sink::Sink;
+use super::source::Source;
+use std::alloc::Global;
+use std::marker::Model;
+
+/// Bytes in memory that are read in order, a chunk at most in a call.
+///
+/// A read fails exactly where its number, counted from 0, is one of those in `failing`. A contract
+/// sees what is left, the chunk and the calls.
+#[derive(Drop)]
+pub struct MemorySource {
+    bytes: Vec<u8>,
+    taken: usize,
+    chunk: usize,
+    schedule: Schedule,
+}
+
+impl Model for MemorySource {
+    ghost use Rattle.std.specs.Prelude.{◌≤◌, ◌<◌, drop, length};
+    ghost use Rattle.liq_outside.specs.Memory.{SourceInMemory};
+
+    ghost Value = { SourceInMemory };
+
+    ghost view = { λ s. record { left = drop s.taken s.bytes.items; chunk = s.chunk; calls = s.schedule } };
+
+    ghost invariant = { λ s. (s.taken ≤ length s.bytes.items) × (0 < s.chunk) };
+}
+
+impl MemorySource {
+    /// A source of these bytes, of which a read takes at most `chunk`.
+    pub fn new(bytes: Vec<u8>, chunk: usize, failing: Vec<u64>) -> Self
+        requires { 1 ≤ chunk }
+        ensures left { result.left ≡ bytes.items }
+        ensures chunk { result.chunk ≡ chunk }
+        ensures calls { result.calls ≡ not_begun failing.items }
+    {
+        MemorySource {
+            bytes,
+            taken: 0,
+            chunk,
+            schedule: Schedule::new(failing),
+        }
+    }
+
+    /// The bytes that no read has taken yet.
+    pub fn left(&self) -> &[u8]
+        ensures { result.now ≡ self.now.left }
+    {
+        &self.bytes[self.taken..]
+    }
+
+    /// How many reads have failed. It stays at the last value of a u64.
+    pub fn faults(&self) -> u64
+        ensures { result ≡ self.now.calls.faults }
+    {
+        self.schedule.faults()
+    }
+}
+
+impl Source for MemorySource {
+    ghost left = { λ s. Some s.left };
+
+    ghost faults = { λ s. s.calls.faults };
+
+    fn read(&mut self, buf: &mut [u8]) -> Result<usize, Failed>
+        // It fails exactly where it is told to, and else takes all that buffer, chunk and rest allow.
+        ensures listed { IsErr result ↔ FailsNext self.old.calls }
+        ensures taken { IfOk result (λ n. n ≡ count_taken self.old (length buf.old)) }
+        ensures copied { IfOk result (λ n. buf.new ≡ take n self.old.left ++ drop n buf.old) }
+        ensures read { IfOk result (λ n. self.new ≡ after_read self.old n) }
+        ensures not_read { OnErr result (self.new ≡ after_failed_read self.old) }
+
+        ensures end { result ≡ Ok 0 → 0 < length buf.old → self.old.left ≡ [] }
+        ensures count { self.old.calls.faults ≤ self.new.calls.faults }
+    {
+        if self.schedule.begin() {
+            self.schedule.fault();
+            return Err(Failed);
+        }
+        let left = &self.bytes[self.taken..];
+        let count = buf.len().min(self.chunk).min(left.len());
+        buf[..count].copy_from_slice(&left[..count]);
+        self.taken += count;
+        Ok(count)
+    }
+}
+
+/// Holds in memory what is written, each piece whole or not at all.
+///
+/// A write fails where its number, counted from 0, is one of those in `failing`, and where no memory
+/// is left for its bytes. A contract sees what is held and the calls.
+#[derive(Drop)]
+pub struct MemorySink {
+    bytes: Vec<u8>,
+    schedule: Schedule,
+}
+
+impl Model for MemorySink {
+    ghost use Rattle.liq_outside.specs.Memory.{SinkInMemory};
+
+    ghost Value = { SinkInMemory };
+
+    ghost view = { λ s. record { held = s.bytes.items; calls = s.schedule } };
+}
+
+impl MemorySink {
+    /// A sink that holds nothing yet.
+    pub fn new(alloc: Global, failing: Vec<u64>) -> Self
+        ensures held { result.held ≡ [] }
+        ensures calls { result.calls ≡ not_begun failing.items }
+    {
+        MemorySink {
+            bytes: Vec::new(alloc),
+            schedule: Schedule::new(failing),
+        }
+    }
+
+    /// The bytes that were written.
+    pub fn bytes(&self) -> &[u8]
+        ensures { result.now ≡ self.now.held }
+    {
+        &self.bytes
+    }
+
+    /// How many writes have failed. It stays at the last value of a u64.
+    pub fn faults(&self) -> u64
+        ensures { result ≡ self.now.calls.faults }
+    {
+        self.schedule.faults()
+    }
+}
+
+impl Sink for MemorySink {
+    ghost held = { λ s. Some s.held };
+
+    ghost faults = { λ s. s.calls.faults };
+
+    fn write(&mut self, bytes: &[u8]) -> Result<usize, Failed>
+        // It fails where it is told to. Any other failure is want of memory, which an empty piece can't meet.
+        ensures listed { FailsNext self.old.calls → IsErr result }
+        ensures unlisted { OnErr result (FailsNext self.old.calls ⊎ (0 < length bytes.now)) }
+        ensures whole { IfOk result (λ n. n ≡ length bytes.now) }
+        ensures written { OnOk result (self.new ≡ after_write self.old bytes.now) }
+        ensures not_written { OnErr result (self.new ≡ after_failed_write self.old) }
+        ensures count { self.old.calls.faults ≤ self.new.calls.faults }
+    {
+        if self.schedule.begin() || self.bytes.extend_from_slice(bytes).is_err() {
+            self.schedule.fault();
+            return Err(Failed);
+        }
+        Ok(bytes.len())
+    }
+}
