@@ -1,0 +1,17 @@
+use Rattle.std.proofs.Common.{◌≤◌, ◌-◌, length, take}
+use Rattle.liq_serve.specs.Writing.{Writes}
+use Rattle.liq_serve.proofs.writer.write_all.Given as goal
+
+-- what is written so far
+abbrev pub invariant-loop-written : goal.invariant-loop-written
+invariant-loop-written g l =
+    let held = g.K.Sink.held in
+    let faults = g.K.Sink.faults in
+    record {
+      within : l.written ≤ length l.bytes;
+      front : Writes (held l.fn.out) (take l.written l.bytes) (held l.out);
+      count : faults l.fn.out ≤ faults l.out;
+    }
+
+abbrev pub decreases-loop-written : goal.decreases-loop-written
+decreases-loop-written g l = length l.bytes - l.written

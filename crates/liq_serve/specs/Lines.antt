@@ -1,0 +1,20 @@
+-- The lines of a text.
+use Rattle.std.specs.Prelude.{ℕ, ◌≡◌, ◌≢◌, ◌==◌, List, [], ◌∷◌, ◌++◌, if◌then◌else◌}
+use Rattle.std.specs.List.{flat_map, AllByRecursion}
+
+abbrev pub onto_first : ℕ → List (List ℕ) → List (List ℕ)
+onto_first byte [] = (byte ∷ []) ∷ []
+onto_first byte (line ∷ lines) = (byte ∷ line) ∷ lines
+
+-- The lines, each ended by a line end; the last may lack it.
+abbrev pub lines_in : List ℕ → List (List ℕ)
+lines_in [] = []
+lines_in (byte ∷ bytes) = if byte == 10 then [] ∷ lines_in bytes else onto_first byte (lines_in bytes)
+
+-- lines, each with its line end
+abbrev pub ended : List (List ℕ) → List ℕ
+ended lines = flat_map (λ line. line ++ 10 ∷ []) lines
+
+-- no line end stands in it
+abbrev pub IsWithinLine : List ℕ → Type 0
+IsWithinLine bytes = AllByRecursion (λ byte. byte ≢ 10) bytes

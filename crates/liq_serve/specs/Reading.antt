@@ -1,0 +1,27 @@
+-- What reading a line leaves.
+use Rattle.std.specs.Prelude.{ℕ, ◌≡◌, ◌≢◌, ◌<◌, ◌≤◌, List, [], ◌∷◌, ◌++◌, length, Option, Some, None, option_map, Result, Ok, Err, IfSome}
+use Rattle.liq_outside.specs.declared.failed.Failed.{Failed}
+use Rattle.liq_serve.specs.declared.reader.LineEnd.{LineEnd}
+use Rattle.liq_serve.specs.declared.reader.LineEnd.TheVariants.{Ended, Unended, Nothing, TooLong}
+use Rattle.liq_serve.specs.Lines.{IsWithinLine}
+
+-- what is unread: bytes that were taken already, and those that the source has left, where it tells them
+abbrev pub unread : List ℕ → Option (List ℕ) → Option (List ℕ)
+unread taken left = option_map (λ bytes. taken ++ bytes) left
+
+-- these bytes were read
+abbrev pub Reads : Option (List ℕ) → List ℕ → Option (List ℕ) → Type 0
+Reads before bytes after = before ≡ option_map (λ rest. bytes ++ rest) after
+
+-- nothing is unread
+abbrev pub IsOver : Option (List ℕ) → Type 0
+IsOver unread = IfSome unread (λ bytes. bytes ≡ [])
+
+-- a line was read, or what stood in its place
+abbrev pub ReadsLine : Option (List ℕ) → List ℕ → Option (List ℕ) → List ℕ → Result LineEnd Failed → Type 0
+ReadsLine before line after taken (Ok Ended) = Reads before (line ++ 10 ∷ []) after × IsWithinLine line
+ReadsLine before line after taken (Ok Unended) = Reads before line after × IsWithinLine line × (line ≢ []) × IsOver after
+ReadsLine before line after taken (Ok Nothing) = Reads before [] after × IsOver after
+ReadsLine before line after taken (Ok TooLong) = (byte : ℕ) × Reads before (line ++ byte ∷ []) after × IsWithinLine line × (byte ≢ 10) × (length line ≡ 200)
+-- all that the source had given was read, and no line end stands in it
+ReadsLine before line after taken (Err fault) = Reads before line after × IsWithinLine line × (taken ≡ [])

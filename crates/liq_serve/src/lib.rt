@@ -1,0 +1,5 @@
+//! The top call: from the bytes that come in to the bytes that go out.
+#![tactic(auto)]
+
+mod reader;
+mod writer;

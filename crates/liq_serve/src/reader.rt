@@ -1,0 +1,101 @@
+//! Reading lines, a byte at a time from chunks that the source gives.
+
+ghost use Rattle.std.specs.Prelude.{◌≡◌, ◌≤◌, ◌<◌, ◌∷◌, [], OnOk, OnErr, IfOk, MatchOption, vec_len, vec_capacity};
+ghost use Rattle.liq_outside.specs.Faults.{Rose};
+ghost use Rattle.liq_serve.specs.Reading.{unread, Reads, ReadsLine, IsOver};
+
+use std::alloc::{AllocError, Global};
+use std::marker::Model;
+
+use liq_outside::{Failed, Source};
+use liq_types::amounts::LINE_BYTES;
+
+/// How many bytes are asked of the source at once.
+const CHUNK: usize = 16_384;
+
+/// How a line ended.
+#[derive(Clone, Copy, Debug, PartialEq, Eq)]
+pub enum LineEnd {
+    /// With a line end.
+    Ended,
+    /// With the source's end.
+    Unended,
+    /// There was no line: the source was at its end.
+    Nothing,
+    /// It goes on past the bytes that a line may have.
+    TooLong,
+}
+
+/// What was taken from the source and is unread.
+#[derive(Drop)]
+pub struct Reader {
+    chunk: Vec<u8>,
+    start: usize,
+    end: usize,
+}
+
+impl Model for Reader {
+    ghost use Rattle.std.specs.Prelude.{List, ℕ, ◌≤◌, ◌≡◌, slice_range, vec_len};
+
+    ghost Value = { List ℕ };
+
+    ghost view = { λ r. slice_range r.chunk.items r.start r.end };
+
+    ghost invariant = { λ r. (r.start ≤ r.end) × (r.end ≤ vec_len r.chunk) × (vec_len r.chunk ≡ 16384) };
+}
+
+impl Reader {
+    /// A reader that has taken nothing.
+    pub fn new(alloc: Global) -> Result<Reader, AllocError>
+        ensures { IfOk result (λ reader. reader ≡ []) }
+    {
+        Ok(Reader {
+            chunk: vec![in alloc; 0; CHUNK]?,
+            start: 0,
+            end: 0,
+        })
+    }
+
+    /// The first byte that was taken and is unread.
+    fn pop(&mut self) -> Option<u8>
+        ensures { MatchOption result ((self.old ≡ []) × (self.new ≡ [])) (λ byte. self.old ≡ byte ∷ self.new) }
+    {
+        if self.start == self.end {
+            return None;
+        }
+        let byte = self.chunk[self.start];
+        self.start += 1;
+        Some(byte)
+    }
+
+    /// Takes the next bytes of the source. Where there are none after it, the source is at its end.
+    fn refill<S: Source>(&mut self, input: &mut S) -> Result<(), Failed>
+        requires { self.old ≡ [] }
+        ensures same { Reads (unread self.old (S.left input.old)) [] (unread self.new (S.left input.new)) }
+        ensures over { OnOk result (self.new ≡ [] → IsOver (unread self.new (S.left input.new))) }
+        ensures failed { OnErr result (self.new ≡ []) }
+        ensures count { S.faults input.old ≤ S.faults input.new }
+        ensures cause { OnErr result (Rose (S.faults input.old) (S.faults input.new)) }
+    {
+        let count = input.read(&mut self.chunk)?;
+        self.start = 0;
+        self.end = count;
+        Ok(())
+    }
+
+    /// The next byte, or none at the source's end.
+    fn next_byte<S: Source>(&mut self, input: &mut S) -> Result<Option<u8>, Failed>
+        ensures byte { IfOk result (λ found. MatchOption found
+            (Reads (unread self.old (S.left input.old)) [] (unread self.new (S.left input.new)) × IsOver (unread self.new (S.left input.new)))
+            (λ byte. Reads (unread self.old (S.left input.old)) (byte ∷ []) (unread self.new (S.left input.new)))) }
+        ensures failed { OnErr result (Reads (unread self.old (S.left input.old)) [] (unread self.new (S.left input.new)) × (self.new ≡ [])) }
+        ensures count { S.faults input.old ≤ S.faults input.new }
+        ensures cause { OnErr result (Rose (S.faults input.old) (S.faults input.new)) }
+    {
+        if let Some(byte) = self.pop() {
+            return Ok(Some(byte));
+        }
+        self.refill(input)?;
+        Ok(self.pop())
+    }
+}
