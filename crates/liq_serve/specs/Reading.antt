@@ -25,3 +25,9 @@ ReadsLine before line after taken (Ok Nothing) = Reads before [] after × IsOver
 ReadsLine before line after taken (Ok TooLong) = (byte : ℕ) × Reads before (line ++ byte ∷ []) after × IsWithinLine line × (byte ≢ 10) × (length line ≡ 200)
 -- all that the source had given was read, and no line end stands in it
 ReadsLine before line after taken (Err fault) = Reads before line after × IsWithinLine line × (taken ≡ [])
+
+-- at the source's end there is a line where some of it came
+abbrev pub IsEndOfInput : List ℕ → LineEnd → Type 0
+IsEndOfInput line Nothing = line ≡ []
+IsEndOfInput line Unended = line ≢ []
+IsEndOfInput line _ = ⊥

@@ -2,7 +2,7 @@
 
 ghost use Rattle.std.specs.Prelude.{◌≡◌, ◌≤◌, ◌<◌, ◌∷◌, [], OnOk, OnErr, IfOk, MatchOption, vec_len, vec_capacity};
 ghost use Rattle.liq_outside.specs.Faults.{Rose};
-ghost use Rattle.liq_serve.specs.Reading.{unread, Reads, ReadsLine, IsOver};
+ghost use Rattle.liq_serve.specs.Reading.{unread, Reads, ReadsLine, IsOver, IsEndOfInput};
 
 use std::alloc::{AllocError, Global};
 use std::marker::Model;
@@ -12,6 +12,9 @@ use liq_types::amounts::LINE_BYTES;
 
 /// How many bytes are asked of the source at once.
 const CHUNK: usize = 16_384;
+
+/// The byte that ends a line.
+const LINE_END: u8 = b'\n';
 
 /// How a line ended.
 #[derive(Clone, Copy, Debug, PartialEq, Eq)]
@@ -98,4 +101,39 @@ impl Reader {
         self.refill(input)?;
         Ok(self.pop())
     }
+
+    /// Reads the next line into `line`, without its line end. A line that is too long is read no further than one byte
+    /// past its limit.
+    pub fn next_line<S: Source>(
+        &mut self,
+        input: &mut S,
+        line: &mut Vec<u8>,
+    ) -> Result<LineEnd, Failed>
+        requires { LINE_BYTES ≤ vec_capacity line.old }
+        ensures line { ReadsLine (unread self.old (S.left input.old)) line.new.items (unread self.new (S.left input.new)) self.new result }
+        ensures capacity { vec_capacity line.new ≡ vec_capacity line.old }
+        ensures count { S.faults input.old ≤ S.faults input.new }
+        ensures cause { OnErr result (Rose (S.faults input.old) (S.faults input.new)) }
+    {
+        line.clear();
+        for _length in 0..LINE_BYTES {
+            match self.next_byte(input)? {
+                None => return Ok(end_of_input(line)),
+                Some(LINE_END) => return Ok(LineEnd::Ended),
+                Some(byte) => line.push_reserved(byte),
+            }
+        }
+        match self.next_byte(input)? {
+            None => Ok(end_of_input(line)),
+            Some(LINE_END) => Ok(LineEnd::Ended),
+            Some(_) => Ok(LineEnd::TooLong),
+        }
+    }
+}
+
+/// How a line ends at the source's end.
+fn end_of_input(line: &[u8]) -> LineEnd
+    ensures { IsEndOfInput line.now result }
+{
+    if line.is_empty() { LineEnd::Nothing } else { LineEnd::Unended }
 }
