@@ -198,6 +198,7 @@ impl Protocol {
         requires room { HasRoom self.old planned.command }
         ensures state { (s : State) → StandsFor self.old s → StandsFor self.new (step s (Do planned.command)).0 }
         ensures reply { (s : State) → StandsFor self.old s → (step s (Do planned.command)).1 ≡ Said result }
+        ensures counted { self.new.records ≡ self.old.records + 1 }
     {
         let Planned { command, done } = planned;
         self.change(&command.call);
