@@ -15,13 +15,14 @@ squared x (suc k) = let square = squared x k in rounded_product square square
 abbrev pub has_digit : ℕ → ℕ → Bool
 has_digit n k = n / 2 ^ k % 2 == 1
 
--- The product of x's squares at the digits 1 of n, over the places below k: the square of a place is
--- multiplied onto what the lower places gave.
+-- The product of x's squares at the digits 1 of n, over the k lowest places: the square of a place is multiplied
+-- onto what the lower places give.
 unfoldable pub digits_product : ℕ → ℕ → ℕ → ℕ
 digits_product x n zero = ONE
 digits_product x n (suc k) =
-    if has_digit n k then rounded_product (squared x k) (digits_product x n k) else digits_product x n k
+    let lower = digits_product x n k in
+    if has_digit n k then rounded_product (squared x k) lower else lower
 
--- x to the power n, where an exponent past the most counts as the most; that one has fewer than 30 digits
+-- x to the power n; an exponent past the most counts as the most, which has fewer than 30 digits
 unfoldable pub power_of : ℕ → ℕ → ℕ
 power_of x n = digits_product x (min n MOST_MINUTES) 30
