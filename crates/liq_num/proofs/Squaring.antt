@@ -2,7 +2,8 @@
 use Rattle.std.proofs.Common.{◌≡◌, ◌≢◌, ℕ, zero, suc, ◌+◌, ◌-◌, ◌*◌, ◌/◌, ◌%◌, ◌^◌, ◌<◌, ◌≤◌, refl, ap, arith, lit<, sym, ◌∙◌, add-one}
 use Rattle.std.proofs.Math.Nat.{div-one, div-eq_of_lt, pow-le-pow_right, pow-suc, mul-div-le, lt-mul-div-succ, mul-one, lt_of_not-le, lt_irrefl, lt_of_lt_of_le, le_trans}
 use Rattle.std.proofs.lemmas.Nat.{shr-shr, pow_pos}
-use Rattle.liq_num.specs.Power.{rounded_product, squared, has_digit, digits_product, power_of}
+use Rattle.liq_num.specs.Power.{rounded_product, squared, has_digit, digits_product}
+use Rattle.liq_num.proofs.Digits.{squared-suc, digits_product-one, digits_product-zero, digits_product-enough}
 use Rattle.liq_num.specs.declared.power.TheConstants.{ONE, HALF, MOST_MINUTES}
 
 -- what the variables of the loop are after some turns, for a base x and an exponent n
@@ -19,21 +20,7 @@ pub record IsWithinTurns (x n square product left : ℕ) : Type 0 where
   pub product_within : product ≤ ONE
   pub some_left : 0 < left
 
--- one more squaring
-squared-suc : (x k s : ℕ) → s ≡ squared x k → rounded_product s s ≡ squared x (suc k)
-unfolding squared
-squared-suc x k s e = rw e refl
-
--- one more place, where the digit is 1
-digits_product-one : (x n k : ℕ) → n / 2 ^ k % 2 ≡ 1 → digits_product x n (suc k) ≡ rounded_product (squared x k) (digits_product x n k)
-unfolding digits_product
-digits_product-one x n k e = rw e refl
-
--- and where it is 0
-digits_product-zero : (x n k : ℕ) → n / 2 ^ k % 2 ≡ 0 → digits_product x n (suc k) ≡ digits_product x n k
-unfolding digits_product
-digits_product-zero x n k e = rw e refl
-
+-- half of what is left is left after one more place
 half_shifted : (n k left : ℕ) → left ≡ n / 2 ^ k → left / 2 ≡ n / 2 ^ suc k
 half_shifted n k left e = ap (λ v. v / 2) e ∙ (shr-shr n k 1 ∙ ap (λ j. n / 2 ^ j) (add-one k))
 
@@ -45,31 +32,24 @@ pub turned_odd : (x n s p l : ℕ) → IsTurned x n s p l → l % 2 ≡ 1 → Is
 turned_odd x n s p l was odd =
     let digit : n / 2 ^ was.turns % 2 ≡ 1 = rw (← was.left_is) odd in
     let onto : rounded_product s p ≡ rounded_product (squared x was.turns) (digits_product x n was.turns) =
-        ap (λ a. rounded_product a p) was.square_is ∙ ap (λ b. rounded_product (squared x was.turns) b) was.product_is in
+    ap (λ a. rounded_product a p) was.square_is ∙ ap (λ b. rounded_product (squared x was.turns) b) was.product_is in
     record {
-        turns = suc was.turns;
-        square_is = squared-suc x was.turns s was.square_is;
-        product_is = onto ∙ sym (digits_product-one x n was.turns digit);
-        left_is = half_shifted n was.turns l was.left_is }
+      turns = suc was.turns;
+      square_is = ap (λ r. rounded_product r r) was.square_is ∙ sym (squared-suc x was.turns);
+      product_is = onto ∙ sym (digits_product-one x n was.turns digit);
+      left_is = half_shifted n was.turns l was.left_is;
+    }
 
 pub turned_even : (x n s p l : ℕ) → IsTurned x n s p l → l % 2 ≢ 1 → IsTurned x n (rounded_product s s) p (l / 2)
 turned_even x n s p l was even =
     let even_left : l % 2 ≡ 0 = omega arith in
     let digit : n / 2 ^ was.turns % 2 ≡ 0 = rw (← was.left_is) even_left in
     record {
-        turns = suc was.turns;
-        square_is = squared-suc x was.turns s was.square_is;
-        product_is = was.product_is ∙ sym (digits_product-zero x n was.turns digit);
-        left_is = half_shifted n was.turns l was.left_is }
-
--- places past the last digit add nothing
-pub digits_product-past : (x n k j : ℕ) → n < 2 ^ k → digits_product x n (j + k) ≡ digits_product x n k
-digits_product-past x n k zero h = ap (λ i. digits_product x n i) (omega arith)
-digits_product-past x n k (suc j) h =
-    let further : 2 ^ k ≤ 2 ^ (j + k) = pow-le-pow_right (omega arith) (omega arith) in
-    let none : n / 2 ^ (j + k) ≡ 0 = div-eq_of_lt (omega arith) in
-    let next : suc j + k ≡ suc (j + k) = omega arith in
-    ap (λ i. digits_product x n i) next ∙ (digits_product-zero x n (j + k) (rw none refl) ∙ digits_product-past x n k j h)
+      turns = suc was.turns;
+      square_is = ap (λ r. rounded_product r r) was.square_is ∙ sym (squared-suc x was.turns);
+      product_is = was.product_is ∙ sym (digits_product-zero x n was.turns digit);
+      left_is = half_shifted n was.turns l was.left_is;
+    }
 
 -- once one is left, the last product takes in the highest digit
 pub turned_last : (x n s p l : ℕ) → IsTurned x n s p l → l ≡ 1 → n < 2 ^ 30 → rounded_product s p ≡ digits_product x n 30
@@ -77,14 +57,9 @@ turned_last x n s p l was last few =
     let t = was.turns in
     let one_left : n / 2 ^ t ≡ 1 = sym was.left_is ∙ last in
     let onto : rounded_product s p ≡ rounded_product (squared x t) (digits_product x n t) =
-        ap (λ a. rounded_product a p) was.square_is ∙ ap (λ b. rounded_product (squared x t) b) was.product_is in
+    ap (λ a. rounded_product a p) was.square_is ∙ ap (λ b. rounded_product (squared x t) b) was.product_is in
     let highest : rounded_product (squared x t) (digits_product x n t) ≡ digits_product x n (suc t) =
-        sym (digits_product-one x n t (rw one_left refl)) in
-    let reaches : 2 ^ t * (n / 2 ^ t) ≤ n = mul-div-le n (2 ^ t) in
+    sym (digits_product-one x n t (rw one_left refl)) in
     let below : n < 2 ^ t * (n / 2 ^ t + 1) = lt-mul-div-succ n (pow_pos t) in
-    let from : 2 ^ t ≤ n = rw (one_left, mul-one) at reaches in
     let ends : n < 2 ^ suc t = rw pow-suc (rw one_left at below) in
-    let within : t < 30 = lt_of_not-le (λ late. lt_irrefl n (lt_of_lt_of_le few (le_trans (pow-le-pow_right (lit< tt) late) from))) in
-    let all : digits_product x n (30 - suc t + suc t) ≡ digits_product x n (suc t) = digits_product-past x n (suc t) (30 - suc t) ends in
-    let thirty : 30 - suc t + suc t ≡ 30 = omega arith in
-    onto ∙ (highest ∙ (sym all ∙ ap (λ i. digits_product x n i) thirty))
+    onto ∙ (highest ∙ digits_product-enough x n (suc t) 30 ends few)

@@ -2,6 +2,7 @@
 //! exact comparisons of ratios. Nothing here takes memory, and no intermediate number leaves 128 bits.
 #![tactic(auto)]
 
+pub mod laws;
 mod power;
 mod quotient;
 mod ratio;

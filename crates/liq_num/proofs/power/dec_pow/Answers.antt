@@ -13,31 +13,35 @@ returns-then-exponent-eq0-clause-power c =
 pub loop-exponent-init : goal.loop-exponent-init
 loop-exponent-init c =
     record {
-        turned = turned_first c.args.x c.min-exponent.result;
-        square_within = c.requires;
-        product_within = omega arith;
-        some_left = omega arith }
+      turned = turned_first c.args.x c.min-exponent.result;
+      square_within = c.requires;
+      product_within = omega arith;
+      some_left = omega arith;
+    }
 
 pub loop-exponent-preserved : goal.loop-exponent-preserved
 loop-exponent-preserved c =
     let was = c.loop-exponent.invariant in
     elim c.if-exponent-eq1.branch [
-        then-exponent-eq1 w ↦
-            record {
-                turned =
-                    rw (w.product-is, w.dec_mul-product.ensures.product, c.dec_mul-square.ensures.product)
-                        (turned_odd _ _ _ _ _ was.turned w.if-exponent-eq1.true);
-                square_within = c.dec_mul-square.ensures.within;
-                product_within = rw w.product-is w.dec_mul-product.ensures.within;
-                some_left = omega arith }
+      | then-exponent-eq1 w ↦
+          record {
+            turned =
+                rw (w.product-is, w.dec_mul-product.ensures.product, c.dec_mul-square.ensures.product)
+                (turned_odd _ _ _ _ _ was.turned w.if-exponent-eq1.true);
+            square_within = c.dec_mul-square.ensures.within;
+            product_within = rw w.product-is w.dec_mul-product.ensures.within;
+            some_left = omega arith;
+          }
       | else-exponent-eq1 w ↦
-            record {
-                turned =
-                    rw (w.product-is, c.dec_mul-square.ensures.product)
-                        (turned_even _ _ _ _ _ was.turned w.if-exponent-eq1.false);
-                square_within = c.dec_mul-square.ensures.within;
-                product_within = rw w.product-is was.product_within;
-                some_left = omega arith } ]
+          record {
+            turned =
+                rw (w.product-is, c.dec_mul-square.ensures.product)
+                (turned_even _ _ _ _ _ was.turned w.if-exponent-eq1.false);
+            square_within = c.dec_mul-square.ensures.within;
+            product_within = rw w.product-is was.product_within;
+            some_left = omega arith;
+          }
+    ]
 
 pub returns-clause-power : goal.returns-clause-power
 unfolding power_of
