@@ -1,10 +1,10 @@
 //! What holds of the definitions that the contracts cite, at all numbers. The functions here do nothing: each is the
 //! place where the facts of its contract are proved.
 
-ghost use Rattle.std.specs.Prelude.{◌≡◌, ℕ, ◌+◌, ◌-◌, ◌*◌, ◌/◌, ◌^◌, ◌<◌, ◌≤◌, ◌↔◌};
+ghost use Rattle.std.specs.Prelude.{◌≡◌, ℕ, ◌+◌, ◌-◌, ◌*◌, ◌/◌, ◌^◌, ◌<◌, ◌≤◌, ◌↔◌, min};
 ghost use Rattle.std.specs.Ordering.{nat_cmp, ordering_reverse};
 ghost use Rattle.liq_num.specs.Quotient.{floor_of, ceiling_of};
-ghost use Rattle.liq_num.specs.Power.{rounded_product, power_of};
+ghost use Rattle.liq_num.specs.Power.{rounded_product, power_of, turns_of};
 ghost use Rattle.liq_num.specs.Ratio.{ratio_order, IsBelow, IsBelowPercent};
 
 use crate::power::{HALF, MOST_MINUTES, ONE};
@@ -62,6 +62,15 @@ pub fn powers_follow_the_digits()
     ensures doubled { (x n : ℕ) → 2 * n ≤ MOST_MINUTES → power_of x (2 * n) ≡ power_of (rounded_product x x) n }
     ensures capped { (x n : ℕ) → MOST_MINUTES ≤ n → power_of x n ≡ power_of x MOST_MINUTES }
 {}
+
+/// The turns of repeated squaring, which are the measure of its loop: none once no more than 1 is left of the exponent,
+/// else one and those of its half. No power takes more than 28.
+pub fn powers_take_few_turns()
+    ensures ended { (n : ℕ) → n ≤ 1 → turns_of n ≡ 0 }
+    ensures one_more { (n : ℕ) → 1 < n → n < 2 ^ 64 → turns_of n ≡ turns_of (n / 2) + 1 }
+    ensures few { (n : ℕ) → turns_of (min n MOST_MINUTES) ≤ 28 }
+{
+}
 
 /// Ratios are ordered as the fractions that they are: expanding either changes nothing, and at one debt the collateral
 /// decides. So any two can be brought to one debt and read off.

@@ -1,6 +1,7 @@
 use Rattle.std.proofs.Common.{◌≡◌, ◌≤◌, ℕ, ◌+◌, ◌-◌, ◌*◌, ◌<◌, ◌/◌, ◌%◌, ◌^◌, arith, refl, sym, ◌∙◌, ap, min}
-use Rattle.liq_num.specs.Power.{rounded_product, power_of, digits_product, squared}
+use Rattle.liq_num.specs.Power.{rounded_product, power_of, digits_product, squared, turns_of}
 use Rattle.liq_num.specs.declared.power.TheConstants.{ONE, MOST_MINUTES}
+use Rattle.liq_num.proofs.Halving.{turns_of-more}
 use Rattle.liq_num.proofs.Squaring.{IsTurned, turned_first, turned_odd, turned_even, turned_last}
 use Rattle.liq_num.proofs.power.dec_pow.Goals as goal
 use Rattle.liq_num.proofs.power.dec_pow.Goals.{then-exponent-eq1, else-exponent-eq1}
@@ -42,6 +43,12 @@ loop-exponent-preserved c =
             some_left = omega arith;
           }
     ]
+
+pub loop-exponent-smaller : goal.loop-exponent-smaller
+loop-exponent-smaller c =
+    let left = c.loop-exponent.exponent in
+    let more : turns_of left ≡ turns_of (left / 2) + 1 = turns_of-more left c.loop-exponent-test.true (omega arith) in
+    omega arith
 
 pub returns-clause-power : goal.returns-clause-power
 unfolding power_of

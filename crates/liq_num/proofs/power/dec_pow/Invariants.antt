@@ -1,3 +1,4 @@
+use Rattle.liq_num.specs.Power.{turns_of}
 use Rattle.liq_num.proofs.Squaring.{IsWithinTurns}
 use Rattle.liq_num.proofs.power.dec_pow.Given as goal
 
@@ -5,4 +6,4 @@ abbrev pub invariant-loop-exponent : goal.invariant-loop-exponent
 invariant-loop-exponent l = IsWithinTurns l.x l.initial.exponent l.square l.product l.exponent
 
 abbrev pub decreases-loop-exponent : goal.decreases-loop-exponent
-decreases-loop-exponent l = l.exponent
+decreases-loop-exponent l = turns_of l.exponent
