@@ -1,9 +1,9 @@
 -- Powers along the binary digits of the exponent.
 use Rattle.std.proofs.Common.{◌≡◌, ℕ, zero, suc, ◌+◌, ◌-◌, ◌*◌, ◌/◌, ◌%◌, ◌^◌, ◌<◌, ◌≤◌, ◌⊎◌, inl, inr, refl, ap, arith, sym, ◌∙◌, min, lit<, lit≤, add-one, add-zero}
-use Rattle.std.proofs.Math.Nat.{div-one, div-eq_of_lt, pow-le-pow_right, pow-suc, mul-one, le_trans, min-eq_left, min-eq_right, mul-div-mul_left, add-mul-div_right, pow-succ'}
+use Rattle.std.proofs.Math.Nat.{div-one, div-eq_of_lt, pow-le-pow_right, pow-suc, le_trans, min-eq_left, min-eq_right, mul-div-mul_left, add-mul-div_right, pow-succ'}
 use Rattle.std.proofs.lemmas.Nat.{pow_pos, pow_below, div-mul-add}
 use Rattle.std.proofs.lemmas.Bool.{cases_lt}
-use Rattle.liq_num.specs.Power.{rounded_product, squared, has_digit, digits_product, power_of}
+use Rattle.liq_num.specs.Power.{rounded_product, squared, digits_product, power_of}
 use Rattle.liq_num.specs.declared.power.TheConstants.{ONE, HALF, MOST_MINUTES}
 
 -- ---- products

@@ -1,5 +1,5 @@
 -- How often a number is halved until no more than 1 is left.
-use Rattle.std.proofs.Common.{◌≡◌, ℕ, zero, suc, ◌+◌, ◌*◌, ◌/◌, ◌^◌, ◌<◌, ◌≤◌, refl, ap, arith, sym, ◌∙◌, min, lit<, lit≤, true, false, nat_lt, add-one, inl, inr}
+use Rattle.std.proofs.Common.{◌≡◌, ℕ, zero, suc, ◌+◌, ◌/◌, ◌^◌, ◌<◌, ◌≤◌, refl, ap, arith, sym, ◌∙◌, min, lit≤, true, false, nat_lt, add-one, inl, inr}
 use Rattle.std.proofs.Math.Nat.{pow-suc, min-le_right}
 use Rattle.std.proofs.lemmas.Bool.{cases_lt}
 use Rattle.std.proofs.lemmas.Bool.Decides.{nat_tests}
@@ -21,9 +21,10 @@ halvings-enough n zero h = halvings-ended n 1 (omega arith) ∙ sym (halvings-en
 halvings-enough n (suc k) h =
     let half : n / 2 < 2 ^ k = omega (arith, pow-suc 2 k) in
     elim (cases_lt 1 n) [
-      inl more ↦
-        halvings-more n (suc k) more ∙ (ap (λ m. suc m) (halvings-enough (n / 2) k half) ∙ sym (halvings-more n k more))
-    | inr low ↦ halvings-ended n (suc (suc k)) low ∙ sym (halvings-ended n (suc k) low) ]
+      | inl more ↦
+          halvings-more n (suc k) more ∙ (ap (λ m. suc m) (halvings-enough (n / 2) k half) ∙ sym (halvings-more n k more))
+      | inr low ↦ halvings-ended n (suc (suc k)) low ∙ sym (halvings-ended n (suc k) low)
+    ]
 
 -- a number below 2 ^ (j + 1) is halved at most j times
 halvings-le : (n k j : ℕ) → n < 2 ^ suc j → halvings n k ≤ j
@@ -34,8 +35,9 @@ halvings-le n (suc k) (suc j) h =
     let half : n / 2 < 2 ^ suc j = omega (arith, pow-suc 2 (suc j)) in
     let rest : halvings (n / 2) k ≤ j = halvings-le (n / 2) k j half in
     elim (cases_lt 1 n) [
-      inl more ↦ rw (halvings-more n k more) (omega arith)
-    | inr low ↦ rw (halvings-ended n (suc k) low) (omega arith) ]
+      | inl more ↦ rw (halvings-more n k more) (omega arith)
+      | inr low ↦ rw (halvings-ended n (suc k) low) (omega arith)
+    ]
 
 pub turns_of-ended : (n : ℕ) → n ≤ 1 → turns_of n ≡ 0
 unfolding turns_of

@@ -1,10 +1,10 @@
 -- How repeated squaring goes along the digits of the exponent, the lowest first.
-use Rattle.std.proofs.Common.{◌≡◌, ◌≢◌, ℕ, zero, suc, ◌+◌, ◌-◌, ◌*◌, ◌/◌, ◌%◌, ◌^◌, ◌<◌, ◌≤◌, refl, ap, arith, lit<, sym, ◌∙◌, add-one}
-use Rattle.std.proofs.Math.Nat.{div-one, div-eq_of_lt, pow-le-pow_right, pow-suc, mul-div-le, lt-mul-div-succ, mul-one, lt_of_not-le, lt_irrefl, lt_of_lt_of_le, le_trans}
+use Rattle.std.proofs.Common.{◌≡◌, ◌≢◌, ℕ, suc, ◌+◌, ◌*◌, ◌/◌, ◌%◌, ◌^◌, ◌<◌, ◌≤◌, refl, ap, arith, sym, ◌∙◌, add-one}
+use Rattle.std.proofs.Math.Nat.{div-one, pow-suc, lt-mul-div-succ}
 use Rattle.std.proofs.lemmas.Nat.{shr-shr, pow_pos}
-use Rattle.liq_num.specs.Power.{rounded_product, squared, has_digit, digits_product}
+use Rattle.liq_num.specs.Power.{rounded_product, squared, digits_product}
 use Rattle.liq_num.proofs.Digits.{squared-suc, digits_product-one, digits_product-zero, digits_product-enough}
-use Rattle.liq_num.specs.declared.power.TheConstants.{ONE, HALF, MOST_MINUTES}
+use Rattle.liq_num.specs.declared.power.TheConstants.{ONE}
 
 -- what the variables of the loop are after some turns, for a base x and an exponent n
 pub record IsTurned (x n square product left : ℕ) : Type 0 where

@@ -29,6 +29,14 @@ pub fn quotients_are_monotone()
     ensures ceiling { (a b c p q d : ℕ) → a ≤ p → b ≤ q → 0 < d → d ≤ c → ceiling_of a b c ≤ ceiling_of p q d }
 {}
 
+/// A part of the whole gives at most the whole amount, and rounding up gives at most one more than rounding down.
+pub fn quotients_stay_within()
+    ensures floor { (a b c : ℕ) → 0 < c → b ≤ c → floor_of a b c ≤ a }
+    ensures ceiling { (a b c : ℕ) → 0 < c → b ≤ c → ceiling_of a b c ≤ a }
+    ensures not_below { (a b c : ℕ) → floor_of a b c ≤ ceiling_of a b c }
+    ensures within_one { (a b c : ℕ) → ceiling_of a b c ≤ floor_of a b c + 1 }
+{}
+
 /// The rounded product is within half of a 10^18th of the exact one.
 pub fn product_is_nearest()
     ensures not_far_above { (x y : ℕ) → rounded_product x y * ONE ≤ x * y + HALF }
@@ -69,8 +77,7 @@ pub fn powers_take_few_turns()
     ensures ended { (n : ℕ) → n ≤ 1 → turns_of n ≡ 0 }
     ensures one_more { (n : ℕ) → 1 < n → n < 2 ^ 64 → turns_of n ≡ turns_of (n / 2) + 1 }
     ensures few { (n : ℕ) → turns_of (min n MOST_MINUTES) ≤ 28 }
-{
-}
+{}
 
 /// Ratios are ordered as the fractions that they are: expanding either changes nothing, and at one debt the collateral
 /// decides. So any two can be brought to one debt and read off.

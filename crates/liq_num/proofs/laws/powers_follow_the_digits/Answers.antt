@@ -1,4 +1,4 @@
-use Rattle.std.proofs.Common.{refl, ◌∙◌}
+use Rattle.std.proofs.Common.{refl}
 use Rattle.liq_num.specs.Power.{power_of, digits_product, squared}
 use Rattle.liq_num.proofs.Digits.{rounded_product-whole, power_of-next_digit, power_of-digit_on_top, power_of-doubled, power_of-capped}
 use Rattle.liq_num.proofs.laws.powers_follow_the_digits.Goals as goal
