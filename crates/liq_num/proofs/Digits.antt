@@ -8,10 +8,10 @@ use Rattle.liq_num.specs.declared.power.TheConstants.{ONE, HALF, MOST_MINUTES}
 
 -- ---- products
 
-pub rounded_product-le : (x y : ℕ) → x ≤ ONE → rounded_product x y ≤ y
+rounded_product-le : (x y : ℕ) → x ≤ ONE → rounded_product x y ≤ y
 rounded_product-le x y h = grind arith
 
-pub rounded_product-mono : (x y p q : ℕ) → x ≤ p → y ≤ q → rounded_product x y ≤ rounded_product p q
+rounded_product-mono : (x y p q : ℕ) → x ≤ p → y ≤ q → rounded_product x y ≤ rounded_product p q
 rounded_product-mono x y p q h g = grind arith
 
 pub rounded_product-whole : (x : ℕ) → rounded_product x ONE ≡ x
@@ -48,7 +48,7 @@ next_place x z m n j k digit square lower =
 
 -- ---- places past the last digit
 
-pub digits_product-past : (x n k j : ℕ) → n < 2 ^ k → digits_product x n (j + k) ≡ digits_product x n k
+digits_product-past : (x n k j : ℕ) → n < 2 ^ k → digits_product x n (j + k) ≡ digits_product x n k
 digits_product-past x n k zero h = ap (λ i. digits_product x n i) (omega arith)
 digits_product-past x n k (suc j) h =
     let further : 2 ^ k ≤ 2 ^ (j + k) = pow-le-pow_right (omega arith) (omega arith) in
@@ -69,7 +69,7 @@ digits_product-enough x n j k h g =
     ]
 
 -- so up to the most minutes the power is the product over any number of places that is enough
-pub power_of-places : (x n k : ℕ) → n ≤ MOST_MINUTES → n < 2 ^ k → power_of x n ≡ digits_product x n k
+power_of-places : (x n k : ℕ) → n ≤ MOST_MINUTES → n < 2 ^ k → power_of x n ≡ digits_product x n k
 unfolding power_of
 power_of-places x n k most h =
     let uncapped : min n MOST_MINUTES ≡ n = min-eq_left most in
@@ -140,7 +140,7 @@ digits_product-doubled : (x n k : ℕ) → digits_product x (2 * n) (suc k) ≡ 
 unfolding digits_product
 digits_product-doubled x n zero =
     let even : 2 * n / 2 ^ 0 % 2 ≡ 0 = rw (div-one (2 * n)) (omega arith) in
-    digits_product-zero x (2 * n) 0 even ∙ refl
+    digits_product-zero x (2 * n) 0 even
 digits_product-doubled x n (suc k) =
     let halved : 2 * n / 2 ^ suc k ≡ n / 2 ^ k = rw (pow-succ' 2 k) (mul-div-mul_left n (2 ^ k) (lit< tt)) in
     next_place x (rounded_product x x) (2 * n) n (suc k) k (ap (λ q. q % 2) halved) (squared-first x k) (digits_product-doubled x n k)

@@ -57,9 +57,9 @@ pub fn powers_stay_within()
     ensures rising { (x p n : ℕ) → x ≤ p → power_of x n ≤ power_of p n }
 {}
 
-/// The power along the binary digits of its exponent. With no digit it is the whole; the square of a power at one
-/// digit is the power at the next; and one more digit on top multiplies by the power at that digit. These alone fix
-/// every power. Doubling the exponent squares the base.
+/// The power along the binary digits of its exponent. With no digit it is the whole, and with the lowest alone the
+/// base; the power at the next digit is the square of that at the digit before; and one more digit on top multiplies by
+/// the power at that digit. Up to the most minutes this fixes every power. Doubling the exponent squares the base.
 pub fn powers_follow_the_digits()
     ensures none { (x : ℕ) → power_of x 0 ≡ ONE }
     ensures one { (x : ℕ) → power_of x 1 ≡ x }
@@ -71,8 +71,8 @@ pub fn powers_follow_the_digits()
     ensures capped { (x n : ℕ) → MOST_MINUTES ≤ n → power_of x n ≡ power_of x MOST_MINUTES }
 {}
 
-/// The turns of repeated squaring, which are the measure of its loop: none once no more than 1 is left of the exponent,
-/// else one and those of its half. No power takes more than 28.
+/// The turns of repeated squaring: none once no more than 1 is left of the exponent, else one and those of its half. The
+/// loop of `dec_pow` is proved to end by this count, and no power takes more than 28.
 pub fn powers_take_few_turns()
     ensures ended { (n : ℕ) → n ≤ 1 → turns_of n ≡ 0 }
     ensures one_more { (n : ℕ) → 1 < n → n < 2 ^ 64 → turns_of n ≡ turns_of (n / 2) + 1 }
@@ -88,8 +88,8 @@ pub fn ratio_order_is_that_of_fractions()
     ensures less { (c1 d1 c2 d2 : ℕ) → (ratio_order c1 d1 c2 d2 ≡ Ordering.Less) ↔ IsBelow c1 d1 c2 d2 }
 {}
 
-/// The order of ratios is total: turned round it reverses, ratios below one another are so throughout, and ratios that
-/// are equal compare alike with every other.
+/// The order of ratios is total: turned round it reverses, what is below a ratio is below all that this ratio is below,
+/// and ratios that are equal compare alike with every other.
 pub fn ratio_order_is_total()
     ensures reversed { (c1 d1 c2 d2 : ℕ) → ratio_order c1 d1 c2 d2 ≡ ordering_reverse (ratio_order c2 d2 c1 d1) }
     ensures transitive { (c1 d1 c2 d2 c3 d3 : ℕ) → IsBelow c1 d1 c2 d2 → IsBelow c2 d2 c3 d3 → IsBelow c1 d1 c3 d3 }
@@ -110,7 +110,7 @@ pub fn percent_is_a_fraction()
         IsBelowPercent coll debt price percent ↔ IsBelow (coll * price) (debt * GWEI_PER_ETH) percent 100 }
 {}
 
-/// Values worked out by hand.
+/// Single values, worked out apart from the definitions.
 pub fn known_values()
     ensures floor { floor_of (10 ^ 18) (10 ^ 18 - 1) (10 ^ 18) ≡ 999999999999999999 }
     ensures ceiling { ceiling_of (10 ^ 18) 2 3 ≡ 666666666666666667 }

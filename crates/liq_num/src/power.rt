@@ -20,8 +20,8 @@ pub fn dec_mul(x: u64, y: u64) -> u64
     ((u128::from(x) * u128::from(y) + u128::from(HALF)) / u128::from(ONE)) as u64
 }
 
-/// The fraction `x`, over `ONE`, to the power `n` in minutes, by repeated squaring from the lowest digit of `n`. Each
-/// product is rounded, so this is one certain number near the exact power.
+/// The fraction `x`, over `ONE`, to the power of `n` minutes, by repeated squaring from the lowest binary digit of `n`.
+/// Each product is rounded in turn, which fixes the last digits of the answer.
 pub fn dec_pow(x: u64, n: u64) -> u64
     requires { x ≤ ONE }
     ensures power { result ≡ power_of x n }
