@@ -1,0 +1,4 @@
+pub mod Digits
+pub mod Squaring
+pub mod Halving
+pub mod Fractions

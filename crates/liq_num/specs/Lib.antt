@@ -1,0 +1,3 @@
+pub mod Quotient
+pub mod Power
+pub mod Ratio
