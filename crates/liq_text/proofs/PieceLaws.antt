@@ -1,0 +1,76 @@
+-- The words of a line, taken one after the other.
+use Rattle.std.proofs.Common.{◌≡◌, ℕ, ◌+◌, ◌-◌, ◌≤◌, Bool, true, false, cond, eqb, ltb, List, [], ◌∷◌, length, take, drop, Option, Some, None, refl, sym, subst, arith}
+use Rattle.std.specs.Borrow.{Bor}
+use Rattle.std.specs.Option.{is_some}
+use Rattle.std.specs.Prelude.{position, not}
+use Rattle.std.specs.List.{slice_split, onto_first, position_or_len, All}
+use Rattle.std.proofs.lemmas.Bool.{ltb-true, ltb-false}
+use Rattle.std.proofs.lemmas.Option.{cond_some}
+use Rattle.std.proofs.lemmas.List.Splits.{slice_split_none, slice_split_first}
+use Rattle.std.proofs.lemmas.Grind.{common_steps}
+use Rattle.std.proofs.lemmas.List.Sums.{fails_before_first}
+use Rattle.liq_text.specs.Reading.{pieces_of, others, is_empty}
+use Rattle.liq_text.specs.Pieces.{rest_pieces, TakesFirst}
+
+onto_some : (x : ℕ) (parts : List (List ℕ)) → is_empty (onto_first x parts) ≡ false
+unfolding is_empty
+onto_some x [] = refl
+onto_some x (part ∷ parts) = refl
+
+either_some : (b : Bool) (x : ℕ) (parts others : List (List ℕ)) → is_empty (cond b ([] ∷ parts) (onto_first x others)) ≡ false
+unfolding is_empty
+either_some true x parts others = refl
+either_some false x parts others = onto_some x others
+
+-- a line has a word
+pub is_empty-pieces_of : (line : List ℕ) → is_empty (pieces_of line) ≡ false
+unfolding pieces_of is_empty
+is_empty-pieces_of [] = refl
+is_empty-pieces_of (b ∷ line) = either_some (eqb b 32) b (slice_split (λ b. eqb b 32) line) (slice_split (λ b. eqb b 32) line)
+
+pub is_empty-rest_pieces : (rest : Option (Bor (List ℕ))) (r : Bool) → is_some rest ≡ not r → r ≡ is_empty (rest_pieces rest)
+unfolding is_empty
+is_empty-rest_pieces None true e = refl
+is_empty-rest_pieces None false e = absurd cc
+is_empty-rest_pieces (Some line) true e = absurd cc
+is_empty-rest_pieces (Some line) false e = sym (is_empty-pieces_of line.now)
+
+abbrev is_space : ℕ → Bool
+is_space b = eqb b 32
+
+none_is_far : (b : Bool) (k : ℕ) → None ≡ cond b (Some k) None → b ≡ false
+none_is_far true k e = absurd cc
+none_is_far false k e = refl
+
+spaceless : (line : List ℕ) → None ≡ position is_space line → All (λ b. is_space b ≡ false) line
+spaceless line none = let far : length line ≤ position_or_len is_space line = ltb-false _ _ (none_is_far _ _ none) in λ k d lt. fails_before_first is_space line k d (omega arith)
+
+-- where no space stands, the line is one word
+pub pieces_of-one : (line : List ℕ) → None ≡ position (λ b. eqb b 32) line → pieces_of line ≡ line ∷ []
+unfolding pieces_of
+pieces_of-one line none = slice_split_none is_space line (spaceless line none)
+
+pub pieces_of-more : (line : List ℕ) (at : ℕ) → Some at ≡ position (λ b. eqb b 32) line → pieces_of line ≡ take at line ∷ pieces_of (drop (at + 1) line)
+unfolding pieces_of
+pieces_of-more line at found =
+    let g = cond_some (ltb (position_or_len is_space line) (length line)) (position_or_len is_space line) at (sym found) in
+    subst (λ (k : ℕ). slice_split is_space line ≡ take k line ∷ slice_split is_space (drop (k + 1) line)) g.1 (slice_split_first is_space line 0 (ltb-true _ _ g.0))
+
+-- a slice from a place to the end
+pub to_the_end : (line : List ℕ) (from : ℕ) {pieces : List (List ℕ)} {word : List ℕ} → pieces ≡ word ∷ pieces_of (drop from line) → pieces ≡ word ∷ pieces_of (take (length line - from) (drop from line))
+to_the_end line from {pieces} {word} e = let whole : take (length line - from) (drop from line) ≡ drop from line = grind (arith, common_steps) in rw whole e
+
+pub taken_none : (rest : Option (Bor (List ℕ))) (r : Option (Bor (List ℕ))) → r ≡ None → rest ≡ None → TakesFirst r (rest_pieces rest)
+taken_none rest None e none = rw none refl
+taken_none rest (Some piece) e none = absurd cc
+
+pub left_none : (rest : Option (Bor (List ℕ))) → rest ≡ None → rest_pieces rest ≡ others (rest_pieces rest)
+unfolding others
+left_none rest none = rw none refl
+
+pub taken_some : (rest : Option (Bor (List ℕ))) (line : Bor (List ℕ)) (piece : List ℕ) {pieces : List (List ℕ)} → rest ≡ Some line → pieces_of line.now ≡ piece ∷ pieces → (x : List (List ℕ)) × (rest_pieces rest ≡ piece ∷ x)
+taken_some rest line piece {pieces} some e = (pieces, rw some e)
+
+pub left_some : (rest : Option (Bor (List ℕ))) (line : Bor (List ℕ)) (piece : List ℕ) {pieces : List (List ℕ)} → rest ≡ Some line → pieces_of line.now ≡ piece ∷ pieces → pieces ≡ others (rest_pieces rest)
+unfolding others
+left_some rest line piece some e = rw (some, e) refl

@@ -1,0 +1,6 @@
+pub mod Spelling
+pub mod Names
+pub mod Reading
+pub mod Pieces
+pub mod Replies
+pub mod Writing

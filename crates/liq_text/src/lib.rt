@@ -1,0 +1,16 @@
+//! Lines of text: the grammar of requests, read and written, and the texts of replies.
+#![tactic(auto)]
+
+mod bad_line;
+mod calls;
+mod lines;
+mod names;
+mod pieces;
+mod queries;
+mod replies;
+mod values;
+mod writing;
+
+pub use bad_line::BadLine;
+pub use lines::read_line;
+pub use replies::write_reply;

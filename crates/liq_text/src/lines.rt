@@ -1,0 +1,70 @@
+//! Lines, read.
+
+ghost use Rattle.std.specs.Prelude.{◌≡◌, Ok, IfOk, OnErr};
+ghost use Rattle.liq_types.specs.declared.requests.Request.{Request};
+ghost use Rattle.liq_text.specs.Spelling.{Spells};
+ghost use Rattle.liq_text.specs.Reading.{pieces_of, call_of, query_of, request_of};
+ghost use Rattle.liq_text.specs.Pieces.{pieces_left};
+
+use crate::bad_line::BadLine;
+use crate::calls::arguments;
+use crate::names::{read_topic, read_verb};
+use crate::pieces::Pieces;
+use crate::queries::subject;
+use crate::values;
+use liq_types::amounts::LINE_BYTES;
+use liq_types::{Call, Command, Query, Request};
+
+#[tactic(auto, unfolding(crate::specs::Reading::call_of, crate::specs::Reading::first))]
+fn call(words: &mut Pieces<'_>) -> Option<Call>
+    ensures { result ≡ call_of (pieces_left words.old) }
+{
+    let verb = read_verb(words.next()?)?;
+    arguments(verb, words)
+}
+
+#[tactic(auto, unfolding(crate::specs::Reading::query_of, crate::specs::Reading::first))]
+fn query(words: &mut Pieces<'_>) -> Option<Query>
+    ensures { result ≡ query_of (pieces_left words.old) }
+{
+    let topic = read_topic(words.next()?)?;
+    subject(topic, words)
+}
+
+#[tactic(auto, unfolding(crate::specs::Reading::request_of, crate::specs::Reading::first))]
+fn request(words: &mut Pieces<'_>) -> Option<Request>
+    ensures { result ≡ request_of (pieces_left words.old) }
+{
+    let first = words.next()?;
+    if first == b"?".as_slice() {
+        return Some(Request::Ask(query(words)?));
+    }
+    let client = values::account(first)?;
+    let number = words.number()?;
+    let call = call(words)?;
+    Some(Request::Do(Command {
+        client,
+        number,
+        call,
+    }))
+}
+
+fn request_in(line: &[u8]) -> Option<Request>
+    ensures { result ≡ request_of (pieces_of line.now) }
+{
+    request(&mut Pieces::new(line))
+}
+
+/// The request that a line spells, the line end not counted: [`BadLine`] where no request is spelled so, as every line of
+/// more than 200 bytes.
+pub fn read_line(line: &[u8]) -> Result<Request, BadLine>
+    ensures found { IfOk result (λ request. Spells line.now request) }
+    // So at most one request is spelled.
+    ensures only { (request : Request) → Spells line.now request → result ≡ Ok request }
+    ensures bad { OnErr result ((request : Request) → Spells line.now request → ⊥) }
+{
+    if line.len() > LINE_BYTES {
+        return Err(BadLine);
+    }
+    request_in(line).ok_or(BadLine)
+}

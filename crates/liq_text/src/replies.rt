@@ -1,0 +1,150 @@
+//! Replies, written.
+
+ghost use Rattle.std.specs.Prelude.{◌≡◌, ◌≤◌, ◌+◌, ◌++◌, OnOk, OnErr, IsOk, slice_index};
+ghost use Rattle.std.specs.List.{join_with_byte};
+ghost use Rattle.std.specs.Vec.{vec_len, vec_capacity};
+ghost use Rattle.liq_text.specs.Replies.{text, info_words, refusal_numbers, value_counts, shown_values};
+ghost use Rattle.liq_text.specs.Writing.{spaced};
+
+use crate::writing::{put, put_amounts, put_list, put_numbers};
+use liq_types::amounts::REPLY_BYTES;
+use liq_types::{Done, Info, NoMemory, Refusal, Reply};
+
+fn put_refusal(out: &mut Vec<u8>, refusal: &Refusal)
+    requires { vec_len out.old + 246 ≤ vec_capacity out.old }
+    ensures items { out.new.items ≡ out.old.items ++ spaced (refusal_numbers refusal.now) }
+    ensures capacity { vec_capacity out.old ≤ vec_capacity out.new }
+{
+    match *refusal {
+        Refusal::PriceRange { price } => put_numbers(out, &[10, price.into()]),
+        Refusal::AmountZero => put_numbers(out, &[11]),
+        Refusal::AmountLimit { sum, limit } => put_numbers(out, &[12, sum, limit.into()]),
+        Refusal::AccountRange { value } => put_numbers(out, &[13, value.into()]),
+        Refusal::ShortCollateral { need, have } => put_numbers(
+            out,
+            &[14, need.into(), have.into()],
+        ),
+        Refusal::ShortTokens { need, have } => put_numbers(out, &[15, need.into(), have.into()]),
+        Refusal::TroveExists { account } => put_numbers(out, &[20, account.into()]),
+        Refusal::NoTrove { account } => put_numbers(out, &[21, account.into()]),
+        Refusal::FeeBound { bound, least } => put_numbers(out, &[22, bound.into(), least.into()]),
+        Refusal::FeeOver { left, right } => put_numbers(out, &[23, left, right]),
+        Refusal::NetDebtLow { net, least } => put_numbers(out, &[24, net.into(), least.into()]),
+        Refusal::RatioLow { left, right } => put_numbers(out, &[25, left, right]),
+        Refusal::SystemRatioLow { left, right } => put_numbers(out, &[26, left, right]),
+        Refusal::RecoveryForbids { left, right } => put_numbers(out, &[27, left, right]),
+        Refusal::RatioFalls { left, right } => put_numbers(out, &[28, left, right]),
+        Refusal::BothWays { first, second } => put_numbers(out, &[29, first.into(), second.into()]),
+        Refusal::NoChange => put_numbers(out, &[30]),
+        Refusal::LastTrove { troves } => put_numbers(out, &[31, troves.into()]),
+        Refusal::NoDeposit { account } => put_numbers(out, &[40, account.into()]),
+        Refusal::TroveUnder {
+            account,
+            left,
+            right,
+        } => put_numbers(out, &[41, account.into(), left, right]),
+        Refusal::NoGain { account } => put_numbers(out, &[42, account.into()]),
+        Refusal::NotLiquidatable {
+            coll,
+            debt,
+            price,
+            total_coll,
+            total_debt,
+        } => put_numbers(
+            out,
+            &[
+                50,
+                coll.into(),
+                debt.into(),
+                price.into(),
+                total_coll.into(),
+                total_debt.into(),
+            ],
+        ),
+        Refusal::PoolTooSmall { total, debt } => put_numbers(out, &[51, total.into(), debt.into()]),
+        Refusal::SumLimit { sum } => put_numbers(out, &[52, sum]),
+        Refusal::Bootstrap { minute, limit } => put_numbers(
+            out,
+            &[60, minute.into(), limit.into()],
+        ),
+        Refusal::SystemUnder { left, right } => put_numbers(out, &[61, left, right]),
+        Refusal::NothingRedeemed { amount, net } => put_numbers(
+            out,
+            &[62, amount.into(), net.into()],
+        ),
+        Refusal::FeeEatsAll { fee, drawn } => put_numbers(out, &[63, fee.into(), drawn.into()]),
+        Refusal::NoSurplus { account } => put_numbers(out, &[64, account.into()]),
+        Refusal::OutOfTurn { expected } => put_numbers(out, &[70, expected.into()]),
+        Refusal::JournalFull { records } => put_numbers(out, &[81, records.into()]),
+    }
+}
+
+// How many values the reply to a kind of command shows.
+const VALUE_COUNTS: [usize; 17] = [0, 0, 1, 0, 0, 0, 2, 3, 2, 2, 2, 2, 6, 4, 4, 1, 1];
+
+fn value_count(kind: u8) -> usize
+    ensures count { result ≡ slice_index value_counts kind }
+    ensures most { result ≤ 6 }
+{
+    match VALUE_COUNTS.get(kind as usize) {
+        Some(count) => *count,
+        None => 0,
+    }
+}
+
+fn put_done(out: &mut Vec<u8>, done: &Done)
+    requires { vec_len out.old + 253 ≤ vec_capacity out.old }
+    ensures items { out.new.items ≡ out.old.items ++ spaced (shown_values done.now) }
+    ensures capacity { vec_capacity out.old ≤ vec_capacity out.new }
+{
+    put_amounts(out, &done.values[..value_count(done.kind)]);
+}
+
+fn put_info(out: &mut Vec<u8>, info: &Info)
+    requires { vec_len out.old + 255 ≤ vec_capacity out.old }
+    ensures items { out.new.items ≡ out.old.items ++ join_with_byte 32 (info_words info.now) }
+    ensures capacity { vec_capacity out.old ≤ vec_capacity out.new }
+{
+    match info {
+        Info::Wallet { coll, lusd } => put_list(out, &[*coll, *lusd]),
+        Info::Trove { coll, debt, stake } => put_list(out, &[*coll, *debt, *stake]),
+        Info::NoTrove | Info::NoDeposit => put(out, b"none"),
+        Info::Deposit { balance, gain } => put_list(out, &[*balance, *gain]),
+        Info::Pools { pools } => put_list(out, pools),
+        Info::System { words } => put_list(out, words),
+        Info::Next { number } => put_list(out, &[*number]),
+    }
+}
+
+fn put_reply(out: &mut Vec<u8>, reply: &Reply)
+    requires { vec_len out.old + 255 ≤ vec_capacity out.old }
+    ensures items { out.new.items ≡ out.old.items ++ text reply.now }
+    ensures capacity { vec_capacity out.old ≤ vec_capacity out.new }
+{
+    match reply {
+        Reply::Said(done) => {
+            put(out, b"ok");
+            put_done(out, done);
+        }
+        Reply::Told(info) => put_info(out, info),
+        Reply::No(refusal) => {
+            put(out, b"no");
+            put_refusal(out, refusal);
+        }
+    }
+}
+
+/// Appends the text of a reply, without a line end. Refused, `out` is as it was. No text has more than 255 bytes, and where
+/// there is room for as many, it is not refused.
+pub fn write_reply(reply: &Reply, out: &mut Vec<u8>) -> Result<(), NoMemory>
+    ensures ok { OnOk result (out.new.items ≡ out.old.items ++ text reply.now) }
+    ensures err { OnErr result (out.new.items ≡ out.old.items) }
+    ensures room { vec_len out.old + 255 ≤ vec_capacity out.old → IsOk result }
+    ensures capacity { vec_capacity out.old ≤ vec_capacity out.new }
+{
+    if out.reserve(REPLY_BYTES).is_err() {
+        return Err(NoMemory);
+    }
+    put_reply(out, reply);
+    Ok(())
+}
