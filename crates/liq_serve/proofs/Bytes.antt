@@ -1,6 +1,6 @@
 -- Bytes that are read and written piece by piece.
 use Rattle.std.proofs.Common.{◌≡◌, ℕ, ◌+◌, ◌≤◌, ◌<◌, List, [], ◌∷◌, ◌++◌, length, take, drop, Option, Some, None, refl, ap, sym, ◌∙◌, append_assoc, append-nil, arith}
-use Rattle.std.specs.Prelude.{option_map, IfSome}
+use Rattle.std.specs.Prelude.{option_map, IfSome, unwrap_or}
 use Rattle.std.proofs.Math.Seq.{take-add}
 use Rattle.std.proofs.lemmas.List.{take-append-drop}
 use Rattle.liq_serve.specs.Reading.{unread, Reads, IsOver}
@@ -21,3 +21,6 @@ reads_nothing (Some bytes) = refl
 pub reads_more : (before mid after : Option (List ℕ)) (xs ys : List ℕ) → Reads before xs mid → Reads mid ys after → Reads before (xs ++ ys) after
 reads_more before mid None xs ys h k = h ∙ ap (λ m. option_map (λ rest. xs ++ rest) m) k
 reads_more before mid (Some rest) xs ys h k = h ∙ ap (λ m. option_map (λ rest. xs ++ rest) m) k ∙ ap Some (sym (append_assoc xs ys rest))
+
+pub told_reads : (bytes xs rest : List ℕ) → Reads (Some bytes) xs (Some rest) → bytes ≡ xs ++ rest
+told_reads bytes xs rest h = ap (λ o. unwrap_or o bytes) h

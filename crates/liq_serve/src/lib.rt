@@ -2,5 +2,11 @@
 #![tactic(auto)]
 
 mod calls;
+mod ending;
+mod halts;
 mod reader;
+mod session;
+mod top;
 mod writer;
+
+pub use top::protocol;

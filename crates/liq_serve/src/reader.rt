@@ -14,7 +14,7 @@ use liq_types::amounts::LINE_BYTES;
 const CHUNK: usize = 16_384;
 
 /// The byte that ends a line.
-const LINE_END: u8 = b'\n';
+pub const LINE_END: u8 = b'\n';
 
 /// How a line ended.
 #[derive(Clone, Copy, Debug, PartialEq, Eq)]
@@ -87,7 +87,7 @@ impl Reader {
     }
 
     /// The next byte, or none at the source's end.
-    fn next_byte<S: Source>(&mut self, input: &mut S) -> Result<Option<u8>, Failed>
+    pub fn next_byte<S: Source>(&mut self, input: &mut S) -> Result<Option<u8>, Failed>
         ensures byte { IfOk result (λ found. MatchOption found
             (Reads (unread self.old (S.left input.old)) [] (unread self.new (S.left input.new)) × IsOver (unread self.new (S.left input.new)))
             (λ byte. Reads (unread self.old (S.left input.old)) (byte ∷ []) (unread self.new (S.left input.new)))) }

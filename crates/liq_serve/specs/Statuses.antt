@@ -1,0 +1,17 @@
+-- Words and statuses.
+use Rattle.std.specs.Prelude.{ℕ, ◌≡◌, ◌⊎◌, ◌∷◌, [], List, map, codes, Result, Ok, Err, String}
+use Rattle.std.specs.String.{string_bytes}
+use Rattle.liq_serve.specs.declared.halts.Halt.{Halt}
+use Rattle.liq_serve.specs.declared.halts.Halt.TheVariants.{BadLine, ReadFault, WriteFault, NoMemory, Limit}
+
+-- the words are exactly `run`
+abbrev pub AreRun : {A : Type 0} → List (String A) → Type 0
+AreRun words = map string_bytes words ≡ codes "run" ∷ []
+
+abbrev pub status_of : Result (Unit {0}) Halt → ℕ
+status_of (Ok done) = 0
+status_of (Err (BadLine number)) = 2
+status_of (Err ReadFault) = 3
+status_of (Err WriteFault) = 4
+status_of (Err NoMemory) = 7
+status_of (Err Limit) = 8

@@ -1,0 +1,66 @@
+//! How a run ends: its last line and its status.
+
+ghost use Rattle.std.specs.Prelude.{◌≡◌, ◌≤◌, ◌↔◌, ◌++◌, List, ℕ, Some, OnOk, OnErr, IsTrue};
+ghost use Rattle.liq_outside.specs.Faults.{Rose};
+ghost use Rattle.liq_serve.specs.Output.{last, usage};
+ghost use Rattle.liq_serve.specs.Statuses.{status_of};
+ghost use Rattle.liq_serve.specs.Stops.{Adds};
+ghost use Rattle.liq_serve.specs.Writing.{Writes, WritesPart};
+
+use crate::halts::Halt;
+use crate::writer::write_all;
+use itoa::Buffer;
+use liq_outside::{Failed, Sink};
+
+/// What is written where the words are not understood.
+const USAGE: &[u8] = b"usage: liq run, serve, state, audit or gen SEED COUNT\n";
+
+/// The exit status of a run.
+pub fn status(end: &Result<(), Halt>) -> u8
+    ensures { result ≡ status_of end.now }
+{
+    match end {
+        Ok(()) => 0,
+        Err(Halt::BadLine(_)) => 2,
+        Err(Halt::ReadFault) => 3,
+        Err(Halt::WriteFault) => 4,
+        Err(Halt::NoMemory) => 7,
+        Err(Halt::Limit) => 8,
+    }
+}
+
+/// Writes the last line of a run that stopped. Where it cannot be written whole, the run has stopped all the same.
+pub fn write_last<K: Sink>(out: &mut K, halt: Halt)
+    ensures written { (held : List ℕ) → K.held out.old ≡ Some held
+        → Adds held (last halt) (Rose (K.faults out.old) (K.faults out.new)) (K.held out.new) }
+    ensures count { K.faults out.old ≤ K.faults out.new }
+{
+    let _ = match halt {
+        Halt::BadLine(number) => write_bad_line(out, number),
+        Halt::ReadFault => write_all(out, b"read fault\n"),
+        Halt::WriteFault => Ok(()),
+        Halt::NoMemory => write_all(out, b"no memory\n"),
+        Halt::Limit => write_all(out, b"limit 1000000\n"),
+    };
+}
+
+fn write_bad_line<K: Sink>(out: &mut K, number: u64) -> Result<(), Failed>
+    ensures ok { OnOk result (Writes (K.held out.old) (last (Halt.BadLine number)) (K.held out.new)) }
+    ensures err { OnErr result (WritesPart (K.held out.old) (last (Halt.BadLine number)) (K.held out.new)) }
+    ensures count { K.faults out.old ≤ K.faults out.new }
+    ensures cause { OnErr result (Rose (K.faults out.old) (K.faults out.new)) }
+{
+    let mut digits = Buffer::new();
+    write_all(out, b"bad line ")?;
+    write_all(out, digits.format(number).as_bytes())?;
+    write_all(out, b"\n")
+}
+
+/// Writes how the program is used.
+pub fn write_usage<K: Sink>(out: &mut K)
+    ensures written { (held : List ℕ) → K.held out.old ≡ Some held
+        → Adds held usage (Rose (K.faults out.old) (K.faults out.new)) (K.held out.new) }
+    ensures count { K.faults out.old ≤ K.faults out.new }
+{
+    let _ = write_all(out, USAGE);
+}
