@@ -1,17 +1,18 @@
 -- A line and its words.
-use Rattle.std.proofs.Common.{◌≡◌, ℕ, ◌≤◌, Bool, true, false, eqb, List, [], ◌∷◌, length, Option, Some, None, Result, Ok, refl, sym, ap, subst, ◌∙◌}
-use Rattle.std.specs.Prelude.{not, IfOk, OnErr}
+use Rattle.std.proofs.Common.{◌≡◌, cond, leb, ℕ, ◌≤◌, Bool, true, false, eqb, List, [], ◌∷◌, length, Option, Some, None, Result, Ok, refl, sym, ap, subst, ◌∙◌}
+use Rattle.std.specs.Prelude.{not, ◌&&◌, IfOk, OnErr}
 use Rattle.std.specs.Option.{ok_or}
-use Rattle.std.proofs.lemmas.Option.{none-some}
+use Rattle.std.proofs.lemmas.Option.{none-some, same_Some, cond_some}
 use Rattle.std.specs.List.{join_with_byte, AllByRecursion}
-use Rattle.std.proofs.lemmas.Bool.{and_parts}
+use Rattle.std.proofs.lemmas.Bool.{and_parts, and_from, leb-true, le-leb}
 use Rattle.std.proofs.lemmas.List.Elements.{All-from_recursion}
 use Rattle.std.proofs.lemmas.List.Splits.{slice_split_none, slice_split_at, join_with_byte-slice_split}
 use Rattle.liq_types.specs.declared.requests.Request.{Request}
-use Rattle.liq_text.specs.Spelling.{SpellEach, request_words, Spells}
-use Rattle.liq_text.specs.Reading.{pieces_of, request_of}
-use Rattle.liq_text.proofs.SpellingLaws.{plain, IsPlain}
-use Rattle.liq_text.proofs.RequestLaws.{request_takes, request_again, plain_request, some_request}
+use Rattle.liq_text.specs.Spelling.{number, Spell, SpellEach, request_words, Spells, SpellsInSession}
+use Rattle.liq_text.specs.Reading.{◌>>=◌, pieces_of, first, others, number_of, request_of, session_of, session_request_of}
+use Rattle.liq_text.proofs.ReadingLaws.{number_of-decimal, number_of-some, yes}
+use Rattle.liq_text.proofs.SpellingLaws.{bind_some, plain, IsPlain, plain_spelled}
+use Rattle.liq_text.proofs.RequestLaws.{request_takes, request_again, plain_request, nonempty_request}
 
 abbrev is_space : ℕ → Bool
 is_space b = eqb b 32
@@ -36,28 +37,81 @@ pub join-pieces_of : (line : List ℕ) → line ≡ join_with_byte 32 (pieces_of
 unfolding pieces_of
 join-pieces_of line = sym (join_with_byte-slice_split 32 line)
 
-pub read_is_spelled : (line : List ℕ) (r : Request) → length line ≤ 200 → Some r ≡ request_of (pieces_of line) → Spells line r
-read_is_spelled line r short e = (short, (pieces_of line, join-pieces_of line, request_takes (pieces_of line) r (sym e)))
+same_pieces : (line piece : List ℕ) (pieces : List (List ℕ)) → line ≡ join_with_byte 32 (piece ∷ pieces) → AllByRecursion IsPlain (piece ∷ pieces) → pieces_of line ≡ piece ∷ pieces
+same_pieces line piece pieces e p = ap pieces_of e ∙ pieces_of-join piece pieces p
 
-same_pieces : (line : List ℕ) (r : Request) (pieces : List (List ℕ)) → line ≡ join_with_byte 32 pieces → SpellEach pieces (request_words r) → pieces_of line ≡ pieces
-same_pieces line r pieces e s =
-    let some = some_request r pieces s in
-    let plain = plain_request r pieces s in
-    let joined : pieces_of (join_with_byte 32 (some.0 ∷ some.1)) ≡ some.0 ∷ some.1 = pieces_of-join some.0 some.1 (subst (λ (ps : List (List ℕ)). AllByRecursion IsPlain ps) some.2 plain) in
-    ap pieces_of (e ∙ ap (join_with_byte 32) some.2) ∙ joined ∙ sym some.2
+-- ---- a request
+
+pub read_is_spelled : (line : List ℕ) (r : Request) → length line ≤ 200 → request_of (pieces_of line) ≡ Some r → Spells line r
+read_is_spelled line r short e = (short, (pieces_of line, join-pieces_of line, request_takes (pieces_of line) r e))
+
+request_again_of : (line : List ℕ) (r : Request) (pieces : List (List ℕ)) → line ≡ join_with_byte 32 pieces → SpellEach pieces (request_words r) → request_of (pieces_of line) ≡ Some r
+request_again_of line r [] e s = absurd (nonempty_request r s)
+request_again_of line r (piece ∷ pieces) e s = ap request_of (same_pieces line piece pieces e (plain_request r (piece ∷ pieces) s)) ∙ request_again (piece ∷ pieces) r s
 
 pub spelled_is_read : (line : List ℕ) (r : Request) → Spells line r → request_of (pieces_of line) ≡ Some r
-spelled_is_read line r s = ap request_of (same_pieces line r s.1.0 s.1.1 s.1.2) ∙ request_again s.1.0 r s.1.2
+spelled_is_read line r s = request_again_of line r s.1.0 s.1.1 s.1.2
 
--- ---- the three clauses of a reader
+pub one_request : (line : List ℕ) (a b : Request) → Spells line a → Spells line b → a ≡ b
+one_request line a b s t = same_Some a b (sym (spelled_is_read line a s) ∙ spelled_is_read line b t)
 
-pub is_found : {E : Type 0} (line : List ℕ) (o : Option Request) (r : Result Request E) (e : E) → length line ≤ 200 → o ≡ request_of (pieces_of line) → r ≡ ok_or o e → IfOk r (λ request. Spells line request)
-is_found line None r e short read made = rw made tt
-is_found line (Some request) r e short read made = rw made (read_is_spelled line request short read)
+-- ---- a session and a request
 
-pub is_only : {E : Type 0} (line : List ℕ) (o : Option Request) (r : Result Request E) (e : E) → o ≡ request_of (pieces_of line) → r ≡ ok_or o e → (request : Request) → Spells line request → r ≡ Ok request
-is_only line o r e read made request s = made ∙ ap (λ (x : Option Request). ok_or x e) (read ∙ spelled_is_read line request s)
+session_takes : (piece : List ℕ) (n : ℕ) → session_of piece ≡ Some n → (1 ≤ n) × (n ≤ 8) × Spell piece (number n)
+unfolding session_of
+session_takes piece n e =
+    let b = bind_some (number_of piece) (λ n. cond (leb 1 n && leb n 8) (Some n) None) n e in
+    let g = cond_some (leb 1 b.0 && leb b.0 8) b.0 n b.2 in
+    let both = and_parts _ _ g.0 in
+    let s : (1 ≤ b.0) × (b.0 ≤ 8) × Spell piece (number b.0) = (leb-true _ _ both.0, leb-true _ _ both.1, number_of-some piece b.0 b.1) in
+    subst (λ (k : ℕ). (1 ≤ k) × (k ≤ 8) × Spell piece (number k)) g.1 s
 
-pub is_bad : {E : Type 0} (line : List ℕ) (o : Option Request) (r : Result Request E) (e : E) → o ≡ request_of (pieces_of line) → r ≡ ok_or o e → OnErr r ((request : Request) → Spells line request → ⊥)
-is_bad line (Some request) r e read made = rw made tt
-is_bad line None r e read made = rw made (λ request s. none-some request (read ∙ spelled_is_read line request s))
+session_again : (piece : List ℕ) (n : ℕ) → 1 ≤ n → n ≤ 8 → Spell piece (number n) → session_of piece ≡ Some n
+unfolding session_of
+session_again piece n low high s =
+    ap (λ (o : Option ℕ). o >>= λ n. cond (leb 1 n && leb n 8) (Some n) None) (number_of-decimal piece n s.0 s.1)
+    ∙ yes (leb 1 n && leb n 8) _ _ (and_from _ _ (le-leb _ _ low) (le-leb _ _ high))
+
+session_request_takes : (pieces : List (List ℕ)) (n : ℕ) (r : Request) → session_request_of pieces ≡ Some (n, r) → (1 ≤ n) × (n ≤ 8) × SpellEach pieces (number n ∷ request_words r)
+unfolding session_request_of first others
+session_request_takes [] n r e = absurd cc
+session_request_takes (piece ∷ pieces) n r e =
+    let a = bind_some (session_of piece) (λ session. request_of pieces >>= λ request. Some (session, request)) (n, r) e in
+    let b = bind_some (request_of pieces) (λ request. Some (a.0, request)) (n, r) a.2 in
+    let same = same_Some (a.0, b.0) (n, r) b.2 in
+    let s = session_takes piece a.0 a.1 in
+    subst (λ (x : ℕ × Request). (1 ≤ x.0) × (x.0 ≤ 8) × SpellEach (piece ∷ pieces) (number x.0 ∷ request_words x.1)) same (s.0, s.1, (s.2, request_takes pieces b.0 b.1))
+
+session_request_again : (line : List ℕ) (n : ℕ) (r : Request) (pieces : List (List ℕ)) → line ≡ join_with_byte 32 pieces → 1 ≤ n → n ≤ 8 → SpellEach pieces (number n ∷ request_words r) → session_request_of (pieces_of line) ≡ Some (n, r)
+unfolding session_request_of first others
+session_request_again line n r [] e low high s = absurd s
+session_request_again line n r (piece ∷ pieces) e low high s =
+    ap session_request_of (same_pieces line piece pieces e (plain_spelled piece (number n) tt s.0, plain_request r pieces s.1))
+    ∙ ap (λ (o : Option ℕ). o >>= λ session. request_of pieces >>= λ request. Some (session, request)) (session_again piece n low high s.0)
+    ∙ ap (λ (o : Option Request). o >>= λ request. Some (n, request)) (request_again pieces r s.1)
+
+pub session_read_is_spelled : (line : List ℕ) (n : ℕ) (r : Request) → length line ≤ 200 → session_request_of (pieces_of line) ≡ Some (n, r) → SpellsInSession line n r
+session_read_is_spelled line n r short e =
+    let t = session_request_takes (pieces_of line) n r e in
+    (t.0, t.1, (short, (pieces_of line, join-pieces_of line, t.2)))
+
+pub session_spelled_is_read : (line : List ℕ) (n : ℕ) (r : Request) → SpellsInSession line n r → session_request_of (pieces_of line) ≡ Some (n, r)
+session_spelled_is_read line n r s = session_request_again line n r s.2.1.0 s.2.1.1 s.0 s.1 s.2.1.2
+
+pub one_session_request : (line : List ℕ) (m n : ℕ) (a b : Request) → SpellsInSession line m a → SpellsInSession line n b → (m ≡ n) × (a ≡ b)
+one_session_request line m n a b s t =
+    let same = same_Some (m, a) (n, b) (sym (session_spelled_is_read line m a s) ∙ session_spelled_is_read line n b t) in
+    (ap (λ (x : ℕ × Request). x.0) same, ap (λ (x : ℕ × Request). x.1) same)
+
+-- ---- the clauses of a reader that answers what was read, or else one error
+
+pub is_found : {A E : Type 0} (P : A → Type 0) (o : Option A) (r : Result A E) (e : E) → r ≡ ok_or o e → ((x : A) → o ≡ Some x → P x) → IfOk r P
+is_found P None r e made spelled = rw made tt
+is_found P (Some x) r e made spelled = rw made (spelled x refl)
+
+pub is_only : {A E : Type 0} (o : Option A) (r : Result A E) (e : E) (x : A) → r ≡ ok_or o e → o ≡ Some x → r ≡ Ok x
+is_only {A} o r e x made found = made ∙ ap (λ (y : Option A). ok_or y e) found
+
+pub is_bad : {A E Q : Type 0} (o : Option A) (r : Result A E) (e : E) → r ≡ ok_or o e → (o ≡ None → Q) → OnErr r Q
+is_bad (Some x) r e made none = rw made tt
+is_bad None r e made none = rw made (none refl)

@@ -1,5 +1,5 @@
 -- The words of a request: what is read is spelled, and what is spelled is read.
-use Rattle.std.proofs.Common.{◌≡◌, ℕ, ◌^◌, ◌<◌, Bool, true, false, cond, List, [], ◌∷◌, Option, Some, None, refl, sym, ap, subst, ◌∙◌, arith, inl, inr}
+use Rattle.std.proofs.Common.{◌≡◌, ℕ, ◌+◌, ◌^◌, ◌<◌, ◌≤◌, Bool, true, false, cond, ltb, eqb, List, [], ◌∷◌, ◌++◌, length, Option, Some, None, refl, sym, ap, subst, ◌∙◌, arith, inl, inr, ◌⊎◌}
 use Rattle.std.specs.Prelude.{decimal, codes}
 use Rattle.std.specs.Char.{digit_value}
 use Rattle.std.specs.List.{AllByRecursion}
@@ -20,10 +20,10 @@ use Rattle.liq_text.specs.declared.names.Verb.TheVariants as verbs
 use Rattle.liq_text.specs.declared.names.Topic.{Topic}
 use Rattle.liq_text.specs.declared.names.Topic.TheVariants as topics
 use Rattle.liq_text.specs.Names.{verb_name, topic_name, verb_of, topic_of}
-use Rattle.liq_text.specs.Spelling.{Word, text, account, number, Spell, SpellEach, call_words, query_words, request_words}
-use Rattle.liq_text.specs.Reading.{◌>>=◌, number_of, account_of, first, others, fields, verb_kinds, call_with, topic_kinds, query_with, arguments_of, subject_of, call_of, query_of, request_of}
+use Rattle.liq_text.specs.Spelling.{Word, text, account, number, hint, Spell, SpellEach, call_words, query_words, request_words}
+use Rattle.liq_text.specs.Reading.{◌>>=◌, number_of, account_of, Kind, Makes, first, others, fields, verb_kinds, call_with, topic_kinds, query_with, arguments_of, subject_of, call_of, query_of, request_of}
 use Rattle.liq_text.proofs.ReadingLaws.{number_of-decimal, number_of-some, yes}
-use Rattle.liq_text.proofs.SpellingLaws.{bind_some, either_some, account_takes, account_again, is_false, Values, words_of, made, fields_take, fields_again, plain, IsPlain, plain_spelled, plain_words_of, plain_each}
+use Rattle.liq_text.proofs.SpellingLaws.{bind_some, either_some, account_takes, account_again, dashless, is_false, Values, words_of, made, fields_take, fields_again, plain, IsPlain, IsPlainWord, plain_spelled, plain_words_of, plain_each}
 
 -- the pieces that spell a list of words with a first one
 record SpellParts (pieces : List (List ℕ)) (word : Word) (words : List Word) : Type 0 where
@@ -48,17 +48,77 @@ verb_named word name verb found rest is_name e more = elim (either_some (bytes_e
 
 verb_takes : (word : List ℕ) (found : Verb) → verb_of word ≡ Some found → word ≡ verb_name found
 verb_takes word found e =
-    verb_named word (codes "fund") verbs.Fund found _ refl e (λ e1.
-    absurd cc)
+    verb_named word (codes "price") verbs.Price found _ refl e (λ e1.
+    verb_named word (codes "advance") verbs.Advance found _ refl e1 (λ e2.
+    verb_named word (codes "fund") verbs.Fund found _ refl e2 (λ e3.
+    verb_named word (codes "take") verbs.Take found _ refl e3 (λ e4.
+    verb_named word (codes "send") verbs.Send found _ refl e4 (λ e5.
+    verb_named word (codes "open") verbs.Open found _ refl e5 (λ e6.
+    verb_named word (codes "adjust") verbs.Adjust found _ refl e6 (λ e7.
+    verb_named word (codes "close") verbs.Close found _ refl e7 (λ e8.
+    verb_named word (codes "provide") verbs.Provide found _ refl e8 (λ e9.
+    verb_named word (codes "withdraw") verbs.Withdraw found _ refl e9 (λ e10.
+    verb_named word (codes "gain_to_trove") verbs.GainToTrove found _ refl e10 (λ e11.
+    verb_named word (codes "liquidate") verbs.Liquidate found _ refl e11 (λ e12.
+    verb_named word (codes "liquidate_lowest") verbs.LiquidateLowest found _ refl e12 (λ e13.
+    verb_named word (codes "redeem") verbs.Redeem found _ refl e13 (λ e14.
+    verb_named word (codes "claim") verbs.Claim found _ refl e14 (λ e15.
+    verb_named word (codes "rotate") verbs.Rotate found _ refl e15 (λ e16.
+    absurd cc))))))))))))))))
 
 verb_again : (verb : Verb) → verb_of (verb_name verb) ≡ Some verb
+verb_again verbs.Price = refl
+verb_again verbs.Advance = refl
 verb_again verbs.Fund = refl
+verb_again verbs.Take = refl
+verb_again verbs.Send = refl
+verb_again verbs.Open = refl
+verb_again verbs.Adjust = refl
+verb_again verbs.Close = refl
+verb_again verbs.Provide = refl
+verb_again verbs.Withdraw = refl
+verb_again verbs.GainToTrove = refl
+verb_again verbs.Liquidate = refl
+verb_again verbs.LiquidateLowest = refl
+verb_again verbs.Redeem = refl
+verb_again verbs.Claim = refl
+verb_again verbs.Rotate = refl
 
 verb_plain : (verb : Verb) → plain (verb_name verb) ≡ true
+verb_plain verbs.Price = refl
+verb_plain verbs.Advance = refl
 verb_plain verbs.Fund = refl
+verb_plain verbs.Take = refl
+verb_plain verbs.Send = refl
+verb_plain verbs.Open = refl
+verb_plain verbs.Adjust = refl
+verb_plain verbs.Close = refl
+verb_plain verbs.Provide = refl
+verb_plain verbs.Withdraw = refl
+verb_plain verbs.GainToTrove = refl
+verb_plain verbs.Liquidate = refl
+verb_plain verbs.LiquidateLowest = refl
+verb_plain verbs.Redeem = refl
+verb_plain verbs.Claim = refl
+verb_plain verbs.Rotate = refl
 
 verb_words : (verb : Verb) (values : Values (verb_kinds verb)) → call_words (made (verb_kinds verb) (call_with verb) values) ≡ text (verb_name verb) ∷ words_of (verb_kinds verb) values
+verb_words verbs.Price values = refl
+verb_words verbs.Advance values = refl
 verb_words verbs.Fund values = refl
+verb_words verbs.Take values = refl
+verb_words verbs.Send values = refl
+verb_words verbs.Open values = refl
+verb_words verbs.Adjust values = refl
+verb_words verbs.Close values = refl
+verb_words verbs.Provide values = refl
+verb_words verbs.Withdraw values = refl
+verb_words verbs.GainToTrove values = refl
+verb_words verbs.Liquidate values = refl
+verb_words verbs.LiquidateLowest values = refl
+verb_words verbs.Redeem values = refl
+verb_words verbs.Claim values = refl
+verb_words verbs.Rotate values = refl
 
 -- a call is made of the values behind its name
 record IsCallWith (x : Call) : Type 0 where
@@ -66,10 +126,23 @@ record IsCallWith (x : Call) : Type 0 where
   values : Values (verb_kinds key)
   same : x ≡ made (verb_kinds key) (call_with key) values
 
-verb_values : (x : Call) (pieces : List (List ℕ)) → SpellEach pieces (call_words x) → IsCallWith x
-verb_values (calls.Fund owner coll) pieces s = record { key = verbs.Fund; values = (owner, (coll, tt)); same = refl }
-verb_values _ [] s = absurd s
-verb_values _ (piece ∷ pieces) s = absurd s.0
+verb_values : (x : Call) → IsCallWith x
+verb_values (calls.Price price) = record { key = verbs.Price; values = (price, tt); same = refl }
+verb_values (calls.Advance minutes) = record { key = verbs.Advance; values = (minutes, tt); same = refl }
+verb_values (calls.Fund owner coll) = record { key = verbs.Fund; values = (owner, (coll, tt)); same = refl }
+verb_values (calls.Take owner coll) = record { key = verbs.Take; values = (owner, (coll, tt)); same = refl }
+verb_values (calls.Send from to lusd) = record { key = verbs.Send; values = (from, (to, (lusd, tt))); same = refl }
+verb_values (calls.Open owner coll borrow bound h) = record { key = verbs.Open; values = (owner, (coll, (borrow, (bound, (h.prev, (h.next, tt)))))); same = refl }
+verb_values (calls.Adjust owner coll_in coll_out borrow repay bound h) = record { key = verbs.Adjust; values = (owner, (coll_in, (coll_out, (borrow, (repay, (bound, (h.prev, (h.next, tt)))))))); same = refl }
+verb_values (calls.Close owner) = record { key = verbs.Close; values = (owner, tt); same = refl }
+verb_values (calls.Provide owner lusd) = record { key = verbs.Provide; values = (owner, (lusd, tt)); same = refl }
+verb_values (calls.Withdraw owner lusd) = record { key = verbs.Withdraw; values = (owner, (lusd, tt)); same = refl }
+verb_values (calls.GainToTrove owner h) = record { key = verbs.GainToTrove; values = (owner, (h.prev, (h.next, tt))); same = refl }
+verb_values (calls.Liquidate liquidator owner) = record { key = verbs.Liquidate; values = (liquidator, (owner, tt)); same = refl }
+verb_values (calls.LiquidateLowest liquidator count) = record { key = verbs.LiquidateLowest; values = (liquidator, (count, tt)); same = refl }
+verb_values (calls.Redeem owner lusd bound h) = record { key = verbs.Redeem; values = (owner, (lusd, (bound, (h.prev, (h.next, tt))))); same = refl }
+verb_values (calls.Claim owner) = record { key = verbs.Claim; values = (owner, tt); same = refl }
+verb_values calls.Rotate = record { key = verbs.Rotate; values = tt; same = refl }
 
 pub call_takes : (pieces : List (List ℕ)) (x : Call) → call_of pieces ≡ Some x → SpellEach pieces (call_words x)
 unfolding call_of first others arguments_of
@@ -87,7 +160,7 @@ call_made word pieces verb values e s = ap (λ (o : Option Verb). o >>= λ k. fi
 
 pub call_again : (pieces : List (List ℕ)) (x : Call) → SpellEach pieces (call_words x) → call_of pieces ≡ Some x
 call_again pieces x s =
-    let m = verb_values x pieces s in
+    let m = verb_values x in
     let words : call_words x ≡ text (verb_name m.key) ∷ words_of (verb_kinds m.key) m.values = ap call_words m.same ∙ verb_words m.key m.values in
     let t : SpellEach pieces (text (verb_name m.key) ∷ words_of (verb_kinds m.key) m.values) = subst (λ (ws : List Word). SpellEach pieces ws) words s in
     let parts = spell_parts pieces (text (verb_name m.key)) (words_of (verb_kinds m.key) m.values) t in
@@ -95,7 +168,7 @@ call_again pieces x s =
 
 pub call_plain : (pieces : List (List ℕ)) (x : Call) → SpellEach pieces (call_words x) → AllByRecursion IsPlain pieces
 call_plain pieces x s =
-    let m = verb_values x pieces s in
+    let m = verb_values x in
     let words : call_words x ≡ text (verb_name m.key) ∷ words_of (verb_kinds m.key) m.values = ap call_words m.same ∙ verb_words m.key m.values in
     plain_each pieces (call_words x) (rw words (verb_plain m.key, plain_words_of (verb_kinds m.key) m.values)) s
 
@@ -111,16 +184,36 @@ topic_named word name topic found rest is_name e more = elim (either_some (bytes
 topic_takes : (word : List ℕ) (found : Topic) → topic_of word ≡ Some found → word ≡ topic_name found
 topic_takes word found e =
     topic_named word (codes "wallet") topics.Wallet found _ refl e (λ e1.
-    absurd cc)
+    topic_named word (codes "trove") topics.Trove found _ refl e1 (λ e2.
+    topic_named word (codes "deposit") topics.Deposit found _ refl e2 (λ e3.
+    topic_named word (codes "pools") topics.Pools found _ refl e3 (λ e4.
+    topic_named word (codes "system") topics.System found _ refl e4 (λ e5.
+    topic_named word (codes "next_number") topics.NextNumber found _ refl e5 (λ e6.
+    absurd cc))))))
 
 topic_again : (topic : Topic) → topic_of (topic_name topic) ≡ Some topic
 topic_again topics.Wallet = refl
+topic_again topics.Trove = refl
+topic_again topics.Deposit = refl
+topic_again topics.Pools = refl
+topic_again topics.System = refl
+topic_again topics.NextNumber = refl
 
 topic_plain : (topic : Topic) → plain (topic_name topic) ≡ true
 topic_plain topics.Wallet = refl
+topic_plain topics.Trove = refl
+topic_plain topics.Deposit = refl
+topic_plain topics.Pools = refl
+topic_plain topics.System = refl
+topic_plain topics.NextNumber = refl
 
 topic_words : (topic : Topic) (values : Values (topic_kinds topic)) → query_words (made (topic_kinds topic) (query_with topic) values) ≡ text (topic_name topic) ∷ words_of (topic_kinds topic) values
 topic_words topics.Wallet values = refl
+topic_words topics.Trove values = refl
+topic_words topics.Deposit values = refl
+topic_words topics.Pools values = refl
+topic_words topics.System values = refl
+topic_words topics.NextNumber values = refl
 
 -- a query is made of the values behind its name
 record IsQueryWith (x : Query) : Type 0 where
@@ -128,10 +221,13 @@ record IsQueryWith (x : Query) : Type 0 where
   values : Values (topic_kinds key)
   same : x ≡ made (topic_kinds key) (query_with key) values
 
-topic_values : (x : Query) (pieces : List (List ℕ)) → SpellEach pieces (query_words x) → IsQueryWith x
-topic_values (queries.Wallet owner) pieces s = record { key = topics.Wallet; values = (owner, tt); same = refl }
-topic_values _ [] s = absurd s
-topic_values _ (piece ∷ pieces) s = absurd s.0
+topic_values : (x : Query) → IsQueryWith x
+topic_values (queries.Wallet owner) = record { key = topics.Wallet; values = (owner, tt); same = refl }
+topic_values (queries.Trove owner) = record { key = topics.Trove; values = (owner, tt); same = refl }
+topic_values (queries.Deposit owner) = record { key = topics.Deposit; values = (owner, tt); same = refl }
+topic_values queries.Pools = record { key = topics.Pools; values = tt; same = refl }
+topic_values queries.System = record { key = topics.System; values = tt; same = refl }
+topic_values (queries.NextNumber client) = record { key = topics.NextNumber; values = (client, tt); same = refl }
 
 pub query_takes : (pieces : List (List ℕ)) (x : Query) → query_of pieces ≡ Some x → SpellEach pieces (query_words x)
 unfolding query_of first others subject_of
@@ -149,7 +245,7 @@ query_made word pieces topic values e s = ap (λ (o : Option Topic). o >>= λ k.
 
 pub query_again : (pieces : List (List ℕ)) (x : Query) → SpellEach pieces (query_words x) → query_of pieces ≡ Some x
 query_again pieces x s =
-    let m = topic_values x pieces s in
+    let m = topic_values x in
     let words : query_words x ≡ text (topic_name m.key) ∷ words_of (topic_kinds m.key) m.values = ap query_words m.same ∙ topic_words m.key m.values in
     let t : SpellEach pieces (text (topic_name m.key) ∷ words_of (topic_kinds m.key) m.values) = subst (λ (ws : List Word). SpellEach pieces ws) words s in
     let parts = spell_parts pieces (text (topic_name m.key)) (words_of (topic_kinds m.key) m.values) t in
@@ -157,7 +253,7 @@ query_again pieces x s =
 
 pub query_plain : (pieces : List (List ℕ)) (x : Query) → SpellEach pieces (query_words x) → AllByRecursion IsPlain pieces
 query_plain pieces x s =
-    let m = topic_values x pieces s in
+    let m = topic_values x in
     let words : query_words x ≡ text (topic_name m.key) ∷ words_of (topic_kinds m.key) m.values = ap query_words m.same ∙ topic_words m.key m.values in
     plain_each pieces (query_words x) (rw words (topic_plain m.key, plain_words_of (topic_kinds m.key) m.values)) s
 
@@ -233,14 +329,6 @@ plain_request (Do c) [] s = absurd s
 plain_request (Do c) (word ∷ []) s = absurd s.1
 plain_request (Do c) (word ∷ piece ∷ pieces) s = (plain_spelled word (account c.client) tt s.0, (plain_spelled piece (number c.number) tt s.1.0, call_plain pieces c.call s.1.1))
 
-pub some_request : (r : Request) (pieces : List (List ℕ)) → SpellEach pieces (request_words r) → (piece : List ℕ) × (rest : List (List ℕ)) × (pieces ≡ piece ∷ rest)
-some_request (Ask q) [] s = absurd s
-some_request (Ask q) (word ∷ pieces) s = (word, pieces, refl)
-some_request (Do c) [] s = absurd s
-some_request (Do c) (word ∷ pieces) s = (word, pieces, refl)
-
-pub only_verb : (verb : Verb) (pieces : List (List ℕ)) (r : Option Call) → r ≡ arguments_of verbs.Fund pieces → r ≡ arguments_of verb pieces
-only_verb verbs.Fund pieces r e = e
-
-pub only_topic : (topic : Topic) (pieces : List (List ℕ)) (r : Option Query) → r ≡ subject_of topics.Wallet pieces → r ≡ subject_of topic pieces
-only_topic topics.Wallet pieces r e = e
+pub nonempty_request : (r : Request) → SpellEach [] (request_words r) → ⊥
+nonempty_request (Ask q) s = s
+nonempty_request (Do c) s = s

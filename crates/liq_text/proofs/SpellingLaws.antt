@@ -1,7 +1,7 @@
 -- What is read is spelled, and what is spelled is read.
-use Rattle.std.proofs.Common.{◌≡◌, ℕ, ◌^◌, ◌<◌, Bool, true, false, cond, ltb, eqb, List, [], ◌∷◌, Option, Some, None, refl, sym, ap, subst, ◌∙◌, arith, inl, inr, ◌⊎◌, lit<}
+use Rattle.std.proofs.Common.{◌≡◌, ℕ, ◌+◌, ◌^◌, ◌<◌, ◌≤◌, Bool, true, false, cond, ltb, eqb, List, [], ◌∷◌, ◌++◌, length, Option, Some, None, refl, sym, ap, subst, ◌∙◌, arith, inl, inr, ◌⊎◌, lit<}
 use Rattle.std.specs.Prelude.{decimal, codes, not, ◌&&◌}
-use Rattle.std.specs.List.{AllByRecursion}
+use Rattle.std.specs.List.{join_with_byte, slice_split, AllByRecursion}
 use Rattle.std.specs.Char.{digit_value}
 use Rattle.std.specs.Str.{bytes_eq}
 use Rattle.std.specs.Str.Parse.{IsNumeral, AllDigits}
@@ -10,7 +10,7 @@ use Rattle.std.proofs.lemmas.Fmt.{decimal_is_IsNumeral}
 use Rattle.std.proofs.lemmas.Bool.{ltb-true, lt-ltb, eqb-true, eqb-false, ne_eqb, and_from}
 use Rattle.std.proofs.lemmas.Option.{cond_some, same_Some}
 use Rattle.std.proofs.lemmas.Slice.Eq.{bytes_eq-Decides}
-use Rattle.liq_text.specs.Spelling.{Word, text, account, number, hint, unspoken, Spell, SpellEach}
+use Rattle.liq_text.specs.Spelling.{Word, text, account, number, hint, Spell, SpellEach}
 use Rattle.liq_text.specs.Reading.{◌>>=◌, number_of, account_of, hint_of, Kind, an_account, a_number, a_hint, Value, value_of, Makes, first, others, is_empty, fields}
 use Rattle.liq_text.proofs.ReadingLaws.{number_of-decimal, number_of-some, yes}
 
@@ -172,7 +172,6 @@ plain_spelled piece (number n) p s = decimal_plain piece n s.0 s.1
 plain_spelled piece (hint None) p (inl e) = ap plain e
 plain_spelled piece (hint None) p (inr e) = decimal_plain piece 4294967295 (lit< tt) e
 plain_spelled piece (hint (Some a)) p s = decimal_plain piece a (omega (arith, s.0)) s.1
-plain_spelled piece unspoken p s = absurd s
 
 pub plain_words_of : (kinds : List Kind) (values : Values kinds) → AllByRecursion IsPlainWord (words_of kinds values)
 plain_words_of [] values = tt

@@ -1,38 +1,89 @@
 -- Words written one after the other.
-use Rattle.std.proofs.Common.{◌≡◌, ℕ, ◌+◌, ◌<◌, ◌≤◌, List, [], ◌∷◌, ◌++◌, length, get_or, take, drop, ◌-◌, refl, sym, ap, ◌∙◌, append_assoc, drop-cons, add-one, arith}
+use Rattle.std.proofs.Common.{Option, Some, None, inl, inr, length-append, suc, ◌^◌, ◌≡◌, ℕ, ◌+◌, ◌*◌, ◌-◌, ◌<◌, ◌≤◌, List, [], ◌∷◌, ◌++◌, length, get_or, take, drop, refl, sym, ap, ◌∙◌, append_assoc, drop-cons, add-one, mul-le-mul_right, arith}
 use Rattle.std.specs.Prelude.{decimal, map}
-use Rattle.std.specs.List.{join_with_byte}
+use Rattle.std.specs.List.{join_with_byte, flat_map, AllByRecursion}
 use Rattle.std.proofs.lemmas.List.{append-nil, take_all}
 use Rattle.std.proofs.Math.ListN.{drop_of_length-le}
-use Rattle.liq_text.specs.Writing.{spaced}
+use Rattle.liq_types.specs.declared.requests.Request.{Request}
+use Rattle.liq_types.specs.declared.hints.HintWords.{HintWords}
+use Rattle.liq_text.specs.Spelling.{Word, text, account, number, hint, SpellEach, request_words, CanBeHint, HasSpelling, AppendsLine}
+use Rattle.liq_text.specs.Writing.{spaced, written, piece_of, hint_words, IsInRange}
 
-pub spaced_step : (out numbers : List ℕ) (i n : ℕ) → i < length numbers → n ≡ get_or numbers i 0 → (out ++ (32 ∷ decimal n)) ++ spaced (drop (i + 1) numbers) ≡ out ++ spaced (drop i numbers)
-unfolding spaced
-spaced_step out numbers i n lt e =
-    let cut : drop i numbers ≡ get_or numbers i 0 ∷ drop (i + 1) numbers = rw (add-one, drop-cons numbers i 0) refl in
-    append_assoc out (32 ∷ decimal n) (spaced (drop (i + 1) numbers))
-    ∙ ap (λ (k : ℕ). out ++ ((32 ∷ decimal k) ++ spaced (drop (i + 1) numbers))) e
-    ∙ ap (λ (ns : List ℕ). out ++ spaced ns) (sym cut)
+-- ---- a loop over numbers
 
-pub spaced_end : (out numbers : List ℕ) (i : ℕ) (whole : List ℕ) → length numbers ≤ i → out ++ spaced (drop i numbers) ≡ whole → out ≡ whole
-unfolding spaced
-spaced_end out numbers i whole le e =
+pub spaced_step : {A : Type 0} (written : A → List ℕ) (out : List ℕ) (numbers : List A) (i : ℕ) (d : A) → i < length numbers
+    → (out ++ (32 ∷ written (get_or numbers i d))) ++ spaced (map written (drop (i + 1) numbers)) ≡ out ++ spaced (map written (drop i numbers))
+spaced_step {A} written out numbers i d lt =
+    let cut : drop i numbers ≡ get_or numbers i d ∷ drop (i + 1) numbers = rw (add-one, drop-cons numbers i d) refl in
+    append_assoc out (32 ∷ written (get_or numbers i d)) (spaced (map written (drop (i + 1) numbers)))
+    ∙ ap (λ (ns : List A). out ++ spaced (map written ns)) (sym cut)
+
+pub spaced_end : {A : Type 0} (written : A → List ℕ) (out : List ℕ) (numbers : List A) (i : ℕ) (whole : List ℕ) → length numbers ≤ i → out ++ spaced (map written (drop i numbers)) ≡ whole → out ≡ whole
+spaced_end {A} written out numbers i whole le e =
     let none : drop i numbers ≡ [] = drop_of_length-le numbers le in
-    sym (append-nil out) ∙ ap (λ (ns : List ℕ). out ++ spaced ns) (sym none) ∙ e
+    sym (append-nil out) ∙ ap (λ (ns : List A). out ++ spaced (map written ns)) (sym none) ∙ e
 
--- a first word, and numbers behind it
-pub join_spaced : (word : List ℕ) (numbers : List ℕ) → join_with_byte 32 (word ∷ map decimal numbers) ≡ word ++ spaced numbers
-unfolding spaced
-join_spaced word [] = sym (append-nil word)
-join_spaced word (n ∷ ns) = ap (λ (rest : List ℕ). word ++ (32 ∷ rest)) (join_spaced (decimal n) ns)
+pub next_times : (i w : ℕ) → (i + 1) * w ≡ i * w + w
+next_times i w = grind arith
 
-pub put_behind : (out mid new word numbers : List ℕ) → mid ≡ out ++ word → new ≡ mid ++ spaced numbers → new ≡ out ++ join_with_byte 32 (word ∷ map decimal numbers)
-put_behind out mid new word numbers first second =
-    second ∙ ap (λ (m : List ℕ). m ++ spaced numbers) first ∙ append_assoc out word (spaced numbers) ∙ ap (λ (t : List ℕ). out ++ t) (sym (join_spaced word numbers))
+-- the room of one more of n numbers of at most w bytes, i of which are written
+pub room_for : (len room n i w : ℕ) → i < n → len + n * w ≤ room + i * w → len + w ≤ room
+room_for len room n i w lt left =
+    let more : (i + 1) * w ≤ n * w = mul-le-mul_right w (omega arith) in
+    omega (arith, next_times i w, more)
 
-pub put_behind_first : (out mid new text numbers : List ℕ) → 1 ≤ length numbers → mid ≡ out ++ text → text ≡ decimal (get_or numbers 0 0) → new ≡ mid ++ spaced (take (length numbers - 1) (drop 1 numbers))
+-- ---- joined words
+
+pub join_spaced : (piece : List ℕ) (pieces : List (List ℕ)) → join_with_byte 32 (piece ∷ pieces) ≡ piece ++ spaced pieces
+join_spaced piece [] = sym (append-nil piece)
+join_spaced piece (next ∷ pieces) = ap (λ (rest : List ℕ). piece ++ (32 ∷ rest)) (join_spaced next pieces)
+
+pub put_behind : (out mid new piece : List ℕ) (pieces : List (List ℕ)) → mid ≡ out ++ piece → new ≡ mid ++ spaced pieces → new ≡ out ++ join_with_byte 32 (piece ∷ pieces)
+put_behind out mid new piece pieces first second =
+    second ∙ ap (λ (m : List ℕ). m ++ spaced pieces) first ∙ append_assoc out piece (spaced pieces) ∙ ap (λ (t : List ℕ). out ++ t) (sym (join_spaced piece pieces))
+
+pub put_behind_first : (out mid new numbers : List ℕ) → 1 ≤ length numbers → mid ≡ out ++ decimal (get_or numbers 0 0) → new ≡ mid ++ spaced (map decimal (take (length numbers - 1) (drop 1 numbers)))
     → new ≡ out ++ join_with_byte 32 (map decimal numbers)
-put_behind_first out mid new text [] some first written second = absurd (omega arith)
-put_behind_first out mid new text (n ∷ ns) some first written second =
+put_behind_first out mid new [] some first second = absurd (omega arith)
+put_behind_first out mid new (n ∷ ns) some first second =
     let all : take (length (n ∷ ns) - 1) ns ≡ ns = take_all (length (n ∷ ns) - 1) ns (omega arith) in
-    put_behind out mid new (decimal n) ns (first ∙ ap (λ (t : List ℕ). out ++ t) written) (second ∙ ap (λ (t : List ℕ). mid ++ spaced t) all)
+    put_behind out mid new (decimal n) (map decimal ns) first (second ∙ ap (λ (t : List ℕ). mid ++ spaced (map decimal t)) all)
+
+-- ---- the words of a request
+
+written_numbers : (numbers : List ℕ) (words : List Word) → written (map number numbers ++ words) ≡ spaced (map decimal numbers) ++ written words
+written_numbers [] words = refl
+written_numbers (n ∷ ns) words = ap (λ (rest : List ℕ). (32 ∷ decimal n) ++ rest) (written_numbers ns words) ∙ sym (append_assoc (32 ∷ decimal n) (spaced (map decimal ns)) (written words))
+
+pub written_words : (out a b c d name : List ℕ) (numbers : List ℕ) (h : Option HintWords) → a ≡ out ++ (32 ∷ []) → b ≡ a ++ name → c ≡ b ++ spaced (map decimal numbers) → d ≡ c ++ written (hint_words h)
+    → d ≡ out ++ written (text name ∷ (map number numbers ++ hint_words h))
+written_words out a b c d name numbers h ea eb ec ed =
+    let one : b ≡ out ++ (32 ∷ name) = eb ∙ ap (λ (x : List ℕ). x ++ name) ea ∙ append_assoc out (32 ∷ []) name in
+    let two : c ≡ out ++ ((32 ∷ name) ++ spaced (map decimal numbers)) = ec ∙ ap (λ (x : List ℕ). x ++ spaced (map decimal numbers)) one ∙ append_assoc out (32 ∷ name) (spaced (map decimal numbers)) in
+    let rest : ((32 ∷ name) ++ spaced (map decimal numbers)) ++ written (hint_words h) ≡ (32 ∷ name) ++ written (map number numbers ++ hint_words h) =
+    append_assoc (32 ∷ name) (spaced (map decimal numbers)) (written (hint_words h)) ∙ ap (λ (x : List ℕ). (32 ∷ name) ++ x) (sym (written_numbers numbers (hint_words h))) in
+    ed ∙ ap (λ (x : List ℕ). x ++ written (hint_words h)) two ∙ append_assoc out ((32 ∷ name) ++ spaced (map decimal numbers)) (written (hint_words h)) ∙ ap (λ (x : List ℕ). out ++ x) rest
+
+pub each_in_range : (numbers : List ℕ) → ((i : ℕ) → get_or numbers i 0 < 2 ^ 64) → AllByRecursion (λ n. n < 2 ^ 64) numbers
+each_in_range [] h = tt
+each_in_range (n ∷ ns) h = (h 0, each_in_range ns (λ i. h (suc i)))
+
+pub put_two_behind : (out a b c first second : List ℕ) (pieces : List (List ℕ)) → a ≡ out ++ first → b ≡ a ++ (32 ∷ second) → c ≡ b ++ spaced pieces → c ≡ out ++ join_with_byte 32 (first ∷ second ∷ pieces)
+put_two_behind out a b c first second pieces ea eb ec =
+    put_behind out a c first (second ∷ pieces) ea (ec ∙ ap (λ (x : List ℕ). x ++ spaced pieces) eb ∙ append_assoc a (32 ∷ second) (spaced pieces))
+
+-- each word is spelled by how it is written
+pub spells_each : (words : List Word) → AllByRecursion IsInRange words → AllByRecursion CanBeHint words → SpellEach (map piece_of words) words
+spells_each [] range hints = tt
+spells_each (text t ∷ words) range hints = (refl, spells_each words range.1 hints.1)
+spells_each (account a ∷ words) range hints = ((range.0, refl), spells_each words range.1 hints.1)
+spells_each (number n ∷ words) range hints = ((range.0, refl), spells_each words range.1 hints.1)
+spells_each (hint None ∷ words) range hints = (inl refl, spells_each words range.1 hints.1)
+spells_each (hint (Some a) ∷ words) range hints = ((hints.0, refl), spells_each words range.1 hints.1)
+
+-- what was appended is a line of the request
+pub appends_line : (old new : List ℕ) (r : Request) → length new ≤ length old + 200 → new ≡ old ++ join_with_byte 32 (map piece_of (request_words r)) → AllByRecursion IsInRange (request_words r) → HasSpelling r → AppendsLine old new r
+appends_line old new r short e range hints =
+    let line = join_with_byte 32 (map piece_of (request_words r)) in
+    let long : length new ≡ length old + length line = ap (λ (x : List ℕ). length x) e ∙ length-append old line in
+    (line, e, (omega (arith, long, short), (map piece_of (request_words r), refl, spells_each (request_words r) range hints)))

@@ -8,9 +8,11 @@ mod names;
 mod pieces;
 mod queries;
 mod replies;
+mod requests;
 mod values;
 mod writing;
 
 pub use bad_line::BadLine;
-pub use lines::read_line;
+pub use lines::{read_line, read_session_line};
 pub use replies::write_reply;
+pub use requests::write_request;

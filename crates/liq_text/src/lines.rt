@@ -1,9 +1,9 @@
 //! Lines, read.
 
-ghost use Rattle.std.specs.Prelude.{◌≡◌, Ok, IfOk, OnErr};
+ghost use Rattle.std.specs.Prelude.{◌≡◌, ℕ, Ok, IfOk, OnErr};
 ghost use Rattle.liq_types.specs.declared.requests.Request.{Request};
-ghost use Rattle.liq_text.specs.Spelling.{Spells};
-ghost use Rattle.liq_text.specs.Reading.{pieces_of, call_of, query_of, request_of};
+ghost use Rattle.liq_text.specs.Spelling.{Spells, SpellsInSession};
+ghost use Rattle.liq_text.specs.Reading.{pieces_of, call_of, query_of, request_of, session_of, session_request_of};
 ghost use Rattle.liq_text.specs.Pieces.{pieces_left};
 
 use crate::bad_line::BadLine;
@@ -67,4 +67,38 @@ pub fn read_line(line: &[u8]) -> Result<Request, BadLine>
         return Err(BadLine);
     }
     request_in(line).ok_or(BadLine)
+}
+
+#[tactic(auto, unfolding(crate::specs::Reading::session_of))]
+fn session(word: &[u8]) -> Option<u8>
+    ensures { result ≡ session_of word.now }
+{
+    match values::number(word)? {
+        session @ 1..=8 => Some(session as u8),
+        _ => None,
+    }
+}
+
+#[tactic(auto, unfolding(crate::specs::Reading::session_request_of, crate::specs::Reading::first))]
+fn session_request_in(line: &[u8]) -> Option<(u8, Request)>
+    ensures { result ≡ session_request_of (pieces_of line.now) }
+{
+    let mut words = Pieces::new(line);
+    let session = session(words.next()?)?;
+    let request = request(&mut words)?;
+    Some((session, request))
+}
+
+/// The session, from 1 to 8, and the request that a line of several sessions spells: the session's digit and a space stand in
+/// front of a line as [`read_line`] reads it. The bound of 200 bytes counts the whole line.
+pub fn read_session_line(line: &[u8]) -> Result<(u8, Request), BadLine>
+    ensures found { IfOk result (λ read. SpellsInSession line.now read.0 read.1) }
+    // So at most one session and request are spelled.
+    ensures only { (session : ℕ) (request : Request) → SpellsInSession line.now session request → result ≡ Ok (session, request) }
+    ensures bad { OnErr result ((session : ℕ) (request : Request) → SpellsInSession line.now session request → ⊥) }
+{
+    if line.len() > LINE_BYTES {
+        return Err(BadLine);
+    }
+    session_request_in(line).ok_or(BadLine)
 }

@@ -1,49 +1,58 @@
 //! Replies, written.
 
-ghost use Rattle.std.specs.Prelude.{◌≡◌, ◌≤◌, ◌+◌, ◌++◌, OnOk, OnErr, IsOk, slice_index};
+ghost use Rattle.std.specs.Prelude.{map, decimal, ◌≡◌, ◌≤◌, ◌+◌, ◌++◌, OnOk, OnErr, IsOk, slice_index};
 ghost use Rattle.std.specs.List.{join_with_byte};
 ghost use Rattle.std.specs.Vec.{vec_len, vec_capacity};
 ghost use Rattle.liq_text.specs.Replies.{text, info_words, refusal_numbers, value_counts, shown_values};
 ghost use Rattle.liq_text.specs.Writing.{spaced};
 
-use crate::writing::{put, put_amounts, put_list, put_numbers};
+use crate::writing::{put, put_list, put_numbers};
 use liq_types::amounts::REPLY_BYTES;
 use liq_types::{Done, Info, NoMemory, Refusal, Reply};
 
 fn put_refusal(out: &mut Vec<u8>, refusal: &Refusal)
     requires { vec_len out.old + 246 ≤ vec_capacity out.old }
-    ensures items { out.new.items ≡ out.old.items ++ spaced (refusal_numbers refusal.now) }
+    ensures items { out.new.items ≡ out.old.items ++ spaced (map decimal (refusal_numbers refusal.now)) }
     ensures capacity { vec_capacity out.old ≤ vec_capacity out.new }
 {
     match *refusal {
-        Refusal::PriceRange { price } => put_numbers(out, &[10, price.into()]),
-        Refusal::AmountZero => put_numbers(out, &[11]),
-        Refusal::AmountLimit { sum, limit } => put_numbers(out, &[12, sum, limit.into()]),
-        Refusal::AccountRange { value } => put_numbers(out, &[13, value.into()]),
+        Refusal::PriceRange { price } => put_numbers(out, &[10u128, price.into()]),
+        Refusal::AmountZero => put_numbers(out, &[11u128]),
+        Refusal::AmountLimit { sum, limit } => put_numbers(out, &[12u128, sum, limit.into()]),
+        Refusal::AccountRange { value } => put_numbers(out, &[13u128, value.into()]),
         Refusal::ShortCollateral { need, have } => put_numbers(
             out,
-            &[14, need.into(), have.into()],
+            &[14u128, need.into(), have.into()],
         ),
-        Refusal::ShortTokens { need, have } => put_numbers(out, &[15, need.into(), have.into()]),
-        Refusal::TroveExists { account } => put_numbers(out, &[20, account.into()]),
-        Refusal::NoTrove { account } => put_numbers(out, &[21, account.into()]),
-        Refusal::FeeBound { bound, least } => put_numbers(out, &[22, bound.into(), least.into()]),
-        Refusal::FeeOver { left, right } => put_numbers(out, &[23, left, right]),
-        Refusal::NetDebtLow { net, least } => put_numbers(out, &[24, net.into(), least.into()]),
-        Refusal::RatioLow { left, right } => put_numbers(out, &[25, left, right]),
-        Refusal::SystemRatioLow { left, right } => put_numbers(out, &[26, left, right]),
-        Refusal::RecoveryForbids { left, right } => put_numbers(out, &[27, left, right]),
-        Refusal::RatioFalls { left, right } => put_numbers(out, &[28, left, right]),
-        Refusal::BothWays { first, second } => put_numbers(out, &[29, first.into(), second.into()]),
-        Refusal::NoChange => put_numbers(out, &[30]),
-        Refusal::LastTrove { troves } => put_numbers(out, &[31, troves.into()]),
-        Refusal::NoDeposit { account } => put_numbers(out, &[40, account.into()]),
+        Refusal::ShortTokens { need, have } => put_numbers(
+            out,
+            &[15u128, need.into(), have.into()],
+        ),
+        Refusal::TroveExists { account } => put_numbers(out, &[20u128, account.into()]),
+        Refusal::NoTrove { account } => put_numbers(out, &[21u128, account.into()]),
+        Refusal::FeeBound { bound, least } => put_numbers(
+            out,
+            &[22u128, bound.into(), least.into()],
+        ),
+        Refusal::FeeOver { left, right } => put_numbers(out, &[23u128, left, right]),
+        Refusal::NetDebtLow { net, least } => put_numbers(out, &[24u128, net.into(), least.into()]),
+        Refusal::RatioLow { left, right } => put_numbers(out, &[25u128, left, right]),
+        Refusal::SystemRatioLow { left, right } => put_numbers(out, &[26u128, left, right]),
+        Refusal::RecoveryForbids { left, right } => put_numbers(out, &[27u128, left, right]),
+        Refusal::RatioFalls { left, right } => put_numbers(out, &[28u128, left, right]),
+        Refusal::BothWays { first, second } => put_numbers(
+            out,
+            &[29u128, first.into(), second.into()],
+        ),
+        Refusal::NoChange => put_numbers(out, &[30u128]),
+        Refusal::LastTrove { troves } => put_numbers(out, &[31u128, troves.into()]),
+        Refusal::NoDeposit { account } => put_numbers(out, &[40u128, account.into()]),
         Refusal::TroveUnder {
             account,
             left,
             right,
-        } => put_numbers(out, &[41, account.into(), left, right]),
-        Refusal::NoGain { account } => put_numbers(out, &[42, account.into()]),
+        } => put_numbers(out, &[41u128, account.into(), left, right]),
+        Refusal::NoGain { account } => put_numbers(out, &[42u128, account.into()]),
         Refusal::NotLiquidatable {
             coll,
             debt,
@@ -53,7 +62,7 @@ fn put_refusal(out: &mut Vec<u8>, refusal: &Refusal)
         } => put_numbers(
             out,
             &[
-                50,
+                50u128,
                 coll.into(),
                 debt.into(),
                 price.into(),
@@ -61,21 +70,24 @@ fn put_refusal(out: &mut Vec<u8>, refusal: &Refusal)
                 total_debt.into(),
             ],
         ),
-        Refusal::PoolTooSmall { total, debt } => put_numbers(out, &[51, total.into(), debt.into()]),
-        Refusal::SumLimit { sum } => put_numbers(out, &[52, sum]),
+        Refusal::PoolTooSmall { total, debt } => put_numbers(
+            out,
+            &[51u128, total.into(), debt.into()],
+        ),
+        Refusal::SumLimit { sum } => put_numbers(out, &[52u128, sum]),
         Refusal::Bootstrap { minute, limit } => put_numbers(
             out,
-            &[60, minute.into(), limit.into()],
+            &[60u128, minute.into(), limit.into()],
         ),
-        Refusal::SystemUnder { left, right } => put_numbers(out, &[61, left, right]),
+        Refusal::SystemUnder { left, right } => put_numbers(out, &[61u128, left, right]),
         Refusal::NothingRedeemed { amount, net } => put_numbers(
             out,
-            &[62, amount.into(), net.into()],
+            &[62u128, amount.into(), net.into()],
         ),
-        Refusal::FeeEatsAll { fee, drawn } => put_numbers(out, &[63, fee.into(), drawn.into()]),
-        Refusal::NoSurplus { account } => put_numbers(out, &[64, account.into()]),
-        Refusal::OutOfTurn { expected } => put_numbers(out, &[70, expected.into()]),
-        Refusal::JournalFull { records } => put_numbers(out, &[81, records.into()]),
+        Refusal::FeeEatsAll { fee, drawn } => put_numbers(out, &[63u128, fee.into(), drawn.into()]),
+        Refusal::NoSurplus { account } => put_numbers(out, &[64u128, account.into()]),
+        Refusal::OutOfTurn { expected } => put_numbers(out, &[70u128, expected.into()]),
+        Refusal::JournalFull { records } => put_numbers(out, &[81u128, records.into()]),
     }
 }
 
@@ -94,10 +106,10 @@ fn value_count(kind: u8) -> usize
 
 fn put_done(out: &mut Vec<u8>, done: &Done)
     requires { vec_len out.old + 253 ≤ vec_capacity out.old }
-    ensures items { out.new.items ≡ out.old.items ++ spaced (shown_values done.now) }
+    ensures items { out.new.items ≡ out.old.items ++ spaced (map decimal (shown_values done.now)) }
     ensures capacity { vec_capacity out.old ≤ vec_capacity out.new }
 {
-    put_amounts(out, &done.values[..value_count(done.kind)]);
+    put_numbers(out, &done.values[..value_count(done.kind)]);
 }
 
 fn put_info(out: &mut Vec<u8>, info: &Info)

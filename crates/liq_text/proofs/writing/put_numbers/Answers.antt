@@ -1,16 +1,23 @@
-use Rattle.std.proofs.Common.{arith, ◌∙◌, ap, ◌++◌, List, ℕ, ◌+◌, drop, refl}
+use Rattle.std.proofs.Common.{arith, sym, ◌∙◌, ap, ◌++◌, ◌∷◌, List, ℕ, ◌+◌, drop, length, map}
 use Rattle.liq_text.specs.Writing.{spaced}
-use Rattle.liq_text.proofs.WritingLaws.{spaced_step, spaced_end}
+use Rattle.liq_text.proofs.WritingLaws.{spaced_step, spaced_end, room_for, next_times}
 use Rattle.liq_text.proofs.writing.put_numbers.Goals as goal
 
+pub put_number-requires : goal.put_number-requires
+put_number-requires g c = room_for _ _ (length c.args.numbers.now) c.loop-number.number-index (g.I.Integer.MAX_STR_LEN + 1) c.loop-number-test.true c.loop-number.invariant.room
+
 pub loop-number-preserved : goal.loop-number-preserved
-loop-number-preserved c = record {
-  items = ap (λ (out : List ℕ). out ++ spaced (drop (c.loop-number.number-index + 1) c.args.numbers.now)) c.put_wide.ensures.items
-      ∙ spaced_step c.loop-number.out.items c.args.numbers.now c.loop-number.number-index _ (omega arith) refl
-      ∙ c.loop-number.invariant.items;
-  room = omega arith;
-  capacity = omega arith;
-}
+loop-number-preserved g c =
+    let next = next_times c.loop-number.number-index (g.I.Integer.MAX_STR_LEN + 1) in
+    record {
+      items = ap (λ (out : List ℕ). out ++ spaced (map g.I.Integer.text (drop (c.loop-number.number-index + 1) c.args.numbers.now)))
+          (c.put_number.ensures.items ∙ ap (λ (n : _). c.loop-number.out.items ++ (32 ∷ g.I.Integer.text n)) c.number-item.is)
+          ∙ spaced_step g.I.Integer.text c.loop-number.out.items c.args.numbers.now c.loop-number.number-index c.number-item.result c.loop-number-test.true
+          ∙ c.loop-number.invariant.items;
+      len = omega (arith, next);
+      room = omega (arith, next);
+      capacity = omega arith;
+    }
 
 pub returns-clause-items : goal.returns-clause-items
-returns-clause-items c = spaced_end c.loop-number.out.items c.args.numbers.now c.loop-number.number-index _ (omega arith) c.loop-number.invariant.items
+returns-clause-items g c = spaced_end g.I.Integer.text c.loop-number.out.items c.args.numbers.now c.loop-number.number-index _ c.loop-number-test.false c.loop-number.invariant.items
