@@ -13,6 +13,7 @@ use liq_types::{Done, Info, NoMemory, Refusal, Reply};
 fn put_refusal(out: &mut Vec<u8>, refusal: &Refusal)
     requires { vec_len out.old + 246 ≤ vec_capacity out.old }
     ensures items { out.new.items ≡ out.old.items ++ spaced (map decimal (refusal_numbers refusal.now)) }
+    ensures len { vec_len out.new ≤ vec_len out.old + 246 }
     ensures capacity { vec_capacity out.old ≤ vec_capacity out.new }
 {
     match *refusal {
@@ -107,6 +108,7 @@ fn value_count(kind: u8) -> usize
 fn put_done(out: &mut Vec<u8>, done: &Done)
     requires { vec_len out.old + 253 ≤ vec_capacity out.old }
     ensures items { out.new.items ≡ out.old.items ++ spaced (map decimal (shown_values done.now)) }
+    ensures len { vec_len out.new ≤ vec_len out.old + 253 }
     ensures capacity { vec_capacity out.old ≤ vec_capacity out.new }
 {
     put_numbers(out, &done.values[..value_count(done.kind)]);
@@ -115,6 +117,7 @@ fn put_done(out: &mut Vec<u8>, done: &Done)
 fn put_info(out: &mut Vec<u8>, info: &Info)
     requires { vec_len out.old + 255 ≤ vec_capacity out.old }
     ensures items { out.new.items ≡ out.old.items ++ join_with_byte 32 (info_words info.now) }
+    ensures len { vec_len out.new ≤ vec_len out.old + 255 }
     ensures capacity { vec_capacity out.old ≤ vec_capacity out.new }
 {
     match info {
@@ -131,6 +134,7 @@ fn put_info(out: &mut Vec<u8>, info: &Info)
 fn put_reply(out: &mut Vec<u8>, reply: &Reply)
     requires { vec_len out.old + 255 ≤ vec_capacity out.old }
     ensures items { out.new.items ≡ out.old.items ++ text reply.now }
+    ensures len { vec_len out.new ≤ vec_len out.old + 255 }
     ensures capacity { vec_capacity out.old ≤ vec_capacity out.new }
 {
     match reply {
@@ -152,6 +156,7 @@ pub fn write_reply(reply: &Reply, out: &mut Vec<u8>) -> Result<(), NoMemory>
     ensures ok { OnOk result (out.new.items ≡ out.old.items ++ text reply.now) }
     ensures err { OnErr result (out.new.items ≡ out.old.items) }
     ensures room { vec_len out.old + 255 ≤ vec_capacity out.old → IsOk result }
+    ensures short { vec_len out.new ≤ vec_len out.old + 255 }
     ensures capacity { vec_capacity out.old ≤ vec_capacity out.new }
 {
     if out.reserve(REPLY_BYTES).is_err() {
