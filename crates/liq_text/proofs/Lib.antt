@@ -4,3 +4,4 @@ pub mod SpellingLaws
 pub mod RequestLaws
 pub mod LineLaws
 pub mod WritingLaws
+pub mod ReplyLaws

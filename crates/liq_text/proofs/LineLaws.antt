@@ -2,7 +2,7 @@
 use Rattle.std.proofs.Common.{◌≡◌, cond, leb, ℕ, ◌≤◌, Bool, true, false, eqb, List, [], ◌∷◌, length, Option, Some, None, Result, Ok, refl, sym, ap, subst, ◌∙◌}
 use Rattle.std.specs.Prelude.{not, ◌&&◌, IfOk, OnErr}
 use Rattle.std.specs.Option.{ok_or}
-use Rattle.std.proofs.lemmas.Option.{none-some, same_Some, cond_some}
+use Rattle.std.proofs.lemmas.Option.{same_Some, cond_some}
 use Rattle.std.specs.List.{join_with_byte, AllByRecursion}
 use Rattle.std.proofs.lemmas.Bool.{and_parts, and_from, leb-true, le-leb}
 use Rattle.std.proofs.lemmas.List.Elements.{All-from_recursion}

@@ -1,5 +1,5 @@
 -- The words of a request: what is read is spelled, and what is spelled is read.
-use Rattle.std.proofs.Common.{◌≡◌, ℕ, ◌+◌, ◌^◌, ◌<◌, ◌≤◌, Bool, true, false, cond, ltb, eqb, List, [], ◌∷◌, ◌++◌, length, Option, Some, None, refl, sym, ap, subst, ◌∙◌, arith, inl, inr, ◌⊎◌}
+use Rattle.std.proofs.Common.{◌≡◌, ℕ, ◌^◌, ◌<◌, Bool, true, false, cond, List, [], ◌∷◌, Option, Some, None, refl, sym, ap, subst, ◌∙◌, arith, inl, inr}
 use Rattle.std.specs.Prelude.{decimal, codes}
 use Rattle.std.specs.Char.{digit_value}
 use Rattle.std.specs.List.{AllByRecursion}
@@ -20,10 +20,10 @@ use Rattle.liq_text.specs.declared.names.Verb.TheVariants as verbs
 use Rattle.liq_text.specs.declared.names.Topic.{Topic}
 use Rattle.liq_text.specs.declared.names.Topic.TheVariants as topics
 use Rattle.liq_text.specs.Names.{verb_name, topic_name, verb_of, topic_of}
-use Rattle.liq_text.specs.Spelling.{Word, text, account, number, hint, Spell, SpellEach, call_words, query_words, request_words}
-use Rattle.liq_text.specs.Reading.{◌>>=◌, number_of, account_of, Kind, Makes, first, others, fields, verb_kinds, call_with, topic_kinds, query_with, arguments_of, subject_of, call_of, query_of, request_of}
+use Rattle.liq_text.specs.Spelling.{Word, text, account, number, Spell, SpellEach, call_words, query_words, request_words}
+use Rattle.liq_text.specs.Reading.{◌>>=◌, number_of, account_of, first, others, fields, verb_kinds, call_with, topic_kinds, query_with, arguments_of, subject_of, call_of, query_of, request_of}
 use Rattle.liq_text.proofs.ReadingLaws.{number_of-decimal, number_of-some, yes}
-use Rattle.liq_text.proofs.SpellingLaws.{bind_some, either_some, account_takes, account_again, dashless, is_false, Values, words_of, made, fields_take, fields_again, plain, IsPlain, IsPlainWord, plain_spelled, plain_words_of, plain_each}
+use Rattle.liq_text.proofs.SpellingLaws.{bind_some, either_some, account_takes, account_again, is_false, Values, words_of, made, fields_take, fields_again, plain, IsPlain, plain_spelled, plain_words_of, plain_each}
 
 -- the pieces that spell a list of words with a first one
 record SpellParts (pieces : List (List ℕ)) (word : Word) (words : List Word) : Type 0 where

@@ -1,7 +1,7 @@
 -- Words written one after the other.
-use Rattle.std.proofs.Common.{Option, Some, None, inl, inr, length-append, suc, ◌^◌, ◌≡◌, ℕ, ◌+◌, ◌*◌, ◌-◌, ◌<◌, ◌≤◌, List, [], ◌∷◌, ◌++◌, length, get_or, take, drop, refl, sym, ap, ◌∙◌, append_assoc, drop-cons, add-one, mul-le-mul_right, arith}
+use Rattle.std.proofs.Common.{Option, Some, None, inl, length-append, suc, ◌^◌, ◌≡◌, ℕ, ◌+◌, ◌*◌, ◌-◌, ◌<◌, ◌≤◌, List, [], ◌∷◌, ◌++◌, length, get_or, take, drop, refl, sym, ap, ◌∙◌, append_assoc, drop-cons, add-one, mul-le-mul_right, arith}
 use Rattle.std.specs.Prelude.{decimal, map}
-use Rattle.std.specs.List.{join_with_byte, flat_map, AllByRecursion}
+use Rattle.std.specs.List.{join_with_byte, AllByRecursion}
 use Rattle.std.proofs.lemmas.List.{append-nil, take_all}
 use Rattle.std.proofs.Math.ListN.{drop_of_length-le}
 use Rattle.liq_types.specs.declared.requests.Request.{Request}
@@ -11,12 +11,14 @@ use Rattle.liq_text.specs.Writing.{spaced, written, piece_of, hint_words, IsInRa
 
 -- ---- a loop over numbers
 
-pub spaced_step : {A : Type 0} (written : A → List ℕ) (out : List ℕ) (numbers : List A) (i : ℕ) (d : A) → i < length numbers
-    → (out ++ (32 ∷ written (get_or numbers i d))) ++ spaced (map written (drop (i + 1) numbers)) ≡ out ++ spaced (map written (drop i numbers))
-spaced_step {A} written out numbers i d lt =
-    let cut : drop i numbers ≡ get_or numbers i d ∷ drop (i + 1) numbers = rw (add-one, drop-cons numbers i d) refl in
-    append_assoc out (32 ∷ written (get_or numbers i d)) (spaced (map written (drop (i + 1) numbers)))
+pub spaced_next : {A : Type 0} (written : A → List ℕ) (out next : List ℕ) (numbers : List A) (i : ℕ) (n : A) (whole : List ℕ) → i < length numbers → n ≡ get_or numbers i n → next ≡ out ++ (32 ∷ written n)
+    → out ++ spaced (map written (drop i numbers)) ≡ whole → next ++ spaced (map written (drop (i + 1) numbers)) ≡ whole
+spaced_next {A} written out next numbers i n whole lt item e so_far =
+    let cut : drop i numbers ≡ n ∷ drop (i + 1) numbers = rw (add-one, drop-cons numbers i n) (ap (λ (x : A). x ∷ drop (suc i) numbers) (sym item)) in
+    ap (λ (x : List ℕ). x ++ spaced (map written (drop (i + 1) numbers))) e
+    ∙ append_assoc out (32 ∷ written n) (spaced (map written (drop (i + 1) numbers)))
     ∙ ap (λ (ns : List A). out ++ spaced (map written ns)) (sym cut)
+    ∙ so_far
 
 pub spaced_end : {A : Type 0} (written : A → List ℕ) (out : List ℕ) (numbers : List A) (i : ℕ) (whole : List ℕ) → length numbers ≤ i → out ++ spaced (map written (drop i numbers)) ≡ whole → out ≡ whole
 spaced_end {A} written out numbers i whole le e =

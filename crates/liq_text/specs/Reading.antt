@@ -1,5 +1,5 @@
 -- Reading the words of a line from left to right.
-use Rattle.std.specs.Prelude.{ℕ, ◌-◌, List, [], ◌∷◌, length, drop, Option, Some, None, codes, decimal, nat_lt, nat_le, ◌==◌, ◌&&◌, ◌^◌, if◌then◌else◌, Bool, true, false}
+use Rattle.std.specs.Prelude.{ℕ, List, [], ◌∷◌, Option, Some, None, codes, decimal, nat_lt, nat_le, ◌==◌, ◌&&◌, ◌^◌, if◌then◌else◌, Bool, true, false}
 use Rattle.std.specs.List.{slice_split}
 use Rattle.std.specs.Str.{bytes_eq}
 use Rattle.std.specs.Str.Parse.{digits_value}
@@ -8,10 +8,8 @@ use Rattle.liq_text.specs.declared.names.Verb.TheVariants as verbs
 use Rattle.liq_text.specs.declared.names.Topic.{Topic}
 use Rattle.liq_text.specs.declared.names.Topic.TheVariants as topics
 use Rattle.liq_text.specs.Names.{verb_of, topic_of}
-use Rattle.liq_types.specs.declared.hints.HintWords.{HintWords}
 use Rattle.liq_types.specs.declared.requests.Request.{Request}
 use Rattle.liq_types.specs.declared.requests.Request.TheVariants.{Do, Ask}
-use Rattle.liq_types.specs.declared.requests.Command.{Command}
 use Rattle.liq_types.specs.declared.requests.Call.{Call}
 use Rattle.liq_types.specs.declared.requests.Call.TheVariants as calls
 use Rattle.liq_types.specs.declared.requests.Query.{Query}

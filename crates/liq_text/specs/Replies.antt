@@ -1,6 +1,6 @@
 -- The text of a reply, without its line end.
-use Rattle.std.specs.Prelude.{ℕ, List, [], ◌∷◌, map, take, slice_index, codes, decimal}
-use Rattle.std.specs.List.{join_with_byte}
+use Rattle.std.specs.Prelude.{ℕ, ◌<◌, ◌≤◌, ◌^◌, length, List, [], ◌∷◌, map, take, slice_index, codes, decimal}
+use Rattle.std.specs.List.{join_with_byte, AllByRecursion}
 use Rattle.liq_types.specs.declared.replies.Reply.{Reply}
 use Rattle.liq_types.specs.declared.replies.Reply.TheVariants.{Said, Told, No}
 use Rattle.liq_types.specs.declared.replies.Done.{Done}
@@ -17,11 +17,11 @@ abbrev pub shown_values : Done → List ℕ
 shown_values d = take (slice_index value_counts d.kind) d.values
 
 abbrev pub info_words : Info → List (List ℕ)
+info_words infos.NoTrove = codes "none" ∷ []
+info_words infos.NoDeposit = codes "none" ∷ []
 info_words (infos.Wallet coll lusd) = map decimal (coll ∷ lusd ∷ [])
 info_words (infos.Trove coll debt stake) = map decimal (coll ∷ debt ∷ stake ∷ [])
-info_words infos.NoTrove = codes "none" ∷ []
 info_words (infos.Deposit balance gain) = map decimal (balance ∷ gain ∷ [])
-info_words infos.NoDeposit = codes "none" ∷ []
 info_words (infos.Pools pools) = map decimal pools
 info_words (infos.System words) = map decimal words
 info_words (infos.Next number) = map decimal (number ∷ [])
@@ -68,3 +68,25 @@ reply_words (No refusal) = codes "no" ∷ map decimal (refusal_numbers refusal)
 -- the words with one space between two
 abbrev pub text : Reply → List ℕ
 text reply = join_with_byte 32 (reply_words reply)
+
+-- ---- how long a text may be
+
+-- at most ten numbers of 64 bits
+abbrev pub AreAmounts : List ℕ → Type 0
+AreAmounts numbers = (length numbers ≤ 10) × AllByRecursion (λ n. n < 2 ^ 64) numbers
+
+abbrev pub HasAmounts : Info → Type 0
+HasAmounts (infos.Wallet coll lusd) = AreAmounts (coll ∷ lusd ∷ [])
+HasAmounts (infos.Trove coll debt stake) = AreAmounts (coll ∷ debt ∷ stake ∷ [])
+HasAmounts infos.NoTrove = Unit {0}
+HasAmounts (infos.Deposit balance gain) = AreAmounts (balance ∷ gain ∷ [])
+HasAmounts infos.NoDeposit = Unit {0}
+HasAmounts (infos.Pools pools) = AreAmounts pools
+HasAmounts (infos.System words) = AreAmounts words
+HasAmounts (infos.Next number) = AreAmounts (number ∷ [])
+
+-- The numbers are those of a reply's types, or of wider ones.
+abbrev pub FitsTypes : Reply → Type 0
+FitsTypes (Said d) = AllByRecursion (λ n. n < 2 ^ 64) d.values
+FitsTypes (Told info) = HasAmounts info
+FitsTypes (No refusal) = AllByRecursion (λ n. n < 2 ^ 128) (refusal_numbers refusal)

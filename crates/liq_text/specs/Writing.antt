@@ -1,5 +1,5 @@
 -- Words written one after the other.
-use Rattle.std.specs.Prelude.{ℕ, List, [], ◌∷◌, ◌++◌, ◌<◌, ◌^◌, map, Option, Some, None, codes, decimal}
+use Rattle.std.specs.Prelude.{ℕ, List, [], ◌∷◌, ◌<◌, ◌^◌, map, Option, Some, None, codes, decimal}
 use Rattle.std.specs.List.{flat_map}
 use Rattle.liq_types.specs.declared.hints.HintWords.{HintWords}
 use Rattle.liq_text.specs.Spelling.{Word, text, account, number, hint}

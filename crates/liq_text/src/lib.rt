@@ -3,6 +3,7 @@
 
 mod bad_line;
 mod calls;
+pub mod laws;
 mod lines;
 mod names;
 mod pieces;
@@ -16,3 +17,6 @@ pub use bad_line::BadLine;
 pub use lines::{read_line, read_session_line};
 pub use replies::write_reply;
 pub use requests::write_request;
+
+#[cfg(test)]
+mod tests;

@@ -1,6 +1,6 @@
 //! Replies, written.
 
-ghost use Rattle.std.specs.Prelude.{map, decimal, ◌≡◌, ◌≤◌, ◌+◌, ◌++◌, OnOk, OnErr, IsOk, slice_index};
+ghost use Rattle.std.specs.Prelude.{map, decimal, ◌≡◌, ◌≤◌, ◌+◌, ◌++◌, OnOk, OnErr, IsOk, slice_index, length};
 ghost use Rattle.std.specs.List.{join_with_byte};
 ghost use Rattle.std.specs.Vec.{vec_len, vec_capacity};
 ghost use Rattle.liq_text.specs.Replies.{text, info_words, refusal_numbers, value_counts, shown_values};
@@ -11,9 +11,9 @@ use liq_types::amounts::REPLY_BYTES;
 use liq_types::{Done, Info, NoMemory, Refusal, Reply};
 
 fn put_refusal(out: &mut Vec<u8>, refusal: &Refusal)
-    requires { vec_len out.old + 246 ≤ vec_capacity out.old }
+    requires { vec_len out.old + 240 ≤ vec_capacity out.old }
     ensures items { out.new.items ≡ out.old.items ++ spaced (map decimal (refusal_numbers refusal.now)) }
-    ensures len { vec_len out.new ≤ vec_len out.old + 246 }
+    ensures len { vec_len out.new ≤ vec_len out.old + 240 }
     ensures capacity { vec_capacity out.old ≤ vec_capacity out.new }
 {
     match *refusal {
@@ -106,18 +106,18 @@ fn value_count(kind: u8) -> usize
 }
 
 fn put_done(out: &mut Vec<u8>, done: &Done)
-    requires { vec_len out.old + 253 ≤ vec_capacity out.old }
+    requires { vec_len out.old + 126 ≤ vec_capacity out.old }
     ensures items { out.new.items ≡ out.old.items ++ spaced (map decimal (shown_values done.now)) }
-    ensures len { vec_len out.new ≤ vec_len out.old + 253 }
+    ensures len { vec_len out.new ≤ vec_len out.old + 126 }
     ensures capacity { vec_capacity out.old ≤ vec_capacity out.new }
 {
     put_numbers(out, &done.values[..value_count(done.kind)]);
 }
 
 fn put_info(out: &mut Vec<u8>, info: &Info)
-    requires { vec_len out.old + 255 ≤ vec_capacity out.old }
+    requires { vec_len out.old + 210 ≤ vec_capacity out.old }
     ensures items { out.new.items ≡ out.old.items ++ join_with_byte 32 (info_words info.now) }
-    ensures len { vec_len out.new ≤ vec_len out.old + 255 }
+    ensures len { vec_len out.new ≤ vec_len out.old + 210 }
     ensures capacity { vec_capacity out.old ≤ vec_capacity out.new }
 {
     match info {
@@ -154,9 +154,9 @@ fn put_reply(out: &mut Vec<u8>, reply: &Reply)
 /// there is room for as many, it is not refused.
 pub fn write_reply(reply: &Reply, out: &mut Vec<u8>) -> Result<(), NoMemory>
     ensures ok { OnOk result (out.new.items ≡ out.old.items ++ text reply.now) }
+    ensures short { OnOk result (length (text reply.now) ≤ 255) }
     ensures err { OnErr result (out.new.items ≡ out.old.items) }
     ensures room { vec_len out.old + 255 ≤ vec_capacity out.old → IsOk result }
-    ensures short { vec_len out.new ≤ vec_len out.old + 255 }
     ensures capacity { vec_capacity out.old ≤ vec_capacity out.new }
 {
     if out.reserve(REPLY_BYTES).is_err() {

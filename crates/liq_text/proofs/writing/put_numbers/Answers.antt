@@ -1,6 +1,5 @@
-use Rattle.std.proofs.Common.{arith, sym, ◌∙◌, ap, ◌++◌, ◌∷◌, List, ℕ, ◌+◌, drop, length, map}
-use Rattle.liq_text.specs.Writing.{spaced}
-use Rattle.liq_text.proofs.WritingLaws.{spaced_step, spaced_end, room_for, next_times}
+use Rattle.std.proofs.Common.{arith, ◌+◌, length}
+use Rattle.liq_text.proofs.WritingLaws.{spaced_next, spaced_end, room_for, next_times}
 use Rattle.liq_text.proofs.writing.put_numbers.Goals as goal
 
 pub put_number-requires : goal.put_number-requires
@@ -10,10 +9,7 @@ pub loop-number-preserved : goal.loop-number-preserved
 loop-number-preserved g c =
     let next = next_times c.loop-number.number-index (g.I.Integer.MAX_STR_LEN + 1) in
     record {
-      items = ap (λ (out : List ℕ). out ++ spaced (map g.I.Integer.text (drop (c.loop-number.number-index + 1) c.args.numbers.now)))
-          (c.put_number.ensures.items ∙ ap (λ (n : _). c.loop-number.out.items ++ (32 ∷ g.I.Integer.text n)) c.number-item.is)
-          ∙ spaced_step g.I.Integer.text c.loop-number.out.items c.args.numbers.now c.loop-number.number-index c.number-item.result c.loop-number-test.true
-          ∙ c.loop-number.invariant.items;
+      items = spaced_next g.I.Integer.text c.loop-number.out.items c.put_number.new.out.items c.args.numbers.now c.loop-number.number-index c.number-item.result _ c.loop-number-test.true c.number-item.is c.put_number.ensures.items c.loop-number.invariant.items;
       len = omega (arith, next);
       room = omega (arith, next);
       capacity = omega arith;

@@ -1,4 +1,4 @@
-use Rattle.std.proofs.Common.{◌≡◌, ◌≤◌, ◌+◌, ◌-◌, ◌*◌, ◌++◌, length, drop, map}
+use Rattle.std.proofs.Common.{◌≡◌, ◌≤◌, ◌+◌, ◌*◌, ◌++◌, length, drop, map}
 use Rattle.std.specs.Vec.{vec_len, vec_capacity}
 use Rattle.liq_text.specs.Writing.{spaced}
 use Rattle.liq_text.proofs.writing.put_numbers.Given as goal
