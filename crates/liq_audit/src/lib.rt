@@ -1,0 +1,2 @@
+//! The audit: whole numbers that enclose each account's exact share of the Stability Pool.
+#![tactic(auto)]
