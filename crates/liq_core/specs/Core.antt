@@ -5,7 +5,7 @@ use Rattle.liq_types.specs.declared.figures.Wallet.{Wallet}
 use Rattle.liq_types.specs.declared.figures.Client.{Client}
 use Rattle.liq_types.specs.declared.requests.Command.{Command}
 use Rattle.liq_types.specs.Image.{Image, opening_image}
-use Rattle.liq_types.specs.State.{State, started, is_used_wallet, is_used_client}
+use Rattle.liq_types.specs.State.{State, opening, is_used_wallet, is_used_client}
 use Rattle.liq_types.specs.Tables.{Table, at, rows}
 use Rattle.liq_core.specs.Image.{image}
 use Rattle.liq_core.specs.Verbs.{accounts}
@@ -43,4 +43,10 @@ pub record HasRoom (core : Core) (c : Command) : Type 0 where
 
 -- the plainest of the states for which the core stands
 abbrev pub state_of : Core → State
-state_of core = record (started (image_of core)) { records = core.records }
+state_of core =
+    record opening {
+      brought = core.brought;
+      records = core.records;
+      wallets = rows is_used_wallet core.wallets;
+      clients = rows is_used_client core.clients;
+    }
