@@ -1,5 +1,6 @@
 -- Whole numbers between which an account's exact share lies: one side rounds every quotient down, the other up.
-use Rattle.std.specs.Prelude.{ℕ, ◌+◌, ◌-◌, ◌==◌, List, fold, if◌then◌else◌}
+use Rattle.std.specs.Prelude.{ℕ, ◌+◌, ◌-◌, ◌==◌, ◌<◌, List, fold, if◌then◌else◌}
+use Rattle.std.specs.List.{AllByRecursion}
 use Rattle.liq_num.specs.Quotient.{floor_of, ceiling_of}
 use Rattle.liq_types.specs.declared.events.PoolEvent.{PoolEvent}
 use Rattle.liq_types.specs.declared.events.PoolEvent.TheVariants.{Own, Offset}
@@ -29,3 +30,11 @@ enclosure_after account e (Offset debt coll total rise) =
 
 abbrev pub enclosed : ℕ → List PoolEvent → Enclosure
 enclosed account events = fold (enclosure_after account) nothing_enclosed events
+
+-- each offset has something to share
+abbrev pub HasTotal : PoolEvent → Type 0
+HasTotal (Own owner put paid gain amount) = Unit {0}
+HasTotal (Offset debt coll total rise) = 0 < total
+
+abbrev pub HasTotals : List PoolEvent → Type 0
+HasTotals events = AllByRecursion HasTotal events

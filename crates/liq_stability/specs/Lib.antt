@@ -1,3 +1,5 @@
-pub mod Position
-pub mod Own
+pub mod Examples
 pub mod Lawful
+pub mod Own
+pub mod Position
+pub mod Words
