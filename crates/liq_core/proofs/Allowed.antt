@@ -1,6 +1,6 @@
 -- What is known of a command that is allowed.
-use Rattle.std.proofs.Common.{◌≡◌, ℕ, ◌+◌, ◌≤◌, Bool, true, false, not, nat_eq, nat_lt, cond, List, [], ◌∷◌, ◌++◌, Some, None, Option, refl, arith}
-use Rattle.std.specs.Prelude.{map, ◌&&◌, ◌==◌}
+use Rattle.std.proofs.Common.{◌≡◌, ℕ, ◌+◌, ◌≤◌, Bool, true, false, not, nat_eq, nat_lt, cond, List, [], ◌∷◌, ◌++◌, Some, None, Option, refl, ap, ◌∙◌, arith}
+use Rattle.std.specs.Prelude.{IsTrue, map, ◌&&◌, ◌==◌}
 use Rattle.std.proofs.lemmas.Bool.Decides.{nat_tests}
 use Rattle.liq_types.specs.declared.amounts.TheConstants.{LIM}
 use Rattle.liq_types.specs.declared.replies.Done.{Done}
@@ -9,8 +9,10 @@ use Rattle.liq_types.specs.declared.replies.Refusal.TheVariants.{AmountZero, Amo
 use Rattle.liq_types.specs.declared.requests.Call.{Call}
 use Rattle.liq_types.specs.declared.requests.Call.TheVariants.{Fund, Take}
 use Rattle.liq_types.specs.declared.requests.Command.{Command}
+use Rattle.liq_types.specs.Rules.{Rule, first_refusal}
 use Rattle.liq_types.specs.State.{State, wallet_of, client_of}
-use Rattle.liq_core.specs.Step.{Rule, first_refusal, Ruling, Refused, Repeated, Allowed, unless_refused, ruling, rules, accounts, in_range, in_turn, is_repeated, effect}
+use Rattle.liq_core.specs.Step.{Ruling, Refused, Repeated, Allowed, unless_refused, ruling, rules, accounts, in_range, in_turn, is_repeated, tests, room_rules, effect, built_call}
+use Rattle.liq_core.specs.Verbs.{rotates}
 
 unless_allowed : (o : Option Refusal) (r : Ruling) → unless_refused o r ≡ Allowed → (o ≡ None) × (r ≡ Allowed)
 unless_allowed None r h = (refl, h)
@@ -30,21 +32,32 @@ pub none_after : (first more : List Rule) → first_refusal (first ++ more) ≡ 
 none_after [] more h = h
 none_after (rule ∷ first) more h = none_after first more (none_first rule (first ++ more) h).1
 
+none_before : (first more : List Rule) → first_refusal (first ++ more) ≡ None → first_refusal first ≡ None
+none_before [] more h = refl
+none_before (rule ∷ first) more h =
+    let passed = none_first rule (first ++ more) h in
+    ap (λ b. cond b (Some rule.1) (first_refusal first)) passed.0 ∙ none_before first more passed.1
+
 -- its tests beside that of its client give no refusal
-passes : (s : State) (c : Command) → ruling s c ≡ Allowed → first_refusal (in_turn s c ∷ map in_range (accounts c.call) ++ rules s c.call) ≡ None
+passes : (s : State) (c : Command) → ruling s c ≡ Allowed → first_refusal (tests s c) ≡ None
 passes s c h =
     let later = (unless_allowed (first_refusal (in_range c.client ∷ [])) _ h).1 in
-    (unless_allowed _ Allowed (not_repeated (is_repeated s c) (client_of s c.client).kept _ later)).0
+    (unless_allowed (first_refusal (tests s c)) Allowed (not_repeated (is_repeated s c) (client_of s c.client).kept _ later)).0
+
+-- what comes behind the test of its number
+abbrev later_tests : State → Command → List Rule
+later_tests s c = (map in_range (accounts c.call) ++ rules s c.call) ++ room_rules s c
 
 pub allowed_number : (s : State) (c : Command) → ruling s c ≡ Allowed → c.number ≡ (client_of s c.client).last + 1
 allowed_number s c h =
-    let turn = (none_first (in_turn s c) (map in_range (accounts c.call) ++ rules s c.call) (passes s c h)).0 in
+    let turn = (none_first (in_turn s c) (later_tests s c) (passes s c h)).0 in
     grind (arith, nat_tests, turn)
 
 pub allowed_rules : (s : State) (c : Command) → ruling s c ≡ Allowed → first_refusal (rules s c.call) ≡ None
 allowed_rules s c h =
     none_after (map in_range (accounts c.call)) (rules s c.call)
-    (none_first (in_turn s c) (map in_range (accounts c.call) ++ rules s c.call) (passes s c h)).1
+    (none_before (map in_range (accounts c.call) ++ rules s c.call) (room_rules s c)
+    (none_first (in_turn s c) (later_tests s c) (passes s c h)).1)
 
 second_false : (first second : Rule) → first_refusal (first ∷ second ∷ []) ≡ None → second.0 ≡ false
 second_false first second h = (none_first second [] (none_first first (second ∷ []) h).1).0
@@ -60,8 +73,14 @@ take_enough s account coll h =
     let enough : nat_lt have coll ≡ false = second_false (coll == 0, AmountZero) (nat_lt have coll, ShortCollateral coll have) h in
     grind (arith, nat_tests, enough)
 
--- the effect of a call leaves the count of records
-pub effect-records : (s : State) (call : Call) → (effect s call).records ≡ s.records
-effect-records s (Fund account coll) = refl
-effect-records s (Take account coll) = refl
-effect-records s _ = refl
+-- the effect of a built call leaves the count of records
+pub effect-records : (s : State) (call : Call) → IsTrue (built_call call) → (effect s call).records ≡ s.records
+effect-records s (Fund account coll) built = refl
+effect-records s (Take account coll) built = refl
+effect-records s _ built = cc
+
+-- no built verb begins a new generation
+pub built-rotates : (call : Call) → IsTrue (built_call call) → rotates call ≡ false
+built-rotates (Fund account coll) built = refl
+built-rotates (Take account coll) built = refl
+built-rotates _ built = cc

@@ -4,10 +4,11 @@ use Rattle.std.specs.List.{AllByRecursion}
 use Rattle.liq_types.specs.declared.figures.Wallet.{Wallet}
 use Rattle.liq_types.specs.declared.figures.Client.{Client}
 use Rattle.liq_types.specs.declared.requests.Command.{Command}
-use Rattle.liq_types.specs.State.{State, Image, is_used_wallet, is_used_client}
+use Rattle.liq_types.specs.Image.{Image, opening_image}
+use Rattle.liq_types.specs.State.{State, opening, is_used_wallet, is_used_client}
 use Rattle.liq_types.specs.Tables.{Table, at, rows}
 use Rattle.liq_core.specs.Image.{image}
-use Rattle.liq_core.specs.Step.{accounts}
+use Rattle.liq_core.specs.Verbs.{accounts}
 
 -- The tables have rows that were reserved and are still empty.
 pub record Core : Type 0 where
@@ -16,10 +17,10 @@ pub record Core : Type 0 where
   pub wallets : Table Wallet
   pub clients : Table Client
 
--- its image, in which no empty row is seen
+-- its image, in which no empty row is seen; what is not built yet is as at the opening
 abbrev pub image_of : Core → Image
 image_of core =
-    record {
+    record opening_image {
       brought = core.brought;
       wallets = rows is_used_wallet core.wallets;
       clients = rows is_used_client core.clients;
@@ -43,7 +44,7 @@ pub record HasRoom (core : Core) (c : Command) : Type 0 where
 -- the plainest of the states for which the core stands
 abbrev pub state_of : Core → State
 state_of core =
-    record {
+    record opening {
       brought = core.brought;
       records = core.records;
       wallets = rows is_used_wallet core.wallets;

@@ -1,7 +1,17 @@
+pub mod Changes
 pub mod Core
+pub mod Dust
+pub mod Effect
+pub mod Examples
+pub mod History
+pub mod Identities
 pub mod Image
+pub mod Length
 pub mod Plan
+pub mod Queries
+pub mod Refusals
 pub mod Step
 pub mod Turn
+pub mod Verbs
 pub mod Rows
 pub mod Sound

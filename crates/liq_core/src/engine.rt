@@ -261,6 +261,7 @@ impl Protocol {
 
     /// Counts the command, and keeps its reply under its number.
     fn note(&mut self, command: &Command, done: Done)
+        requires built { IsTrue (built_call command.now.call) }
         requires row { IsSome (at self.old.clients command.now.client) }
         requires number { 0 < command.now.number }
         requires few { self.old.records < RECORDS_MOST }

@@ -5,6 +5,7 @@
 #![tactic(auto)]
 
 mod engine;
+pub mod examples;
 mod tables;
 mod turns;
 

@@ -1,2 +1,9 @@
+pub mod Allowance
+pub mod Image
+pub mod Payments
+pub mod PlainLedger
+pub mod Product
+pub mod Rules
 pub mod State
 pub mod Tables
+pub mod Totals

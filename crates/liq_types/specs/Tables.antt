@@ -1,5 +1,5 @@
 -- Tables: entries in ascending keys, each key once.
-use Rattle.std.specs.Prelude.{ℕ, Bool, List, Option, filter}
+use Rattle.std.specs.Prelude.{ℕ, Bool, List, Option, map, filter}
 use Rattle.std.specs.BTreeMap.{insert_entry, is_at}
 use Rattle.std.specs.Map.{lookup, remove_entry}
 use Rattle.std.specs.Ordering.{nat_cmp}
@@ -22,3 +22,7 @@ without table key = remove_entry (is_at (nat_cmp key)) table
 -- the rows that a test keeps
 abbrev pub rows : {X : Type 0} → (X → Bool) → Table X → Table X
 rows test table = filter (λ row. test row.1) table
+
+-- each row changed by itself
+abbrev pub map_rows : {X Y : Type 0} → (X → Y) → Table X → Table Y
+map_rows f table = map (λ row. (row.0, f row.1)) table

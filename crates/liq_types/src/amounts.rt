@@ -60,6 +60,9 @@ pub const LOWEST_MOST: u64 = 64;
 /// The most accepted commands between two rotations.
 pub const RECORDS_MOST: u64 = 1_000_000;
 
+/// The greatest generation of the journal, and the most bytes of a checkpoint.
+pub const GENERATIONS_MOST: u64 = 68_719_476_736;
+
 /// The most lines that one run answers.
 pub const LINES_MOST: u64 = 1_000_000;
 

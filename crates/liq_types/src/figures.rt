@@ -33,3 +33,29 @@ pub struct Market {
     pub total_debt: u64,
     pub troves: u64,
 }
+
+/// A trove as it is kept: the amounts and the stake as of its owner's last operation, and the sums per stake of that
+/// moment.
+#[derive(Clone, Copy, Debug, PartialEq, Eq)]
+pub struct Trove {
+    /// Gwei.
+    pub coll: u64,
+    /// Micro-LUSD.
+    pub debt: u64,
+    pub stake: u64,
+    /// Gwei per unit of stake, over 10^18.
+    pub mark_coll: u128,
+    /// Micro-LUSD per unit of stake, over 10^18.
+    pub mark_debt: u128,
+}
+
+/// A deposit as it is kept: the amount as of its owner's last operation, and the Stability Pool's words of that moment.
+#[derive(Clone, Copy, Debug, PartialEq, Eq)]
+pub struct Deposit {
+    /// Micro-LUSD.
+    pub amount: u64,
+    pub p: u128,
+    pub sum: u128,
+    pub scale: u64,
+    pub epoch: u64,
+}

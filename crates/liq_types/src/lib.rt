@@ -13,7 +13,7 @@ pub mod requests;
 
 pub use counting::Steps;
 pub use events::{ListChange, PoolEvent};
-pub use figures::{Client, Market, Wallet};
+pub use figures::{Client, Deposit, Market, Trove, Wallet};
 pub use hints::{Hint, HintWords};
 pub use replies::{Answer, Done, Info, NoMemory, Refusal, Reply};
 pub use requests::{Call, Command, Query, Request};

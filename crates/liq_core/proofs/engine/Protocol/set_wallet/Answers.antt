@@ -4,7 +4,8 @@ use Rattle.std.specs.Map.{values_of}
 use Rattle.liq_types.specs.declared.figures.Wallet.{Wallet}
 use Rattle.liq_types.specs.State.{no_wallet, is_used_wallet, is_used_client, with_wallet}
 use Rattle.liq_types.specs.Tables.{Table, at, rows}
-use Rattle.liq_core.specs.Core.{Core}
+use Rattle.liq_core.specs.Core.{Core, state_of}
+use Rattle.liq_core.specs.Sound.{core_of}
 use Rattle.liq_core.proofs.UsedRows.{rows-put, sum_by-put}
 use Rattle.liq_core.proofs.engine.Protocol.set_wallet.Goals as goal
 
@@ -24,7 +25,8 @@ invariant_of-self c =
 
 pub returns-clause-seen : goal.returns-clause-seen
 returns-clause-seen c =
-    ap (λ wallets. record { brought = c.args.brought; records = c.self.inside.records; wallets = wallets; clients = rows is_used_client c.self.inside.clients.entries })
+    let row = core_of c.self.inside in
+    ap (λ wallets. record (state_of row) { brought = c.args.brought; wallets = wallets })
     (ap (λ (t : Table Wallet). rows is_used_wallet t) c.write.ensures.written ∙ rows-put is_used_wallet c.self.inside.wallets.entries c.args.account c.args.wallet c.self.invariant.wallets_ascend)
-    ∙ ap (λ (core : Core). record { brought = c.args.brought; records = core.records; wallets = with_wallet (rows is_used_wallet core.wallets) c.args.account c.args.wallet; clients = rows is_used_client core.clients })
+    ∙ ap (λ (core : Core). record (state_of core) { brought = c.args.brought; wallets = with_wallet (rows is_used_wallet core.wallets) c.args.account c.args.wallet })
     c.self.view_is

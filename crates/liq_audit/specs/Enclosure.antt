@@ -1,0 +1,40 @@
+-- Whole numbers between which an account's exact share lies: one side rounds every quotient down, the other up.
+use Rattle.std.specs.Prelude.{ℕ, ◌+◌, ◌-◌, ◌==◌, ◌<◌, List, fold, if◌then◌else◌}
+use Rattle.std.specs.List.{AllByRecursion}
+use Rattle.liq_num.specs.Quotient.{floor_of, ceiling_of}
+use Rattle.liq_types.specs.declared.events.PoolEvent.{PoolEvent}
+use Rattle.liq_types.specs.declared.events.PoolEvent.TheVariants.{Own, Offset}
+
+-- in whole units of the amounts
+pub record Enclosure : Type 0 where
+  pub balance_lo : ℕ
+  pub balance_hi : ℕ
+  pub gain_lo : ℕ
+  pub gain_hi : ℕ
+
+abbrev pub nothing_enclosed : Enclosure
+nothing_enclosed = record { balance_lo = 0; balance_hi = 0; gain_lo = 0; gain_hi = 0 }
+
+abbrev pub enclosure_after : ℕ → Enclosure → PoolEvent → Enclosure
+enclosure_after account e (Own owner put paid gain amount) =
+    if owner == account
+    then record e { balance_lo = e.balance_lo + put - paid; balance_hi = e.balance_hi + put - paid }
+    else e
+enclosure_after account e (Offset debt coll total rise) =
+    record {
+      balance_lo = floor_of e.balance_lo (total - debt) total;
+      balance_hi = ceiling_of e.balance_hi (total - debt) total;
+      gain_lo = e.gain_lo + floor_of e.balance_lo coll total;
+      gain_hi = e.gain_hi + ceiling_of e.balance_hi coll total;
+    }
+
+abbrev pub enclosed : ℕ → List PoolEvent → Enclosure
+enclosed account events = fold (enclosure_after account) nothing_enclosed events
+
+-- each offset has something to share
+abbrev pub HasTotal : PoolEvent → Type 0
+HasTotal (Own owner put paid gain amount) = Unit {0}
+HasTotal (Offset debt coll total rise) = 0 < total
+
+abbrev pub HasTotals : List PoolEvent → Type 0
+HasTotals events = AllByRecursion HasTotal events

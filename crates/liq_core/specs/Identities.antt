@@ -1,0 +1,29 @@
+-- What is conserved: every gwei and every micro-LUSD has one home.
+use Rattle.std.specs.Prelude.{◌≡◌, ℕ, ◌+◌, ◌*◌, sum, sum_by}
+use Rattle.std.specs.Map.{values_of}
+use Rattle.liq_types.specs.declared.amounts.TheConstants.{RESERVE}
+use Rattle.liq_types.specs.declared.figures.Wallet.{Wallet}
+use Rattle.liq_types.specs.State.{State, TroveEntry}
+use Rattle.liq_types.specs.Totals.{total_debt, trove_count, pool_total, pool_coll}
+
+abbrev pub wallets_coll : State → ℕ
+wallets_coll s = sum_by (λ (w : Wallet). w.coll) (values_of s.wallets)
+
+abbrev pub wallets_lusd : State → ℕ
+wallets_lusd s = sum_by (λ (w : Wallet). w.lusd) (values_of s.wallets)
+
+-- the six homes of collateral
+abbrev pub coll_homes : State → ℕ
+coll_homes s = wallets_coll s + s.active_coll + s.default_coll + s.surplus + s.fee_coll + pool_coll s
+
+-- the four homes of LUSD
+abbrev pub lusd_homes : State → ℕ
+lusd_homes s = wallets_lusd s + pool_total s + s.reserve + s.fee_lusd
+
+pub record IsConserved (s : State) : Type 0 where
+  pub coll : s.brought ≡ coll_homes s
+  pub lusd : total_debt s ≡ lusd_homes s
+  pub reserve : s.reserve ≡ RESERVE * trove_count s
+  pub active_coll : s.active_coll ≡ sum_by (λ (t : TroveEntry). t.coll) (values_of s.troves)
+  pub active_debt : s.active_debt ≡ sum_by (λ (t : TroveEntry). t.debt) (values_of s.troves)
+  pub surplus : s.surplus ≡ sum (values_of s.surplus_rows)

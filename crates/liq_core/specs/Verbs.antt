@@ -1,0 +1,69 @@
+-- The verbs: their places in the list, the accounts that they name, and which of them the protocol has so far.
+use Rattle.std.specs.Prelude.{ℕ, Bool, true, false, List, [], ◌∷◌}
+use Rattle.liq_types.specs.declared.requests.Call.{Call}
+use Rattle.liq_types.specs.declared.requests.Call.TheVariants.{Price, Advance, Fund, Take, Send, Open, Adjust, Close, Provide, Withdraw, GainToTrove, Liquidate, LiquidateLowest, Redeem, Claim, Rotate}
+use Rattle.liq_types.specs.declared.requests.Query.{Query}
+use Rattle.liq_types.specs.declared.requests.Query.TheVariants as query
+use Rattle.liq_types.specs.declared.requests.Request.{Request}
+use Rattle.liq_types.specs.declared.requests.Request.TheVariants.{Do, Ask}
+
+-- ---- what is built
+
+abbrev pub built_call : Call → Bool
+built_call (Fund account coll) = true
+built_call (Take account coll) = true
+built_call _ = false
+
+abbrev pub built_query : Query → Bool
+built_query (query.Wallet account) = true
+built_query (query.NextNumber client) = true
+built_query _ = false
+
+abbrev pub built : Request → Bool
+built (Do c) = built_call c.call
+built (Ask q) = built_query q
+
+-- ---- the list of verbs
+
+-- the verb's place
+abbrev pub kind : Call → ℕ
+kind (Price price) = 1
+kind (Advance minutes) = 2
+kind (Fund account coll) = 3
+kind (Take account coll) = 4
+kind (Send from to lusd) = 5
+kind (Open account coll borrow bound hint) = 6
+kind (Adjust account coll_in coll_out borrow repay bound hint) = 7
+kind (Close account) = 8
+kind (Provide account lusd) = 9
+kind (Withdraw account lusd) = 10
+kind (GainToTrove account hint) = 11
+kind (Liquidate liquidator account) = 12
+kind (LiquidateLowest liquidator count) = 13
+kind (Redeem account lusd bound hint) = 14
+kind (Claim account) = 15
+kind Rotate = 16
+
+-- the accounts of a call, in the order of its words
+abbrev pub accounts : Call → List ℕ
+accounts (Price price) = []
+accounts (Advance minutes) = []
+accounts (Fund account coll) = account ∷ []
+accounts (Take account coll) = account ∷ []
+accounts (Send from to lusd) = from ∷ to ∷ []
+accounts (Open account coll borrow bound hint) = account ∷ []
+accounts (Adjust account coll_in coll_out borrow repay bound hint) = account ∷ []
+accounts (Close account) = account ∷ []
+accounts (Provide account lusd) = account ∷ []
+accounts (Withdraw account lusd) = account ∷ []
+accounts (GainToTrove account hint) = account ∷ []
+accounts (Liquidate liquidator account) = liquidator ∷ account ∷ []
+accounts (LiquidateLowest liquidator count) = liquidator ∷ []
+accounts (Redeem account lusd bound hint) = account ∷ []
+accounts (Claim account) = account ∷ []
+accounts Rotate = []
+
+-- whether the verb begins a new generation of the journal
+abbrev pub rotates : Call → Bool
+rotates Rotate = true
+rotates _ = false

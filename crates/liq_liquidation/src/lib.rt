@@ -1,0 +1,6 @@
+//! The liquidation of troves: what becomes of one, and of the lowest ones.
+#![tactic(auto)]
+
+mod one;
+
+pub use one::{One, Victim};

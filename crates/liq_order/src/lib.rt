@@ -1,0 +1,2 @@
+//! The troves in the order of their ratios.
+#![tactic(auto)]

@@ -1,0 +1,2 @@
+//! The base rate and the fees that rest on it.
+#![tactic(auto)]

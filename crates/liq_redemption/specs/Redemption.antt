@@ -1,0 +1,136 @@
+-- Redemption: the troves that are visited, the cut of each, and what is refused.
+use Rattle.std.specs.Prelude.{ℕ, ◌+◌, ◌-◌, ◌==◌, Bool, true, false, not, nat_lt, nat_le, min, List, [], ◌∷◌, filter, filter_map, fold, sum_by, Option, Some, None, option_map, unwrap_or, if◌then◌else◌}
+use Rattle.liq_num.specs.Quotient.{floor_of}
+use Rattle.liq_num.specs.declared.ratio.TheConstants.{GWEI_PER_ETH}
+use Rattle.liq_types.specs.declared.amounts.TheConstants.{MCR, RESERVE, MIN_NET, FLOOR_RATE, BOOTSTRAP}
+use Rattle.liq_types.specs.declared.figures.Market.{Market}
+use Rattle.liq_types.specs.declared.replies.Refusal.TheVariants.{AmountZero, ShortTokens, Bootstrap, SystemUnder, NothingRedeemed, FeeEatsAll}
+use Rattle.liq_types.specs.Payments.{paid, charged, surplus_added}
+use Rattle.liq_types.specs.Rules.{Rule, where_below, where_short}
+use Rattle.liq_types.specs.State.{State, wallet_of}
+use Rattle.liq_types.specs.Totals.{worth, asked, is_below_percent, market_of, total_debt, trove_count}
+use Rattle.liq_rate.specs.Bound.{fee_bound, fee_over}
+use Rattle.liq_rate.specs.Rate.{decayed, risen, redeem_fee}
+use Rattle.liq_troves.specs.Own.{lifted, set_trove}
+use Rattle.liq_troves.specs.StakeSums.{entire_of}
+use Rattle.liq_order.specs.Order.{from_lowest, first_of}
+use Rattle.liq_redemption.specs.declared.cut.Cut.{Cut}
+
+-- ---- the visited troves
+
+-- a trove on the way of a redemption, with its entire amounts
+pub record Visit : Type 0 where
+  pub account : ℕ
+  pub coll : ℕ
+  pub debt : ℕ
+
+abbrev pub visit : State → ℕ → Option Visit
+visit s account =
+    option_map (λ (own : ℕ × ℕ). record { account = account; coll = own.0; debt = own.1 }) (entire_of s account)
+
+-- a trove below the least ratio is left to liquidation
+abbrev pub is_visited : ℕ → Visit → Bool
+is_visited price v = not (is_below_percent v.coll v.debt price MCR)
+
+-- the visited troves, the lowest ratio first
+abbrev pub visited : State → List Visit
+visited s = filter (is_visited s.price) (filter_map (visit s) (from_lowest s))
+
+-- ---- the cuts
+
+-- debt beside the reserve
+abbrev pub net_debt : Visit → ℕ
+net_debt v = v.debt - RESERVE
+
+abbrev pub lot_of : Visit → ℕ → ℕ
+lot_of v wanted = min wanted (net_debt v)
+
+abbrev pub draw_of : ℕ → ℕ → ℕ
+draw_of price lot = floor_of lot GWEI_PER_ETH price
+
+abbrev pub cut_of : ℕ → Visit → ℕ → Cut
+cut_of price v wanted =
+    let lot = lot_of v wanted in
+    record { account = v.account; lot = lot; draw = draw_of price lot; full = lot == net_debt v }
+
+-- The protocol keeps a trove, and a trove that is left keeps the least debt.
+abbrev pub stops_before : Visit → Cut → ℕ → Bool
+stops_before v cut troves =
+    if cut.full then nat_le troves 1 else nat_lt (net_debt v - cut.lot) MIN_NET
+
+-- a trove that is closed is one less
+abbrev pub troves_after : Cut → ℕ → ℕ
+troves_after cut troves = if cut.full then troves - 1 else troves
+
+-- the cuts along the visited troves, with so many troves in the protocol and so much still wanted
+abbrev pub cuts : ℕ → ℕ → ℕ → List Visit → List Cut
+cuts price troves wanted [] = []
+cuts price troves wanted (v ∷ vs) =
+    let cut = cut_of price v wanted in
+    let later = cuts price (troves_after cut troves) (wanted - cut.lot) vs in
+    if wanted == 0 then [] else
+    if stops_before v cut troves then [] else
+    cut ∷ later
+
+abbrev pub cuts_in : State → ℕ → List Cut
+cuts_in s amount = cuts s.price (trove_count s) amount (visited s)
+
+-- ---- what comes together
+
+abbrev pub redeemed : List Cut → ℕ
+redeemed cuts = sum_by (λ (cut : Cut). cut.lot) cuts
+
+abbrev pub drawn : List Cut → ℕ
+drawn cuts = sum_by (λ (cut : Cut). cut.draw) cuts
+
+-- the base rate after the redemption
+abbrev pub base_after : State → List Cut → ℕ
+base_after s cuts = risen (decayed s.base s.fee_minute s.minute) (redeemed cuts) (total_debt s)
+
+abbrev pub fee_after : State → List Cut → ℕ
+fee_after s cuts = redeem_fee (base_after s cuts) (drawn cuts)
+
+-- ---- what is refused
+
+abbrev pub first_net : List Visit → ℕ
+first_net visits = unwrap_or (option_map net_debt (first_of visits)) 0
+
+abbrev pub redeem_rules : State → ℕ → ℕ → ℕ → List Rule
+redeem_rules s account amount bound =
+    let m = market_of s in
+    let cuts = cuts_in s amount in
+    let fee = fee_after s cuts in
+    (amount == 0, AmountZero)
+    ∷ fee_bound bound FLOOR_RATE
+    ∷ where_below s.minute BOOTSTRAP Bootstrap
+    ∷ where_below (worth m.total_coll m.price) (asked MCR m.total_debt) SystemUnder
+    ∷ where_short amount (wallet_of s account).lusd ShortTokens
+    ∷ (redeemed cuts == 0, NothingRedeemed amount (first_net (visited s)))
+    ∷ (nat_le (drawn cuts) fee, FeeEatsAll fee (drawn cuts))
+    ∷ fee_over fee (drawn cuts) bound
+    ∷ []
+
+-- ---- what it does
+
+-- the reserve of a closed trove is burned, and its owner may claim what is left
+abbrev pub closed_by : State → Cut → ℕ × ℕ → State
+closed_by s cut own =
+    let left = lifted s cut.account in
+    surplus_added (record left { reserve = left.reserve - RESERVE }) cut.account (own.0 - cut.draw)
+
+abbrev pub cut_entire : State → Cut → Option (ℕ × ℕ) → State
+cut_entire s cut None = s
+cut_entire s cut (Some own) =
+    if cut.full then closed_by s cut own else set_trove s cut.account (own.0 - cut.draw) (own.1 - cut.lot)
+
+abbrev pub cut_down : State → Cut → State
+cut_down s cut = cut_entire s cut (entire_of s cut.account)
+
+-- The redeemer's LUSD is burned. Of the collateral that is drawn the fee pool gets the fee.
+abbrev pub redeemed_by : State → ℕ → ℕ → State
+redeemed_by s account amount =
+    let cuts = cuts_in s amount in
+    let fee = fee_after s cuts in
+    let cut = fold cut_down s cuts in
+    let given = paid (charged cut account 0 (redeemed cuts)) account (drawn cuts - fee) 0 in
+    record given { base = base_after s cuts; fee_minute = s.minute; fee_coll = s.fee_coll + fee }

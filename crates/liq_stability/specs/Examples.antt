@@ -1,0 +1,47 @@
+-- Worked examples: events of the Stability Pool from the opening on, and what then holds.
+use Rattle.std.specs.Prelude.{ℕ, List, [], ◌∷◌, ◌++◌, fold}
+use Rattle.liq_types.specs.declared.events.PoolEvent.{PoolEvent}
+use Rattle.liq_types.specs.declared.events.PoolEvent.TheVariants.{Own, Offset}
+use Rattle.liq_types.specs.State.{State, opening}
+use Rattle.liq_stability.specs.Own.{after_event}
+use Rattle.liq_stability.specs.Position.{balance_of, gain_of}
+
+-- the state after events from the opening on
+abbrev pub after_events : List PoolEvent → State
+after_events events = fold after_event opening events
+
+-- balance and gain
+abbrev pub position : State → ℕ → ℕ × ℕ
+position s account = (balance_of s account, gain_of s account)
+
+-- all but one micro-LUSD of a large pool is taken
+abbrev pub one_rise : List PoolEvent
+one_rise = Own 1 1000000000000000000 0 0 1000000000000000000 ∷ Offset 999999999999999999 0 1000000000000000000 1 ∷ []
+
+-- again, which raises the scale twice at once
+abbrev pub two_rises : List PoolEvent
+two_rises =
+    one_rise
+    ++ Own 2 999999999999999999 0 0 999999999999999999
+    ∷ Offset 999999999999999999 1000000000000000000 1000000000000000000 2
+    ∷ []
+
+-- and a third time
+abbrev pub four_scales_on : List PoolEvent
+four_scales_on =
+    two_rises
+    ++ Own 3 999999999999999999 0 0 999999999999999999
+    ∷ Offset 999999999999999999 0 1000000000000000000 2
+    ∷ []
+
+-- two depositors share an offset
+abbrev pub shared : List PoolEvent
+shared = Own 1 100 0 0 100 ∷ Own 2 200 0 0 200 ∷ Offset 100 70 300 0 ∷ []
+
+-- one of them puts in more, and they share another
+abbrev pub shared_again : List PoolEvent
+shared_again = shared ++ Own 1 50 0 23 116 ∷ Offset 50 30 250 0 ∷ []
+
+-- all of the pool is taken
+abbrev pub emptied : List PoolEvent
+emptied = Own 1 4000000000 0 0 4000000000 ∷ Offset 4000000000 9431279620 4000000000 0 ∷ []

@@ -1,0 +1,35 @@
+-- What changes the Stability Pool: depositors' own operations, and offsets.
+use Rattle.std.specs.Prelude.{ℕ, ◌+◌, ◌-◌, ◌==◌, [], ◌∷◌, ◌++◌, length, if◌then◌else◌}
+use Rattle.liq_types.specs.declared.events.PoolEvent.{PoolEvent}
+use Rattle.liq_types.specs.declared.events.PoolEvent.TheVariants as event
+use Rattle.liq_types.specs.State.{State, DepositEntry, After}
+use Rattle.liq_types.specs.Tables.{Table, put, without}
+use Rattle.liq_types.specs.Totals.{pool_total}
+use Rattle.liq_stability.specs.Position.{balance_of, gain_of}
+
+-- the amount that an own operation leaves
+abbrev pub amount_after : State → ℕ → ℕ → ℕ → ℕ
+amount_after s account put_in paid_out = balance_of s account + put_in - paid_out
+
+-- a deposit of nothing leaves no row
+abbrev pub with_deposit : Table DepositEntry → ℕ → DepositEntry → Table DepositEntry
+with_deposit table account d = if d.amount == 0 then without table account else put table account d
+
+-- An own operation: LUSD is put in and paid out, the gain is paid, and what is left counts from now on.
+abbrev pub owned : State → ℕ → ℕ → ℕ → State
+owned s account put_in paid_out =
+    record s {
+      provided = s.provided + put_in;
+      withdrawn = s.withdrawn + paid_out;
+      gains_paid = s.gains_paid + gain_of s account;
+      deposits = with_deposit s.deposits account (record { amount = amount_after s account put_in paid_out; mark = After (length s.offsets) });
+    }
+
+-- the pool takes over debt for collateral; no deposit changes
+abbrev pub offset : State → ℕ → ℕ → State
+offset s debt coll = record s { offsets = s.offsets ++ record { debt = debt; coll = coll; total = pool_total s } ∷ [] }
+
+-- what an event does to the pool
+abbrev pub after_event : State → PoolEvent → State
+after_event s (event.Own account put_in paid_out gain amount) = owned s account put_in paid_out
+after_event s (event.Offset debt coll total rise) = offset s debt coll

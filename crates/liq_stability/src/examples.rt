@@ -1,0 +1,46 @@
+//! Worked examples of the Stability Pool, run by hand. The functions here do nothing; each is the place where the facts of
+//! its contract are proved.
+
+ghost use Rattle.std.specs.Prelude.{◌≡◌, [], ◌∷◌};
+ghost use Rattle.liq_types.specs.State.{opening};
+ghost use Rattle.liq_types.specs.Product.{finished_sums};
+ghost use Rattle.liq_stability.specs.Examples.{after_events, position, one_rise, two_rises, four_scales_on, shared, shared_again, emptied};
+ghost use Rattle.liq_stability.specs.Lawful.{IsLawful};
+ghost use Rattle.liq_stability.specs.Words.{pool_words};
+
+/// An offset that leaves one micro-LUSD of 10^18 raises the scale.
+pub fn one_rise_example()
+    ensures { pool_words (after_events one_rise) ≡ record { p = 1000000000; scale = 1; epoch = 0; sum = 0; total = 1; coll = 0 } }
+{}
+
+/// From the least product on it raises the scale twice at once, and the sum of the scale that it leaves is finished.
+pub fn two_rises_example()
+    ensures words { pool_words (after_events two_rises) ≡ record { p = 1000000000; scale = 3; epoch = 0; sum = 0; total = 1; coll = 1000000000000000000 } }
+    ensures finished { finished_sums opening.start (after_events two_rises).offsets ≡ ((0, 1), 1000000000) ∷ [] }
+    ensures first { position (after_events two_rises) 1 ≡ (0, 1) }
+    ensures second { position (after_events two_rises) 2 ≡ (0, 999999999999999999) }
+{}
+
+/// What is more than three scales back stays as it is.
+pub fn four_scales_on_example()
+    ensures words { pool_words (after_events four_scales_on) ≡ record { p = 1000000000; scale = 5; epoch = 0; sum = 0; total = 1; coll = 1000000000000000000 } }
+    ensures first { position (after_events four_scales_on) 1 ≡ (0, 1) }
+    ensures second { position (after_events four_scales_on) 2 ≡ (0, 999999999999999999) }
+    ensures third { position (after_events four_scales_on) 3 ≡ (0, 0) }
+{}
+
+/// Two depositors share offsets by what they have at each.
+pub fn shared_example()
+    ensures words { pool_words (after_events shared) ≡ record { p = 666666666666666666; scale = 0; epoch = 0; sum = 233333333333333333; total = 200; coll = 70 } }
+    ensures first { position (after_events shared) 1 ≡ (66, 23) }
+    ensures second { position (after_events shared) 2 ≡ (133, 46) }
+    ensures words_again { pool_words (after_events shared_again) ≡ record { p = 533333333333333332; scale = 0; epoch = 0; sum = 313333333333333332; total = 200; coll = 77 } }
+    ensures first_again { position (after_events shared_again) 1 ≡ (92, 13) }
+    ensures second_again { position (after_events shared_again) 2 ≡ (106, 62) }
+{}
+
+/// An offset of the whole pool ends the epoch: nothing is left, and the gain stays.
+pub fn emptied_example()
+    ensures words { pool_words (after_events emptied) ≡ record { p = 1000000000000000000; scale = 0; epoch = 1; sum = 0; total = 0; coll = 9431279620 } }
+    ensures position { position (after_events emptied) 1 ≡ (0, 9431279620) }
+{}

@@ -1,0 +1,24 @@
+/// The words of the Stability Pool. LUSD is in micro-LUSD, collateral in gwei.
+#[derive(Clone, Copy, Debug, PartialEq, Eq)]
+pub struct PoolWords {
+    /// What is left of a whole deposit of this epoch, over 10^18, at the scale.
+    pub p: u128,
+    /// By how many steps of 10^9 the product was raised in this epoch.
+    pub scale: u64,
+    /// How many times the pool was emptied.
+    pub epoch: u64,
+    /// What a whole deposit gained at this scale, over 10^18.
+    pub sum: u128,
+    /// LUSD in the pool.
+    pub total: u64,
+    /// Collateral in the pool.
+    pub coll: u64,
+}
+
+/// The sum of an epoch and a scale that are over.
+#[derive(Clone, Copy, Debug, PartialEq, Eq)]
+pub struct FinishedSum {
+    pub epoch: u64,
+    pub scale: u64,
+    pub sum: u128,
+}

@@ -1,0 +1,2 @@
+pub mod StakeSums
+pub mod Own

@@ -1,0 +1,102 @@
+-- The Stability Pool's product and sums, over the list of its offsets.
+use Rattle.std.specs.Prelude.{ℕ, zero, suc, ◌+◌, ◌-◌, ◌*◌, ◌^◌, ◌==◌, ◌&&◌, nat_le, Bool, List, [], ◌∷◌, fold, take, unwrap_or, if◌then◌else◌}
+use Rattle.std.specs.BTreeMap.{insert_entry, is_at}
+use Rattle.std.specs.Map.{lookup}
+use Rattle.std.specs.Ordering.{nat_cmp, ordering_then}
+use Rattle.std.specs.declared.cmp.Ordering.{Ordering}
+use Rattle.liq_num.specs.Quotient.{floor_of}
+use Rattle.liq_types.specs.declared.amounts.TheConstants.{P_OPENING, P_LEAST}
+use Rattle.liq_types.specs.Image.{Image, Place}
+use Rattle.liq_types.specs.State.{Offset, PoolMark}
+
+-- the product, and the scale and the epoch in which it counts
+pub record Words : Type 0 where
+  pub p : ℕ
+  pub scale : ℕ
+  pub epoch : ℕ
+
+-- ---- the product
+
+-- the least number from k on that passes the test, where one does within so many more
+unfoldable pub least_from : (ℕ → Bool) → ℕ → ℕ → ℕ
+least_from test k zero = k
+least_from test k (suc more) =
+    let later = least_from test (k + 1) more in
+    if test k then k else later
+
+-- the product after an offset that leaves a part of the pool, with the scale raised by so many steps of 10^9
+abbrev pub product_after : ℕ → Offset → ℕ → ℕ
+product_after p o steps = floor_of p ((o.total - o.debt) * 10 ^ (9 * steps)) o.total
+
+-- by how many steps an offset raises the scale: the fewest that keep the product from falling below its least
+abbrev pub rise_of : ℕ → Offset → ℕ
+rise_of p o = if o.debt == o.total then 0 else least_from (λ steps. nat_le P_LEAST (product_after p o steps)) 0 30
+
+-- an offset of the whole pool ends the epoch
+abbrev pub after_offset : Words → Offset → Words
+after_offset w o =
+    let steps = rise_of w.p o in
+    if o.debt == o.total
+    then record { p = P_OPENING; scale = 0; epoch = w.epoch + 1 }
+    else record { p = product_after w.p o steps; scale = w.scale + steps; epoch = w.epoch }
+
+abbrev pub start_words : Image → Words
+start_words i = record { p = i.p; scale = i.scale; epoch = i.epoch }
+
+abbrev pub prod : Image → List Offset → Words
+prod i offsets = fold after_offset (start_words i) offsets
+
+-- ---- the sums
+
+abbrev pub place_of : Words → Place
+place_of w = (w.epoch, w.scale)
+
+abbrev pub is_place : Place → Place → Bool
+is_place a b = a.0 == b.0 && a.1 == b.1
+
+-- places ascend by epoch and, within an epoch, by scale
+abbrev pub place_order : Place → Place → Ordering
+place_order a b = ordering_then (nat_cmp a.0 b.0) (nat_cmp a.1 b.1)
+
+-- what an offset adds to the sum of its place
+abbrev pub sum_rise : Words → Offset → ℕ
+sum_rise w o = floor_of o.coll w.p o.total
+
+-- what a list of offsets, made from these words on, adds to the sum of a place
+abbrev pub rises_at : Words → List Offset → Place → ℕ
+rises_at w [] place = 0
+rises_at w (o ∷ os) place =
+    (if is_place (place_of w) place then sum_rise w o else 0) + rises_at (after_offset w o) os place
+
+abbrev pub start_sum : Image → Place → ℕ
+start_sum i place =
+    if is_place (i.epoch, i.scale) place then i.sum else unwrap_or (lookup (is_place place) i.finished) 0
+
+abbrev pub sumat : Image → List Offset → Place → ℕ
+sumat i offsets place = start_sum i place + rises_at (start_words i) offsets place
+
+-- ---- the sums that are finished
+
+-- the places that a list of offsets, made from these words on, leaves behind
+abbrev pub places_left : Words → List Offset → List Place
+places_left w [] = []
+places_left w (o ∷ os) =
+    let next = after_offset w o in
+    let later = places_left next os in
+    if is_place (place_of w) (place_of next) then later else place_of w ∷ later
+
+-- a finished sum of 0 is not kept
+abbrev pub with_finished : List (Place × ℕ) → Place → ℕ → List (Place × ℕ)
+with_finished table place sum = if sum == 0 then table else insert_entry place_order table place sum
+
+abbrev pub finished_sums : Image → List Offset → List (Place × ℕ)
+finished_sums i offsets =
+    fold (λ table place. with_finished table place (sumat i offsets place)) i.finished (places_left (start_words i) offsets)
+
+-- ---- marks
+
+-- the words at a mark, and the sum of their place at that moment
+abbrev pub mark_after : Image → List Offset → PoolMark
+mark_after i offsets =
+    let w = prod i offsets in
+    record { p = w.p; sum = sumat i offsets (place_of w); scale = w.scale; epoch = w.epoch }
