@@ -1,0 +1,17 @@
+//! Worked rows and tables: tests of the public calls, with values that were worked out by hand.
+//!
+//! They say what no clause says: that the calls succeed where memory is ample, and that the definitions mean what was meant.
+#![tactic(auto)]
+
+#[cfg(test)]
+mod faults;
+#[cfg(test)]
+mod limit;
+#[cfg(test)]
+mod lines;
+#[cfg(test)]
+mod rows;
+#[cfg(test)]
+mod runs;
+#[cfg(test)]
+mod texts;

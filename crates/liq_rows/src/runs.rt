@@ -1,0 +1,51 @@
+//! One run of the program over streams in memory.
+
+ghost use Rattle.std.specs.Prelude.{◌≤◌};
+
+use liq_outside::{MemorySink, MemorySource};
+use liq_serve::protocol;
+use std::alloc::{AllocError, Global};
+
+/// The words of a command line, on which the program runs.
+pub const RUN: [&str; 1] = ["run"];
+
+/// What a run left.
+#[derive(Drop)]
+pub struct Ran {
+    pub status: u8,
+    pub source: MemorySource,
+    pub sink: MemorySink,
+}
+
+/// Runs the program on these words and this input, of which a read gives at most `chunk` bytes. The reads and the writes of
+/// these numbers, counted from 0, fail.
+pub fn run_on(
+    alloc: Global,
+    words: &[&str],
+    input: &[u8],
+    chunk: usize,
+    failing_reads: &[u64],
+    failing_writes: &[u64],
+) -> Result<Ran, AllocError>
+    requires { 1 ≤ chunk }
+{
+    let mut command_line = Vec::new(alloc);
+    for word in words {
+        command_line.push(String::from_str(alloc, word)?)?;
+    }
+    let mut source = MemorySource::new(input.to_vec(alloc)?, chunk, failing_reads.to_vec(alloc)?);
+    let mut sink = MemorySink::new(alloc, failing_writes.to_vec(alloc)?);
+    let status = protocol(alloc, &command_line, &mut source, &mut sink);
+    Ok(Ran {
+        status,
+        source,
+        sink,
+    })
+}
+
+/// Runs the program on streams that do not fail.
+pub fn run(alloc: Global, input: &[u8], chunk: usize) -> Result<Ran, AllocError>
+    requires { 1 ≤ chunk }
+{
+    run_on(alloc, &RUN, input, chunk, &[], &[])
+}
