@@ -52,18 +52,18 @@ fn advance(words: &mut Pieces<'_>) -> Option<Call>
 fn fund(words: &mut Pieces<'_>) -> Option<Call>
     ensures { result ≡ arguments_of Fund (pieces_left words.old) }
 {
-    let owner = words.account()?;
+    let account = words.account()?;
     let coll = words.number()?;
-    words.is_empty().then_some(Call::Fund(owner, coll))
+    words.is_empty().then_some(Call::Fund(account, coll))
 }
 
 #[tactic(auto, unfolding(crate::specs::Reading::first, crate::specs::Reading::arguments_of))]
 fn take(words: &mut Pieces<'_>) -> Option<Call>
     ensures { result ≡ arguments_of Take (pieces_left words.old) }
 {
-    let owner = words.account()?;
+    let account = words.account()?;
     let coll = words.number()?;
-    words.is_empty().then_some(Call::Take(owner, coll))
+    words.is_empty().then_some(Call::Take(account, coll))
 }
 
 #[tactic(auto, unfolding(crate::specs::Reading::first, crate::specs::Reading::arguments_of))]
@@ -80,20 +80,20 @@ fn send(words: &mut Pieces<'_>) -> Option<Call>
 fn open(words: &mut Pieces<'_>) -> Option<Call>
     ensures { result ≡ arguments_of Open (pieces_left words.old) }
 {
-    let owner = words.account()?;
+    let account = words.account()?;
     let coll = words.number()?;
     let borrow = words.number()?;
     let bound = words.number()?;
     let prev = words.hint()?;
     let next = words.hint()?;
-    words.is_empty().then_some(Call::Open(owner, coll, borrow, bound, HintWords { prev, next }))
+    words.is_empty().then_some(Call::Open(account, coll, borrow, bound, HintWords { prev, next }))
 }
 
 #[tactic(auto, unfolding(crate::specs::Reading::first, crate::specs::Reading::arguments_of))]
 fn adjust(words: &mut Pieces<'_>) -> Option<Call>
     ensures { result ≡ arguments_of Adjust (pieces_left words.old) }
 {
-    let owner = words.account()?;
+    let account = words.account()?;
     let coll_in = words.number()?;
     let coll_out = words.number()?;
     let borrow = words.number()?;
@@ -102,7 +102,7 @@ fn adjust(words: &mut Pieces<'_>) -> Option<Call>
     let prev = words.hint()?;
     let next = words.hint()?;
     words.is_empty().then_some(Call::Adjust(
-        owner,
+        account,
         coll_in,
         coll_out,
         borrow,
@@ -116,38 +116,38 @@ fn adjust(words: &mut Pieces<'_>) -> Option<Call>
 fn close(words: &mut Pieces<'_>) -> Option<Call>
     ensures { result ≡ arguments_of Close (pieces_left words.old) }
 {
-    let owner = words.account()?;
-    words.is_empty().then_some(Call::Close(owner))
+    let account = words.account()?;
+    words.is_empty().then_some(Call::Close(account))
 }
 
 #[tactic(auto, unfolding(crate::specs::Reading::first, crate::specs::Reading::arguments_of))]
 fn provide(words: &mut Pieces<'_>) -> Option<Call>
     ensures { result ≡ arguments_of Provide (pieces_left words.old) }
 {
-    let owner = words.account()?;
+    let account = words.account()?;
     let lusd = words.number()?;
-    words.is_empty().then_some(Call::Provide(owner, lusd))
+    words.is_empty().then_some(Call::Provide(account, lusd))
 }
 
 #[tactic(auto, unfolding(crate::specs::Reading::first, crate::specs::Reading::arguments_of))]
 fn withdraw(words: &mut Pieces<'_>) -> Option<Call>
     ensures { result ≡ arguments_of Withdraw (pieces_left words.old) }
 {
-    let owner = words.account()?;
+    let account = words.account()?;
     let lusd = words.number()?;
-    words.is_empty().then_some(Call::Withdraw(owner, lusd))
+    words.is_empty().then_some(Call::Withdraw(account, lusd))
 }
 
 #[tactic(auto, unfolding(crate::specs::Reading::first, crate::specs::Reading::arguments_of))]
 fn gain_to_trove(words: &mut Pieces<'_>) -> Option<Call>
     ensures { result ≡ arguments_of GainToTrove (pieces_left words.old) }
 {
-    let owner = words.account()?;
+    let account = words.account()?;
     let prev = words.hint()?;
     let next = words.hint()?;
     words
         .is_empty()
-        .then_some(Call::GainToTrove(owner, HintWords { prev, next }))
+        .then_some(Call::GainToTrove(account, HintWords { prev, next }))
 }
 
 #[tactic(auto, unfolding(crate::specs::Reading::first, crate::specs::Reading::arguments_of))]
@@ -176,22 +176,20 @@ fn liquidate_lowest(words: &mut Pieces<'_>) -> Option<Call>
 fn redeem(words: &mut Pieces<'_>) -> Option<Call>
     ensures { result ≡ arguments_of Redeem (pieces_left words.old) }
 {
-    let owner = words.account()?;
+    let account = words.account()?;
     let lusd = words.number()?;
     let bound = words.number()?;
     let prev = words.hint()?;
     let next = words.hint()?;
-    words
-        .is_empty()
-        .then_some(Call::Redeem(owner, lusd, bound, HintWords { prev, next }))
+    words.is_empty().then_some(Call::Redeem(account, lusd, bound, HintWords { prev, next }))
 }
 
 #[tactic(auto, unfolding(crate::specs::Reading::first, crate::specs::Reading::arguments_of))]
 fn claim(words: &mut Pieces<'_>) -> Option<Call>
     ensures { result ≡ arguments_of Claim (pieces_left words.old) }
 {
-    let owner = words.account()?;
-    words.is_empty().then_some(Call::Claim(owner))
+    let account = words.account()?;
+    words.is_empty().then_some(Call::Claim(account))
 }
 
 #[tactic(auto, unfolding(crate::specs::Reading::first, crate::specs::Reading::arguments_of))]

@@ -1,3 +1,5 @@
+//! A line, word by word.
+
 ghost use Rattle.std.specs.Prelude.{◌≡◌, ◌==◌, ◌<◌, ◌∷◌, length, position, IfSome};
 ghost use Rattle.liq_text.specs.Reading.{pieces_of, is_empty, others, first, number_of, account_of, hint_of};
 ghost use Rattle.liq_text.specs.Pieces.{pieces_left, rest_pieces, TakesFirst};

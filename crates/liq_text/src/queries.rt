@@ -26,24 +26,24 @@ pub(crate) fn subject(topic: Topic, words: &mut Pieces<'_>) -> Option<Query>
 fn wallet(words: &mut Pieces<'_>) -> Option<Query>
     ensures { result ≡ subject_of Wallet (pieces_left words.old) }
 {
-    let owner = words.account()?;
-    words.is_empty().then_some(Query::Wallet(owner))
+    let account = words.account()?;
+    words.is_empty().then_some(Query::Wallet(account))
 }
 
 #[tactic(auto, unfolding(crate::specs::Reading::first, crate::specs::Reading::subject_of))]
 fn trove(words: &mut Pieces<'_>) -> Option<Query>
     ensures { result ≡ subject_of Trove (pieces_left words.old) }
 {
-    let owner = words.account()?;
-    words.is_empty().then_some(Query::Trove(owner))
+    let account = words.account()?;
+    words.is_empty().then_some(Query::Trove(account))
 }
 
 #[tactic(auto, unfolding(crate::specs::Reading::first, crate::specs::Reading::subject_of))]
 fn deposit(words: &mut Pieces<'_>) -> Option<Query>
     ensures { result ≡ subject_of Deposit (pieces_left words.old) }
 {
-    let owner = words.account()?;
-    words.is_empty().then_some(Query::Deposit(owner))
+    let account = words.account()?;
+    words.is_empty().then_some(Query::Deposit(account))
 }
 
 #[tactic(auto, unfolding(crate::specs::Reading::first, crate::specs::Reading::subject_of))]

@@ -1,3 +1,5 @@
+//! What one word stands for.
+
 ghost use Rattle.std.specs.Prelude.{◌≡◌};
 ghost use Rattle.liq_text.specs.Reading.{number_of, account_of, hint_of};
 
