@@ -1,3 +1,4 @@
 pub mod Allowed
+pub mod Runs
 pub mod Standing
 pub mod UsedRows

@@ -1,6 +1,5 @@
 -- Worked examples: requests from the opening on, and the replies to them. Client 1 makes them, with numbers that ascend.
-use Rattle.std.specs.Prelude.{ℕ, List, [], ◌∷◌, None}
-use Rattle.liq_types.specs.declared.hints.HintWords.{HintWords}
+use Rattle.std.specs.Prelude.{ℕ, List, [], ◌∷◌}
 use Rattle.liq_types.specs.declared.replies.Info.TheVariants as info
 use Rattle.liq_types.specs.declared.replies.Refusal.TheVariants.{AmountLimit, AccountRange, FeeOver, NetDebtLow, RatioLow, RecoveryForbids, LastTrove, NoDeposit, TroveUnder, PoolTooSmall, Bootstrap, NoSurplus, OutOfTurn}
 use Rattle.liq_types.specs.declared.replies.Reply.{Reply}
@@ -11,9 +10,7 @@ use Rattle.liq_types.specs.declared.requests.Query.TheVariants as query
 use Rattle.liq_types.specs.declared.requests.Request.{Request}
 use Rattle.liq_types.specs.declared.requests.Request.TheVariants.{Do, Ask}
 use Rattle.liq_core.specs.Effect.{six}
-
-abbrev pub no_hint : HintWords
-no_hint = record { prev = None; next = None }
+use Rattle.liq_core.specs.Verbs.{no_hint}
 
 abbrev pub by_one : ℕ → Call → Request
 by_one number call = Do (record { client = 1; number = number; call = call })

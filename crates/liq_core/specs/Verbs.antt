@@ -1,7 +1,9 @@
 -- The verbs: their places in the list, the accounts that they name, and which of them the protocol has so far.
-use Rattle.std.specs.Prelude.{ℕ, Bool, true, false, List, [], ◌∷◌}
+use Rattle.std.specs.Prelude.{ℕ, Bool, true, false, List, [], ◌∷◌, None}
+use Rattle.liq_types.specs.declared.hints.HintWords.{HintWords}
 use Rattle.liq_types.specs.declared.requests.Call.{Call}
 use Rattle.liq_types.specs.declared.requests.Call.TheVariants.{Price, Advance, Fund, Take, Send, Open, Adjust, Close, Provide, Withdraw, GainToTrove, Liquidate, LiquidateLowest, Redeem, Claim, Rotate}
+use Rattle.liq_types.specs.declared.requests.Command.{Command}
 use Rattle.liq_types.specs.declared.requests.Query.{Query}
 use Rattle.liq_types.specs.declared.requests.Query.TheVariants as query
 use Rattle.liq_types.specs.declared.requests.Request.{Request}
@@ -67,3 +69,19 @@ accounts Rotate = []
 abbrev pub rotates : Call → Bool
 rotates Rotate = true
 rotates _ = false
+
+-- ---- hints
+
+abbrev pub no_hint : HintWords
+no_hint = record { prev = None; next = None }
+
+abbrev pub unhinted_call : Call → Call
+unhinted_call (Open account coll borrow bound hint) = Open account coll borrow bound no_hint
+unhinted_call (Adjust account coll_in coll_out borrow repay bound hint) = Adjust account coll_in coll_out borrow repay bound no_hint
+unhinted_call (GainToTrove account hint) = GainToTrove account no_hint
+unhinted_call (Redeem account lusd bound hint) = Redeem account lusd bound no_hint
+unhinted_call call = call
+
+-- the same command without its hint
+abbrev pub unhinted : Command → Command
+unhinted c = record c { call = unhinted_call c.call }

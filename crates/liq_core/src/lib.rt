@@ -6,6 +6,7 @@
 
 mod engine;
 pub mod examples;
+pub mod laws;
 mod tables;
 mod turns;
 

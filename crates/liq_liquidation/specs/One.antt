@@ -84,6 +84,13 @@ treated Spread price coll debt total = spread coll debt
 treated Capped price coll debt total = capped price coll debt
 treated Spared price coll debt total = nothing_done
 
+-- where the collateral and the debt go
+abbrev pub one_total_coll : One → ℕ
+one_total_coll one = one.gas + one.offset_coll + one.spread_coll + one.surplus
+
+abbrev pub one_total_debt : One → ℕ
+one_total_debt one = one.offset_debt + one.spread_debt
+
 -- ---- what is refused
 
 abbrev pub is_spared : Treatment → Bool

@@ -1,5 +1,6 @@
 -- The trove order: all troves, sorted by key and, where keys are equal, by account. The last has the lowest ratio.
-use Rattle.std.specs.Prelude.{◌≡◌, ℕ, ℤ, Bool, List, [], ◌∷◌, ◌++◌, map, fold, reverse, Option, Some, None, option_map}
+use Rattle.std.specs.List.{AllByRecursion}
+use Rattle.std.specs.Prelude.{◌≡◌, ◌≢◌, ℕ, ℤ, Bool, List, [], ◌∷◌, ◌++◌, map, fold, reverse, Option, Some, None, option_map}
 use Rattle.std.specs.Ordering.{nat_cmp, int_cmp, ordering_then, match_ordering}
 use Rattle.std.specs.declared.cmp.Ordering.{Ordering}
 use Rattle.std.specs.declared.cmp.Ordering.TheVariants.{Less}
@@ -35,6 +36,11 @@ first_of (x ∷ xs) = Some x
 -- the account with the lowest ratio
 abbrev pub last_trove : State → Option ℕ
 last_trove s = first_of (from_lowest s)
+
+-- each entry stands before all that come after it
+abbrev pub IsAscending : List Ranked → Type 0
+IsAscending [] = Unit {0}
+IsAscending (e ∷ es) = AllByRecursion (λ f. rank_order f e ≢ Less) es × IsAscending es
 
 -- ---- hints
 

@@ -1,2 +1,5 @@
 //! The troves in the order of their ratios.
 #![tactic(auto)]
+
+pub mod examples;
+pub mod laws;

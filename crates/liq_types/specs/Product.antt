@@ -1,11 +1,11 @@
 -- The Stability Pool's product and sums, over the list of its offsets.
-use Rattle.std.specs.Prelude.{ℕ, zero, suc, ◌+◌, ◌-◌, ◌*◌, ◌^◌, ◌==◌, ◌&&◌, nat_le, Bool, List, [], ◌∷◌, fold, take, unwrap_or, if◌then◌else◌}
+use Rattle.std.specs.Prelude.{ℕ, zero, suc, ◌+◌, ◌-◌, ◌*◌, ◌^◌, ◌==◌, ◌&&◌, ◌≤◌, nat_le, Bool, List, [], ◌∷◌, fold, take, unwrap_or, if◌then◌else◌}
 use Rattle.std.specs.BTreeMap.{insert_entry, is_at}
 use Rattle.std.specs.Map.{lookup}
 use Rattle.std.specs.Ordering.{nat_cmp, ordering_then}
 use Rattle.std.specs.declared.cmp.Ordering.{Ordering}
 use Rattle.liq_num.specs.Quotient.{floor_of}
-use Rattle.liq_types.specs.declared.amounts.TheConstants.{P_OPENING, P_LEAST}
+use Rattle.liq_types.specs.declared.amounts.TheConstants.{LIM, P_OPENING, P_LEAST}
 use Rattle.liq_types.specs.Image.{Image, Place}
 use Rattle.liq_types.specs.State.{Offset, PoolMark}
 
@@ -39,6 +39,20 @@ after_offset w o =
     if o.debt == o.total
     then record { p = P_OPENING; scale = 0; epoch = w.epoch + 1 }
     else record { p = product_after w.p o steps; scale = w.scale + steps; epoch = w.epoch }
+
+-- ---- offsets of a pool within its limit
+
+-- it takes some of the pool, and no more than all
+pub record TakesPart (o : Offset) : Type 0 where
+  pub some : 1 ≤ o.debt
+  pub within : o.debt ≤ o.total
+  pub limit : o.total ≤ LIM
+
+pub record IsWithinRange (w : Words) : Type 0 where
+  pub least : P_LEAST ≤ w.p
+  pub most : w.p ≤ P_OPENING
+
+-- ---- over a list
 
 abbrev pub start_words : Image → Words
 start_words i = record { p = i.p; scale = i.scale; epoch = i.epoch }

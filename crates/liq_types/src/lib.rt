@@ -8,6 +8,7 @@ pub mod counting;
 pub mod events;
 pub mod figures;
 pub mod hints;
+pub mod laws;
 pub mod replies;
 pub mod requests;
 

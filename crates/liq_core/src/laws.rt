@@ -1,0 +1,49 @@
+//! What holds of the step and of whole runs. The functions here do nothing: each is the place where the facts of its
+//! contract are proved.
+
+ghost use Rattle.std.specs.Prelude.{◌≡◌, ◌++◌, List, map};
+ghost use Rattle.liq_types.specs.declared.replies.Done.{Done};
+ghost use Rattle.liq_types.specs.declared.replies.Refusal.{Refusal};
+ghost use Rattle.liq_types.specs.declared.replies.Reply.TheVariants.{Said, No};
+ghost use Rattle.liq_types.specs.declared.requests.Command.{Command};
+ghost use Rattle.liq_types.specs.declared.requests.Query.{Query};
+ghost use Rattle.liq_types.specs.declared.requests.Request.{Request};
+ghost use Rattle.liq_types.specs.declared.requests.Request.TheVariants.{Do, Ask};
+ghost use Rattle.liq_types.specs.Image.{opening_image};
+ghost use Rattle.liq_types.specs.State.{State, opening};
+ghost use Rattle.liq_core.specs.Identities.{IsConserved};
+ghost use Rattle.liq_core.specs.Image.{image};
+ghost use Rattle.liq_core.specs.Step.{Repeated, ruling, step, run, accepted};
+ghost use Rattle.liq_core.specs.Verbs.{unhinted};
+
+/// A refused request, a query and a command that comes again leave the state.
+pub fn only_new_commands_change()
+    ensures refused { (s : State) → (request : Request) → (refusal : Refusal) → (step s request).1 ≡ No refusal → (step s request).0 ≡ s }
+    ensures asked { (s : State) → (query : Query) → (step s (Ask query)).0 ≡ s }
+    ensures repeated { (s : State) → (c : Command) → (kept : Done) → ruling s c ≡ Repeated kept → step s (Do c) ≡ (s, Said kept) }
+{}
+
+/// The accepted commands of a run, run again from where it began, lead to the same state, and all are accepted.
+pub fn accepted_commands_replay()
+    ensures state { (s : State) → (requests : List Request) → (run s (map Do (accepted s requests))).0 ≡ (run s requests).0 }
+    ensures again { (s : State) → (requests : List Request) → accepted s (map Do (accepted s requests)) ≡ accepted s requests }
+{}
+
+/// A run goes on where another ended.
+pub fn runs_go_on()
+    ensures state { (s : State) → (first more : List Request) → (run s (first ++ more)).0 ≡ (run (run s first).0 more).0 }
+    ensures replies { (s : State) → (first more : List Request) → (run s (first ++ more)).1 ≡ (run s first).1 ++ (run (run s first).0 more).1 }
+    ensures accepted { (s : State) → (first more : List Request) → accepted s (first ++ more) ≡ accepted s first ++ accepted (run s first).0 more }
+{}
+
+/// No hint changes the state or the reply.
+pub fn hints_change_nothing()
+    ensures { (s : State) → (c : Command) → step s (Do c) ≡ step s (Do (unhinted c)) }
+{}
+
+/// At the opening the image has nothing but the price, a product that is whole and the first generation, and all is
+/// conserved.
+pub fn opening_has_nothing()
+    ensures image { image opening ≡ opening_image }
+    ensures conserved { IsConserved opening }
+{}

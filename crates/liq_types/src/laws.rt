@@ -1,0 +1,27 @@
+//! What holds of the definitions that the contracts cite. The functions here do nothing: each is the place where the facts
+//! of its contract are proved.
+
+ghost use Rattle.std.specs.Prelude.{◌≡◌, ℕ, ◌≤◌, ◌<◌, ◌↔◌, List, IsTrue};
+ghost use Rattle.std.specs.List.{AllByRecursion};
+ghost use Rattle.liq_num.specs.Ratio.{IsBelow, IsBelowPercent};
+ghost use Rattle.liq_types.specs.Image.{Image};
+ghost use Rattle.liq_types.specs.Product.{Words, IsWithinRange, TakesPart, after_offset, product_after, rise_of, start_words, prod};
+ghost use Rattle.liq_types.specs.State.{Offset};
+ghost use Rattle.liq_types.specs.Totals.{is_below_percent, is_ratio_below};
+
+use crate::amounts::P_LEAST;
+
+/// The tests of ratios decide the comparisons.
+pub fn tests_of_ratios_decide()
+    ensures percent { (coll debt price percent : ℕ) → IsTrue (is_below_percent coll debt price percent) ↔ IsBelowPercent coll debt price percent }
+    ensures below { (c1 d1 c2 d2 : ℕ) → IsTrue (is_ratio_below c1 d1 c2 d2) ↔ IsBelow c1 d1 c2 d2 }
+{}
+
+/// The Stability Pool's product stays between its least and the whole, whatever part of the pool is taken; an offset raises
+/// the scale by at most two steps, and by no more than it must.
+pub fn product_stays_within()
+    ensures one { (w : Words) → (o : Offset) → IsWithinRange w → TakesPart o → IsWithinRange (after_offset w o) }
+    ensures few { (w : Words) → (o : Offset) → IsWithinRange w → TakesPart o → rise_of w.p o ≤ 2 }
+    ensures no_more { (w : Words) → (o : Offset) → IsWithinRange w → TakesPart o → (steps : ℕ) → steps < rise_of w.p o → product_after w.p o steps < P_LEAST }
+    ensures all { (i : Image) → (offsets : List Offset) → IsWithinRange (start_words i) → AllByRecursion TakesPart offsets → IsWithinRange (prod i offsets) }
+{}
