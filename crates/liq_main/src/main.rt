@@ -1,12 +1,10 @@
 //! The program: the top call over the real streams.
 #![tactic(auto)]
 
-use std::env;
-use std::io;
+use liq_outside::{StdSink, StdSource};
 use std::process::ExitCode;
 use std::rt::Env;
-
-use liq_outside::{StdSink, StdSource};
+use std::{env, io};
 
 /// The exit status where there is no memory for the words of the command line.
 const NO_MEMORY: u8 = 7;
@@ -26,10 +24,5 @@ fn main(rt: HostRuntime) -> ExitCode {
     };
     let mut input = StdSource::new(rt.reader());
     let mut out = StdSink::new(io::writer(&rt));
-    ExitCode::from(liq_serve::protocol(
-        rt.alloc(),
-        &words,
-        &mut input,
-        &mut out,
-    ))
+    ExitCode::from(liq_serve::protocol(rt.alloc(), &words, &mut input, &mut out))
 }

@@ -29,8 +29,8 @@ all_same list [] = subst (IsPermutation (list ++ [])) (append-nil list) (IsPermu
 all_same list (e ∷ es) =
     IsPermutation-trans _ (e ∷ (list ++ es)) _ (IsPermutation-middle list e es)
     (IsPermutation-trans _ (with_ranked list e ++ es) _
-        (IsPermutation-append (e ∷ list) (with_ranked list e) es es (with_same list e) (IsPermutation-refl es))
-        (all_same (with_ranked list e) es))
+    (IsPermutation-append (e ∷ list) (with_ranked list e) es es (with_same list e) (IsPermutation-refl es))
+    (all_same (with_ranked list e) es))
 
 pub sorted_same : (entries : List Ranked) → IsPermutation entries (sorted entries)
 sorted_same entries = all_same [] entries
@@ -73,6 +73,7 @@ with_ascending [] e h = (tt, tt)
 with_ascending (f ∷ fs) e h = by (rank_order e f) refl (with_ascending fs e h.1) where
   front : (o : Ordering) → rank_order e f ≡ o → o ≢ Greater → IsAscending (e ∷ f ∷ fs)
   front o is low = ((reversed_less e f o is low, after_later e f fs (subst (λ r. r ≢ Greater) (sym is) low) h.0), h)
+
   by : (o : Ordering) → rank_order e f ≡ o → IsAscending (with_ranked fs e) → IsAscending (match_ordering o (e ∷ f ∷ fs) (e ∷ f ∷ fs) (f ∷ with_ranked fs e))
   by Less is more = front Less is (λ g. cc)
   by Equal is more = front Equal is (λ g. cc)

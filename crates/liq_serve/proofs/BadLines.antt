@@ -25,9 +25,11 @@ bad_long line long q h = omega (arith, long, h.0.0)
 pub bad_too_long : (line : List ℕ) (byte : ℕ) (after : Option (List ℕ)) (bytes : List ℕ) → IsWithinLine line → (byte ≡ 10 → ⊥) → length line ≡ 200 → Reads (Some bytes) (line ++ byte ∷ []) after → (first : List ℕ) × IsBadLine first × ((more : List (List ℕ)) × (lines_in bytes ≡ first ∷ more))
 bad_too_long line byte None bytes within apart long h = absurd (cc h)
 bad_too_long line byte (Some rest) bytes within apart long h =
-    let longer = lines_in-longer line byte rest within apart in
-    (line ++ byte ∷ longer.0, bad_long (line ++ byte ∷ longer.0) (omega (arith, length-append line (byte ∷ longer.0), long)),
-        (longer.1, ap lines_in (told_reads bytes (line ++ byte ∷ []) rest h ∙ append_assoc line (byte ∷ []) rest) ∙ longer.2))
+    let longer = lines_in-longer line byte rest within apart in (
+      line ++ byte ∷ longer.0,
+      bad_long (line ++ byte ∷ longer.0) (omega (arith, length-append line (byte ∷ longer.0), long)),
+      (longer.1, ap lines_in (told_reads bytes (line ++ byte ∷ []) rest h ∙ append_assoc line (byte ∷ []) rest) ∙ longer.2),
+    )
 
 -- the line that was read, where it is bad
 pub bad_ended : (line : List ℕ) (after : Option (List ℕ)) (bytes : List ℕ) → IsWithinLine line → IsBadLine line → Reads (Some bytes) (line ++ 10 ∷ []) after → (first : List ℕ) × IsBadLine first × ((more : List (List ℕ)) × (lines_in bytes ≡ first ∷ more))

@@ -24,9 +24,11 @@ writes_both None mid after xs ys h k = k ∙ ap (λ m. option_map (λ held. held
 writes_both (Some held) mid after xs ys h k = k ∙ ap (λ m. option_map (λ held. held ++ ys) m) h ∙ ap Some (append_assoc held xs ys)
 
 pub part_second : (before mid after : Option (List ℕ)) (xs ys : List ℕ) → Writes before xs mid → WritesPart mid ys after → WritesPart before (xs ++ ys) after
-part_second before mid after xs ys h k =
-    (length xs + k.0, omega (arith, k.1, length-append xs ys),
-        subst (λ (t : List ℕ). Writes before t after) (sym (take-append-add xs ys k.0)) (writes_both before mid after xs (take k.0 ys) h k.2))
+part_second before mid after xs ys h k = (
+  length xs + k.0,
+  omega (arith, k.1, length-append xs ys),
+  subst (λ (t : List ℕ). Writes before t after) (sym (take-append-add xs ys k.0)) (writes_both before mid after xs (take k.0 ys) h k.2),
+)
 
 pub adds_line : (fault : Type 0) (result : Result (Unit {0}) Failed) (held line : List ℕ) (before after : Option (List ℕ)) → before ≡ Some held → OnOk result (Writes before line after) → OnErr result (WritesPart before line after) → OnErr result fault → Adds held line fault after
 adds_line fault (Ok done) held line before after told ok err cause =
@@ -44,10 +46,10 @@ last_written Limit bytes held fault left now after h adds = (h.0, h.1, adds (hel
 last_written WriteFault bytes held fault left now after h adds =
     let more = adds (held ++ h.2.0) h.2.1 in
     (h.0, h.1, (h.2.0, more.1 ∙ ap (λ (t : List ℕ). Some ((held ++ h.2.0) ++ t)) (nothing more.0 more.2) ∙ ap Some (append-nil (held ++ h.2.0)), h.2.2)) where
-  nothing : (part : List ℕ) → (part ≡ []) ⊎ (fault × IsFrontOf part []) → part ≡ []
-  nothing part (inl none) = none
-  nothing [] (inr cut) = refl
-  nothing (x ∷ part) (inr cut) = absurd (cc (cut.1.1))
+      nothing : (part : List ℕ) → (part ≡ []) ⊎ (fault × IsFrontOf part []) → part ≡ []
+      nothing part (inl none) = none
+      nothing [] (inr cut) = refl
+      nothing (x ∷ part) (inr cut) = absurd (cc (cut.1.1))
 
 pub no_session : (bytes held : List ℕ) (left now : Option (List ℕ)) → now ≡ Some held → Halts NoMemory bytes held left now
 no_session bytes held left now holds = ([], (lines_in bytes, ([], tt, refl)), holds ∙ ap Some (sym (append-nil held)))

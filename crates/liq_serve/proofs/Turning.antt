@@ -34,16 +34,29 @@ told_left rest xs taken (Some more) h = (more, refl, told_reads rest xs (taken +
 
 pub reading_halts : (halt : Halt) (bytes held taken : List ℕ) (n : ℕ) (core : Core) (u left h : Option (List ℕ)) → ReadsRequest u (unread taken left) taken (n + 1) (Err halt) → Answered bytes held n core u h → Halts halt bytes held left h
 reading_halts (BadLine at) bytes held taken n core u left h r a =
-    let bad = r.1 a.rest a.unread_is in
-    (a.requests,
-        (r.0 ∙ ap (λ m. m + 1) (sym a.count), (bad.0, bad.1, (bad.2.0, (a.front, a.spelled, begins bytes held n core u h a ∙ ap (λ (ls : List (List ℕ)). a.front ++ ls) bad.2.1)))),
-        a.now_is)
+    let bad = r.1 a.rest a.unread_is in (
+      a.requests,
+      (r.0 ∙ ap (λ m. m + 1) (sym a.count), (bad.0, bad.1, (bad.2.0, (a.front, a.spelled, begins bytes held n core u h a ∙ ap (λ (ls : List (List ℕ)). a.front ++ ls) bad.2.1)))),
+      a.now_is,
+    )
 reading_halts ReadFault bytes held taken n core u left h r a =
-    let got = told_left a.rest r.0 taken left (subst (λ (v : Option (List ℕ)). Reads v r.0 (unread taken left)) a.unread_is r.2) in
-    (a.requests,
-        (a.front, a.spelled, (r.0, r.1, (got.0, got.1,
-            a.bytes_are ∙ ap (λ (t : List ℕ). ended a.front ++ t) (got.2 ∙ ap (λ (t : List ℕ). r.0 ++ (t ++ got.0)) r.3) ∙ sym (append_assoc (ended a.front) r.0 got.0)))),
-        a.now_is)
+    let got = told_left a.rest r.0 taken left (subst (λ (v : Option (List ℕ)). Reads v r.0 (unread taken left)) a.unread_is r.2) in (
+      a.requests,
+      (
+        a.front,
+        a.spelled,
+        (
+          r.0,
+          r.1,
+          (
+            got.0,
+            got.1,
+            a.bytes_are ∙ ap (λ (t : List ℕ). ended a.front ++ t) (got.2 ∙ ap (λ (t : List ℕ). r.0 ++ (t ++ got.0)) r.3) ∙ sym (append_assoc (ended a.front) r.0 got.0),
+          ),
+        ),
+      ),
+      a.now_is,
+    )
 reading_halts WriteFault bytes held taken n core u left h r a = absurd r
 reading_halts NoMemory bytes held taken n core u left h r a = absurd r
 reading_halts Limit bytes held taken n core u left h r a = absurd r
@@ -61,10 +74,12 @@ over_left rest xs taken (Some more) h over =
 
 pub reading_ends : (bytes held taken : List ℕ) (n : ℕ) (core : Core) (u left h : Option (List ℕ)) → Reads u [] (unread taken left) → IsOver (unread taken left) → Answered bytes held n core u h → Finishes bytes held left h
 reading_ends bytes held taken n core u left h r over a =
-    let done = over_left a.rest [] taken left (subst (λ (v : Option (List ℕ)). Reads v [] (unread taken left)) a.unread_is r) over in
-    (a.requests,
-        subst (λ (ls : List (List ℕ)). AreRequests ls a.requests) (sym (begins bytes held n core u h a ∙ ap (λ (t : List ℕ). a.front ++ lines_in t) done.1 ∙ append-nil a.front)) a.spelled,
-        done.0, a.now_is)
+    let done = over_left a.rest [] taken left (subst (λ (v : Option (List ℕ)). Reads v [] (unread taken left)) a.unread_is r) over in (
+      a.requests,
+      subst (λ (ls : List (List ℕ)). AreRequests ls a.requests) (sym (begins bytes held n core u h a ∙ ap (λ (t : List ℕ). a.front ++ lines_in t) done.1 ∙ append-nil a.front)) a.spelled,
+      done.0,
+      a.now_is,
+    )
 
 -- ---- a line is answered
 
@@ -80,25 +95,26 @@ line_answered bytes held line r n core core' u (Some rest) h h' is within reads 
       within = within-append a.front (line ∷ []) a.within (within, tt);
       count = omega (arith, length-append a.requests (r ∷ []), a.count);
       bytes_are =
-        a.bytes_are ∙ ap (λ (t : List ℕ). ended a.front ++ t) got ∙ sym (append_assoc (ended a.front) (line ++ 10 ∷ []) rest)
-        ∙ ap (λ (t : List ℕ). (ended a.front ++ t) ++ rest) (sym (append-nil (line ++ 10 ∷ []))) ∙ ap (λ (t : List ℕ). t ++ rest) (sym (ended-append a.front (line ∷ [])));
+          a.bytes_are ∙ ap (λ (t : List ℕ). ended a.front ++ t) got ∙ sym (append_assoc (ended a.front) (line ++ 10 ∷ []) rest)
+          ∙ ap (λ (t : List ℕ). (ended a.front ++ t) ++ rest) (sym (append-nil (line ++ 10 ∷ []))) ∙ ap (λ (t : List ℕ). t ++ rest) (sym (ended-append a.front (line ∷ [])));
       unread_is = refl;
       now_is =
-        subst (λ (v : Option (List ℕ)). h' ≡ option_map (λ old. old ++ reply_line (step (run opening a.requests).0 r).1) v) a.now_is writes
-        ∙ ap Some (append_assoc held (lines a.requests) (reply_line (step (run opening a.requests).0 r).1) ∙ ap (λ (t : List ℕ). held ++ t) (sym (lines-more a.requests r)));
+          subst (λ (v : Option (List ℕ)). h' ≡ option_map (λ old. old ++ reply_line (step (run opening a.requests).0 r).1) v) a.now_is writes
+          ∙ ap Some (append_assoc held (lines a.requests) (reply_line (step (run opening a.requests).0 r).1) ∙ ap (λ (t : List ℕ). held ++ t) (sym (lines-more a.requests r)));
       stands = subst (λ (s : State). StandsFor core' s) (sym (after-more opening a.requests r)) stands;
     }
 
 pub last_answered : (bytes held line taken : List ℕ) (r : Request) (n : ℕ) (core : Core) (u left h h' : Option (List ℕ)) → IsRequest line r → IsWithinLine line → line ≢ [] → Reads u line (unread taken left) → IsOver (unread taken left) → (a : Answered bytes held n core u h) → Writes h (reply_line (step (run opening a.requests).0 r).1) h' → Finishes bytes held left h'
 last_answered bytes held line taken r n core u left h h' is within some reads over a writes =
-    let done = over_left a.rest line taken left (subst (λ (v : Option (List ℕ)). Reads v line (unread taken left)) a.unread_is reads) over in
-    (a.requests ++ r ∷ [],
-        subst (λ (ls : List (List ℕ)). AreRequests ls (a.requests ++ r ∷ []))
-        (sym (begins bytes held n core u h a ∙ ap (λ (t : List ℕ). a.front ++ lines_in t) done.1 ∙ ap (λ (ls : List (List ℕ)). a.front ++ ls) (lines_in-unended line within some)))
-        (requests-more a.front a.requests line r a.spelled is),
-        done.0,
-        subst (λ (v : Option (List ℕ)). h' ≡ option_map (λ old. old ++ reply_line (step (run opening a.requests).0 r).1) v) a.now_is writes
-        ∙ ap Some (append_assoc held (lines a.requests) (reply_line (step (run opening a.requests).0 r).1) ∙ ap (λ (t : List ℕ). held ++ t) (sym (lines-more a.requests r))))
+    let done = over_left a.rest line taken left (subst (λ (v : Option (List ℕ)). Reads v line (unread taken left)) a.unread_is reads) over in (
+      a.requests ++ r ∷ [],
+      subst (λ (ls : List (List ℕ)). AreRequests ls (a.requests ++ r ∷ []))
+          (sym (begins bytes held n core u h a ∙ ap (λ (t : List ℕ). a.front ++ lines_in t) done.1 ∙ ap (λ (ls : List (List ℕ)). a.front ++ ls) (lines_in-unended line within some)))
+          (requests-more a.front a.requests line r a.spelled is),
+      done.0,
+      subst (λ (v : Option (List ℕ)). h' ≡ option_map (λ old. old ++ reply_line (step (run opening a.requests).0 r).1) v) a.now_is writes
+          ∙ ap Some (append_assoc held (lines a.requests) (reply_line (step (run opening a.requests).0 r).1) ∙ ap (λ (t : List ℕ). held ++ t) (sym (lines-more a.requests r))),
+    )
 
 -- ---- a line is read, and its answer stops the run
 
@@ -113,14 +129,32 @@ answering_halts NoMemory bytes held line more r n core core' u left h h' is a fi
     (a.requests, (lines_in a.rest, (a.front, a.spelled, begins bytes held n core u h a)), failed ∙ a.now_is)
 answering_halts WriteFault bytes held line more r n core core' u left h h' is a first failed =
     let reply = reply_line (step (run opening a.requests).0 r).1 in
-    let k = failed.0 in
-    (a.requests ++ r ∷ [],
-        (more, (a.front ++ line ∷ [], requests-more a.front a.requests line r a.spelled is,
-            begins bytes held n core u h a ∙ ap (λ (ls : List (List ℕ)). a.front ++ ls) first ∙ sym (append_assoc a.front (line ∷ []) more))),
-        (lines a.requests ++ take k reply,
-            subst (λ (v : Option (List ℕ)). h' ≡ option_map (λ old. old ++ take k reply) v) a.now_is failed.2 ∙ ap Some (append_assoc held (lines a.requests) (take k reply)),
-            (a.requests, r, refl, (take k reply, refl), (drop k reply, missing_some k reply failed.1,
-                lines-more a.requests r ∙ ap (λ (t : List ℕ). lines a.requests ++ t) (sym (take-append-drop k reply)) ∙ sym (append_assoc (lines a.requests) (take k reply) (drop k reply))))))
+    let k = failed.0 in (
+      a.requests ++ r ∷ [],
+      (
+        more,
+        (
+          a.front ++ line ∷ [],
+          requests-more a.front a.requests line r a.spelled is,
+          begins bytes held n core u h a ∙ ap (λ (ls : List (List ℕ)). a.front ++ ls) first ∙ sym (append_assoc a.front (line ∷ []) more),
+        ),
+      ),
+      (
+        lines a.requests ++ take k reply,
+        subst (λ (v : Option (List ℕ)). h' ≡ option_map (λ old. old ++ take k reply) v) a.now_is failed.2 ∙ ap Some (append_assoc held (lines a.requests) (take k reply)),
+        (
+          a.requests,
+          r,
+          refl,
+          (take k reply, refl),
+          (
+            drop k reply,
+            missing_some k reply failed.1,
+            lines-more a.requests r ∙ ap (λ (t : List ℕ). lines a.requests ++ t) (sym (take-append-drop k reply)) ∙ sym (append_assoc (lines a.requests) (take k reply) (drop k reply)),
+          ),
+        ),
+      ),
+    )
 
 -- the line that was read is the first of what was unread
 pub first_line : (rest line : List ℕ) (u' : Option (List ℕ)) → IsWithinLine line → Reads (Some rest) (line ++ 10 ∷ []) u' → (more : List (List ℕ)) × (lines_in rest ≡ line ∷ more)
@@ -153,8 +187,21 @@ pub limit_halts : (bytes held : List ℕ) (n byte : ℕ) (core : Core) (u u' lef
 limit_halts bytes held n byte core u None left h full reads a = absurd (cc (reads, a.unread_is))
 limit_halts bytes held n byte core u (Some rest) left h full reads a =
     let got = told_reads a.rest (byte ∷ []) rest (subst (λ (v : Option (List ℕ)). Reads v (byte ∷ []) (Some rest)) a.unread_is reads) in
-    let first = lines_in-some byte rest in
-    (a.requests,
-        (a.count ∙ full, (first.0, (first.1, (a.front, a.spelled,
-            begins bytes held n core u h a ∙ ap (λ (t : List ℕ). a.front ++ lines_in t) got ∙ ap (λ (ls : List (List ℕ)). a.front ++ ls) first.2)))),
-        a.now_is)
+    let first = lines_in-some byte rest in (
+      a.requests,
+      (
+        a.count ∙ full,
+        (
+          first.0,
+          (
+            first.1,
+            (
+              a.front,
+              a.spelled,
+              begins bytes held n core u h a ∙ ap (λ (t : List ℕ). a.front ++ lines_in t) got ∙ ap (λ (ls : List (List ℕ)). a.front ++ ls) first.2,
+            ),
+          ),
+        ),
+      ),
+      a.now_is,
+    )

@@ -6,11 +6,10 @@ ghost use Rattle.liq_types.specs.declared.requests.Request.TheVariants.{Do};
 ghost use Rattle.liq_core.specs.Core.{StandsFor};
 ghost use Rattle.liq_core.specs.Step.{built, step};
 
-use std::sync::ledger::Ledger;
-
 use liq_core::{PlanFault, Protocol, Turn};
 use liq_types::amounts::RECORDS_MOST;
 use liq_types::{Command, Hint, NoMemory, Reply, Request, Steps};
+use std::sync::ledger::Ledger;
 
 /// No place is known.
 const NO_HINT: Hint = Hint {

@@ -4,11 +4,10 @@ ghost use Rattle.std.specs.Prelude.{◌≡◌, ◌≤◌, ◌<◌, ◌∷◌, []
 ghost use Rattle.liq_outside.specs.Faults.{Rose};
 ghost use Rattle.liq_serve.specs.Reading.{unread, Reads, ReadsLine, IsOver, IsEndOfInput};
 
-use std::alloc::{AllocError, Global};
-use std::marker::Model;
-
 use liq_outside::{Failed, Source};
 use liq_types::amounts::LINE_BYTES;
+use std::alloc::{AllocError, Global};
+use std::marker::Model;
 
 /// How many bytes are asked of the source at once.
 const CHUNK: usize = 16_384;
@@ -135,5 +134,9 @@ impl Reader {
 fn end_of_input(line: &[u8]) -> LineEnd
     ensures { IsEndOfInput line.now result }
 {
-    if line.is_empty() { LineEnd::Nothing } else { LineEnd::Unended }
+    if line.is_empty() {
+        LineEnd::Nothing
+    } else {
+        LineEnd::Unended
+    }
 }

@@ -11,9 +11,6 @@ ghost use Rattle.liq_serve.specs.Reading.{unread};
 ghost use Rattle.liq_serve.specs.Requests.{IsRequest, IsBadLine};
 ghost use Rattle.liq_serve.specs.Writing.{Writes, WritesPart};
 
-use std::alloc::{AllocError, Global};
-use std::sync::ledger::Ledger;
-
 use crate::calls::call;
 use crate::halts::Halt;
 use crate::reader::{LINE_END, LineEnd, Reader};
@@ -23,6 +20,8 @@ use liq_outside::{Failed, Sink, Source};
 use liq_text::{read_line, write_reply};
 use liq_types::amounts::{LINE_BYTES, LINES_MOST, RECORDS_MOST, REPLY_BYTES};
 use liq_types::{Reply, Request, Steps};
+use std::alloc::{AllocError, Global};
+use std::sync::ledger::Ledger;
 
 /// What stands next in the input.
 #[derive(Clone, Copy, Debug, PartialEq, Eq)]

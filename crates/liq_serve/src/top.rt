@@ -10,16 +10,15 @@ ghost use Rattle.liq_serve.specs.Requests.{AreRequests};
 ghost use Rattle.liq_serve.specs.Statuses.{AreRun};
 ghost use Rattle.liq_serve.specs.Stops.{Adds, Finishes, Stops, WhereTold, EndsIn};
 
-use std::alloc::{AllocError, Global};
-use std::marker::Brand;
-use std::sync::ledger::{Blank, Ledger};
-
 use crate::ending::{status, write_last, write_usage};
 use crate::halts::Halt;
 use crate::session::Session;
 use liq_outside::{Sink, Source};
 use liq_types::Steps;
 use liq_types::amounts::LINES_MOST;
+use std::alloc::{AllocError, Global};
+use std::marker::Brand;
+use std::sync::ledger::{Blank, Ledger};
 
 /// Runs the protocol over the lines of the input, where the words are exactly `run`: each line is a request, and its reply
 /// is written once its call has answered. The result is the exit status:

@@ -88,6 +88,7 @@ unfolding least_rise
 offset_within w o within h = by (o.debt == o.total) refl where
   left : (b : Bool) → (o.debt == o.total) ≡ b → b ≡ false → o.debt < o.total
   left b e fail = grind (arith, nat_tests, e, fail, h.within)
+
   by : (b : Bool) → (o.debt == o.total) ≡ b → IsWithinRange (cond b (record { p = P_OPENING; scale = 0; epoch = w.epoch + 1 }) (record { p = product_after w.p o (cond b 0 (least_rise w.p o)); scale = w.scale + cond b 0 (least_rise w.p o); epoch = w.epoch }))
   by true e = record { least = omega arith; most = omega arith }
   by false e =
@@ -100,6 +101,7 @@ unfolding least_rise
 rise_few w o within h = by (o.debt == o.total) refl where
   left : (b : Bool) → (o.debt == o.total) ≡ b → b ≡ false → o.debt < o.total
   left b e fail = grind (arith, nat_tests, e, fail, h.within)
+
   by : (b : Bool) → (o.debt == o.total) ≡ b → cond b 0 (least_rise w.p o) ≤ 2
   by true e = omega arith
   by false e = few_rises w.p o within.least h (left false e refl)
@@ -109,6 +111,7 @@ unfolding least_rise
 rise_no_more w o within h steps = by (o.debt == o.total) refl where
   left : (b : Bool) → (o.debt == o.total) ≡ b → b ≡ false → o.debt < o.total
   left b e fail = grind (arith, nat_tests, e, fail, h.within)
+
   by : (b : Bool) → (o.debt == o.total) ≡ b → steps < cond b 0 (least_rise w.p o) → product_after w.p o steps < P_LEAST
   by true e few = absurd (omega arith)
   by false e few = fails_least w.p o steps ((first_rise w.p o within.least h (left false e refl)).first steps (omega arith) few)

@@ -14,8 +14,8 @@ returns-in_err-write_all-2-clause-err g c =
     let digits = c.as_bytes.ensures.value ∙ c.format.ensures.text in
     on_err_of c.from_residual-in_err-write_all-2.result
     (part_second (held c.args.out.now) (held c.write_all.new.out) (held c.write_all-2.new.out) (codes "bad line ") (decimal c.args.number ++ 10 ∷ []) c.in_ok-write_all.ensures.ok
-        (part_first (held c.write_all.new.out) (held c.write_all-2.new.out) (decimal c.args.number) (10 ∷ [])
-            (subst (λ (t : List ℕ). WritesPart (held c.write_all.new.out) t (held c.write_all-2.new.out)) digits c.in_err-write_all-2.ensures.err)))
+    (part_first (held c.write_all.new.out) (held c.write_all-2.new.out) (decimal c.args.number) (10 ∷ [])
+    (subst (λ (t : List ℕ). WritesPart (held c.write_all.new.out) t (held c.write_all-2.new.out)) digits c.in_err-write_all-2.ensures.err)))
 
 pub returns-clause-err : goal.returns-clause-err
 returns-clause-err g c =
@@ -23,7 +23,7 @@ returns-clause-err g c =
     let digits = c.as_bytes.ensures.value ∙ c.format.ensures.text in
     on_err_map c.write_all-3.result
     (λ part.
-        part_second (held c.args.out.now) (held c.write_all.new.out) (held c.write_all-3.new.out) (codes "bad line ") (decimal c.args.number ++ 10 ∷ []) c.in_ok-write_all.ensures.ok
-        (part_second (held c.write_all.new.out) (held c.write_all-2.new.out) (held c.write_all-3.new.out) (decimal c.args.number) (10 ∷ [])
-            (subst (λ (t : List ℕ). Writes (held c.write_all.new.out) t (held c.write_all-2.new.out)) digits c.in_ok-write_all-2.ensures.ok) part))
+    part_second (held c.args.out.now) (held c.write_all.new.out) (held c.write_all-3.new.out) (codes "bad line ") (decimal c.args.number ++ 10 ∷ []) c.in_ok-write_all.ensures.ok
+    (part_second (held c.write_all.new.out) (held c.write_all-2.new.out) (held c.write_all-3.new.out) (decimal c.args.number) (10 ∷ [])
+    (subst (λ (t : List ℕ). Writes (held c.write_all.new.out) t (held c.write_all-2.new.out)) digits c.in_ok-write_all-2.ensures.ok) part))
     c.write_all-3.ensures.err

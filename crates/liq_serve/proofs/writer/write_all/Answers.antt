@@ -14,8 +14,8 @@ loop-written-preserved g c =
     record {
       within = omega (arith, c.in_ok-written.ensures.fits, c.loop-written-test.true, simp (length-take, length-drop) at c.in_ok-written.ensures.fits);
       front =
-        subst (λ (front : List ℕ). Writes (g.K.Sink.held c.args.out.now) front (g.K.Sink.held c.write.new.self))
-        (ap (λ (p : List ℕ). take w bytes ++ take n p) piece ∙ sym (take-add w n bytes))
-        (writes_more (g.K.Sink.held c.args.out.now) (g.K.Sink.held c.loop-written.out) (g.K.Sink.held c.write.new.self) _ _ c.loop-written.invariant.front c.in_ok-written.ensures.appended);
+          subst (λ (front : List ℕ). Writes (g.K.Sink.held c.args.out.now) front (g.K.Sink.held c.write.new.self))
+          (ap (λ (p : List ℕ). take w bytes ++ take n p) piece ∙ sym (take-add w n bytes))
+          (writes_more (g.K.Sink.held c.args.out.now) (g.K.Sink.held c.loop-written.out) (g.K.Sink.held c.write.new.self) _ _ c.loop-written.invariant.front c.in_ok-written.ensures.appended);
       count = omega (arith, c.loop-written.invariant.count, c.write.ensures.count);
     }

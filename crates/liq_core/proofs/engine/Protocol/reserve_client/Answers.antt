@@ -13,7 +13,7 @@ returns-clause-same c =
     subst (λ (core : Core). SameContent core new) c.self.view_is
     (record {
       image =
-        ap (λ clients. record (image_of old) { clients = clients })
-        (rows-reserve is_used_client old.clients c.reserve.new.map.entries c.args.client no_client refl c.reserve.ensures.rows);
+          ap (λ clients. record (image_of old) { clients = clients })
+          (rows-reserve is_used_client old.clients c.reserve.new.map.entries c.args.client no_client refl c.reserve.ensures.rows);
       records = refl;
     })

@@ -22,7 +22,7 @@ returns-clause-same c =
     subst (λ (core : Core). SameContent core new) c.self.view_is
     (record {
       image =
-        ap (λ wallets. record (image_of old) { wallets = wallets })
-        (rows-reserve is_used_wallet old.wallets c.reserve.new.map.entries c.args.account no_wallet refl c.reserve.ensures.rows);
+          ap (λ wallets. record (image_of old) { wallets = wallets })
+          (rows-reserve is_used_wallet old.wallets c.reserve.new.map.entries c.args.account no_wallet refl c.reserve.ensures.rows);
       records = refl;
     })

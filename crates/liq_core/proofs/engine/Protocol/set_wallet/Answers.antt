@@ -12,8 +12,8 @@ use Rattle.liq_core.proofs.engine.Protocol.set_wallet.Goals as goal
 pub invariant_of-self : goal.invariant_of-self
 invariant_of-self c =
     let moved =
-        subst (λ (core : Core). c.args.brought + (unwrap_or (at core.wallets c.args.account) no_wallet).coll ≡ core.brought + c.args.wallet.coll)
-        (sym c.self.view_is) c.requires.moved in
+    subst (λ (core : Core). c.args.brought + (unwrap_or (at core.wallets c.args.account) no_wallet).coll ≡ core.brought + c.args.wallet.coll)
+    (sym c.self.view_is) c.requires.moved in
     let put_sum = sum_by-put (λ (w : Wallet). w.coll) c.self.inside.wallets.entries c.args.account c.args.wallet no_wallet refl c.self.invariant.wallets_ascend in
     let written_sum = ap (λ (t : Table Wallet). sum_by (λ w. w.coll) (values_of t)) c.write.ensures.written in
     record {
