@@ -1,12 +1,12 @@
 -- Lines that are no requests.
-use Rattle.std.proofs.Common.{◌≡◌, ℕ, ◌+◌, ◌≤◌, List, ◌∷◌, ◌++◌, length, Bool, true, false, Ok, Err, Result, Option, Some, None, [], append_assoc, append-nil, sym, subst, ◌∙◌, ap, arith, length-append}
-use Rattle.std.specs.Prelude.{IsTrue, option_map}
+use Rattle.std.proofs.Common.{◌≡◌, ℕ, ◌≤◌, List, ◌∷◌, ◌++◌, length, true, false, Ok, Result, Option, Some, None, [], append_assoc, append-nil, subst, ◌∙◌, ap, arith, length-append}
+use Rattle.std.specs.Prelude.{IsTrue}
 use Rattle.liq_types.specs.declared.requests.Request.{Request}
 use Rattle.liq_core.specs.Step.{built}
 use Rattle.liq_text.specs.Spelling.{Spells}
 use Rattle.liq_serve.specs.Lines.{lines_in, IsWithinLine}
-use Rattle.liq_serve.specs.Reading.{Reads, ReadsLine, IsOver}
-use Rattle.liq_serve.specs.Requests.{IsRequest, IsBadLine}
+use Rattle.liq_serve.specs.Reading.{Reads, IsOver}
+use Rattle.liq_serve.specs.Requests.{IsBadLine}
 use Rattle.liq_serve.proofs.Bytes.{told_reads}
 use Rattle.liq_serve.proofs.LinesRead.{lines_in-longer, lines_in-ended, lines_in-unended}
 

@@ -1,9 +1,7 @@
 -- Bytes that are read and written piece by piece.
-use Rattle.std.proofs.Common.{◌≡◌, ℕ, ◌+◌, ◌≤◌, ◌<◌, List, [], ◌∷◌, ◌++◌, length, take, drop, Option, Some, None, refl, ap, sym, ◌∙◌, append_assoc, append-nil, arith}
-use Rattle.std.specs.Prelude.{option_map, IfSome, unwrap_or}
-use Rattle.std.proofs.Math.Seq.{take-add}
-use Rattle.std.proofs.lemmas.List.{take-append-drop}
-use Rattle.liq_serve.specs.Reading.{unread, Reads, IsOver}
+use Rattle.std.proofs.Common.{◌≡◌, ℕ, List, [], ◌++◌, Option, Some, None, refl, ap, sym, ◌∙◌, append_assoc, append-nil}
+use Rattle.std.specs.Prelude.{option_map, unwrap_or}
+use Rattle.liq_serve.specs.Reading.{Reads}
 use Rattle.liq_serve.specs.Writing.{Writes}
 
 pub writes_nothing : (before : Option (List ℕ)) → Writes before [] before

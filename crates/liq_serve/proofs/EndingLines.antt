@@ -1,17 +1,16 @@
 -- Last lines, of which a sink may hold a front.
-use Rattle.std.proofs.Common.{◌≡◌, ℕ, ◌+◌, ◌≤◌, ◌<◌, List, [], ◌∷◌, ◌++◌, length, take, drop, Option, Some, None, Ok, Err, Result, refl, ap, sym, subst, ◌∙◌, append_assoc, append-nil, length-append, arith, inl, inr}
+use Rattle.std.proofs.Common.{◌≡◌, ℕ, ◌+◌, ◌≤◌, List, [], ◌∷◌, ◌++◌, length, take, drop, Option, Some, None, Ok, Err, Result, refl, ap, sym, subst, ◌∙◌, append_assoc, append-nil, length-append, arith, inl, inr}
 use Rattle.std.specs.Prelude.{option_map, OnOk, OnErr, ◌⊎◌}
 use Rattle.std.proofs.Math.Seq.{take-append-add}
 use Rattle.std.proofs.lemmas.List.{take-append-le, take-append-drop}
 use Rattle.liq_outside.specs.declared.failed.Failed.{Failed}
 use Rattle.liq_outside.specs.Faults.{Rose}
-use Rattle.liq_types.specs.declared.requests.Request.{Request}
 use Rattle.liq_serve.specs.declared.halts.Halt.{Halt}
 use Rattle.liq_serve.specs.declared.halts.Halt.TheVariants.{BadLine, ReadFault, WriteFault, NoMemory, Limit}
 use Rattle.liq_serve.specs.Lines.{lines_in}
 use Rattle.liq_serve.specs.Output.{lines, last}
-use Rattle.liq_serve.specs.Progress.{Halts, Wrote}
-use Rattle.liq_serve.specs.Stops.{Adds, Stops, WritesUpTo, IsFrontOf}
+use Rattle.liq_serve.specs.Progress.{Halts}
+use Rattle.liq_serve.specs.Stops.{Adds, Stops, IsFrontOf}
 use Rattle.liq_serve.specs.Writing.{Writes, WritesPart}
 
 -- a part of the first of two pieces, and a part of the second behind the first

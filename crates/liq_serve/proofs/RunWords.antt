@@ -1,5 +1,5 @@
 -- The words of the command line.
-use Rattle.std.proofs.Common.{◌≡◌, ℕ, List, [], ◌∷◌, length, get_or, Bool, true, false, refl, ap, sym, subst, ◌∙◌, arith}
+use Rattle.std.proofs.Common.{◌≡◌, ℕ, List, [], ◌∷◌, length, get_or, Bool, ap, sym, ◌∙◌, arith}
 use Rattle.std.specs.Prelude.{IsTrue, map}
 use Rattle.std.specs.Bool.{Decides}
 

@@ -1,5 +1,5 @@
 -- What a status says of the run's end.
-use Rattle.std.proofs.Common.{◌≡◌, ℕ, ◌+◌, ◌≤◌, List, [], ◌∷◌, ◌++◌, length, Option, Some, None, Ok, Err, Result, refl, ap, sym, subst, ◌∙◌, length-append, arith, inl, inr, suc, lit<}
+use Rattle.std.proofs.Common.{◌≡◌, ℕ, ◌≤◌, List, [], ◌∷◌, ◌++◌, length, Option, Ok, Err, Result, refl, ap, subst, length-append, arith, inl, inr, suc, lit<}
 use Rattle.std.specs.Prelude.{◌⊎◌, Contains}
 use Rattle.liq_types.specs.declared.amounts.TheConstants.{LINES_MOST}
 use Rattle.liq_types.specs.declared.requests.Request.{Request}

@@ -1,6 +1,6 @@
 -- What one line more makes of a run.
-use Rattle.std.proofs.Common.{◌≡◌, ◌≢◌, ℕ, ◌+◌, ◌<◌, List, [], ◌∷◌, ◌++◌, length, take, drop, Option, Some, None, refl, ap, sym, subst, ◌∙◌, append_assoc, append-nil, length-append, length-drop, arith, Ok, Err, Result, Bool, true, false}
-use Rattle.std.specs.Prelude.{option_map, unwrap_or}
+use Rattle.std.proofs.Common.{◌≡◌, ◌≢◌, ℕ, ◌+◌, ◌<◌, List, [], ◌∷◌, ◌++◌, length, take, drop, Option, Some, None, refl, ap, sym, subst, ◌∙◌, append_assoc, append-nil, length-append, length-drop, arith, Err}
+use Rattle.std.specs.Prelude.{option_map}
 use Rattle.std.proofs.lemmas.List.{take-append-drop}
 use Rattle.liq_types.specs.declared.requests.Request.{Request}
 use Rattle.liq_types.specs.declared.amounts.TheConstants.{LINES_MOST}
@@ -9,14 +9,13 @@ use Rattle.liq_core.specs.Core.{Core, StandsFor}
 use Rattle.liq_core.specs.Step.{step, run}
 use Rattle.liq_serve.specs.declared.halts.Halt.{Halt}
 use Rattle.liq_serve.specs.declared.halts.Halt.TheVariants.{BadLine, ReadFault, WriteFault, NoMemory, Limit}
-use Rattle.liq_serve.specs.declared.session.Next.TheVariants.{Line, LastLine, End}
 use Rattle.liq_serve.specs.Lines.{lines_in, ended, IsWithinLine}
 use Rattle.liq_serve.specs.Output.{lines, reply_line}
-use Rattle.liq_serve.specs.Progress.{ReadsRequest, Answered, Answers, Halts, Wrote}
+use Rattle.liq_serve.specs.Progress.{ReadsRequest, Answered, Answers, Halts}
 use Rattle.liq_serve.specs.Reading.{unread, Reads, IsOver}
-use Rattle.liq_serve.specs.Requests.{IsRequest, AreRequests, BeginsWith}
-use Rattle.liq_serve.specs.Stops.{StopsAfter, Finishes, IsCutInLastLine, IsFrontOf}
-use Rattle.liq_serve.specs.Writing.{Writes, WritesPart}
+use Rattle.liq_serve.specs.Requests.{IsRequest, AreRequests}
+use Rattle.liq_serve.specs.Stops.{Finishes}
+use Rattle.liq_serve.specs.Writing.{Writes}
 use Rattle.liq_serve.proofs.Bytes.{told_reads}
 use Rattle.liq_serve.proofs.LinesRead.{lines_in-ended, lines_in-unended, lines_in-ended_all, lines_in-some, ended-append, within-append}
 use Rattle.liq_serve.proofs.Progressing.{after-more, lines-more, requests-more}

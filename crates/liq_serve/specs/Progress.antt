@@ -6,7 +6,7 @@ use Rattle.liq_types.specs.State.{State, opening}
 use Rattle.liq_core.specs.Core.{Core, StandsFor}
 use Rattle.liq_core.specs.Step.{run, step}
 use Rattle.liq_serve.specs.declared.halts.Halt.{Halt}
-use Rattle.liq_serve.specs.declared.halts.Halt.TheVariants.{BadLine, ReadFault, WriteFault, NoMemory, Limit}
+use Rattle.liq_serve.specs.declared.halts.Halt.TheVariants.{BadLine, ReadFault, WriteFault, NoMemory}
 use Rattle.liq_serve.specs.declared.session.Next.{Next}
 use Rattle.liq_serve.specs.declared.session.Next.TheVariants.{Line, LastLine, End}
 use Rattle.liq_serve.specs.Lines.{lines_in, ended, IsWithinLine}

@@ -1,5 +1,5 @@
 -- What reading a line leaves.
-use Rattle.std.specs.Prelude.{ℕ, ◌≡◌, ◌≢◌, ◌<◌, ◌≤◌, List, [], ◌∷◌, ◌++◌, length, Option, Some, None, option_map, Result, Ok, Err, IfSome}
+use Rattle.std.specs.Prelude.{ℕ, ◌≡◌, ◌≢◌, List, [], ◌∷◌, ◌++◌, length, Option, option_map, Result, Ok, Err, IfSome}
 use Rattle.liq_outside.specs.declared.failed.Failed.{Failed}
 use Rattle.liq_serve.specs.declared.reader.LineEnd.{LineEnd}
 use Rattle.liq_serve.specs.declared.reader.LineEnd.TheVariants.{Ended, Unended, Nothing, TooLong}

@@ -1,9 +1,6 @@
-use Rattle.std.proofs.Common.{◌≡◌, subst}
+use Rattle.std.proofs.Common.{subst}
 use Rattle.liq_types.specs.declared.replies.Reply.TheVariants.{Said}
 use Rattle.liq_types.specs.declared.requests.Command.{Command}
-use Rattle.liq_types.specs.declared.requests.Request.TheVariants.{Do}
-use Rattle.liq_core.specs.Core.{StandsFor}
-use Rattle.liq_core.specs.Step.{step}
 use Rattle.liq_serve.proofs.FromRuling.{repeated_steps, refused_steps, stands_before, stands_after, Steps}
 use Rattle.liq_serve.proofs.calls.obey.Goals as goal
 

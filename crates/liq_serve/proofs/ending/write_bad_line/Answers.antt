@@ -1,5 +1,5 @@
-use Rattle.std.proofs.Common.{◌≡◌, ◌++◌, ◌∷◌, [], ℕ, List, Option, Ok, Err, Result, subst, sym, ap, ◌∙◌}
-use Rattle.std.specs.Prelude.{codes, decimal, OnErr}
+use Rattle.std.proofs.Common.{◌++◌, ◌∷◌, [], ℕ, List, subst, ◌∙◌}
+use Rattle.std.specs.Prelude.{codes, decimal}
 use Rattle.liq_serve.specs.Writing.{Writes, WritesPart}
 use Rattle.liq_serve.proofs.EndingLines.{part_first, part_second, on_err_of, on_err_map}
 use Rattle.liq_serve.proofs.ending.write_bad_line.Goals as goal

@@ -1,4 +1,4 @@
-use Rattle.std.proofs.Common.{◌≡◌, ap, subst, sym}
+use Rattle.std.proofs.Common.{subst, sym}
 use Rattle.liq_outside.specs.Faults.{Rose}
 use Rattle.liq_serve.specs.Output.{last}
 use Rattle.liq_serve.specs.Stops.{Adds}

@@ -1,4 +1,4 @@
-use Rattle.std.proofs.Common.{◌≡◌, sym, subst, ◌∙◌, List, ◌∷◌, []}
+use Rattle.std.proofs.Common.{◌≡◌, sym, subst, ◌∙◌, ◌∷◌, []}
 use Rattle.std.specs.Prelude.{◌⊎◌, Contains}
 use Rattle.liq_serve.proofs.StatusLaws.{ends_0, ends_2, ends_3, ends_4, ends_7, ends_8, status_known, complete}
 use Rattle.liq_serve.proofs.top.protocol.Goals as goal

@@ -1,4 +1,4 @@
-use Rattle.std.proofs.Common.{arith, subst, sym, ap, ◌≡◌, ◌∙◌, ◌++◌, List, take, drop, ℕ, length-drop, length-take}
+use Rattle.std.proofs.Common.{arith, subst, sym, ap, ◌∙◌, ◌++◌, List, take, ℕ, length-drop, length-take}
 use Rattle.std.proofs.Math.Seq.{take-add}
 use Rattle.std.proofs.lemmas.List.{take_rest}
 use Rattle.liq_serve.specs.Writing.{Writes}

@@ -1,4 +1,4 @@
-use Rattle.std.proofs.Common.{◌≡◌, ◌≤◌, [], refl, arith}
+use Rattle.std.proofs.Common.{◌≡◌, [], arith}
 use Rattle.liq_types.specs.declared.amounts.TheConstants.{LINES_MOST}
 use Rattle.liq_serve.specs.declared.halts.Halt.TheVariants.{ReadFault}
 use Rattle.liq_serve.proofs.Turning.{opened, reading_halts, reading_ends, limit_halts}

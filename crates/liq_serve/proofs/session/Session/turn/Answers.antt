@@ -1,9 +1,8 @@
-use Rattle.std.proofs.Common.{◌≡◌, ℕ, ◌+◌, ◌++◌, ◌∷◌, [], List, Option, Some, subst, sym, ap}
+use Rattle.std.proofs.Common.{ℕ, ◌+◌, ◌++◌, ◌∷◌, [], List, Option, subst, sym}
 use Rattle.liq_core.specs.Step.{run}
 use Rattle.liq_types.specs.State.{opening}
 use Rattle.liq_serve.specs.Progress.{Answered}
 use Rattle.liq_serve.specs.Reading.{unread, Reads}
-use Rattle.liq_serve.proofs.LinesRead.{lines_in-unended}
 use Rattle.liq_serve.proofs.Turning.{reading_halts, reading_ends, line_answered, last_answered, answering_halts, first_line, last_line}
 use Rattle.liq_serve.proofs.session.Session.turn.Goals as goal
 
