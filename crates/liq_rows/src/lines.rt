@@ -5,7 +5,7 @@ mod read;
 mod spelled;
 
 use liq_text::{read_line, read_session_line, write_request};
-use liq_types::{Command, Request};
+use liq_types::{Call, Command, Query, Request};
 use std::alloc::Global;
 use std::process::Abort;
 use std::test::Fail;
@@ -21,6 +21,33 @@ fn check_written<R: Abort>(rt: &R, alloc: Global, lines: &[&[u8]]) -> Result<(),
     Ok(())
 }
 
+// Where the first line stands that is not read as its call, of client 21 and number 22.
+fn first_other_call(calls: &[(&[u8], Call)]) -> Option<usize> {
+    calls.iter().position(|(line, call)| {
+        let command = Command {
+            client: 21,
+            number: 22,
+            call: *call,
+        };
+        !matches!(read_line(line), Ok(request) if request == Request::Do(command))
+    })
+}
+
+// Where the first line stands that is not read as its query.
+fn first_other_query(queries: &[(&[u8], Query)]) -> Option<usize> {
+    queries.iter().position(|(
+        line,
+        query,
+    )| !matches!(read_line(line), Ok(request) if request == Request::Ask(*query)))
+}
+
+// Where the first line stands that is not read as its session and query.
+fn first_other_session(lines: &[(&[u8], u8, Query)]) -> Option<usize> {
+    lines.iter().position(|(line, session, query)| {
+        !matches!(read_session_line(line), Ok(read) if read == (*session, Request::Ask(*query)))
+    })
+}
+
 #[test]
 fn good_lines(rt: HostRuntime) -> Result<(), Fail> {
     let alloc = rt.alloc();
@@ -29,43 +56,32 @@ fn good_lines(rt: HostRuntime) -> Result<(), Fail> {
     check_written(&rt, alloc, &spelled::POOL)?;
     check_written(&rt, alloc, &spelled::OTHERS)?;
     check_written(&rt, alloc, &spelled::QUERIES)?;
-    check_written(&rt, alloc, &spelled::CLIENTS)
-}
-
-#[test]
-fn read_lines(rt: HostRuntime) -> Result<(), Fail> {
-    for (line, call) in read::CALLS {
-        let command = Command {
-            client: 21,
-            number: 22,
-            call,
-        };
-        assert_eq!(rt; read_line(line)?, Request::Do(command));
-    }
-    for (line, query) in read::QUERIES {
-        assert_eq!(rt; read_line(line)?, Request::Ask(query));
-    }
-    for (line, session, query) in read::IN_SESSIONS {
-        assert_eq!(rt; read_session_line(line)?, (session, Request::Ask(query)));
-    }
+    check_written(&rt, alloc, &spelled::CLIENTS)?;
+    assert_eq!(rt; first_other_call(&read::CALLS), None);
+    assert_eq!(rt; first_other_query(&read::QUERIES), None);
+    assert_eq!(rt; first_other_session(&read::IN_SESSIONS), None);
     Ok(())
 }
 
-fn check_refused<R: Abort>(rt: &R, lines: &[&[u8]]) {
-    for line in lines {
-        assert!(rt; read_line(line).is_err(), "{line:?}");
-    }
+// Where the first line stands that is read as a request.
+fn first_read(lines: &[&[u8]]) -> Option<usize> {
+    lines.iter().position(|line| read_line(line).is_ok())
+}
+
+// Where the first line stands that is read as a session and a request.
+fn first_read_in_session(lines: &[&[u8]]) -> Option<usize> {
+    lines
+        .iter()
+        .position(|line| read_session_line(line).is_ok())
 }
 
 #[test]
 fn bad_lines(rt: HostRuntime) {
-    check_refused(&rt, &misspelled::SHAPES);
-    check_refused(&rt, &misspelled::VERBS);
-    check_refused(&rt, &misspelled::WORDS);
-    check_refused(&rt, &misspelled::QUERIES);
-    check_refused(&rt, &misspelled::NUMBERS);
-    check_refused(&rt, &misspelled::LONG);
-    for line in misspelled::IN_SESSIONS {
-        assert!(rt; read_session_line(line).is_err(), "{line:?}");
-    }
+    assert_eq!(rt; first_read(&misspelled::SHAPES), None);
+    assert_eq!(rt; first_read(&misspelled::VERBS), None);
+    assert_eq!(rt; first_read(&misspelled::WORDS), None);
+    assert_eq!(rt; first_read(&misspelled::QUERIES), None);
+    assert_eq!(rt; first_read(&misspelled::NUMBERS), None);
+    assert_eq!(rt; first_read(&misspelled::LONG), None);
+    assert_eq!(rt; first_read_in_session(&misspelled::IN_SESSIONS), None);
 }
