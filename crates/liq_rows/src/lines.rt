@@ -1,7 +1,7 @@
 //! Lines, read and written: each verb and query at its bounds, and each rule broken in each way.
 
 mod misspelled;
-mod read;
+mod requests;
 mod spelled;
 
 use liq_text::{read_line, read_session_line, write_request};
@@ -10,42 +10,63 @@ use std::alloc::Global;
 use std::process::Abort;
 use std::test::Fail;
 
+// Stops the test where the request is written as another line.
+fn check_line<R: Abort>(rt: &R, alloc: Global, request: &Request, line: &[u8]) -> Result<(), Fail> {
+    let mut out = Vec::new(alloc);
+    write_request(request, &mut out)?;
+    assert_eq!(rt; out.as_slice(), line);
+    Ok(())
+}
+
 // Reads each line and writes it again.
 fn check_written<R: Abort>(rt: &R, alloc: Global, lines: &[&[u8]]) -> Result<(), Fail> {
-    let mut out = Vec::new(alloc);
     for line in lines {
-        out.clear();
-        write_request(&read_line(line)?, &mut out)?;
-        assert_eq!(rt; out.as_slice(), *line);
+        check_line(rt, alloc, &read_line(line)?, line)?;
     }
     Ok(())
 }
 
-// Where the first line stands that is not read as its call, of client 21 and number 22.
-fn first_other_call(calls: &[(&[u8], Call)]) -> Option<usize> {
-    calls.iter().position(|(line, call)| {
+fn check_absent_hints<R: Abort>(
+    rt: &R,
+    alloc: Global,
+    lines: &[(&[u8], &[u8])],
+) -> Result<(), Fail> {
+    for (line, written) in lines {
+        check_line(rt, alloc, &read_line(line)?, written)?;
+    }
+    Ok(())
+}
+
+fn check_calls<R: Abort>(rt: &R, alloc: Global, calls: &[(Call, &[u8])]) -> Result<(), Fail> {
+    for (call, line) in calls {
         let command = Command {
             client: 21,
             number: 22,
             call: *call,
         };
-        !matches!(read_line(line), Ok(request) if request == Request::Do(command))
-    })
+        check_line(rt, alloc, &Request::Do(command), line)?;
+    }
+    Ok(())
 }
 
-// Where the first line stands that is not read as its query.
-fn first_other_query(queries: &[(&[u8], Query)]) -> Option<usize> {
-    queries.iter().position(|(
-        line,
-        query,
-    )| !matches!(read_line(line), Ok(request) if request == Request::Ask(*query)))
+fn check_queries<R: Abort>(rt: &R, alloc: Global, queries: &[(Query, &[u8])]) -> Result<(), Fail> {
+    for (query, line) in queries {
+        check_line(rt, alloc, &Request::Ask(*query), line)?;
+    }
+    Ok(())
 }
 
-// Where the first line stands that is not read as its session and query.
-fn first_other_session(lines: &[(&[u8], u8, Query)]) -> Option<usize> {
-    lines.iter().position(|(line, session, query)| {
-        !matches!(read_session_line(line), Ok(read) if read == (*session, Request::Ask(*query)))
-    })
+fn check_sessions<R: Abort>(
+    rt: &R,
+    alloc: Global,
+    lines: &[(&[u8], u8, &[u8])],
+) -> Result<(), Fail> {
+    for (line, session, behind) in lines {
+        let (read, request) = read_session_line(line)?;
+        assert_eq!(rt; read, *session);
+        check_line(rt, alloc, &request, behind)?;
+    }
+    Ok(())
 }
 
 #[test]
@@ -57,10 +78,10 @@ fn good_lines(rt: HostRuntime) -> Result<(), Fail> {
     check_written(&rt, alloc, &spelled::OTHERS)?;
     check_written(&rt, alloc, &spelled::QUERIES)?;
     check_written(&rt, alloc, &spelled::CLIENTS)?;
-    assert_eq!(rt; first_other_call(&read::CALLS), None);
-    assert_eq!(rt; first_other_query(&read::QUERIES), None);
-    assert_eq!(rt; first_other_session(&read::IN_SESSIONS), None);
-    Ok(())
+    check_calls(&rt, alloc, &requests::CALLS)?;
+    check_queries(&rt, alloc, &requests::QUERIES)?;
+    check_absent_hints(&rt, alloc, &requests::ABSENT_HINTS)?;
+    check_sessions(&rt, alloc, &requests::IN_SESSIONS)
 }
 
 // Where the first line stands that is read as a request.
