@@ -2,6 +2,7 @@
 
 use crate::runs::{RUN, run_on};
 use std::alloc::{AllocError, Global};
+use std::process::Abort;
 use std::test::Fail;
 
 /// Five requests, the last one without a line end.
@@ -18,9 +19,14 @@ const REPLIES: [&[u8]; 5] = [
 
 const CHUNK: usize = 7;
 
+/// How many reads there are: of 69 bytes, seven in each, and at last of none.
+const READS: u64 = 11;
+
 // The bytes that so many reads give.
-fn given(reads: usize) -> &'static [u8] {
-    INPUT.get(..reads.saturating_mul(CHUNK)).unwrap_or(INPUT)
+fn given(reads: u64) -> &'static [u8] {
+    INPUT
+        .get(..CHUNK.saturating_mul(reads as usize))
+        .unwrap_or(INPUT)
 }
 
 // How many lines have their line end among these bytes.
@@ -39,77 +45,77 @@ fn replies(alloc: Global, lines: usize) -> Result<Vec<u8>, AllocError> {
         .collect(alloc)
 }
 
+// A read that fails: each line is answered whose line end was given before it.
+fn check_failing_read<R: Abort>(rt: &R, alloc: Global, read: u64) -> Result<(), Fail> {
+    let ran = run_on(alloc, &RUN, INPUT, CHUNK, &[read], &[])?;
+    let mut expected = replies(alloc, ended_lines(given(read)))?;
+    expected.extend_from_slice(b"read fault\n")?;
+    ran.check(rt, &expected, 3, "at read", read);
+    Ok(())
+}
+
 #[test]
 fn failing_reads(rt: HostRuntime) -> Result<(), Fail> {
-    let alloc = rt.alloc();
-    let reads = INPUT.len().div_ceil(CHUNK) + 1;
-    for read in 0..reads {
-        let ran = run_on(alloc, &RUN, INPUT, CHUNK, &[read as u64], &[])?;
-        let mut expected = replies(alloc, ended_lines(given(read)))?;
-        expected.extend_from_slice(b"read fault\n")?;
-        assert_eq!(rt; ran.sink.bytes(), expected.as_slice(), "at read {read}");
-        assert_eq!(rt; ran.status, 3, "at read {read}");
-        assert_eq!(rt; ran.source.faults(), 1, "at read {read}");
+    for read in 0..READS {
+        check_failing_read(&rt, rt.alloc(), read)?;
     }
     // There is no read behind these.
-    let ran = run_on(alloc, &RUN, INPUT, CHUNK, &[reads as u64], &[])?;
-    assert_eq!(rt; ran.sink.bytes(), replies(alloc, REPLIES.len())?.as_slice());
-    assert_eq!(rt; ran.status, 0);
+    let ran = run_on(rt.alloc(), &RUN, INPUT, CHUNK, &[READS], &[])?;
+    let expected = replies(rt.alloc(), REPLIES.len())?;
+    ran.check(&rt, &expected, 0, "at read", READS);
+    Ok(())
+}
+
+// A write that fails: its reply is lost, and those before it are there.
+fn check_failing_write<R: Abort>(rt: &R, alloc: Global, write: usize) -> Result<(), Fail> {
+    let ran = run_on(alloc, &RUN, INPUT, CHUNK, &[], &[write as u64])?;
+    let expected = replies(alloc, write)?;
+    ran.check(rt, &expected, 4, "at write", write as u64);
     Ok(())
 }
 
 #[test]
 fn failing_writes(rt: HostRuntime) -> Result<(), Fail> {
-    let alloc = rt.alloc();
     for write in 0..REPLIES.len() {
-        let ran = run_on(alloc, &RUN, INPUT, CHUNK, &[], &[write as u64])?;
-        let written = replies(alloc, write)?;
-        assert_eq!(rt; ran.sink.bytes(), written.as_slice(), "at write {write}");
-        assert_eq!(rt; ran.status, 4, "at write {write}");
-        assert_eq!(rt; ran.sink.faults(), 1, "at write {write}");
+        check_failing_write(&rt, rt.alloc(), write)?;
     }
-    Ok(())
-}
-
-// The last line of a run that stopped is lost, and its status stays.
-#[test]
-fn failing_last_lines(rt: HostRuntime) -> Result<(), Fail> {
-    let alloc = rt.alloc();
+    // A last line that is lost leaves the status as it is.
     let bad: &[u8] = b"? wallet 1\n? wallet 2\n\n";
-    let ran = run_on(alloc, &RUN, bad, CHUNK, &[], &[2])?;
-    assert_eq!(rt; ran.sink.bytes(), b"0 0\n0 0\n".as_slice());
-    assert_eq!(rt; ran.status, 2);
+    let ran = run_on(rt.alloc(), &RUN, bad, CHUNK, &[], &[2])?;
+    ran.check(&rt, b"0 0\n0 0\n", 2, "at write", 2);
+    let ran = run_on(rt.alloc(), &RUN, bad, CHUNK, &[2], &[1])?;
+    ran.check(&rt, b"0 0\n", 3, "at write", 1);
+    Ok(())
+}
 
-    let ran = run_on(alloc, &RUN, bad, CHUNK, &[0], &[0])?;
-    assert_eq!(rt; ran.sink.bytes().len(), 0);
-    assert_eq!(rt; ran.status, 3);
+const USAGE: &[u8] = b"usage: liq run, serve, state, audit or gen SEED COUNT\n";
+
+const OTHER_WORDS: [&[&str]; 8] = [
+    &[],
+    &[""],
+    &["Run"],
+    &["runs"],
+    &["ru"],
+    &["run", "run"],
+    &["serve"],
+    &["", "run"],
+];
+
+// Nothing is read, and the usage is written if it can be.
+fn check_other_words<R: Abort>(rt: &R, alloc: Global, words: &[&str]) -> Result<(), Fail> {
+    let ran = run_on(alloc, words, INPUT, CHUNK, &[0], &[])?;
+    ran.check(rt, USAGE, 1, "whole", 0);
+    assert_eq!(rt; ran.source.left(), INPUT);
+    assert_eq!(rt; ran.source.faults(), 0);
+    let ran = run_on(alloc, words, INPUT, CHUNK, &[0], &[0])?;
+    ran.check(rt, b"", 1, "lost", 0);
     Ok(())
 }
 
 #[test]
-fn other_words(rt: HostRuntime) -> Result<(), Fail> {
-    let alloc = rt.alloc();
-    let usage: &[u8] = b"usage: liq run, serve, state, audit or gen SEED COUNT\n";
-    let others: [&[&str]; 8] = [
-        &[],
-        &[""],
-        &["Run"],
-        &["runs"],
-        &["ru"],
-        &["run", "run"],
-        &["serve"],
-        &["", "run"],
-    ];
-    for words in others {
-        let ran = run_on(alloc, words, INPUT, CHUNK, &[0], &[])?;
-        assert_eq!(rt; ran.sink.bytes(), usage, "at {words:?}");
-        assert_eq!(rt; ran.status, 1, "at {words:?}");
-        assert_eq!(rt; ran.source.left(), INPUT, "at {words:?}");
-        assert_eq!(rt; ran.source.faults(), 0, "at {words:?}");
-
-        let ran = run_on(alloc, words, INPUT, CHUNK, &[], &[0])?;
-        assert_eq!(rt; ran.sink.bytes().len(), 0, "at {words:?}");
-        assert_eq!(rt; ran.status, 1, "at {words:?}");
+fn usage(rt: HostRuntime) -> Result<(), Fail> {
+    for words in OTHER_WORDS {
+        check_other_words(&rt, rt.alloc(), words)?;
     }
     Ok(())
 }

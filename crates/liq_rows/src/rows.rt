@@ -8,6 +8,21 @@ use std::test::Fail;
 /// What a row shows, its input, its output and its status.
 type Row = (&'static str, &'static [u8], &'static [u8], u8);
 
+const FIRST_PATH: [Row; 2] = [
+    (
+        "the first two lines",
+        b"1 1 fund 1 10000000000\n? wallet 1\n",
+        b"ok\n10000000000 0\n",
+        0,
+    ),
+    (
+        "and the next number",
+        b"1 1 fund 1 10000000000\n? wallet 1\n? next_number 1\n",
+        b"ok\n10000000000 0\n2\n",
+        0,
+    ),
+];
+
 const TURNS: [Row; 5] = [
     (
         "a number that comes twice acts once, and one out of turn is refused",
@@ -174,11 +189,10 @@ const BAD_LINES: [Row; 13] = [
 ];
 
 // Runs each row, on an input of which a read gives at most so many bytes.
-fn check_rows<R: Abort>(rt: &R, alloc: Global, rows: &[Row], chunk: usize) -> Result<(), Fail> {
+fn check_rows<R: Abort>(rt: &R, alloc: Global, rows: &[Row], chunk: u16) -> Result<(), Fail> {
     for (what, input, output, status) in rows {
-        let ran = run(alloc, input, chunk.max(1))?;
-        assert_eq!(rt; ran.sink.bytes(), *output, "{what}, chunk {chunk}");
-        assert_eq!(rt; ran.status, *status, "{what}, chunk {chunk}");
+        let ran = run(alloc, input, usize::from(chunk).max(1))?;
+        ran.check(rt, output, *status, what, u64::from(chunk));
     }
     Ok(())
 }
@@ -186,32 +200,16 @@ fn check_rows<R: Abort>(rt: &R, alloc: Global, rows: &[Row], chunk: usize) -> Re
 // A program that always answers that there is no memory passes every proof, and fails here.
 #[test]
 fn first_path(rt: HostRuntime) -> Result<(), Fail> {
-    let alloc = rt.alloc();
-    let rows: [Row; 2] = [
-        (
-            "the first two lines",
-            b"1 1 fund 1 10000000000\n? wallet 1\n",
-            b"ok\n10000000000 0\n",
-            0,
-        ),
-        (
-            "and the next number",
-            b"1 1 fund 1 10000000000\n? wallet 1\n? next_number 1\n",
-            b"ok\n10000000000 0\n2\n",
-            0,
-        ),
-    ];
-    check_rows(&rt, alloc, &rows, 64)
+    check_rows(&rt, rt.alloc(), &FIRST_PATH, 64)
 }
 
 #[test]
 fn rows(rt: HostRuntime) -> Result<(), Fail> {
     let alloc = rt.alloc();
-    let tables: [&[Row]; 4] = [&TURNS, &AMOUNTS, &RANGES, &BAD_LINES];
-    for table in tables {
-        check_rows(&rt, alloc, table, 16_384)?;
-    }
-    Ok(())
+    check_rows(&rt, alloc, &TURNS, 16_384)?;
+    check_rows(&rt, alloc, &AMOUNTS, 16_384)?;
+    check_rows(&rt, alloc, &RANGES, 16_384)?;
+    check_rows(&rt, alloc, &BAD_LINES, 16_384)
 }
 
 // However the bytes come, the same go out.

@@ -5,6 +5,7 @@ ghost use Rattle.std.specs.Prelude.{◌≤◌};
 use liq_outside::{MemorySink, MemorySource};
 use liq_serve::protocol;
 use std::alloc::{AllocError, Global};
+use std::process::Abort;
 
 /// The words of a command line, on which the program runs.
 pub const RUN: [&str; 1] = ["run"];
@@ -15,6 +16,14 @@ pub struct Ran {
     pub status: u8,
     pub source: MemorySource,
     pub sink: MemorySink,
+}
+
+impl Ran {
+    /// Stops the test where the run wrote other bytes or had another status. `what` and `place` name the case.
+    pub fn check<R: Abort>(&self, rt: &R, output: &[u8], status: u8, what: &str, place: u64) {
+        assert_eq!(rt; self.sink.bytes(), output, "{what}, {place}");
+        assert_eq!(rt; self.status, status, "{what}, {place}");
+    }
 }
 
 /// Runs the program on these words and this input, of which a read gives at most `chunk` bytes. The reads and the writes of

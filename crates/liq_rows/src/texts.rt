@@ -2,11 +2,13 @@
 
 use liq_text::write_reply;
 use liq_types::{Done, Info, Refusal, Reply};
+use std::alloc::Global;
+use std::process::Abort;
 use std::test::Fail;
 
 type Text<T> = (T, &'static [u8]);
 
-/// What the reply to each kind of command shows of six values. No command is of the first kind.
+/// What the reply to each kind of command shows of six values.
 const ACCEPTED: [&[u8]; 16] = [
     b"ok",
     b"ok 7",
@@ -192,29 +194,44 @@ const REFUSED: [Text<Refusal>; 31] = [
     ),
 ];
 
-#[test]
-fn texts(rt: HostRuntime) -> Result<(), Fail> {
-    let mut out = Vec::new(rt.alloc());
-    for (kind, text) in (1..).zip(ACCEPTED) {
-        out.clear();
-        write_reply(
-            &Reply::Said(Done {
-                kind,
-                values: SHOWN,
-            }),
-            &mut out,
-        )?;
-        assert_eq!(rt; out.as_slice(), text, "of kind {kind}");
-    }
-    for (info, text) in TOLD {
-        out.clear();
-        write_reply(&Reply::Told(info), &mut out)?;
-        assert_eq!(rt; out.as_slice(), text, "of {info:?}");
-    }
-    for (refusal, text) in REFUSED {
-        out.clear();
-        write_reply(&Reply::No(refusal), &mut out)?;
-        assert_eq!(rt; out.as_slice(), text, "of {refusal:?}");
+// Stops the test where a reply has another text.
+fn check_text<R: Abort>(rt: &R, alloc: Global, reply: &Reply, text: &[u8]) -> Result<(), Fail> {
+    let mut out = Vec::new(alloc);
+    write_reply(reply, &mut out)?;
+    assert_eq!(rt; out.as_slice(), text);
+    Ok(())
+}
+
+// Each kind of command, from the first on.
+fn check_accepted<R: Abort>(rt: &R, alloc: Global, texts: &[&[u8]]) -> Result<(), Fail> {
+    let mut done = Done {
+        kind: 0,
+        values: SHOWN,
+    };
+    for text in texts {
+        done.kind = done.kind.saturating_add(1);
+        check_text(rt, alloc, &Reply::Said(done), text)?;
     }
     Ok(())
+}
+
+fn check_told<R: Abort>(rt: &R, alloc: Global, texts: &[Text<Info>]) -> Result<(), Fail> {
+    for (info, text) in texts {
+        check_text(rt, alloc, &Reply::Told(*info), text)?;
+    }
+    Ok(())
+}
+
+fn check_refused<R: Abort>(rt: &R, alloc: Global, texts: &[Text<Refusal>]) -> Result<(), Fail> {
+    for (refusal, text) in texts {
+        check_text(rt, alloc, &Reply::No(*refusal), text)?;
+    }
+    Ok(())
+}
+
+#[test]
+fn texts(rt: HostRuntime) -> Result<(), Fail> {
+    check_accepted(&rt, rt.alloc(), &ACCEPTED)?;
+    check_told(&rt, rt.alloc(), &TOLD)?;
+    check_refused(&rt, rt.alloc(), &REFUSED)
 }
