@@ -1,5 +1,5 @@
 -- Last lines, of which a sink may hold a front.
-use Rattle.std.proofs.Common.{◌≡◌, ℕ, ◌+◌, ◌≤◌, List, [], ◌∷◌, ◌++◌, length, take, drop, Option, Some, None, Ok, Err, Result, refl, ap, sym, subst, ◌∙◌, append_assoc, append-nil, length-append, arith, inl, inr}
+use Rattle.std.proofs.Common.{◌≡◌, ℕ, ◌+◌, ◌≤◌, List, [], ◌∷◌, ◌++◌, length, take, drop, Option, Some, None, Ok, Err, Result, refl, ap, sym, subst, ◌∙◌, append-nil, length-append, arith, inl, inr}
 use Rattle.std.specs.Prelude.{option_map, OnOk, OnErr, ◌⊎◌}
 use Rattle.std.proofs.Math.Seq.{take-append-add}
 use Rattle.std.proofs.lemmas.List.{take-append-le, take-append-drop}
@@ -12,21 +12,18 @@ use Rattle.liq_serve.specs.Output.{lines, last}
 use Rattle.liq_serve.specs.Progress.{Halts}
 use Rattle.liq_serve.specs.Stops.{Adds, Stops, IsFrontOf}
 use Rattle.liq_serve.specs.Writing.{Writes, WritesPart}
+use Rattle.liq_serve.proofs.Bytes.{writes_more}
 
 -- a part of the first of two pieces, and a part of the second behind the first
 pub part_first : (before after : Option (List ℕ)) (xs ys : List ℕ) → WritesPart before xs after → WritesPart before (xs ++ ys) after
 part_first before after xs ys h =
     (h.0, omega (arith, h.1, length-append xs ys), subst (λ (t : List ℕ). Writes before t after) (sym (take-append-le h.0 xs ys (omega (arith, h.1)))) h.2)
 
-writes_both : (before mid after : Option (List ℕ)) (xs ys : List ℕ) → Writes before xs mid → Writes mid ys after → Writes before (xs ++ ys) after
-writes_both None mid after xs ys h k = k ∙ ap (λ m. option_map (λ held. held ++ ys) m) h
-writes_both (Some held) mid after xs ys h k = k ∙ ap (λ m. option_map (λ held. held ++ ys) m) h ∙ ap Some (append_assoc held xs ys)
-
 pub part_second : (before mid after : Option (List ℕ)) (xs ys : List ℕ) → Writes before xs mid → WritesPart mid ys after → WritesPart before (xs ++ ys) after
 part_second before mid after xs ys h k = (
   length xs + k.0,
   omega (arith, k.1, length-append xs ys),
-  subst (λ (t : List ℕ). Writes before t after) (sym (take-append-add xs ys k.0)) (writes_both before mid after xs (take k.0 ys) h k.2),
+  subst (λ (t : List ℕ). Writes before t after) (sym (take-append-add xs ys k.0)) (writes_more before mid after xs (take k.0 ys) h k.2),
 )
 
 pub adds_line : (fault : Type 0) (result : Result (Unit {0}) Failed) (held line : List ℕ) (before after : Option (List ℕ)) → before ≡ Some held → OnOk result (Writes before line after) → OnErr result (WritesPart before line after) → OnErr result fault → Adds held line fault after
