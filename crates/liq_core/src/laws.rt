@@ -47,3 +47,8 @@ pub fn opening_has_nothing()
     ensures image { image opening ≡ opening_image }
     ensures conserved { IsConserved opening }
 {}
+
+/// Probe.
+pub fn probe()
+    ensures { (s : State) → s ≡ s }
+{}
