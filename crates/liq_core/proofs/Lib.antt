@@ -1,4 +1,6 @@
 pub mod Alike
+pub mod AlikeChanges
+pub mod AlikeReads
 pub mod Allowed
 pub mod MapRows
 pub mod Places

@@ -1,5 +1,5 @@
 use Rattle.std.proofs.Common.{refl}
-use Rattle.liq_core.proofs.Alike.{own-image}
+use Rattle.liq_core.proofs.AlikeChanges.{offset_alike}
 use Rattle.liq_core.proofs.laws.probe.Goals as goal
 
 pub returns : goal.returns
