@@ -1,6 +1,8 @@
 pub mod Alike
 pub mod AlikeChanges
+pub mod AlikeLiquidation
 pub mod AlikeReads
+pub mod AlikeRedemption
 pub mod Allowed
 pub mod MapRows
 pub mod Places
