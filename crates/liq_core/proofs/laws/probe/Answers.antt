@@ -1,6 +1,5 @@
 use Rattle.std.proofs.Common.{refl}
-use Rattle.liq_core.proofs.AlikeLiquidation.{lowest_alike}
-use Rattle.liq_core.proofs.AlikeRedemption.{redeemed_alike}
+use Rattle.liq_core.proofs.AlikeStep.{done_alike}
 use Rattle.liq_core.proofs.laws.probe.Goals as goal
 
 pub returns : goal.returns
