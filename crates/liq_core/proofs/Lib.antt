@@ -3,6 +3,7 @@ pub mod AlikeChanges
 pub mod AlikeLiquidation
 pub mod AlikeReads
 pub mod AlikeRedemption
+pub mod AlikeReplies
 pub mod AlikeStep
 pub mod Allowed
 pub mod MapRows

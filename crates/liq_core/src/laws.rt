@@ -15,6 +15,7 @@ ghost use Rattle.liq_core.specs.Identities.{IsConserved};
 ghost use Rattle.liq_core.specs.Image.{image};
 ghost use Rattle.liq_core.specs.Step.{Repeated, ruling, step, run, accepted};
 ghost use Rattle.liq_core.specs.Verbs.{unhinted};
+ghost use Rattle.liq_core.specs.WellFormed.{IsWellFormed};
 
 /// A refused request, a query and a command that comes again leave the state.
 pub fn only_new_commands_change()
@@ -48,7 +49,18 @@ pub fn opening_has_nothing()
     ensures conserved { IsConserved opening }
 {}
 
-/// Probe.
-pub fn probe()
-    ensures { (s : State) → s ≡ s }
+/// The image law: two states with the same image and the same records give the same reply to every request, and leave the
+/// same image and the same records. It is said of well-formed states, which all states are that are reached from one.
+pub fn only_image_and_records_count()
+    ensures reply { (s t : State) → IsWellFormed s → IsWellFormed t → image s ≡ image t → s.records ≡ t.records → (request : Request) → (step s request).1 ≡ (step t request).1 }
+    ensures image { (s t : State) → IsWellFormed s → IsWellFormed t → image s ≡ image t → s.records ≡ t.records → (request : Request) → image (step s request).0 ≡ image (step t request).0 }
+    ensures records { (s t : State) → IsWellFormed s → IsWellFormed t → image s ≡ image t → s.records ≡ t.records → (request : Request) → (step s request).0.records ≡ (step t request).0.records }
+    ensures runs { (s t : State) → IsWellFormed s → IsWellFormed t → image s ≡ image t → s.records ≡ t.records → (requests : List Request) → (run s requests).1 ≡ (run t requests).1 }
+{}
+
+/// The opening state is well formed, and so is each state that a step leads to from one that is.
+pub fn states_are_well_formed()
+    ensures opening { IsWellFormed opening }
+    ensures step { (s : State) → IsWellFormed s → (request : Request) → IsWellFormed (step s request).0 }
+    ensures run { (requests : List Request) → IsWellFormed (run opening requests).0 }
 {}
