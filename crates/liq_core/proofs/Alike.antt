@@ -1,29 +1,26 @@
 -- States with the same image: what is read of them is the same, and what each change makes of them has the same image.
-use Rattle.std.proofs.Common.{◌≡◌, ℕ, ◌+◌, ◌-◌, ◌*◌, ◌^◌, ◌≤◌, Bool, true, false, cond, List, [], ◌∷◌, ◌++◌, refl, ap, sym, ◌∙◌, subst, arith, Some, None, Option, length, take, length-append}
-use Rattle.std.specs.Prelude.{option_map, unwrap_or, fold, sum_by, min, max, map, ◌==◌, if◌then◌else◌}
-use Rattle.std.specs.List.{AllByRecursion}
+use Rattle.std.proofs.Common.{◌≡◌, ℕ, ◌+◌, ◌-◌, ◌≤◌, Bool, true, false, cond, List, [], ◌∷◌, ◌++◌, refl, ap, sym, ◌∙◌, arith, Some, None, Option, length, take}
+use Rattle.std.specs.Prelude.{option_map, fold, sum_by, min, max, ◌==◌, if◌then◌else◌}
 use Rattle.std.specs.Map.{values_of}
 use Rattle.std.proofs.Math.Seq.{take-length}
 use Rattle.std.proofs.lemmas.List.{take-append-le}
 use Rattle.std.proofs.lemmas.List.Sums.{sum_by-append, fold-append}
 use Rattle.liq_num.specs.Quotient.{floor_of}
 use Rattle.liq_types.specs.declared.amounts.TheConstants.{ONE}
-use Rattle.liq_types.specs.declared.figures.Wallet.{Wallet}
 use Rattle.liq_types.specs.declared.figures.Trove.{Trove}
 use Rattle.liq_types.specs.declared.figures.Deposit.{Deposit}
 use Rattle.liq_types.specs.Image.{Image, Place}
-use Rattle.liq_types.specs.Payments.{paid, charged, surplus_added, surplus_taken}
-use Rattle.liq_types.specs.Product.{Words, after_offset, prod, sumat, start_sum, sum_rise, place_of, mark_after, finished_sums}
-use Rattle.liq_types.specs.State.{State, StakeSums, PoolMark, Mark, AtStart, After, TroveEntry, DepositEntry, Offset, Redistribution, no_wallet, with_wallet, with_surplus, surplus_of}
+use Rattle.liq_types.specs.Product.{Words, after_offset, prod, sumat, start_sum, sum_rise, place_of, mark_after}
+use Rattle.liq_types.specs.State.{State, StakeSums, PoolMark, Mark, AtStart, After, TroveEntry, DepositEntry, Offset, Redistribution}
 use Rattle.liq_types.specs.Tables.{Table, at, put, without, map_rows}
-use Rattle.liq_types.specs.Totals.{stakes_of, pool_total, pool_coll, total_coll}
-use Rattle.liq_troves.specs.StakeSums.{sums_after, sums_now, sums_at, trove_row, pending, coll_rise, debt_rise, entire, entire_of, key_of}
-use Rattle.liq_troves.specs.Own.{lifted_entry, lifted, placed, stake_for, redistributed, snapped, set_trove}
+use Rattle.liq_types.specs.Totals.{stakes_of, pool_total, pool_coll}
+use Rattle.liq_troves.specs.StakeSums.{sums_at, trove_row, pending, coll_rise, debt_rise}
+use Rattle.liq_troves.specs.Own.{lifted_entry, lifted, placed, stake_for, redistributed}
 use Rattle.liq_stability.specs.Position.{words_of, mark_of, deposit_row, balance_by, gain_by, balance_in, gain_in, balance_of, gain_of, sums_from}
 use Rattle.liq_stability.specs.Own.{owned, offset, with_deposit, amount_after}
 use Rattle.liq_core.specs.Image.{image}
-use Rattle.liq_core.specs.WellFormed.{IsMoment, IsWellFormed, TrovesAreMarked, DepositsAreMarked}
-use Rattle.liq_core.proofs.MapRows.{at-map, map-put, map-without, map-length, map-sum, map-cong, all-put, all-without, all-weaken}
+use Rattle.liq_core.specs.WellFormed.{IsMoment, IsWellFormed}
+use Rattle.liq_core.proofs.MapRows.{at-map, map-put, map-without, map-sum, map-cong}
 use Rattle.liq_core.proofs.Places.{sum_shown, sum-snoc, finished-snoc, sum_after, finished_after}
 
 -- ---- troves, by the image
@@ -170,9 +167,9 @@ deposit-map : (f : DepositEntry → Deposit) (table : Table DepositEntry) (accou
 unfolding with_deposit_row
 deposit-map f table account d e =
     by (d.amount == 0) ∙ ap (λ n. if n == 0 then without (map_rows f table) account else put (map_rows f table) account (f d)) (sym e) where
-  by : (b : Bool) → map_rows f (cond b (without table account) (put table account d)) ≡ cond b (without (map_rows f table) account) (put (map_rows f table) account (f d))
-  by true = map-without f table account
-  by false = map-put f table account d
+      by : (b : Bool) → map_rows f (cond b (without table account) (put table account d)) ≡ cond b (without (map_rows f table) account) (put (map_rows f table) account (f d))
+      by true = map-without f table account
+      by false = map-put f table account d
 
 mark-full : (s : State) → mark_after s.start (take (length s.offsets) s.offsets) ≡ mark_after s.start s.offsets
 mark-full s = ap (mark_after s.start) (take-length s.offsets)
@@ -193,9 +190,9 @@ own-image s h account put_in out =
     ap (λ (rows : Table Deposit). record made { deposits = rows }) (deposit-map (deposit_row s) s.deposits account entry refl)
     ∙ ap (λ (m : PoolMark). record made { deposits = with_deposit_row (image s).deposits account (record { amount = left; p = m.p; sum = m.sum; scale = m.scale; epoch = m.epoch }) }) (mark-full s)
     ∙ ap (λ n. record (own (image s) account put_in out gain left) { total = n; pool_coll = made.pool_coll })
-        (own_total s.start.total s.provided s.withdrawn (sum_by (λ (o : Offset). o.debt) s.offsets) put_in out h.3.0)
+    (own_total s.start.total s.provided s.withdrawn (sum_by (λ (o : Offset). o.debt) s.offsets) put_in out h.3.0)
     ∙ ap (λ n. record (own (image s) account put_in out gain left) { pool_coll = n })
-        (own_coll (s.start.pool_coll + sum_by (λ (o : Offset). o.coll) s.offsets) s.gains_paid gain)
+    (own_coll (s.start.pool_coll + sum_by (λ (o : Offset). o.coll) s.offsets) s.gains_paid gain)
 
 -- an offset
 pub offset_by : Image → ℕ → ℕ → Image
@@ -243,6 +240,6 @@ offset-image s h debt coll =
     ∙ ap (λ n. record target { sum = n; finished = made.finished; total = made.total; pool_coll = made.pool_coll }) (sum-snoc s.start s.offsets o h.0)
     ∙ ap (λ (f : List (Place × ℕ)). record target { finished = f; total = made.total; pool_coll = made.pool_coll }) (finished-snoc s.start s.offsets o)
     ∙ ap (λ n. record target { total = n; pool_coll = made.pool_coll })
-        (offset_total s.start.total s.provided s.withdrawn (sum_by (λ (x : Offset). x.debt) s.offsets) (sum_by (λ (x : Offset). x.debt) (s.offsets ++ o ∷ [])) debt (sum_by-append (λ (x : Offset). x.debt) s.offsets (o ∷ []) ∙ omega arith))
+    (offset_total s.start.total s.provided s.withdrawn (sum_by (λ (x : Offset). x.debt) s.offsets) (sum_by (λ (x : Offset). x.debt) (s.offsets ++ o ∷ [])) debt (sum_by-append (λ (x : Offset). x.debt) s.offsets (o ∷ []) ∙ omega arith))
     ∙ ap (λ n. record target { pool_coll = n })
-        (offset_coll s.start.pool_coll s.gains_paid (sum_by (λ (x : Offset). x.coll) s.offsets) (sum_by (λ (x : Offset). x.coll) (s.offsets ++ o ∷ [])) coll (sum_by-append (λ (x : Offset). x.coll) s.offsets (o ∷ []) ∙ omega arith) h.3.1)
+    (offset_coll s.start.pool_coll s.gains_paid (sum_by (λ (x : Offset). x.coll) s.offsets) (sum_by (λ (x : Offset). x.coll) (s.offsets ++ o ∷ [])) coll (sum_by-append (λ (x : Offset). x.coll) s.offsets (o ∷ []) ∙ omega arith) h.3.1)

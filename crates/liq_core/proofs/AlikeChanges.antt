@@ -1,13 +1,12 @@
 -- States with the same image have the same image after each change.
-use Rattle.std.proofs.Common.{◌≡◌, ℕ, ◌+◌, ◌-◌, ◌≤◌, Bool, true, false, cond, List, [], ◌∷◌, ◌++◌, refl, ap, sym, ◌∙◌, subst, arith, Some, None, Option, length, length-append}
-use Rattle.std.specs.Prelude.{unwrap_or, sum_by, min, ◌==◌}
-use Rattle.std.specs.List.{AllByRecursion}
+use Rattle.std.proofs.Common.{◌≡◌, ℕ, ◌+◌, ◌-◌, ◌≤◌, Bool, true, false, cond, List, [], ◌∷◌, ◌++◌, refl, ap, sym, ◌∙◌, arith, Some, None, Option, length, length-append}
+use Rattle.std.specs.Prelude.{unwrap_or, sum_by, ◌==◌}
 use Rattle.std.proofs.lemmas.List.Sums.{sum_by-append}
 use Rattle.liq_types.specs.Image.{Image}
 use Rattle.liq_types.specs.Payments.{paid, charged, surplus_added, surplus_taken}
-use Rattle.liq_types.specs.State.{State, Mark, AtStart, After, TroveEntry, DepositEntry, Offset, Redistribution, no_wallet, with_wallet, with_surplus, surplus_of}
+use Rattle.liq_types.specs.State.{State, Mark, AtStart, After, TroveEntry, DepositEntry, Offset, Redistribution, no_wallet, with_wallet, with_surplus}
 use Rattle.liq_types.specs.Tables.{Table, at, put, without}
-use Rattle.liq_types.specs.Totals.{stakes_of, pool_total, pool_coll, total_coll}
+use Rattle.liq_types.specs.Totals.{stakes_of, pool_total, pool_coll}
 use Rattle.liq_troves.specs.Own.{lifted_entry, lifted, placed, redistributed, snapped, set_trove}
 use Rattle.liq_stability.specs.Position.{balance_in, balance_of, gain_in, gain_of}
 use Rattle.liq_stability.specs.Own.{owned, offset, with_deposit, amount_after}
@@ -15,7 +14,7 @@ use Rattle.liq_core.specs.Image.{image}
 use Rattle.liq_core.specs.WellFormed.{IsMoment, IsWellFormed, TrovesAreMarked, DepositsAreMarked}
 use Rattle.liq_core.proofs.MapRows.{all-put, all-without, all-weaken}
 use Rattle.liq_core.proofs.Alike.{lift, lift-image, place, place-image, redistribute, redistribute-image, own, own-image, offset_by, offset-image}
-use Rattle.liq_core.proofs.AlikeReads.{Alike, gain_alike, amount_alike, surplus_alike}
+use Rattle.liq_core.proofs.AlikeReads.{Alike, gain_alike, amount_alike}
 
 -- ---- what is well formed stays so
 
@@ -69,10 +68,15 @@ gains_covered gains had gain h k = omega arith
 
 pub formed-owned : (s : State) (account put_in out : ℕ) → out ≤ balance_of s account → IsWellFormed s → IsWellFormed (owned s account put_in out)
 formed-owned s account put_in out within h =
-    let some = balance_within s (at s.deposits account) in
-    (h.0, h.1, with_deposit-marked (length s.offsets) s.deposits account _ (omega arith) h.2,
-      (still_covered s.withdrawn (sum_by (λ (o : Offset). o.debt) s.offsets) s.start.total s.provided put_in out h.3.0 (omega (arith, within, some)),
-       gains_covered s.gains_paid (s.start.pool_coll + sum_by (λ (o : Offset). o.coll) s.offsets) (gain_of s account) h.3.1 (gain_within s (at s.deposits account))))
+    let some = balance_within s (at s.deposits account) in (
+      h.0,
+      h.1,
+      with_deposit-marked (length s.offsets) s.deposits account _ (omega arith) h.2,
+      (
+        still_covered s.withdrawn (sum_by (λ (o : Offset). o.debt) s.offsets) s.start.total s.provided put_in out h.3.0 (omega (arith, within, some)),
+        gains_covered s.gains_paid (s.start.pool_coll + sum_by (λ (o : Offset). o.coll) s.offsets) (gain_of s account) h.3.1 (gain_within s (at s.deposits account)),
+      ),
+    )
 
 taken_covered : (withdrawn debts more total provided debt : ℕ) → more ≡ debts + debt → withdrawn + debts ≤ total + provided → debt ≤ total + provided - withdrawn - debts → withdrawn + more ≤ total + provided
 taken_covered withdrawn debts more total provided debt e h k = omega (arith, e)
@@ -81,12 +85,17 @@ pub formed-offset : (s : State) (debt coll : ℕ) → debt ≤ pool_total s → 
 formed-offset s debt coll within h =
     let o : Offset = record { debt = debt; coll = coll; total = pool_total s } in
     let debts = sum_by-append (λ (x : Offset). x.debt) s.offsets (o ∷ []) in
-    let colls = sum_by-append (λ (x : Offset). x.coll) s.offsets (o ∷ []) in
-    (h.0, h.1, deposits-more (length s.offsets) (length (s.offsets ++ o ∷ [])) (length-more s.offsets o) s.deposits h.2,
-      (taken_covered s.withdrawn (sum_by (λ (x : Offset). x.debt) s.offsets) (sum_by (λ (x : Offset). x.debt) (s.offsets ++ o ∷ [])) s.start.total s.provided debt (debts ∙ omega arith) h.3.0 within,
-       more_gains s.gains_paid s.start.pool_coll (sum_by (λ (x : Offset). x.coll) s.offsets) (sum_by (λ (x : Offset). x.coll) (s.offsets ++ o ∷ [])) coll (colls ∙ omega arith) h.3.1)) where
-  more_gains : (gains had colls more c : ℕ) → more ≡ colls + c → gains ≤ had + colls → gains ≤ had + more
-  more_gains gains had colls more c e k = omega (arith, e)
+    let colls = sum_by-append (λ (x : Offset). x.coll) s.offsets (o ∷ []) in (
+      h.0,
+      h.1,
+      deposits-more (length s.offsets) (length (s.offsets ++ o ∷ [])) (length-more s.offsets o) s.deposits h.2,
+      (
+        taken_covered s.withdrawn (sum_by (λ (x : Offset). x.debt) s.offsets) (sum_by (λ (x : Offset). x.debt) (s.offsets ++ o ∷ [])) s.start.total s.provided debt (debts ∙ omega arith) h.3.0 within,
+        more_gains s.gains_paid s.start.pool_coll (sum_by (λ (x : Offset). x.coll) s.offsets) (sum_by (λ (x : Offset). x.coll) (s.offsets ++ o ∷ [])) coll (colls ∙ omega arith) h.3.1,
+      ),
+    ) where
+      more_gains : (gains had colls more c : ℕ) → more ≡ colls + c → gains ≤ had + colls → gains ≤ had + more
+      more_gains gains had colls more c e k = omega (arith, e)
 
 -- ---- changes
 

@@ -1,6 +1,6 @@
 -- States with the same image liquidate alike.
 use Rattle.std.proofs.Common.{◌≡◌, ℕ, zero, suc, ◌+◌, ◌-◌, ◌≤◌, Bool, true, false, cond, List, [], ◌∷◌, ◌++◌, refl, ap, sym, ◌∙◌, subst, arith, Some, None, Option, nat_lt}
-use Rattle.std.specs.Prelude.{min, sum_by, fold, Result, Ok, Err, ◌==◌, ◌&&◌}
+use Rattle.std.specs.Prelude.{sum_by, Result, Ok, Err, ◌==◌, ◌&&◌}
 use Rattle.std.proofs.lemmas.Bool.Decides.{nat_tests}
 use Rattle.std.proofs.lemmas.List.Sums.{sum_by-append}
 use Rattle.liq_types.specs.declared.amounts.TheConstants.{RESERVE}
@@ -8,22 +8,18 @@ use Rattle.liq_types.specs.declared.figures.Market.{Market}
 use Rattle.liq_types.specs.declared.replies.Refusal.{Refusal}
 use Rattle.liq_types.specs.declared.replies.Refusal.TheVariants.{NotLiquidatable, PoolTooSmall}
 use Rattle.liq_types.specs.Rules.{Rule, first_refusal, outcome, last_trove_stays}
-use Rattle.liq_types.specs.Image.{Image}
 use Rattle.liq_types.specs.State.{State, StakeSums, TroveEntry, Offset}
 use Rattle.liq_types.specs.Tables.{at}
 use Rattle.liq_types.specs.Totals.{market_of, stakes_of, pool_total}
-use Rattle.liq_types.specs.Payments.{paid, surplus_added}
-use Rattle.liq_troves.specs.Own.{lifted_entry, lifted, redistributed, snapped}
+use Rattle.liq_troves.specs.Own.{lifted_entry, lifted}
 use Rattle.liq_troves.specs.StakeSums.{entire_of, sums_now}
 use Rattle.liq_order.specs.Order.{last_trove}
 use Rattle.liq_stability.specs.Own.{offset}
 use Rattle.liq_liquidation.specs.declared.one.One.{One}
 use Rattle.liq_liquidation.specs.declared.one.Victim.{Victim}
-use Rattle.liq_liquidation.specs.One.{Treatment, Plain, Spread, Capped, Spared, treatment, treated, is_capped, is_spared, sum_limit, sum_after, one_rules, one_of, one_entire, one, offset_if_any, struck, rewarded, liquidated}
+use Rattle.liq_liquidation.specs.One.{Treatment, Plain, Spread, Capped, Spared, treatment, treated, is_capped, is_spared, sum_limit, sum_after, one_rules, one_of, one_entire, one, offset_if_any, struck, liquidated}
 use Rattle.liq_liquidation.specs.Lowest.{lowest, next_victim, victim_at, victim_by}
 use Rattle.liq_core.specs.Effect.{victim_of, all_liquidated}
-use Rattle.liq_core.specs.Image.{image}
-use Rattle.liq_core.specs.WellFormed.{IsWellFormed}
 use Rattle.liq_core.proofs.Allowed.{none_first}
 use Rattle.liq_core.proofs.AlikeReads.{Alike, market_alike, entire_alike, sums_alike, stakes_alike, pool_total_alike, last_alike}
 use Rattle.liq_core.proofs.AlikeChanges.{alike_by, lifted_alike, offset_alike, redistributed_alike, snapped_alike, surplus_added_alike, paid_alike}
@@ -63,7 +59,7 @@ one_of_serves m sums left coll debt total made h =
     let made_by = treated kind m.price coll debt total in
     let room : (is_capped (treatment m coll debt) && nat_lt total debt) ≡ false =
     third (last_trove_stays m) (is_spared kind, NotLiquidatable coll debt m.price m.total_coll m.total_debt) (is_capped kind && nat_lt total debt, PoolTooSmall total debt)
-        (sum_limit (sum_after sums.coll made_by.spread_coll left) ∷ sum_limit (sum_after sums.debt made_by.spread_debt left) ∷ []) ok.0 in
+    (sum_limit (sum_after sums.coll made_by.spread_coll left) ∷ sum_limit (sum_after sums.debt made_by.spread_debt left) ∷ []) ok.0 in
     subst (λ (x : One). x.offset_debt ≤ total) ok.1 (pool_serves (treatment m coll debt) m.price coll debt total room)
 
 one_entire_serves : (s : State) (account : ℕ) (o : Option (ℕ × ℕ)) (made : One) → one_entire s account o ≡ Ok made → made.offset_debt ≤ pool_total s
@@ -87,8 +83,8 @@ offset-total s debt coll =
     let o : Offset = record { debt = debt; coll = coll; total = pool_total s } in
     let debts = sum_by-append (λ (x : Offset). x.debt) s.offsets (o ∷ []) in
     minus (s.start.total + s.provided - s.withdrawn) (sum_by (λ (x : Offset). x.debt) s.offsets) debt (sum_by (λ (x : Offset). x.debt) (s.offsets ++ o ∷ [])) (debts ∙ omega arith) where
-  minus : (all before d after : ℕ) → after ≡ before + d → all - after ≡ all - before - d
-  minus all before d after e = omega (arith, e)
+      minus : (all before d after : ℕ) → after ≡ before + d → all - after ≡ all - before - d
+      minus all before d after e = omega (arith, e)
 
 if_any-total : (s : State) (debt coll : ℕ) → pool_total (offset_if_any s debt coll) ≡ pool_total s - debt
 if_any-total s debt coll = by (debt == 0) refl where

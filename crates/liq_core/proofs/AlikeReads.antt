@@ -1,14 +1,11 @@
 -- What is read of two states with the same image is the same.
-use Rattle.std.proofs.Common.{◌≡◌, ℕ, ◌+◌, ◌-◌, ◌≤◌, Bool, true, false, cond, List, [], ◌∷◌, ◌++◌, refl, ap, sym, ◌∙◌, subst, arith, Some, None, Option, length}
-use Rattle.std.specs.Prelude.{ℤ, pos, ◌-ℤ◌, option_map, unwrap_or, is_some, is_none, map, reverse, Result, Ok, Err}
+use Rattle.std.proofs.Common.{◌≡◌, ℕ, ◌+◌, ◌-◌, List, [], ◌∷◌, refl, ap, sym, ◌∙◌, Some, None, Option, length}
+use Rattle.std.specs.Prelude.{ℤ, pos, ◌-ℤ◌, option_map, unwrap_or, is_some, is_none, map, reverse}
 use Rattle.liq_num.specs.Quotient.{floor_of}
 use Rattle.liq_types.specs.declared.amounts.TheConstants.{ONE}
-use Rattle.liq_types.specs.declared.figures.Client.{Client}
-use Rattle.liq_types.specs.declared.figures.Market.{Market}
 use Rattle.liq_types.specs.declared.figures.Trove.{Trove}
-use Rattle.liq_types.specs.declared.figures.Wallet.{Wallet}
 use Rattle.liq_types.specs.Image.{Image}
-use Rattle.liq_types.specs.State.{State, StakeSums, TroveEntry, no_wallet, no_client, wallet_of, client_of, surplus_of}
+use Rattle.liq_types.specs.State.{State, TroveEntry, no_wallet, no_client, wallet_of, client_of, surplus_of}
 use Rattle.liq_types.specs.Tables.{Table, at, map_rows}
 use Rattle.liq_types.specs.Totals.{market_of, total_debt, trove_count, stakes_of, pool_total, pool_coll}
 use Rattle.liq_troves.specs.StakeSums.{sums_now, trove_row, pending, entire, entire_of, key_of}
@@ -74,7 +71,7 @@ entire-image : (s : State) (account : ℕ) → entire_of s account ≡ option_ma
 unfolding entire_row
 entire-image s account =
     sym (ap (option_map (entire_row (image s))) (at-map (trove_row s) s.troves account)
-        ∙ option-twice (entire_row (image s)) (trove_row s) (entire s) (at s.troves account) (λ t. refl))
+    ∙ option-twice (entire_row (image s)) (trove_row s) (entire s) (at s.troves account) (λ t. refl))
 
 pub entire_alike : {s t : State} → Alike s t → (account : ℕ) → entire_of s account ≡ entire_of t account
 entire_alike {s} {t} h account =

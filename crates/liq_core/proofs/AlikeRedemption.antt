@@ -1,22 +1,17 @@
 -- States with the same image redeem alike.
-use Rattle.std.proofs.Common.{◌≡◌, ℕ, ◌+◌, ◌-◌, ◌≤◌, Bool, true, false, cond, List, [], ◌∷◌, refl, ap, sym, ◌∙◌, subst, arith, Some, None, Option}
+use Rattle.std.proofs.Common.{◌≡◌, ℕ, ◌+◌, ◌-◌, Bool, true, false, cond, List, [], ◌∷◌, refl, ap, ◌∙◌, subst, Some, None, Option}
 use Rattle.std.specs.Prelude.{option_map, fold, filter, filter_map}
-use Rattle.liq_types.specs.declared.amounts.TheConstants.{RESERVE}
-use Rattle.liq_types.specs.declared.figures.Market.{Market}
-use Rattle.liq_types.specs.declared.figures.Wallet.{Wallet}
-use Rattle.liq_types.specs.Rules.{Rule}
 use Rattle.liq_types.specs.Image.{Image}
-use Rattle.liq_types.specs.State.{State, wallet_of}
-use Rattle.liq_types.specs.Totals.{market_of, total_debt, trove_count}
-use Rattle.liq_types.specs.Payments.{paid, charged, surplus_added}
+use Rattle.liq_types.specs.State.{State}
+use Rattle.liq_types.specs.Totals.{trove_count}
+use Rattle.liq_types.specs.Payments.{paid, charged}
 use Rattle.liq_rate.specs.Rate.{decayed, risen, redeem_fee}
-use Rattle.liq_troves.specs.Own.{lifted, set_trove}
+use Rattle.liq_troves.specs.Own.{set_trove}
 use Rattle.liq_troves.specs.StakeSums.{entire_of}
 use Rattle.liq_order.specs.Order.{from_lowest}
 use Rattle.liq_redemption.specs.declared.cut.Cut.{Cut}
 use Rattle.liq_redemption.specs.Redemption.{Visit, visit, is_visited, visited, cuts, cuts_in, redeemed, drawn, base_after, fee_after, cut_entire, cut_down, closed_by, redeemed_by}
-use Rattle.liq_core.specs.Image.{image}
-use Rattle.liq_core.proofs.AlikeReads.{Alike, market_alike, wallet_alike, count_alike, entire_alike, from_lowest_alike, total_debt_alike}
+use Rattle.liq_core.proofs.AlikeReads.{Alike, count_alike, entire_alike, from_lowest_alike}
 use Rattle.liq_core.proofs.AlikeChanges.{alike_by_two, lifted_alike, set_alike, surplus_added_alike, paid_alike, charged_alike}
 use Rattle.liq_core.proofs.AlikeLiquidation.{without_reserve_alike}
 

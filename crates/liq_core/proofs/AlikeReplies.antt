@@ -1,7 +1,7 @@
 -- States with the same image and records give the same reply to every request, also over whole runs.
-use Rattle.std.proofs.Common.{◌≡◌, ℕ, ◌+◌, ◌-◌, ◌≤◌, Bool, true, false, cond, List, [], ◌∷◌, ◌++◌, refl, ap, sym, ◌∙◌, subst, arith, Some, None, Option, nat_lt, nat_le}
-use Rattle.std.specs.Prelude.{is_some, is_none, option_map, min, map, ◌==◌, ◌&&◌, ◌||◌, not, Result, Ok, Err, if◌then◌else◌}
-use Rattle.liq_types.specs.declared.amounts.TheConstants.{RESERVE, MCR, LOWEST_MOST, LIM, MINUTE_MOST, FLOOR_RATE, BOOTSTRAP, GENERATIONS_MOST, RECORDS_MOST, ACCOUNTS}
+use Rattle.std.proofs.Common.{◌≡◌, ℕ, ◌+◌, Bool, true, false, List, [], ◌∷◌, ◌++◌, refl, ap, sym, ◌∙◌, subst, Some, None, Option, nat_lt, nat_le}
+use Rattle.std.specs.Prelude.{is_some, is_none, option_map, min, map, ◌==◌, ◌&&◌, not, if◌then◌else◌}
+use Rattle.liq_types.specs.declared.amounts.TheConstants.{MCR, LOWEST_MOST, LIM, MINUTE_MOST, FLOOR_RATE, BOOTSTRAP, GENERATIONS_MOST, RECORDS_MOST}
 use Rattle.liq_types.specs.declared.figures.Client.{Client}
 use Rattle.liq_types.specs.declared.figures.Market.{Market}
 use Rattle.liq_types.specs.declared.figures.Trove.{Trove}
@@ -9,10 +9,9 @@ use Rattle.liq_types.specs.declared.figures.Wallet.{Wallet}
 use Rattle.liq_types.specs.declared.replies.Done.{Done}
 use Rattle.liq_types.specs.declared.replies.Info.{Info}
 use Rattle.liq_types.specs.declared.replies.Info.TheVariants as info
-use Rattle.liq_types.specs.declared.replies.Refusal.{Refusal}
 use Rattle.liq_types.specs.declared.replies.Refusal.TheVariants.{AmountLimit, AmountZero, NoDeposit, ShortCollateral, ShortTokens, NoSurplus, TroveUnder, OutOfTurn, Bootstrap, SystemUnder, NothingRedeemed, FeeEatsAll, JournalFull}
 use Rattle.liq_types.specs.declared.replies.Reply.{Reply}
-use Rattle.liq_types.specs.declared.replies.Reply.TheVariants.{Said, Told, No}
+use Rattle.liq_types.specs.declared.replies.Reply.TheVariants.{Said, Told}
 use Rattle.liq_types.specs.declared.requests.Call.{Call}
 use Rattle.liq_types.specs.declared.requests.Call.TheVariants.{Price, Advance, Fund, Take, Send, Open, Adjust, Close, Provide, Withdraw, GainToTrove, Liquidate, LiquidateLowest, Redeem, Claim, Rotate}
 use Rattle.liq_types.specs.declared.requests.Command.{Command}
@@ -22,30 +21,26 @@ use Rattle.liq_types.specs.declared.requests.Request.{Request}
 use Rattle.liq_types.specs.declared.requests.Request.TheVariants.{Do, Ask}
 use Rattle.liq_types.specs.Image.{Image}
 use Rattle.liq_types.specs.Rules.{Rule, where_below, where_short, where_above, first_refusal, last_trove_stays}
-use Rattle.liq_types.specs.State.{State, wallet_of, client_of, surplus_of, TroveEntry, DepositEntry}
+use Rattle.liq_types.specs.State.{State, wallet_of, client_of, TroveEntry, DepositEntry}
 use Rattle.liq_types.specs.Tables.{at, put}
-use Rattle.liq_types.specs.Totals.{market_of, worth, asked, is_recovery, total_coll, total_debt, trove_count, stakes_of, pool_total, pool_coll}
+use Rattle.liq_types.specs.Totals.{market_of, worth, asked, is_recovery, trove_count}
 use Rattle.liq_rate.specs.Bound.{fee_bound, fee_over}
-use Rattle.liq_troves.specs.StakeSums.{entire, entire_of, trove_row, pending}
+use Rattle.liq_troves.specs.StakeSums.{entire_of, trove_row, pending}
 use Rattle.liq_order.specs.Order.{last_trove}
 use Rattle.liq_stability.specs.Position.{balance_of, gain_of}
 use Rattle.liq_borrow.specs.declared.change.Change.{Change}
 use Rattle.liq_borrow.specs.Borrowing.{or_nothing, open_rules, adjust_rules, close_rules, gain_rules}
-use Rattle.liq_liquidation.specs.declared.one.One.{One}
-use Rattle.liq_liquidation.specs.One.{one}
 use Rattle.liq_redemption.specs.declared.cut.Cut.{Cut}
 use Rattle.liq_redemption.specs.Redemption.{cuts_in, redeem_rules, fee_after, visited, Visit, first_net, redeemed, drawn}
-use Rattle.liq_core.specs.Effect.{effect, done_of}
 use Rattle.liq_core.specs.Image.{image}
 use Rattle.liq_core.specs.Length.{checkpoint_length}
-use Rattle.liq_core.specs.Queries.{trove_info, deposit_info, pools, system, mode, answer, unless_out_of_range}
+use Rattle.liq_core.specs.Queries.{trove_info, deposit_info, pools, system, answer, unless_out_of_range}
 use Rattle.liq_core.specs.Refusals.{not_zero, no_deposit, rules, refusal_of, trove_under, where_some, first_of_lowest}
-use Rattle.liq_core.specs.Step.{Ruling, Refused, Repeated, Allowed, in_range, is_repeated, in_turn, records_after, noted, after, room_rules, tests, unless_refused, ruling, after_ruling, step, run, accounts, next_number}
+use Rattle.liq_core.specs.Step.{Ruling, Refused, Repeated, Allowed, in_range, in_turn, records_after, noted, after, room_rules, tests, unless_refused, ruling, after_ruling, step, run, accounts}
 use Rattle.liq_core.specs.Verbs.{rotates}
 use Rattle.liq_core.specs.WellFormed.{IsWellFormed}
 use Rattle.liq_core.proofs.MapRows.{at-map}
 use Rattle.liq_core.proofs.AlikeReads.{Alike, wallet_alike, client_alike, surplus_alike, market_alike, entire_alike, exists_alike, last_alike, balance_alike, gain_alike, no_deposit_alike, count_alike}
-use Rattle.liq_core.proofs.AlikeChanges.{alike_by, alike_by_two}
 use Rattle.liq_core.proofs.AlikeLiquidation.{one_alike}
 use Rattle.liq_core.proofs.AlikeRedemption.{cuts_alike, fee_alike, visited_alike}
 use Rattle.liq_core.proofs.AlikeStep.{effect_alike, done_alike}
@@ -129,8 +124,8 @@ noted_alike : {s t : State} → Alike s t → (c : Command) (d e : Done) → d �
 noted_alike {s} {t} h c d e same =
     record {
       image =
-        ap (λ (i : Image). record i { clients = put i.clients c.client (record { last = c.number; kept = d }) }) h.image
-        ∙ ap (λ (x : Done). record (image t) { clients = put t.clients c.client (record { last = c.number; kept = x }) }) same;
+          ap (λ (i : Image). record i { clients = put i.clients c.client (record { last = c.number; kept = d }) }) h.image
+          ∙ ap (λ (x : Done). record (image t) { clients = put t.clients c.client (record { last = c.number; kept = x }) }) same;
       records = records_alike h c.call;
       left = h.left;
       right = h.right;
@@ -161,7 +156,7 @@ tests_alike {s} {t} h c =
 ruling_by : Command → Client → List Rule → Ruling
 ruling_by c k testing =
     unless_refused (first_refusal (in_range c.client ∷ []))
-        (if c.number == k.last && not (c.number == 0) then Repeated k.kept else unless_refused (first_refusal testing) Allowed)
+    (if c.number == k.last && not (c.number == 0) then Repeated k.kept else unless_refused (first_refusal testing) Allowed)
 
 pub ruling_alike : {s t : State} → Alike s t → (c : Command) → ruling s c ≡ ruling t c
 unfolding ruling_by

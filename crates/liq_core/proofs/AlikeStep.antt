@@ -1,37 +1,21 @@
 -- States with the same image and records: every request has the same reply and leaves the same image and records.
-use Rattle.std.proofs.Common.{◌≡◌, ℕ, ◌+◌, ◌-◌, ◌≤◌, Bool, true, false, cond, List, [], ◌∷◌, ◌++◌, refl, ap, sym, ◌∙◌, subst, arith, Some, None, Option, nat_lt}
-use Rattle.std.specs.Prelude.{is_some, is_none, unwrap_or, min, map, ◌==◌, ◌&&◌, not, Result, Ok, Err, if◌then◌else◌}
-use Rattle.liq_types.specs.declared.amounts.TheConstants.{RESERVE, MCR, LOWEST_MOST}
-use Rattle.liq_types.specs.declared.figures.Client.{Client}
+use Rattle.std.proofs.Common.{◌≡◌, ℕ, ◌+◌, ◌-◌, ◌≤◌, List, [], ◌∷◌, refl, ap, sym, ◌∙◌, subst, arith}
+use Rattle.std.specs.Prelude.{unwrap_or, min, Result}
+use Rattle.liq_types.specs.declared.amounts.TheConstants.{RESERVE}
 use Rattle.liq_types.specs.declared.figures.Market.{Market}
-use Rattle.liq_types.specs.declared.figures.Wallet.{Wallet}
-use Rattle.liq_types.specs.declared.replies.Done.{Done}
-use Rattle.liq_types.specs.declared.replies.Info.{Info}
-use Rattle.liq_types.specs.declared.replies.Info.TheVariants as info
 use Rattle.liq_types.specs.declared.replies.Refusal.{Refusal}
-use Rattle.liq_types.specs.declared.replies.Refusal.TheVariants.{AmountLimit, AmountZero, NoDeposit, ShortCollateral, ShortTokens, NoSurplus, TroveUnder, OutOfTurn}
-use Rattle.liq_types.specs.declared.replies.Reply.{Reply}
-use Rattle.liq_types.specs.declared.replies.Reply.TheVariants.{Said, Told, No}
 use Rattle.liq_types.specs.declared.requests.Call.{Call}
 use Rattle.liq_types.specs.declared.requests.Call.TheVariants.{Price, Advance, Fund, Take, Send, Open, Adjust, Close, Provide, Withdraw, GainToTrove, Liquidate, LiquidateLowest, Redeem, Claim, Rotate}
-use Rattle.liq_types.specs.declared.requests.Command.{Command}
-use Rattle.liq_types.specs.declared.requests.Query.{Query}
-use Rattle.liq_types.specs.declared.requests.Query.TheVariants as query
-use Rattle.liq_types.specs.declared.requests.Request.{Request}
-use Rattle.liq_types.specs.declared.requests.Request.TheVariants.{Do, Ask}
 use Rattle.liq_types.specs.Image.{Image}
-use Rattle.liq_types.specs.Payments.{paid, charged, surplus_taken}
-use Rattle.liq_types.specs.Rules.{Rule, where_below, where_short, first_refusal, last_trove_stays}
-use Rattle.liq_types.specs.State.{State, wallet_of, client_of, surplus_of, with_wallet, no_wallet, TroveEntry, DepositEntry}
-use Rattle.liq_types.specs.Tables.{at, put, map_rows}
-use Rattle.liq_types.specs.Totals.{market_of, worth, asked, total_coll, total_debt, trove_count, stakes_of, pool_total, pool_coll}
-use Rattle.liq_troves.specs.Own.{placed, lifted, set_trove}
-use Rattle.liq_troves.specs.StakeSums.{entire, entire_of, trove_row}
-use Rattle.liq_order.specs.Order.{last_trove}
+use Rattle.liq_types.specs.Payments.{paid}
+use Rattle.liq_types.specs.State.{State, with_wallet, no_wallet}
+use Rattle.liq_types.specs.Tables.{at}
+use Rattle.liq_types.specs.Totals.{market_of}
+use Rattle.liq_troves.specs.StakeSums.{entire_of}
 use Rattle.liq_stability.specs.Own.{owned, amount_after}
-use Rattle.liq_stability.specs.Position.{balance_of, gain_of, deposit_row}
+use Rattle.liq_stability.specs.Position.{balance_of, gain_of}
 use Rattle.liq_borrow.specs.declared.change.Change.{Change}
-use Rattle.liq_borrow.specs.Borrowing.{fee_now, base_after, fee_minute_after, open_debt, or_nothing, adjusted_coll, adjusted_debt, open_rules, adjust_rules, close_rules, gain_rules}
+use Rattle.liq_borrow.specs.Borrowing.{fee_now, base_after, fee_minute_after, open_debt, or_nothing, adjusted_coll, adjusted_debt}
 use Rattle.liq_liquidation.specs.declared.one.One.{One}
 use Rattle.liq_liquidation.specs.declared.one.Victim.{Victim}
 use Rattle.liq_liquidation.specs.One.{one}
@@ -40,18 +24,11 @@ use Rattle.liq_redemption.specs.declared.cut.Cut.{Cut}
 use Rattle.liq_redemption.specs.Redemption.{cuts_in, redeem_rules, fee_after, visited, Visit, first_net, redeemed, drawn}
 use Rattle.liq_redemption.specs.Redemption as redemption
 use Rattle.liq_core.specs.Effect.{with_fee, opened, adjusted, closed, provided, paid_out, withdrawn, gain_moved, victim_of, all_liquidated, effect, values, one_values, lowest_values, six, done_of}
-use Rattle.liq_core.specs.Image.{image}
-use Rattle.liq_core.specs.Length.{checkpoint_length}
-use Rattle.liq_core.specs.Queries.{trove_info, deposit_info, pools, system, mode, answer, unless_out_of_range}
-use Rattle.liq_core.specs.Refusals.{rules, refusal_of, trove_under, where_some, first_of_lowest}
-use Rattle.liq_core.specs.Step.{Ruling, Refused, Repeated, Allowed, in_range, is_repeated, in_turn, records_after, noted, after, room_rules, tests, unless_refused, ruling, after_ruling, step, run, accounts, next_number}
-use Rattle.liq_core.specs.Verbs.{kind, rotates}
-use Rattle.liq_core.specs.WellFormed.{IsWellFormed}
-use Rattle.liq_core.proofs.MapRows.{at-map}
-use Rattle.liq_core.proofs.AlikeReads.{Alike, wallet_alike, client_alike, surplus_alike, market_alike, entire_alike, exists_alike, last_alike, balance_alike, gain_alike, amount_alike, no_deposit_alike, count_alike}
+use Rattle.liq_core.specs.Verbs.{kind}
+use Rattle.liq_core.proofs.AlikeReads.{Alike, surplus_alike, market_alike, entire_alike, balance_alike, gain_alike, amount_alike}
 use Rattle.liq_core.proofs.AlikeChanges.{alike_by, alike_by_two, paid_alike, charged_alike, surplus_taken_alike, lifted_alike, placed_alike, set_alike, owned_alike}
 use Rattle.liq_core.proofs.AlikeLiquidation.{one_alike, lowest_alike, all_liquidated_alike, single_serves, lowest_serves, without_reserve_alike}
-use Rattle.liq_core.proofs.AlikeRedemption.{redeemed_alike, cuts_alike, fee_alike, base_alike, visited_alike}
+use Rattle.liq_core.proofs.AlikeRedemption.{redeemed_alike, cuts_alike, fee_alike, base_alike}
 
 -- ---- troves of their owners
 
@@ -106,7 +83,7 @@ closed_alike : {s t : State} → Alike s t → (account : ℕ) → Alike (closed
 closed_alike h account =
     lifted_alike
     (without_reserve_alike
-        (paid_alike (charged_alike h account 0 0 _ _ refl (ap (λ (own : ℕ × ℕ). own.1 - RESERVE) (own_alike h account))) account _ _ 0 0 (ap (λ (own : ℕ × ℕ). own.0) (own_alike h account)) refl))
+    (paid_alike (charged_alike h account 0 0 _ _ refl (ap (λ (own : ℕ × ℕ). own.1 - RESERVE) (own_alike h account))) account _ _ 0 0 (ap (λ (own : ℕ × ℕ). own.0) (own_alike h account)) refl))
     account
 
 -- ---- the Stability Pool

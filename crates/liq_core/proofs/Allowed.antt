@@ -1,6 +1,6 @@
 -- What is known of a command that is allowed.
-use Rattle.std.proofs.Common.{◌≡◌, ℕ, ◌+◌, ◌≤◌, Bool, true, false, not, nat_eq, nat_lt, cond, List, [], ◌∷◌, ◌++◌, Some, None, Option, refl, ap, ◌∙◌, arith}
-use Rattle.std.specs.Prelude.{IsTrue, map, ◌&&◌, ◌==◌}
+use Rattle.std.proofs.Common.{◌≡◌, ℕ, ◌+◌, ◌≤◌, Bool, true, false, nat_lt, cond, List, [], ◌∷◌, ◌++◌, Some, None, Option, refl, ap, ◌∙◌, arith}
+use Rattle.std.specs.Prelude.{IsTrue, map, ◌==◌}
 use Rattle.std.proofs.lemmas.Bool.Decides.{nat_tests}
 use Rattle.liq_types.specs.declared.amounts.TheConstants.{LIM}
 use Rattle.liq_types.specs.declared.replies.Done.{Done}
@@ -11,7 +11,7 @@ use Rattle.liq_types.specs.declared.requests.Call.TheVariants.{Fund, Take}
 use Rattle.liq_types.specs.declared.requests.Command.{Command}
 use Rattle.liq_types.specs.Rules.{Rule, first_refusal}
 use Rattle.liq_types.specs.State.{State, wallet_of, client_of}
-use Rattle.liq_core.specs.Step.{Ruling, Refused, Repeated, Allowed, unless_refused, ruling, rules, accounts, in_range, in_turn, is_repeated, tests, room_rules, effect, built_call}
+use Rattle.liq_core.specs.Step.{Ruling, Repeated, Allowed, unless_refused, ruling, rules, accounts, in_range, in_turn, is_repeated, tests, room_rules, effect, built_call}
 use Rattle.liq_core.specs.Verbs.{rotates}
 
 unless_allowed : (o : Option Refusal) (r : Ruling) → unless_refused o r ≡ Allowed → (o ≡ None) × (r ≡ Allowed)

@@ -1,6 +1,6 @@
 -- Tables of which each row is changed by itself.
-use Rattle.std.proofs.Common.{◌≡◌, ℕ, ◌+◌, Bool, true, false, cond, List, [], ◌∷◌, refl, ap, sym, ◌∙◌, Some, None, Option, suc}
-use Rattle.std.specs.Prelude.{option_map, fold, sum_by, length, map}
+use Rattle.std.proofs.Common.{◌≡◌, ℕ, ◌+◌, Bool, true, false, cond, [], ◌∷◌, refl, ap, ◌∙◌, Some, suc}
+use Rattle.std.specs.Prelude.{option_map, fold, sum_by, length}
 use Rattle.std.specs.List.{AllByRecursion}
 use Rattle.std.specs.Ordering.{nat_cmp, is_eq, match_ordering}
 use Rattle.std.specs.declared.cmp.Ordering.{Ordering}

@@ -1,6 +1,6 @@
 -- The sums of the Stability Pool, place by place: where offsets count, what a further offset changes, and that the image
 -- shows the sum of every place.
-use Rattle.std.proofs.Common.{◌≡◌, ℕ, ◌+◌, ◌<◌, ◌≤◌, Bool, true, false, cond, not, nat_lt, List, [], ◌∷◌, ◌++◌, refl, ap, sym, ◌∙◌, subst, inl, inr, arith, Some, None, Option}
+use Rattle.std.proofs.Common.{◌≡◌, ℕ, ◌+◌, ◌<◌, ◌≤◌, Bool, true, false, cond, nat_lt, List, [], ◌∷◌, ◌++◌, refl, ap, sym, ◌∙◌, subst, inl, inr, arith, Some, None, Option}
 use Rattle.std.specs.Prelude.{◌⊎◌, fold, unwrap_or, ◌==◌, ◌&&◌}
 use Rattle.std.specs.List.{AllByRecursion}
 use Rattle.std.specs.Map.{lookup}
@@ -171,7 +171,7 @@ finished-snoc i os o =
     ap (λ (ps : List Place). finish (sumat i (os ++ o ∷ [])) i.finished ps) (left-snoc (start_words i) os o)
     ∙ finish-append (sumat i (os ++ o ∷ [])) i.finished places (left_last (prod i os) o)
     ∙ ap (λ (t : Finished). finish (sumat i (os ++ o ∷ [])) t (left_last (prod i os) o))
-        (finish-cong (sumat i (os ++ o ∷ [])) (sumat i os) (λ p. IsBefore p (last_of i os)) (sumat-earlier i os o) i.finished places (left_before (start_words i) os))
+    (finish-cong (sumat i (os ++ o ∷ [])) (sumat i os) (λ p. IsBefore p (last_of i os)) (sumat-earlier i os o) i.finished places (left_before (start_words i) os))
     ∙ finish_tail (sumat i (os ++ o ∷ [])) (finished_sums i os) (prod i os) o (sumat i os (last_of i os) + sum_rise (prod i os) o) (sumat-last i os o)
 
 -- ---- reading finished sums
@@ -186,6 +186,7 @@ nat_cmp-eq x y = by (nat_lt x y) refl where
   equal : (c : Bool) → is_eq (cond c Equal Greater) ≡ c
   equal true = refl
   equal false = refl
+
   by : (b : Bool) → nat_lt x y ≡ b → is_eq (cond b Less (cond (x == y) Equal Greater)) ≡ (x == y)
   by true e = sym (different (grind (arith, nat_tests, e))) where
     different : x < y → (x == y) ≡ false
@@ -297,15 +298,15 @@ moved_on a b q h n = by (is_place a b) refl where
 step_untouched : (w : Words) (o : Offset) (os : List Offset) (q : Place) → IsUntouched (after_offset w o) os q → (b : Bool) → is_place (place_of w) q ≡ b → IsAmong q (places_left w (o ∷ os)) ⊎ IsUntouched w (o ∷ os) q
 step_untouched w o os q h true e =
     inl (among_first (is_place (place_of w) (place_of (after_offset w o))) q (place_of w) (places_left (after_offset w o) os)
-        (moved_on (place_of w) (place_of (after_offset w o)) q e h.not_first) (is_place-turned q (place_of w) ∙ e))
+    (moved_on (place_of w) (place_of (after_offset w o)) q e h.not_first) (is_place-turned q (place_of w) ∙ e))
 step_untouched w o os q h false e =
     inr (record {
       never_left = none_cons (is_place (place_of w) (place_of (after_offset w o))) q (place_of w) (places_left (after_offset w o) os) (is_place-turned q (place_of w) ∙ e) h.never_left;
       nothing = ap (λ b. cond b (sum_rise w o) 0 + rises_at (after_offset w o) os q) e ∙ zero_and h.nothing;
       not_first = e;
     }) where
-  zero_and : rises_at (after_offset w o) os q ≡ 0 → 0 + rises_at (after_offset w o) os q ≡ 0
-  zero_and z = omega (arith, z)
+      zero_and : rises_at (after_offset w o) os q ≡ 0 → 0 + rises_at (after_offset w o) os q ≡ 0
+      zero_and z = omega (arith, z)
 
 -- a place other than the last was left, or is untouched
 left_or_untouched : (w : Words) (os : List Offset) (q : Place) → is_place (place_of (fold after_offset w os)) q ≡ false → IsAmong q (places_left w os) ⊎ IsUntouched w os q
@@ -344,8 +345,9 @@ sum_shown i os f q = by (is_place (last_of i os) q) refl where
       let skipped = finish-skips (sumat i os) i.finished (places_left (start_words i) os) q u.never_left in
       let begun = start_reads i f q false u.not_first refl in
       skipped ∙ add_none (read i.finished q) (start_sum i q) (rises_at (start_words i) os q) begun u.nothing where
-    add_none : (r a b : ℕ) → a ≡ r → b ≡ 0 → r ≡ a + b
-    add_none r a b x y = omega arith
+        add_none : (r a b : ℕ) → a ≡ r → b ≡ 0 → r ≡ a + b
+        add_none r a b x y = omega arith
+
   by : (b : Bool) → is_place (last_of i os) q ≡ b → cond b (sumat i os (last_of i os)) (read (finished_sums i os) q) ≡ sumat i os q
   by true e = ap (sumat i os) (is_place-same (last_of i os) q e)
   by false e =
@@ -365,9 +367,9 @@ later_none i os f q h =
     let none = read_none i.finished (i.epoch, i.scale) q (weak first) f in
     let rises = none_later (start_words i) os q h in
     omega (arith, begun, none, rises) where
-  weak : IsBefore (i.epoch, i.scale) q → IsUpTo (i.epoch, i.scale) q
-  weak (inl x) = inl x
-  weak (inr x) = inr (x.0, omega (arith, x.1))
+      weak : IsBefore (i.epoch, i.scale) q → IsUpTo (i.epoch, i.scale) q
+      weak (inl x) = inl x
+      weak (inr x) = inr (x.0, omega (arith, x.1))
 
 pub sum_after : Words → Offset → ℕ → ℕ
 sum_after last o sum = cond (is_place (place_of last) (place_of (after_offset last o))) (sum + sum_rise last o) 0
@@ -377,6 +379,7 @@ unfolding sum_after
 sum-snoc i os o f = by (is_place (last_of i os) (place_of (after_offset (prod i os) o))) refl where
   next : Place
   next = place_of (after_offset (prod i os) o)
+
   by : (b : Bool) → is_place (last_of i os) (place_of (after_offset (prod i os) o)) ≡ b → sumat i (os ++ o ∷ []) (place_of (after_offset (prod i os) o)) ≡ cond b (sumat i os (last_of i os) + sum_rise (prod i os) o) 0
   by true e = subst (λ (r : Place). sumat i (os ++ o ∷ []) r ≡ sumat i os (last_of i os) + sum_rise (prod i os) o) (is_place-same (last_of i os) _ e) (sumat-last i os o)
   by false e =

@@ -1,11 +1,11 @@
 -- The states for which a core stands, and what is read of them.
-use Rattle.std.proofs.Common.{◌≡◌, ℕ, Bool, true, false, cond, refl, ap, sym, ◌∙◌, arith, not, nat_eq, ◌<◌, Some, None, Option}
-use Rattle.std.specs.Prelude.{unwrap_or, ◌==◌, ◌&&◌, ◌+◌, IsTrue}
+use Rattle.std.proofs.Common.{◌≡◌, ℕ, true, false, cond, refl, ap, sym, ◌∙◌, arith, ◌<◌, Some, None, Option}
+use Rattle.std.specs.Prelude.{unwrap_or, ◌+◌, IsTrue}
 use Rattle.liq_types.specs.declared.figures.Wallet.{Wallet}
 use Rattle.liq_types.specs.declared.figures.Client.{Client}
 use Rattle.liq_types.specs.Image.{Image, opening_image}
 use Rattle.liq_types.specs.State.{State, started, no_wallet, no_client, is_used_wallet, is_used_client, wallet_of, client_of}
-use Rattle.liq_types.specs.Tables.{Table, at}
+use Rattle.liq_types.specs.Tables.{at}
 use Rattle.liq_types.specs.declared.requests.Call.{Call}
 use Rattle.liq_types.specs.declared.requests.Call.TheVariants.{Fund, Take}
 use Rattle.liq_types.specs.declared.requests.Command.{Command}
@@ -55,15 +55,15 @@ unfolding image_by
 stands_after old new s c built h e =
     record {
       image =
-        ap image_by e
-        ∙ core-image old c.client c.number c.call built
-        ∙ ap (λ i. image_after i c) h.image
-        ∙ sym (after-image s c.client c.number c.call built);
+          ap image_by e
+          ∙ core-image old c.client c.number c.call built
+          ∙ ap (λ i. image_after i c) h.image
+          ∙ sym (after-image s c.client c.number c.call built);
       records =
-        ap (λ (t : State). t.records) e
-        ∙ after-records (state_of old) c.client c.number c.call built
-        ∙ ap (λ n. n + 1) h.records
-        ∙ sym (after-records s c.client c.number c.call built);
+          ap (λ (t : State). t.records) e
+          ∙ after-records (state_of old) c.client c.number c.call built
+          ∙ ap (λ n. n + 1) h.records
+          ∙ sym (after-records s c.client c.number c.call built);
     }
 
 unused_wallet : (w : Wallet) → is_used_wallet w ≡ false → w ≡ no_wallet
@@ -78,12 +78,12 @@ unused_client k h = grind (arith, nat_tests, h)
 pub seen_wallet : (core : Core) → IsSound core → (account : ℕ) → unwrap_or (at core.wallets account) no_wallet ≡ wallet_of (state_of core) account
 seen_wallet core sound account =
     sym (ap (λ o. unwrap_or o no_wallet) (at-rows is_used_wallet core.wallets account sound.wallets_ascend)
-        ∙ seen_or is_used_wallet (λ (w : Wallet). w) no_wallet unused_wallet (at core.wallets account))
+    ∙ seen_or is_used_wallet (λ (w : Wallet). w) no_wallet unused_wallet (at core.wallets account))
 
 pub seen_last : (core : Core) → IsSound core → (client : ℕ) → (unwrap_or (at core.clients client) no_client).last ≡ (client_of (state_of core) client).last
 seen_last core sound client =
     sym (ap (λ o. (unwrap_or o no_client).last) (at-rows is_used_client core.clients client sound.clients_ascend)
-        ∙ seen_or is_used_client (λ (k : Client). k.last) no_client unused_client (at core.clients client))
+    ∙ seen_or is_used_client (λ (k : Client). k.last) no_client unused_client (at core.clients client))
 
 kept_of : (o : Option Client) → 0 < (unwrap_or o no_client).last → option_filter is_used_client o ≡ o
 kept_of None h = refl

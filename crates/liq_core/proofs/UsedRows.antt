@@ -1,12 +1,12 @@
 -- Tables of which only the used rows are seen, and what writing a row does to what is seen.
-use Rattle.std.proofs.Common.{◌≡◌, ℕ, Bool, true, false, cond, List, [], ◌∷◌, refl, ap, sym, subst, ◌∙◌, Some, None, Option, arith, inl, inr}
-use Rattle.std.specs.Prelude.{◌⊎◌, unwrap_or, IsSome, map, filter, sum_by, ◌+◌}
+use Rattle.std.proofs.Common.{◌≡◌, ℕ, Bool, true, false, cond, [], ◌∷◌, refl, ap, sym, subst, ◌∙◌, Some, None, Option, arith, inl, inr}
+use Rattle.std.specs.Prelude.{unwrap_or, sum_by, ◌+◌}
 use Rattle.std.specs.Option.{option_map}
 use Rattle.std.specs.List.{AllByRecursion}
 use Rattle.std.specs.List.Sorted.{IsStrictlySortedBy}
 use Rattle.std.specs.declared.cmp.Ordering.{Ordering}
 use Rattle.std.specs.declared.cmp.Ordering.TheVariants.{Less, Equal, Greater}
-use Rattle.std.specs.Ordering.{nat_cmp, is_eq, match_ordering, eq_by_cmp}
+use Rattle.std.specs.Ordering.{nat_cmp, is_eq, match_ordering}
 use Rattle.std.specs.Cmp.{nat_cmp_total, eq_by_cmp_equiv}
 use Rattle.std.specs.Map.{keys_of, values_of}
 use Rattle.std.proofs.lemmas.Map.Keys.{sorted_head, sorted_tail, IsDistinct-from_sorted}
@@ -63,13 +63,15 @@ module _ {X : Type 0} where
   rows-put_cons test e es key x head later Equal q =
       let same : key ≡ e.0 = exact_unsigned key e.0 q in
       let front : Below e.0 (rows test es) = below_rows test e.0 es head in
-      elim (test e.1) as (λ b. cond (test x) ((e.0, x) ∷ rows test es) (rows test es) ≡ written test (cond b (e ∷ rows test es) (rows test es)) key x)
-      [ true ↦ sym (written_here test e (rows test es) key x q)
-      | false ↦ sym (subst (λ k. written test (rows test es) k x ≡ cond (test x) ((e.0, x) ∷ rows test es) (rows test es)) (sym same) (written_below test e.0 x (rows test es) front)) ]
+      elim (test e.1) as (λ b. cond (test x) ((e.0, x) ∷ rows test es) (rows test es) ≡ written test (cond b (e ∷ rows test es) (rows test es)) key x) [
+        | true ↦ sym (written_here test e (rows test es) key x q)
+        | false ↦ sym (subst (λ k. written test (rows test es) k x ≡ cond (test x) ((e.0, x) ∷ rows test es) (rows test es)) (sym same) (written_below test e.0 x (rows test es) front))
+      ]
   rows-put_cons test e es key x head later Greater g =
-      elim (test e.1) as (λ b. cond b (e ∷ rows test (put es key x)) (rows test (put es key x)) ≡ written test (cond b (e ∷ rows test es) (rows test es)) key x)
-      [ true ↦ ap (λ (t : Table X). e ∷ t) later ∙ sym (written_later test e (rows test es) key x g)
-      | false ↦ later ]
+      elim (test e.1) as (λ b. cond b (e ∷ rows test (put es key x)) (rows test (put es key x)) ≡ written test (cond b (e ∷ rows test es) (rows test es)) key x) [
+        | true ↦ ap (λ (t : Table X). e ∷ t) later ∙ sym (written_later test e (rows test es) key x g)
+        | false ↦ later
+      ]
 
   pub rows-put : (test : X → Bool) (table : Table X) (key : ℕ) (x : X) → IsStrictlySortedBy nat_cmp (keys_of table) → rows test (put table key x) ≡ written test (rows test table) key x
   rows-put test [] key x s = refl
@@ -117,6 +119,6 @@ module _ {X : Type 0} where
       let law = sum_by-insert_entry f nat_cmp_total table key x s in
       let same = by (at table key) in
       omega (arith, law, same) where
-    by : (o : Option X) → unwrap_or (option_map f o) 0 ≡ f (unwrap_or o none)
-    by None = sym z
-    by (Some y) = refl
+        by : (o : Option X) → unwrap_or (option_map f o) 0 ≡ f (unwrap_or o none)
+        by None = sym z
+        by (Some y) = refl

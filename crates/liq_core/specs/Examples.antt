@@ -5,7 +5,7 @@ use Rattle.liq_types.specs.declared.replies.Refusal.TheVariants.{AmountLimit, Ac
 use Rattle.liq_types.specs.declared.replies.Reply.{Reply}
 use Rattle.liq_types.specs.declared.replies.Reply.TheVariants.{Said, Told, No}
 use Rattle.liq_types.specs.declared.requests.Call.{Call}
-use Rattle.liq_types.specs.declared.requests.Call.TheVariants.{Price, Advance, Fund, Take, Send, Open, Adjust, Close, Provide, Withdraw, GainToTrove, Liquidate, LiquidateLowest, Redeem, Claim, Rotate}
+use Rattle.liq_types.specs.declared.requests.Call.TheVariants.{Price, Advance, Fund, Send, Open, Adjust, Close, Provide, Withdraw, GainToTrove, Liquidate, LiquidateLowest, Redeem, Claim, Rotate}
 use Rattle.liq_types.specs.declared.requests.Query.TheVariants as query
 use Rattle.liq_types.specs.declared.requests.Request.{Request}
 use Rattle.liq_types.specs.declared.requests.Request.TheVariants.{Do, Ask}

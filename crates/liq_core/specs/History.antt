@@ -1,10 +1,10 @@
 -- A legal history: every entry's reply is the step's in the state after all entries before it, and each session's own
 -- calls are counted 1, 2, 3 and so on.
-use Rattle.std.specs.Prelude.{◌≡◌, ℕ, ◌+◌, ◌==◌, List, [], ◌∷◌, map, filter, length}
+use Rattle.std.specs.Prelude.{◌≡◌, ℕ, ◌+◌, ◌==◌, List, [], ◌∷◌, map, filter}
 use Rattle.liq_types.specs.declared.replies.Reply.{Reply}
 use Rattle.liq_types.specs.declared.requests.Request.{Request}
 use Rattle.liq_types.specs.State.{State}
-use Rattle.liq_core.specs.Step.{step, run}
+use Rattle.liq_core.specs.Step.{run}
 
 pub record Entry : Type 0 where
   pub session : ℕ

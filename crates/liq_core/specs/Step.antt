@@ -1,5 +1,5 @@
 -- The step: what a request does to a state, and the reply.
-use Rattle.std.specs.Prelude.{ℕ, ◌+◌, ◌==◌, ◌&&◌, Bool, true, false, not, nat_le, min, List, [], ◌∷◌, ◌++◌, map, Option, None, Some, if◌then◌else◌}
+use Rattle.std.specs.Prelude.{ℕ, ◌+◌, ◌==◌, ◌&&◌, Bool, true, false, not, nat_le, List, [], ◌∷◌, ◌++◌, map, Option, None, Some, if◌then◌else◌}
 use Rattle.liq_types.specs.declared.amounts.TheConstants.{ACCOUNTS, RECORDS_MOST, GENERATIONS_MOST}
 use Rattle.liq_types.specs.declared.replies.Done.{Done}
 use Rattle.liq_types.specs.declared.replies.Refusal.{Refusal}
@@ -59,8 +59,8 @@ abbrev pub room_rules : State → Command → List Rule
 room_rules s c =
     if rotates c.call
     then where_above (s.generation + 1) GENERATIONS_MOST AmountLimit
-         ∷ where_above (checkpoint_length (image (after s c))) GENERATIONS_MOST AmountLimit
-         ∷ []
+    ∷ where_above (checkpoint_length (image (after s c))) GENERATIONS_MOST AmountLimit
+    ∷ []
     else (nat_le RECORDS_MOST s.records, JournalFull RECORDS_MOST) ∷ []
 
 -- ---- the ruling on a command
@@ -82,9 +82,9 @@ tests s c = in_turn s c ∷ map in_range (accounts c.call) ++ rules s c.call ++ 
 abbrev pub ruling : State → Command → Ruling
 ruling s c =
     unless_refused (first_refusal (in_range c.client ∷ []))
-        (if is_repeated s c
-         then Repeated (client_of s c.client).kept
-         else unless_refused (first_refusal (tests s c)) Allowed)
+    (if is_repeated s c
+    then Repeated (client_of s c.client).kept
+    else unless_refused (first_refusal (tests s c)) Allowed)
 
 abbrev pub after_ruling : State → Command → Ruling → State × Reply
 after_ruling s c (Refused refusal) = (s, No refusal)

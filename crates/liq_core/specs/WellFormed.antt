@@ -1,6 +1,6 @@
 -- What holds of every state that the rules reach: marks are moments of their lists, the sums that were finished before the
 -- start belong to earlier places than the start's, and what left the Stability Pool had come into it.
-use Rattle.std.specs.Prelude.{◌≡◌, ℕ, ◌+◌, ◌<◌, ◌≤◌, ◌⊎◌, List, length, sum_by}
+use Rattle.std.specs.Prelude.{◌≡◌, ℕ, ◌+◌, ◌<◌, ◌≤◌, ◌⊎◌, length, sum_by}
 use Rattle.std.specs.List.{AllByRecursion}
 use Rattle.liq_types.specs.Image.{Image, Place}
 use Rattle.liq_types.specs.State.{State, Mark, AtStart, After, TroveEntry, DepositEntry, Offset}

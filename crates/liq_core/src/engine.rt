@@ -10,15 +10,17 @@ ghost use Rattle.liq_types.specs.State.{State, opening, no_wallet, wallet_of, cl
 ghost use Rattle.liq_types.specs.Tables.{at, put};
 ghost use Rattle.liq_core.specs.Step.{built, built_call, accounts, rules, in_range, first_refusal, done_of, effect, noted, step, answer};
 
+use crate::tables;
+use crate::turns::{PlanFault, Planned, Turn};
+use liq_types::amounts::{ACCOUNTS, LIM, RECORDS_MOST};
+use liq_types::{
+    Call, Client, Command, Done, Hint, Info, NoMemory, Query, Refusal, Reply, Request, Steps,
+    Wallet,
+};
 use std::alloc::Global;
 use std::collections::BTreeMap;
 use std::marker::Model;
 use std::sync::ledger::Ledger;
-
-use crate::tables;
-use crate::turns::{PlanFault, Planned, Turn};
-use liq_types::amounts::{ACCOUNTS, LIM, RECORDS_MOST};
-use liq_types::{Call, Client, Command, Done, Hint, Info, NoMemory, Query, Refusal, Reply, Request, Steps, Wallet};
 
 /// The protocol: wallets and clients, and the collateral inside.
 #[derive(Drop)]
@@ -269,7 +271,11 @@ impl Protocol {
     {
         self.records += 1;
         let last = command.number;
-        tables::write(&mut self.clients, command.client, Client { last, kept: done });
+        tables::write(
+            &mut self.clients,
+            command.client,
+            Client { last, kept: done },
+        );
     }
 
     /// The answer to a query.

@@ -81,4 +81,3 @@ pub fn nothing_yet_example()
 pub fn rotation_example()
     ensures { (run opening rotation).1 ≡ rotation_replies }
 {}
-

@@ -6,9 +6,8 @@ ghost use Rattle.std.specs.BTreeMap.{IsOrdered};
 ghost use Rattle.liq_types.specs.Tables.{at, put};
 ghost use Rattle.liq_core.specs.Rows.{Reserves};
 
-use std::collections::BTreeMap;
-
 use liq_types::NoMemory;
+use std::collections::BTreeMap;
 
 /// Makes an empty row where there is none.
 pub fn reserve<V: Drop>(map: &mut BTreeMap<u32, V>, key: u32, empty: V) -> Result<(), NoMemory>

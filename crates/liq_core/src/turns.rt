@@ -1,8 +1,7 @@
 //! What planning a command gives.
 
-use std::marker::Model;
-
 use liq_types::{Command, Done, Refusal};
+use std::marker::Model;
 
 /// A command that will be accepted, with its reply. It holds for the protocol that planned it, as long as that stays.
 #[derive(Debug, Drop)]

@@ -1,14 +1,14 @@
 -- Sorting by insertion: the same entries, ascending.
-use Rattle.std.proofs.Common.{◌≡◌, ℕ, List, [], ◌∷◌, ◌++◌, refl, sym, ap, ◌∙◌, subst, append-nil}
+use Rattle.std.proofs.Common.{◌≡◌, List, [], ◌∷◌, ◌++◌, refl, sym, ap, ◌∙◌, subst, append-nil}
 use Rattle.std.specs.Prelude.{◌≢◌, fold}
 use Rattle.std.specs.List.{AllByRecursion}
 use Rattle.std.specs.List.Sorted.{IsPermutation}
 use Rattle.std.specs.Cmp.{IsTotalOrder}
-use Rattle.std.specs.Ordering.{nat_cmp, int_cmp, match_ordering, ordering_reverse}
+use Rattle.std.specs.Ordering.{match_ordering, ordering_reverse}
 use Rattle.std.specs.declared.cmp.Ordering.{Ordering}
 use Rattle.std.specs.declared.cmp.Ordering.TheVariants.{Less, Equal, Greater}
 use Rattle.std.proofs.lemmas.Cmp.{int_cmp_total, nat_cmp_total, then_total, on_total}
-use Rattle.std.proofs.lemmas.List.Sorted.{IsPermutation-refl, IsPermutation-cons, IsPermutation-trans, IsPermutation-sym, IsPermutation-middle, IsPermutation-append}
+use Rattle.std.proofs.lemmas.List.Sorted.{IsPermutation-refl, IsPermutation-cons, IsPermutation-trans, IsPermutation-middle, IsPermutation-append}
 use Rattle.liq_order.specs.Order.{Ranked, rank_order, with_ranked, sorted, IsAscending}
 
 rank_total : IsTotalOrder rank_order
@@ -29,8 +29,8 @@ all_same list [] = subst (IsPermutation (list ++ [])) (append-nil list) (IsPermu
 all_same list (e ∷ es) =
     IsPermutation-trans _ (e ∷ (list ++ es)) _ (IsPermutation-middle list e es)
     (IsPermutation-trans _ (with_ranked list e ++ es) _
-        (IsPermutation-append (e ∷ list) (with_ranked list e) es es (with_same list e) (IsPermutation-refl es))
-        (all_same (with_ranked list e) es))
+    (IsPermutation-append (e ∷ list) (with_ranked list e) es es (with_same list e) (IsPermutation-refl es))
+    (all_same (with_ranked list e) es))
 
 pub sorted_same : (entries : List Ranked) → IsPermutation entries (sorted entries)
 sorted_same entries = all_same [] entries
@@ -73,6 +73,7 @@ with_ascending [] e h = (tt, tt)
 with_ascending (f ∷ fs) e h = by (rank_order e f) refl (with_ascending fs e h.1) where
   front : (o : Ordering) → rank_order e f ≡ o → o ≢ Greater → IsAscending (e ∷ f ∷ fs)
   front o is low = ((reversed_less e f o is low, after_later e f fs (subst (λ r. r ≢ Greater) (sym is) low) h.0), h)
+
   by : (o : Ordering) → rank_order e f ≡ o → IsAscending (with_ranked fs e) → IsAscending (match_ordering o (e ∷ f ∷ fs) (e ∷ f ∷ fs) (f ∷ with_ranked fs e))
   by Less is more = front Less is (λ g. cc)
   by Equal is more = front Equal is (λ g. cc)

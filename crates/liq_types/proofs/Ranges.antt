@@ -1,8 +1,8 @@
 -- The product stays within its range.
-use Rattle.std.proofs.Common.{◌≡◌, ℕ, zero, suc, ◌+◌, ◌-◌, ◌*◌, ◌/◌, ◌^◌, ◌≤◌, ◌<◌, Bool, true, false, cond, List, [], ◌∷◌, arith, refl, ap, sym, ◌∙◌, subst, nat_le, nat_eq, inl, inr}
+use Rattle.std.proofs.Common.{◌≡◌, ℕ, zero, suc, ◌+◌, ◌-◌, ◌*◌, ◌^◌, ◌≤◌, ◌<◌, Bool, true, false, cond, List, [], ◌∷◌, arith, refl, ap, sym, ◌∙◌, subst, nat_le, inl, inr}
 use Rattle.std.specs.Prelude.{fold, ◌==◌}
 use Rattle.std.specs.List.{AllByRecursion}
-use Rattle.std.proofs.Math.Nat.{mul-le-mul_right, div-le_of_le-mul, div-lt_iff_lt-mul, lt-div-mul-add}
+use Rattle.std.proofs.Math.Nat.{mul-le-mul_right, div-le_of_le-mul, div-lt_iff_lt-mul}
 use Rattle.std.proofs.lemmas.Nat.{pow-add, le-div}
 use Rattle.std.proofs.lemmas.Bool.{le-leb, leb-true, cases_lt}
 use Rattle.std.proofs.lemmas.Bool.Decides.{nat_tests}
@@ -88,6 +88,7 @@ unfolding least_rise
 offset_within w o within h = by (o.debt == o.total) refl where
   left : (b : Bool) → (o.debt == o.total) ≡ b → b ≡ false → o.debt < o.total
   left b e fail = grind (arith, nat_tests, e, fail, h.within)
+
   by : (b : Bool) → (o.debt == o.total) ≡ b → IsWithinRange (cond b (record { p = P_OPENING; scale = 0; epoch = w.epoch + 1 }) (record { p = product_after w.p o (cond b 0 (least_rise w.p o)); scale = w.scale + cond b 0 (least_rise w.p o); epoch = w.epoch }))
   by true e = record { least = omega arith; most = omega arith }
   by false e =
@@ -100,6 +101,7 @@ unfolding least_rise
 rise_few w o within h = by (o.debt == o.total) refl where
   left : (b : Bool) → (o.debt == o.total) ≡ b → b ≡ false → o.debt < o.total
   left b e fail = grind (arith, nat_tests, e, fail, h.within)
+
   by : (b : Bool) → (o.debt == o.total) ≡ b → cond b 0 (least_rise w.p o) ≤ 2
   by true e = omega arith
   by false e = few_rises w.p o within.least h (left false e refl)
@@ -109,6 +111,7 @@ unfolding least_rise
 rise_no_more w o within h steps = by (o.debt == o.total) refl where
   left : (b : Bool) → (o.debt == o.total) ≡ b → b ≡ false → o.debt < o.total
   left b e fail = grind (arith, nat_tests, e, fail, h.within)
+
   by : (b : Bool) → (o.debt == o.total) ≡ b → steps < cond b 0 (least_rise w.p o) → product_after w.p o steps < P_LEAST
   by true e few = absurd (omega arith)
   by false e few = fails_least w.p o steps ((first_rise w.p o within.least h (left false e refl)).first steps (omega arith) few)

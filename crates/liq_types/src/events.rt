@@ -24,9 +24,14 @@ pub enum PoolEvent {
 #[derive(Clone, Copy, Debug, PartialEq, Eq)]
 pub enum ListChange {
     /// The account's trove stands at this key from now on.
-    Put { key: i128, account: u32 },
+    Put {
+        key: i128,
+        account: u32,
+    },
     /// The account has no trove any more.
-    Gone { account: u32 },
+    Gone {
+        account: u32,
+    },
     /// The words from which a key is made, as they are now.
     Words {
         snap_stakes: u64,

@@ -37,43 +37,88 @@ pub enum Info {
 #[derive(Clone, Copy, Debug, PartialEq, Eq)]
 pub enum Refusal {
     /// 10: the price is outside its limits.
-    PriceRange { price: u64 },
+    PriceRange {
+        price: u64,
+    },
     /// 11: an amount that must not be 0 is 0.
     AmountZero,
     /// 12: a sum or a count would pass its limit.
-    AmountLimit { sum: u128, limit: u64 },
+    AmountLimit {
+        sum: u128,
+        limit: u64,
+    },
     /// 13: an account or a client is not below [`crate::amounts::ACCOUNTS`]; the first one of the line.
-    AccountRange { value: u32 },
+    AccountRange {
+        value: u32,
+    },
     /// 14: more collateral is needed than there is.
-    ShortCollateral { need: u64, have: u64 },
+    ShortCollateral {
+        need: u64,
+        have: u64,
+    },
     /// 15: more LUSD is needed than the wallet has.
-    ShortTokens { need: u64, have: u64 },
+    ShortTokens {
+        need: u64,
+        have: u64,
+    },
     /// 20: the account has a trove already.
-    TroveExists { account: u32 },
+    TroveExists {
+        account: u32,
+    },
     /// 21: the account has no trove.
-    NoTrove { account: u32 },
+    NoTrove {
+        account: u32,
+    },
     /// 22: the fee bound is above one or below the least rate.
-    FeeBound { bound: u64, least: u64 },
+    FeeBound {
+        bound: u64,
+        least: u64,
+    },
     /// 23: the fee is above its bound: `fee * 10^18` is above `bound * amount`.
-    FeeOver { left: u128, right: u128 },
+    FeeOver {
+        left: u128,
+        right: u128,
+    },
     /// 24: the debt beside the reserve would be too low.
-    NetDebtLow { net: u64, least: u64 },
+    NetDebtLow {
+        net: u64,
+        least: u64,
+    },
     /// 25: the trove's ratio would be too low.
-    RatioLow { left: u128, right: u128 },
+    RatioLow {
+        left: u128,
+        right: u128,
+    },
     /// 26: the ratio of the totals would be too low.
-    SystemRatioLow { left: u128, right: u128 },
+    SystemRatioLow {
+        left: u128,
+        right: u128,
+    },
     /// 27: Recovery Mode forbids the command.
-    RecoveryForbids { left: u128, right: u128 },
+    RecoveryForbids {
+        left: u128,
+        right: u128,
+    },
     /// 28: the trove's ratio would fall, in Recovery Mode.
-    RatioFalls { left: u128, right: u128 },
+    RatioFalls {
+        left: u128,
+        right: u128,
+    },
     /// 29: both ways at once: collateral in and out, or debt up and down.
-    BothWays { first: u64, second: u64 },
+    BothWays {
+        first: u64,
+        second: u64,
+    },
     /// 30: nothing would change.
     NoChange,
     /// 31: the last trove stays.
-    LastTrove { troves: u64 },
+    LastTrove {
+        troves: u64,
+    },
     /// 40: the account has no deposit.
-    NoDeposit { account: u32 },
+    NoDeposit {
+        account: u32,
+    },
     /// 41: the last trove of the list is below the least ratio.
     TroveUnder {
         account: u32,
@@ -81,7 +126,9 @@ pub enum Refusal {
         right: u128,
     },
     /// 42: the account has no gain.
-    NoGain { account: u32 },
+    NoGain {
+        account: u32,
+    },
     /// 50: the trove may not be liquidated.
     NotLiquidatable {
         coll: u64,
@@ -91,23 +138,46 @@ pub enum Refusal {
         total_debt: u64,
     },
     /// 51: the Stability Pool holds less than the trove's debt.
-    PoolTooSmall { total: u64, debt: u64 },
+    PoolTooSmall {
+        total: u64,
+        debt: u64,
+    },
     /// 52: a sum per stake would pass its limit.
-    SumLimit { sum: u128 },
+    SumLimit {
+        sum: u128,
+    },
     /// 60: it is too early to redeem.
-    Bootstrap { minute: u64, limit: u64 },
+    Bootstrap {
+        minute: u64,
+        limit: u64,
+    },
     /// 61: the ratio of the totals is below the least ratio.
-    SystemUnder { left: u128, right: u128 },
+    SystemUnder {
+        left: u128,
+        right: u128,
+    },
     /// 62: nothing could be redeemed.
-    NothingRedeemed { amount: u64, net: u64 },
+    NothingRedeemed {
+        amount: u64,
+        net: u64,
+    },
     /// 63: the fee would eat all that is drawn.
-    FeeEatsAll { fee: u64, drawn: u64 },
+    FeeEatsAll {
+        fee: u64,
+        drawn: u64,
+    },
     /// 64: the account has no surplus.
-    NoSurplus { account: u32 },
+    NoSurplus {
+        account: u32,
+    },
     /// 70: the number is neither the client's last nor its next.
-    OutOfTurn { expected: u64 },
+    OutOfTurn {
+        expected: u64,
+    },
     /// 81: the journal is full.
-    JournalFull { records: u64 },
+    JournalFull {
+        records: u64,
+    },
 }
 
 /// The protocol's reply to a request.
@@ -125,11 +195,7 @@ pub enum Answer {
     NoMemory,
     DiskFault,
     /// An earlier call met a disk fault; the disks' faults then.
-    Stopped {
-        faults: u64,
-    },
+    Stopped { faults: u64 },
     /// The history has as many entries as it may.
-    HistoryFull {
-        entries: u64,
-    },
+    HistoryFull { entries: u64 },
 }

@@ -1,6 +1,5 @@
-use Rattle.std.proofs.Common.{◌≡◌, ◌<◌, ap, sym, ◌∙◌, arith, subst}
+use Rattle.std.proofs.Common.{ap, sym, ◌∙◌, arith, subst}
 use Rattle.liq_types.specs.State.{State}
-use Rattle.liq_types.specs.declared.amounts.TheConstants.{RECORDS_MOST}
 use Rattle.std.specs.Prelude.{IsTrue}
 use Rattle.liq_core.specs.Core.{StandsFor, state_of}
 use Rattle.liq_core.specs.Plan.{Plan}
@@ -30,9 +29,9 @@ returns-clause-state g c s h =
     let same = c.planned.view_is in
     let built = subst (λ (p : Plan). IsTrue (built_call p.command.call)) same c.planned.invariant in
     let noted_is =
-        c.note.ensures
-        ∙ ap (λ (t : State). noted t c.planned.inside.command c.planned.inside.done) c.change.ensures.effect
-        ∙ ap (λ (p : Plan). noted (effect (state_of old) p.command.call) p.command p.done) same
-        ∙ ap (λ done. noted (effect (state_of old) c.args.planned.command.call) c.args.planned.command done) (c.requires.planned (state_of old) (stands_itself old)).done in
+    c.note.ensures
+    ∙ ap (λ (t : State). noted t c.planned.inside.command c.planned.inside.done) c.change.ensures.effect
+    ∙ ap (λ (p : Plan). noted (effect (state_of old) p.command.call) p.command p.done) same
+    ∙ ap (λ done. noted (effect (state_of old) c.args.planned.command.call) c.args.planned.command done) (c.requires.planned (state_of old) (stands_itself old)).done in
     subst (λ r. StandsFor c.note.new.self (after_ruling s c.args.planned.command r).0) (sym plan.allowed)
     (stands_after old c.note.new.self s c.args.planned.command built h noted_is)

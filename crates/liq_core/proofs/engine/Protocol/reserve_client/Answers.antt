@@ -1,6 +1,5 @@
 use Rattle.std.proofs.Common.{refl, ap, subst}
-use Rattle.liq_types.specs.State.{no_client, is_used_wallet, is_used_client}
-use Rattle.liq_types.specs.Tables.{rows}
+use Rattle.liq_types.specs.State.{no_client, is_used_client}
 use Rattle.liq_core.specs.Core.{Core, SameContent, image_of}
 use Rattle.liq_core.specs.Sound.{core_of}
 use Rattle.liq_core.proofs.UsedRows.{rows-reserve}
@@ -13,7 +12,7 @@ returns-clause-same c =
     subst (λ (core : Core). SameContent core new) c.self.view_is
     (record {
       image =
-        ap (λ clients. record (image_of old) { clients = clients })
-        (rows-reserve is_used_client old.clients c.reserve.new.map.entries c.args.client no_client refl c.reserve.ensures.rows);
+          ap (λ clients. record (image_of old) { clients = clients })
+          (rows-reserve is_used_client old.clients c.reserve.new.map.entries c.args.client no_client refl c.reserve.ensures.rows);
       records = refl;
     })

@@ -2,7 +2,7 @@ use Rattle.std.proofs.Common.{◌≡◌, ◌+◌, ap, subst, sym, ◌∙◌, ari
 use Rattle.std.specs.Prelude.{unwrap_or, sum_by}
 use Rattle.std.specs.Map.{values_of}
 use Rattle.liq_types.specs.declared.figures.Wallet.{Wallet}
-use Rattle.liq_types.specs.State.{no_wallet, is_used_wallet, is_used_client, with_wallet}
+use Rattle.liq_types.specs.State.{no_wallet, is_used_wallet, with_wallet}
 use Rattle.liq_types.specs.Tables.{Table, at, rows}
 use Rattle.liq_core.specs.Core.{Core, state_of}
 use Rattle.liq_core.specs.Sound.{core_of}
@@ -12,8 +12,8 @@ use Rattle.liq_core.proofs.engine.Protocol.set_wallet.Goals as goal
 pub invariant_of-self : goal.invariant_of-self
 invariant_of-self c =
     let moved =
-        subst (λ (core : Core). c.args.brought + (unwrap_or (at core.wallets c.args.account) no_wallet).coll ≡ core.brought + c.args.wallet.coll)
-        (sym c.self.view_is) c.requires.moved in
+    subst (λ (core : Core). c.args.brought + (unwrap_or (at core.wallets c.args.account) no_wallet).coll ≡ core.brought + c.args.wallet.coll)
+    (sym c.self.view_is) c.requires.moved in
     let put_sum = sum_by-put (λ (w : Wallet). w.coll) c.self.inside.wallets.entries c.args.account c.args.wallet no_wallet refl c.self.invariant.wallets_ascend in
     let written_sum = ap (λ (t : Table Wallet). sum_by (λ w. w.coll) (values_of t)) c.write.ensures.written in
     record {
