@@ -10,4 +10,5 @@ pub mod MapRows
 pub mod Places
 pub mod Runs
 pub mod Standing
+pub mod Started
 pub mod UsedRows

@@ -2,6 +2,8 @@
 -- start belong to earlier places than the start's, and what left the Stability Pool had come into it.
 use Rattle.std.specs.Prelude.{◌≡◌, ℕ, ◌+◌, ◌<◌, ◌≤◌, ◌⊎◌, length, sum_by}
 use Rattle.std.specs.List.{AllByRecursion}
+use Rattle.std.specs.Map.{values_of}
+use Rattle.liq_types.specs.declared.figures.Trove.{Trove}
 use Rattle.liq_types.specs.Image.{Image, Place}
 use Rattle.liq_types.specs.State.{State, Mark, AtStart, After, TroveEntry, DepositEntry, Offset}
 use Rattle.liq_types.specs.Tables.{Table}
@@ -35,3 +37,7 @@ IsWellFormed s =
     × TrovesAreMarked (length s.redistributions) s.troves
     × DepositsAreMarked (length s.offsets) s.deposits
     × IsPoolCovered s
+
+-- the stakes of an image's troves
+abbrev pub stakes_in : Image → ℕ
+stakes_in i = sum_by (λ (t : Trove). t.stake) (values_of i.troves)

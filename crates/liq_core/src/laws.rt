@@ -9,13 +9,13 @@ ghost use Rattle.liq_types.specs.declared.requests.Command.{Command};
 ghost use Rattle.liq_types.specs.declared.requests.Query.{Query};
 ghost use Rattle.liq_types.specs.declared.requests.Request.{Request};
 ghost use Rattle.liq_types.specs.declared.requests.Request.TheVariants.{Do, Ask};
-ghost use Rattle.liq_types.specs.Image.{opening_image};
-ghost use Rattle.liq_types.specs.State.{State, opening};
+ghost use Rattle.liq_types.specs.Image.{Image, opening_image};
+ghost use Rattle.liq_types.specs.State.{State, opening, started};
 ghost use Rattle.liq_core.specs.Identities.{IsConserved};
 ghost use Rattle.liq_core.specs.Image.{image};
 ghost use Rattle.liq_core.specs.Step.{Repeated, ruling, step, run, accepted};
 ghost use Rattle.liq_core.specs.Verbs.{unhinted};
-ghost use Rattle.liq_core.specs.WellFormed.{IsWellFormed};
+ghost use Rattle.liq_core.specs.WellFormed.{AreFinished, IsWellFormed, stakes_in};
 
 /// A refused request, a query and a command that comes again leave the state.
 pub fn only_new_commands_change()
@@ -63,4 +63,11 @@ pub fn states_are_well_formed()
     ensures opening { IsWellFormed opening }
     ensures step { (s : State) → IsWellFormed s → (request : Request) → IsWellFormed (step s request).0 }
     ensures run { (requests : List Request) → IsWellFormed (run opening requests).0 }
+{}
+
+/// An image whose stakes are those of its troves is the image of the state that begins with it. That state is well formed
+/// where the finished sums lie before the place of the current one.
+pub fn images_begin_states()
+    ensures same { (i : Image) → i.stakes ≡ stakes_in i → image (started i) ≡ i }
+    ensures formed { (i : Image) → AreFinished i → IsWellFormed (started i) }
 {}
