@@ -6,6 +6,7 @@ pub mod AlikeRedemption
 pub mod AlikeReplies
 pub mod AlikeStep
 pub mod Allowed
+pub mod Histories
 pub mod MapRows
 pub mod Places
 pub mod Runs

@@ -1,5 +1,7 @@
 -- Worked examples: requests from the opening on, and the replies to them. Client 1 makes them, with numbers that ascend.
 use Rattle.std.specs.Prelude.{ℕ, List, [], ◌∷◌}
+use Rattle.liq_types.specs.declared.events.PoolEvent.{PoolEvent}
+use Rattle.liq_types.specs.declared.events.PoolEvent.TheVariants.{Own, Offset}
 use Rattle.liq_types.specs.declared.replies.Info.TheVariants as info
 use Rattle.liq_types.specs.declared.replies.Refusal.TheVariants.{AmountLimit, AccountRange, FeeOver, NetDebtLow, RatioLow, RecoveryForbids, LastTrove, NoDeposit, TroveUnder, PoolTooSmall, Bootstrap, NoSurplus, OutOfTurn, ShortCollateral, AmountZero, FeeBound, PriceRange}
 use Rattle.liq_types.specs.declared.replies.Reply.{Reply}
@@ -440,4 +442,12 @@ time_and_bounds_replies =
     ∷ No (FeeBound 4999999999999999 5000000000000000)
     ∷ No (PriceRange 99999999)
     ∷ said 2 (3 ∷ [])
+    ∷ []
+
+-- what the commands on the Stability Pool and the other trove do to the pool
+abbrev pub pool_and_others_events : List PoolEvent
+pool_and_others_events =
+    Own 2 4000000000 0 0 4000000000
+    ∷ Offset 4000000000 9431279620 4000000000 0
+    ∷ Own 2 0 0 9431279620 0
     ∷ []

@@ -1,10 +1,10 @@
 -- A legal history: every entry's reply is the step's in the state after all entries before it, and each session's own
 -- calls are counted 1, 2, 3 and so on.
-use Rattle.std.specs.Prelude.{◌≡◌, ℕ, ◌+◌, ◌==◌, List, [], ◌∷◌, map, filter}
+use Rattle.std.specs.Prelude.{◌≡◌, ℕ, ◌+◌, ◌==◌, List, [], ◌∷◌, map, filter, length}
 use Rattle.liq_types.specs.declared.replies.Reply.{Reply}
 use Rattle.liq_types.specs.declared.requests.Request.{Request}
 use Rattle.liq_types.specs.State.{State}
-use Rattle.liq_core.specs.Step.{run}
+use Rattle.liq_core.specs.Step.{step, run}
 
 pub record Entry : Type 0 where
   pub session : ℕ
@@ -33,3 +33,8 @@ pub record IsLegal (s : State) (entries : List Entry) : Type 0 where
 -- the state after the entries
 abbrev pub state_after : State → List Entry → State
 state_after s entries = (run s (requests_of entries)).0
+
+-- a further call of its session, with the reply of the state after all entries before it
+pub record GoesOn (s : State) (entries : List Entry) (e : Entry) : Type 0 where
+  pub reply_is : e.reply ≡ (step (state_after s entries) e.request).1
+  pub index_is : e.index ≡ length (own_entries e.session entries) + 1

@@ -1,10 +1,16 @@
 //! Worked examples: what the rules give, run by hand. The functions here do nothing; each is the place where the facts of
 //! its contract are proved.
 
-ghost use Rattle.std.specs.Prelude.{◌≡◌};
+ghost use Rattle.std.specs.Prelude.{◌≡◌, [], ◌∷◌, pos, take};
+ghost use Rattle.liq_types.specs.declared.events.ListChange.TheVariants.{Put, Gone, Words};
+ghost use Rattle.liq_types.specs.declared.requests.Call.TheVariants.{Open, Liquidate};
 ghost use Rattle.liq_types.specs.State.{opening};
-ghost use Rattle.liq_core.specs.Step.{run};
-ghost use Rattle.liq_core.specs.Examples.{a_trove_opens, a_trove_opens_replies, too_little_debt, too_little_debt_replies, both_ratios_exact, both_ratios_exact_replies, a_gwei_too_little, a_gwei_too_little_replies, pool_and_others, pool_and_others_replies, in_and_out, in_and_out_replies, trove_under, trove_under_replies, at_the_whole, at_the_whole_replies, pool_too_small, pool_too_small_replies, capped_lowest, capped_lowest_replies, capped_single, capped_single_replies, redemption, redemption_replies, redemption_stops, redemption_stops_replies, numbers, numbers_replies, last_trove, last_trove_replies, limits, limits_replies, bringing_in, bringing_in_replies, nothing_yet, nothing_yet_replies, rotation, rotation_replies, taking_out, taking_out_replies, time_and_bounds, time_and_bounds_replies};
+ghost use Rattle.liq_stability.specs.Lawful.{IsLawful};
+ghost use Rattle.liq_core.specs.Changes.{events, call_changes};
+ghost use Rattle.liq_core.specs.Dust.{dust};
+ghost use Rattle.liq_core.specs.Step.{run, accepted};
+ghost use Rattle.liq_core.specs.Verbs.{no_hint};
+ghost use Rattle.liq_core.specs.Examples.{a_trove_opens, a_trove_opens_replies, too_little_debt, too_little_debt_replies, both_ratios_exact, both_ratios_exact_replies, a_gwei_too_little, a_gwei_too_little_replies, pool_and_others, pool_and_others_replies, in_and_out, in_and_out_replies, trove_under, trove_under_replies, at_the_whole, at_the_whole_replies, pool_too_small, pool_too_small_replies, capped_lowest, capped_lowest_replies, capped_single, capped_single_replies, redemption, redemption_replies, redemption_stops, redemption_stops_replies, numbers, numbers_replies, last_trove, last_trove_replies, limits, limits_replies, bringing_in, bringing_in_replies, nothing_yet, nothing_yet_replies, rotation, rotation_replies, taking_out, taking_out_replies, time_and_bounds, time_and_bounds_replies, pool_and_others_events};
 
 /// The first trove, with its fee and its reserve.
 pub fn a_trove_opens_example()
@@ -109,4 +115,21 @@ pub fn taking_out_example()
 /// Time, its limit, the limits of the price and the least bound of a fee.
 pub fn time_and_bounds_example()
     ensures { (run opening time_and_bounds).1 ≡ time_and_bounds_replies }
+{}
+
+/// What an example's commands do to the Stability Pool, and that these are lawful events.
+pub fn events_example()
+    ensures events { events opening (accepted opening pool_and_others) ≡ pool_and_others_events }
+    ensures lawful { IsLawful opening pool_and_others_events }
+{}
+
+/// What opening, liquidating and closing do to the ordered list.
+pub fn changes_example()
+    ensures opened { call_changes (run opening bringing_in).0 (Open 1 10000000000 4000000000 1000000000000000000 no_hint) ≡ Put (pos 422000000000000000) 1 ∷ [] }
+    ensures liquidated { call_changes (run opening (take 6 pool_and_others)).0 (Liquidate 3 1) ≡ Gone 1 ∷ Words 100000000000 100518720380 2200000000000000 ∷ [] }
+{}
+
+/// A unit of collateral and of debt stays in the default pool, and no pool owes more than it has.
+pub fn dust_example()
+    ensures { dust (run opening at_the_whole).0 ≡ record { pool_total = pos 0; pool_coll = pos 0; default_coll = pos 1; default_debt = pos 1 } }
 {}

@@ -1,7 +1,7 @@
 //! What holds of the step and of whole runs. The functions here do nothing: each is the place where the facts of its
 //! contract are proved.
 
-ghost use Rattle.std.specs.Prelude.{◌≡◌, ◌++◌, List, map};
+ghost use Rattle.std.specs.Prelude.{◌≡◌, ◌++◌, List, [], ◌∷◌, map};
 ghost use Rattle.liq_types.specs.declared.replies.Done.{Done};
 ghost use Rattle.liq_types.specs.declared.replies.Refusal.{Refusal};
 ghost use Rattle.liq_types.specs.declared.replies.Reply.TheVariants.{Said, No};
@@ -11,6 +11,7 @@ ghost use Rattle.liq_types.specs.declared.requests.Request.{Request};
 ghost use Rattle.liq_types.specs.declared.requests.Request.TheVariants.{Do, Ask};
 ghost use Rattle.liq_types.specs.Image.{Image, opening_image};
 ghost use Rattle.liq_types.specs.State.{State, opening, started};
+ghost use Rattle.liq_core.specs.History.{Entry, IsLegal, GoesOn, state_after};
 ghost use Rattle.liq_core.specs.Identities.{IsConserved};
 ghost use Rattle.liq_core.specs.Image.{image};
 ghost use Rattle.liq_core.specs.Step.{Repeated, ruling, step, run, accepted};
@@ -70,4 +71,12 @@ pub fn states_are_well_formed()
 pub fn images_begin_states()
     ensures same { (i : Image) → i.stakes ≡ stakes_in i → image (started i) ≡ i }
     ensures formed { (i : Image) → AreFinished i → IsWellFormed (started i) }
+{}
+
+/// A legal history stays legal when a further call of a session, counted on, gets the step's reply; and the state after it
+/// is then the step's.
+pub fn histories_grow()
+    ensures empty { (s : State) → IsLegal s [] }
+    ensures legal { (s : State) → (entries : List Entry) → (e : Entry) → IsLegal s entries → GoesOn s entries e → IsLegal s (entries ++ e ∷ []) }
+    ensures state { (s : State) → (entries : List Entry) → (e : Entry) → state_after s (entries ++ e ∷ []) ≡ (step (state_after s entries) e.request).0 }
 {}
