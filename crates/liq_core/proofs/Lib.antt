@@ -8,6 +8,7 @@ pub mod AlikeStep
 pub mod Allowed
 pub mod Histories
 pub mod MapRows
+pub mod Moving
 pub mod Places
 pub mod Runs
 pub mod Standing

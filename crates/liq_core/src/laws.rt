@@ -1,7 +1,7 @@
 //! What holds of the step and of whole runs. The functions here do nothing: each is the place where the facts of its
 //! contract are proved.
 
-ghost use Rattle.std.specs.Prelude.{◌≡◌, ◌++◌, List, [], ◌∷◌, map};
+ghost use Rattle.std.specs.Prelude.{◌≡◌, ℕ, ◌+◌, ◌≤◌, ◌++◌, List, [], ◌∷◌, map};
 ghost use Rattle.liq_types.specs.declared.replies.Done.{Done};
 ghost use Rattle.liq_types.specs.declared.replies.Refusal.{Refusal};
 ghost use Rattle.liq_types.specs.declared.replies.Reply.TheVariants.{Said, No};
@@ -10,9 +10,10 @@ ghost use Rattle.liq_types.specs.declared.requests.Query.{Query};
 ghost use Rattle.liq_types.specs.declared.requests.Request.{Request};
 ghost use Rattle.liq_types.specs.declared.requests.Request.TheVariants.{Do, Ask};
 ghost use Rattle.liq_types.specs.Image.{Image, opening_image};
-ghost use Rattle.liq_types.specs.State.{State, opening, started};
+ghost use Rattle.liq_types.specs.State.{State, opening, started, wallet_of};
+ghost use Rattle.liq_types.specs.Payments.{paid, charged};
 ghost use Rattle.liq_core.specs.History.{Entry, IsLegal, GoesOn, state_after};
-ghost use Rattle.liq_core.specs.Identities.{IsConserved};
+ghost use Rattle.liq_core.specs.Identities.{IsConserved, WalletsAscend, wallets_coll, wallets_lusd};
 ghost use Rattle.liq_core.specs.Image.{image};
 ghost use Rattle.liq_core.specs.Step.{Repeated, ruling, step, run, accepted};
 ghost use Rattle.liq_core.specs.Verbs.{unhinted};
@@ -79,4 +80,12 @@ pub fn histories_grow()
     ensures empty { (s : State) → IsLegal s [] }
     ensures legal { (s : State) → (entries : List Entry) → (e : Entry) → IsLegal s entries → GoesOn s entries e → IsLegal s (entries ++ e ∷ []) }
     ensures state { (s : State) → (entries : List Entry) → (e : Entry) → state_after s (entries ++ e ∷ []) ≡ (step (state_after s entries) e.request).0 }
+{}
+
+/// A payment moves exactly its amounts: what all wallets have grows by what is paid, and shrinks by what is charged.
+pub fn payments_move_exactly()
+    ensures paid_coll { (s : State) → (account coll lusd : ℕ) → WalletsAscend s → wallets_coll (paid s account coll lusd) ≡ wallets_coll s + coll }
+    ensures paid_lusd { (s : State) → (account coll lusd : ℕ) → WalletsAscend s → wallets_lusd (paid s account coll lusd) ≡ wallets_lusd s + lusd }
+    ensures charged_coll { (s : State) → (account coll lusd : ℕ) → WalletsAscend s → coll ≤ (wallet_of s account).coll → wallets_coll (charged s account coll lusd) + coll ≡ wallets_coll s }
+    ensures charged_lusd { (s : State) → (account coll lusd : ℕ) → WalletsAscend s → lusd ≤ (wallet_of s account).lusd → wallets_lusd (charged s account coll lusd) + lusd ≡ wallets_lusd s }
 {}
