@@ -6,6 +6,7 @@ pub mod AlikeRedemption
 pub mod AlikeReplies
 pub mod AlikeStep
 pub mod Allowed
+pub mod Ascending
 pub mod Histories
 pub mod MapRows
 pub mod Moving

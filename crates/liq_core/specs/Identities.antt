@@ -1,10 +1,9 @@
 -- What is conserved: every gwei and every micro-LUSD has one home.
 use Rattle.std.specs.Prelude.{◌≡◌, ℕ, ◌+◌, ◌*◌, sum, sum_by}
-use Rattle.std.specs.List.Sorted.{IsStrictlySortedBy}
-use Rattle.std.specs.Map.{keys_of, values_of}
-use Rattle.std.specs.Ordering.{nat_cmp}
+use Rattle.std.specs.Map.{values_of}
 use Rattle.liq_types.specs.declared.amounts.TheConstants.{RESERVE}
 use Rattle.liq_types.specs.declared.figures.Wallet.{Wallet}
+use Rattle.liq_core.specs.WellFormed.{Ascends}
 use Rattle.liq_types.specs.State.{State, TroveEntry}
 use Rattle.liq_types.specs.Totals.{total_debt, trove_count, pool_total, pool_coll}
 
@@ -16,7 +15,7 @@ wallets_lusd s = sum_by (λ (w : Wallet). w.lusd) (values_of s.wallets)
 
 -- the table of wallets has each account once, in order
 abbrev pub WalletsAscend : State → Type 0
-WalletsAscend s = IsStrictlySortedBy nat_cmp (keys_of s.wallets)
+WalletsAscend s = Ascends s.wallets
 
 -- the six homes of collateral
 abbrev pub coll_homes : State → ℕ

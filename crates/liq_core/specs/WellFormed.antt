@@ -2,7 +2,9 @@
 -- start belong to earlier places than the start's, and what left the Stability Pool had come into it.
 use Rattle.std.specs.Prelude.{◌≡◌, ℕ, ◌+◌, ◌<◌, ◌≤◌, ◌⊎◌, length, sum_by}
 use Rattle.std.specs.List.{AllByRecursion}
-use Rattle.std.specs.Map.{values_of}
+use Rattle.std.specs.List.Sorted.{IsStrictlySortedBy}
+use Rattle.std.specs.Map.{keys_of, values_of}
+use Rattle.std.specs.Ordering.{nat_cmp}
 use Rattle.liq_types.specs.declared.figures.Trove.{Trove}
 use Rattle.liq_types.specs.Image.{Image, Place}
 use Rattle.liq_types.specs.State.{State, Mark, AtStart, After, TroveEntry, DepositEntry, Offset}
@@ -41,3 +43,10 @@ IsWellFormed s =
 -- the stakes of an image's troves
 abbrev pub stakes_in : Image → ℕ
 stakes_in i = sum_by (λ (t : Trove). t.stake) (values_of i.troves)
+
+-- a table has each key once, in order
+abbrev pub Ascends : {X : Type 0} → Table X → Type 0
+Ascends table = IsStrictlySortedBy nat_cmp (keys_of table)
+
+abbrev pub TablesAscend : State → Type 0
+TablesAscend s = Ascends s.wallets × Ascends s.troves × Ascends s.surplus_rows × Ascends s.deposits × Ascends s.clients

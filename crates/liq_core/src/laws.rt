@@ -17,7 +17,7 @@ ghost use Rattle.liq_core.specs.Identities.{IsConserved, WalletsAscend, wallets_
 ghost use Rattle.liq_core.specs.Image.{image};
 ghost use Rattle.liq_core.specs.Step.{Repeated, ruling, step, run, accepted};
 ghost use Rattle.liq_core.specs.Verbs.{unhinted};
-ghost use Rattle.liq_core.specs.WellFormed.{AreFinished, IsWellFormed, stakes_in};
+ghost use Rattle.liq_core.specs.WellFormed.{AreFinished, IsWellFormed, TablesAscend, stakes_in};
 
 /// A refused request, a query and a command that comes again leave the state.
 pub fn only_new_commands_change()
@@ -88,4 +88,10 @@ pub fn payments_move_exactly()
     ensures paid_lusd { (s : State) → (account coll lusd : ℕ) → WalletsAscend s → wallets_lusd (paid s account coll lusd) ≡ wallets_lusd s + lusd }
     ensures charged_coll { (s : State) → (account coll lusd : ℕ) → WalletsAscend s → coll ≤ (wallet_of s account).coll → wallets_coll (charged s account coll lusd) + coll ≡ wallets_coll s }
     ensures charged_lusd { (s : State) → (account coll lusd : ℕ) → WalletsAscend s → lusd ≤ (wallet_of s account).lusd → wallets_lusd (charged s account coll lusd) + lusd ≡ wallets_lusd s }
+{}
+
+/// The tables of every state that is reached from the opening are in the order of their keys, and a step keeps them so.
+pub fn tables_stay_in_order()
+    ensures step { (s : State) → TablesAscend s → (request : Request) → TablesAscend (step s request).0 }
+    ensures run { (requests : List Request) → TablesAscend (run opening requests).0 }
 {}
