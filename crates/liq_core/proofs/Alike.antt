@@ -194,6 +194,15 @@ own-image s h account put_in out =
     ∙ ap (λ n. record (own (image s) account put_in out gain left) { pool_coll = n })
     (own_coll (s.start.pool_coll + sum_by (λ (o : Offset). o.coll) s.offsets) s.gains_paid gain)
 
+-- the pool after an own operation
+pub owned_total : (s : State) → IsWellFormed s → (account put_in out : ℕ) → pool_total (owned s account put_in out) ≡ pool_total s + put_in - out
+unfolding own
+owned_total s w account put_in out = ap (λ (i : Image). i.total) (own-image s w account put_in out)
+
+pub owned_coll : (s : State) → IsWellFormed s → (account put_in out : ℕ) → pool_coll (owned s account put_in out) ≡ pool_coll s - gain_of s account
+unfolding own
+owned_coll s w account put_in out = ap (λ (i : Image). i.pool_coll) (own-image s w account put_in out)
+
 -- an offset
 pub offset_by : Image → ℕ → ℕ → Image
 offset_by i debt coll =

@@ -52,11 +52,11 @@ with_deposit-marked n table account d k h = by (d.amount == 0) where
   by true = all-without (λ (x : DepositEntry). IsMoment n x.mark) table account h
   by false = all-put (λ (x : DepositEntry). IsMoment n x.mark) table account d k h
 
-balance_within : (s : State) (o : Option DepositEntry) → balance_in s o ≤ pool_total s
+pub balance_within : (s : State) (o : Option DepositEntry) → balance_in s o ≤ pool_total s
 balance_within s None = omega arith
 balance_within s (Some d) = omega arith
 
-gain_within : (s : State) (o : Option DepositEntry) → gain_in s o ≤ pool_coll s
+pub gain_within : (s : State) (o : Option DepositEntry) → gain_in s o ≤ pool_coll s
 gain_within s None = omega arith
 gain_within s (Some d) = omega arith
 

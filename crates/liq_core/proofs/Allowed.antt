@@ -59,7 +59,7 @@ allowed_rules s c h =
     (none_before (map in_range (accounts c.call) ++ rules s c.call) (room_rules s c)
     (none_first (in_turn s c) (later_tests s c) (passes s c h)).1)
 
-second_false : (first second : Rule) → first_refusal (first ∷ second ∷ []) ≡ None → second.0 ≡ false
+pub second_false : (first second : Rule) → first_refusal (first ∷ second ∷ []) ≡ None → second.0 ≡ false
 second_false first second h = (none_first second [] (none_first first (second ∷ []) h).1).0
 
 pub fund_within : (s : State) (account coll : ℕ) → first_refusal (rules s (Fund account coll)) ≡ None → s.brought + coll ≤ LIM

@@ -88,7 +88,7 @@ module _ {X : Type 0} where
 pub record Ordered (s : State) : Type 0 where
   pub tables : TablesAscend s
 
-wallet-ascends : (table : Table Wallet) (account : ℕ) (w : Wallet) → Ascends table → Ascends (with_wallet table account w)
+pub wallet-ascends : (table : Table Wallet) (account : ℕ) (w : Wallet) → Ascends table → Ascends (with_wallet table account w)
 wallet-ascends table account w h = either-ascends (is_used_wallet w) table account w h
 
 pub paid-ascends : {s : State} (account coll lusd : ℕ) → Ordered s → Ordered (paid s account coll lusd)

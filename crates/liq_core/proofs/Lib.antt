@@ -7,6 +7,7 @@ pub mod AlikeReplies
 pub mod AlikeStep
 pub mod Allowed
 pub mod Ascending
+pub mod Conserving
 pub mod Histories
 pub mod MapRows
 pub mod Moving

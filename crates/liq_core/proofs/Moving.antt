@@ -19,7 +19,7 @@ read_or f z None = sym z
 read_or f z (Some w) = refl
 
 -- a wallet is exchanged for another
-exchanged : (f : Wallet → ℕ) → f no_wallet ≡ 0 → ((w : Wallet) → is_used_wallet w ≡ false → f w ≡ 0) → (table : Table Wallet) (account : ℕ) (w : Wallet) → IsStrictlySortedBy nat_cmp (keys_of table) → sum_by f (values_of (with_wallet table account w)) + f (unwrap_or (at table account) no_wallet) ≡ sum_by f (values_of table) + f w
+pub exchanged : (f : Wallet → ℕ) → f no_wallet ≡ 0 → ((w : Wallet) → is_used_wallet w ≡ false → f w ≡ 0) → (table : Table Wallet) (account : ℕ) (w : Wallet) → IsStrictlySortedBy nat_cmp (keys_of table) → sum_by f (values_of (with_wallet table account w)) + f (unwrap_or (at table account) no_wallet) ≡ sum_by f (values_of table) + f w
 exchanged f z unused table account w s = by (is_used_wallet w) refl where
   by : (b : Bool) → is_used_wallet w ≡ b → sum_by f (values_of (cond b (put table account w) (without table account))) + f (unwrap_or (at table account) no_wallet) ≡ sum_by f (values_of table) + f w
   by true e = sum_by-put f table account w no_wallet z s
@@ -29,10 +29,10 @@ exchanged f z unused table account w s = by (is_used_wallet w) refl where
       let none = unused w e in
       omega (arith, left, had, none)
 
-unused_coll : (w : Wallet) → is_used_wallet w ≡ false → w.coll ≡ 0
+pub unused_coll : (w : Wallet) → is_used_wallet w ≡ false → w.coll ≡ 0
 unused_coll w h = grind (arith, nat_tests, h)
 
-unused_lusd : (w : Wallet) → is_used_wallet w ≡ false → w.lusd ≡ 0
+pub unused_lusd : (w : Wallet) → is_used_wallet w ≡ false → w.lusd ≡ 0
 unused_lusd w h = grind (arith, nat_tests, h)
 
 module _ (s : State) (account coll lusd : ℕ) (ascend : WalletsAscend s) where

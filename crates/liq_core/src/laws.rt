@@ -1,10 +1,11 @@
 //! What holds of the step and of whole runs. The functions here do nothing: each is the place where the facts of its
 //! contract are proved.
 
-ghost use Rattle.std.specs.Prelude.{◌≡◌, ℕ, ◌+◌, ◌≤◌, ◌++◌, List, [], ◌∷◌, map};
+ghost use Rattle.std.specs.Prelude.{◌≡◌, ℕ, ◌+◌, ◌≤◌, ◌++◌, List, [], ◌∷◌, map, true, None};
 ghost use Rattle.liq_types.specs.declared.replies.Done.{Done};
 ghost use Rattle.liq_types.specs.declared.replies.Refusal.{Refusal};
 ghost use Rattle.liq_types.specs.declared.replies.Reply.TheVariants.{Said, No};
+ghost use Rattle.liq_types.specs.declared.requests.Call.{Call};
 ghost use Rattle.liq_types.specs.declared.requests.Command.{Command};
 ghost use Rattle.liq_types.specs.declared.requests.Query.{Query};
 ghost use Rattle.liq_types.specs.declared.requests.Request.{Request};
@@ -13,9 +14,9 @@ ghost use Rattle.liq_types.specs.Image.{Image, opening_image};
 ghost use Rattle.liq_types.specs.State.{State, opening, started, wallet_of};
 ghost use Rattle.liq_types.specs.Payments.{paid, charged};
 ghost use Rattle.liq_core.specs.History.{Entry, IsLegal, GoesOn, state_after};
-ghost use Rattle.liq_core.specs.Identities.{IsConserved, WalletsAscend, wallets_coll, wallets_lusd};
+ghost use Rattle.liq_core.specs.Identities.{IsConserved, WalletsAscend, touches_no_trove, wallets_coll, wallets_lusd};
 ghost use Rattle.liq_core.specs.Image.{image};
-ghost use Rattle.liq_core.specs.Step.{Repeated, ruling, step, run, accepted};
+ghost use Rattle.liq_core.specs.Step.{Repeated, ruling, step, run, accepted, rules, effect, first_refusal};
 ghost use Rattle.liq_core.specs.Verbs.{unhinted};
 ghost use Rattle.liq_core.specs.WellFormed.{AreFinished, IsWellFormed, TablesAscend, stakes_in};
 
@@ -94,4 +95,10 @@ pub fn payments_move_exactly()
 pub fn tables_stay_in_order()
     ensures step { (s : State) → TablesAscend s → (request : Request) → TablesAscend (step s request).0 }
     ensures run { (requests : List Request) → TablesAscend (run opening requests).0 }
+{}
+
+/// What is conserved is kept by every allowed call that touches no trove: its collateral and LUSD only change their home, or
+/// come in and go out.
+pub fn calls_without_troves_conserve()
+    ensures { (s : State) → (call : Call) → touches_no_trove call ≡ true → IsWellFormed s → TablesAscend s → first_refusal (rules s call) ≡ None → IsConserved s → IsConserved (effect s call) }
 {}
