@@ -11,6 +11,7 @@ pub mod Conserving
 pub mod Histories
 pub mod MapRows
 pub mod Moving
+pub mod Opening
 pub mod Places
 pub mod Runs
 pub mod Standing

@@ -5,7 +5,9 @@ ghost use Rattle.std.specs.Prelude.{◌≡◌, ℕ, ◌+◌, ◌≤◌, ◌++◌
 ghost use Rattle.liq_types.specs.declared.replies.Done.{Done};
 ghost use Rattle.liq_types.specs.declared.replies.Refusal.{Refusal};
 ghost use Rattle.liq_types.specs.declared.replies.Reply.TheVariants.{Said, No};
+ghost use Rattle.liq_types.specs.declared.hints.HintWords.{HintWords};
 ghost use Rattle.liq_types.specs.declared.requests.Call.{Call};
+ghost use Rattle.liq_types.specs.declared.requests.Call.TheVariants.{Open};
 ghost use Rattle.liq_types.specs.declared.requests.Command.{Command};
 ghost use Rattle.liq_types.specs.declared.requests.Query.{Query};
 ghost use Rattle.liq_types.specs.declared.requests.Request.{Request};
@@ -101,4 +103,9 @@ pub fn tables_stay_in_order()
 /// come in and go out.
 pub fn calls_without_troves_conserve()
     ensures { (s : State) → (call : Call) → touches_no_trove call ≡ true → IsWellFormed s → TablesAscend s → first_refusal (rules s call) ≡ None → IsConserved s → IsConserved (effect s call) }
+{}
+
+/// What is conserved is kept when a trove opens.
+pub fn opening_a_trove_conserves()
+    ensures { (s : State) → (account coll borrow bound : ℕ) → (hint : HintWords) → TablesAscend s → first_refusal (rules s (Open account coll borrow bound hint)) ≡ None → IsConserved s → IsConserved (effect s (Open account coll borrow bound hint)) }
 {}
