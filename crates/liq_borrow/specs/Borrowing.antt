@@ -3,7 +3,6 @@ use Rattle.std.specs.Prelude.{ℕ, ◌+◌, ◌-◌, ◌*◌, ◌==◌, ◌&&◌
 use Rattle.liq_types.specs.declared.amounts.TheConstants.{LIM, MCR, CCR, RESERVE, MIN_NET, FLOOR_RATE}
 use Rattle.liq_types.specs.declared.figures.Market.{Market}
 use Rattle.liq_types.specs.declared.figures.Wallet.{Wallet}
-use Rattle.liq_types.specs.declared.replies.Refusal.{Refusal}
 use Rattle.liq_types.specs.declared.replies.Refusal.TheVariants.{AmountLimit, ShortCollateral, ShortTokens, TroveExists, NoTrove, NetDebtLow, RatioLow, SystemRatioLow, RecoveryForbids, RatioFalls, BothWays, NoChange, NoGain}
 use Rattle.liq_types.specs.Rules.{Rule, where_below, where_short, where_above, only_where, last_trove_stays}
 use Rattle.liq_types.specs.Totals.{worth, asked, is_recovery, is_normal}

@@ -1,6 +1,6 @@
 -- What is known of a command that is allowed.
-use Rattle.std.proofs.Common.{◌≡◌, ℕ, ◌+◌, ◌≤◌, Bool, true, false, not, nat_eq, nat_lt, cond, List, [], ◌∷◌, ◌++◌, Some, None, Option, refl, ap, ◌∙◌, arith}
-use Rattle.std.specs.Prelude.{IsTrue, map, ◌&&◌, ◌==◌}
+use Rattle.std.proofs.Common.{◌≡◌, ℕ, ◌+◌, ◌≤◌, Bool, true, false, nat_lt, cond, List, [], ◌∷◌, ◌++◌, Some, None, Option, refl, ap, ◌∙◌, arith}
+use Rattle.std.specs.Prelude.{IsTrue, map, ◌==◌}
 use Rattle.std.proofs.lemmas.Bool.Decides.{nat_tests}
 use Rattle.liq_types.specs.declared.amounts.TheConstants.{LIM}
 use Rattle.liq_types.specs.declared.replies.Done.{Done}
@@ -11,7 +11,7 @@ use Rattle.liq_types.specs.declared.requests.Call.TheVariants.{Fund, Take}
 use Rattle.liq_types.specs.declared.requests.Command.{Command}
 use Rattle.liq_types.specs.Rules.{Rule, first_refusal}
 use Rattle.liq_types.specs.State.{State, wallet_of, client_of}
-use Rattle.liq_core.specs.Step.{Ruling, Refused, Repeated, Allowed, unless_refused, ruling, rules, accounts, in_range, in_turn, is_repeated, tests, room_rules, effect, built_call}
+use Rattle.liq_core.specs.Step.{Ruling, Repeated, Allowed, unless_refused, ruling, rules, accounts, in_range, in_turn, is_repeated, tests, room_rules, effect, built_call}
 use Rattle.liq_core.specs.Verbs.{rotates}
 
 unless_allowed : (o : Option Refusal) (r : Ruling) → unless_refused o r ≡ Allowed → (o ≡ None) × (r ≡ Allowed)
@@ -59,7 +59,7 @@ allowed_rules s c h =
     (none_before (map in_range (accounts c.call) ++ rules s c.call) (room_rules s c)
     (none_first (in_turn s c) (later_tests s c) (passes s c h)).1)
 
-second_false : (first second : Rule) → first_refusal (first ∷ second ∷ []) ≡ None → second.0 ≡ false
+pub second_false : (first second : Rule) → first_refusal (first ∷ second ∷ []) ≡ None → second.0 ≡ false
 second_false first second h = (none_first second [] (none_first first (second ∷ []) h).1).0
 
 pub fund_within : (s : State) (account coll : ℕ) → first_refusal (rules s (Fund account coll)) ≡ None → s.brought + coll ≤ LIM

@@ -1,11 +1,11 @@
 -- The states for which a core stands, and what is read of them.
-use Rattle.std.proofs.Common.{◌≡◌, ℕ, Bool, true, false, cond, refl, ap, sym, ◌∙◌, arith, not, nat_eq, ◌<◌, Some, None, Option}
-use Rattle.std.specs.Prelude.{unwrap_or, ◌==◌, ◌&&◌, ◌+◌, IsTrue}
+use Rattle.std.proofs.Common.{◌≡◌, ℕ, true, false, cond, refl, ap, sym, ◌∙◌, arith, ◌<◌, Some, None, Option}
+use Rattle.std.specs.Prelude.{unwrap_or, ◌+◌, IsTrue}
 use Rattle.liq_types.specs.declared.figures.Wallet.{Wallet}
 use Rattle.liq_types.specs.declared.figures.Client.{Client}
 use Rattle.liq_types.specs.Image.{Image, opening_image}
 use Rattle.liq_types.specs.State.{State, started, no_wallet, no_client, is_used_wallet, is_used_client, wallet_of, client_of}
-use Rattle.liq_types.specs.Tables.{Table, at}
+use Rattle.liq_types.specs.Tables.{at}
 use Rattle.liq_types.specs.declared.requests.Call.{Call}
 use Rattle.liq_types.specs.declared.requests.Call.TheVariants.{Fund, Take}
 use Rattle.liq_types.specs.declared.requests.Command.{Command}

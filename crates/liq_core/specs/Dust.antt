@@ -1,5 +1,5 @@
 -- Dust: what rounding leaves in the pools beyond all that is owed from them.
-use Rattle.std.specs.Prelude.{ℕ, ℤ, pos, ◌-ℤ◌, ◌≤ℤ◌, map, sum, sum_by}
+use Rattle.std.specs.Prelude.{ℤ, pos, ◌-ℤ◌, ◌≤ℤ◌, map, sum, sum_by}
 use Rattle.std.specs.Map.{keys_of, values_of}
 use Rattle.liq_types.specs.State.{State}
 use Rattle.liq_types.specs.Totals.{pool_total, pool_coll}

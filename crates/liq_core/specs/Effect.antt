@@ -1,5 +1,5 @@
 -- What each verb does, and what its reply shows.
-use Rattle.std.specs.Prelude.{ℕ, ◌+◌, ◌-◌, min, Result, Ok, Err, List, [], ◌∷◌, ◌++◌, take, fold, length, replicate, sum_by, if◌then◌else◌}
+use Rattle.std.specs.Prelude.{ℕ, ◌+◌, ◌-◌, min, Result, Ok, Err, List, [], ◌∷◌, ◌++◌, take, fold, length, replicate, sum_by}
 use Rattle.liq_types.specs.declared.amounts.TheConstants.{RESERVE}
 use Rattle.liq_types.specs.declared.replies.Done.{Done}
 use Rattle.liq_types.specs.declared.replies.Refusal.{Refusal}

@@ -1,11 +1,13 @@
 -- Worked examples: requests from the opening on, and the replies to them. Client 1 makes them, with numbers that ascend.
 use Rattle.std.specs.Prelude.{ℕ, List, [], ◌∷◌}
+use Rattle.liq_types.specs.declared.events.PoolEvent.{PoolEvent}
+use Rattle.liq_types.specs.declared.events.PoolEvent.TheVariants.{Own, Offset}
 use Rattle.liq_types.specs.declared.replies.Info.TheVariants as info
-use Rattle.liq_types.specs.declared.replies.Refusal.TheVariants.{AmountLimit, AccountRange, FeeOver, NetDebtLow, RatioLow, RecoveryForbids, LastTrove, NoDeposit, TroveUnder, PoolTooSmall, Bootstrap, NoSurplus, OutOfTurn}
+use Rattle.liq_types.specs.declared.replies.Refusal.TheVariants.{AmountLimit, AccountRange, FeeOver, NetDebtLow, RatioLow, RecoveryForbids, LastTrove, NoDeposit, TroveUnder, PoolTooSmall, Bootstrap, NoSurplus, OutOfTurn, ShortCollateral, AmountZero, FeeBound, PriceRange}
 use Rattle.liq_types.specs.declared.replies.Reply.{Reply}
 use Rattle.liq_types.specs.declared.replies.Reply.TheVariants.{Said, Told, No}
 use Rattle.liq_types.specs.declared.requests.Call.{Call}
-use Rattle.liq_types.specs.declared.requests.Call.TheVariants.{Price, Advance, Fund, Take, Send, Open, Adjust, Close, Provide, Withdraw, GainToTrove, Liquidate, LiquidateLowest, Redeem, Claim, Rotate}
+use Rattle.liq_types.specs.declared.requests.Call.TheVariants.{Price, Advance, Fund, Send, Open, Adjust, Close, Provide, Withdraw, GainToTrove, Liquidate, LiquidateLowest, Redeem, Claim, Rotate, Take}
 use Rattle.liq_types.specs.declared.requests.Query.TheVariants as query
 use Rattle.liq_types.specs.declared.requests.Request.{Request}
 use Rattle.liq_types.specs.declared.requests.Request.TheVariants.{Do, Ask}
@@ -402,4 +404,50 @@ rotation_replies =
     said 3 []
     ∷ said 16 (2 ∷ [])
     ∷ Told (info.System (1000000000 ∷ 0 ∷ 0 ∷ 0 ∷ 0 ∷ 0 ∷ 0 ∷ 0 ∷ 0 ∷ 0 ∷ []))
+    ∷ []
+
+abbrev pub taking_out : List Request
+taking_out =
+    by_one 1 (Fund 1 5)
+    ∷ by_one 2 (Take 1 6)
+    ∷ by_one 2 (Take 1 0)
+    ∷ by_one 2 (Take 1 5)
+    ∷ Ask (query.Wallet 1)
+    ∷ []
+
+abbrev pub taking_out_replies : List Reply
+taking_out_replies =
+    said 3 []
+    ∷ No (ShortCollateral 6 5)
+    ∷ No AmountZero
+    ∷ said 4 []
+    ∷ Told (info.Wallet 0 0)
+    ∷ []
+
+abbrev pub time_and_bounds : List Request
+time_and_bounds =
+    by_one 1 (Advance 0)
+    ∷ by_one 1 (Advance 1000000000001)
+    ∷ by_one 1 (Fund 1 10000000000)
+    ∷ by_one 2 (Open 1 10000000000 4000000000 4999999999999999 no_hint)
+    ∷ by_one 2 (Price 99999999)
+    ∷ by_one 2 (Advance 3)
+    ∷ []
+
+abbrev pub time_and_bounds_replies : List Reply
+time_and_bounds_replies =
+    No AmountZero
+    ∷ No (AmountLimit 1000000000001 1000000000000)
+    ∷ said 3 []
+    ∷ No (FeeBound 4999999999999999 5000000000000000)
+    ∷ No (PriceRange 99999999)
+    ∷ said 2 (3 ∷ [])
+    ∷ []
+
+-- what the commands on the Stability Pool and the other trove do to the pool
+abbrev pub pool_and_others_events : List PoolEvent
+pool_and_others_events =
+    Own 2 4000000000 0 0 4000000000
+    ∷ Offset 4000000000 9431279620 4000000000 0
+    ∷ Own 2 0 0 9431279620 0
     ∷ []

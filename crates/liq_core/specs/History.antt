@@ -33,3 +33,8 @@ pub record IsLegal (s : State) (entries : List Entry) : Type 0 where
 -- the state after the entries
 abbrev pub state_after : State → List Entry → State
 state_after s entries = (run s (requests_of entries)).0
+
+-- a further call of its session, with the reply of the state after all entries before it
+pub record GoesOn (s : State) (entries : List Entry) (e : Entry) : Type 0 where
+  pub reply_is : e.reply ≡ (step (state_after s entries) e.request).1
+  pub index_is : e.index ≡ length (own_entries e.session entries) + 1

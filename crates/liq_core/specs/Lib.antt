@@ -15,3 +15,4 @@ pub mod Turn
 pub mod Verbs
 pub mod Rows
 pub mod Sound
+pub mod WellFormed

@@ -1,12 +1,11 @@
 -- What each verb refuses beside the range of its accounts: its row of the table, in order.
 use Rattle.std.specs.Prelude.{ℕ, ◌+◌, ◌==◌, ◌||◌, Bool, true, false, nat_lt, is_some, is_none, Option, Some, None, Result, Ok, Err, List, [], ◌∷◌}
 use Rattle.liq_types.specs.declared.amounts.TheConstants.{LIM, PRICE_LEAST, PRICE_MOST, MINUTE_MOST, MCR, LOWEST_MOST}
-use Rattle.liq_types.specs.declared.figures.Market.{Market}
 use Rattle.liq_types.specs.declared.replies.Refusal.{Refusal}
-use Rattle.liq_types.specs.declared.replies.Refusal.TheVariants.{PriceRange, AmountZero, AmountLimit, ShortCollateral, ShortTokens, NoDeposit, TroveUnder, NoSurplus, LastTrove}
+use Rattle.liq_types.specs.declared.replies.Refusal.TheVariants.{PriceRange, AmountZero, AmountLimit, ShortCollateral, ShortTokens, NoDeposit, TroveUnder, NoSurplus}
 use Rattle.liq_types.specs.declared.requests.Call.{Call}
 use Rattle.liq_types.specs.declared.requests.Call.TheVariants.{Price, Advance, Fund, Take, Send, Open, Adjust, Close, Provide, Withdraw, GainToTrove, Liquidate, LiquidateLowest, Redeem, Claim, Rotate}
-use Rattle.liq_types.specs.Rules.{Rule, where_below, where_short, where_above, only_where, last_trove_stays}
+use Rattle.liq_types.specs.Rules.{Rule, where_below, where_short, where_above, last_trove_stays}
 use Rattle.liq_types.specs.State.{State, wallet_of, surplus_of}
 use Rattle.liq_types.specs.Tables.{at}
 use Rattle.liq_types.specs.Totals.{worth, asked, market_of}

@@ -1,5 +1,5 @@
 -- What holds of every protocol.
-use Rattle.std.specs.Prelude.{◌≡◌, ◌≤◌, ℕ, sum_by}
+use Rattle.std.specs.Prelude.{◌≡◌, ◌≤◌, sum_by}
 use Rattle.std.specs.List.Sorted.{IsStrictlySortedBy}
 use Rattle.std.specs.Map.{keys_of, values_of}
 use Rattle.std.specs.Ordering.{nat_cmp}

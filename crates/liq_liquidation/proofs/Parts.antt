@@ -1,5 +1,5 @@
 -- What becomes of a trove adds up to what it had.
-use Rattle.std.proofs.Common.{◌≡◌, ℕ, ◌+◌, ◌-◌, ◌*◌, ◌/◌, ◌<◌, ◌≤◌, Bool, true, false, cond, arith, refl, nat_lt}
+use Rattle.std.proofs.Common.{◌≡◌, ℕ, ◌+◌, ◌-◌, ◌*◌, ◌≤◌, Bool, true, false, cond, arith, refl}
 use Rattle.std.specs.Prelude.{min}
 use Rattle.std.proofs.Math.Nat.{mul-le-mul_right, div-le_of_le-mul, div-le_self}
 use Rattle.std.proofs.lemmas.Bool.Decides.{nat_tests}
@@ -7,7 +7,7 @@ use Rattle.liq_num.specs.Quotient.{floor_of}
 use Rattle.liq_types.specs.declared.amounts.TheConstants.{MCR}
 use Rattle.liq_types.specs.declared.figures.Market.{Market}
 use Rattle.liq_types.specs.Totals.{is_below_percent, is_at_most_whole, is_ratio_below, is_normal}
-use Rattle.liq_liquidation.specs.One.{Treatment, Plain, Spread, Capped, Spared, treatment, treated, is_spared, cap_of, gas_of, plain, capped, one_total_coll, one_total_debt}
+use Rattle.liq_liquidation.specs.One.{Treatment, Plain, Spread, Capped, Spared, treatment, treated, is_spared, cap_of, gas_of, plain, one_total_coll, one_total_debt}
 
 -- ---- the cap
 

@@ -1,5 +1,5 @@
 -- The liquidation of one trove: how it is treated, what is refused, and what it does.
-use Rattle.std.specs.Prelude.{ℕ, ◌+◌, ◌-◌, ◌/◌, ◌==◌, ◌&&◌, Bool, true, false, nat_lt, nat_le, min, is_none, Option, Some, None, unwrap_or, Result, Ok, Err, List, [], ◌∷◌, if◌then◌else◌}
+use Rattle.std.specs.Prelude.{ℕ, ◌+◌, ◌-◌, ◌/◌, ◌==◌, ◌&&◌, Bool, true, false, nat_lt, min, Option, Some, None, Result, Err, List, [], ◌∷◌, if◌then◌else◌}
 use Rattle.liq_num.specs.Quotient.{floor_of}
 use Rattle.liq_types.specs.declared.amounts.TheConstants.{ONE, MCR, RESERVE, SUM_MOST}
 use Rattle.liq_types.specs.declared.figures.Market.{Market}
@@ -8,7 +8,6 @@ use Rattle.liq_types.specs.declared.replies.Refusal.TheVariants.{NoTrove, NotLiq
 use Rattle.liq_types.specs.Payments.{paid, surplus_added}
 use Rattle.liq_types.specs.Rules.{Rule, first_refusal, outcome, last_trove_stays}
 use Rattle.liq_types.specs.State.{State, StakeSums}
-use Rattle.liq_types.specs.Tables.{at}
 use Rattle.liq_types.specs.Totals.{is_below_percent, is_at_most_whole, is_ratio_below, is_normal, market_of, stakes_of, pool_total}
 use Rattle.liq_troves.specs.Own.{lifted, redistributed, snapped}
 use Rattle.liq_troves.specs.StakeSums.{entire_of, sums_now}

@@ -1,5 +1,5 @@
 -- Worked examples of the order: entries, and how they are sorted.
-use Rattle.std.specs.Prelude.{ℕ, List, [], ◌∷◌, map, pos}
+use Rattle.std.specs.Prelude.{ℕ, List, [], ◌∷◌, pos}
 use Rattle.liq_order.specs.Order.{Ranked}
 
 abbrev pub entry : ℕ → ℕ → Ranked

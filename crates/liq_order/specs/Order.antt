@@ -1,6 +1,6 @@
 -- The trove order: all troves, sorted by key and, where keys are equal, by account. The last has the lowest ratio.
 use Rattle.std.specs.List.{AllByRecursion}
-use Rattle.std.specs.Prelude.{◌≡◌, ◌≢◌, ℕ, ℤ, Bool, List, [], ◌∷◌, ◌++◌, map, fold, reverse, Option, Some, None, option_map}
+use Rattle.std.specs.Prelude.{◌≡◌, ◌≢◌, ℕ, ℤ, List, [], ◌∷◌, ◌++◌, map, fold, reverse, Option, Some, None, option_map}
 use Rattle.std.specs.Ordering.{nat_cmp, int_cmp, ordering_then, match_ordering}
 use Rattle.std.specs.declared.cmp.Ordering.{Ordering}
 use Rattle.std.specs.declared.cmp.Ordering.TheVariants.{Less}

@@ -1,9 +1,8 @@
 -- Redemption: the troves that are visited, the cut of each, and what is refused.
-use Rattle.std.specs.Prelude.{ℕ, ◌+◌, ◌-◌, ◌==◌, Bool, true, false, not, nat_lt, nat_le, min, List, [], ◌∷◌, filter, filter_map, fold, sum_by, Option, Some, None, option_map, unwrap_or, if◌then◌else◌}
+use Rattle.std.specs.Prelude.{ℕ, ◌+◌, ◌-◌, ◌==◌, Bool, not, nat_lt, nat_le, min, List, [], ◌∷◌, filter, filter_map, fold, sum_by, Option, Some, None, option_map, unwrap_or, if◌then◌else◌}
 use Rattle.liq_num.specs.Quotient.{floor_of}
 use Rattle.liq_num.specs.declared.ratio.TheConstants.{GWEI_PER_ETH}
 use Rattle.liq_types.specs.declared.amounts.TheConstants.{MCR, RESERVE, MIN_NET, FLOOR_RATE, BOOTSTRAP}
-use Rattle.liq_types.specs.declared.figures.Market.{Market}
 use Rattle.liq_types.specs.declared.replies.Refusal.TheVariants.{AmountZero, ShortTokens, Bootstrap, SystemUnder, NothingRedeemed, FeeEatsAll}
 use Rattle.liq_types.specs.Payments.{paid, charged, surplus_added}
 use Rattle.liq_types.specs.Rules.{Rule, where_below, where_short}

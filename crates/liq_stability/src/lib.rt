@@ -2,6 +2,7 @@
 #![tactic(auto)]
 
 pub mod examples;
+pub mod laws;
 mod words;
 
 pub use words::{FinishedSum, PoolWords};

@@ -1,8 +1,8 @@
 -- The product stays within its range.
-use Rattle.std.proofs.Common.{◌≡◌, ℕ, zero, suc, ◌+◌, ◌-◌, ◌*◌, ◌/◌, ◌^◌, ◌≤◌, ◌<◌, Bool, true, false, cond, List, [], ◌∷◌, arith, refl, ap, sym, ◌∙◌, subst, nat_le, nat_eq, inl, inr}
+use Rattle.std.proofs.Common.{◌≡◌, ℕ, zero, suc, ◌+◌, ◌-◌, ◌*◌, ◌^◌, ◌≤◌, ◌<◌, Bool, true, false, cond, List, [], ◌∷◌, arith, refl, ap, sym, ◌∙◌, subst, nat_le, inl, inr}
 use Rattle.std.specs.Prelude.{fold, ◌==◌}
 use Rattle.std.specs.List.{AllByRecursion}
-use Rattle.std.proofs.Math.Nat.{mul-le-mul_right, div-le_of_le-mul, div-lt_iff_lt-mul, lt-div-mul-add}
+use Rattle.std.proofs.Math.Nat.{mul-le-mul_right, div-le_of_le-mul, div-lt_iff_lt-mul}
 use Rattle.std.proofs.lemmas.Nat.{pow-add, le-div}
 use Rattle.std.proofs.lemmas.Bool.{le-leb, leb-true, cases_lt}
 use Rattle.std.proofs.lemmas.Bool.Decides.{nat_tests}

@@ -1,6 +1,6 @@
 -- The rule state: what the rules speak of, whatever the code keeps. What offsets and redistributions have done is not a
 -- number here but their list.
-use Rattle.std.specs.Prelude.{ℕ, Bool, true, false, not, ◌==◌, ◌&&◌, List, [], map, replicate, unwrap_or, if◌then◌else◌}
+use Rattle.std.specs.Prelude.{ℕ, Bool, not, ◌==◌, ◌&&◌, List, [], replicate, unwrap_or, if◌then◌else◌}
 use Rattle.liq_types.specs.declared.figures.Wallet.{Wallet}
 use Rattle.liq_types.specs.declared.figures.Client.{Client}
 use Rattle.liq_types.specs.declared.figures.Trove.{Trove}

@@ -1,6 +1,5 @@
-use Rattle.std.proofs.Common.{◌≡◌, ◌<◌, ap, sym, ◌∙◌, arith, subst}
+use Rattle.std.proofs.Common.{ap, sym, ◌∙◌, arith, subst}
 use Rattle.liq_types.specs.State.{State}
-use Rattle.liq_types.specs.declared.amounts.TheConstants.{RECORDS_MOST}
 use Rattle.std.specs.Prelude.{IsTrue}
 use Rattle.liq_core.specs.Core.{StandsFor, state_of}
 use Rattle.liq_core.specs.Plan.{Plan}

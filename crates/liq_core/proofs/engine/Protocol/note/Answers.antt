@@ -2,7 +2,7 @@ use Rattle.std.proofs.Common.{◌≡◌, ◌+◌, true, cond, ap, ◌∙◌, sym
 use Rattle.std.specs.Prelude.{if◌then◌else◌}
 use Rattle.std.proofs.lemmas.Bool.Decides.{nat_tests}
 use Rattle.liq_types.specs.declared.figures.Client.{Client}
-use Rattle.liq_types.specs.State.{is_used_wallet, is_used_client}
+use Rattle.liq_types.specs.State.{is_used_client}
 use Rattle.liq_types.specs.Tables.{Table, put, without, rows}
 use Rattle.liq_core.specs.Core.{Core, state_of}
 use Rattle.liq_core.specs.Sound.{core_of}

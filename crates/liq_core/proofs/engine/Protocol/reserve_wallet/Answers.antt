@@ -1,7 +1,6 @@
 use Rattle.std.proofs.Common.{refl, ap, subst, sym, ◌∙◌}
 use Rattle.liq_types.specs.declared.figures.Wallet.{Wallet}
-use Rattle.liq_types.specs.State.{no_wallet, is_used_wallet, is_used_client}
-use Rattle.liq_types.specs.Tables.{rows}
+use Rattle.liq_types.specs.State.{no_wallet, is_used_wallet}
 use Rattle.liq_core.specs.Core.{Core, SameContent, image_of}
 use Rattle.liq_core.specs.Sound.{core_of}
 use Rattle.liq_core.proofs.UsedRows.{rows-reserve, sum_by-reserve}

@@ -2,7 +2,7 @@ use Rattle.std.proofs.Common.{◌≡◌, ◌+◌, ap, subst, sym, ◌∙◌, ari
 use Rattle.std.specs.Prelude.{unwrap_or, sum_by}
 use Rattle.std.specs.Map.{values_of}
 use Rattle.liq_types.specs.declared.figures.Wallet.{Wallet}
-use Rattle.liq_types.specs.State.{no_wallet, is_used_wallet, is_used_client, with_wallet}
+use Rattle.liq_types.specs.State.{no_wallet, is_used_wallet, with_wallet}
 use Rattle.liq_types.specs.Tables.{Table, at, rows}
 use Rattle.liq_core.specs.Core.{Core, state_of}
 use Rattle.liq_core.specs.Sound.{core_of}

@@ -1,0 +1,203 @@
+-- Tables stay in the order of their keys.
+use Rattle.std.proofs.Common.{◌≡◌, ℕ, ◌+◌, ◌-◌, Bool, true, false, cond, List, [], ◌∷◌, refl, ap, sym, ◌∙◌, Some, None, Option, subst}
+use Rattle.std.specs.Prelude.{fold, map, min, ◌==◌, Result, Ok, Err}
+use Rattle.std.specs.List.{AllByRecursion}
+use Rattle.std.specs.List.Sorted.{IsStrictlySortedBy}
+use Rattle.std.specs.Ordering.{nat_cmp, is_eq, match_ordering, ordering_reverse}
+use Rattle.std.specs.declared.cmp.Ordering.{Ordering}
+use Rattle.std.specs.declared.cmp.Ordering.TheVariants.{Less, Equal, Greater}
+use Rattle.std.specs.Map.{keys_of}
+use Rattle.std.proofs.lemmas.Cmp.{nat_cmp_total}
+use Rattle.liq_types.specs.declared.amounts.TheConstants.{RESERVE}
+use Rattle.liq_types.specs.declared.figures.Wallet.{Wallet}
+use Rattle.liq_types.specs.declared.replies.Done.{Done}
+use Rattle.liq_types.specs.declared.replies.Refusal.{Refusal}
+use Rattle.liq_types.specs.declared.requests.Call.{Call}
+use Rattle.liq_types.specs.declared.requests.Call.TheVariants.{Price, Advance, Fund, Take, Send, Open, Adjust, Close, Provide, Withdraw, GainToTrove, Liquidate, LiquidateLowest, Redeem, Claim, Rotate}
+use Rattle.liq_types.specs.declared.requests.Command.{Command}
+use Rattle.liq_types.specs.declared.requests.Request.{Request}
+use Rattle.liq_types.specs.declared.requests.Request.TheVariants.{Do, Ask}
+use Rattle.liq_types.specs.Payments.{paid, charged, surplus_added, surplus_taken}
+use Rattle.liq_types.specs.State.{State, TroveEntry, DepositEntry, with_wallet, with_surplus, is_used_wallet, wallet_of}
+use Rattle.liq_types.specs.Tables.{Table, at, put, without}
+use Rattle.liq_troves.specs.Own.{lifted_entry, lifted, placed, set_trove, redistributed, snapped}
+use Rattle.liq_troves.specs.StakeSums.{entire_of}
+use Rattle.liq_stability.specs.Own.{owned, offset, with_deposit}
+use Rattle.liq_borrow.specs.declared.change.Change.{Change}
+use Rattle.liq_liquidation.specs.declared.one.One.{One}
+use Rattle.liq_liquidation.specs.declared.one.Victim.{Victim}
+use Rattle.liq_liquidation.specs.One.{one, offset_if_any, struck, rewarded, liquidated}
+use Rattle.liq_liquidation.specs.Lowest.{lowest}
+use Rattle.liq_redemption.specs.declared.cut.Cut.{Cut}
+use Rattle.liq_redemption.specs.Redemption.{cuts_in, cut_entire, cut_down, closed_by, redeemed_by, redeemed, drawn, fee_after}
+use Rattle.liq_core.specs.Effect.{effect, with_fee, opened, adjusted, closed, provided, withdrawn, gain_moved, all_liquidated, victim_of}
+use Rattle.liq_core.specs.Step.{Ruling, Refused, Repeated, Allowed, noted, after, ruling, after_ruling, step, run}
+use Rattle.liq_core.specs.WellFormed.{Ascends, TablesAscend}
+
+module _ {X : Type 0} where
+  abbrev Below : ℕ → Table X → Type 0
+  Below key table = AllByRecursion (λ y. nat_cmp key y ≡ Less) (keys_of table)
+
+  below_more : (a b : ℕ) (table : Table X) → nat_cmp a b ≡ Less → Below b table → Below a table
+  below_more a b [] l h = tt
+  below_more a b (e ∷ es) l h = (nat_cmp_total.trans a b e.0 l h.0, below_more a b es l h.1)
+
+  below-put : (b : ℕ) (table : Table X) (key : ℕ) (x : X) → nat_cmp b key ≡ Less → Below b table → Below b (put table key x)
+  below-put b [] key x l h = (l, tt)
+  below-put b (e ∷ es) key x l h = by (nat_cmp key e.0) (below-put b es key x l h.1) where
+    by : (o : Ordering) → Below b (put es key x) → Below b (match_ordering o ((key, x) ∷ e ∷ es) ((e.0, x) ∷ es) (e ∷ put es key x))
+    by Less more = (l, h)
+    by Equal more = h
+    by Greater more = (h.0, more)
+
+  below-without : (b : ℕ) (table : Table X) (key : ℕ) → Below b table → Below b (without table key)
+  below-without b [] key h = tt
+  below-without b (e ∷ es) key h = by (is_eq (nat_cmp key e.0)) (below-without b es key h.1) where
+    by : (c : Bool) → Below b (without es key) → Below b (cond c es (e ∷ without es key))
+    by true more = h.1
+    by false more = (h.0, more)
+
+  pub put-ascends : (table : Table X) (key : ℕ) (x : X) → Ascends table → Ascends (put table key x)
+  unfolding IsStrictlySortedBy
+  put-ascends [] key x h = (tt, tt)
+  put-ascends (e ∷ es) key x h = by (nat_cmp key e.0) refl (put-ascends es key x h.1) where
+    by : (o : Ordering) → nat_cmp key e.0 ≡ o → Ascends (put es key x) → Ascends (match_ordering o ((key, x) ∷ e ∷ es) ((e.0, x) ∷ es) (e ∷ put es key x))
+    by Less is more = ((is, below_more key e.0 es is h.0), h)
+    by Equal is more = h
+    by Greater is more = (below-put e.0 es key x (nat_cmp_total.antisymm e.0 key ∙ ap ordering_reverse is) h.0, more)
+
+  pub without-ascends : (table : Table X) (key : ℕ) → Ascends table → Ascends (without table key)
+  unfolding IsStrictlySortedBy
+  without-ascends [] key h = tt
+  without-ascends (e ∷ es) key h = by (is_eq (nat_cmp key e.0)) (without-ascends es key h.1) where
+    by : (c : Bool) → Ascends (without es key) → Ascends (cond c es (e ∷ without es key))
+    by true more = h.1
+    by false more = (below-without e.0 es key h.0, more)
+
+  pub either-ascends : (b : Bool) (table : Table X) (key : ℕ) (x : X) → Ascends table → Ascends (cond b (put table key x) (without table key))
+  either-ascends true table key x h = put-ascends table key x h
+  either-ascends false table key x h = without-ascends table key h
+
+  pub none-ascends : (b : Bool) (table : Table X) (key : ℕ) (x : X) → Ascends table → Ascends (cond b (without table key) (put table key x))
+  none-ascends true table key x h = without-ascends table key h
+  none-ascends false table key x h = put-ascends table key x h
+
+-- ---- changes
+
+-- the tables of a state
+pub record Ordered (s : State) : Type 0 where
+  pub tables : TablesAscend s
+
+pub wallet-ascends : (table : Table Wallet) (account : ℕ) (w : Wallet) → Ascends table → Ascends (with_wallet table account w)
+wallet-ascends table account w h = either-ascends (is_used_wallet w) table account w h
+
+pub paid-ascends : {s : State} (account coll lusd : ℕ) → Ordered s → Ordered (paid s account coll lusd)
+paid-ascends {s} account coll lusd h = record { tables = (wallet-ascends s.wallets account (record { coll = (wallet_of s account).coll + coll; lusd = (wallet_of s account).lusd + lusd }) h.tables.0, h.tables.1, h.tables.2, h.tables.3, h.tables.4) }
+
+pub charged-ascends : {s : State} (account coll lusd : ℕ) → Ordered s → Ordered (charged s account coll lusd)
+charged-ascends {s} account coll lusd h = record { tables = (wallet-ascends s.wallets account (record { coll = (wallet_of s account).coll - coll; lusd = (wallet_of s account).lusd - lusd }) h.tables.0, h.tables.1, h.tables.2, h.tables.3, h.tables.4) }
+
+surplus-ascends : (table : Table ℕ) (account coll : ℕ) → Ascends table → Ascends (with_surplus table account coll)
+surplus-ascends table account coll h = none-ascends (coll == 0) table account coll h
+
+added-ascends : {s : State} (account coll : ℕ) → Ordered s → Ordered (surplus_added s account coll)
+added-ascends {s} account coll h = record { tables = (h.tables.0, h.tables.1, surplus-ascends s.surplus_rows account _ h.tables.2, h.tables.3, h.tables.4) }
+
+taken-ascends : {s : State} (account : ℕ) → Ordered s → Ordered (surplus_taken s account)
+taken-ascends {s} account h = record { tables = (h.tables.0, h.tables.1, surplus-ascends s.surplus_rows account 0 h.tables.2, h.tables.3, h.tables.4) }
+
+lifted_entry-ascends : (s : State) (account : ℕ) (o : Option TroveEntry) → Ordered s → Ordered (lifted_entry s account o)
+lifted_entry-ascends s account None h = h
+lifted_entry-ascends s account (Some t) h = record { tables = (h.tables.0, without-ascends s.troves account h.tables.1, h.tables.2, h.tables.3, h.tables.4) }
+
+lifted-ascends : {s : State} (account : ℕ) → Ordered s → Ordered (lifted s account)
+lifted-ascends {s} account h = lifted_entry-ascends s account (at s.troves account) h
+
+placed-ascends : {s : State} (account coll debt : ℕ) → Ordered s → Ordered (placed s account coll debt)
+placed-ascends {s} account coll debt h = record { tables = (h.tables.0, put-ascends s.troves account _ h.tables.1, h.tables.2, h.tables.3, h.tables.4) }
+
+set-ascends : {s : State} (account coll debt : ℕ) → Ordered s → Ordered (set_trove s account coll debt)
+set-ascends account coll debt h = placed-ascends account coll debt (lifted-ascends account h)
+
+owned-ascends : {s : State} (account put_in out : ℕ) → Ordered s → Ordered (owned s account put_in out)
+owned-ascends {s} account put_in out h = record { tables = (h.tables.0, h.tables.1, h.tables.2, none-ascends _ s.deposits account _ h.tables.3, h.tables.4) }
+
+if_any-ascends : (s : State) (debt coll : ℕ) → Ordered s → Ordered (offset_if_any s debt coll)
+if_any-ascends s debt coll h = by (debt == 0) where
+  by : (b : Bool) → Ordered (cond b s (offset s debt coll))
+  by true = h
+  by false = record { tables = h.tables }
+
+pooled-ascends : (s : State) (v : Victim) → Ordered s → Ordered (offset_if_any (lifted s v.account) v.one.offset_debt v.one.offset_coll)
+pooled-ascends s v h = if_any-ascends (lifted s v.account) v.one.offset_debt v.one.offset_coll (lifted-ascends v.account h)
+
+liquidated-ascends : (s : State) (liquidator : ℕ) (v : Victim) → Ordered s → Ordered (liquidated s liquidator v)
+liquidated-ascends s liquidator v h =
+    let pooled = pooled-ascends s v h in
+    let spread : Ordered (snapped (redistributed (offset_if_any (lifted s v.account) v.one.offset_debt v.one.offset_coll) v.one.spread_coll v.one.spread_debt)) = record { tables = pooled.tables } in
+    let struck_h : Ordered (struck s v) = added-ascends v.account v.one.surplus spread in
+    let without : Ordered (record (struck s v) { reserve = (struck s v).reserve - RESERVE }) = record { tables = struck_h.tables } in
+    paid-ascends liquidator v.one.gas RESERVE without
+
+all-ascend : (vs : List Victim) (liquidator : ℕ) (s : State) → Ordered s → Ordered (all_liquidated s liquidator vs)
+all-ascend [] liquidator s h = h
+all-ascend (v ∷ vs) liquidator s h = all-ascend vs liquidator (liquidated s liquidator v) (liquidated-ascends s liquidator v h)
+
+burned : {s : State} → Ordered s → Ordered (record s { reserve = s.reserve - RESERVE })
+burned h = record { tables = h.tables }
+
+cut_entire-ascends : (s : State) (cut : Cut) (o : Option (ℕ × ℕ)) → Ordered s → Ordered (cut_entire s cut o)
+cut_entire-ascends s cut None h = h
+cut_entire-ascends s cut (Some own) h = by cut.full where
+  by : (b : Bool) → Ordered (cond b (closed_by s cut own) (set_trove s cut.account (own.0 - cut.draw) (own.1 - cut.lot)))
+  by true = added-ascends cut.account _ (burned (lifted-ascends cut.account h))
+  by false = set-ascends cut.account _ _ h
+
+cuts-ascend : (made : List Cut) (s : State) → Ordered s → Ordered (fold cut_down s made)
+cuts-ascend [] s h = h
+cuts-ascend (cut ∷ made) s h = cuts-ascend made (cut_down s cut) (cut_entire-ascends s cut (entire_of s cut.account) h)
+
+with_fee-ascends : {s : State} (borrow : ℕ) → Ordered s → Ordered (with_fee s borrow)
+with_fee-ascends borrow h = record { tables = h.tables }
+
+redeem-ascends : (s : State) (account amount : ℕ) → Ordered s → Ordered (redeemed_by s account amount)
+redeem-ascends s account amount h =
+    let given = paid-ascends account (drawn (cuts_in s amount) - fee_after s (cuts_in s amount)) 0 (charged-ascends account 0 (redeemed (cuts_in s amount)) (cuts-ascend (cuts_in s amount) s h)) in
+    record { tables = given.tables }
+
+pub effect-ascends : (s : State) (call : Call) → Ordered s → Ordered (effect s call)
+effect-ascends s (Price price) h = record { tables = h.tables }
+effect-ascends s (Advance minutes) h = record { tables = h.tables }
+effect-ascends s (Fund account coll) h = record { tables = (wallet-ascends s.wallets account (record (wallet_of s account) { coll = (wallet_of s account).coll + coll }) h.tables.0, h.tables.1, h.tables.2, h.tables.3, h.tables.4) }
+effect-ascends s (Take account coll) h = record { tables = (wallet-ascends s.wallets account (record (wallet_of s account) { coll = (wallet_of s account).coll - coll }) h.tables.0, h.tables.1, h.tables.2, h.tables.3, h.tables.4) }
+effect-ascends s (Send from to lusd) h = paid-ascends to 0 lusd (charged-ascends from 0 lusd h)
+effect-ascends s (Open account coll borrow bound hint) h =
+    let lent : Ordered (paid (charged s account coll 0) account 0 borrow) = paid-ascends account 0 borrow (charged-ascends account coll 0 h) in
+    record { tables = (lent.tables.0, put-ascends s.troves account _ h.tables.1, h.tables.2, h.tables.3, h.tables.4) }
+effect-ascends s (Adjust account coll_in coll_out borrow repay bound hint) h =
+    set-ascends account _ _ (paid-ascends account coll_out borrow (charged-ascends account coll_in repay (with_fee-ascends borrow h)))
+effect-ascends s (Close account) h = lifted-ascends account (burned (paid-ascends account _ 0 (charged-ascends account 0 _ h)))
+effect-ascends s (Provide account lusd) h = paid-ascends account _ 0 (charged-ascends account 0 lusd (owned-ascends account lusd 0 h))
+effect-ascends s (Withdraw account lusd) h = paid-ascends account _ _ (owned-ascends account 0 _ h)
+effect-ascends s (GainToTrove account hint) h = set-ascends account _ _ (owned-ascends account 0 0 h)
+effect-ascends s (Liquidate liquidator account) h = all-ascend (victim_of account (one s account)) liquidator s h
+effect-ascends s (LiquidateLowest liquidator count) h = all-ascend (lowest s count) liquidator s h
+effect-ascends s (Redeem account lusd bound hint) h = redeem-ascends s account lusd h
+effect-ascends s (Claim account) h = paid-ascends account _ 0 (taken-ascends account h)
+effect-ascends s Rotate h = record { tables = h.tables }
+
+noted-ascends : (s : State) (c : Command) (done : Done) → Ordered s → Ordered (noted s c done)
+noted-ascends s c done h = record { tables = (h.tables.0, h.tables.1, h.tables.2, h.tables.3, put-ascends s.clients c.client _ h.tables.4) }
+
+ruled-ascends : (s : State) (c : Command) (r : Ruling) → Ordered s → Ordered (after_ruling s c r).0
+ruled-ascends s c (Refused refusal) h = h
+ruled-ascends s c (Repeated kept) h = h
+ruled-ascends s c Allowed h = noted-ascends (effect s c.call) c _ (effect-ascends s c.call h)
+
+pub step-ascends : (s : State) (request : Request) → Ordered s → Ordered (step s request).0
+step-ascends s (Do c) h = ruled-ascends s c (ruling s c) h
+step-ascends s (Ask query) h = h
+
+pub run-ascends : (requests : List Request) (s : State) → Ordered s → Ordered (run s requests).0
+run-ascends [] s h = h
+run-ascends (request ∷ requests) s h = run-ascends requests (step s request).0 (step-ascends s request h)

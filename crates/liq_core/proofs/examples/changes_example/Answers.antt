@@ -1,0 +1,12 @@
+use Rattle.std.proofs.Common.{refl}
+use Rattle.liq_num.specs.Power.{power_of, digits_product, squared}
+use Rattle.liq_types.specs.Product.{least_from}
+use Rattle.liq_core.proofs.examples.changes_example.Goals as goal
+
+pub returns-clause-opened : goal.returns-clause-opened
+unfolding least_from power_of digits_product squared
+returns-clause-opened c = refl
+
+pub returns-clause-liquidated : goal.returns-clause-liquidated
+unfolding least_from power_of digits_product squared
+returns-clause-liquidated c = refl

@@ -1,0 +1,17 @@
+use Rattle.std.proofs.Common.{arith}
+use Rattle.liq_types.specs.State.{opening}
+use Rattle.liq_core.specs.WellFormed.{IsWellFormed}
+use Rattle.liq_core.proofs.AlikeReplies.{step_alike, run_alike, alike_itself}
+use Rattle.liq_core.proofs.laws.states_are_well_formed.Goals as goal
+
+opening_formed : IsWellFormed opening
+opening_formed = (tt, tt, tt, (omega arith, omega arith))
+
+pub returns-clause-opening : goal.returns-clause-opening
+returns-clause-opening c = opening_formed
+
+pub returns-clause-step : goal.returns-clause-step
+returns-clause-step c s h request = (step_alike (alike_itself s h) request).left
+
+pub returns-clause-run : goal.returns-clause-run
+returns-clause-run c requests = (run_alike requests (alike_itself opening opening_formed)).left
