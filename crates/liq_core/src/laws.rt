@@ -15,6 +15,7 @@ ghost use Rattle.liq_types.specs.declared.requests.Request.TheVariants.{Do, Ask}
 ghost use Rattle.liq_types.specs.Image.{Image, opening_image};
 ghost use Rattle.liq_types.specs.State.{State, opening, started, wallet_of};
 ghost use Rattle.liq_types.specs.Payments.{paid, charged};
+ghost use Rattle.liq_core.specs.Dust.{IsCovered, dust};
 ghost use Rattle.liq_core.specs.History.{Entry, IsLegal, GoesOn, state_after};
 ghost use Rattle.liq_core.specs.Identities.{IsConserved, WalletsAscend, touches_no_trove, wallets_coll, wallets_lusd};
 ghost use Rattle.liq_core.specs.Image.{image};
@@ -47,11 +48,12 @@ pub fn hints_change_nothing()
     ensures { (s : State) → (c : Command) → step s (Do c) ≡ step s (Do (unhinted c)) }
 {}
 
-/// At the opening the image has nothing but the price, a product that is whole and the first generation, and all is
-/// conserved.
+/// At the opening the image has nothing but the price, a product that is whole and the first generation, all is conserved,
+/// and no dust is owed.
 pub fn opening_has_nothing()
     ensures image { image opening ≡ opening_image }
     ensures conserved { IsConserved opening }
+    ensures covered { IsCovered (dust opening) }
 {}
 
 /// The image law: two states with the same image and the same records give the same reply to every request, and leave the

@@ -8,5 +8,9 @@ entry key account = (pos key, account)
 abbrev pub five : List Ranked
 five = entry 40 4 ∷ entry 10 1 ∷ entry 30 3 ∷ entry 25 9 ∷ entry 20 2 ∷ []
 
+-- the five without the third
+abbrev pub four : List Ranked
+four = entry 10 1 ∷ entry 20 2 ∷ entry 30 3 ∷ entry 40 4 ∷ []
+
 abbrev pub alike : List Ranked
 alike = entry 20 5 ∷ entry 20 2 ∷ entry 10 1 ∷ []
