@@ -125,7 +125,7 @@ answering_halts (BadLine at) bytes held line more r n core core' u left h h' is 
 answering_halts ReadFault bytes held line more r n core core' u left h h' is a first failed = absurd failed
 answering_halts Limit bytes held line more r n core core' u left h h' is a first failed = absurd failed
 answering_halts NoMemory bytes held line more r n core core' u left h h' is a first failed =
-    (a.requests, (lines_in a.rest, (a.front, a.spelled, begins bytes held n core u h a)), failed ∙ a.now_is)
+    (a.requests, (lines_in a.rest, (a.front, a.spelled, begins bytes held n core u h a)), failed.1 ∙ a.now_is)
 answering_halts WriteFault bytes held line more r n core core' u left h h' is a first failed =
     let reply = reply_line (step (run opening a.requests).0 r).1 in
     let k = failed.0 in (

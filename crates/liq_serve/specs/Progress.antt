@@ -41,10 +41,11 @@ pub record Answered (bytes held : List ℕ) (n : ℕ) (core : Core) (unread now 
   pub now_is : now ≡ Some (held ++ lines requests)
   pub stands : StandsFor core (run opening requests).0
 
--- the request's step was made and its reply is written, or there was no memory, or the sink met a fault
+-- The request's step was made and its reply is written, or the sink met a fault at the reply. Where there was no memory no
+-- step was made, so no reply is lost.
 abbrev pub Answers : State → Request → Result (Unit {0}) Halt → Core → Option (List ℕ) → Option (List ℕ) → Type 0
 Answers s request (Ok done) core before after = StandsFor core (step s request).0 × Writes before (reply_line (step s request).1) after
-Answers s request (Err NoMemory) core before after = after ≡ before
+Answers s request (Err NoMemory) core before after = StandsFor core s × (after ≡ before)
 Answers s request (Err WriteFault) core before after = WritesPart before (reply_line (step s request).1) after
 Answers s request (Err _) core before after = ⊥
 
