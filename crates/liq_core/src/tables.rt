@@ -16,6 +16,7 @@ pub fn reserve<V: Drop>(map: &mut BTreeMap<u32, V>, key: u32, empty: V) -> Resul
     ensures ordered { IsOrdered nat_cmp map.new }
 {
     if map.contains_key(&key) {
+        // Of the calls that only look, the length's contract alone says that the keys ascend.
         let _ = map.len();
         return Ok(());
     }
