@@ -19,9 +19,9 @@ use Rattle.liq_troves.specs.Own.{lifted_entry, lifted, placed, stake_for, redist
 use Rattle.liq_stability.specs.Position.{words_of, mark_of, deposit_row, balance_by, gain_by, balance_in, gain_in, balance_of, gain_of, sums_from}
 use Rattle.liq_stability.specs.Own.{owned, offset, with_deposit, amount_after}
 use Rattle.liq_core.specs.Image.{image}
-use Rattle.liq_core.specs.WellFormed.{IsMoment, IsWellFormed}
-use Rattle.liq_core.proofs.MapRows.{at-map, map-put, map-without, map-sum, map-cong}
-use Rattle.liq_core.proofs.Places.{sum_shown, sum-snoc, finished-snoc, sum_after, finished_after}
+use Rattle.liq_types.specs.WellFormed.{IsMoment, IsWellFormed}
+use Rattle.liq_types.proofs.MapRows.{at-map, map-put, map-without, map-sum, map-cong}
+use Rattle.liq_types.proofs.Places.{sum_shown, sum-snoc, finished-snoc, sum_after, finished_after}
 
 -- ---- troves, by the image
 

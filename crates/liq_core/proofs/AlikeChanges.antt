@@ -11,8 +11,8 @@ use Rattle.liq_troves.specs.Own.{lifted_entry, lifted, placed, redistributed, sn
 use Rattle.liq_stability.specs.Position.{balance_in, balance_of, gain_in, gain_of}
 use Rattle.liq_stability.specs.Own.{owned, offset, with_deposit, amount_after}
 use Rattle.liq_core.specs.Image.{image}
-use Rattle.liq_core.specs.WellFormed.{IsMoment, IsWellFormed, TrovesAreMarked, DepositsAreMarked}
-use Rattle.liq_core.proofs.MapRows.{all-put, all-without, all-weaken}
+use Rattle.liq_types.specs.WellFormed.{IsMoment, IsWellFormed, TrovesAreMarked, DepositsAreMarked}
+use Rattle.liq_types.proofs.MapRows.{all-put, all-without, all-weaken}
 use Rattle.liq_core.proofs.Alike.{lift, lift-image, place, place-image, redistribute, redistribute-image, own, own-image, offset_by, offset-image}
 use Rattle.liq_core.proofs.AlikeReads.{Alike, gain_alike, amount_alike}
 

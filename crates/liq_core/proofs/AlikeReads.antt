@@ -13,8 +13,8 @@ use Rattle.liq_order.specs.Order.{Ranked, sorted, trove_order, from_lowest, last
 use Rattle.liq_stability.specs.Position.{balance_of, gain_of, deposit_row}
 use Rattle.liq_stability.specs.Own.{amount_after}
 use Rattle.liq_core.specs.Image.{image}
-use Rattle.liq_core.specs.WellFormed.{IsWellFormed}
-use Rattle.liq_core.proofs.MapRows.{at-map, map-length}
+use Rattle.liq_types.specs.WellFormed.{IsWellFormed}
+use Rattle.liq_types.proofs.MapRows.{at-map, map-length}
 use Rattle.liq_core.proofs.Alike.{balance_row, gain_row, balance-image, gain-image}
 
 -- the same image and records, of states that the rules may reach

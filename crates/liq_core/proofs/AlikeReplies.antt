@@ -38,8 +38,8 @@ use Rattle.liq_core.specs.Queries.{trove_info, deposit_info, pools, system, answ
 use Rattle.liq_core.specs.Refusals.{not_zero, no_deposit, rules, refusal_of, trove_under, where_some, first_of_lowest}
 use Rattle.liq_core.specs.Step.{Ruling, Refused, Repeated, Allowed, in_range, in_turn, records_after, noted, after, room_rules, tests, unless_refused, ruling, after_ruling, step, run, accounts}
 use Rattle.liq_core.specs.Verbs.{rotates}
-use Rattle.liq_core.specs.WellFormed.{IsWellFormed}
-use Rattle.liq_core.proofs.MapRows.{at-map}
+use Rattle.liq_types.specs.WellFormed.{IsWellFormed}
+use Rattle.liq_types.proofs.MapRows.{at-map}
 use Rattle.liq_core.proofs.AlikeReads.{Alike, wallet_alike, client_alike, surplus_alike, market_alike, entire_alike, exists_alike, last_alike, balance_alike, gain_alike, no_deposit_alike, count_alike}
 use Rattle.liq_core.proofs.AlikeLiquidation.{one_alike}
 use Rattle.liq_core.proofs.AlikeRedemption.{cuts_alike, fee_alike, visited_alike}

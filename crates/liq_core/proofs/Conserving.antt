@@ -1,8 +1,7 @@
 -- What is conserved by the verbs that touch no trove.
-use Rattle.std.proofs.Common.{◌≡◌, ℕ, ◌+◌, ◌-◌, ◌≤◌, Bool, true, false, cond, [], ◌∷◌, refl, ap, sym, ◌∙◌, arith, Some, None, Option, nat_lt}
-use Rattle.std.specs.Prelude.{IsTrue, unwrap_or, option_map, sum_by, sum, min, ◌==◌}
+use Rattle.std.proofs.Common.{◌≡◌, ℕ, ◌+◌, ◌-◌, ◌≤◌, true, false, [], ◌∷◌, refl, arith, Some, None, Option, nat_lt}
+use Rattle.std.specs.Prelude.{unwrap_or, option_map, ◌==◌}
 use Rattle.std.specs.BTreeMap.{is_at}
-use Rattle.std.specs.Map.{values_of}
 use Rattle.std.specs.Ordering.{nat_cmp}
 use Rattle.std.proofs.lemmas.Bool.Decides.{nat_tests}
 use Rattle.std.proofs.lemmas.Map.Entries.{sum_by-remove_entry}
@@ -10,21 +9,20 @@ use Rattle.liq_types.specs.declared.figures.Wallet.{Wallet}
 use Rattle.liq_types.specs.declared.replies.Refusal.TheVariants.{AmountZero, ShortTokens}
 use Rattle.liq_types.specs.declared.requests.Call.{Call}
 use Rattle.liq_types.specs.declared.requests.Call.TheVariants.{Price, Advance, Fund, Take, Send, Provide, Withdraw, Claim, Rotate}
-use Rattle.liq_types.specs.Payments.{paid, charged, surplus_taken}
+use Rattle.liq_types.specs.Payments.{charged, surplus_taken}
 use Rattle.liq_types.specs.Rules.{first_refusal}
 use Rattle.liq_types.specs.State.{State, wallet_of, surplus_of}
-use Rattle.liq_types.specs.Tables.{Table, at, without}
-use Rattle.liq_types.specs.Totals.{pool_total, pool_coll}
+use Rattle.liq_types.specs.Tables.{at}
 use Rattle.liq_stability.specs.Own.{owned}
 use Rattle.liq_stability.specs.Position.{balance_of, gain_of}
 use Rattle.liq_core.specs.Effect.{effect, paid_out}
-use Rattle.liq_core.specs.Identities.{wallets_coll, wallets_lusd, coll_homes, lusd_homes, IsConserved, touches_no_trove}
+use Rattle.liq_core.specs.Identities.{IsConserved, touches_no_trove}
 use Rattle.liq_core.specs.Refusals.{rules}
-use Rattle.liq_core.specs.WellFormed.{IsWellFormed, TablesAscend}
+use Rattle.liq_types.specs.WellFormed.{IsWellFormed, TablesAscend}
 use Rattle.liq_core.proofs.Alike.{owned_total, owned_coll}
 use Rattle.liq_core.proofs.AlikeChanges.{balance_within, gain_within}
 use Rattle.liq_core.proofs.Allowed.{second_false, take_enough}
-use Rattle.liq_core.proofs.Ascending.{wallet-ascends}
+use Rattle.liq_types.proofs.Ascending.{wallet-ascends}
 use Rattle.liq_core.proofs.Moving.{exchanged, unused_coll, unused_lusd, paid_coll, paid_lusd, charged_coll, charged_lusd}
 
 fund_conserves : (s : State) (account coll : ℕ) → TablesAscend s → IsConserved s → IsConserved (effect s (Fund account coll))

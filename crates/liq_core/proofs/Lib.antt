@@ -9,11 +9,8 @@ pub mod Allowed
 pub mod Ascending
 pub mod Conserving
 pub mod Histories
-pub mod MapRows
 pub mod Moving
 pub mod Opening
-pub mod Places
 pub mod Runs
 pub mod Standing
 pub mod Started
-pub mod UsedRows

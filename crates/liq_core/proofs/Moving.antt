@@ -1,6 +1,6 @@
 -- What payments do to the sum of the wallets.
-use Rattle.std.proofs.Common.{◌≡◌, ℕ, ◌+◌, ◌-◌, ◌≤◌, Bool, true, false, cond, refl, ap, sym, ◌∙◌, arith, Some, None, Option}
-use Rattle.std.specs.Prelude.{unwrap_or, option_map, sum_by, ◌==◌, ◌&&◌, not}
+use Rattle.std.proofs.Common.{◌≡◌, ℕ, ◌+◌, ◌-◌, ◌≤◌, Bool, true, false, cond, refl, sym, arith, Some, None, Option}
+use Rattle.std.specs.Prelude.{unwrap_or, option_map, sum_by}
 use Rattle.std.specs.List.Sorted.{IsStrictlySortedBy}
 use Rattle.std.specs.BTreeMap.{is_at}
 use Rattle.std.specs.Map.{keys_of, values_of}
@@ -12,7 +12,7 @@ use Rattle.liq_types.specs.Payments.{paid, charged}
 use Rattle.liq_types.specs.State.{State, no_wallet, is_used_wallet, with_wallet, wallet_of}
 use Rattle.liq_types.specs.Tables.{Table, at, put, without}
 use Rattle.liq_core.specs.Identities.{wallets_coll, wallets_lusd, WalletsAscend}
-use Rattle.liq_core.proofs.UsedRows.{sum_by-put}
+use Rattle.liq_types.proofs.UsedRows.{sum_by-put}
 
 read_or : (f : Wallet → ℕ) → f no_wallet ≡ 0 → (o : Option Wallet) → unwrap_or (option_map f o) 0 ≡ f (unwrap_or o no_wallet)
 read_or f z None = sym z

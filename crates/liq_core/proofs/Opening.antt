@@ -1,5 +1,5 @@
 -- What is conserved when a trove opens.
-use Rattle.std.proofs.Common.{◌≡◌, ℕ, ◌+◌, ◌-◌, ◌≤◌, Bool, true, false, cond, List, [], ◌∷◌, refl, ap, sym, ◌∙◌, arith, Some, None, Option, nat_lt}
+use Rattle.std.proofs.Common.{◌≡◌, ℕ, ◌+◌, ◌-◌, ◌≤◌, false, cond, List, [], ◌∷◌, refl, ap, ◌∙◌, arith, Some, None, Option, nat_lt}
 use Rattle.std.specs.Prelude.{length, is_some, unwrap_or, sum_by}
 use Rattle.std.specs.Map.{values_of}
 use Rattle.std.specs.Ordering.{nat_cmp, is_eq, match_ordering}
@@ -8,7 +8,7 @@ use Rattle.std.specs.declared.cmp.Ordering.TheVariants.{Less, Equal, Greater}
 use Rattle.std.proofs.lemmas.Bool.Decides.{nat_tests}
 use Rattle.liq_types.specs.declared.amounts.TheConstants.{LIM, MIN_NET}
 use Rattle.liq_types.specs.declared.replies.Refusal.TheVariants.{TroveExists, NetDebtLow, AmountLimit, ShortCollateral}
-use Rattle.liq_types.specs.Payments.{paid, charged}
+use Rattle.liq_types.specs.Payments.{charged}
 use Rattle.liq_types.specs.Rules.{Rule, first_refusal, where_below, where_above, where_short}
 use Rattle.liq_types.specs.State.{State, After, TroveEntry, wallet_of}
 use Rattle.liq_types.specs.Tables.{Table, at, put}
@@ -18,11 +18,11 @@ use Rattle.liq_troves.specs.Own.{stake_for}
 use Rattle.liq_borrow.specs.Borrowing.{fee_now, open_debt, open_rules, least_bound, least_ratio, ratio_low, system_ratio_low}
 use Rattle.liq_core.specs.Effect.{opened, with_fee}
 use Rattle.liq_core.specs.Identities.{IsConserved}
-use Rattle.liq_core.specs.WellFormed.{Ascends, TablesAscend}
+use Rattle.liq_types.specs.WellFormed.{Ascends, TablesAscend}
 use Rattle.liq_core.proofs.Allowed.{none_first}
-use Rattle.liq_core.proofs.Ascending.{wallet-ascends}
+use Rattle.liq_types.proofs.Ascending.{wallet-ascends}
 use Rattle.liq_core.proofs.Moving.{paid_coll, paid_lusd, charged_coll, charged_lusd}
-use Rattle.liq_core.proofs.UsedRows.{sum_by-put}
+use Rattle.liq_types.proofs.UsedRows.{sum_by-put}
 
 absent : {X : Type 0} (o : Option X) → is_some o ≡ false → o ≡ None
 absent None h = refl

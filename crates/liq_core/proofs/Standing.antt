@@ -13,7 +13,7 @@ use Rattle.liq_core.specs.Core.{Core, StandsFor, image_of, state_of}
 use Rattle.liq_core.specs.Image.{image}
 use Rattle.liq_core.specs.Step.{after, built_call}
 use Rattle.liq_core.specs.Sound.{IsSound}
-use Rattle.liq_core.proofs.UsedRows.{at-rows, seen_or}
+use Rattle.liq_types.proofs.UsedRows.{at-rows, seen_or}
 use Rattle.std.proofs.lemmas.Bool.Decides.{nat_tests}
 use Rattle.std.proofs.lemmas.Map.Entries.{option_filter}
 

@@ -1,20 +1,19 @@
 -- The state that begins with an image has that image.
-use Rattle.std.proofs.Common.{◌≡◌, ℕ, ◌+◌, ◌-◌, Bool, true, cond, List, [], ◌∷◌, refl, ap, sym, ◌∙◌, arith}
-use Rattle.std.specs.Prelude.{map, sum_by, unwrap_or}
-use Rattle.std.specs.List.{AllByRecursion}
-use Rattle.std.specs.Map.{lookup, values_of}
+use Rattle.std.proofs.Common.{◌≡◌, ℕ, ◌+◌, ◌-◌, cond, [], ◌∷◌, refl, ap, sym, ◌∙◌, arith}
+use Rattle.std.specs.Prelude.{unwrap_or}
+use Rattle.std.specs.Map.{lookup}
 use Rattle.liq_types.specs.declared.figures.Trove.{Trove}
 use Rattle.liq_types.specs.declared.figures.Deposit.{Deposit}
-use Rattle.liq_types.specs.Image.{Image, Place}
+use Rattle.liq_types.specs.Image.{Image}
 use Rattle.liq_types.specs.Product.{is_place}
-use Rattle.liq_types.specs.State.{State, started, started_trove, started_deposit}
+use Rattle.liq_types.specs.State.{started, started_trove, started_deposit}
 use Rattle.liq_types.specs.Tables.{Table, map_rows}
 use Rattle.liq_troves.specs.StakeSums.{trove_row}
 use Rattle.liq_stability.specs.Position.{deposit_row}
 use Rattle.liq_core.specs.Image.{image}
-use Rattle.liq_core.specs.WellFormed.{IsWellFormed, AreFinished, TrovesAreMarked, DepositsAreMarked, stakes_in}
-use Rattle.liq_core.proofs.MapRows.{map-sum}
-use Rattle.liq_core.proofs.Places.{is_place-itself}
+use Rattle.liq_types.specs.WellFormed.{IsWellFormed, AreFinished, TrovesAreMarked, DepositsAreMarked, stakes_in}
+use Rattle.liq_types.proofs.MapRows.{map-sum}
+use Rattle.liq_types.proofs.Places.{is_place-itself}
 
 troves-back : (i : Image) (table : Table Trove) → map_rows (trove_row (started i)) (map_rows started_trove table) ≡ table
 troves-back i [] = refl

@@ -13,6 +13,4 @@ pub mod Refusals
 pub mod Step
 pub mod Turn
 pub mod Verbs
-pub mod Rows
 pub mod Sound
-pub mod WellFormed

@@ -21,7 +21,7 @@ ghost use Rattle.liq_core.specs.Identities.{IsConserved, WalletsAscend, touches_
 ghost use Rattle.liq_core.specs.Image.{image};
 ghost use Rattle.liq_core.specs.Step.{Repeated, ruling, step, run, accepted, rules, effect, first_refusal};
 ghost use Rattle.liq_core.specs.Verbs.{unhinted};
-ghost use Rattle.liq_core.specs.WellFormed.{AreFinished, IsWellFormed, TablesAscend, stakes_in};
+ghost use Rattle.liq_types.specs.WellFormed.{AreFinished, IsWellFormed, TablesAscend, stakes_in};
 
 /// A refused request, a query and a command that comes again leave the state.
 pub fn only_new_commands_change()

@@ -4,7 +4,7 @@ ghost use Rattle.std.specs.Prelude.{◌≡◌, IsSome, OnOk, OnErr, unwrap_or};
 ghost use Rattle.std.specs.Ordering.{nat_cmp};
 ghost use Rattle.std.specs.BTreeMap.{IsOrdered};
 ghost use Rattle.liq_types.specs.Tables.{at, put};
-ghost use Rattle.liq_core.specs.Rows.{Reserves};
+ghost use Rattle.liq_types.specs.Rows.{Reserves};
 
 use liq_types::NoMemory;
 use std::collections::BTreeMap;

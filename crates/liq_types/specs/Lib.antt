@@ -3,7 +3,9 @@ pub mod Image
 pub mod Payments
 pub mod PlainLedger
 pub mod Product
+pub mod Rows
 pub mod Rules
 pub mod State
 pub mod Tables
 pub mod Totals
+pub mod WellFormed

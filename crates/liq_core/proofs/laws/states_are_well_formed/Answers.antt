@@ -1,6 +1,6 @@
 use Rattle.std.proofs.Common.{arith}
 use Rattle.liq_types.specs.State.{opening}
-use Rattle.liq_core.specs.WellFormed.{IsWellFormed}
+use Rattle.liq_types.specs.WellFormed.{IsWellFormed}
 use Rattle.liq_core.proofs.AlikeReplies.{step_alike, run_alike, alike_itself}
 use Rattle.liq_core.proofs.laws.states_are_well_formed.Goals as goal
 

@@ -8,7 +8,7 @@ use Rattle.liq_core.specs.Core.{Core, state_of}
 use Rattle.liq_core.specs.Sound.{core_of}
 use Rattle.liq_core.specs.Step.{noted}
 use Rattle.liq_core.proofs.Allowed.{built-rotates}
-use Rattle.liq_core.proofs.UsedRows.{rows-put}
+use Rattle.liq_types.proofs.UsedRows.{rows-put}
 use Rattle.liq_core.proofs.engine.Protocol.note.Goals as goal
 
 pub returns : goal.returns

@@ -2,7 +2,7 @@ use Rattle.std.proofs.Common.{refl, ap, subst}
 use Rattle.liq_types.specs.State.{no_client, is_used_client}
 use Rattle.liq_core.specs.Core.{Core, SameContent, image_of}
 use Rattle.liq_core.specs.Sound.{core_of}
-use Rattle.liq_core.proofs.UsedRows.{rows-reserve}
+use Rattle.liq_types.proofs.UsedRows.{rows-reserve}
 use Rattle.liq_core.proofs.engine.Protocol.reserve_client.Goals as goal
 
 pub returns-clause-same : goal.returns-clause-same

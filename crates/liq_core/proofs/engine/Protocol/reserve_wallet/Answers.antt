@@ -3,7 +3,7 @@ use Rattle.liq_types.specs.declared.figures.Wallet.{Wallet}
 use Rattle.liq_types.specs.State.{no_wallet, is_used_wallet}
 use Rattle.liq_core.specs.Core.{Core, SameContent, image_of}
 use Rattle.liq_core.specs.Sound.{core_of}
-use Rattle.liq_core.proofs.UsedRows.{rows-reserve, sum_by-reserve}
+use Rattle.liq_types.proofs.UsedRows.{rows-reserve, sum_by-reserve}
 use Rattle.liq_core.proofs.engine.Protocol.reserve_wallet.Goals as goal
 
 pub invariant_of-self : goal.invariant_of-self

@@ -6,7 +6,7 @@ use Rattle.liq_types.specs.State.{no_wallet, is_used_wallet, with_wallet}
 use Rattle.liq_types.specs.Tables.{Table, at, rows}
 use Rattle.liq_core.specs.Core.{Core, state_of}
 use Rattle.liq_core.specs.Sound.{core_of}
-use Rattle.liq_core.proofs.UsedRows.{rows-put, sum_by-put}
+use Rattle.liq_types.proofs.UsedRows.{rows-put, sum_by-put}
 use Rattle.liq_core.proofs.engine.Protocol.set_wallet.Goals as goal
 
 pub invariant_of-self : goal.invariant_of-self

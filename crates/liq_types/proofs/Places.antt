@@ -14,7 +14,7 @@ use Rattle.liq_types.specs.declared.amounts.TheConstants.{P_OPENING}
 use Rattle.liq_types.specs.Image.{Image, Place}
 use Rattle.liq_types.specs.Product.{Words, after_offset, rise_of, product_after, start_words, prod, place_of, is_place, place_order, sum_rise, rises_at, start_sum, sumat, places_left, with_finished, finished_sums}
 use Rattle.liq_types.specs.State.{Offset}
-use Rattle.liq_core.specs.WellFormed.{IsBefore, AreFinished}
+use Rattle.liq_types.specs.WellFormed.{IsBefore, AreFinished}
 
 -- ---- places in their order
 

@@ -12,7 +12,7 @@ use Rattle.std.specs.Map.{keys_of, values_of}
 use Rattle.std.proofs.lemmas.Map.Keys.{sorted_head, sorted_tail, IsDistinct-from_sorted}
 use Rattle.std.proofs.lemmas.Map.Entries.{option_filter, lookup-filter-values, sum_by-insert_entry}
 use Rattle.std.proofs.lemmas.Map.Lookups.{exact_unsigned}
-use Rattle.liq_core.specs.Rows.{Reserves}
+use Rattle.liq_types.specs.Rows.{Reserves}
 use Rattle.liq_types.specs.Tables.{Table, at, put, without, rows}
 
 module _ {X : Type 0} where
