@@ -1,15 +1,22 @@
 -- Sorting by insertion: the same entries, ascending.
 use Rattle.std.proofs.Common.{◌≡◌, List, [], ◌∷◌, ◌++◌, refl, sym, ap, ◌∙◌, subst, append-nil}
-use Rattle.std.specs.Prelude.{◌≢◌, fold}
+use Rattle.std.specs.Prelude.{◌≢◌, ℕ, fold}
 use Rattle.std.specs.List.{AllByRecursion}
 use Rattle.std.specs.List.Sorted.{IsPermutation}
 use Rattle.std.specs.Cmp.{IsTotalOrder}
-use Rattle.std.specs.Ordering.{match_ordering, ordering_reverse}
+use Rattle.std.specs.Ordering.{int_cmp, match_ordering, ordering_then, ordering_reverse}
+use Rattle.std.proofs.lemmas.Map.Lookups.{exact_unsigned}
 use Rattle.std.specs.declared.cmp.Ordering.{Ordering}
 use Rattle.std.specs.declared.cmp.Ordering.TheVariants.{Less, Equal, Greater}
 use Rattle.std.proofs.lemmas.Cmp.{int_cmp_total, nat_cmp_total, then_total, on_total}
 use Rattle.std.proofs.lemmas.List.Sorted.{IsPermutation-refl, IsPermutation-cons, IsPermutation-trans, IsPermutation-middle, IsPermutation-append}
-use Rattle.liq_order.specs.Order.{Ranked, rank_order, with_ranked, sorted, IsAscending}
+use Rattle.std.specs.Ordering.{nat_cmp}
+use Rattle.std.specs.Map.{keys_of}
+use Rattle.std.specs.List.Sorted.{IsStrictlySortedBy}
+use Rattle.liq_types.specs.declared.figures.Trove.{Trove}
+use Rattle.liq_types.specs.Tables.{Table}
+use Rattle.liq_types.specs.WellFormed.{Ascends}
+use Rattle.liq_order.specs.Order.{Ranked, rank_order, with_ranked, sorted, IsInOrder, IsAscending, ranks, order_by}
 
 rank_total : IsTotalOrder rank_order
 rank_total = then_total (on_total (λ (e : Ranked). e.0) int_cmp_total) (on_total (λ (e : Ranked). e.1) nat_cmp_total)
@@ -68,20 +75,93 @@ not_less_itself o g l = cc
 reversed_less : (e f : Ranked) (o : Ordering) → rank_order e f ≡ o → o ≢ Greater → rank_order f e ≢ Less
 reversed_less e f o is not_greater less = not_greater (sym is ∙ rank_total.antisymm e f ∙ ap ordering_reverse less)
 
-with_ascending : (list : List Ranked) (e : Ranked) → IsAscending list → IsAscending (with_ranked list e)
+with_ascending : (list : List Ranked) (e : Ranked) → IsInOrder list → IsInOrder (with_ranked list e)
 with_ascending [] e h = (tt, tt)
 with_ascending (f ∷ fs) e h = by (rank_order e f) refl (with_ascending fs e h.1) where
-  front : (o : Ordering) → rank_order e f ≡ o → o ≢ Greater → IsAscending (e ∷ f ∷ fs)
+  front : (o : Ordering) → rank_order e f ≡ o → o ≢ Greater → IsInOrder (e ∷ f ∷ fs)
   front o is low = ((reversed_less e f o is low, after_later e f fs (subst (λ r. r ≢ Greater) (sym is) low) h.0), h)
 
-  by : (o : Ordering) → rank_order e f ≡ o → IsAscending (with_ranked fs e) → IsAscending (match_ordering o (e ∷ f ∷ fs) (e ∷ f ∷ fs) (f ∷ with_ranked fs e))
+  by : (o : Ordering) → rank_order e f ≡ o → IsInOrder (with_ranked fs e) → IsInOrder (match_ordering o (e ∷ f ∷ fs) (e ∷ f ∷ fs) (f ∷ with_ranked fs e))
   by Less is more = front Less is (λ g. cc)
   by Equal is more = front Equal is (λ g. cc)
   by Greater is more = (with_after f fs e (not_less_itself (rank_order e f) is) h.0, more)
 
-all_ascending : (list entries : List Ranked) → IsAscending list → IsAscending (fold with_ranked list entries)
+all_ascending : (list entries : List Ranked) → IsInOrder list → IsInOrder (fold with_ranked list entries)
 all_ascending list [] h = h
 all_ascending list (e ∷ es) h = all_ascending (with_ranked list e) es (with_ascending list e h)
 
-pub sorted_ascending : (entries : List Ranked) → IsAscending (sorted entries)
-sorted_ascending entries = all_ascending [] entries tt
+pub sorted_in_order : (entries : List Ranked) → IsInOrder (sorted entries)
+sorted_in_order entries = all_ascending [] entries tt
+
+-- ---- strictly, where no account stands twice
+
+-- no entry has the account
+abbrev IsAbsent : ℕ → List Ranked → Type 0
+IsAbsent account list = AllByRecursion (λ (f : Ranked). f.1 ≢ account) list
+
+-- no two entries of the second list share an account, nor one with an entry of the first
+abbrev AreApart : List Ranked → List Ranked → Type 0
+AreApart list [] = Unit {0}
+AreApart list (e ∷ es) = IsAbsent e.1 list × IsAbsent e.1 es × AreApart list es
+
+with_absent : (list : List Ranked) (e : Ranked) (account : ℕ) → e.1 ≢ account → IsAbsent account list → IsAbsent account (with_ranked list e)
+with_absent [] e account n h = (n, tt)
+with_absent (f ∷ fs) e account n h = by (rank_order e f) (with_absent fs e account n h.1) where
+  by : (o : Ordering) → IsAbsent account (with_ranked fs e) → IsAbsent account (match_ordering o (e ∷ f ∷ fs) (e ∷ f ∷ fs) (f ∷ with_ranked fs e))
+  by Less more = (n, h)
+  by Equal more = (n, h)
+  by Greater more = (h.0, more)
+
+with_apart : (list : List Ranked) (e : Ranked) (es : List Ranked) → IsAbsent e.1 es → AreApart list es → AreApart (with_ranked list e) es
+with_apart list e [] n h = tt
+with_apart list e (f ∷ fs) n h = (with_absent list e f.1 (λ same. n.0 (sym same)) h.0, h.1, with_apart list e fs n.1 h.2)
+
+-- all of a list comes behind an entry
+abbrev Behind : Ranked → List Ranked → Type 0
+Behind e list = AllByRecursion (λ f. rank_order e f ≡ Less) list
+
+behind_more : (e f : Ranked) (list : List Ranked) → rank_order e f ≡ Less → Behind f list → Behind e list
+behind_more e f [] less h = tt
+behind_more e f (g ∷ gs) less h = (rank_total.trans e f g less h.0, behind_more e f gs less h.1)
+
+with_behind : (f : Ranked) (list : List Ranked) (e : Ranked) → rank_order f e ≡ Less → Behind f list → Behind f (with_ranked list e)
+with_behind f [] e less h = (less, tt)
+with_behind f (g ∷ gs) e less h = by (rank_order e g) (with_behind f gs e less h.1) where
+  by : (o : Ordering) → Behind f (with_ranked gs e) → Behind f (match_ordering o (e ∷ g ∷ gs) (e ∷ g ∷ gs) (g ∷ with_ranked gs e))
+  by Less more = (less, h)
+  by Equal more = (less, h)
+  by Greater more = (h.0, more)
+
+equal_accounts : (o p : Ordering) → ordering_then o p ≡ Equal → p ≡ Equal
+equal_accounts Less p h = cc
+equal_accounts Equal p h = h
+equal_accounts Greater p h = cc
+
+with_strict : (list : List Ranked) (e : Ranked) → IsAbsent e.1 list → IsAscending list → IsAscending (with_ranked list e)
+with_strict [] e n h = (tt, tt)
+with_strict (f ∷ fs) e n h = by (rank_order e f) refl (with_strict fs e n.1 h.1) where
+  by : (o : Ordering) → rank_order e f ≡ o → IsAscending (with_ranked fs e) → IsAscending (match_ordering o (e ∷ f ∷ fs) (e ∷ f ∷ fs) (f ∷ with_ranked fs e))
+  by Less is more = ((is, behind_more e f fs is h.0), h)
+  by Equal is more = absurd (n.0 (sym (exact_unsigned e.1 f.1 (equal_accounts (int_cmp e.0 f.0) (nat_cmp e.1 f.1) is))))
+  by Greater is more = (with_behind f fs e (rank_total.antisymm f e ∙ ap ordering_reverse is) h.0, more)
+
+all_strict : (list entries : List Ranked) → AreApart list entries → IsAscending list → IsAscending (fold with_ranked list entries)
+all_strict list [] a h = h
+all_strict list (e ∷ es) a h = all_strict (with_ranked list e) es (with_apart list e es a.1 a.2) (with_strict list e a.0 h)
+
+-- a table's keys, ranked
+ranks_absent : (key : ℕ) (table : Table Trove) → AllByRecursion (λ y. nat_cmp key y ≡ Less) (keys_of table) → IsAbsent key (ranks table)
+ranks_absent key [] h = tt
+ranks_absent key (row ∷ rows) h = (λ same. clash (subst (λ y. nat_cmp key y ≡ Less) same h.0), ranks_absent key rows h.1) where
+  clash : nat_cmp key key ≡ Less → ⊥
+  clash less = turned (sym less ∙ nat_cmp_total.antisymm key key ∙ ap ordering_reverse less) where
+    turned : Less ≡ Greater → ⊥
+    turned x = cc
+
+ranks_apart : (table : Table Trove) → Ascends table → AreApart [] (ranks table)
+unfolding IsStrictlySortedBy
+ranks_apart [] h = tt
+ranks_apart (row ∷ rows) h = (tt, ranks_absent row.0 rows h.0, ranks_apart rows h.1)
+
+pub order_ascends : (troves : Table Trove) → Ascends troves → IsAscending (order_by troves)
+order_ascends troves h = all_strict [] (ranks troves) (ranks_apart troves h) tt

@@ -1,9 +1,51 @@
--- The words of the Stability Pool in a state.
-use Rattle.liq_types.specs.Product.{sumat, place_of}
-use Rattle.liq_types.specs.State.{State}
+-- The words of the Stability Pool: what an offset makes of them, and what they are in a state.
+use Rattle.std.specs.Prelude.{ℕ, ◌+◌, ◌-◌, ◌||◌, ◌==◌, Option, Some, None, if◌then◌else◌}
+use Rattle.liq_types.specs.Product.{Words, after_offset, prod, sumat, sum_rise, place_of, is_place}
+use Rattle.liq_types.specs.State.{State, Offset}
 use Rattle.liq_types.specs.Totals.{pool_total, pool_coll}
 use Rattle.liq_stability.specs.declared.words.PoolWords.{PoolWords}
-use Rattle.liq_stability.specs.Position.{words_of}
+use Rattle.liq_stability.specs.declared.words.FinishedSum.{FinishedSum}
+
+-- ---- over the words as they are kept
+
+-- the product, and where it counts
+abbrev pub words_in : PoolWords → Words
+words_in w = record { p = w.p; scale = w.scale; epoch = w.epoch }
+
+-- the pool takes over debt for collateral
+abbrev pub offset_in : PoolWords → ℕ → ℕ → Offset
+offset_in w debt coll = record { debt = debt; coll = coll; total = w.total }
+
+-- the sum of the words' place, with what an offset adds to it
+abbrev pub sum_with : PoolWords → ℕ → ℕ → ℕ
+sum_with w debt coll = w.sum + sum_rise (words_in w) (offset_in w debt coll)
+
+-- A sum counts at its place alone: where an offset leaves the place, the next one begins at 0.
+abbrev pub words_after : PoolWords → ℕ → ℕ → PoolWords
+words_after w debt coll =
+    let next = after_offset (words_in w) (offset_in w debt coll) in
+    record {
+      p = next.p;
+      scale = next.scale;
+      epoch = next.epoch;
+      sum = if is_place (place_of (words_in w)) (place_of next) then sum_with w debt coll else 0;
+      total = w.total - debt;
+      coll = w.coll + coll;
+    }
+
+-- the sum that an offset finishes: that of the place that it leaves, if it is not 0
+abbrev pub finished_by : PoolWords → ℕ → ℕ → Option FinishedSum
+finished_by w debt coll =
+    let next = after_offset (words_in w) (offset_in w debt coll) in
+    let sum = sum_with w debt coll in
+    if is_place (place_of (words_in w)) (place_of next) || sum == 0
+    then None
+    else Some (record { epoch = w.epoch; scale = w.scale; sum = sum })
+
+-- ---- in a state
+
+abbrev pub words_of : State → Words
+words_of s = prod s.start s.offsets
 
 abbrev pub pool_words : State → PoolWords
 pool_words s =

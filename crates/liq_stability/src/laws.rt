@@ -13,8 +13,8 @@ pub fn balance_rounds_once()
     ensures { (amount p mark rise : ℕ) → floor_of amount p mark / 10 ^ (9 * rise) ≡ floor_of amount p (mark * 10 ^ (9 * rise)) }
 {}
 
-/// No position is more than the pool has.
-pub fn positions_stay_within()
+/// The caps hold: no position is more than the pool has, whatever state it is read in. (That they never act is another law.)
+pub fn caps_hold()
     ensures balance { (s : State) → (account : ℕ) → balance_of s account ≤ pool_total s }
     ensures gain { (s : State) → (account : ℕ) → gain_of s account ≤ pool_coll s }
 {}

@@ -1,2 +1,3 @@
-pub mod StakeSums
 pub mod Own
+pub mod Rows
+pub mod StakeSums

@@ -1,15 +1,14 @@
--- What changes the troves: own operations, redistributions and snapshots.
-use Rattle.std.specs.Prelude.{ℕ, ◌+◌, ◌-◌, ◌==◌, max, Option, Some, None, [], ◌∷◌, ◌++◌, length, if◌then◌else◌}
-use Rattle.liq_num.specs.Quotient.{floor_of}
+-- What changes the troves of a state: own operations, redistributions and snapshots.
+use Rattle.std.specs.Prelude.{ℕ, ◌+◌, ◌-◌, Option, Some, None, [], ◌∷◌, ◌++◌, length}
 use Rattle.liq_types.specs.State.{State, TroveEntry, After}
 use Rattle.liq_types.specs.Tables.{at, put, without}
 use Rattle.liq_types.specs.Totals.{stakes_of, total_coll}
+use Rattle.liq_troves.specs.Rows.{stake_by}
 use Rattle.liq_troves.specs.StakeSums.{pending_coll, pending_debt}
 
--- the stake for collateral: its part of the stakes as of the last liquidation
+-- the stake for collateral
 abbrev pub stake_for : State → ℕ → ℕ
-stake_for s coll =
-    if s.snap_coll == 0 then coll else max 1 (floor_of coll s.snap_stakes s.snap_coll)
+stake_for s coll = stake_by s.snap_stakes s.snap_coll coll
 
 -- a trove leaves: its recorded amounts the active pool, its pending ones the default pool
 abbrev pub lifted_entry : State → ℕ → Option TroveEntry → State

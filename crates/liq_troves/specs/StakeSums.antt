@@ -1,17 +1,22 @@
--- Sums per unit of stake over the list of redistributions, and what a trove has by them.
-use Rattle.std.specs.Prelude.{ℕ, ◌+◌, ◌-◌, Option, option_map, take, length, sum_by, ℤ, pos, ◌-ℤ◌}
-use Rattle.liq_num.specs.Quotient.{floor_of}
+-- Sums per unit of stake over the list of redistributions, and the troves of a state as they are kept.
+use Rattle.std.specs.Prelude.{ℕ, ◌+◌, ◌*◌, ◌≤◌, ◌<◌, Option, List, fold, take, length, sum_by, count_by, nat_lt, ℤ}
+pub use Rattle.liq_troves.specs.Rows.{pending}
 use Rattle.liq_types.specs.declared.amounts.TheConstants.{ONE}
 use Rattle.liq_types.specs.declared.figures.Trove.{Trove}
 use Rattle.liq_types.specs.State.{State, StakeSums, Mark, AtStart, After, TroveEntry, Redistribution}
-use Rattle.liq_types.specs.Tables.{at}
+use Rattle.liq_types.specs.Tables.{Table, map_rows}
+use Rattle.liq_types.specs.Totals.{stakes_of}
+use Rattle.liq_troves.specs.declared.sums.Sums.{Sums}
+use Rattle.liq_troves.specs.Rows.{entire_by, entire_in, key_by, growth}
+
+-- ---- sums along the list
 
 -- what a redistribution gives to each unit of stake, over ONE
 abbrev pub coll_rise : Redistribution → ℕ
-coll_rise r = floor_of r.coll ONE r.stakes
+coll_rise r = growth r.coll r.stakes
 
 abbrev pub debt_rise : Redistribution → ℕ
-debt_rise r = floor_of r.debt ONE r.stakes
+debt_rise r = growth r.debt r.stakes
 
 -- the sums after so many redistributions
 abbrev pub sums_after : State → ℕ → StakeSums
@@ -29,11 +34,35 @@ abbrev pub sums_at : State → Mark StakeSums → StakeSums
 sums_at s (AtStart fields) = fields
 sums_at s (After items) = sums_after s items
 
--- ---- entire amounts
+-- ---- as they are kept
 
--- what a stake has got since the sum was at the mark
-abbrev pub pending : ℕ → ℕ → ℕ → ℕ
-pending stake now mark = floor_of stake (now - mark) ONE
+abbrev pub sums_words : State → Sums
+sums_words s =
+    record {
+      coll = (sums_now s).coll;
+      debt = (sums_now s).debt;
+      stakes = stakes_of s;
+      snap_stakes = s.snap_stakes;
+      snap_coll = s.snap_coll;
+    }
+
+abbrev pub trove_row : State → TroveEntry → Trove
+trove_row s t =
+    let mark = sums_at s t.mark in
+    record { coll = t.coll; debt = t.debt; stake = t.stake; mark_coll = mark.coll; mark_debt = mark.debt }
+
+abbrev pub trove_rows : State → Table Trove
+trove_rows s = map_rows (trove_row s) s.troves
+
+-- ---- read off the rows
+
+-- collateral and debt: what is recorded and what is pending
+abbrev pub entire : State → TroveEntry → ℕ × ℕ
+entire s t = entire_by (sums_words s) (trove_row s t)
+
+-- of an account that has a trove
+abbrev pub entire_of : State → ℕ → Option (ℕ × ℕ)
+entire_of s account = entire_in (sums_words s) (trove_rows s) account
 
 abbrev pub pending_coll : State → TroveEntry → ℕ
 pending_coll s t = pending t.stake (sums_now s).coll (sums_at s t.mark).coll
@@ -41,22 +70,21 @@ pending_coll s t = pending t.stake (sums_now s).coll (sums_at s t.mark).coll
 abbrev pub pending_debt : State → TroveEntry → ℕ
 pending_debt s t = pending t.stake (sums_now s).debt (sums_at s t.mark).debt
 
--- collateral and debt: what is recorded and what is pending
-abbrev pub entire : State → TroveEntry → ℕ × ℕ
-entire s t = (t.coll + pending_coll s t, t.debt + pending_debt s t)
-
--- of an account that has a trove
-abbrev pub entire_of : State → ℕ → Option (ℕ × ℕ)
-entire_of s account = option_map (entire s) (at s.troves account)
-
--- ---- keys
-
--- A trove's key stays from one own operation to the next: debt per unit of stake, less what a unit had got before.
 abbrev pub key_of : State → TroveEntry → ℤ
-key_of s t = pos (floor_of t.debt ONE t.stake) -ℤ pos (sums_at s t.mark).debt
+key_of s t = key_by (trove_row s t)
 
--- the trove as the image has it
-abbrev pub trove_row : State → TroveEntry → Trove
-trove_row s t =
-    let mark = sums_at s t.mark in
-    record { coll = t.coll; debt = t.debt; stake = t.stake; mark_coll = mark.coll; mark_debt = mark.debt }
+-- ---- exactly
+
+-- What a stake gets exactly of a list of redistributions, as a fraction; the amount is the collateral or the debt of each.
+abbrev pub exact_part : (Redistribution → ℕ) → ℕ → List Redistribution → ℕ × ℕ
+exact_part amount stake rs =
+    fold (λ (part : ℕ × ℕ) (r : Redistribution). (part.0 * r.stakes + amount r * stake * part.1, part.1 * r.stakes)) (0, 1) rs
+
+-- how many redistributions there were of more than nothing
+abbrev pub somethings : (Redistribution → ℕ) → List Redistribution → ℕ
+somethings amount rs = count_by (λ (r : Redistribution). nat_lt 0 (amount r)) rs
+
+-- what is pending is at most the exact part, and short of it by less than 1 and the stake's ONEth for each redistribution
+pub record IsShortOf (pending stake items : ℕ) (exact : ℕ × ℕ) : Type 0 where
+  pub at_most : pending * exact.1 ≤ exact.0
+  pub short : exact.0 * ONE < (pending * ONE + ONE + items * stake) * exact.1

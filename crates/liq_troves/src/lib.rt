@@ -1,2 +1,7 @@
 //! The troves: entire amounts, stakes and the sums per unit of stake.
 #![tactic(auto)]
+
+mod sums;
+
+pub use liq_types::Trove;
+pub use sums::Sums;

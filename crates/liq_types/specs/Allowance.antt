@@ -3,8 +3,7 @@ use Rattle.std.specs.Prelude.{ℕ, ◌+◌, ◌-◌, ◌*◌, ◌^◌, ◌==◌,
 use Rattle.liq_num.specs.Quotient.{ceiling_of}
 use Rattle.liq_types.specs.declared.events.PoolEvent.{PoolEvent}
 use Rattle.liq_types.specs.declared.events.PoolEvent.TheVariants.{Own, Offset}
-use Rattle.liq_types.specs.Image.{opening_image}
-use Rattle.liq_types.specs.Product.{Words, start_words, after_offset}
+use Rattle.liq_types.specs.Product.{Words, opening_words, after_offset}
 
 -- an account's recorded amount, the place of its last own event, its weight so far and the number of its own events
 pub record Watch : Type 0 where
@@ -16,7 +15,7 @@ pub record Watch : Type 0 where
   pub own_events : ℕ
 
 abbrev pub no_watch : Watch
-no_watch = record { now = start_words opening_image; amount = 0; epoch = 0; scale = 0; weight = 0; own_events = 0 }
+no_watch = record { now = opening_words; amount = 0; epoch = 0; scale = 0; weight = 0; own_events = 0 }
 
 -- What an offset may cost the account: the amount as it counts after the scale's rises since its own event. An epoch that
 -- has ended costs nothing more.

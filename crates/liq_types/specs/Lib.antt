@@ -1,10 +1,13 @@
 pub mod Allowance
+pub mod Codes
 pub mod Image
 pub mod Payments
 pub mod PlainLedger
 pub mod Product
+pub mod Ranked
 pub mod Rows
 pub mod Rules
+pub mod Soundness
 pub mod State
 pub mod Tables
 pub mod Totals

@@ -15,6 +15,10 @@ pub record Words : Type 0 where
   pub scale : ℕ
   pub epoch : ℕ
 
+-- the product is whole
+abbrev pub opening_words : Words
+opening_words = record { p = P_OPENING; scale = 0; epoch = 0 }
+
 -- ---- the product
 
 -- the least number from k on that passes the test, where one does within so many more
@@ -28,25 +32,32 @@ least_from test k (suc more) =
 abbrev pub product_after : ℕ → Offset → ℕ → ℕ
 product_after p o steps = floor_of p ((o.total - o.debt) * 10 ^ (9 * steps)) o.total
 
+-- More steps than any pool needs that has less than 10^270; a product of 0 would find none that suffices.
+abbrev pub STEPS_TRIED : ℕ
+STEPS_TRIED = 30
+
 -- by how many steps an offset raises the scale: the fewest that keep the product from falling below its least
 abbrev pub rise_of : ℕ → Offset → ℕ
-rise_of p o = if o.debt == o.total then 0 else least_from (λ steps. nat_le P_LEAST (product_after p o steps)) 0 30
+rise_of p o = if o.debt == o.total then 0 else least_from (λ steps. nat_le P_LEAST (product_after p o steps)) 0 STEPS_TRIED
 
 -- an offset of the whole pool ends the epoch
 abbrev pub after_offset : Words → Offset → Words
 after_offset w o =
     let steps = rise_of w.p o in
     if o.debt == o.total
-    then record { p = P_OPENING; scale = 0; epoch = w.epoch + 1 }
+    then record opening_words { epoch = w.epoch + 1 }
     else record { p = product_after w.p o steps; scale = w.scale + steps; epoch = w.epoch }
 
 -- ---- offsets of a pool within its limit
 
--- it takes some of the pool, and no more than all
-pub record TakesPart (o : Offset) : Type 0 where
+-- it takes some of the pool, and no more than all; the pool has no more than so much
+pub record TakesPartUpTo (most : ℕ) (o : Offset) : Type 0 where
   pub some : 1 ≤ o.debt
   pub within : o.debt ≤ o.total
-  pub limit : o.total ≤ LIM
+  pub limit : o.total ≤ most
+
+abbrev pub TakesPart : Offset → Type 0
+TakesPart o = TakesPartUpTo LIM o
 
 pub record IsWithinRange (w : Words) : Type 0 where
   pub least : P_LEAST ≤ w.p

@@ -154,14 +154,20 @@ no_client = record { last = 0; kept = record { kind = 0; values = replicate 6 0 
 abbrev pub is_used_client : Client → Bool
 is_used_client c = not (c.last == 0)
 
+abbrev pub wallet_in : Table Wallet → ℕ → Wallet
+wallet_in wallets account = unwrap_or (at wallets account) no_wallet
+
 abbrev pub wallet_of : State → ℕ → Wallet
-wallet_of s account = unwrap_or (at s.wallets account) no_wallet
+wallet_of s account = wallet_in s.wallets account
 
 abbrev pub client_of : State → ℕ → Client
 client_of s client = unwrap_or (at s.clients client) no_client
 
+abbrev pub surplus_in : Table ℕ → ℕ → ℕ
+surplus_in surplus account = unwrap_or (at surplus account) 0
+
 abbrev pub surplus_of : State → ℕ → ℕ
-surplus_of s account = unwrap_or (at s.surplus_rows account) 0
+surplus_of s account = surplus_in s.surplus_rows account
 
 -- the wallets after one of them changed
 abbrev pub with_wallet : Table Wallet → ℕ → Wallet → Table Wallet

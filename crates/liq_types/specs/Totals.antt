@@ -2,7 +2,7 @@
 use Rattle.std.specs.Prelude.{ℕ, ◌+◌, ◌-◌, ◌*◌, Bool, not, nat_lt, nat_le, length, sum_by}
 use Rattle.std.specs.Map.{values_of}
 use Rattle.liq_num.specs.declared.ratio.TheConstants.{GWEI_PER_ETH}
-use Rattle.liq_types.specs.declared.amounts.TheConstants.{CCR}
+use Rattle.liq_types.specs.declared.amounts.TheConstants.{CCR, LIM}
 use Rattle.liq_types.specs.declared.figures.Market.{Market}
 use Rattle.liq_types.specs.State.{State, TroveEntry, Offset}
 
@@ -58,6 +58,10 @@ market_of s =
       total_debt = total_debt s;
       troves = trove_count s;
     }
+
+-- the most collateral inside, and the most LUSD
+abbrev pub limit_of : Market → ℕ
+limit_of m = LIM
 
 -- ---- the mode
 

@@ -18,7 +18,7 @@ pub const PRICE_OPENING: u64 = 1_000_000_000;
 /// The last minute.
 pub const MINUTE_MOST: u64 = 1_000_000_000_000;
 
-/// The least ratio of a trove's collateral to its debt, in percent: below it the trove is liquidated.
+/// The least ratio of a trove's collateral to its debt, in percent: below it the trove may be liquidated.
 pub const MCR: u64 = 110;
 
 /// The critical ratio of all collateral to all debt, in percent: below it Recovery Mode holds.
@@ -48,6 +48,19 @@ pub const P_OPENING: u128 = 1_000_000_000_000_000_000;
 /// The least product of the Stability Pool, over 10^18.
 pub const P_LEAST: u128 = 1_000_000_000;
 
+/// The most steps of 10^9 by which one offset raises the scale, since no pool has more than [`LIM`].
+pub const RISES_MOST: u64 = 2;
+
+/// The most gwei that an offset brings for each micro-LUSD that it takes over: what is liquidated for the Stability Pool is
+/// worth at most 110 percent of its debt, and the price is at least [`PRICE_LEAST`].
+pub const OFFSET_MOST: u64 = 11;
+
+/// The liquidator of a trove gets its collateral divided by this.
+pub const GAS_PART: u64 = 200;
+
+/// Divided by the price, the gwei that are worth 110 percent of one micro-LUSD.
+pub const CAP_WORTH: u64 = 1_100_000_000;
+
 /// The greatest sum per unit of stake, over 10^18.
 pub const SUM_MOST: u128 = 10_000_000_000_000_000_000_000_000_000_000_000_000;
 
@@ -60,8 +73,18 @@ pub const LOWEST_MOST: u64 = 64;
 /// The most accepted commands between two rotations.
 pub const RECORDS_MOST: u64 = 1_000_000;
 
-/// The greatest generation of the journal, and the most bytes of a checkpoint.
+/// By how much one accepted command may raise the scale or the epoch of the Stability Pool, at most: 64 liquidations, each by
+/// less than this many 64ths.
+pub const PLACES_A_RECORD: u64 = 200;
+
+/// The greatest generation of the journal.
 pub const GENERATIONS_MOST: u64 = 68_719_476_736;
+
+/// The most bytes of a checkpoint.
+pub const CHECKPOINT_BYTES_MOST: u64 = 68_719_476_736;
+
+/// The greatest number of a client's command.
+pub const NUMBER_MOST: u64 = 18_446_744_073_709_551_615;
 
 /// The most lines that one run answers.
 pub const LINES_MOST: u64 = 1_000_000;

@@ -11,7 +11,8 @@ pub enum PoolEvent {
         gain: u64,
         amount: u64,
     },
-    /// Debt that the pool took over for collateral, the pool's total before it, and by how much the scale rose.
+    /// Debt that the pool took over for collateral, the pool's total before it, and by how many steps the scale rose. Where
+    /// the debt is the total the epoch ends, and the rise is 0.
     Offset {
         debt: u64,
         coll: u64,

@@ -5,7 +5,7 @@ use crate::hints::HintWords;
 /// A call under its client's number, which makes it act once however often it comes.
 #[derive(Clone, Copy, Debug, PartialEq, Eq)]
 pub struct Command {
-    /// Who sends it, below [`crate::amounts::ACCOUNTS`].
+    /// Who sends it. A client at or above [`crate::amounts::ACCOUNTS`] is refused.
     pub client: u32,
     /// The client's number for it: the first is 1, and each accepted one is followed by the next.
     pub number: u64,

@@ -3,7 +3,7 @@ use Rattle.liq_types.specs.State.{State, DepositEntry}
 use Rattle.liq_types.specs.Tables.{at}
 use Rattle.liq_types.specs.Totals.{pool_total, pool_coll}
 use Rattle.liq_stability.specs.Position.{balance_in, gain_in}
-use Rattle.liq_stability.proofs.laws.positions_stay_within.Goals as goal
+use Rattle.liq_stability.proofs.laws.caps_hold.Goals as goal
 
 balance_within : (s : State) (o : Option DepositEntry) → balance_in s o ≤ pool_total s
 balance_within s None = omega arith
