@@ -3,4 +3,4 @@
 
 mod change;
 
-pub use change::Change;
+pub use change::{Change, Plan};

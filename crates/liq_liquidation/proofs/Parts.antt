@@ -7,7 +7,7 @@ use Rattle.liq_num.specs.Quotient.{floor_of}
 use Rattle.liq_types.specs.declared.amounts.TheConstants.{MCR}
 use Rattle.liq_types.specs.declared.figures.Market.{Market}
 use Rattle.liq_types.specs.Totals.{is_below_percent, is_at_most_whole, is_ratio_below, is_normal}
-use Rattle.liq_liquidation.specs.One.{Treatment, Plain, Spread, Capped, Spared, treatment, treated, is_spared, cap_of, gas_of, plain, one_total_coll, one_total_debt}
+use Rattle.liq_liquidation.specs.One.{Treatment, Plain, Redistributed, Capped, Kept, treatment, treated, is_kept, cap_of, gas_of, plain, one_total_coll, one_total_debt}
 
 -- ---- the cap
 
@@ -16,7 +16,7 @@ fits price coll debt h =
     let enough : 110 * debt * 1000000000 ≤ coll * price * 100 = grind (arith, nat_tests, h) in
     div-le_of_le-mul price (omega (arith, enough))
 
-in_table : (normal whole below under : Bool) → cond normal (cond below Plain Spared) (cond whole Spread (cond below Plain (cond under Capped Spared))) ≡ Capped → below ≡ false
+in_table : (normal whole below under : Bool) → cond normal (cond below Plain Kept) (cond whole Redistributed (cond below Plain (cond under Capped Kept))) ≡ Capped → below ≡ false
 in_table true whole true under h = cc
 in_table true whole false under h = refl
 in_table false true true under h = cc
@@ -53,20 +53,20 @@ add_capped coll cap gas h k = omega arith
 add_spread : (coll gas : ℕ) → gas ≤ coll → gas + 0 + (coll - gas) + 0 ≡ coll
 add_spread coll gas h = omega arith
 
-treated_coll : (t : Treatment) (price coll debt total : ℕ) → is_spared t ≡ false → (t ≡ Capped → cap_of price debt ≤ coll) → one_total_coll (treated t price coll debt total) ≡ coll
+treated_coll : (t : Treatment) (price coll debt total : ℕ) → is_kept t ≡ false → (t ≡ Capped → cap_of price debt ≤ coll) → one_total_coll (treated t price coll debt total) ≡ coll
 treated_coll Plain price coll debt total h k = plain_coll coll debt total
-treated_coll Spread price coll debt total h k = add_spread coll (gas_of coll) (gas_within coll)
+treated_coll Redistributed price coll debt total h k = add_spread coll (gas_of coll) (gas_within coll)
 treated_coll Capped price coll debt total h k = add_capped coll (cap_of price debt) (gas_of (cap_of price debt)) (gas_within (cap_of price debt)) (k refl)
-treated_coll Spared price coll debt total h k = cc
+treated_coll Kept price coll debt total h k = cc
 
-pub parts_coll : (m : Market) (coll debt total : ℕ) → is_spared (treatment m coll debt) ≡ false → one_total_coll (treated (treatment m coll debt) m.price coll debt total) ≡ coll
+pub parts_coll : (m : Market) (coll debt total : ℕ) → is_kept (treatment m coll debt) ≡ false → one_total_coll (treated (treatment m coll debt) m.price coll debt total) ≡ coll
 parts_coll m coll debt total h = treated_coll (treatment m coll debt) m.price coll debt total h (cap_fits m coll debt)
 
-treated_debt : (t : Treatment) (price coll debt total : ℕ) → is_spared t ≡ false → one_total_debt (treated t price coll debt total) ≡ debt
+treated_debt : (t : Treatment) (price coll debt total : ℕ) → is_kept t ≡ false → one_total_debt (treated t price coll debt total) ≡ debt
 treated_debt Plain price coll debt total h = omega arith
-treated_debt Spread price coll debt total h = omega arith
+treated_debt Redistributed price coll debt total h = omega arith
 treated_debt Capped price coll debt total h = omega arith
-treated_debt Spared price coll debt total h = cc
+treated_debt Kept price coll debt total h = cc
 
-pub parts_debt : (m : Market) (coll debt total : ℕ) → is_spared (treatment m coll debt) ≡ false → one_total_debt (treated (treatment m coll debt) m.price coll debt total) ≡ debt
+pub parts_debt : (m : Market) (coll debt total : ℕ) → is_kept (treatment m coll debt) ≡ false → one_total_debt (treated (treatment m coll debt) m.price coll debt total) ≡ debt
 parts_debt m coll debt total h = treated_debt (treatment m coll debt) m.price coll debt total h

@@ -1,16 +1,20 @@
 -- The liquidation of one trove: how it is treated, what is refused, and what it does.
-use Rattle.std.specs.Prelude.{ℕ, ◌+◌, ◌-◌, ◌/◌, ◌==◌, ◌&&◌, Bool, true, false, nat_lt, min, Option, Some, None, Result, Err, List, [], ◌∷◌, if◌then◌else◌}
+use Rattle.std.specs.Prelude.{ℕ, ◌+◌, ◌-◌, ◌/◌, ◌==◌, ◌&&◌, Bool, true, false, nat_lt, min, Option, Some, None, Result, Err, List, ◌∷◌, if◌then◌else◌}
 use Rattle.liq_num.specs.Quotient.{floor_of}
-use Rattle.liq_types.specs.declared.amounts.TheConstants.{ONE, MCR, RESERVE, SUM_MOST}
+use Rattle.liq_types.specs.declared.amounts.TheConstants.{MCR, RESERVE, GAS_PART, CAP_WORTH}
 use Rattle.liq_types.specs.declared.figures.Market.{Market}
+use Rattle.liq_types.specs.declared.figures.Trove.{Trove}
 use Rattle.liq_types.specs.declared.replies.Refusal.{Refusal}
-use Rattle.liq_types.specs.declared.replies.Refusal.TheVariants.{NoTrove, NotLiquidatable, PoolTooSmall, SumLimit}
+use Rattle.liq_types.specs.declared.replies.Refusal.TheVariants.{NoTrove, NotLiquidatable, PoolTooSmall}
 use Rattle.liq_types.specs.Payments.{paid, surplus_added}
 use Rattle.liq_types.specs.Rules.{Rule, first_refusal, outcome, last_trove_stays}
-use Rattle.liq_types.specs.State.{State, StakeSums}
-use Rattle.liq_types.specs.Totals.{is_below_percent, is_at_most_whole, is_ratio_below, is_normal, market_of, stakes_of, pool_total}
+use Rattle.liq_types.specs.State.{State}
+use Rattle.liq_types.specs.Tables.{at}
+use Rattle.liq_types.specs.Totals.{is_below_percent, is_at_most_whole, is_ratio_below, is_normal, market_of, pool_total}
 use Rattle.liq_troves.specs.Own.{lifted, redistributed, snapped}
-use Rattle.liq_troves.specs.StakeSums.{entire_of, sums_now}
+use Rattle.liq_troves.specs.declared.sums.Sums.{Sums}
+use Rattle.liq_troves.specs.Rows.{entire_by, spread_rules}
+use Rattle.liq_troves.specs.StakeSums.{sums_words, trove_rows}
 use Rattle.liq_stability.specs.Own.{offset}
 use Rattle.liq_liquidation.specs.declared.one.One.{One}
 use Rattle.liq_liquidation.specs.declared.one.Victim.{Victim}
@@ -21,22 +25,22 @@ pub data Treatment : Type 0 where
   -- the pool takes over what it can, and the other troves the rest
   Plain : Treatment
   -- the other troves take over all
-  Spread : Treatment
+  Redistributed : Treatment
   -- the pool takes over all the debt for a part of the collateral, and the owner keeps the rest
   Capped : Treatment
   -- it may not be liquidated
-  Spared : Treatment
+  Kept : Treatment
 
--- The table of treatments, by the mode and the trove's own ratio. The first column that holds decides.
+-- The table of treatments, by the mode and the trove's own ratio. The first line that holds decides.
 abbrev pub in_normal : Market → ℕ → ℕ → Treatment
 in_normal m coll debt =
-    if is_below_percent coll debt m.price MCR then Plain else Spared
+    if is_below_percent coll debt m.price MCR then Plain else Kept
 
 abbrev pub in_recovery : Market → ℕ → ℕ → Treatment
 in_recovery m coll debt =
-    if is_at_most_whole coll debt m.price then Spread else
+    if is_at_most_whole coll debt m.price then Redistributed else
     if is_below_percent coll debt m.price MCR then Plain else
-    if is_ratio_below coll debt m.total_coll m.total_debt then Capped else Spared
+    if is_ratio_below coll debt m.total_coll m.total_debt then Capped else Kept
 
 abbrev pub treatment : Market → ℕ → ℕ → Treatment
 treatment m coll debt = if is_normal m then in_normal m coll debt else in_recovery m coll debt
@@ -45,7 +49,7 @@ treatment m coll debt = if is_normal m then in_normal m coll debt else in_recove
 
 -- collateral for the liquidator
 abbrev pub gas_of : ℕ → ℕ
-gas_of coll = coll / 200
+gas_of coll = coll / GAS_PART
 
 abbrev pub plain : ℕ → ℕ → ℕ → One
 plain coll debt total =
@@ -61,13 +65,13 @@ plain coll debt total =
       surplus = 0;
     }
 
-abbrev pub spread : ℕ → ℕ → One
-spread coll debt =
+abbrev pub redistributed_whole : ℕ → ℕ → One
+redistributed_whole coll debt =
     record { gas = gas_of coll; offset_debt = 0; offset_coll = 0; spread_debt = debt; spread_coll = coll - gas_of coll; surplus = 0 }
 
 -- collateral worth 110 percent of the debt
 abbrev pub cap_of : ℕ → ℕ → ℕ
-cap_of price debt = floor_of debt 1100000000 price
+cap_of price debt = floor_of debt CAP_WORTH price
 
 abbrev pub capped : ℕ → ℕ → ℕ → One
 capped price coll debt =
@@ -79,9 +83,9 @@ nothing_done = record { gas = 0; offset_debt = 0; offset_coll = 0; spread_debt =
 
 abbrev pub treated : Treatment → ℕ → ℕ → ℕ → ℕ → One
 treated Plain price coll debt total = plain coll debt total
-treated Spread price coll debt total = spread coll debt
+treated Redistributed price coll debt total = redistributed_whole coll debt
 treated Capped price coll debt total = capped price coll debt
-treated Spared price coll debt total = nothing_done
+treated Kept price coll debt total = nothing_done
 
 -- where the collateral and the debt go
 abbrev pub one_total_coll : One → ℕ
@@ -92,48 +96,49 @@ one_total_debt one = one.offset_debt + one.spread_debt
 
 -- ---- what is refused
 
-abbrev pub is_spared : Treatment → Bool
-is_spared Spared = true
-is_spared _ = false
+abbrev pub is_kept : Treatment → Bool
+is_kept Kept = true
+is_kept _ = false
 
 abbrev pub is_capped : Treatment → Bool
 is_capped Capped = true
 is_capped _ = false
 
--- a sum per stake after collateral or debt is spread over the stakes that are left
-abbrev pub sum_after : ℕ → ℕ → ℕ → ℕ
-sum_after sum spread stakes_left = sum + floor_of spread ONE stakes_left
-
-abbrev pub sum_limit : ℕ → Rule
-sum_limit sum = (nat_lt SUM_MOST sum, SumLimit sum)
-
-abbrev pub one_rules : Market → StakeSums → ℕ → ℕ → ℕ → ℕ → List Rule
-one_rules m sums stakes_left coll debt total =
+-- of a trove with these entire amounts, by the sums beside the other troves
+abbrev pub one_rules : Market → Sums → ℕ → ℕ → ℕ → List Rule
+one_rules m others coll debt total =
     let treatment = treatment m coll debt in
     let one = treated treatment m.price coll debt total in
     last_trove_stays m
-    ∷ (is_spared treatment, NotLiquidatable coll debt m.price m.total_coll m.total_debt)
+    ∷ (is_kept treatment, NotLiquidatable coll debt m.price m.total_coll m.total_debt)
     ∷ (is_capped treatment && nat_lt total debt, PoolTooSmall total debt)
-    ∷ sum_limit (sum_after sums.coll one.spread_coll stakes_left)
-    ∷ sum_limit (sum_after sums.debt one.spread_debt stakes_left)
-    ∷ []
+    ∷ spread_rules others one.spread_coll one.spread_debt
 
--- of a trove with these entire amounts
-abbrev pub one_of : Market → StakeSums → ℕ → ℕ → ℕ → ℕ → Result One Refusal
-one_of m sums stakes_left coll debt total =
-    outcome (first_refusal (one_rules m sums stakes_left coll debt total))
+abbrev pub one_of : Market → Sums → ℕ → ℕ → ℕ → Result One Refusal
+one_of m others coll debt total =
+    outcome (first_refusal (one_rules m others coll debt total))
     (treated (treatment m coll debt) m.price coll debt total)
+
+-- the sums beside the troves that are left when this one leaves
+abbrev pub without_stake : Sums → Trove → Sums
+without_stake sums t = record sums { stakes = sums.stakes - t.stake }
+
+-- what becomes of a trove, or why it may not be liquidated
+abbrev pub one_by : Market → Sums → Trove → ℕ → Result One Refusal
+one_by m sums t total =
+    let own = entire_by sums t in
+    one_of m (without_stake sums t) own.0 own.1 total
+
+-- of an account
+abbrev pub one_in : Market → Sums → ℕ → ℕ → Option Trove → Result One Refusal
+one_in m sums total account None = Err (NoTrove account)
+one_in m sums total account (Some t) = one_by m sums t total
 
 -- ---- in a state
 
-abbrev pub one_entire : State → ℕ → Option (ℕ × ℕ) → Result One Refusal
-one_entire s account None = Err (NoTrove account)
-one_entire s account (Some own) =
-    one_of (market_of s) (sums_now s) (stakes_of (lifted s account)) own.0 own.1 (pool_total s)
-
 -- what becomes of an account's trove, or why it may not be liquidated
 abbrev pub one : State → ℕ → Result One Refusal
-one s account = one_entire s account (entire_of s account)
+one s account = one_in (market_of s) (sums_words s) (pool_total s) account (at (trove_rows s) account)
 
 -- ---- what it does
 
@@ -146,8 +151,8 @@ abbrev pub struck : State → Victim → State
 struck s v =
     let left = lifted s v.account in
     let pooled = offset_if_any left v.one.offset_debt v.one.offset_coll in
-    let spread = redistributed pooled v.one.spread_coll v.one.spread_debt in
-    surplus_added (snapped spread) v.account v.one.surplus
+    let shared = redistributed pooled v.one.spread_coll v.one.spread_debt in
+    surplus_added (snapped shared) v.account v.one.surplus
 
 -- the liquidator gets the trove's reserve, and a part of its collateral
 abbrev pub rewarded : State → ℕ → ℕ → State

@@ -2,6 +2,8 @@
 use Rattle.std.specs.Prelude.{ℕ, ◌+◌, ◌-◌, ◌/◌, min}
 use Rattle.liq_num.specs.Power.{power_of}
 use Rattle.liq_num.specs.Quotient.{floor_of}
+use Rattle.liq_rate.specs.declared.rate.Rate.{Rate}
+use Rattle.liq_types.specs.declared.figures.Market.{Market}
 use Rattle.liq_types.specs.declared.amounts.TheConstants.{ONE, DECAY, FLOOR_RATE, MAX_BORROW_RATE}
 
 -- what is left at a minute of a base rate as of an earlier minute
@@ -24,3 +26,16 @@ borrow_fee left amount = floor_of (borrow_rate left) amount ONE
 -- in gwei, of the collateral that is drawn; the base is that after the redemption
 abbrev pub redeem_fee : ℕ → ℕ → ℕ
 redeem_fee base drawn = floor_of (redeem_rate base) drawn ONE
+
+-- ---- of a market
+
+-- the rate as it was left at the last fee
+abbrev pub rate_kept : Market → Rate
+rate_kept m = record { base = m.base; minute = m.fee_minute }
+
+-- what is left of the base rate now
+abbrev pub rate_left : Market → ℕ
+rate_left m = decayed m.base m.fee_minute m.minute
+
+abbrev pub rate_at : Market → ℕ → Rate
+rate_at m base = record { base = base; minute = m.minute }

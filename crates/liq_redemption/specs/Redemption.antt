@@ -1,18 +1,27 @@
 -- Redemption: the troves that are visited, the cut of each, and what is refused.
-use Rattle.std.specs.Prelude.{ℕ, ◌+◌, ◌-◌, ◌==◌, Bool, not, nat_lt, nat_le, min, List, [], ◌∷◌, filter, filter_map, fold, sum_by, Option, Some, None, option_map, unwrap_or, if◌then◌else◌}
+use Rattle.std.specs.Prelude.{ℕ, ◌+◌, ◌-◌, ◌==◌, Bool, not, nat_lt, nat_le, min, List, [], ◌∷◌, filter, filter_map, fold, sum_by, Option, Some, None, Result, option_map, unwrap_or, if◌then◌else◌}
 use Rattle.liq_num.specs.Quotient.{floor_of}
 use Rattle.liq_num.specs.declared.ratio.TheConstants.{GWEI_PER_ETH}
 use Rattle.liq_types.specs.declared.amounts.TheConstants.{MCR, RESERVE, MIN_NET, FLOOR_RATE, BOOTSTRAP}
+use Rattle.liq_types.specs.declared.figures.Market.{Market}
+use Rattle.liq_types.specs.declared.figures.Trove.{Trove}
+use Rattle.liq_types.specs.declared.figures.Wallet.{Wallet}
+use Rattle.liq_types.specs.declared.replies.Refusal.{Refusal}
 use Rattle.liq_types.specs.declared.replies.Refusal.TheVariants.{AmountZero, ShortTokens, Bootstrap, SystemUnder, NothingRedeemed, FeeEatsAll}
 use Rattle.liq_types.specs.Payments.{paid, charged, surplus_added}
-use Rattle.liq_types.specs.Rules.{Rule, where_below, where_short}
-use Rattle.liq_types.specs.State.{State, wallet_of}
-use Rattle.liq_types.specs.Totals.{worth, asked, is_below_percent, market_of, total_debt, trove_count}
+use Rattle.liq_types.specs.Rules.{Rule, first_refusal, outcome, where_below, where_short}
+use Rattle.liq_types.specs.Ranked.{Ranked, first_of, from_last}
+use Rattle.liq_types.specs.State.{State}
+use Rattle.liq_types.specs.Tables.{Table}
+use Rattle.liq_types.specs.Totals.{worth, asked, is_below_percent, market_of, trove_count}
 use Rattle.liq_rate.specs.Bound.{fee_bound, fee_over}
-use Rattle.liq_rate.specs.Rate.{decayed, risen, redeem_fee}
+use Rattle.liq_rate.specs.declared.rate.Rate.{Rate}
+use Rattle.liq_rate.specs.Rate.{risen, redeem_fee, rate_left, rate_at}
 use Rattle.liq_troves.specs.Own.{lifted, set_trove}
-use Rattle.liq_troves.specs.StakeSums.{entire_of}
-use Rattle.liq_order.specs.Order.{from_lowest, first_of}
+use Rattle.liq_troves.specs.declared.sums.Sums.{Sums}
+use Rattle.liq_troves.specs.Rows.{entire_in}
+use Rattle.liq_troves.specs.StakeSums.{entire_of, sums_words, trove_rows}
+use Rattle.liq_order.specs.Order.{trove_order}
 use Rattle.liq_redemption.specs.declared.cut.Cut.{Cut}
 
 -- ---- the visited troves
@@ -23,17 +32,18 @@ pub record Visit : Type 0 where
   pub coll : ℕ
   pub debt : ℕ
 
-abbrev pub visit : State → ℕ → Option Visit
-visit s account =
-    option_map (λ (own : ℕ × ℕ). record { account = account; coll = own.0; debt = own.1 }) (entire_of s account)
+-- the account's trove, if it has one
+abbrev pub visit : Sums → Table Trove → ℕ → Option Visit
+visit sums troves account =
+    option_map (λ (own : ℕ × ℕ). record { account = account; coll = own.0; debt = own.1 }) (entire_in sums troves account)
 
 -- a trove below the least ratio is left to liquidation
 abbrev pub is_visited : ℕ → Visit → Bool
 is_visited price v = not (is_below_percent v.coll v.debt price MCR)
 
--- the visited troves, the lowest ratio first
-abbrev pub visited : State → List Visit
-visited s = filter (is_visited s.price) (filter_map (visit s) (from_lowest s))
+-- the visited troves, from the list's end to its front
+abbrev pub visited_by : ℕ → Sums → Table Trove → List Ranked → List Visit
+visited_by price sums troves order = filter (is_visited price) (filter_map (visit sums troves) (from_last order))
 
 -- ---- the cuts
 
@@ -71,9 +81,6 @@ cuts price troves wanted (v ∷ vs) =
     if stops_before v cut troves then [] else
     cut ∷ later
 
-abbrev pub cuts_in : State → ℕ → List Cut
-cuts_in s amount = cuts s.price (trove_count s) amount (visited s)
-
 -- ---- what comes together
 
 abbrev pub redeemed : List Cut → ℕ
@@ -82,32 +89,57 @@ redeemed cuts = sum_by (λ (cut : Cut). cut.lot) cuts
 abbrev pub drawn : List Cut → ℕ
 drawn cuts = sum_by (λ (cut : Cut). cut.draw) cuts
 
--- the base rate after the redemption
-abbrev pub base_after : State → List Cut → ℕ
-base_after s cuts = risen (decayed s.base s.fee_minute s.minute) (redeemed cuts) (total_debt s)
+-- the base rate after the redemption of so much
+abbrev pub rate_redeemed : Market → ℕ → Rate
+rate_redeemed m amount = rate_at m (risen (rate_left m) amount m.total_debt)
 
-abbrev pub fee_after : State → List Cut → ℕ
-fee_after s cuts = redeem_fee (base_after s cuts) (drawn cuts)
+-- ---- what is planned
 
--- ---- what is refused
+-- the cuts, what they come to, the fee in gwei and the base rate
+pub record RedeemTerms : Type 0 where
+  pub cuts : List Cut
+  pub redeemed : ℕ
+  pub drawn : ℕ
+  pub fee : ℕ
+  pub rate : Rate
+
+-- the cuts along these visits, and what comes of them
+abbrev pub redeeming_terms : Market → List Visit → ℕ → RedeemTerms
+redeeming_terms m visits amount =
+    let cuts = cuts m.price m.troves amount visits in
+    let rate = rate_redeemed m (redeemed cuts) in
+    record { cuts = cuts; redeemed = redeemed cuts; drawn = drawn cuts; fee = redeem_fee rate.base (drawn cuts); rate = rate }
 
 abbrev pub first_net : List Visit → ℕ
 first_net visits = unwrap_or (option_map net_debt (first_of visits)) 0
 
-abbrev pub redeem_rules : State → ℕ → ℕ → ℕ → List Rule
-redeem_rules s account amount bound =
-    let m = market_of s in
-    let cuts = cuts_in s amount in
-    let fee = fee_after s cuts in
+abbrev pub redeem_rules : Market → Wallet → List Visit → ℕ → ℕ → List Rule
+redeem_rules m wallet visits amount bound =
+    let terms = redeeming_terms m visits amount in
     (amount == 0, AmountZero)
     ∷ fee_bound bound FLOOR_RATE
-    ∷ where_below s.minute BOOTSTRAP Bootstrap
+    ∷ where_below m.minute BOOTSTRAP Bootstrap
     ∷ where_below (worth m.total_coll m.price) (asked MCR m.total_debt) SystemUnder
-    ∷ where_short amount (wallet_of s account).lusd ShortTokens
-    ∷ (redeemed cuts == 0, NothingRedeemed amount (first_net (visited s)))
-    ∷ (nat_le (drawn cuts) fee, FeeEatsAll fee (drawn cuts))
-    ∷ fee_over fee (drawn cuts) bound
+    ∷ where_short amount wallet.lusd ShortTokens
+    ∷ (terms.redeemed == 0, NothingRedeemed amount (first_net visits))
+    ∷ (nat_le terms.drawn terms.fee, FeeEatsAll terms.fee terms.drawn)
+    ∷ fee_over terms.fee terms.drawn bound
     ∷ []
+
+abbrev pub redeem_plan : Market → Wallet → List Visit → ℕ → ℕ → Result RedeemTerms Refusal
+redeem_plan m wallet visits amount bound =
+    outcome (first_refusal (redeem_rules m wallet visits amount bound)) (redeeming_terms m visits amount)
+
+-- ---- in a state
+
+abbrev pub visited : State → List Visit
+visited s = visited_by s.price (sums_words s) (trove_rows s) (trove_order s)
+
+abbrev pub terms_in : State → ℕ → RedeemTerms
+terms_in s amount = redeeming_terms (market_of s) (visited s) amount
+
+abbrev pub cuts_in : State → ℕ → List Cut
+cuts_in s amount = cuts s.price (trove_count s) amount (visited s)
 
 -- ---- what it does
 
@@ -126,10 +158,8 @@ abbrev pub cut_down : State → Cut → State
 cut_down s cut = cut_entire s cut (entire_of s cut.account)
 
 -- The redeemer's LUSD is burned. Of the collateral that is drawn the fee pool gets the fee.
-abbrev pub redeemed_by : State → ℕ → ℕ → State
-redeemed_by s account amount =
-    let cuts = cuts_in s amount in
-    let fee = fee_after s cuts in
-    let cut = fold cut_down s cuts in
-    let given = paid (charged cut account 0 (redeemed cuts)) account (drawn cuts - fee) 0 in
-    record given { base = base_after s cuts; fee_minute = s.minute; fee_coll = s.fee_coll + fee }
+abbrev pub redeemed_by : State → ℕ → RedeemTerms → State
+redeemed_by s account terms =
+    let cut = fold cut_down s terms.cuts in
+    let given = paid (charged cut account 0 terms.redeemed) account (terms.drawn - terms.fee) 0 in
+    record given { base = terms.rate.base; fee_minute = terms.rate.minute; fee_coll = s.fee_coll + terms.fee }

@@ -1,3 +1,4 @@
+pub mod Examples
 pub mod Own
 pub mod Rows
 pub mod StakeSums

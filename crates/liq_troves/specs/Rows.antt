@@ -1,5 +1,5 @@
 -- Troves as they are kept: what a row has by the sums per unit of stake, and what changes rows and sums.
-use Rattle.std.specs.Prelude.{ℕ, ◌+◌, ◌-◌, ◌==◌, max, nat_lt, Option, option_map, unwrap_or, List, [], ◌∷◌, sum_by, ℤ, pos, ◌-ℤ◌, if◌then◌else◌}
+use Rattle.std.specs.Prelude.{ℕ, ◌+◌, ◌-◌, ◌==◌, max, nat_lt, Option, option_map, List, [], ◌∷◌, sum_by, ℤ, pos, ◌-ℤ◌, if◌then◌else◌}
 use Rattle.std.specs.Map.{values_of}
 use Rattle.liq_num.specs.Quotient.{floor_of}
 use Rattle.liq_types.specs.declared.amounts.TheConstants.{ONE, SUM_MOST}
@@ -22,10 +22,6 @@ entire_by sums t = (t.coll + pending t.stake sums.coll t.mark_coll, t.debt + pen
 -- of an account that has a trove
 abbrev pub entire_in : Sums → Table Trove → ℕ → Option (ℕ × ℕ)
 entire_in sums troves account = option_map (entire_by sums) (at troves account)
-
--- what an account without a trove is taken to have, once that is refused
-abbrev pub or_nothing : Option (ℕ × ℕ) → ℕ × ℕ
-or_nothing entire = unwrap_or entire (0, 0)
 
 -- ---- keys
 

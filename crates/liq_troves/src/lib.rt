@@ -1,6 +1,7 @@
 //! The troves: entire amounts, stakes and the sums per unit of stake.
 #![tactic(auto)]
 
+pub mod examples;
 mod sums;
 
 pub use liq_types::Trove;

@@ -1,5 +1,6 @@
 pub mod Allowance
 pub mod Codes
+pub mod Desks
 pub mod Image
 pub mod Payments
 pub mod PlainLedger

@@ -1,5 +1,5 @@
 -- Totals and the mode, and what the rules on troves read of a state.
-use Rattle.std.specs.Prelude.{ℕ, ◌+◌, ◌-◌, ◌*◌, Bool, not, nat_lt, nat_le, length, sum_by}
+use Rattle.std.specs.Prelude.{ℕ, ◌+◌, ◌-◌, ◌*◌, Bool, not, nat_lt, nat_le, length, sum_by, Option, unwrap_or}
 use Rattle.std.specs.Map.{values_of}
 use Rattle.liq_num.specs.declared.ratio.TheConstants.{GWEI_PER_ETH}
 use Rattle.liq_types.specs.declared.amounts.TheConstants.{CCR, LIM}
@@ -24,6 +24,10 @@ is_at_most_whole coll debt price = nat_le (coll * price) (debt * GWEI_PER_ETH)
 -- the first ratio of collateral to debt is below the second
 abbrev pub is_ratio_below : ℕ → ℕ → ℕ → ℕ → Bool
 is_ratio_below c1 d1 c2 d2 = nat_lt (c1 * d2) (c2 * d1)
+
+-- entire collateral and debt of a trove; an account without one is taken to have nothing, once that is refused
+abbrev pub or_nothing : Option (ℕ × ℕ) → ℕ × ℕ
+or_nothing entire = unwrap_or entire (0, 0)
 
 -- ---- totals
 

@@ -5,6 +5,7 @@
 
 pub mod amounts;
 pub mod counting;
+pub mod desks;
 pub mod events;
 pub mod figures;
 pub mod hints;
@@ -13,6 +14,7 @@ pub mod replies;
 pub mod requests;
 
 pub use counting::Steps;
+pub use desks::{Desk, Hinter};
 pub use events::{ListChange, PoolEvent};
 pub use figures::{Client, Deposit, Market, Trove, Wallet};
 pub use hints::{Hint, HintWords};
