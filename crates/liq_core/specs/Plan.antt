@@ -1,6 +1,5 @@
 -- A planned command, and the states on which it may be applied.
-use Rattle.std.specs.Prelude.{◌≡◌, ◌<◌}
-use Rattle.liq_types.specs.declared.amounts.TheConstants.{RECORDS_MOST}
+use Rattle.std.specs.Prelude.{◌≡◌}
 use Rattle.liq_types.specs.declared.replies.Done.{Done}
 use Rattle.liq_types.specs.declared.requests.Command.{Command}
 use Rattle.liq_types.specs.State.{State}
@@ -16,7 +15,6 @@ pub record Plan : Type 0 where
 pub record IsPlan (s : State) (plan : Plan) : Type 0 where
   pub allowed : ruling s plan.command ≡ Allowed
   pub done : plan.done ≡ done_of s plan.command.call
-  pub few : s.records < RECORDS_MOST
 
 -- it was planned on what the core stands for
 abbrev pub IsPlannedOn : Core → Plan → Type 0
