@@ -56,8 +56,8 @@ const NO_CLIENT: Client = Client {
 };
 
 impl Protocol {
-    ghost use Rattle.liq_core.specs.Core.{StandsFor, SameContent, HasRoom, state_of};
-    ghost use Rattle.liq_core.specs.Plan.{IsPlannedOn};
+    ghost use Rattle.liq_core.specs.Core.{StandsFor, SameContent, state_of};
+    ghost use Rattle.liq_core.specs.Plan.{HasRoom, IsPlannedOn};
     ghost use Rattle.liq_core.specs.Turn.{Plans, IsRuled};
 
     /// The protocol as it opens: nothing is inside.
@@ -168,7 +168,7 @@ impl Protocol {
     /// protocol stays, also where there is no memory.
     pub fn reserve(&mut self, planned: &Planned) -> Result<(), NoMemory>
         ensures same { SameContent self.old self.new }
-        ensures room { OnOk result (HasRoom self.new planned.now.command) }
+        ensures room { OnOk result (HasRoom self.new planned.now) }
     {
         self.reserve_client(planned.command.client)?;
         match planned.command.call {
@@ -201,7 +201,7 @@ impl Protocol {
         _steps: &mut Steps<L>,
     ) -> Done
         requires planned { IsPlannedOn self.old planned }
-        requires room { HasRoom self.old planned.command }
+        requires room { HasRoom self.old planned }
         ensures state { (s : State) → StandsFor self.old s → StandsFor self.new (step s (Do planned.command)).0 }
         ensures reply { (s : State) → StandsFor self.old s → (step s (Do planned.command)).1 ≡ Said result }
     {
