@@ -19,7 +19,7 @@ use Rattle.liq_liquidation.specs.declared.one.One.{One}
 use Rattle.liq_liquidation.specs.declared.one.Victim.{Victim}
 use Rattle.liq_liquidation.specs.One.{Treatment, Plain, Spread, Capped, Spared, treatment, treated, is_capped, is_spared, sum_limit, sum_after, one_rules, one_of, one_entire, one, offset_if_any, struck, liquidated}
 use Rattle.liq_liquidation.specs.Lowest.{lowest, next_victim, victim_at, victim_by}
-use Rattle.liq_core.specs.Effect.{victim_of, all_liquidated}
+use Rattle.liq_core.specs.Liquidation.{listed, all_liquidated}
 use Rattle.liq_core.proofs.Allowed.{none_first}
 use Rattle.liq_core.proofs.AlikeReads.{Alike, market_alike, entire_alike, sums_alike, stakes_alike, pool_total_alike, last_alike}
 use Rattle.liq_core.proofs.AlikeChanges.{alike_by, lifted_alike, offset_alike, redistributed_alike, snapped_alike, surplus_added_alike, paid_alike}
@@ -131,7 +131,7 @@ all_liquidated_alike (v ∷ vs) liquidator {s} {t} h served =
     all_liquidated_alike vs liquidator (liquidated_alike h liquidator v served.0)
     (subst (λ n. Serves n vs) (sym (struck-total s v)) served.1)
 
-pub single_serves : (s : State) (account : ℕ) (r : Result One Refusal) → one s account ≡ r → Serves (pool_total s) (victim_of account r)
+pub single_serves : (s : State) (account : ℕ) (r : Result One Refusal) → one s account ≡ r → Serves (pool_total s) (listed (victim_by account r))
 unfolding Serves
 single_serves s account (Ok made) h = (one_serves s account made h, tt)
 single_serves s account (Err refusal) h = tt

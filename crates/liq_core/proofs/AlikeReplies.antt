@@ -33,9 +33,12 @@ use Rattle.liq_borrow.specs.Borrowing.{or_nothing, open_rules, adjust_rules, clo
 use Rattle.liq_redemption.specs.declared.cut.Cut.{Cut}
 use Rattle.liq_redemption.specs.Redemption.{cuts_in, redeem_rules, fee_after, visited, Visit, first_net, redeemed, drawn}
 use Rattle.liq_core.specs.Image.{image}
-use Rattle.liq_core.specs.Length.{checkpoint_length}
-use Rattle.liq_core.specs.Queries.{trove_info, deposit_info, pools, system, answer, unless_out_of_range}
-use Rattle.liq_core.specs.Refusals.{not_zero, no_deposit, rules, refusal_of, trove_under, where_some, first_of_lowest}
+use Rattle.liq_core.specs.Length.{CHECKPOINT_BYTES_MOST, checkpoint_length}
+use Rattle.liq_core.specs.Queries.{NUMBER_MOST, trove_info, deposit_info, pools, system, answer, unless_out_of_range}
+use Rattle.liq_core.specs.Liquidation.{refusal_of, first_of_lowest}
+use Rattle.liq_core.specs.Pool.{no_deposit, trove_under}
+use Rattle.liq_core.specs.Row.{not_zero}
+use Rattle.liq_core.specs.Rules.{rules}
 use Rattle.liq_core.specs.Step.{Ruling, Refused, Repeated, Allowed, in_range, in_turn, records_after, noted, after, room_rules, tests, unless_refused, ruling, after_ruling, step, run, accounts}
 use Rattle.liq_core.specs.Verbs.{rotates}
 use Rattle.liq_types.specs.WellFormed.{IsWellFormed}
@@ -100,8 +103,8 @@ rules_alike {s} {t} h (Close account) =
     ∙ ap (λ (o : Option (ℕ × ℕ)). close_rules (market_of t) (wallet_of t account) o account) (entire_alike h account)
 rules_alike h (Provide account lusd) = ap (λ (w : Wallet). not_zero lusd ∷ where_short lusd w.lusd ShortTokens ∷ []) (wallet_alike h account)
 rules_alike {s} {t} h (Withdraw account lusd) =
-    ap (λ b. (b, NoDeposit account) ∷ where_some (nat_lt 0 lusd) (trove_under s (last_trove s))) (no_deposit_alike h account)
-    ∙ ap (λ (rest : List Rule). no_deposit t account ∷ where_some (nat_lt 0 lusd) rest) (ap (trove_under s) (last_alike h) ∙ under_alike h (last_trove t))
+    ap (λ b. (b, NoDeposit account) ∷ (if nat_lt 0 lusd then trove_under s (last_trove s) else [])) (no_deposit_alike h account)
+    ∙ ap (λ (rest : List Rule). no_deposit t account ∷ (if nat_lt 0 lusd then rest else [])) (ap (trove_under s) (last_alike h) ∙ under_alike h (last_trove t))
 rules_alike {s} {t} h (GainToTrove account hint) =
     ap (λ b. (b, NoDeposit account) ∷ gain_rules (market_of s) (entire_of s account) account (gain_of s account)) (no_deposit_alike h account)
     ∙ ap (λ (m : Market). no_deposit t account ∷ gain_rules m (entire_of s account) account (gain_of s account)) (market_alike h)
@@ -137,7 +140,7 @@ after_alike h c = noted_alike (effect_alike h c.call) c _ _ (done_alike h c.call
 room_by : Command → ℕ → ℕ → ℕ → List Rule
 room_by c generation bytes records =
     if rotates c.call
-    then where_above (generation + 1) GENERATIONS_MOST AmountLimit ∷ where_above bytes GENERATIONS_MOST AmountLimit ∷ []
+    then where_above (generation + 1) GENERATIONS_MOST AmountLimit ∷ where_above bytes CHECKPOINT_BYTES_MOST AmountLimit ∷ []
     else (nat_le RECORDS_MOST records, JournalFull RECORDS_MOST) ∷ []
 
 room_alike : {s t : State} → Alike s t → (c : Command) → room_rules s c ≡ room_rules t c
@@ -149,7 +152,7 @@ room_alike {s} {t} h c =
 
 tests_alike : {s t : State} → Alike s t → (c : Command) → tests s c ≡ tests t c
 tests_alike {s} {t} h c =
-    ap (λ (k : Client). (not (c.number == k.last + 1), OutOfTurn (min (k.last + 1) 18446744073709551615)) ∷ map in_range (accounts c.call) ++ rules s c.call ++ room_rules s c) (client_alike h c.client)
+    ap (λ (k : Client). (not (c.number == k.last + 1), OutOfTurn (min (k.last + 1) NUMBER_MOST)) ∷ map in_range (accounts c.call) ++ rules s c.call ++ room_rules s c) (client_alike h c.client)
     ∙ ap (λ (rs : List Rule). in_turn t c ∷ map in_range (accounts c.call) ++ rs ++ room_rules s c) (rules_alike h c.call)
     ∙ ap (λ (rs : List Rule). in_turn t c ∷ map in_range (accounts c.call) ++ rules t c.call ++ rs) (room_alike h c)
 
@@ -217,7 +220,7 @@ answer_alike {s} {t} h (query.Trove account) =
 answer_alike h (query.Deposit account) = ap (λ (x : Info). unless_out_of_range account (Told x)) (deposit_alike h account)
 answer_alike h query.Pools = ap (λ (ns : List ℕ). Told (info.Pools ns)) (pools_alike h)
 answer_alike h query.System = ap (λ (ns : List ℕ). Told (info.System ns)) (system_alike h)
-answer_alike h (query.NextNumber client) = ap (λ (k : Client). unless_out_of_range client (Told (info.Next (min (k.last + 1) 18446744073709551615)))) (client_alike h client)
+answer_alike h (query.NextNumber client) = ap (λ (k : Client). unless_out_of_range client (Told (info.Next (min (k.last + 1) NUMBER_MOST)))) (client_alike h client)
 
 -- ---- the step
 

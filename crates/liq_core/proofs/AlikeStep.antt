@@ -12,6 +12,7 @@ use Rattle.liq_types.specs.State.{State, with_wallet, no_wallet}
 use Rattle.liq_types.specs.Tables.{at}
 use Rattle.liq_types.specs.Totals.{market_of}
 use Rattle.liq_troves.specs.StakeSums.{entire_of}
+use Rattle.liq_troves.specs.Own.{set_trove}
 use Rattle.liq_stability.specs.Own.{owned, amount_after}
 use Rattle.liq_stability.specs.Position.{balance_of, gain_of}
 use Rattle.liq_borrow.specs.declared.change.Change.{Change}
@@ -19,11 +20,13 @@ use Rattle.liq_borrow.specs.Borrowing.{fee_now, base_after, fee_minute_after, op
 use Rattle.liq_liquidation.specs.declared.one.One.{One}
 use Rattle.liq_liquidation.specs.declared.one.Victim.{Victim}
 use Rattle.liq_liquidation.specs.One.{one}
-use Rattle.liq_liquidation.specs.Lowest.{lowest}
+use Rattle.liq_liquidation.specs.Lowest.{lowest, victim_by}
 use Rattle.liq_redemption.specs.declared.cut.Cut.{Cut}
-use Rattle.liq_redemption.specs.Redemption.{cuts_in, redeem_rules, fee_after, visited, Visit, first_net, redeemed, drawn}
+use Rattle.liq_redemption.specs.Redemption.{cuts_in, fee_after, redeemed, drawn}
 use Rattle.liq_redemption.specs.Redemption as redemption
-use Rattle.liq_core.specs.Effect.{with_fee, opened, adjusted, closed, provided, paid_out, withdrawn, gain_moved, victim_of, all_liquidated, effect, values, one_values, lowest_values, six, done_of}
+use Rattle.liq_core.specs.Borrowing.{with_fee, opened, adjusted, closed}
+use Rattle.liq_core.specs.Liquidation.{listed, all_liquidated, one_values, lowest_values}
+use Rattle.liq_core.specs.Rules.{effect, values, six, done_of}
 use Rattle.liq_core.specs.Verbs.{kind}
 use Rattle.liq_core.proofs.AlikeReads.{Alike, surplus_alike, market_alike, entire_alike, balance_alike, gain_alike, amount_alike}
 use Rattle.liq_core.proofs.AlikeChanges.{alike_by, alike_by_two, paid_alike, charged_alike, surplus_taken_alike, lifted_alike, placed_alike, set_alike, owned_alike}
@@ -38,32 +41,39 @@ own_alike h account = ap or_nothing (entire_alike h account)
 abbrev three : ℕ → ℕ → ℕ → ℕ → ℕ × ℕ × ℕ
 three a b c d = (a, b, c + d)
 
-fee_numbers : State → ℕ → ℕ × ℕ × ℕ
-fee_numbers s borrow = (base_after (market_of s) borrow, fee_minute_after (market_of s) borrow, s.fee_lusd + fee_now (market_of s) borrow)
+fee_numbers : State → ℕ → ℕ → ℕ × ℕ × ℕ
+fee_numbers s borrow fee = (base_after (market_of s) borrow, fee_minute_after (market_of s) borrow, s.fee_lusd + fee)
 
-fee_numbers_alike : {s t : State} → Alike s t → (borrow : ℕ) → fee_numbers s borrow ≡ fee_numbers t borrow
+fee_numbers_alike : {s t : State} → Alike s t → (borrow f g : ℕ) → f ≡ g → fee_numbers s borrow f ≡ fee_numbers t borrow g
 unfolding fee_numbers
-fee_numbers_alike {s} {t} h borrow =
-    ap (λ (m : Market). three (base_after m borrow) (fee_minute_after m borrow) s.fee_lusd (fee_now m borrow)) (market_alike h)
-    ∙ ap (λ n. three (base_after (market_of t) borrow) (fee_minute_after (market_of t) borrow) n (fee_now (market_of t) borrow)) (ap (λ (i : Image). i.fee_lusd) h.image)
+fee_numbers_alike {s} {t} h borrow f g same =
+    ap (λ (m : Market). three (base_after m borrow) (fee_minute_after m borrow) s.fee_lusd f) (market_alike h)
+    ∙ ap (λ n. three (base_after (market_of t) borrow) (fee_minute_after (market_of t) borrow) n f) (ap (λ (i : Image). i.fee_lusd) h.image)
+    ∙ ap (λ n. three (base_after (market_of t) borrow) (fee_minute_after (market_of t) borrow) t.fee_lusd n) same
 
 abbrev set_fee : ℕ × ℕ × ℕ → Image → Image
 set_fee numbers i = record i { base = numbers.0; fee_minute = numbers.1; fee_lusd = numbers.2 }
 
-with_fee_alike : {s t : State} → Alike s t → (borrow : ℕ) → Alike (with_fee s borrow) (with_fee t borrow)
+with_fee_alike : {s t : State} → Alike s t → (borrow f g : ℕ) → f ≡ g → Alike (with_fee s borrow f) (with_fee t borrow g)
 unfolding fee_numbers
-with_fee_alike {s} {t} h borrow =
-    alike_by_two set_fee (fee_numbers s borrow) (fee_numbers t borrow) s t (with_fee s borrow) (with_fee t borrow) (fee_numbers_alike h borrow) h refl refl refl refl h.left h.right
+with_fee_alike {s} {t} h borrow f g same =
+    alike_by_two set_fee (fee_numbers s borrow f) (fee_numbers t borrow g) s t (with_fee s borrow f) (with_fee t borrow g) (fee_numbers_alike h borrow f g same) h refl refl refl refl h.left h.right
 
 with_reserve_alike : {s t : State} → Alike s t → Alike (record s { reserve = s.reserve + RESERVE }) (record t { reserve = t.reserve + RESERVE })
 with_reserve_alike {s} {t} h =
     alike_by (λ i. record i { reserve = i.reserve + RESERVE }) s t (record s { reserve = s.reserve + RESERVE }) (record t { reserve = t.reserve + RESERVE }) h refl refl refl refl h.left h.right
 
-opened_alike : {s t : State} → Alike s t → (account coll borrow : ℕ) → Alike (opened s account coll borrow) (opened t account coll borrow)
-opened_alike h account coll borrow =
+fee_alike_now : {s t : State} → Alike s t → (borrow : ℕ) → fee_now (market_of s) borrow ≡ fee_now (market_of t) borrow
+fee_alike_now h borrow = ap (λ (m : Market). fee_now m borrow) (market_alike h)
+
+open_debt_alike : {s t : State} → Alike s t → (borrow : ℕ) → open_debt (market_of s) borrow ≡ open_debt (market_of t) borrow
+open_debt_alike h borrow = ap (λ (m : Market). open_debt m borrow) (market_alike h)
+
+opened_alike : {s t : State} → Alike s t → (account coll borrow f g m n : ℕ) → f ≡ g → m ≡ n → Alike (opened s account coll borrow f m) (opened t account coll borrow g n)
+opened_alike h account coll borrow f g m n fee debt =
     placed_alike
-    (with_reserve_alike (paid_alike (charged_alike (with_fee_alike h borrow) account coll coll 0 0 refl refl) account 0 0 borrow borrow refl refl))
-    account coll coll _ _ refl (ap (λ (m : Market). open_debt m borrow) (market_alike h))
+    (with_reserve_alike (paid_alike (charged_alike (with_fee_alike h borrow f g fee) account coll coll 0 0 refl refl) account 0 0 borrow borrow refl refl))
+    account coll coll m n refl debt
 
 adjusted_debt_alike : {s t : State} → Alike s t → (account : ℕ) (change : Change) → adjusted_debt (market_of s) (or_nothing (entire_of s account)).1 change ≡ adjusted_debt (market_of t) (or_nothing (entire_of t account)).1 change
 adjusted_debt_alike {s} {t} h account change =
@@ -73,27 +83,31 @@ adjusted_debt_alike {s} {t} h account change =
 adjusted_coll_alike : {s t : State} → Alike s t → (account : ℕ) (change : Change) → adjusted_coll (or_nothing (entire_of s account)).0 change ≡ adjusted_coll (or_nothing (entire_of t account)).0 change
 adjusted_coll_alike h account change = ap (λ (own : ℕ × ℕ). adjusted_coll own.0 change) (own_alike h account)
 
-adjusted_alike : {s t : State} → Alike s t → (account : ℕ) (change : Change) → Alike (adjusted s account change) (adjusted t account change)
-adjusted_alike h account change =
+adjusted_alike : {s t : State} → Alike s t → (account : ℕ) (change : Change) (f g c d m n : ℕ) → f ≡ g → c ≡ d → m ≡ n → Alike (adjusted s account change f c m) (adjusted t account change g d n)
+adjusted_alike h account change f g c d m n fee coll debt =
     set_alike
-    (paid_alike (charged_alike (with_fee_alike h change.borrow) account change.coll_in change.coll_in change.repay change.repay refl refl) account change.coll_out change.coll_out change.borrow change.borrow refl refl)
-    account _ _ _ _ (adjusted_coll_alike h account change) (adjusted_debt_alike h account change)
+    (paid_alike (charged_alike (with_fee_alike h change.borrow f g fee) account change.coll_in change.coll_in change.repay change.repay refl refl) account change.coll_out change.coll_out change.borrow change.borrow refl refl)
+    account c d m n coll debt
 
-closed_alike : {s t : State} → Alike s t → (account : ℕ) → Alike (closed s account) (closed t account)
-closed_alike h account =
-    lifted_alike
-    (without_reserve_alike
-    (paid_alike (charged_alike h account 0 0 _ _ refl (ap (λ (own : ℕ × ℕ). own.1 - RESERVE) (own_alike h account))) account _ _ 0 0 (ap (λ (own : ℕ × ℕ). own.0) (own_alike h account)) refl))
-    account
+repaid_alike : {s t : State} → Alike s t → (account : ℕ) → (or_nothing (entire_of s account)).1 - RESERVE ≡ (or_nothing (entire_of t account)).1 - RESERVE
+repaid_alike h account = ap (λ (own : ℕ × ℕ). own.1 - RESERVE) (own_alike h account)
+
+closed_alike : {s t : State} → Alike s t → (account m n c d : ℕ) → m ≡ n → c ≡ d → Alike (closed s account m c) (closed t account n d)
+closed_alike h account m n c d repaid coll =
+    lifted_alike (without_reserve_alike (paid_alike (charged_alike h account 0 0 m n refl repaid) account c d 0 0 coll refl)) account
 
 -- ---- the Stability Pool
 
-provided_alike : {s t : State} → Alike s t → (account lusd : ℕ) → Alike (provided s account lusd) (provided t account lusd)
-provided_alike h account lusd =
+provide_alike : {s t : State} → Alike s t → (account lusd : ℕ) → Alike (effect s (Provide account lusd)) (effect t (Provide account lusd))
+provide_alike h account lusd =
     paid_alike (charged_alike (owned_alike h account lusd 0 (omega arith) (omega arith)) account 0 0 lusd lusd refl refl) account _ _ 0 0 (gain_alike h account) refl
 
-paid_out_alike : {s t : State} → Alike s t → (account lusd : ℕ) → paid_out s account lusd ≡ paid_out t account lusd
-paid_out_alike h account lusd = ap (λ n. min lusd n) (balance_alike h account)
+-- what is paid out of a balance
+abbrev out_of : State → ℕ → ℕ → ℕ
+out_of s account lusd = min lusd (balance_of s account)
+
+out_alike : {s t : State} → Alike s t → (account lusd : ℕ) → out_of s account lusd ≡ out_of t account lusd
+out_alike h account lusd = ap (λ n. min lusd n) (balance_alike h account)
 
 withdrawn_by : State → ℕ → ℕ → State
 withdrawn_by s account out = paid (owned s account 0 out) account (gain_of s account) out
@@ -102,18 +116,18 @@ withdrawn_by_alike : {s t : State} → Alike s t → (account out : ℕ) → out
 unfolding withdrawn_by
 withdrawn_by_alike h account out ws wt = paid_alike (owned_alike h account 0 out ws wt) account _ _ out out (gain_alike h account) refl
 
-withdrawn_alike : {s t : State} → Alike s t → (account lusd : ℕ) → Alike (withdrawn s account lusd) (withdrawn t account lusd)
+withdraw_alike : {s t : State} → Alike s t → (account lusd : ℕ) → Alike (effect s (Withdraw account lusd)) (effect t (Withdraw account lusd))
 unfolding withdrawn_by
-withdrawn_alike {s} {t} h account lusd =
-    subst (λ n. Alike (withdrawn_by s account (paid_out s account lusd)) (withdrawn_by t account n)) (paid_out_alike h account lusd)
-    (withdrawn_by_alike h account (paid_out s account lusd) (omega arith) (subst (λ n. n ≤ balance_of t account) (sym (paid_out_alike h account lusd)) (omega arith)))
+withdraw_alike {s} {t} h account lusd =
+    subst (λ n. Alike (withdrawn_by s account (out_of s account lusd)) (withdrawn_by t account n)) (out_alike h account lusd)
+    (withdrawn_by_alike h account (out_of s account lusd) (omega arith) (subst (λ n. n ≤ balance_of t account) (sym (out_alike h account lusd)) (omega arith)))
 
 moved_coll_alike : {s t : State} → Alike s t → (account : ℕ) → (or_nothing (entire_of s account)).0 + gain_of s account ≡ (or_nothing (entire_of t account)).0 + gain_of t account
 moved_coll_alike {s} {t} h account =
     ap (λ (own : ℕ × ℕ). own.0 + gain_of s account) (own_alike h account) ∙ ap (λ n. (or_nothing (entire_of t account)).0 + n) (gain_alike h account)
 
-gain_moved_alike : {s t : State} → Alike s t → (account : ℕ) → Alike (gain_moved s account) (gain_moved t account)
-gain_moved_alike h account =
+gain_to_trove_alike : {s t : State} → Alike s t → (account : ℕ) → Alike (set_trove (owned s account 0 0) account ((or_nothing (entire_of s account)).0 + gain_of s account) (or_nothing (entire_of s account)).1) (set_trove (owned t account 0 0) account ((or_nothing (entire_of t account)).0 + gain_of t account) (or_nothing (entire_of t account)).1)
+gain_to_trove_alike h account =
     set_alike (owned_alike h account 0 0 (omega arith) (omega arith)) account _ _ _ _ (moved_coll_alike h account) (ap (λ (own : ℕ × ℕ). own.1) (own_alike h account))
 
 -- ---- every verb
@@ -121,17 +135,17 @@ gain_moved_alike h account =
 abbrev moved_in : ℕ → ℕ → Image → Image
 moved_in account coll i =
     let had = unwrap_or (at i.wallets account) no_wallet in
-    record i { brought = i.brought + coll; wallets = with_wallet i.wallets account (record had { coll = had.coll + coll }) }
+    record i { brought = i.brought + coll; wallets = with_wallet i.wallets account (record { coll = had.coll + coll; lusd = had.lusd + 0 }) }
 
 abbrev moved_away : ℕ → ℕ → Image → Image
 moved_away account coll i =
     let had = unwrap_or (at i.wallets account) no_wallet in
-    record i { brought = i.brought - coll; wallets = with_wallet i.wallets account (record had { coll = had.coll - coll }) }
+    record i { brought = i.brought - coll; wallets = with_wallet i.wallets account (record { coll = had.coll - coll; lusd = had.lusd - 0 }) }
 
 liquidate_alike : {s t : State} → Alike s t → (liquidator account : ℕ) → Alike (effect s (Liquidate liquidator account)) (effect t (Liquidate liquidator account))
 liquidate_alike {s} {t} h liquidator account =
-    subst (λ (r : Result One Refusal). Alike (effect s (Liquidate liquidator account)) (all_liquidated t liquidator (victim_of account r))) (one_alike h account)
-    (all_liquidated_alike (victim_of account (one s account)) liquidator h (single_serves s account (one s account) refl))
+    subst (λ (r : Result One Refusal). Alike (effect s (Liquidate liquidator account)) (all_liquidated t liquidator (listed (victim_by account r)))) (one_alike h account)
+    (all_liquidated_alike (listed (victim_by account (one s account))) liquidator h (single_serves s account (one s account) refl))
 
 liquidate_lowest_alike : {s t : State} → Alike s t → (liquidator count : ℕ) → Alike (effect s (LiquidateLowest liquidator count)) (effect t (LiquidateLowest liquidator count))
 liquidate_lowest_alike {s} {t} h liquidator count =
@@ -144,12 +158,14 @@ effect_alike {s} {t} h (Advance minutes) = alike_by (λ i. record i { minute = i
 effect_alike {s} {t} h (Fund account coll) = alike_by (moved_in account coll) s t _ _ h refl refl refl refl h.left h.right
 effect_alike {s} {t} h (Take account coll) = alike_by (moved_away account coll) s t _ _ h refl refl refl refl h.left h.right
 effect_alike h (Send from to lusd) = paid_alike (charged_alike h from 0 0 lusd lusd refl refl) to 0 0 lusd lusd refl refl
-effect_alike h (Open account coll borrow bound hint) = opened_alike h account coll borrow
-effect_alike h (Adjust account coll_in coll_out borrow repay bound hint) = adjusted_alike h account (record { coll_in = coll_in; coll_out = coll_out; borrow = borrow; repay = repay })
-effect_alike h (Close account) = closed_alike h account
-effect_alike h (Provide account lusd) = provided_alike h account lusd
-effect_alike h (Withdraw account lusd) = withdrawn_alike h account lusd
-effect_alike h (GainToTrove account hint) = gain_moved_alike h account
+effect_alike h (Open account coll borrow bound hint) = opened_alike h account coll borrow _ _ _ _ (fee_alike_now h borrow) (open_debt_alike h borrow)
+effect_alike h (Adjust account coll_in coll_out borrow repay bound hint) =
+    let change : Change = record { coll_in = coll_in; coll_out = coll_out; borrow = borrow; repay = repay } in
+    adjusted_alike h account change _ _ _ _ _ _ (fee_alike_now h borrow) (adjusted_coll_alike h account change) (adjusted_debt_alike h account change)
+effect_alike h (Close account) = closed_alike h account _ _ _ _ (repaid_alike h account) (ap (λ (own : ℕ × ℕ). own.0) (own_alike h account))
+effect_alike h (Provide account lusd) = provide_alike h account lusd
+effect_alike h (Withdraw account lusd) = withdraw_alike h account lusd
+effect_alike h (GainToTrove account hint) = gain_to_trove_alike h account
 effect_alike h (Liquidate liquidator account) = liquidate_alike h liquidator account
 effect_alike h (LiquidateLowest liquidator count) = liquidate_lowest_alike h liquidator count
 effect_alike h (Redeem account lusd bound hint) = redeemed_alike h account lusd
@@ -174,7 +190,7 @@ values_alike h (Close account) = ap (λ (own : ℕ × ℕ). (own.1 - RESERVE) �
 values_alike {s} {t} h (Provide account lusd) =
     ap (λ n. n ∷ gain_of s account ∷ []) (amount_alike h account lusd 0) ∙ ap (λ n. amount_after t account lusd 0 ∷ n ∷ []) (gain_alike h account)
 values_alike {s} {t} h (Withdraw account lusd) =
-    ap (λ n. n ∷ gain_of s account ∷ []) (paid_out_alike h account lusd) ∙ ap (λ n. paid_out t account lusd ∷ n ∷ []) (gain_alike h account)
+    ap (λ n. n ∷ gain_of s account ∷ []) (out_alike h account lusd) ∙ ap (λ n. out_of t account lusd ∷ n ∷ []) (gain_alike h account)
 values_alike {s} {t} h (GainToTrove account hint) =
     ap (λ n. n ∷ ((or_nothing (entire_of s account)).0 + gain_of s account) ∷ []) (gain_alike h account) ∙ ap (λ n. gain_of t account ∷ n ∷ []) (moved_coll_alike h account)
 values_alike h (Liquidate liquidator account) = ap one_values (one_alike h account)

@@ -1,17 +1,19 @@
 -- What is known of a command that is allowed.
-use Rattle.std.proofs.Common.{◌≡◌, ℕ, ◌+◌, ◌≤◌, Bool, true, false, nat_lt, cond, List, [], ◌∷◌, ◌++◌, Some, None, Option, refl, ap, ◌∙◌, arith}
+use Rattle.std.proofs.Common.{◌≡◌, ℕ, ◌+◌, ◌≤◌, Bool, true, false, nat_lt, cond, List, [], ◌∷◌, ◌++◌, Some, None, Option, refl, ap, subst, ◌<◌, nat_le, ◌∙◌, arith}
 use Rattle.std.specs.Prelude.{IsTrue, map, ◌==◌}
 use Rattle.std.proofs.lemmas.Bool.Decides.{nat_tests}
-use Rattle.liq_types.specs.declared.amounts.TheConstants.{LIM}
+use Rattle.liq_types.specs.declared.amounts.TheConstants.{LIM, RECORDS_MOST, GENERATIONS_MOST}
 use Rattle.liq_types.specs.declared.replies.Done.{Done}
 use Rattle.liq_types.specs.declared.replies.Refusal.{Refusal}
-use Rattle.liq_types.specs.declared.replies.Refusal.TheVariants.{AmountZero, AmountLimit, ShortCollateral}
+use Rattle.liq_types.specs.declared.replies.Refusal.TheVariants.{AmountZero, AmountLimit, ShortCollateral, JournalFull}
 use Rattle.liq_types.specs.declared.requests.Call.{Call}
 use Rattle.liq_types.specs.declared.requests.Call.TheVariants.{Fund, Take}
 use Rattle.liq_types.specs.declared.requests.Command.{Command}
-use Rattle.liq_types.specs.Rules.{Rule, first_refusal}
+use Rattle.liq_types.specs.Rules.{Rule, first_refusal, where_above}
+use Rattle.liq_core.specs.Image.{image}
+use Rattle.liq_core.specs.Length.{CHECKPOINT_BYTES_MOST, checkpoint_length}
 use Rattle.liq_types.specs.State.{State, wallet_of, client_of}
-use Rattle.liq_core.specs.Step.{Ruling, Repeated, Allowed, unless_refused, ruling, rules, accounts, in_range, in_turn, is_repeated, tests, room_rules, effect, built_call}
+use Rattle.liq_core.specs.Step.{Ruling, Repeated, Allowed, unless_refused, ruling, rules, accounts, in_range, in_turn, is_repeated, after, tests, room_rules, effect, built_call}
 use Rattle.liq_core.specs.Verbs.{rotates}
 
 unless_allowed : (o : Option Refusal) (r : Ruling) → unless_refused o r ≡ Allowed → (o ≡ None) × (r ≡ Allowed)
@@ -58,6 +60,14 @@ allowed_rules s c h =
     none_after (map in_range (accounts c.call)) (rules s c.call)
     (none_before (map in_range (accounts c.call) ++ rules s c.call) (room_rules s c)
     (none_first (in_turn s c) (later_tests s c) (passes s c h)).1)
+
+-- a command that is no rotation has room in the journal
+pub allowed_few : (s : State) (c : Command) → ruling s c ≡ Allowed → rotates c.call ≡ false → s.records < RECORDS_MOST
+allowed_few s c h stays =
+    let last = none_after (map in_range (accounts c.call) ++ rules s c.call) (room_rules s c) (none_first (in_turn s c) (later_tests s c) (passes s c h)).1 in
+    let room = subst (λ b. first_refusal (cond b (where_above (s.generation + 1) GENERATIONS_MOST AmountLimit ∷ where_above (checkpoint_length (image (after s c))) CHECKPOINT_BYTES_MOST AmountLimit ∷ []) ((nat_le RECORDS_MOST s.records, JournalFull RECORDS_MOST) ∷ [])) ≡ None) stays last in
+    let full : nat_le RECORDS_MOST s.records ≡ false = (none_first (nat_le RECORDS_MOST s.records, JournalFull RECORDS_MOST) [] room).0 in
+    grind (arith, nat_tests, full)
 
 pub second_false : (first second : Rule) → first_refusal (first ∷ second ∷ []) ≡ None → second.0 ≡ false
 second_false first second h = (none_first second [] (none_first first (second ∷ []) h).1).0

@@ -16,10 +16,12 @@ use Rattle.liq_troves.specs.StakeSums.{entire_of}
 use Rattle.liq_stability.specs.Own.{owned, offset}
 use Rattle.liq_liquidation.specs.declared.one.Victim.{Victim}
 use Rattle.liq_liquidation.specs.One.{one, offset_if_any, struck, liquidated}
-use Rattle.liq_liquidation.specs.Lowest.{lowest}
+use Rattle.liq_liquidation.specs.Lowest.{lowest, victim_by}
 use Rattle.liq_redemption.specs.declared.cut.Cut.{Cut}
 use Rattle.liq_redemption.specs.Redemption.{cuts_in, cut_entire, cut_down, closed_by, redeemed_by, redeemed, drawn, fee_after}
-use Rattle.liq_core.specs.Effect.{effect, with_fee, all_liquidated, victim_of}
+use Rattle.liq_core.specs.Borrowing.{with_fee}
+use Rattle.liq_core.specs.Liquidation.{all_liquidated, listed}
+use Rattle.liq_core.specs.Rules.{effect}
 use Rattle.liq_core.specs.Step.{Ruling, Refused, Repeated, Allowed, noted, ruling, after_ruling, step, run}
 use Rattle.liq_types.specs.WellFormed.{TablesAscend}
 use Rattle.liq_types.proofs.Ascending.{wallet-ascends, surplus-ascends, put-ascends, without-ascends, none-ascends}
@@ -93,8 +95,8 @@ cuts-ascend : (made : List Cut) (s : State) → Ordered s → Ordered (fold cut_
 cuts-ascend [] s h = h
 cuts-ascend (cut ∷ made) s h = cuts-ascend made (cut_down s cut) (cut_entire-ascends s cut (entire_of s cut.account) h)
 
-with_fee-ascends : {s : State} (borrow : ℕ) → Ordered s → Ordered (with_fee s borrow)
-with_fee-ascends borrow h = record { tables = h.tables }
+with_fee-ascends : {s : State} (borrow fee : ℕ) → Ordered s → Ordered (with_fee s borrow fee)
+with_fee-ascends borrow fee h = record { tables = h.tables }
 
 redeem-ascends : (s : State) (account amount : ℕ) → Ordered s → Ordered (redeemed_by s account amount)
 redeem-ascends s account amount h =
@@ -104,19 +106,19 @@ redeem-ascends s account amount h =
 pub effect-ascends : (s : State) (call : Call) → Ordered s → Ordered (effect s call)
 effect-ascends s (Price price) h = record { tables = h.tables }
 effect-ascends s (Advance minutes) h = record { tables = h.tables }
-effect-ascends s (Fund account coll) h = record { tables = (wallet-ascends s.wallets account (record (wallet_of s account) { coll = (wallet_of s account).coll + coll }) h.tables.0, h.tables.1, h.tables.2, h.tables.3, h.tables.4) }
-effect-ascends s (Take account coll) h = record { tables = (wallet-ascends s.wallets account (record (wallet_of s account) { coll = (wallet_of s account).coll - coll }) h.tables.0, h.tables.1, h.tables.2, h.tables.3, h.tables.4) }
+effect-ascends s (Fund account coll) h = let paid_h : Ordered (paid s account coll 0) = paid-ascends account coll 0 h in record { tables = paid_h.tables }
+effect-ascends s (Take account coll) h = let charged_h : Ordered (charged s account coll 0) = charged-ascends account coll 0 h in record { tables = charged_h.tables }
 effect-ascends s (Send from to lusd) h = paid-ascends to 0 lusd (charged-ascends from 0 lusd h)
 effect-ascends s (Open account coll borrow bound hint) h =
     let lent : Ordered (paid (charged s account coll 0) account 0 borrow) = paid-ascends account 0 borrow (charged-ascends account coll 0 h) in
     record { tables = (lent.tables.0, put-ascends s.troves account _ h.tables.1, h.tables.2, h.tables.3, h.tables.4) }
 effect-ascends s (Adjust account coll_in coll_out borrow repay bound hint) h =
-    set-ascends account _ _ (paid-ascends account coll_out borrow (charged-ascends account coll_in repay (with_fee-ascends borrow h)))
+    set-ascends account _ _ (paid-ascends account coll_out borrow (charged-ascends account coll_in repay (with_fee-ascends borrow _ h)))
 effect-ascends s (Close account) h = lifted-ascends account (burned (paid-ascends account _ 0 (charged-ascends account 0 _ h)))
 effect-ascends s (Provide account lusd) h = paid-ascends account _ 0 (charged-ascends account 0 lusd (owned-ascends account lusd 0 h))
 effect-ascends s (Withdraw account lusd) h = paid-ascends account _ _ (owned-ascends account 0 _ h)
 effect-ascends s (GainToTrove account hint) h = set-ascends account _ _ (owned-ascends account 0 0 h)
-effect-ascends s (Liquidate liquidator account) h = all-ascend (victim_of account (one s account)) liquidator s h
+effect-ascends s (Liquidate liquidator account) h = all-ascend (listed (victim_by account (one s account))) liquidator s h
 effect-ascends s (LiquidateLowest liquidator count) h = all-ascend (lowest s count) liquidator s h
 effect-ascends s (Redeem account lusd bound hint) h = redeem-ascends s account lusd h
 effect-ascends s (Claim account) h = paid-ascends account _ 0 (taken-ascends account h)

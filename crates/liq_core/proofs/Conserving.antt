@@ -1,11 +1,10 @@
 -- What is conserved by the verbs that touch no trove.
-use Rattle.std.proofs.Common.{◌≡◌, ℕ, ◌+◌, ◌-◌, ◌≤◌, true, false, [], ◌∷◌, refl, arith, Some, None, Option, nat_lt}
-use Rattle.std.specs.Prelude.{unwrap_or, option_map, ◌==◌}
+use Rattle.std.proofs.Common.{◌≡◌, ℕ, ◌-◌, ◌≤◌, true, false, [], ◌∷◌, refl, arith, Some, None, Option, nat_lt}
+use Rattle.std.specs.Prelude.{unwrap_or, option_map, min, ◌==◌}
 use Rattle.std.specs.BTreeMap.{is_at}
 use Rattle.std.specs.Ordering.{nat_cmp}
 use Rattle.std.proofs.lemmas.Bool.Decides.{nat_tests}
 use Rattle.std.proofs.lemmas.Map.Entries.{sum_by-remove_entry}
-use Rattle.liq_types.specs.declared.figures.Wallet.{Wallet}
 use Rattle.liq_types.specs.declared.replies.Refusal.TheVariants.{AmountZero, ShortTokens}
 use Rattle.liq_types.specs.declared.requests.Call.{Call}
 use Rattle.liq_types.specs.declared.requests.Call.TheVariants.{Price, Advance, Fund, Take, Send, Provide, Withdraw, Claim, Rotate}
@@ -15,28 +14,25 @@ use Rattle.liq_types.specs.State.{State, wallet_of, surplus_of}
 use Rattle.liq_types.specs.Tables.{at}
 use Rattle.liq_stability.specs.Own.{owned}
 use Rattle.liq_stability.specs.Position.{balance_of, gain_of}
-use Rattle.liq_core.specs.Effect.{effect, paid_out}
+use Rattle.liq_core.specs.Rules.{effect, rules}
 use Rattle.liq_core.specs.Identities.{IsConserved, touches_no_trove}
-use Rattle.liq_core.specs.Refusals.{rules}
 use Rattle.liq_types.specs.WellFormed.{IsWellFormed, TablesAscend}
 use Rattle.liq_core.proofs.Alike.{owned_total, owned_coll}
 use Rattle.liq_core.proofs.AlikeChanges.{balance_within, gain_within}
 use Rattle.liq_core.proofs.Allowed.{second_false, take_enough}
 use Rattle.liq_types.proofs.Ascending.{wallet-ascends}
-use Rattle.liq_core.proofs.Moving.{exchanged, unused_coll, unused_lusd, paid_coll, paid_lusd, charged_coll, charged_lusd}
+use Rattle.liq_core.proofs.Moving.{paid_coll, paid_lusd, charged_coll, charged_lusd}
 
 fund_conserves : (s : State) (account coll : ℕ) → TablesAscend s → IsConserved s → IsConserved (effect s (Fund account coll))
 fund_conserves s account coll t h =
-    let w : Wallet = record (wallet_of s account) { coll = (wallet_of s account).coll + coll } in
-    let c = exchanged (λ (x : Wallet). x.coll) refl unused_coll s.wallets account w t.0 in
-    let l = exchanged (λ (x : Wallet). x.lusd) refl unused_lusd s.wallets account w t.0 in
+    let c = paid_coll s account coll 0 t.0 in
+    let l = paid_lusd s account coll 0 t.0 in
     record { coll = omega (arith, c, h.coll); lusd = omega (arith, l, h.lusd); reserve = h.reserve; active_coll = h.active_coll; active_debt = h.active_debt; surplus = h.surplus }
 
 take_conserves : (s : State) (account coll : ℕ) → coll ≤ (wallet_of s account).coll → TablesAscend s → IsConserved s → IsConserved (effect s (Take account coll))
 take_conserves s account coll enough t h =
-    let w : Wallet = record (wallet_of s account) { coll = (wallet_of s account).coll - coll } in
-    let c = exchanged (λ (x : Wallet). x.coll) refl unused_coll s.wallets account w t.0 in
-    let l = exchanged (λ (x : Wallet). x.lusd) refl unused_lusd s.wallets account w t.0 in
+    let c = charged_coll s account coll 0 t.0 enough in
+    let l = charged_lusd s account coll 0 t.0 (omega arith) in
     record { coll = omega (arith, c, h.coll, enough); lusd = omega (arith, l, h.lusd); reserve = h.reserve; active_coll = h.active_coll; active_debt = h.active_debt; surplus = h.surplus }
 
 send_conserves : (s : State) (from to lusd : ℕ) → lusd ≤ (wallet_of s from).lusd → TablesAscend s → IsConserved s → IsConserved (effect s (Send from to lusd))
@@ -67,7 +63,7 @@ provide_conserves s account lusd enough w t h =
 withdraw_conserves : (s : State) (account lusd : ℕ) → IsWellFormed s → TablesAscend s → IsConserved s → IsConserved (effect s (Withdraw account lusd))
 withdraw_conserves s account lusd w t h =
     let gain = gain_of s account in
-    let out = paid_out s account lusd in
+    let out = min lusd (balance_of s account) in
     let pooled = owned s account 0 out in
     let total = owned_total s w account 0 out in
     let coll = owned_coll s w account 0 out in

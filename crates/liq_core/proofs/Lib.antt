@@ -11,6 +11,7 @@ pub mod Conserving
 pub mod Histories
 pub mod Moving
 pub mod Opening
+pub mod Ruled
 pub mod Runs
 pub mod Standing
 pub mod Started

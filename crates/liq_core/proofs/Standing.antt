@@ -1,70 +1,20 @@
 -- The states for which a core stands, and what is read of them.
 use Rattle.std.proofs.Common.{◌≡◌, ℕ, true, false, cond, refl, ap, sym, ◌∙◌, arith, ◌<◌, Some, None, Option}
-use Rattle.std.specs.Prelude.{unwrap_or, ◌+◌, IsTrue}
+use Rattle.std.specs.Prelude.{unwrap_or}
 use Rattle.liq_types.specs.declared.figures.Wallet.{Wallet}
 use Rattle.liq_types.specs.declared.figures.Client.{Client}
-use Rattle.liq_types.specs.Image.{Image, opening_image}
-use Rattle.liq_types.specs.State.{State, started, no_wallet, no_client, is_used_wallet, is_used_client, wallet_of, client_of}
+use Rattle.liq_types.specs.State.{no_wallet, no_client, is_used_wallet, is_used_client, wallet_of, client_of}
 use Rattle.liq_types.specs.Tables.{at}
-use Rattle.liq_types.specs.declared.requests.Call.{Call}
-use Rattle.liq_types.specs.declared.requests.Call.TheVariants.{Fund, Take}
-use Rattle.liq_types.specs.declared.requests.Command.{Command}
 use Rattle.liq_core.specs.Core.{Core, StandsFor, image_of, state_of}
-use Rattle.liq_core.specs.Image.{image}
-use Rattle.liq_core.specs.Step.{after, built_call}
 use Rattle.liq_core.specs.Sound.{IsSound}
 use Rattle.liq_types.proofs.UsedRows.{at-rows, seen_or}
+use Rattle.liq_core.proofs.Started.{started_image, started_formed}
 use Rattle.std.proofs.lemmas.Bool.Decides.{nat_tests}
 use Rattle.std.proofs.lemmas.Map.Entries.{option_filter}
 
 pub stands_itself : (core : Core) → StandsFor core (state_of core)
-stands_itself core = record { image = refl; records = refl }
-
--- ---- what a built command leaves
-
--- the image after a built command, by the image before
-image_after : Image → Command → Image
-image_after i c =
-    let now = after (started i) c in
-    record i { brought = now.brought; wallets = now.wallets; clients = now.clients }
-
-after-image : (s : State) (client number : ℕ) (call : Call) → IsTrue (built_call call) → image (after s (record { client = client; number = number; call = call })) ≡ image_after (image s) (record { client = client; number = number; call = call })
-unfolding image_after
-after-image s client number (Fund account coll) built = refl
-after-image s client number (Take account coll) built = refl
-after-image s client number _ built = cc
-
--- the image of a core, by what its plainest state has
-image_by : State → Image
-image_by t = record opening_image { brought = t.brought; wallets = t.wallets; clients = t.clients }
-
-core-image : (old : Core) (client number : ℕ) (call : Call) → IsTrue (built_call call) → image_by (after (state_of old) (record { client = client; number = number; call = call })) ≡ image_after (image_of old) (record { client = client; number = number; call = call })
-unfolding image_after image_by
-core-image old client number (Fund account coll) built = refl
-core-image old client number (Take account coll) built = refl
-core-image old client number _ built = cc
-
-after-records : (s : State) (client number : ℕ) (call : Call) → IsTrue (built_call call) → (after s (record { client = client; number = number; call = call })).records ≡ s.records + 1
-after-records s client number (Fund account coll) built = refl
-after-records s client number (Take account coll) built = refl
-after-records s client number _ built = cc
-
--- a core whose plainest state is what the command leaves stands for what the command leaves of each state
-pub stands_after : (old new : Core) (s : State) (c : Command) → IsTrue (built_call c.call) → StandsFor old s → state_of new ≡ after (state_of old) c → StandsFor new (after s c)
-unfolding image_by
-stands_after old new s c built h e =
-    record {
-      image =
-          ap image_by e
-          ∙ core-image old c.client c.number c.call built
-          ∙ ap (λ i. image_after i c) h.image
-          ∙ sym (after-image s c.client c.number c.call built);
-      records =
-          ap (λ (t : State). t.records) e
-          ∙ after-records (state_of old) c.client c.number c.call built
-          ∙ ap (λ n. n + 1) h.records
-          ∙ sym (after-records s c.client c.number c.call built);
-    }
+stands_itself core =
+    record { image = sym (started_image (image_of core) refl); records = refl; formed = started_formed (image_of core) tt }
 
 unused_wallet : (w : Wallet) → is_used_wallet w ≡ false → w ≡ no_wallet
 unused_wallet w h =

@@ -11,7 +11,7 @@ use Rattle.liq_types.specs.declared.requests.Call.TheVariants.{Price, Advance, F
 use Rattle.liq_types.specs.declared.requests.Query.TheVariants as query
 use Rattle.liq_types.specs.declared.requests.Request.{Request}
 use Rattle.liq_types.specs.declared.requests.Request.TheVariants.{Do, Ask}
-use Rattle.liq_core.specs.Effect.{six}
+use Rattle.liq_core.specs.Rules.{six}
 use Rattle.liq_core.specs.Verbs.{no_hint}
 
 abbrev pub by_one : ℕ → Call → Request

@@ -1,11 +1,13 @@
--- A planned command, and the states on which it may be applied.
-use Rattle.std.specs.Prelude.{◌≡◌, ◌<◌}
-use Rattle.liq_types.specs.declared.amounts.TheConstants.{RECORDS_MOST}
+-- A planned command, the states on which it may be applied, and the rows that it wants.
+use Rattle.std.specs.Prelude.{◌≡◌, IsSome}
+use Rattle.std.specs.List.{AllByRecursion}
 use Rattle.liq_types.specs.declared.replies.Done.{Done}
 use Rattle.liq_types.specs.declared.requests.Command.{Command}
 use Rattle.liq_types.specs.State.{State}
 use Rattle.liq_core.specs.Core.{Core, StandsFor}
+use Rattle.liq_types.specs.Tables.{at}
 use Rattle.liq_core.specs.Step.{Allowed, ruling, done_of}
+use Rattle.liq_core.specs.Verbs.{accounts}
 
 -- a command that is allowed, with its reply
 pub record Plan : Type 0 where
@@ -16,8 +18,12 @@ pub record Plan : Type 0 where
 pub record IsPlan (s : State) (plan : Plan) : Type 0 where
   pub allowed : ruling s plan.command ≡ Allowed
   pub done : plan.done ≡ done_of s plan.command.call
-  pub few : s.records < RECORDS_MOST
 
 -- it was planned on what the core stands for
 abbrev pub IsPlannedOn : Core → Plan → Type 0
 IsPlannedOn core plan = (s : State) → StandsFor core s → IsPlan s plan
+
+-- there is a row for all that the planned command writes
+pub record HasRoom (core : Core) (plan : Plan) : Type 0 where
+  pub wallets : AllByRecursion (λ account. IsSome (at core.wallets account)) (accounts plan.command.call)
+  pub client : IsSome (at core.clients plan.command.client)

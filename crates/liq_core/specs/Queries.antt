@@ -14,9 +14,13 @@ use Rattle.liq_types.specs.Totals.{market_of, is_recovery, total_coll, total_deb
 use Rattle.liq_troves.specs.StakeSums.{entire}
 use Rattle.liq_stability.specs.Position.{balance_of, gain_of}
 
+-- the greatest number that a command can have
+abbrev pub NUMBER_MOST : ℕ
+NUMBER_MOST = 18446744073709551615
+
 -- the number of a client's next new command, as it is printed
 abbrev pub next_number : State → ℕ → ℕ
-next_number s client = min ((client_of s client).last + 1) 18446744073709551615
+next_number s client = min ((client_of s client).last + 1) NUMBER_MOST
 
 abbrev pub trove_info : State → Option TroveEntry → Info
 trove_info s None = info.NoTrove

@@ -16,11 +16,10 @@ use Rattle.liq_types.specs.State.{State, client_of}
 use Rattle.liq_types.specs.Tables.{put}
 pub use Rattle.liq_core.specs.Verbs.{built_call, built_query, built, accounts}
 use Rattle.liq_core.specs.Verbs.{rotates}
-pub use Rattle.liq_core.specs.Refusals.{rules}
-pub use Rattle.liq_core.specs.Effect.{effect, done_of}
+pub use Rattle.liq_core.specs.Rules.{rules, effect, done_of}
 pub use Rattle.liq_core.specs.Queries.{answer, next_number}
 use Rattle.liq_core.specs.Image.{image}
-use Rattle.liq_core.specs.Length.{checkpoint_length}
+use Rattle.liq_core.specs.Length.{CHECKPOINT_BYTES_MOST, checkpoint_length}
 
 -- ---- client numbers
 
@@ -59,7 +58,7 @@ abbrev pub room_rules : State → Command → List Rule
 room_rules s c =
     if rotates c.call
     then where_above (s.generation + 1) GENERATIONS_MOST AmountLimit
-    ∷ where_above (checkpoint_length (image (after s c))) GENERATIONS_MOST AmountLimit
+    ∷ where_above (checkpoint_length (image (after s c))) CHECKPOINT_BYTES_MOST AmountLimit
     ∷ []
     else (nat_le RECORDS_MOST s.records, JournalFull RECORDS_MOST) ∷ []
 

@@ -56,8 +56,8 @@ const NO_CLIENT: Client = Client {
 };
 
 impl Protocol {
-    ghost use Rattle.liq_core.specs.Core.{StandsFor, SameContent, HasRoom, state_of};
-    ghost use Rattle.liq_core.specs.Plan.{IsPlannedOn};
+    ghost use Rattle.liq_core.specs.Core.{StandsFor, SameContent, state_of};
+    ghost use Rattle.liq_core.specs.Plan.{HasRoom, IsPlannedOn};
     ghost use Rattle.liq_core.specs.Turn.{Plans, IsRuled};
 
     /// The protocol as it opens: nothing is inside.
@@ -89,10 +89,9 @@ impl Protocol {
     }
 
     /// Rules on a command, and plans it where it is allowed. A refusal is the first whose condition holds, in the order
-    /// of the rules.
+    /// of the rules; the last is that the journal is full.
     pub fn plan(&self, command: &Command) -> Result<Turn, PlanFault>
         requires built { IsTrue (built (Do command.now)) }
-        requires few { self.now.records < RECORDS_MOST }
         ensures { (s : State) → StandsFor self.now s → Plans s command.now result }
     {
         if command.client >= ACCOUNTS {
@@ -107,13 +106,18 @@ impl Protocol {
             let expected = client.last.saturating_add(1);
             return Err(PlanFault::No(Refusal::OutOfTurn { expected }));
         }
-        match self.plan_call(&command.call) {
-            Ok(done) => Ok(Turn::New(Planned {
-                command: *command,
-                done,
-            })),
-            Err(refusal) => Err(PlanFault::No(refusal)),
+        let done = match self.plan_call(&command.call) {
+            Ok(done) => done,
+            Err(refusal) => return Err(PlanFault::No(refusal)),
+        };
+        if self.records >= RECORDS_MOST {
+            let records = RECORDS_MOST;
+            return Err(PlanFault::No(Refusal::JournalFull { records }));
         }
+        Ok(Turn::New(Planned {
+            command: *command,
+            done,
+        }))
     }
 
     /// What a call has beside its client and number.
@@ -164,7 +168,7 @@ impl Protocol {
     /// protocol stays, also where there is no memory.
     pub fn reserve(&mut self, planned: &Planned) -> Result<(), NoMemory>
         ensures same { SameContent self.old self.new }
-        ensures room { OnOk result (HasRoom self.new planned.now.command) }
+        ensures room { OnOk result (HasRoom self.new planned.now) }
     {
         self.reserve_client(planned.command.client)?;
         match planned.command.call {
@@ -197,10 +201,9 @@ impl Protocol {
         _steps: &mut Steps<L>,
     ) -> Done
         requires planned { IsPlannedOn self.old planned }
-        requires room { HasRoom self.old planned.command }
+        requires room { HasRoom self.old planned }
         ensures state { (s : State) → StandsFor self.old s → StandsFor self.new (step s (Do planned.command)).0 }
         ensures reply { (s : State) → StandsFor self.old s → (step s (Do planned.command)).1 ≡ Said result }
-        ensures counted { self.new.records ≡ self.old.records + 1 }
     {
         let Planned { command, done } = planned;
         self.change(&command.call);
@@ -213,7 +216,7 @@ impl Protocol {
         requires built { IsTrue (built_call call.now) }
         requires allowed { first_refusal (rules (state_of self.old) call.now) ≡ None }
         requires room { AllByRecursion (λ account. IsSome (at self.old.wallets account)) (accounts call.now) }
-        ensures effect { state_of self.new ≡ effect (state_of self.old) call.now }
+        ensures effect { (s : State) → StandsFor self.old s → StandsFor self.new (effect s call.now) }
         ensures clients { self.new.clients ≡ self.old.clients }
     {
         match *call {
@@ -227,7 +230,7 @@ impl Protocol {
     fn bring_in(&mut self, account: u32, coll: u64)
         requires row { IsSome (at self.old.wallets account) }
         requires limit { self.old.brought + coll ≤ LIM }
-        ensures effect { state_of self.new ≡ effect (state_of self.old) (Fund account coll) }
+        ensures effect { (s : State) → StandsFor self.old s → StandsFor self.new (effect s (Fund account coll)) }
         ensures clients { self.new.clients ≡ self.old.clients }
     {
         let mut wallet = self.wallet(account);
@@ -240,7 +243,7 @@ impl Protocol {
     fn take_out(&mut self, account: u32, coll: u64)
         requires row { IsSome (at self.old.wallets account) }
         requires enough { coll ≤ (wallet_of (state_of self.old) account).coll }
-        ensures effect { state_of self.new ≡ effect (state_of self.old) (Take account coll) }
+        ensures effect { (s : State) → StandsFor self.old s → StandsFor self.new (effect s (Take account coll)) }
         ensures clients { self.new.clients ≡ self.old.clients }
     {
         let mut wallet = self.wallet(account);
@@ -255,7 +258,7 @@ impl Protocol {
         requires moved { brought + (unwrap_or (at self.old.wallets account) no_wallet).coll ≡ self.old.brought + wallet.coll }
         requires limit { brought ≤ LIM }
         ensures rows { self.new ≡ record self.old { brought = brought; wallets = put self.old.wallets account wallet } }
-        ensures seen { state_of self.new ≡ record (state_of self.old) { brought = brought; wallets = with_wallet (state_of self.old).wallets account wallet } }
+        ensures seen { (s : State) → StandsFor self.old s → StandsFor self.new (record s { brought = brought; wallets = with_wallet s.wallets account wallet }) }
     {
         self.brought = brought;
         tables::write(&mut self.wallets, account, wallet);
@@ -267,7 +270,7 @@ impl Protocol {
         requires row { IsSome (at self.old.clients command.now.client) }
         requires number { 0 < command.now.number }
         requires few { self.old.records < RECORDS_MOST }
-        ensures { state_of self.new ≡ noted (state_of self.old) command.now done }
+        ensures { (s : State) → StandsFor self.old s → StandsFor self.new (noted s command.now done) }
     {
         self.records += 1;
         let last = command.number;

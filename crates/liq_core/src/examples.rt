@@ -6,8 +6,9 @@ ghost use Rattle.liq_types.specs.declared.events.ListChange.TheVariants.{Put, Go
 ghost use Rattle.liq_types.specs.declared.requests.Call.TheVariants.{Open, Liquidate};
 ghost use Rattle.liq_types.specs.State.{opening};
 ghost use Rattle.liq_stability.specs.Lawful.{IsLawful};
-ghost use Rattle.liq_core.specs.Changes.{events, call_changes};
+ghost use Rattle.liq_core.specs.Events.{events};
 ghost use Rattle.liq_core.specs.Dust.{dust};
+ghost use Rattle.liq_core.specs.Rules.{call_changes};
 ghost use Rattle.liq_core.specs.Step.{run, accepted};
 ghost use Rattle.liq_core.specs.Verbs.{no_hint};
 ghost use Rattle.liq_core.specs.Examples.{a_trove_opens, a_trove_opens_replies, too_little_debt, too_little_debt_replies, both_ratios_exact, both_ratios_exact_replies, a_gwei_too_little, a_gwei_too_little_replies, pool_and_others, pool_and_others_replies, in_and_out, in_and_out_replies, trove_under, trove_under_replies, at_the_whole, at_the_whole_replies, pool_too_small, pool_too_small_replies, capped_lowest, capped_lowest_replies, capped_single, capped_single_replies, redemption, redemption_replies, redemption_stops, redemption_stops_replies, numbers, numbers_replies, last_trove, last_trove_replies, limits, limits_replies, bringing_in, bringing_in_replies, nothing_yet, nothing_yet_replies, rotation, rotation_replies, taking_out, taking_out_replies, time_and_bounds, time_and_bounds_replies, pool_and_others_events};

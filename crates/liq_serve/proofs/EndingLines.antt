@@ -1,5 +1,5 @@
 -- Last lines, of which a sink may hold a front.
-use Rattle.std.proofs.Common.{◌≡◌, ℕ, ◌+◌, ◌≤◌, List, [], ◌∷◌, ◌++◌, length, take, drop, Option, Some, None, Ok, Err, Result, refl, ap, sym, subst, ◌∙◌, append-nil, length-append, arith, inl, inr}
+use Rattle.std.proofs.Common.{◌≡◌, ℕ, ◌+◌, ◌≤◌, List, [], ◌∷◌, ◌++◌, length, take, drop, Option, Some, Ok, Err, Result, refl, ap, sym, subst, ◌∙◌, append-nil, length-append, arith, inl, inr}
 use Rattle.std.specs.Prelude.{option_map, OnOk, OnErr, ◌⊎◌}
 use Rattle.std.proofs.Math.Seq.{take-append-add}
 use Rattle.std.proofs.lemmas.List.{take-append-le, take-append-drop}

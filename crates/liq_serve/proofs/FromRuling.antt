@@ -21,7 +21,7 @@ pub refused_steps : (core : Core) (s : State) (c : Command) (refusal : Refusal) 
 refused_steps core s c refusal h e = subst (λ r. StandsFor core (after_ruling s c r).0 × ((after_ruling s c r).1 ≡ No refusal)) (sym e) (h, refl)
 
 pub stands_before : (old new : Core) (s : State) → SameContent old new → StandsFor new s → StandsFor old s
-stands_before old new s same h = record { image = sym same.image ∙ h.image; records = sym same.records ∙ h.records }
+stands_before old new s same h = record { image = sym same.image ∙ h.image; records = sym same.records ∙ h.records; formed = h.formed }
 
 pub stands_after : (old new : Core) (s : State) → SameContent old new → StandsFor old s → StandsFor new s
-stands_after old new s same h = record { image = same.image ∙ h.image; records = same.records ∙ h.records }
+stands_after old new s same h = record { image = same.image ∙ h.image; records = same.records ∙ h.records; formed = h.formed }

@@ -1,13 +1,12 @@
 //! One request after another, as the protocol answers them.
 
-ghost use Rattle.std.specs.Prelude.{◌≡◌, ◌≤◌, ◌<◌, ◌+◌, IfOk, OnErr, IsTrue};
+ghost use Rattle.std.specs.Prelude.{◌≡◌, IfOk, OnErr, IsTrue};
 ghost use Rattle.liq_types.specs.State.{State};
 ghost use Rattle.liq_types.specs.declared.requests.Request.TheVariants.{Do};
 ghost use Rattle.liq_core.specs.Core.{StandsFor};
 ghost use Rattle.liq_core.specs.Step.{built, step};
 
 use liq_core::{PlanFault, Protocol, Turn};
-use liq_types::amounts::RECORDS_MOST;
 use liq_types::{Command, Hint, NoMemory, Reply, Request, Steps};
 use std::sync::ledger::Ledger;
 
@@ -25,11 +24,9 @@ pub fn call<L: Ledger>(
     steps: &mut Steps<L>,
 ) -> Result<Reply, NoMemory>
     requires built { IsTrue (built request.now) }
-    requires few { protocol.old.records < RECORDS_MOST }
     ensures ok { IfOk result (λ reply. (s : State) → StandsFor protocol.old s
         → StandsFor protocol.new (step s request.now).0 × ((step s request.now).1 ≡ reply)) }
     ensures err { OnErr result ((s : State) → StandsFor protocol.old s → StandsFor protocol.new s) }
-    ensures records { protocol.new.records ≤ protocol.old.records + 1 }
 {
     match request {
         Request::Ask(query) => Ok(protocol.query(query)),
@@ -43,11 +40,9 @@ fn obey<L: Ledger>(
     steps: &mut Steps<L>,
 ) -> Result<Reply, NoMemory>
     requires built { IsTrue (built (Do command.now)) }
-    requires few { protocol.old.records < RECORDS_MOST }
     ensures ok { IfOk result (λ reply. (s : State) → StandsFor protocol.old s
         → StandsFor protocol.new (step s (Do command.now)).0 × ((step s (Do command.now)).1 ≡ reply)) }
     ensures err { OnErr result ((s : State) → StandsFor protocol.old s → StandsFor protocol.new s) }
-    ensures records { protocol.new.records ≤ protocol.old.records + 1 }
 {
     let planned = match protocol.plan(command) {
         Ok(Turn::New(planned)) => planned,

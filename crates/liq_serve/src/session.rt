@@ -18,7 +18,7 @@ use crate::writer::write_all;
 use liq_core::{Protocol, is_built};
 use liq_outside::{Failed, Sink, Source};
 use liq_text::{read_line, write_reply};
-use liq_types::amounts::{LINE_BYTES, LINES_MOST, RECORDS_MOST, REPLY_BYTES};
+use liq_types::amounts::{LINE_BYTES, LINES_MOST, REPLY_BYTES};
 use liq_types::{Reply, Request, Steps};
 use std::alloc::{AllocError, Global};
 use std::sync::ledger::Ledger;
@@ -103,7 +103,7 @@ pub struct Session {
 impl Session {
     /// A session at the opening of a protocol.
     pub fn new(alloc: Global) -> Result<Session, AllocError>
-        ensures { IfOk result (λ session. StandsFor session.protocol opening × (session.protocol.records ≡ 0) × (session.reader ≡ [])) }
+        ensures { IfOk result (λ session. StandsFor session.protocol opening × (session.reader ≡ [])) }
     {
         Ok(Session {
             protocol: Protocol::new(alloc),
@@ -121,7 +121,6 @@ impl Session {
         steps: &mut Steps<L>,
     ) -> Result<(), Halt>
         requires opening { StandsFor self.old.protocol opening }
-        requires records { self.old.protocol.records ≡ 0 }
         requires unread { self.old.reader ≡ [] }
         ensures run { (bytes held : List ℕ) → S.left input.old ≡ Some bytes → K.held out.old ≡ Some held
             → RunsTo bytes held result (S.left input.new) (K.held out.new) }
@@ -153,11 +152,9 @@ impl Session {
         answered: u64,
     ) -> Result<bool, Halt>
         requires few { answered < LINES_MOST }
-        requires records { self.old.protocol.records ≤ answered }
         ensures turn { (bytes held : List ℕ)
             → Answered bytes held answered self.old.protocol (unread self.old.reader (S.left input.old)) (K.held out.old)
             → Turns bytes held answered self.new.protocol (unread self.new.reader (S.left input.new)) (S.left input.new) (K.held out.new) result }
-        ensures records { OnOk result (self.new.protocol.records ≤ answered + 1) }
         ensures source_count { S.faults input.old ≤ S.faults input.new }
         ensures sink_count { K.faults out.old ≤ K.faults out.new }
         ensures read_fault { result ≡ Err Halt.ReadFault → Rose (S.faults input.old) (S.faults input.new) }
@@ -185,11 +182,9 @@ impl Session {
         steps: &mut Steps<L>,
     ) -> Result<(), Halt>
         requires built { IsTrue (built request.now) }
-        requires few { self.old.protocol.records < RECORDS_MOST }
         ensures answer { (s : State) → StandsFor self.old.protocol s
             → Answers s request.now result self.new.protocol (K.held out.old) (K.held out.new) }
         ensures reader { self.new.reader ≡ self.old.reader }
-        ensures records { OnOk result (self.new.protocol.records ≤ self.old.protocol.records + 1) }
         ensures count { K.faults out.old ≤ K.faults out.new }
         ensures cause { result ≡ Err Halt.WriteFault → Rose (K.faults out.old) (K.faults out.new) }
         ensures other { result ≢ Err Halt.ReadFault }

@@ -1,11 +1,10 @@
-use Rattle.std.proofs.Common.{ap, sym, ◌∙◌, arith, subst}
-use Rattle.liq_types.specs.State.{State}
-use Rattle.std.specs.Prelude.{IsTrue}
+use Rattle.std.proofs.Common.{ap, sym, arith, subst}
 use Rattle.liq_core.specs.Core.{StandsFor, state_of}
 use Rattle.liq_core.specs.Plan.{Plan}
-use Rattle.liq_core.specs.Step.{built_call, effect, noted, after_ruling}
-use Rattle.liq_core.proofs.Allowed.{allowed_number, effect-records}
-use Rattle.liq_core.proofs.Standing.{stands_itself, stands_after}
+use Rattle.liq_core.specs.Step.{after, built_call, effect, noted, after_ruling}
+use Rattle.std.specs.Prelude.{IsTrue}
+use Rattle.liq_core.proofs.Allowed.{allowed_number, allowed_few, built-rotates, effect-records}
+use Rattle.liq_core.proofs.Standing.{stands_itself}
 use Rattle.liq_core.proofs.engine.Protocol.apply.Goals as goal
 
 pub note-requires-clause-number : goal.note-requires-clause-number
@@ -17,21 +16,23 @@ note-requires-clause-number g c =
 
 pub note-requires-clause-few : goal.note-requires-clause-few
 note-requires-clause-few g c =
-    let plan = c.requires.planned (state_of c.args.self.now) (stands_itself c.args.self.now) in
-    let same = ap (λ (s : State). s.records) c.change.ensures.effect in
-    let kept = effect-records (state_of c.args.self.now) c.planned.inside.command.call c.planned.invariant in
-    omega (arith, plan.few, same, kept)
+    let itself = stands_itself c.args.self.now in
+    let plan = c.requires.planned (state_of c.args.self.now) itself in
+    let call = c.args.planned.command.call in
+    let here = c.planned.inside.command.call in
+    let same = (c.change.ensures.effect (state_of c.args.self.now) itself).records in
+    let kept = effect-records (state_of c.args.self.now) here c.planned.invariant in
+    let built = subst (λ (p : Plan). IsTrue (built_call p.command.call)) c.planned.view_is c.planned.invariant in
+    let few = allowed_few (state_of c.args.self.now) c.args.planned.command plan.allowed (built-rotates call built) in
+    omega (arith, few, same, kept)
 
 pub returns-clause-state : goal.returns-clause-state
 returns-clause-state g c s h =
-    let old = c.args.self.now in
     let plan = c.requires.planned s h in
-    let same = c.planned.view_is in
-    let built = subst (λ (p : Plan). IsTrue (built_call p.command.call)) same c.planned.invariant in
-    let noted_is =
-    c.note.ensures
-    ∙ ap (λ (t : State). noted t c.planned.inside.command c.planned.inside.done) c.change.ensures.effect
-    ∙ ap (λ (p : Plan). noted (effect (state_of old) p.command.call) p.command p.done) same
-    ∙ ap (λ done. noted (effect (state_of old) c.args.planned.command.call) c.args.planned.command done) (c.requires.planned (state_of old) (stands_itself old)).done in
-    subst (λ r. StandsFor c.note.new.self (after_ruling s c.args.planned.command r).0) (sym plan.allowed)
-    (stands_after old c.note.new.self s c.args.planned.command built h noted_is)
+    let noted_is : StandsFor c.note.new.self (noted (effect s c.planned.inside.command.call) c.planned.inside.command c.planned.inside.done) =
+    c.note.ensures (effect s c.planned.inside.command.call) (c.change.ensures.effect s h) in
+    let seen : StandsFor c.note.new.self (noted (effect s c.args.planned.command.call) c.args.planned.command c.args.planned.done) =
+    subst (λ (p : Plan). StandsFor c.note.new.self (noted (effect s p.command.call) p.command p.done)) c.planned.view_is noted_is in
+    let done : StandsFor c.note.new.self (after s c.args.planned.command) =
+    subst (λ d. StandsFor c.note.new.self (noted (effect s c.args.planned.command.call) c.args.planned.command d)) plan.done seen in
+    subst (λ r. StandsFor c.note.new.self (after_ruling s c.args.planned.command r).0) (sym plan.allowed) done

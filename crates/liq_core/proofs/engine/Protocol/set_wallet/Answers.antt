@@ -2,9 +2,10 @@ use Rattle.std.proofs.Common.{◌≡◌, ◌+◌, ap, subst, sym, ◌∙◌, ari
 use Rattle.std.specs.Prelude.{unwrap_or, sum_by}
 use Rattle.std.specs.Map.{values_of}
 use Rattle.liq_types.specs.declared.figures.Wallet.{Wallet}
+use Rattle.liq_types.specs.Image.{Image}
 use Rattle.liq_types.specs.State.{no_wallet, is_used_wallet, with_wallet}
 use Rattle.liq_types.specs.Tables.{Table, at, rows}
-use Rattle.liq_core.specs.Core.{Core, state_of}
+use Rattle.liq_core.specs.Core.{Core, image_of}
 use Rattle.liq_core.specs.Sound.{core_of}
 use Rattle.liq_types.proofs.UsedRows.{rows-put, sum_by-put}
 use Rattle.liq_core.proofs.engine.Protocol.set_wallet.Goals as goal
@@ -24,9 +25,14 @@ invariant_of-self c =
     }
 
 pub returns-clause-seen : goal.returns-clause-seen
-returns-clause-seen c =
+returns-clause-seen c s h =
     let row = core_of c.self.inside in
-    ap (λ wallets. record (state_of row) { brought = c.args.brought; wallets = wallets })
-    (ap (λ (t : Table Wallet). rows is_used_wallet t) c.write.ensures.written ∙ rows-put is_used_wallet c.self.inside.wallets.entries c.args.account c.args.wallet c.self.invariant.wallets_ascend)
-    ∙ ap (λ (core : Core). record (state_of core) { brought = c.args.brought; wallets = with_wallet (rows is_used_wallet core.wallets) c.args.account c.args.wallet })
-    c.self.view_is
+    let written = ap (λ (t : Table Wallet). rows is_used_wallet t) c.write.ensures.written ∙ rows-put is_used_wallet c.self.inside.wallets.entries c.args.account c.args.wallet c.self.invariant.wallets_ascend in
+    record {
+      image =
+          ap (λ wallets. record (image_of row) { brought = c.args.brought; wallets = wallets }) written
+          ∙ ap (λ (core : Core). record (image_of core) { brought = c.args.brought; wallets = with_wallet (image_of core).wallets c.args.account c.args.wallet }) c.self.view_is
+          ∙ ap (λ (i : Image). record i { brought = c.args.brought; wallets = with_wallet i.wallets c.args.account c.args.wallet }) h.image;
+      records = ap (λ (core : Core). core.records) c.self.view_is ∙ h.records;
+      formed = h.formed;
+    }

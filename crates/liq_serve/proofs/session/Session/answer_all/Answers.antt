@@ -7,7 +7,6 @@ use Rattle.liq_serve.proofs.session.Session.answer_all.Goals as goal
 pub loop-answered-init : goal.loop-answered-init
 loop-answered-init g c = record {
   answered = λ bytes before told holds. opened bytes before c.args.self.now.reader c.args.self.now.protocol (g.S.Source.left c.args.input.now) (g.K.Sink.held c.args.out.now) c.requires.opening c.requires.unread told holds;
-  records = omega (arith, c.requires.records);
   source_count = omega arith;
   sink_count = omega arith;
 }
@@ -19,7 +18,6 @@ returns-in-Ok-false-clause-run g c bytes held told holds =
 pub loop-answered-preserved : goal.loop-answered-preserved
 loop-answered-preserved g c = record {
   answered = λ bytes before told holds. (rw c.in-Ok-true.field-0-test at c.in-Ok-true.ensures.turn) bytes before (c.loop-answered.invariant.answered bytes before told holds);
-  records = c.in-Ok-true.ensures.records;
   source_count = omega (arith, c.loop-answered.invariant.source_count, c.turn.ensures.source_count);
   sink_count = omega (arith, c.loop-answered.invariant.sink_count, c.turn.ensures.sink_count);
 }

@@ -10,7 +10,6 @@ invariant-loop-answered g l =
     let held = g.K.Sink.held in
     record {
       answered : (bytes before : List ℕ) → left l.fn.input ≡ Some bytes → held l.fn.out ≡ Some before → Answered bytes before l.answered l.self.protocol (unread l.self.reader (left l.input)) (held l.out);
-      records : l.self.protocol.records ≤ l.answered;
       source_count : g.S.Source.faults l.fn.input ≤ g.S.Source.faults l.input;
       sink_count : g.K.Sink.faults l.fn.out ≤ g.K.Sink.faults l.out;
     }

@@ -1,0 +1,46 @@
+-- Rulings from what is tested, and of states that are the same.
+use Rattle.std.proofs.Common.{◌≡◌, ◌+◌, ◌<◌, Bool, true, false, cond, nat_le, List, [], ◌∷◌, ◌++◌, Some, None, Option, ap, sym, ◌∙◌, arith}
+use Rattle.std.specs.Prelude.{map, ◌==◌, ◌&&◌, not}
+use Rattle.std.proofs.lemmas.Bool.Decides.{nat_tests}
+use Rattle.liq_types.specs.declared.amounts.TheConstants.{ACCOUNTS}
+use Rattle.liq_types.specs.declared.replies.Refusal.{Refusal}
+use Rattle.liq_types.specs.declared.replies.Refusal.TheVariants.{AccountRange, OutOfTurn}
+use Rattle.liq_types.specs.declared.requests.Command.{Command}
+use Rattle.liq_types.specs.Rules.{Rule, first_refusal}
+use Rattle.liq_types.specs.State.{State, client_of}
+use Rattle.liq_core.specs.Core.{Core, StandsFor, state_of}
+use Rattle.liq_core.specs.Queries.{next_number}
+use Rattle.liq_core.specs.Step.{Refused, Repeated, Allowed, unless_refused, ruling, rules, accounts, in_range, is_repeated, tests, room_rules}
+use Rattle.liq_core.proofs.AlikeReads.{Alike}
+use Rattle.liq_core.proofs.AlikeReplies.{ruling_alike}
+use Rattle.liq_core.proofs.Standing.{stands_itself}
+
+pub some_first : (front more : List Rule) (refusal : Refusal) → first_refusal front ≡ Some refusal → first_refusal (front ++ more) ≡ Some refusal
+some_first [] more refusal h = cc
+some_first (rule ∷ front) more refusal h = by rule.0 h (some_first front more refusal) where
+  by : (b : Bool) → cond b (Some rule.1) (first_refusal front) ≡ Some refusal → (first_refusal front ≡ Some refusal → first_refusal (front ++ more) ≡ Some refusal) → cond b (Some rule.1) (first_refusal (front ++ more)) ≡ Some refusal
+  by true e later = e
+  by false e later = later e
+
+-- what the call's accounts or its verb refuse, of a client in range whose number is the next
+pub refused_call : (s : State) (c : Command) (refusal : Refusal) → c.client < ACCOUNTS → c.number ≡ (client_of s c.client).last + 1 → first_refusal (map in_range (accounts c.call) ++ rules s c.call) ≡ Some refusal → ruling s c ≡ Refused refusal
+refused_call s c refusal within next h =
+    let last = (client_of s c.client).last in
+    let inside : nat_le ACCOUNTS c.client ≡ false = grind (arith, nat_tests, within) in
+    let new : (c.number == last && not (c.number == 0)) ≡ false = grind (arith, nat_tests, next) in
+    let turn : not (c.number == last + 1) ≡ false = grind (arith, nat_tests, next) in
+    let front = map in_range (accounts c.call) ++ rules s c.call in
+    let ruled = unless_refused (first_refusal (tests s c)) Allowed in
+    ap (λ b. unless_refused (cond b (Some (AccountRange c.client)) None) (cond (is_repeated s c) (Repeated (client_of s c.client).kept) ruled)) inside
+    ∙ ap (λ b. cond b (Repeated (client_of s c.client).kept) ruled) new
+    ∙ ap (λ b. unless_refused (cond b (Some (OutOfTurn (next_number s c.client))) (first_refusal (front ++ room_rules s c))) Allowed) turn
+    ∙ ap (λ (o : Option Refusal). unless_refused o Allowed) (some_first front (room_rules s c) refusal h)
+
+-- a state for which a core stands is the same as the one that begins with the core's image
+pub standing_alike : (core : Core) (s : State) → StandsFor core s → Alike s (state_of core)
+standing_alike core s h =
+    let itself = stands_itself core in
+    record { image = sym h.image ∙ itself.image; records = sym h.records ∙ itself.records; left = h.formed; right = itself.formed }
+
+pub standing_ruling : (core : Core) (s : State) (c : Command) → StandsFor core s → ruling s c ≡ ruling (state_of core) c
+standing_ruling core s c h = ruling_alike (standing_alike core s h) c
