@@ -5,45 +5,43 @@ use Rattle.std.proofs.lemmas.Bool.Decides.{nat_tests}
 use Rattle.std.proofs.lemmas.List.Sums.{sum_by-append}
 use Rattle.liq_types.specs.declared.amounts.TheConstants.{RESERVE}
 use Rattle.liq_types.specs.declared.figures.Market.{Market}
+use Rattle.liq_types.specs.declared.figures.Trove.{Trove}
+use Rattle.liq_types.specs.Image.{Image}
 use Rattle.liq_types.specs.declared.replies.Refusal.{Refusal}
 use Rattle.liq_types.specs.declared.replies.Refusal.TheVariants.{NotLiquidatable, PoolTooSmall}
 use Rattle.liq_types.specs.Rules.{Rule, first_refusal, outcome, last_trove_stays}
-use Rattle.liq_types.specs.State.{State, StakeSums, TroveEntry, Offset}
+use Rattle.liq_types.specs.State.{State, TroveEntry, Offset}
 use Rattle.liq_types.specs.Tables.{at}
-use Rattle.liq_types.specs.Totals.{market_of, stakes_of, pool_total}
+use Rattle.liq_types.specs.Totals.{market_of, pool_total}
 use Rattle.liq_troves.specs.Own.{lifted_entry, lifted}
-use Rattle.liq_troves.specs.StakeSums.{entire_of, sums_now}
+use Rattle.liq_troves.specs.declared.sums.Sums.{Sums}
+use Rattle.liq_troves.specs.Rows.{entire_by, spread_rules}
+use Rattle.liq_troves.specs.StakeSums.{sums_words, trove_rows}
 use Rattle.liq_order.specs.Order.{last_trove}
 use Rattle.liq_stability.specs.Own.{offset}
 use Rattle.liq_liquidation.specs.declared.one.One.{One}
 use Rattle.liq_liquidation.specs.declared.one.Victim.{Victim}
-use Rattle.liq_liquidation.specs.One.{Treatment, Plain, Spread, Capped, Spared, treatment, treated, is_capped, is_spared, sum_limit, sum_after, one_rules, one_of, one_entire, one, offset_if_any, struck, liquidated}
+use Rattle.liq_liquidation.specs.One.{Treatment, Plain, Redistributed, Capped, Kept, treatment, treated, is_capped, is_kept, without_stake, one_rules, one_of, one_in, one, offset_if_any, struck, liquidated}
 use Rattle.liq_liquidation.specs.Lowest.{lowest, next_victim, victim_at, victim_by}
 use Rattle.liq_core.specs.Liquidation.{listed, all_liquidated}
 use Rattle.liq_core.proofs.Allowed.{none_first}
-use Rattle.liq_core.proofs.AlikeReads.{Alike, market_alike, entire_alike, sums_alike, stakes_alike, pool_total_alike, last_alike}
+use Rattle.liq_core.proofs.AlikeReads.{Alike, sums_by, market_alike, pool_total_alike, last_alike}
 use Rattle.liq_core.proofs.AlikeChanges.{alike_by, lifted_alike, offset_alike, redistributed_alike, snapped_alike, surplus_added_alike, paid_alike}
 
 -- ---- what becomes of a trove
 
-one_entire_alike : {s t : State} → Alike s t → (account : ℕ) (o : Option (ℕ × ℕ)) → one_entire s account o ≡ one_entire t account o
-one_entire_alike h account None = refl
-one_entire_alike {s} {t} h account (Some own) =
-    ap (λ (m : Market). one_of m (sums_now s) (stakes_of (lifted s account)) own.0 own.1 (pool_total s)) (market_alike h)
-    ∙ ap (λ (u : StakeSums). one_of (market_of t) u (stakes_of (lifted s account)) own.0 own.1 (pool_total s)) (sums_alike h)
-    ∙ ap (λ n. one_of (market_of t) (sums_now t) n own.0 own.1 (pool_total s)) (stakes_alike (lifted_alike h account))
-    ∙ ap (λ n. one_of (market_of t) (sums_now t) (stakes_of (lifted t account)) own.0 own.1 n) (pool_total_alike h)
-
 pub one_alike : {s t : State} → Alike s t → (account : ℕ) → one s account ≡ one t account
-one_alike {s} {t} h account = ap (one_entire s account) (entire_alike h account) ∙ one_entire_alike h account (entire_of t account)
+one_alike {s} {t} h account =
+    ap (λ (m : Market). one_in m (sums_words s) (pool_total s) account (at (trove_rows s) account)) (market_alike h)
+    ∙ ap (λ (i : Image). one_in (market_of t) (sums_by i) i.total account (at i.troves account)) h.image
 
 -- ---- the pool takes over no more than it has
 
 pool_serves : (t : Treatment) (price coll debt total : ℕ) → (is_capped t && nat_lt total debt) ≡ false → (treated t price coll debt total).offset_debt ≤ total
 pool_serves Plain price coll debt total h = omega arith
-pool_serves Spread price coll debt total h = omega arith
+pool_serves Redistributed price coll debt total h = omega arith
 pool_serves Capped price coll debt total h = grind (arith, nat_tests, h)
-pool_serves Spared price coll debt total h = omega arith
+pool_serves Kept price coll debt total h = omega arith
 
 outcome_ok : {X : Type 0} (o : Option Refusal) (x y : X) → outcome o x ≡ Ok y → (o ≡ None) × (x ≡ y)
 outcome_ok None x y h = (refl, cc)
@@ -52,22 +50,24 @@ outcome_ok (Some refusal) x y h = cc
 third : (a b c : Rule) (more : List Rule) → first_refusal (a ∷ b ∷ c ∷ more) ≡ None → c.0 ≡ false
 third a b c more h = (none_first c more (none_first b (c ∷ more) (none_first a (b ∷ c ∷ more) h).1).1).0
 
-one_of_serves : (m : Market) (sums : StakeSums) (left coll debt total : ℕ) (made : One) → one_of m sums left coll debt total ≡ Ok made → made.offset_debt ≤ total
-one_of_serves m sums left coll debt total made h =
-    let ok = outcome_ok (first_refusal (one_rules m sums left coll debt total)) (treated (treatment m coll debt) m.price coll debt total) made h in
+one_of_serves : (m : Market) (others : Sums) (coll debt total : ℕ) (made : One) → one_of m others coll debt total ≡ Ok made → made.offset_debt ≤ total
+one_of_serves m others coll debt total made h =
+    let ok = outcome_ok (first_refusal (one_rules m others coll debt total)) (treated (treatment m coll debt) m.price coll debt total) made h in
     let kind = treatment m coll debt in
     let made_by = treated kind m.price coll debt total in
     let room : (is_capped (treatment m coll debt) && nat_lt total debt) ≡ false =
-    third (last_trove_stays m) (is_spared kind, NotLiquidatable coll debt m.price m.total_coll m.total_debt) (is_capped kind && nat_lt total debt, PoolTooSmall total debt)
-    (sum_limit (sum_after sums.coll made_by.spread_coll left) ∷ sum_limit (sum_after sums.debt made_by.spread_debt left) ∷ []) ok.0 in
+    third (last_trove_stays m) (is_kept kind, NotLiquidatable coll debt m.price m.total_coll m.total_debt) (is_capped kind && nat_lt total debt, PoolTooSmall total debt)
+    (spread_rules others made_by.spread_coll made_by.spread_debt) ok.0 in
     subst (λ (x : One). x.offset_debt ≤ total) ok.1 (pool_serves (treatment m coll debt) m.price coll debt total room)
 
-one_entire_serves : (s : State) (account : ℕ) (o : Option (ℕ × ℕ)) (made : One) → one_entire s account o ≡ Ok made → made.offset_debt ≤ pool_total s
-one_entire_serves s account None made h = cc
-one_entire_serves s account (Some own) made h = one_of_serves (market_of s) (sums_now s) (stakes_of (lifted s account)) own.0 own.1 (pool_total s) made h
+one_in_serves : (m : Market) (sums : Sums) (total account : ℕ) (o : Option Trove) (made : One) → one_in m sums total account o ≡ Ok made → made.offset_debt ≤ total
+one_in_serves m sums total account None made h = cc
+one_in_serves m sums total account (Some t) made h =
+    let own = entire_by sums t in
+    one_of_serves m (without_stake sums t) own.0 own.1 total made h
 
 pub one_serves : (s : State) (account : ℕ) (made : One) → one s account ≡ Ok made → made.offset_debt ≤ pool_total s
-one_serves s account made h = one_entire_serves s account (entire_of s account) made h
+one_serves s account made h = one_in_serves (market_of s) (sums_words s) (pool_total s) account (at (trove_rows s) account) made h
 
 -- ---- what a liquidation does
 

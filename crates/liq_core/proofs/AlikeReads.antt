@@ -9,7 +9,9 @@ use Rattle.liq_types.specs.State.{State, TroveEntry, no_wallet, no_client, walle
 use Rattle.liq_types.specs.Tables.{Table, at, map_rows}
 use Rattle.liq_types.specs.Totals.{market_of, total_debt, trove_count, stakes_of, pool_total, pool_coll}
 use Rattle.liq_troves.specs.StakeSums.{sums_now, trove_row, pending, entire, entire_of, key_of}
-use Rattle.liq_order.specs.Order.{Ranked, sorted, trove_order, from_lowest, last_trove, first_of}
+use Rattle.liq_troves.specs.declared.sums.Sums.{Sums}
+use Rattle.liq_troves.specs.Rows.{entire_in}
+use Rattle.liq_order.specs.Order.{order_by, trove_order, last_account, last_trove}
 use Rattle.liq_stability.specs.Position.{balance_of, gain_of, deposit_row}
 use Rattle.liq_stability.specs.Own.{amount_after}
 use Rattle.liq_core.specs.Image.{image}
@@ -60,22 +62,13 @@ module _ {s t : State} (h : Alike s t) where
 
 -- ---- troves
 
-entire_row : Image → Trove → ℕ × ℕ
-entire_row i t = (t.coll + pending t.stake i.sum_coll t.mark_coll, t.debt + pending t.stake i.sum_debt t.mark_debt)
-
-option-twice : {X Y Z : Type 0} (g : Y → Z) (f : X → Y) (k : X → Z) (o : Option X) → ((x : X) → g (f x) ≡ k x) → option_map g (option_map f o) ≡ option_map k o
-option-twice g f k None h = refl
-option-twice g f k (Some x) h = ap Some (h x)
-
-entire-image : (s : State) (account : ℕ) → entire_of s account ≡ option_map (entire_row (image s)) (at (image s).troves account)
-unfolding entire_row
-entire-image s account =
-    sym (ap (option_map (entire_row (image s))) (at-map (trove_row s) s.troves account)
-    ∙ option-twice (entire_row (image s)) (trove_row s) (entire s) (at s.troves account) (λ t. refl))
+-- what an image keeps beside its troves
+abbrev pub sums_by : Image → Sums
+sums_by i =
+    record { coll = i.sum_coll; debt = i.sum_debt; stakes = i.stakes; snap_stakes = i.snap_stakes; snap_coll = i.snap_coll }
 
 pub entire_alike : {s t : State} → Alike s t → (account : ℕ) → entire_of s account ≡ entire_of t account
-entire_alike {s} {t} h account =
-    entire-image s account ∙ ap (λ (i : Image). option_map (entire_row i) (at i.troves account)) h.image ∙ sym (entire-image t account)
+entire_alike h account = ap (λ (i : Image). entire_in (sums_by i) i.troves account) h.image
 
 some-map : {X Y : Type 0} (f : X → Y) (o : Option X) → is_some (option_map f o) ≡ is_some o
 some-map f None = refl
@@ -93,26 +86,11 @@ exists_alike {s} {t} h account =
 
 -- ---- the order
 
-key_row : Trove → ℤ
-key_row t = pos (floor_of t.debt ONE t.stake) -ℤ pos t.mark_debt
-
-ranks : Table Trove → List Ranked
-ranks rows = map (λ row. (key_row row.1, row.0)) rows
-
-ranks-image : (s : State) (table : Table TroveEntry) → map (λ row. (key_of s row.1, row.0)) table ≡ ranks (map_rows (trove_row s) table)
-unfolding ranks key_row
-ranks-image s [] = refl
-ranks-image s (row ∷ rows) = ap (λ (rs : List Ranked). (key_of s row.1, row.0) ∷ rs) (ranks-image s rows)
-
 pub order_alike : {s t : State} → Alike s t → trove_order s ≡ trove_order t
-order_alike {s} {t} h =
-    ap sorted (ranks-image s s.troves) ∙ ap (λ (i : Image). sorted (ranks i.troves)) h.image ∙ sym (ap sorted (ranks-image t t.troves))
-
-pub from_lowest_alike : {s t : State} → Alike s t → from_lowest s ≡ from_lowest t
-from_lowest_alike h = ap (λ (list : List Ranked). map (λ (e : Ranked). e.1) (reverse list)) (order_alike h)
+order_alike h = ap (λ (i : Image). order_by i.troves) h.image
 
 pub last_alike : {s t : State} → Alike s t → last_trove s ≡ last_trove t
-last_alike h = ap first_of (from_lowest_alike h)
+last_alike h = ap last_account (order_alike h)
 
 -- ---- the Stability Pool
 

@@ -1,44 +1,29 @@
 -- States with the same image redeem alike.
 use Rattle.std.proofs.Common.{◌≡◌, ℕ, ◌+◌, ◌-◌, Bool, true, false, cond, List, [], ◌∷◌, refl, ap, ◌∙◌, subst, Some, None, Option}
-use Rattle.std.specs.Prelude.{option_map, fold, filter, filter_map}
+use Rattle.std.specs.Prelude.{fold}
+use Rattle.liq_types.specs.declared.figures.Market.{Market}
 use Rattle.liq_types.specs.Image.{Image}
 use Rattle.liq_types.specs.State.{State}
-use Rattle.liq_types.specs.Totals.{trove_count}
-use Rattle.liq_types.specs.Payments.{paid, charged}
-use Rattle.liq_rate.specs.Rate.{decayed, risen, redeem_fee}
+use Rattle.liq_types.specs.Totals.{market_of}
 use Rattle.liq_troves.specs.Own.{set_trove}
 use Rattle.liq_troves.specs.StakeSums.{entire_of}
-use Rattle.liq_order.specs.Order.{from_lowest}
+use Rattle.liq_order.specs.Order.{order_by}
 use Rattle.liq_redemption.specs.declared.cut.Cut.{Cut}
-use Rattle.liq_redemption.specs.Redemption.{Visit, visit, is_visited, visited, cuts, cuts_in, redeemed, drawn, base_after, fee_after, cut_entire, cut_down, closed_by, redeemed_by}
-use Rattle.liq_core.proofs.AlikeReads.{Alike, count_alike, entire_alike, from_lowest_alike}
+use Rattle.liq_redemption.specs.Redemption.{Visit, visited_by, visited, RedeemTerms, redeeming_terms, cut_entire, cut_down, closed_by, redeemed_by}
+use Rattle.liq_core.proofs.AlikeReads.{Alike, sums_by, market_alike, entire_alike}
 use Rattle.liq_core.proofs.AlikeChanges.{alike_by_two, lifted_alike, set_alike, surplus_added_alike, paid_alike, charged_alike}
 use Rattle.liq_core.proofs.AlikeLiquidation.{without_reserve_alike}
 
-module _ {s t : State} (h : Alike s t) where
-  price_alike : s.price ≡ t.price
-  price_alike = ap (λ (i : Image). i.price) h.image
+abbrev visited_by_image : Image → List Visit
+visited_by_image i = visited_by i.price (sums_by i) i.troves (order_by i.troves)
 
-  visit_alike : visit s ≡ visit t
-  visit_alike = λ i account. option_map (λ (own : ℕ × ℕ). record { account = account; coll = own.0; debt = own.1 }) (entire_alike h account i)
+pub visited_alike : {s t : State} → Alike s t → visited s ≡ visited t
+visited_alike h = ap visited_by_image h.image
 
-  pub visited_alike : visited s ≡ visited t
-  visited_alike =
-      ap (λ p. filter (is_visited p) (filter_map (visit s) (from_lowest s))) price_alike
-      ∙ ap (λ (f : ℕ → Option Visit). filter (is_visited t.price) (filter_map f (from_lowest s))) visit_alike
-      ∙ ap (λ (list : List ℕ). filter (is_visited t.price) (filter_map (visit t) list)) (from_lowest_alike h)
-
-  pub cuts_alike : (amount : ℕ) → cuts_in s amount ≡ cuts_in t amount
-  cuts_alike amount =
-      ap (λ p. cuts p (trove_count s) amount (visited s)) price_alike
-      ∙ ap (λ n. cuts t.price n amount (visited s)) (count_alike h)
-      ∙ ap (λ (vs : List Visit). cuts t.price (trove_count t) amount vs) visited_alike
-
-  pub base_alike : (made : List Cut) → base_after s made ≡ base_after t made
-  base_alike made = ap (λ (i : Image). risen (decayed i.base i.fee_minute i.minute) (redeemed made) (i.active_debt + i.default_debt)) h.image
-
-  pub fee_alike : (made : List Cut) → fee_after s made ≡ fee_after t made
-  fee_alike made = ap (λ n. redeem_fee n (drawn made)) (base_alike made)
+pub terms_alike : {s t : State} → Alike s t → (amount : ℕ) → redeeming_terms (market_of s) (visited s) amount ≡ redeeming_terms (market_of t) (visited t) amount
+terms_alike {s} {t} h amount =
+    ap (λ (m : Market). redeeming_terms m (visited s) amount) (market_alike h)
+    ∙ ap (λ (visits : List Visit). redeeming_terms (market_of t) visits amount) (visited_alike h)
 
 -- ---- what it does
 
@@ -60,43 +45,24 @@ all_cut_alike : (made : List Cut) {s t : State} → Alike s t → Alike (fold cu
 all_cut_alike [] h = h
 all_cut_alike (cut ∷ made) h = all_cut_alike made (cut_down_alike h cut)
 
-abbrev with_redeem_fee : State → State → List Cut → State
-with_redeem_fee given s made = record given { base = base_after s made; fee_minute = s.minute; fee_coll = s.fee_coll + fee_after s made }
+abbrev set_fee : RedeemTerms → ℕ → Image → Image
+set_fee terms fee i = record i { base = terms.rate.base; fee_minute = terms.rate.minute; fee_coll = fee }
 
-abbrev set_fee : ℕ × ℕ × ℕ → Image → Image
-set_fee numbers i = record i { base = numbers.0; fee_minute = numbers.1; fee_coll = numbers.2 }
+abbrev with_redeem_fee : State → State → RedeemTerms → State
+with_redeem_fee given s terms =
+    record given { base = terms.rate.base; fee_minute = terms.rate.minute; fee_coll = s.fee_coll + terms.fee }
 
-numbers : State → List Cut → ℕ × ℕ × ℕ
-numbers s made = (base_after s made, s.minute, s.fee_coll + fee_after s made)
+with_redeem_fee_alike : {s t a b : State} → Alike s t → (terms : RedeemTerms) → Alike a b → Alike (with_redeem_fee a s terms) (with_redeem_fee b t terms)
+with_redeem_fee_alike {s} {t} {a} {b} h terms given =
+    alike_by_two (set_fee terms) (s.fee_coll + terms.fee) (t.fee_coll + terms.fee)
+    a b (with_redeem_fee a s terms) (with_redeem_fee b t terms) (ap (λ (i : Image). i.fee_coll + terms.fee) h.image) given refl refl refl refl given.left given.right
 
-abbrev three : ℕ → ℕ → ℕ → ℕ → ℕ × ℕ × ℕ
-three a b c d = (a, b, c + d)
+redeemed_by_alike : {s t : State} → Alike s t → (account : ℕ) (terms : RedeemTerms) → Alike (redeemed_by s account terms) (redeemed_by t account terms)
+redeemed_by_alike h account terms =
+    with_redeem_fee_alike h terms
+    (paid_alike (charged_alike (all_cut_alike terms.cuts h) account 0 0 terms.redeemed terms.redeemed refl refl) account _ _ 0 0 refl refl)
 
-fee_numbers : {s t : State} → Alike s t → (made : List Cut) → numbers s made ≡ numbers t made
-unfolding numbers
-fee_numbers {s} {t} h made =
-    ap (λ n. three n s.minute s.fee_coll (fee_after s made)) (base_alike h made)
-    ∙ ap (λ n. three (base_after t made) n s.fee_coll (fee_after s made)) (ap (λ (i : Image). i.minute) h.image)
-    ∙ ap (λ n. three (base_after t made) t.minute n (fee_after s made)) (ap (λ (i : Image). i.fee_coll) h.image)
-    ∙ ap (λ n. three (base_after t made) t.minute t.fee_coll n) (fee_alike h made)
-
-with_redeem_fee_alike : {s t a b : State} → Alike s t → (made : List Cut) → Alike a b → Alike (with_redeem_fee a s made) (with_redeem_fee b t made)
-unfolding numbers
-with_redeem_fee_alike {s} {t} {a} {b} h made given =
-    alike_by_two set_fee (numbers s made) (numbers t made)
-    a b (with_redeem_fee a s made) (with_redeem_fee b t made) (fee_numbers h made) given refl refl refl refl given.left given.right
-
-redeemed_with : State → ℕ → List Cut → State
-redeemed_with s account made =
-    with_redeem_fee (paid (charged (fold cut_down s made) account 0 (redeemed made)) account (drawn made - fee_after s made) 0) s made
-
-redeemed_with_alike : {s t : State} → Alike s t → (account : ℕ) (made : List Cut) → Alike (redeemed_with s account made) (redeemed_with t account made)
-unfolding redeemed_with
-redeemed_with_alike h account made =
-    with_redeem_fee_alike h made
-    (paid_alike (charged_alike (all_cut_alike made h) account 0 0 (redeemed made) (redeemed made) refl refl) account _ _ 0 0 (ap (λ n. drawn made - n) (fee_alike h made)) refl)
-
-pub redeemed_alike : {s t : State} → Alike s t → (account amount : ℕ) → Alike (redeemed_by s account amount) (redeemed_by t account amount)
-unfolding redeemed_with
+pub redeemed_alike : {s t : State} → Alike s t → (account amount : ℕ) → Alike (redeemed_by s account (redeeming_terms (market_of s) (visited s) amount)) (redeemed_by t account (redeeming_terms (market_of t) (visited t) amount))
 redeemed_alike {s} {t} h account amount =
-    subst (λ (made : List Cut). Alike (redeemed_by s account amount) (redeemed_with t account made)) (cuts_alike h amount) (redeemed_with_alike h account (cuts_in s amount))
+    subst (λ (terms : RedeemTerms). Alike (redeemed_by s account (redeeming_terms (market_of s) (visited s) amount)) (redeemed_by t account terms)) (terms_alike h amount)
+    (redeemed_by_alike h account (redeeming_terms (market_of s) (visited s) amount))

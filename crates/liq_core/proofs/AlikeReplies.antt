@@ -30,12 +30,11 @@ use Rattle.liq_order.specs.Order.{last_trove}
 use Rattle.liq_stability.specs.Position.{balance_of, gain_of}
 use Rattle.liq_borrow.specs.declared.change.Change.{Change}
 use Rattle.liq_borrow.specs.Borrowing.{or_nothing, open_rules, adjust_rules, close_rules, gain_rules}
-use Rattle.liq_redemption.specs.declared.cut.Cut.{Cut}
-use Rattle.liq_redemption.specs.Redemption.{cuts_in, redeem_rules, fee_after, visited, Visit, first_net, redeemed, drawn}
+use Rattle.liq_liquidation.specs.Lowest.{refusal_of, first_of_lowest}
+use Rattle.liq_redemption.specs.Redemption.{redeem_rules, visited, Visit}
 use Rattle.liq_core.specs.Image.{image}
 use Rattle.liq_core.specs.Length.{CHECKPOINT_BYTES_MOST, checkpoint_length}
 use Rattle.liq_core.specs.Queries.{NUMBER_MOST, trove_info, deposit_info, pools, system, answer, unless_out_of_range}
-use Rattle.liq_core.specs.Liquidation.{refusal_of, first_of_lowest}
 use Rattle.liq_core.specs.Pool.{no_deposit, trove_under}
 use Rattle.liq_core.specs.Row.{not_zero}
 use Rattle.liq_core.specs.Rules.{rules}
@@ -45,7 +44,7 @@ use Rattle.liq_types.specs.WellFormed.{IsWellFormed}
 use Rattle.liq_types.proofs.MapRows.{at-map}
 use Rattle.liq_core.proofs.AlikeReads.{Alike, wallet_alike, client_alike, surplus_alike, market_alike, entire_alike, exists_alike, last_alike, balance_alike, gain_alike, no_deposit_alike, count_alike}
 use Rattle.liq_core.proofs.AlikeLiquidation.{one_alike}
-use Rattle.liq_core.proofs.AlikeRedemption.{cuts_alike, fee_alike, visited_alike}
+use Rattle.liq_core.proofs.AlikeRedemption.{visited_alike}
 use Rattle.liq_core.proofs.AlikeStep.{effect_alike, done_alike}
 
 -- ---- refusals
@@ -60,27 +59,11 @@ lowest_rule_alike : {s t : State} → Alike s t → (last : Option ℕ) → firs
 lowest_rule_alike h None = refl
 lowest_rule_alike h (Some account) = ap refusal_of (one_alike h account)
 
-redeem_table : Market → ℕ → ℕ → List Cut → ℕ → List Visit → ℕ → ℕ → List Rule
-redeem_table m minute lusd made fee visits amount bound =
-    (amount == 0, AmountZero)
-    ∷ fee_bound bound FLOOR_RATE
-    ∷ where_below minute BOOTSTRAP Bootstrap
-    ∷ where_below (worth m.total_coll m.price) (asked MCR m.total_debt) SystemUnder
-    ∷ where_short amount lusd ShortTokens
-    ∷ (redeemed made == 0, NothingRedeemed amount (first_net visits))
-    ∷ (nat_le (drawn made) fee, FeeEatsAll fee (drawn made))
-    ∷ fee_over fee (drawn made) bound
-    ∷ []
-
-redeem_rules_alike : {s t : State} → Alike s t → (account amount bound : ℕ) → redeem_rules s account amount bound ≡ redeem_rules t account amount bound
-unfolding redeem_table
+redeem_rules_alike : {s t : State} → Alike s t → (account amount bound : ℕ) → redeem_rules (market_of s) (wallet_of s account) (visited s) amount bound ≡ redeem_rules (market_of t) (wallet_of t account) (visited t) amount bound
 redeem_rules_alike {s} {t} h account amount bound =
-    ap (λ (m : Market). redeem_table m s.minute (wallet_of s account).lusd (cuts_in s amount) (fee_after s (cuts_in s amount)) (visited s) amount bound) (market_alike h)
-    ∙ ap (λ n. redeem_table (market_of t) n (wallet_of s account).lusd (cuts_in s amount) (fee_after s (cuts_in s amount)) (visited s) amount bound) (ap (λ (i : Image). i.minute) h.image)
-    ∙ ap (λ (w : Wallet). redeem_table (market_of t) t.minute w.lusd (cuts_in s amount) (fee_after s (cuts_in s amount)) (visited s) amount bound) (wallet_alike h account)
-    ∙ ap (λ (made : List Cut). redeem_table (market_of t) t.minute (wallet_of t account).lusd made (fee_after s made) (visited s) amount bound) (cuts_alike h amount)
-    ∙ ap (λ n. redeem_table (market_of t) t.minute (wallet_of t account).lusd (cuts_in t amount) n (visited s) amount bound) (fee_alike h (cuts_in t amount))
-    ∙ ap (λ (vs : List Visit). redeem_table (market_of t) t.minute (wallet_of t account).lusd (cuts_in t amount) (fee_after t (cuts_in t amount)) vs amount bound) (visited_alike h)
+    ap (λ (m : Market). redeem_rules m (wallet_of s account) (visited s) amount bound) (market_alike h)
+    ∙ ap (λ (w : Wallet). redeem_rules (market_of t) w (visited s) amount bound) (wallet_alike h account)
+    ∙ ap (λ (visits : List Visit). redeem_rules (market_of t) (wallet_of t account) visits amount bound) (visited_alike h)
 
 pub rules_alike : {s t : State} → Alike s t → (call : Call) → rules s call ≡ rules t call
 rules_alike h (Price price) = refl

@@ -16,14 +16,13 @@ use Rattle.liq_troves.specs.Own.{set_trove}
 use Rattle.liq_stability.specs.Own.{owned, amount_after}
 use Rattle.liq_stability.specs.Position.{balance_of, gain_of}
 use Rattle.liq_borrow.specs.declared.change.Change.{Change}
-use Rattle.liq_borrow.specs.Borrowing.{fee_now, base_after, fee_minute_after, open_debt, or_nothing, adjusted_coll, adjusted_debt}
+use Rattle.liq_borrow.specs.declared.change.Plan.{Plan}
+use Rattle.liq_borrow.specs.Borrowing.{or_nothing, opening_terms, adjusting_terms}
 use Rattle.liq_liquidation.specs.declared.one.One.{One}
 use Rattle.liq_liquidation.specs.declared.one.Victim.{Victim}
 use Rattle.liq_liquidation.specs.One.{one}
 use Rattle.liq_liquidation.specs.Lowest.{lowest, victim_by}
-use Rattle.liq_redemption.specs.declared.cut.Cut.{Cut}
-use Rattle.liq_redemption.specs.Redemption.{cuts_in, fee_after, redeemed, drawn}
-use Rattle.liq_redemption.specs.Redemption as redemption
+use Rattle.liq_redemption.specs.Redemption.{RedeemTerms}
 use Rattle.liq_core.specs.Borrowing.{with_fee, opened, adjusted, closed}
 use Rattle.liq_core.specs.Liquidation.{listed, all_liquidated, one_values, lowest_values}
 use Rattle.liq_core.specs.Rules.{effect, values, six, done_of}
@@ -31,63 +30,57 @@ use Rattle.liq_core.specs.Verbs.{kind}
 use Rattle.liq_core.proofs.AlikeReads.{Alike, surplus_alike, market_alike, entire_alike, balance_alike, gain_alike, amount_alike}
 use Rattle.liq_core.proofs.AlikeChanges.{alike_by, alike_by_two, paid_alike, charged_alike, surplus_taken_alike, lifted_alike, placed_alike, set_alike, owned_alike}
 use Rattle.liq_core.proofs.AlikeLiquidation.{one_alike, lowest_alike, all_liquidated_alike, single_serves, lowest_serves, without_reserve_alike}
-use Rattle.liq_core.proofs.AlikeRedemption.{redeemed_alike, cuts_alike, fee_alike, base_alike}
+use Rattle.liq_core.proofs.AlikeRedemption.{redeemed_alike, terms_alike}
 
 -- ---- troves of their owners
 
 own_alike : {s t : State} → Alike s t → (account : ℕ) → or_nothing (entire_of s account) ≡ or_nothing (entire_of t account)
 own_alike h account = ap or_nothing (entire_alike h account)
 
-abbrev three : ℕ → ℕ → ℕ → ℕ → ℕ × ℕ × ℕ
-three a b c d = (a, b, c + d)
+abbrev set_fee : Plan → ℕ → Image → Image
+set_fee plan fee i = record i { base = plan.rate.base; fee_minute = plan.rate.minute; fee_lusd = fee }
 
-fee_numbers : State → ℕ → ℕ → ℕ × ℕ × ℕ
-fee_numbers s borrow fee = (base_after (market_of s) borrow, fee_minute_after (market_of s) borrow, s.fee_lusd + fee)
-
-fee_numbers_alike : {s t : State} → Alike s t → (borrow f g : ℕ) → f ≡ g → fee_numbers s borrow f ≡ fee_numbers t borrow g
-unfolding fee_numbers
-fee_numbers_alike {s} {t} h borrow f g same =
-    ap (λ (m : Market). three (base_after m borrow) (fee_minute_after m borrow) s.fee_lusd f) (market_alike h)
-    ∙ ap (λ n. three (base_after (market_of t) borrow) (fee_minute_after (market_of t) borrow) n f) (ap (λ (i : Image). i.fee_lusd) h.image)
-    ∙ ap (λ n. three (base_after (market_of t) borrow) (fee_minute_after (market_of t) borrow) t.fee_lusd n) same
-
-abbrev set_fee : ℕ × ℕ × ℕ → Image → Image
-set_fee numbers i = record i { base = numbers.0; fee_minute = numbers.1; fee_lusd = numbers.2 }
-
-with_fee_alike : {s t : State} → Alike s t → (borrow f g : ℕ) → f ≡ g → Alike (with_fee s borrow f) (with_fee t borrow g)
-unfolding fee_numbers
-with_fee_alike {s} {t} h borrow f g same =
-    alike_by_two set_fee (fee_numbers s borrow f) (fee_numbers t borrow g) s t (with_fee s borrow f) (with_fee t borrow g) (fee_numbers_alike h borrow f g same) h refl refl refl refl h.left h.right
+with_fee_alike : {s t : State} → Alike s t → (plan : Plan) → Alike (with_fee s plan) (with_fee t plan)
+with_fee_alike {s} {t} h plan =
+    alike_by_two (set_fee plan) (s.fee_lusd + plan.fee) (t.fee_lusd + plan.fee) s t (with_fee s plan) (with_fee t plan) (ap (λ (i : Image). i.fee_lusd + plan.fee) h.image) h refl refl refl refl h.left h.right
 
 with_reserve_alike : {s t : State} → Alike s t → Alike (record s { reserve = s.reserve + RESERVE }) (record t { reserve = t.reserve + RESERVE })
 with_reserve_alike {s} {t} h =
     alike_by (λ i. record i { reserve = i.reserve + RESERVE }) s t (record s { reserve = s.reserve + RESERVE }) (record t { reserve = t.reserve + RESERVE }) h refl refl refl refl h.left h.right
 
-fee_alike_now : {s t : State} → Alike s t → (borrow : ℕ) → fee_now (market_of s) borrow ≡ fee_now (market_of t) borrow
-fee_alike_now h borrow = ap (λ (m : Market). fee_now m borrow) (market_alike h)
+opening_alike : {s t : State} → Alike s t → (coll borrow : ℕ) → opening_terms (market_of s) coll borrow ≡ opening_terms (market_of t) coll borrow
+opening_alike h coll borrow = ap (λ (m : Market). opening_terms m coll borrow) (market_alike h)
 
-open_debt_alike : {s t : State} → Alike s t → (borrow : ℕ) → open_debt (market_of s) borrow ≡ open_debt (market_of t) borrow
-open_debt_alike h borrow = ap (λ (m : Market). open_debt m borrow) (market_alike h)
-
-opened_alike : {s t : State} → Alike s t → (account coll borrow f g m n : ℕ) → f ≡ g → m ≡ n → Alike (opened s account coll borrow f m) (opened t account coll borrow g n)
-opened_alike h account coll borrow f g m n fee debt =
+opened_alike : {s t : State} → Alike s t → (account borrow : ℕ) (plan : Plan) → Alike (opened s account borrow plan) (opened t account borrow plan)
+opened_alike h account borrow plan =
     placed_alike
-    (with_reserve_alike (paid_alike (charged_alike (with_fee_alike h borrow f g fee) account coll coll 0 0 refl refl) account 0 0 borrow borrow refl refl))
-    account coll coll m n refl debt
+    (with_reserve_alike (paid_alike (charged_alike (with_fee_alike h plan) account plan.coll plan.coll 0 0 refl refl) account 0 0 borrow borrow refl refl))
+    account plan.coll plan.coll plan.debt plan.debt refl refl
 
-adjusted_debt_alike : {s t : State} → Alike s t → (account : ℕ) (change : Change) → adjusted_debt (market_of s) (or_nothing (entire_of s account)).1 change ≡ adjusted_debt (market_of t) (or_nothing (entire_of t account)).1 change
-adjusted_debt_alike {s} {t} h account change =
-    ap (λ (m : Market). adjusted_debt m (or_nothing (entire_of s account)).1 change) (market_alike h)
-    ∙ ap (λ (own : ℕ × ℕ). adjusted_debt (market_of t) own.1 change) (own_alike h account)
+open_alike : {s t : State} → Alike s t → (account coll borrow : ℕ) → Alike (opened s account borrow (opening_terms (market_of s) coll borrow)) (opened t account borrow (opening_terms (market_of t) coll borrow))
+open_alike {s} {t} h account coll borrow =
+    subst (λ (plan : Plan). Alike (opened s account borrow (opening_terms (market_of s) coll borrow)) (opened t account borrow plan)) (opening_alike h coll borrow)
+    (opened_alike h account borrow (opening_terms (market_of s) coll borrow))
 
-adjusted_coll_alike : {s t : State} → Alike s t → (account : ℕ) (change : Change) → adjusted_coll (or_nothing (entire_of s account)).0 change ≡ adjusted_coll (or_nothing (entire_of t account)).0 change
-adjusted_coll_alike h account change = ap (λ (own : ℕ × ℕ). adjusted_coll own.0 change) (own_alike h account)
+-- the terms of a change in a state
+abbrev adjusting_in : State → ℕ → Change → Plan
+adjusting_in s account change = adjusting_terms (market_of s) (or_nothing (entire_of s account)) change
 
-adjusted_alike : {s t : State} → Alike s t → (account : ℕ) (change : Change) (f g c d m n : ℕ) → f ≡ g → c ≡ d → m ≡ n → Alike (adjusted s account change f c m) (adjusted t account change g d n)
-adjusted_alike h account change f g c d m n fee coll debt =
+adjusting_alike : {s t : State} → Alike s t → (account : ℕ) (change : Change) → adjusting_in s account change ≡ adjusting_in t account change
+adjusting_alike {s} {t} h account change =
+    ap (λ (m : Market). adjusting_terms m (or_nothing (entire_of s account)) change) (market_alike h)
+    ∙ ap (λ (own : ℕ × ℕ). adjusting_terms (market_of t) own change) (own_alike h account)
+
+adjusted_alike : {s t : State} → Alike s t → (account : ℕ) (change : Change) (plan : Plan) → Alike (adjusted s account change plan) (adjusted t account change plan)
+adjusted_alike h account change plan =
     set_alike
-    (paid_alike (charged_alike (with_fee_alike h change.borrow f g fee) account change.coll_in change.coll_in change.repay change.repay refl refl) account change.coll_out change.coll_out change.borrow change.borrow refl refl)
-    account c d m n coll debt
+    (paid_alike (charged_alike (with_fee_alike h plan) account change.coll_in change.coll_in change.repay change.repay refl refl) account change.coll_out change.coll_out change.borrow change.borrow refl refl)
+    account plan.coll plan.coll plan.debt plan.debt refl refl
+
+adjust_alike : {s t : State} → Alike s t → (account : ℕ) (change : Change) → Alike (adjusted s account change (adjusting_in s account change)) (adjusted t account change (adjusting_in t account change))
+adjust_alike {s} {t} h account change =
+    subst (λ (plan : Plan). Alike (adjusted s account change (adjusting_in s account change)) (adjusted t account change plan)) (adjusting_alike h account change)
+    (adjusted_alike h account change (adjusting_in s account change))
 
 repaid_alike : {s t : State} → Alike s t → (account : ℕ) → (or_nothing (entire_of s account)).1 - RESERVE ≡ (or_nothing (entire_of t account)).1 - RESERVE
 repaid_alike h account = ap (λ (own : ℕ × ℕ). own.1 - RESERVE) (own_alike h account)
@@ -158,10 +151,9 @@ effect_alike {s} {t} h (Advance minutes) = alike_by (λ i. record i { minute = i
 effect_alike {s} {t} h (Fund account coll) = alike_by (moved_in account coll) s t _ _ h refl refl refl refl h.left h.right
 effect_alike {s} {t} h (Take account coll) = alike_by (moved_away account coll) s t _ _ h refl refl refl refl h.left h.right
 effect_alike h (Send from to lusd) = paid_alike (charged_alike h from 0 0 lusd lusd refl refl) to 0 0 lusd lusd refl refl
-effect_alike h (Open account coll borrow bound hint) = opened_alike h account coll borrow _ _ _ _ (fee_alike_now h borrow) (open_debt_alike h borrow)
+effect_alike h (Open account coll borrow bound hint) = open_alike h account coll borrow
 effect_alike h (Adjust account coll_in coll_out borrow repay bound hint) =
-    let change : Change = record { coll_in = coll_in; coll_out = coll_out; borrow = borrow; repay = repay } in
-    adjusted_alike h account change _ _ _ _ _ _ (fee_alike_now h borrow) (adjusted_coll_alike h account change) (adjusted_debt_alike h account change)
+    adjust_alike h account (record { coll_in = coll_in; coll_out = coll_out; borrow = borrow; repay = repay })
 effect_alike h (Close account) = closed_alike h account _ _ _ _ (repaid_alike h account) (ap (λ (own : ℕ × ℕ). own.0) (own_alike h account))
 effect_alike h (Provide account lusd) = provide_alike h account lusd
 effect_alike h (Withdraw account lusd) = withdraw_alike h account lusd
@@ -180,12 +172,9 @@ values_alike h (Advance minutes) = ap (λ (i : Image). (i.minute + minutes) ∷ 
 values_alike h (Fund account coll) = refl
 values_alike h (Take account coll) = refl
 values_alike h (Send from to lusd) = refl
-values_alike h (Open account coll borrow bound hint) = ap (λ (m : Market). open_debt m borrow ∷ fee_now m borrow ∷ []) (market_alike h)
-values_alike {s} {t} h (Adjust account coll_in coll_out borrow repay bound hint) =
-    let change : Change = record { coll_in = coll_in; coll_out = coll_out; borrow = borrow; repay = repay } in
-    ap (λ n. n ∷ adjusted_debt (market_of s) (or_nothing (entire_of s account)).1 change ∷ fee_now (market_of s) borrow ∷ []) (adjusted_coll_alike h account change)
-    ∙ ap (λ n. adjusted_coll (or_nothing (entire_of t account)).0 change ∷ n ∷ fee_now (market_of s) borrow ∷ []) (adjusted_debt_alike h account change)
-    ∙ ap (λ (m : Market). adjusted_coll (or_nothing (entire_of t account)).0 change ∷ adjusted_debt (market_of t) (or_nothing (entire_of t account)).1 change ∷ fee_now m borrow ∷ []) (market_alike h)
+values_alike h (Open account coll borrow bound hint) = ap (λ (plan : Plan). plan.debt ∷ plan.fee ∷ []) (opening_alike h coll borrow)
+values_alike h (Adjust account coll_in coll_out borrow repay bound hint) =
+    ap (λ (plan : Plan). plan.coll ∷ plan.debt ∷ plan.fee ∷ []) (adjusting_alike h account (record { coll_in = coll_in; coll_out = coll_out; borrow = borrow; repay = repay }))
 values_alike h (Close account) = ap (λ (own : ℕ × ℕ). (own.1 - RESERVE) ∷ own.0 ∷ []) (own_alike h account)
 values_alike {s} {t} h (Provide account lusd) =
     ap (λ n. n ∷ gain_of s account ∷ []) (amount_alike h account lusd 0) ∙ ap (λ n. amount_after t account lusd 0 ∷ n ∷ []) (gain_alike h account)
@@ -195,10 +184,8 @@ values_alike {s} {t} h (GainToTrove account hint) =
     ap (λ n. n ∷ ((or_nothing (entire_of s account)).0 + gain_of s account) ∷ []) (gain_alike h account) ∙ ap (λ n. gain_of t account ∷ n ∷ []) (moved_coll_alike h account)
 values_alike h (Liquidate liquidator account) = ap one_values (one_alike h account)
 values_alike h (LiquidateLowest liquidator count) = ap lowest_values (lowest_alike count h)
-values_alike {s} {t} h (Redeem account lusd bound hint) =
-    ap (λ (cuts : List Cut). redeemed cuts ∷ drawn cuts ∷ fee_after s cuts ∷ redemption.base_after s cuts ∷ []) (cuts_alike h lusd)
-    ∙ ap (λ n. redeemed (cuts_in t lusd) ∷ drawn (cuts_in t lusd) ∷ n ∷ redemption.base_after s (cuts_in t lusd) ∷ []) (fee_alike h (cuts_in t lusd))
-    ∙ ap (λ n. redeemed (cuts_in t lusd) ∷ drawn (cuts_in t lusd) ∷ fee_after t (cuts_in t lusd) ∷ n ∷ []) (base_alike h (cuts_in t lusd))
+values_alike h (Redeem account lusd bound hint) =
+    ap (λ (terms : RedeemTerms). terms.redeemed ∷ terms.drawn ∷ terms.fee ∷ terms.rate.base ∷ []) (terms_alike h lusd)
 values_alike h (Claim account) = ap (λ n. n ∷ []) (surplus_alike h account)
 values_alike h Rotate = ap (λ (i : Image). (i.generation + 1) ∷ []) h.image
 

@@ -18,7 +18,10 @@ use Rattle.liq_liquidation.specs.declared.one.Victim.{Victim}
 use Rattle.liq_liquidation.specs.One.{one, offset_if_any, struck, liquidated}
 use Rattle.liq_liquidation.specs.Lowest.{lowest, victim_by}
 use Rattle.liq_redemption.specs.declared.cut.Cut.{Cut}
-use Rattle.liq_redemption.specs.Redemption.{cuts_in, cut_entire, cut_down, closed_by, redeemed_by, redeemed, drawn, fee_after}
+use Rattle.liq_redemption.specs.Redemption.{RedeemTerms, redeeming_terms, visited, cut_entire, cut_down, closed_by, redeemed_by}
+use Rattle.liq_types.specs.Totals.{market_of, or_nothing}
+use Rattle.liq_borrow.specs.declared.change.Plan.{Plan}
+use Rattle.liq_borrow.specs.Borrowing.{adjusting_terms}
 use Rattle.liq_core.specs.Borrowing.{with_fee}
 use Rattle.liq_core.specs.Liquidation.{all_liquidated, listed}
 use Rattle.liq_core.specs.Rules.{effect}
@@ -95,12 +98,12 @@ cuts-ascend : (made : List Cut) (s : State) → Ordered s → Ordered (fold cut_
 cuts-ascend [] s h = h
 cuts-ascend (cut ∷ made) s h = cuts-ascend made (cut_down s cut) (cut_entire-ascends s cut (entire_of s cut.account) h)
 
-with_fee-ascends : {s : State} (borrow fee : ℕ) → Ordered s → Ordered (with_fee s borrow fee)
-with_fee-ascends borrow fee h = record { tables = h.tables }
+with_fee-ascends : {s : State} (plan : Plan) → Ordered s → Ordered (with_fee s plan)
+with_fee-ascends plan h = record { tables = h.tables }
 
-redeem-ascends : (s : State) (account amount : ℕ) → Ordered s → Ordered (redeemed_by s account amount)
-redeem-ascends s account amount h =
-    let given = paid-ascends account (drawn (cuts_in s amount) - fee_after s (cuts_in s amount)) 0 (charged-ascends account 0 (redeemed (cuts_in s amount)) (cuts-ascend (cuts_in s amount) s h)) in
+redeem-ascends : (s : State) (account : ℕ) (terms : RedeemTerms) → Ordered s → Ordered (redeemed_by s account terms)
+redeem-ascends s account terms h =
+    let given = paid-ascends account (terms.drawn - terms.fee) 0 (charged-ascends account 0 terms.redeemed (cuts-ascend terms.cuts s h)) in
     record { tables = given.tables }
 
 pub effect-ascends : (s : State) (call : Call) → Ordered s → Ordered (effect s call)
@@ -113,14 +116,17 @@ effect-ascends s (Open account coll borrow bound hint) h =
     let lent : Ordered (paid (charged s account coll 0) account 0 borrow) = paid-ascends account 0 borrow (charged-ascends account coll 0 h) in
     record { tables = (lent.tables.0, put-ascends s.troves account _ h.tables.1, h.tables.2, h.tables.3, h.tables.4) }
 effect-ascends s (Adjust account coll_in coll_out borrow repay bound hint) h =
-    set-ascends account _ _ (paid-ascends account coll_out borrow (charged-ascends account coll_in repay (with_fee-ascends borrow _ h)))
+    set-ascends account _ _
+    (paid-ascends account coll_out borrow
+    (charged-ascends account coll_in repay
+    (with_fee-ascends (adjusting_terms (market_of s) (or_nothing (entire_of s account)) (record { coll_in = coll_in; coll_out = coll_out; borrow = borrow; repay = repay })) h)))
 effect-ascends s (Close account) h = lifted-ascends account (burned (paid-ascends account _ 0 (charged-ascends account 0 _ h)))
 effect-ascends s (Provide account lusd) h = paid-ascends account _ 0 (charged-ascends account 0 lusd (owned-ascends account lusd 0 h))
 effect-ascends s (Withdraw account lusd) h = paid-ascends account _ _ (owned-ascends account 0 _ h)
 effect-ascends s (GainToTrove account hint) h = set-ascends account _ _ (owned-ascends account 0 0 h)
 effect-ascends s (Liquidate liquidator account) h = all-ascend (listed (victim_by account (one s account))) liquidator s h
 effect-ascends s (LiquidateLowest liquidator count) h = all-ascend (lowest s count) liquidator s h
-effect-ascends s (Redeem account lusd bound hint) h = redeem-ascends s account lusd h
+effect-ascends s (Redeem account lusd bound hint) h = redeem-ascends s account (redeeming_terms (market_of s) (visited s) lusd) h
 effect-ascends s (Claim account) h = paid-ascends account _ 0 (taken-ascends account h)
 effect-ascends s Rotate h = record { tables = h.tables }
 

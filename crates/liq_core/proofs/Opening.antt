@@ -15,7 +15,7 @@ use Rattle.liq_types.specs.Tables.{Table, at, put}
 use Rattle.liq_types.specs.Totals.{market_of}
 use Rattle.liq_rate.specs.Bound.{fee_bound, fee_over}
 use Rattle.liq_troves.specs.Own.{stake_for}
-use Rattle.liq_borrow.specs.Borrowing.{fee_now, open_debt, open_rules, least_bound, least_ratio, ratio_low, system_ratio_low}
+use Rattle.liq_borrow.specs.Borrowing.{opening_terms, open_debt, open_rules, least_bound, least_ratio, ratio_low, system_ratio_low}
 use Rattle.liq_core.specs.Borrowing.{opened, with_fee}
 use Rattle.liq_core.specs.Identities.{IsConserved}
 use Rattle.liq_types.specs.WellFormed.{Ascends, TablesAscend}
@@ -54,10 +54,10 @@ sixth a b c d e f more h =
     let five = none_first e (f ∷ more) four.1 in
     (one.0, (none_first f more five.1).0)
 
-open_conserves : (s : State) (account coll borrow : ℕ) → at s.troves account ≡ None → coll ≤ (wallet_of s account).coll → TablesAscend s → IsConserved s → IsConserved (opened s account coll borrow (fee_now (market_of s) borrow) (open_debt (market_of s) borrow))
+open_conserves : (s : State) (account coll borrow : ℕ) → at s.troves account ≡ None → coll ≤ (wallet_of s account).coll → TablesAscend s → IsConserved s → IsConserved (opened s account borrow (opening_terms (market_of s) coll borrow))
 unfolding no_entry
 open_conserves s account coll borrow none enough t h =
-    let feed = with_fee s borrow (fee_now (market_of s) borrow) in
+    let feed = with_fee s (opening_terms (market_of s) coll borrow) in
     let mid = charged feed account coll 0 in
     let ordered = wallet-ascends s.wallets account (record { coll = (wallet_of s account).coll - coll; lusd = (wallet_of s account).lusd - 0 }) t.0 in
     let debt = open_debt (market_of s) borrow in
@@ -81,15 +81,14 @@ open_conserves s account coll borrow none enough t h =
 opens : (s : State) (account coll borrow bound : ℕ) → first_refusal (open_rules (market_of s) (wallet_of s account) (is_some (at s.troves account)) account coll borrow bound) ≡ None → (at s.troves account ≡ None) × (coll ≤ (wallet_of s account).coll)
 opens s account coll borrow bound r =
     let m = market_of s in
-    let fee = fee_now m borrow in
-    let debt = open_debt m borrow in
+    let terms = opening_terms m coll borrow in
     let have = (wallet_of s account).coll in
-    let found = sixth (is_some (at s.troves account), TroveExists account) (fee_bound bound (least_bound m)) (fee_over fee borrow bound) (where_below (borrow + fee) MIN_NET NetDebtLow) (where_above (m.total_debt + debt) LIM AmountLimit) (where_short coll have ShortCollateral)
-    (ratio_low m (least_ratio m) coll debt ∷ system_ratio_low m (m.total_coll + coll) (m.total_debt + debt) ∷ []) r in
+    let found = sixth (is_some (at s.troves account), TroveExists account) (fee_bound bound (least_bound m)) (fee_over terms.fee borrow bound) (where_below (borrow + terms.fee) MIN_NET NetDebtLow) (where_above (m.total_debt + terms.debt) LIM AmountLimit) (where_short coll have ShortCollateral)
+    (ratio_low m (least_ratio m) coll terms.debt ∷ system_ratio_low m (m.total_coll + coll) (m.total_debt + terms.debt) ∷ []) r in
     let enough : nat_lt have coll ≡ false = found.1 in
     (absent (at s.troves account) found.0, grind (arith, nat_tests, enough))
 
-pub opening_conserves : (s : State) (account coll borrow bound : ℕ) → TablesAscend s → first_refusal (open_rules (market_of s) (wallet_of s account) (is_some (at s.troves account)) account coll borrow bound) ≡ None → IsConserved s → IsConserved (opened s account coll borrow (fee_now (market_of s) borrow) (open_debt (market_of s) borrow))
+pub opening_conserves : (s : State) (account coll borrow bound : ℕ) → TablesAscend s → first_refusal (open_rules (market_of s) (wallet_of s account) (is_some (at s.troves account)) account coll borrow bound) ≡ None → IsConserved s → IsConserved (opened s account borrow (opening_terms (market_of s) coll borrow))
 opening_conserves s account coll borrow bound t r h =
     let allowed = opens s account coll borrow bound r in
     open_conserves s account coll borrow allowed.0 allowed.1 t h

@@ -1,5 +1,5 @@
 -- Liquidation: one trove or the last ones of the order, and the surplus that their owners claim.
-use Rattle.std.specs.Prelude.{ℕ, ◌==◌, true, Option, Some, None, Result, Ok, Err, List, [], ◌∷◌, ◌++◌, fold, length, sum_by, if◌then◌else◌}
+use Rattle.std.specs.Prelude.{ℕ, ◌==◌, Option, Some, None, Result, Ok, Err, List, [], ◌∷◌, ◌++◌, fold, length, sum_by, if◌then◌else◌}
 use Rattle.liq_types.specs.declared.amounts.TheConstants.{LOWEST_MOST}
 use Rattle.liq_types.specs.declared.events.ListChange.{ListChange}
 use Rattle.liq_types.specs.declared.events.ListChange.TheVariants.{Gone}
@@ -9,14 +9,13 @@ use Rattle.liq_types.specs.declared.replies.Refusal.{Refusal}
 use Rattle.liq_types.specs.declared.replies.Refusal.TheVariants.{AmountLimit, NoSurplus}
 use Rattle.liq_types.specs.Payments.{paid, surplus_taken}
 use Rattle.liq_types.specs.Product.{rise_of}
-use Rattle.liq_types.specs.Rules.{Rule, where_above, last_trove_stays}
+use Rattle.liq_types.specs.Rules.{where_above}
 use Rattle.liq_types.specs.State.{State, surplus_of}
-use Rattle.liq_types.specs.Totals.{market_of, pool_total}
-use Rattle.liq_order.specs.Order.{last_trove}
+use Rattle.liq_types.specs.Totals.{pool_total}
 use Rattle.liq_stability.specs.Position.{words_of}
 use Rattle.liq_liquidation.specs.declared.one.One.{One}
 use Rattle.liq_liquidation.specs.declared.one.Victim.{Victim}
-use Rattle.liq_liquidation.specs.Lowest.{lowest, victim_by}
+use Rattle.liq_liquidation.specs.Lowest.{lowest, lowest_rules, refusal_of, victim_by}
 use Rattle.liq_liquidation.specs.One.{one, struck, liquidated}
 use Rattle.liq_core.specs.ListChanges.{words_in}
 use Rattle.liq_core.specs.Row.{Row, not_zero}
@@ -45,10 +44,6 @@ victim_changes s (v ∷ vs) =
 
 -- ---- liquidate
 
-abbrev pub refusal_of : Result One Refusal → List Rule
-refusal_of (Ok one) = []
-refusal_of (Err refusal) = (true, refusal) ∷ []
-
 -- the victim, where there is one
 abbrev pub listed : Option Victim → List Victim
 listed None = []
@@ -72,11 +67,6 @@ liquidate_row s liquidator account =
 
 -- ---- liquidate_lowest
 
--- the refusal of the trove that would be the first
-abbrev pub first_of_lowest : State → Option ℕ → List Rule
-first_of_lowest s None = []
-first_of_lowest s (Some account) = refusal_of (one s account)
-
 abbrev pub lowest_values : List Victim → List ℕ
 lowest_values victims =
     length victims
@@ -89,7 +79,7 @@ abbrev pub liquidate_lowest_row : State → ℕ → ℕ → Row
 liquidate_lowest_row s liquidator count =
     let victims = lowest s count in
     record {
-      rules = not_zero count ∷ where_above count LOWEST_MOST AmountLimit ∷ last_trove_stays (market_of s) ∷ first_of_lowest s (last_trove s);
+      rules = not_zero count ∷ where_above count LOWEST_MOST AmountLimit ∷ lowest_rules s;
       effect = all_liquidated s liquidator victims;
       values = lowest_values victims;
       events = offset_events s victims;

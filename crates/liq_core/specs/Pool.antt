@@ -7,13 +7,13 @@ use Rattle.liq_types.specs.Payments.{paid, charged}
 use Rattle.liq_types.specs.Rules.{Rule, where_below, where_short}
 use Rattle.liq_types.specs.State.{State, wallet_of}
 use Rattle.liq_types.specs.Tables.{at}
-use Rattle.liq_types.specs.Totals.{worth, asked, market_of}
+use Rattle.liq_types.specs.Totals.{worth, asked, market_of, or_nothing}
 use Rattle.liq_troves.specs.Own.{set_trove}
 use Rattle.liq_troves.specs.StakeSums.{entire_of}
 use Rattle.liq_order.specs.Order.{last_trove}
 use Rattle.liq_stability.specs.Own.{owned, amount_after}
 use Rattle.liq_stability.specs.Position.{balance_of, gain_of}
-use Rattle.liq_borrow.specs.Borrowing.{gain_rules, or_nothing}
+use Rattle.liq_borrow.specs.Borrowing.{gaining_terms, gain_rules}
 use Rattle.liq_core.specs.ListChanges.{stands}
 use Rattle.liq_core.specs.Row.{Row, not_zero}
 
@@ -54,14 +54,15 @@ withdraw_row s account lusd =
 
 abbrev pub gain_to_trove_row : State → ℕ → Row
 gain_to_trove_row s account =
-    let had = or_nothing (entire_of s account) in
+    let m = market_of s in
+    let entire = entire_of s account in
     let gain = gain_of s account in
-    let coll = had.0 + gain in
-    let next = set_trove (owned s account 0 0) account coll had.1 in
+    let plan = gaining_terms m (or_nothing entire) gain in
+    let next = set_trove (owned s account 0 0) account plan.coll plan.debt in
     record {
-      rules = no_deposit s account ∷ gain_rules (market_of s) (entire_of s account) account gain;
+      rules = no_deposit s account ∷ gain_rules m entire account gain;
       effect = next;
-      values = gain ∷ coll ∷ [];
+      values = gain ∷ plan.coll ∷ [];
       events = Own account 0 0 gain (amount_after s account 0 0) ∷ [];
       changes = stands next account ∷ [];
     }

@@ -10,11 +10,15 @@ returns-clause-events c = refl
 pub returns-clause-lawful : goal.returns-clause-lawful
 unfolding least_from power_of digits_product squared
 returns-clause-lawful c = (
-  record { gain_is = refl; paid_is = omega arith; amount_is = refl },
   record { total = omega arith; coll = omega arith },
+  record { gain_is = refl; paid_is = omega arith; amount_is = refl },
   (
-    record { some = omega arith; within = omega arith; total_is = refl; coll_is = omega arith; rise_is = refl },
     record { total = omega arith; coll = omega arith },
-    (record { gain_is = refl; paid_is = omega arith; amount_is = refl }, record { total = omega arith; coll = omega arith }, tt),
+    record { some = omega arith; within = omega arith; total_is = refl; coll_is = omega arith; rise_is = refl },
+    (
+      record { total = omega arith; coll = omega arith },
+      record { gain_is = refl; paid_is = omega arith; amount_is = refl },
+      record { total = omega arith; coll = omega arith },
+    ),
   ),
 )
