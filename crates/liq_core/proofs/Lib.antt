@@ -13,6 +13,7 @@ pub mod Conserving
 pub mod Histories
 pub mod Moving
 pub mod Opening
+pub mod Rows
 pub mod Ruled
 pub mod Runs
 pub mod Standing

@@ -1,7 +1,7 @@
 //! What holds of the step and of whole runs. The functions here do nothing: each is the place where the facts of its
 //! contract are proved.
 
-ghost use Rattle.std.specs.Prelude.{◌≡◌, ℕ, ◌+◌, ◌≤◌, ◌++◌, List, [], ◌∷◌, map, true, None};
+ghost use Rattle.std.specs.Prelude.{◌≡◌, ◌≢◌, ℕ, ◌+◌, ◌-◌, ◌≤◌, ◌++◌, List, [], ◌∷◌, map, true, None};
 ghost use Rattle.liq_types.specs.declared.replies.Done.{Done};
 ghost use Rattle.liq_types.specs.declared.replies.Refusal.{Refusal};
 ghost use Rattle.liq_types.specs.declared.replies.Reply.TheVariants.{Said, No};
@@ -107,8 +107,13 @@ pub fn histories_grow()
     ensures state { (s : State) → (entries : List Entry) → (e : Entry) → state_after s (entries ++ e ∷ []) ≡ (step (state_after s entries) e.request).0 }
 {}
 
-/// A payment moves exactly its amounts: what all wallets have grows by what is paid, and shrinks by what is charged.
+/// A payment moves exactly its amounts into or out of its account's wallet, and every other wallet stays. So what all wallets
+/// have grows by what is paid, and shrinks by what is charged.
 pub fn payments_move_exactly()
+    ensures paid { (s : State) → (account coll lusd : ℕ) → WalletsAscend s → wallet_of (paid s account coll lusd) account ≡ record { coll = (wallet_of s account).coll + coll; lusd = (wallet_of s account).lusd + lusd } }
+    ensures paid_others { (s : State) → (account coll lusd other : ℕ) → other ≢ account → wallet_of (paid s account coll lusd) other ≡ wallet_of s other }
+    ensures charged { (s : State) → (account coll lusd : ℕ) → WalletsAscend s → wallet_of (charged s account coll lusd) account ≡ record { coll = (wallet_of s account).coll - coll; lusd = (wallet_of s account).lusd - lusd } }
+    ensures charged_others { (s : State) → (account coll lusd other : ℕ) → other ≢ account → wallet_of (charged s account coll lusd) other ≡ wallet_of s other }
     ensures paid_coll { (s : State) → (account coll lusd : ℕ) → WalletsAscend s → wallets_coll (paid s account coll lusd) ≡ wallets_coll s + coll }
     ensures paid_lusd { (s : State) → (account coll lusd : ℕ) → WalletsAscend s → wallets_lusd (paid s account coll lusd) ≡ wallets_lusd s + lusd }
     ensures charged_coll { (s : State) → (account coll lusd : ℕ) → WalletsAscend s → coll ≤ (wallet_of s account).coll → wallets_coll (charged s account coll lusd) + coll ≡ wallets_coll s }
