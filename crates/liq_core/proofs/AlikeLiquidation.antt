@@ -120,19 +120,17 @@ liquidated_alike h liquidator v within =
 -- ---- several
 
 -- the pool, with so much in it, serves one victim after the other
-pub Serves : ℕ → List Victim → Type 0
+abbrev pub Serves : ℕ → List Victim → Type 0
 Serves total [] = Unit {0}
 Serves total (v ∷ vs) = (v.one.offset_debt ≤ total) × Serves (total - v.one.offset_debt) vs
 
 pub all_liquidated_alike : (vs : List Victim) (liquidator : ℕ) {s t : State} → Alike s t → Serves (pool_total s) vs → Alike (all_liquidated s liquidator vs) (all_liquidated t liquidator vs)
-unfolding Serves
 all_liquidated_alike [] liquidator h served = h
 all_liquidated_alike (v ∷ vs) liquidator {s} {t} h served =
     all_liquidated_alike vs liquidator (liquidated_alike h liquidator v served.0)
     (subst (λ n. Serves n vs) (sym (struck-total s v)) served.1)
 
 pub single_serves : (s : State) (account : ℕ) (r : Result One Refusal) → one s account ≡ r → Serves (pool_total s) (listed (victim_by account r))
-unfolding Serves
 single_serves s account (Ok made) h = (one_serves s account made h, tt)
 single_serves s account (Err refusal) h = tt
 
@@ -150,12 +148,10 @@ abbrev lowest_by : ℕ → State → Option Victim → List Victim
 lowest_by more s next = elim next [ None ↦ [] | Some v ↦ v ∷ lowest (struck s v) more ]
 
 lowest_by_serves : (more : ℕ) (s : State) (next : Option Victim) → ((v : Victim) → next ≡ Some v → v.one.offset_debt ≤ pool_total s) → ((v : Victim) → Serves (pool_total (struck s v)) (lowest (struck s v) more)) → Serves (pool_total s) (lowest_by more s next)
-unfolding Serves
 lowest_by_serves more s None first later = tt
 lowest_by_serves more s (Some v) first later = (first v refl, subst (λ n. Serves n (lowest (struck s v) more)) (struck-total s v) (later v))
 
 pub lowest_serves : (n : ℕ) (s : State) → Serves (pool_total s) (lowest s n)
-unfolding Serves
 lowest_serves zero s = tt
 lowest_serves (suc more) s = lowest_by_serves more s (next_victim s) (victim_at_serves s (last_trove s)) (λ v. lowest_serves more (struck s v))
 

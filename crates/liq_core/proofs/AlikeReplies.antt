@@ -38,7 +38,7 @@ use Rattle.liq_core.specs.Queries.{NUMBER_MOST, trove_info, deposit_info, pools,
 use Rattle.liq_core.specs.Pool.{no_deposit, trove_under}
 use Rattle.liq_core.specs.Row.{not_zero}
 use Rattle.liq_core.specs.Rules.{rules}
-use Rattle.liq_core.specs.Step.{Ruling, Refused, Repeated, Allowed, in_range, in_turn, records_after, noted, after, room_rules, tests, unless_refused, ruling, after_ruling, step, run, accounts}
+use Rattle.liq_core.specs.Step.{Ruling, Refused, Repeated, Allowed, in_range, in_turn, records_after, noted, after, room_rules, tests, unless_refused, ruling, after_ruling, step, run, accounts, is_allowed, newly_accepted, accepted}
 use Rattle.liq_core.specs.Verbs.{rotates}
 use Rattle.liq_types.specs.WellFormed.{IsWellFormed}
 use Rattle.liq_types.proofs.MapRows.{at-map}
@@ -234,6 +234,16 @@ replies_alike [] h = refl
 replies_alike (request ∷ requests) {s} {t} h =
     ap (λ (r : Reply). r ∷ (run (step s request).0 requests).1) (reply_alike h request)
     ∙ ap (λ (rs : List Reply). (step t request).1 ∷ rs) (replies_alike requests (step_alike h request))
+
+newly_alike : {s t : State} → Alike s t → (request : Request) → newly_accepted s request ≡ newly_accepted t request
+newly_alike h (Do c) = ap (λ (r : Ruling). if is_allowed r then c ∷ [] else []) (ruling_alike h c)
+newly_alike h (Ask q) = refl
+
+pub accepted_alike : (requests : List Request) {s t : State} → Alike s t → accepted s requests ≡ accepted t requests
+accepted_alike [] h = refl
+accepted_alike (request ∷ requests) {s} {t} h =
+    ap (λ (cs : List Command). cs ++ accepted (step s request).0 requests) (newly_alike h request)
+    ∙ ap (λ (cs : List Command). newly_accepted t request ++ cs) (accepted_alike requests (step_alike h request))
 
 pub alike_itself : (s : State) → IsWellFormed s → Alike s s
 alike_itself s h = record { image = refl; records = refl; left = h; right = h }

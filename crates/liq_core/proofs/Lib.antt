@@ -1,5 +1,6 @@
 pub mod Alike
 pub mod AlikeChanges
+pub mod AlikeFollowed
 pub mod AlikeLiquidation
 pub mod AlikeReads
 pub mod AlikeRedemption
@@ -7,10 +8,12 @@ pub mod AlikeReplies
 pub mod AlikeStep
 pub mod Allowed
 pub mod Ascending
+pub mod Begun
 pub mod Conserving
 pub mod Histories
 pub mod Moving
 pub mod Opening
+pub mod Rows
 pub mod Ruled
 pub mod Runs
 pub mod Standing

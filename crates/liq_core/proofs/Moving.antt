@@ -1,6 +1,6 @@
 -- What payments do to the sum of the wallets.
-use Rattle.std.proofs.Common.{◌≡◌, ℕ, ◌+◌, ◌-◌, ◌≤◌, Bool, true, false, cond, refl, sym, arith, Some, None, Option}
-use Rattle.std.specs.Prelude.{unwrap_or, option_map, sum_by}
+use Rattle.std.proofs.Common.{◌≡◌, ℕ, ◌+◌, ◌-◌, ◌≤◌, Bool, true, false, cond, refl, ap, sym, ◌∙◌, arith, Some, None, Option}
+use Rattle.std.specs.Prelude.{unwrap_or, option_map, sum_by, ◌≢◌}
 use Rattle.std.specs.List.Sorted.{IsStrictlySortedBy}
 use Rattle.std.specs.BTreeMap.{is_at}
 use Rattle.std.specs.Map.{keys_of, values_of}
@@ -13,6 +13,7 @@ use Rattle.liq_types.specs.State.{State, no_wallet, is_used_wallet, with_wallet,
 use Rattle.liq_types.specs.Tables.{Table, at, put, without}
 use Rattle.liq_core.specs.Identities.{wallets_coll, wallets_lusd, WalletsAscend}
 use Rattle.liq_types.proofs.UsedRows.{sum_by-put}
+use Rattle.liq_core.proofs.Rows.{at-put_here, at-put_other, at-without_here, at-without_other}
 
 read_or : (f : Wallet → ℕ) → f no_wallet ≡ 0 → (o : Option Wallet) → unwrap_or (option_map f o) 0 ≡ f (unwrap_or o no_wallet)
 read_or f z None = sym z
@@ -55,3 +56,20 @@ module _ (s : State) (account coll lusd : ℕ) (ascend : WalletsAscend s) where
   charged_lusd enough =
       let moved = exchanged (λ (w : Wallet). w.lusd) refl unused_lusd s.wallets account (record { coll = (wallet_of s account).coll - coll; lusd = (wallet_of s account).lusd - lusd }) ascend in
       omega (arith, moved, enough)
+
+-- ---- whose wallet it is
+
+pub unused_none : (w : Wallet) → is_used_wallet w ≡ false → w ≡ no_wallet
+unused_none w h = ap (λ n. record { coll = n; lusd = w.lusd }) (unused_coll w h) ∙ ap (λ n. record { coll = 0; lusd = n }) (unused_lusd w h)
+
+pub wallet_here : (table : Table Wallet) (account : ℕ) (w : Wallet) → IsStrictlySortedBy nat_cmp (keys_of table) → unwrap_or (at (with_wallet table account w) account) no_wallet ≡ w
+wallet_here table account w s = by (is_used_wallet w) refl where
+  by : (b : Bool) → is_used_wallet w ≡ b → unwrap_or (at (cond b (put table account w) (without table account)) account) no_wallet ≡ w
+  by true e = ap (λ (o : Option Wallet). unwrap_or o no_wallet) (at-put_here table account w)
+  by false e = ap (λ (o : Option Wallet). unwrap_or o no_wallet) (at-without_here table account s) ∙ sym (unused_none w e)
+
+pub wallet_other : (table : Table Wallet) (account q : ℕ) (w : Wallet) → q ≢ account → unwrap_or (at (with_wallet table account w) q) no_wallet ≡ unwrap_or (at table q) no_wallet
+wallet_other table account q w n = by (is_used_wallet w) where
+  by : (b : Bool) → unwrap_or (at (cond b (put table account w) (without table account)) q) no_wallet ≡ unwrap_or (at table q) no_wallet
+  by true = ap (λ (o : Option Wallet). unwrap_or o no_wallet) (at-put_other table account q w n)
+  by false = ap (λ (o : Option Wallet). unwrap_or o no_wallet) (at-without_other table account q n)

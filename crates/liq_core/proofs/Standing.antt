@@ -8,6 +8,7 @@ use Rattle.liq_types.specs.Tables.{at}
 use Rattle.liq_core.specs.Core.{Core, StandsFor, image_of, state_of}
 use Rattle.liq_core.specs.Sound.{IsSound}
 use Rattle.liq_types.proofs.UsedRows.{at-rows, seen_or}
+use Rattle.liq_core.proofs.Moving.{unused_none}
 use Rattle.liq_core.proofs.Started.{started_image, started_formed}
 use Rattle.std.proofs.lemmas.Bool.Decides.{nat_tests}
 use Rattle.std.proofs.lemmas.Map.Entries.{option_filter}
@@ -16,19 +17,13 @@ pub stands_itself : (core : Core) → StandsFor core (state_of core)
 stands_itself core =
     record { image = sym (started_image (image_of core) refl); records = refl; formed = started_formed (image_of core) tt }
 
-unused_wallet : (w : Wallet) → is_used_wallet w ≡ false → w ≡ no_wallet
-unused_wallet w h =
-    let coll : w.coll ≡ 0 = grind (arith, nat_tests, h) in
-    let lusd : w.lusd ≡ 0 = grind (arith, nat_tests, h) in
-    ap (λ n. record { coll = n; lusd = w.lusd }) coll ∙ ap (λ n. record { coll = 0; lusd = n }) lusd
-
 unused_client : (k : Client) → is_used_client k ≡ false → k.last ≡ 0
 unused_client k h = grind (arith, nat_tests, h)
 
 pub seen_wallet : (core : Core) → IsSound core → (account : ℕ) → unwrap_or (at core.wallets account) no_wallet ≡ wallet_of (state_of core) account
 seen_wallet core sound account =
     sym (ap (λ o. unwrap_or o no_wallet) (at-rows is_used_wallet core.wallets account sound.wallets_ascend)
-    ∙ seen_or is_used_wallet (λ (w : Wallet). w) no_wallet unused_wallet (at core.wallets account))
+    ∙ seen_or is_used_wallet (λ (w : Wallet). w) no_wallet unused_none (at core.wallets account))
 
 pub seen_last : (core : Core) → IsSound core → (client : ℕ) → (unwrap_or (at core.clients client) no_client).last ≡ (client_of (state_of core) client).last
 seen_last core sound client =

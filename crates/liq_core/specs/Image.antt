@@ -1,4 +1,6 @@
--- The image of a state: words and tables, as the lists have made them.
+-- The image of a state: words and tables, as the lists have made them. Two states are the same where their images and their
+-- records are equal, whatever their lists were.
+use Rattle.std.specs.Prelude.{◌≡◌}
 use Rattle.liq_types.specs.Image.{Image}
 use Rattle.liq_types.specs.Product.{sumat, place_of, finished_sums}
 use Rattle.liq_types.specs.State.{State}
@@ -42,3 +44,7 @@ image s =
       deposits = map_rows (deposit_row s) s.deposits;
       clients = s.clients;
     }
+
+pub record IsSameState (s t : State) : Type 0 where
+  pub image : image s ≡ image t
+  pub records : s.records ≡ t.records

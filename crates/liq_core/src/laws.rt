@@ -1,7 +1,7 @@
 //! What holds of the step and of whole runs. The functions here do nothing: each is the place where the facts of its
 //! contract are proved.
 
-ghost use Rattle.std.specs.Prelude.{◌≡◌, ℕ, ◌+◌, ◌≤◌, ◌++◌, List, [], ◌∷◌, map, true, None};
+ghost use Rattle.std.specs.Prelude.{◌≡◌, ◌≢◌, ℕ, ◌+◌, ◌-◌, ◌≤◌, ◌++◌, List, [], ◌∷◌, map, true, None};
 ghost use Rattle.liq_types.specs.declared.replies.Done.{Done};
 ghost use Rattle.liq_types.specs.declared.replies.Refusal.{Refusal};
 ghost use Rattle.liq_types.specs.declared.replies.Reply.TheVariants.{Said, No};
@@ -19,7 +19,9 @@ ghost use Rattle.liq_core.specs.Core.{StandsFor, state_of};
 ghost use Rattle.liq_core.specs.Dust.{IsCovered, dust};
 ghost use Rattle.liq_core.specs.History.{Entry, IsLegal, GoesOn, state_after};
 ghost use Rattle.liq_core.specs.Identities.{IsConserved, WalletsAscend, touches_no_trove, wallets_coll, wallets_lusd};
-ghost use Rattle.liq_core.specs.Image.{image};
+ghost use Rattle.liq_core.specs.Events.{events};
+ghost use Rattle.liq_core.specs.Image.{image, IsSameState};
+ghost use Rattle.liq_core.specs.Rules.{call_events, call_changes};
 ghost use Rattle.liq_core.specs.Step.{Repeated, ruling, step, run, accepted, rules, effect, first_refusal};
 ghost use Rattle.liq_core.specs.Verbs.{unhinted};
 ghost use Rattle.liq_types.specs.WellFormed.{AreFinished, IsWellFormed, TablesAscend, stakes_in};
@@ -59,20 +61,35 @@ pub fn opening_has_nothing()
     ensures covered { IsCovered (dust opening) }
 {}
 
-/// The image law: two states with the same image and the same records give the same reply to every request, and leave the
-/// same image and the same records. It is said of well-formed states, which all states are that are reached from one.
+/// The image law: two states that are the same (their images and their records are equal) rule alike on every command, give
+/// the same reply to every request and do the same to the Stability Pool and to the ordered list, and the states that they
+/// lead to are the same again, also over whole runs. It is said of well-formed states, which all states are that are reached
+/// from one.
 pub fn only_image_and_records_count()
-    ensures reply { (s t : State) → IsWellFormed s → IsWellFormed t → image s ≡ image t → s.records ≡ t.records → (request : Request) → (step s request).1 ≡ (step t request).1 }
-    ensures image { (s t : State) → IsWellFormed s → IsWellFormed t → image s ≡ image t → s.records ≡ t.records → (request : Request) → image (step s request).0 ≡ image (step t request).0 }
-    ensures records { (s t : State) → IsWellFormed s → IsWellFormed t → image s ≡ image t → s.records ≡ t.records → (request : Request) → (step s request).0.records ≡ (step t request).0.records }
-    ensures runs { (s t : State) → IsWellFormed s → IsWellFormed t → image s ≡ image t → s.records ≡ t.records → (requests : List Request) → (run s requests).1 ≡ (run t requests).1 }
+    ensures ruling { (s t : State) → IsWellFormed s → IsWellFormed t → IsSameState s t → (c : Command) → ruling s c ≡ ruling t c }
+    ensures reply { (s t : State) → IsWellFormed s → IsWellFormed t → IsSameState s t → (request : Request) → (step s request).1 ≡ (step t request).1 }
+    ensures state { (s t : State) → IsWellFormed s → IsWellFormed t → IsSameState s t → (request : Request) → IsSameState (step s request).0 (step t request).0 }
+    ensures run_replies { (s t : State) → IsWellFormed s → IsWellFormed t → IsSameState s t → (requests : List Request) → (run s requests).1 ≡ (run t requests).1 }
+    ensures run_state { (s t : State) → IsWellFormed s → IsWellFormed t → IsSameState s t → (requests : List Request) → IsSameState (run s requests).0 (run t requests).0 }
+    ensures accepted { (s t : State) → IsWellFormed s → IsWellFormed t → IsSameState s t → (requests : List Request) → accepted s requests ≡ accepted t requests }
+    ensures events { (s t : State) → IsWellFormed s → IsWellFormed t → IsSameState s t → (call : Call) → call_events s call ≡ call_events t call }
+    ensures all_events { (s t : State) → IsWellFormed s → IsWellFormed t → IsSameState s t → (commands : List Command) → events s commands ≡ events t commands }
+    ensures changes { (s t : State) → IsWellFormed s → IsWellFormed t → IsSameState s t → (call : Call) → call_changes s call ≡ call_changes t call }
 {}
 
-/// The opening state is well formed, and so is each state that a step leads to from one that is.
+/// A well-formed state may begin again from its image: the image's finished sums lie before its place, and the state that
+/// begins with it, with as many records, is the same.
+pub fn states_begin_again()
+    ensures finished { (s : State) → IsWellFormed s → AreFinished (image s) }
+    ensures same { (s : State) → IsWellFormed s → IsSameState (record (started (image s)) { records = s.records }) s }
+{}
+
+/// The opening state is well formed, and so is each state that a call, a step or a run leads to from one that is.
 pub fn states_are_well_formed()
     ensures opening { IsWellFormed opening }
+    ensures effect { (s : State) → IsWellFormed s → (call : Call) → IsWellFormed (effect s call) }
     ensures step { (s : State) → IsWellFormed s → (request : Request) → IsWellFormed (step s request).0 }
-    ensures run { (requests : List Request) → IsWellFormed (run opening requests).0 }
+    ensures run { (s : State) → IsWellFormed s → (requests : List Request) → IsWellFormed (run s requests).0 }
 {}
 
 /// An image whose stakes are those of its troves is the image of the state that begins with it. That state is well formed
@@ -90,8 +107,13 @@ pub fn histories_grow()
     ensures state { (s : State) → (entries : List Entry) → (e : Entry) → state_after s (entries ++ e ∷ []) ≡ (step (state_after s entries) e.request).0 }
 {}
 
-/// A payment moves exactly its amounts: what all wallets have grows by what is paid, and shrinks by what is charged.
+/// A payment moves exactly its amounts into or out of its account's wallet, and every other wallet stays. So what all wallets
+/// have grows by what is paid, and shrinks by what is charged.
 pub fn payments_move_exactly()
+    ensures paid { (s : State) → (account coll lusd : ℕ) → WalletsAscend s → wallet_of (paid s account coll lusd) account ≡ record { coll = (wallet_of s account).coll + coll; lusd = (wallet_of s account).lusd + lusd } }
+    ensures paid_others { (s : State) → (account coll lusd other : ℕ) → other ≢ account → wallet_of (paid s account coll lusd) other ≡ wallet_of s other }
+    ensures charged { (s : State) → (account coll lusd : ℕ) → WalletsAscend s → wallet_of (charged s account coll lusd) account ≡ record { coll = (wallet_of s account).coll - coll; lusd = (wallet_of s account).lusd - lusd } }
+    ensures charged_others { (s : State) → (account coll lusd other : ℕ) → other ≢ account → wallet_of (charged s account coll lusd) other ≡ wallet_of s other }
     ensures paid_coll { (s : State) → (account coll lusd : ℕ) → WalletsAscend s → wallets_coll (paid s account coll lusd) ≡ wallets_coll s + coll }
     ensures paid_lusd { (s : State) → (account coll lusd : ℕ) → WalletsAscend s → wallets_lusd (paid s account coll lusd) ≡ wallets_lusd s + lusd }
     ensures charged_coll { (s : State) → (account coll lusd : ℕ) → WalletsAscend s → coll ≤ (wallet_of s account).coll → wallets_coll (charged s account coll lusd) + coll ≡ wallets_coll s }
