@@ -16,7 +16,7 @@ use Rattle.liq_types.specs.Image.{Image}
 use Rattle.liq_types.specs.Product.{rise_of}
 use Rattle.liq_types.specs.State.{State, TroveEntry}
 use Rattle.liq_types.specs.Tables.{at}
-use Rattle.liq_types.specs.Totals.{pool_total}
+use Rattle.liq_types.specs.Totals.{market_of, pool_total}
 use Rattle.liq_types.proofs.MapRows.{at-map}
 use Rattle.liq_troves.specs.StakeSums.{trove_row}
 use Rattle.liq_stability.specs.Own.{amount_after}
@@ -26,7 +26,7 @@ use Rattle.liq_liquidation.specs.declared.one.Victim.{Victim}
 use Rattle.liq_liquidation.specs.Lowest.{lowest, victim_by}
 use Rattle.liq_liquidation.specs.One.{one, struck}
 use Rattle.liq_redemption.specs.declared.cut.Cut.{Cut}
-use Rattle.liq_redemption.specs.Redemption.{cuts_in}
+use Rattle.liq_redemption.specs.Redemption.{RedeemTerms, redeeming_terms, visited}
 use Rattle.liq_core.specs.Events.{events}
 use Rattle.liq_core.specs.Image.{image}
 use Rattle.liq_core.specs.Liquidation.{listed, victim_events, offset_events, victim_changes}
@@ -35,7 +35,7 @@ use Rattle.liq_core.specs.Rules.{effect, call_events, call_changes}
 use Rattle.liq_core.specs.Step.{after}
 use Rattle.liq_core.proofs.AlikeReads.{Alike, balance_alike, gain_alike, amount_alike}
 use Rattle.liq_core.proofs.AlikeLiquidation.{Serves, one_alike, lowest_alike, single_serves, lowest_serves, struck_alike, struck-total}
-use Rattle.liq_core.proofs.AlikeRedemption.{cuts_alike}
+use Rattle.liq_core.proofs.AlikeRedemption.{terms_alike}
 use Rattle.liq_core.proofs.AlikeReplies.{after_alike}
 use Rattle.liq_core.proofs.AlikeStep.{effect_alike}
 
@@ -143,6 +143,6 @@ call_changes_alike {s} {t} h (Liquidate liquidator account) =
 call_changes_alike {s} {t} h (LiquidateLowest liquidator count) =
     victim_changes_alike (lowest s count) h (lowest_serves count s) ∙ ap (victim_changes t) (lowest_alike count h)
 call_changes_alike {s} {t} h (Redeem account lusd bound hint) =
-    ap (λ (f : Cut → ListChange). map f (cuts_in s lusd)) (stands_in_alike (effect_alike h (Redeem account lusd bound hint)))
-    ∙ ap (map (stands_in (effect t (Redeem account lusd bound hint)))) (cuts_alike h lusd)
+    ap (λ (f : Cut → ListChange). map f (redeeming_terms (market_of s) (visited s) lusd).cuts) (stands_in_alike (effect_alike h (Redeem account lusd bound hint)))
+    ∙ ap (λ (terms : RedeemTerms). map (stands_in (effect t (Redeem account lusd bound hint))) terms.cuts) (terms_alike h lusd)
 call_changes_alike h _ = refl

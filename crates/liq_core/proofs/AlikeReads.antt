@@ -1,14 +1,11 @@
 -- What is read of two states with the same image is the same.
-use Rattle.std.proofs.Common.{◌≡◌, ℕ, ◌+◌, ◌-◌, List, [], ◌∷◌, refl, ap, sym, ◌∙◌, Some, None, Option, length}
-use Rattle.std.specs.Prelude.{ℤ, pos, ◌-ℤ◌, option_map, unwrap_or, is_some, is_none, map, reverse}
-use Rattle.liq_num.specs.Quotient.{floor_of}
-use Rattle.liq_types.specs.declared.amounts.TheConstants.{ONE}
-use Rattle.liq_types.specs.declared.figures.Trove.{Trove}
+use Rattle.std.proofs.Common.{◌≡◌, ℕ, ◌+◌, ◌-◌, refl, ap, sym, ◌∙◌, Some, None, Option, length}
+use Rattle.std.specs.Prelude.{option_map, unwrap_or, is_some, is_none}
 use Rattle.liq_types.specs.Image.{Image}
-use Rattle.liq_types.specs.State.{State, TroveEntry, no_wallet, no_client, wallet_of, client_of, surplus_of}
-use Rattle.liq_types.specs.Tables.{Table, at, map_rows}
+use Rattle.liq_types.specs.State.{State, no_wallet, no_client, wallet_of, client_of, surplus_of}
+use Rattle.liq_types.specs.Tables.{at}
 use Rattle.liq_types.specs.Totals.{market_of, total_debt, trove_count, stakes_of, pool_total, pool_coll}
-use Rattle.liq_troves.specs.StakeSums.{sums_now, trove_row, pending, entire, entire_of, key_of}
+use Rattle.liq_troves.specs.StakeSums.{sums_now, trove_row, entire_of}
 use Rattle.liq_troves.specs.declared.sums.Sums.{Sums}
 use Rattle.liq_troves.specs.Rows.{entire_in}
 use Rattle.liq_order.specs.Order.{order_by, trove_order, last_account, last_trove}

@@ -1,7 +1,7 @@
 -- States with the same image and records give the same reply to every request, also over whole runs.
 use Rattle.std.proofs.Common.{◌≡◌, ℕ, ◌+◌, Bool, true, false, List, [], ◌∷◌, ◌++◌, refl, ap, sym, ◌∙◌, subst, Some, None, Option, nat_lt, nat_le}
 use Rattle.std.specs.Prelude.{is_some, is_none, option_map, min, map, ◌==◌, ◌&&◌, not, if◌then◌else◌}
-use Rattle.liq_types.specs.declared.amounts.TheConstants.{MCR, LOWEST_MOST, LIM, MINUTE_MOST, FLOOR_RATE, BOOTSTRAP, GENERATIONS_MOST, RECORDS_MOST}
+use Rattle.liq_types.specs.declared.amounts.TheConstants.{MCR, LOWEST_MOST, LIM, MINUTE_MOST, GENERATIONS_MOST, RECORDS_MOST}
 use Rattle.liq_types.specs.declared.figures.Client.{Client}
 use Rattle.liq_types.specs.declared.figures.Market.{Market}
 use Rattle.liq_types.specs.declared.figures.Trove.{Trove}
@@ -9,7 +9,7 @@ use Rattle.liq_types.specs.declared.figures.Wallet.{Wallet}
 use Rattle.liq_types.specs.declared.replies.Done.{Done}
 use Rattle.liq_types.specs.declared.replies.Info.{Info}
 use Rattle.liq_types.specs.declared.replies.Info.TheVariants as info
-use Rattle.liq_types.specs.declared.replies.Refusal.TheVariants.{AmountLimit, AmountZero, NoDeposit, ShortCollateral, ShortTokens, NoSurplus, TroveUnder, OutOfTurn, Bootstrap, SystemUnder, NothingRedeemed, FeeEatsAll, JournalFull}
+use Rattle.liq_types.specs.declared.replies.Refusal.TheVariants.{AmountLimit, NoDeposit, ShortCollateral, ShortTokens, NoSurplus, TroveUnder, OutOfTurn, JournalFull}
 use Rattle.liq_types.specs.declared.replies.Reply.{Reply}
 use Rattle.liq_types.specs.declared.replies.Reply.TheVariants.{Said, Told}
 use Rattle.liq_types.specs.declared.requests.Call.{Call}
@@ -24,7 +24,6 @@ use Rattle.liq_types.specs.Rules.{Rule, where_below, where_short, where_above, f
 use Rattle.liq_types.specs.State.{State, wallet_of, client_of, TroveEntry, DepositEntry}
 use Rattle.liq_types.specs.Tables.{at, put}
 use Rattle.liq_types.specs.Totals.{market_of, worth, asked, is_recovery, trove_count}
-use Rattle.liq_rate.specs.Bound.{fee_bound, fee_over}
 use Rattle.liq_troves.specs.StakeSums.{entire_of, trove_row, pending}
 use Rattle.liq_order.specs.Order.{last_trove}
 use Rattle.liq_stability.specs.Position.{balance_of, gain_of}
