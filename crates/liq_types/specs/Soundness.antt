@@ -1,6 +1,6 @@
 -- The rules that every image meets, in the order in which they are tested, and the form of its tables. Beside the image
 -- stands the count of its records, which a checkpoint has as 0.
-use Rattle.std.specs.Prelude.{◌≡◌, ℕ, ◌+◌, ◌-◌, ◌*◌, ◌≤◌, Bool, true, not, ◌&&◌, ◌||◌, ◌==◌, nat_lt, nat_le, List, [], ◌∷◌, length, sum, sum_by, drop, Option, Some, None, if◌then◌else◌}
+use Rattle.std.specs.Prelude.{◌≡◌, ◌≢◌, ℕ, ◌+◌, ◌-◌, ◌*◌, ◌≤◌, Bool, true, false, not, ◌&&◌, ◌||◌, ◌==◌, nat_lt, nat_le, List, [], ◌∷◌, length, sum, sum_by, map, drop, Option, Some, None, option_map, if◌then◌else◌}
 use Rattle.std.specs.List.{list_all, AllByRecursion}
 use Rattle.std.specs.List.Sorted.{IsStrictlySortedBy}
 use Rattle.std.specs.Map.{keys_of, values_of}
@@ -12,7 +12,7 @@ use Rattle.liq_types.specs.declared.figures.Deposit.{Deposit}
 use Rattle.liq_types.specs.Codes.{value_count}
 use Rattle.liq_types.specs.Image.{Image, Place}
 use Rattle.liq_types.specs.Product.{place_order, start_sum}
-use Rattle.liq_types.specs.State.{is_used_wallet}
+use Rattle.liq_types.specs.State.{is_used_wallet, is_used_client}
 use Rattle.liq_types.specs.Tables.{Table}
 use Rattle.liq_types.specs.WellFormed.{Ascends}
 
