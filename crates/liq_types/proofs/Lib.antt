@@ -1,5 +1,6 @@
 pub mod Accounts
 pub mod Ascending
+pub mod FinishedSums
 pub mod Least
 pub mod Lookups
 pub mod MapRows
