@@ -1,5 +1,5 @@
 -- Decimal fractions, kept as whole numbers over ONE: their product and their powers.
-use Rattle.std.specs.Prelude.{ℕ, zero, suc, ◌*◌, ◌/◌, ◌+◌, ◌%◌, ◌^◌, ◌==◌, nat_lt, Bool, min, if◌then◌else◌}
+use Rattle.std.specs.Prelude.{ℕ, zero, suc, ◌*◌, ◌/◌, ◌+◌, ◌%◌, ◌^◌, ◌==◌, Bool, min, if◌then◌else◌}
 use Rattle.liq_num.specs.declared.power.TheConstants.{ONE, HALF, MOST_MINUTES}
 
 -- x times y, rounded to the nearest; a half is rounded up
@@ -26,12 +26,3 @@ digits_product x n (suc k) =
 -- x to the power n; an exponent past the most counts as the most, which has fewer than 30 digits
 unfoldable pub power_of : ℕ → ℕ → ℕ
 power_of x n = digits_product x (min n MOST_MINUTES) 30
-
--- how many of at most k halvings it takes until no more than 1 is left of n
-unfoldable pub halvings : ℕ → ℕ → ℕ
-halvings n zero = 0
-halvings n (suc k) = if nat_lt 1 n then suc (halvings (n / 2) k) else 0
-
--- how many halvings it takes for a u64: the turns of repeated squaring
-unfoldable pub turns_of : ℕ → ℕ
-turns_of n = halvings n 64

@@ -4,7 +4,7 @@
 ghost use Rattle.std.specs.Prelude.{◌≡◌, ℕ, ◌+◌, ◌-◌, ◌*◌, ◌/◌, ◌^◌, ◌<◌, ◌≤◌, ◌↔◌, min};
 ghost use Rattle.std.specs.Ordering.{nat_cmp, ordering_reverse};
 ghost use Rattle.liq_num.specs.Quotient.{floor_of, ceiling_of};
-ghost use Rattle.liq_num.specs.Power.{rounded_product, power_of, turns_of};
+ghost use Rattle.liq_num.specs.Power.{rounded_product, power_of};
 ghost use Rattle.liq_num.specs.Ratio.{ratio_order, IsBelow, IsBelowPercent};
 
 use crate::power::{HALF, MOST_MINUTES, ONE};
@@ -69,14 +69,6 @@ pub fn powers_follow_the_digits()
         power_of x (2 ^ k + n) ≡ rounded_product (power_of x (2 ^ k)) (power_of x n) }
     ensures doubled { (x n : ℕ) → 2 * n ≤ MOST_MINUTES → power_of x (2 * n) ≡ power_of (rounded_product x x) n }
     ensures capped { (x n : ℕ) → MOST_MINUTES ≤ n → power_of x n ≡ power_of x MOST_MINUTES }
-{}
-
-/// The turns of repeated squaring: none once no more than 1 is left of the exponent, else one and those of its half. The
-/// loop of `dec_pow` is proved to end by this count, and no power takes more than 28.
-pub fn powers_take_few_turns()
-    ensures ended { (n : ℕ) → n ≤ 1 → turns_of n ≡ 0 }
-    ensures one_more { (n : ℕ) → 1 < n → n < 2 ^ 64 → turns_of n ≡ turns_of (n / 2) + 1 }
-    ensures few { (n : ℕ) → turns_of (min n MOST_MINUTES) ≤ 28 }
 {}
 
 /// Ratios are ordered as the fractions that they are: expanding either changes nothing, and at one debt the collateral

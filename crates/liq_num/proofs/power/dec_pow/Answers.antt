@@ -1,7 +1,7 @@
 use Rattle.std.proofs.Common.{◌≡◌, ◌+◌, ◌<◌, ◌/◌, ◌^◌, arith, refl, sym, ◌∙◌, ap, min}
-use Rattle.liq_num.specs.Power.{power_of, digits_product, squared, turns_of}
+use Rattle.liq_num.specs.Power.{power_of, digits_product, squared}
 use Rattle.liq_num.specs.declared.power.TheConstants.{MOST_MINUTES}
-use Rattle.liq_num.proofs.Halving.{turns_of-more}
+use Rattle.liq_num.proofs.Halving.{turns_of, turns_of-more}
 use Rattle.liq_num.proofs.Squaring.{turned_first, turned_odd, turned_even, turned_last}
 use Rattle.liq_num.proofs.power.dec_pow.Goals as goal
 use Rattle.liq_num.proofs.power.dec_pow.Goals.{then-exponent-eq1, else-exponent-eq1}

@@ -1,4 +1,4 @@
-use Rattle.liq_num.specs.Power.{turns_of}
+use Rattle.liq_num.proofs.Halving.{turns_of}
 use Rattle.liq_num.proofs.Squaring.{IsWithinTurns}
 use Rattle.liq_num.proofs.power.dec_pow.Given as goal
 
