@@ -16,5 +16,14 @@ pub mod Opening
 pub mod Rows
 pub mod Ruled
 pub mod Runs
+pub mod SoundBorrow
+pub mod SoundCalls
+pub mod SoundFacts
+pub mod SoundLiquidate
+pub mod SoundPool
+pub mod SoundRedeem
+pub mod SoundStart
+pub mod SoundStep
+pub mod SoundTests
 pub mod Standing
 pub mod Started
