@@ -10,6 +10,7 @@ pub mod Allowed
 pub mod Ascending
 pub mod Begun
 pub mod Conserving
+pub mod Counting
 pub mod Histories
 pub mod Moving
 pub mod Opening

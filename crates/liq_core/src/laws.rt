@@ -1,7 +1,8 @@
 //! What holds of the step and of whole runs. The functions here do nothing: each is the place where the facts of its
 //! contract are proved.
 
-ghost use Rattle.std.specs.Prelude.{◌≡◌, ◌≢◌, ℕ, ◌+◌, ◌-◌, ◌≤◌, ◌++◌, List, [], ◌∷◌, map, true, None};
+ghost use Rattle.std.specs.Prelude.{◌≡◌, ◌≢◌, ℕ, ◌+◌, ◌-◌, ◌*◌, ◌≤◌, ◌++◌, length, List, [], ◌∷◌, map, true, None};
+ghost use Rattle.liq_types.specs.declared.amounts.TheConstants.{LOWEST_MOST};
 ghost use Rattle.liq_types.specs.declared.replies.Done.{Done};
 ghost use Rattle.liq_types.specs.declared.replies.Refusal.{Refusal};
 ghost use Rattle.liq_types.specs.declared.replies.Reply.TheVariants.{Said, No};
@@ -21,9 +22,9 @@ ghost use Rattle.liq_core.specs.History.{Entry, IsLegal, GoesOn, state_after};
 ghost use Rattle.liq_core.specs.Identities.{IsConserved, WalletsAscend, touches_no_trove, wallets_coll, wallets_lusd};
 ghost use Rattle.liq_core.specs.Events.{events};
 ghost use Rattle.liq_core.specs.Image.{image, IsSameState};
-ghost use Rattle.liq_core.specs.Rules.{call_events, call_changes};
+ghost use Rattle.liq_core.specs.Rules.{values, call_events, call_changes};
 ghost use Rattle.liq_core.specs.Step.{Repeated, ruling, step, run, accepted, rules, effect, first_refusal};
-ghost use Rattle.liq_core.specs.Verbs.{unhinted};
+ghost use Rattle.liq_core.specs.Verbs.{kind, value_count, unhinted};
 ghost use Rattle.liq_types.specs.WellFormed.{AreFinished, IsWellFormed, TablesAscend, stakes_in};
 
 use crate::engine::Protocol;
@@ -141,4 +142,16 @@ pub fn opening_a_trove_conserves()
 /// for which it stands is said of one at least.
 pub fn protocols_stand(protocol: &Protocol)
     ensures { StandsFor protocol.now (state_of protocol.now) }
+{}
+
+/// A reply shows as many values as its kind of command has.
+pub fn replies_have_their_values()
+    ensures { (s : State) → (call : Call) → first_refusal (rules s call) ≡ None → length (values s call) ≡ value_count (kind call) }
+{}
+
+/// A command makes no more pool events than one liquidation of the lowest troves takes troves; so does each of the commands
+/// that a run accepts.
+pub fn commands_make_few_events()
+    ensures one { (s : State) → (call : Call) → first_refusal (rules s call) ≡ None → length (call_events s call) ≤ LOWEST_MOST }
+    ensures run { (s : State) → (requests : List Request) → length (events s (accepted s requests)) ≤ LOWEST_MOST * length (accepted s requests) }
 {}
