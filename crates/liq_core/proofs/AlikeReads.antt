@@ -93,14 +93,13 @@ exists_alike {s} {t} h account =
 
 -- ---- the order
 
-key_row : Trove → ℤ
+abbrev pub key_row : Trove → ℤ
 key_row t = pos (floor_of t.debt ONE t.stake) -ℤ pos t.mark_debt
 
-ranks : Table Trove → List Ranked
+abbrev pub ranks : Table Trove → List Ranked
 ranks rows = map (λ row. (key_row row.1, row.0)) rows
 
-ranks-image : (s : State) (table : Table TroveEntry) → map (λ row. (key_of s row.1, row.0)) table ≡ ranks (map_rows (trove_row s) table)
-unfolding ranks key_row
+pub ranks-image : (s : State) (table : Table TroveEntry) → map (λ row. (key_of s row.1, row.0)) table ≡ ranks (map_rows (trove_row s) table)
 ranks-image s [] = refl
 ranks-image s (row ∷ rows) = ap (λ (rs : List Ranked). (key_of s row.1, row.0) ∷ rs) (ranks-image s rows)
 

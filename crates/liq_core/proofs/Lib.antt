@@ -11,9 +11,11 @@ pub mod Ascending
 pub mod Begun
 pub mod Conserving
 pub mod Counting
+pub mod Following
 pub mod Histories
 pub mod Moving
 pub mod Opening
+pub mod Ranking
 pub mod Rows
 pub mod Ruled
 pub mod Runs

@@ -24,3 +24,4 @@ pub mod Sound
 pub mod Step
 pub mod Turn
 pub mod Verbs
+pub mod View

@@ -1,7 +1,7 @@
 //! What holds of the step and of whole runs. The functions here do nothing: each is the place where the facts of its
 //! contract are proved.
 
-ghost use Rattle.std.specs.Prelude.{◌≡◌, ◌≢◌, ℕ, ◌+◌, ◌-◌, ◌*◌, ◌≤◌, ◌<◌, ◌++◌, length, List, [], ◌∷◌, map, true, None};
+ghost use Rattle.std.specs.Prelude.{◌≡◌, ◌≢◌, ℕ, ◌+◌, ◌-◌, ◌*◌, ◌≤◌, ◌<◌, ◌++◌, length, List, [], ◌∷◌, map, take, true, None};
 ghost use Rattle.liq_types.specs.declared.amounts.TheConstants.{ACCOUNTS, LOWEST_MOST, GENERATIONS_MOST};
 ghost use Rattle.liq_types.specs.declared.replies.Done.{Done};
 ghost use Rattle.liq_types.specs.declared.replies.Refusal.{Refusal};
@@ -19,7 +19,7 @@ ghost use Rattle.liq_types.specs.State.{State, opening, started, wallet_of, clie
 ghost use Rattle.liq_types.specs.Payments.{paid, charged};
 ghost use Rattle.liq_core.specs.Core.{StandsFor, state_of};
 ghost use Rattle.liq_core.specs.Dust.{IsCovered, dust};
-ghost use Rattle.liq_core.specs.History.{Entry, IsLegal, GoesOn, state_after};
+ghost use Rattle.liq_core.specs.History.{Entry, IsLegal, GoesOn, requests_of, state_after};
 ghost use Rattle.liq_core.specs.Identities.{IsConserved, WalletsAscend, touches_no_trove, wallets_coll, wallets_lusd};
 ghost use Rattle.liq_core.specs.Events.{events};
 ghost use Rattle.liq_core.specs.Image.{image, IsSameState};
@@ -27,6 +27,7 @@ ghost use Rattle.liq_core.specs.Length.{CHECKPOINT_BYTES_MOST, checkpoint_length
 ghost use Rattle.liq_core.specs.Rules.{values, call_events, call_changes};
 ghost use Rattle.liq_core.specs.Step.{Refused, Repeated, ruling, after, step, run, accepted, rules, effect, first_refusal};
 ghost use Rattle.liq_core.specs.Verbs.{kind, value_count, unhinted};
+ghost use Rattle.liq_core.specs.View.{view_of, view_after, all_followed, changes};
 ghost use Rattle.liq_types.specs.WellFormed.{AreFinished, IsWellFormed, TablesAscend, stakes_in};
 
 use crate::engine::Protocol;
@@ -163,4 +164,12 @@ pub fn replies_have_their_values()
 pub fn commands_make_few_events()
     ensures one { (s : State) → (call : Call) → first_refusal (rules s call) ≡ None → length (call_events s call) ≤ LOWEST_MOST }
     ensures run { (s : State) → (requests : List Request) → length (events s (accepted s requests)) ≤ LOWEST_MOST * length (accepted s requests) }
+{}
+
+/// Whoever has the view of a state (its ordered list and the words from which keys are made) and follows the changes of an
+/// accepted command has the view of the state after it; so it is over whole runs, and after each entry of a history.
+pub fn views_follow_changes()
+    ensures one { (s : State) → IsWellFormed s → TablesAscend s → (c : Command) → all_followed (view_of s) (call_changes s c.call) ≡ view_of (after s c) }
+    ensures run { (s : State) → IsWellFormed s → TablesAscend s → (requests : List Request) → all_followed (view_of s) (changes s (accepted s requests)) ≡ view_of (run s requests).0 }
+    ensures history { (s : State) → IsWellFormed s → TablesAscend s → (entries : List Entry) → (n : ℕ) → all_followed (view_of s) (changes s (accepted s (requests_of (take n entries)))) ≡ view_after s entries n }
 {}
