@@ -10,9 +10,12 @@ pub mod Allowed
 pub mod Ascending
 pub mod Begun
 pub mod Conserving
+pub mod Counting
+pub mod Following
 pub mod Histories
 pub mod Moving
 pub mod Opening
+pub mod Ranking
 pub mod Rows
 pub mod Ruled
 pub mod Runs
