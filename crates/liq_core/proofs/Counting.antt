@@ -12,20 +12,20 @@ use Rattle.liq_types.specs.declared.requests.Call.TheVariants.{Price, Advance, F
 use Rattle.liq_types.specs.declared.requests.Request.{Request}
 use Rattle.liq_types.specs.declared.requests.Request.TheVariants.{Do, Ask}
 use Rattle.liq_types.specs.Product.{rise_of}
-use Rattle.liq_types.specs.Rules.{first_refusal, last_trove_stays}
+use Rattle.liq_types.specs.Rules.{first_refusal}
 use Rattle.liq_types.specs.State.{State}
-use Rattle.liq_types.specs.Totals.{market_of, pool_total}
-use Rattle.liq_order.specs.Order.{last_trove}
+use Rattle.liq_types.specs.Totals.{pool_total}
 use Rattle.liq_stability.specs.Position.{words_of}
 use Rattle.liq_liquidation.specs.declared.one.One.{One}
 use Rattle.liq_liquidation.specs.declared.one.Victim.{Victim}
-use Rattle.liq_liquidation.specs.Lowest.{lowest, next_victim, victim_by}
+use Rattle.liq_liquidation.specs.Lowest.{lowest, lowest_rules, next_victim, refusal_of, victim_by}
 use Rattle.liq_liquidation.specs.One.{one, struck}
 use Rattle.liq_core.specs.Events.{events}
-use Rattle.liq_core.specs.Liquidation.{refusal_of, one_values, listed, victim_events, offset_events, first_of_lowest}
+use Rattle.liq_core.specs.Liquidation.{one_values, listed, victim_events, offset_events}
 use Rattle.liq_core.specs.Rules.{rules, values, call_events}
 use Rattle.liq_core.specs.Step.{Ruling, Refused, Repeated, Allowed, after, after_ruling, ruling, accepted, is_allowed}
-use Rattle.liq_core.specs.Verbs.{kind, value_count}
+use Rattle.liq_core.specs.Verbs.{kind}
+use Rattle.liq_types.specs.Codes.{value_count}
 use Rattle.liq_core.proofs.AlikeLiquidation.{lowest_by}
 use Rattle.liq_core.proofs.Allowed.{allowed_rules, none_first}
 
@@ -86,7 +86,7 @@ listed_count account (Err refusal) = omega arith
 
 lowest_within : (s : State) (liquidator count : ℕ) → first_refusal (rules s (LiquidateLowest liquidator count)) ≡ None → count ≤ LOWEST_MOST
 lowest_within s liquidator count h =
-    let rest = last_trove_stays (market_of s) ∷ first_of_lowest s (last_trove s) in
+    let rest = lowest_rules s in
     let above : nat_lt LOWEST_MOST count ≡ false =
     (none_first (nat_lt LOWEST_MOST count, AmountLimit count LOWEST_MOST) rest (none_first (count == 0, AmountZero) ((nat_lt LOWEST_MOST count, AmountLimit count LOWEST_MOST) ∷ rest) h).1).0 in
     grind (arith, nat_tests, above)

@@ -19,17 +19,18 @@ use Rattle.liq_types.specs.State.{State, TroveEntry}
 use Rattle.liq_types.specs.declared.amounts.TheConstants.{RESERVE}
 use Rattle.liq_types.specs.Payments.{paid, charged, surplus_added}
 use Rattle.liq_types.specs.Tables.{Table, at, put, without, map_rows}
-use Rattle.liq_types.specs.Totals.{market_of, pool_total}
+use Rattle.liq_types.specs.Totals.{market_of, or_nothing, pool_total}
 use Rattle.liq_types.specs.WellFormed.{Ascends, IsMoment, IsWellFormed, TrovesAreMarked}
 use Rattle.liq_types.proofs.Ascending.{put-ascends, without-ascends}
 use Rattle.liq_types.proofs.MapRows.{at-map, map-put, map-without, map-cong}
 use Rattle.liq_troves.specs.Own.{lifted_entry, lifted, placed, set_trove, redistributed, snapped}
-use Rattle.liq_troves.specs.StakeSums.{trove_row, sums_now, entire_of}
-use Rattle.liq_order.specs.Order.{Ranked, sorted, trove_order}
+use Rattle.liq_troves.specs.StakeSums.{trove_row, trove_rows, sums_now, entire_of}
+use Rattle.liq_types.specs.Ranked.{Ranked}
+use Rattle.liq_order.specs.Order.{order_by}
 use Rattle.liq_stability.specs.Own.{owned, offset}
 use Rattle.liq_stability.specs.Position.{gain_of}
 use Rattle.liq_borrow.specs.declared.change.Change.{Change}
-use Rattle.liq_borrow.specs.Borrowing.{fee_now, open_debt, or_nothing, adjusted_coll, adjusted_debt}
+use Rattle.liq_borrow.specs.Borrowing.{open_debt, adjusting_terms, closing_terms}
 use Rattle.liq_liquidation.specs.declared.one.Victim.{Victim}
 use Rattle.liq_liquidation.specs.Lowest.{lowest, victim_by}
 use Rattle.liq_liquidation.specs.One.{one, offset_if_any, struck, liquidated}
@@ -40,12 +41,11 @@ use Rattle.liq_core.specs.Liquidation.{listed, all_liquidated, victim_changes}
 use Rattle.liq_core.specs.ListChanges.{stands, words_in}
 use Rattle.liq_core.specs.Rules.{effect, call_changes, done_of}
 use Rattle.liq_core.specs.Step.{Ruling, Refused, Repeated, Allowed, after, after_ruling, ruling, run, accepted, is_allowed}
-use Rattle.liq_core.specs.View.{View, view_of, without_ranked, followed, all_followed, changes}
+use Rattle.liq_core.specs.View.{View, view_of, followed, all_followed, changes}
 use Rattle.liq_core.proofs.Alike.{row-grown}
 use Rattle.liq_core.proofs.AlikeChanges.{formed-lifted}
 use Rattle.liq_core.proofs.AlikeFollowed.{told, stands-image}
 use Rattle.liq_core.proofs.AlikeLiquidation.{Serves, single_serves, lowest_serves, struck_alike, struck-total}
-use Rattle.liq_core.proofs.AlikeReads.{ranks, ranks-image}
 use Rattle.liq_core.proofs.AlikeReplies.{alike_itself}
 use Rattle.liq_core.proofs.Ascending.{Ordered, cut_entire-ascends, effect-ascends, liquidated-ascends, noted-ascends}
 use Rattle.liq_core.proofs.AlikeStep.{effect_alike}
@@ -72,7 +72,7 @@ mended_other table account q (Some row) n = at-put_other (without table account)
 
 -- the view with the list of a table
 abbrev view_by : Table Trove → View → View
-view_by table v = record v { list = sorted (ranks table) }
+view_by table v = record v { list = order_by table }
 
 mended_view : (table : Table Trove) (v : View) (account : ℕ) (o : Option Trove) → Ascends table → followed (view_by table v) (told account o) ≡ view_by (mended table account o) v
 mended_view table v account None s = ap (λ (list : List Ranked). record v { list = list }) (sym (gone_list table account s))
@@ -99,7 +99,7 @@ follow (account ∷ accounts) old new v s t h =
 -- ---- the troves of a state, as its image has them
 
 abbrev troves_in : State → Table Trove
-troves_in s = map_rows (trove_row s) s.troves
+troves_in s = trove_rows s
 
 keys_kept : {X Y : Type 0} (f : X → Y) (table : Table X) → keys_of (map_rows f table) ≡ keys_of table
 keys_kept f [] = refl
@@ -110,9 +110,6 @@ strictly keys = IsStrictlySortedBy nat_cmp keys
 
 troves-ascend : (s : State) → Ascends s.troves → Ascends (troves_in s)
 troves-ascend s h = subst strictly (sym (keys_kept (trove_row s) s.troves)) h
-
-order-is : (s : State) → trove_order s ≡ sorted (ranks (troves_in s))
-order-is s = ap sorted (ranks-image s s.troves)
 
 abbrev key_words : State → ℕ × ℕ × ℕ
 key_words s = (s.snap_stakes, s.snap_coll, (sums_now s).debt)
@@ -129,9 +126,7 @@ follows : (s next : State) (accounts : List ℕ) → Ascends s.troves → Ascend
 follows s next accounts a b h =
     let told_all : stands next ≡ told_by (troves_in next) = λ i account. stands-image next account i in
     ap (λ (f : ℕ → ListChange). all_followed (view_of s) (map f accounts)) told_all
-    ∙ ap (λ (list : List Ranked). all_followed (record (view_of s) { list = list }) (map (told_by (troves_in next)) accounts)) (order-is s)
     ∙ follow accounts (troves_in s) (troves_in next) (view_of s) (troves-ascend s a) (troves-ascend next b) h.others
-    ∙ ap (λ (list : List Ranked). record (view_of s) { list = list }) (sym (order-is next))
     ∙ ap (with_words (view_of next)) (sym h.words)
 
 -- ---- one trove
@@ -229,10 +224,7 @@ struck-troves s v w h =
 struck_view : (s : State) (v : Victim) → IsWellFormed s → Ascends s.troves → followed (followed (view_of s) (Gone v.account)) (words_in (struck s v)) ≡ view_of (struck s v)
 struck_view s v w h =
     ap (λ (list : List Ranked). record (view_of (struck s v)) { list = list })
-    (ap (λ (list : List Ranked). without_ranked list v.account) (order-is s)
-    ∙ sym (gone_list (troves_in s) v.account (troves-ascend s h))
-    ∙ sym (ap (λ (t : Table Trove). sorted (ranks t)) (struck-troves s v w h))
-    ∙ sym (order-is (struck s v)))
+    (sym (gone_list (troves_in s) v.account (troves-ascend s h)) ∙ sym (ap (λ (t : Table Trove). order_by t) (struck-troves s v w h)))
 
 -- the same but for the reserve and the wallets
 abbrev with_purse : State → ℕ → Table Wallet → State
@@ -284,15 +276,14 @@ call_follows s (Open account coll borrow bound hint) w h =
     (record { words = refl; others = λ q away. placed_other s account coll (open_debt (market_of s) borrow) q away.0 })
 call_follows s (Adjust account coll_in coll_out borrow repay bound hint) w h =
     let call = Adjust account coll_in coll_out borrow repay bound hint in
-    let had = or_nothing (entire_of s account) in
-    let m = market_of s in
     let change : Change = record { coll_in = coll_in; coll_out = coll_out; borrow = borrow; repay = repay } in
-    let moved = paid (charged (with_fee s borrow (fee_now m borrow)) account coll_in repay) account coll_out borrow in
-    let changed = set_changes moved account (adjusted_coll had.0 change) (adjusted_debt m had.1 change) h.tables.1 in
+    let plan = adjusting_terms (market_of s) (or_nothing (entire_of s account)) change in
+    let moved = paid (charged (with_fee s plan) account coll_in repay) account coll_out borrow in
+    let changed = set_changes moved account plan.coll plan.debt h.tables.1 in
     follows s (effect s call) (account ∷ []) h.tables.1 (effect-ascends s call h).tables.1 (record { words = changed.words; others = changed.others })
 call_follows s (Close account) w h =
-    let had = or_nothing (entire_of s account) in
-    let settled = paid (charged s account 0 (had.1 - RESERVE)) account had.0 0 in
+    let terms = closing_terms (or_nothing (entire_of s account)) in
+    let settled = paid (charged s account 0 terms.0) account terms.1 0 in
     let before = record settled { reserve = settled.reserve - RESERVE } in
     let changed = lifted_changes before account h.tables.1 in
     ap (λ (change : ListChange). followed (view_of s) change) (lifted_stands before account h.tables.1)

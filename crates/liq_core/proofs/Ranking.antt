@@ -19,9 +19,9 @@ use Rattle.liq_types.specs.declared.figures.Trove.{Trove}
 use Rattle.liq_types.specs.Tables.{Table, at, put, without}
 use Rattle.liq_types.specs.WellFormed.{Ascends}
 use Rattle.liq_types.proofs.Ascending.{put-ascends, without-ascends}
-use Rattle.liq_order.specs.Order.{Ranked, rank_order, with_ranked, sorted}
-use Rattle.liq_core.specs.View.{without_ranked}
-use Rattle.liq_core.proofs.AlikeReads.{key_row, ranks}
+use Rattle.liq_types.specs.Ranked.{Ranked, rank_order, with_ranked, without_ranked}
+use Rattle.liq_troves.specs.Rows.{key_by}
+use Rattle.liq_order.specs.Order.{ranks, order_by}
 use Rattle.liq_core.proofs.Rows.{equal_keys, same_key, at-put_here, at-put_other, at-without_here, at-without_other}
 
 -- ---- tables with equal rows at all keys
@@ -163,13 +163,13 @@ move (x ∷ entries) list e =
 
 -- ---- a row more
 
-put_absent : (table : Table Trove) (key : ℕ) (row : Trove) (list : List Ranked) → at table key ≡ None → fold with_ranked list (ranks (put table key row)) ≡ with_ranked (fold with_ranked list (ranks table)) (key_row row, key)
+put_absent : (table : Table Trove) (key : ℕ) (row : Trove) (list : List Ranked) → at table key ≡ None → fold with_ranked list (ranks (put table key row)) ≡ with_ranked (fold with_ranked list (ranks table)) (key_by row, key)
 put_absent [] key row list n = refl
 put_absent (e ∷ es) key row list n = by (nat_cmp key e.0) n (λ later_list. put_absent es key row later_list) where
-  by : (o : Ordering) → cond (is_eq o) (Some e.1) (at es key) ≡ None → ((later_list : List Ranked) → at es key ≡ None → fold with_ranked later_list (ranks (put es key row)) ≡ with_ranked (fold with_ranked later_list (ranks es)) (key_row row, key)) → fold with_ranked list (ranks (match_ordering o ((key, row) ∷ e ∷ es) ((e.0, row) ∷ es) (e ∷ put es key row))) ≡ with_ranked (fold with_ranked list (ranks (e ∷ es))) (key_row row, key)
-  by Less m more = move (ranks (e ∷ es)) list (key_row row, key)
+  by : (o : Ordering) → cond (is_eq o) (Some e.1) (at es key) ≡ None → ((later_list : List Ranked) → at es key ≡ None → fold with_ranked later_list (ranks (put es key row)) ≡ with_ranked (fold with_ranked later_list (ranks es)) (key_by row, key)) → fold with_ranked list (ranks (match_ordering o ((key, row) ∷ e ∷ es) ((e.0, row) ∷ es) (e ∷ put es key row))) ≡ with_ranked (fold with_ranked list (ranks (e ∷ es))) (key_by row, key)
+  by Less m more = move (ranks (e ∷ es)) list (key_by row, key)
   by Equal m more = cc
-  by Greater m more = more (with_ranked list (key_row e.1, e.0)) m
+  by Greater m more = more (with_ranked list (key_by e.1, e.0)) m
 
 -- ---- a row less
 
@@ -199,9 +199,9 @@ unequal a b h = by (b == a) refl where
 all_away : (account : ℕ) (table : Table Trove) (list : List Ranked) → at table account ≡ None → Away account list → Away account (fold with_ranked list (ranks table))
 all_away account [] list n h = h
 all_away account (e ∷ es) list n h = by (is_eq (nat_cmp account e.0)) refl n (λ later_list. all_away account es later_list) where
-  by : (b : Bool) → is_eq (nat_cmp account e.0) ≡ b → cond b (Some e.1) (at es account) ≡ None → ((later_list : List Ranked) → at es account ≡ None → Away account later_list → Away account (fold with_ranked later_list (ranks es))) → Away account (fold with_ranked (with_ranked list (key_row e.1, e.0)) (ranks es))
+  by : (b : Bool) → is_eq (nat_cmp account e.0) ≡ b → cond b (Some e.1) (at es account) ≡ None → ((later_list : List Ranked) → at es account ≡ None → Away account later_list → Away account (fold with_ranked later_list (ranks es))) → Away account (fold with_ranked (with_ranked list (key_by e.1, e.0)) (ranks es))
   by true is m more = cc
-  by false is m more = more (with_ranked list (key_row e.1, e.0)) m (with_away account list (key_row e.1, e.0) (unequal account e.0 is) h)
+  by false is m more = more (with_ranked list (key_by e.1, e.0)) m (with_away account list (key_by e.1, e.0) (unequal account e.0 is) h)
 
 filter_away : (account : ℕ) (list : List Ranked) → Away account list → without_ranked list account ≡ list
 filter_away account [] h = refl
@@ -247,23 +247,23 @@ without-absent {X} table key s h = same_rows (without table key) table (without-
     by false is = at-without_other table key q (differ q key is)
 
 -- the ordered list without a trove is that of the table without it
-pub gone_list : (table : Table Trove) (account : ℕ) → Ascends table → sorted (ranks (without table account)) ≡ without_ranked (sorted (ranks table)) account
+pub gone_list : (table : Table Trove) (account : ℕ) → Ascends table → order_by (without table account) ≡ without_ranked (order_by table) account
 gone_list table account s = by (at table account) refl where
-  by : (o : Option Trove) → at table account ≡ o → sorted (ranks (without table account)) ≡ without_ranked (sorted (ranks table)) account
+  by : (o : Option Trove) → at table account ≡ o → order_by (without table account) ≡ without_ranked (order_by table) account
   by None is =
-      ap (λ (t : Table Trove). sorted (ranks t)) (without-absent table account s is)
-      ∙ sym (filter_away account (sorted (ranks table)) (all_away account table [] is tt))
+      ap (λ (t : Table Trove). order_by t) (without-absent table account s is)
+      ∙ sym (filter_away account (order_by table) (all_away account table [] is tt))
   by (Some row) is =
       let left = without table account in
       let absent = at-without_here table account s in
       sym
-      (ap (λ (t : Table Trove). without_ranked (sorted (ranks t)) account) (put-back table account row s is)
+      (ap (λ (t : Table Trove). without_ranked (order_by t) account) (put-back table account row s is)
       ∙ ap (λ (l : List Ranked). without_ranked l account) (put_absent left account row [] absent)
-      ∙ filter_here (sorted (ranks left)) (key_row row, account)
-      ∙ filter_away account (sorted (ranks left)) (all_away account left [] absent tt))
+      ∙ filter_here (order_by left) (key_by row, account)
+      ∙ filter_away account (order_by left) (all_away account left [] absent tt))
 
 -- and with a trove put at its key, that of the table with it
-pub put_list : (table : Table Trove) (account : ℕ) (row : Trove) → Ascends table → sorted (ranks (put (without table account) account row)) ≡ with_ranked (without_ranked (sorted (ranks table)) account) (key_row row, account)
+pub put_list : (table : Table Trove) (account : ℕ) (row : Trove) → Ascends table → order_by (put (without table account) account row) ≡ with_ranked (without_ranked (order_by table) account) (key_by row, account)
 put_list table account row s =
     put_absent (without table account) account row [] (at-without_here table account s)
-    ∙ ap (λ (l : List Ranked). with_ranked l (key_row row, account)) (gone_list table account s)
+    ∙ ap (λ (l : List Ranked). with_ranked l (key_by row, account)) (gone_list table account s)

@@ -3,10 +3,6 @@
 use Rattle.std.specs.Prelude.{ℕ, ◌+◌, ◌*◌, length}
 use Rattle.liq_types.specs.Image.{Image}
 
--- the most bytes of a checkpoint
-abbrev pub CHECKPOINT_BYTES_MOST : ℕ
-CHECKPOINT_BYTES_MOST = 68719476736
-
 -- a name of eight bytes; 21 numbers, 2 sums per stake, the product and its sum; and six counts
 abbrev pub words_length : ℕ
 words_length = 8 + 8 * 21 + 16 * 4 + 8 * 6

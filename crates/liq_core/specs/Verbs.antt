@@ -1,5 +1,5 @@
 -- The verbs: their places in the list, the accounts that they name, and which of them the protocol has so far.
-use Rattle.std.specs.Prelude.{ℕ, Bool, true, false, List, [], ◌∷◌, slice_index, None}
+use Rattle.std.specs.Prelude.{ℕ, Bool, true, false, List, [], ◌∷◌, None}
 use Rattle.liq_types.specs.declared.hints.HintWords.{HintWords}
 use Rattle.liq_types.specs.declared.requests.Call.{Call}
 use Rattle.liq_types.specs.declared.requests.Call.TheVariants.{Price, Advance, Fund, Take, Send, Open, Adjust, Close, Provide, Withdraw, GainToTrove, Liquidate, LiquidateLowest, Redeem, Claim, Rotate}
@@ -45,13 +45,6 @@ kind (LiquidateLowest liquidator count) = 13
 kind (Redeem account lusd bound hint) = 14
 kind (Claim account) = 15
 kind Rotate = 16
-
--- how many values the reply to each kind of command shows; there is no kind 0, and none above 16
-abbrev pub value_counts : List ℕ
-value_counts = 0 ∷ 0 ∷ 1 ∷ 0 ∷ 0 ∷ 0 ∷ 2 ∷ 3 ∷ 2 ∷ 2 ∷ 2 ∷ 2 ∷ 6 ∷ 4 ∷ 4 ∷ 1 ∷ 1 ∷ []
-
-abbrev pub value_count : ℕ → ℕ
-value_count kind = slice_index value_counts kind
 
 -- the accounts of a call, in the order of its words
 abbrev pub accounts : Call → List ℕ

@@ -1,11 +1,12 @@
 -- What others see of a state: its ordered list, and the words from which keys are made.
-use Rattle.std.specs.Prelude.{ℕ, ◌==◌, not, List, [], ◌∷◌, ◌++◌, fold, filter, take}
+use Rattle.std.specs.Prelude.{ℕ, List, [], ◌∷◌, ◌++◌, fold, take}
 use Rattle.liq_types.specs.declared.events.ListChange.{ListChange}
 use Rattle.liq_types.specs.declared.events.ListChange.TheVariants.{Put, Gone, Words}
 use Rattle.liq_types.specs.declared.requests.Command.{Command}
+use Rattle.liq_types.specs.Ranked.{Ranked, with_ranked, without_ranked}
 use Rattle.liq_types.specs.State.{State}
 use Rattle.liq_troves.specs.StakeSums.{sums_now}
-use Rattle.liq_order.specs.Order.{Ranked, with_ranked, trove_order}
+use Rattle.liq_order.specs.Order.{trove_order}
 use Rattle.liq_core.specs.History.{Entry, state_after}
 use Rattle.liq_core.specs.Rules.{call_changes}
 use Rattle.liq_core.specs.Step.{after}
@@ -25,9 +26,6 @@ abbrev pub view_after : State → List Entry → ℕ → View
 view_after s entries n = view_of (state_after s (take n entries))
 
 -- ---- following
-
-abbrev pub without_ranked : List Ranked → ℕ → List Ranked
-without_ranked list account = filter (λ (e : Ranked). not (e.1 == account)) list
 
 -- what a change makes of a view
 abbrev pub followed : View → ListChange → View

@@ -2,7 +2,7 @@
 //! contract are proved.
 
 ghost use Rattle.std.specs.Prelude.{◌≡◌, ◌≢◌, ℕ, ◌+◌, ◌-◌, ◌*◌, ◌≤◌, ◌<◌, ◌++◌, length, List, [], ◌∷◌, map, take, true, None};
-ghost use Rattle.liq_types.specs.declared.amounts.TheConstants.{ACCOUNTS, LOWEST_MOST, GENERATIONS_MOST};
+ghost use Rattle.liq_types.specs.declared.amounts.TheConstants.{ACCOUNTS, LOWEST_MOST, GENERATIONS_MOST, CHECKPOINT_BYTES_MOST};
 ghost use Rattle.liq_types.specs.declared.replies.Done.{Done};
 ghost use Rattle.liq_types.specs.declared.replies.Refusal.{Refusal};
 ghost use Rattle.liq_types.specs.declared.replies.Refusal.TheVariants.{AmountLimit};
@@ -14,6 +14,7 @@ ghost use Rattle.liq_types.specs.declared.requests.Command.{Command};
 ghost use Rattle.liq_types.specs.declared.requests.Query.{Query};
 ghost use Rattle.liq_types.specs.declared.requests.Request.{Request};
 ghost use Rattle.liq_types.specs.declared.requests.Request.TheVariants.{Do, Ask};
+ghost use Rattle.liq_types.specs.Codes.{value_count};
 ghost use Rattle.liq_types.specs.Image.{Image, opening_image};
 ghost use Rattle.liq_types.specs.State.{State, opening, started, wallet_of, client_of};
 ghost use Rattle.liq_types.specs.Payments.{paid, charged};
@@ -23,10 +24,10 @@ ghost use Rattle.liq_core.specs.History.{Entry, IsLegal, GoesOn, requests_of, st
 ghost use Rattle.liq_core.specs.Identities.{IsConserved, WalletsAscend, touches_no_trove, wallets_coll, wallets_lusd};
 ghost use Rattle.liq_core.specs.Events.{events};
 ghost use Rattle.liq_core.specs.Image.{image, IsSameState};
-ghost use Rattle.liq_core.specs.Length.{CHECKPOINT_BYTES_MOST, checkpoint_length};
+ghost use Rattle.liq_core.specs.Length.{checkpoint_length};
 ghost use Rattle.liq_core.specs.Rules.{values, call_events, call_changes};
 ghost use Rattle.liq_core.specs.Step.{Refused, Repeated, ruling, after, step, run, accepted, rules, effect, first_refusal};
-ghost use Rattle.liq_core.specs.Verbs.{kind, value_count, unhinted};
+ghost use Rattle.liq_core.specs.Verbs.{kind, unhinted};
 ghost use Rattle.liq_core.specs.View.{view_of, view_after, all_followed, changes};
 ghost use Rattle.liq_types.specs.WellFormed.{AreFinished, IsWellFormed, TablesAscend, stakes_in};
 

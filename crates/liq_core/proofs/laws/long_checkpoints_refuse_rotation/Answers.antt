@@ -1,11 +1,11 @@
 use Rattle.std.proofs.Common.{◌≡◌, ◌+◌, false, true, cond, nat_lt, Some, None, refl, ap, sym, ◌∙◌, arith}
 use Rattle.std.proofs.lemmas.Bool.Decides.{nat_tests}
-use Rattle.liq_types.specs.declared.amounts.TheConstants.{GENERATIONS_MOST}
+use Rattle.liq_types.specs.declared.amounts.TheConstants.{GENERATIONS_MOST, CHECKPOINT_BYTES_MOST}
 use Rattle.liq_types.specs.declared.replies.Refusal.TheVariants.{AmountLimit}
 use Rattle.liq_types.specs.declared.requests.Call.TheVariants.{Rotate}
 use Rattle.liq_types.specs.declared.requests.Command.{Command}
 use Rattle.liq_core.specs.Image.{image}
-use Rattle.liq_core.specs.Length.{CHECKPOINT_BYTES_MOST, checkpoint_length}
+use Rattle.liq_core.specs.Length.{checkpoint_length}
 use Rattle.liq_core.specs.Step.{after}
 use Rattle.liq_core.proofs.Ruled.{refused_room}
 use Rattle.liq_core.proofs.laws.long_checkpoints_refuse_rotation.Goals as goal
