@@ -68,3 +68,7 @@ one_hand ((zero, None) ∷ []) e = refl
 one_hand ((zero, Some x) ∷ l) e = absurd (cc)
 one_hand ((zero, None) ∷ p ∷ l) e = absurd (cc)
 one_hand ((suc k, o) ∷ l) e = absurd (cc)
+
+-- the view of a seat that is at rest
+pub rest_of : {I : Type 0} (views : List (View I)) (v : View I) → is_at_rest (view_in views) ≡ true → views ≡ v ∷ [] → AtRest v
+rest_of {I} views v rest is = at_rest v (sym (ap (λ (l : List (View I)). is_at_rest (view_in l)) is) ∙ rest)

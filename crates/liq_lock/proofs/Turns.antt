@@ -1,21 +1,18 @@
 -- Counting new items and leaving keep the rule.
-use Rattle.std.proofs.Common.{◌≡◌, ℕ, zero, suc, ◌+◌, ◌-◌, ◌%◌, ◌^◌, ◌<◌, ◌≤◌, ◌≢◌, ◌⊎◌, Bool, true, false, List, [], ◌∷◌, ◌++◌, length, get_or, set, refl, sym, ap, ◌∙◌, subst, inl, inr, ⊎_elim, arith}
-use mathlib.Core.Logic.{dite}
+use Rattle.std.proofs.Common.{◌≡◌, ℕ, ◌+◌, ◌%◌, ◌^◌, ◌<◌, ◌≤◌, ◌≢◌, true, false, List, [], ◌∷◌, ◌++◌, length, get_or, set, refl, sym, ap, ◌∙◌, subst, inr, ⊎_elim, arith}
 use mathlib.Core.Option.{some, none}
 use mathlib.Core.Option as maybe
-use native.Mathlib.Decide.{ℕ_discrete}
 use lib.ListN.{get_elem?}
 use Rattle.std.specs.Prelude.{Option, Some, None, Contains}
 use Rattle.std.proofs.lemmas.List.Elements.{Contains-append_cases}
-use Rattle.atomic_table.specs.Table.{State, Me, step, keeps, gives, Allows}
-use Rattle.atomic_table.proofs.Lists.{set_else}
+use Rattle.atomic_table.specs.Table.{Me, step, keeps, gives, Allows}
 use Rattle.liq_lock.specs.declared.view.View.{View}
-use Rattle.liq_lock.specs.History.{NoneOf, Behind, Within, GoesOn}
-use Rattle.liq_lock.specs.Views.{waits, shares, saw, outside}
+use Rattle.liq_lock.specs.History.{NoneOf, Behind, GoesOn}
+use Rattle.liq_lock.specs.Views.{waits, saw, outside}
 use Rattle.liq_lock.specs.Rule.{Ledger, Fits, Ruled}
 use Rattle.liq_lock.specs.Steps.{Counts, Leaves}
 use Rattle.liq_lock.proofs.Histories.{behind_whole, behind_none, behind_on}
-use Rattle.liq_lock.proofs.Moved.{same_at, set_at, Some_is, None_not_Some, false_not_true, turned, Same, Stays, HeldBy, moved}
+use Rattle.liq_lock.proofs.Moved.{same_at, set_at, Some_is, None_not_Some, false_not_true, moved}
 use Rattle.liq_lock.proofs.Waits.{holds_on}
 
 -- what is held first

@@ -1,21 +1,21 @@
 -- Drawing a ticket and looking keep the rule.
-use Rattle.std.proofs.Common.{◌≡◌, ℕ, zero, suc, ◌+◌, ◌%◌, ◌^◌, ◌<◌, ◌≤◌, ◌≢◌, ◌⊎◌, Bool, true, false, cond, eqb, List, [], ◌∷◌, length, get_or, set, refl, sym, ap, ◌∙◌, subst, inl, inr, ⊎_elim, eq-eqb, ne_eqb, arith}
+use Rattle.std.proofs.Common.{◌≡◌, ℕ, ◌+◌, ◌%◌, ◌^◌, ◌<◌, ◌≤◌, ◌≢◌, Bool, true, false, eqb, List, [], ◌∷◌, length, get_or, set, refl, sym, ap, ◌∙◌, subst, inl, inr, eq-eqb, ne_eqb, arith}
 use mathlib.Core.Logic.{dite}
 use mathlib.Core.Option.{some, none, some-injective, some-ne-none}
 use mathlib.Core.Option as maybe
 use native.Mathlib.Decide.{ℕ_discrete}
 use lib.ListN.{get_elem?}
 use prog.Atomic.{either}
-use Rattle.std.specs.Prelude.{Option, Some, None, Contains, sum_by}
-use Rattle.atomic_table.specs.Table.{State, Me, step, keeps, takes, stepped, Allows}
+use Rattle.std.specs.Prelude.{Option, Some, None, sum_by}
+use Rattle.atomic_table.specs.Table.{State, Me, step, keeps, takes, Allows}
 use Rattle.atomic_table.proofs.Lists.{set_else, set_again, one_turn}
 use Rattle.liq_lock.specs.declared.view.View.{View}
-use Rattle.liq_lock.specs.History.{Behind, Within}
+use Rattle.liq_lock.specs.History.{Behind}
 use Rattle.liq_lock.specs.Views.{waits, shares, drew, entered}
-use Rattle.liq_lock.specs.Rule.{Ledger, Fits, Ruled}
-use Rattle.liq_lock.specs.Steps.{Draws, Looks, Enters}
+use Rattle.liq_lock.specs.Rule.{Ledger, Ruled}
+use Rattle.liq_lock.specs.Steps.{Draws, Looks}
 use Rattle.liq_lock.proofs.Histories.{behind_whole, behind_none}
-use Rattle.liq_lock.proofs.Moved.{within_at, same_at, set_at, Some_is, None_not_Some, false_not_true, turned, Same, Stays, HeldBy, moved}
+use Rattle.liq_lock.proofs.Moved.{same_at, set_at, Some_is, None_not_Some, false_not_true, turned, HeldBy, moved}
 use Rattle.liq_lock.proofs.Sums.{sum_le}
 
 -- f, but at k the value y

@@ -1,5 +1,5 @@
 -- What contracts name of a lock, a seat and a turn.
-use Rattle.std.specs.Prelude.{ℕ, List}
+use Rattle.std.specs.Prelude.{◌≡◌, ℕ, ◌+◌, ◌<◌, List, [], ◌∷◌, length, slice_index_or}
 use Rattle.atomic_table.specs.Seated.{TableId}
 use Rattle.liq_lock.specs.declared.chronicle.Chronicle.{Ghosts}
 use Rattle.liq_lock.specs.declared.seat.LockSeat.{LockSeat}
@@ -25,6 +25,18 @@ module _ {I : Type 0} where
 
   abbrev pub shares_of : LockSeat I → ℕ
   shares_of seat = (view_in seat.badge.views).shares
+
+  -- a seat of the lock as it was made: it stands for its number and one share, and has seen nothing
+  pub record IsFresh (id : TableId) (number : ℕ) (seat : LockSeat I) : Type 0 where
+    pub own : seat_id seat ≡ id
+    pub number_is : number_of seat ≡ number
+    pub stands : stands_of seat ≡ number ∷ []
+    pub seen : seen_of seat ≡ []
+    pub share : shares_of seat ≡ 1
+
+  -- the seats of the lock as they were made, numbered from 1 in their order
+  abbrev pub AreFresh : TableId → List (LockSeat I) → Type 0
+  AreFresh id seats = (k : ℕ) (d : LockSeat I) → k < length seats → IsFresh id (k + 1) (slice_index_or seats k d)
 
 module _ {T I : Type 0} where
   abbrev pub lock_id : Lock T I → TableId

@@ -87,3 +87,11 @@ module _ {I : Type 0} where
   abbrev pub view_in : List (View I) → View I
   view_in [] = spent
   view_in (v ∷ vs) = v
+
+  -- the view that the seats are made out of, when it has the number k of n
+  abbrev pub dealer : ℕ → ℕ → View I
+  dealer k n = record { number = k; stands = k ∷ []; seen = []; ticket = None; inside = false; shares = n + 1 - k; splitting = ltb 1 (n + 1 - k); left = no_past; right = no_past }
+
+  -- the view of a seat that was made for one share
+  abbrev pub newcomer : ℕ → View I
+  newcomer k = record { number = k; stands = k ∷ []; seen = []; ticket = None; inside = false; shares = 1; splitting = false; left = no_past; right = no_past }

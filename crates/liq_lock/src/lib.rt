@@ -6,12 +6,14 @@
 #![tactic(auto)]
 
 mod chronicle;
+mod laws;
 mod lock;
 mod rule;
 mod seat;
 mod view;
 
 pub use chronicle::Chronicle;
-pub use lock::{Held, Lock};
+pub use laws::rule_in_sentences;
+pub use lock::{Held, Lock, StillShared};
 pub use seat::LockSeat;
 pub use view::{Past, View};

@@ -16,3 +16,14 @@ pub struct LockSeat<I> {
     pub ghost shares_are: { (view_in badge.views).shares ≡ shares },
     pub ghost entries_are: { length (view_in badge.views).seen ≡ entries },
 }
+
+impl<I> LockSeat<I> {
+    ghost use Rattle.liq_lock.specs.Seats.{seen_of};
+
+    /// How many items of the history the seat has seen.
+    pub fn seen(&self) -> u64
+        ensures { result ≡ length (seen_of self.now) }
+    {
+        self.entries
+    }
+}

@@ -5,7 +5,7 @@ ghost use Rattle.liq_lock.specs.Views.{view_in, is_at_rest, drew, saw, outside};
 ghost use Rattle.liq_lock.specs.Steps.{Enters, IsWaiting};
 ghost use Rattle.liq_lock.specs.Seats.{lock_id, seat_id, number_of, stands_of, seen_of, shares_of, held_id, number_in, stands_in, seen_in, shares_in};
 
-use super::{Held, Lock};
+use super::{Held, ITEMS, Lock, SERVING, TICKET};
 use crate::chronicle::Chronicle;
 use crate::rule::{Count, Draw, Leave, Look};
 use crate::seat::LockSeat;
@@ -13,13 +13,6 @@ use crate::view::View;
 use atomic_table::{Badge, Seat};
 use std::sync::Wait;
 use std::thread::yield_now;
-
-// The words of the table.
-const TICKET: usize = 0;
-
-const SERVING: usize = 1;
-
-const ITEMS: usize = 2;
 
 impl<T: Chronicle> Lock<T> {
     /// Takes the value when the turn of this seat has come. The history of the value begins with all that the seat has

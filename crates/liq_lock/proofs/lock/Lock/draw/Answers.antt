@@ -1,7 +1,7 @@
-use Rattle.std.proofs.Common.{rules, ◌≡◌, ◌∷◌, ◌∙◌, sym, ap, List, length, true, arith}
+use Rattle.std.proofs.Common.{◌∙◌, sym, ap, List, arith}
 use Rattle.liq_lock.specs.declared.view.View.{View}
 use Rattle.liq_lock.specs.Views.{view_in, is_at_rest}
-use Rattle.liq_lock.proofs.Rests.{at_rest, one_view}
+use Rattle.liq_lock.proofs.Rests.{at_rest}
 use Rattle.liq_lock.proofs.Waits.{draws}
 use Rattle.liq_lock.proofs.lock.Lock.draw.Goals as goal
 

@@ -1,6 +1,6 @@
-use Rattle.std.proofs.Common.{ℕ, true, ◌≡◌, ◌∙◌, ◌+◌, ◌-◌, ◌%◌, ◌^◌, ◌<◌, List, [], ◌∷◌, ◌++◌, length, refl, sym, ap, subst, length-append, arith}
+use Rattle.std.proofs.Common.{ℕ, true, ◌≡◌, ◌∙◌, ◌+◌, ◌-◌, ◌%◌, ◌^◌, ◌<◌, List, [], ◌∷◌, length, refl, sym, ap, subst, length-append, arith}
 use mathlib.Core.Option.{none}
-use Rattle.std.specs.Prelude.{Option, Some, None}
+use Rattle.std.specs.Prelude.{Option, Some}
 use Rattle.atomic_table.specs.Table.{Me, rest, Allows, step}
 use Rattle.liq_lock.specs.declared.view.View.{View}
 use Rattle.liq_lock.specs.Rule.{Ruled}

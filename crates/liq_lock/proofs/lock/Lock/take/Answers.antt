@@ -1,4 +1,4 @@
-use Rattle.std.proofs.Common.{ℕ, ◌≡◌, ◌∙◌, List, ◌∷◌, sym, ap, subst}
+use Rattle.std.proofs.Common.{ℕ, ◌∙◌, List, ◌∷◌, sym, ap, subst}
 use Rattle.std.specs.Prelude.{Option, Some}
 use Rattle.atomic_table.specs.Table.{Me, rest}
 use Rattle.liq_lock.specs.declared.view.View.{View}
