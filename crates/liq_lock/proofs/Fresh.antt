@@ -1,5 +1,5 @@
 -- Seats as they are made, one behind the other.
-use Rattle.std.proofs.Common.{◌≡◌, ℕ, ◌+◌, ◌-◌, false, ltb, List, [], ◌∷◌, ◌++◌, length, get_or, sym, ap, subst, length-append, arith}
+use Rattle.std.proofs.Common.{◌≡◌, ℕ, ◌+◌, ◌-◌, false, ltb, List, [], ◌∷◌, ◌++◌, length, get_or, refl, sym, ap, subst, length-append, arith}
 use mathlib.Core.Logic.{dite}
 use native.Mathlib.Decide.{dec_lt}
 use Rattle.std.specs.Prelude.{None}
@@ -37,3 +37,11 @@ module _ {I : Type 0} where
   last_dealt n =
       let one : n + 1 - n ≡ 1 = omega arith in
       ap (λ (z : ℕ). record { number = n; stands = n ∷ []; seen = []; ticket = None; inside = false; shares = z; splitting = ltb 1 z; left = no_past; right = no_past }) one
+
+  -- the last seat that was made, and those before it
+  pub fresh_pop : (id : TableId) (seats : List (LockSeat I)) (seat : LockSeat I) → AreFresh id (seats ++ seat ∷ []) → AreFresh id seats × IsFresh id (length seats + 1) seat
+  fresh_pop id seats seat all =
+      let long = length-append seats (seat ∷ []) in (
+        (λ j d below. subst (IsFresh id (j + 1)) (get_or_append_left seats (seat ∷ []) d j below) (all j d (omega arith))),
+        subst (IsFresh id (length seats + 1)) (get_or_push seats seat seat (length seats) refl) (all (length seats) seat (omega arith)),
+      )
