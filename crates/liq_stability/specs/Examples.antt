@@ -1,18 +1,19 @@
 -- Worked examples: events of the Stability Pool from the opening on, and what then holds.
-use Rattle.std.specs.Prelude.{ℕ, List, [], ◌∷◌, ◌++◌, fold}
+use Rattle.std.specs.Prelude.{ℕ, List, [], ◌∷◌, ◌++◌}
 use Rattle.liq_types.specs.declared.events.PoolEvent.{PoolEvent}
 use Rattle.liq_types.specs.declared.events.PoolEvent.TheVariants.{Own, Offset}
-use Rattle.liq_types.specs.State.{State, opening}
-use Rattle.liq_stability.specs.Own.{after_event}
+use Rattle.liq_types.specs.Allowance.{balance_allowance, gain_allowance}
+use Rattle.liq_types.specs.State.{State}
+pub use Rattle.liq_stability.specs.Own.{after_events}
 use Rattle.liq_stability.specs.Position.{balance_of, gain_of}
-
--- the state after events from the opening on
-abbrev pub after_events : List PoolEvent → State
-after_events events = fold after_event opening events
 
 -- balance and gain
 abbrev pub position : State → ℕ → ℕ × ℕ
 position s account = (balance_of s account, gain_of s account)
+
+-- by how much balance and gain may fall short
+abbrev pub allowances : ℕ → List PoolEvent → ℕ × ℕ
+allowances account events = (balance_allowance account events, gain_allowance account events)
 
 -- all but one micro-LUSD of a large pool is taken
 abbrev pub one_rise : List PoolEvent
@@ -45,3 +46,11 @@ shared_again = shared ++ Own 1 50 0 23 116 ∷ Offset 50 30 250 0 ∷ []
 -- all of the pool is taken
 abbrev pub emptied : List PoolEvent
 emptied = Own 1 4000000000 0 0 4000000000 ∷ Offset 4000000000 9431279620 4000000000 0 ∷ []
+
+-- one of them is paid out a part, and they share another
+abbrev pub paid_out : List PoolEvent
+paid_out = shared ++ Own 1 0 30 23 36 ∷ Offset 17 10 170 0 ∷ []
+
+-- the next epoch begins with a second deposit of the first depositor and one of another
+abbrev pub begun_again : List PoolEvent
+begun_again = emptied ++ Own 1 500 0 9431279620 500 ∷ Own 2 1500 0 0 1500 ∷ Offset 400 300 2000 0 ∷ []

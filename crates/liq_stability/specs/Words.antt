@@ -1,6 +1,8 @@
 -- The words of the Stability Pool: what an offset makes of them, and what they are in a state.
-use Rattle.std.specs.Prelude.{ℕ, ◌+◌, ◌-◌, ◌||◌, ◌==◌, Option, Some, None, if◌then◌else◌}
-use Rattle.liq_types.specs.Product.{Words, after_offset, prod, sumat, sum_rise, place_of, is_place}
+use Rattle.std.specs.Prelude.{ℕ, ◌+◌, ◌-◌, ◌||◌, ◌==◌, List, Option, Some, None, if◌then◌else◌}
+use Rattle.std.specs.BTreeMap.{insert_entry}
+use Rattle.liq_types.specs.Image.{Place}
+use Rattle.liq_types.specs.Product.{Words, after_offset, prod, sumat, sum_rise, place_of, is_place, place_order}
 use Rattle.liq_types.specs.State.{State, Offset}
 use Rattle.liq_types.specs.Totals.{pool_total, pool_coll}
 use Rattle.liq_stability.specs.declared.words.PoolWords.{PoolWords}
@@ -41,6 +43,11 @@ finished_by w debt coll =
     if is_place (place_of (words_in w)) (place_of next) || sum == 0
     then None
     else Some (record { epoch = w.epoch; scale = w.scale; sum = sum })
+
+-- a table of finished sums with the one that an offset finishes, if it finishes one
+abbrev pub finished_with : List (Place × ℕ) → Option FinishedSum → List (Place × ℕ)
+finished_with table None = table
+finished_with table (Some f) = insert_entry place_order table (f.epoch, f.scale) f.sum
 
 -- ---- in a state
 

@@ -2,9 +2,10 @@
 //! its contract are proved.
 
 ghost use Rattle.std.specs.Prelude.{◌≡◌, [], ◌∷◌};
+ghost use Rattle.liq_types.specs.PlainLedger.{exact_share};
 ghost use Rattle.liq_types.specs.State.{opening};
 ghost use Rattle.liq_types.specs.Product.{finished_sums};
-ghost use Rattle.liq_stability.specs.Examples.{after_events, position, one_rise, two_rises, four_scales_on, shared, shared_again, emptied};
+ghost use Rattle.liq_stability.specs.Examples.{after_events, position, allowances, one_rise, two_rises, four_scales_on, shared, shared_again, emptied, paid_out, begun_again};
 ghost use Rattle.liq_stability.specs.Lawful.{IsLawful};
 ghost use Rattle.liq_stability.specs.Words.{pool_words};
 
@@ -43,4 +44,33 @@ pub fn shared_example()
 pub fn emptied_example()
     ensures words { pool_words (after_events emptied) ≡ record { p = 1000000000000000000; scale = 0; epoch = 1; sum = 0; total = 0; coll = 9431279620 } }
     ensures position { position (after_events emptied) 1 ≡ (0, 9431279620) }
+{}
+
+/// After a payment out of the pool, and with a second deposit in the next epoch.
+pub fn own_operations_example()
+    ensures paid_out_first { position (after_events paid_out) 1 ≡ (32, 2) }
+    ensures paid_out_second { position (after_events paid_out) 2 ≡ (119, 54) }
+    ensures begun_again_first { position (after_events begun_again) 1 ≡ (400, 75) }
+    ensures begun_again_second { position (after_events begun_again) 2 ≡ (1200, 225) }
+{}
+
+/// The lists are lawful: each event is what the rules give at its moment.
+pub fn lists_are_lawful_example()
+    ensures four_scales_on { IsLawful opening four_scales_on }
+    ensures shared_again { IsLawful opening shared_again }
+    ensures paid_out { IsLawful opening paid_out }
+    ensures begun_again { IsLawful opening begun_again }
+{}
+
+/// The exact shares of those that were paid out, and by how much the pool's balances and gains may fall short, also where the
+/// scale rose.
+pub fn allowances_example()
+    ensures paid_out_share { exact_share 1 paid_out ≡ record { den = 51000; bal = 1683000; gain = 1300000 } }
+    ensures paid_out { allowances 1 paid_out ≡ (3, 31) }
+    ensures begun_again { allowances 1 begun_again ≡ (7, 79) }
+    ensures emptied { allowances 1 emptied ≡ (5, 63) }
+    ensures two_rises { allowances 1 two_rises ≡ (1000000002, 12000000027) }
+    ensures first { allowances 1 four_scales_on ≡ (1000000003, 12000000028) }
+    ensures second { allowances 2 four_scales_on ≡ (1000000001, 12000000015) }
+    ensures third { allowances 3 four_scales_on ≡ (1000000001, 12000000015) }
 {}

@@ -6,7 +6,7 @@ use Rattle.liq_types.specs.declared.amounts.TheConstants.{ONE, SUM_MOST}
 use Rattle.liq_types.specs.declared.figures.Trove.{Trove}
 use Rattle.liq_types.specs.declared.replies.Refusal.TheVariants.{SumLimit}
 use Rattle.liq_types.specs.Rules.{Rule}
-use Rattle.liq_types.specs.Tables.{Table, at, put, without}
+use Rattle.liq_types.specs.Tables.{Table, at, put}
 use Rattle.liq_troves.specs.declared.sums.Sums.{Sums}
 
 -- ---- entire amounts

@@ -1,6 +1,11 @@
+pub mod Accounts
 pub mod Ascending
+pub mod FinishedSums
 pub mod Least
+pub mod Lookups
 pub mod MapRows
 pub mod Places
 pub mod Ranges
+pub mod Rounding
+pub mod Sums
 pub mod UsedRows

@@ -154,7 +154,7 @@ sumat-last i os o =
     omega (arith, snoc, some)
 
 -- what a further offset finishes
-pub finished_after : Finished → Words → Offset → ℕ → Finished
+unfoldable pub finished_after : Finished → Words → Offset → ℕ → Finished
 finished_after table last o sum =
     cond (is_place (place_of last) (place_of (after_offset last o))) table (with_finished table (place_of last) sum)
 
@@ -181,7 +181,7 @@ eq_of_then Less b = refl
 eq_of_then Equal b = refl
 eq_of_then Greater b = refl
 
-nat_cmp-eq : (x y : ℕ) → is_eq (nat_cmp x y) ≡ (x == y)
+pub nat_cmp-eq : (x y : ℕ) → is_eq (nat_cmp x y) ≡ (x == y)
 nat_cmp-eq x y = by (nat_lt x y) refl where
   equal : (c : Bool) → is_eq (cond c Equal Greater) ≡ c
   equal true = refl
@@ -371,7 +371,7 @@ later_none i os f q h =
       weak (inl x) = inl x
       weak (inr x) = inr (x.0, omega (arith, x.1))
 
-pub sum_after : Words → Offset → ℕ → ℕ
+unfoldable pub sum_after : Words → Offset → ℕ → ℕ
 sum_after last o sum = cond (is_place (place_of last) (place_of (after_offset last o))) (sum + sum_rise last o) 0
 
 pub sum-snoc : (i : Image) (os : List Offset) (o : Offset) → AreFinished i → sumat i (os ++ o ∷ []) (place_of (after_offset (prod i os) o)) ≡ sum_after (prod i os) o (sumat i os (last_of i os))

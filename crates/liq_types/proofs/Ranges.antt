@@ -2,14 +2,14 @@
 use Rattle.std.proofs.Common.{◌≡◌, ℕ, zero, suc, ◌+◌, ◌-◌, ◌*◌, ◌^◌, ◌≤◌, ◌<◌, Bool, true, false, cond, List, [], ◌∷◌, arith, refl, ap, sym, ◌∙◌, subst, nat_le, inl, inr}
 use Rattle.std.specs.Prelude.{fold, ◌==◌}
 use Rattle.std.specs.List.{AllByRecursion}
-use Rattle.std.proofs.Math.Nat.{mul-le-mul_right, div-le_of_le-mul, div-lt_iff_lt-mul}
+use Rattle.std.proofs.Math.Nat.{mul-le-mul_right, mul-le-mul_left, div-le_of_le-mul, div-lt_iff_lt-mul}
 use Rattle.std.proofs.lemmas.Nat.{pow-add, le-div}
 use Rattle.std.proofs.lemmas.Bool.{le-leb, leb-true, cases_lt}
 use Rattle.std.proofs.lemmas.Bool.Decides.{nat_tests}
 use Rattle.liq_num.specs.Quotient.{floor_of}
-use Rattle.liq_types.specs.declared.amounts.TheConstants.{LIM, P_OPENING, P_LEAST}
+use Rattle.liq_types.specs.declared.amounts.TheConstants.{P_OPENING, P_LEAST, RISES_MOST}
 use Rattle.liq_types.specs.Image.{Image}
-use Rattle.liq_types.specs.Product.{Words, IsWithinRange, TakesPart, least_from, product_after, rise_of, after_offset, start_words, prod}
+use Rattle.liq_types.specs.Product.{Words, IsWithinRange, TakesPartUpTo, STEPS_TRIED, opening_words, least_from, product_after, rise_of, after_offset, start_words, prod}
 use Rattle.liq_types.specs.State.{Offset}
 use Rattle.liq_types.proofs.Least.{IsFirst, least_from-first}
 
@@ -18,11 +18,13 @@ times_some p rest some =
     let more : 1 * p ≤ rest * p = mul-le-mul_right p some in
     omega arith
 
--- two steps suffice
-two_suffice : (p rest total : ℕ) → P_LEAST ≤ p → 1 ≤ rest → total ≤ LIM → 0 < total → P_LEAST ≤ floor_of p (rest * 1000000000000000000) total
-two_suffice p rest total low some limit pos =
+-- the most steps suffice
+most_suffice : (p rest total : ℕ) → P_LEAST ≤ p → 1 ≤ rest → total ≤ 10 ^ (9 * RISES_MOST) → 0 < total → P_LEAST ≤ floor_of p (rest * 10 ^ (9 * RISES_MOST)) total
+most_suffice p rest total low some limit pos =
     let many = times_some p rest some in
-    le-div 1000000000 (p * (rest * 1000000000000000000)) total pos (omega (arith, many, low, limit))
+    let least : P_LEAST ≤ p * rest = omega arith in
+    let large : 10 ^ (9 * RISES_MOST) * P_LEAST ≤ 10 ^ (9 * RISES_MOST) * (p * rest) = mul-le-mul_left (10 ^ (9 * RISES_MOST)) least in
+    le-div 1000000000 (p * (rest * 10 ^ (9 * RISES_MOST))) total pos (omega (arith, large, limit))
 
 -- with no step the product does not grow
 unraised : (p rest total : ℕ) → p ≤ P_OPENING → rest ≤ total → floor_of p (rest * 1) total ≤ P_OPENING
@@ -43,84 +45,86 @@ abbrev enough : ℕ → Offset → ℕ → Bool
 enough p o steps = nat_le P_LEAST (product_after p o steps)
 
 pub least_rise : ℕ → Offset → ℕ
-least_rise p o = least_from (enough p o) 0 30
+least_rise p o = least_from (enough p o) 0 STEPS_TRIED
 
-two_are_enough : (p : ℕ) (o : Offset) → P_LEAST ≤ p → TakesPart o → o.debt < o.total → enough p o 2 ≡ true
-two_are_enough p o low h less =
-    le-leb P_LEAST (product_after p o 2) (two_suffice p (o.total - o.debt) o.total low (omega arith) h.limit (omega arith))
+-- a limit that the most steps serve
+module _ (most : ℕ) (served : most ≤ 10 ^ (9 * RISES_MOST)) where
+  most_are_enough : (p : ℕ) (o : Offset) → P_LEAST ≤ p → TakesPartUpTo most o → o.debt < o.total → enough p o RISES_MOST ≡ true
+  most_are_enough p o low h less =
+      le-leb P_LEAST (product_after p o RISES_MOST) (most_suffice p (o.total - o.debt) o.total low (omega arith) (omega (arith, h.limit, served)) (omega arith))
 
-pub first_rise : (p : ℕ) (o : Offset) → P_LEAST ≤ p → TakesPart o → o.debt < o.total → IsFirst (enough p o) 0 (least_rise p o)
-unfolding least_rise
-first_rise p o low h less = least_from-first (enough p o) 0 30 2 (omega arith) (two_are_enough p o low h less)
+  pub first_rise : (p : ℕ) (o : Offset) → P_LEAST ≤ p → TakesPartUpTo most o → o.debt < o.total → IsFirst (enough p o) 0 (least_rise p o)
+  unfolding least_rise
+  first_rise p o low h less = least_from-first (enough p o) 0 STEPS_TRIED RISES_MOST (omega arith) (most_are_enough p o low h less)
 
-passes_least : (p : ℕ) (o : Offset) (n : ℕ) → enough p o n ≡ true → P_LEAST ≤ product_after p o n
-passes_least p o n pass = leb-true P_LEAST (product_after p o n) pass
+  passes_least : (p : ℕ) (o : Offset) (n : ℕ) → enough p o n ≡ true → P_LEAST ≤ product_after p o n
+  passes_least p o n pass = leb-true P_LEAST (product_after p o n) pass
 
-fails_least : (p : ℕ) (o : Offset) (n : ℕ) → enough p o n ≡ false → product_after p o n < P_LEAST
-fails_least p o n fail = by (product_after p o n) fail where
-  by : (m : ℕ) → nat_le P_LEAST m ≡ false → m < P_LEAST
-  by m e = grind (arith, nat_tests, e)
+  fails_least : (p : ℕ) (o : Offset) (n : ℕ) → enough p o n ≡ false → product_after p o n < P_LEAST
+  fails_least p o n fail = by (product_after p o n) fail where
+    by : (m : ℕ) → nat_le P_LEAST m ≡ false → m < P_LEAST
+    by m e = grind (arith, nat_tests, e)
 
-pub few_rises : (p : ℕ) (o : Offset) → P_LEAST ≤ p → TakesPart o → o.debt < o.total → least_rise p o ≤ 2
-few_rises p o low h less =
-    let first = first_rise p o low h less in
-    elim (cases_lt 2 (least_rise p o)) [ inl more ↦ absurd (clash (first.first 2 (omega arith) more) (two_are_enough p o low h less)) | inr few ↦ few ]
-  where
-    clash : enough p o 2 ≡ false → enough p o 2 ≡ true → ⊥
-    clash fail pass = cc
+  pub few_rises : (p : ℕ) (o : Offset) → P_LEAST ≤ p → TakesPartUpTo most o → o.debt < o.total → least_rise p o ≤ RISES_MOST
+  few_rises p o low h less =
+      let first = first_rise p o low h less in
+      elim (cases_lt RISES_MOST (least_rise p o)) [ inl more ↦ absurd (clash (first.first RISES_MOST (omega arith) more) (most_are_enough p o low h less)) | inr few ↦ few ]
+    where
+      clash : enough p o RISES_MOST ≡ false → enough p o RISES_MOST ≡ true → ⊥
+      clash fail pass = cc
 
-next_power : (j : ℕ) → 10 ^ (9 * suc j) ≡ 10 ^ (9 * j) * 1000000000
-next_power j = ap (λ n. 10 ^ n) (nine j) ∙ pow-add 10 (9 * j) 9 where
-  nine : (i : ℕ) → 9 * suc i ≡ 9 * i + 9
-  nine i = omega arith
+  next_power : (j : ℕ) → 10 ^ (9 * suc j) ≡ 10 ^ (9 * j) * 1000000000
+  next_power j = ap (λ n. 10 ^ n) (nine j) ∙ pow-add 10 (9 * j) 9 where
+    nine : (i : ℕ) → 9 * suc i ≡ 9 * i + 9
+    nine i = omega arith
 
-most_at : (p : ℕ) (o : Offset) (n : ℕ) → p ≤ P_OPENING → TakesPart o → o.debt < o.total → IsFirst (enough p o) 0 n → product_after p o n ≤ P_OPENING
-most_at p o zero high h less first = unraised p (o.total - o.debt) o.total high (omega arith)
-most_at p o (suc j) high h less first =
-    let low = fails_least p o j (first.first j (omega arith) (omega arith)) in
-    subst (λ power. floor_of p ((o.total - o.debt) * power) o.total ≤ P_OPENING) (sym (next_power j))
-    (raised p (o.total - o.debt) o.total (10 ^ (9 * j)) (omega arith) low)
+  most_at : (p : ℕ) (o : Offset) (n : ℕ) → p ≤ P_OPENING → TakesPartUpTo most o → o.debt < o.total → IsFirst (enough p o) 0 n → product_after p o n ≤ P_OPENING
+  most_at p o zero high h less first = unraised p (o.total - o.debt) o.total high (omega arith)
+  most_at p o (suc j) high h less first =
+      let low = fails_least p o j (first.first j (omega arith) (omega arith)) in
+      subst (λ power. floor_of p ((o.total - o.debt) * power) o.total ≤ P_OPENING) (sym (next_power j))
+      (raised p (o.total - o.debt) o.total (10 ^ (9 * j)) (omega arith) low)
 
--- ---- one offset
+  -- ---- one offset
 
-pub offset_within : (w : Words) (o : Offset) → IsWithinRange w → TakesPart o → IsWithinRange (after_offset w o)
-unfolding least_rise
-offset_within w o within h = by (o.debt == o.total) refl where
-  left : (b : Bool) → (o.debt == o.total) ≡ b → b ≡ false → o.debt < o.total
-  left b e fail = grind (arith, nat_tests, e, fail, h.within)
+  pub offset_within : (w : Words) (o : Offset) → IsWithinRange w → TakesPartUpTo most o → IsWithinRange (after_offset w o)
+  unfolding least_rise
+  offset_within w o within h = by (o.debt == o.total) refl where
+    left : (b : Bool) → (o.debt == o.total) ≡ b → b ≡ false → o.debt < o.total
+    left b e fail = grind (arith, nat_tests, e, fail, h.within)
 
-  by : (b : Bool) → (o.debt == o.total) ≡ b → IsWithinRange (cond b (record { p = P_OPENING; scale = 0; epoch = w.epoch + 1 }) (record { p = product_after w.p o (cond b 0 (least_rise w.p o)); scale = w.scale + cond b 0 (least_rise w.p o); epoch = w.epoch }))
-  by true e = record { least = omega arith; most = omega arith }
-  by false e =
-      let less = left false e refl in
-      let first = first_rise w.p o within.least h less in
-      record { least = passes_least w.p o (least_rise w.p o) first.passes; most = most_at w.p o (least_rise w.p o) within.most h less first }
+    by : (b : Bool) → (o.debt == o.total) ≡ b → IsWithinRange (cond b (record opening_words { epoch = w.epoch + 1 }) (record { p = product_after w.p o (cond b 0 (least_rise w.p o)); scale = w.scale + cond b 0 (least_rise w.p o); epoch = w.epoch }))
+    by true e = record { least = omega arith; most = omega arith }
+    by false e =
+        let less = left false e refl in
+        let first = first_rise w.p o within.least h less in
+        record { least = passes_least w.p o (least_rise w.p o) first.passes; most = most_at w.p o (least_rise w.p o) within.most h less first }
 
-pub rise_few : (w : Words) (o : Offset) → IsWithinRange w → TakesPart o → rise_of w.p o ≤ 2
-unfolding least_rise
-rise_few w o within h = by (o.debt == o.total) refl where
-  left : (b : Bool) → (o.debt == o.total) ≡ b → b ≡ false → o.debt < o.total
-  left b e fail = grind (arith, nat_tests, e, fail, h.within)
+  pub rise_few : (w : Words) (o : Offset) → IsWithinRange w → TakesPartUpTo most o → rise_of w.p o ≤ RISES_MOST
+  unfolding least_rise
+  rise_few w o within h = by (o.debt == o.total) refl where
+    left : (b : Bool) → (o.debt == o.total) ≡ b → b ≡ false → o.debt < o.total
+    left b e fail = grind (arith, nat_tests, e, fail, h.within)
 
-  by : (b : Bool) → (o.debt == o.total) ≡ b → cond b 0 (least_rise w.p o) ≤ 2
-  by true e = omega arith
-  by false e = few_rises w.p o within.least h (left false e refl)
+    by : (b : Bool) → (o.debt == o.total) ≡ b → cond b 0 (least_rise w.p o) ≤ RISES_MOST
+    by true e = omega arith
+    by false e = few_rises w.p o within.least h (left false e refl)
 
-pub rise_no_more : (w : Words) (o : Offset) → IsWithinRange w → TakesPart o → (steps : ℕ) → steps < rise_of w.p o → product_after w.p o steps < P_LEAST
-unfolding least_rise
-rise_no_more w o within h steps = by (o.debt == o.total) refl where
-  left : (b : Bool) → (o.debt == o.total) ≡ b → b ≡ false → o.debt < o.total
-  left b e fail = grind (arith, nat_tests, e, fail, h.within)
+  pub rise_no_more : (w : Words) (o : Offset) → IsWithinRange w → TakesPartUpTo most o → (steps : ℕ) → steps < rise_of w.p o → product_after w.p o steps < P_LEAST
+  unfolding least_rise
+  rise_no_more w o within h steps = by (o.debt == o.total) refl where
+    left : (b : Bool) → (o.debt == o.total) ≡ b → b ≡ false → o.debt < o.total
+    left b e fail = grind (arith, nat_tests, e, fail, h.within)
 
-  by : (b : Bool) → (o.debt == o.total) ≡ b → steps < cond b 0 (least_rise w.p o) → product_after w.p o steps < P_LEAST
-  by true e few = absurd (omega arith)
-  by false e few = fails_least w.p o steps ((first_rise w.p o within.least h (left false e refl)).first steps (omega arith) few)
+    by : (b : Bool) → (o.debt == o.total) ≡ b → steps < cond b 0 (least_rise w.p o) → product_after w.p o steps < P_LEAST
+    by true e few = absurd (omega arith)
+    by false e few = fails_least w.p o steps ((first_rise w.p o within.least h (left false e refl)).first steps (omega arith) few)
 
--- ---- all of a list
+  -- ---- all of a list
 
-offsets_within : (w : Words) (offsets : List Offset) → IsWithinRange w → AllByRecursion TakesPart offsets → IsWithinRange (fold after_offset w offsets)
-offsets_within w [] within h = within
-offsets_within w (o ∷ os) within h = offsets_within (after_offset w o) os (offset_within w o within h.0) h.1
+  offsets_within : (w : Words) (offsets : List Offset) → IsWithinRange w → AllByRecursion (TakesPartUpTo most) offsets → IsWithinRange (fold after_offset w offsets)
+  offsets_within w [] within h = within
+  offsets_within w (o ∷ os) within h = offsets_within (after_offset w o) os (offset_within w o within h.0) h.1
 
-pub prod_within : (i : Image) (offsets : List Offset) → IsWithinRange (start_words i) → AllByRecursion TakesPart offsets → IsWithinRange (prod i offsets)
-prod_within i offsets within h = offsets_within (start_words i) offsets within h
+  pub prod_within : (i : Image) (offsets : List Offset) → IsWithinRange (start_words i) → AllByRecursion (TakesPartUpTo most) offsets → IsWithinRange (prod i offsets)
+  prod_within i offsets within h = offsets_within (start_words i) offsets within h

@@ -1,0 +1,4 @@
+pub mod Added
+pub mod BooksOf
+pub mod Parts
+pub mod Standing
