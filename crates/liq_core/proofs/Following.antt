@@ -49,8 +49,8 @@ use Rattle.liq_core.proofs.AlikeLiquidation.{Serves, single_serves, lowest_serve
 use Rattle.liq_core.proofs.AlikeReplies.{alike_itself}
 use Rattle.liq_core.proofs.Ascending.{Ordered, cut_entire-ascends, effect-ascends, liquidated-ascends, noted-ascends}
 use Rattle.liq_core.proofs.AlikeStep.{effect_alike}
-use Rattle.liq_core.proofs.Ranking.{differ, same_rows, without-absent, gone_list, put_list}
-use Rattle.liq_core.proofs.Rows.{equal_keys, at-put_here, at-put_other, at-without_here, at-without_other}
+use Rattle.liq_core.proofs.Ranking.{same_rows, without-absent, gone_list, put_list}
+use Rattle.liq_core.proofs.Rows.{equal_keys, differ, at-put_same, at-put_other, at-without_same, at-without_other}
 
 -- ---- a table that is mended row by row
 
@@ -63,8 +63,8 @@ mended-ascends table account None s = without-ascends table account s
 mended-ascends table account (Some row) s = put-ascends (without table account) account row (without-ascends table account s)
 
 mended_here : (table : Table Trove) (account : ℕ) (o : Option Trove) → Ascends table → at (mended table account o) account ≡ o
-mended_here table account None s = at-without_here table account s
-mended_here table account (Some row) s = at-put_here (without table account) account row
+mended_here table account None s = at-without_same table account s
+mended_here table account (Some row) s = at-put_same (without table account) account row
 
 mended_other : (table : Table Trove) (account q : ℕ) (o : Option Trove) → q ≢ account → at (mended table account o) q ≡ at table q
 mended_other table account q None n = at-without_other table account q n
@@ -154,7 +154,7 @@ lifted_stands : (s : State) (account : ℕ) → Ascends s.troves → Gone accoun
 lifted_stands s account h =
     sym
     (stands-image (lifted s account) account
-    ∙ ap (told account) (ap (λ (t : Table Trove). at t account) (lifted-troves s account h) ∙ at-without_here (troves_in s) account (troves-ascend s h)))
+    ∙ ap (told account) (ap (λ (t : Table Trove). at t account) (lifted-troves s account h) ∙ at-without_same (troves_in s) account (troves-ascend s h)))
 
 placed_other : (s : State) (account coll debt q : ℕ) → q ≢ account → at (troves_in (placed s account coll debt)) q ≡ at (troves_in s) q
 placed_other s account coll debt q n =

@@ -1,6 +1,6 @@
 -- The ordered list of a table of troves, when rows are written and taken out.
 use Rattle.std.proofs.Common.{◌≡◌, ℕ, Bool, true, false, cond, List, [], ◌∷◌, refl, ap, sym, subst, ◌∙◌, Some, None, Option, arith}
-use Rattle.std.specs.Prelude.{◌≢◌, ◌==◌, fold, not, unwrap_or}
+use Rattle.std.specs.Prelude.{◌==◌, fold, not, unwrap_or}
 use Rattle.std.specs.List.{AllByRecursion}
 use Rattle.std.specs.Cmp.{IsTotalOrder}
 use Rattle.std.specs.declared.cmp.Ordering.{Ordering}
@@ -22,13 +22,13 @@ use Rattle.liq_types.proofs.Ascending.{put-ascends, without-ascends}
 use Rattle.liq_types.specs.Ranked.{Ranked, rank_order, with_ranked, without_ranked}
 use Rattle.liq_troves.specs.Rows.{key_by}
 use Rattle.liq_order.specs.Order.{ranks, order_by}
-use Rattle.liq_core.proofs.Rows.{equal_keys, same_key, at-put_here, at-put_other, at-without_here, at-without_other}
+use Rattle.liq_core.proofs.Rows.{is_eq-same, equal_keys, differ, at-put_same, at-put_other, at-without_same, at-without_other}
 
 -- ---- tables with equal rows at all keys
 
 module _ {X : Type 0} where
   at_head : (x : ℕ × X) (xs : Table X) → at (x ∷ xs) x.0 ≡ Some x.1
-  at_head x xs = ap (λ b. cond b (Some x.1) (at xs x.0)) (same_key x.0)
+  at_head x xs = ap (λ b. cond b (Some x.1) (at xs x.0)) (is_eq-same x.0)
 
   not_none : (x : X) → None ≡ Some x → ⊥
   not_none x e = cc
@@ -185,11 +185,6 @@ with_away account (f ∷ fs) e n h = by (rank_order e f) (with_away account fs e
   by Equal more = (n, h)
   by Greater more = (h.0, more)
 
-pub differ : (a b : ℕ) → is_eq (nat_cmp a b) ≡ false → a ≢ b
-differ a b h e = clash (sym (subst (λ n. is_eq (nat_cmp a n) ≡ true) e (same_key a)) ∙ h) where
-  clash : true ≡ false → ⊥
-  clash x = cc
-
 unequal : (a b : ℕ) → is_eq (nat_cmp a b) ≡ false → (b == a) ≡ false
 unequal a b h = by (b == a) refl where
   by : (c : Bool) → (b == a) ≡ c → c ≡ false
@@ -234,7 +229,7 @@ put-back {X} table key x s h =
       rows q = by (is_eq (nat_cmp q key)) refl where
         by : (b : Bool) → is_eq (nat_cmp q key) ≡ b → at table q ≡ at (put (without table key) key x) q
         by true is =
-            subst (λ k. at table k ≡ at (put (without table key) key x) k) (sym (equal_keys q key is)) (h ∙ sym (at-put_here (without table key) key x))
+            subst (λ k. at table k ≡ at (put (without table key) key x) k) (sym (equal_keys q key is)) (h ∙ sym (at-put_same (without table key) key x))
         by false is =
             sym (at-put_other (without table key) key q x (differ q key is) ∙ at-without_other table key q (differ q key is))
 
@@ -243,7 +238,7 @@ without-absent {X} table key s h = same_rows (without table key) table (without-
   rows : (q : ℕ) → at (without table key) q ≡ at table q
   rows q = by (is_eq (nat_cmp q key)) refl where
     by : (b : Bool) → is_eq (nat_cmp q key) ≡ b → at (without table key) q ≡ at table q
-    by true is = subst (λ k. at (without table key) k ≡ at table k) (sym (equal_keys q key is)) (at-without_here table key s ∙ sym h)
+    by true is = subst (λ k. at (without table key) k ≡ at table k) (sym (equal_keys q key is)) (at-without_same table key s ∙ sym h)
     by false is = at-without_other table key q (differ q key is)
 
 -- the ordered list without a trove is that of the table without it
@@ -255,7 +250,7 @@ gone_list table account s = by (at table account) refl where
       ∙ sym (filter_away account (order_by table) (all_away account table [] is tt))
   by (Some row) is =
       let left = without table account in
-      let absent = at-without_here table account s in
+      let absent = at-without_same table account s in
       sym
       (ap (λ (t : Table Trove). without_ranked (order_by t) account) (put-back table account row s is)
       ∙ ap (λ (l : List Ranked). without_ranked l account) (put_absent left account row [] absent)
@@ -265,5 +260,5 @@ gone_list table account s = by (at table account) refl where
 -- and with a trove put at its key, that of the table with it
 pub put_list : (table : Table Trove) (account : ℕ) (row : Trove) → Ascends table → order_by (put (without table account) account row) ≡ with_ranked (without_ranked (order_by table) account) (key_by row, account)
 put_list table account row s =
-    put_absent (without table account) account row [] (at-without_here table account s)
+    put_absent (without table account) account row [] (at-without_same table account s)
     ∙ ap (λ (l : List Ranked). with_ranked l (key_by row, account)) (gone_list table account s)
