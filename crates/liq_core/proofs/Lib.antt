@@ -13,11 +13,14 @@ pub mod Conserving
 pub mod Counting
 pub mod Following
 pub mod Histories
+pub mod KeptReplies
 pub mod Moving
 pub mod Opening
 pub mod Ranking
 pub mod Rows
 pub mod Ruled
 pub mod Runs
+pub mod SoundCores
+pub mod SoundRules
 pub mod Standing
 pub mod Started
