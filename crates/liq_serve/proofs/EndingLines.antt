@@ -1,5 +1,5 @@
 -- Last lines, of which a sink may hold a front.
-use Rattle.std.proofs.Common.{◌≡◌, ℕ, ◌+◌, ◌≤◌, List, [], ◌∷◌, ◌++◌, length, take, drop, Option, Some, None, Ok, Err, Result, refl, ap, sym, subst, ◌∙◌, append-nil, length-append, arith, inl, inr}
+use Rattle.std.proofs.Common.{◌≡◌, ℕ, ◌+◌, ◌≤◌, List, [], ◌∷◌, ◌++◌, length, take, drop, Option, Some, Ok, Err, Result, refl, ap, sym, subst, ◌∙◌, append-nil, length-append, arith, inl, inr}
 use Rattle.std.specs.Prelude.{option_map, OnOk, OnErr, ◌⊎◌}
 use Rattle.std.proofs.Math.Seq.{take-append-add}
 use Rattle.std.proofs.lemmas.List.{take-append-le, take-append-drop}
@@ -48,7 +48,7 @@ last_written WriteFault bytes held fault left now after h adds =
       nothing (x ∷ part) (inr cut) = absurd (cc (cut.1.1))
 
 pub no_session : (bytes held : List ℕ) (left now : Option (List ℕ)) → now ≡ Some held → Halts NoMemory bytes held left now
-no_session bytes held left now holds = ([], (lines_in bytes, ([], tt, refl)), holds ∙ ap Some (sym (append-nil held)))
+no_session bytes held left now holds = ([], (omega arith, (lines_in bytes, ([], tt, refl))), holds ∙ ap Some (sym (append-nil held)))
 
 -- the fault that a part of a line shows is one of the whole call
 pub rose_later : (a b c : ℕ) → a ≤ b → Rose b c → Rose a c

@@ -84,7 +84,7 @@ same_length (l ∷ front) (r ∷ rs) h = ap suc (same_length front rs h.1)
 pub complete : (bytes held : List ℕ) (fault : Type 0) (left now : Option (List ℕ)) (requests : List Request) → AreRequests (lines_in bytes) requests → length requests ≤ LINES_MOST → (end : Result (Unit {0}) Halt) → (end ≡ Err ReadFault → ⊥) → (end ≡ Err WriteFault → ⊥) → EndsIn bytes held fault end left now → (status_of end ≡ 0) ⊎ (status_of end ≡ 7)
 complete bytes held fault left now requests all few (Ok done) r w e = inl refl
 complete bytes held fault left now requests all few (Err (BadLine n)) r w e =
-    let at = e.1.1 in
+    let at = e.1.2 in
     absurd (bad_among at.2.1.0 at.0 at.2.0 requests (subst (λ (ls : List (List ℕ)). AreRequests ls requests) at.2.1.2 all) at.1)
 complete bytes held fault left now requests all few (Err ReadFault) r w e = absurd (r refl)
 complete bytes held fault left now requests all few (Err WriteFault) r w e = absurd (w refl)

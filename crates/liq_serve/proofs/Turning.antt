@@ -1,5 +1,5 @@
 -- What one line more makes of a run.
-use Rattle.std.proofs.Common.{◌≡◌, ◌≢◌, ℕ, ◌+◌, ◌<◌, List, [], ◌∷◌, ◌++◌, length, take, drop, Option, Some, None, refl, ap, sym, subst, ◌∙◌, append_assoc, append-nil, length-append, length-drop, arith, Err}
+use Rattle.std.proofs.Common.{◌≡◌, ◌≢◌, ℕ, ◌+◌, ◌<◌, ◌≤◌, List, [], ◌∷◌, ◌++◌, length, take, drop, Option, Some, None, refl, ap, sym, subst, ◌∙◌, append_assoc, append-nil, length-append, length-drop, arith, Err}
 use Rattle.std.specs.Prelude.{option_map}
 use Rattle.std.proofs.lemmas.List.{take-append-drop}
 use Rattle.liq_types.specs.declared.requests.Request.{Request}
@@ -31,34 +31,44 @@ told_left rest xs taken (Some more) h = (more, refl, told_reads rest xs (taken +
 
 -- ---- the run stops at the next line
 
-pub reading_halts : (halt : Halt) (bytes held taken : List ℕ) (n : ℕ) (core : Core) (u left h : Option (List ℕ)) → ReadsRequest u (unread taken left) taken (n + 1) (Err halt) → Answered bytes held n core u h → Halts halt bytes held left h
-reading_halts (BadLine at) bytes held taken n core u left h r a =
-    let bad = r.1 a.rest a.unread_is in (
-      a.requests,
-      (r.0 ∙ ap (λ m. m + 1) (sym a.count), (bad.0, bad.1, (bad.2.0, (a.front, a.spelled, begins bytes held n core u h a ∙ ap (λ (ls : List (List ℕ)). a.front ++ ls) bad.2.1)))),
-      a.now_is,
-    )
-reading_halts ReadFault bytes held taken n core u left h r a =
+pub reading_fails : (bytes held taken : List ℕ) (n : ℕ) (core : Core) (u left h : Option (List ℕ)) → n ≤ LINES_MOST → ReadsRequest u (unread taken left) taken (n + 1) (Err ReadFault) → Answered bytes held n core u h → Halts ReadFault bytes held left h
+reading_fails bytes held taken n core u left h few r a =
     let got = told_left a.rest r.0 taken left (subst (λ (v : Option (List ℕ)). Reads v r.0 (unread taken left)) a.unread_is r.2) in (
       a.requests,
       (
-        a.front,
-        a.spelled,
+        omega (arith, few, a.count),
         (
-          r.0,
-          r.1,
+          a.front,
+          a.spelled,
           (
-            got.0,
-            got.1,
-            a.bytes_are ∙ ap (λ (t : List ℕ). ended a.front ++ t) (got.2 ∙ ap (λ (t : List ℕ). r.0 ++ (t ++ got.0)) r.3) ∙ sym (append_assoc (ended a.front) r.0 got.0),
+            r.0,
+            r.1,
+            (
+              got.0,
+              got.1,
+              a.bytes_are ∙ ap (λ (t : List ℕ). ended a.front ++ t) (got.2 ∙ ap (λ (t : List ℕ). r.0 ++ (t ++ got.0)) r.3) ∙ sym (append_assoc (ended a.front) r.0 got.0),
+            ),
           ),
         ),
       ),
       a.now_is,
     )
-reading_halts WriteFault bytes held taken n core u left h r a = absurd r
-reading_halts NoMemory bytes held taken n core u left h r a = absurd r
-reading_halts Limit bytes held taken n core u left h r a = absurd r
+
+pub reading_halts : (halt : Halt) (bytes held taken : List ℕ) (n : ℕ) (core : Core) (u left h : Option (List ℕ)) → n < LINES_MOST → ReadsRequest u (unread taken left) taken (n + 1) (Err halt) → Answered bytes held n core u h → Halts halt bytes held left h
+reading_halts (BadLine at) bytes held taken n core u left h few r a =
+    let bad = r.1 a.rest a.unread_is in (
+      a.requests,
+      (
+        r.0 ∙ ap (λ m. m + 1) (sym a.count),
+        omega (arith, few, r.0),
+        (bad.0, bad.1, (bad.2.0, (a.front, a.spelled, begins bytes held n core u h a ∙ ap (λ (ls : List (List ℕ)). a.front ++ ls) bad.2.1))),
+      ),
+      a.now_is,
+    )
+reading_halts ReadFault bytes held taken n core u left h few r a = reading_fails bytes held taken n core u left h (omega (arith, few)) r a
+reading_halts WriteFault bytes held taken n core u left h few r a = absurd r
+reading_halts NoMemory bytes held taken n core u left h few r a = absurd r
+reading_halts Limit bytes held taken n core u left h few r a = absurd r
 
 -- ---- the input is over
 
@@ -71,11 +81,12 @@ over_left rest xs taken None h over = absurd (cc h)
 over_left rest xs taken (Some more) h over =
     (ap Some (empty_end taken more over), told_reads rest xs (taken ++ more) h ∙ ap (λ (t : List ℕ). xs ++ t) over ∙ append-nil xs)
 
-pub reading_ends : (bytes held taken : List ℕ) (n : ℕ) (core : Core) (u left h : Option (List ℕ)) → Reads u [] (unread taken left) → IsOver (unread taken left) → Answered bytes held n core u h → Finishes bytes held left h
-reading_ends bytes held taken n core u left h r over a =
+pub reading_ends : (bytes held taken : List ℕ) (n : ℕ) (core : Core) (u left h : Option (List ℕ)) → n ≤ LINES_MOST → Reads u [] (unread taken left) → IsOver (unread taken left) → Answered bytes held n core u h → Finishes bytes held left h
+reading_ends bytes held taken n core u left h few r over a =
     let done = over_left a.rest [] taken left (subst (λ (v : Option (List ℕ)). Reads v [] (unread taken left)) a.unread_is r) over in (
       a.requests,
       subst (λ (ls : List (List ℕ)). AreRequests ls a.requests) (sym (begins bytes held n core u h a ∙ ap (λ (t : List ℕ). a.front ++ lines_in t) done.1 ∙ append-nil a.front)) a.spelled,
+      omega (arith, few, a.count),
       done.0,
       a.now_is,
     )
@@ -103,13 +114,14 @@ line_answered bytes held line r n core core' u (Some rest) h h' is within reads 
       stands = subst (λ (s : State). StandsFor core' s) (sym (after-more opening a.requests r)) stands;
     }
 
-pub last_answered : (bytes held line taken : List ℕ) (r : Request) (n : ℕ) (core : Core) (u left h h' : Option (List ℕ)) → IsRequest line r → IsWithinLine line → line ≢ [] → Reads u line (unread taken left) → IsOver (unread taken left) → (a : Answered bytes held n core u h) → Writes h (reply_line (step (run opening a.requests).0 r).1) h' → Finishes bytes held left h'
-last_answered bytes held line taken r n core u left h h' is within some reads over a writes =
+pub last_answered : (bytes held line taken : List ℕ) (r : Request) (n : ℕ) (core : Core) (u left h h' : Option (List ℕ)) → n < LINES_MOST → IsRequest line r → IsWithinLine line → line ≢ [] → Reads u line (unread taken left) → IsOver (unread taken left) → (a : Answered bytes held n core u h) → Writes h (reply_line (step (run opening a.requests).0 r).1) h' → Finishes bytes held left h'
+last_answered bytes held line taken r n core u left h h' few is within some reads over a writes =
     let done = over_left a.rest line taken left (subst (λ (v : Option (List ℕ)). Reads v line (unread taken left)) a.unread_is reads) over in (
       a.requests ++ r ∷ [],
       subst (λ (ls : List (List ℕ)). AreRequests ls (a.requests ++ r ∷ []))
           (sym (begins bytes held n core u h a ∙ ap (λ (t : List ℕ). a.front ++ lines_in t) done.1 ∙ ap (λ (ls : List (List ℕ)). a.front ++ ls) (lines_in-unended line within some)))
           (requests-more a.front a.requests line r a.spelled is),
+      omega (arith, few, a.count, length-append a.requests (r ∷ [])),
       done.0,
       subst (λ (v : Option (List ℕ)). h' ≡ option_map (λ old. old ++ reply_line (step (run opening a.requests).0 r).1) v) a.now_is writes
           ∙ ap Some (append_assoc held (lines a.requests) (reply_line (step (run opening a.requests).0 r).1) ∙ ap (λ (t : List ℕ). held ++ t) (sym (lines-more a.requests r))),
@@ -120,22 +132,25 @@ last_answered bytes held line taken r n core u left h h' is within some reads ov
 missing_some : (k : ℕ) (xs : List ℕ) → k < length xs → drop k xs ≢ []
 missing_some k xs lt e = omega (arith, length-drop k xs, ap length e)
 
-pub answering_halts : (halt : Halt) (bytes held line : List ℕ) (more : List (List ℕ)) (r : Request) (n : ℕ) (core core' : Core) (u left h h' : Option (List ℕ)) → IsRequest line r → (a : Answered bytes held n core u h) → lines_in a.rest ≡ line ∷ more → Answers (run opening a.requests).0 r (Err halt) core' h h' → Halts halt bytes held left h'
-answering_halts (BadLine at) bytes held line more r n core core' u left h h' is a first failed = absurd failed
-answering_halts ReadFault bytes held line more r n core core' u left h h' is a first failed = absurd failed
-answering_halts Limit bytes held line more r n core core' u left h h' is a first failed = absurd failed
-answering_halts NoMemory bytes held line more r n core core' u left h h' is a first failed =
-    (a.requests, (lines_in a.rest, (a.front, a.spelled, begins bytes held n core u h a)), failed.1 ∙ a.now_is)
-answering_halts WriteFault bytes held line more r n core core' u left h h' is a first failed =
+pub answering_halts : (halt : Halt) (bytes held line : List ℕ) (more : List (List ℕ)) (r : Request) (n : ℕ) (core core' : Core) (u left h h' : Option (List ℕ)) → n < LINES_MOST → IsRequest line r → (a : Answered bytes held n core u h) → lines_in a.rest ≡ line ∷ more → Answers (run opening a.requests).0 r (Err halt) core' h h' → Halts halt bytes held left h'
+answering_halts (BadLine at) bytes held line more r n core core' u left h h' few is a first failed = absurd failed
+answering_halts ReadFault bytes held line more r n core core' u left h h' few is a first failed = absurd failed
+answering_halts Limit bytes held line more r n core core' u left h h' few is a first failed = absurd failed
+answering_halts NoMemory bytes held line more r n core core' u left h h' few is a first failed =
+    (a.requests, (omega (arith, few, a.count), (lines_in a.rest, (a.front, a.spelled, begins bytes held n core u h a))), failed.1 ∙ a.now_is)
+answering_halts WriteFault bytes held line more r n core core' u left h h' few is a first failed =
     let reply = reply_line (step (run opening a.requests).0 r).1 in
     let k = failed.0 in (
       a.requests ++ r ∷ [],
       (
-        more,
+        omega (arith, few, a.count, length-append a.requests (r ∷ [])),
         (
-          a.front ++ line ∷ [],
-          requests-more a.front a.requests line r a.spelled is,
-          begins bytes held n core u h a ∙ ap (λ (ls : List (List ℕ)). a.front ++ ls) first ∙ sym (append_assoc a.front (line ∷ []) more),
+          more,
+          (
+            a.front ++ line ∷ [],
+            requests-more a.front a.requests line r a.spelled is,
+            begins bytes held n core u h a ∙ ap (λ (ls : List (List ℕ)). a.front ++ ls) first ∙ sym (append_assoc a.front (line ∷ []) more),
+          ),
         ),
       ),
       (

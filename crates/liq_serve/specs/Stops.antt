@@ -1,5 +1,5 @@
 -- Where a run ends, and what it has written by then.
-use Rattle.std.specs.Prelude.{ℕ, ◌≡◌, ◌≢◌, ◌+◌, ◌∷◌, [], ◌++◌, ◌⊎◌, List, length, Option, Some, Result, Ok, Err}
+use Rattle.std.specs.Prelude.{ℕ, ◌≡◌, ◌≢◌, ◌≤◌, ◌+◌, ◌∷◌, [], ◌++◌, ◌⊎◌, List, length, Option, Some, Result, Ok, Err}
 use Rattle.liq_types.specs.declared.amounts.TheConstants.{LINES_MOST}
 use Rattle.liq_types.specs.declared.requests.Request.{Request}
 use Rattle.liq_serve.specs.declared.halts.Halt.{Halt}
@@ -18,16 +18,19 @@ IsCutInLastLine part requests =
     (earlier : List Request) × (request : Request) × (requests ≡ earlier ++ request ∷ [])
     × IsFrontOf (lines earlier) part × ((missing : List ℕ) × (missing ≢ []) × (lines requests ≡ part ++ missing))
 
--- Why the run stopped after these requests of the bytes. `left` is what the source still tells.
+-- Why the run stopped after these requests of the bytes, which are no more than one run answers. `left` is what the source
+-- still tells.
 abbrev pub StopsAfter : Halt → List ℕ → Option (List ℕ) → List Request → Type 0
 -- the next line is the first that is no request
 StopsAfter (BadLine number) bytes left requests =
-    (number ≡ length requests + 1) × ((line : List ℕ) × IsBadLine line × ((more : List (List ℕ)) × BeginsWith bytes requests (line ∷ more)))
+    (number ≡ length requests + 1) × (number ≤ LINES_MOST)
+    × ((line : List ℕ) × IsBadLine line × ((more : List (List ℕ)) × BeginsWith bytes requests (line ∷ more)))
 -- they are all whose line ends the source gave
 StopsAfter ReadFault bytes left requests =
-    (front : List (List ℕ)) × AreRequests front requests × ((part : List ℕ) × IsWithinLine part × ((rest : List ℕ) × (left ≡ Some rest) × (bytes ≡ ended front ++ part ++ rest)))
-StopsAfter WriteFault bytes left requests = (more : List (List ℕ)) × BeginsWith bytes requests more
-StopsAfter NoMemory bytes left requests = (more : List (List ℕ)) × BeginsWith bytes requests more
+    (length requests ≤ LINES_MOST)
+    × ((front : List (List ℕ)) × AreRequests front requests × ((part : List ℕ) × IsWithinLine part × ((rest : List ℕ) × (left ≡ Some rest) × (bytes ≡ ended front ++ part ++ rest))))
+StopsAfter WriteFault bytes left requests = (length requests ≤ LINES_MOST) × ((more : List (List ℕ)) × BeginsWith bytes requests more)
+StopsAfter NoMemory bytes left requests = (length requests ≤ LINES_MOST) × ((more : List (List ℕ)) × BeginsWith bytes requests more)
 -- as many lines as one run answers, and a further one begins
 StopsAfter Limit bytes left requests =
     (length requests ≡ LINES_MOST) × ((line : List ℕ) × ((more : List (List ℕ)) × BeginsWith bytes requests (line ∷ more)))
@@ -46,10 +49,10 @@ WritesUpTo halt held fault requests now = Adds (held ++ lines requests) (last ha
 abbrev pub Stops : Halt → List ℕ → List ℕ → Type 0 → Option (List ℕ) → Option (List ℕ) → Type 0
 Stops halt bytes held fault left now = (requests : List Request) × StopsAfter halt bytes left requests × WritesUpTo halt held fault requests now
 
--- each line was a request, the source is at its end, and all replies are written
+-- each line was a request, of no more than one run answers, the source is at its end, and all replies are written
 abbrev pub Finishes : List ℕ → List ℕ → Option (List ℕ) → Option (List ℕ) → Type 0
 Finishes bytes held left now =
-    (requests : List Request) × AreRequests (lines_in bytes) requests × (left ≡ Some []) × (now ≡ Some (held ++ lines requests))
+    (requests : List Request) × AreRequests (lines_in bytes) requests × (length requests ≤ LINES_MOST) × (left ≡ Some []) × (now ≡ Some (held ++ lines requests))
 
 -- what holds wherever the source tells its bytes and the sink what it holds
 abbrev pub WhereTold : Option (List ℕ) → Option (List ℕ) → (List ℕ → List ℕ → Type 0) → Type 0

@@ -1,7 +1,6 @@
 use Rattle.std.proofs.Common.{◌≡◌, [], arith}
 use Rattle.liq_types.specs.declared.amounts.TheConstants.{LINES_MOST}
-use Rattle.liq_serve.specs.declared.halts.Halt.TheVariants.{ReadFault}
-use Rattle.liq_serve.proofs.Turning.{opened, reading_halts, reading_ends, limit_halts}
+use Rattle.liq_serve.proofs.Turning.{opened, reading_fails, reading_ends, limit_halts}
 use Rattle.liq_serve.proofs.session.Session.answer_all.Goals as goal
 
 pub loop-answered-init : goal.loop-answered-init
@@ -27,7 +26,7 @@ loop-answered-preserved g c = record {
 pub returns-in-Ok-None-clause-run : goal.returns-in-Ok-None-clause-run
 returns-in-Ok-None-clause-run g c bytes held told holds =
     let over = rw c.in-Ok-None.field-0-is at c.in-Ok-None.ensures.byte in
-    reading_ends bytes held c.next_byte.new.self c.loop-answered.answered _ _ (g.S.Source.left c.next_byte.new.input) _ over.0 over.1 (c.loop-answered.invariant.answered bytes held told holds)
+    reading_ends bytes held c.next_byte.new.self c.loop-answered.answered _ _ (g.S.Source.left c.next_byte.new.input) _ (omega (arith, c.loop-answered.auto.answered-end)) over.0 over.1 (c.loop-answered.invariant.answered bytes held told holds)
 
 pub returns-in-Ok-Some-clause-run : goal.returns-in-Ok-Some-clause-run
 returns-in-Ok-Some-clause-run g c bytes held told holds =
@@ -38,4 +37,4 @@ returns-in-Ok-Some-clause-run g c bytes held told holds =
 pub returns-in-Err-next_byte-clause-run : goal.returns-in-Err-next_byte-clause-run
 returns-in-Err-next_byte-clause-run g c bytes held told holds =
     let failed = c.in-Err-next_byte.ensures.failed in
-    reading_halts ReadFault bytes held c.next_byte.new.self c.loop-answered.answered _ _ (g.S.Source.left c.next_byte.new.input) _ ([], tt, failed.0, failed.1) (c.loop-answered.invariant.answered bytes held told holds)
+    reading_fails bytes held c.next_byte.new.self c.loop-answered.answered _ _ (g.S.Source.left c.next_byte.new.input) _ (omega (arith, c.loop-answered.auto.answered-end)) ([], tt, failed.0, failed.1) (c.loop-answered.invariant.answered bytes held told holds)
