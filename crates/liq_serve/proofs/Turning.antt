@@ -1,6 +1,5 @@
 -- What one line more makes of a run.
-use Rattle.std.proofs.Common.{◌≡◌, ◌≢◌, ℕ, ◌+◌, ◌<◌, ◌≤◌, List, [], ◌∷◌, ◌++◌, length, take, drop, Option, Some, None, refl, ap, sym, subst, ◌∙◌, append_assoc, append-nil, length-append, length-drop, arith, Err}
-use Rattle.std.specs.Prelude.{option_map}
+use Rattle.std.proofs.Common.{◌≡◌, ◌≢◌, ℕ, ◌+◌, ◌<◌, ◌≤◌, List, [], ◌∷◌, ◌++◌, length, take, drop, Option, Some, None, refl, ap, sym, subst, ◌∙◌, append_assoc, append-nil, length-append, length-drop, arith, Ok, Err, inl, inr}
 use Rattle.std.proofs.lemmas.List.{take-append-drop}
 use Rattle.liq_types.specs.declared.requests.Request.{Request}
 use Rattle.liq_types.specs.declared.amounts.TheConstants.{LINES_MOST}
@@ -11,64 +10,70 @@ use Rattle.liq_serve.specs.declared.halts.Halt.{Halt}
 use Rattle.liq_serve.specs.declared.halts.Halt.TheVariants.{BadLine, ReadFault, WriteFault, NoMemory, Limit}
 use Rattle.liq_serve.specs.Lines.{lines_in, ended, IsWithinLine}
 use Rattle.liq_serve.specs.Output.{lines, reply_line}
-use Rattle.liq_serve.specs.Progress.{ReadsRequest, Answered, Answers, Halts}
+use Rattle.liq_serve.specs.Progress.{ReadsRequest, ReadsBad, Answered, Answers, Ends}
 use Rattle.liq_serve.specs.Reading.{unread, Reads, IsOver}
 use Rattle.liq_serve.specs.Requests.{IsRequest, AreRequests}
-use Rattle.liq_serve.specs.Stops.{Finishes}
+use Rattle.liq_serve.specs.Stops.{Adds}
 use Rattle.liq_serve.specs.Writing.{Writes}
-use Rattle.liq_serve.proofs.Bytes.{told_reads}
+use Rattle.liq_serve.proofs.BadLines.{first_is_bad}
+use Rattle.liq_serve.proofs.Bytes.{told_reads, writes_nothing, writes_more}
 use Rattle.liq_serve.proofs.LinesRead.{lines_in-ended, lines_in-unended, lines_in-ended_all, lines_in-some, ended-append, within-append}
 use Rattle.liq_serve.proofs.Progressing.{after-more, lines-more, requests-more}
 
 -- what follows the answered lines
-begins : (bytes held : List ℕ) (n : ℕ) (core : Core) (u h : Option (List ℕ)) → (a : Answered bytes held n core u h) → lines_in bytes ≡ a.front ++ lines_in a.rest
-begins bytes held n core u h a = ap lines_in a.bytes_are ∙ lines_in-ended_all a.front a.rest a.within
+begins : (bytes : List ℕ) (n : ℕ) (core : Core) (u before now : Option (List ℕ)) → (a : Answered bytes n core u before now) → lines_in bytes ≡ a.front ++ lines_in a.rest
+begins bytes n core u before now a = ap lines_in a.bytes_are ∙ lines_in-ended_all a.front a.rest a.within
 
 -- what the source has left, where it told what was unread
 told_left : (rest xs taken : List ℕ) (left : Option (List ℕ)) → Reads (Some rest) xs (unread taken left) → (more : List ℕ) × (left ≡ Some more) × (rest ≡ xs ++ (taken ++ more))
 told_left rest xs taken None h = absurd (cc h)
 told_left rest xs taken (Some more) h = (more, refl, told_reads rest xs (taken ++ more) h)
 
+-- no closing line was written yet
+pub unclosed : (said : List ℕ) (before now : Option (List ℕ)) → Writes before said now → Adds said [] ⊥ before now
+unclosed said before now h = ([], subst (λ (t : List ℕ). Writes before t now) (sym (append-nil said)) h, inl refl)
+
 -- ---- the run stops at the next line
 
-pub reading_fails : (bytes held taken : List ℕ) (n : ℕ) (core : Core) (u left h : Option (List ℕ)) → n ≤ LINES_MOST → ReadsRequest u (unread taken left) taken (n + 1) (Err ReadFault) → Answered bytes held n core u h → Halts ReadFault bytes held left h
-reading_fails bytes held taken n core u left h few r a =
-    let got = told_left a.rest r.0 taken left (subst (λ (v : Option (List ℕ)). Reads v r.0 (unread taken left)) a.unread_is r.2) in (
-      a.requests,
-      (
-        omega (arith, few, a.count),
+pub reading_fails : (bytes taken : List ℕ) (n : ℕ) (core : Core) (u left before now : Option (List ℕ)) → n ≤ LINES_MOST → ReadsRequest u (unread taken left) taken (n + 1) (Err ReadFault) → Answered bytes n core u before now → Ends (Err ReadFault) bytes left before now
+reading_fails bytes taken n core u left before now few r a =
+    let got = told_left a.rest r.0 taken left (subst (λ (v : Option (List ℕ)). Reads v r.0 (unread taken left)) a.unread_is r.2) in
+    record {
+      requests = a.requests;
+      few = omega (arith, few, a.count);
+      read = (
+        a.front,
+        a.spelled,
         (
-          a.front,
-          a.spelled,
+          r.0,
+          r.1,
           (
-            r.0,
-            r.1,
-            (
-              got.0,
-              got.1,
-              a.bytes_are ∙ ap (λ (t : List ℕ). ended a.front ++ t) (got.2 ∙ ap (λ (t : List ℕ). r.0 ++ (t ++ got.0)) r.3) ∙ sym (append_assoc (ended a.front) r.0 got.0),
-            ),
+            got.0,
+            got.1,
+            a.bytes_are ∙ ap (λ (t : List ℕ). ended a.front ++ t) (got.2 ∙ ap (λ (t : List ℕ). r.0 ++ (t ++ got.0)) r.3) ∙ sym (append_assoc (ended a.front) r.0 got.0),
           ),
         ),
-      ),
-      a.now_is,
-    )
+      );
+      written = unclosed (lines a.requests) before now a.writes;
+    }
 
-pub reading_halts : (halt : Halt) (bytes held taken : List ℕ) (n : ℕ) (core : Core) (u left h : Option (List ℕ)) → n < LINES_MOST → ReadsRequest u (unread taken left) taken (n + 1) (Err halt) → Answered bytes held n core u h → Halts halt bytes held left h
-reading_halts (BadLine at) bytes held taken n core u left h few r a =
-    let bad = r.1 a.rest a.unread_is in (
-      a.requests,
-      (
+pub reading_halts : (halt : Halt) (bytes taken : List ℕ) (n : ℕ) (core : Core) (u left before now : Option (List ℕ)) → n < LINES_MOST → ReadsRequest u (unread taken left) taken (n + 1) (Err halt) → Answered bytes n core u before now → Ends (Err halt) bytes left before now
+reading_halts (BadLine at) bytes taken n core u left before now few r a =
+    let bad = first_is_bad a.rest (unread taken left) (subst (λ (v : Option (List ℕ)). ReadsBad v (unread taken left)) a.unread_is r.1) in
+    record {
+      requests = a.requests;
+      few = omega (arith, few, a.count);
+      read = (
         r.0 ∙ ap (λ m. m + 1) (sym a.count),
         omega (arith, few, r.0),
-        (bad.0, bad.1, (bad.2.0, (a.front, a.spelled, begins bytes held n core u h a ∙ ap (λ (ls : List (List ℕ)). a.front ++ ls) bad.2.1))),
-      ),
-      a.now_is,
-    )
-reading_halts ReadFault bytes held taken n core u left h few r a = reading_fails bytes held taken n core u left h (omega (arith, few)) r a
-reading_halts WriteFault bytes held taken n core u left h few r a = absurd r
-reading_halts NoMemory bytes held taken n core u left h few r a = absurd r
-reading_halts Limit bytes held taken n core u left h few r a = absurd r
+        (bad.0, bad.1, (bad.2.0, (a.front, a.spelled, begins bytes n core u before now a ∙ ap (λ (ls : List (List ℕ)). a.front ++ ls) bad.2.1))),
+      );
+      written = unclosed (lines a.requests) before now a.writes;
+    }
+reading_halts ReadFault bytes taken n core u left before now few r a = reading_fails bytes taken n core u left before now (omega (arith, few)) r a
+reading_halts WriteFault bytes taken n core u left before now few r a = absurd r
+reading_halts NoMemory bytes taken n core u left before now few r a = absurd r
+reading_halts Limit bytes taken n core u left before now few r a = absurd r
 
 -- ---- the input is over
 
@@ -81,21 +86,28 @@ over_left rest xs taken None h over = absurd (cc h)
 over_left rest xs taken (Some more) h over =
     (ap Some (empty_end taken more over), told_reads rest xs (taken ++ more) h ∙ ap (λ (t : List ℕ). xs ++ t) over ∙ append-nil xs)
 
-pub reading_ends : (bytes held taken : List ℕ) (n : ℕ) (core : Core) (u left h : Option (List ℕ)) → n ≤ LINES_MOST → Reads u [] (unread taken left) → IsOver (unread taken left) → Answered bytes held n core u h → Finishes bytes held left h
-reading_ends bytes held taken n core u left h few r over a =
-    let done = over_left a.rest [] taken left (subst (λ (v : Option (List ℕ)). Reads v [] (unread taken left)) a.unread_is r) over in (
-      a.requests,
-      subst (λ (ls : List (List ℕ)). AreRequests ls a.requests) (sym (begins bytes held n core u h a ∙ ap (λ (t : List ℕ). a.front ++ lines_in t) done.1 ∙ append-nil a.front)) a.spelled,
-      omega (arith, few, a.count),
-      done.0,
-      a.now_is,
-    )
+pub reading_ends : (bytes taken : List ℕ) (n : ℕ) (core : Core) (u left before now : Option (List ℕ)) → n ≤ LINES_MOST → Reads u [] (unread taken left) → IsOver (unread taken left) → Answered bytes n core u before now → Ends (Ok tt) bytes left before now
+reading_ends bytes taken n core u left before now few r over a =
+    let done = over_left a.rest [] taken left (subst (λ (v : Option (List ℕ)). Reads v [] (unread taken left)) a.unread_is r) over in
+    record {
+      requests = a.requests;
+      few = omega (arith, few, a.count);
+      read = (
+        subst (λ (ls : List (List ℕ)). AreRequests ls a.requests) (sym (begins bytes n core u before now a ∙ ap (λ (t : List ℕ). a.front ++ lines_in t) done.1 ∙ append-nil a.front)) a.spelled,
+        done.0,
+      );
+      written = a.writes;
+    }
 
 -- ---- a line is answered
 
-pub line_answered : (bytes held line : List ℕ) (r : Request) (n : ℕ) (core core' : Core) (u u' h h' : Option (List ℕ)) → IsRequest line r → IsWithinLine line → Reads u (line ++ 10 ∷ []) u' → (a : Answered bytes held n core u h) → StandsFor core' (step (run opening a.requests).0 r).0 → Writes h (reply_line (step (run opening a.requests).0 r).1) h' → Answered bytes held (n + 1) core' u' h'
-line_answered bytes held line r n core core' u None h h' is within reads a stands writes = absurd (cc (reads, a.unread_is))
-line_answered bytes held line r n core core' u (Some rest) h h' is within reads a stands writes =
+wrote_more : (requests : List Request) (r : Request) (before now now' : Option (List ℕ)) → Writes before (lines requests) now → Writes now (reply_line (step (run opening requests).0 r).1) now' → Writes before (lines (requests ++ r ∷ [])) now'
+wrote_more requests r before now now' h k =
+    subst (λ (t : List ℕ). Writes before t now') (sym (lines-more requests r)) (writes_more before now now' (lines requests) (reply_line (step (run opening requests).0 r).1) h k)
+
+pub line_answered : (bytes line : List ℕ) (r : Request) (n : ℕ) (core core' : Core) (u u' before now now' : Option (List ℕ)) → IsRequest line r → IsWithinLine line → Reads u (line ++ 10 ∷ []) u' → (a : Answered bytes n core u before now) → StandsFor core' (step (run opening a.requests).0 r).0 → Writes now (reply_line (step (run opening a.requests).0 r).1) now' → Answered bytes (n + 1) core' u' before now'
+line_answered bytes line r n core core' u None before now now' is within reads a stands writes = absurd (cc (reads, a.unread_is))
+line_answered bytes line r n core core' u (Some rest) before now now' is within reads a stands writes =
     let got = told_reads a.rest (line ++ 10 ∷ []) rest (subst (λ (v : Option (List ℕ)). Reads v (line ++ 10 ∷ []) (Some rest)) a.unread_is reads) in
     record {
       requests = a.requests ++ r ∷ [];
@@ -108,54 +120,58 @@ line_answered bytes held line r n core core' u (Some rest) h h' is within reads 
           a.bytes_are ∙ ap (λ (t : List ℕ). ended a.front ++ t) got ∙ sym (append_assoc (ended a.front) (line ++ 10 ∷ []) rest)
           ∙ ap (λ (t : List ℕ). (ended a.front ++ t) ++ rest) (sym (append-nil (line ++ 10 ∷ []))) ∙ ap (λ (t : List ℕ). t ++ rest) (sym (ended-append a.front (line ∷ [])));
       unread_is = refl;
-      now_is =
-          subst (λ (v : Option (List ℕ)). h' ≡ option_map (λ old. old ++ reply_line (step (run opening a.requests).0 r).1) v) a.now_is writes
-          ∙ ap Some (append_assoc held (lines a.requests) (reply_line (step (run opening a.requests).0 r).1) ∙ ap (λ (t : List ℕ). held ++ t) (sym (lines-more a.requests r)));
       stands = subst (λ (s : State). StandsFor core' s) (sym (after-more opening a.requests r)) stands;
+      writes = wrote_more a.requests r before now now' a.writes writes;
     }
 
-pub last_answered : (bytes held line taken : List ℕ) (r : Request) (n : ℕ) (core : Core) (u left h h' : Option (List ℕ)) → n < LINES_MOST → IsRequest line r → IsWithinLine line → line ≢ [] → Reads u line (unread taken left) → IsOver (unread taken left) → (a : Answered bytes held n core u h) → Writes h (reply_line (step (run opening a.requests).0 r).1) h' → Finishes bytes held left h'
-last_answered bytes held line taken r n core u left h h' few is within some reads over a writes =
-    let done = over_left a.rest line taken left (subst (λ (v : Option (List ℕ)). Reads v line (unread taken left)) a.unread_is reads) over in (
-      a.requests ++ r ∷ [],
-      subst (λ (ls : List (List ℕ)). AreRequests ls (a.requests ++ r ∷ []))
-          (sym (begins bytes held n core u h a ∙ ap (λ (t : List ℕ). a.front ++ lines_in t) done.1 ∙ ap (λ (ls : List (List ℕ)). a.front ++ ls) (lines_in-unended line within some)))
-          (requests-more a.front a.requests line r a.spelled is),
-      omega (arith, few, a.count, length-append a.requests (r ∷ [])),
-      done.0,
-      subst (λ (v : Option (List ℕ)). h' ≡ option_map (λ old. old ++ reply_line (step (run opening a.requests).0 r).1) v) a.now_is writes
-          ∙ ap Some (append_assoc held (lines a.requests) (reply_line (step (run opening a.requests).0 r).1) ∙ ap (λ (t : List ℕ). held ++ t) (sym (lines-more a.requests r))),
-    )
+pub last_answered : (bytes line taken : List ℕ) (r : Request) (n : ℕ) (core : Core) (u left before now now' : Option (List ℕ)) → n < LINES_MOST → IsRequest line r → IsWithinLine line → line ≢ [] → Reads u line (unread taken left) → IsOver (unread taken left) → (a : Answered bytes n core u before now) → Writes now (reply_line (step (run opening a.requests).0 r).1) now' → Ends (Ok tt) bytes left before now'
+last_answered bytes line taken r n core u left before now now' few is within some reads over a writes =
+    let done = over_left a.rest line taken left (subst (λ (v : Option (List ℕ)). Reads v line (unread taken left)) a.unread_is reads) over in
+    record {
+      requests = a.requests ++ r ∷ [];
+      few = omega (arith, few, a.count, length-append a.requests (r ∷ []));
+      read = (
+        subst (λ (ls : List (List ℕ)). AreRequests ls (a.requests ++ r ∷ []))
+            (sym (begins bytes n core u before now a ∙ ap (λ (t : List ℕ). a.front ++ lines_in t) done.1 ∙ ap (λ (ls : List (List ℕ)). a.front ++ ls) (lines_in-unended line within some)))
+            (requests-more a.front a.requests line r a.spelled is),
+        done.0,
+      );
+      written = wrote_more a.requests r before now now' a.writes writes;
+    }
 
 -- ---- a line is read, and its answer stops the run
 
 missing_some : (k : ℕ) (xs : List ℕ) → k < length xs → drop k xs ≢ []
 missing_some k xs lt e = omega (arith, length-drop k xs, ap length e)
 
-pub answering_halts : (halt : Halt) (bytes held line : List ℕ) (more : List (List ℕ)) (r : Request) (n : ℕ) (core core' : Core) (u left h h' : Option (List ℕ)) → n < LINES_MOST → IsRequest line r → (a : Answered bytes held n core u h) → lines_in a.rest ≡ line ∷ more → Answers (run opening a.requests).0 r (Err halt) core' h h' → Halts halt bytes held left h'
-answering_halts (BadLine at) bytes held line more r n core core' u left h h' few is a first failed = absurd failed
-answering_halts ReadFault bytes held line more r n core core' u left h h' few is a first failed = absurd failed
-answering_halts Limit bytes held line more r n core core' u left h h' few is a first failed = absurd failed
-answering_halts NoMemory bytes held line more r n core core' u left h h' few is a first failed =
-    (a.requests, (omega (arith, few, a.count), (lines_in a.rest, (a.front, a.spelled, begins bytes held n core u h a))), failed.1 ∙ a.now_is)
-answering_halts WriteFault bytes held line more r n core core' u left h h' few is a first failed =
+pub answering_halts : (halt : Halt) (bytes line : List ℕ) (more : List (List ℕ)) (r : Request) (n : ℕ) (core core' : Core) (u left before now now' : Option (List ℕ)) → n < LINES_MOST → IsRequest line r → (a : Answered bytes n core u before now) → lines_in a.rest ≡ line ∷ more → Answers (run opening a.requests).0 r (Err halt) core' now now' → Ends (Err halt) bytes left before now'
+answering_halts (BadLine at) bytes line more r n core core' u left before now now' few is a first failed = absurd failed
+answering_halts ReadFault bytes line more r n core core' u left before now now' few is a first failed = absurd failed
+answering_halts Limit bytes line more r n core core' u left before now now' few is a first failed = absurd failed
+answering_halts NoMemory bytes line more r n core core' u left before now now' few is a first failed =
+    record {
+      requests = a.requests;
+      few = omega (arith, few, a.count);
+      read = (lines_in a.rest, (a.front, a.spelled, begins bytes n core u before now a), inr (line, r, more, is, failed.2, first));
+      written = unclosed (lines a.requests) before now' (subst (λ (h : Option (List ℕ)). Writes before (lines a.requests) h) (sym failed.1) a.writes);
+    }
+answering_halts WriteFault bytes line more r n core core' u left before now now' few is a first failed =
     let reply = reply_line (step (run opening a.requests).0 r).1 in
-    let k = failed.0 in (
-      a.requests ++ r ∷ [],
-      (
-        omega (arith, few, a.count, length-append a.requests (r ∷ [])),
+    let k = failed.0 in
+    record {
+      requests = a.requests ++ r ∷ [];
+      few = omega (arith, few, a.count, length-append a.requests (r ∷ []));
+      read = (
+        more,
         (
-          more,
-          (
-            a.front ++ line ∷ [],
-            requests-more a.front a.requests line r a.spelled is,
-            begins bytes held n core u h a ∙ ap (λ (ls : List (List ℕ)). a.front ++ ls) first ∙ sym (append_assoc a.front (line ∷ []) more),
-          ),
+          a.front ++ line ∷ [],
+          requests-more a.front a.requests line r a.spelled is,
+          begins bytes n core u before now a ∙ ap (λ (ls : List (List ℕ)). a.front ++ ls) first ∙ sym (append_assoc a.front (line ∷ []) more),
         ),
-      ),
-      (
+      );
+      written = (
         lines a.requests ++ take k reply,
-        subst (λ (v : Option (List ℕ)). h' ≡ option_map (λ old. old ++ take k reply) v) a.now_is failed.2 ∙ ap Some (append_assoc held (lines a.requests) (take k reply)),
+        writes_more before now now' (lines a.requests) (take k reply) a.writes failed.2,
         (
           a.requests,
           r,
@@ -167,8 +183,8 @@ answering_halts WriteFault bytes held line more r n core core' u left h h' few i
             lines-more a.requests r ∙ ap (λ (t : List ℕ). lines a.requests ++ t) (sym (take-append-drop k reply)) ∙ sym (append_assoc (lines a.requests) (take k reply) (drop k reply)),
           ),
         ),
-      ),
-    )
+      );
+    }
 
 -- the line that was read is the first of what was unread
 pub first_line : (rest line : List ℕ) (u' : Option (List ℕ)) → IsWithinLine line → Reads (Some rest) (line ++ 10 ∷ []) u' → (more : List (List ℕ)) × (lines_in rest ≡ line ∷ more)
@@ -182,8 +198,8 @@ last_line rest line taken left within some reads over =
 
 -- ---- before the first line, and behind the last that one run answers
 
-pub opened : (bytes before reader : List ℕ) (core : Core) (left h : Option (List ℕ)) → StandsFor core opening → reader ≡ [] → left ≡ Some bytes → h ≡ Some before → Answered bytes before 0 core (unread reader left) h
-opened bytes before reader core left h stands fresh told holds =
+pub opened : (bytes reader : List ℕ) (core : Core) (left before : Option (List ℕ)) → StandsFor core opening → reader ≡ [] → left ≡ Some bytes → Answered bytes 0 core (unread reader left) before before
+opened bytes reader core left before stands fresh told =
     record {
       requests = [];
       front = [];
@@ -193,17 +209,19 @@ opened bytes before reader core left h stands fresh told holds =
       count = refl;
       bytes_are = refl;
       unread_is = ap (λ (t : List ℕ). unread t left) fresh ∙ ap (λ (o : Option (List ℕ)). unread [] o) told;
-      now_is = holds ∙ ap Some (sym (append-nil before));
       stands = stands;
+      writes = writes_nothing before;
     }
 
-pub limit_halts : (bytes held : List ℕ) (n byte : ℕ) (core : Core) (u u' left h : Option (List ℕ)) → n ≡ LINES_MOST → Reads u (byte ∷ []) u' → Answered bytes held n core u h → Halts Limit bytes held left h
-limit_halts bytes held n byte core u None left h full reads a = absurd (cc (reads, a.unread_is))
-limit_halts bytes held n byte core u (Some rest) left h full reads a =
+pub limit_halts : (bytes : List ℕ) (n byte : ℕ) (core : Core) (u u' left before now : Option (List ℕ)) → n ≡ LINES_MOST → Reads u (byte ∷ []) u' → Answered bytes n core u before now → Ends (Err Limit) bytes left before now
+limit_halts bytes n byte core u None left before now full reads a = absurd (cc (reads, a.unread_is))
+limit_halts bytes n byte core u (Some rest) left before now full reads a =
     let got = told_reads a.rest (byte ∷ []) rest (subst (λ (v : Option (List ℕ)). Reads v (byte ∷ []) (Some rest)) a.unread_is reads) in
-    let first = lines_in-some byte rest in (
-      a.requests,
-      (
+    let first = lines_in-some byte rest in
+    record {
+      requests = a.requests;
+      few = omega (arith, full, a.count);
+      read = (
         a.count ∙ full,
         (
           first.0,
@@ -212,10 +230,10 @@ limit_halts bytes held n byte core u (Some rest) left h full reads a =
             (
               a.front,
               a.spelled,
-              begins bytes held n core u h a ∙ ap (λ (t : List ℕ). a.front ++ lines_in t) got ∙ ap (λ (ls : List (List ℕ)). a.front ++ ls) first.2,
+              begins bytes n core u before now a ∙ ap (λ (t : List ℕ). a.front ++ lines_in t) got ∙ ap (λ (ls : List (List ℕ)). a.front ++ ls) first.2,
             ),
           ),
         ),
-      ),
-      a.now_is,
-    )
+      );
+      written = unclosed (lines a.requests) before now a.writes;
+    }

@@ -5,6 +5,7 @@ ghost use Rattle.liq_types.specs.State.{State};
 ghost use Rattle.liq_types.specs.declared.requests.Request.TheVariants.{Do};
 ghost use Rattle.liq_core.specs.Core.{StandsFor};
 ghost use Rattle.liq_core.specs.Step.{built, step};
+ghost use Rattle.liq_serve.specs.Requests.{IsCommand};
 
 use liq_core::{PlanFault, Protocol, Turn};
 use liq_types::amounts::RECORDS_MOST;
@@ -29,6 +30,8 @@ pub fn call<L: Ledger>(
     ensures ok { IfOk result (λ reply. (s : State) → StandsFor protocol.old s
         → StandsFor protocol.new (step s request.now).0 × ((step s request.now).1 ≡ reply)) }
     ensures err { OnErr result ((s : State) → StandsFor protocol.old s → StandsFor protocol.new s) }
+    // A query asks for no memory.
+    ensures command { OnErr result (IsCommand request.now) }
     ensures records { protocol.new.records ≤ protocol.old.records + 1 }
 {
     match request {

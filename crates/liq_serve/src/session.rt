@@ -1,14 +1,14 @@
 //! A session: one protocol, and the lines that it is asked and answers.
 
-ghost use Rattle.std.specs.Prelude.{Some, ◌≡◌, ◌≢◌, IsTrue, ◌≤◌, ◌<◌, ◌+◌, ◌++◌, [], ℕ, List, OnOk, OnErr, IfOk, MatchOption, vec_capacity};
+ghost use Rattle.std.specs.Prelude.{Option, Some, ◌≡◌, ◌≢◌, IsTrue, ◌≤◌, ◌<◌, ◌+◌, [], ℕ, List, OnOk, OnErr, IfOk, vec_capacity};
 ghost use Rattle.liq_types.specs.State.{State, opening};
 ghost use Rattle.liq_core.specs.Step.{built};
 ghost use Rattle.liq_core.specs.Core.{StandsFor};
-ghost use Rattle.liq_outside.specs.Faults.{Rose};
+ghost use Rattle.liq_outside.specs.Faults.{HasCause};
+ghost use Rattle.liq_serve.specs.Causes.{ReadCause, WriteCause};
 ghost use Rattle.liq_serve.specs.Output.{reply_line};
-ghost use Rattle.liq_serve.specs.Progress.{ReadsRequest, Answered, Answers, Turns, RunsTo};
+ghost use Rattle.liq_serve.specs.Progress.{RequestOn, ReadsRequest, Answered, Answers, Turns, Ends};
 ghost use Rattle.liq_serve.specs.Reading.{unread};
-ghost use Rattle.liq_serve.specs.Requests.{IsRequest, IsBadLine};
 ghost use Rattle.liq_serve.specs.Writing.{Writes, WritesPart};
 
 use crate::calls::call;
@@ -24,8 +24,8 @@ use std::alloc::{AllocError, Global};
 use std::sync::ledger::Ledger;
 
 /// What stands next in the input.
-#[derive(Clone, Copy, Debug, PartialEq, Eq)]
-pub enum Next {
+#[derive(Clone, Copy)]
+enum Next {
     /// A request on a line with a line end.
     Line(Request),
     /// A request on the last line, which lacks its line end.
@@ -34,7 +34,7 @@ pub enum Next {
     End,
 }
 
-/// Reads the next line's request.
+/// Reads the next line's request. Behind a bad line nothing is read.
 fn next_request<S: Source>(
     reader: &mut Reader,
     line: &mut Vec<u8>,
@@ -44,31 +44,24 @@ fn next_request<S: Source>(
     requires { LINE_BYTES ≤ vec_capacity line.old }
     ensures request { ReadsRequest (unread reader.old (S.left input.old)) (unread reader.new (S.left input.new)) reader.new number result }
     ensures capacity { vec_capacity line.new ≡ vec_capacity line.old }
-    ensures count { S.faults input.old ≤ S.faults input.new }
-    ensures cause { result ≡ Err Halt.ReadFault → Rose (S.faults input.old) (S.faults input.new) }
+    ensures cause { ReadCause result (S.faults input.old) (S.faults input.new) }
 {
     match reader.next_line(input, line) {
         Err(Failed) => Err(Halt::ReadFault),
         Ok(LineEnd::Nothing) => Ok(Next::End),
         Ok(LineEnd::TooLong) => Err(Halt::BadLine(number)),
-        Ok(LineEnd::Ended) => match request_on(line) {
-            Some(request) => Ok(Next::Line(request)),
-            None => Err(Halt::BadLine(number)),
-        },
-        Ok(LineEnd::Unended) => match request_on(line) {
-            Some(request) => Ok(Next::LastLine(request)),
-            None => Err(Halt::BadLine(number)),
-        },
+        Ok(LineEnd::Ended) => Ok(Next::Line(request_on(line, number)?)),
+        Ok(LineEnd::Unended) => Ok(Next::LastLine(request_on(line, number)?)),
     }
 }
 
-/// The request on a line, where there is one.
-fn request_on(line: &[u8]) -> Option<Request>
-    ensures { MatchOption result (IsBadLine line.now) (IsRequest line.now) }
+/// The request on the line of this number.
+fn request_on(line: &[u8], number: u64) -> Result<Request, Halt>
+    ensures { RequestOn line.now number result }
 {
     match read_line(line) {
-        Ok(request) if is_built(&request) => Some(request),
-        _ => None,
+        Ok(request) if is_built(&request) => Ok(request),
+        _ => Err(Halt::BadLine(number)),
     }
 }
 
@@ -78,8 +71,7 @@ fn write_line<K: Sink>(text: &mut Vec<u8>, reply: &Reply, out: &mut K) -> Result
     ensures ok { OnOk result (Writes (K.held out.old) (reply_line reply.now) (K.held out.new)) }
     ensures err { OnErr result (WritesPart (K.held out.old) (reply_line reply.now) (K.held out.new)) }
     ensures capacity { vec_capacity text.old ≤ vec_capacity text.new }
-    ensures count { K.faults out.old ≤ K.faults out.new }
-    ensures cause { OnErr result (Rose (K.faults out.old) (K.faults out.new)) }
+    ensures cause { HasCause (K.faults out.old) (K.faults out.new) result }
 {
     text.clear();
     if write_reply(reply, text).is_err() {
@@ -123,18 +115,14 @@ impl Session {
         requires opening { StandsFor self.old.protocol opening }
         requires records { self.old.protocol.records ≡ 0 }
         requires unread { self.old.reader ≡ [] }
-        ensures run { (bytes held : List ℕ) → S.left input.old ≡ Some bytes → K.held out.old ≡ Some held
-            → RunsTo bytes held result (S.left input.new) (K.held out.new) }
-        ensures source_count { S.faults input.old ≤ S.faults input.new }
-        ensures sink_count { K.faults out.old ≤ K.faults out.new }
-        ensures read_fault { result ≡ Err Halt.ReadFault → Rose (S.faults input.old) (S.faults input.new) }
-        ensures write_fault { result ≡ Err Halt.WriteFault → Rose (K.faults out.old) (K.faults out.new) }
+        ensures run { (bytes : List ℕ) → S.left input.old ≡ Some bytes
+            → Ends result bytes (S.left input.new) (K.held out.old) (K.held out.new) }
+        ensures source { ReadCause result (S.faults input.old) (S.faults input.new) }
+        ensures sink { WriteCause result (K.faults out.old) (K.faults out.new) }
     {
         for answered in 0..LINES_MOST {
-            match self.turn(input, out, steps, answered) {
-                Ok(true) => {}
-                Ok(false) => return Ok(()),
-                Err(halt) => return Err(halt),
+            if !self.turn(input, out, steps, answered)? {
+                return Ok(());
             }
         }
         match self.reader.next_byte(input) {
@@ -154,26 +142,23 @@ impl Session {
     ) -> Result<bool, Halt>
         requires few { answered < LINES_MOST }
         requires records { self.old.protocol.records ≤ answered }
-        ensures turn { (bytes held : List ℕ)
-            → Answered bytes held answered self.old.protocol (unread self.old.reader (S.left input.old)) (K.held out.old)
-            → Turns bytes held answered self.new.protocol (unread self.new.reader (S.left input.new)) (S.left input.new) (K.held out.new) result }
+        ensures turn { (bytes : List ℕ) (before : Option (List ℕ))
+            → Answered bytes answered self.old.protocol (unread self.old.reader (S.left input.old)) before (K.held out.old)
+            → Turns bytes answered self.new.protocol (unread self.new.reader (S.left input.new)) (S.left input.new) before (K.held out.new) result }
         ensures records { OnOk result (self.new.protocol.records ≤ answered + 1) }
-        ensures source_count { S.faults input.old ≤ S.faults input.new }
-        ensures sink_count { K.faults out.old ≤ K.faults out.new }
-        ensures read_fault { result ≡ Err Halt.ReadFault → Rose (S.faults input.old) (S.faults input.new) }
-        ensures write_fault { result ≡ Err Halt.WriteFault → Rose (K.faults out.old) (K.faults out.new) }
+        ensures source { ReadCause result (S.faults input.old) (S.faults input.new) }
+        ensures sink { WriteCause result (K.faults out.old) (K.faults out.new) }
     {
-        match next_request(&mut self.reader, &mut self.line, input, answered + 1) {
-            Err(halt) => Err(halt),
-            Ok(Next::End) => Ok(false),
-            Ok(Next::Line(request)) => match self.answer(&request, out, steps) {
-                Ok(()) => Ok(true),
-                Err(halt) => Err(halt),
-            },
-            Ok(Next::LastLine(request)) => match self.answer(&request, out, steps) {
-                Ok(()) => Ok(false),
-                Err(halt) => Err(halt),
-            },
+        match next_request(&mut self.reader, &mut self.line, input, answered + 1)? {
+            Next::End => Ok(false),
+            Next::Line(request) => {
+                self.answer(&request, out, steps)?;
+                Ok(true)
+            }
+            Next::LastLine(request) => {
+                self.answer(&request, out, steps)?;
+                Ok(false)
+            }
         }
     }
 
@@ -190,13 +175,10 @@ impl Session {
             → Answers s request.now result self.new.protocol (K.held out.old) (K.held out.new) }
         ensures reader { self.new.reader ≡ self.old.reader }
         ensures records { OnOk result (self.new.protocol.records ≤ self.old.protocol.records + 1) }
-        ensures count { K.faults out.old ≤ K.faults out.new }
-        ensures cause { result ≡ Err Halt.WriteFault → Rose (K.faults out.old) (K.faults out.new) }
         ensures other { result ≢ Err Halt.ReadFault }
+        ensures sink { WriteCause result (K.faults out.old) (K.faults out.new) }
     {
-        let Ok(reply) = call(&mut self.protocol, request, steps) else {
-            return Err(Halt::NoMemory);
-        };
+        let reply = call(&mut self.protocol, request, steps)?;
         match write_line(&mut self.text, &reply, out) {
             Ok(()) => Ok(()),
             Err(Failed) => Err(Halt::WriteFault),

@@ -9,8 +9,8 @@ invariant-loop-answered g l =
     let left = g.S.Source.left in
     let held = g.K.Sink.held in
     record {
-      answered : (bytes before : List ℕ) → left l.fn.input ≡ Some bytes → held l.fn.out ≡ Some before → Answered bytes before l.answered l.self.protocol (unread l.self.reader (left l.input)) (held l.out);
+      answered : (bytes : List ℕ) → left l.fn.input ≡ Some bytes → Answered bytes l.answered l.self.protocol (unread l.self.reader (left l.input)) (held l.fn.out) (held l.out);
       records : l.self.protocol.records ≤ l.answered;
-      source_count : g.S.Source.faults l.fn.input ≤ g.S.Source.faults l.input;
-      sink_count : g.K.Sink.faults l.fn.out ≤ g.K.Sink.faults l.out;
+      source_count : g.S.Source.faults l.input ≡ g.S.Source.faults l.fn.input;
+      sink_count : g.K.Sink.faults l.out ≡ g.K.Sink.faults l.fn.out;
     }
