@@ -9,4 +9,4 @@ mod session;
 mod top;
 mod writer;
 
-pub use top::protocol;
+pub use top::{protocol, without_words};

@@ -19,6 +19,7 @@ use liq_outside::{Sink, Source};
 use liq_types::Steps;
 use liq_types::amounts::LINES_MOST;
 use std::alloc::Global;
+use std::io::ErrorKind;
 use std::marker::Brand;
 use std::sync::ledger::{Blank, Ledger};
 
@@ -67,6 +68,26 @@ pub fn protocol<S: Source, K: Sink>(
         return 1;
     }
     status(&run_on::<Brand, S, K>(alloc, input, out, Blank::new(1)))
+}
+
+/// Ends a run whose words the system did not give. Where there was no memory for them, the status is 7; else one of them is no
+/// text, so that they are not understood, and it is 1. The line of that status is written.
+pub fn without_words<K: Sink>(fault: ErrorKind, out: &mut K) -> u8
+    ensures no_memory { fault ≡ ErrorKind.OutOfMemory → (result ≡ 7)
+        × Adds [] (last Halt.NoMemory) (Rose (K.faults out.old) (K.faults out.new)) (K.held out.old) (K.held out.new) }
+    ensures usage { fault ≢ ErrorKind.OutOfMemory → (result ≡ 1)
+        × Adds [] usage (Rose (K.faults out.old) (K.faults out.new)) (K.held out.old) (K.held out.new) }
+{
+    match fault {
+        ErrorKind::OutOfMemory => {
+            write_last(out, Halt::NoMemory);
+            status(&Err(Halt::NoMemory))
+        }
+        _ => {
+            write_usage(out);
+            1
+        }
+    }
 }
 
 /// Whether the words are exactly `run`.
