@@ -109,6 +109,15 @@ fn failing_writes(rt: HostRuntime) -> Result<(), Fail> {
     Ok(())
 }
 
+// A reply is written before the source is read again: where it is lost, what comes behind its line's chunk is unread.
+#[test]
+fn replies_before_reading(rt: HostRuntime) -> Result<(), Fail> {
+    let ran = run_on(rt.alloc(), &RUN, INPUT, 13, &[], &[0])?;
+    ran.check(&rt, b"", 4, "at write", 0);
+    assert_eq!(rt; Some(ran.source.left()), INPUT.get(13..));
+    Ok(())
+}
+
 const USAGE: &[u8] = b"usage: liq run, serve, state, audit or gen SEED COUNT\n";
 
 const OTHER_WORDS: [&[&str]; 8] = [

@@ -10,10 +10,11 @@ use Rattle.liq_serve.specs.declared.halts.Halt.{Halt}
 use Rattle.liq_serve.specs.declared.halts.Halt.TheVariants.{BadLine, ReadFault, WriteFault, NoMemory, Limit}
 use Rattle.liq_serve.specs.Lines.{lines_in}
 use Rattle.liq_serve.specs.Output.{lines, last}
-use Rattle.liq_serve.specs.Progress.{Ends}
+use Rattle.liq_serve.specs.Progress.{Ends, Comes, Written}
 use Rattle.liq_serve.specs.Stops.{Adds, EndsIn, IsFrontOf, IsCutInLastLine}
-use Rattle.liq_serve.specs.Writing.{Writes, WritesPart}
+use Rattle.liq_serve.specs.Writing.{Writes, WritesPart, WritesFront}
 use Rattle.liq_serve.proofs.Bytes.{writes_more, writes_nothing}
+use Rattle.liq_serve.proofs.Cutting.{cut_comes}
 
 -- a part of the first of two pieces, and a part of the second behind the first
 pub part_first : (before after : Option (List ℕ)) (xs ys : List ℕ) → WritesPart before xs after → WritesPart before (xs ++ ys) after
@@ -66,6 +67,47 @@ went_well (Err halt) bytes fault left before now well h = absurd (well halt refl
 
 pub nothing_added : (fault : Type 0) (before : Option (List ℕ)) → Adds [] [] fault before before
 nothing_added fault before = ([], writes_nothing before, inl refl)
+
+-- ---- a run at its end writes what waits
+
+unclosed : (said : List ℕ) (before now : Option (List ℕ)) → Writes before said now → Adds said [] ⊥ before now
+unclosed said before now h = ([], subst (λ (t : List ℕ). Writes before t now) (sym (append-nil said)) h, inl refl)
+
+all_written : (requests : List Request) (w : List ℕ) (before now after : Option (List ℕ)) → Written requests w before now → WritesFront (Ok tt) w [] now after → Writes before (lines requests) after
+all_written requests w before now after h f =
+    subst (λ (t : List ℕ). Writes before t after) (ap (λ (t : List ℕ). h.0 ++ t) (sym (append-nil f.0) ∙ sym f.2) ∙ sym h.2) (writes_more before now after h.0 f.0 h.1 f.1)
+
+pub closes : (end : Result (Unit {0}) Halt) (bytes : List ℕ) (left : Option (List ℕ)) (w : List ℕ) (before now after : Option (List ℕ)) → (end ≡ Err WriteFault → ⊥) → Comes end bytes left w before now → WritesFront (Ok tt) w [] now after → Ends end bytes left before after
+closes (Ok done) bytes left w before now after other h f =
+    record { requests = h.requests; few = h.few; read = h.read; written = all_written h.requests w before now after h.written f }
+closes (Err (BadLine n)) bytes left w before now after other h f =
+    record { requests = h.requests; few = h.few; read = h.read; written = unclosed (lines h.requests) before after (all_written h.requests w before now after h.written f) }
+closes (Err ReadFault) bytes left w before now after other h f =
+    record { requests = h.requests; few = h.few; read = h.read; written = unclosed (lines h.requests) before after (all_written h.requests w before now after h.written f) }
+closes (Err WriteFault) bytes left w before now after other h f = absurd (other refl)
+closes (Err NoMemory) bytes left w before now after other h f =
+    record { requests = h.requests; few = h.few; read = h.read; written = unclosed (lines h.requests) before after (all_written h.requests w before now after h.written f) }
+closes (Err Limit) bytes left w before now after other h f =
+    record { requests = h.requests; few = h.few; read = h.read; written = unclosed (lines h.requests) before after (all_written h.requests w before now after h.written f) }
+
+pub cut_ends : (bytes : List ℕ) (left : Option (List ℕ)) (w : List ℕ) (before now : Option (List ℕ)) → Comes (Err WriteFault) bytes left w before now → Ends (Err WriteFault) bytes left before now
+cut_ends bytes left w before now h = record { requests = h.requests; few = h.few; read = h.read; written = h.written }
+
+waited : (end : Result (Unit {0}) Halt) (bytes : List ℕ) (left : Option (List ℕ)) (w : List ℕ) (before now : Option (List ℕ)) → (end ≡ Err WriteFault → ⊥) → (h : Comes end bytes left w before now) → Written h.requests w before now
+waited (Ok done) bytes left w before now other h = h.written
+waited (Err (BadLine n)) bytes left w before now other h = h.written
+waited (Err ReadFault) bytes left w before now other h = h.written
+waited (Err WriteFault) bytes left w before now other h = absurd (other refl)
+waited (Err NoMemory) bytes left w before now other h = h.written
+waited (Err Limit) bytes left w before now other h = h.written
+
+pub closing_cut : (end : Result (Unit {0}) Halt) (halt : Halt) (bytes : List ℕ) (left : Option (List ℕ)) (w w' : List ℕ) (before now after : Option (List ℕ)) → (end ≡ Err WriteFault → ⊥) → Comes end bytes left w before now → WritesFront (Err halt) w w' now after → Ends (Err halt) bytes left before after
+closing_cut end (BadLine n) bytes left w w' before now after other h f = absurd f
+closing_cut end ReadFault bytes left w w' before now after other h f = absurd f
+closing_cut end NoMemory bytes left w w' before now after other h f = absurd f
+closing_cut end Limit bytes left w w' before now after other h f = absurd f
+closing_cut end WriteFault bytes left w w' before now after other h f =
+    cut_ends bytes left w' before after (cut_comes bytes h.requests left w w' h.more before now after h.few h.begins (waited end bytes left w before now other h) f)
 
 pub no_session : (bytes : List ℕ) (left before : Option (List ℕ)) → Ends (Err NoMemory) bytes left before before
 no_session bytes left before =

@@ -1,6 +1,6 @@
 //! Reading lines, a byte at a time from chunks that the source gives.
 
-ghost use Rattle.std.specs.Prelude.{◌≡◌, ◌≤◌, ◌<◌, ◌∷◌, [], Contains, OnOk, OnErr, IfOk, IsOk, Ok, Some, List, ℕ, MatchOption, vec_len, vec_capacity};
+ghost use Rattle.std.specs.Prelude.{◌≡◌, ◌≤◌, ◌<◌, ◌∷◌, [], Contains, ◌↔◌, IsTrue, OnOk, OnErr, IfOk, IsOk, Ok, Some, List, ℕ, MatchOption, vec_len, vec_capacity};
 ghost use Rattle.liq_outside.specs.Faults.{HasCause};
 ghost use Rattle.liq_serve.specs.Reading.{unread, Reads, ReadsLine, IsOver, IsEndOfInput};
 
@@ -82,6 +82,13 @@ impl Reader {
         self.start = 0;
         self.end = count;
         Ok(())
+    }
+
+    /// Whether a whole line was taken and is unread.
+    pub fn has_line(&self) -> bool
+        ensures { IsTrue result ↔ Contains self.now LINE_END }
+    {
+        self.chunk[self.start..self.end].contains(&LINE_END)
     }
 
     /// The next byte, or none at the source's end.

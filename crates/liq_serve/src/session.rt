@@ -1,25 +1,22 @@
 //! A session: one protocol, and the lines that it is asked and answers.
 
-ghost use Rattle.std.specs.Prelude.{Option, Some, ◌≡◌, ◌≢◌, IsTrue, ◌≤◌, ◌<◌, ◌+◌, [], ℕ, List, OnOk, OnErr, IfOk, vec_capacity};
+ghost use Rattle.std.specs.Prelude.{Contains, Err, Option, Some, ◌≡◌, ◌≢◌, IsTrue, ◌≤◌, ◌<◌, ◌+◌, [], ℕ, List, OnOk, OnErr, IfOk, vec_capacity};
 ghost use Rattle.liq_types.specs.State.{State, opening};
 ghost use Rattle.liq_core.specs.Step.{built};
 ghost use Rattle.liq_core.specs.Core.{StandsFor};
-ghost use Rattle.liq_outside.specs.Faults.{HasCause};
 ghost use Rattle.liq_serve.specs.Causes.{ReadCause, WriteCause};
-ghost use Rattle.liq_serve.specs.Output.{reply_line};
-ghost use Rattle.liq_serve.specs.Progress.{RequestOn, ReadsRequest, Answered, Answers, Turns, Ends};
+ghost use Rattle.liq_serve.specs.Progress.{RequestOn, ReadsRequest, Answered, Answers, Turns, Comes, Ends};
 ghost use Rattle.liq_serve.specs.Reading.{unread};
-ghost use Rattle.liq_serve.specs.Writing.{Writes, WritesPart};
 
 use crate::calls::call;
 use crate::halts::Halt;
 use crate::reader::{LINE_END, LineEnd, Reader};
-use crate::writer::write_all;
+use crate::waiting::{WAITING_MOST, catch_up, flush, keep, make_way};
 use liq_core::{Protocol, is_built};
 use liq_outside::{Failed, Sink, Source};
-use liq_text::{read_line, write_reply};
-use liq_types::amounts::{LINE_BYTES, LINES_MOST, RECORDS_MOST, REPLY_BYTES};
-use liq_types::{Reply, Request, Steps};
+use liq_text::read_line;
+use liq_types::amounts::{LINE_BYTES, LINES_MOST, RECORDS_MOST};
+use liq_types::{Request, Steps};
 use std::alloc::{AllocError, Global};
 use std::sync::ledger::Ledger;
 
@@ -43,6 +40,8 @@ fn next_request<S: Source>(
 ) -> Result<Next, Halt>
     requires { LINE_BYTES ≤ vec_capacity line.old }
     ensures request { ReadsRequest (unread reader.old (S.left input.old)) (unread reader.new (S.left input.new)) reader.new number result }
+    // Where the line was taken already, nothing is read.
+    ensures taken { Contains reader.old LINE_END → result ≢ Err Halt.ReadFault }
     ensures capacity { vec_capacity line.new ≡ vec_capacity line.old }
     ensures cause { ReadCause result (S.faults input.old) (S.faults input.new) }
 {
@@ -65,47 +64,31 @@ fn request_on(line: &[u8], number: u64) -> Result<Request, Halt>
     }
 }
 
-/// Writes a reply's line. There is room for it in `text`.
-fn write_line<K: Sink>(text: &mut Vec<u8>, reply: &Reply, out: &mut K) -> Result<(), Failed>
-    requires { REPLY_BYTES < vec_capacity text.old }
-    ensures ok { OnOk result (Writes (K.held out.old) (reply_line reply.now) (K.held out.new)) }
-    ensures err { OnErr result (WritesPart (K.held out.old) (reply_line reply.now) (K.held out.new)) }
-    ensures capacity { vec_capacity text.old ≤ vec_capacity text.new }
-    ensures cause { HasCause (K.faults out.old) (K.faults out.new) result }
-{
-    text.clear();
-    if write_reply(reply, text).is_err() {
-        unreachable!();
-    }
-    text.push_reserved(LINE_END);
-    write_all(out, text)
-}
-
 /// One protocol, and where it has come to in its input.
 #[derive(Drop)]
 pub struct Session {
     protocol: Protocol,
     reader: Reader,
     line: Vec<u8>,
-    text: Vec<u8>,
+    waiting: Vec<u8>,
     ghost line_room: { 200 ≤ vec_capacity line },
-    ghost text_room: { 256 ≤ vec_capacity text },
+    ghost waiting_room: { 16384 ≤ vec_capacity waiting },
 }
 
 impl Session {
     /// A session at the opening of a protocol.
     pub fn new(alloc: Global) -> Result<Session, AllocError>
-        ensures { IfOk result (λ session. StandsFor session.protocol opening × (session.protocol.records ≡ 0) × (session.reader ≡ [])) }
+        ensures { IfOk result (λ session. StandsFor session.protocol opening × (session.protocol.records ≡ 0) × (session.reader ≡ []) × (session.waiting.items ≡ [])) }
     {
         Ok(Session {
             protocol: Protocol::new(alloc),
             reader: Reader::new(alloc)?,
             line: Vec::with_capacity(alloc, LINE_BYTES)?,
-            text: Vec::with_capacity(alloc, REPLY_BYTES + 1)?,
+            waiting: Vec::with_capacity(alloc, WAITING_MOST)?,
         })
     }
 
-    /// Answers the input's lines, to its end or to where the run stops.
+    /// Answers the input's lines, to its end or to where the run stops, and writes all replies.
     pub fn answer_all<S: Source, K: Sink, L: Ledger>(
         &mut self,
         input: &mut S,
@@ -115,8 +98,30 @@ impl Session {
         requires opening { StandsFor self.old.protocol opening }
         requires records { self.old.protocol.records ≡ 0 }
         requires unread { self.old.reader ≡ [] }
+        requires waiting { self.old.waiting.items ≡ [] }
         ensures run { (bytes : List ℕ) → S.left input.old ≡ Some bytes
             → Ends result bytes (S.left input.new) (K.held out.old) (K.held out.new) }
+        ensures source { ReadCause result (S.faults input.old) (S.faults input.new) }
+        ensures sink { WriteCause result (K.faults out.old) (K.faults out.new) }
+    {
+        let end = self.answer_lines(input, out, steps);
+        self.close(end, out)
+    }
+
+    /// Answers the input's lines. Some replies may wait at the end, but none at a read fault.
+    fn answer_lines<S: Source, K: Sink, L: Ledger>(
+        &mut self,
+        input: &mut S,
+        out: &mut K,
+        steps: &mut Steps<L>,
+    ) -> Result<(), Halt>
+        requires opening { StandsFor self.old.protocol opening }
+        requires records { self.old.protocol.records ≡ 0 }
+        requires unread { self.old.reader ≡ [] }
+        requires waiting { self.old.waiting.items ≡ [] }
+        ensures run { (bytes : List ℕ) → S.left input.old ≡ Some bytes
+            → Comes result bytes (S.left input.new) self.new.waiting.items (K.held out.old) (K.held out.new) }
+        ensures caught_up { result ≡ Err Halt.ReadFault → self.new.waiting.items ≡ [] }
         ensures source { ReadCause result (S.faults input.old) (S.faults input.new) }
         ensures sink { WriteCause result (K.faults out.old) (K.faults out.new) }
     {
@@ -125,6 +130,7 @@ impl Session {
                 return Ok(());
             }
         }
+        flush(&mut self.waiting, out)?;
         match self.reader.next_byte(input) {
             Ok(None) => Ok(()),
             Ok(Some(_)) => Err(Halt::Limit),
@@ -132,7 +138,24 @@ impl Session {
         }
     }
 
-    /// Answers the next line, of which there are `answered` before it, and says whether another may follow.
+    /// Writes what waits at the run's end. Where the sink meets a fault at it, that is the end.
+    fn close<K: Sink>(&mut self, end: Result<(), Halt>, out: &mut K) -> Result<(), Halt>
+        ensures run { (bytes : List ℕ) (left before : Option (List ℕ)) → Comes end bytes left self.old.waiting.items before (K.held out.old)
+            → Ends result bytes left before (K.held out.new) }
+        ensures source { (old new : ℕ) → (end ≡ Err Halt.ReadFault → self.old.waiting.items ≡ []) → ReadCause end old new → ReadCause result old new }
+        ensures sink { (old : ℕ) → WriteCause end old (K.faults out.old) → WriteCause result old (K.faults out.new) }
+    {
+        match end {
+            Err(Halt::WriteFault) => Err(Halt::WriteFault),
+            _ => {
+                flush(&mut self.waiting, out)?;
+                end
+            }
+        }
+    }
+
+    /// Answers the next line, of which there are `answered` before it, and says whether another may follow. Before the source
+    /// is read the replies that wait are written.
     fn turn<S: Source, K: Sink, L: Ledger>(
         &mut self,
         input: &mut S,
@@ -143,12 +166,14 @@ impl Session {
         requires few { answered < LINES_MOST }
         requires records { self.old.protocol.records ≤ answered }
         ensures turn { (bytes : List ℕ) (before : Option (List ℕ))
-            → Answered bytes answered self.old.protocol (unread self.old.reader (S.left input.old)) before (K.held out.old)
-            → Turns bytes answered self.new.protocol (unread self.new.reader (S.left input.new)) (S.left input.new) before (K.held out.new) result }
+            → Answered bytes answered self.old.protocol (unread self.old.reader (S.left input.old)) self.old.waiting.items before (K.held out.old)
+            → Turns bytes answered self.new.protocol (unread self.new.reader (S.left input.new)) (S.left input.new) self.new.waiting.items before (K.held out.new) result }
+        ensures caught_up { result ≡ Err Halt.ReadFault → self.new.waiting.items ≡ [] }
         ensures records { OnOk result (self.new.protocol.records ≤ answered + 1) }
         ensures source { ReadCause result (S.faults input.old) (S.faults input.new) }
         ensures sink { WriteCause result (K.faults out.old) (K.faults out.new) }
     {
+        catch_up(&self.reader, &mut self.waiting, out)?;
         match next_request(&mut self.reader, &mut self.line, input, answered + 1)? {
             Next::End => Ok(false),
             Next::Line(request) => {
@@ -162,7 +187,7 @@ impl Session {
         }
     }
 
-    /// Makes the request's step, and writes its reply.
+    /// Makes the request's step, and keeps its reply until it is written. Before a command's step all other replies are written.
     fn answer<K: Sink, L: Ledger>(
         &mut self,
         request: &Request,
@@ -172,16 +197,15 @@ impl Session {
         requires built { IsTrue (built request.now) }
         requires few { self.old.protocol.records < RECORDS_MOST }
         ensures answer { (s : State) → StandsFor self.old.protocol s
-            → Answers s request.now result self.new.protocol (K.held out.old) (K.held out.new) }
+            → Answers s request.now result self.new.protocol self.old.waiting.items self.new.waiting.items (K.held out.old) (K.held out.new) }
         ensures reader { self.new.reader ≡ self.old.reader }
         ensures records { OnOk result (self.new.protocol.records ≤ self.old.protocol.records + 1) }
         ensures other { result ≢ Err Halt.ReadFault }
         ensures sink { WriteCause result (K.faults out.old) (K.faults out.new) }
     {
+        make_way(request, &mut self.waiting, out)?;
         let reply = call(&mut self.protocol, request, steps)?;
-        match write_line(&mut self.text, &reply, out) {
-            Ok(()) => Ok(()),
-            Err(Failed) => Err(Halt::WriteFault),
-        }
+        keep(&reply, &mut self.waiting);
+        Ok(())
     }
 }
