@@ -93,7 +93,7 @@ sums-grown s coll debt (After n) h =
     ap (λ (rs : List Redistribution). record { coll = s.start.sum_coll + sum_by coll_rise rs; debt = s.start.sum_debt + sum_by debt_rise rs })
     (take-append-le n s.redistributions (record { coll = coll; debt = debt; stakes = stakes_of s } ∷ []) h)
 
-row-grown : (s : State) (coll debt : ℕ) (t : TroveEntry) → IsMoment (length s.redistributions) t.mark → trove_row (redistributed s coll debt) t ≡ trove_row s t
+pub row-grown : (s : State) (coll debt : ℕ) (t : TroveEntry) → IsMoment (length s.redistributions) t.mark → trove_row (redistributed s coll debt) t ≡ trove_row s t
 row-grown s coll debt t h =
     ap (λ (m : StakeSums). record { coll = t.coll; debt = t.debt; stake = t.stake; mark_coll = m.coll; mark_debt = m.debt }) (sums-grown s coll debt t.mark h)
 

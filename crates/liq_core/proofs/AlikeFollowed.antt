@@ -95,16 +95,15 @@ events_alike (c ∷ cs) {s} {t} h =
 
 -- ---- changes of the ordered list
 
-told : ℕ → Option Trove → ListChange
+abbrev pub told : ℕ → Option Trove → ListChange
 told account None = Gone account
 told account (Some t) = Put (pos (floor_of t.debt ONE t.stake) -ℤ pos t.mark_debt) account
 
 standing-image : (s : State) (account : ℕ) (o : Option TroveEntry) → standing s account o ≡ told account (option_map (trove_row s) o)
-unfolding told
 standing-image s account None = refl
 standing-image s account (Some t) = refl
 
-stands-image : (s : State) (account : ℕ) → stands s account ≡ told account (at (image s).troves account)
+pub stands-image : (s : State) (account : ℕ) → stands s account ≡ told account (at (image s).troves account)
 stands-image s account = standing-image s account (at s.troves account) ∙ ap (told account) (sym (at-map (trove_row s) s.troves account))
 
 pub stands_alike : {s t : State} → Alike s t → (account : ℕ) → stands s account ≡ stands t account

@@ -144,7 +144,7 @@ victim_at_serves : (s : State) (last : Option ℕ) (v : Victim) → victim_at s 
 victim_at_serves s None v e = cc
 victim_at_serves s (Some account) v e = victim_by_serves s account (one s account) v refl e
 
-abbrev lowest_by : ℕ → State → Option Victim → List Victim
+abbrev pub lowest_by : ℕ → State → Option Victim → List Victim
 lowest_by more s next = elim next [ None ↦ [] | Some v ↦ v ∷ lowest (struck s v) more ]
 
 lowest_by_serves : (more : ℕ) (s : State) (next : Option Victim) → ((v : Victim) → next ≡ Some v → v.one.offset_debt ≤ pool_total s) → ((v : Victim) → Serves (pool_total (struck s v)) (lowest (struck s v) more)) → Serves (pool_total s) (lowest_by more s next)

@@ -1,7 +1,7 @@
 -- States with the same image and records give the same reply to every request, also over whole runs.
 use Rattle.std.proofs.Common.{◌≡◌, ℕ, ◌+◌, Bool, true, false, List, [], ◌∷◌, ◌++◌, refl, ap, sym, ◌∙◌, subst, Some, None, Option, nat_lt, nat_le}
 use Rattle.std.specs.Prelude.{is_some, is_none, option_map, min, map, ◌==◌, ◌&&◌, not, if◌then◌else◌}
-use Rattle.liq_types.specs.declared.amounts.TheConstants.{MCR, LOWEST_MOST, LIM, MINUTE_MOST, GENERATIONS_MOST, RECORDS_MOST}
+use Rattle.liq_types.specs.declared.amounts.TheConstants.{MCR, LOWEST_MOST, LIM, MINUTE_MOST, GENERATIONS_MOST, RECORDS_MOST, CHECKPOINT_BYTES_MOST, NUMBER_MOST}
 use Rattle.liq_types.specs.declared.figures.Client.{Client}
 use Rattle.liq_types.specs.declared.figures.Market.{Market}
 use Rattle.liq_types.specs.declared.figures.Trove.{Trove}
@@ -32,8 +32,8 @@ use Rattle.liq_borrow.specs.Borrowing.{or_nothing, open_rules, adjust_rules, clo
 use Rattle.liq_liquidation.specs.Lowest.{refusal_of, first_of_lowest}
 use Rattle.liq_redemption.specs.Redemption.{redeem_rules, visited, Visit}
 use Rattle.liq_core.specs.Image.{image}
-use Rattle.liq_core.specs.Length.{CHECKPOINT_BYTES_MOST, checkpoint_length}
-use Rattle.liq_core.specs.Queries.{NUMBER_MOST, trove_info, deposit_info, pools, system, answer, unless_out_of_range}
+use Rattle.liq_core.specs.Length.{checkpoint_length}
+use Rattle.liq_core.specs.Queries.{trove_info, deposit_info, pools, system, answer, unless_out_of_range}
 use Rattle.liq_core.specs.Pool.{no_deposit, trove_under}
 use Rattle.liq_core.specs.Row.{not_zero}
 use Rattle.liq_core.specs.Rules.{rules}

@@ -2,7 +2,7 @@
 use Rattle.std.proofs.Common.{◌≡◌, ℕ, ◌+◌, ◌≤◌, Bool, true, false, nat_lt, cond, List, [], ◌∷◌, ◌++◌, Some, None, Option, refl, ap, subst, ◌<◌, nat_le, ◌∙◌, arith}
 use Rattle.std.specs.Prelude.{IsTrue, map, ◌==◌}
 use Rattle.std.proofs.lemmas.Bool.Decides.{nat_tests}
-use Rattle.liq_types.specs.declared.amounts.TheConstants.{LIM, RECORDS_MOST, GENERATIONS_MOST}
+use Rattle.liq_types.specs.declared.amounts.TheConstants.{LIM, RECORDS_MOST, GENERATIONS_MOST, CHECKPOINT_BYTES_MOST}
 use Rattle.liq_types.specs.declared.replies.Done.{Done}
 use Rattle.liq_types.specs.declared.replies.Refusal.{Refusal}
 use Rattle.liq_types.specs.declared.replies.Refusal.TheVariants.{AmountZero, AmountLimit, ShortCollateral, JournalFull}
@@ -11,7 +11,7 @@ use Rattle.liq_types.specs.declared.requests.Call.TheVariants.{Fund, Take}
 use Rattle.liq_types.specs.declared.requests.Command.{Command}
 use Rattle.liq_types.specs.Rules.{Rule, first_refusal, where_above}
 use Rattle.liq_core.specs.Image.{image}
-use Rattle.liq_core.specs.Length.{CHECKPOINT_BYTES_MOST, checkpoint_length}
+use Rattle.liq_core.specs.Length.{checkpoint_length}
 use Rattle.liq_types.specs.State.{State, wallet_of, client_of}
 use Rattle.liq_core.specs.Step.{Ruling, Repeated, Allowed, unless_refused, ruling, rules, accounts, in_range, in_turn, is_repeated, after, tests, room_rules, effect, built_call}
 use Rattle.liq_core.specs.Verbs.{rotates}

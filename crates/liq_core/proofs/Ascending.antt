@@ -72,7 +72,7 @@ if_any-ascends s debt coll h = by (debt == 0) where
 pooled-ascends : (s : State) (v : Victim) → Ordered s → Ordered (offset_if_any (lifted s v.account) v.one.offset_debt v.one.offset_coll)
 pooled-ascends s v h = if_any-ascends (lifted s v.account) v.one.offset_debt v.one.offset_coll (lifted-ascends v.account h)
 
-liquidated-ascends : (s : State) (liquidator : ℕ) (v : Victim) → Ordered s → Ordered (liquidated s liquidator v)
+pub liquidated-ascends : (s : State) (liquidator : ℕ) (v : Victim) → Ordered s → Ordered (liquidated s liquidator v)
 liquidated-ascends s liquidator v h =
     let pooled = pooled-ascends s v h in
     let spread : Ordered (snapped (redistributed (offset_if_any (lifted s v.account) v.one.offset_debt v.one.offset_coll) v.one.spread_coll v.one.spread_debt)) = record { tables = pooled.tables } in
@@ -87,7 +87,7 @@ all-ascend (v ∷ vs) liquidator s h = all-ascend vs liquidator (liquidated s li
 burned : {s : State} → Ordered s → Ordered (record s { reserve = s.reserve - RESERVE })
 burned h = record { tables = h.tables }
 
-cut_entire-ascends : (s : State) (cut : Cut) (o : Option (ℕ × ℕ)) → Ordered s → Ordered (cut_entire s cut o)
+pub cut_entire-ascends : (s : State) (cut : Cut) (o : Option (ℕ × ℕ)) → Ordered s → Ordered (cut_entire s cut o)
 cut_entire-ascends s cut None h = h
 cut_entire-ascends s cut (Some own) h = by cut.full where
   by : (b : Bool) → Ordered (cond b (closed_by s cut own) (set_trove s cut.account (own.0 - cut.draw) (own.1 - cut.lot)))
@@ -130,7 +130,7 @@ effect-ascends s (Redeem account lusd bound hint) h = redeem-ascends s account (
 effect-ascends s (Claim account) h = paid-ascends account _ 0 (taken-ascends account h)
 effect-ascends s Rotate h = record { tables = h.tables }
 
-noted-ascends : (s : State) (c : Command) (done : Done) → Ordered s → Ordered (noted s c done)
+pub noted-ascends : (s : State) (c : Command) (done : Done) → Ordered s → Ordered (noted s c done)
 noted-ascends s c done h = record { tables = (h.tables.0, h.tables.1, h.tables.2, h.tables.3, put-ascends s.clients c.client _ h.tables.4) }
 
 ruled-ascends : (s : State) (c : Command) (r : Ruling) → Ordered s → Ordered (after_ruling s c r).0

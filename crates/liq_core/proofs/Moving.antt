@@ -13,9 +13,9 @@ use Rattle.liq_types.specs.State.{State, no_wallet, is_used_wallet, with_wallet,
 use Rattle.liq_types.specs.Tables.{Table, at, put, without}
 use Rattle.liq_core.specs.Identities.{wallets_coll, wallets_lusd, WalletsAscend}
 use Rattle.liq_types.proofs.UsedRows.{sum_by-put}
-use Rattle.liq_core.proofs.Rows.{at-put_here, at-put_other, at-without_here, at-without_other}
+use Rattle.liq_core.proofs.Rows.{at-put_same, at-put_other, at-without_same, at-without_other}
 
-read_or : (f : Wallet → ℕ) → f no_wallet ≡ 0 → (o : Option Wallet) → unwrap_or (option_map f o) 0 ≡ f (unwrap_or o no_wallet)
+pub read_or : (f : Wallet → ℕ) → f no_wallet ≡ 0 → (o : Option Wallet) → unwrap_or (option_map f o) 0 ≡ f (unwrap_or o no_wallet)
 read_or f z None = sym z
 read_or f z (Some w) = refl
 
@@ -65,8 +65,8 @@ unused_none w h = ap (λ n. record { coll = n; lusd = w.lusd }) (unused_coll w h
 pub wallet_here : (table : Table Wallet) (account : ℕ) (w : Wallet) → IsStrictlySortedBy nat_cmp (keys_of table) → unwrap_or (at (with_wallet table account w) account) no_wallet ≡ w
 wallet_here table account w s = by (is_used_wallet w) refl where
   by : (b : Bool) → is_used_wallet w ≡ b → unwrap_or (at (cond b (put table account w) (without table account)) account) no_wallet ≡ w
-  by true e = ap (λ (o : Option Wallet). unwrap_or o no_wallet) (at-put_here table account w)
-  by false e = ap (λ (o : Option Wallet). unwrap_or o no_wallet) (at-without_here table account s) ∙ sym (unused_none w e)
+  by true e = ap (λ (o : Option Wallet). unwrap_or o no_wallet) (at-put_same table account w)
+  by false e = ap (λ (o : Option Wallet). unwrap_or o no_wallet) (at-without_same table account s) ∙ sym (unused_none w e)
 
 pub wallet_other : (table : Table Wallet) (account q : ℕ) (w : Wallet) → q ≢ account → unwrap_or (at (with_wallet table account w) q) no_wallet ≡ unwrap_or (at table q) no_wallet
 wallet_other table account q w n = by (is_used_wallet w) where

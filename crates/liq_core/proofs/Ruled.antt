@@ -1,5 +1,5 @@
 -- Rulings from what is tested, and of states that are the same.
-use Rattle.std.proofs.Common.{◌≡◌, ◌+◌, ◌<◌, Bool, true, false, cond, nat_le, List, [], ◌∷◌, ◌++◌, Some, None, Option, ap, sym, ◌∙◌, arith}
+use Rattle.std.proofs.Common.{◌≡◌, ◌+◌, ◌<◌, Bool, true, false, cond, nat_le, List, [], ◌∷◌, ◌++◌, Some, None, Option, refl, ap, sym, ◌∙◌, arith}
 use Rattle.std.specs.Prelude.{map, ◌==◌, ◌&&◌, not}
 use Rattle.std.proofs.lemmas.Bool.Decides.{nat_tests}
 use Rattle.liq_types.specs.declared.amounts.TheConstants.{ACCOUNTS}
@@ -22,9 +22,16 @@ some_first (rule ∷ front) more refusal h = by rule.0 h (some_first front more 
   by true e later = e
   by false e later = later e
 
--- what the call's accounts or its verb refuse, of a client in range whose number is the next
-pub refused_call : (s : State) (c : Command) (refusal : Refusal) → c.client < ACCOUNTS → c.number ≡ (client_of s c.client).last + 1 → first_refusal (map in_range (accounts c.call) ++ rules s c.call) ≡ Some refusal → ruling s c ≡ Refused refusal
-refused_call s c refusal within next h =
+none_first_of : (front more : List Rule) → first_refusal front ≡ None → first_refusal (front ++ more) ≡ first_refusal more
+none_first_of [] more h = refl
+none_first_of (rule ∷ front) more h = by rule.0 h (none_first_of front more) where
+  by : (b : Bool) → cond b (Some rule.1) (first_refusal front) ≡ None → (first_refusal front ≡ None → first_refusal (front ++ more) ≡ first_refusal more) → cond b (Some rule.1) (first_refusal (front ++ more)) ≡ first_refusal more
+  by true e later = cc
+  by false e later = later e
+
+-- what the tests of a client's next command say
+pub next_ruling : (s : State) (c : Command) → c.client < ACCOUNTS → c.number ≡ (client_of s c.client).last + 1 → ruling s c ≡ unless_refused (first_refusal ((map in_range (accounts c.call) ++ rules s c.call) ++ room_rules s c)) Allowed
+next_ruling s c within next =
     let last = (client_of s c.client).last in
     let inside : nat_le ACCOUNTS c.client ≡ false = grind (arith, nat_tests, within) in
     let new : (c.number == last && not (c.number == 0)) ≡ false = grind (arith, nat_tests, next) in
@@ -34,7 +41,18 @@ refused_call s c refusal within next h =
     ap (λ b. unless_refused (cond b (Some (AccountRange c.client)) None) (cond (is_repeated s c) (Repeated (client_of s c.client).kept) ruled)) inside
     ∙ ap (λ b. cond b (Repeated (client_of s c.client).kept) ruled) new
     ∙ ap (λ b. unless_refused (cond b (Some (OutOfTurn (next_number s c.client))) (first_refusal (front ++ room_rules s c))) Allowed) turn
-    ∙ ap (λ (o : Option Refusal). unless_refused o Allowed) (some_first front (room_rules s c) refusal h)
+
+-- what the call's accounts or its verb refuse, of a client in range whose number is the next
+pub refused_call : (s : State) (c : Command) (refusal : Refusal) → c.client < ACCOUNTS → c.number ≡ (client_of s c.client).last + 1 → first_refusal (map in_range (accounts c.call) ++ rules s c.call) ≡ Some refusal → ruling s c ≡ Refused refusal
+refused_call s c refusal within next h =
+    next_ruling s c within next
+    ∙ ap (λ (o : Option Refusal). unless_refused o Allowed) (some_first (map in_range (accounts c.call) ++ rules s c.call) (room_rules s c) refusal h)
+
+-- what the journal's limits refuse, of a command that its accounts and its verb let pass
+pub refused_room : (s : State) (c : Command) (refusal : Refusal) → c.client < ACCOUNTS → c.number ≡ (client_of s c.client).last + 1 → first_refusal (map in_range (accounts c.call) ++ rules s c.call) ≡ None → first_refusal (room_rules s c) ≡ Some refusal → ruling s c ≡ Refused refusal
+refused_room s c refusal within next passed h =
+    next_ruling s c within next
+    ∙ ap (λ (o : Option Refusal). unless_refused o Allowed) (none_first_of (map in_range (accounts c.call) ++ rules s c.call) (room_rules s c) passed ∙ h)
 
 -- a state for which a core stands is the same as the one that begins with the core's image
 pub standing_alike : (core : Core) (s : State) → StandsFor core s → Alike s (state_of core)

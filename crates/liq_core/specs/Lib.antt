@@ -1,4 +1,5 @@
 pub mod Borrowing
+pub mod BorrowingExamples
 pub mod Core
 pub mod Dust
 pub mod Events
@@ -7,6 +8,7 @@ pub mod History
 pub mod Identities
 pub mod Image
 pub mod Length
+pub mod LimitExamples
 pub mod Liquidation
 pub mod ListChanges
 pub mod Payments
@@ -14,6 +16,7 @@ pub mod Plan
 pub mod Pool
 pub mod Queries
 pub mod Redemption
+pub mod RedemptionExamples
 pub mod Rotation
 pub mod Row
 pub mod Rules
@@ -22,3 +25,4 @@ pub mod SoundState
 pub mod Step
 pub mod Turn
 pub mod Verbs
+pub mod View

@@ -1,10 +1,11 @@
 -- Price and time, and payments: collateral that comes in and goes out, and LUSD that is sent.
 use Rattle.std.specs.Prelude.{ℕ, ◌+◌, ◌-◌, ◌||◌, nat_lt, [], ◌∷◌}
-use Rattle.liq_types.specs.declared.amounts.TheConstants.{LIM, PRICE_LEAST, PRICE_MOST, MINUTE_MOST}
+use Rattle.liq_types.specs.declared.amounts.TheConstants.{PRICE_LEAST, PRICE_MOST, MINUTE_MOST}
 use Rattle.liq_types.specs.declared.replies.Refusal.TheVariants.{PriceRange, AmountLimit, ShortCollateral, ShortTokens}
 use Rattle.liq_types.specs.Payments.{paid, charged}
 use Rattle.liq_types.specs.Rules.{where_short, where_above}
 use Rattle.liq_types.specs.State.{State, wallet_of}
+use Rattle.liq_types.specs.Totals.{limit_of, market_of}
 use Rattle.liq_core.specs.Row.{Row, not_zero}
 
 abbrev pub price_row : State → ℕ → Row
@@ -32,7 +33,7 @@ abbrev pub fund_row : State → ℕ → ℕ → Row
 fund_row s account coll =
     let brought = s.brought + coll in
     record {
-      rules = not_zero coll ∷ where_above brought LIM AmountLimit ∷ [];
+      rules = not_zero coll ∷ where_above brought (limit_of (market_of s)) AmountLimit ∷ [];
       effect = record (paid s account coll 0) { brought = brought };
       values = [];
       events = [];

@@ -1,6 +1,6 @@
 -- What each query answers.
 use Rattle.std.specs.Prelude.{ℕ, ◌+◌, nat_le, min, Option, Some, None, List, [], ◌∷◌, if◌then◌else◌}
-use Rattle.liq_types.specs.declared.amounts.TheConstants.{ACCOUNTS}
+use Rattle.liq_types.specs.declared.amounts.TheConstants.{ACCOUNTS, NUMBER_MOST}
 use Rattle.liq_types.specs.declared.replies.Info.{Info}
 use Rattle.liq_types.specs.declared.replies.Info.TheVariants as info
 use Rattle.liq_types.specs.declared.replies.Refusal.TheVariants.{AccountRange}
@@ -13,10 +13,6 @@ use Rattle.liq_types.specs.Tables.{at}
 use Rattle.liq_types.specs.Totals.{market_of, is_recovery, total_coll, total_debt, trove_count, stakes_of, pool_total, pool_coll}
 use Rattle.liq_troves.specs.StakeSums.{entire}
 use Rattle.liq_stability.specs.Position.{balance_of, gain_of}
-
--- the greatest number that a command can have
-abbrev pub NUMBER_MOST : ℕ
-NUMBER_MOST = 18446744073709551615
 
 -- the number of a client's next new command, as it is printed
 abbrev pub next_number : State → ℕ → ℕ

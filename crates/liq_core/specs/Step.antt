@@ -1,6 +1,6 @@
 -- The step: what a request does to a state, and the reply.
 use Rattle.std.specs.Prelude.{ℕ, ◌+◌, ◌==◌, ◌&&◌, Bool, true, false, not, nat_le, List, [], ◌∷◌, ◌++◌, map, Option, None, Some, if◌then◌else◌}
-use Rattle.liq_types.specs.declared.amounts.TheConstants.{ACCOUNTS, RECORDS_MOST, GENERATIONS_MOST}
+use Rattle.liq_types.specs.declared.amounts.TheConstants.{ACCOUNTS, RECORDS_MOST, GENERATIONS_MOST, CHECKPOINT_BYTES_MOST}
 use Rattle.liq_types.specs.declared.replies.Done.{Done}
 use Rattle.liq_types.specs.declared.replies.Refusal.{Refusal}
 use Rattle.liq_types.specs.declared.replies.Refusal.TheVariants.{AccountRange, AmountLimit, OutOfTurn, JournalFull}
@@ -19,7 +19,7 @@ use Rattle.liq_core.specs.Verbs.{rotates}
 pub use Rattle.liq_core.specs.Rules.{rules, effect, done_of}
 pub use Rattle.liq_core.specs.Queries.{answer, next_number}
 use Rattle.liq_core.specs.Image.{image}
-use Rattle.liq_core.specs.Length.{CHECKPOINT_BYTES_MOST, checkpoint_length}
+use Rattle.liq_core.specs.Length.{checkpoint_length}
 
 -- ---- client numbers
 

@@ -6,8 +6,11 @@ ghost use Rattle.liq_types.specs.declared.requests.Request.TheVariants.{Do, Ask}
 ghost use Rattle.liq_types.specs.declared.replies.Reply.TheVariants.{Said};
 ghost use Rattle.liq_types.specs.declared.requests.Call.TheVariants.{Fund, Take};
 ghost use Rattle.liq_types.specs.declared.requests.Query.TheVariants as asked;
+ghost use Rattle.liq_types.specs.Soundness.{IsSoundImage};
 ghost use Rattle.liq_types.specs.State.{State, opening, no_wallet, wallet_of, client_of, with_wallet};
 ghost use Rattle.liq_types.specs.Tables.{at, put};
+ghost use Rattle.liq_core.specs.Core.{image_of};
+ghost use Rattle.liq_core.specs.Sound.{IsKeptRow};
 ghost use Rattle.liq_core.specs.Step.{built, built_call, accounts, rules, in_range, first_refusal, done_of, effect, noted, step, answer};
 
 use crate::tables;
@@ -178,6 +181,7 @@ impl Protocol {
     }
 
     fn reserve_wallet(&mut self, account: u32) -> Result<(), NoMemory>
+        requires { account < ACCOUNTS }
         ensures same { SameContent self.old self.new }
         ensures room { OnOk result (IsSome (at self.new.wallets account)) }
         ensures clients { self.new.clients ≡ self.old.clients }
@@ -186,6 +190,7 @@ impl Protocol {
     }
 
     fn reserve_client(&mut self, client: u32) -> Result<(), NoMemory>
+        requires { client < ACCOUNTS }
         ensures same { SameContent self.old self.new }
         ensures room { OnOk result (IsSome (at self.new.clients client)) }
     {
@@ -214,6 +219,7 @@ impl Protocol {
     /// The effect of a call that is allowed.
     fn change(&mut self, call: &Call)
         requires built { IsTrue (built_call call.now) }
+        requires range { AllByRecursion (λ account. account < ACCOUNTS) (accounts call.now) }
         requires allowed { first_refusal (rules (state_of self.old) call.now) ≡ None }
         requires room { AllByRecursion (λ account. IsSome (at self.old.wallets account)) (accounts call.now) }
         ensures effect { (s : State) → StandsFor self.old s → StandsFor self.new (effect s call.now) }
@@ -228,6 +234,7 @@ impl Protocol {
 
     /// Collateral from outside into a wallet.
     fn bring_in(&mut self, account: u32, coll: u64)
+        requires range { account < ACCOUNTS }
         requires row { IsSome (at self.old.wallets account) }
         requires limit { self.old.brought + coll ≤ LIM }
         ensures effect { (s : State) → StandsFor self.old s → StandsFor self.new (effect s (Fund account coll)) }
@@ -241,6 +248,7 @@ impl Protocol {
 
     /// Collateral from a wallet to the outside.
     fn take_out(&mut self, account: u32, coll: u64)
+        requires range { account < ACCOUNTS }
         requires row { IsSome (at self.old.wallets account) }
         requires enough { coll ≤ (wallet_of (state_of self.old) account).coll }
         ensures effect { (s : State) → StandsFor self.old s → StandsFor self.new (effect s (Take account coll)) }
@@ -254,8 +262,10 @@ impl Protocol {
 
     /// Writes a wallet, and the collateral inside beside it.
     fn set_wallet(&mut self, account: u32, wallet: Wallet, brought: u64)
+        requires range { account < ACCOUNTS }
         requires row { IsSome (at self.old.wallets account) }
         requires moved { brought + (unwrap_or (at self.old.wallets account) no_wallet).coll ≡ self.old.brought + wallet.coll }
+        requires lusd { wallet.lusd ≡ (unwrap_or (at self.old.wallets account) no_wallet).lusd }
         requires limit { brought ≤ LIM }
         ensures rows { self.new ≡ record self.old { brought = brought; wallets = put self.old.wallets account wallet } }
         ensures seen { (s : State) → StandsFor self.old s → StandsFor self.new (record s { brought = brought; wallets = with_wallet s.wallets account wallet }) }
@@ -270,6 +280,8 @@ impl Protocol {
         requires row { IsSome (at self.old.clients command.now.client) }
         requires number { 0 < command.now.number }
         requires few { self.old.records < RECORDS_MOST }
+        requires range { command.now.client < ACCOUNTS }
+        requires kept { IsKeptRow (record { last = command.now.number; kept = done }) }
         ensures { (s : State) → StandsFor self.old s → StandsFor self.new (noted s command.now done) }
     {
         self.records += 1;
@@ -332,4 +344,11 @@ pub fn is_built(request: &Request) -> bool
         Request::Do(command) => matches!(command.call, Call::Fund(..) | Call::Take(..)),
         Request::Ask(query) => matches!(query, Query::Wallet(..) | Query::NextNumber(..)),
     }
+}
+
+/// Every protocol is sound: its image meets all rules of an image, beside the records, and its tables are in form.
+pub fn protocols_are_sound(protocol: &Protocol)
+    ensures { IsSoundImage (image_of protocol.now) protocol.now.records }
+{
+    let _ = &protocol.brought;
 }

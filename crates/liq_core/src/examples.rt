@@ -3,10 +3,13 @@
 
 ghost use Rattle.std.specs.Prelude.{◌≡◌, [], ◌∷◌, pos, take};
 ghost use Rattle.liq_types.specs.declared.events.ListChange.TheVariants.{Put, Gone, Words};
-ghost use Rattle.liq_types.specs.declared.requests.Call.TheVariants.{Open, Liquidate};
+ghost use Rattle.liq_types.specs.declared.requests.Call.TheVariants.{Open, Adjust, Close, Liquidate};
 ghost use Rattle.liq_types.specs.State.{opening};
 ghost use Rattle.liq_stability.specs.Lawful.{IsLawful};
+ghost use Rattle.liq_core.specs.BorrowingExamples.{adjusting_and_closing, adjusting_and_closing_replies, adjusting_to_limits, adjusting_to_limits_replies, totals_too_low, totals_too_low_replies, ratio_falls, ratio_falls_replies};
 ghost use Rattle.liq_core.specs.Events.{events};
+ghost use Rattle.liq_core.specs.LimitExamples.{with_full_journal, full_journal, full_journal_replies, in_last_generation, last_generation, last_generation_replies, with_greatest_sum, greatest_sum, greatest_sum_replies};
+ghost use Rattle.liq_core.specs.RedemptionExamples.{nothing_to_redeem, nothing_to_redeem_replies, redeemed_and_struck, redeemed_and_struck_replies};
 ghost use Rattle.liq_core.specs.Dust.{dust};
 ghost use Rattle.liq_core.specs.Rules.{call_changes};
 ghost use Rattle.liq_core.specs.Step.{run, accepted};
@@ -118,15 +121,63 @@ pub fn time_and_bounds_example()
     ensures { (run opening time_and_bounds).1 ≡ time_and_bounds_replies }
 {}
 
+/// Troves are adjusted both ways, and one of two is closed.
+pub fn adjusting_and_closing_example()
+    ensures { (run opening adjusting_and_closing).1 ≡ adjusting_and_closing_replies }
+{}
+
+/// Troves are adjusted up to each limit, and no further.
+pub fn adjusting_to_limits_example()
+    ensures { (run opening adjusting_to_limits).1 ≡ adjusting_to_limits_replies }
+{}
+
+/// The totals would fall below the critical ratio; and a deposit without a gain has nothing to move.
+pub fn totals_too_low_example()
+    ensures { (run opening totals_too_low).1 ≡ totals_too_low_replies }
+{}
+
+/// In Recovery Mode no borrowing may lower its trove's ratio, and a trove above the ratio of the totals is not liquidated.
+pub fn ratio_falls_example()
+    ensures { (run opening ratio_falls).1 ≡ ratio_falls_replies }
+{}
+
+/// A redemption that would leave too little debt, one whose fee would eat all of it, and one below the least ratio.
+pub fn nothing_to_redeem_example()
+    ensures { (run opening nothing_to_redeem).1 ≡ nothing_to_redeem_replies }
+{}
+
+/// A trove is cut by a redemption, and liquidated when the price falls; the pool takes over a part of its debt.
+pub fn redeemed_and_struck_example()
+    ensures { (run opening redeemed_and_struck).1 ≡ redeemed_and_struck_replies }
+{}
+
+/// A full journal refuses what the rules would allow, until it is rotated; what the rules refuse is refused before.
+pub fn full_journal_example()
+    ensures { (run with_full_journal full_journal).1 ≡ full_journal_replies }
+{}
+
+/// After the last generation there is no rotation.
+pub fn last_generation_example()
+    ensures { (run in_last_generation last_generation).1 ≡ last_generation_replies }
+{}
+
+/// A liquidation may not raise a sum per stake past its limit.
+pub fn greatest_sum_example()
+    ensures { (run with_greatest_sum greatest_sum).1 ≡ greatest_sum_replies }
+{}
+
 /// What an example's commands do to the Stability Pool, and that these are lawful events.
 pub fn events_example()
     ensures events { events opening (accepted opening pool_and_others) ≡ pool_and_others_events }
     ensures lawful { IsLawful opening pool_and_others_events }
 {}
 
-/// What opening, liquidating and closing do to the ordered list.
+/// What opening, adjusting, liquidating and closing do to the ordered list.
 pub fn changes_example()
     ensures opened { call_changes (run opening bringing_in).0 (Open 1 10000000000 4000000000 1000000000000000000 no_hint) ≡ Put (pos 422000000000000000) 1 ∷ [] }
+    ensures adjusted { call_changes (run opening (take 10 adjusting_and_closing)).0 (Adjust 1 0 2000000000 0 0 0 no_hint) ≡ Put (pos 736666666666666666) 1 ∷ [] }
+    ensures adjusted_again { call_changes (run opening (take 11 adjusting_and_closing)).0 (Adjust 1 1000000000 0 1000000000 0 1000000000000000000 no_hint) ≡ Put (pos 803750000000000000) 1 ∷ [] }
+    ensures closed { call_changes (run opening (take 16 adjusting_and_closing)).0 (Close 1) ≡ Gone 1 ∷ [] }
     ensures liquidated { call_changes (run opening (take 6 pool_and_others)).0 (Liquidate 3 1) ≡ Gone 1 ∷ Words 100000000000 100518720380 2200000000000000 ∷ [] }
 {}
 

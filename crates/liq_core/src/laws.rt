@@ -1,32 +1,38 @@
 //! What holds of the step and of whole runs. The functions here do nothing: each is the place where the facts of its
 //! contract are proved.
 
-ghost use Rattle.std.specs.Prelude.{◌≡◌, ◌≢◌, ℕ, ◌+◌, ◌-◌, ◌≤◌, ◌++◌, List, [], ◌∷◌, map, true, None};
+ghost use Rattle.std.specs.Prelude.{◌≡◌, ◌≢◌, ℕ, ◌+◌, ◌-◌, ◌*◌, ◌≤◌, ◌<◌, ◌++◌, length, List, [], ◌∷◌, map, take, true, None};
+ghost use Rattle.liq_types.specs.declared.amounts.TheConstants.{ACCOUNTS, LOWEST_MOST, GENERATIONS_MOST, CHECKPOINT_BYTES_MOST};
 ghost use Rattle.liq_types.specs.declared.replies.Done.{Done};
 ghost use Rattle.liq_types.specs.declared.replies.Refusal.{Refusal};
+ghost use Rattle.liq_types.specs.declared.replies.Refusal.TheVariants.{AmountLimit};
 ghost use Rattle.liq_types.specs.declared.replies.Reply.TheVariants.{Said, No};
 ghost use Rattle.liq_types.specs.declared.hints.HintWords.{HintWords};
 ghost use Rattle.liq_types.specs.declared.requests.Call.{Call};
-ghost use Rattle.liq_types.specs.declared.requests.Call.TheVariants.{Open};
+ghost use Rattle.liq_types.specs.declared.requests.Call.TheVariants.{Open, Rotate};
 ghost use Rattle.liq_types.specs.declared.requests.Command.{Command};
 ghost use Rattle.liq_types.specs.declared.requests.Query.{Query};
 ghost use Rattle.liq_types.specs.declared.requests.Request.{Request};
 ghost use Rattle.liq_types.specs.declared.requests.Request.TheVariants.{Do, Ask};
+ghost use Rattle.liq_types.specs.Codes.{value_count};
 ghost use Rattle.liq_types.specs.Image.{Image, opening_image};
-ghost use Rattle.liq_types.specs.State.{State, opening, started, wallet_of};
+ghost use Rattle.liq_types.specs.State.{State, opening, started, wallet_of, client_of};
 ghost use Rattle.liq_types.specs.Payments.{paid, charged};
 ghost use Rattle.liq_core.specs.Core.{StandsFor, state_of};
 ghost use Rattle.liq_core.specs.Dust.{IsCovered, dust};
-ghost use Rattle.liq_core.specs.History.{Entry, IsLegal, GoesOn, state_after};
+ghost use Rattle.liq_core.specs.History.{Entry, IsLegal, GoesOn, requests_of, state_after};
 ghost use Rattle.liq_core.specs.Identities.{IsConserved, WalletsAscend, touches_no_trove, wallets_coll, wallets_lusd};
 ghost use Rattle.liq_core.specs.Events.{events};
 ghost use Rattle.liq_core.specs.Image.{image, IsSameState};
-ghost use Rattle.liq_core.specs.Rules.{call_events, call_changes};
-ghost use Rattle.liq_core.specs.Step.{Repeated, ruling, step, run, accepted, rules, effect, first_refusal};
-ghost use Rattle.liq_core.specs.Verbs.{unhinted};
+ghost use Rattle.liq_core.specs.Length.{checkpoint_length};
+ghost use Rattle.liq_core.specs.Rules.{values, call_events, call_changes};
+ghost use Rattle.liq_core.specs.Step.{Refused, Repeated, ruling, after, step, run, accepted, rules, effect, first_refusal};
+ghost use Rattle.liq_core.specs.Verbs.{kind, unhinted};
+ghost use Rattle.liq_core.specs.View.{view_of, view_after, all_followed, changes};
 ghost use Rattle.liq_types.specs.WellFormed.{AreFinished, IsWellFormed, TablesAscend, stakes_in};
 
 use crate::engine::Protocol;
+pub use crate::engine::protocols_are_sound;
 
 /// A refused request, a query and a command that comes again leave the state.
 pub fn only_new_commands_change()
@@ -141,4 +147,31 @@ pub fn opening_a_trove_conserves()
 /// for which it stands is said of one at least.
 pub fn protocols_stand(protocol: &Protocol)
     ensures { StandsFor protocol.now (state_of protocol.now) }
+{}
+
+/// A rotation is refused whose checkpoint would be too long, where there is a further generation.
+pub fn long_checkpoints_refuse_rotation()
+    ensures { (s : State) → (client number : ℕ) → client < ACCOUNTS → number ≡ (client_of s client).last + 1 → s.generation < GENERATIONS_MOST
+        → (bytes : ℕ) → bytes ≡ checkpoint_length (image (after s (record { client = client; number = number; call = Rotate }))) → CHECKPOINT_BYTES_MOST < bytes
+        → ruling s (record { client = client; number = number; call = Rotate }) ≡ Refused (AmountLimit bytes CHECKPOINT_BYTES_MOST) }
+{}
+
+/// A reply shows as many values as its kind of command has.
+pub fn replies_have_their_values()
+    ensures { (s : State) → (call : Call) → first_refusal (rules s call) ≡ None → length (values s call) ≡ value_count (kind call) }
+{}
+
+/// A command makes no more pool events than one liquidation of the lowest troves takes troves; so does each of the commands
+/// that a run accepts.
+pub fn commands_make_few_events()
+    ensures one { (s : State) → (call : Call) → first_refusal (rules s call) ≡ None → length (call_events s call) ≤ LOWEST_MOST }
+    ensures run { (s : State) → (requests : List Request) → length (events s (accepted s requests)) ≤ LOWEST_MOST * length (accepted s requests) }
+{}
+
+/// Whoever has the view of a state (its ordered list and the words from which keys are made) and follows the changes of an
+/// accepted command has the view of the state after it; so it is over whole runs, and after each entry of a history.
+pub fn views_follow_changes()
+    ensures one { (s : State) → IsWellFormed s → TablesAscend s → (c : Command) → all_followed (view_of s) (call_changes s c.call) ≡ view_of (after s c) }
+    ensures run { (s : State) → IsWellFormed s → TablesAscend s → (requests : List Request) → all_followed (view_of s) (changes s (accepted s requests)) ≡ view_of (run s requests).0 }
+    ensures history { (s : State) → IsWellFormed s → TablesAscend s → (entries : List Entry) → (n : ℕ) → all_followed (view_of s) (changes s (accepted s (requests_of (take n entries)))) ≡ view_after s entries n }
 {}

@@ -17,10 +17,9 @@ impl Model for Planned {
 
     ghost view = { λ p. record { command = p.command; done = p.done } };
 
-    ghost use Rattle.std.specs.Prelude.{IsTrue};
-    ghost use Rattle.liq_core.specs.Step.{built_call};
+    ghost use Rattle.liq_core.specs.Plan.{IsSoundPlan};
 
-    ghost invariant = { λ p. IsTrue (built_call p.command.call) };
+    ghost invariant = { λ p. IsSoundPlan (record { command = p.command; done = p.done }) };
 }
 
 impl Planned {

@@ -1,20 +1,28 @@
 //! What a program reads from and writes to: sources of bytes and sinks of bytes, each with a count of its faults.
 //!
 //! A source or a sink may tell the bytes that it has, and always tells how many faults it has met.
-//! `Failed` comes only from a call in which that count rose. The forms in memory tell all; those
+//! `Failed` comes just from the calls in which that count rose. The forms in memory tell all; those
 //! over std's readers and writers tell the count alone.
 #![tactic(auto)]
 
 mod adapters;
+mod crash;
+mod disk;
 mod failed;
+mod file_disk;
+mod made;
 mod memory;
+mod memory_disk;
 mod schedule;
 mod sink;
 mod source;
 
 pub use adapters::{StdSink, StdSource};
+pub use disk::{Disk, calls_keep_to_their_time};
 pub use failed::Failed;
+pub use file_disk::FileDisk;
 pub use memory::{MemorySink, MemorySource};
+pub use memory_disk::MemoryDisk;
 pub use sink::Sink;
 pub use source::Source;
 

@@ -1,1 +1,7 @@
+pub mod Falling
+pub mod Holding
 pub mod Pool
+pub mod Promise
+pub mod Reading
+pub mod Standing
+pub mod Whole

@@ -1,15 +1,11 @@
 -- Worked examples: events of the Stability Pool from the opening on, and what then holds.
-use Rattle.std.specs.Prelude.{ℕ, List, [], ◌∷◌, ◌++◌, fold}
+use Rattle.std.specs.Prelude.{ℕ, List, [], ◌∷◌, ◌++◌}
 use Rattle.liq_types.specs.declared.events.PoolEvent.{PoolEvent}
 use Rattle.liq_types.specs.declared.events.PoolEvent.TheVariants.{Own, Offset}
 use Rattle.liq_types.specs.Allowance.{balance_allowance, gain_allowance}
-use Rattle.liq_types.specs.State.{State, opening}
-use Rattle.liq_stability.specs.Own.{after_event}
+use Rattle.liq_types.specs.State.{State}
+pub use Rattle.liq_stability.specs.Own.{after_events}
 use Rattle.liq_stability.specs.Position.{balance_of, gain_of}
-
--- the state after events from the opening on
-abbrev pub after_events : List PoolEvent → State
-after_events events = fold after_event opening events
 
 -- balance and gain
 abbrev pub position : State → ℕ → ℕ × ℕ

@@ -2,4 +2,6 @@ pub mod Examples
 pub mod Lawful
 pub mod Own
 pub mod Position
+pub mod Promise
 pub mod Words
+pub mod Worth

@@ -1,8 +1,8 @@
 -- What changes the Stability Pool: depositors' own operations, and offsets.
-use Rattle.std.specs.Prelude.{ℕ, ◌+◌, ◌-◌, ◌==◌, [], ◌∷◌, ◌++◌, length, if◌then◌else◌}
+use Rattle.std.specs.Prelude.{ℕ, ◌+◌, ◌-◌, ◌==◌, List, [], ◌∷◌, ◌++◌, length, fold, if◌then◌else◌}
 use Rattle.liq_types.specs.declared.events.PoolEvent.{PoolEvent}
 use Rattle.liq_types.specs.declared.events.PoolEvent.TheVariants as event
-use Rattle.liq_types.specs.State.{State, DepositEntry, After}
+use Rattle.liq_types.specs.State.{State, DepositEntry, After, opening}
 use Rattle.liq_types.specs.Tables.{Table, put, without}
 use Rattle.liq_types.specs.Totals.{pool_total}
 use Rattle.liq_stability.specs.Position.{balance_of, gain_of}
@@ -33,3 +33,7 @@ offset s debt coll = record s { offsets = s.offsets ++ record { debt = debt; col
 abbrev pub after_event : State → PoolEvent → State
 after_event s (event.Own account put_in paid_out gain amount) = owned s account put_in paid_out
 after_event s (event.Offset debt coll total rise) = offset s debt coll
+
+-- the state after events from the opening on
+abbrev pub after_events : List PoolEvent → State
+after_events events = fold after_event opening events

@@ -1,19 +1,28 @@
 //! What holds of the definitions that the contracts cite. The functions here do nothing: each is the place where the facts
 //! of its contract are proved.
 
-ghost use Rattle.std.specs.Prelude.{◌≡◌, ℕ, ◌*◌, ◌/◌, ◌^◌, ◌≤◌, List};
-ghost use Rattle.liq_num.specs.Quotient.{floor_of};
+ghost use Rattle.std.specs.Prelude.{◌≡◌, ℕ, ◌+◌, ◌-◌, ◌*◌, ◌/◌, ◌^◌, ◌≤◌, ◌<◌, List, Some, sum, map};
 ghost use Rattle.std.specs.List.{AllByRecursion};
 ghost use Rattle.std.specs.List.Sorted.{IsStrictlySortedBy};
 ghost use Rattle.std.specs.Map.{keys_of, values_of};
+ghost use Rattle.liq_num.specs.Quotient.{floor_of};
+ghost use Rattle.liq_types.specs.declared.events.PoolEvent.{PoolEvent};
+ghost use Rattle.liq_types.specs.Allowance.{balance_allowance, gain_allowance};
 ghost use Rattle.liq_types.specs.Image.{Image, Place};
-ghost use Rattle.liq_types.specs.Product.{place_order, place_of, prod, finished_sums};
-ghost use Rattle.liq_types.specs.State.{State, Offset};
+ghost use Rattle.liq_types.specs.PlainLedger.{exact_share, den_of, offsets_coll, gains_paid_to, AreOwnedBelow, over_accounts};
+ghost use Rattle.liq_types.specs.Product.{IsWithinRange, place_order, place_of, prod, sumat, finished_sums};
+ghost use Rattle.liq_types.specs.State.{State, DepositEntry, Offset, opening};
+ghost use Rattle.liq_types.specs.Tables.{at};
 ghost use Rattle.liq_types.specs.Totals.{pool_total, pool_coll};
 ghost use Rattle.liq_types.specs.WellFormed.{AreFinished, IsBefore, IsPoolCovered};
-ghost use Rattle.liq_stability.specs.Own.{offset};
-ghost use Rattle.liq_stability.specs.Position.{balance_of, gain_of};
-ghost use Rattle.liq_stability.specs.Words.{pool_words, words_after, finished_by, finished_with};
+ghost use Rattle.liq_stability.specs.Lawful.{IsLawful, IsLawfulUpTo};
+ghost use Rattle.liq_stability.specs.Own.{offset, after_events};
+ghost use Rattle.liq_stability.specs.Position.{balance_of, gain_of, balance_by, gain_by, mark_of, sums_from};
+ghost use Rattle.liq_stability.specs.Promise.{IsWithinAllowance, gained_of};
+ghost use Rattle.liq_stability.specs.Words.{words_of, pool_words, words_after, finished_by, finished_with};
+ghost use Rattle.liq_stability.specs.Worth.{base_of, worth_of};
+
+use liq_types::amounts::{OFFSET_MOST, P_OPENING, RISES_MOST};
 
 /// An amount that is taken through the product first and through the scales then, rounded down each time, is the same as
 /// rounded down once.
@@ -21,7 +30,8 @@ pub fn balance_rounds_once()
     ensures { (amount p mark rise : ℕ) → floor_of amount p mark / 10 ^ (9 * rise) ≡ floor_of amount p (mark * 10 ^ (9 * rise)) }
 {}
 
-/// The caps hold: no position is more than the pool has, whatever state it is read in. (That they never act is another law.)
+/// The caps hold: no position is more than the pool has, whatever state it is read in. ([`the_pool_covers_all`] says that they
+/// never act.)
 pub fn caps_hold()
     ensures balance { (s : State) → (account : ℕ) → balance_of s account ≤ pool_total s }
     ensures gain { (s : State) → (account : ℕ) → gain_of s account ≤ pool_coll s }
@@ -44,4 +54,68 @@ pub fn finished_sums_stay_in_order()
         AllByRecursion (λ sum. 1 ≤ sum) (values_of (finished_sums i offsets)) }
     ensures before { (i : Image) → (offsets : List Offset) → AreFinished i →
         AllByRecursion (λ (row : Place × ℕ). IsBefore row.0 (place_of (prod i offsets))) (finished_sums i offsets) }
+{}
+
+/// After lawful events no balance and no sum of all gains is more than the exact share, whatever the pool's limit is, as long
+/// as [`RISES_MOST`] steps of the scale serve it. `unrounded` says the same of a deposit before its balance is rounded.
+pub fn shares_are_never_passed()
+    ensures balance { (most : ℕ) → most ≤ 10 ^ (9 * RISES_MOST) → (events : List PoolEvent) → IsLawfulUpTo most opening events → (account : ℕ) →
+        balance_of (after_events events) account * (exact_share account events).den ≤ (exact_share account events).bal }
+    ensures gain { (most : ℕ) → most ≤ 10 ^ (9 * RISES_MOST) → (events : List PoolEvent) → IsLawfulUpTo most opening events → (account : ℕ) →
+        gained_of (after_events events) account events * (exact_share account events).den ≤ (exact_share account events).gain }
+    ensures unrounded { (most : ℕ) → most ≤ 10 ^ (9 * RISES_MOST) → (events : List PoolEvent) → IsLawfulUpTo most opening events → (account : ℕ) →
+        (d : DepositEntry) → at (after_events events).deposits account ≡ Some d →
+        d.amount * worth_of (mark_of (after_events events) d.mark) (words_of (after_events events)) * (exact_share account events).den
+        ≤ (exact_share account events).bal * base_of (mark_of (after_events events) d.mark) }
+{}
+
+/// After lawful events a balance is less than the exact share by at most its allowance.
+pub fn balances_fall_short_by_little()
+    ensures { (most : ℕ) → most ≤ 10 ^ (9 * RISES_MOST) → (events : List PoolEvent) → IsLawfulUpTo most opening events → (account : ℕ) →
+        (exact_share account events).bal ≤ (balance_of (after_events events) account + balance_allowance account events) * (exact_share account events).den }
+{}
+
+/// After lawful events all that an account gained is less than the exact share by at most its allowance.
+pub fn gains_fall_short_by_little()
+    ensures { (most : ℕ) → most ≤ 10 ^ (9 * RISES_MOST) → (events : List PoolEvent) → IsLawfulUpTo most opening events → (account : ℕ) →
+        (exact_share account events).gain ≤ (gained_of (after_events events) account events + gain_allowance account events) * (exact_share account events).den }
+{}
+
+/// After lawful events the exact balances of all accounts are the pool's total, their exact gains the collateral of all
+/// offsets, and what was paid all gains that were paid. So the caps on a position never act, and what all depositors may take
+/// is in the pool.
+pub fn the_pool_covers_all()
+    ensures balances { (most : ℕ) → most ≤ 10 ^ (9 * RISES_MOST) → (events : List PoolEvent) → IsLawfulUpTo most opening events → (n : ℕ) → AreOwnedBelow n events →
+        over_accounts n (λ account. (exact_share account events).bal) ≡ pool_total (after_events events) * den_of events }
+    ensures gains { (most : ℕ) → most ≤ 10 ^ (9 * RISES_MOST) → (events : List PoolEvent) → IsLawfulUpTo most opening events → (n : ℕ) → AreOwnedBelow n events →
+        over_accounts n (λ account. (exact_share account events).gain) ≡ offsets_coll events * den_of events }
+    ensures paid { (most : ℕ) → most ≤ 10 ^ (9 * RISES_MOST) → (events : List PoolEvent) → IsLawfulUpTo most opening events → (n : ℕ) → AreOwnedBelow n events →
+        pool_coll (after_events events) + over_accounts n (λ account. gains_paid_to account events) ≡ offsets_coll events }
+    ensures one_den { (most : ℕ) → most ≤ 10 ^ (9 * RISES_MOST) → (events : List PoolEvent) → IsLawfulUpTo most opening events → (account : ℕ) →
+        ((exact_share account events).den ≡ den_of events) × (0 < den_of events) }
+    ensures caps { (most : ℕ) → most ≤ 10 ^ (9 * RISES_MOST) → (events : List PoolEvent) → IsLawfulUpTo most opening events → (account : ℕ) →
+        (d : DepositEntry) → at (after_events events).deposits account ≡ Some d →
+        (balance_of (after_events events) account ≡ balance_by d.amount (mark_of (after_events events) d.mark) (words_of (after_events events)))
+        × (gain_of (after_events events) account ≡ gain_by d.amount (mark_of (after_events events) d.mark) (sums_from (after_events events) (mark_of (after_events events) d.mark))) }
+    ensures balances_held { (most : ℕ) → most ≤ 10 ^ (9 * RISES_MOST) → (events : List PoolEvent) → IsLawfulUpTo most opening events →
+        sum (map (balance_of (after_events events)) (keys_of (after_events events).deposits)) ≤ pool_total (after_events events) }
+    ensures gains_held { (most : ℕ) → most ≤ 10 ^ (9 * RISES_MOST) → (events : List PoolEvent) → IsLawfulUpTo most opening events →
+        sum (map (gain_of (after_events events)) (keys_of (after_events events).deposits)) ≤ pool_coll (after_events events) }
+{}
+
+/// After lawful events the product is in its range, the sum beside it is at most the part of the whole that the product has
+/// lost, [`OFFSET_MOST`] times, and every sum at most that of the whole.
+pub fn the_words_stay_within()
+    ensures product { (most : ℕ) → most ≤ 10 ^ (9 * RISES_MOST) → (events : List PoolEvent) → IsLawfulUpTo most opening events →
+        IsWithinRange (words_of (after_events events)) }
+    ensures sum { (most : ℕ) → most ≤ 10 ^ (9 * RISES_MOST) → (events : List PoolEvent) → IsLawfulUpTo most opening events →
+        (pool_words (after_events events)).sum ≤ OFFSET_MOST * (P_OPENING - (pool_words (after_events events)).p) }
+    ensures sums { (most : ℕ) → most ≤ 10 ^ (9 * RISES_MOST) → (events : List PoolEvent) → IsLawfulUpTo most opening events → (place : Place) →
+        sumat (after_events events).start (after_events events).offsets place ≤ OFFSET_MOST * P_OPENING }
+{}
+
+/// What every depositor is promised, at the limit of the rules: after lawful events neither the balance nor all that was
+/// gained passes the exact share, nor falls short of it by more than the allowance.
+pub fn depositors_get_their_shares()
+    ensures { (events : List PoolEvent) → IsLawful opening events → (account : ℕ) → IsWithinAllowance (after_events events) account events }
 {}

@@ -3,7 +3,9 @@ use Rattle.liq_core.specs.Core.{StandsFor, state_of}
 use Rattle.liq_core.specs.Plan.{Plan}
 use Rattle.liq_core.specs.Step.{after, built_call, effect, noted, after_ruling}
 use Rattle.std.specs.Prelude.{IsTrue}
-use Rattle.liq_core.proofs.Allowed.{allowed_number, allowed_few, built-rotates, effect-records}
+use Rattle.liq_core.proofs.Allowed.{allowed_number, allowed_rules, allowed_few, built-rotates, effect-records}
+use Rattle.liq_core.specs.Sound.{IsKeptRow}
+use Rattle.liq_core.proofs.KeptReplies.{kept_reply}
 use Rattle.liq_core.proofs.Standing.{stands_itself}
 use Rattle.liq_core.proofs.engine.Protocol.apply.Goals as goal
 
@@ -21,8 +23,8 @@ note-requires-clause-few g c =
     let call = c.args.planned.command.call in
     let here = c.planned.inside.command.call in
     let same = (c.change.ensures.effect (state_of c.args.self.now) itself).records in
-    let kept = effect-records (state_of c.args.self.now) here c.planned.invariant in
-    let built = subst (λ (p : Plan). IsTrue (built_call p.command.call)) c.planned.view_is c.planned.invariant in
+    let kept = effect-records (state_of c.args.self.now) here c.planned.invariant.built in
+    let built = subst (λ (p : Plan). IsTrue (built_call p.command.call)) c.planned.view_is c.planned.invariant.built in
     let few = allowed_few (state_of c.args.self.now) c.args.planned.command plan.allowed (built-rotates call built) in
     omega (arith, few, same, kept)
 
@@ -36,3 +38,13 @@ returns-clause-state g c s h =
     let done : StandsFor c.note.new.self (after s c.args.planned.command) =
     subst (λ d. StandsFor c.note.new.self (noted (effect s c.args.planned.command.call) c.args.planned.command d)) plan.done seen in
     subst (λ r. StandsFor c.note.new.self (after_ruling s c.args.planned.command r).0) (sym plan.allowed) done
+
+pub note-requires-clause-kept : goal.note-requires-clause-kept
+note-requires-clause-kept g c =
+    let core = state_of c.args.self.now in
+    let plan = c.requires.planned core (stands_itself c.args.self.now) in
+    let command = c.args.planned.command in
+    let number = allowed_number core command plan.allowed in
+    let kept = kept_reply core command.call command.number (allowed_rules core command plan.allowed) (omega (arith, number)) in
+    subst (λ (p : Plan). IsKeptRow (record { last = p.command.number; kept = p.done })) (sym c.planned.view_is)
+    (subst (λ d. IsKeptRow (record { last = command.number; kept = d })) (sym plan.done) kept)

@@ -1,5 +1,7 @@
-use Rattle.std.proofs.Common.{◌≡◌, ◌+◌, true, cond, ap, ◌∙◌, sym, arith}
+use Rattle.std.proofs.Common.{◌≡◌, ◌+◌, ◌<◌, true, cond, ap, ◌∙◌, sym, subst, arith}
 use Rattle.std.specs.Prelude.{if◌then◌else◌}
+use Rattle.liq_types.specs.declared.amounts.TheConstants.{RECORDS_MOST}
+use Rattle.liq_core.proofs.SoundCores.{written_client}
 use Rattle.std.proofs.lemmas.Bool.Decides.{nat_tests}
 use Rattle.liq_types.specs.declared.figures.Client.{Client}
 use Rattle.liq_types.specs.Image.{Image}
@@ -33,3 +35,9 @@ returns c s h =
           ∙ sym (ap (λ b. if b then 0 else s.records + 1) (built-rotates c.args.command.now.call c.requires.built));
       formed = h.formed;
     }
+
+pub invariant_of-self : goal.invariant_of-self
+invariant_of-self c =
+    let core = core_of c.self.inside in
+    let few = subst (λ (view : Core). view.records < RECORDS_MOST) (sym c.self.view_is) c.requires.few in
+    written_client core c.write.new.map.entries c.args.command.now.client (record { last = c.args.command.now.number; kept = c.args.done }) c.self.invariant c.requires.range few c.requires.kept c.write.ensures.written c.write.ensures.ordered

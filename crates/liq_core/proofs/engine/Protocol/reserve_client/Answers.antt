@@ -3,6 +3,7 @@ use Rattle.liq_types.specs.State.{no_client, is_used_client}
 use Rattle.liq_core.specs.Core.{Core, SameContent, image_of}
 use Rattle.liq_core.specs.Sound.{core_of}
 use Rattle.liq_types.proofs.UsedRows.{rows-reserve}
+use Rattle.liq_core.proofs.SoundCores.{reserved_clients}
 use Rattle.liq_core.proofs.engine.Protocol.reserve_client.Goals as goal
 
 pub returns-clause-same : goal.returns-clause-same
@@ -16,3 +17,7 @@ returns-clause-same c =
           (rows-reserve is_used_client old.clients c.reserve.new.map.entries c.args.client no_client refl c.reserve.ensures.rows);
       records = refl;
     })
+
+pub invariant_of-self : goal.invariant_of-self
+invariant_of-self c =
+    reserved_clients (core_of c.self.inside) c.reserve.new.map.entries c.args.client c.self.invariant c.requires c.reserve.ensures.rows c.reserve.ensures.ordered

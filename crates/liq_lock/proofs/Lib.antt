@@ -1,0 +1,10 @@
+pub mod Ends
+pub mod Fresh
+pub mod Histories
+pub mod Moved
+pub mod Parts
+pub mod Rests
+pub mod Sentences
+pub mod Sums
+pub mod Turns
+pub mod Waits

@@ -1,0 +1,3 @@
+pub mod Moments
+mod Steps
+mod Tearing

@@ -1,0 +1,182 @@
+// A disk in memory, whose calls fail where they are told to, and which a crash may tear.
+ghost use Rattle.std.specs.Prelude.{◌≡◌, ◌≤◌, ◌<◌, ◌↔◌, ◌⊎◌, ◌+◌, ◌-◌, ◌++◌, ◌^◌, [], Some, length, take, drop, min, IfOk, OnOk, OnErr, IsErr};
+ghost use Rattle.liq_outside.specs.Calls.{FailsNext};
+ghost use Rattle.liq_outside.specs.Faults.{Rose};
+ghost use Rattle.liq_outside.specs.Disk.{Elapses, Follows, LeftNow, Only, Reaches, Torn, Within};
+ghost use Rattle.liq_outside.specs.DiskInMemory.{IsNoted, fresh, left_by, moment_of, after_look, after_failed_look, after_disk_write, after_sync};
+
+use super::crash::tear;
+use super::disk::Disk;
+use super::failed::Failed;
+use super::made::{Made, note_sync, note_try, overwrite};
+use super::schedule::Schedule;
+use std::alloc::Global;
+use std::marker::Model;
+
+/// Bytes in memory by their places, which a crash may tear.
+///
+/// A call fails where its number, counted from 0, is one of those in `failing`, and where no memory is
+/// left for what it has to keep. A contract sees what is held, what was done since the start, and the calls.
+#[derive(Drop)]
+pub struct MemoryDisk {
+    alloc: Global,
+    bytes: Vec<u8>,
+    made: Vec<Made>,
+    schedule: Schedule,
+}
+
+impl Model for MemoryDisk {
+    ghost use Rattle.std.specs.Prelude.{vec_capacity};
+    ghost use Rattle.liq_outside.specs.DiskInMemory.{AreWrites, Roomy};
+    ghost use Rattle.liq_outside.specs.Made.{steps_of};
+
+    ghost Value = { Roomy };
+
+    ghost view = { λ d. record { disk = record { held = d.bytes.items; steps = steps_of d.made.items; calls = d.schedule }; room = vec_capacity d.made } };
+
+    ghost invariant = { λ d. AreWrites d.bytes.items (steps_of d.made.items) };
+}
+
+impl MemoryDisk {
+    /// A disk with these bytes, all of them synced.
+    pub fn new(alloc: Global, bytes: Vec<u8>, failing: Vec<u64>) -> Self
+        ensures { result.disk ≡ fresh bytes.items failing.items }
+    {
+        MemoryDisk {
+            alloc,
+            bytes,
+            made: Vec::new(alloc),
+            schedule: Schedule::new(failing),
+        }
+    }
+
+    /// The bytes that a read gives.
+    pub fn bytes(&self) -> &[u8]
+        ensures { result.now ≡ self.now.disk.held }
+    {
+        &self.bytes
+    }
+
+    /// The disk after a crash at this moment: one of the images that may be left, with no call failing.
+    /// Choice 0 keeps all that was written, 1 nothing that wasn't synced, 2 and 3 a half of each write,
+    /// 4 to 7 the same with other bytes in place of those that are lost.
+    pub fn crash(self, choice: u64) -> MemoryDisk
+        ensures left { LeftNow moment_of left_by self result.disk.held }
+        ensures synced { result.disk ≡ fresh result.disk.held [] }
+    {
+        let MemoryDisk {
+            alloc,
+            mut bytes,
+            made,
+            schedule: _,
+        } = self;
+        tear(&mut bytes, made, choice);
+        MemoryDisk::new(alloc, bytes, Vec::new(alloc))
+    }
+}
+
+impl Disk for MemoryDisk {
+    ghost use Rattle.liq_outside.specs.Staying.{held_may_stay};
+
+    ghost seen = { λ d. Some d.disk.held };
+
+    ghost moment = { moment_of };
+
+    ghost left_at = { left_by };
+
+    ghost faults = { λ d. d.disk.calls.faults };
+
+    ghost seen_may_stay = { λ d held is. held_may_stay d.disk.held held d.disk.steps is };
+
+    fn length(&mut self) -> Result<u64, Failed>
+        ensures listed { IsErr result ↔ FailsNext self.old.disk.calls }
+        ensures told { IfOk result (λ n. n ≡ length self.old.disk.held) }
+        ensures looked { OnOk result (self.new.disk ≡ after_look self.old.disk) }
+        ensures not_looked { OnErr result (self.new.disk ≡ after_failed_look self.old.disk) }
+        ensures count { self.old.disk.calls.faults ≤ self.new.disk.calls.faults }
+    {
+        if self.schedule.begin() {
+            self.schedule.fault();
+            return Err(Failed);
+        }
+        Ok(self.bytes.len() as u64)
+    }
+
+    fn read_at(&mut self, at: u64, buf: &mut [u8]) -> Result<usize, Failed>
+        ensures listed { IsErr result ↔ FailsNext self.old.disk.calls }
+        ensures told { IfOk result (λ n. (n ≡ min (length buf.old) (length self.old.disk.held - at)) × (buf.new ≡ take n (drop at self.old.disk.held) ++ drop n buf.old)) }
+        ensures looked { OnOk result (self.new.disk ≡ after_look self.old.disk) }
+        ensures not_looked { OnErr result (self.new.disk ≡ after_failed_look self.old.disk) }
+        ensures count { self.old.disk.calls.faults ≤ self.new.disk.calls.faults }
+    {
+        if self.schedule.begin() {
+            self.schedule.fault();
+            return Err(Failed);
+        }
+        let start = self.bytes.len().min(at as usize);
+        let rest = &self.bytes[start..];
+        let count = buf.len().min(rest.len());
+        buf[..count].copy_from_slice(&rest[..count]);
+        Ok(count)
+    }
+
+    fn write_at(&mut self, at: u64, bytes: &[u8]) -> Result<(), Failed>
+        requires inside { at ≤ length self.old.disk.held }
+        requires limit { at + length bytes.now ≤ 2 ^ 40 }
+        // It fails where it is told to. Any other failure is want of memory.
+        ensures listed { FailsNext self.old.disk.calls → IsErr result }
+        ensures unlisted { OnErr result (FailsNext self.old.disk.calls ⊎ ((0 < length bytes.now) ⊎ (self.old.room ≤ length self.old.disk.steps))) }
+        ensures written { OnOk result (self.new.disk ≡ after_disk_write self.old.disk at bytes.now) }
+        ensures tried { FailsNext self.old.disk.calls → IsNoted self.old at bytes.now self.new.disk }
+        ensures not_written { (FailsNext self.old.disk.calls → ⊥) → OnErr result (self.new.disk ≡ after_failed_look self.old.disk) }
+        ensures crash { Follows (Torn at (length bytes.now)) (LeftNow moment_of left_by self.old) (LeftNow moment_of left_by self.new) }
+        ensures noted { OnOk result (Reaches (Torn at (length bytes.now)) (LeftNow moment_of left_by self.old) (LeftNow moment_of left_by self.new)) }
+        ensures keeps { Within (LeftNow moment_of left_by self.old) (LeftNow moment_of left_by self.new) }
+        ensures time { Elapses moment_of left_by self.old self.new }
+        ensures count { self.old.disk.calls.faults ≤ self.new.disk.calls.faults }
+        ensures cause { OnErr result (Rose self.old.disk.calls.faults self.new.disk.calls.faults) }
+    {
+        let at = at as usize;
+        if self.schedule.begin() {
+            self.schedule.fault();
+            // Some of the bytes may have been written.
+            note_try(&mut self.made, at, bytes.len());
+            return Err(Failed);
+        }
+        match overwrite(self.alloc, &mut self.bytes, &mut self.made, at, bytes) {
+            Ok(()) => Ok(()),
+            Err(_) => {
+                self.schedule.fault();
+                Err(Failed)
+            }
+        }
+    }
+
+    fn sync(&mut self) -> Result<(), Failed>
+        ensures listed { FailsNext self.old.disk.calls → IsErr result }
+        ensures unlisted { OnErr result (FailsNext self.old.disk.calls ⊎ (self.old.room ≤ length self.old.disk.steps)) }
+        ensures synced { OnOk result (self.new.disk ≡ after_sync self.old.disk) }
+        ensures not_synced { OnErr result (self.new.disk ≡ after_failed_look self.old.disk) }
+        ensures only { OnOk result (Only self.old.disk.held (LeftNow moment_of left_by self.new)) }
+        ensures crash { Within (LeftNow moment_of left_by self.new) (LeftNow moment_of left_by self.old) }
+        ensures time { Elapses moment_of left_by self.old self.new }
+        ensures count { self.old.disk.calls.faults ≤ self.new.disk.calls.faults }
+    {
+        if self.schedule.begin() {
+            self.schedule.fault();
+            // Nothing is more synced than before.
+            return Err(Failed);
+        }
+        match note_sync(&mut self.made) {
+            Ok(()) => Ok(()),
+            Err(_) => {
+                self.schedule.fault();
+                Err(Failed)
+            }
+        }
+    }
+
+    fn faults(&self) -> u64 {
+        self.schedule.faults()
+    }
+}
