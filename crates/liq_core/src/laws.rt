@@ -16,12 +16,13 @@ ghost use Rattle.liq_types.specs.declared.requests.Request.{Request};
 ghost use Rattle.liq_types.specs.declared.requests.Request.TheVariants.{Do, Ask};
 ghost use Rattle.liq_types.specs.Codes.{value_count};
 ghost use Rattle.liq_types.specs.Image.{Image, opening_image};
+ghost use Rattle.liq_types.specs.Soundness.{IsSoundImage};
 ghost use Rattle.liq_types.specs.State.{State, opening, started, wallet_of, client_of};
 ghost use Rattle.liq_types.specs.Payments.{paid, charged};
 ghost use Rattle.liq_core.specs.Core.{StandsFor, state_of};
 ghost use Rattle.liq_core.specs.Dust.{IsCovered, dust};
 ghost use Rattle.liq_core.specs.History.{Entry, IsLegal, GoesOn, requests_of, state_after};
-ghost use Rattle.liq_core.specs.Identities.{IsConserved, WalletsAscend, touches_no_trove, wallets_coll, wallets_lusd};
+ghost use Rattle.liq_core.specs.Identities.{IsAtHome, IsConserved, WalletsAscend, touches_no_trove, wallets_coll, wallets_lusd};
 ghost use Rattle.liq_core.specs.Events.{events};
 ghost use Rattle.liq_core.specs.Image.{image, IsSameState};
 ghost use Rattle.liq_core.specs.Length.{checkpoint_length};
@@ -130,6 +131,11 @@ pub fn payments_move_exactly()
 pub fn tables_stay_in_order()
     ensures step { (s : State) → TablesAscend s → (request : Request) → TablesAscend (step s request).0 }
     ensures run { (requests : List Request) → TablesAscend (run opening requests).0 }
+{}
+
+/// What is conserved holds of every sound image.
+pub fn sound_images_conserve()
+    ensures { (i : Image) → (records : ℕ) → IsSoundImage i records → IsAtHome i }
 {}
 
 /// What is conserved is kept by every allowed call that touches no trove: its collateral and LUSD only change their home, or
