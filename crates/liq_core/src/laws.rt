@@ -1,7 +1,7 @@
 //! What holds of the step and of whole runs. The functions here do nothing: each is the place where the facts of its
 //! contract are proved.
 
-ghost use Rattle.std.specs.Prelude.{◌≡◌, ◌≢◌, ℕ, ◌+◌, ◌-◌, ◌*◌, ◌≤◌, ◌<◌, ◌++◌, length, List, [], ◌∷◌, map, take, true, None};
+ghost use Rattle.std.specs.Prelude.{◌≡◌, ◌≢◌, ℕ, ◌+◌, ◌-◌, ◌*◌, ◌≤◌, ◌<◌, ◌++◌, length, List, [], ◌∷◌, map, take, true, false, None};
 ghost use Rattle.liq_types.specs.declared.amounts.TheConstants.{ACCOUNTS, LOWEST_MOST, GENERATIONS_MOST, CHECKPOINT_BYTES_MOST};
 ghost use Rattle.liq_types.specs.declared.replies.Done.{Done};
 ghost use Rattle.liq_types.specs.declared.replies.Refusal.{Refusal};
@@ -29,7 +29,7 @@ ghost use Rattle.liq_core.specs.Length.{checkpoint_length};
 ghost use Rattle.liq_core.specs.Rules.{values, call_events, call_changes};
 ghost use Rattle.liq_core.specs.Step.{Refused, Repeated, ruling, after, step, run, accepted, rules, effect, first_refusal};
 ghost use Rattle.liq_core.specs.Verbs.{kind, unhinted};
-ghost use Rattle.liq_core.specs.View.{view_of, view_after, all_followed, changes};
+ghost use Rattle.liq_core.specs.View.{view_of, view_after, all_followed, changes, changes_list};
 ghost use Rattle.liq_types.specs.WellFormed.{AreFinished, IsWellFormed, TablesAscend, stakes_in};
 
 use crate::engine::Protocol;
@@ -180,4 +180,10 @@ pub fn views_follow_changes()
     ensures one { (s : State) → IsWellFormed s → TablesAscend s → (c : Command) → all_followed (view_of s) (call_changes s c.call) ≡ view_of (after s c) }
     ensures run { (s : State) → IsWellFormed s → TablesAscend s → (requests : List Request) → all_followed (view_of s) (changes s (accepted s requests)) ≡ view_of (run s requests).0 }
     ensures history { (s : State) → IsWellFormed s → TablesAscend s → (entries : List Entry) → (n : ℕ) → all_followed (view_of s) (changes s (accepted s (requests_of (take n entries)))) ≡ view_after s entries n }
+{}
+
+/// An accepted command changes the ordered list exactly where its kind is one of those that do.
+pub fn some_kinds_change_the_list()
+    ensures others { (s : State) → (call : Call) → changes_list call ≡ false → call_changes s call ≡ [] }
+    ensures these { (s : State) → (call : Call) → first_refusal (rules s call) ≡ None → changes_list call ≡ true → call_changes s call ≢ [] }
 {}
