@@ -7,7 +7,8 @@ use Rattle.liq_num.specs.Quotient.{ceiling_of}
 use Rattle.liq_types.specs.declared.events.PoolEvent.{PoolEvent}
 use Rattle.liq_types.specs.declared.events.PoolEvent.TheVariants.{Own, Offset}
 use Rattle.liq_types.specs.PlainLedger.{Share, no_share, share_after, exact_share}
-use Rattle.liq_audit.specs.Enclosure.{Enclosure, nothing_enclosed, enclosure_after, enclosed, HasTotal, HasTotals}
+use Rattle.liq_audit.specs.declared.enclosure.Enclosure.{Enclosure}
+use Rattle.liq_audit.specs.Enclosure.{nothing_enclosed, enclosure_after, enclosed, HasTotal, HasTotals}
 
 -- the share lies between the numbers
 pub record IsEnclosed (e : Enclosure) (share : Share) : Type 0 where
@@ -83,7 +84,7 @@ own_encloses account owner put_in out gain amount e share h = by (owner == accou
 
 -- ---- all events
 
-event_encloses : (account : ℕ) (e : Enclosure) (share : Share) (event : PoolEvent) → HasTotal event → IsEnclosed e share → IsEnclosed (enclosure_after account e event) (share_after account share event)
+pub event_encloses : (account : ℕ) (e : Enclosure) (share : Share) (event : PoolEvent) → HasTotal event → IsEnclosed e share → IsEnclosed (enclosure_after account e event) (share_after account share event)
 event_encloses account e share (Own owner put_in out gain amount) some h = own_encloses account owner put_in out gain amount e share h
 event_encloses account e share (Offset debt coll total rise) some h = offset_encloses account e share debt coll total rise some h
 

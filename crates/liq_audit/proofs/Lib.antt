@@ -1,1 +1,4 @@
+pub mod Auditing
+pub mod Costs
 pub mod Enclosing
+pub mod Fitting

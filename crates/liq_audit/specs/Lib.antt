@@ -1,2 +1,4 @@
+pub mod Auditable
 pub mod Enclosure
 pub mod Examples
+pub mod Watching

@@ -1,5 +1,5 @@
 -- What each kind of step tells the seat that makes it, of what it knew, the word that it found and what it knows now.
-use Rattle.std.specs.Prelude.{◌≡◌, ◌≢◌, ℕ, ◌%◌, ◌^◌, ◌<◌, ◌≤◌, false, List, [], ◌∷◌, Option, Some}
+use Rattle.std.specs.Prelude.{◌≡◌, ◌≢◌, ℕ, ◌%◌, ◌^◌, ◌<◌, ◌≤◌, true, false, List, [], ◌∷◌, Option, Some}
 use Rattle.atomic_table.specs.Table.{Me, Step, rest}
 use Rattle.liq_lock.specs.declared.view.View.{View}
 use Rattle.liq_lock.specs.History.{Behind}
@@ -36,3 +36,9 @@ module _ {T I : Type 0} where
     pub calm : m.0.inside ≡ false
     pub alive : 1 ≤ m.0.shares
     pub empty : m.1 ≡ []
+
+  -- the view is inside, and its seat has a value in the slot with the history that it has seen
+  pub record IsLeaving (history : T → List I) (m : Me (Option T) (View I)) : Type 0 where
+    pub inside : m.0.inside ≡ true
+    pub alive : 1 ≤ m.0.shares
+    pub value : (x : T) × (m.1 ≡ (0, Some x) ∷ []) × (history x ≡ m.0.seen)

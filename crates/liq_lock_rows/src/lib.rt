@@ -8,4 +8,6 @@ mod clerk;
 #[cfg(test)]
 mod ledger;
 #[cfg(test)]
+mod looks;
+#[cfg(test)]
 mod rows;

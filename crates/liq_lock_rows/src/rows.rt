@@ -2,6 +2,7 @@
 use crate::clerk::Clerk;
 use crate::clerk::turns::{at_once, open, turn};
 use crate::ledger::{Entry, Ledger};
+use crate::looks::look_at_once;
 use liq_lock::StillShared;
 use std::process::Abort;
 use std::test::Fail;
@@ -46,10 +47,22 @@ fn one_entry_and_a_seat_out(rt: HostRuntime) -> Result<(), Fail> {
     let Ok(ledger) = lock.close(joined) else {
         panic!(&rt; "still shared");
     };
-    assert_eq!(&rt;
-        ledger.entries.as_slice(),
-        [Entry { by: 1, count: 1 }].as_slice()
-    );
+    let expected = [Entry { by: 1, count: 1 }];
+    assert_eq!(&rt; ledger.entries.as_slice(), expected.as_slice());
+    Ok(())
+}
+
+/// Two threads look at a value to which one of them has added: both have seen the entry then.
+#[test]
+fn both_look(rt: HostRuntime) -> Result<(), Fail> {
+    let (lock, mut clerks) = open(rt.alloc(), 2, 1)?;
+    let first = clerks.pop().expect(&rt, "a clerk");
+    let second = clerks.pop().expect(&rt, "another clerk");
+    let Clerk { seat, .. } = turn(&rt, &lock, first);
+    let Clerk { seat: other, .. } = second;
+    let joined = look_at_once(&rt, &lock, other, seat);
+    assert_eq!(&rt; joined.seen(), 1);
+    assert!(&rt; lock.close(joined).is_ok());
     Ok(())
 }
 

@@ -1,5 +1,5 @@
 -- Lawful lists from the opening: what every account has beside its exact share, and what all accounts have together.
-use Rattle.std.proofs.Common.{◌≡◌, ℕ, ◌+◌, ◌-◌, ◌*◌, ◌^◌, ◌≤◌, ◌<◌, Bool, true, false, cond, List, [], ◌∷◌, refl, ap, sym, ◌∙◌, subst, arith, inl, inr, Some}
+use Rattle.std.proofs.Common.{◌≡◌, ℕ, ◌+◌, ◌-◌, ◌*◌, ◌^◌, ◌≤◌, ◌<◌, Bool, true, false, cond, List, refl, ap, sym, ◌∙◌, subst, arith, inl, inr, Some}
 use Rattle.std.specs.Prelude.{sum, map}
 use Rattle.std.specs.Map.{keys_of}
 use Rattle.std.specs.List.Sorted.{IsStrictlySortedBy}
@@ -8,7 +8,6 @@ use Rattle.std.proofs.lemmas.Grind.{div_ceil_times}
 use Rattle.liq_num.specs.Quotient.{ceiling_of}
 use Rattle.liq_types.specs.declared.amounts.TheConstants.{OFFSET_MOST, P_OPENING, RISES_MOST}
 use Rattle.liq_types.specs.declared.events.PoolEvent.{PoolEvent}
-use Rattle.liq_types.specs.declared.events.PoolEvent.TheVariants as event
 use Rattle.liq_types.specs.Allowance.{no_watch, watched, balance_allowance, gain_allowance}
 use Rattle.liq_types.specs.Image.{Place}
 use Rattle.liq_types.specs.PlainLedger.{no_share, exact_share, den_of, offsets_coll, gains_paid_to, AreOwnedBelow, over_accounts}
@@ -16,7 +15,7 @@ use Rattle.liq_types.specs.Product.{is_place}
 use Rattle.liq_types.specs.State.{DepositEntry, opening}
 use Rattle.liq_types.specs.Tables.{at}
 use Rattle.liq_types.specs.Totals.{pool_total, pool_coll}
-use Rattle.liq_types.proofs.Accounts.{over-none}
+use Rattle.liq_types.proofs.Accounts.{over-none, above_with, owned_with, under_with}
 use Rattle.liq_types.proofs.Rounding.{balance_law, gain_law}
 use Rattle.liq_stability.specs.Lawful.{IsLawfulUpTo}
 use Rattle.liq_stability.specs.Own.{after_events}
@@ -59,44 +58,18 @@ opening_whole n = record {
   colls_are = refl;
 }
 
--- ---- the accounts of a list
-
-above_all : List PoolEvent → ℕ
-above_all [] = 0
-above_all (event.Own owner put_in out gain amount ∷ es) = owner + 1 + above_all es
-above_all (event.Offset debt coll total rise ∷ es) = above_all es
-
-owned_more : (n m : ℕ) → n ≤ m → (events : List PoolEvent) → AreOwnedBelow n events → AreOwnedBelow m events
-owned_more n m h [] k = tt
-owned_more n m h (event.Own owner put_in out gain amount ∷ es) k = (omega (arith, k.0), owned_more n m h es k.1)
-owned_more n m h (event.Offset debt coll total rise ∷ es) k = (tt, owned_more n m h es k.1)
-
-owned_below : (events : List PoolEvent) → AreOwnedBelow (above_all events) events
-unfolding above_all
-owned_below [] = tt
-owned_below (event.Own owner put_in out gain amount ∷ es) = (omega arith, owned_more (above_all es) (owner + 1 + above_all es) (omega arith) es (owned_below es))
-owned_below (event.Offset debt coll total rise ∷ es) = (tt, owned_below es)
-
 -- ---- lawful lists
 
 module _ (most : ℕ) (served : most ≤ 10 ^ (9 * RISES_MOST)) (events : List PoolEvent) (lawful : IsLawfulUpTo most opening events) where
   pub whole : (n : ℕ) → AreOwnedBelow n events → Whole n (after_events events) (den_of events) (offsets_coll events) (λ a. exact_share a events) (λ a. watched a events) (λ a. gains_paid_to a events)
   whole n below = after_all most served n opening 1 0 (λ a. no_share) (λ a. no_watch) (λ a. 0) events below lawful (opening_whole n)
 
-  pub bound : ℕ → ℕ
-  bound account = above_all events + (account + 1)
-
-  pub under_bound : (account : ℕ) → account < bound account
-  unfolding bound
-  under_bound account = omega arith
-
-  pub whole_with : (account : ℕ) → Whole (bound account) (after_events events) (den_of events) (offsets_coll events) (λ a. exact_share a events) (λ a. watched a events) (λ a. gains_paid_to a events)
-  unfolding bound
-  whole_with account = whole (above_all events + (account + 1)) (owned_more (above_all events) (above_all events + (account + 1)) (omega arith) events (owned_below events))
+  pub whole_with : (account : ℕ) → Whole (above_with account events) (after_events events) (den_of events) (offsets_coll events) (λ a. exact_share a events) (λ a. watched a events) (λ a. gains_paid_to a events)
+  whole_with account = whole (above_with account events) (owned_with account events)
 
   reads_of : (account : ℕ) → IsRead (exact_share account events) (watched account events).weight (watched account events).own_events (balance_of (after_events events) account) (gains_paid_to account events + gain_of (after_events events) account)
   reads_of account =
-      read (bound account) (after_events events) (den_of events) (offsets_coll events) (λ a. exact_share a events) (λ a. watched a events) (λ a. gains_paid_to a events) (whole_with account) account (under_bound account)
+      read (above_with account events) (after_events events) (den_of events) (offsets_coll events) (λ a. exact_share a events) (λ a. watched a events) (λ a. gains_paid_to a events) (whole_with account) account (under_with account events)
 
   turned : (account : ℕ) → gains_paid_to account events + gain_of (after_events events) account ≡ gained_of (after_events events) account events
   turned account = plus (gains_paid_to account events) (gain_of (after_events events) account) where
@@ -153,12 +126,12 @@ module _ (most : ℕ) (served : most ≤ 10 ^ (9 * RISES_MOST)) (events : List P
   -- the caps never act
   pub balance_uncapped : (account : ℕ) (d : DepositEntry) → at (after_events events).deposits account ≡ Some d → balance_of (after_events events) account ≡ balance_by d.amount (mark_of (after_events events) d.mark) (words_of (after_events events))
   balance_uncapped account d is =
-      balance_bare (bound account) (after_events events) (den_of events) (offsets_coll events) (λ a. exact_share a events) (λ a. watched a events) (λ a. gains_paid_to a events) (whole_with account) account (under_bound account)
+      balance_bare (above_with account events) (after_events events) (den_of events) (offsets_coll events) (λ a. exact_share a events) (λ a. watched a events) (λ a. gains_paid_to a events) (whole_with account) account (under_with account events)
       ∙ ap (bare_balance (after_events events)) is
 
   pub gain_uncapped : (account : ℕ) (d : DepositEntry) → at (after_events events).deposits account ≡ Some d → gain_of (after_events events) account ≡ gain_by d.amount (mark_of (after_events events) d.mark) (sums_from (after_events events) (mark_of (after_events events) d.mark))
   gain_uncapped account d is =
-      gain_bare (bound account) (after_events events) (den_of events) (offsets_coll events) (λ a. exact_share a events) (λ a. watched a events) (λ a. gains_paid_to a events) (whole_with account) account (under_bound account)
+      gain_bare (above_with account events) (after_events events) (den_of events) (offsets_coll events) (λ a. exact_share a events) (λ a. watched a events) (λ a. gains_paid_to a events) (whole_with account) account (under_with account events)
       ∙ ap (bare_gain (after_events events)) is
 
   -- ---- all accounts
@@ -176,10 +149,10 @@ module _ (most : ℕ) (served : most ≤ 10 ^ (9 * RISES_MOST)) (events : List P
   one_den account = let h = whole_with account in (h.dens account, h.some)
 
   pub balances_held : sum (map (balance_of (after_events events)) (keys_of (after_events events).deposits)) ≤ pool_total (after_events events)
-  balances_held = dust_balances (bound 0) (after_events events) (den_of events) (offsets_coll events) (λ a. exact_share a events) (λ a. watched a events) (λ a. gains_paid_to a events) (whole_with 0)
+  balances_held = dust_balances (above_with 0 events) (after_events events) (den_of events) (offsets_coll events) (λ a. exact_share a events) (λ a. watched a events) (λ a. gains_paid_to a events) (whole_with 0)
 
   pub gains_held : sum (map (gain_of (after_events events)) (keys_of (after_events events).deposits)) ≤ pool_coll (after_events events)
-  gains_held = dust_gains (bound 0) (after_events events) (den_of events) (offsets_coll events) (λ a. exact_share a events) (λ a. watched a events) (λ a. gains_paid_to a events) (whole_with 0)
+  gains_held = dust_gains (above_with 0 events) (after_events events) (den_of events) (offsets_coll events) (λ a. exact_share a events) (λ a. watched a events) (λ a. gains_paid_to a events) (whole_with 0)
 
   -- ---- the pool
 

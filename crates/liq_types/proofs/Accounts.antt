@@ -1,6 +1,6 @@
 -- Numbers added up over all accounts below a bound.
-use Rattle.std.proofs.Common.{◌≡◌, ℕ, zero, suc, ◌+◌, ◌*◌, ◌<◌, ◌≤◌, false, List, [], ◌∷◌, refl, ap, sym, ◌∙◌, arith, inl, inr}
-use Rattle.std.specs.Prelude.{◌==◌, sum_by, sum, map}
+use Rattle.std.proofs.Common.{◌≡◌, ℕ, zero, suc, ◌+◌, ◌*◌, ◌<◌, ◌≤◌, false, List, [], ◌∷◌, Bool, true, false, cond, ◌-◌, refl, ap, sym, ◌∙◌, arith, inl, inr}
+use Rattle.std.specs.Prelude.{◌==◌, sum_by, sum, map, fold}
 use Rattle.std.specs.List.{AllByRecursion, range_with_len}
 use Rattle.std.specs.Map.{keys_of}
 use Rattle.std.specs.Ordering.{nat_cmp}
@@ -11,7 +11,9 @@ use Rattle.std.proofs.lemmas.List.Sums.{sum_by-cons}
 use Rattle.std.proofs.lemmas.Map.Keys.{sorted_head, sorted_tail}
 use Rattle.liq_types.specs.Tables.{Table}
 use Rattle.liq_types.specs.WellFormed.{Ascends}
-use Rattle.liq_types.specs.PlainLedger.{over_accounts}
+use Rattle.liq_types.specs.declared.events.PoolEvent.{PoolEvent}
+use Rattle.liq_types.specs.declared.events.PoolEvent.TheVariants as event
+use Rattle.liq_types.specs.PlainLedger.{Share, no_share, share_after, exact_share, total_of, den_of, AreOwnedBelow, over_accounts}
 
 -- from a on
 from : ℕ → ℕ → (ℕ → ℕ) → ℕ
@@ -154,3 +156,52 @@ module _ {X : Type 0} (f : ℕ → ℕ) where
     all_high : (ks : List ℕ) → AllByRecursion (λ k. k < n) ks → AllByRecursion (λ k. k < 0 + n) ks
     all_high [] h = tt
     all_high (k ∷ ks) h = (omega (arith, h.0), all_high ks h.1)
+
+-- ---- the accounts of a list of events
+
+-- a bound above all of them
+pub above_all : List PoolEvent → ℕ
+above_all [] = 0
+above_all (event.Own owner put_in out gain amount ∷ es) = owner + 1 + above_all es
+above_all (event.Offset debt coll total rise ∷ es) = above_all es
+
+pub owned_more : (n m : ℕ) → n ≤ m → (events : List PoolEvent) → AreOwnedBelow n events → AreOwnedBelow m events
+owned_more n m h [] k = tt
+owned_more n m h (event.Own owner put_in out gain amount ∷ es) k = (omega (arith, k.0), owned_more n m h es k.1)
+owned_more n m h (event.Offset debt coll total rise ∷ es) k = (tt, owned_more n m h es k.1)
+
+owned_below : (events : List PoolEvent) → AreOwnedBelow (above_all events) events
+unfolding above_all
+owned_below [] = tt
+owned_below (event.Own owner put_in out gain amount ∷ es) = (omega arith, owned_more (above_all es) (owner + 1 + above_all es) (omega arith) es (owned_below es))
+owned_below (event.Offset debt coll total rise ∷ es) = (tt, owned_below es)
+
+-- a bound above all of them and one account more
+pub above_with : ℕ → List PoolEvent → ℕ
+above_with account events = above_all events + (account + 1)
+
+pub owned_with : (account : ℕ) (events : List PoolEvent) → AreOwnedBelow (above_with account events) events
+unfolding above_with
+owned_with account events = owned_more (above_all events) (above_all events + (account + 1)) (omega arith) events (owned_below events)
+
+pub under_with : (account : ℕ) (events : List PoolEvent) → account < above_with account events
+unfolding above_with
+under_with account events = omega arith
+
+-- ---- the common denominator
+
+dens_alike : (account : ℕ) (share : Share) (den : ℕ) → share.den ≡ den → (events : List PoolEvent) → (fold (share_after account) share events).den ≡ fold (λ d e. d * total_of e) den events
+dens_alike account share den h [] = h
+dens_alike account share den h (event.Own owner put_in out gain amount ∷ es) =
+    dens_alike account (share_after account share (event.Own owner put_in out gain amount)) (den * 1) (either (owner == account) ∙ h ∙ one den) es where
+      either : (b : Bool) → (cond b (record share { bal = share.bal + put_in * share.den - out * share.den }) share).den ≡ share.den
+      either true = refl
+      either false = refl
+
+      one : (n : ℕ) → n ≡ n * 1
+      one n = omega arith
+dens_alike account share den h (event.Offset debt coll total rise ∷ es) =
+    dens_alike account (share_after account share (event.Offset debt coll total rise)) (den * total) (ap (λ d. d * total) h) es
+
+pub share_den : (account : ℕ) (events : List PoolEvent) → (exact_share account events).den ≡ den_of events
+share_den account events = dens_alike account no_share 1 refl events

@@ -2,7 +2,7 @@
 ghost use Rattle.std.specs.Prelude.{◌≡◌, ◌+◌, ◌≤◌, ◌%◌, ◌^◌, true, [], ◌∷◌, length, Some};
 ghost use Rattle.liq_lock.specs.History.{Behind, GoesOn};
 ghost use Rattle.liq_lock.specs.Views.{view_in, is_at_rest, drew, saw, outside};
-ghost use Rattle.liq_lock.specs.Steps.{Enters, IsWaiting};
+ghost use Rattle.liq_lock.specs.Steps.{Enters, IsWaiting, IsLeaving};
 ghost use Rattle.liq_lock.specs.Seats.{lock_id, seat_id, number_of, stands_of, seen_of, shares_of, held_id, number_in, stands_in, seen_in, shares_in};
 
 use super::{Held, ITEMS, Lock, SERVING, TICKET};
@@ -13,6 +13,12 @@ use crate::view::View;
 use atomic_table::{Badge, Seat};
 use std::sync::Wait;
 use std::thread::yield_now;
+
+// Looks of a waiting thread before it sleeps.
+const LOOKS: u32 = 64;
+
+// A sleep compares the low 32 bits of a word.
+const LOW: u64 = 0xffff_ffff;
 
 impl<T: Chronicle> Lock<T> {
     /// Takes the value when the turn of this seat has come. The history of the value begins with all that the seat has
@@ -73,7 +79,7 @@ impl<T: Chronicle> Lock<T> {
         self.table
             .shared
             .fetch_add::<Count>(&mut seat, ITEMS, now - entries);
-        self.table.shared.fetch_add::<Leave>(&mut seat, SERVING, 1);
+        self.leave(&mut seat);
         LockSeat {
             badge: seat.into_badge(),
             shares,
@@ -94,19 +100,42 @@ impl<T: Chronicle> Lock<T> {
         (seat, number)
     }
 
-    // Looks until it is the turn of the ticket, and lets other threads run between looks.
+    // Looks until it is the turn of the ticket. Between the first looks other threads run, then the thread sleeps.
     fn wait_for<R: Wait>(&self, rt: &R, seat: &mut Seat<Option<T>, View<T::Item>>, number: u64)
         requires own { seat.old.table_id ≡ lock_id self.now }
         requires waiting { IsWaiting seat.old.me number }
         ensures own { seat.new.table_id ≡ lock_id self.now }
         ensures enters { Enters T.history T.maker seat.old.me seat.new.me }
     {
+        let shared = &self.table.shared;
+        let mut looks = 0u32;
         for _ in rt.forever() {
-            if self.table.shared.load::<Look>(seat, SERVING) == number {
+            let serving = shared.load::<Look>(seat, SERVING);
+            if serving == number {
                 return;
             }
-            yield_now();
+            if looks < LOOKS {
+                looks += 1;
+                yield_now();
+            } else {
+                shared.park(rt, SERVING, (serving & LOW) as u32);
+            }
         }
         unreachable!()
+    }
+
+    // Ends the turn, and wakes those that wait. Who draws a ticket after this thread has read the next one looks at the
+    // ticket whose turn it is after that, so it need not be woken.
+    fn leave(&self, seat: &mut Seat<Option<T>, View<T::Item>>)
+        requires own { seat.old.table_id ≡ lock_id self.now }
+        requires turn { IsLeaving T.history seat.old.me }
+        ensures own { seat.new.table_id ≡ lock_id self.now }
+        ensures outside { seat.new.me ≡ (outside seat.old.me.0, []) }
+    {
+        let shared = &self.table.shared;
+        let served = shared.fetch_add::<Leave>(seat, SERVING, 1);
+        if shared.peek(TICKET) != served.wrapping_add(1) {
+            shared.wake_all(SERVING);
+        }
     }
 }

@@ -4,10 +4,10 @@ use Rattle.std.specs.Prelude.{Option, Some}
 use Rattle.atomic_table.specs.Table.{Me, rest, Allows, step}
 use Rattle.liq_lock.specs.declared.view.View.{View}
 use Rattle.liq_lock.specs.Rule.{Ruled}
-use Rattle.liq_lock.specs.Steps.{Counts, Leaves}
+use Rattle.liq_lock.specs.Steps.{Counts, IsLeaving}
 use Rattle.liq_lock.specs.Views.{saw, is_empty_hand}
 use Rattle.liq_lock.proofs.Rests.{at_turn, one_hand}
-use Rattle.liq_lock.proofs.Turns.{counts, leaves}
+use Rattle.liq_lock.proofs.Turns.{counts}
 use Rattle.liq_lock.proofs.lock.Lock.give.Goals as goal
 
 -- the seat after the value was put into its empty slot
@@ -34,21 +34,13 @@ fetch_add-requires g c =
           (counts history maker key slots id v c.args.value k turn.inside turn.alive c.requires.grows (omega arith) (omega arith)),
     )
 
-pub fetch_add-requires-2 : goal.fetch_add-requires-2
-fetch_add-requires-2 g c =
+pub leave-requires-clause-turn : goal.leave-requires-clause-turn
+leave-requires-clause-turn g c =
     let history = g.T.Chronicle.history in
-    let maker = g.T.Chronicle.maker in
-    let key : ℕ = c.args.self.now.table.shared.key in
-    let slots : ℕ = c.args.self.now.table.shared.table_id.slots in
-    let id : ℕ = c.fetch_add.new.seat.id in
     let v : View g.row.T-Item.Denot = c.args.held.seat.me.0 in
     let turn = at_turn v c.args.held.turn in
     let put' = put c.exchange.new.seat.me c.args.held.seat.me c.args.value c.exchange.ensures.3 c.args.held.empty_hand in
     let hand = ap (λ (m : Me (Option g.row.T.Denot) (View g.row.T-Item.Denot)). m.1) put' in
     let counted = c.fetch_add.ensures.2 c.args.value hand
-    ∙ ap (λ (m : Me (Option g.row.T.Denot) (View g.row.T-Item.Denot)). (saw m.0 (history c.args.value), m.1)) put' in (
-      c.fetch_add.ensures.0 ∙ c.exchange.ensures.0 ∙ c.requires.own,
-      omega arith,
-      subst (λ (m : Me (Option g.row.T.Denot) (View g.row.T-Item.Denot)). Allows (Ruled history maker key) slots id m 1 (λ n. (n + 1) % 2 ^ 64) (Leaves (step slots 1 1 0 none) m)) (sym counted)
-          (leaves history maker key slots id (saw v (history c.args.value)) c.args.value turn.inside turn.alive refl),
-    )
+    ∙ ap (λ (m : Me (Option g.row.T.Denot) (View g.row.T-Item.Denot)). (saw m.0 (history c.args.value), m.1)) put' in
+    subst (IsLeaving history) (sym counted) record { inside = turn.inside; alive = turn.alive; value = (c.args.value, refl, refl) }

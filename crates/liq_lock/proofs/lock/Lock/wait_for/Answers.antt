@@ -6,8 +6,8 @@ use Rattle.liq_lock.specs.Steps.{Enters}
 use Rattle.liq_lock.proofs.Waits.{looks}
 use Rattle.liq_lock.proofs.lock.Lock.wait_for.Goals as goal
 
-pub load-requires : goal.load-requires
-load-requires g c =
+pub load-serving-requires : goal.load-serving-requires
+load-serving-requires g c =
     let m = c.loop.seat.me in
     let same = c.loop.invariant.3 in
     let w = c.requires.waiting in (
@@ -19,9 +19,9 @@ load-requires g c =
           (subst (λ (z : ℕ). 1 ≤ z) (sym (ap (λ (z : Me (Option g.row.T.Denot) (View g.row.T-Item.Denot)). z.0.shares) same)) w.alive),
     )
 
-pub returns-then-load-number-clause-enters : goal.returns-then-load-number-clause-enters
-returns-then-load-number-clause-enters g c =
+pub returns-then-serving-number-clause-enters : goal.returns-then-serving-number-clause-enters
+returns-then-serving-number-clause-enters g c =
     let same = c.loop.invariant.3 in
     let w = c.requires.waiting in
-    subst (λ (z : Me (Option g.row.T.Denot) (View g.row.T-Item.Denot)). Enters g.T.Chronicle.history g.T.Chronicle.maker z c.load.new.seat.me) same
-    ((c.load.ensures.2 w.ticket.0 (ap (λ (z : Me (Option g.row.T.Denot) (View g.row.T-Item.Denot)). z.0.ticket) same ∙ w.ticket.1)).0 (c.if-load-number.true ∙ w.ticket.2))
+    subst (λ (z : Me (Option g.row.T.Denot) (View g.row.T-Item.Denot)). Enters g.T.Chronicle.history g.T.Chronicle.maker z c.load-serving.new.seat.me) same
+    ((c.load-serving.ensures.2 w.ticket.0 (ap (λ (z : Me (Option g.row.T.Denot) (View g.row.T-Item.Denot)). z.0.ticket) same ∙ w.ticket.1)).0 (c.if-serving-number.true ∙ w.ticket.2))

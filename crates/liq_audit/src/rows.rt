@@ -1,0 +1,43 @@
+/// The most offsets that an audit takes.
+pub const OFFSETS_MOST: u64 = 10_000;
+
+/// The most accounts that an audit takes.
+pub const ACCOUNTS_MOST: u64 = 1_000;
+
+/// What the protocol gives an account: its balance in micro-LUSD, and in gwei what it gained, paid out or not.
+#[derive(Clone, Copy, Debug, PartialEq, Eq)]
+pub struct EngineRow {
+    pub account: u32,
+    pub balance: u64,
+    pub gain: u64,
+}
+
+/// An account's exact share between whole numbers, and what the protocol gives it. Balances are in micro-LUSD, gains in gwei.
+#[derive(Clone, Copy, Debug, PartialEq, Eq)]
+pub struct Row {
+    pub account: u32,
+    /// The exact balance is not below this,
+    pub balance_lo: u128,
+    /// and not above this.
+    pub balance_hi: u128,
+    /// The protocol's balance.
+    pub balance: u64,
+    /// By how much that may be less than the exact one.
+    pub balance_allow: u64,
+    /// The exact gain is not below this,
+    pub gain_lo: u128,
+    /// and not above this.
+    pub gain_hi: u128,
+    /// All that the account gained in the protocol.
+    pub gain: u64,
+    /// By how much that may be less than the exact one.
+    pub gain_allow: u64,
+}
+
+/// Why there is no audit.
+#[derive(Clone, Copy, Debug, Drop, PartialEq, Eq)]
+pub enum AuditFault {
+    /// There are more offsets than [`OFFSETS_MOST`], or else more accounts than [`ACCOUNTS_MOST`].
+    AuditLimit { count: u64, limit: u64 },
+    NoMemory,
+}
