@@ -75,7 +75,7 @@ sound_of i records h tables =
 
 -- ---- both of two
 
-both_first : (a b : Bool) → (a && b) ≡ true → a ≡ true
+pub both_first : (a b : Bool) → (a && b) ≡ true → a ≡ true
 both_first true b h = refl
 both_first false b h = cc
 

@@ -19,7 +19,6 @@ ghost use Rattle.liq_types.specs.Image.{Image, opening_image};
 ghost use Rattle.liq_types.specs.Soundness.{IsSoundImage};
 ghost use Rattle.liq_types.specs.State.{State, opening, started, wallet_of, client_of};
 ghost use Rattle.liq_types.specs.Payments.{paid, charged};
-ghost use Rattle.liq_core.specs.Core.{StandsFor, state_of};
 ghost use Rattle.liq_core.specs.Dust.{IsCovered, dust};
 ghost use Rattle.liq_core.specs.History.{Entry, IsLegal, GoesOn, requests_of, state_after};
 ghost use Rattle.liq_core.specs.Identities.{IsAtHome, IsConserved, WalletsAscend, touches_no_trove, wallets_coll, wallets_lusd};
@@ -147,12 +146,6 @@ pub fn calls_without_troves_conserve()
 /// What is conserved is kept when a trove opens.
 pub fn opening_a_trove_conserves()
     ensures { (s : State) → (account coll borrow bound : ℕ) → (hint : HintWords) → TablesAscend s → first_refusal (rules s (Open account coll borrow bound hint)) ≡ None → IsConserved s → IsConserved (effect s (Open account coll borrow bound hint)) }
-{}
-
-/// Every protocol stands for the state that begins with its image and has its records. So what its calls say of each state
-/// for which it stands is said of one at least.
-pub fn protocols_stand(protocol: &Protocol)
-    ensures { StandsFor protocol.now (state_of protocol.now) }
 {}
 
 /// A rotation is refused whose checkpoint would be too long, where there is a further generation.
