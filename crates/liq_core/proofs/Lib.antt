@@ -9,6 +9,7 @@ pub mod AlikeStep
 pub mod Allowed
 pub mod Ascending
 pub mod Begun
+pub mod Changing
 pub mod Conserving
 pub mod Counting
 pub mod Following

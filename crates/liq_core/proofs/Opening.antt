@@ -22,6 +22,9 @@ use Rattle.liq_types.specs.WellFormed.{Ascends, TablesAscend}
 use Rattle.liq_core.proofs.Allowed.{none_first}
 use Rattle.liq_types.proofs.Ascending.{wallet-ascends}
 use Rattle.liq_core.proofs.Moving.{paid_coll, paid_lusd, charged_coll, charged_lusd}
+use Rattle.liq_types.specs.declared.figures.Trove.{Trove}
+use Rattle.liq_types.proofs.MapRows.{map-length, map-sum}
+use Rattle.liq_troves.specs.StakeSums.{trove_row}
 use Rattle.liq_types.proofs.UsedRows.{sum_by-put}
 
 absent : {X : Type 0} (o : Option X) → is_some o ≡ false → o ≡ None
@@ -69,12 +72,19 @@ open_conserves s account coll borrow none enough t h =
     let colls = sum-put_absent (λ (e : TroveEntry). e.coll) refl s.troves account entry t.1 none in
     let debts = sum-put_absent (λ (e : TroveEntry). e.debt) refl s.troves account entry t.1 none in
     let count = length-put s.troves account entry none in
+    let table = put s.troves account entry in
+    let rows = map-length (trove_row s) s.troves in
+    let new_rows = map-length (trove_row s) table in
+    let coll_was = map-sum (trove_row s) (λ (t : Trove). t.coll) s.troves in
+    let coll_is = map-sum (trove_row s) (λ (t : Trove). t.coll) table in
+    let debt_was = map-sum (trove_row s) (λ (t : Trove). t.debt) s.troves in
+    let debt_is = map-sum (trove_row s) (λ (t : Trove). t.debt) table in
     record {
       coll = omega (arith, c1, c2, h.coll);
       lusd = omega (arith, l1, l2, h.lusd);
-      reserve = omega (arith, count, h.reserve);
-      active_coll = omega (arith, colls, h.active_coll);
-      active_debt = omega (arith, debts, h.active_debt);
+      reserve = omega (arith, count, rows, new_rows, h.reserve);
+      active_coll = omega (arith, colls, coll_was, coll_is, h.active_coll);
+      active_debt = omega (arith, debts, debt_was, debt_is, h.active_debt);
       surplus = h.surplus;
     }
 

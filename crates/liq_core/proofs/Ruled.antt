@@ -8,12 +8,13 @@ use Rattle.liq_types.specs.declared.replies.Refusal.TheVariants.{AccountRange, O
 use Rattle.liq_types.specs.declared.requests.Command.{Command}
 use Rattle.liq_types.specs.Rules.{Rule, first_refusal}
 use Rattle.liq_types.specs.State.{State, client_of}
-use Rattle.liq_core.specs.Core.{Core, StandsFor, state_of}
+use Rattle.liq_types.specs.Soundness.{IsSoundImage}
+use Rattle.liq_core.specs.Core.{Core, StandsFor, image_of, state_of}
 use Rattle.liq_core.specs.Queries.{next_number}
 use Rattle.liq_core.specs.Step.{Refused, Repeated, Allowed, unless_refused, ruling, rules, accounts, in_range, is_repeated, tests, room_rules}
 use Rattle.liq_core.proofs.AlikeReads.{Alike}
 use Rattle.liq_core.proofs.AlikeReplies.{ruling_alike}
-use Rattle.liq_core.proofs.Standing.{stands_itself}
+use Rattle.liq_core.proofs.SoundCores.{sound_stands}
 
 pub some_first : (front more : List Rule) (refusal : Refusal) → first_refusal front ≡ Some refusal → first_refusal (front ++ more) ≡ Some refusal
 some_first [] more refusal h = cc
@@ -55,10 +56,10 @@ refused_room s c refusal within next passed h =
     ∙ ap (λ (o : Option Refusal). unless_refused o Allowed) (none_first_of (map in_range (accounts c.call) ++ rules s c.call) (room_rules s c) passed ∙ h)
 
 -- a state for which a core stands is the same as the one that begins with the core's image
-pub standing_alike : (core : Core) (s : State) → StandsFor core s → Alike s (state_of core)
-standing_alike core s h =
-    let itself = stands_itself core in
+pub standing_alike : (core : Core) (s : State) → IsSoundImage (image_of core) core.records → StandsFor core s → Alike s (state_of core)
+standing_alike core s sound h =
+    let itself = sound_stands core sound in
     record { image = sym h.image ∙ itself.image; records = sym h.records ∙ itself.records; left = h.formed; right = itself.formed }
 
-pub standing_ruling : (core : Core) (s : State) (c : Command) → StandsFor core s → ruling s c ≡ ruling (state_of core) c
-standing_ruling core s c h = ruling_alike (standing_alike core s h) c
+pub standing_ruling : (core : Core) (s : State) (c : Command) → IsSoundImage (image_of core) core.records → StandsFor core s → ruling s c ≡ ruling (state_of core) c
+standing_ruling core s c sound h = ruling_alike (standing_alike core s sound h) c

@@ -1,7 +1,8 @@
 -- What is read of a sound core, and what each change leaves of it.
-use Rattle.std.proofs.Common.{◌≡◌, ℕ, ◌+◌, ◌≤◌, ◌<◌, true, cond, nat_le, [], refl, ap, sym, subst, ◌∙◌, arith, inl, inr}
-use Rattle.std.specs.Prelude.{unwrap_or}
+use Rattle.std.proofs.Common.{◌≡◌, ℕ, ◌+◌, ◌≤◌, ◌<◌, true, cond, nat_le, [], refl, ap, sym, subst, ◌∙◌, arith, inl, inr, nat_lt, List, ◌∷◌, Bool, false}
+use Rattle.std.specs.Prelude.{unwrap_or, ◌&&◌, ◌==◌}
 use Rattle.std.specs.BTreeMap.{is_at}
+use Rattle.std.specs.List.{AllByRecursion, list_all}
 use Rattle.std.specs.List.Sorted.{IsStrictlySortedBy}
 use Rattle.std.specs.Ordering.{nat_cmp}
 use Rattle.std.proofs.lemmas.Bool.Decides.{nat_tests}
@@ -9,17 +10,18 @@ use Rattle.std.proofs.lemmas.Map.Entries.{sum_by-remove_entry}
 use Rattle.liq_types.specs.declared.amounts.TheConstants.{ACCOUNTS, LIM, RECORDS_MOST}
 use Rattle.liq_types.specs.declared.figures.Client.{Client}
 use Rattle.liq_types.specs.declared.figures.Wallet.{Wallet}
-use Rattle.liq_types.specs.Image.{Image, opening_image}
+use Rattle.liq_types.specs.Image.{Image, opening_image, Place}
 use Rattle.liq_types.specs.Rows.{Reserves}
-use Rattle.liq_types.specs.Soundness.{IsSoundImage, HasTables, coll_homes, has_keys_in_range}
+use Rattle.liq_types.specs.Soundness.{IsSoundImage, HasTables, coll_homes, has_keys_in_range, is_before}
 use Rattle.liq_types.specs.State.{is_used_wallet, is_used_client, no_wallet, no_client}
 use Rattle.liq_types.specs.Tables.{Table, at, put, without, rows}
-use Rattle.liq_types.specs.WellFormed.{Ascends}
+use Rattle.liq_types.specs.WellFormed.{Ascends, IsBefore, AreFinished, stakes_in}
 use Rattle.liq_types.proofs.UsedRows.{rows-put, rows-reserve}
-use Rattle.liq_core.specs.Core.{Core, image_of}
+use Rattle.liq_core.specs.Core.{Core, StandsFor, image_of, state_of}
+use Rattle.liq_core.proofs.Started.{started_image, started_formed}
 use Rattle.liq_core.specs.Sound.{IsSound, IsKeptRow}
 use Rattle.liq_core.proofs.Moving.{read_or}
-use Rattle.liq_core.proofs.SoundRules.{meets, both_second, moved_sound, noted_sound, put_in_range}
+use Rattle.liq_core.proofs.SoundRules.{meets, both_first, both_second, moved_sound, noted_sound, put_in_range}
 use Rattle.liq_core.proofs.Standing.{seen_wallet}
 
 -- ---- the opening
@@ -141,4 +143,36 @@ written_client core table client row sound inside few kept written ascend =
       clients_ascend = ascend;
       wallets_in_range = sound.wallets_in_range;
       clients_in_range = subst (λ (t : Table Client). has_keys_in_range t ≡ true) (sym written) (put_in_range core.clients client row inside sound.clients_in_range);
+    }
+
+-- ---- the state that begins with a sound image
+
+earlier : (a b : Place) → is_before a b ≡ true → IsBefore a b
+earlier a b h = by (nat_lt a.0 b.0) refl where
+  by : (c : Bool) → nat_lt a.0 b.0 ≡ c → IsBefore a b
+  by true e = inl (grind (arith, nat_tests, e))
+  by false e = inr (grind (arith, nat_tests, e, h), grind (arith, nat_tests, e, h))
+
+all_earlier : (most : ℕ) (place : Place) (table : List (Place × ℕ)) → list_all (λ (row : Place × ℕ). nat_le row.1 most && is_before row.0 place) table ≡ true → AllByRecursion (λ (row : Place × ℕ). IsBefore row.0 place) table
+all_earlier most place [] h = tt
+all_earlier most place (row ∷ table) h = (
+  earlier row.0 place (both_second (nat_le row.1 most) _ (both_first _ _ h)),
+  all_earlier most place table (both_second (nat_le row.1 most && is_before row.0 place) _ h),
+)
+
+pub sound_finished : (i : Image) (records : ℕ) → IsSoundImage i records → AreFinished i
+sound_finished i records h = all_earlier _ (i.epoch, i.scale) i.finished (both_second _ _ (meets i records h).words)
+
+pub sound_stakes : (i : Image) (records : ℕ) → IsSoundImage i records → i.stakes ≡ stakes_in i
+sound_stakes i records h =
+    let stakes : (i.stakes == stakes_in i) ≡ true = both_first _ _ (both_first _ _ (both_first _ (nat_le i.snap_stakes i.snap_coll) (both_first _ _ (meets i records h).added))) in
+    grind (arith, nat_tests, stakes)
+
+-- whatever the core keeps, its sound image makes it stand for the state that begins with it
+pub sound_stands : (core : Core) → IsSoundImage (image_of core) core.records → StandsFor core (state_of core)
+sound_stands core h =
+    record {
+      image = sym (started_image (image_of core) (sound_stakes (image_of core) core.records h));
+      records = refl;
+      formed = started_formed (image_of core) (sound_finished (image_of core) core.records h);
     }

@@ -1,6 +1,6 @@
 -- The rules of an image one by one, and what a payment and a counted command leave of them.
 use Rattle.std.proofs.Common.{◌≡◌, ℕ, ◌+◌, ◌*◌, ◌≤◌, ◌<◌, Bool, true, false, cond, nat_le, nat_lt, List, [], ◌∷◌, refl, ap, ◌∙◌, arith, Some, None}
-use Rattle.std.specs.Prelude.{◌==◌, ◌&&◌, IsTrue, length}
+use Rattle.std.specs.Prelude.{◌==◌, ◌&&◌, IsTrue, length, sum, sum_by}
 use Rattle.std.specs.List.{AllByRecursion, list_all}
 use Rattle.std.specs.Map.{keys_of, values_of}
 use Rattle.std.specs.Ordering.{nat_cmp, is_eq, match_ordering}
@@ -15,6 +15,8 @@ use Rattle.liq_types.specs.Soundness.{has_ranges, has_accounts, has_keys_in_rang
 use Rattle.liq_types.specs.State.{is_used_wallet, with_wallet, wallet_in}
 use Rattle.liq_types.specs.Tables.{Table, put, without}
 use Rattle.liq_types.proofs.Ascending.{put-ascends, wallet-ascends}
+use Rattle.liq_types.specs.declared.figures.Trove.{Trove}
+use Rattle.liq_core.specs.Identities.{IsAtHome}
 use Rattle.liq_core.proofs.Moving.{exchanged, unused_coll, unused_lusd}
 
 -- ---- all rules
@@ -73,7 +75,7 @@ sound_of i records h tables =
 
 -- ---- both of two
 
-both_first : (a b : Bool) → (a && b) ≡ true → a ≡ true
+pub both_first : (a b : Bool) → (a && b) ≡ true → a ≡ true
 both_first true b h = refl
 both_first false b h = cc
 
@@ -90,6 +92,27 @@ other_second a b c h k = both a c (both_first a b h) k
 
 other_first : (a b c : Bool) → (a && b) ≡ true → c ≡ true → (c && b) ≡ true
 other_first a b c h k = both c b k (both_second a b h)
+
+-- what is conserved
+pub sound_at_home : (i : Image) (records : ℕ) → IsSoundImage i records → IsAtHome i
+sound_at_home i records h =
+    let all = meets i records h in
+    let lusd = both_first _ (i.reserve == RESERVE * length i.troves) all.lusd in
+    let added = both_first _ (nat_le i.snap_stakes i.snap_coll) (both_first _ _ all.added) in
+    let debt_total : (i.active_debt + i.default_debt == lusd_homes i) ≡ true = both_second _ _ lusd in
+    let reserve : (i.reserve == RESERVE * length i.troves) ≡ true = both_second _ _ all.lusd in
+    let coll : (i.active_coll == sum_by (λ (t : Trove). t.coll) (values_of i.troves)) ≡ true = both_second _ _ (both_first _ _ added) in
+    let debt : (i.active_debt == sum_by (λ (t : Trove). t.debt) (values_of i.troves)) ≡ true = both_second _ _ added in
+    record {
+      coll = equal i.brought (coll_homes i) all.coll;
+      lusd = equal (i.active_debt + i.default_debt) (lusd_homes i) debt_total;
+      reserve = equal i.reserve (RESERVE * length i.troves) reserve;
+      active_coll = equal i.active_coll (sum_by (λ (t : Trove). t.coll) (values_of i.troves)) coll;
+      active_debt = equal i.active_debt (sum_by (λ (t : Trove). t.debt) (values_of i.troves)) debt;
+      surplus = equal i.surplus (sum (values_of i.surplus_rows)) all.surplus;
+    } where
+      equal : (a b : ℕ) → (a == b) ≡ true → a ≡ b
+      equal a b e = grind (arith, nat_tests, e)
 
 -- ---- rows that are all of a kind
 

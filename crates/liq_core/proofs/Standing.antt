@@ -5,17 +5,12 @@ use Rattle.liq_types.specs.declared.figures.Wallet.{Wallet}
 use Rattle.liq_types.specs.declared.figures.Client.{Client}
 use Rattle.liq_types.specs.State.{no_wallet, no_client, is_used_wallet, is_used_client, wallet_of, client_of}
 use Rattle.liq_types.specs.Tables.{at}
-use Rattle.liq_core.specs.Core.{Core, StandsFor, image_of, state_of}
+use Rattle.liq_core.specs.Core.{Core, state_of}
 use Rattle.liq_core.specs.Sound.{IsSound}
 use Rattle.liq_types.proofs.UsedRows.{at-rows, seen_or}
 use Rattle.liq_core.proofs.Moving.{unused_none}
-use Rattle.liq_core.proofs.Started.{started_image, started_formed}
 use Rattle.std.proofs.lemmas.Bool.Decides.{nat_tests}
 use Rattle.std.proofs.lemmas.Map.Entries.{option_filter}
-
-pub stands_itself : (core : Core) → StandsFor core (state_of core)
-stands_itself core =
-    record { image = sym (started_image (image_of core) refl); records = refl; formed = started_formed (image_of core) tt }
 
 unused_client : (k : Client) → is_used_client k ≡ false → k.last ≡ 0
 unused_client k h = grind (arith, nat_tests, h)

@@ -1,13 +1,16 @@
 -- What is conserved: every gwei and every micro-LUSD has one home.
-use Rattle.std.specs.Prelude.{◌≡◌, ℕ, Bool, true, false, ◌+◌, ◌*◌, sum, sum_by}
+use Rattle.std.specs.Prelude.{◌≡◌, ℕ, Bool, true, false, ◌+◌, ◌*◌, length, sum, sum_by}
 use Rattle.std.specs.Map.{values_of}
 use Rattle.liq_types.specs.declared.amounts.TheConstants.{RESERVE}
 use Rattle.liq_types.specs.declared.figures.Wallet.{Wallet}
 use Rattle.liq_types.specs.WellFormed.{Ascends}
 use Rattle.liq_types.specs.declared.requests.Call.{Call}
 use Rattle.liq_types.specs.declared.requests.Call.TheVariants.{Price, Advance, Fund, Take, Send, Provide, Withdraw, Claim, Rotate}
-use Rattle.liq_types.specs.State.{State, TroveEntry}
-use Rattle.liq_types.specs.Totals.{total_debt, trove_count, pool_total, pool_coll}
+use Rattle.liq_types.specs.declared.figures.Trove.{Trove}
+use Rattle.liq_types.specs.Image.{Image}
+use Rattle.liq_types.specs.Soundness.{coll_homes, lusd_homes}
+use Rattle.liq_types.specs.State.{State}
+use Rattle.liq_core.specs.Image.{image}
 
 abbrev pub wallets_coll : State → ℕ
 wallets_coll s = sum_by (λ (w : Wallet). w.coll) (values_of s.wallets)
@@ -19,21 +22,17 @@ wallets_lusd s = sum_by (λ (w : Wallet). w.lusd) (values_of s.wallets)
 abbrev pub WalletsAscend : State → Type 0
 WalletsAscend s = Ascends s.wallets
 
--- the six homes of collateral
-abbrev pub coll_homes : State → ℕ
-coll_homes s = wallets_coll s + s.active_coll + s.default_coll + s.surplus + s.fee_coll + pool_coll s
+-- of an image: the homes of collateral and of LUSD, the reserves of the troves, and what the pools record of them
+pub record IsAtHome (i : Image) : Type 0 where
+  pub coll : i.brought ≡ coll_homes i
+  pub lusd : i.active_debt + i.default_debt ≡ lusd_homes i
+  pub reserve : i.reserve ≡ RESERVE * length i.troves
+  pub active_coll : i.active_coll ≡ sum_by (λ (t : Trove). t.coll) (values_of i.troves)
+  pub active_debt : i.active_debt ≡ sum_by (λ (t : Trove). t.debt) (values_of i.troves)
+  pub surplus : i.surplus ≡ sum (values_of i.surplus_rows)
 
--- the four homes of LUSD
-abbrev pub lusd_homes : State → ℕ
-lusd_homes s = wallets_lusd s + pool_total s + s.reserve + s.fee_lusd
-
-pub record IsConserved (s : State) : Type 0 where
-  pub coll : s.brought ≡ coll_homes s
-  pub lusd : total_debt s ≡ lusd_homes s
-  pub reserve : s.reserve ≡ RESERVE * trove_count s
-  pub active_coll : s.active_coll ≡ sum_by (λ (t : TroveEntry). t.coll) (values_of s.troves)
-  pub active_debt : s.active_debt ≡ sum_by (λ (t : TroveEntry). t.debt) (values_of s.troves)
-  pub surplus : s.surplus ≡ sum (values_of s.surplus_rows)
+abbrev pub IsConserved : State → Type 0
+IsConserved s = IsAtHome (image s)
 
 -- the verbs that neither read nor write a trove but to refuse
 abbrev pub touches_no_trove : Call → Bool

@@ -1,7 +1,9 @@
 -- What others see of a state: its ordered list, and the words from which keys are made.
-use Rattle.std.specs.Prelude.{ℕ, List, [], ◌∷◌, ◌++◌, fold, take}
+use Rattle.std.specs.Prelude.{ℕ, Bool, ◌==◌, List, [], ◌∷◌, ◌++◌, fold, take}
+use Rattle.std.specs.List.{list_any}
 use Rattle.liq_types.specs.declared.events.ListChange.{ListChange}
 use Rattle.liq_types.specs.declared.events.ListChange.TheVariants.{Put, Gone, Words}
+use Rattle.liq_types.specs.declared.requests.Call.{Call}
 use Rattle.liq_types.specs.declared.requests.Command.{Command}
 use Rattle.liq_types.specs.Ranked.{Ranked, with_ranked, without_ranked}
 use Rattle.liq_types.specs.State.{State}
@@ -10,6 +12,7 @@ use Rattle.liq_order.specs.Order.{trove_order}
 use Rattle.liq_core.specs.History.{Entry, state_after}
 use Rattle.liq_core.specs.Rules.{call_changes}
 use Rattle.liq_core.specs.Step.{after}
+use Rattle.liq_core.specs.Verbs.{kind}
 
 pub record View : Type 0 where
   pub list : List Ranked
@@ -41,3 +44,10 @@ all_followed v changes = fold followed v changes
 abbrev pub changes : State → List Command → List ListChange
 changes s [] = []
 changes s (c ∷ cs) = call_changes s c.call ++ changes (after s c) cs
+
+-- the kinds of commands that change the ordered list
+abbrev pub list_kinds : List ℕ
+list_kinds = 6 ∷ 7 ∷ 8 ∷ 11 ∷ 12 ∷ 13 ∷ 14 ∷ []
+
+abbrev pub changes_list : Call → Bool
+changes_list call = list_any (λ k. k == kind call) list_kinds

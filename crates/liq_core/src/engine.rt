@@ -9,7 +9,7 @@ ghost use Rattle.liq_types.specs.declared.requests.Query.TheVariants as asked;
 ghost use Rattle.liq_types.specs.Soundness.{IsSoundImage};
 ghost use Rattle.liq_types.specs.State.{State, opening, no_wallet, wallet_of, client_of, with_wallet};
 ghost use Rattle.liq_types.specs.Tables.{at, put};
-ghost use Rattle.liq_core.specs.Core.{image_of};
+ghost use Rattle.liq_core.specs.Core.{StandsFor, image_of, state_of};
 ghost use Rattle.liq_core.specs.Sound.{IsKeptRow};
 ghost use Rattle.liq_core.specs.Step.{built, built_call, accounts, rules, in_range, first_refusal, done_of, effect, noted, step, answer};
 
@@ -97,6 +97,7 @@ impl Protocol {
         requires built { IsTrue (built (Do command.now)) }
         ensures { (s : State) → StandsFor self.now s → Plans s command.now result }
     {
+        let is_full = self.records >= RECORDS_MOST;
         if command.client >= ACCOUNTS {
             let value = command.client;
             return Err(PlanFault::No(Refusal::AccountRange { value }));
@@ -113,7 +114,7 @@ impl Protocol {
             Ok(done) => done,
             Err(refusal) => return Err(PlanFault::No(refusal)),
         };
-        if self.records >= RECORDS_MOST {
+        if is_full {
             let records = RECORDS_MOST;
             return Err(PlanFault::No(Refusal::JournalFull { records }));
         }
@@ -210,6 +211,8 @@ impl Protocol {
         ensures state { (s : State) → StandsFor self.old s → StandsFor self.new (step s (Do planned.command)).0 }
         ensures reply { (s : State) → StandsFor self.old s → (step s (Do planned.command)).1 ≡ Said result }
     {
+        // Where no field is used, nothing is known of the protocol.
+        let _ = &self.records;
         let Planned { command, done } = planned;
         self.change(&command.call);
         self.note(&command, done);
@@ -349,6 +352,14 @@ pub fn is_built(request: &Request) -> bool
 /// Every protocol is sound: its image meets all rules of an image, beside the records, and its tables are in form.
 pub fn protocols_are_sound(protocol: &Protocol)
     ensures { IsSoundImage (image_of protocol.now) protocol.now.records }
+{
+    let _ = &protocol.brought;
+}
+
+/// Every protocol stands for the state that begins with its image and has its records. So what its calls say of each state
+/// for which it stands is said of one at least.
+pub fn protocols_stand(protocol: &Protocol)
+    ensures { StandsFor protocol.now (state_of protocol.now) }
 {
     let _ = &protocol.brought;
 }

@@ -1,7 +1,7 @@
 //! What holds of the step and of whole runs. The functions here do nothing: each is the place where the facts of its
 //! contract are proved.
 
-ghost use Rattle.std.specs.Prelude.{◌≡◌, ◌≢◌, ℕ, ◌+◌, ◌-◌, ◌*◌, ◌≤◌, ◌<◌, ◌++◌, length, List, [], ◌∷◌, map, take, true, None};
+ghost use Rattle.std.specs.Prelude.{◌≡◌, ◌≢◌, ℕ, ◌+◌, ◌-◌, ◌*◌, ◌≤◌, ◌<◌, ◌++◌, length, List, [], ◌∷◌, map, take, true, false, None};
 ghost use Rattle.liq_types.specs.declared.amounts.TheConstants.{ACCOUNTS, LOWEST_MOST, GENERATIONS_MOST, CHECKPOINT_BYTES_MOST};
 ghost use Rattle.liq_types.specs.declared.replies.Done.{Done};
 ghost use Rattle.liq_types.specs.declared.replies.Refusal.{Refusal};
@@ -16,19 +16,19 @@ ghost use Rattle.liq_types.specs.declared.requests.Request.{Request};
 ghost use Rattle.liq_types.specs.declared.requests.Request.TheVariants.{Do, Ask};
 ghost use Rattle.liq_types.specs.Codes.{value_count};
 ghost use Rattle.liq_types.specs.Image.{Image, opening_image};
+ghost use Rattle.liq_types.specs.Soundness.{IsSoundImage};
 ghost use Rattle.liq_types.specs.State.{State, opening, started, wallet_of, client_of};
 ghost use Rattle.liq_types.specs.Payments.{paid, charged};
-ghost use Rattle.liq_core.specs.Core.{StandsFor, state_of};
 ghost use Rattle.liq_core.specs.Dust.{IsCovered, dust};
 ghost use Rattle.liq_core.specs.History.{Entry, IsLegal, GoesOn, requests_of, state_after};
-ghost use Rattle.liq_core.specs.Identities.{IsConserved, WalletsAscend, touches_no_trove, wallets_coll, wallets_lusd};
+ghost use Rattle.liq_core.specs.Identities.{IsAtHome, IsConserved, WalletsAscend, touches_no_trove, wallets_coll, wallets_lusd};
 ghost use Rattle.liq_core.specs.Events.{events};
 ghost use Rattle.liq_core.specs.Image.{image, IsSameState};
 ghost use Rattle.liq_core.specs.Length.{checkpoint_length};
 ghost use Rattle.liq_core.specs.Rules.{values, call_events, call_changes};
 ghost use Rattle.liq_core.specs.Step.{Refused, Repeated, ruling, after, step, run, accepted, rules, effect, first_refusal};
 ghost use Rattle.liq_core.specs.Verbs.{kind, unhinted};
-ghost use Rattle.liq_core.specs.View.{view_of, view_after, all_followed, changes};
+ghost use Rattle.liq_core.specs.View.{view_of, view_after, all_followed, changes, changes_list};
 ghost use Rattle.liq_types.specs.WellFormed.{AreFinished, IsWellFormed, TablesAscend, stakes_in};
 
 use crate::engine::Protocol;
@@ -132,6 +132,11 @@ pub fn tables_stay_in_order()
     ensures run { (requests : List Request) → TablesAscend (run opening requests).0 }
 {}
 
+/// What is conserved holds of every sound image.
+pub fn sound_images_conserve()
+    ensures { (i : Image) → (records : ℕ) → IsSoundImage i records → IsAtHome i }
+{}
+
 /// What is conserved is kept by every allowed call that touches no trove: its collateral and LUSD only change their home, or
 /// come in and go out.
 pub fn calls_without_troves_conserve()
@@ -141,12 +146,6 @@ pub fn calls_without_troves_conserve()
 /// What is conserved is kept when a trove opens.
 pub fn opening_a_trove_conserves()
     ensures { (s : State) → (account coll borrow bound : ℕ) → (hint : HintWords) → TablesAscend s → first_refusal (rules s (Open account coll borrow bound hint)) ≡ None → IsConserved s → IsConserved (effect s (Open account coll borrow bound hint)) }
-{}
-
-/// Every protocol stands for the state that begins with its image and has its records. So what its calls say of each state
-/// for which it stands is said of one at least.
-pub fn protocols_stand(protocol: &Protocol)
-    ensures { StandsFor protocol.now (state_of protocol.now) }
 {}
 
 /// A rotation is refused whose checkpoint would be too long, where there is a further generation.
@@ -174,4 +173,10 @@ pub fn views_follow_changes()
     ensures one { (s : State) → IsWellFormed s → TablesAscend s → (c : Command) → all_followed (view_of s) (call_changes s c.call) ≡ view_of (after s c) }
     ensures run { (s : State) → IsWellFormed s → TablesAscend s → (requests : List Request) → all_followed (view_of s) (changes s (accepted s requests)) ≡ view_of (run s requests).0 }
     ensures history { (s : State) → IsWellFormed s → TablesAscend s → (entries : List Entry) → (n : ℕ) → all_followed (view_of s) (changes s (accepted s (requests_of (take n entries)))) ≡ view_after s entries n }
+{}
+
+/// An accepted command changes the ordered list exactly where its kind is one of those that do.
+pub fn some_kinds_change_the_list()
+    ensures others { (s : State) → (call : Call) → changes_list call ≡ false → call_changes s call ≡ [] }
+    ensures these { (s : State) → (call : Call) → first_refusal (rules s call) ≡ None → changes_list call ≡ true → call_changes s call ≢ [] }
 {}

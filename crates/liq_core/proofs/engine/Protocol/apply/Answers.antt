@@ -1,24 +1,25 @@
 use Rattle.std.proofs.Common.{ap, sym, arith, subst}
-use Rattle.liq_core.specs.Core.{StandsFor, state_of}
+use Rattle.liq_types.specs.Soundness.{IsSoundImage}
+use Rattle.liq_core.specs.Core.{Core, StandsFor, image_of, state_of}
 use Rattle.liq_core.specs.Plan.{Plan}
 use Rattle.liq_core.specs.Step.{after, built_call, effect, noted, after_ruling}
 use Rattle.std.specs.Prelude.{IsTrue}
 use Rattle.liq_core.proofs.Allowed.{allowed_number, allowed_rules, allowed_few, built-rotates, effect-records}
 use Rattle.liq_core.specs.Sound.{IsKeptRow}
 use Rattle.liq_core.proofs.KeptReplies.{kept_reply}
-use Rattle.liq_core.proofs.Standing.{stands_itself}
+use Rattle.liq_core.proofs.SoundCores.{sound_stands}
 use Rattle.liq_core.proofs.engine.Protocol.apply.Goals as goal
 
 pub note-requires-clause-number : goal.note-requires-clause-number
 note-requires-clause-number g c =
-    let plan = c.requires.planned (state_of c.args.self.now) (stands_itself c.args.self.now) in
+    let plan = c.requires.planned (state_of c.args.self.now) (sound_stands c.args.self.now (subst (λ (view : Core). IsSoundImage (image_of view) view.records) c.self.view_is c.self.invariant.image)) in
     let number = allowed_number (state_of c.args.self.now) c.args.planned.command plan.allowed in
     let same = ap (λ (p : Plan). p.command.number) c.planned.view_is in
     omega (arith, number, same)
 
 pub note-requires-clause-few : goal.note-requires-clause-few
 note-requires-clause-few g c =
-    let itself = stands_itself c.args.self.now in
+    let itself = sound_stands c.args.self.now (subst (λ (view : Core). IsSoundImage (image_of view) view.records) c.self.view_is c.self.invariant.image) in
     let plan = c.requires.planned (state_of c.args.self.now) itself in
     let call = c.args.planned.command.call in
     let here = c.planned.inside.command.call in
@@ -42,7 +43,7 @@ returns-clause-state g c s h =
 pub note-requires-clause-kept : goal.note-requires-clause-kept
 note-requires-clause-kept g c =
     let core = state_of c.args.self.now in
-    let plan = c.requires.planned core (stands_itself c.args.self.now) in
+    let plan = c.requires.planned core (sound_stands c.args.self.now (subst (λ (view : Core). IsSoundImage (image_of view) view.records) c.self.view_is c.self.invariant.image)) in
     let command = c.args.planned.command in
     let number = allowed_number core command plan.allowed in
     let kept = kept_reply core command.call command.number (allowed_rules core command plan.allowed) (omega (arith, number)) in

@@ -1,8 +1,9 @@
-use Rattle.std.proofs.Common.{◌≡◌, ◌+◌, ◌<◌, ◌∙◌, arith}
+use Rattle.std.proofs.Common.{◌≡◌, ◌+◌, ◌<◌, ◌∙◌, subst, arith}
 use Rattle.liq_types.specs.declared.amounts.TheConstants.{ACCOUNTS}
 use Rattle.liq_types.specs.State.{client_of}
 use Rattle.std.proofs.lemmas.Bool.Decides.{nat_tests}
-use Rattle.liq_core.specs.Core.{state_of}
+use Rattle.liq_types.specs.Soundness.{IsSoundImage}
+use Rattle.liq_core.specs.Core.{Core, image_of, state_of}
 use Rattle.liq_core.proofs.Ruled.{refused_call, standing_ruling}
 use Rattle.liq_core.proofs.engine.Protocol.plan.Goals as goal
 
@@ -13,4 +14,5 @@ returns-in-Err c s h =
     let within : command.client < ACCOUNTS = grind (arith, nat_tests, c.if-command-ge-ACCOUNTS.false) in
     let next : command.number ≡ (client_of (state_of core) command.client).last + 1 =
     grind (arith, nat_tests, c.if-command-eq0.false, c.if-command-client-2.false, c.client-client.ensures.last) in
-    standing_ruling core s command h ∙ refused_call (state_of core) command c.in-Err.refusal within next c.in-Err.ensures
+    let sound = subst (λ (view : Core). IsSoundImage (image_of view) view.records) c.self.view_is c.self.invariant.image in
+    standing_ruling core s command sound h ∙ refused_call (state_of core) command c.in-Err.refusal within next c.in-Err.ensures
