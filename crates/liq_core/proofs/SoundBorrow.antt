@@ -38,7 +38,7 @@ use Rattle.liq_core.proofs.AlikeChanges.{balance_within, gain_within}
 use Rattle.liq_core.proofs.Moving.{paid_coll, paid_lusd, charged_coll, charged_lusd}
 use Rattle.liq_core.proofs.Opening.{opening_conserves}
 use Rattle.liq_core.proofs.SoundCalls.{pool_and_wallet}
-use Rattle.liq_core.proofs.SoundFacts.{Finds, Stands, InRange, Rest, Leaves, homes_of, in_order, trove_table, all_false, lt_false, paid_stands, charged_stands, lifted_stands, placed_stands, owned_keeps, fees_stand, reserve_stands, length_without, length_put}
+use Rattle.liq_core.proofs.SoundFacts.{conserved_by, Finds, Stands, InRange, Rest, Leaves, homes_of, in_order, trove_table, all_false, lt_false, paid_stands, charged_stands, lifted_stands, placed_stands, owned_keeps, fees_stand, reserve_stands, length_without, length_put}
 
 -- ---- the base rate
 
@@ -140,7 +140,7 @@ open_leaves s f account coll borrow bound hint k h =
     let lent = paid (charged feed account coll 0) account 0 borrow in
     let fed : Stands LIM feed = fees_stand s plan.rate.base plan.rate.minute s.fee_coll (s.fee_lusd + plan.fee) f.stands in
     let moved : Stands LIM lent = paid_stands (charged feed account coll 0) account k (charged_stands feed account k fed coll 0) 0 borrow in
-    let conserved = opening_conserves s account coll borrow bound (in_order s f.stands) h f.balanced.conserved in
+    let conserved = opening_conserves s account coll borrow bound (in_order s f.stands) h (conserved_by s f.stands f.balanced.homes) in
     record {
       stands = placed_stands (record lent { reserve = lent.reserve + RESERVE }) account coll plan.debt k (absent (at s.troves account) rules.0) some (omega (arith, net)) (reserve_stands lent (lent.reserve + RESERVE) moved);
       rest = record {
@@ -230,7 +230,7 @@ module _ (s : State) (f : Finds s) (account coll debt : ℕ) (change : Change) (
       let has = has_trove s account (coll, debt) f.stands there in
       let e = has.entry in
       let w = has.within in
-      let c = f.balanced.conserved in
+      let c = f.balanced.homes in
       let feed = with_fee s plan in
       let mid = charged feed account change.coll_in change.repay in
       let moved = paid mid account change.coll_out change.borrow in
@@ -285,7 +285,7 @@ module _ (s : State) (f : Finds s) (account coll debt : ℕ) (there : entire_of 
       let has = has_trove s account (coll, debt) f.stands there in
       let e = has.entry in
       let w = has.within in
-      let c = f.balanced.conserved in
+      let c = f.balanced.homes in
       let r = f.ranges in
       let limit = f.balanced.debt_limit in
       let mid = charged s account 0 repaid in
@@ -339,7 +339,7 @@ module _ (s : State) (f : Finds s) (account coll debt : ℕ) (there : entire_of 
       let has = has_trove s account (coll, debt) f.stands there in
       let e = has.entry in
       let w = has.within in
-      let c = f.balanced.conserved in
+      let c = f.balanced.homes in
       let r = f.ranges in
       let limit = f.balanced.debt_limit in
       let pooled = owned s account 0 0 in

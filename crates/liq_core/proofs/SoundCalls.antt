@@ -19,7 +19,7 @@ use Rattle.liq_core.proofs.AlikeChanges.{balance_within}
 use Rattle.liq_core.proofs.Allowed.{fund_within}
 use Rattle.liq_core.proofs.Conserving.{call_conserves}
 use Rattle.liq_core.proofs.Moving.{charged_lusd}
-use Rattle.liq_core.proofs.SoundFacts.{Finds, InRange, Rest, Leaves, homes_of, in_order, all_false, lt_false, paid_stands, charged_stands, taken_stands, owned_keeps, words_stand}
+use Rattle.liq_core.proofs.SoundFacts.{conserved_by, Finds, InRange, Rest, Leaves, homes_of, in_order, all_false, lt_false, paid_stands, charged_stands, taken_stands, owned_keeps, words_stand}
 
 module _ (s : State) (f : Finds s) where
   -- what a verb that keeps the words of the pool and the ranges leaves, where no limit is passed
@@ -64,7 +64,7 @@ module _ (s : State) (f : Finds s) where
       let r = f.ranges in
       record {
         stands = words_stand s price s.minute s.brought f.stands;
-        rest = plain_rest (Price price) (effect s (Price price)) refl (call_conserves s (Price price) refl f.stands.formed (in_order s f.stands) h f.balanced.conserved) f.balanced.coll_limit (omega arith) (omega arith)
+        rest = plain_rest (Price price) (effect s (Price price)) refl (call_conserves s (Price price) refl f.stands.formed (in_order s f.stands) h (conserved_by s f.stands f.balanced.homes)) f.balanced.coll_limit (omega arith) (omega arith)
             (record { price_least = within.0; price_most = within.1; minute = r.minute; fee_minute = r.fee_minute; base = r.base; first_generation = r.first_generation; last_generation = r.last_generation }) refl refl refl refl;
       }
 
@@ -75,7 +75,7 @@ module _ (s : State) (f : Finds s) where
       let r = f.ranges in
       record {
         stands = words_stand s s.price (s.minute + minutes) s.brought f.stands;
-        rest = plain_rest (Advance minutes) (effect s (Advance minutes)) refl (call_conserves s (Advance minutes) refl f.stands.formed (in_order s f.stands) h f.balanced.conserved) f.balanced.coll_limit (omega arith) (omega arith)
+        rest = plain_rest (Advance minutes) (effect s (Advance minutes)) refl (call_conserves s (Advance minutes) refl f.stands.formed (in_order s f.stands) h (conserved_by s f.stands f.balanced.homes)) f.balanced.coll_limit (omega arith) (omega arith)
             (record { price_least = r.price_least; price_most = r.price_most; minute = within; fee_minute = omega (arith, r.fee_minute); base = r.base; first_generation = r.first_generation; last_generation = r.last_generation }) refl refl refl refl;
       }
 
@@ -83,7 +83,7 @@ module _ (s : State) (f : Finds s) where
   fund_leaves account coll k h =
       record {
         stands = words_stand (paid s account coll 0) s.price s.minute (s.brought + coll) (paid_stands s account k f.stands coll 0);
-        rest = plain_rest (Fund account coll) (effect s (Fund account coll)) refl (call_conserves s (Fund account coll) refl f.stands.formed (in_order s f.stands) h f.balanced.conserved) (fund_within s account coll h) (omega arith) (omega arith)
+        rest = plain_rest (Fund account coll) (effect s (Fund account coll)) refl (call_conserves s (Fund account coll) refl f.stands.formed (in_order s f.stands) h (conserved_by s f.stands f.balanced.homes)) (fund_within s account coll h) (omega arith) (omega arith)
             (same_range (effect s (Fund account coll)) refl refl refl refl refl) refl refl refl refl;
       }
 
@@ -92,7 +92,7 @@ module _ (s : State) (f : Finds s) where
       let limit = f.balanced.coll_limit in
       record {
         stands = words_stand (charged s account coll 0) s.price s.minute (s.brought - coll) (charged_stands s account k f.stands coll 0);
-        rest = plain_rest (Take account coll) (effect s (Take account coll)) refl (call_conserves s (Take account coll) refl f.stands.formed (in_order s f.stands) h f.balanced.conserved) (omega (arith, limit)) (omega arith) (omega arith)
+        rest = plain_rest (Take account coll) (effect s (Take account coll)) refl (call_conserves s (Take account coll) refl f.stands.formed (in_order s f.stands) h (conserved_by s f.stands f.balanced.homes)) (omega (arith, limit)) (omega arith) (omega arith)
             (same_range (effect s (Take account coll)) refl refl refl refl refl) refl refl refl refl;
       }
 
@@ -100,7 +100,7 @@ module _ (s : State) (f : Finds s) where
   send_leaves from to lusd k m h =
       record {
         stands = paid_stands (charged s from 0 lusd) to m (charged_stands s from k f.stands 0 lusd) 0 lusd;
-        rest = plain_rest (Send from to lusd) (effect s (Send from to lusd)) refl (call_conserves s (Send from to lusd) refl f.stands.formed (in_order s f.stands) h f.balanced.conserved) f.balanced.coll_limit (omega arith) (omega arith)
+        rest = plain_rest (Send from to lusd) (effect s (Send from to lusd)) refl (call_conserves s (Send from to lusd) refl f.stands.formed (in_order s f.stands) h (conserved_by s f.stands f.balanced.homes)) f.balanced.coll_limit (omega arith) (omega arith)
             (same_range (effect s (Send from to lusd)) refl refl refl refl refl) refl refl refl refl;
       }
 
@@ -108,7 +108,7 @@ module _ (s : State) (f : Finds s) where
   claim_leaves account k h =
       record {
         stands = paid_stands (surplus_taken s account) account k (taken_stands s account k f.stands) (surplus_of s account) 0;
-        rest = plain_rest (Claim account) (effect s (Claim account)) refl (call_conserves s (Claim account) refl f.stands.formed (in_order s f.stands) h f.balanced.conserved) f.balanced.coll_limit (omega arith) (omega arith)
+        rest = plain_rest (Claim account) (effect s (Claim account)) refl (call_conserves s (Claim account) refl f.stands.formed (in_order s f.stands) h (conserved_by s f.stands f.balanced.homes)) f.balanced.coll_limit (omega arith) (omega arith)
             (same_range (effect s (Claim account)) refl refl refl refl refl) refl refl refl refl;
       }
 
@@ -116,7 +116,7 @@ module _ (s : State) (f : Finds s) where
   pub pool_and_wallet : (account lusd : ℕ) → lusd ≤ (wallet_of s account).lusd → pool_total s + lusd ≤ LIM
   pool_and_wallet account lusd enough =
       let part = charged_lusd s account 0 lusd f.stands.wallets.ascend enough in
-      let homes = f.balanced.conserved.lusd in
+      let homes = f.balanced.homes.lusd in
       let limit = f.balanced.debt_limit in
       omega (arith, part, homes, limit)
 
@@ -128,7 +128,7 @@ module _ (s : State) (f : Finds s) where
       let own = owned_keeps s account lusd 0 k (omega arith) (omega (arith, fits, balance)) f.stands in
       record {
         stands = paid_stands (charged (owned s account lusd 0) account 0 lusd) account k (charged_stands (owned s account lusd 0) account k own 0 lusd) (gain_of s account) 0;
-        rest = plain_rest (Provide account lusd) (effect s (Provide account lusd)) refl (call_conserves s (Provide account lusd) refl f.stands.formed (in_order s f.stands) h f.balanced.conserved) f.balanced.coll_limit (omega arith) (omega arith)
+        rest = plain_rest (Provide account lusd) (effect s (Provide account lusd)) refl (call_conserves s (Provide account lusd) refl f.stands.formed (in_order s f.stands) h (conserved_by s f.stands f.balanced.homes)) f.balanced.coll_limit (omega arith) (omega arith)
             (same_range (effect s (Provide account lusd)) refl refl refl refl refl) refl refl refl refl;
       }
 
@@ -140,6 +140,6 @@ module _ (s : State) (f : Finds s) where
       let own = owned_keeps s account 0 out k (omega arith) (omega (arith, fits, balance)) f.stands in
       record {
         stands = paid_stands (owned s account 0 out) account k own (gain_of s account) out;
-        rest = plain_rest (Withdraw account lusd) (effect s (Withdraw account lusd)) refl (call_conserves s (Withdraw account lusd) refl f.stands.formed (in_order s f.stands) h f.balanced.conserved) f.balanced.coll_limit (omega arith) (omega arith)
+        rest = plain_rest (Withdraw account lusd) (effect s (Withdraw account lusd)) refl (call_conserves s (Withdraw account lusd) refl f.stands.formed (in_order s f.stands) h (conserved_by s f.stands f.balanced.homes)) f.balanced.coll_limit (omega arith) (omega arith)
             (same_range (effect s (Withdraw account lusd)) refl refl refl refl refl) refl refl refl refl;
       }

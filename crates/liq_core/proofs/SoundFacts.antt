@@ -16,16 +16,15 @@ use Rattle.std.proofs.lemmas.Map.Made.{keys_of-map_values}
 use Rattle.liq_types.specs.declared.amounts.TheConstants.{ACCOUNTS, OFFSET_MOST, RISES_MOST, SUM_MOST, RESERVE, MIN_NET, ONE, PRICE_LEAST, PRICE_MOST, MINUTE_MOST, GENERATIONS_MOST, LIM}
 use Rattle.liq_types.specs.declared.figures.Wallet.{Wallet}
 use Rattle.liq_types.specs.declared.figures.Client.{Client}
-use Rattle.liq_types.specs.declared.figures.Trove.{Trove}
 use Rattle.liq_types.specs.Payments.{paid, charged, surplus_added, surplus_taken}
 use Rattle.liq_types.specs.Rules.{Rule, first_refusal}
-use Rattle.liq_types.specs.Soundness.{IsClientRow, is_sound_client}
+use Rattle.liq_types.specs.Soundness.{IsClientRow, is_sound_client, coll_homes, lusd_homes}
 use Rattle.liq_types.specs.State.{State, TroveEntry, DepositEntry, Redistribution, is_used_wallet, wallet_of, surplus_in, with_wallet, with_surplus}
 use Rattle.liq_types.specs.Tables.{Table, at, put, without}
 use Rattle.liq_types.specs.Totals.{pool_total, stakes_of, trove_count}
 use Rattle.liq_types.specs.WellFormed.{Ascends, IsWellFormed, TablesAscend}
 use Rattle.liq_types.proofs.Ascending.{wallet-ascends, surplus-ascends}
-use Rattle.liq_types.proofs.MapRows.{all-put, all-without, map-sum, at-map}
+use Rattle.liq_types.proofs.MapRows.{all-put, all-without, map-length, at-map}
 use Rattle.liq_troves.specs.Own.{lifted_entry, lifted, placed, redistributed, snapped}
 use Rattle.liq_troves.specs.Rows.{sum_after}
 use Rattle.liq_troves.specs.Standing.{TrovesStand, HadStakes, books_of}
@@ -35,7 +34,7 @@ use Rattle.liq_troves.proofs.Standing.{lift_stands, place_stands, spread_stands,
 use Rattle.liq_stability.specs.Own.{owned, offset, amount_after}
 use Rattle.liq_stability.specs.Position.{balance_of, deposit_row, words_of}
 use Rattle.liq_core.specs.Image.{image}
-use Rattle.liq_core.specs.Identities.{IsConserved, coll_homes, lusd_homes}
+use Rattle.liq_core.specs.Identities.{IsConserved}
 use Rattle.liq_core.proofs.AlikeChanges.{formed-lifted, formed-placed, formed-redistributed, formed-owned, formed-offset}
 use Rattle.liq_core.proofs.Rows.{equal_keys}
 use Rattle.liq_core.proofs.SoundPool.{PoolStands, part_of, owned_stands, offset_stands}
@@ -122,9 +121,16 @@ pub record Stands (most : ℕ) (s : State) : Type 0 where
   pub deposit_keys : KeysBelow s.deposits
   pub clients : ClientRows s.clients
 
--- what is conserved, within the limit
+-- what is conserved, but for what the active pool is of the troves
+pub record Homes (s : State) : Type 0 where
+  pub coll : s.brought ≡ coll_homes (image s)
+  pub lusd : s.active_debt + s.default_debt ≡ lusd_homes (image s)
+  pub reserve : s.reserve ≡ RESERVE * trove_count s
+  pub surplus : s.surplus ≡ sum (values_of s.surplus_rows)
+
+-- the same, within the limit
 pub record Balanced (most : ℕ) (s : State) : Type 0 where
-  pub conserved : IsConserved s
+  pub homes : Homes s
   pub coll_limit : s.brought ≤ most
   pub debt_limit : s.active_debt + s.default_debt ≤ most
 
@@ -331,23 +337,10 @@ offset_keeps {most} served s debt coll some within limit less h =
 
 -- ---- what is conserved
 
--- the parts of it that are not the troves' own
-pub record Homes (s : State) : Type 0 where
-  pub coll : s.brought ≡ coll_homes s
-  pub lusd : s.active_debt + s.default_debt ≡ lusd_homes s
-  pub reserve : s.reserve ≡ RESERVE * trove_count s
-  pub surplus : s.surplus ≡ sum (values_of s.surplus_rows)
-
 pub conserved_by : {most : ℕ} (s : State) → Stands most s → Homes s → IsConserved s
 conserved_by s h k =
-    record {
-      coll = k.coll;
-      lusd = k.lusd;
-      reserve = k.reserve;
-      active_coll = h.troves.active_coll ∙ map-sum (trove_row s) (λ (t : Trove). t.coll) s.troves;
-      active_debt = h.troves.active_debt ∙ map-sum (trove_row s) (λ (t : Trove). t.debt) s.troves;
-      surplus = k.surplus;
-    }
+    let count = map-length (trove_row s) s.troves in
+    record { coll = k.coll; lusd = k.lusd; reserve = omega (arith, k.reserve, count); active_coll = h.troves.active_coll; active_debt = h.troves.active_debt; surplus = k.surplus }
 
 -- ---- words that neither troves nor the pool read
 
@@ -400,7 +393,9 @@ pub record Leaves (few : ℕ) (s t : State) : Type 0 where
 
 -- the homes, of what is conserved
 pub homes_of : (s : State) → IsConserved s → Homes s
-homes_of s h = record { coll = h.coll; lusd = h.lusd; reserve = h.reserve; surplus = h.surplus }
+homes_of s h =
+    let count = map-length (trove_row s) s.troves in
+    record { coll = h.coll; lusd = h.lusd; reserve = omega (arith, h.reserve, count); surplus = h.surplus }
 
 -- ---- rules that refuse nothing
 
@@ -449,7 +444,7 @@ pub finds_after : {few : ℕ} (s t : State) → Leaves few s t → Finds t
 finds_after s t h =
     record {
       stands = h.stands;
-      balanced = record { conserved = conserved_by t h.stands h.rest.homes; coll_limit = h.rest.coll_limit; debt_limit = h.rest.debt_limit };
+      balanced = record { homes = h.rest.homes; coll_limit = h.rest.coll_limit; debt_limit = h.rest.debt_limit };
       ranges = h.rest.ranges;
     }
 
@@ -458,7 +453,7 @@ leaves_itself s f =
     record {
       stands = f.stands;
       rest = record {
-        homes = homes_of s f.balanced.conserved;
+        homes = f.balanced.homes;
         coll_limit = f.balanced.coll_limit;
         debt_limit = f.balanced.debt_limit;
         ranges = f.ranges;

@@ -167,7 +167,7 @@ module _ (s : State) (f : Finds s) (liquidator : ℕ) (k : liquidator < ACCOUNTS
 
   pool_within : pool_total s ≤ LIM
   pool_within =
-      let homes = f.balanced.conserved.lusd in
+      let homes = f.balanced.homes.lusd in
       let limit = f.balanced.debt_limit in
       omega (arith, homes, limit)
 
@@ -229,7 +229,7 @@ module _ (s : State) (f : Finds s) (liquidator : ℕ) (k : liquidator < ACCOUNTS
 
   after_rest : (b : Bool) → (made.offset_debt == 0) ≡ b → Rest 3 s (after b)
   after_rest true e =
-      let c = f.balanced.conserved in
+      let c = f.balanced.homes in
       let w = x.has.within in
       let p = x.parts in
       let none = no_offset e in
@@ -258,7 +258,7 @@ module _ (s : State) (f : Finds s) (liquidator : ℕ) (k : liquidator < ACCOUNTS
         clients = refl;
       }
   after_rest false e =
-      let c = f.balanced.conserved in
+      let c = f.balanced.homes in
       let w = x.has.within in
       let p = x.parts in
       let limit = f.balanced.debt_limit in

@@ -35,7 +35,8 @@ use Rattle.liq_order.proofs.Sorting.{sorted_same}
 use Rattle.liq_stability.specs.Position.{words_of}
 use Rattle.liq_redemption.specs.declared.cut.Cut.{Cut}
 use Rattle.liq_redemption.specs.Redemption.{Visit, visit, is_visited, visited, net_debt, cut_of, draw_of, stops_before, troves_after, cuts, redeemed, drawn, RedeemTerms, redeeming_terms, redeem_rules, closed_by, cut_entire, cut_down, redeemed_by}
-use Rattle.liq_core.specs.Identities.{coll_homes, lusd_homes}
+use Rattle.liq_types.specs.Soundness.{coll_homes, lusd_homes}
+use Rattle.liq_core.specs.Image.{image}
 use Rattle.liq_core.proofs.Moving.{paid_coll, paid_lusd, charged_coll, charged_lusd}
 use Rattle.liq_core.proofs.SoundBorrow.{HasTrove, has_trove, set_stands, RateInRange, ranges_with}
 use Rattle.liq_core.proofs.SoundFacts.{Finds, Stands, Leaves, trove_table, all_false, lt_false, paid_stands, charged_stands, added_stands, lifted_stands, reserve_stands, fees_stand, length_without, length_put, key_below, surplus_sum}
@@ -111,8 +112,8 @@ visited_are s h = visits_are s s.price (from_last (trove_order s)) (order_distin
 -- the state after the cuts so far, in which so much collateral and LUSD has left its home
 pub record Cutting (s t : State) (coll lusd : ℕ) : Type 0 where
   pub stands : Stands LIM t
-  pub coll_is : t.brought ≡ coll_homes t + coll
-  pub lusd_is : t.active_debt + t.default_debt + lusd ≡ lusd_homes t
+  pub coll_is : t.brought ≡ coll_homes (image t) + coll
+  pub lusd_is : t.active_debt + t.default_debt + lusd ≡ lusd_homes (image t)
   pub reserve : t.reserve ≡ RESERVE * trove_count t
   pub surplus : t.surplus ≡ sum (values_of t.surplus_rows)
   pub less : t.active_debt + t.default_debt ≤ s.active_debt + s.default_debt
@@ -340,7 +341,7 @@ module _ (s : State) (f : Finds s) (account amount bound : ℕ) (h : first_refus
 
   begun : Cutting s s 0 0
   begun =
-      let c = f.balanced.conserved in
+      let c = f.balanced.homes in
       record {
         stands = f.stands;
         coll_is = omega (arith, c.coll);

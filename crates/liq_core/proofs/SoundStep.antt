@@ -3,7 +3,7 @@ use Rattle.std.proofs.Common.{◌≡◌, ℕ, ◌+◌, ◌*◌, ◌≤◌, ◌<�
 use Rattle.std.specs.Prelude.{map, replicate, Result, Ok, Err}
 use Rattle.std.specs.List.{AllByRecursion}
 use Rattle.std.proofs.lemmas.Bool.Decides.{nat_tests}
-use Rattle.liq_types.specs.declared.amounts.TheConstants.{ACCOUNTS, LOWEST_MOST, RECORDS_MOST, GENERATIONS_MOST, PLACES_A_RECORD}
+use Rattle.liq_types.specs.declared.amounts.TheConstants.{ACCOUNTS, LOWEST_MOST, RECORDS_MOST, GENERATIONS_MOST, PLACES_A_RECORD, CHECKPOINT_BYTES_MOST}
 use Rattle.liq_types.specs.declared.figures.Client.{Client}
 use Rattle.liq_types.specs.declared.replies.Done.{Done}
 use Rattle.liq_types.specs.declared.replies.Refusal.{Refusal}
@@ -23,7 +23,7 @@ use Rattle.liq_stability.specs.Position.{words_of}
 use Rattle.liq_liquidation.specs.declared.one.One.{One}
 use Rattle.liq_liquidation.specs.One.{one}
 use Rattle.liq_core.specs.Image.{image}
-use Rattle.liq_core.specs.Length.{CHECKPOINT_BYTES_MOST, checkpoint_length}
+use Rattle.liq_core.specs.Length.{checkpoint_length}
 use Rattle.liq_core.specs.Liquidation.{one_values}
 use Rattle.liq_core.specs.Rules.{rules, effect, values, done_of, six}
 use Rattle.liq_core.specs.SoundState.{IsSoundState}
@@ -167,7 +167,7 @@ allowed_has s c h =
 noted_facts : (s t : State) (c : Command) (records : ℕ) → Finds t → c.client < ACCOUNTS → 1 ≤ c.number → records ≤ RECORDS_MOST → (words_of t).scale ≤ places_most t.generation records → (words_of t).epoch ≤ places_most t.generation records → SoundFacts (record t { records = records; clients = put t.clients c.client (record { last = c.number; kept = done_of s c.call }) })
 noted_facts s t c records f client number few scale epoch =
     let h = f.stands in
-    let k = f.balanced.conserved in
+    let k = f.balanced.homes in
     let r = f.ranges in
     let row : Client = record { last = c.number; kept = done_of s c.call } in
     record {
@@ -187,7 +187,7 @@ noted_facts s t c records f client number few scale epoch =
         };
       };
       balanced = record {
-        conserved = record { coll = k.coll; lusd = k.lusd; reserve = k.reserve; active_coll = k.active_coll; active_debt = k.active_debt; surplus = k.surplus };
+        homes = record { coll = k.coll; lusd = k.lusd; reserve = k.reserve; surplus = k.surplus };
         coll_limit = f.balanced.coll_limit;
         debt_limit = f.balanced.debt_limit;
       };
@@ -207,13 +207,13 @@ is_rotate _ h = cc
 
 rotated : (s : State) → SoundFacts s → s.generation + 1 ≤ GENERATIONS_MOST → Finds (record s { generation = s.generation + 1 })
 rotated s h room =
-    let k = h.balanced.conserved in
+    let k = h.balanced.homes in
     let r = h.ranges in
     let g = h.stands in
     record {
       stands = record { formed = g.formed; troves = g.troves; pool = g.pool; spread = g.spread; wallets = g.wallets; surplus = g.surplus; trove_keys = g.trove_keys; deposit_keys = g.deposit_keys; clients = g.clients };
       balanced = record {
-        conserved = record { coll = k.coll; lusd = k.lusd; reserve = k.reserve; active_coll = k.active_coll; active_debt = k.active_debt; surplus = k.surplus };
+        homes = record { coll = k.coll; lusd = k.lusd; reserve = k.reserve; surplus = k.surplus };
         coll_limit = h.balanced.coll_limit;
         debt_limit = h.balanced.debt_limit;
       };

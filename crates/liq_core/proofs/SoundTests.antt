@@ -22,7 +22,7 @@ use Rattle.liq_troves.specs.StakeSums.{trove_row}
 use Rattle.liq_stability.specs.Position.{words_of, deposit_row}
 use Rattle.liq_core.specs.Image.{image}
 use Rattle.liq_core.specs.SoundState.{IsSoundState}
-use Rattle.liq_core.proofs.SoundFacts.{KeysBelow, ClientStands, Stands, Balanced, InRange, Homes, conserved_by, in_order}
+use Rattle.liq_core.proofs.SoundFacts.{KeysBelow, ClientStands, Stands, Balanced, InRange, Homes, in_order}
 use Rattle.liq_core.proofs.SoundPool.{PoolStands, DepositStands, FinishedStands, part_of, sum_in}
 
 -- ---- what a sound state has, as facts
@@ -342,7 +342,7 @@ module _ (s : State) (f : IsSoundState s) where
       let words = words_parts p.words in
       record {
         stands = stands_facts;
-        balanced = record { conserved = conserved_by s stands_facts homes_facts.0; coll_limit = ranges.2; debt_limit = homes_facts.1 };
+        balanced = record { homes = homes_facts.0; coll_limit = ranges.2; debt_limit = homes_facts.1 };
         ranges = ranges.0;
         records = ranges.1;
         scale = words.1;
@@ -359,7 +359,7 @@ module _ (s : State) (f : SoundFacts s) where
   passes =
       let i = image s in
       let h = f.stands in
-      let c = f.balanced.conserved in
+      let c = f.balanced.homes in
       let r = f.ranges in
       let count = map-length (trove_row s) s.troves in
       let places = places_most s.generation s.records in
