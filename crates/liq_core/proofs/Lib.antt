@@ -24,9 +24,11 @@ pub mod Runs
 pub mod SoundBorrow
 pub mod SoundCalls
 pub mod SoundCores
+pub mod SoundEvents
 pub mod SoundFacts
 pub mod SoundLiquidate
 pub mod SoundPool
+pub mod SoundPromises
 pub mod SoundRedeem
 pub mod SoundRules
 pub mod SoundStart
