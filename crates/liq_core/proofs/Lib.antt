@@ -22,6 +22,7 @@ pub mod Rows
 pub mod Ruled
 pub mod Runs
 pub mod SoundBorrow
+pub mod SoundBounds
 pub mod SoundCalls
 pub mod SoundCores
 pub mod SoundEvents
