@@ -1,5 +1,6 @@
 use Rattle.std.specs.Prelude.{ℕ, ◌+◌, List, min}
 use Rattle.std.specs.List.{Contains}
+use Rattle.liq_outside.specs.Faults.{count_most}
 
 -- the calls of an object in memory, which are numbered from 0
 pub record Calls : Type 0 where
@@ -18,9 +19,9 @@ not_begun failing = record { failing = failing; next = 0; faults = 0 }
 abbrev pub FailsNext : Calls → Type 0
 FailsNext calls = Contains calls.failing calls.next
 
--- One more. A u64 stays at its last value.
+-- One more. A count stays at its last value.
 abbrev pub one_more : ℕ → ℕ
-one_more n = min (n + 1) 18446744073709551615
+one_more n = min (n + 1) count_most
 
 -- one call later
 abbrev pub begun : Calls → Calls

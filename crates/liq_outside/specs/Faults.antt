@@ -1,5 +1,16 @@
-use Rattle.std.specs.Prelude.{ℕ, ◌<◌, ◌≤◌, ◌⊎◌}
+-- Counts of faults.
+use Rattle.std.specs.Prelude.{ℕ, ◌≡◌, ◌<◌, ◌≤◌, ◌⊎◌, Result, OnOk, OnErr}
 
--- The count rose, or stands at the last value that a u64 has.
+-- the last value of a count, which has 64 bits
+abbrev pub count_most : ℕ
+count_most = 18446744073709551615
+
+-- The count rose, or stands at its last value.
 abbrev pub Rose : ℕ → ℕ → Type 0
-Rose before after = (before < after) ⊎ (18446744073709551615 ≤ after)
+Rose before after = (before < after) ⊎ (count_most ≤ after)
+
+-- The count over one call: it stays where the call succeeded, and rose where it failed.
+pub record HasCause {T E : Type 0} (before after : ℕ) (result : Result T E) : Type 0 where
+  pub later : before ≤ after
+  pub ok : OnOk result (after ≡ before)
+  pub failed : OnErr result (Rose before after)

@@ -2,6 +2,7 @@
 ghost use Rattle.std.specs.Prelude.{◌≡◌, ◌≤◌, ◌<◌, None, length, IfOk};
 ghost use Rattle.std.specs.Io.KnownBytes.{ReadConsumes, WriteAppends};
 ghost use Rattle.liq_outside.specs.Adapters.{CountsFailure};
+ghost use Rattle.liq_outside.specs.Faults.{HasCause};
 
 use super::failed::Failed;
 use super::sink::Sink;
@@ -50,7 +51,7 @@ impl<R: Read> Source for StdSource<R> {
         ensures fits { IfOk result (λ n. n ≤ length buf.old) }
         ensures bytes { ReadConsumes (R.remaining self.old.inner) (R.remaining self.new.inner) result buf.new }
         ensures counted { CountsFailure result self.old.faults self.new.faults }
-        ensures count { self.old.faults ≤ self.new.faults }
+        ensures cause { HasCause self.old.faults self.new.faults result }
     {
         match self.reader.read(buf) {
             Ok(count) => Ok(count),
@@ -105,7 +106,7 @@ impl<W: Write> Sink for StdSink<W> {
         ensures some { 0 < length bytes.now → IfOk result (λ n. 0 < n) }
         ensures bytes { WriteAppends (W.contents self.old.inner) (W.contents self.new.inner) result bytes.now }
         ensures counted { CountsFailure result self.old.faults self.new.faults }
-        ensures count { self.old.faults ≤ self.new.faults }
+        ensures cause { HasCause self.old.faults self.new.faults result }
     {
         match self.writer.write(bytes) {
             Ok(count) if count > 0 || bytes.is_empty() => Ok(count),

@@ -1,7 +1,7 @@
 // A source and a sink in memory, whose calls fail where they are told to.
 ghost use Rattle.std.specs.Prelude.{◌≡◌, ◌≤◌, ◌<◌, ◌↔◌, ◌⊎◌, ◌++◌, [], Some, length, take, drop, option_map, IfOk, OnOk, OnErr, IsErr};
 ghost use Rattle.liq_outside.specs.Calls.{FailsNext, not_begun};
-ghost use Rattle.liq_outside.specs.Faults.{Rose};
+ghost use Rattle.liq_outside.specs.Faults.{HasCause};
 ghost use Rattle.liq_outside.specs.Memory.{after_failed_read, after_failed_write, after_read, after_write, count_taken};
 
 use super::failed::Failed;
@@ -79,7 +79,7 @@ impl Source for MemorySource {
         ensures not_read { OnErr result (self.new ≡ after_failed_read self.old) }
 
         ensures end { result ≡ Ok 0 → 0 < length buf.old → self.old.left ≡ [] }
-        ensures count { self.old.calls.faults ≤ self.new.calls.faults }
+        ensures cause { HasCause self.old.calls.faults self.new.calls.faults result }
     {
         if self.schedule.begin() {
             self.schedule.fault();
@@ -150,7 +150,7 @@ impl Sink for MemorySink {
         ensures whole { IfOk result (λ n. n ≡ length bytes.now) }
         ensures written { OnOk result (self.new ≡ after_write self.old bytes.now) }
         ensures not_written { OnErr result (self.new ≡ after_failed_write self.old) }
-        ensures count { self.old.calls.faults ≤ self.new.calls.faults }
+        ensures cause { HasCause self.old.calls.faults self.new.calls.faults result }
     {
         if self.schedule.begin() || self.bytes.extend_from_slice(bytes).is_err() {
             self.schedule.fault();

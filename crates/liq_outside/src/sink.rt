@@ -1,6 +1,6 @@
 // What takes bytes.
 ghost use Rattle.std.specs.Prelude.{◌≡◌, Option, ◌≤◌, ◌<◌, ◌++◌, List, ℕ, length, take, option_map, IfOk, OnErr};
-ghost use Rattle.liq_outside.specs.Faults.{Rose};
+ghost use Rattle.liq_outside.specs.Faults.{HasCause};
 
 use super::failed::Failed;
 
@@ -20,7 +20,6 @@ pub trait Sink {
         ensures appended { IfOk result (λ n. held self.new ≡ option_map (λ old. old ++ take n bytes.now) (held self.old)) }
         ensures failed { OnErr result (held self.new ≡ held self.old) }
 
-        // A fault is counted, and nothing else is answered as one.
-        ensures count { faults self.old ≤ faults self.new }
-        ensures cause { OnErr result (Rose (faults self.old) (faults self.new)) };
+        // A fault is counted, and nothing else is: neither is anything else answered as one.
+        ensures cause { HasCause (faults self.old) (faults self.new) result };
 }

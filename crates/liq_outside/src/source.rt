@@ -1,6 +1,6 @@
 // What gives bytes.
 ghost use Rattle.std.specs.Prelude.{◌≡◌, Option, ◌≤◌, ◌<◌, [], List, ℕ, length, take, drop, option_map, IfOk, OnErr, IfSome};
-ghost use Rattle.liq_outside.specs.Faults.{Rose};
+ghost use Rattle.liq_outside.specs.Faults.{HasCause};
 
 use super::failed::Failed;
 
@@ -21,7 +21,6 @@ pub trait Source {
         ensures end { result ≡ Ok 0 → 0 < length buf.old → IfSome (left self.old) (λ bytes. bytes ≡ []) }
         ensures failed { OnErr result (left self.new ≡ left self.old) }
 
-        // A fault is counted, and nothing else is answered as one.
-        ensures count { faults self.old ≤ faults self.new }
-        ensures cause { OnErr result (Rose (faults self.old) (faults self.new)) };
+        // A fault is counted, and nothing else is: neither is anything else answered as one.
+        ensures cause { HasCause (faults self.old) (faults self.new) result };
 }

@@ -1,7 +1,12 @@
 //! Streams that fail: at each place in turn, what has gone out and what the status says.
 
+ghost use Rattle.std.specs.Prelude.{◌≤◌};
+
 use crate::runs::{RUN, run_on};
+use liq_outside::MemorySink;
+use liq_serve::without_words;
 use std::alloc::{AllocError, Global};
+use std::io::ErrorKind;
 use std::process::Abort;
 use std::test::Fail;
 
@@ -17,15 +22,15 @@ const REPLIES: [&[u8]; 5] = [
     b"no 13 1048576\n",
 ];
 
+/// How many bytes a read gives, and how many reads there are, the last one of none. The first line has 13 bytes.
+const CHUNKS: [(usize, u64); 3] = [(1, 70), (7, 11), (13, 7)];
+
 const CHUNK: usize = 7;
 
-/// How many reads there are: of 69 bytes, seven in each, and at last of none.
-const READS: u64 = 11;
-
 // The bytes that so many reads give.
-fn given(reads: u64) -> &'static [u8] {
+fn given(chunk: usize, reads: u64) -> &'static [u8] {
     INPUT
-        .get(..CHUNK.saturating_mul(reads as usize))
+        .get(..chunk.saturating_mul(reads as usize))
         .unwrap_or(INPUT)
 }
 
@@ -46,23 +51,39 @@ fn replies(alloc: Global, lines: usize) -> Result<Vec<u8>, AllocError> {
 }
 
 // A read that fails: each line is answered whose line end was given before it.
-fn check_failing_read<R: Abort>(rt: &R, alloc: Global, read: u64) -> Result<(), Fail> {
-    let ran = run_on(alloc, &RUN, INPUT, CHUNK, &[read], &[])?;
-    let mut expected = replies(alloc, ended_lines(given(read)))?;
+fn check_failing_read<R: Abort>(rt: &R, alloc: Global, chunk: usize, read: u64) -> Result<(), Fail>
+    requires { 1 ≤ chunk }
+{
+    let ran = run_on(alloc, &RUN, INPUT, chunk, &[read], &[])?;
+    let mut expected = replies(alloc, ended_lines(given(chunk, read)))?;
     expected.extend_from_slice(b"read fault\n")?;
     ran.check(rt, &expected, 3, "at read", read);
     Ok(())
 }
 
-#[test]
-fn failing_reads(rt: HostRuntime) -> Result<(), Fail> {
-    for read in 0..READS {
-        check_failing_read(&rt, rt.alloc(), read)?;
+fn check_failing_reads<R: Abort>(
+    rt: &R,
+    alloc: Global,
+    chunk: usize,
+    reads: u64,
+) -> Result<(), Fail>
+    requires { 1 ≤ chunk }
+{
+    for read in 0..reads {
+        check_failing_read(rt, alloc, chunk, read)?;
     }
     // There is no read behind these.
-    let ran = run_on(rt.alloc(), &RUN, INPUT, CHUNK, &[READS], &[])?;
-    let expected = replies(rt.alloc(), REPLIES.len())?;
-    ran.check(&rt, &expected, 0, "at read", READS);
+    let ran = run_on(alloc, &RUN, INPUT, chunk, &[reads], &[])?;
+    let expected = replies(alloc, REPLIES.len())?;
+    ran.check(rt, &expected, 0, "at read", reads);
+    Ok(())
+}
+
+#[test]
+fn failing_reads(rt: HostRuntime) -> Result<(), Fail> {
+    for (chunk, reads) in CHUNKS {
+        check_failing_reads(&rt, rt.alloc(), chunk.max(1), reads)?;
+    }
     Ok(())
 }
 
@@ -88,6 +109,15 @@ fn failing_writes(rt: HostRuntime) -> Result<(), Fail> {
     Ok(())
 }
 
+// A reply is written before the source is read again: where it is lost, what comes behind its line's chunk is unread.
+#[test]
+fn replies_before_reading(rt: HostRuntime) -> Result<(), Fail> {
+    let ran = run_on(rt.alloc(), &RUN, INPUT, 13, &[], &[0])?;
+    ran.check(&rt, b"", 4, "at write", 0);
+    assert_eq!(rt; Some(ran.source.left()), INPUT.get(13..));
+    Ok(())
+}
+
 const USAGE: &[u8] = b"usage: liq run, serve, state, audit or gen SEED COUNT\n";
 
 const OTHER_WORDS: [&[&str]; 8] = [
@@ -110,6 +140,29 @@ fn check_other_words<R: Abort>(rt: &R, alloc: Global, words: &[&str]) -> Result<
     let ran = run_on(alloc, words, INPUT, CHUNK, &[0], &[0])?;
     ran.check(rt, b"", 1, "lost", 0);
     Ok(())
+}
+
+// The words could not be had: the line that says why, whole and lost.
+fn check_without_words<R: Abort>(
+    rt: &R,
+    alloc: Global,
+    fault: ErrorKind,
+    line: &[u8],
+    status: u8,
+) -> Result<(), Fail> {
+    let mut sink = MemorySink::new(alloc, Vec::new(alloc));
+    assert_eq!(rt; without_words(fault, &mut sink), status);
+    assert_eq!(rt; sink.bytes(), line);
+    let mut broken = MemorySink::new(alloc, [0].to_vec(alloc)?);
+    assert_eq!(rt; without_words(fault, &mut broken), status);
+    assert_eq!(rt; broken.bytes().len(), 0);
+    Ok(())
+}
+
+#[test]
+fn no_words(rt: HostRuntime) -> Result<(), Fail> {
+    check_without_words(&rt, rt.alloc(), ErrorKind::OutOfMemory, b"no memory\n", 7)?;
+    check_without_words(&rt, rt.alloc(), ErrorKind::InvalidData, USAGE, 1)
 }
 
 #[test]

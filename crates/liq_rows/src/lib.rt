@@ -4,6 +4,8 @@
 #![tactic(auto)]
 
 #[cfg(test)]
+mod cut;
+#[cfg(test)]
 mod faults;
 #[cfg(test)]
 mod limit;
@@ -13,5 +15,7 @@ mod lines;
 mod rows;
 #[cfg(test)]
 mod runs;
+#[cfg(test)]
+mod small_sink;
 #[cfg(test)]
 mod texts;

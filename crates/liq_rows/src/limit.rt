@@ -1,6 +1,7 @@
 //! As many lines as one run answers, and one more.
 
-use crate::runs::run;
+use crate::cut::{Run, check_cuts};
+use crate::runs::{RUN, run};
 use std::alloc::{AllocError, Global};
 use std::test::Fail;
 
@@ -29,5 +30,15 @@ fn limit(rt: HostRuntime) -> Result<(), Fail> {
     let ran = run(alloc, &input, 65_536)?;
     assert_eq!(rt; ran.status, 8);
     assert!(rt; ran.sink.bytes() == replies.as_slice());
+
+    // The last line may be cut anywhere, and the further line may be a bad one.
+    let run = Run {
+        words: &RUN,
+        input: &input,
+        failing_reads: &[],
+        replies: 4 * LINES,
+        status: 8,
+    };
+    check_cuts(&rt, alloc, &run, 65_536, 3, &replies, run.replies + 3)?;
     Ok(())
 }

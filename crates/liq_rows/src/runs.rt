@@ -26,6 +26,15 @@ impl Ran {
     }
 }
 
+/// The words of a command line.
+pub fn words_of(alloc: Global, words: &[&str]) -> Result<Vec<String>, AllocError> {
+    let mut command_line = Vec::new(alloc);
+    for word in words {
+        command_line.push(String::from_str(alloc, word)?)?;
+    }
+    Ok(command_line)
+}
+
 /// Runs the program on these words and this input, of which a read gives at most `chunk` bytes. The reads and the writes of
 /// these numbers, counted from 0, fail.
 pub fn run_on(
@@ -38,10 +47,7 @@ pub fn run_on(
 ) -> Result<Ran, AllocError>
     requires { 1 ≤ chunk }
 {
-    let mut command_line = Vec::new(alloc);
-    for word in words {
-        command_line.push(String::from_str(alloc, word)?)?;
-    }
+    let command_line = words_of(alloc, words)?;
     let mut source = MemorySource::new(input.to_vec(alloc)?, chunk, failing_reads.to_vec(alloc)?);
     let mut sink = MemorySink::new(alloc, failing_writes.to_vec(alloc)?);
     let status = protocol(alloc, &command_line, &mut source, &mut sink);

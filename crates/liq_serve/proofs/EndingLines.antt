@@ -1,18 +1,20 @@
 -- Last lines, of which a sink may hold a front.
-use Rattle.std.proofs.Common.{◌≡◌, ℕ, ◌+◌, ◌≤◌, List, [], ◌∷◌, ◌++◌, length, take, drop, Option, Some, Ok, Err, Result, refl, ap, sym, subst, ◌∙◌, append-nil, length-append, arith, inl, inr}
-use Rattle.std.specs.Prelude.{option_map, OnOk, OnErr, ◌⊎◌}
+use Rattle.std.proofs.Common.{◌≡◌, ℕ, ◌+◌, ◌≤◌, List, [], ◌∷◌, ◌++◌, length, take, drop, Option, Ok, Err, Result, refl, ap, sym, subst, ◌∙◌, append-nil, length-append, arith, inl, inr}
+use Rattle.std.specs.Prelude.{OnOk, OnErr, ◌⊎◌}
 use Rattle.std.proofs.Math.Seq.{take-append-add}
 use Rattle.std.proofs.lemmas.List.{take-append-le, take-append-drop}
+use Rattle.liq_types.specs.declared.requests.Request.{Request}
 use Rattle.liq_outside.specs.declared.failed.Failed.{Failed}
 use Rattle.liq_outside.specs.Faults.{Rose}
 use Rattle.liq_serve.specs.declared.halts.Halt.{Halt}
 use Rattle.liq_serve.specs.declared.halts.Halt.TheVariants.{BadLine, ReadFault, WriteFault, NoMemory, Limit}
 use Rattle.liq_serve.specs.Lines.{lines_in}
 use Rattle.liq_serve.specs.Output.{lines, last}
-use Rattle.liq_serve.specs.Progress.{Halts}
-use Rattle.liq_serve.specs.Stops.{Adds, Stops, IsFrontOf}
-use Rattle.liq_serve.specs.Writing.{Writes, WritesPart}
-use Rattle.liq_serve.proofs.Bytes.{writes_more}
+use Rattle.liq_serve.specs.Progress.{Ends, Comes, Written}
+use Rattle.liq_serve.specs.Stops.{Adds, EndsIn, IsFrontOf, IsCutInLastLine}
+use Rattle.liq_serve.specs.Writing.{Writes, WritesPart, WritesFront}
+use Rattle.liq_serve.proofs.Bytes.{writes_more, writes_nothing}
+use Rattle.liq_serve.proofs.Cutting.{cut_comes}
 
 -- a part of the first of two pieces, and a part of the second behind the first
 pub part_first : (before after : Option (List ℕ)) (xs ys : List ℕ) → WritesPart before xs after → WritesPart before (xs ++ ys) after
@@ -26,37 +28,103 @@ part_second before mid after xs ys h k = (
   subst (λ (t : List ℕ). Writes before t after) (sym (take-append-add xs ys k.0)) (writes_more before mid after xs (take k.0 ys) h k.2),
 )
 
-pub adds_line : (fault : Type 0) (result : Result (Unit {0}) Failed) (held line : List ℕ) (before after : Option (List ℕ)) → before ≡ Some held → OnOk result (Writes before line after) → OnErr result (WritesPart before line after) → OnErr result fault → Adds held line fault after
-adds_line fault (Ok done) held line before after told ok err cause =
-    (line, ok ∙ ap (λ (o : Option (List ℕ)). option_map (λ old. old ++ line) o) told, inl refl)
-adds_line fault (Err failed) held line before after told ok err cause =
-    (take err.0 line, err.2 ∙ ap (λ (o : Option (List ℕ)). option_map (λ old. old ++ take err.0 line) o) told, inr (cause, (drop err.0 line, sym (take-append-drop err.0 line))))
+pub adds_line : (fault : Type 0) (result : Result (Unit {0}) Failed) (line : List ℕ) (before after : Option (List ℕ)) → OnOk result (Writes before line after) → OnErr result (WritesPart before line after) → OnErr result fault → Adds [] line fault before after
+adds_line fault (Ok done) line before after ok err cause = (line, ok, inl refl)
+adds_line fault (Err failed) line before after ok err cause = (take err.0 line, err.2, inr (cause, (drop err.0 line, sym (take-append-drop err.0 line))))
 
--- ---- a stopped run, its last line written
+-- ---- a run at its end, its last line written
 
-pub last_written : (halt : Halt) (bytes held : List ℕ) (fault : Type 0) (left now after : Option (List ℕ)) → Halts halt bytes held left now → ((holds : List ℕ) → now ≡ Some holds → Adds holds (last halt) fault after) → Stops halt bytes held fault left after
-last_written (BadLine number) bytes held fault left now after h adds = (h.0, h.1, adds (held ++ lines h.0) h.2)
-last_written ReadFault bytes held fault left now after h adds = (h.0, h.1, adds (held ++ lines h.0) h.2)
-last_written NoMemory bytes held fault left now after h adds = (h.0, h.1, adds (held ++ lines h.0) h.2)
-last_written Limit bytes held fault left now after h adds = (h.0, h.1, adds (held ++ lines h.0) h.2)
-last_written WriteFault bytes held fault left now after h adds =
-    let more = adds (held ++ h.2.0) h.2.1 in
-    (h.0, h.1, (h.2.0, more.1 ∙ ap (λ (t : List ℕ). Some ((held ++ h.2.0) ++ t)) (nothing more.0 more.2) ∙ ap Some (append-nil (held ++ h.2.0)), h.2.2)) where
-      nothing : (part : List ℕ) → (part ≡ []) ⊎ (fault × IsFrontOf part []) → part ≡ []
-      nothing part (inl none) = none
-      nothing [] (inr cut) = refl
-      nothing (x ∷ part) (inr cut) = absurd (cc (cut.1.1))
+no_part : (fault : Type 0) (part : List ℕ) → (part ≡ []) ⊎ (fault × IsFrontOf part []) → part ≡ []
+no_part fault part (inl none) = none
+no_part fault [] (inr cut) = refl
+no_part fault (x ∷ part) (inr cut) = absurd (cc (cut.1.1))
 
-pub no_session : (bytes held : List ℕ) (left now : Option (List ℕ)) → now ≡ Some held → Halts NoMemory bytes held left now
-no_session bytes held left now holds = ([], (lines_in bytes, ([], tt, refl)), holds ∙ ap Some (sym (append-nil held)))
+line_behind : (fault : Type 0) (said line : List ℕ) (before now after : Option (List ℕ)) → Adds said [] ⊥ before now → Adds [] line fault now after → Adds said line fault before after
+line_behind fault said line before now after h adds =
+    let replies = subst (λ (t : List ℕ). Writes before t now) (ap (λ (t : List ℕ). said ++ t) (no_part ⊥ h.0 h.2) ∙ append-nil said) h.1 in
+    (adds.0, writes_more before now after said adds.0 replies adds.1, adds.2)
+
+cut_stays : (fault : Type 0) (requests : List Request) (before now after : Option (List ℕ)) → (part : List ℕ) × Writes before part now × IsCutInLastLine part requests → Adds [] [] fault now after → (part : List ℕ) × Writes before part after × IsCutInLastLine part requests
+cut_stays fault requests before now after h adds =
+    let more = writes_more before now after h.0 adds.0 h.1 adds.1 in
+    (h.0, subst (λ (t : List ℕ). Writes before t after) (ap (λ (t : List ℕ). h.0 ++ t) (no_part fault adds.0 adds.2) ∙ append-nil h.0) more, h.2)
+
+pub last_written : (halt : Halt) (bytes : List ℕ) (fault : Type 0) (left before now after : Option (List ℕ)) → Ends (Err halt) bytes left before now → Adds [] (last halt) fault now after → EndsIn last (Err halt) bytes left fault before after
+last_written (BadLine n) bytes fault left before now after h adds =
+    record { requests = h.requests; few = h.few; read = h.read; written = line_behind fault (lines h.requests) (last (BadLine n)) before now after h.written adds }
+last_written ReadFault bytes fault left before now after h adds =
+    record { requests = h.requests; few = h.few; read = h.read; written = line_behind fault (lines h.requests) (last ReadFault) before now after h.written adds }
+last_written NoMemory bytes fault left before now after h adds =
+    record { requests = h.requests; few = h.few; read = h.read; written = line_behind fault (lines h.requests) (last NoMemory) before now after h.written adds }
+last_written Limit bytes fault left before now after h adds =
+    record { requests = h.requests; few = h.few; read = h.read; written = line_behind fault (lines h.requests) (last Limit) before now after h.written adds }
+last_written WriteFault bytes fault left before now after h adds =
+    record { requests = h.requests; few = h.few; read = h.read; written = cut_stays fault h.requests before now after h.written adds }
+
+pub went_well : (end : Result (Unit {0}) Halt) (bytes : List ℕ) (fault : Type 0) (left before now : Option (List ℕ)) → ((halt : Halt) → end ≡ Err halt → ⊥) → Ends end bytes left before now → EndsIn last end bytes left fault before now
+went_well (Ok done) bytes fault left before now well h = record { requests = h.requests; few = h.few; read = h.read; written = h.written }
+went_well (Err halt) bytes fault left before now well h = absurd (well halt refl)
+
+pub nothing_added : (fault : Type 0) (before : Option (List ℕ)) → Adds [] [] fault before before
+nothing_added fault before = ([], writes_nothing before, inl refl)
+
+-- ---- a run at its end writes what waits
+
+unclosed : (said : List ℕ) (before now : Option (List ℕ)) → Writes before said now → Adds said [] ⊥ before now
+unclosed said before now h = ([], subst (λ (t : List ℕ). Writes before t now) (sym (append-nil said)) h, inl refl)
+
+all_written : (requests : List Request) (w : List ℕ) (before now after : Option (List ℕ)) → Written requests w before now → WritesFront (Ok tt) w [] now after → Writes before (lines requests) after
+all_written requests w before now after h f =
+    subst (λ (t : List ℕ). Writes before t after) (ap (λ (t : List ℕ). h.0 ++ t) (sym (append-nil f.0) ∙ sym f.2) ∙ sym h.2) (writes_more before now after h.0 f.0 h.1 f.1)
+
+pub closes : (end : Result (Unit {0}) Halt) (bytes : List ℕ) (left : Option (List ℕ)) (w : List ℕ) (before now after : Option (List ℕ)) → (end ≡ Err WriteFault → ⊥) → Comes end bytes left w before now → WritesFront (Ok tt) w [] now after → Ends end bytes left before after
+closes (Ok done) bytes left w before now after other h f =
+    record { requests = h.requests; few = h.few; read = h.read; written = all_written h.requests w before now after h.written f }
+closes (Err (BadLine n)) bytes left w before now after other h f =
+    record { requests = h.requests; few = h.few; read = h.read; written = unclosed (lines h.requests) before after (all_written h.requests w before now after h.written f) }
+closes (Err ReadFault) bytes left w before now after other h f =
+    record { requests = h.requests; few = h.few; read = h.read; written = unclosed (lines h.requests) before after (all_written h.requests w before now after h.written f) }
+closes (Err WriteFault) bytes left w before now after other h f = absurd (other refl)
+closes (Err NoMemory) bytes left w before now after other h f =
+    record { requests = h.requests; few = h.few; read = h.read; written = unclosed (lines h.requests) before after (all_written h.requests w before now after h.written f) }
+closes (Err Limit) bytes left w before now after other h f =
+    record { requests = h.requests; few = h.few; read = h.read; written = unclosed (lines h.requests) before after (all_written h.requests w before now after h.written f) }
+
+pub cut_ends : (bytes : List ℕ) (left : Option (List ℕ)) (w : List ℕ) (before now : Option (List ℕ)) → Comes (Err WriteFault) bytes left w before now → Ends (Err WriteFault) bytes left before now
+cut_ends bytes left w before now h = record { requests = h.requests; few = h.few; read = h.read; written = h.written }
+
+waited : (end : Result (Unit {0}) Halt) (bytes : List ℕ) (left : Option (List ℕ)) (w : List ℕ) (before now : Option (List ℕ)) → (end ≡ Err WriteFault → ⊥) → (h : Comes end bytes left w before now) → Written h.requests w before now
+waited (Ok done) bytes left w before now other h = h.written
+waited (Err (BadLine n)) bytes left w before now other h = h.written
+waited (Err ReadFault) bytes left w before now other h = h.written
+waited (Err WriteFault) bytes left w before now other h = absurd (other refl)
+waited (Err NoMemory) bytes left w before now other h = h.written
+waited (Err Limit) bytes left w before now other h = h.written
+
+pub closing_cut : (end : Result (Unit {0}) Halt) (halt : Halt) (bytes : List ℕ) (left : Option (List ℕ)) (w w' : List ℕ) (before now after : Option (List ℕ)) → (end ≡ Err WriteFault → ⊥) → Comes end bytes left w before now → WritesFront (Err halt) w w' now after → Ends (Err halt) bytes left before after
+closing_cut end (BadLine n) bytes left w w' before now after other h f = absurd f
+closing_cut end ReadFault bytes left w w' before now after other h f = absurd f
+closing_cut end NoMemory bytes left w w' before now after other h f = absurd f
+closing_cut end Limit bytes left w w' before now after other h f = absurd f
+closing_cut end WriteFault bytes left w w' before now after other h f =
+    cut_ends bytes left w' before after (cut_comes bytes h.requests left w w' h.more before now after h.few h.begins (waited end bytes left w before now other h) f)
+
+pub no_session : (bytes : List ℕ) (left before : Option (List ℕ)) → Ends (Err NoMemory) bytes left before before
+no_session bytes left before =
+    record {
+      requests = [];
+      few = omega arith;
+      read = (lines_in bytes, ([], tt, refl), inl refl);
+      written = ([], writes_nothing before, inl refl);
+    }
 
 -- the fault that a part of a line shows is one of the whole call
 pub rose_later : (a b c : ℕ) → a ≤ b → Rose b c → Rose a c
 rose_later a b c le (inl lt) = inl (omega (arith, le, lt))
 rose_later a b c le (inr most) = inr most
 
-pub adds_weaker : (held line : List ℕ) (F G : Type 0) (now : Option (List ℕ)) → (F → G) → Adds held line F now → Adds held line G now
-adds_weaker held line F G now f a = (a.0, a.1, by a.2) where
+pub adds_weaker : (line : List ℕ) (F G : Type 0) (before now : Option (List ℕ)) → (F → G) → Adds [] line F before now → Adds [] line G before now
+adds_weaker line F G before now f a = (a.0, a.1, by a.2) where
   by : (a.0 ≡ line) ⊎ (F × IsFrontOf a.0 line) → (a.0 ≡ line) ⊎ (G × IsFrontOf a.0 line)
   by (inl whole) = inl whole
   by (inr cut) = inr (f cut.0, cut.1)

@@ -56,3 +56,7 @@ ended-append (line ∷ front) more =
 pub within-append : (front more : List (List ℕ)) → AllByRecursion IsWithinLine front → AllByRecursion IsWithinLine more → AllByRecursion IsWithinLine (front ++ more)
 within-append [] more h k = k
 within-append (line ∷ front) more h k = (h.0, within-append front more h.1 k)
+
+pub within-more : (line : List ℕ) (byte : ℕ) → IsWithinLine line → byte ≢ 10 → IsWithinLine (line ++ byte ∷ [])
+within-more [] byte h apart = (apart, tt)
+within-more (first ∷ line) byte h apart = (h.0, within-more line byte h.1 apart)

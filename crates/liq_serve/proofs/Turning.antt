@@ -1,7 +1,5 @@
 -- What one line more makes of a run.
-use Rattle.std.proofs.Common.{◌≡◌, ◌≢◌, ℕ, ◌+◌, ◌<◌, List, [], ◌∷◌, ◌++◌, length, take, drop, Option, Some, None, refl, ap, sym, subst, ◌∙◌, append_assoc, append-nil, length-append, length-drop, arith, Err}
-use Rattle.std.specs.Prelude.{option_map}
-use Rattle.std.proofs.lemmas.List.{take-append-drop}
+use Rattle.std.proofs.Common.{◌≡◌, ◌≢◌, ℕ, ◌+◌, ◌<◌, ◌≤◌, List, [], ◌∷◌, ◌++◌, length, Option, Some, None, refl, ap, sym, subst, ◌∙◌, append_assoc, append-nil, length-append, arith, Ok, Err, inl, inr}
 use Rattle.liq_types.specs.declared.requests.Request.{Request}
 use Rattle.liq_types.specs.declared.amounts.TheConstants.{LINES_MOST}
 use Rattle.liq_types.specs.State.{State, opening}
@@ -11,37 +9,67 @@ use Rattle.liq_serve.specs.declared.halts.Halt.{Halt}
 use Rattle.liq_serve.specs.declared.halts.Halt.TheVariants.{BadLine, ReadFault, WriteFault, NoMemory, Limit}
 use Rattle.liq_serve.specs.Lines.{lines_in, ended, IsWithinLine}
 use Rattle.liq_serve.specs.Output.{lines, reply_line}
-use Rattle.liq_serve.specs.Progress.{ReadsRequest, Answered, Answers, Halts}
+use Rattle.liq_serve.specs.Progress.{ReadsRequest, ReadsBad, Written, Answered, Answers, Comes}
 use Rattle.liq_serve.specs.Reading.{unread, Reads, IsOver}
-use Rattle.liq_serve.specs.Requests.{IsRequest, AreRequests}
-use Rattle.liq_serve.specs.Stops.{Finishes}
-use Rattle.liq_serve.specs.Writing.{Writes}
-use Rattle.liq_serve.proofs.Bytes.{told_reads}
+use Rattle.liq_serve.specs.Requests.{IsRequest, AreRequests, BeginsWith}
+use Rattle.liq_serve.specs.Writing.{Writes, WritesPart, WritesFront}
+use Rattle.liq_serve.proofs.BadLines.{first_is_bad}
+use Rattle.liq_serve.proofs.Bytes.{told_reads, writes_nothing, writes_more}
+use Rattle.liq_serve.proofs.Cutting.{cut_comes}
 use Rattle.liq_serve.proofs.LinesRead.{lines_in-ended, lines_in-unended, lines_in-ended_all, lines_in-some, ended-append, within-append}
 use Rattle.liq_serve.proofs.Progressing.{after-more, lines-more, requests-more}
 
 -- what follows the answered lines
-begins : (bytes held : List ℕ) (n : ℕ) (core : Core) (u h : Option (List ℕ)) → (a : Answered bytes held n core u h) → lines_in bytes ≡ a.front ++ lines_in a.rest
-begins bytes held n core u h a = ap lines_in a.bytes_are ∙ lines_in-ended_all a.front a.rest a.within
+begins : (bytes : List ℕ) (n : ℕ) (core : Core) (u : Option (List ℕ)) (w : List ℕ) (before now : Option (List ℕ)) → (a : Answered bytes n core u w before now) → lines_in bytes ≡ a.front ++ lines_in a.rest
+begins bytes n core u w before now a = ap lines_in a.bytes_are ∙ lines_in-ended_all a.front a.rest a.within
+
+begins_with : (bytes : List ℕ) (n : ℕ) (core : Core) (u : Option (List ℕ)) (w : List ℕ) (before now : Option (List ℕ)) → (a : Answered bytes n core u w before now) → BeginsWith bytes a.requests (lines_in a.rest)
+begins_with bytes n core u w before now a = (a.front, a.spelled, begins bytes n core u w before now a)
 
 -- what the source has left, where it told what was unread
 told_left : (rest xs taken : List ℕ) (left : Option (List ℕ)) → Reads (Some rest) xs (unread taken left) → (more : List ℕ) × (left ≡ Some more) × (rest ≡ xs ++ (taken ++ more))
 told_left rest xs taken None h = absurd (cc h)
 told_left rest xs taken (Some more) h = (more, refl, told_reads rest xs (taken ++ more) h)
 
+-- ---- a front of what waits is written
+
+written_on : (requests : List Request) (w w' : List ℕ) (before now now' : Option (List ℕ)) → Written requests w before now → WritesFront (Ok tt) w w' now now' → Written requests w' before now'
+written_on requests w w' before now now' h f =
+    (h.0 ++ f.0, writes_more before now now' h.0 f.0 h.1 f.1, h.2 ∙ ap (λ (t : List ℕ). h.0 ++ t) f.2 ∙ sym (append_assoc h.0 f.0 w'))
+
+pub answered_on : (bytes : List ℕ) (n : ℕ) (core : Core) (u : Option (List ℕ)) (w w' : List ℕ) (before now now' : Option (List ℕ)) → Answered bytes n core u w before now → WritesFront (Ok tt) w w' now now' → Answered bytes n core u w' before now'
+answered_on bytes n core u w w' before now now' a f =
+    record {
+      requests = a.requests;
+      front = a.front;
+      rest = a.rest;
+      spelled = a.spelled;
+      within = a.within;
+      count = a.count;
+      bytes_are = a.bytes_are;
+      unread_is = a.unread_is;
+      stands = a.stands;
+      written = written_on a.requests w w' before now now' a.written f;
+    }
+
+-- it cannot be written
+pub answered_cut : (halt : Halt) (bytes : List ℕ) (n : ℕ) (core : Core) (u left : Option (List ℕ)) (w w' : List ℕ) (before now now' : Option (List ℕ)) → n ≤ LINES_MOST → Answered bytes n core u w before now → WritesFront (Err halt) w w' now now' → Comes (Err halt) bytes left w' before now'
+answered_cut (BadLine n) bytes m core u left w w' before now now' few a f = absurd f
+answered_cut ReadFault bytes m core u left w w' before now now' few a f = absurd f
+answered_cut NoMemory bytes m core u left w w' before now now' few a f = absurd f
+answered_cut Limit bytes m core u left w w' before now now' few a f = absurd f
+answered_cut WriteFault bytes m core u left w w' before now now' few a f =
+    cut_comes bytes a.requests left w w' (lines_in a.rest) before now now' (omega (arith, few, a.count)) (begins_with bytes m core u w before now a) a.written f
+
 -- ---- the run stops at the next line
 
-pub reading_halts : (halt : Halt) (bytes held taken : List ℕ) (n : ℕ) (core : Core) (u left h : Option (List ℕ)) → ReadsRequest u (unread taken left) taken (n + 1) (Err halt) → Answered bytes held n core u h → Halts halt bytes held left h
-reading_halts (BadLine at) bytes held taken n core u left h r a =
-    let bad = r.1 a.rest a.unread_is in (
-      a.requests,
-      (r.0 ∙ ap (λ m. m + 1) (sym a.count), (bad.0, bad.1, (bad.2.0, (a.front, a.spelled, begins bytes held n core u h a ∙ ap (λ (ls : List (List ℕ)). a.front ++ ls) bad.2.1)))),
-      a.now_is,
-    )
-reading_halts ReadFault bytes held taken n core u left h r a =
-    let got = told_left a.rest r.0 taken left (subst (λ (v : Option (List ℕ)). Reads v r.0 (unread taken left)) a.unread_is r.2) in (
-      a.requests,
-      (
+pub reading_fails : (bytes taken : List ℕ) (n : ℕ) (core : Core) (u left : Option (List ℕ)) (w : List ℕ) (before now : Option (List ℕ)) → n ≤ LINES_MOST → ReadsRequest u (unread taken left) taken (n + 1) (Err ReadFault) → Answered bytes n core u w before now → Comes (Err ReadFault) bytes left w before now
+reading_fails bytes taken n core u left w before now few r a =
+    let got = told_left a.rest r.0 taken left (subst (λ (v : Option (List ℕ)). Reads v r.0 (unread taken left)) a.unread_is r.2) in
+    record {
+      requests = a.requests;
+      few = omega (arith, few, a.count);
+      read = (
         a.front,
         a.spelled,
         (
@@ -53,12 +81,31 @@ reading_halts ReadFault bytes held taken n core u left h r a =
             a.bytes_are ∙ ap (λ (t : List ℕ). ended a.front ++ t) (got.2 ∙ ap (λ (t : List ℕ). r.0 ++ (t ++ got.0)) r.3) ∙ sym (append_assoc (ended a.front) r.0 got.0),
           ),
         ),
-      ),
-      a.now_is,
-    )
-reading_halts WriteFault bytes held taken n core u left h r a = absurd r
-reading_halts NoMemory bytes held taken n core u left h r a = absurd r
-reading_halts Limit bytes held taken n core u left h r a = absurd r
+      );
+      more = lines_in a.rest;
+      begins = begins_with bytes n core u w before now a;
+      written = a.written;
+    }
+
+pub reading_halts : (halt : Halt) (bytes taken : List ℕ) (n : ℕ) (core : Core) (u left : Option (List ℕ)) (w : List ℕ) (before now : Option (List ℕ)) → n < LINES_MOST → ReadsRequest u (unread taken left) taken (n + 1) (Err halt) → Answered bytes n core u w before now → Comes (Err halt) bytes left w before now
+reading_halts (BadLine at) bytes taken n core u left w before now few r a =
+    let bad = first_is_bad a.rest (unread taken left) (subst (λ (v : Option (List ℕ)). ReadsBad v (unread taken left)) a.unread_is r.1) in
+    record {
+      requests = a.requests;
+      few = omega (arith, few, a.count);
+      read = (
+        r.0 ∙ ap (λ m. m + 1) (sym a.count),
+        omega (arith, few, r.0),
+        (bad.0, bad.1, (bad.2.0, (a.front, a.spelled, begins bytes n core u w before now a ∙ ap (λ (ls : List (List ℕ)). a.front ++ ls) bad.2.1))),
+      );
+      more = lines_in a.rest;
+      begins = begins_with bytes n core u w before now a;
+      written = a.written;
+    }
+reading_halts ReadFault bytes taken n core u left w before now few r a = reading_fails bytes taken n core u left w before now (omega (arith, few)) r a
+reading_halts WriteFault bytes taken n core u left w before now few r a = absurd r
+reading_halts NoMemory bytes taken n core u left w before now few r a = absurd r
+reading_halts Limit bytes taken n core u left w before now few r a = absurd r
 
 -- ---- the input is over
 
@@ -71,20 +118,36 @@ over_left rest xs taken None h over = absurd (cc h)
 over_left rest xs taken (Some more) h over =
     (ap Some (empty_end taken more over), told_reads rest xs (taken ++ more) h ∙ ap (λ (t : List ℕ). xs ++ t) over ∙ append-nil xs)
 
-pub reading_ends : (bytes held taken : List ℕ) (n : ℕ) (core : Core) (u left h : Option (List ℕ)) → Reads u [] (unread taken left) → IsOver (unread taken left) → Answered bytes held n core u h → Finishes bytes held left h
-reading_ends bytes held taken n core u left h r over a =
-    let done = over_left a.rest [] taken left (subst (λ (v : Option (List ℕ)). Reads v [] (unread taken left)) a.unread_is r) over in (
-      a.requests,
-      subst (λ (ls : List (List ℕ)). AreRequests ls a.requests) (sym (begins bytes held n core u h a ∙ ap (λ (t : List ℕ). a.front ++ lines_in t) done.1 ∙ append-nil a.front)) a.spelled,
-      done.0,
-      a.now_is,
-    )
+pub reading_ends : (bytes taken : List ℕ) (n : ℕ) (core : Core) (u left : Option (List ℕ)) (w : List ℕ) (before now : Option (List ℕ)) → n ≤ LINES_MOST → Reads u [] (unread taken left) → IsOver (unread taken left) → Answered bytes n core u w before now → Comes (Ok tt) bytes left w before now
+reading_ends bytes taken n core u left w before now few r over a =
+    let done = over_left a.rest [] taken left (subst (λ (v : Option (List ℕ)). Reads v [] (unread taken left)) a.unread_is r) over in
+    record {
+      requests = a.requests;
+      few = omega (arith, few, a.count);
+      read = (
+        subst (λ (ls : List (List ℕ)). AreRequests ls a.requests) (sym (begins bytes n core u w before now a ∙ ap (λ (t : List ℕ). a.front ++ lines_in t) done.1 ∙ append-nil a.front)) a.spelled,
+        done.0,
+      );
+      more = lines_in a.rest;
+      begins = begins_with bytes n core u w before now a;
+      written = a.written;
+    }
 
 -- ---- a line is answered
 
-pub line_answered : (bytes held line : List ℕ) (r : Request) (n : ℕ) (core core' : Core) (u u' h h' : Option (List ℕ)) → IsRequest line r → IsWithinLine line → Reads u (line ++ 10 ∷ []) u' → (a : Answered bytes held n core u h) → StandsFor core' (step (run opening a.requests).0 r).0 → Writes h (reply_line (step (run opening a.requests).0 r).1) h' → Answered bytes held (n + 1) core' u' h'
-line_answered bytes held line r n core core' u None h h' is within reads a stands writes = absurd (cc (reads, a.unread_is))
-line_answered bytes held line r n core core' u (Some rest) h h' is within reads a stands writes =
+-- the reply to one more request waits behind what waited, of which a front is written
+wrote_more : (requests : List Request) (r : Request) (w rest w' : List ℕ) (before now now' : Option (List ℕ)) → Written requests w before now → WritesFront (Ok tt) w rest now now' → w' ≡ rest ++ reply_line (step (run opening requests).0 r).1 → Written (requests ++ r ∷ []) w' before now'
+wrote_more requests r w rest w' before now now' h f is =
+    let reply = reply_line (step (run opening requests).0 r).1 in
+    let on = written_on requests w rest before now now' h f in (
+      on.0,
+      on.1,
+      lines-more requests r ∙ ap (λ (t : List ℕ). t ++ reply) on.2 ∙ append_assoc on.0 rest reply ∙ ap (λ (t : List ℕ). on.0 ++ t) (sym is),
+    )
+
+pub line_answered : (bytes line : List ℕ) (r : Request) (n : ℕ) (core core' : Core) (u u' : Option (List ℕ)) (w w' : List ℕ) (before now now' : Option (List ℕ)) → IsRequest line r → IsWithinLine line → Reads u (line ++ 10 ∷ []) u' → (a : Answered bytes n core u w before now) → Answers (run opening a.requests).0 r (Ok tt) core' w w' now now' → Answered bytes (n + 1) core' u' w' before now'
+line_answered bytes line r n core core' u None w w' before now now' is within reads a said = absurd (cc (reads, a.unread_is))
+line_answered bytes line r n core core' u (Some rest) w w' before now now' is within reads a said =
     let got = told_reads a.rest (line ++ 10 ∷ []) rest (subst (λ (v : Option (List ℕ)). Reads v (line ++ 10 ∷ []) (Some rest)) a.unread_is reads) in
     record {
       requests = a.requests ++ r ∷ [];
@@ -97,63 +160,41 @@ line_answered bytes held line r n core core' u (Some rest) h h' is within reads 
           a.bytes_are ∙ ap (λ (t : List ℕ). ended a.front ++ t) got ∙ sym (append_assoc (ended a.front) (line ++ 10 ∷ []) rest)
           ∙ ap (λ (t : List ℕ). (ended a.front ++ t) ++ rest) (sym (append-nil (line ++ 10 ∷ []))) ∙ ap (λ (t : List ℕ). t ++ rest) (sym (ended-append a.front (line ∷ [])));
       unread_is = refl;
-      now_is =
-          subst (λ (v : Option (List ℕ)). h' ≡ option_map (λ old. old ++ reply_line (step (run opening a.requests).0 r).1) v) a.now_is writes
-          ∙ ap Some (append_assoc held (lines a.requests) (reply_line (step (run opening a.requests).0 r).1) ∙ ap (λ (t : List ℕ). held ++ t) (sym (lines-more a.requests r)));
-      stands = subst (λ (s : State). StandsFor core' s) (sym (after-more opening a.requests r)) stands;
+      stands = subst (λ (s : State). StandsFor core' s) (sym (after-more opening a.requests r)) said.0;
+      written = wrote_more a.requests r w said.1.0 w' before now now' a.written said.1.1 said.1.2;
     }
 
-pub last_answered : (bytes held line taken : List ℕ) (r : Request) (n : ℕ) (core : Core) (u left h h' : Option (List ℕ)) → IsRequest line r → IsWithinLine line → line ≢ [] → Reads u line (unread taken left) → IsOver (unread taken left) → (a : Answered bytes held n core u h) → Writes h (reply_line (step (run opening a.requests).0 r).1) h' → Finishes bytes held left h'
-last_answered bytes held line taken r n core u left h h' is within some reads over a writes =
-    let done = over_left a.rest line taken left (subst (λ (v : Option (List ℕ)). Reads v line (unread taken left)) a.unread_is reads) over in (
-      a.requests ++ r ∷ [],
-      subst (λ (ls : List (List ℕ)). AreRequests ls (a.requests ++ r ∷ []))
-          (sym (begins bytes held n core u h a ∙ ap (λ (t : List ℕ). a.front ++ lines_in t) done.1 ∙ ap (λ (ls : List (List ℕ)). a.front ++ ls) (lines_in-unended line within some)))
-          (requests-more a.front a.requests line r a.spelled is),
-      done.0,
-      subst (λ (v : Option (List ℕ)). h' ≡ option_map (λ old. old ++ reply_line (step (run opening a.requests).0 r).1) v) a.now_is writes
-          ∙ ap Some (append_assoc held (lines a.requests) (reply_line (step (run opening a.requests).0 r).1) ∙ ap (λ (t : List ℕ). held ++ t) (sym (lines-more a.requests r))),
-    )
+pub last_answered : (bytes line taken : List ℕ) (r : Request) (n : ℕ) (core core' : Core) (u left : Option (List ℕ)) (w w' : List ℕ) (before now now' : Option (List ℕ)) → n < LINES_MOST → IsRequest line r → IsWithinLine line → line ≢ [] → Reads u line (unread taken left) → IsOver (unread taken left) → (a : Answered bytes n core u w before now) → Answers (run opening a.requests).0 r (Ok tt) core' w w' now now' → Comes (Ok tt) bytes left w' before now'
+last_answered bytes line taken r n core core' u left w w' before now now' few is within some reads over a said =
+    let done = over_left a.rest line taken left (subst (λ (v : Option (List ℕ)). Reads v line (unread taken left)) a.unread_is reads) over in
+    let spelled = requests-more a.front a.requests line r a.spelled is in
+    let whole = begins bytes n core u w before now a ∙ ap (λ (t : List ℕ). a.front ++ lines_in t) done.1 ∙ ap (λ (ls : List (List ℕ)). a.front ++ ls) (lines_in-unended line within some) in
+    record {
+      requests = a.requests ++ r ∷ [];
+      few = omega (arith, few, a.count, length-append a.requests (r ∷ []));
+      read = (subst (λ (ls : List (List ℕ)). AreRequests ls (a.requests ++ r ∷ [])) (sym whole) spelled, done.0);
+      more = [];
+      begins = (a.front ++ line ∷ [], spelled, whole ∙ sym (append-nil (a.front ++ line ∷ [])));
+      written = wrote_more a.requests r w said.1.0 w' before now now' a.written said.1.1 said.1.2;
+    }
 
 -- ---- a line is read, and its answer stops the run
 
-missing_some : (k : ℕ) (xs : List ℕ) → k < length xs → drop k xs ≢ []
-missing_some k xs lt e = omega (arith, length-drop k xs, ap length e)
-
-pub answering_halts : (halt : Halt) (bytes held line : List ℕ) (more : List (List ℕ)) (r : Request) (n : ℕ) (core core' : Core) (u left h h' : Option (List ℕ)) → IsRequest line r → (a : Answered bytes held n core u h) → lines_in a.rest ≡ line ∷ more → Answers (run opening a.requests).0 r (Err halt) core' h h' → Halts halt bytes held left h'
-answering_halts (BadLine at) bytes held line more r n core core' u left h h' is a first failed = absurd failed
-answering_halts ReadFault bytes held line more r n core core' u left h h' is a first failed = absurd failed
-answering_halts Limit bytes held line more r n core core' u left h h' is a first failed = absurd failed
-answering_halts NoMemory bytes held line more r n core core' u left h h' is a first failed =
-    (a.requests, (lines_in a.rest, (a.front, a.spelled, begins bytes held n core u h a)), failed.1 ∙ a.now_is)
-answering_halts WriteFault bytes held line more r n core core' u left h h' is a first failed =
-    let reply = reply_line (step (run opening a.requests).0 r).1 in
-    let k = failed.0 in (
-      a.requests ++ r ∷ [],
-      (
-        more,
-        (
-          a.front ++ line ∷ [],
-          requests-more a.front a.requests line r a.spelled is,
-          begins bytes held n core u h a ∙ ap (λ (ls : List (List ℕ)). a.front ++ ls) first ∙ sym (append_assoc a.front (line ∷ []) more),
-        ),
-      ),
-      (
-        lines a.requests ++ take k reply,
-        subst (λ (v : Option (List ℕ)). h' ≡ option_map (λ old. old ++ take k reply) v) a.now_is failed.2 ∙ ap Some (append_assoc held (lines a.requests) (take k reply)),
-        (
-          a.requests,
-          r,
-          refl,
-          (take k reply, refl),
-          (
-            drop k reply,
-            missing_some k reply failed.1,
-            lines-more a.requests r ∙ ap (λ (t : List ℕ). lines a.requests ++ t) (sym (take-append-drop k reply)) ∙ sym (append_assoc (lines a.requests) (take k reply) (drop k reply)),
-          ),
-        ),
-      ),
-    )
+pub answering_halts : (halt : Halt) (bytes line : List ℕ) (more : List (List ℕ)) (r : Request) (n : ℕ) (core core' : Core) (u left : Option (List ℕ)) (w w' : List ℕ) (before now now' : Option (List ℕ)) → n < LINES_MOST → IsRequest line r → (a : Answered bytes n core u w before now) → lines_in a.rest ≡ line ∷ more → Answers (run opening a.requests).0 r (Err halt) core' w w' now now' → Comes (Err halt) bytes left w' before now'
+answering_halts (BadLine at) bytes line more r n core core' u left w w' before now now' few is a first failed = absurd failed
+answering_halts ReadFault bytes line more r n core core' u left w w' before now now' few is a first failed = absurd failed
+answering_halts Limit bytes line more r n core core' u left w w' before now now' few is a first failed = absurd failed
+answering_halts NoMemory bytes line more r n core core' u left w w' before now now' few is a first failed =
+    record {
+      requests = a.requests;
+      few = omega (arith, few, a.count);
+      read = (lines_in a.rest, begins_with bytes n core u w before now a, inr (line, r, more, is, failed.1, first));
+      more = lines_in a.rest;
+      begins = begins_with bytes n core u w before now a;
+      written = written_on a.requests w w' before now now' a.written failed.2;
+    }
+answering_halts WriteFault bytes line more r n core core' u left w w' before now now' few is a first failed =
+    cut_comes bytes a.requests left w w' (lines_in a.rest) before now now' (omega (arith, few, a.count)) (begins_with bytes n core u w before now a) a.written failed.1
 
 -- the line that was read is the first of what was unread
 pub first_line : (rest line : List ℕ) (u' : Option (List ℕ)) → IsWithinLine line → Reads (Some rest) (line ++ 10 ∷ []) u' → (more : List (List ℕ)) × (lines_in rest ≡ line ∷ more)
@@ -167,8 +208,8 @@ last_line rest line taken left within some reads over =
 
 -- ---- before the first line, and behind the last that one run answers
 
-pub opened : (bytes before reader : List ℕ) (core : Core) (left h : Option (List ℕ)) → StandsFor core opening → reader ≡ [] → left ≡ Some bytes → h ≡ Some before → Answered bytes before 0 core (unread reader left) h
-opened bytes before reader core left h stands fresh told holds =
+pub opened : (bytes reader waiting : List ℕ) (core : Core) (left before : Option (List ℕ)) → StandsFor core opening → reader ≡ [] → waiting ≡ [] → left ≡ Some bytes → Answered bytes 0 core (unread reader left) waiting before before
+opened bytes reader waiting core left before stands fresh none told =
     record {
       requests = [];
       front = [];
@@ -178,29 +219,21 @@ opened bytes before reader core left h stands fresh told holds =
       count = refl;
       bytes_are = refl;
       unread_is = ap (λ (t : List ℕ). unread t left) fresh ∙ ap (λ (o : Option (List ℕ)). unread [] o) told;
-      now_is = holds ∙ ap Some (sym (append-nil before));
       stands = stands;
+      written = ([], writes_nothing before, sym none);
     }
 
-pub limit_halts : (bytes held : List ℕ) (n byte : ℕ) (core : Core) (u u' left h : Option (List ℕ)) → n ≡ LINES_MOST → Reads u (byte ∷ []) u' → Answered bytes held n core u h → Halts Limit bytes held left h
-limit_halts bytes held n byte core u None left h full reads a = absurd (cc (reads, a.unread_is))
-limit_halts bytes held n byte core u (Some rest) left h full reads a =
+pub limit_halts : (bytes : List ℕ) (n byte : ℕ) (core : Core) (u u' left : Option (List ℕ)) (w : List ℕ) (before now : Option (List ℕ)) → n ≡ LINES_MOST → Reads u (byte ∷ []) u' → Answered bytes n core u w before now → Comes (Err Limit) bytes left w before now
+limit_halts bytes n byte core u None left w before now full reads a = absurd (cc (reads, a.unread_is))
+limit_halts bytes n byte core u (Some rest) left w before now full reads a =
     let got = told_reads a.rest (byte ∷ []) rest (subst (λ (v : Option (List ℕ)). Reads v (byte ∷ []) (Some rest)) a.unread_is reads) in
-    let first = lines_in-some byte rest in (
-      a.requests,
-      (
-        a.count ∙ full,
-        (
-          first.0,
-          (
-            first.1,
-            (
-              a.front,
-              a.spelled,
-              begins bytes held n core u h a ∙ ap (λ (t : List ℕ). a.front ++ lines_in t) got ∙ ap (λ (ls : List (List ℕ)). a.front ++ ls) first.2,
-            ),
-          ),
-        ),
-      ),
-      a.now_is,
-    )
+    let first = lines_in-some byte rest in
+    let whole = begins bytes n core u w before now a ∙ ap (λ (t : List ℕ). a.front ++ lines_in t) got ∙ ap (λ (ls : List (List ℕ)). a.front ++ ls) first.2 in
+    record {
+      requests = a.requests;
+      few = omega (arith, full, a.count);
+      read = (a.count ∙ full, (first.0, (first.1, (a.front, a.spelled, whole))));
+      more = lines_in a.rest;
+      begins = begins_with bytes n core u w before now a;
+      written = a.written;
+    }

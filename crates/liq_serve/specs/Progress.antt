@@ -1,6 +1,7 @@
 -- How far a run has come.
-use Rattle.std.specs.Prelude.{ℕ, ◌≡◌, ◌≢◌, ◌+◌, [], ◌∷◌, ◌++◌, List, length, Option, Some, Result, Ok, Err, Bool, true, false}
+use Rattle.std.specs.Prelude.{ℕ, ◌≡◌, ◌≢◌, ◌≤◌, ◌+◌, [], ◌∷◌, ◌++◌, List, length, Option, Some, Result, Ok, Err, Bool, true, false}
 use Rattle.std.specs.List.{AllByRecursion}
+use Rattle.liq_types.specs.declared.amounts.TheConstants.{LINE_BYTES, LINES_MOST}
 use Rattle.liq_types.specs.declared.requests.Request.{Request}
 use Rattle.liq_types.specs.State.{State, opening}
 use Rattle.liq_core.specs.Core.{Core, StandsFor}
@@ -9,12 +10,23 @@ use Rattle.liq_serve.specs.declared.halts.Halt.{Halt}
 use Rattle.liq_serve.specs.declared.halts.Halt.TheVariants.{BadLine, ReadFault, WriteFault, NoMemory}
 use Rattle.liq_serve.specs.declared.session.Next.{Next}
 use Rattle.liq_serve.specs.declared.session.Next.TheVariants.{Line, LastLine, End}
-use Rattle.liq_serve.specs.Lines.{lines_in, ended, IsWithinLine}
+use Rattle.liq_serve.specs.Lines.{ended, IsWithinLine}
 use Rattle.liq_serve.specs.Output.{lines, reply_line}
 use Rattle.liq_serve.specs.Reading.{Reads, IsOver}
-use Rattle.liq_serve.specs.Requests.{IsRequest, IsBadLine, AreRequests}
-use Rattle.liq_serve.specs.Writing.{Writes, WritesPart}
-use Rattle.liq_serve.specs.Stops.{StopsAfter, IsCutInLastLine, Finishes}
+use Rattle.liq_serve.specs.Requests.{IsRequest, IsBadLine, IsCommand, AreRequests, BeginsWith}
+use Rattle.liq_serve.specs.Stops.{EndsAfter, EndsIn, IsCutInLastLine, none_yet}
+use Rattle.liq_serve.specs.Writing.{Writes, WritesPart, WritesFront}
+
+-- a request, or why a line has none
+abbrev pub RequestOn : List ℕ → ℕ → Result Request Halt → Type 0
+RequestOn line number (Ok request) = IsRequest line request
+RequestOn line number (Err halt) = (halt ≡ BadLine number) × IsBadLine line
+
+-- A bad line was read and nothing behind it: with its line end, to the input's end, or to the first byte that is too many.
+pub data ReadsBad (before after : Option (List ℕ)) : Type 0 where
+  with_end : (line : List ℕ) → IsBadLine line → IsWithinLine line → Reads before (line ++ 10 ∷ []) after → ReadsBad before after
+  without_end : (line : List ℕ) → IsBadLine line → IsWithinLine line → line ≢ [] → Reads before line after → IsOver after → ReadsBad before after
+  too_long : (line : List ℕ) (byte : ℕ) → IsWithinLine line → byte ≢ 10 → length line ≡ LINE_BYTES → Reads before (line ++ byte ∷ []) after → ReadsBad before after
 
 -- a line was read that is a request, or there is none, or the run stops here
 abbrev pub ReadsRequest : Option (List ℕ) → Option (List ℕ) → List ℕ → ℕ → Result Next Halt → Type 0
@@ -23,13 +35,16 @@ ReadsRequest before after taken number (Ok (Line request)) =
 ReadsRequest before after taken number (Ok (LastLine request)) =
     (line : List ℕ) × IsRequest line request × IsWithinLine line × (line ≢ []) × Reads before line after × IsOver after
 ReadsRequest before after taken number (Ok End) = Reads before [] after × IsOver after
-ReadsRequest before after taken number (Err (BadLine at)) =
-    (at ≡ number) × ((bytes : List ℕ) → before ≡ Some bytes → (line : List ℕ) × IsBadLine line × ((more : List (List ℕ)) × (lines_in bytes ≡ line ∷ more)))
+ReadsRequest before after taken number (Err (BadLine at)) = (at ≡ number) × ReadsBad before after
 ReadsRequest before after taken number (Err ReadFault) = (part : List ℕ) × IsWithinLine part × Reads before part after × (taken ≡ [])
 ReadsRequest before after taken number (Err _) = ⊥
 
--- n lines were requests, and all their replies are written
-pub record Answered (bytes held : List ℕ) (n : ℕ) (core : Core) (unread now : Option (List ℕ)) : Type 0 where
+-- the replies to these requests are written, but for those that wait
+abbrev pub Written : List Request → List ℕ → Option (List ℕ) → Option (List ℕ) → Type 0
+Written requests waiting before now = (front : List ℕ) × Writes before front now × (lines requests ≡ front ++ waiting)
+
+-- n lines were requests, and each is answered
+pub record Answered (bytes : List ℕ) (n : ℕ) (core : Core) (unread : Option (List ℕ)) (waiting : List ℕ) (before now : Option (List ℕ)) : Type 0 where
   pub requests : List Request
   pub front : List (List ℕ)
   pub rest : List ℕ
@@ -38,33 +53,39 @@ pub record Answered (bytes held : List ℕ) (n : ℕ) (core : Core) (unread now 
   pub count : length requests ≡ n
   pub bytes_are : bytes ≡ ended front ++ rest
   pub unread_is : unread ≡ Some rest
-  pub now_is : now ≡ Some (held ++ lines requests)
   pub stands : StandsFor core (run opening requests).0
+  pub written : Written requests waiting before now
 
--- The request's step was made and its reply is written, or the sink met a fault at the reply. Where there was no memory no
--- step was made, so no reply is lost.
-abbrev pub Answers : State → Request → Result (Unit {0}) Halt → Core → Option (List ℕ) → Option (List ℕ) → Type 0
-Answers s request (Ok done) core before after = StandsFor core (step s request).0 × Writes before (reply_line (step s request).1) after
-Answers s request (Err NoMemory) core before after = StandsFor core s × (after ≡ before)
-Answers s request (Err WriteFault) core before after = WritesPart before (reply_line (step s request).1) after
-Answers s request (Err _) core before after = ⊥
+-- The request's step was made and its reply waits behind what waited, of which a front was written first: all where the request
+-- is a command. Or the sink met a fault at what waited, or there was no memory for a command: no step was made then.
+abbrev pub Answers : State → Request → Result (Unit {0}) Halt → Core → List ℕ → List ℕ → Option (List ℕ) → Option (List ℕ) → Type 0
+Answers s request (Ok done) core waited waits before after =
+    StandsFor core (step s request).0
+    × ((rest : List ℕ) × WritesFront (Ok tt) waited rest before after × (waits ≡ rest ++ reply_line (step s request).1) × (IsCommand request → rest ≡ []))
+Answers s request (Err NoMemory) core waited waits before after = StandsFor core s × IsCommand request × WritesFront (Ok tt) waited waits before after
+Answers s request (Err WriteFault) core waited waits before after = StandsFor core s × WritesPart before waited after
+Answers s request (Err _) core waited waits before after = ⊥
 
--- what a stopped run has written before its last line
-abbrev pub Wrote : Halt → List ℕ → List Request → Option (List ℕ) → Type 0
-Wrote WriteFault held requests now = (part : List ℕ) × (now ≡ Some (held ++ part)) × IsCutInLastLine part requests
-Wrote _ held requests now = now ≡ Some (held ++ lines requests)
+-- What is written where a run comes to its end: all replies but those that wait, or up to a cut.
+abbrev pub WrittenAt : Result (Unit {0}) Halt → List Request → List ℕ → Option (List ℕ) → Option (List ℕ) → Type 0
+WrittenAt (Err WriteFault) requests waiting before now = (part : List ℕ) × Writes before part now × IsCutInLastLine part requests
+WrittenAt _ requests waiting before now = Written requests waiting before now
 
--- the run stopped, and its last line is not written yet
-abbrev pub Halts : Halt → List ℕ → List ℕ → Option (List ℕ) → Option (List ℕ) → Type 0
-Halts halt bytes held left now = (requests : List Request) × StopsAfter halt bytes left requests × Wrote halt held requests now
+-- a run came to its end, and some replies wait
+pub record Comes (end : Result (Unit {0}) Halt) (bytes : List ℕ) (left : Option (List ℕ)) (waiting : List ℕ) (before now : Option (List ℕ)) : Type 0 where
+  pub requests : List Request
+  pub few : length requests ≤ LINES_MOST
+  pub read : EndsAfter end bytes left requests
+  pub more : List (List ℕ)
+  pub begins : BeginsWith bytes requests more
+  pub written : WrittenAt end requests waiting before now
 
--- one more line was answered, or the input is over, or the run stops
-abbrev pub Turns : List ℕ → List ℕ → ℕ → Core → Option (List ℕ) → Option (List ℕ) → Option (List ℕ) → Result Bool Halt → Type 0
-Turns bytes held n core unread left now (Ok true) = Answered bytes held (n + 1) core unread now
-Turns bytes held n core unread left now (Ok false) = Finishes bytes held left now
-Turns bytes held n core unread left now (Err halt) = Halts halt bytes held left now
+-- a run is at its end, and its last line is not written yet
+abbrev pub Ends : Result (Unit {0}) Halt → List ℕ → Option (List ℕ) → Option (List ℕ) → Option (List ℕ) → Type 0
+Ends end bytes left before now = EndsIn none_yet end bytes left ⊥ before now
 
--- the whole run
-abbrev pub RunsTo : List ℕ → List ℕ → Result (Unit {0}) Halt → Option (List ℕ) → Option (List ℕ) → Type 0
-RunsTo bytes held (Ok done) left now = Finishes bytes held left now
-RunsTo bytes held (Err halt) left now = Halts halt bytes held left now
+-- one more line was answered, or the run comes to its end
+abbrev pub Turns : List ℕ → ℕ → Core → Option (List ℕ) → Option (List ℕ) → List ℕ → Option (List ℕ) → Option (List ℕ) → Result Bool Halt → Type 0
+Turns bytes n core unread left waiting before now (Ok true) = Answered bytes (n + 1) core unread waiting before now
+Turns bytes n core unread left waiting before now (Ok false) = Comes (Ok tt) bytes left waiting before now
+Turns bytes n core unread left waiting before now (Err halt) = Comes (Err halt) bytes left waiting before now

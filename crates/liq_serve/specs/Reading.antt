@@ -4,6 +4,7 @@ use Rattle.liq_outside.specs.declared.failed.Failed.{Failed}
 use Rattle.liq_serve.specs.declared.reader.LineEnd.{LineEnd}
 use Rattle.liq_serve.specs.declared.reader.LineEnd.TheVariants.{Ended, Unended, Nothing, TooLong}
 use Rattle.liq_serve.specs.Lines.{IsWithinLine}
+use Rattle.liq_types.specs.declared.amounts.TheConstants.{LINE_BYTES}
 
 -- what is unread: bytes that were taken already, and those that the source has left, where it tells them
 abbrev pub unread : List ℕ → Option (List ℕ) → Option (List ℕ)
@@ -22,7 +23,7 @@ abbrev pub ReadsLine : Option (List ℕ) → List ℕ → Option (List ℕ) → 
 ReadsLine before line after taken (Ok Ended) = Reads before (line ++ 10 ∷ []) after × IsWithinLine line
 ReadsLine before line after taken (Ok Unended) = Reads before line after × IsWithinLine line × (line ≢ []) × IsOver after
 ReadsLine before line after taken (Ok Nothing) = Reads before [] after × IsOver after
-ReadsLine before line after taken (Ok TooLong) = (byte : ℕ) × Reads before (line ++ byte ∷ []) after × IsWithinLine line × (byte ≢ 10) × (length line ≡ 200)
+ReadsLine before line after taken (Ok TooLong) = (byte : ℕ) × Reads before (line ++ byte ∷ []) after × IsWithinLine line × (byte ≢ 10) × (length line ≡ LINE_BYTES)
 -- all that the source had given was read, and no line end stands in it
 ReadsLine before line after taken (Err fault) = Reads before line after × IsWithinLine line × (taken ≡ [])
 

@@ -1,6 +1,7 @@
 -- Which lines are requests.
 use Rattle.std.specs.Prelude.{ℕ, ◌≡◌, ◌∷◌, [], ◌++◌, List, IsTrue}
 use Rattle.liq_types.specs.declared.requests.Request.{Request}
+use Rattle.liq_types.specs.declared.requests.Request.TheVariants.{Do, Ask}
 use Rattle.liq_core.specs.Step.{built}
 use Rattle.liq_text.specs.Spelling.{Spells}
 use Rattle.liq_serve.specs.Lines.{lines_in}
@@ -18,6 +19,14 @@ AreRequests [] [] = Unit {0}
 AreRequests (line ∷ lines) (request ∷ requests) = IsRequest line request × AreRequests lines requests
 AreRequests [] (request ∷ requests) = ⊥
 AreRequests (line ∷ lines) [] = ⊥
+
+abbrev pub IsCommand : Request → Type 0
+IsCommand (Do command) = Unit {0}
+IsCommand (Ask query) = ⊥
+
+-- the first of these lines is that of a command
+abbrev pub BeginsWithCommand : List (List ℕ) → Type 0
+BeginsWithCommand lines = (line : List ℕ) × (command : Request) × (more : List (List ℕ)) × IsRequest line command × IsCommand command × (lines ≡ line ∷ more)
 
 -- the text begins with lines of these requests, and these lines follow
 abbrev pub BeginsWith : List ℕ → List Request → List (List ℕ) → Type 0

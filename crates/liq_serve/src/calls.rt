@@ -1,10 +1,11 @@
 //! One request after another, as the protocol answers them.
 
-ghost use Rattle.std.specs.Prelude.{◌≡◌, IfOk, OnErr, IsTrue};
+ghost use Rattle.std.specs.Prelude.{◌≡◌, ◌≤◌, ◌<◌, ◌+◌, IfOk, OnErr, IsTrue};
 ghost use Rattle.liq_types.specs.State.{State};
 ghost use Rattle.liq_types.specs.declared.requests.Request.TheVariants.{Do};
 ghost use Rattle.liq_core.specs.Core.{StandsFor};
 ghost use Rattle.liq_core.specs.Step.{built, step};
+ghost use Rattle.liq_serve.specs.Requests.{IsCommand};
 
 use liq_core::{PlanFault, Protocol, Turn};
 use liq_types::{Command, Hint, NoMemory, Reply, Request, Steps};
@@ -27,6 +28,8 @@ pub fn call<L: Ledger>(
     ensures ok { IfOk result (λ reply. (s : State) → StandsFor protocol.old s
         → StandsFor protocol.new (step s request.now).0 × ((step s request.now).1 ≡ reply)) }
     ensures err { OnErr result ((s : State) → StandsFor protocol.old s → StandsFor protocol.new s) }
+    // A query asks for no memory.
+    ensures command { OnErr result (IsCommand request.now) }
 {
     match request {
         Request::Ask(query) => Ok(protocol.query(query)),

@@ -1,7 +1,7 @@
 //! How a run ends: its last line and its status.
 
-ghost use Rattle.std.specs.Prelude.{◌≡◌, ◌≤◌, ◌↔◌, ◌++◌, List, ℕ, Some, OnOk, OnErr, IsTrue};
-ghost use Rattle.liq_outside.specs.Faults.{Rose};
+ghost use Rattle.std.specs.Prelude.{[], ◌≡◌, ◌≤◌, OnOk, OnErr};
+ghost use Rattle.liq_outside.specs.Faults.{Rose, HasCause};
 ghost use Rattle.liq_serve.specs.Output.{last, usage};
 ghost use Rattle.liq_serve.specs.Statuses.{status_of};
 ghost use Rattle.liq_serve.specs.Stops.{Adds};
@@ -31,8 +31,7 @@ pub fn status(end: &Result<(), Halt>) -> u8
 
 /// Writes the last line of a run that stopped. Where it cannot be written whole, the run has stopped all the same.
 pub fn write_last<K: Sink>(out: &mut K, halt: Halt)
-    ensures written { (held : List ℕ) → K.held out.old ≡ Some held
-        → Adds held (last halt) (Rose (K.faults out.old) (K.faults out.new)) (K.held out.new) }
+    ensures written { Adds [] (last halt) (Rose (K.faults out.old) (K.faults out.new)) (K.held out.old) (K.held out.new) }
     ensures count { K.faults out.old ≤ K.faults out.new }
 {
     let _ = match halt {
@@ -47,8 +46,7 @@ pub fn write_last<K: Sink>(out: &mut K, halt: Halt)
 fn write_bad_line<K: Sink>(out: &mut K, number: u64) -> Result<(), Failed>
     ensures ok { OnOk result (Writes (K.held out.old) (last (Halt.BadLine number)) (K.held out.new)) }
     ensures err { OnErr result (WritesPart (K.held out.old) (last (Halt.BadLine number)) (K.held out.new)) }
-    ensures count { K.faults out.old ≤ K.faults out.new }
-    ensures cause { OnErr result (Rose (K.faults out.old) (K.faults out.new)) }
+    ensures cause { HasCause (K.faults out.old) (K.faults out.new) result }
 {
     let mut digits = Buffer::new();
     write_all(out, b"bad line ")?;
@@ -58,8 +56,7 @@ fn write_bad_line<K: Sink>(out: &mut K, number: u64) -> Result<(), Failed>
 
 /// Writes how the program is used.
 pub fn write_usage<K: Sink>(out: &mut K)
-    ensures written { (held : List ℕ) → K.held out.old ≡ Some held
-        → Adds held usage (Rose (K.faults out.old) (K.faults out.new)) (K.held out.new) }
+    ensures written { Adds [] usage (Rose (K.faults out.old) (K.faults out.new)) (K.held out.old) (K.held out.new) }
     ensures count { K.faults out.old ≤ K.faults out.new }
 {
     let _ = write_all(out, USAGE);

@@ -1,7 +1,12 @@
 //! Why a run stops.
 
+ghost use Rattle.std.specs.Prelude.{◌≡◌};
+
+use liq_types::NoMemory;
+use std::alloc::AllocError;
+
 /// Why a run stops before its input's end.
-#[derive(Clone, Copy, Debug, PartialEq, Eq)]
+#[derive(Clone, Copy)]
 pub enum Halt {
     /// The line of this number is no request.
     BadLine(u64),
@@ -13,4 +18,24 @@ pub enum Halt {
     NoMemory,
     /// There are more lines than one run answers.
     Limit,
+}
+
+impl From<NoMemory> for Halt {
+    ghost use Rattle.liq_serve.specs.declared.halts.Halt.{Halt};
+
+    ghost from_gives = { λ _ halt. halt ≡ Halt.NoMemory };
+
+    fn from(_: NoMemory) -> Halt {
+        Halt::NoMemory
+    }
+}
+
+impl From<AllocError> for Halt {
+    ghost use Rattle.liq_serve.specs.declared.halts.Halt.{Halt};
+
+    ghost from_gives = { λ _ halt. halt ≡ Halt.NoMemory };
+
+    fn from(_: AllocError) -> Halt {
+        Halt::NoMemory
+    }
 }

@@ -7,6 +7,7 @@ mod halts;
 mod reader;
 mod session;
 mod top;
+mod waiting;
 mod writer;
 
-pub use top::protocol;
+pub use top::{protocol, without_words};

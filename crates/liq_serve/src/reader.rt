@@ -1,7 +1,7 @@
 //! Reading lines, a byte at a time from chunks that the source gives.
 
-ghost use Rattle.std.specs.Prelude.{◌≡◌, ◌≤◌, ◌<◌, ◌∷◌, [], OnOk, OnErr, IfOk, MatchOption, vec_len, vec_capacity};
-ghost use Rattle.liq_outside.specs.Faults.{Rose};
+ghost use Rattle.std.specs.Prelude.{◌≡◌, ◌≤◌, ◌<◌, ◌∷◌, [], Contains, ◌↔◌, IsTrue, OnOk, OnErr, IfOk, IsOk, Ok, Some, List, ℕ, MatchOption, vec_len, vec_capacity};
+ghost use Rattle.liq_outside.specs.Faults.{HasCause};
 ghost use Rattle.liq_serve.specs.Reading.{unread, Reads, ReadsLine, IsOver, IsEndOfInput};
 
 use liq_outside::{Failed, Source};
@@ -16,7 +16,7 @@ const CHUNK: usize = 16_384;
 pub const LINE_END: u8 = b'\n';
 
 /// How a line ended.
-#[derive(Clone, Copy, Debug, PartialEq, Eq)]
+#[derive(Clone, Copy)]
 pub enum LineEnd {
     /// With a line end.
     Ended,
@@ -76,13 +76,19 @@ impl Reader {
         ensures same { Reads (unread self.old (S.left input.old)) [] (unread self.new (S.left input.new)) }
         ensures over { OnOk result (self.new ≡ [] → IsOver (unread self.new (S.left input.new))) }
         ensures failed { OnErr result (self.new ≡ []) }
-        ensures count { S.faults input.old ≤ S.faults input.new }
-        ensures cause { OnErr result (Rose (S.faults input.old) (S.faults input.new)) }
+        ensures cause { HasCause (S.faults input.old) (S.faults input.new) result }
     {
         let count = input.read(&mut self.chunk)?;
         self.start = 0;
         self.end = count;
         Ok(())
+    }
+
+    /// Whether a whole line was taken and is unread.
+    pub fn has_line(&self) -> bool
+        ensures { IsTrue result ↔ Contains self.now LINE_END }
+    {
+        self.chunk[self.start..self.end].contains(&LINE_END)
     }
 
     /// The next byte, or none at the source's end.
@@ -91,8 +97,10 @@ impl Reader {
             (Reads (unread self.old (S.left input.old)) [] (unread self.new (S.left input.new)) × IsOver (unread self.new (S.left input.new)))
             (λ byte. Reads (unread self.old (S.left input.old)) (byte ∷ []) (unread self.new (S.left input.new)))) }
         ensures failed { OnErr result (Reads (unread self.old (S.left input.old)) [] (unread self.new (S.left input.new)) × (self.new ≡ [])) }
-        ensures count { S.faults input.old ≤ S.faults input.new }
-        ensures cause { OnErr result (Rose (S.faults input.old) (S.faults input.new)) }
+        // A byte that was taken already is given without reading.
+        ensures taken { (byte : ℕ) (rest : List ℕ) → self.old ≡ byte ∷ rest
+            → (result ≡ Ok (Some byte)) × (self.new ≡ rest) × (input.new ≡ input.old) }
+        ensures cause { HasCause (S.faults input.old) (S.faults input.new) result }
     {
         if let Some(byte) = self.pop() {
             return Ok(Some(byte));
@@ -110,9 +118,10 @@ impl Reader {
     ) -> Result<LineEnd, Failed>
         requires { LINE_BYTES ≤ vec_capacity line.old }
         ensures line { ReadsLine (unread self.old (S.left input.old)) line.new.items (unread self.new (S.left input.new)) self.new result }
+        // So is a line whose line end was taken.
+        ensures taken { Contains self.old LINE_END → IsOk result × (input.new ≡ input.old) }
         ensures capacity { vec_capacity line.new ≡ vec_capacity line.old }
-        ensures count { S.faults input.old ≤ S.faults input.new }
-        ensures cause { OnErr result (Rose (S.faults input.old) (S.faults input.new)) }
+        ensures cause { HasCause (S.faults input.old) (S.faults input.new) result }
     {
         line.clear();
         for _length in 0..LINE_BYTES {

@@ -1,31 +1,28 @@
 //! A session: one protocol, and the lines that it is asked and answers.
 
-ghost use Rattle.std.specs.Prelude.{Some, ◌≡◌, ◌≢◌, IsTrue, ◌≤◌, ◌<◌, ◌+◌, ◌++◌, [], ℕ, List, OnOk, OnErr, IfOk, MatchOption, vec_capacity};
+ghost use Rattle.std.specs.Prelude.{Contains, Err, Option, Some, ◌≡◌, ◌≢◌, IsTrue, ◌≤◌, ◌<◌, ◌+◌, [], ℕ, List, OnOk, OnErr, IfOk, vec_capacity};
 ghost use Rattle.liq_types.specs.State.{State, opening};
 ghost use Rattle.liq_core.specs.Step.{built};
 ghost use Rattle.liq_core.specs.Core.{StandsFor};
-ghost use Rattle.liq_outside.specs.Faults.{Rose};
-ghost use Rattle.liq_serve.specs.Output.{reply_line};
-ghost use Rattle.liq_serve.specs.Progress.{ReadsRequest, Answered, Answers, Turns, RunsTo};
+ghost use Rattle.liq_serve.specs.Causes.{ReadCause, WriteCause};
+ghost use Rattle.liq_serve.specs.Progress.{RequestOn, ReadsRequest, Answered, Answers, Turns, Comes, Ends};
 ghost use Rattle.liq_serve.specs.Reading.{unread};
-ghost use Rattle.liq_serve.specs.Requests.{IsRequest, IsBadLine};
-ghost use Rattle.liq_serve.specs.Writing.{Writes, WritesPart};
 
 use crate::calls::call;
 use crate::halts::Halt;
 use crate::reader::{LINE_END, LineEnd, Reader};
-use crate::writer::write_all;
+use crate::waiting::{WAITING_MOST, catch_up, flush, keep, make_way};
 use liq_core::{Protocol, is_built};
 use liq_outside::{Failed, Sink, Source};
-use liq_text::{read_line, write_reply};
-use liq_types::amounts::{LINE_BYTES, LINES_MOST, REPLY_BYTES};
-use liq_types::{Reply, Request, Steps};
+use liq_text::read_line;
+use liq_types::amounts::{LINE_BYTES, LINES_MOST};
+use liq_types::{Request, Steps};
 use std::alloc::{AllocError, Global};
 use std::sync::ledger::Ledger;
 
 /// What stands next in the input.
-#[derive(Clone, Copy, Debug, PartialEq, Eq)]
-pub enum Next {
+#[derive(Clone, Copy)]
+enum Next {
     /// A request on a line with a line end.
     Line(Request),
     /// A request on the last line, which lacks its line end.
@@ -34,7 +31,7 @@ pub enum Next {
     End,
 }
 
-/// Reads the next line's request.
+/// Reads the next line's request. Behind a bad line nothing is read.
 fn next_request<S: Source>(
     reader: &mut Reader,
     line: &mut Vec<u8>,
@@ -43,50 +40,28 @@ fn next_request<S: Source>(
 ) -> Result<Next, Halt>
     requires { LINE_BYTES ≤ vec_capacity line.old }
     ensures request { ReadsRequest (unread reader.old (S.left input.old)) (unread reader.new (S.left input.new)) reader.new number result }
+    // Where the line was taken already, nothing is read.
+    ensures taken { Contains reader.old LINE_END → result ≢ Err Halt.ReadFault }
     ensures capacity { vec_capacity line.new ≡ vec_capacity line.old }
-    ensures count { S.faults input.old ≤ S.faults input.new }
-    ensures cause { result ≡ Err Halt.ReadFault → Rose (S.faults input.old) (S.faults input.new) }
+    ensures cause { ReadCause result (S.faults input.old) (S.faults input.new) }
 {
     match reader.next_line(input, line) {
         Err(Failed) => Err(Halt::ReadFault),
         Ok(LineEnd::Nothing) => Ok(Next::End),
         Ok(LineEnd::TooLong) => Err(Halt::BadLine(number)),
-        Ok(LineEnd::Ended) => match request_on(line) {
-            Some(request) => Ok(Next::Line(request)),
-            None => Err(Halt::BadLine(number)),
-        },
-        Ok(LineEnd::Unended) => match request_on(line) {
-            Some(request) => Ok(Next::LastLine(request)),
-            None => Err(Halt::BadLine(number)),
-        },
+        Ok(LineEnd::Ended) => Ok(Next::Line(request_on(line, number)?)),
+        Ok(LineEnd::Unended) => Ok(Next::LastLine(request_on(line, number)?)),
     }
 }
 
-/// The request on a line, where there is one.
-fn request_on(line: &[u8]) -> Option<Request>
-    ensures { MatchOption result (IsBadLine line.now) (IsRequest line.now) }
+/// The request on the line of this number.
+fn request_on(line: &[u8], number: u64) -> Result<Request, Halt>
+    ensures { RequestOn line.now number result }
 {
     match read_line(line) {
-        Ok(request) if is_built(&request) => Some(request),
-        _ => None,
+        Ok(request) if is_built(&request) => Ok(request),
+        _ => Err(Halt::BadLine(number)),
     }
-}
-
-/// Writes a reply's line. There is room for it in `text`.
-fn write_line<K: Sink>(text: &mut Vec<u8>, reply: &Reply, out: &mut K) -> Result<(), Failed>
-    requires { REPLY_BYTES < vec_capacity text.old }
-    ensures ok { OnOk result (Writes (K.held out.old) (reply_line reply.now) (K.held out.new)) }
-    ensures err { OnErr result (WritesPart (K.held out.old) (reply_line reply.now) (K.held out.new)) }
-    ensures capacity { vec_capacity text.old ≤ vec_capacity text.new }
-    ensures count { K.faults out.old ≤ K.faults out.new }
-    ensures cause { OnErr result (Rose (K.faults out.old) (K.faults out.new)) }
-{
-    text.clear();
-    if write_reply(reply, text).is_err() {
-        unreachable!();
-    }
-    text.push_reserved(LINE_END);
-    write_all(out, text)
 }
 
 /// One protocol, and where it has come to in its input.
@@ -95,25 +70,25 @@ pub struct Session {
     protocol: Protocol,
     reader: Reader,
     line: Vec<u8>,
-    text: Vec<u8>,
+    waiting: Vec<u8>,
     ghost line_room: { 200 ≤ vec_capacity line },
-    ghost text_room: { 256 ≤ vec_capacity text },
+    ghost waiting_room: { 16384 ≤ vec_capacity waiting },
 }
 
 impl Session {
     /// A session at the opening of a protocol.
     pub fn new(alloc: Global) -> Result<Session, AllocError>
-        ensures { IfOk result (λ session. StandsFor session.protocol opening × (session.reader ≡ [])) }
+        ensures { IfOk result (λ session. StandsFor session.protocol opening × (session.reader ≡ []) × (session.waiting.items ≡ [])) }
     {
         Ok(Session {
             protocol: Protocol::new(alloc),
             reader: Reader::new(alloc)?,
             line: Vec::with_capacity(alloc, LINE_BYTES)?,
-            text: Vec::with_capacity(alloc, REPLY_BYTES + 1)?,
+            waiting: Vec::with_capacity(alloc, WAITING_MOST)?,
         })
     }
 
-    /// Answers the input's lines, to its end or to where the run stops.
+    /// Answers the input's lines, to its end or to where the run stops, and writes all replies.
     pub fn answer_all<S: Source, K: Sink, L: Ledger>(
         &mut self,
         input: &mut S,
@@ -122,20 +97,38 @@ impl Session {
     ) -> Result<(), Halt>
         requires opening { StandsFor self.old.protocol opening }
         requires unread { self.old.reader ≡ [] }
-        ensures run { (bytes held : List ℕ) → S.left input.old ≡ Some bytes → K.held out.old ≡ Some held
-            → RunsTo bytes held result (S.left input.new) (K.held out.new) }
-        ensures source_count { S.faults input.old ≤ S.faults input.new }
-        ensures sink_count { K.faults out.old ≤ K.faults out.new }
-        ensures read_fault { result ≡ Err Halt.ReadFault → Rose (S.faults input.old) (S.faults input.new) }
-        ensures write_fault { result ≡ Err Halt.WriteFault → Rose (K.faults out.old) (K.faults out.new) }
+        requires waiting { self.old.waiting.items ≡ [] }
+        ensures run { (bytes : List ℕ) → S.left input.old ≡ Some bytes
+            → Ends result bytes (S.left input.new) (K.held out.old) (K.held out.new) }
+        ensures source { ReadCause result (S.faults input.old) (S.faults input.new) }
+        ensures sink { WriteCause result (K.faults out.old) (K.faults out.new) }
+    {
+        let end = self.answer_lines(input, out, steps);
+        self.close(end, out)
+    }
+
+    /// Answers the input's lines. Some replies may wait at the end, but none at a read fault.
+    fn answer_lines<S: Source, K: Sink, L: Ledger>(
+        &mut self,
+        input: &mut S,
+        out: &mut K,
+        steps: &mut Steps<L>,
+    ) -> Result<(), Halt>
+        requires opening { StandsFor self.old.protocol opening }
+        requires unread { self.old.reader ≡ [] }
+        requires waiting { self.old.waiting.items ≡ [] }
+        ensures run { (bytes : List ℕ) → S.left input.old ≡ Some bytes
+            → Comes result bytes (S.left input.new) self.new.waiting.items (K.held out.old) (K.held out.new) }
+        ensures caught_up { result ≡ Err Halt.ReadFault → self.new.waiting.items ≡ [] }
+        ensures source { ReadCause result (S.faults input.old) (S.faults input.new) }
+        ensures sink { WriteCause result (K.faults out.old) (K.faults out.new) }
     {
         for answered in 0..LINES_MOST {
-            match self.turn(input, out, steps, answered) {
-                Ok(true) => {}
-                Ok(false) => return Ok(()),
-                Err(halt) => return Err(halt),
+            if !self.turn(input, out, steps, answered)? {
+                return Ok(());
             }
         }
+        flush(&mut self.waiting, out)?;
         match self.reader.next_byte(input) {
             Ok(None) => Ok(()),
             Ok(Some(_)) => Err(Halt::Limit),
@@ -143,7 +136,24 @@ impl Session {
         }
     }
 
-    /// Answers the next line, of which there are `answered` before it, and says whether another may follow.
+    /// Writes what waits at the run's end. Where the sink meets a fault at it, that is the end.
+    fn close<K: Sink>(&mut self, end: Result<(), Halt>, out: &mut K) -> Result<(), Halt>
+        ensures run { (bytes : List ℕ) (left before : Option (List ℕ)) → Comes end bytes left self.old.waiting.items before (K.held out.old)
+            → Ends result bytes left before (K.held out.new) }
+        ensures source { (old new : ℕ) → (end ≡ Err Halt.ReadFault → self.old.waiting.items ≡ []) → ReadCause end old new → ReadCause result old new }
+        ensures sink { (old : ℕ) → WriteCause end old (K.faults out.old) → WriteCause result old (K.faults out.new) }
+    {
+        match end {
+            Err(Halt::WriteFault) => Err(Halt::WriteFault),
+            _ => {
+                flush(&mut self.waiting, out)?;
+                end
+            }
+        }
+    }
+
+    /// Answers the next line, of which there are `answered` before it, and says whether another may follow. Before the source
+    /// is read the replies that wait are written.
     fn turn<S: Source, K: Sink, L: Ledger>(
         &mut self,
         input: &mut S,
@@ -152,29 +162,28 @@ impl Session {
         answered: u64,
     ) -> Result<bool, Halt>
         requires few { answered < LINES_MOST }
-        ensures turn { (bytes held : List ℕ)
-            → Answered bytes held answered self.old.protocol (unread self.old.reader (S.left input.old)) (K.held out.old)
-            → Turns bytes held answered self.new.protocol (unread self.new.reader (S.left input.new)) (S.left input.new) (K.held out.new) result }
-        ensures source_count { S.faults input.old ≤ S.faults input.new }
-        ensures sink_count { K.faults out.old ≤ K.faults out.new }
-        ensures read_fault { result ≡ Err Halt.ReadFault → Rose (S.faults input.old) (S.faults input.new) }
-        ensures write_fault { result ≡ Err Halt.WriteFault → Rose (K.faults out.old) (K.faults out.new) }
+        ensures turn { (bytes : List ℕ) (before : Option (List ℕ))
+            → Answered bytes answered self.old.protocol (unread self.old.reader (S.left input.old)) self.old.waiting.items before (K.held out.old)
+            → Turns bytes answered self.new.protocol (unread self.new.reader (S.left input.new)) (S.left input.new) self.new.waiting.items before (K.held out.new) result }
+        ensures caught_up { result ≡ Err Halt.ReadFault → self.new.waiting.items ≡ [] }
+        ensures source { ReadCause result (S.faults input.old) (S.faults input.new) }
+        ensures sink { WriteCause result (K.faults out.old) (K.faults out.new) }
     {
-        match next_request(&mut self.reader, &mut self.line, input, answered + 1) {
-            Err(halt) => Err(halt),
-            Ok(Next::End) => Ok(false),
-            Ok(Next::Line(request)) => match self.answer(&request, out, steps) {
-                Ok(()) => Ok(true),
-                Err(halt) => Err(halt),
-            },
-            Ok(Next::LastLine(request)) => match self.answer(&request, out, steps) {
-                Ok(()) => Ok(false),
-                Err(halt) => Err(halt),
-            },
+        catch_up(&self.reader, &mut self.waiting, out)?;
+        match next_request(&mut self.reader, &mut self.line, input, answered + 1)? {
+            Next::End => Ok(false),
+            Next::Line(request) => {
+                self.answer(&request, out, steps)?;
+                Ok(true)
+            }
+            Next::LastLine(request) => {
+                self.answer(&request, out, steps)?;
+                Ok(false)
+            }
         }
     }
 
-    /// Makes the request's step, and writes its reply.
+    /// Makes the request's step, and keeps its reply until it is written. Before a command's step all other replies are written.
     fn answer<K: Sink, L: Ledger>(
         &mut self,
         request: &Request,
@@ -183,18 +192,14 @@ impl Session {
     ) -> Result<(), Halt>
         requires built { IsTrue (built request.now) }
         ensures answer { (s : State) → StandsFor self.old.protocol s
-            → Answers s request.now result self.new.protocol (K.held out.old) (K.held out.new) }
+            → Answers s request.now result self.new.protocol self.old.waiting.items self.new.waiting.items (K.held out.old) (K.held out.new) }
         ensures reader { self.new.reader ≡ self.old.reader }
-        ensures count { K.faults out.old ≤ K.faults out.new }
-        ensures cause { result ≡ Err Halt.WriteFault → Rose (K.faults out.old) (K.faults out.new) }
         ensures other { result ≢ Err Halt.ReadFault }
+        ensures sink { WriteCause result (K.faults out.old) (K.faults out.new) }
     {
-        let Ok(reply) = call(&mut self.protocol, request, steps) else {
-            return Err(Halt::NoMemory);
-        };
-        match write_line(&mut self.text, &reply, out) {
-            Ok(()) => Ok(()),
-            Err(Failed) => Err(Halt::WriteFault),
-        }
+        make_way(request, &mut self.waiting, out)?;
+        let reply = call(&mut self.protocol, request, steps)?;
+        keep(&reply, &mut self.waiting);
+        Ok(())
     }
 }

@@ -1,14 +1,16 @@
 //! The top call.
 
-ghost use Rattle.std.specs.Prelude.{◌≡◌, ◌≤◌, ◌↔◌, Contains, ◌⊎◌, List, ℕ, Some, IsTrue, length, ◌∷◌, []};
+ghost use Rattle.std.specs.Prelude.{◌≡◌, ◌≢◌, ◌≤◌, ◌↔◌, Contains, ◌⊎◌, List, ℕ, Some, Result, IsTrue, length, ◌∷◌, []};
 ghost use Rattle.liq_outside.specs.Faults.{Rose};
 ghost use Rattle.liq_types.specs.declared.requests.Request.{Request};
+ghost use Rattle.liq_serve.specs.declared.halts.Halt.{Halt};
+ghost use Rattle.liq_serve.specs.Causes.{ReadCause, WriteCause, LastCause};
 ghost use Rattle.liq_serve.specs.Lines.{lines_in};
-ghost use Rattle.liq_serve.specs.Output.{usage};
-ghost use Rattle.liq_serve.specs.Progress.{RunsTo};
+ghost use Rattle.liq_serve.specs.Output.{last, usage};
+ghost use Rattle.liq_serve.specs.Progress.{Ends};
 ghost use Rattle.liq_serve.specs.Requests.{AreRequests};
-ghost use Rattle.liq_serve.specs.Statuses.{AreRun};
-ghost use Rattle.liq_serve.specs.Stops.{Adds, Finishes, Stops, WhereTold, EndsIn};
+ghost use Rattle.liq_serve.specs.Statuses.{AreRun, status_of};
+ghost use Rattle.liq_serve.specs.Stops.{Adds, EndsIn};
 
 use crate::ending::{status, write_last, write_usage};
 use crate::halts::Halt;
@@ -16,7 +18,8 @@ use crate::session::Session;
 use liq_outside::{Sink, Source};
 use liq_types::Steps;
 use liq_types::amounts::LINES_MOST;
-use std::alloc::{AllocError, Global};
+use std::alloc::Global;
+use std::io::ErrorKind;
 use std::marker::Brand;
 use std::sync::ledger::{Blank, Ledger};
 
@@ -38,33 +41,24 @@ pub fn protocol<S: Source, K: Sink>(
     input: &mut S,
     out: &mut K,
 ) -> u8
-    // What each status says of the bytes that came in and went out.
-    ensures answered { result ≡ 0 → WhereTold (S.left input.old) (K.held out.old) (λ bytes held.
-        Finishes bytes held (S.left input.new) (K.held out.new)) }
-    ensures bad_line { result ≡ 2 → WhereTold (S.left input.old) (K.held out.old) (λ bytes held.
-        (number : ℕ) × Stops (Halt.BadLine number) bytes held (Rose (K.faults out.old) (K.faults out.new)) (S.left input.new) (K.held out.new)) }
-    ensures read_fault { result ≡ 3 → WhereTold (S.left input.old) (K.held out.old) (λ bytes held.
-        Stops Halt.ReadFault bytes held (Rose (K.faults out.old) (K.faults out.new)) (S.left input.new) (K.held out.new)) }
-    ensures write_fault { result ≡ 4 → WhereTold (S.left input.old) (K.held out.old) (λ bytes held.
-        Stops Halt.WriteFault bytes held (Rose (K.faults out.old) (K.faults out.new)) (S.left input.new) (K.held out.new)) }
-    ensures no_memory { result ≡ 7 → WhereTold (S.left input.old) (K.held out.old) (λ bytes held.
-        Stops Halt.NoMemory bytes held (Rose (K.faults out.old) (K.faults out.new)) (S.left input.new) (K.held out.new)) }
-    ensures limit { result ≡ 8 → WhereTold (S.left input.old) (K.held out.old) (λ bytes held.
-        Stops Halt.Limit bytes held (Rose (K.faults out.old) (K.faults out.new)) (S.left input.new) (K.held out.new)) }
-
     // Usage comes exactly where the words are others, and reads nothing.
     ensures usage { (result ≡ 1) ↔ (AreRun words.now → ⊥) }
     ensures usage_reads { result ≡ 1 → input.new ≡ input.old }
-    ensures usage_writes { result ≡ 1 → (held : List ℕ) → K.held out.old ≡ Some held
-        → Adds held usage (Rose (K.faults out.old) (K.faults out.new)) (K.held out.new) }
+    ensures usage_writes { result ≡ 1 → Adds [] usage (Rose (K.faults out.old) (K.faults out.new)) (K.held out.old) (K.held out.new) }
 
-    // A fault has its cause, and there are no other statuses.
-    ensures source_fault { result ≡ 3 → Rose (S.faults input.old) (S.faults input.new) }
-    ensures sink_fault { result ≡ 4 → Rose (K.faults out.old) (K.faults out.new) }
+    // Any other status is that of an end, which says what came in and what went out, wherever the source tells its bytes.
+    ensures ends { result ≢ 1 → (bytes : List ℕ) → S.left input.old ≡ Some bytes → (end : Result (Unit {0}) Halt) × (result ≡ status_of end)
+        × EndsIn last end bytes (S.left input.new) (Rose (K.faults out.old) (K.faults out.new)) (K.held out.old) (K.held out.new) }
     ensures statuses { Contains (0 ∷ 1 ∷ 2 ∷ 3 ∷ 4 ∷ 7 ∷ 8 ∷ []) result }
 
+    // A fault has its cause, and none is passed over.
+    ensures source_fault { result ≡ 3 → Rose (S.faults input.old) (S.faults input.new) }
+    ensures source_same { result ≢ 3 → S.faults input.new ≡ S.faults input.old }
+    ensures sink_fault { result ≡ 4 → Rose (K.faults out.old) (K.faults out.new) }
+    ensures sink_same { result ≡ 0 → K.faults out.new ≡ K.faults out.old }
+
     // Where nothing is wrong with words, lines and streams, all is answered, or there was no memory.
-    ensures complete { AreRun words.now → (bytes : List ℕ) → S.left input.old ≡ Some bytes → (held : List ℕ) → K.held out.old ≡ Some held
+    ensures complete { AreRun words.now → (bytes : List ℕ) → S.left input.old ≡ Some bytes
         → (requests : List Request) → AreRequests (lines_in bytes) requests → length requests ≤ LINES_MOST
         → (Rose (S.faults input.old) (S.faults input.new) → ⊥) → (Rose (K.faults out.old) (K.faults out.new) → ⊥)
         → (result ≡ 0) ⊎ (result ≡ 7) }
@@ -74,6 +68,26 @@ pub fn protocol<S: Source, K: Sink>(
         return 1;
     }
     status(&run_on::<Brand, S, K>(alloc, input, out, Blank::new(1)))
+}
+
+/// Ends a run whose words the system did not give. Where there was no memory for them, the status is 7; else one of them is no
+/// text, so that they are not understood, and it is 1. The line of that status is written.
+pub fn without_words<K: Sink>(fault: ErrorKind, out: &mut K) -> u8
+    ensures no_memory { fault ≡ ErrorKind.OutOfMemory → (result ≡ 7)
+        × Adds [] (last Halt.NoMemory) (Rose (K.faults out.old) (K.faults out.new)) (K.held out.old) (K.held out.new) }
+    ensures usage { fault ≢ ErrorKind.OutOfMemory → (result ≡ 1)
+        × Adds [] usage (Rose (K.faults out.old) (K.faults out.new)) (K.held out.old) (K.held out.new) }
+{
+    match fault {
+        ErrorKind::OutOfMemory => {
+            write_last(out, Halt::NoMemory);
+            status(&Err(Halt::NoMemory))
+        }
+        _ => {
+            write_usage(out);
+            1
+        }
+    }
 }
 
 /// Whether the words are exactly `run`.
@@ -96,19 +110,17 @@ fn run_on<L: Ledger, S: Source, K: Sink>(
     requires name { blank.name ≡ L.name }
     requires parts { blank.parts ≡ L.parts }
     requires one { L.parts ≡ 1 }
-    ensures run { WhereTold (S.left input.old) (K.held out.old) (λ bytes held.
-        EndsIn bytes held (Rose (K.faults out.old) (K.faults out.new)) result (S.left input.new) (K.held out.new)) }
-    ensures read_fault { result ≡ Err Halt.ReadFault → Rose (S.faults input.old) (S.faults input.new) }
-    ensures write_fault { result ≡ Err Halt.WriteFault → Rose (K.faults out.old) (K.faults out.new) }
+    ensures run { (bytes : List ℕ) → S.left input.old ≡ Some bytes
+        → EndsIn last result bytes (S.left input.new) (Rose (K.faults out.old) (K.faults out.new)) (K.held out.old) (K.held out.new) }
+    ensures source { ReadCause result (S.faults input.old) (S.faults input.new) }
+    ensures sink { LastCause result (K.faults out.old) (K.faults out.new) }
 {
     let mut steps = Steps::<L>::new(blank);
-    match answer_lines(alloc, input, out, &mut steps) {
-        Ok(()) => Ok(()),
-        Err(halt) => {
-            write_last(out, halt);
-            Err(halt)
-        }
+    let end = answer_lines(alloc, input, out, &mut steps);
+    if let Err(halt) = end {
+        write_last(out, halt);
     }
+    end
 }
 
 /// Answers the input's lines on a new session.
@@ -118,15 +130,11 @@ fn answer_lines<S: Source, K: Sink, L: Ledger>(
     out: &mut K,
     steps: &mut Steps<L>,
 ) -> Result<(), Halt>
-    ensures run { WhereTold (S.left input.old) (K.held out.old) (λ bytes held.
-        RunsTo bytes held result (S.left input.new) (K.held out.new)) }
-    ensures source_count { S.faults input.old ≤ S.faults input.new }
-    ensures sink_count { K.faults out.old ≤ K.faults out.new }
-    ensures read_fault { result ≡ Err Halt.ReadFault → Rose (S.faults input.old) (S.faults input.new) }
-    ensures write_fault { result ≡ Err Halt.WriteFault → Rose (K.faults out.old) (K.faults out.new) }
+    ensures run { (bytes : List ℕ) → S.left input.old ≡ Some bytes
+        → Ends result bytes (S.left input.new) (K.held out.old) (K.held out.new) }
+    ensures source { ReadCause result (S.faults input.old) (S.faults input.new) }
+    ensures sink { WriteCause result (K.faults out.old) (K.faults out.new) }
 {
-    match Session::new(alloc) {
-        Ok(mut session) => session.answer_all(input, out, steps),
-        Err(AllocError) => Err(Halt::NoMemory),
-    }
+    let mut session = Session::new(alloc)?;
+    session.answer_all(input, out, steps)
 }

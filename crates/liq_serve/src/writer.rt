@@ -1,7 +1,7 @@
 //! Writing a whole piece.
 
 ghost use Rattle.std.specs.Prelude.{◌≡◌, ◌≤◌, OnOk, OnErr};
-ghost use Rattle.liq_outside.specs.Faults.{Rose};
+ghost use Rattle.liq_outside.specs.Faults.{HasCause};
 ghost use Rattle.liq_serve.specs.Writing.{Writes, WritesPart};
 
 use liq_outside::{Failed, Sink};
@@ -10,8 +10,7 @@ use liq_outside::{Failed, Sink};
 pub fn write_all<K: Sink>(out: &mut K, bytes: &[u8]) -> Result<(), Failed>
     ensures ok { OnOk result (Writes (K.held out.old) bytes.now (K.held out.new)) }
     ensures err { OnErr result (WritesPart (K.held out.old) bytes.now (K.held out.new)) }
-    ensures count { K.faults out.old ≤ K.faults out.new }
-    ensures cause { OnErr result (Rose (K.faults out.old) (K.faults out.new)) }
+    ensures cause { HasCause (K.faults out.old) (K.faults out.new) result }
 {
     let mut written = 0;
     while written < bytes.len() {

@@ -1,8 +1,9 @@
 -- Words written one after the other.
 use Rattle.std.specs.Prelude.{ℕ, List, [], ◌∷◌, ◌<◌, ◌^◌, map, Option, Some, None, codes, decimal}
-use Rattle.std.specs.List.{flat_map}
+use Rattle.std.specs.List.{flat_map, join_with_byte}
+use Rattle.liq_types.specs.declared.requests.Request.{Request}
 use Rattle.liq_types.specs.declared.hints.HintWords.{HintWords}
-use Rattle.liq_text.specs.Spelling.{Word, text, account, number, hint}
+use Rattle.liq_text.specs.Spelling.{Word, text, account, number, hint, request_words}
 
 -- each piece with a space in front of it
 abbrev pub spaced : List (List ℕ) → List ℕ
@@ -15,6 +16,10 @@ piece_of (account a) = decimal a
 piece_of (number n) = decimal n
 piece_of (hint None) = codes "-"
 piece_of (hint (Some a)) = decimal a
+
+-- the line that is written for a request
+abbrev pub line_of : Request → List ℕ
+line_of request = join_with_byte 32 (map piece_of (request_words request))
 
 -- the words of a command's hint, if it has one
 abbrev pub hint_words : Option HintWords → List Word

@@ -5,16 +5,17 @@ ghost use Rattle.std.specs.List.{AllByRecursion, join_with_byte};
 ghost use Rattle.std.specs.Vec.{vec_len, vec_capacity};
 ghost use Rattle.liq_types.specs.declared.requests.Request.TheVariants.{Do};
 ghost use Rattle.liq_text.specs.Spelling.{text, number, hint, call_words, query_words, request_words, HasSpelling, AppendsLine};
-ghost use Rattle.liq_text.specs.Writing.{piece_of, written, hint_words, IsInRange};
+ghost use Rattle.liq_text.specs.Writing.{piece_of, line_of, written, hint_words, IsInRange};
 
 use crate::writing::{put, put_first, put_number, put_numbers};
 use liq_types::amounts::LINE_BYTES;
 use liq_types::{Call, Command, HintWords, NoMemory, Query, Request};
 
-/// Appends a line that spells the request, without a line end. Refused, `out` is as it was. No line has more than 200 bytes,
+/// Appends the line that spells the request, without a line end. Refused, `out` is as it was. No line has more than 200 bytes,
 /// and where there is room for as many, it is not refused. A hint that is account 4294967295 is written as that number, which
 /// is read as no hint.
 pub fn write_request(request: &Request, out: &mut Vec<u8>) -> Result<(), NoMemory>
+    ensures written { OnOk result (out.new.items ≡ out.old.items ++ line_of request.now) }
     ensures ok { HasSpelling request.now → OnOk result (AppendsLine out.old.items out.new.items request.now) }
     ensures err { OnErr result (out.new.items ≡ out.old.items) }
     ensures room { vec_len out.old + 200 ≤ vec_capacity out.old → IsOk result }
@@ -29,7 +30,7 @@ pub fn write_request(request: &Request, out: &mut Vec<u8>) -> Result<(), NoMemor
 
 fn put_request(out: &mut Vec<u8>, request: &Request)
     requires { vec_len out.old + 200 ≤ vec_capacity out.old }
-    ensures items { out.new.items ≡ out.old.items ++ join_with_byte 32 (map piece_of (request_words request.now)) }
+    ensures items { out.new.items ≡ out.old.items ++ line_of request.now }
     ensures range { AllByRecursion IsInRange (request_words request.now) }
     ensures len { vec_len out.new ≤ vec_len out.old + 200 }
     ensures capacity { vec_capacity out.old ≤ vec_capacity out.new }

@@ -1,30 +1,35 @@
-use Rattle.std.proofs.Common.{subst, sym}
+use Rattle.std.proofs.Common.{subst, sym, []}
 use Rattle.liq_outside.specs.Faults.{Rose}
 use Rattle.liq_serve.specs.Output.{last}
 use Rattle.liq_serve.specs.Stops.{Adds}
-use Rattle.liq_serve.proofs.EndingLines.{adds_line}
+use Rattle.liq_serve.proofs.EndingLines.{adds_line, nothing_added}
 use Rattle.liq_serve.proofs.ending.write_last.Goals as goal
 
 pub returns-in-BadLine-clause-written : goal.returns-in-BadLine-clause-written
-returns-in-BadLine-clause-written g c held told =
+returns-in-BadLine-clause-written g c =
     let e = c.write_bad_line.ensures in
-    subst (λ halt. Adds held (last halt) (Rose (g.K.Sink.faults c.args.out.now) (g.K.Sink.faults c.write_bad_line.new.out)) (g.K.Sink.held c.write_bad_line.new.out)) (sym c.in-BadLine.is)
-    (adds_line _ c.write_bad_line.result held _ _ _ told e.ok e.err e.cause)
+    subst (λ halt. Adds [] (last halt) (Rose (g.K.Sink.faults c.args.out.now) (g.K.Sink.faults c.write_bad_line.new.out)) (g.K.Sink.held c.args.out.now) (g.K.Sink.held c.write_bad_line.new.out)) (sym c.in-BadLine.is)
+    (adds_line _ c.write_bad_line.result _ _ _ e.ok e.err e.cause.failed)
 
 pub returns-in-ReadFault-clause-written : goal.returns-in-ReadFault-clause-written
-returns-in-ReadFault-clause-written g c held told =
+returns-in-ReadFault-clause-written g c =
     let e = c.write_all.ensures in
-    subst (λ halt. Adds held (last halt) (Rose (g.K.Sink.faults c.args.out.now) (g.K.Sink.faults c.write_all.new.out)) (g.K.Sink.held c.write_all.new.out)) (sym c.in-ReadFault.is)
-    (adds_line _ c.write_all.result held _ _ _ told e.ok e.err e.cause)
+    subst (λ halt. Adds [] (last halt) (Rose (g.K.Sink.faults c.args.out.now) (g.K.Sink.faults c.write_all.new.out)) (g.K.Sink.held c.args.out.now) (g.K.Sink.held c.write_all.new.out)) (sym c.in-ReadFault.is)
+    (adds_line _ c.write_all.result _ _ _ e.ok e.err e.cause.failed)
+
+pub returns-in-WriteFault-clause-written : goal.returns-in-WriteFault-clause-written
+returns-in-WriteFault-clause-written g c =
+    subst (λ halt. Adds [] (last halt) (Rose (g.K.Sink.faults c.args.out.now) (g.K.Sink.faults c.args.out.now)) (g.K.Sink.held c.args.out.now) (g.K.Sink.held c.args.out.now)) (sym c.in-WriteFault.is)
+    (nothing_added _ (g.K.Sink.held c.args.out.now))
 
 pub returns-in-NoMemory-clause-written : goal.returns-in-NoMemory-clause-written
-returns-in-NoMemory-clause-written g c held told =
+returns-in-NoMemory-clause-written g c =
     let e = c.write_all-in-NoMemory.ensures in
-    subst (λ halt. Adds held (last halt) (Rose (g.K.Sink.faults c.args.out.now) (g.K.Sink.faults c.write_all-in-NoMemory.new.out)) (g.K.Sink.held c.write_all-in-NoMemory.new.out)) (sym c.in-NoMemory.is)
-    (adds_line _ c.write_all-in-NoMemory.result held _ _ _ told e.ok e.err e.cause)
+    subst (λ halt. Adds [] (last halt) (Rose (g.K.Sink.faults c.args.out.now) (g.K.Sink.faults c.write_all-in-NoMemory.new.out)) (g.K.Sink.held c.args.out.now) (g.K.Sink.held c.write_all-in-NoMemory.new.out)) (sym c.in-NoMemory.is)
+    (adds_line _ c.write_all-in-NoMemory.result _ _ _ e.ok e.err e.cause.failed)
 
 pub returns-in-Limit-clause-written : goal.returns-in-Limit-clause-written
-returns-in-Limit-clause-written g c held told =
+returns-in-Limit-clause-written g c =
     let e = c.write_all-in-Limit.ensures in
-    subst (λ halt. Adds held (last halt) (Rose (g.K.Sink.faults c.args.out.now) (g.K.Sink.faults c.write_all-in-Limit.new.out)) (g.K.Sink.held c.write_all-in-Limit.new.out)) (sym c.in-Limit.is)
-    (adds_line _ c.write_all-in-Limit.result held _ _ _ told e.ok e.err e.cause)
+    subst (λ halt. Adds [] (last halt) (Rose (g.K.Sink.faults c.args.out.now) (g.K.Sink.faults c.write_all-in-Limit.new.out)) (g.K.Sink.held c.args.out.now) (g.K.Sink.held c.write_all-in-Limit.new.out)) (sym c.in-Limit.is)
+    (adds_line _ c.write_all-in-Limit.result _ _ _ e.ok e.err e.cause.failed)

@@ -1,4 +1,4 @@
-use Rattle.std.proofs.Common.{◌≤◌, ◌-◌, length, take}
+use Rattle.std.proofs.Common.{◌≡◌, ◌≤◌, ◌-◌, length, take}
 use Rattle.liq_serve.specs.Writing.{Writes}
 use Rattle.liq_serve.proofs.writer.write_all.Given as goal
 
@@ -10,7 +10,7 @@ invariant-loop-written g l =
     record {
       within : l.written ≤ length l.bytes;
       front : Writes (held l.fn.out) (take l.written l.bytes) (held l.out);
-      count : faults l.fn.out ≤ faults l.out;
+      count : faults l.out ≡ faults l.fn.out;
     }
 
 abbrev pub decreases-loop-written : goal.decreases-loop-written

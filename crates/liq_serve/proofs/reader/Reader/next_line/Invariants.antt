@@ -1,4 +1,5 @@
-use Rattle.std.proofs.Common.{◌≡◌, ◌≤◌, vec_len}
+use Rattle.std.proofs.Common.{◌≡◌, vec_len}
+use Rattle.std.specs.Prelude.{Contains}
 use Rattle.std.specs.Vec.{vec_capacity}
 use Rattle.liq_serve.specs.Lines.{IsWithinLine}
 use Rattle.liq_serve.specs.Reading.{unread, Reads}
@@ -14,5 +15,7 @@ invariant-loop-length g l =
       within : IsWithinLine l.line.items;
       length : vec_len l.line ≡ l._length;
       capacity : vec_capacity l.line ≡ vec_capacity l.fn.line;
-      count : faults l.fn.input ≤ faults l.input;
+      count : faults l.input ≡ faults l.fn.input;
+      -- a line end that was taken is still to come
+      taken : Contains l.fn.self 10 → Contains l.self 10 × (l.input ≡ l.fn.input);
     }

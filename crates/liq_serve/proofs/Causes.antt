@@ -1,0 +1,48 @@
+-- The counts of faults over the parts of a run.
+use Rattle.std.proofs.Common.{◌≡◌, ◌≢◌, ℕ, ◌≤◌, Ok, Err, Result, refl, subst, arith}
+use Rattle.liq_outside.specs.Faults.{Rose}
+use Rattle.liq_serve.specs.declared.halts.Halt.{Halt}
+use Rattle.liq_serve.specs.declared.halts.Halt.TheVariants.{BadLine, ReadFault, WriteFault, NoMemory, Limit}
+use Rattle.liq_serve.specs.Causes.{ReadCause, WriteCause, LastCause}
+use Rattle.liq_serve.specs.Statuses.{status_of}
+
+-- no other halt is caused by the source
+pub read_same : {T : Type 0} (halt : Halt) (before after : ℕ) → (let r : Result T Halt = Err halt in r ≢ Err ReadFault) → after ≡ before → ReadCause {T = T} (Err halt) before after
+read_same (BadLine n) before after other same = same
+read_same ReadFault before after other same = absurd (other refl)
+read_same WriteFault before after other same = same
+read_same NoMemory before after other same = same
+read_same Limit before after other same = same
+
+-- a part of the run that went well stands before it
+pub read_later : {T : Type 0} (end : Result T Halt) (a b c : ℕ) → b ≡ a → ReadCause end b c → ReadCause end a c
+read_later end a b c same cause = subst (λ n. ReadCause end n c) same cause
+
+pub write_later : {T : Type 0} (end : Result T Halt) (a b c : ℕ) → b ≡ a → WriteCause end b c → WriteCause end a c
+write_later end a b c same cause = subst (λ n. WriteCause end n c) same cause
+
+pub write_no_fewer : {T : Type 0} (end : Result T Halt) (before after : ℕ) → WriteCause end before after → before ≤ after
+write_no_fewer (Ok x) before after c = omega (arith, c)
+write_no_fewer (Err (BadLine n)) before after c = omega (arith, c)
+write_no_fewer (Err ReadFault) before after c = omega (arith, c)
+write_no_fewer (Err WriteFault) before after c = c.0
+write_no_fewer (Err NoMemory) before after c = omega (arith, c)
+write_no_fewer (Err Limit) before after c = omega (arith, c)
+
+-- ---- what a status says
+
+pub source_causes : (end : Result (Unit {0}) Halt) (before after : ℕ) → ReadCause end before after → (status_of end ≡ 3 → Rose before after) × ((status_of end ≡ 3 → ⊥) → after ≡ before)
+source_causes (Ok done) before after c = (λ h. absurd (omega (arith, h)), λ _. c)
+source_causes (Err (BadLine n)) before after c = (λ h. absurd (omega (arith, h)), λ _. c)
+source_causes (Err ReadFault) before after c = (λ _. c.1, λ other. absurd (other refl))
+source_causes (Err WriteFault) before after c = (λ h. absurd (omega (arith, h)), λ _. c)
+source_causes (Err NoMemory) before after c = (λ h. absurd (omega (arith, h)), λ _. c)
+source_causes (Err Limit) before after c = (λ h. absurd (omega (arith, h)), λ _. c)
+
+pub sink_causes : (end : Result (Unit {0}) Halt) (before after : ℕ) → LastCause end before after → (status_of end ≡ 4 → Rose before after) × (status_of end ≡ 0 → after ≡ before)
+sink_causes (Ok done) before after c = (λ h. absurd (omega (arith, h)), λ _. c)
+sink_causes (Err (BadLine n)) before after c = (λ h. absurd (omega (arith, h)), λ h. absurd (omega (arith, h)))
+sink_causes (Err ReadFault) before after c = (λ h. absurd (omega (arith, h)), λ h. absurd (omega (arith, h)))
+sink_causes (Err WriteFault) before after c = (λ _. c, λ h. absurd (omega (arith, h)))
+sink_causes (Err NoMemory) before after c = (λ h. absurd (omega (arith, h)), λ h. absurd (omega (arith, h)))
+sink_causes (Err Limit) before after c = (λ h. absurd (omega (arith, h)), λ h. absurd (omega (arith, h)))
