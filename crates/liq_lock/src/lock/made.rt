@@ -60,7 +60,7 @@ impl<T: Chronicle> Lock<T> {
         ensures fresh { AreFresh (lock_id self.now) result.items }
     {
         let mut first = opener;
-        for number in 1..self.seats {
+        for _ in 1..self.seats {
             let next = self.table.shared.split_seat::<Deal>(&mut first);
             seats.push_reserved(seated(next));
         }
