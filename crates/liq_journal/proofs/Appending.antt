@@ -11,13 +11,13 @@ use Rattle.liq_outside.proofs.Moments.{chained, weaker, at_last}
 use Rattle.byteorder.specs.Endian.{big_bytes}
 use Rattle.sha2.specs.Sha256.{sha256}
 use Rattle.sha2.proofs.Facts256.{length-sha256}
-use Rattle.liq_journal.specs.Settled.{JournalOn, IsSettled, is_odd}
+use Rattle.liq_journal.specs.Settled.{JournalOn, IsSettled}
 use Rattle.liq_outside.proofs.Steps.{torn_whole}
 use Rattle.liq_journal.specs.declared.damage.What.{What}
 use Rattle.liq_journal.specs.declared.damage.What.TheVariants.{Digest, Form}
 use Rattle.liq_journal.specs.Records.{records}
 use Rattle.liq_journal.specs.Written.{Written, Found, Open, piece, found_records, most_records, found_on, end_of, EndsWith, and_then, opened, record_on, record_digest, command_from, unless_rotate, is_rotate}
-use Rattle.liq_journal.specs.Crash.{Stands, IsPending, BeforeOrAfter, IsBodyOf}
+use Rattle.liq_journal.specs.Crash.{Stands, IsPending, BeforeOrAfter, IsBodyOf, is_odd}
 use Rattle.liq_journal.proofs.Reading.{records_whole, records_none, records_alike, is_whole, isnt_open, isnt_long, front_behind, piece_alike, byte_alike, length_alike, true_or_false}
 use Rattle.liq_journal.proofs.Heading.{Headed, IsOpen, is_open, headed_alike, found_behind_it, of_records, found_more}
 

@@ -1,7 +1,7 @@
 -- A journal as contracts see it.
-use Rattle.std.specs.Prelude.{◌≡◌, ℕ, ◌+◌, ◌%◌, ◌==◌, Bool, List, length}
+use Rattle.std.specs.Prelude.{◌≡◌, ℕ, ◌+◌, Bool, List, length}
 use Rattle.liq_journal.specs.Written.{Written}
-use Rattle.liq_journal.specs.Crash.{Stands}
+use Rattle.liq_journal.specs.Crash.{Stands, is_odd}
 
 -- a disk, and what is known of the journal on it
 pub record JournalOn (D : Type 0) : Type 0 where
@@ -11,9 +11,6 @@ pub record JournalOn (D : Type 0) : Type 0 where
   pub start : ℕ
   -- how many there are
   pub count : ℕ
-
-abbrev pub is_odd : ℕ → Bool
-is_odd n = (n % 2) == 1
 
 -- The bytes are whole records of this generation and a 0 behind them, as many as are known of.
 pub record IsSettled (generation start count : ℕ) (bytes : List ℕ) : Type 0 where

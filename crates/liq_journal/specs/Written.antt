@@ -153,3 +153,11 @@ and_then w command = record w { commands = w.commands ++ command ∷ [] }
 -- with an open gate at the place
 abbrev pub opened : ℕ → List ℕ → List ℕ
 opened place bytes = overwritten bytes place (1 ∷ [])
+
+-- the fields of a header in front of its digest
+abbrev pub fields_of : ℕ → ℕ → List ℕ
+fields_of generation size = version_1.name ++ big_bytes 8 generation ++ big_bytes 8 size
+
+-- a header behind its gate
+abbrev pub header_of : ℕ → List ℕ → List ℕ
+header_of generation checkpoint = fields_of generation (length checkpoint) ++ header_digest (fields_of generation (length checkpoint)) checkpoint

@@ -18,3 +18,26 @@ pub enum LookFault {
     DiskFault,
     Damaged(Damage),
 }
+
+/// The disk met a fault while a journal was created on it.
+#[derive(Debug)]
+pub struct CreateFault<D> {
+    pub disk: D,
+}
+
+/// Why no journal was opened.
+#[derive(Clone, Copy, Debug, PartialEq, Eq)]
+pub enum OpenWhy {
+    /// There is none: the disk has fewer bytes than a header, or its gate isn't open.
+    Absent,
+    DiskFault,
+    Damaged(Damage),
+    NoMemory,
+}
+
+/// No journal was opened, and the disk is handed back.
+#[derive(Debug)]
+pub struct OpenFault<D> {
+    pub disk: D,
+    pub why: OpenWhy,
+}

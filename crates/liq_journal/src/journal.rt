@@ -1,14 +1,16 @@
 // A journal that is open.
-ghost use Rattle.std.specs.Prelude.{◌≡◌, ◌≤◌, ◌<◌, ◌+◌, ◌*◌, ◌^◌, ◌↔◌, Some, List, ℕ, length, OnOk, OnErr, IfSome, IsSome};
+ghost use Rattle.std.specs.Prelude.{◌≡◌, ◌≤◌, ◌<◌, ◌+◌, ◌*◌, ◌^◌, ◌↔◌, Some, List, ℕ, true, length, OnOk, OnErr, IfOk, IfErr, IfSome, IsSome};
+ghost use Rattle.std.specs.Result.{MatchResult};
 ghost use Rattle.liq_types.specs.declared.requests.Command.{Command};
 ghost use Rattle.liq_outside.specs.Disk.{GoesOn, LeavesOnly, LeftNow, Only};
 ghost use Rattle.liq_outside.specs.Faults.{Rose};
-ghost use Rattle.liq_journal.specs.Crash.{BeforeOrAfter, IsBodyOf, Stands};
-ghost use Rattle.liq_journal.specs.Settled.{IsSettled, is_odd};
-ghost use Rattle.liq_journal.specs.Written.{Written, and_then};
+ghost use Rattle.liq_journal.specs.Crash.{BeforeOrAfter, CrashOfCreate, IsBodyOf, Stands, beginning, is_odd};
+ghost use Rattle.liq_journal.specs.Settled.{IsSettled};
+ghost use Rattle.liq_journal.specs.Written.{Written, and_then, is_generation, is_size};
 
-use crate::answers::DiskFault;
+use crate::answers::{CreateFault, DiskFault};
 use crate::bytes::write_synced;
+use crate::create::{HEADER, make};
 use crate::digests::record_bytes;
 use liq_outside::Disk;
 use std::marker::Model;
@@ -38,6 +40,37 @@ impl<D> Model for Journal<D> {
 }
 
 impl<D: Disk> Journal<D> {
+    /// A new journal on this disk, without records. The generation is at least 1, and the checkpoint has
+    /// at most 2^36 bytes, and none exactly in generation 1.
+    ///
+    /// A crash in it leaves a disk on which none is open, or the disk as it was, or with another byte at
+    /// place 0, or the new journal, with any byte there until the last sync.
+    pub fn create(disk: D, generation: u64, checkpoint: &[u8]) -> Result<Journal<D>, CreateFault<D>>
+        requires limit { length checkpoint.now ≤ 2 ^ 36 }
+        requires size { is_size generation (length checkpoint.now) ≡ true }
+
+        ensures known { IfOk result (λ j. (j.generation ≡ generation) × (j.start ≡ 57 + length checkpoint.now) × (j.count ≡ 0)) }
+        ensures created { IfOk result (λ j. (held : List ℕ) → D.seen disk ≡ Some held → is_generation (is_odd generation) generation ≡ true
+            → (after : List ℕ) × (D.seen j.disk ≡ Some after) × Stands (is_odd generation) after (beginning generation checkpoint.now)) }
+        ensures durable { IfOk result (λ j. IfSome (D.seen j.disk) (λ after. Only after (LeftNow D.moment D.left_at j.disk))) }
+        ensures telling { MatchResult result (λ j. IsSome (D.seen j.disk) ↔ IsSome (D.seen disk)) (λ e. IsSome (D.seen e.disk) ↔ IsSome (D.seen disk)) }
+        ensures crash { MatchResult result (λ j. CrashOfCreate D.seen D.moment D.left_at disk j.disk generation checkpoint.now) (λ e. CrashOfCreate D.seen D.moment D.left_at disk e.disk generation checkpoint.now) }
+        ensures time { MatchResult result (λ j. GoesOn D.moment D.left_at disk j.disk) (λ e. GoesOn D.moment D.left_at disk e.disk) }
+        ensures count { MatchResult result (λ j. D.faults disk ≤ D.faults j.disk) (λ e. D.faults disk ≤ D.faults e.disk) }
+        ensures cause { IfErr result (λ e. Rose (D.faults disk) (D.faults e.disk)) }
+    {
+        let mut disk = disk;
+        match make(&mut disk, generation, checkpoint) {
+            Ok(()) => Ok(Journal {
+                disk,
+                generation,
+                start: HEADER + checkpoint.len() as u64,
+                count: 0,
+            }),
+            Err(_) => Err(CreateFault { disk }),
+        }
+    }
+
     /// Adds a record: its bytes first, which count only once the gate before them is opened by a second
     /// write. At `Ok` it is on the disk. After `DiskFault` nothing more may be appended: open the disk again.
     ///

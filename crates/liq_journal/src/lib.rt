@@ -4,11 +4,12 @@
 
 mod answers;
 mod bytes;
+mod create;
 mod damage;
 mod digests;
 mod journal;
 
-pub use answers::{DiskFault, LookFault};
+pub use answers::{CreateFault, DiskFault, LookFault, OpenFault, OpenWhy};
 pub use damage::{Damage, What};
 pub use journal::Journal;
 
