@@ -19,7 +19,7 @@ same_key : (j k : ℕ) → is_eq (nat_cmp j k) ≡ true → j ≡ k
 same_key j k h = let e : (j == k) ≡ true = sym (nat_cmp-eq j k) ∙ h in grind (arith, nat_tests, e)
 
 module _ {X : Type 0} where
-  some : (o : Option X) (x : X) → o ≡ Some x → IsSome o
+  pub some : (o : Option X) (x : X) → o ≡ Some x → IsSome o
   some None x h = cc
   some (Some y) x h = refl
 

@@ -1,6 +1,6 @@
 //! A table over a map.
 
-ghost use Rattle.std.specs.Prelude.{◌≡◌, [], OnOk, OnErr, option_copied};
+ghost use Rattle.std.specs.Prelude.{◌≡◌, [], OnOk, OnErr, OnSome, option_copied};
 ghost use Rattle.liq_types.specs.Tables.{at, without};
 ghost use Rattle.liq_tables.specs.WithRoom.{HasRoom, KeepsRoom, written};
 
@@ -40,9 +40,10 @@ impl<X: Row> Reserved<X> {
         }
     }
 
-    /// The row at a key, if there is one.
+    /// The row at a key, if there is one. Where it is, there is room.
     pub fn get(&self, key: u32) -> Option<&X>
-        ensures { option_copied result ≡ at self.now.rows key }
+        ensures row { option_copied result ≡ at self.now.rows key }
+        ensures room { OnSome result (HasRoom self.now key) }
     {
         let row = self.map.get(&key)?;
         if row.is_used() { Some(row) } else { None }
