@@ -159,7 +159,7 @@ strikes s f account made h =
 
 -- ---- one victim
 
-served_limit : LIM ≤ 10 ^ (9 * RISES_MOST)
+pub served_limit : LIM ≤ 10 ^ (9 * RISES_MOST)
 served_limit = omega arith
 
 module _ (s : State) (f : Finds s) (liquidator : ℕ) (k : liquidator < ACCOUNTS) (account : ℕ) (made : One) (x : Strikes s account made) where

@@ -9,7 +9,7 @@ use Rattle.liq_types.specs.Product.{IsWithinRange, place_of, sumat}
 use Rattle.liq_types.specs.Soundness.{IsSoundImage, places_most}
 use Rattle.liq_types.specs.State.{State, Mark, AtStart, After, StakeSums, TroveEntry, DepositEntry}
 use Rattle.liq_types.specs.Tables.{Table}
-use Rattle.liq_types.specs.Totals.{pool_total, pool_coll, stakes_of}
+use Rattle.liq_types.specs.Totals.{total_coll, total_debt, pool_total, pool_coll, stakes_of}
 use Rattle.liq_types.specs.WellFormed.{IsWellFormed, TablesAscend}
 use Rattle.liq_troves.specs.Standing.{HadStakes, TrovesStand, books_of}
 use Rattle.liq_troves.specs.StakeSums.{sums_now, sums_at, pending_coll, pending_debt, entire, entire_of}
@@ -45,6 +45,8 @@ AreSetSince troves = AllByRecursion (λ (row : ℕ × TroveEntry). IsSetSince ro
 -- no amount is more than so much, but for those of a snapshot
 pub record AmountsWithin (most : ℕ) (s : State) : Type 0 where
   pub brought : s.brought ≤ most
+  pub total_coll : total_coll s ≤ most
+  pub total_debt : total_debt s ≤ most
   pub active_coll : s.active_coll ≤ most
   pub active_debt : s.active_debt ≤ most
   pub default_coll : s.default_coll ≤ most
@@ -89,7 +91,10 @@ pub record TroveIsCovered (s : State) (t : TroveEntry) : Type 0 where
   pub debt : t.debt ≤ s.active_debt
   pub pending_coll : pending_coll s t ≤ s.default_coll
   pub pending_debt : pending_debt s t ≤ s.default_debt
-  pub entire_debt : RESERVE + MIN_NET ≤ (entire s t).1
+  pub some_coll : 1 ≤ (entire s t).0
+  pub least_debt : RESERVE + MIN_NET ≤ (entire s t).1
+  pub entire_coll : (entire s t).0 ≤ total_coll s
+  pub entire_debt : (entire s t).1 ≤ total_debt s
   pub reserve : RESERVE ≤ s.reserve
 
 pub record DepositIsCovered (s : State) (d : DepositEntry) : Type 0 where

@@ -1,18 +1,18 @@
 //! What holds of every sound state, and that every step keeps it sound. The functions here do nothing: each is the place
 //! where the facts of its contract are proved.
 
-ghost use Rattle.std.specs.Prelude.{◌≡◌, ℕ, ◌-◌, ◌*◌, ◌^◌, ◌≤◌, ◌<◌, List, drop, Some, None, Ok, pos, ◌≤ℤ◌};
+ghost use Rattle.std.specs.Prelude.{◌≡◌, ℕ, ◌+◌, ◌-◌, ◌*◌, ◌^◌, ◌≤◌, ◌<◌, List, drop, Some, None, Ok, pos, ◌≤ℤ◌};
 ghost use Rattle.std.specs.List.{AllByRecursion};
 ghost use Rattle.liq_types.specs.declared.amounts.TheConstants.{ACCOUNTS, LIM, ONE, P_OPENING, OFFSET_MOST};
 ghost use Rattle.liq_types.specs.declared.requests.Request.{Request};
 ghost use Rattle.liq_types.specs.Image.{Image, Place};
 ghost use Rattle.liq_types.specs.PlainLedger.{AreOwnedBelow};
-ghost use Rattle.liq_types.specs.Product.{sumat};
+ghost use Rattle.liq_types.specs.Product.{rise_of, sumat};
 ghost use Rattle.liq_types.specs.Rules.{first_refusal};
 ghost use Rattle.liq_types.specs.Soundness.{IsSoundImage};
 ghost use Rattle.liq_types.specs.State.{State, opening, started, TroveEntry, DepositEntry, Redistribution, After, wallet_of};
 ghost use Rattle.liq_types.specs.Tables.{at};
-ghost use Rattle.liq_types.specs.Totals.{market_of};
+ghost use Rattle.liq_types.specs.Totals.{market_of, pool_total};
 ghost use Rattle.liq_types.specs.WellFormed.{IsWellFormed};
 ghost use Rattle.liq_troves.specs.StakeSums.{sums_now, sums_at, pending_coll, pending_debt, entire_of, exact_part, somethings, IsShortOf};
 ghost use Rattle.liq_stability.specs.Position.{words_of};
@@ -92,12 +92,14 @@ pub fn nothing_is_cut_at_zero()
 {}
 
 /// The products that are divided stay far below 2^128: what is due to a trove before any rounding, and a deposit's amount times
-/// the product or any sum. (What is due is not bounded by the stake and the sums alone.)
+/// the product or any sum, and what an offset makes of the product, for each rise of the scale that is tried. (What is due is
+/// not bounded by the stake and the sums alone.)
 pub fn products_fit()
     ensures due_coll { (s : State) → IsSoundState s → (account : ℕ) → (t : TroveEntry) → at s.troves account ≡ Some t → t.stake * ((sums_now s).coll - (sums_at s t.mark).coll) ≤ ONE * LIM }
     ensures due_debt { (s : State) → IsSoundState s → (account : ℕ) → (t : TroveEntry) → at s.troves account ≡ Some t → t.stake * ((sums_now s).debt - (sums_at s t.mark).debt) ≤ ONE * LIM }
     ensures balance { (s : State) → IsSoundState s → (account : ℕ) → (d : DepositEntry) → at s.deposits account ≡ Some d → d.amount * (words_of s).p ≤ P_OPENING * LIM }
     ensures gain { (s : State) → IsSoundState s → (account : ℕ) → (d : DepositEntry) → at s.deposits account ≡ Some d → (place : Place) → d.amount * sumat s.start s.offsets place ≤ OFFSET_MOST * P_OPENING * LIM }
+    ensures product { (s : State) → IsSoundState s → (debt coll : ℕ) → 1 ≤ debt → debt < pool_total s → (steps : ℕ) → steps ≤ rise_of (words_of s).p (record { debt = debt; coll = coll; total = pool_total s }) → (words_of s).p * ((pool_total s - debt) * 10 ^ (9 * steps)) < (P_OPENING + 1) * LIM }
     ensures below { OFFSET_MOST * P_OPENING * LIM < 2 ^ 128 }
 {}
 
