@@ -3,11 +3,11 @@ use Rattle.std.specs.Prelude.{ℕ, ◌+◌, ◌-◌, ◌*◌, ◌^◌, ◌==◌,
 use Rattle.liq_num.specs.Quotient.{ceiling_of}
 use Rattle.liq_types.specs.declared.events.PoolEvent.{PoolEvent}
 use Rattle.liq_types.specs.declared.events.PoolEvent.TheVariants.{Own, Offset}
-use Rattle.liq_types.specs.Product.{Words, opening_words, after_offset}
+use Rattle.liq_types.specs.Product.{ScaledProduct, opening_words, after_offset}
 
 -- an account's recorded amount, the place of its last own event, its weight so far and the number of its own events
 pub record Watch : Type 0 where
-  pub now : Words
+  pub now : ScaledProduct
   pub amount : ℕ
   pub epoch : ℕ
   pub scale : ℕ
