@@ -7,13 +7,15 @@ ghost use Rattle.liq_num.specs.Ratio.{IsBelow, IsBelowPercent};
 ghost use Rattle.liq_types.specs.Image.{Image};
 ghost use Rattle.liq_types.specs.Product.{Words, IsWithinRange, TakesPart, after_offset, product_after, rise_of, sum_rise, place_of, start_words, prod};
 ghost use Rattle.liq_types.specs.State.{Offset};
-ghost use Rattle.liq_types.specs.Totals.{is_below_percent, is_ratio_below};
+ghost use Rattle.liq_types.specs.Totals.{is_below_percent, is_at_most_whole, is_ratio_below};
 
 use crate::amounts::{OFFSET_MOST, P_LEAST, P_OPENING, RISES_MOST};
+use liq_num::GWEI_PER_ETH;
 
 /// The tests of ratios decide the comparisons.
 pub fn tests_of_ratios_decide()
     ensures percent { (coll debt price percent : ℕ) → IsTrue (is_below_percent coll debt price percent) ↔ IsBelowPercent coll debt price percent }
+    ensures whole { (coll debt price : ℕ) → IsTrue (is_at_most_whole coll debt price) ↔ (coll * price ≤ debt * GWEI_PER_ETH) }
     ensures below { (c1 d1 c2 d2 : ℕ) → IsTrue (is_ratio_below c1 d1 c2 d2) ↔ IsBelow c1 d1 c2 d2 }
 {}
 
