@@ -10,7 +10,7 @@ use Rattle.liq_types.specs.declared.events.PoolEvent.{PoolEvent}
 use Rattle.liq_types.specs.declared.events.PoolEvent.TheVariants as event
 use Rattle.liq_types.specs.Allowance.{weight_of, balance_allowance, gain_allowance}
 use Rattle.liq_types.specs.PlainLedger.{coll_of, offsets_coll}
-use Rattle.liq_types.specs.Product.{Words}
+use Rattle.liq_types.specs.Product.{ScaledProduct}
 use Rattle.liq_audit.specs.declared.enclosure.Enclosure.{Enclosure}
 use Rattle.liq_audit.specs.declared.rows.TheConstants.{OFFSETS_MOST}
 use Rattle.liq_audit.specs.declared.watcher.Watcher.{Watcher}
@@ -81,8 +81,8 @@ module _ (events : List PoolEvent) (h : IsAuditable events) (account k : ℕ) (l
   pub short_at : (d : PoolEvent) → k < length events → offsets_in events ≤ OFFSETS_MOST → (v : Watcher) → v ≡ watcher_of (watched account (take k events)) → v.weight ≤ offsets_in (take k events) * 2 ^ 64 → IsShort v (get_or events k d)
   short_at d less limit v is light =
       let words = watched_words account (take k events) in
-      let scale : v.scale ≡ (words_along (take k events)).scale = ap (λ (u : Watcher). u.scale) is ∙ ap (λ (w : Words). w.scale) words in
-      let epoch : v.epoch ≡ (words_along (take k events)).epoch = ap (λ (u : Watcher). u.epoch) is ∙ ap (λ (w : Words). w.epoch) words in
+      let scale : v.scale ≡ (words_along (take k events)).scale = ap (λ (u : Watcher). u.scale) is ∙ ap (λ (w : ScaledProduct). w.scale) words in
+      let epoch : v.epoch ≡ (words_along (take k events)).epoch = ap (λ (u : Watcher). u.epoch) is ∙ ap (λ (w : ScaledProduct). w.epoch) words in
       let bounded = stands.bounded in
       let offsets = offsets_few events k in
       let own = own_at v is in

@@ -4,7 +4,7 @@ use Rattle.std.specs.Prelude.{◌==◌}
 use Rattle.liq_types.specs.declared.events.PoolEvent.{PoolEvent}
 use Rattle.liq_types.specs.declared.events.PoolEvent.TheVariants as event
 use Rattle.liq_types.specs.Product.{opening_words, product_after, rise_of}
-use Rattle.liq_types.specs.State.{Offset}
+use Rattle.liq_types.specs.State.{PoolOffset}
 use Rattle.liq_types.proofs.Watching.{Watch, watch_after}
 use Rattle.liq_audit.specs.declared.watcher.Watcher.{Watcher}
 use Rattle.liq_audit.specs.Watching.{cost_now, watcher_after}
@@ -35,7 +35,7 @@ watcher-after account w (event.Own owner put_in out gain left) h = by (owner == 
 watcher-after account w (event.Offset debt coll total rise) h =
     ap (λ r. record (watcher_of w) { epoch = cond (debt == total) (w.now.epoch + 1) w.now.epoch; scale = cond (debt == total) 0 (w.now.scale + r); weight = w.weight + cost_now (watcher_of w) }) h
     ∙ by (debt == total) (rise_of w.now.p o) where
-      o : Offset
+      o : PoolOffset
       o = record { debt = debt; coll = coll; total = total }
 
       by : (b : Bool) (r : ℕ) → record (watcher_of w) { epoch = cond b (w.now.epoch + 1) w.now.epoch; scale = cond b 0 (w.now.scale + r); weight = w.weight + cost_now (watcher_of w) } ≡ record (watcher_of w) { epoch = (cond b (record opening_words { epoch = w.now.epoch + 1 }) (record { p = product_after w.now.p o r; scale = w.now.scale + r; epoch = w.now.epoch })).epoch; scale = (cond b (record opening_words { epoch = w.now.epoch + 1 }) (record { p = product_after w.now.p o r; scale = w.now.scale + r; epoch = w.now.epoch })).scale; weight = w.weight + cost_now (watcher_of w) }

@@ -4,7 +4,7 @@ use Rattle.std.specs.Prelude.{option_map, fold, filter, filter_map}
 use Rattle.liq_types.specs.Image.{Image}
 use Rattle.liq_types.specs.State.{State}
 use Rattle.liq_types.specs.Totals.{trove_count}
-use Rattle.liq_types.specs.Payments.{paid, charged}
+use Rattle.liq_types.specs.Payments.{credited, charged}
 use Rattle.liq_rate.specs.Rate.{decayed, risen, redeem_fee}
 use Rattle.liq_troves.specs.Own.{set_trove}
 use Rattle.liq_troves.specs.StakeSums.{entire_of}
@@ -88,7 +88,7 @@ with_redeem_fee_alike {s} {t} {a} {b} h made given =
 
 redeemed_with : State → ℕ → List Cut → State
 redeemed_with s account made =
-    with_redeem_fee (paid (charged (fold cut_down s made) account 0 (redeemed made)) account (drawn made - fee_after s made) 0) s made
+    with_redeem_fee (credited (charged (fold cut_down s made) account 0 (redeemed made)) account (drawn made - fee_after s made) 0) s made
 
 redeemed_with_alike : {s t : State} → Alike s t → (account : ℕ) (made : List Cut) → Alike (redeemed_with s account made) (redeemed_with t account made)
 unfolding redeemed_with

@@ -5,7 +5,7 @@ use Rattle.liq_types.specs.declared.replies.Done.{Done}
 use Rattle.liq_types.specs.declared.replies.Refusal.{Refusal}
 use Rattle.liq_types.specs.declared.requests.Call.{Call}
 use Rattle.liq_types.specs.declared.requests.Call.TheVariants.{Price, Advance, Fund, Take, Send, Open, Adjust, Close, Provide, Withdraw, GainToTrove, Liquidate, LiquidateLowest, Redeem, Claim, Rotate}
-use Rattle.liq_types.specs.Payments.{paid, charged, surplus_taken}
+use Rattle.liq_types.specs.Payments.{credited, charged, surplus_taken}
 use Rattle.liq_types.specs.State.{State, wallet_of, with_wallet, surplus_of}
 use Rattle.liq_types.specs.Totals.{market_of}
 use Rattle.liq_troves.specs.Own.{lifted, placed, set_trove}
@@ -36,25 +36,25 @@ with_fee s borrow =
 abbrev pub opened : State → ℕ → ℕ → ℕ → State
 opened s account coll borrow =
     let debt = open_debt (market_of s) borrow in
-    let lent = paid (charged (with_fee s borrow) account coll 0) account 0 borrow in
+    let lent = credited (charged (with_fee s borrow) account coll 0) account 0 borrow in
     placed (record lent { reserve = lent.reserve + RESERVE }) account coll debt
 
 abbrev pub adjusted : State → ℕ → Change → State
 adjusted s account change =
     let own = or_nothing (entire_of s account) in
-    let moved = paid (charged (with_fee s change.borrow) account change.coll_in change.repay) account change.coll_out change.borrow in
+    let moved = credited (charged (with_fee s change.borrow) account change.coll_in change.repay) account change.coll_out change.borrow in
     set_trove moved account (adjusted_coll own.0 change) (adjusted_debt (market_of s) own.1 change)
 
 abbrev pub closed : State → ℕ → State
 closed s account =
     let own = or_nothing (entire_of s account) in
-    let repaid = paid (charged s account 0 (own.1 - RESERVE)) account own.0 0 in
+    let repaid = credited (charged s account 0 (own.1 - RESERVE)) account own.0 0 in
     lifted (record repaid { reserve = repaid.reserve - RESERVE }) account
 
 -- ---- the Stability Pool
 
 abbrev pub provided : State → ℕ → ℕ → State
-provided s account lusd = paid (charged (owned s account lusd 0) account 0 lusd) account (gain_of s account) 0
+provided s account lusd = credited (charged (owned s account lusd 0) account 0 lusd) account (gain_of s account) 0
 
 -- what is paid out, of what is asked for
 abbrev pub paid_out : State → ℕ → ℕ → ℕ
@@ -63,7 +63,7 @@ paid_out s account lusd = min lusd (balance_of s account)
 abbrev pub withdrawn : State → ℕ → ℕ → State
 withdrawn s account lusd =
     let out = paid_out s account lusd in
-    paid (owned s account 0 out) account (gain_of s account) out
+    credited (owned s account 0 out) account (gain_of s account) out
 
 abbrev pub gain_moved : State → ℕ → State
 gain_moved s account =
@@ -97,7 +97,7 @@ effect s (Take account coll) =
       brought = s.brought - coll;
       wallets = with_wallet s.wallets account (record had { coll = had.coll - coll });
     }
-effect s (Send from to lusd) = paid (charged s from 0 lusd) to 0 lusd
+effect s (Send from to lusd) = credited (charged s from 0 lusd) to 0 lusd
 effect s (Open account coll borrow bound hint) = opened s account coll borrow
 effect s (Adjust account coll_in coll_out borrow repay bound hint) =
     adjusted s account (record { coll_in = coll_in; coll_out = coll_out; borrow = borrow; repay = repay })
@@ -108,7 +108,7 @@ effect s (GainToTrove account hint) = gain_moved s account
 effect s (Liquidate liquidator account) = all_liquidated s liquidator (victim_of account (one s account))
 effect s (LiquidateLowest liquidator count) = all_liquidated s liquidator (lowest s count)
 effect s (Redeem account lusd bound hint) = redemption.redeemed_by s account lusd
-effect s (Claim account) = paid (surplus_taken s account) account (surplus_of s account) 0
+effect s (Claim account) = credited (surplus_taken s account) account (surplus_of s account) 0
 effect s Rotate = record s { generation = s.generation + 1 }
 
 -- ---- what the reply shows

@@ -14,7 +14,7 @@ ghost use Rattle.liq_types.specs.declared.requests.Request.{Request};
 ghost use Rattle.liq_types.specs.declared.requests.Request.TheVariants.{Do, Ask};
 ghost use Rattle.liq_types.specs.Image.{Image, opening_image};
 ghost use Rattle.liq_types.specs.State.{State, opening, started, wallet_of};
-ghost use Rattle.liq_types.specs.Payments.{paid, charged};
+ghost use Rattle.liq_types.specs.Payments.{credited, charged};
 ghost use Rattle.liq_core.specs.Dust.{IsCovered, dust};
 ghost use Rattle.liq_core.specs.History.{Entry, IsLegal, GoesOn, state_after};
 ghost use Rattle.liq_core.specs.Identities.{IsConserved, WalletsAscend, touches_no_trove, wallets_coll, wallets_lusd};
@@ -89,8 +89,8 @@ pub fn histories_grow()
 
 /// A payment moves exactly its amounts: what all wallets have grows by what is paid, and shrinks by what is charged.
 pub fn payments_move_exactly()
-    ensures paid_coll { (s : State) → (account coll lusd : ℕ) → WalletsAscend s → wallets_coll (paid s account coll lusd) ≡ wallets_coll s + coll }
-    ensures paid_lusd { (s : State) → (account coll lusd : ℕ) → WalletsAscend s → wallets_lusd (paid s account coll lusd) ≡ wallets_lusd s + lusd }
+    ensures paid_coll { (s : State) → (account coll lusd : ℕ) → WalletsAscend s → wallets_coll (credited s account coll lusd) ≡ wallets_coll s + coll }
+    ensures paid_lusd { (s : State) → (account coll lusd : ℕ) → WalletsAscend s → wallets_lusd (credited s account coll lusd) ≡ wallets_lusd s + lusd }
     ensures charged_coll { (s : State) → (account coll lusd : ℕ) → WalletsAscend s → coll ≤ (wallet_of s account).coll → wallets_coll (charged s account coll lusd) + coll ≡ wallets_coll s }
     ensures charged_lusd { (s : State) → (account coll lusd : ℕ) → WalletsAscend s → lusd ≤ (wallet_of s account).lusd → wallets_lusd (charged s account coll lusd) + lusd ≡ wallets_lusd s }
 {}

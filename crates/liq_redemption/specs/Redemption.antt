@@ -4,7 +4,7 @@ use Rattle.liq_num.specs.Quotient.{floor_of}
 use Rattle.liq_num.specs.declared.ratio.TheConstants.{GWEI_PER_ETH}
 use Rattle.liq_types.specs.declared.amounts.TheConstants.{MCR, RESERVE, MIN_NET, FLOOR_RATE, BOOTSTRAP}
 use Rattle.liq_types.specs.declared.replies.Refusal.TheVariants.{AmountZero, ShortTokens, Bootstrap, SystemUnder, NothingRedeemed, FeeEatsAll}
-use Rattle.liq_types.specs.Payments.{paid, charged, surplus_added}
+use Rattle.liq_types.specs.Payments.{credited, charged, surplus_added}
 use Rattle.liq_types.specs.Rules.{Rule, where_below, where_short}
 use Rattle.liq_types.specs.State.{State, wallet_of}
 use Rattle.liq_types.specs.Totals.{worth, asked, is_below_percent, market_of, total_debt, trove_count}
@@ -131,5 +131,5 @@ redeemed_by s account amount =
     let cuts = cuts_in s amount in
     let fee = fee_after s cuts in
     let cut = fold cut_down s cuts in
-    let given = paid (charged cut account 0 (redeemed cuts)) account (drawn cuts - fee) 0 in
+    let given = credited (charged cut account 0 (redeemed cuts)) account (drawn cuts - fee) 0 in
     record given { base = base_after s cuts; fee_minute = s.minute; fee_coll = s.fee_coll + fee }

@@ -6,7 +6,7 @@ use Rattle.liq_types.specs.declared.amounts.TheConstants.{LIM}
 use Rattle.liq_types.specs.declared.events.PoolEvent.{PoolEvent}
 use Rattle.liq_types.specs.declared.events.PoolEvent.TheVariants as event
 use Rattle.liq_types.specs.PlainLedger.{exact_share, den_of, offsets_coll}
-use Rattle.liq_types.specs.Product.{Words, rise_of}
+use Rattle.liq_types.specs.Product.{ScaledProduct, rise_of}
 use Rattle.liq_types.specs.State.{State, opening}
 use Rattle.liq_types.specs.Totals.{pool_total}
 use Rattle.liq_stability.specs.Lawful.{IsLawful, IsLawfulEvent, IsLawfulUpTo}
@@ -44,7 +44,7 @@ auditable_event before (event.Offset debt coll total rise) h limit k = record {
   within = k.within;
   limit = omega (arith, k.total_is, limit);
   total_is = λ n below. all_balances_are LIM (omega arith) before h n below ∙ ap (λ t. t * den_of before) (sym k.total_is);
-  rise_is = subst (λ (w : Words). rise ≡ rise_of w.p (record { debt = debt; coll = coll; total = total })) (sym (same_words before h)) k.rise_is;
+  rise_is = subst (λ (w : ScaledProduct). rise ≡ rise_of w.p (record { debt = debt; coll = coll; total = total })) (sym (same_words before h)) k.rise_is;
 }
 
 auditable_along : (before es : List PoolEvent) → IsLawful opening before → IsLawfulUpTo LIM (after_events before) es → AreAuditable before es

@@ -8,8 +8,8 @@ use Rattle.liq_types.specs.declared.amounts.TheConstants.{P_LEAST, RISES_MOST}
 use Rattle.liq_types.specs.declared.events.PoolEvent.TheVariants as event
 use Rattle.liq_types.specs.Allowance.{cost_of}
 use Rattle.liq_types.specs.PlainLedger.{Share, share_after}
-use Rattle.liq_types.specs.Product.{Words, IsWithinRange, TakesPartUpTo, after_offset, sum_rise, place_of, is_place, sumat, start_words, mark_after}
-use Rattle.liq_types.specs.State.{State, PoolMark, After, DepositEntry, Offset}
+use Rattle.liq_types.specs.Product.{ScaledProduct, IsWithinRange, TakesPartUpTo, after_offset, sum_growth, place_of, is_place, sumat, start_words, mark_after}
+use Rattle.liq_types.specs.State.{State, PoolMark, After, DepositEntry, PoolOffset}
 use Rattle.liq_types.specs.Tables.{Table, at, put, without}
 use Rattle.liq_types.specs.Totals.{pool_total}
 use Rattle.liq_types.specs.WellFormed.{IsMoment, AreFinished, Ascends}
@@ -39,15 +39,15 @@ pub record IsMarked (mark : PoolMark) (sum : ℕ) (w : Watch) (amount lost : ℕ
   pub events : w.own_events ≡ lost + 1
   pub sum_then : mark.sum ≤ sum
 
-pub record StandsLive (now : Words) (share : Share) (w : Watch) (got amount lost s : ℕ) (mark : PoolMark) (j : ℕ) : Type 0 where
+pub record StandsLive (now : ScaledProduct) (share : Share) (w : Watch) (got amount lost s : ℕ) (mark : PoolMark) (j : ℕ) : Type 0 where
   pub live : IsLive now mark j
   pub holds : HoldsLive share w.weight got amount lost (now.p * reach j) (base_of mark) s
 
-pub record StandsPast (now : Words) (share : Share) (w : Watch) (got amount lost s : ℕ) (mark : PoolMark) : Type 0 where
+pub record StandsPast (now : ScaledProduct) (share : Share) (w : Watch) (got amount lost s : ℕ) (mark : PoolMark) : Type 0 where
   pub past : IsPast now mark
   pub holds : HoldsPast share w.weight got amount lost (base_of mark) s
 
-abbrev pub StandsEither : Words → Share → Watch → ℕ → ℕ → ℕ → ℕ → PoolMark → Type 0
+abbrev pub StandsEither : ScaledProduct → Share → Watch → ℕ → ℕ → ℕ → ℕ → PoolMark → Type 0
 StandsEither now share w got amount lost s mark = ((j : ℕ) × StandsLive now share w got amount lost s mark j) ⊎ StandsPast now share w got amount lost s mark
 
 abbrev pub StandsAt : State → Share → Watch → ℕ → ℕ → PoolMark → Type 0
@@ -98,10 +98,10 @@ module _ (s : State) (share : Share) (w : Watch) (got : ℕ) where
 -- ---- through an offset
 
 -- what an offset may cost a deposit that counts
-weighs : (w : Watch) (now : Words) (mark : PoolMark) (j sum amount lost : ℕ) → w.now ≡ now → IsMarked mark sum w amount lost → IsLive now mark j → amount ≤ cost_of w.amount w.place (place_of w.now) * 10 ^ (9 * j)
+weighs : (w : Watch) (now : ScaledProduct) (mark : PoolMark) (j sum amount lost : ℕ) → w.now ≡ now → IsMarked mark sum w amount lost → IsLive now mark j → amount ≤ cost_of w.amount w.place (place_of w.now) * 10 ^ (9 * j)
 weighs w now mark j sum amount lost is m h =
-    let epoch_now : w.now.epoch ≡ now.epoch = ap (λ (v : Words). v.epoch) is in
-    let scale_now : w.now.scale ≡ now.scale = ap (λ (v : Words). v.scale) is in
+    let epoch_now : w.now.epoch ≡ now.epoch = ap (λ (v : ScaledProduct). v.epoch) is in
+    let scale_now : w.now.scale ≡ now.scale = ap (λ (v : ScaledProduct). v.scale) is in
     let rise : w.now.scale - w.place.1 ≡ j = omega (arith, scale_now, m.scale_is, h.scale) in
     let test : (not (w.amount == 0) && w.now.epoch == w.place.0) ≡ true = tested w.amount w.now.epoch w.place.0 (omega (arith, m.amount_is, m.some)) (epoch_now ∙ h.epoch ∙ sym m.epoch_is) in
     let is_ceiling : cost_of w.amount w.place (place_of w.now) ≡ ceiling_of w.amount 1 (10 ^ (9 * j)) =
@@ -113,7 +113,7 @@ weighs w now mark j sum amount lost is m h =
       tested amount epoch then_epoch some e = grind (arith, nat_tests, some, e)
 
 module _ (most : ℕ) (served : most ≤ 10 ^ (9 * RISES_MOST)) (s : State) (debt coll rise : ℕ) (range : IsWithinRange (words_of s)) (takes : TakesPartUpTo most (offset_now s debt coll)) (worth_less : coll ≤ 11 * debt) (account : ℕ) (share : Share) (w : Watch) (got : ℕ) (now_is : w.now ≡ words_of s) where
-  now_offset : Offset
+  now_offset : PoolOffset
   now_offset = offset_now s debt coll
 
   abbrev share_then : Share
@@ -122,7 +122,7 @@ module _ (most : ℕ) (served : most ≤ 10 ^ (9 * RISES_MOST)) (s : State) (deb
   abbrev watch_then : Watch
   watch_then = watch_after account w (event.Offset debt coll (pool_total s) rise)
 
-  sums_more : (mark : PoolMark) (i : ℕ) → sums_from (offset s debt coll) mark i ≡ sums_from s mark i + cond (is_place (place_of (words_of s)) (mark.epoch, mark.scale + i)) (sum_rise (words_of s) (offset_now s debt coll)) 0
+  sums_more : (mark : PoolMark) (i : ℕ) → sums_from (offset s debt coll) mark i ≡ sums_from s mark i + cond (is_place (place_of (words_of s)) (mark.epoch, mark.scale + i)) (sum_growth (words_of s) (offset_now s debt coll)) 0
   sums_more mark i =
       let snoc = rises-snoc (start_words s.start) s.offsets (offset_now s debt coll) (mark.epoch, mark.scale + i) in
       omega (arith, snoc)
@@ -143,7 +143,7 @@ module _ (most : ℕ) (served : most ≤ 10 ^ (9 * RISES_MOST)) (s : State) (deb
   live_then mark amount lost m j h =
       let o = offset_now s debt coll in
       let now = words_of s in
-      let x = sum_rise now o in
+      let x = sum_growth now o in
       let total = pool_total s in
       let pos : 0 < total = omega (arith, takes.some, takes.within) in
       let light : 10 ^ 9 * amount * reach j ≤ cost_of w.amount w.place (place_of w.now) * base_of mark = weight_covers amount (cost_of w.amount w.place (place_of w.now)) (10 ^ 9) mark.p (10 ^ (9 * j)) (reach j) (10 ^ 27) (reach_whole j h.live.few) m.least_p (weighs w now mark j (sums_from s mark 0) amount lost now_is m h.live) in
@@ -172,7 +172,7 @@ module _ (most : ℕ) (served : most ≤ 10 ^ (9 * RISES_MOST)) (s : State) (deb
       let o = offset_now s debt coll in
       let now = words_of s in
       let same : grown mark (sums_from (offset s debt coll) mark) ≡ grown mark (sums_from s mark) =
-      grown_same mark (sums_from (offset s debt coll) mark) (sums_from s mark) (λ i few. sums_more mark i ∙ unchanged (sums_from s mark i) (sum_rise now o) (is_place (place_of now) (mark.epoch, mark.scale + i)) (past_place now mark i few h.past)) in
+      grown_same mark (sums_from (offset s debt coll) mark) (sums_from s mark) (λ i few. sums_more mark i ∙ unchanged (sums_from s mark i) (sum_growth now o) (is_place (place_of now) (mark.epoch, mark.scale + i)) (past_place now mark i few h.past)) in
       record {
         past = stays_past most served now o range takes mark m.least_p h.past;
         holds =
@@ -188,7 +188,7 @@ module _ (most : ℕ) (served : most ≤ 10 ^ (9 * RISES_MOST)) (s : State) (deb
   at_then amount mark h = (
     h.0,
     marked_then mark amount h.0 h.1,
-    subst (λ (v : Words). StandsEither v share_then watch_then got amount h.0 (grown mark (sums_from (offset s debt coll) mark)) mark) (sym (words-snoc s debt coll))
+    subst (λ (v : ScaledProduct). StandsEither v share_then watch_then got amount h.0 (grown mark (sums_from (offset s debt coll) mark)) mark) (sym (words-snoc s debt coll))
         (elim h.2 [
           | inl k ↦ live_then mark amount h.0 h.1 k.0 k.1
           | inr k ↦ inr (past_then mark amount h.0 h.1 k)
@@ -251,8 +251,8 @@ module _ (s : State) (finished : AreFinished s.start) (range : IsWithinRange (wo
       some = some;
       most = most;
       least_p = range.least;
-      epoch_is = ap (λ (v : Words). v.epoch) now_is;
-      scale_is = ap (λ (v : Words). v.scale) now_is;
+      epoch_is = ap (λ (v : ScaledProduct). v.epoch) now_is;
+      scale_is = ap (λ (v : ScaledProduct). v.scale) now_is;
       events = refl;
       sum_then = omega (arith, here);
     },

@@ -12,7 +12,7 @@ use Rattle.liq_types.specs.declared.amounts.TheConstants.{OFFSET_MOST, P_OPENING
 use Rattle.liq_types.specs.declared.events.PoolEvent.{PoolEvent}
 use Rattle.liq_types.specs.declared.events.PoolEvent.TheVariants as event
 use Rattle.liq_types.specs.PlainLedger.{Share, share_after, total_of, gain_paid, coll_of, IsOwnedBelow, AreOwnedBelow, over_accounts}
-use Rattle.liq_types.specs.Product.{Words, IsWithinRange, TakesPartUpTo, after_offset, place_of, sumat}
+use Rattle.liq_types.specs.Product.{ScaledProduct, IsWithinRange, TakesPartUpTo, after_offset, place_of, sumat}
 use Rattle.liq_types.specs.State.{State, After, DepositEntry}
 use Rattle.liq_types.specs.Tables.{Table, at, put, without}
 use Rattle.liq_types.specs.Totals.{pool_total, pool_coll}
@@ -60,7 +60,7 @@ module _ (most : ℕ) (served : most ≤ 10 ^ (9 * RISES_MOST)) where
         range = subst IsWithinRange (sym (words-snoc s debt coll)) next;
         sums = record {
           now =
-              subst (λ (v : Words). sumat s.start (s.offsets ++ o ∷ []) (place_of v) + OFFSET_MOST * v.p ≤ OFFSET_MOST * P_OPENING) (sym (words-snoc s debt coll))
+              subst (λ (v : ScaledProduct). sumat s.start (s.offsets ++ o ∷ []) (place_of v) + OFFSET_MOST * v.p ≤ OFFSET_MOST * P_OPENING) (sym (words-snoc s debt coll))
               (now-snoc most s.start s.offsets o h.finished h.range next takes worth_less h.sums);
           all = all-snoc most s.start s.offsets o h.finished h.range next takes worth_less h.sums;
         };
@@ -163,7 +163,7 @@ module _ (most : ℕ) (served : most ≤ 10 ^ (9 * RISES_MOST)) (n : ℕ) where
       record {
         pool = pool_offset most served s debt coll takes worth_less h.pool;
         owners = h.owners;
-        now = λ a. ap (λ (v : Words). after_offset v o) (h.now a) ∙ sym (words-snoc s debt coll);
+        now = λ a. ap (λ (v : ScaledProduct). after_offset v o) (h.now a) ∙ sym (words-snoc s debt coll);
         dens = λ a. ap (λ k. k * total) (h.dens a);
         some =
             let pos : 1 ≤ total = omega (arith, takes.some, takes.within) in

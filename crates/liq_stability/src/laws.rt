@@ -11,7 +11,7 @@ ghost use Rattle.liq_types.specs.Allowance.{balance_allowance, gain_allowance};
 ghost use Rattle.liq_types.specs.Image.{Image, Place};
 ghost use Rattle.liq_types.specs.PlainLedger.{exact_share, den_of, offsets_coll, gains_paid_to, AreOwnedBelow, over_accounts};
 ghost use Rattle.liq_types.specs.Product.{IsWithinRange, is_place, place_order, place_of, prod, sumat, finished_sums};
-ghost use Rattle.liq_types.specs.State.{State, DepositEntry, Offset, opening};
+ghost use Rattle.liq_types.specs.State.{State, DepositEntry, PoolOffset, opening};
 ghost use Rattle.liq_types.specs.Tables.{at};
 ghost use Rattle.liq_types.specs.Totals.{pool_total, pool_coll};
 ghost use Rattle.liq_types.specs.WellFormed.{AreFinished, IsBefore, IsPoolCovered};
@@ -48,13 +48,13 @@ pub fn offsets_move_the_words()
 /// The finished sums ascend by their places, which all come before the place of now, and none is 0, where this holds of the
 /// image from which the offsets began. Each is the sum of its place, and where there is none the sum is 0.
 pub fn finished_sums_stay_in_order()
-    ensures ascending { (i : Image) → (offsets : List Offset) → IsStrictlySortedBy place_order (keys_of i.finished) →
+    ensures ascending { (i : Image) → (offsets : List PoolOffset) → IsStrictlySortedBy place_order (keys_of i.finished) →
         IsStrictlySortedBy place_order (keys_of (finished_sums i offsets)) }
-    ensures some { (i : Image) → (offsets : List Offset) → AllByRecursion (λ sum. 1 ≤ sum) (values_of i.finished) →
+    ensures some { (i : Image) → (offsets : List PoolOffset) → AllByRecursion (λ sum. 1 ≤ sum) (values_of i.finished) →
         AllByRecursion (λ sum. 1 ≤ sum) (values_of (finished_sums i offsets)) }
-    ensures before { (i : Image) → (offsets : List Offset) → AreFinished i →
+    ensures before { (i : Image) → (offsets : List PoolOffset) → AreFinished i →
         AllByRecursion (λ (row : Place × ℕ). IsBefore row.0 (place_of (prod i offsets))) (finished_sums i offsets) }
-    ensures shown { (i : Image) → (offsets : List Offset) → AreFinished i → (place : Place) → is_place (place_of (prod i offsets)) place ≡ false →
+    ensures shown { (i : Image) → (offsets : List PoolOffset) → AreFinished i → (place : Place) → is_place (place_of (prod i offsets)) place ≡ false →
         unwrap_or (lookup (is_place place) (finished_sums i offsets)) 0 ≡ sumat i offsets place }
 {}
 

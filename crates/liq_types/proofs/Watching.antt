@@ -6,12 +6,12 @@ use Rattle.liq_types.specs.declared.events.PoolEvent.TheVariants.{Own, Offset}
 use Rattle.liq_types.specs.Allowance.{cost_of, costs_from, weight_of}
 use Rattle.liq_types.specs.Image.{Place}
 use Rattle.liq_types.specs.PlainLedger.{is_own_of, own_events_of}
-use Rattle.liq_types.specs.Product.{Words, opening_words, after_offset, place_of}
+use Rattle.liq_types.specs.Product.{ScaledProduct, opening_words, after_offset, place_of}
 
 -- the words of now, an account's recorded amount with the place of its last own event, its weight so far and the number of
 -- its own events
 pub record Watch : Type 0 where
-  pub now : Words
+  pub now : ScaledProduct
   pub amount : ℕ
   pub place : Place
   pub weight : ℕ

@@ -5,7 +5,7 @@ use Rattle.liq_types.specs.declared.events.PoolEvent.{PoolEvent}
 use Rattle.liq_types.specs.declared.events.PoolEvent.TheVariants.{Own, Offset}
 use Rattle.liq_types.specs.Image.{Place}
 use Rattle.liq_types.specs.PlainLedger.{own_events_of}
-use Rattle.liq_types.specs.Product.{Words, opening_words, after_offset, place_of}
+use Rattle.liq_types.specs.Product.{ScaledProduct, opening_words, after_offset, place_of}
 
 -- What an offset may cost an account of which this amount was recorded at this place, in 10^9ths of a unit: the amount as it
 -- counts after the scale's rises since then. An epoch that has ended costs nothing more.
@@ -16,7 +16,7 @@ cost_of amount place now =
     else 0
 
 -- what all offsets of the events may cost it, from these words on
-abbrev pub costs_from : ℕ → Words → ℕ → Place → List PoolEvent → ℕ
+abbrev pub costs_from : ℕ → ScaledProduct → ℕ → Place → List PoolEvent → ℕ
 costs_from account now amount place [] = 0
 costs_from account now amount place (Own owner put paid gain left ∷ es) =
     let recorded = if owner == account then left else amount in
