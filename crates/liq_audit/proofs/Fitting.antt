@@ -9,17 +9,18 @@ use Rattle.liq_num.specs.Quotient.{floor_of, ceiling_of}
 use Rattle.liq_types.specs.declared.amounts.TheConstants.{LIM, RISES_MOST}
 use Rattle.liq_types.specs.declared.events.PoolEvent.{PoolEvent}
 use Rattle.liq_types.specs.declared.events.PoolEvent.TheVariants as event
-use Rattle.liq_types.specs.Allowance.{Watch, no_watch, watch_after, watched}
 use Rattle.liq_types.specs.PlainLedger.{Share, no_share, share_after, exact_share, den_of, coll_of, offsets_coll}
 use Rattle.liq_types.specs.Product.{ScaledProduct, opening_words, after_offset, rise_of, IsWithinRange, TakesPartUpTo}
 use Rattle.liq_types.specs.State.{PoolOffset}
+use Rattle.liq_types.proofs.Watching.{Watch, no_watch, watch_after, watched}
 use Rattle.liq_types.proofs.Accounts.{over-term, above_with, owned_with, under_with, share_den}
 use Rattle.liq_types.proofs.Ranges.{offset_within, rise_few}
 use Rattle.liq_types.proofs.Sums.{leaves_part, takes_all}
 use Rattle.liq_audit.specs.declared.enclosure.Enclosure.{Enclosure}
 use Rattle.liq_audit.specs.Auditable.{word_after, words_along, AddUpWithin, IsAuditableOffset, IsAuditableEvent, AreAuditable}
 use Rattle.liq_audit.specs.Enclosure.{nothing_enclosed, enclosure_after, enclosure_shared, enclosed, HasParts, IsSmall}
-use Rattle.liq_audit.specs.Watching.{HasRise, IsFew}
+use Rattle.liq_audit.specs.Watching.{IsFew}
+use Rattle.liq_audit.proofs.Watchers.{HasRise}
 use Rattle.liq_audit.proofs.Enclosing.{IsEnclosed, event_encloses}
 
 -- ---- along the events
@@ -240,7 +241,7 @@ watch_words : (account : ℕ) (w : Watch) (now : ScaledProduct) → w.now ≡ no
 watch_words account w now h [] = h
 watch_words account w now h (event.Own owner put_in out gain amount ∷ es) =
     watch_words account (watch_after account w (event.Own owner put_in out gain amount)) now (either (owner == account) ∙ h) es where
-      either : (b : Bool) → (cond b (record w { amount = amount; epoch = w.now.epoch; scale = w.now.scale; own_events = w.own_events + 1 }) w).now ≡ w.now
+      either : (b : Bool) → (cond b (record w { amount = amount; place = (w.now.epoch, w.now.scale); own_events = w.own_events + 1 }) w).now ≡ w.now
       either true = refl
       either false = refl
 watch_words account w now h (event.Offset debt coll total rise ∷ es) =
@@ -255,7 +256,7 @@ few_own account w (event.Own owner put_in out gain amount ∷ es) =
     let more = few_own account (watch_after account w (event.Own owner put_in out gain amount)) es in
     let one = either (owner == account) in
     omega (arith, more, one) where
-      either : (b : Bool) → (cond b (record w { amount = amount; epoch = w.now.epoch; scale = w.now.scale; own_events = w.own_events + 1 }) w).own_events ≤ w.own_events + 1
+      either : (b : Bool) → (cond b (record w { amount = amount; place = (w.now.epoch, w.now.scale); own_events = w.own_events + 1 }) w).own_events ≤ w.own_events + 1
       either true = omega arith
       either false = omega arith
 few_own account w (event.Offset debt coll total rise ∷ es) =

@@ -11,6 +11,7 @@ ghost use Rattle.liq_types.specs.State.{PoolOffset};
 ghost use Rattle.liq_types.specs.Totals.{is_below_percent, is_at_most_whole, is_ratio_below};
 
 use crate::amounts::{OFFSET_MOST, P_LEAST, P_OPENING, RISES_MOST};
+use liq_num::GWEI_PER_ETH;
 
 /// The tests of ratios decide the comparisons.
 pub fn tests_of_ratios_decide()
