@@ -100,7 +100,7 @@ have_totals before [] h = tt
 have_totals before (event.Own owner put_in out gain amount ∷ es) h = (tt, have_totals (before ++ event.Own owner put_in out gain amount ∷ []) es h.2)
 have_totals before (event.Offset debt coll total rise ∷ es) h = (omega (arith, h.0.some, h.0.within), have_totals (before ++ event.Offset debt coll total rise ∷ []) es h.2)
 
-encloses_row : (events : List PoolEvent) → IsAuditable events → (engine : EngineRow) → EnclosesShare events (row_of events engine)
+pub encloses_row : (events : List PoolEvent) → IsAuditable events → (engine : EngineRow) → EnclosesShare events (row_of events engine)
 encloses_row events h engine =
     let e = encloses engine.account events (have_totals [] events h.each) in
     record { balance_lo = e.balance_lo; balance_hi = e.balance_hi; gain_lo = e.gain_lo; gain_hi = e.gain_hi; balance_allow = refl; gain_allow = refl }

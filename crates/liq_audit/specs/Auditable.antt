@@ -1,5 +1,5 @@
 -- What an audit asks of its events, and what it answers.
-use Rattle.std.specs.Prelude.{◌≡◌, ℕ, ◌*◌, ◌^◌, ◌<◌, ◌≤◌, Bool, true, false, nat_lt, List, [], ◌∷◌, ◌++◌, length, map, fold, count_by, Option, Some, None, if◌then◌else◌}
+use Rattle.std.specs.Prelude.{◌≡◌, ℕ, ◌+◌, ◌*◌, ◌^◌, ◌<◌, ◌≤◌, Bool, true, false, nat_lt, List, [], ◌∷◌, ◌++◌, length, map, fold, count_by, Option, Some, None, if◌then◌else◌}
 use Rattle.std.specs.Map.{keys_of}
 use Rattle.liq_types.specs.declared.amounts.TheConstants.{LIM}
 use Rattle.liq_types.specs.declared.events.PoolEvent.{PoolEvent}
@@ -109,3 +109,10 @@ pub record EnclosesShare (events : List PoolEvent) (row : Row) : Type 0 where
   pub gain_hi : (exact_share row.account events).gain ≤ row.gain_hi * (exact_share row.account events).den
   pub balance_allow : row.balance_allow ≡ balance_allowance row.account events
   pub gain_allow : row.gain_allow ≡ gain_allowance row.account events
+
+-- what the protocol gives an account is not above the enclosure, and below it by no more than the allowance
+pub record IsWithinRow (row : Row) : Type 0 where
+  pub balance_hi : row.balance ≤ row.balance_hi
+  pub balance_lo : row.balance_lo ≤ row.balance + row.balance_allow
+  pub gain_hi : row.gain ≤ row.gain_hi
+  pub gain_lo : row.gain_lo ≤ row.gain + row.gain_allow

@@ -43,19 +43,17 @@ fn within_limits(events: &[PoolEvent], engine: &[EngineRow]) -> Result<(), Audit
     ensures no_limit { limit_passed events.now ≡ None → IsOk result }
     ensures offsets { OnOk result (offsets_in events.now ≤ OFFSETS_MOST) }
 {
-    let count = count_offsets(events);
-    if count > OFFSETS_MOST {
-        return Err(AuditFault::AuditLimit {
-            count,
-            limit: OFFSETS_MOST,
-        });
-    }
-    let count = engine.len() as u64;
-    if count > ACCOUNTS_MOST {
-        return Err(AuditFault::AuditLimit {
-            count,
-            limit: ACCOUNTS_MOST,
-        });
+    at_most(count_offsets(events), OFFSETS_MOST)?;
+    at_most(engine.len() as u64, ACCOUNTS_MOST)
+}
+
+fn at_most(count: u64, limit: u64) -> Result<(), AuditFault>
+    ensures passed { limit < count → result ≡ Err (AuditFault.AuditLimit count limit) }
+    ensures within { count ≤ limit → IsOk result }
+    ensures ok { OnOk result (count ≤ limit) }
+{
+    if count > limit {
+        return Err(AuditFault::AuditLimit { count, limit });
     }
     Ok(())
 }

@@ -1,1 +1,3 @@
 pub mod Borrowing
+pub mod Checks
+pub mod Given

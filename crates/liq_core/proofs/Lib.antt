@@ -21,7 +21,16 @@ pub mod Ranking
 pub mod Rows
 pub mod Ruled
 pub mod Runs
+pub mod SoundBorrow
+pub mod SoundCalls
 pub mod SoundCores
+pub mod SoundFacts
+pub mod SoundLiquidate
+pub mod SoundPool
+pub mod SoundRedeem
 pub mod SoundRules
+pub mod SoundStart
+pub mod SoundStep
+pub mod SoundTests
 pub mod Standing
 pub mod Started

@@ -21,6 +21,7 @@ pub mod Rotation
 pub mod Row
 pub mod Rules
 pub mod Sound
+pub mod SoundState
 pub mod Step
 pub mod Turn
 pub mod Verbs

@@ -39,7 +39,7 @@ module _ {T I : Type 0} (history : T → List I) (maker : I → ℕ) where
     number = λ _. one_in 1 [];
     behind = ([], refl, λ i c _. nothing_in_nil i c);
     pasts = (behind_none maker [], behind_none maker []);
-    cutting = λ e. let more : 1 < n = ltb_lt 1 n e in (more, omega arith, refl);
+    cutting = λ e. let more : 1 < n = ltb_lt 1 n e in (more, omega arith, refl, refl);
   }
 
   -- the rule holds at the start

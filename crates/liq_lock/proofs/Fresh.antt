@@ -1,5 +1,5 @@
 -- Seats as they are made, one behind the other.
-use Rattle.std.proofs.Common.{◌≡◌, ℕ, ◌+◌, ◌-◌, false, ltb, List, [], ◌∷◌, ◌++◌, length, get_or, refl, sym, ap, subst, length-append, arith}
+use Rattle.std.proofs.Common.{◌≡◌, ℕ, ◌+◌, ◌-◌, ◌<◌, false, ltb, List, [], ◌∷◌, ◌++◌, length, get_or, refl, sym, ap, subst, length-append, arith}
 use mathlib.Core.Logic.{dite}
 use native.Mathlib.Decide.{dec_lt}
 use Rattle.std.specs.Prelude.{None}
@@ -7,36 +7,28 @@ use Rattle.std.proofs.lemmas.List.{get_or_append_left, get_or_push}
 use Rattle.atomic_table.specs.Seated.{TableId}
 use Rattle.liq_lock.specs.declared.seat.LockSeat.{LockSeat}
 use Rattle.liq_lock.specs.Seats.{IsFresh, AreFresh}
-use Rattle.liq_lock.specs.Views.{dealer, dealt, newcomer, opener, no_past}
+use Rattle.liq_lock.specs.Views.{dealer, keeping, no_past}
 
 module _ {I : Type 0} where
-  pub fresh_push : (id : TableId) (seats : List (LockSeat I)) (seat : LockSeat I) (k : ℕ) → AreFresh id seats → length seats + 1 ≡ k → IsFresh id k seat → AreFresh id (seats ++ seat ∷ [])
-  fresh_push id seats seat k all count one j d below =
+  -- seats numbered from 2
+  abbrev pub Later : TableId → List (LockSeat I) → Type 0
+  Later id seats = (k : ℕ) (d : LockSeat I) → k < length seats → IsFresh id (k + 2) (get_or seats k d)
+
+  pub later_push : (id : TableId) (seats : List (LockSeat I)) (seat : LockSeat I) (k : ℕ) → Later id seats → length seats + 2 ≡ k → IsFresh id k seat → Later id (seats ++ seat ∷ [])
+  later_push id seats seat k all count one j d below =
       dite (dec_lt j (length seats))
-      (λ yes. subst (IsFresh id (j + 1)) (sym (get_or_append_left seats (seat ∷ []) d j yes)) (all j d yes))
+      (λ yes. subst (IsFresh id (j + 2)) (sym (get_or_append_left seats (seat ∷ []) d j yes)) (all j d yes))
       (λ no.
       let long = length-append seats (seat ∷ []) in
       let last : j ≡ length seats = omega arith in
       let here : seat ≡ get_or (seats ++ seat ∷ []) j d = sym (get_or_push seats seat d j (sym last)) in
-      subst (λ (z : ℕ × LockSeat I). IsFresh id z.0 z.1) (λ i. ((let e : k ≡ j + 1 = omega arith in e) i, here i)) one)
+      subst (λ (z : ℕ × LockSeat I). IsFresh id z.0 z.1) (λ i. ((let e : k ≡ j + 2 = omega arith in e) i, here i)) one)
 
-  -- the view that goes on from a split
-  pub dealt_on : (k n : ℕ) → dealt {I = I} (dealer k n) ≡ dealer (k + 1) n
-  dealt_on k n =
-      let less : n + 1 - k - 1 ≡ n + 1 - (k + 1) = omega arith in
-      ap (λ (z : ℕ). record { number = k + 1; stands = (k + 1) ∷ []; seen = []; ticket = None; inside = false; shares = z; splitting = ltb 1 z; left = no_past; right = no_past }) less
-
-  -- the first view goes on to the first split
-  pub opener_deals : (n : ℕ) → opener {I = I} n ≡ dealer 1 n
-  opener_deals n =
-      let same : n ≡ n + 1 - 1 = omega arith in
-      ap (λ (z : ℕ). record { number = 1; stands = 1 ∷ []; seen = []; ticket = None; inside = false; shares = z; splitting = ltb 1 z; left = no_past; right = no_past }) same
-
-  -- the last view has one share left
-  pub last_dealt : (n : ℕ) → dealer {I = I} n n ≡ newcomer n
-  last_dealt n =
-      let one : n + 1 - n ≡ 1 = omega arith in
-      ap (λ (z : ℕ). record { number = n; stands = n ∷ []; seen = []; ticket = None; inside = false; shares = z; splitting = ltb 1 z; left = no_past; right = no_past }) one
+  -- the first view after a split
+  pub keeping_on : (k n : ℕ) → keeping {I = I} (dealer k n) ≡ dealer (k + 1) n
+  keeping_on k n =
+      let less : n + 2 - k - 1 ≡ n + 2 - (k + 1) = omega arith in
+      ap (λ (z : ℕ). record { number = 1; stands = 1 ∷ []; seen = []; ticket = None; inside = false; shares = z; splitting = ltb 1 z; next = k + 1; left = no_past; right = no_past }) less
 
   -- the last seat that was made, and those before it
   pub fresh_pop : (id : TableId) (seats : List (LockSeat I)) (seat : LockSeat I) → AreFresh id (seats ++ seat ∷ []) → AreFresh id seats × IsFresh id (length seats + 1) seat

@@ -6,7 +6,7 @@ use Rattle.std.specs.Prelude.{Contains}
 use Rattle.std.proofs.lemmas.List.{append-nil}
 use Rattle.std.proofs.lemmas.List.Elements.{Contains-append_left, Contains-append_right, Contains-append_cases}
 use Rattle.std.proofs.lemmas.Bool.Decides.{nat_tests}
-use Rattle.liq_lock.specs.History.{NoneOf, Behind, GoesOn}
+use Rattle.liq_lock.specs.History.{NoneOf, Behind}
 use Rattle.liq_lock.specs.Views.{longer}
 
 pub lt-ltb : (a b : ℕ) → a < b → ltb a b ≡ true
@@ -51,13 +51,6 @@ module _ {I : Type 0} (maker : I → ℕ) where
   pub behind_on : (log seen new : List I) (numbers : List ℕ) → Behind maker log numbers seen → NoneOf maker numbers new → Behind maker (log ++ new) numbers seen
   behind_on log seen new numbers b none =
       (b.0 ++ new, ap (λ l. l ++ new) b.1 ∙ append_assoc seen b.0 new, λ i c. ⊎_elim (b.2 i) (none i) (Contains-append_cases b.0 new i c))
-
-  -- a turn may add nothing, or one item of its own
-  pub adds_none : (number : ℕ) (log : List I) → GoesOn maker number log log
-  adds_none number log = ([], sym (append-nil log), λ i c. absurd (nothing_in_nil i c))
-
-  pub adds_one : (number : ℕ) (log : List I) (i : I) → maker i ≡ number → GoesOn maker number log (log ++ i ∷ [])
-  adds_one number log i is = (i ∷ [], refl, λ j c. ap maker (sym (in_one i j c)) ∙ is)
 
   -- what is beyond the longer of two beginnings carries none of the numbers of the shorter
   shorter_behind : (log a b : List I) (p q : List ℕ) (l : Behind maker log p a) (r : Behind maker log q b) → length a ≤ length b → Behind maker b p a × NoneOf maker p r.0

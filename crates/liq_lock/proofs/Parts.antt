@@ -118,37 +118,39 @@ module _ {T I : Type 0} (history : T → List I) (maker : I → ℕ) where
       old_number x j p = let low : x ≤ r.ledger.made = p.2 in (at_else G.keeper made last x (λ e. omega arith) ∙ p.0, p.1, omega arith)
 
       split_left : Fits maker n G' id (keeping v)
-      split_left = let f = r.each id v here in let none = none_waits in record {
-        ticket = f.ticket;
-        inside = f.inside;
-        share = omega arith;
-        alive = inr (omega arith);
-        own = λ x c. old_number x id (f.own x c);
-        number = λ _. f.number (let h = (f.cutting marked).0 in omega arith);
-        behind = f.behind;
-        pasts = f.pasts;
-        cutting = λ e. absurd (false_not_true e);
-      }
+      split_left =
+          let f = r.each id v here in let c = f.cutting marked in let more : 1 < v.shares = c.0 in
+          let all : r.ledger.made + v.shares ≡ n + 1 = c.1 in let next : v.next ≡ r.ledger.made + 1 = c.2 in
+          let none = none_waits in record {
+            ticket = f.ticket;
+            inside = f.inside;
+            share = omega arith;
+            alive = inr (omega arith);
+            own = λ x k. old_number x id (f.own x k);
+            number = λ _. f.number (omega arith);
+            behind = f.behind;
+            pasts = f.pasts;
+            cutting = λ e. let still : 1 < v.shares - 1 = ltb_lt 1 (v.shares - 1) e in (still, omega arith, omega arith, c.3);
+          }
 
       split_right : Fits maker n G' last (dealt v)
       split_right =
-          let f = r.each id v here in let c = f.cutting marked in let more : 1 < v.shares = c.0 in
-          let all : r.ledger.made + v.shares ≡ n + 1 = c.1 in let is : v.number ≡ r.ledger.made = c.2 in
-          let none = none_waits in record {
+          let f = r.each id v here in let c = f.cutting marked in
+          let is : v.next ≡ r.ledger.made + 1 = c.2 in let none = none_waits in record {
             ticket = λ t e. absurd (None_not_Some t (sym out ∙ e));
             inside = λ e. absurd (false_not_true (sym calm ∙ e));
             share = omega arith;
             alive = inr (omega arith);
-            own = λ x k. let here' : v.number + 1 ≡ x = in_one (v.number + 1) x k in (at_here G.keeper made last x (omega arith), omega arith, omega arith);
-            number = λ _. one_in (v.number + 1) [];
+            own = λ x k. let here' : v.next ≡ x = in_one v.next x k in (at_here G.keeper made last x (omega arith), omega arith, omega arith);
+            number = λ _. one_in v.next [];
             behind = (
               f.behind.0,
               f.behind.1,
               λ i k h. let below = r.makers i (subst (λ (l : List I). Contains l i) (sym f.behind.1) (Contains-append_right v.seen f.behind.0 i k)) in
-                  let high : maker i ≤ r.ledger.made = below.1 in let above : v.number + 1 ≡ maker i = in_one (v.number + 1) (maker i) h in absurd (omega arith),
+                  let high : maker i ≤ r.ledger.made = below.1 in let above : v.next ≡ maker i = in_one v.next (maker i) h in absurd (omega arith),
             );
             pasts = f.pasts;
-            cutting = λ e. let still : 1 < v.shares - 1 = ltb_lt 1 (v.shares - 1) e in (still, omega arith, omega arith);
+            cutting = λ e. absurd (false_not_true e);
           }
 
       split_else : (j : ℕ) (u : View I) → j ≢ id → get_elem? s.views j ≡ some u → Fits maker n G' j u
@@ -166,18 +168,18 @@ module _ {T I : Type 0} (history : T → List I) (maker : I → ℕ) where
             let c = f.cutting e in let d = mine.cutting marked in
             let a = (f.own u.number (f.number (let h : 1 < u.shares = c.0 in omega arith))).0 in
             let b = (mine.own v.number (mine.number (let h : 1 < v.shares = d.0 in omega arith))).0 in
-            absurd (other (sym a ∙ ap G.keeper (c.2 ∙ sym d.2) ∙ b));
+            absurd (other (sym a ∙ ap G.keeper (c.3 ∙ sym d.3) ∙ b));
       }
 
       split_kept : (x : ℕ) → 1 ≤ x → x ≤ made → (u : View I) × (get_elem? views (G'.keeper x) ≡ some u) × (1 ≤ u.shares) × Contains u.stands x
       split_kept x low high =
-          let c = (r.each id v here).cutting marked in let more : 1 < v.shares = c.0 in let is : v.number ≡ r.ledger.made = c.2 in
+          let c = (r.each id v here).cutting marked in let more : 1 < v.shares = c.0 in let is : v.next ≡ r.ledger.made + 1 = c.2 in
           dite (ℕ_discrete x made)
-          (λ yes. let same : v.number + 1 ≡ x = omega arith in (
+          (λ yes. let same : v.next ≡ x = omega arith in (
             dealt v,
             ap (get_elem? views) (at_here G.keeper made last x yes) ∙ cut_last s.views id (keeping v) (dealt v),
             omega arith,
-            subst (Contains ((v.number + 1) ∷ [])) same (one_in (v.number + 1) []),
+            subst (Contains (v.next ∷ [])) same (one_in v.next []),
           ))
           (λ no.
           let k = r.kept x low (omega arith) in let place : ℕ = G.keeper x in
@@ -210,7 +212,7 @@ module _ {T I : Type 0} (history : T → List I) (maker : I → ℕ) where
             kept = split_kept;
             makers = λ i k. let p = r.makers i k in let high : maker i ≤ r.ledger.made = p.1 in (p.0, omega arith);
             cut = ⊎_elim
-                (λ e. inr (last, dealt v, cut_last s.views id (keeping v) (dealt v), e))
+                (λ e. inr (id, keeping v, cut_here s.views id v (keeping v) (dealt v) here, e))
                 (λ e. let few : v.shares - 1 ≤ 1 = ltb_le 1 (v.shares - 1) e in inl (omega arith)) (both_cases (ltb 1 (v.shares - 1)));
             home = r.home;
             away = λ busy. let a = r.away busy in (a.0, (a.1.0, cut_else s.views id (keeping v) (dealt v) a.1.0 (r.ledger.holder r.ledger.served) (not_inside history maker n s r id v here calm busy) a.1.1, a.1.2));

@@ -18,20 +18,6 @@ turning_is (Some t) true true k e = absurd (cc)
 turning_is (Some t) false b k e = absurd (cc)
 turning_is None a b k e = absurd (cc)
 
-pub turns : (o : Option ℕ) (a b : Bool) (k t : ℕ) → o ≡ Some t → a ≡ true → b ≡ false → 1 ≤ k → turning o a b k ≡ true
-turns None a b k t p q r h = absurd (cc)
-turns (Some u) false b k t p q r h = absurd (cc)
-turns (Some u) true true k t p q r h = absurd (cc)
-turns (Some u) true false zero t p q r h = absurd (omega arith)
-turns (Some u) true false (suc k) t p q r h = refl
-
-pub rests : (o : Option ℕ) (a b : Bool) (k : ℕ) → o ≡ None → a ≡ false → b ≡ false → 1 ≤ k → resting o a b k ≡ true
-rests (Some u) a b k p q r h = absurd (cc)
-rests None true b k p q r h = absurd (cc)
-rests None false true k p q r h = absurd (cc)
-rests None false false zero p q r h = absurd (omega arith)
-rests None false false (suc k) p q r h = refl
-
 module _ {I : Type 0} where
   pub record AtRest (v : View I) : Type 0 where
     pub ticket : v.ticket ≡ None
@@ -50,12 +36,6 @@ module _ {I : Type 0} where
 
   pub at_turn : (v : View I) → is_turn v ≡ true → AtTurn v
   at_turn v e = let f = turning_is v.ticket v.inside v.splitting v.shares e in record { ticket = f.0; inside = f.1; whole = f.2; alive = f.3 }
-
-  pub is_rest : (v : View I) → AtRest v → is_at_rest v ≡ true
-  is_rest v r = rests v.ticket v.inside v.splitting v.shares r.ticket r.calm r.whole r.alive
-
-  pub is_turning : (v : View I) → AtTurn v → is_turn v ≡ true
-  is_turning v r = turns v.ticket v.inside v.splitting v.shares r.ticket.0 r.ticket.1 r.inside r.whole r.alive
 
   pub one_view : (l : List (View I)) → length l ≡ 1 → l ≡ view_in l ∷ []
   one_view [] e = absurd (omega arith)

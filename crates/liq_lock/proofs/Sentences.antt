@@ -109,10 +109,12 @@ module _ {T I : Type 0} (history : T → List I) (maker : I → ℕ) (n : ℕ) (
     one_mark = λ i j v w l m p q.
         let a = place i v l in let b = place j w m in
         let c = (r.each i v l.0).cutting p in let d = (r.each j w m.0).cutting q in
-        sym a.4 ∙ ap G.keeper (c.2 ∙ sym d.2) ∙ b.4;
+        sym a.4 ∙ ap G.keeper (c.3 ∙ sym d.3) ∙ b.4;
     to_come = λ j v l p.
-        let c = (r.each j v l.0).cutting p in let all : G.made + v.shares ≡ n + 1 = c.1 in (
+        let c = (r.each j v l.0).cutting p in let all : G.made + v.shares ≡ n + 1 = c.1 in let next : v.next ≡ G.made + 1 = c.2 in (
+          c.3,
           (λ i w m. let high : w.number ≤ G.made = (place i w m).3 in omega arith),
           λ i k. let o = r.makers i k in let high : maker i ≤ G.made = o.1 in (o.0, omega arith),
+          omega arith,
         );
   }

@@ -30,7 +30,7 @@ module _ {I : Type 0} where
     pub number : 1 ≤ v.shares → Contains v.stands v.number
     pub behind : Behind maker g.log v.stands v.seen
     pub pasts : Behind maker v.seen v.left.stands v.left.seen × Behind maker v.seen v.right.stands v.right.seen
-    pub cutting : v.splitting ≡ true → (1 < v.shares) × (g.made + v.shares ≡ n + 1) × (v.number ≡ g.made)
+    pub cutting : v.splitting ≡ true → (1 < v.shares) × (g.made + v.shares ≡ n + 1) × (v.next ≡ g.made + 1) × (v.number ≡ 1)
 
   -- the rule of a lock that was made with n seats
   pub record Ruled {T : Type 0} (history : T → List I) (maker : I → ℕ) (n : ℕ) (s : State (Option T) (View I)) : Type 0 where

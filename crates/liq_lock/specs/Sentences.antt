@@ -47,8 +47,8 @@ module _ {T I : Type 0} where
     -- 10. Each view has a share, and all shares together are n
     pub some_share : (j : ℕ) (v : View I) → Lives s j v → 1 ≤ v.shares
     pub all_shares : sum_by shares s.views ≡ n
-    -- Of the mark of a view out of which seats are still made: at most one has it, and no view and no item has a number that
-    -- is yet to come
+    -- Of the mark of a view out of which seats are still made: at most one has it, and it has number 1. While it has k shares
+    -- no view and no item has a number above n - k + 1, and the next one is n - k + 2
     pub one_mark : (i j : ℕ) (v w : View I) → Lives s i v → Lives s j w → v.splitting ≡ true → w.splitting ≡ true → i ≡ j
     pub to_come : (j : ℕ) (v : View I) → Lives s j v → v.splitting ≡ true
-        → ((i : ℕ) (w : View I) → Lives s i w → w.number ≤ n + 1 - v.shares) × Within maker (n + 1 - v.shares) log
+        → (v.number ≡ 1) × ((i : ℕ) (w : View I) → Lives s i w → w.number ≤ n + 1 - v.shares) × Within maker (n + 1 - v.shares) log × (v.next ≡ n + 2 - v.shares)

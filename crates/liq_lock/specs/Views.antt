@@ -48,11 +48,11 @@ module _ {I : Type 0} where
 
   -- the first view, with all shares
   abbrev pub opener : ℕ → View I
-  opener seats = record { number = 1; stands = 1 ∷ []; seen = []; ticket = None; inside = false; shares = seats; splitting = ltb 1 seats; left = no_past; right = no_past }
+  opener seats = record { number = 1; stands = 1 ∷ []; seen = []; ticket = None; inside = false; shares = seats; splitting = ltb 1 seats; next = 2; left = no_past; right = no_past }
 
   -- what is left of a view that was joined into another
   abbrev pub spent : View I
-  spent = record { number = 0; stands = []; seen = []; ticket = None; inside = false; shares = 0; splitting = false; left = no_past; right = no_past }
+  spent = record { number = 0; stands = []; seen = []; ticket = None; inside = false; shares = 0; splitting = false; next = 0; left = no_past; right = no_past }
 
   abbrev pub drew : View I → ℕ → View I
   drew v t = record v { ticket = Some t }
@@ -66,12 +66,12 @@ module _ {I : Type 0} where
   abbrev pub outside : View I → View I
   outside v = record v { ticket = None; inside = false }
 
-  -- a split: the view keeps one share, and a new view has the others and the next number
+  -- a split: the view gives one share to a new view, which has the next number and has seen as much
   abbrev pub keeping : View I → View I
-  keeping v = record v { shares = 1; splitting = false }
+  keeping v = record v { shares = v.shares - 1; splitting = ltb 1 (v.shares - 1); next = v.next + 1 }
 
   abbrev pub dealt : View I → View I
-  dealt v = record v { number = v.number + 1; stands = (v.number + 1) ∷ []; shares = v.shares - 1; splitting = ltb 1 (v.shares - 1) }
+  dealt v = record v { number = v.next; stands = v.next ∷ []; shares = 1; splitting = false; next = 0 }
 
   -- a join
   abbrev pub joined : View I → View I → View I
@@ -88,10 +88,10 @@ module _ {I : Type 0} where
   view_in [] = spent
   view_in (v ∷ vs) = v
 
-  -- the view that the seats are made out of, when it has the number k of n
+  -- the first view, when the seats below k are made
   abbrev pub dealer : ℕ → ℕ → View I
-  dealer k n = record { number = k; stands = k ∷ []; seen = []; ticket = None; inside = false; shares = n + 1 - k; splitting = ltb 1 (n + 1 - k); left = no_past; right = no_past }
+  dealer k n = record { number = 1; stands = 1 ∷ []; seen = []; ticket = None; inside = false; shares = n + 2 - k; splitting = ltb 1 (n + 2 - k); next = k; left = no_past; right = no_past }
 
   -- the view of a seat that was made for one share
-  abbrev pub newcomer : ℕ → View I
-  newcomer k = record { number = k; stands = k ∷ []; seen = []; ticket = None; inside = false; shares = 1; splitting = false; left = no_past; right = no_past }
+  abbrev pub newcomer : ℕ → ℕ → View I
+  newcomer k next = record { number = k; stands = k ∷ []; seen = []; ticket = None; inside = false; shares = 1; splitting = false; next = next; left = no_past; right = no_past }

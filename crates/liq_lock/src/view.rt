@@ -24,6 +24,8 @@ pub struct View<I> {
     pub shares: u64,
     /// Whether seats are still to be made out of it.
     pub splitting: bool,
+    /// The number of the next seat that is made out of it.
+    pub next: u64,
     /// The two pasts of the last join, until it sees more.
     pub left: Past<I>,
     pub right: Past<I>,

@@ -1,1 +1,3 @@
+pub mod Found
+pub mod Placed
 pub mod Sorting

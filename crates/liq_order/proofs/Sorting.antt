@@ -16,9 +16,10 @@ use Rattle.std.specs.List.Sorted.{IsStrictlySortedBy}
 use Rattle.liq_types.specs.declared.figures.Trove.{Trove}
 use Rattle.liq_types.specs.Tables.{Table}
 use Rattle.liq_types.specs.WellFormed.{Ascends}
+use Rattle.liq_order.specs.Listed.{IsAbsent}
 use Rattle.liq_order.specs.Order.{Ranked, rank_order, with_ranked, sorted, IsInOrder, IsAscending, ranks, order_by}
 
-rank_total : IsTotalOrder rank_order
+pub rank_total : IsTotalOrder rank_order
 rank_total = then_total (on_total (λ (e : Ranked). e.0) int_cmp_total) (on_total (λ (e : Ranked). e.1) nat_cmp_total)
 
 -- ---- the same entries
@@ -95,16 +96,12 @@ sorted_in_order entries = all_ascending [] entries tt
 
 -- ---- strictly, where no account stands twice
 
--- no entry has the account
-abbrev IsAbsent : ℕ → List Ranked → Type 0
-IsAbsent account list = AllByRecursion (λ (f : Ranked). f.1 ≢ account) list
-
 -- no two entries of the second list share an account, nor one with an entry of the first
 abbrev AreApart : List Ranked → List Ranked → Type 0
 AreApart list [] = Unit {0}
 AreApart list (e ∷ es) = IsAbsent e.1 list × IsAbsent e.1 es × AreApart list es
 
-with_absent : (list : List Ranked) (e : Ranked) (account : ℕ) → e.1 ≢ account → IsAbsent account list → IsAbsent account (with_ranked list e)
+pub with_absent : (list : List Ranked) (e : Ranked) (account : ℕ) → e.1 ≢ account → IsAbsent account list → IsAbsent account (with_ranked list e)
 with_absent [] e account n h = (n, tt)
 with_absent (f ∷ fs) e account n h = by (rank_order e f) (with_absent fs e account n h.1) where
   by : (o : Ordering) → IsAbsent account (with_ranked fs e) → IsAbsent account (match_ordering o (e ∷ f ∷ fs) (e ∷ f ∷ fs) (f ∷ with_ranked fs e))
@@ -132,12 +129,12 @@ with_behind f (g ∷ gs) e less h = by (rank_order e g) (with_behind f gs e less
   by Equal more = (less, h)
   by Greater more = (h.0, more)
 
-equal_accounts : (o p : Ordering) → ordering_then o p ≡ Equal → p ≡ Equal
+pub equal_accounts : (o p : Ordering) → ordering_then o p ≡ Equal → p ≡ Equal
 equal_accounts Less p h = cc
 equal_accounts Equal p h = h
 equal_accounts Greater p h = cc
 
-with_strict : (list : List Ranked) (e : Ranked) → IsAbsent e.1 list → IsAscending list → IsAscending (with_ranked list e)
+pub with_strict : (list : List Ranked) (e : Ranked) → IsAbsent e.1 list → IsAscending list → IsAscending (with_ranked list e)
 with_strict [] e n h = (tt, tt)
 with_strict (f ∷ fs) e n h = by (rank_order e f) refl (with_strict fs e n.1 h.1) where
   by : (o : Ordering) → rank_order e f ≡ o → IsAscending (with_ranked fs e) → IsAscending (match_ordering o (e ∷ f ∷ fs) (e ∷ f ∷ fs) (f ∷ with_ranked fs e))

@@ -3,3 +3,6 @@
 
 pub mod examples;
 pub mod laws;
+mod list;
+
+pub use list::Order;

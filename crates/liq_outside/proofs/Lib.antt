@@ -1,3 +1,3 @@
 pub mod Moments
-mod Steps
+pub mod Steps
 mod Tearing

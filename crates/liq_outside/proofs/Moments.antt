@@ -33,8 +33,8 @@ module _ {D : Type 0} (moment : D → ℕ) (left_at : D → ℕ → List ℕ →
   }
 
   -- one run of calls after another, each of which leaves what has P
-  pub then : (old mid new : D) (P : List ℕ → Type 0) → LeavesOnly moment left_at old mid P → LeavesOnly moment left_at mid new P → LeavesOnly moment left_at old new P
-  then old mid new P first second = record {
+  pub chained : (old mid new : D) (P : List ℕ → Type 0) → LeavesOnly moment left_at old mid P → LeavesOnly moment left_at mid new P → LeavesOnly moment left_at old new P
+  chained old mid new P first second = record {
     goes_on = joined old mid new first.goes_on second.goes_on;
     each = λ image left. elim (law mid new second.goes_on (moment old) image first.goes_on.later left) [
       | inl was ↦ first.each image was
@@ -52,3 +52,7 @@ module _ {D : Type 0} (moment : D → ℕ) (left_at : D → ℕ → List ℕ →
   -- what has P has Q
   pub weaker : (old new : D) (P Q : List ℕ → Type 0) → LeavesOnly moment left_at old new P → ((image : List ℕ) → P image → Q image) → LeavesOnly moment left_at old new Q
   weaker old new P Q leaves gives = record { goes_on = leaves.goes_on; each = λ image left. gives image (leaves.each image left) }
+
+  -- what a crash may leave at the end
+  pub at_last : (old new : D) (P : List ℕ → Type 0) → LeavesOnly moment left_at old new P → (image : List ℕ) → LeftNow moment left_at new image → P image
+  at_last old new P leaves image left = leaves.each image (moment new, leaves.goes_on.later, omega arith, left)

@@ -4,4 +4,4 @@
 pub mod examples;
 mod rate;
 
-pub use rate::Rate;
+pub use rate::{Rate, borrow_fee, redeem_fee};

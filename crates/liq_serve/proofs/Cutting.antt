@@ -10,7 +10,7 @@ use Rattle.liq_serve.specs.declared.halts.Halt.TheVariants.{WriteFault}
 use Rattle.liq_serve.specs.Output.{lines, reply_line}
 use Rattle.liq_serve.specs.Progress.{Written, Comes}
 use Rattle.liq_serve.specs.Requests.{AreRequests, BeginsWith}
-use Rattle.liq_serve.specs.Writing.{Writes, WritesPart}
+use Rattle.liq_serve.specs.Writing.{WritesPart}
 use Rattle.liq_serve.proofs.Bytes.{writes_more}
 use Rattle.liq_serve.proofs.Progressing.{lines_from}
 

@@ -68,27 +68,7 @@ went_well (Err halt) bytes fault left before now well h = absurd (well halt refl
 pub nothing_added : (fault : Type 0) (before : Option (List ℕ)) → Adds [] [] fault before before
 nothing_added fault before = ([], writes_nothing before, inl refl)
 
--- ---- a run at its end writes what waits
-
-unclosed : (said : List ℕ) (before now : Option (List ℕ)) → Writes before said now → Adds said [] ⊥ before now
-unclosed said before now h = ([], subst (λ (t : List ℕ). Writes before t now) (sym (append-nil said)) h, inl refl)
-
-all_written : (requests : List Request) (w : List ℕ) (before now after : Option (List ℕ)) → Written requests w before now → WritesFront (Ok tt) w [] now after → Writes before (lines requests) after
-all_written requests w before now after h f =
-    subst (λ (t : List ℕ). Writes before t after) (ap (λ (t : List ℕ). h.0 ++ t) (sym (append-nil f.0) ∙ sym f.2) ∙ sym h.2) (writes_more before now after h.0 f.0 h.1 f.1)
-
-pub closes : (end : Result (Unit {0}) Halt) (bytes : List ℕ) (left : Option (List ℕ)) (w : List ℕ) (before now after : Option (List ℕ)) → (end ≡ Err WriteFault → ⊥) → Comes end bytes left w before now → WritesFront (Ok tt) w [] now after → Ends end bytes left before after
-closes (Ok done) bytes left w before now after other h f =
-    record { requests = h.requests; few = h.few; read = h.read; written = all_written h.requests w before now after h.written f }
-closes (Err (BadLine n)) bytes left w before now after other h f =
-    record { requests = h.requests; few = h.few; read = h.read; written = unclosed (lines h.requests) before after (all_written h.requests w before now after h.written f) }
-closes (Err ReadFault) bytes left w before now after other h f =
-    record { requests = h.requests; few = h.few; read = h.read; written = unclosed (lines h.requests) before after (all_written h.requests w before now after h.written f) }
-closes (Err WriteFault) bytes left w before now after other h f = absurd (other refl)
-closes (Err NoMemory) bytes left w before now after other h f =
-    record { requests = h.requests; few = h.few; read = h.read; written = unclosed (lines h.requests) before after (all_written h.requests w before now after h.written f) }
-closes (Err Limit) bytes left w before now after other h f =
-    record { requests = h.requests; few = h.few; read = h.read; written = unclosed (lines h.requests) before after (all_written h.requests w before now after h.written f) }
+-- ---- what waits at a run's end cannot be written
 
 pub cut_ends : (bytes : List ℕ) (left : Option (List ℕ)) (w : List ℕ) (before now : Option (List ℕ)) → Comes (Err WriteFault) bytes left w before now → Ends (Err WriteFault) bytes left before now
 cut_ends bytes left w before now h = record { requests = h.requests; few = h.few; read = h.read; written = h.written }

@@ -1,5 +1,5 @@
 -- What one line more makes of a run.
-use Rattle.std.proofs.Common.{◌≡◌, ◌≢◌, ℕ, ◌+◌, ◌<◌, ◌≤◌, List, [], ◌∷◌, ◌++◌, length, Option, Some, None, refl, ap, sym, subst, ◌∙◌, append_assoc, append-nil, length-append, arith, Ok, Err, inl, inr}
+use Rattle.std.proofs.Common.{◌≡◌, ◌≢◌, ℕ, ◌+◌, ◌<◌, ◌≤◌, List, [], ◌∷◌, ◌++◌, Option, Some, None, refl, ap, sym, subst, ◌∙◌, append_assoc, append-nil, length-append, arith, Ok, Err, inr}
 use Rattle.liq_types.specs.declared.requests.Request.{Request}
 use Rattle.liq_types.specs.declared.amounts.TheConstants.{LINES_MOST}
 use Rattle.liq_types.specs.State.{State, opening}
@@ -8,11 +8,11 @@ use Rattle.liq_core.specs.Step.{step, run}
 use Rattle.liq_serve.specs.declared.halts.Halt.{Halt}
 use Rattle.liq_serve.specs.declared.halts.Halt.TheVariants.{BadLine, ReadFault, WriteFault, NoMemory, Limit}
 use Rattle.liq_serve.specs.Lines.{lines_in, ended, IsWithinLine}
-use Rattle.liq_serve.specs.Output.{lines, reply_line}
+use Rattle.liq_serve.specs.Output.{reply_line}
 use Rattle.liq_serve.specs.Progress.{ReadsRequest, ReadsBad, Written, Answered, Answers, Comes}
 use Rattle.liq_serve.specs.Reading.{unread, Reads, IsOver}
 use Rattle.liq_serve.specs.Requests.{IsRequest, AreRequests, BeginsWith}
-use Rattle.liq_serve.specs.Writing.{Writes, WritesPart, WritesFront}
+use Rattle.liq_serve.specs.Writing.{WritesFront}
 use Rattle.liq_serve.proofs.BadLines.{first_is_bad}
 use Rattle.liq_serve.proofs.Bytes.{told_reads, writes_nothing, writes_more}
 use Rattle.liq_serve.proofs.Cutting.{cut_comes}

@@ -2,6 +2,7 @@
 use Rattle.std.specs.Prelude.{ℕ, List, [], ◌∷◌, ◌++◌, codes, decimal}
 use Rattle.std.specs.List.{flat_map}
 use Rattle.liq_types.specs.declared.replies.Reply.{Reply}
+use Rattle.liq_types.specs.declared.amounts.TheConstants.{LINES_MOST}
 use Rattle.liq_types.specs.declared.requests.Request.{Request}
 use Rattle.liq_types.specs.State.{opening}
 use Rattle.liq_core.specs.Step.{run}
@@ -23,7 +24,7 @@ last (BadLine number) = codes "bad line " ++ decimal number ++ 10 ∷ []
 last ReadFault = codes "read fault" ++ 10 ∷ []
 last WriteFault = []
 last NoMemory = codes "no memory" ++ 10 ∷ []
-last Limit = codes "limit 1000000" ++ 10 ∷ []
+last Limit = codes "limit " ++ decimal LINES_MOST ++ 10 ∷ []
 
 -- what is written where the words are not understood
 abbrev pub usage : List ℕ

@@ -1,6 +1,6 @@
 //! How a run ends: its last line and its status.
 
-ghost use Rattle.std.specs.Prelude.{[], ◌≡◌, ◌≤◌, OnOk, OnErr};
+ghost use Rattle.std.specs.Prelude.{[], ◌∷◌, ◌++◌, ◌≡◌, ◌≤◌, decimal, OnOk, OnErr};
 ghost use Rattle.liq_outside.specs.Faults.{Rose, HasCause};
 ghost use Rattle.liq_serve.specs.Output.{last, usage};
 ghost use Rattle.liq_serve.specs.Statuses.{status_of};
@@ -11,6 +11,7 @@ use crate::halts::Halt;
 use crate::writer::write_all;
 use itoa::Buffer;
 use liq_outside::{Failed, Sink};
+use liq_types::amounts::LINES_MOST;
 
 /// What is written where the words are not understood.
 const USAGE: &[u8] = b"usage: liq run, serve, state, audit or gen SEED COUNT\n";
@@ -35,21 +36,22 @@ pub fn write_last<K: Sink>(out: &mut K, halt: Halt)
     ensures count { K.faults out.old ≤ K.faults out.new }
 {
     let _ = match halt {
-        Halt::BadLine(number) => write_bad_line(out, number),
+        Halt::BadLine(number) => write_numbered(out, b"bad line ", number),
         Halt::ReadFault => write_all(out, b"read fault\n"),
         Halt::WriteFault => Ok(()),
         Halt::NoMemory => write_all(out, b"no memory\n"),
-        Halt::Limit => write_all(out, b"limit 1000000\n"),
+        Halt::Limit => write_numbered(out, b"limit ", LINES_MOST),
     };
 }
 
-fn write_bad_line<K: Sink>(out: &mut K, number: u64) -> Result<(), Failed>
-    ensures ok { OnOk result (Writes (K.held out.old) (last (Halt.BadLine number)) (K.held out.new)) }
-    ensures err { OnErr result (WritesPart (K.held out.old) (last (Halt.BadLine number)) (K.held out.new)) }
+/// Writes a line of a text and a number.
+fn write_numbered<K: Sink>(out: &mut K, text: &[u8], number: u64) -> Result<(), Failed>
+    ensures ok { OnOk result (Writes (K.held out.old) (text.now ++ (decimal number ++ 10 ∷ [])) (K.held out.new)) }
+    ensures err { OnErr result (WritesPart (K.held out.old) (text.now ++ (decimal number ++ 10 ∷ [])) (K.held out.new)) }
     ensures cause { HasCause (K.faults out.old) (K.faults out.new) result }
 {
     let mut digits = Buffer::new();
-    write_all(out, b"bad line ")?;
+    write_all(out, text)?;
     write_all(out, digits.format(number).as_bytes())?;
     write_all(out, b"\n")
 }

@@ -38,12 +38,13 @@ pub struct Reader {
 
 impl Model for Reader {
     ghost use Rattle.std.specs.Prelude.{List, ℕ, ◌≤◌, ◌≡◌, slice_range, vec_len};
+    ghost use Rattle.liq_serve.specs.declared.reader.TheConstants.{CHUNK};
 
     ghost Value = { List ℕ };
 
     ghost view = { λ r. slice_range r.chunk.items r.start r.end };
 
-    ghost invariant = { λ r. (r.start ≤ r.end) × (r.end ≤ vec_len r.chunk) × (vec_len r.chunk ≡ 16384) };
+    ghost invariant = { λ r. (r.start ≤ r.end) × (r.end ≤ vec_len r.chunk) × (vec_len r.chunk ≡ CHUNK) };
 }
 
 impl Reader {

@@ -2,6 +2,8 @@
 
 ghost use Rattle.std.specs.Prelude.{Contains, Err, Option, Some, ◌≡◌, ◌≢◌, IsTrue, ◌≤◌, ◌<◌, ◌+◌, [], ℕ, List, OnOk, OnErr, IfOk, vec_capacity};
 ghost use Rattle.liq_types.specs.State.{State, opening};
+ghost use Rattle.liq_types.specs.declared.amounts.TheConstants.{LINE_BYTES};
+ghost use Rattle.liq_serve.specs.declared.waiting.TheConstants.{WAITING_MOST};
 ghost use Rattle.liq_core.specs.Step.{built};
 ghost use Rattle.liq_core.specs.Core.{StandsFor};
 ghost use Rattle.liq_serve.specs.Causes.{ReadCause, WriteCause};
@@ -71,8 +73,8 @@ pub struct Session {
     reader: Reader,
     line: Vec<u8>,
     waiting: Vec<u8>,
-    ghost line_room: { 200 ≤ vec_capacity line },
-    ghost waiting_room: { 16384 ≤ vec_capacity waiting },
+    ghost line_room: { LINE_BYTES ≤ vec_capacity line },
+    ghost waiting_room: { WAITING_MOST ≤ vec_capacity waiting },
 }
 
 impl Session {

@@ -1,5 +1,6 @@
 pub mod Falling
 pub mod Holding
+pub mod LawfulLists
 pub mod Pool
 pub mod Promise
 pub mod Reading

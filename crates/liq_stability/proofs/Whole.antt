@@ -26,6 +26,7 @@ use Rattle.liq_stability.specs.Own.{owned, offset, with_deposit, amount_after, a
 use Rattle.liq_stability.specs.Position.{balance_in, gain_in, balance_of, gain_of}
 use Rattle.liq_stability.specs.Words.{words_of}
 use Rattle.liq_stability.proofs.Holding.{IsRead}
+use Rattle.liq_stability.proofs.LawfulLists.{lawful_limit}
 use Rattle.liq_stability.proofs.Pool.{balance_within, gain_within, offset_now, owned-total, owned-coll, offset-total, offset-coll, owned-covered, offset-covered, with_deposit-ascends, words-snoc}
 use Rattle.liq_stability.proofs.Standing.{StandsBy, bare_balance, bare_gain, reads, offset_stands, deposit_other, own_stands}
 
@@ -320,12 +321,8 @@ module _ (most : ℕ) (served : most ≤ 10 ^ (9 * RISES_MOST)) (n : ℕ) where
 
   -- ---- all events
 
-  first_limit : (s : State) (events : List PoolEvent) → IsLawfulUpTo most s events → IsWithinLimit most s
-  first_limit s [] h = h
-  first_limit s (e ∷ es) h = h.0
-
   pub after_all : (s : State) (den colls : ℕ) (shares : ℕ → Share) (watches : ℕ → Watch) (gots : ℕ → ℕ) (events : List PoolEvent) → AreOwnedBelow n events → IsLawfulUpTo most s events → Whole n s den colls shares watches gots → Whole n (fold after_event s events) (fold (λ d e. d * total_of e) den events) (fold (λ c e. c + coll_of e) colls events) (λ a. fold (share_after a) (shares a) events) (λ a. fold (watch_after a) (watches a) events) (λ a. fold (λ g e. g + gain_paid a e) (gots a) events)
   after_all s den colls shares watches gots [] low lawful h = h
   after_all s den colls shares watches gots (e ∷ es) low lawful h =
       after_all (after_event s e) (den * total_of e) (colls + coll_of e) (λ a. share_after a (shares a) e) (λ a. watch_after a (watches a) e) (λ a. gots a + gain_paid a e) es low.1 lawful.2
-      (after_one s den colls shares watches gots e low.0 lawful.0 lawful.1 (first_limit (after_event s e) es lawful.2) h)
+      (after_one s den colls shares watches gots e low.0 lawful.0 lawful.1 (lawful_limit most (after_event s e) es lawful.2) h)

@@ -54,3 +54,19 @@ paid_out = shared ++ Own 1 0 30 23 36 ∷ Offset 17 10 170 0 ∷ []
 -- the next epoch begins with a second deposit of the first depositor and one of another
 abbrev pub begun_again : List PoolEvent
 begun_again = emptied ++ Own 1 500 0 9431279620 500 ∷ Own 2 1500 0 0 1500 ∷ Offset 400 300 2000 0 ∷ []
+
+-- a little is taken where the product is at its least
+abbrev pub at_the_least : List PoolEvent
+at_the_least = one_rise ++ Own 2 999999999999999999 0 0 999999999999999999 ∷ Offset 1 0 1000000000000000000 1 ∷ []
+
+-- an offset of which one depositor gained too little is followed by another's
+abbrev pub after_another : List PoolEvent
+after_another =
+    Own 1 1000000000000000000 0 0 1000000000000000000
+    ∷ Offset 999999999999999998 0 1000000000000000000 1
+    ∷ Own 2 999999999999999998 0 0 999999999999999998
+    ∷ Offset 100000000 499999999 1000000000000000000 0
+    ∷ Own 2 0 999999999499999998 0 0
+    ∷ Own 3 999999999599999997 0 0 999999999599999997
+    ∷ Offset 100000000 3 999999999999999999 0
+    ∷ []

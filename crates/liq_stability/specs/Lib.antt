@@ -1,5 +1,6 @@
 pub mod Examples
 pub mod Lawful
+pub mod OtherRounding
 pub mod Own
 pub mod Position
 pub mod Promise

@@ -1,12 +1,15 @@
 //! Worked examples of the Stability Pool, run by hand. The functions here do nothing; each is the place where the facts of
 //! its contract are proved.
 
-ghost use Rattle.std.specs.Prelude.{◌≡◌, [], ◌∷◌};
+ghost use Rattle.std.specs.Prelude.{◌≡◌, ◌*◌, ◌<◌, [], ◌∷◌};
 ghost use Rattle.liq_types.specs.PlainLedger.{exact_share};
 ghost use Rattle.liq_types.specs.State.{opening};
 ghost use Rattle.liq_types.specs.Product.{finished_sums};
-ghost use Rattle.liq_stability.specs.Examples.{after_events, position, allowances, one_rise, two_rises, four_scales_on, shared, shared_again, emptied, paid_out, begun_again};
+ghost use Rattle.liq_stability.specs.Examples.{after_events, position, allowances, one_rise, two_rises, four_scales_on, shared, shared_again, emptied, paid_out, begun_again, at_the_least, after_another};
 ghost use Rattle.liq_stability.specs.Lawful.{IsLawful};
+ghost use Rattle.liq_stability.specs.OtherRounding.{balance_upward, gain_carried};
+ghost use Rattle.liq_stability.specs.Position.{balance_of, gain_of};
+ghost use Rattle.liq_stability.specs.Promise.{IsWithinAllowance};
 ghost use Rattle.liq_stability.specs.Words.{pool_words};
 
 /// An offset that leaves one micro-LUSD of 10^18 raises the scale.
@@ -73,4 +76,38 @@ pub fn allowances_example()
     ensures first { allowances 1 four_scales_on ≡ (1000000003, 12000000028) }
     ensures second { allowances 2 four_scales_on ≡ (1000000001, 12000000015) }
     ensures third { allowances 3 four_scales_on ≡ (1000000001, 12000000015) }
+{}
+
+/// Exact shares over several scales, and the four inequalities of each account, worked out on these numbers alone.
+pub fn exact_shares_example()
+    ensures first { exact_share 1 two_rises ≡ record {
+      den = 1000000000000000000000000000000000000;
+      bal = 1000000000000000000;
+      gain = 1000000000000000000000000000000000000;
+    } }
+    ensures second { exact_share 2 two_rises ≡ record {
+      den = 1000000000000000000000000000000000000;
+      bal = 999999999999999999000000000000000000;
+      gain = 999999999999999999000000000000000000000000000000000000;
+    } }
+    ensures first_within { IsWithinAllowance (after_events two_rises) 1 two_rises }
+    ensures second_within { IsWithinAllowance (after_events two_rises) 2 two_rises }
+{}
+
+/// If the product were rounded upward, a balance would pass its exact share: at the least product an offset of 1 would change
+/// nothing.
+pub fn rounded_upward_example()
+    ensures lawful { IsLawful opening at_the_least }
+    ensures upward { balance_upward (after_events at_the_least) 999999999999999999 1 ≡ 999999999999999999 }
+    ensures passed { (exact_share 2 at_the_least).bal < balance_upward (after_events at_the_least) 999999999999999999 1 * (exact_share 2 at_the_least).den }
+    ensures downward { balance_of (after_events at_the_least) 2 ≡ 999999999999999998 }
+{}
+
+/// If the remainder of a sum's quotient were carried into the next offset, a gain would pass its exact share: the third
+/// depositor would get what the second lost.
+pub fn carried_remainder_example()
+    ensures lawful { IsLawful opening after_another }
+    ensures carried { gain_carried (after_events after_another) 999999999599999997 2 ≡ 500000000 }
+    ensures passed { (exact_share 3 after_another).gain < gain_carried (after_events after_another) 999999999599999997 2 * (exact_share 3 after_another).den }
+    ensures dropped { gain_of (after_events after_another) 3 ≡ 0 }
 {}

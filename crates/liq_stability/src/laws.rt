@@ -1,7 +1,7 @@
 //! What holds of the definitions that the contracts cite. The functions here do nothing: each is the place where the facts
 //! of its contract are proved.
 
-ghost use Rattle.std.specs.Prelude.{◌≡◌, ℕ, ◌+◌, ◌-◌, ◌*◌, ◌/◌, ◌^◌, ◌≤◌, ◌<◌, List, Some, sum, map};
+ghost use Rattle.std.specs.Prelude.{◌≡◌, ℕ, ◌+◌, ◌-◌, ◌*◌, ◌/◌, ◌^◌, ◌≤◌, ◌<◌, List, ◌++◌, Some, sum, map, fold};
 ghost use Rattle.std.specs.List.{AllByRecursion};
 ghost use Rattle.std.specs.List.Sorted.{IsStrictlySortedBy};
 ghost use Rattle.std.specs.Map.{keys_of, values_of};
@@ -16,7 +16,7 @@ ghost use Rattle.liq_types.specs.Tables.{at};
 ghost use Rattle.liq_types.specs.Totals.{pool_total, pool_coll};
 ghost use Rattle.liq_types.specs.WellFormed.{AreFinished, IsBefore, IsPoolCovered};
 ghost use Rattle.liq_stability.specs.Lawful.{IsLawful, IsLawfulUpTo};
-ghost use Rattle.liq_stability.specs.Own.{offset, after_events};
+ghost use Rattle.liq_stability.specs.Own.{offset, after_event, after_events};
 ghost use Rattle.liq_stability.specs.Position.{balance_of, gain_of, balance_by, gain_by, mark_of, sums_from};
 ghost use Rattle.liq_stability.specs.Promise.{IsWithinAllowance, gained_of};
 ghost use Rattle.liq_stability.specs.Words.{words_of, pool_words, words_after, finished_by, finished_with};
@@ -54,6 +54,15 @@ pub fn finished_sums_stay_in_order()
         AllByRecursion (λ sum. 1 ≤ sum) (values_of (finished_sums i offsets)) }
     ensures before { (i : Image) → (offsets : List Offset) → AreFinished i →
         AllByRecursion (λ (row : Place × ℕ). IsBefore row.0 (place_of (prod i offsets))) (finished_sums i offsets) }
+{}
+
+/// Lawful lists one after another are a lawful list, and each part of a lawful list is lawful where it begins.
+pub fn lawful_lists_join()
+    ensures joined { (most : ℕ) → (s : State) → (first rest : List PoolEvent) → IsLawfulUpTo most s first →
+        IsLawfulUpTo most (fold after_event s first) rest → IsLawfulUpTo most s (first ++ rest) }
+    ensures first { (most : ℕ) → (s : State) → (first rest : List PoolEvent) → IsLawfulUpTo most s (first ++ rest) → IsLawfulUpTo most s first }
+    ensures rest { (most : ℕ) → (s : State) → (first rest : List PoolEvent) → IsLawfulUpTo most s (first ++ rest) →
+        IsLawfulUpTo most (fold after_event s first) rest }
 {}
 
 /// After lawful events no balance and no sum of all gains is more than the exact share, whatever the pool's limit is, as long

@@ -1,7 +1,9 @@
+pub mod Named
 pub mod PieceLaws
 pub mod ReadingLaws
 pub mod SpellingLaws
 pub mod RequestLaws
 pub mod LineLaws
+pub mod LineLengths
 pub mod WritingLaws
 pub mod ReplyLaws

@@ -19,7 +19,8 @@ use Rattle.liq_text.specs.declared.names.Verb.{Verb}
 use Rattle.liq_text.specs.declared.names.Verb.TheVariants as verbs
 use Rattle.liq_text.specs.declared.names.Topic.{Topic}
 use Rattle.liq_text.specs.declared.names.Topic.TheVariants as topics
-use Rattle.liq_text.specs.Names.{verb_name, topic_name, verb_of, topic_of}
+use Rattle.liq_text.specs.Names.{verb_of, topic_of}
+use Rattle.liq_text.proofs.Named.{verb_name, topic_name}
 use Rattle.liq_text.specs.Spelling.{Word, text, account, number, Spell, SpellEach, call_words, query_words, request_words}
 use Rattle.liq_text.specs.Reading.{◌>>=◌, number_of, account_of, first, others, fields, verb_kinds, call_with, topic_kinds, query_with, arguments_of, subject_of, call_of, query_of, request_of}
 use Rattle.liq_text.proofs.ReadingLaws.{number_of-decimal, number_of-some, yes}

@@ -1,6 +1,7 @@
 -- Which bytes are the line of a request.
 use Rattle.std.specs.Prelude.{◌≡◌, ℕ, ◌<◌, ◌≤◌, ◌^◌, ◌⊎◌, List, [], ◌∷◌, ◌++◌, length, Option, Some, None, IfSome, codes, decimal}
 use Rattle.std.specs.List.{join_with_byte, AllByRecursion}
+use Rattle.liq_types.specs.declared.amounts.TheConstants.{LINE_BYTES}
 use Rattle.liq_types.specs.declared.requests.Request.{Request}
 use Rattle.liq_types.specs.declared.requests.Request.TheVariants.{Do, Ask}
 use Rattle.liq_types.specs.declared.requests.Call.{Call}
@@ -64,7 +65,7 @@ request_words (Ask q) = text (codes "?") ∷ query_words q
 
 -- The line is pieces that spell the words, with one space between two, in at most 200 bytes.
 abbrev pub IsLineOf : List ℕ → List Word → Type 0
-IsLineOf line words = (length line ≤ 200) × ((pieces : List (List ℕ)) × (line ≡ join_with_byte 32 pieces) × SpellEach pieces words)
+IsLineOf line words = (length line ≤ LINE_BYTES) × ((pieces : List (List ℕ)) × (line ≡ join_with_byte 32 pieces) × SpellEach pieces words)
 
 abbrev pub Spells : List ℕ → Request → Type 0
 Spells line request = IsLineOf line (request_words request)

@@ -1,4 +1,5 @@
 pub mod Examples
+pub mod Kept
 pub mod Own
 pub mod Rows
 pub mod StakeSums

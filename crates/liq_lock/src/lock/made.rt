@@ -46,33 +46,34 @@ impl<T: Chronicle> Lock<T> {
         }
     }
 
-    // Each split leaves a seat with one share, and the rest in the seat that goes on.
+    // The first seat gives a share to each of the others, and keeps one.
     fn deal(
         &self,
         opener: Seat<Option<T>, View<T::Item>>,
         mut seats: Vec<LockSeat<T::Item>>,
     ) -> Vec<LockSeat<T::Item>>
         requires own { opener.table_id ≡ lock_id self.now }
-        requires first { opener.me ≡ (dealer 1 (lock_seats self.now), []) }
+        requires first { opener.me ≡ (dealer 2 (lock_seats self.now), []) }
         requires fresh { seats.items ≡ [] }
         requires room { lock_seats self.now ≤ vec_capacity seats }
         ensures count { length result.items ≡ lock_seats self.now }
         ensures fresh { AreFresh (lock_id self.now) result.items }
     {
-        let mut rest = opener;
-        for number in 1..self.seats {
-            let next = self.table.shared.split_seat::<Deal>(&mut rest);
-            seats.push_reserved(seated(rest));
-            rest = next;
+        let mut first = opener;
+        for _ in 1..self.seats {
+            let next = self.table.shared.split_seat::<Deal>(&mut first);
+            seats.push_reserved(seated(next));
         }
-        seats.push_reserved(seated(rest));
+        let Ok(()) = seats.insert(0, seated(first)) else {
+            unreachable!()
+        };
         seats
     }
 }
 
 // A seat that was made for one share.
 fn seated<T: Chronicle>(seat: Seat<Option<T>, View<T::Item>>) -> LockSeat<T::Item>
-    requires { seat.me ≡ (newcomer seat.me.0.number, []) }
+    requires { seat.me ≡ (newcomer seat.me.0.number seat.me.0.next, []) }
     ensures { IsFresh seat.table_id seat.me.0.number result }
 {
     LockSeat {

@@ -1,4 +1,4 @@
-use Rattle.std.proofs.Common.{◌≡◌, [], ◌∷◌, Some, Option, refl, subst}
+use Rattle.std.proofs.Common.{◌≡◌, [], ◌∷◌, Option, refl, subst}
 use Rattle.std.specs.Prelude.{unwrap_or}
 use Rattle.std.specs.declared.cmp.Ordering.TheVariants.{Less}
 use Rattle.liq_order.specs.Examples.{entry}

@@ -7,9 +7,9 @@ use Rattle.liq_serve.proofs.ending.write_last.Goals as goal
 
 pub returns-in-BadLine-clause-written : goal.returns-in-BadLine-clause-written
 returns-in-BadLine-clause-written g c =
-    let e = c.write_bad_line.ensures in
-    subst (λ halt. Adds [] (last halt) (Rose (g.K.Sink.faults c.args.out.now) (g.K.Sink.faults c.write_bad_line.new.out)) (g.K.Sink.held c.args.out.now) (g.K.Sink.held c.write_bad_line.new.out)) (sym c.in-BadLine.is)
-    (adds_line _ c.write_bad_line.result _ _ _ e.ok e.err e.cause.failed)
+    let e = c.write_numbered.ensures in
+    subst (λ halt. Adds [] (last halt) (Rose (g.K.Sink.faults c.args.out.now) (g.K.Sink.faults c.write_numbered.new.out)) (g.K.Sink.held c.args.out.now) (g.K.Sink.held c.write_numbered.new.out)) (sym c.in-BadLine.is)
+    (adds_line _ c.write_numbered.result _ _ _ e.ok e.err e.cause.failed)
 
 pub returns-in-ReadFault-clause-written : goal.returns-in-ReadFault-clause-written
 returns-in-ReadFault-clause-written g c =
@@ -30,6 +30,6 @@ returns-in-NoMemory-clause-written g c =
 
 pub returns-in-Limit-clause-written : goal.returns-in-Limit-clause-written
 returns-in-Limit-clause-written g c =
-    let e = c.write_all-in-Limit.ensures in
-    subst (λ halt. Adds [] (last halt) (Rose (g.K.Sink.faults c.args.out.now) (g.K.Sink.faults c.write_all-in-Limit.new.out)) (g.K.Sink.held c.args.out.now) (g.K.Sink.held c.write_all-in-Limit.new.out)) (sym c.in-Limit.is)
-    (adds_line _ c.write_all-in-Limit.result _ _ _ e.ok e.err e.cause.failed)
+    let e = c.write_numbered-in-Limit.ensures in
+    subst (λ halt. Adds [] (last halt) (Rose (g.K.Sink.faults c.args.out.now) (g.K.Sink.faults c.write_numbered-in-Limit.new.out)) (g.K.Sink.held c.args.out.now) (g.K.Sink.held c.write_numbered-in-Limit.new.out)) (sym c.in-Limit.is)
+    (adds_line _ c.write_numbered-in-Limit.result _ _ _ e.ok e.err e.cause.failed)

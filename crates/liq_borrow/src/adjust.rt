@@ -1,0 +1,65 @@
+//! Changing a trove.
+
+ghost use Rattle.std.specs.Prelude.{◌≡◌, ◌≤◌, ◌+◌};
+ghost use Rattle.liq_borrow.specs.Borrowing.{adjust_plan, or_nothing};
+ghost use Rattle.liq_borrow.specs.Given.{IsMarket};
+
+use crate::change::{Change, Plan};
+use crate::checks;
+use crate::terms::{borrowing, is_recovery, least_bound, least_ratio};
+use liq_types::amounts::{LIM, RESERVE};
+use liq_types::{Market, Refusal, Wallet};
+
+/// What a change would make of an account's trove, of which the entire collateral (gwei) and debt (micro-LUSD) are given,
+/// the rate of the borrowing's fee being bound. Refused, in this order: `NoTrove`; `FeeBound`, where it borrows; `BothWays`;
+/// `NoChange`; `RecoveryForbids`, where collateral goes out; `FeeOver`; `ShortCollateral` of the wallet, then of the trove;
+/// `ShortTokens`; `NetDebtLow`, where it repays; `AmountLimit` of all debt; `RatioLow`, in Recovery Mode only where it
+/// borrows; `RatioFalls`, where it borrows in Recovery Mode; `SystemRatioLow`, in Normal Mode.
+pub fn plan_adjust(
+    m: &Market,
+    wallet: &Wallet,
+    entire: Option<(u64, u64)>,
+    account: u32,
+    change: &Change,
+    bound: u64,
+) -> Result<Plan, Refusal>
+    requires market { IsMarket m.now }
+    // What was brought in is within the limit, and so are the trove's part of it and the wallet's together.
+    requires coll { (or_nothing entire).0 + wallet.now.coll ≤ LIM }
+    requires debt { (or_nothing entire).1 ≤ m.now.total_debt }
+    ensures { result ≡ adjust_plan m.now wallet.now entire account change.now bound }
+{
+    let Some(had) = entire else {
+        return Err(Refusal::NoTrove { account });
+    };
+    let (fee, rate) = borrowing(m, change.borrow);
+    let recovery = is_recovery(m);
+    let borrows = change.borrow > 0;
+    checks::bound(borrows, bound, least_bound(m))?;
+    checks::one_way(change.coll_in, change.coll_out)?;
+    checks::one_way(change.borrow, change.repay)?;
+    checks::some_change(change)?;
+    checks::no_recovery(change.coll_out > 0, m.total_coll, m.total_debt, m.price)?;
+    checks::fee(fee, change.borrow, bound)?;
+    checks::collateral(change.coll_in, wallet.coll)?;
+    checks::collateral(change.coll_out, had.0)?;
+    checks::tokens(change.repay, wallet.lusd)?;
+    let net = had.1.saturating_sub(RESERVE).saturating_sub(change.repay);
+    checks::net_debt(change.repay > 0, u128::from(net))?;
+    let sum = u128::from(m.total_debt) + u128::from(change.borrow) + u128::from(fee);
+    checks::supply(sum)?;
+    let coll = had.0 + change.coll_in - change.coll_out;
+    let debt = (had.1 + change.borrow + fee).saturating_sub(change.repay);
+    checks::ratio(!recovery || borrows, coll, debt, m.price, least_ratio(m))?;
+    checks::no_fall(recovery && borrows, (coll, debt), had)?;
+    let total_coll = u128::from(m.total_coll) + u128::from(change.coll_in);
+    let total_coll = total_coll.saturating_sub(u128::from(change.coll_out));
+    let total_debt = sum.saturating_sub(u128::from(change.repay));
+    checks::totals(!recovery, total_coll, total_debt, m.price)?;
+    Ok(Plan {
+        coll,
+        debt,
+        fee,
+        rate,
+    })
+}

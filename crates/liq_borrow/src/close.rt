@@ -1,0 +1,40 @@
+//! Closing a trove.
+
+ghost use Rattle.std.specs.Prelude.{◌≡◌};
+ghost use Rattle.liq_borrow.specs.Borrowing.{close_plan};
+ghost use Rattle.liq_borrow.specs.Given.{IsMarket};
+
+use crate::checks;
+use crate::terms::is_recovery;
+use liq_types::amounts::RESERVE;
+use liq_types::{Market, Refusal, Wallet};
+
+/// What closing an account's trove, of which the entire collateral (gwei) and debt (micro-LUSD) are given, repays
+/// (micro-LUSD) and returns (gwei). Refused, in this order: `NoTrove`; `LastTrove`; `RecoveryForbids`; `ShortTokens`, where the
+/// wallet has less than the debt beside the reserve; `SystemRatioLow`.
+pub fn plan_close(
+    m: &Market,
+    wallet: &Wallet,
+    entire: Option<(u64, u64)>,
+    account: u32,
+) -> Result<(u64, u64), Refusal>
+    requires { IsMarket m.now }
+    ensures { result ≡ close_plan m.now wallet.now entire account }
+{
+    let Some(had) = entire else {
+        return Err(Refusal::NoTrove { account });
+    };
+    checks::not_last(m.troves)?;
+    checks::no_recovery(true, m.total_coll, m.total_debt, m.price)?;
+    let repaid = had.1.saturating_sub(RESERVE);
+    checks::tokens(repaid, wallet.lusd)?;
+    let total_coll = m.total_coll.saturating_sub(had.0);
+    let total_debt = m.total_debt.saturating_sub(had.1);
+    checks::totals(
+        !is_recovery(m),
+        u128::from(total_coll),
+        u128::from(total_debt),
+        m.price,
+    )?;
+    Ok((repaid, had.0))
+}

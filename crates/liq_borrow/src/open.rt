@@ -1,0 +1,49 @@
+//! Opening a trove.
+
+ghost use Rattle.std.specs.Prelude.{◌≡◌};
+ghost use Rattle.liq_borrow.specs.Borrowing.{open_plan};
+ghost use Rattle.liq_borrow.specs.Given.{IsMarket};
+
+use crate::change::Plan;
+use crate::checks;
+use crate::terms::{borrowing, is_recovery, least_bound, least_ratio};
+use liq_types::amounts::RESERVE;
+use liq_types::{Market, Refusal, Wallet};
+
+/// What opening a trove with so much collateral (gwei) and borrowing (micro-LUSD) would make of it, the fee's rate being
+/// bound. Refused, in this order: `TroveExists`; `FeeBound`; `FeeOver`; `NetDebtLow`, where what is borrowed and the fee are
+/// too low; `AmountLimit` of all debt; `ShortCollateral`; `RatioLow`; `SystemRatioLow`, in Normal Mode.
+pub fn plan_open(
+    m: &Market,
+    wallet: &Wallet,
+    exists: bool,
+    account: u32,
+    coll: u64,
+    borrow: u64,
+    bound: u64,
+) -> Result<Plan, Refusal>
+    requires { IsMarket m.now }
+    ensures { result ≡ open_plan m.now wallet.now exists account coll borrow bound }
+{
+    if exists {
+        return Err(Refusal::TroveExists { account });
+    }
+    let (fee, rate) = borrowing(m, borrow);
+    let net = u128::from(borrow) + u128::from(fee);
+    let sum = u128::from(m.total_debt) + net + u128::from(RESERVE);
+    checks::bound(true, bound, least_bound(m))?;
+    checks::fee(fee, borrow, bound)?;
+    checks::net_debt(true, net)?;
+    checks::supply(sum)?;
+    checks::collateral(coll, wallet.coll)?;
+    let debt = borrow + fee + RESERVE;
+    checks::ratio(true, coll, debt, m.price, least_ratio(m))?;
+    let total_coll = u128::from(m.total_coll) + u128::from(coll);
+    checks::totals(!is_recovery(m), total_coll, sum, m.price)?;
+    Ok(Plan {
+        coll,
+        debt,
+        fee,
+        rate,
+    })
+}

@@ -1,0 +1,8 @@
+use Rattle.liq_core.proofs.SoundStart.{opening_sound, started_sound}
+use Rattle.liq_core.proofs.soundness.sound_images_begin_sound_states.Goals as goal
+
+pub returns-clause-opening : goal.returns-clause-opening
+returns-clause-opening c = opening_sound
+
+pub returns-clause-started : goal.returns-clause-started
+returns-clause-started c = started_sound

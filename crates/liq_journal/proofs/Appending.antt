@@ -1,0 +1,332 @@
+-- What each write of an append leaves.
+use Rattle.std.proofs.Common.{◌≡◌, ◌⊎◌, inl, inr, ⊎_elim, ℕ, zero, suc, ◌+◌, ◌*◌, ◌-◌, ◌<◌, ◌≤◌, min, max, List, [], ◌∷◌, ◌++◌, length, take, drop, get_or, replicate, Option, Some, option_map, IfSome, Result, Ok, Err, Bool, true, false, not, if◌then◌else◌, refl, sym, ◌∙◌, ap, subst, arith, length-take, length-drop, length-append, append_assoc, take-append-drop}
+use Rattle.std.specs.Str.{bytes_eq}
+use Rattle.std.proofs.lemmas.Bool.Decides.{nat_tests}
+use Rattle.std.proofs.lemmas.Slice.Eq.{bytes_eq-Decides}
+use Rattle.std.proofs.lemmas.List.{take-take, take_at, drop_at, get_or-take, get_or-drop, drop-drop, append-nil, take-append-le, get_or-append_right}
+use Rattle.liq_types.specs.declared.requests.Command.{Command}
+use Rattle.liq_wire.specs.Fields.{command_of}
+use Rattle.liq_outside.specs.Disk.{Torn, overwritten, Only, LeftNow, LeavesOnly}
+use Rattle.liq_outside.proofs.Moments.{chained, weaker, at_last}
+use Rattle.byteorder.specs.Endian.{big_bytes}
+use Rattle.sha2.specs.Sha256.{sha256}
+use Rattle.sha2.proofs.Facts256.{length-sha256}
+use Rattle.liq_journal.specs.Settled.{JournalOn, IsSettled}
+use Rattle.liq_outside.proofs.Steps.{torn_whole}
+use Rattle.liq_journal.specs.declared.damage.What.{What}
+use Rattle.liq_journal.specs.declared.damage.What.TheVariants.{Digest, Form}
+use Rattle.liq_journal.specs.Records.{records}
+use Rattle.liq_journal.specs.Written.{Written, Found, Open, piece, found_records, most_records, found_on, end_of, EndsWith, and_then, opened, record_on, record_digest, command_from, unless_rotate, is_rotate}
+use Rattle.liq_journal.specs.Crash.{Stands, IsPending, BeforeOrAfter, IsBodyOf, is_odd}
+use Rattle.liq_journal.proofs.Reading.{records_whole, records_none, records_alike, is_whole, isnt_open, isnt_long, front_behind, piece_alike, byte_alike, length_alike, true_or_false}
+use Rattle.liq_journal.proofs.Heading.{Headed, IsOpen, is_open, headed_alike, found_behind_it, of_records, found_more}
+
+-- a body, a digest and a 0, written over zeros
+pub record_is : (body digest : List ℕ) → length body ≡ 96 → length digest ≡ 32 → take 96 (body ++ drop (0 + length body) (replicate 129 0)) ++ digest ++ drop (96 + length digest) (body ++ drop (0 + length body) (replicate 129 0)) ≡ (body ++ digest) ++ 0 ∷ []
+record_is body digest size digest_size =
+    let zeros = replicate 129 0 in
+    let front : take 96 (body ++ drop (0 + length body) zeros) ≡ body = take_at body (drop (0 + length body) zeros) 96 size in
+    let n : 96 + length digest ≡ 96 + 32 = omega arith in
+    let m : 0 + length body ≡ 96 = omega arith in
+    let back : drop (96 + length digest) (body ++ drop (0 + length body) zeros) ≡ 0 ∷ [] =
+    ap (λ (k : ℕ). drop k (body ++ drop (0 + length body) zeros)) n ∙ sym (drop-drop 32 96 (body ++ drop (0 + length body) zeros)) ∙ ap (drop 32) (drop_at body (drop (0 + length body) zeros) 96 size ∙ ap (λ (k : ℕ). drop k zeros) m) in
+    (λ i. front i ++ digest ++ back i)
+
+-- a record read back
+pub read_record : (generation index place : ℕ) (body digest : List ℕ) (command : Command) → length body ≡ 96 → digest ≡ record_digest generation index body → IsBodyOf body command → record_on generation index place (body ++ digest) ≡ Ok command
+unfolding record_on
+read_record generation index place body digest command size stored of =
+    let front : take 96 (body ++ digest) ≡ body = take_at body digest 96 size in
+    let behind : drop 96 (body ++ digest) ≡ digest = drop_at body digest 96 size in
+    let e : not (bytes_eq (drop 96 (body ++ digest)) (record_digest generation index (take 96 (body ++ digest)))) ≡ false =
+    ap (λ (l : List ℕ). not (bytes_eq l (record_digest generation index (take 96 (body ++ digest))))) behind
+    ∙ ap (λ (l : List ℕ). not (bytes_eq digest (record_digest generation index l))) front
+    ∙ equal digest (record_digest generation index body) stored in
+    ap (λ (b : Bool). if b then Err (Digest (drop 96 (body ++ digest)) (record_digest generation index (take 96 (body ++ digest)))) else command_from place (command_of (take 96 (body ++ digest)))) e
+    ∙ ap (λ (l : List ℕ). command_from place (command_of l)) front
+    ∙ ap (command_from place) of.spelled
+    ∙ ap (λ (b : Bool). if b then Err (Form place) else Ok command) of.no_rotation
+  where
+    equal : (xs ys : List ℕ) → xs ≡ ys → not (bytes_eq xs ys) ≡ false
+    equal xs ys is = grind (arith, bytes_eq-Decides)
+
+module _ (odd : Bool) (held : List ℕ) (w : Written) (found : found_on odd held ≡ Open w) where
+  abbrev start : ℕ
+  start = 57 + length w.checkpoint
+
+  abbrev count : ℕ
+  count = length w.commands
+
+  abbrev raws : List (List ℕ)
+  raws = records most_records (drop start held)
+
+  counted : length raws ≡ count
+  counted = (of_records w.generation w.checkpoint 1 start raws w (is_open odd held w found).behind).count
+
+  -- what is found where the same bytes stand up to the end
+  read_on : (image : List ℕ) (most : ℕ) → most_records ≡ count + most → end_of w ≤ length held → take (end_of w) image ≡ take (end_of w) held → found_on odd image ≡ found_records w.generation w.checkpoint 1 start (raws ++ records most (drop (end_of w) image))
+  read_on image most fuel there alike =
+      let headed = headed_alike odd held image w.generation w.checkpoint start (end_of w) (is_open odd held w found).headed (omega arith) alike there in
+      let more = records_alike count most_records most (drop start held) (drop start image) fuel counted (front_behind start (129 * count) held image alike) in
+      let at : drop (129 * count) (drop start image) ≡ drop (end_of w) image = drop-drop (129 * count) start image in
+      found_behind_it odd image w.generation w.checkpoint start headed
+      ∙ ap (found_records w.generation w.checkpoint 1 start) (more ∙ ap (λ (l : List ℕ). raws ++ records most l) at)
+
+  gate_at : (image : List ℕ) → get_or (drop (end_of w) image) 0 0 ≡ get_or image (end_of w) 0
+  gate_at image = get_or-drop (end_of w) image 0 0 ∙ (let e : end_of w + 0 ≡ end_of w = omega arith in ap (λ (n : ℕ). get_or image n 0) e)
+
+  -- a gate that isn't open ends them
+  pub held_on : (image : List ℕ) (most : ℕ) → most_records ≡ count + most → end_of w ≤ length held → take (end_of w) image ≡ take (end_of w) held → (get_or image (end_of w) 0 ≡ 1 → ⊥) → found_on odd image ≡ Open w
+  held_on image most fuel there alike shut =
+      read_on image most fuel there alike
+      ∙ ap (λ (l : List (List ℕ)). found_records w.generation w.checkpoint 1 start (raws ++ l)) (records_none most (drop (end_of w) image) (isnt_open (drop (end_of w) image) (λ is. shut (sym (gate_at image) ∙ is))))
+      ∙ ap (found_records w.generation w.checkpoint 1 start) (append-nil raws)
+      ∙ (is_open odd held w found).behind
+
+  -- an open gate, a record and a closed gate
+  pub one_more : (image : List ℕ) (most : ℕ) (command : Command) → most_records ≡ count + suc most → end_of w ≤ length held → take (end_of w) image ≡ take (end_of w) held → get_or image (end_of w) 0 ≡ 1 → end_of w + 128 < length image → record_on w.generation (count + 1) (end_of w + 1) (piece (end_of w + 1) 128 image) ≡ Ok command → (get_or image (end_of w + 129) 0 ≡ 1 → ⊥) → found_on odd image ≡ Open (and_then w command)
+  one_more image most command fuel there alike gate long read shut =
+      let rest = drop (end_of w) image in
+      let size = length-drop (end_of w) image in
+      let whole = records_whole most rest (is_whole rest (gate_at image ∙ gate) (omega arith)) in
+      let raw : take 128 (drop 1 rest) ≡ piece (end_of w + 1) 128 image = ap (take 128) (drop-drop 1 (end_of w) image) in
+      let next : drop 129 rest ≡ drop (end_of w + 129) image = drop-drop 129 (end_of w) image in
+      let shut_next : get_or (drop 129 rest) 0 0 ≡ 1 → ⊥ = λ is. shut (sym (ap (λ (l : List ℕ). get_or l 0 0) next ∙ get_or-drop (end_of w + 129) image 0 0 ∙ (let e : end_of w + 129 + 0 ≡ end_of w + 129 = omega arith in ap (λ (n : ℕ). get_or image n 0) e)) ∙ is) in
+      let none = records_none most (drop 129 rest) (isnt_open (drop 129 rest) shut_next) in
+      let at : start + 129 * length raws + 1 ≡ end_of w + 1 = omega (arith, counted) in
+      let i : 1 + length raws ≡ count + 1 = omega (arith, counted) in
+      let here : record_on w.generation (1 + length raws) (start + 129 * length raws + 1) (piece (end_of w + 1) 128 image) ≡ Ok command =
+      ap (λ (n : ℕ). record_on w.generation n (start + 129 * length raws + 1) (piece (end_of w + 1) 128 image)) i ∙ ap (λ (n : ℕ). record_on w.generation (count + 1) n (piece (end_of w + 1) 128 image)) at ∙ read in
+      read_on image (suc most) fuel there alike
+      ∙ ap (λ (l : List (List ℕ)). found_records w.generation w.checkpoint 1 start (raws ++ l)) (whole ∙ (λ i. raw i ∷ none i))
+      ∙ found_more w.generation w.checkpoint 1 start raws (piece (end_of w + 1) 128 image) w command (is_open odd held w found).behind here
+
+-- an end with one command more
+end_more : (w : Written) (command : Command) → end_of (and_then w command) ≡ end_of w + 129
+end_more w command = let e = length-append w.commands (command ∷ []) in omega arith
+
+module _ (odd : Bool) (held : List ℕ) (w : Written) (stands : Stands odd held w) (few : length w.commands < 1000000) where
+  there : end_of w < length held
+  there = stands.ended.there
+
+  left : ℕ
+  left = 1000000 - length w.commands
+
+  fuel : most_records ≡ length w.commands + suc left
+  unfolding left
+  fuel = omega arith
+
+  -- behind the closed gate, whatever stands there
+  pub stage_left : (n : ℕ) (image : List ℕ) → Torn (end_of w + 1) n held image → Stands odd image w
+  stage_left n image torn =
+      let gate = byte_alike (end_of w + 1) held image torn.before (end_of w) (omega arith) ∙ stands.ended.is in
+      let front : take (end_of w) image ≡ take (end_of w) held = sym (take-take (end_of w) (end_of w + 1) image (omega arith)) ∙ ap (take (end_of w)) torn.before ∙ take-take (end_of w) (end_of w + 1) held (omega arith) in
+      record {
+        found = held_on odd held w stands.found image (suc left) fuel (omega (arith, there)) front (λ is. let e = sym gate ∙ is in absurd (cc (e)));
+        ended = record { there = omega (arith, torn.no_shorter, there); is = gate };
+      }
+
+  module _ (body digest : List ℕ) (command : Command) (size : length body ≡ 96) (digest_size : length digest ≡ 32) (stored : digest ≡ record_digest w.generation (length w.commands + 1) body) (of : IsBodyOf body command) where
+    abbrev pub record_bytes : List ℕ
+    record_bytes = (body ++ digest) ++ 0 ∷ []
+
+    long_record : length record_bytes ≡ 129
+    long_record = let a = length-append (body ++ digest) (0 ∷ []) in let b = length-append body digest in omega arith
+
+    -- the record is there, behind the closed gate
+    abbrev pub staged : List ℕ
+    staged = overwritten held (end_of w + 1) record_bytes
+
+    whole : Torn (end_of w + 1) (length record_bytes) held staged
+    whole = torn_whole held (end_of w + 1) record_bytes (omega (arith, there))
+
+    pub staged_stands : Stands odd staged w
+    staged_stands = stage_left (length record_bytes) staged whole
+
+    front_size : length (take (end_of w + 1) held) ≡ end_of w + 1
+    front_size = length-take (end_of w + 1) held ∙ omega (arith, there)
+
+    behind_staged : drop (end_of w + 1) staged ≡ record_bytes ++ drop (end_of w + 1 + length record_bytes) held
+    behind_staged = ap (drop (end_of w + 1)) (append_assoc (take (end_of w + 1) held) record_bytes (drop (end_of w + 1 + length record_bytes) held)) ∙ drop_at (take (end_of w + 1) held) (record_bytes ++ drop (end_of w + 1 + length record_bytes) held) (end_of w + 1) front_size
+
+    long_staged : end_of w + 130 ≤ length staged
+    long_staged =
+        let e = ap length behind_staged in
+        let a = length-append record_bytes (drop (end_of w + 1 + length record_bytes) held) in
+        let d = length-drop (end_of w + 1) staged in
+        omega (arith, long_record)
+
+    -- any byte at the gate
+    module _ (image : List ℕ) (torn : Torn (end_of w) 1 staged image) where
+      rest_is : drop (end_of w + 1) image ≡ record_bytes ++ drop (end_of w + 1 + length record_bytes) held
+      rest_is = torn.behind ∙ behind_staged
+
+      raw_is : piece (end_of w + 1) 128 image ≡ body ++ digest
+      raw_is =
+          let n = length-append body digest in
+          ap (take 128) (rest_is ∙ append_assoc (body ++ digest) (0 ∷ []) (drop (end_of w + 1 + length record_bytes) held)) ∙ take_at (body ++ digest) (0 ∷ drop (end_of w + 1 + length record_bytes) held) 128 (omega arith)
+
+      next_is : get_or image (end_of w + 129) 0 ≡ 0
+      next_is =
+          let n = length-append body digest in
+          let e : end_of w + 129 ≡ end_of w + 1 + 128 = omega arith in
+          ap (λ (k : ℕ). get_or image k 0) e ∙ sym (get_or-drop (end_of w + 1) image 128 0)
+          ∙ ap (λ (l : List ℕ). get_or l 128 0) (rest_is ∙ append_assoc (body ++ digest) (0 ∷ []) (drop (end_of w + 1 + length record_bytes) held))
+          ∙ get_or-append_right (body ++ digest) (0 ∷ drop (end_of w + 1 + length record_bytes) held) 128 128 0 (omega arith) (omega arith)
+          ∙ (let z : 128 - 128 ≡ 0 = refl in ap (λ (k : ℕ). get_or (0 ∷ drop (end_of w + 1 + length record_bytes) held) k 0) z)
+
+      long_image : end_of w + 130 ≤ length image
+      long_image = omega (arith, torn.no_shorter, long_staged)
+
+      front_is : take (end_of w) image ≡ take (end_of w) staged
+      front_is = torn.before
+
+      pub ends_more : EndsWith 0 image (and_then w command)
+      ends_more =
+          let e = end_more w command in
+          record { there = omega (arith, long_image); is = ap (λ (k : ℕ). get_or image k 0) e ∙ next_is }
+
+      -- the gate is open
+      pub after : get_or image (end_of w) 0 ≡ 1 → Stands odd image (and_then w command)
+      after gate = record {
+        found = one_more odd staged w staged_stands.found image left command fuel (omega (arith, long_staged)) front_is gate (omega (arith, long_image))
+            (ap (record_on w.generation (length w.commands + 1) (end_of w + 1)) raw_is ∙ read_record w.generation (length w.commands + 1) (end_of w + 1) body digest command size stored of)
+            (λ is. let e = sym next_is ∙ is in absurd (cc (e)));
+        ended = ends_more;
+      }
+
+      -- it isn't
+      pub before : (get_or image (end_of w) 0 ≡ 1 → ⊥) → found_on odd image ≡ Open w
+      before shut = held_on odd staged w staged_stands.found image (suc left) fuel (omega (arith, long_staged)) front_is shut
+
+    -- the gate written over is a part of its write too
+    reopened : (image : List ℕ) → Torn (end_of w) 1 staged image → Torn (end_of w) 1 staged (opened (end_of w) image)
+    reopened image torn =
+        let there_2 : end_of w ≤ length image = omega (arith, torn.no_shorter, long_staged) in
+        let again = torn_whole image (end_of w) (1 ∷ []) there_2 in
+        record {
+          before = again.before ∙ torn.before;
+          behind = again.behind ∙ torn.behind;
+          no_shorter = omega (arith, again.no_shorter, torn.no_shorter);
+          no_longer = omega (arith, again.no_longer, torn.no_longer);
+        }
+
+    open_gate : (image : List ℕ) → end_of w < length image → get_or (opened (end_of w) image) (end_of w) 0 ≡ 1
+    open_gate image there_2 =
+        let front : length (take (end_of w) image) ≡ end_of w = length-take (end_of w) image ∙ omega arith in
+        ap (λ (l : List ℕ). get_or l (end_of w) 0) (append_assoc (take (end_of w) image) (1 ∷ []) (drop (end_of w + 1) image))
+        ∙ get_or-append_right (take (end_of w) image) (1 ∷ drop (end_of w + 1) image) (end_of w) (end_of w) 0 front (omega arith)
+        ∙ (let z : end_of w - end_of w ≡ 0 = omega arith in ap (λ (k : ℕ). get_or (1 ∷ drop (end_of w + 1) image) k 0) z)
+
+    byte_cases : (n : ℕ) → (n ≡ 0) ⊎ ((n ≡ 1) ⊎ ((n ≡ 0 → ⊥) × (n ≡ 1 → ⊥)))
+    byte_cases zero = inl refl
+    byte_cases (suc zero) = inr (inl refl)
+    byte_cases (suc (suc n)) = inr (inr ((λ is. absurd (omega arith)), (λ is. absurd (omega arith))))
+
+    pub gate_left : (image : List ℕ) → Torn (end_of w) 1 staged image → BeforeOrAfter odd w command image
+    gate_left image torn = elim (byte_cases (get_or image (end_of w) 0)) [
+      | inl closed ↦ inl (record { found = before image torn (λ is. let e = sym closed ∙ is in absurd (cc (e))); ended = record { there = omega (arith, long_image image torn); is = closed } })
+      | inr more ↦ elim more [
+        | inl open_one ↦ inr (inr (after image torn open_one))
+        | inr other ↦ inr (inl (record {
+          found = before image torn other.1;
+          opened = (after (opened (end_of w) image) (reopened image torn) (open_gate image (omega (arith, long_image image torn)))).found;
+          ended = ends_more image torn;
+        }))
+      ]
+    ]
+
+    -- both writes done
+    pub appended : Stands odd (overwritten staged (end_of w) (1 ∷ [])) (and_then w command)
+    appended = after (overwritten staged (end_of w) (1 ∷ [])) (torn_whole staged (end_of w) (1 ∷ []) (omega (arith, long_staged))) (open_gate staged (omega (arith, long_staged)))
+
+pub record_digest_is : (generation index : ℕ) (body : List ℕ) → sha256 (big_bytes 8 generation ++ big_bytes 8 index ++ body) ≡ record_digest generation index body
+unfolding record_digest
+record_digest_is generation index body = refl
+
+pub length-record_digest : (generation index : ℕ) (body : List ℕ) → length (record_digest generation index body) ≡ 32
+unfolding record_digest
+length-record_digest generation index body = length-sha256 _
+
+-- what is known of the journal is what stands on the disk
+pub record Agrees (generation start count : ℕ) (w : Written) : Type 0 where
+  pub generation_is : w.generation ≡ generation
+  pub start_is : 57 + length w.checkpoint ≡ start
+  pub count_is : length w.commands ≡ count
+
+agrees : (generation start count : ℕ) (held : List ℕ) (w : Written) → IsSettled generation start count held → Stands (is_odd generation) held w → Agrees generation start count w
+agrees generation start count held w settled stands =
+    let both : Open settled.written ≡ Open w = sym settled.stands.found ∙ stands.found in
+    let same : settled.written ≡ w = cc (both) in
+    subst (λ (v : Written). Agrees generation start count v) same (record { generation_is = settled.generation_is; start_is = settled.start_is; count_is = settled.count_is })
+
+module _ {D : Type 0} (seen : D → Option (List ℕ)) (moment : D → ℕ) (left_at : D → ℕ → List ℕ → Type 0) (j : JournalOn D) (body record_of : List ℕ) where
+  abbrev gate : ℕ
+  gate = j.start + 129 * j.count
+
+  -- the clauses of an append
+  abbrev pub Crashes : D → Type 0
+  Crashes new = (held : List ℕ) (w : Written) (command : Command) → seen j.disk ≡ Some held → Only held (LeftNow moment left_at j.disk) → Stands (is_odd j.generation) held w → IsBodyOf body command → LeavesOnly moment left_at j.disk new (BeforeOrAfter (is_odd j.generation) w command)
+
+  abbrev pub Appends : D → Type 0
+  Appends new = (held : List ℕ) (w : Written) (command : Command) → seen j.disk ≡ Some held → Stands (is_odd j.generation) held w → IsBodyOf body command → (after : List ℕ) × (seen new ≡ Some after) × Stands (is_odd j.generation) after (and_then w command)
+
+  -- a write as it is told
+  abbrev pub Tears : D → D → ℕ → List ℕ → Type 0
+  Tears old new at bytes = (held : List ℕ) → seen old ≡ Some held → Only held (LeftNow moment left_at old) → LeavesOnly moment left_at old new (Torn at (length bytes) held)
+
+  abbrev pub Reads : D → Type 0
+  Reads new = (held after : List ℕ) (w : Written) (command : Command) → seen j.disk ≡ Some held → Only held (LeftNow moment left_at j.disk) → Stands (is_odd j.generation) held w → IsBodyOf body command → seen new ≡ Some after → BeforeOrAfter (is_odd j.generation) w command after
+
+  pub reads : (new : D) → ((held : List ℕ) → seen new ≡ Some held → LeftNow moment left_at new held) → Crashes new → Reads new
+  reads new stays crashes held after w command told only stands of told_after = at_last moment left_at j.disk new (BeforeOrAfter (is_odd j.generation) w command) (crashes held w command told only stands of) after (stays after told_after)
+
+  module _ (settled : IfSome (seen j.disk) (IsSettled j.generation j.start j.count)) (few : j.count < 1000000) where
+    known : (held : List ℕ) (w : Written) → seen j.disk ≡ Some held → Stands (is_odd j.generation) held w → Agrees j.generation j.start j.count w
+    known held w told stands = agrees j.generation j.start j.count held w (subst (λ (o : Option (List ℕ)). IfSome o (IsSettled j.generation j.start j.count)) told settled) stands
+
+    gate_is : (w : Written) → Agrees j.generation j.start j.count w → end_of w ≡ gate
+    gate_is w a = let s = a.start_is in let c = a.count_is in omega arith
+
+    pub first_crashes : (mid : D) → Tears j.disk mid (gate + 1) record_of → Crashes mid
+    first_crashes mid tears held w command told only stands of =
+        let a = known held w told stands in
+        let few_2 : length w.commands < 1000000 = let c = a.count_is in omega arith in
+        weaker moment left_at j.disk mid (Torn (gate + 1) (length record_of) held) (BeforeOrAfter (is_odd j.generation) w command) (tears held told only)
+        (λ image torn. inl (stage_left (is_odd j.generation) held w stands few_2 (length record_of) image (subst (λ (n : ℕ). Torn (n + 1) (length record_of) held image) (sym (gate_is w a)) torn)))
+
+    module _ (size : length body ≡ 96) (is : record_of ≡ (body ++ record_digest j.generation (j.count + 1) body) ++ 0 ∷ []) (mid new : D)
+        (written : seen mid ≡ option_map (λ held. overwritten held (gate + 1) record_of) (seen j.disk)) where
+      stored : (w : Written) → Agrees j.generation j.start j.count w → record_digest j.generation (j.count + 1) body ≡ record_digest w.generation (length w.commands + 1) body
+      stored w a = ap (λ (n : ℕ). record_digest n (j.count + 1) body) (sym a.generation_is) ∙ ap (λ (n : ℕ). record_digest w.generation (n + 1) body) (sym a.count_is)
+
+      digest_of : List ℕ
+      digest_of = record_digest j.generation (j.count + 1) body
+
+      mid_is : (held : List ℕ) (w : Written) → seen j.disk ≡ Some held → (a : Agrees j.generation j.start j.count w) → seen mid ≡ Some (overwritten held (end_of w + 1) ((body ++ record_digest j.generation (j.count + 1) body) ++ 0 ∷ []))
+      mid_is held w told a =
+          written ∙ ap (option_map (λ (l : List ℕ). overwritten l (gate + 1) record_of)) told
+          ∙ ap (λ (l : List ℕ). Some (overwritten held (gate + 1) l)) is
+          ∙ ap (λ (n : ℕ). Some (overwritten held (n + 1) ((body ++ record_digest j.generation (j.count + 1) body) ++ 0 ∷ []))) (sym (gate_is w a))
+
+      pub second_crashes : Crashes mid → IfSome (seen mid) (λ held. Only held (LeftNow moment left_at mid)) → Tears mid new gate (1 ∷ []) → Crashes new
+      second_crashes first durable tears held w command told only stands of =
+          let a = known held w told stands in
+          let few_2 : length w.commands < 1000000 = let c = a.count_is in omega arith in
+          let staged_2 = overwritten held (end_of w + 1) ((body ++ record_digest j.generation (j.count + 1) body) ++ 0 ∷ []) in
+          let told_mid = mid_is held w told a in
+          let only_mid = subst (λ (o : Option (List ℕ)). IfSome o (λ l. Only l (LeftNow moment left_at mid))) told_mid durable in
+          chained moment left_at j.disk mid new (BeforeOrAfter (is_odd j.generation) w command) (first held w command told only stands of)
+          (weaker moment left_at mid new (Torn gate 1 staged_2) (BeforeOrAfter (is_odd j.generation) w command) (tears staged_2 told_mid only_mid)
+          (λ image torn. gate_left (is_odd j.generation) held w stands few_2 body (record_digest j.generation (j.count + 1) body) command size (length-record_digest j.generation (j.count + 1) body) (stored w a) of image
+          (subst (λ (n : ℕ). Torn n 1 staged_2 image) (sym (gate_is w a)) torn)))
+
+      pub appends : seen new ≡ option_map (λ held. overwritten held gate (1 ∷ [])) (seen mid) → Appends new
+      appends opened_gate held w command told stands of =
+          let a = known held w told stands in
+          let few_2 : length w.commands < 1000000 = let c = a.count_is in omega arith in
+          let staged_2 = overwritten held (end_of w + 1) ((body ++ record_digest j.generation (j.count + 1) body) ++ 0 ∷ []) in (
+            overwritten staged_2 (end_of w) (1 ∷ []),
+            opened_gate ∙ ap (option_map (λ (l : List ℕ). overwritten l gate (1 ∷ []))) (mid_is held w told a) ∙ ap (λ (n : ℕ). Some (overwritten staged_2 n (1 ∷ []))) (sym (gate_is w a)),
+            appended (is_odd j.generation) held w stands few_2 body (record_digest j.generation (j.count + 1) body) command size (length-record_digest j.generation (j.count + 1) body) (stored w a) of,
+          )

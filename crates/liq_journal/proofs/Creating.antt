@@ -1,0 +1,268 @@
+-- What a creation writes, and what a crash leaves of it.
+use Rattle.std.proofs.Common.{◌≡◌, ◌⊎◌, inl, inr, ⊎_elim, ℕ, zero, suc, ◌+◌, ◌*◌, ◌-◌, ◌<◌, ◌≤◌, ◌^◌, List, [], ◌∷◌, ◌++◌, length, take, drop, get_or, replicate, Option, Some, None, option_map, IfSome, IsSome, Result, Ok, Err, OnOk, rules, Bool, true, false, not, ◌||◌, ◌&&◌, ◌==◌, nat_lt, if◌then◌else◌, refl, sym, ◌∙◌, ap, subst, arith, length-take, length-drop, length-append, append_assoc, take-append-drop}
+use Rattle.std.specs.Str.{bytes_eq}
+use Rattle.std.proofs.lemmas.Bool.Decides.{nat_tests}
+use Rattle.std.proofs.lemmas.Slice.Eq.{bytes_eq-Decides}
+use Rattle.std.proofs.lemmas.List.{take-take, take_at, drop_at, drop_all, get_or-append_right, get_or-drop, drop-drop, append-nil}
+use Rattle.byteorder.specs.Endian.{big_bytes}
+use Rattle.byteorder.specs.Numbers.{big_number-reads_back}
+use Rattle.sha2.specs.Sha256.{sha256}
+use Rattle.sha2.proofs.Facts256.{length-sha256}
+use Rattle.liq_wire.specs.Fields.{number_at}
+use Rattle.liq_outside.specs.Disk.{Torn, overwritten, Only, LeftNow, LeavesOnly, Elapses, Follows}
+use Rattle.liq_outside.proofs.Moments.{chained, weaker, at_last, call}
+use Rattle.liq_journal.specs.Records.{records}
+use Rattle.liq_journal.specs.Written.{Written, Found, Open, version_1, piece, generation_on, size_on, start_on, checkpoint_on, header_digest, header_of, fields_of, header_tests, is_absent, is_generation, is_size, found_records, most_records, found_on, end_of, EndsWith, opened}
+use Rattle.liq_journal.specs.Crash.{Stands, IsClosed, HasByteAt, beginning, CreateLeaves, IsShut, filled}
+use Rattle.liq_journal.specs.Crash.{is_odd}
+use Rattle.liq_journal.proofs.Reading.{records_none, isnt_open}
+use Rattle.liq_journal.proofs.Heading.{Headed, found_behind_it, no_fault}
+
+-- a write at place 0 of one byte leaves the bytes, or some byte there
+pub torn_gate : (held image : List ℕ) → Torn 0 1 held image → (image ≡ held) ⊎ HasByteAt 0 held image
+torn_gate [] [] torn = inl refl
+torn_gate (x ∷ held) [] torn = absurd (let n = torn.no_shorter in omega arith)
+torn_gate held (b ∷ image) torn = inr (b, ap (λ (l : List ℕ). b ∷ l) torn.behind)
+
+-- behind place 0 a shut gate stays
+pub shut_stays : (at n : ℕ) (held image : List ℕ) → 1 ≤ at → IsShut held → Torn at n held image → IsShut image
+shut_stays at n held image behind shut torn =
+    sym (take-take 1 at image behind) ∙ ap (take 1) torn.before ∙ take-take 1 at held behind ∙ shut
+
+pub write_leaves_shut : {D : Type 0} (moment : D → ℕ) (left_at : D → ℕ → List ℕ → Type 0) (old new : D) (at n : ℕ) → 1 ≤ at → Elapses moment left_at old new → Follows (Torn at n) (LeftNow moment left_at old) (LeftNow moment left_at new) → ((image : List ℕ) → LeftNow moment left_at old image → IsShut image) → LeavesOnly moment left_at old new IsShut
+write_leaves_shut moment left_at old new at n behind time follows shut =
+    call moment left_at old new IsShut time shut (λ image left. let from = follows image left in shut_stays at n from.0 image behind (shut from.0 from.1) from.2)
+
+pub header_digest_is : (fields checkpoint : List ℕ) → sha256 (fields ++ checkpoint) ≡ header_digest fields checkpoint
+unfolding header_digest
+header_digest_is fields checkpoint = refl
+
+pub length-header_digest : (fields checkpoint : List ℕ) → length (header_digest fields checkpoint) ≡ 32
+unfolding header_digest
+length-header_digest fields checkpoint = length-sha256 _
+
+-- a digest written behind 24 bytes of fields, over zeros
+pub header_is : (fields digest : List ℕ) → length fields ≡ 24 → length digest ≡ 32 → take 24 (fields ++ drop (0 + length fields) (replicate 56 0)) ++ digest ++ drop (24 + length digest) (fields ++ drop (0 + length fields) (replicate 56 0)) ≡ fields ++ digest
+header_is fields digest size digest_size =
+    let zeros = replicate 56 0 in
+    let front : take 24 (fields ++ drop (0 + length fields) zeros) ≡ fields = take_at fields (drop (0 + length fields) zeros) 24 size in
+    let n : 24 + length digest ≡ 24 + 32 = omega arith in
+    let m : 0 + length fields ≡ 24 = omega arith in
+    let back : drop (24 + length digest) (fields ++ drop (0 + length fields) zeros) ≡ [] =
+    ap (λ (k : ℕ). drop k (fields ++ drop (0 + length fields) zeros)) n ∙ sym (drop-drop 32 24 (fields ++ drop (0 + length fields) zeros)) ∙ ap (drop 32) (drop_at fields (drop (0 + length fields) zeros) 24 size ∙ ap (λ (k : ℕ). drop k zeros) m) in
+    (λ i. front i ++ digest ++ back i) ∙ append-nil (fields ++ digest)
+
+-- a write behind a front
+over_front : (front back bytes : List ℕ) (at : ℕ) → length front ≡ at → overwritten (front ++ back) at bytes ≡ front ++ bytes ++ drop (length bytes) back
+over_front front back bytes at size =
+    let a : take at (front ++ back) ≡ front = take_at front back at size in
+    let b : drop (at + length bytes) (front ++ back) ≡ drop (length bytes) back = sym (drop-drop (length bytes) at (front ++ back)) ∙ ap (drop (length bytes)) (drop_at front back at size) in
+    (λ i. a i ++ bytes ++ b i)
+
+module _ (generation : ℕ) (checkpoint : List ℕ) where
+  abbrev size : ℕ
+  size = length checkpoint
+
+  abbrev header : List ℕ
+  header = header_of generation checkpoint
+
+  length-header : length header ≡ 56
+  length-header = let e = length-append (fields_of generation size) (header_digest (fields_of generation size) checkpoint) in let d = length-header_digest (fields_of generation size) checkpoint in omega arith
+
+  abbrev rest_of : List ℕ → List ℕ
+  rest_of held = drop 1 (drop size (drop (length header) (drop 1 held)))
+
+  abbrev front : List ℕ
+  front = ((0 ∷ []) ++ header) ++ checkpoint
+
+  length-front : length front ≡ 57 + size
+  length-front = let a = length-append ((0 ∷ []) ++ header) checkpoint in let h = length-header in omega arith
+
+  filled_is : (held : List ℕ) → IsShut held → filled generation checkpoint held ≡ front ++ (0 ∷ []) ++ rest_of held
+  filled_is held shut =
+      let parts : held ≡ (0 ∷ []) ++ drop 1 held = sym (take-append-drop 1 held) ∙ ap (λ (l : List ℕ). l ++ drop 1 held) shut in
+      let h = length-header in
+      let one : overwritten held 1 header ≡ ((0 ∷ []) ++ header) ++ drop (length header) (drop 1 held) = ap (λ (l : List ℕ). overwritten l 1 header) parts ∙ over_front (0 ∷ []) (drop 1 held) header 1 refl in
+      let two : overwritten (overwritten held 1 header) 57 checkpoint ≡ front ++ drop size (drop (length header) (drop 1 held)) =
+      ap (λ (l : List ℕ). overwritten l 57 checkpoint) one ∙ over_front ((0 ∷ []) ++ header) (drop (length header) (drop 1 held)) checkpoint 57 (omega arith) in
+      ap (λ (l : List ℕ). overwritten l (57 + size) (0 ∷ [])) two ∙ over_front front (drop size (drop (length header) (drop 1 held))) (0 ∷ []) (57 + size) length-front
+
+  -- with the gate open
+  abbrev tail : List ℕ → List ℕ
+  tail rest = (header_digest (fields_of generation size) checkpoint ++ checkpoint ++ (0 ∷ [])) ++ rest
+
+  abbrev created : List ℕ → List ℕ
+  created rest = 1 ∷ (fields_of generation size ++ tail rest)
+
+  created_is : (held : List ℕ) → IsShut held → opened 0 (filled generation checkpoint held) ≡ created (rest_of held)
+  created_is held shut = ap (λ (l : List ℕ). opened 0 l) (filled_is held shut)
+
+  module _ (small : generation < 2 ^ 64) (small_size : size < 2 ^ 64) (rest : List ℕ) where
+    reads_generation : generation_on (created rest) ≡ generation
+    unfolding number_at
+    reads_generation = big_number-reads_back 8 generation (drop 17 (created rest)) small
+
+    reads_size : size_on (created rest) ≡ size
+    unfolding number_at
+    reads_size = big_number-reads_back 8 size (drop 25 (created rest)) small_size
+
+    digest : List ℕ
+    digest = header_digest (fields_of generation size) checkpoint
+
+    behind_fields : drop 25 (created rest) ≡ header_digest (fields_of generation size) checkpoint ++ (checkpoint ++ (0 ∷ rest))
+    behind_fields = simp append_assoc
+
+    reads_digest : piece 25 32 (created rest) ≡ header_digest (fields_of generation size) checkpoint
+    reads_digest = ap (take 32) behind_fields ∙ take_at (header_digest (fields_of generation size) checkpoint) (checkpoint ++ (0 ∷ rest)) 32 (length-header_digest (fields_of generation size) checkpoint)
+
+    behind_header : drop 57 (created rest) ≡ checkpoint ++ (0 ∷ rest)
+    behind_header = sym (drop-drop 32 25 (created rest)) ∙ ap (drop 32) behind_fields ∙ drop_at (header_digest (fields_of generation size) checkpoint) (checkpoint ++ (0 ∷ rest)) 32 (length-header_digest (fields_of generation size) checkpoint)
+
+    reads_checkpoint : checkpoint_on version_1 (created rest) ≡ checkpoint
+    reads_checkpoint = ap (λ (n : ℕ). piece 57 n (created rest)) reads_size ∙ ap (take size) behind_header ∙ take_at checkpoint (0 ∷ rest) size refl
+
+    behind_checkpoint : drop (57 + size) (created rest) ≡ 0 ∷ rest
+    behind_checkpoint = sym (drop-drop size 57 (created rest)) ∙ ap (drop size) behind_header ∙ drop_at checkpoint (0 ∷ rest) size refl
+
+    long : 57 + size < length (created rest)
+    long = let e = ap length behind_checkpoint in let d = length-drop (57 + size) (created rest) in omega arith
+
+    starts : start_on version_1 (created rest) ≡ 57 + size
+    starts = ap (λ (n : ℕ). 57 + n) reads_size
+
+    created_headed : (odd : Bool) → is_generation odd generation ≡ true → is_size generation size ≡ true → Headed odd (created rest) generation checkpoint (57 + size)
+    created_headed odd fits fits_size = record {
+      gate = (let l = long in grind (arith, nat_tests));
+      tests = no_fault (header_tests version_1 odd (created rest)) (
+        refl,
+        (
+          ap (λ (n : ℕ). not (is_generation odd n)) reads_generation ∙ ap not fits,
+          (
+            ap (λ (n : ℕ). not (is_size n (size_on (created rest)))) reads_generation ∙ ap (λ (n : ℕ). not (is_size generation n)) reads_size ∙ ap not fits_size,
+            (
+              not_short (created rest) (start_on version_1 (created rest)) (let s = starts in let l = long in omega arith),
+              (
+                equal (piece 25 32 (created rest)) (header_digest (piece 1 24 (created rest)) (checkpoint_on version_1 (created rest))) (reads_digest ∙ ap (λ (l : List ℕ). header_digest (fields_of generation size) l) (sym reads_checkpoint)),
+                tt,
+              ),
+            ),
+          ),
+        ),
+      );
+      generation_is = reads_generation;
+      checkpoint_is = reads_checkpoint;
+      start_is = starts;
+      long = let l = long in omega arith;
+    }
+      where
+        equal : (xs ys : List ℕ) → xs ≡ ys → not (bytes_eq xs ys) ≡ false
+        equal xs ys is = grind (arith, bytes_eq-Decides)
+
+        not_short : (l : List ℕ) (n : ℕ) → n ≤ length l → nat_lt (length l) n ≡ false
+        not_short l n le = grind (arith, nat_tests)
+
+    pub created_stands : (odd : Bool) → is_generation odd generation ≡ true → is_size generation size ≡ true → Stands odd (created rest) (beginning generation checkpoint)
+    created_stands odd fits fits_size =
+        let none : records most_records (drop (57 + size) (created rest)) ≡ [] = ap (records most_records) behind_checkpoint ∙ records_none most_records (0 ∷ rest) (isnt_open (0 ∷ rest) (λ is. absurd (cc (is)))) in
+        let e : end_of (beginning generation checkpoint) ≡ 57 + size = omega arith in
+        let gate : get_or (created rest) (57 + size) 0 ≡ 0 = (let z : 57 + size + 0 ≡ 57 + size = omega arith in ap (λ (n : ℕ). get_or (created rest) n 0) (sym z)) ∙ sym (get_or-drop (57 + size) (created rest) 0 0) ∙ ap (λ (l : List ℕ). get_or l 0 0) behind_checkpoint in
+        record {
+          found = found_behind_it odd (created rest) generation checkpoint (57 + size) (created_headed odd fits fits_size) ∙ ap (found_records generation checkpoint 1 (57 + size)) none;
+          ended = record { there = let l = long in omega arith; is = ap (λ (n : ℕ). get_or (created rest) n 0) e ∙ gate };
+        }
+
+  -- what was filled stands once its gate is opened
+  pub filled_stands : (odd : Bool) (held : List ℕ) → IsShut held → generation < 2 ^ 64 → size < 2 ^ 64 → is_generation odd generation ≡ true → is_size generation size ≡ true → Stands odd (opened 0 (filled generation checkpoint held)) (beginning generation checkpoint)
+  filled_stands odd held shut small small_size fits fits_size =
+      subst (λ (l : List ℕ). Stands odd l (beginning generation checkpoint)) (sym (created_is held shut)) (created_stands small small_size (rest_of held) odd fits fits_size)
+
+-- what a creation leaves, part by part
+module _ (odd : Bool) (held : List ℕ) (w : Written) where
+  pub of_shutting : (image : List ℕ) → (image ≡ held) ⊎ HasByteAt 0 held image → CreateLeaves odd held w image
+  of_shutting image (inl same) = inr (inl same)
+  of_shutting image (inr byte) = inr (inr (inl byte))
+
+  pub of_filling : (image : List ℕ) → IsShut image → CreateLeaves odd held w image
+  of_filling image shut = inl (inr (some_byte image shut, first_zero image shut))
+    where
+      some_byte : (l : List ℕ) → IsShut l → 0 < length l
+      some_byte [] is = absurd (cc (is))
+      some_byte (x ∷ l) is = omega arith
+
+      first_zero : (l : List ℕ) → IsShut l → get_or l 0 0 ≡ 0
+      first_zero [] is = refl
+      first_zero (x ∷ l) is = cc
+
+  pub of_opening : (before image : List ℕ) → Stands odd (opened 0 before) w → Torn 0 1 before image → CreateLeaves odd held w image
+  of_opening before image stands torn = inr (inr (inr (subst (λ (l : List ℕ). Stands odd (1 ∷ l) w) (sym torn.behind) stands)))
+
+pub one_at_least : (held : List ℕ) → IsShut held → 1 ≤ length held
+one_at_least [] is = absurd (cc (is))
+one_at_least (x ∷ held) is = omega arith
+
+pub on_ok : {T E : Type 0} (r : Result T E) (P : Type 0) → P → OnOk r P
+on_ok (Ok x) P p = p
+on_ok (Err e) P p = tt
+
+pub on_ok_from : {T E : Type 0} (r : Result T E) (P Q : Type 0) → (P → Q) → OnOk r P → OnOk r Q
+on_ok_from (Ok x) P Q f p = f p
+on_ok_from (Err e) P Q f p = tt
+
+pub some_of : (o : Option (List ℕ)) → IsSome o → (x : List ℕ) × (o ≡ Some x)
+some_of None is = absurd (search rules)
+some_of (Some x) is = (x, refl)
+
+pub some_is : (o : Option (List ℕ)) (x : List ℕ) → o ≡ Some x → IsSome o
+some_is o x is = let s : IsSome (Some x) = search rules in subst (λ (p : Option (List ℕ)). IsSome p) (sym is) s
+
+-- how long a disk is after a write
+pub long_after : (o new : Option (List ℕ)) (at n : ℕ) (bytes : List ℕ) → new ≡ option_map (λ held. overwritten held at bytes) o → IfSome o (λ held. at ≤ length held) → n ≡ at + length bytes → IfSome new (λ held. n ≤ length held)
+long_after None new at n bytes is inside so = subst (λ (o : Option (List ℕ)). IfSome o (λ held. n ≤ length held)) (sym is) tt
+long_after (Some held) new at n bytes is inside so =
+    let long : n ≤ length (overwritten held at bytes) = simp (length-append, length-take, length-drop) (omega arith) in
+    subst (λ (o : Option (List ℕ)). IfSome o (λ l. n ≤ length l)) (sym is) long
+
+pub filled_told : (generation : ℕ) (checkpoint header_2 : List ℕ) (o a b d : Option (List ℕ)) → header_2 ≡ header_of generation checkpoint → a ≡ option_map (λ held. overwritten held 1 header_2) o → b ≡ option_map (λ held. overwritten held 57 checkpoint) a → d ≡ option_map (λ held. overwritten held (57 + length checkpoint) (0 ∷ [])) b → d ≡ option_map (filled generation checkpoint) o
+filled_told generation checkpoint header_2 None a b d is ia ib id =
+    id ∙ ap (option_map (λ (held : List ℕ). overwritten held (57 + length checkpoint) (0 ∷ []))) (ib ∙ ap (option_map (λ (held : List ℕ). overwritten held 57 checkpoint)) ia)
+filled_told generation checkpoint header_2 (Some held) a b d is ia ib id =
+    id ∙ ap (option_map (λ (l : List ℕ). overwritten l (57 + length checkpoint) (0 ∷ []))) (ib ∙ ap (option_map (λ (l : List ℕ). overwritten l 57 checkpoint)) (ia ∙ ap (λ (h : List ℕ). Some (overwritten held 1 h)) is))
+
+module _ {D : Type 0} (moment : D → ℕ) (left_at : D → ℕ → List ℕ → Type 0) where
+  pub shut_on : (old mid new : D) → LeavesOnly moment left_at old mid IsShut → (((image : List ℕ) → LeftNow moment left_at mid image → IsShut image) → LeavesOnly moment left_at mid new IsShut) → LeavesOnly moment left_at old new IsShut
+  shut_on old mid new first second = chained moment left_at old mid new IsShut first (second (at_last moment left_at old mid IsShut first))
+
+  pub only_shut : (disk : D) (told : Option (List ℕ)) → IfSome told IsShut → IfSome told (λ after. Only after (LeftNow moment left_at disk)) → IsSome told → (image : List ℕ) → LeftNow moment left_at disk image → IsShut image
+  only_shut disk None shut only is image left = absurd (search rules)
+  only_shut disk (Some held) shut only is image left = subst IsShut (sym (only image left)) shut
+
+  -- the whole of a creation
+  module _ (seen : D → Option (List ℕ)) (old mid full new : D) (held : List ℕ) (generation : ℕ) (checkpoint : List ℕ) where
+    abbrev Leaves : List ℕ → Type 0
+    Leaves = CreateLeaves (is_odd generation) held (beginning generation checkpoint)
+
+    pub after_shut : LeavesOnly moment left_at old mid (λ image. (image ≡ held) ⊎ HasByteAt 0 held image) → LeavesOnly moment left_at old mid Leaves
+    after_shut first = weaker moment left_at old mid (λ image. (image ≡ held) ⊎ HasByteAt 0 held image) Leaves first (of_shutting (is_odd generation) held (beginning generation checkpoint))
+
+    pub after_fill : LeavesOnly moment left_at old mid (λ image. (image ≡ held) ⊎ HasByteAt 0 held image) → LeavesOnly moment left_at mid full IsShut → LeavesOnly moment left_at old full Leaves
+    after_fill first second = chained moment left_at old mid full Leaves (after_shut first) (weaker moment left_at mid full IsShut Leaves second (of_filling (is_odd generation) held (beginning generation checkpoint)))
+
+    module _ (small : generation < 2 ^ 64) (small_size : length checkpoint < 2 ^ 64) (fits : is_generation (is_odd generation) generation ≡ true) (fits_size : is_size generation (length checkpoint) ≡ true) (shut : IfSome (seen mid) IsShut) (is : IsSome (seen mid)) (written : seen full ≡ option_map (filled generation checkpoint) (seen mid)) where
+      pub full_is : (s : List ℕ) × (IsShut s × (seen full ≡ Some (filled generation checkpoint s)))
+      full_is =
+          let s = some_of (seen mid) is in
+          (s.0, (subst (λ (o : Option (List ℕ)). IfSome o IsShut) s.1 shut, written ∙ ap (option_map (filled generation checkpoint)) s.1))
+
+      pub stands_then : (s : List ℕ) → IsShut s → Stands (is_odd generation) (opened 0 (filled generation checkpoint s)) (beginning generation checkpoint)
+      stands_then s shut_s = filled_stands generation checkpoint (is_odd generation) s shut_s small small_size fits fits_size
+
+      pub after_open : LeavesOnly moment left_at old full Leaves → IfSome (seen full) (λ after. Only after (LeftNow moment left_at full)) → ((f : List ℕ) → seen full ≡ Some f → Only f (LeftNow moment left_at full) → LeavesOnly moment left_at full new (Torn 0 1 f)) → LeavesOnly moment left_at old new Leaves
+      after_open first durable third =
+          let f = full_is in
+          let told = f.1.1 in
+          let only = subst (λ (o : Option (List ℕ)). IfSome o (λ after. Only after (LeftNow moment left_at full))) told durable in
+          chained moment left_at old full new Leaves first (weaker moment left_at full new (Torn 0 1 (filled generation checkpoint f.0)) Leaves (third (filled generation checkpoint f.0) told only)
+          (λ image torn. of_opening (is_odd generation) held (beginning generation checkpoint) (filled generation checkpoint f.0) image (stands_then f.0 f.1.0) torn))
+
+      pub made : seen new ≡ option_map (λ l. overwritten l 0 (1 ∷ [])) (seen full) → (after : List ℕ) × (seen new ≡ Some after) × Stands (is_odd generation) after (beginning generation checkpoint)
+      made gate = let f = full_is in (opened 0 (filled generation checkpoint f.0), gate ∙ ap (option_map (λ (l : List ℕ). overwritten l 0 (1 ∷ []))) f.1.1, stands_then f.0 f.1.0)

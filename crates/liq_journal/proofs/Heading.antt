@@ -1,0 +1,175 @@
+-- How a header decides what stands behind it, and which bytes decide a header.
+use Rattle.std.proofs.Common.{◌≡◌, ◌⊎◌, inl, inr, ℕ, zero, suc, ◌+◌, ◌*◌, ◌-◌, ◌<◌, ◌≤◌, min, List, [], ◌∷◌, ◌++◌, length, take, drop, get_or, Option, Some, None, Result, Ok, Err, Bool, true, false, not, ◌||◌, ◌&&◌, ◌==◌, nat_lt, if◌then◌else◌, refl, sym, ◌∙◌, ap, subst, arith, length-take, length-drop, length-append}
+use Rattle.std.specs.Str.{bytes_eq}
+use Rattle.std.proofs.lemmas.Bool.Decides.{nat_tests}
+use Rattle.std.proofs.lemmas.List.{take-take}
+use Rattle.liq_types.specs.declared.requests.Command.{Command}
+use Rattle.liq_journal.specs.declared.damage.What.{What}
+use Rattle.liq_journal.specs.Records.{records}
+use Rattle.liq_journal.specs.Written.{Layout, version_1, piece, generation_on, size_on, start_on, checkpoint_on, header_digest, is_generation, is_size, first_fault, header_tests, is_absent, record_on, Written, Found, Absent, Damaged, Open, with_command, found_record, found_records, found_behind, most_records, found_on, and_then}
+use Rattle.liq_journal.proofs.Reading.{true_or_false, piece_alike, byte_alike, length_alike, number_alike}
+
+abbrev pub AreFalse : List (Bool × What) → Type 0
+AreFalse [] = Unit {0}
+AreFalse (test ∷ tests) = (test.0 ≡ false) × AreFalse tests
+
+first_false : (b : Bool) (what : What) (others : Option What) → (if b then Some what else others) ≡ None → (b ≡ false) × (others ≡ None)
+first_false true what others is = absurd (cc)
+first_false false what others is = (refl, is)
+
+pub are_false : (tests : List (Bool × What)) → first_fault tests ≡ None → AreFalse tests
+are_false [] is = tt
+are_false (test ∷ tests) is = let first = first_false test.0 test.1 (first_fault tests) is in (first.0, are_false tests first.1)
+
+pub no_fault : (tests : List (Bool × What)) → AreFalse tests → first_fault tests ≡ None
+no_fault [] false_all = refl
+no_fault (test ∷ tests) (first, rest) = ap (λ (b : Bool). if b then Some test.1 else first_fault tests) first ∙ no_fault tests rest
+
+-- an open header with no fault
+pub record Headed (odd : Bool) (bytes : List ℕ) (generation : ℕ) (checkpoint : List ℕ) (start : ℕ) : Type 0 where
+  pub gate : is_absent bytes ≡ false
+  pub tests : first_fault (header_tests version_1 odd bytes) ≡ None
+  pub generation_is : generation_on bytes ≡ generation
+  pub checkpoint_is : checkpoint_on version_1 bytes ≡ checkpoint
+  pub start_is : start_on version_1 bytes ≡ start
+  pub long : start ≤ length bytes
+
+pub found_behind_it : (odd : Bool) (bytes : List ℕ) (generation : ℕ) (checkpoint : List ℕ) (start : ℕ) → Headed odd bytes generation checkpoint start → found_on odd bytes ≡ found_records generation checkpoint 1 start (records most_records (drop start bytes))
+unfolding found_on
+found_behind_it odd bytes generation checkpoint start h =
+    ap (λ (b : Bool). if b then Absent else found_behind version_1 bytes (first_fault (header_tests version_1 odd bytes))) h.gate
+    ∙ ap (λ (o : Option What). found_behind version_1 bytes o) h.tests
+    ∙ ap (λ (g : ℕ). found_records g (checkpoint_on version_1 bytes) 1 (start_on version_1 bytes) (records most_records (drop (start_on version_1 bytes) bytes))) h.generation_is
+    ∙ ap (λ (l : List ℕ). found_records generation l 1 (start_on version_1 bytes) (records most_records (drop (start_on version_1 bytes) bytes))) h.checkpoint_is
+    ∙ ap (λ (s : ℕ). found_records generation checkpoint 1 s (records most_records (drop s bytes))) h.start_is
+
+-- what was found open
+pub record RecordOpen (index : ℕ) (read : Result Command What) (rest : Found) (w : Written) : Type 0 where
+  pub command : Command
+  pub others : Written
+  pub is : read ≡ Ok command
+  pub behind : rest ≡ Open others
+  pub together : w ≡ record others { commands = command ∷ others.commands }
+
+pub record_open : (index : ℕ) (read : Result Command What) (rest : Found) (w : Written) → found_record index read rest ≡ Open w → RecordOpen index read rest w
+record_open index (Err what) rest w is = absurd (cc)
+record_open index (Ok command) Absent w is = absurd (cc)
+record_open index (Ok command) (Damaged damage) w is = absurd (cc)
+record_open index (Ok command) (Open others) w is = record { command = command; others = others; is = refl; behind = refl; together = cc }
+
+pub record OfRecords (generation : ℕ) (checkpoint : List ℕ) (raws : List (List ℕ)) (w : Written) : Type 0 where
+  pub generation_is : w.generation ≡ generation
+  pub checkpoint_is : w.checkpoint ≡ checkpoint
+  pub count : length raws ≡ length w.commands
+
+pub of_records : (generation : ℕ) (checkpoint : List ℕ) (index place : ℕ) (raws : List (List ℕ)) (w : Written) → found_records generation checkpoint index place raws ≡ Open w → OfRecords generation checkpoint raws w
+of_records generation checkpoint index place [] w is =
+    let e : record { generation = generation; checkpoint = checkpoint; commands = [] } ≡ w = cc in
+    subst (λ (v : Written). OfRecords generation checkpoint [] v) e (record { generation_is = refl; checkpoint_is = refl; count = refl })
+of_records generation checkpoint index place (raw ∷ raws) w is =
+    let o = record_open index (record_on generation index (place + 1) raw) (found_records generation checkpoint (index + 1) (place + 129) raws) w is in
+    let rest = of_records generation checkpoint (index + 1) (place + 129) raws o.others o.behind in
+    subst (λ (v : Written). OfRecords generation checkpoint (raw ∷ raws) v) (sym o.together) (record { generation_is = rest.generation_is; checkpoint_is = rest.checkpoint_is; count = ap suc rest.count })
+
+-- one record more
+pub found_more : (generation : ℕ) (checkpoint : List ℕ) (index place : ℕ) (raws : List (List ℕ)) (raw : List ℕ) (w : Written) (command : Command) → found_records generation checkpoint index place raws ≡ Open w → record_on generation (index + length raws) (place + 129 * length raws + 1) raw ≡ Ok command → found_records generation checkpoint index place (raws ++ raw ∷ []) ≡ Open (and_then w command)
+found_more generation checkpoint index place [] raw w command is read =
+    let e : record { generation = generation; checkpoint = checkpoint; commands = [] } ≡ w = cc in
+    let i : index ≡ index + 0 = omega arith in
+    let p : place + 1 ≡ place + 129 * 0 + 1 = omega arith in
+    let here : record_on generation index (place + 1) raw ≡ Ok command = ap (λ (n : ℕ). record_on generation n (place + 1) raw) i ∙ ap (λ (n : ℕ). record_on generation (index + 0) n raw) p ∙ read in
+    ap (λ (r : Result Command What). found_record index r (Open (record { generation = generation; checkpoint = checkpoint; commands = [] }))) here ∙ ap (λ (v : Written). Open (and_then v command)) e
+found_more generation checkpoint index place (first ∷ raws) raw w command is read =
+    let o = record_open index (record_on generation index (place + 1) first) (found_records generation checkpoint (index + 1) (place + 129) raws) w is in
+    let i : index + 1 + length raws ≡ index + suc (length raws) = omega arith in
+    let p : place + 129 + 129 * length raws + 1 ≡ place + 129 * suc (length raws) + 1 = omega arith in
+    let here : record_on generation (index + 1 + length raws) (place + 129 + 129 * length raws + 1) raw ≡ Ok command = ap (λ (n : ℕ). record_on generation n (place + 129 + 129 * length raws + 1) raw) i ∙ ap (λ (n : ℕ). record_on generation (index + suc (length raws)) n raw) p ∙ read in
+    let rest = found_more generation checkpoint (index + 1) (place + 129) raws raw o.others command o.behind here in
+    ap (λ (r : Result Command What). found_record index r (found_records generation checkpoint (index + 1) (place + 129) (raws ++ raw ∷ []))) o.is ∙ ap (with_command o.command) rest ∙ ap (λ (v : Written). Open (and_then v command)) (sym o.together)
+
+found_cases : (b : Bool) (fault : Option What) (odd : Bool) (bytes : List ℕ) (w : Written) → (if b then Absent else found_behind version_1 bytes fault) ≡ Open w → (b ≡ false) × (fault ≡ None)
+found_cases true fault odd bytes w is = absurd (cc)
+found_cases false (Some what) odd bytes w is = absurd (cc)
+found_cases false None odd bytes w is = (refl, refl)
+
+pub record IsOpen (odd : Bool) (bytes : List ℕ) (w : Written) : Type 0 where
+  pub headed : Headed odd bytes w.generation w.checkpoint (57 + length w.checkpoint)
+  pub behind : found_records w.generation w.checkpoint 1 (57 + length w.checkpoint) (records most_records (drop (57 + length w.checkpoint) bytes)) ≡ Open w
+
+pub is_open : (odd : Bool) (bytes : List ℕ) (w : Written) → found_on odd bytes ≡ Open w → IsOpen odd bytes w
+unfolding found_on
+is_open odd bytes w is =
+    let cases = found_cases (is_absent bytes) (first_fault (header_tests version_1 odd bytes)) odd bytes w is in
+    let all = are_false (header_tests version_1 odd bytes) cases.1 in
+    let long : start_on version_1 bytes ≤ length bytes = let e = all.1.1.1.0 in grind (arith, nat_tests) in
+    let rest : found_records (generation_on bytes) (checkpoint_on version_1 bytes) 1 (start_on version_1 bytes) (records most_records (drop (start_on version_1 bytes) bytes)) ≡ Open w =
+    sym (ap (λ (b : Bool). if b then Absent else found_behind version_1 bytes (first_fault (header_tests version_1 odd bytes))) cases.0 ∙ ap (λ (o : Option What). found_behind version_1 bytes o) cases.1) ∙ is in
+    let of = of_records (generation_on bytes) (checkpoint_on version_1 bytes) 1 (start_on version_1 bytes) (records most_records (drop (start_on version_1 bytes) bytes)) w rest in
+    let size : length w.checkpoint ≡ size_on bytes = ap length of.checkpoint_is ∙ length-take (size_on bytes) (drop 57 bytes) ∙ (let l = length-drop 57 bytes in omega (arith, l, long)) in
+    let start : start_on version_1 bytes ≡ 57 + length w.checkpoint = ap (λ (n : ℕ). 57 + n) (sym size) in
+    let headed : Headed odd bytes w.generation w.checkpoint (57 + length w.checkpoint) = record { gate = cases.0; tests = cases.1; generation_is = sym of.generation_is; checkpoint_is = sym of.checkpoint_is; start_is = start; long = omega (arith, start, long) } in
+    record { headed = headed; behind = sym (found_behind_it odd bytes w.generation w.checkpoint (57 + length w.checkpoint) headed) ∙ is }
+
+-- the same bytes up to its end are the same header
+module _ (odd : Bool) (held image : List ℕ) (generation : ℕ) (checkpoint : List ℕ) (start m : ℕ) (h : Headed odd held generation checkpoint start) (within : start ≤ m) (alike : take m image ≡ take m held) (there : m ≤ length held) where
+  at_least : 57 ≤ start
+  at_least = omega (arith, h.start_is)
+
+  same_generation : generation_on image ≡ generation_on held
+  same_generation = number_alike m held image alike 9 8 (omega (arith, at_least, within))
+
+  same_size : size_on image ≡ size_on held
+  same_size = number_alike m held image alike 17 8 (omega (arith, at_least, within))
+
+  same_start : start_on version_1 image ≡ start
+  same_start = ap (λ (n : ℕ). 57 + n) same_size ∙ h.start_is
+
+  same_checkpoint : checkpoint_on version_1 image ≡ checkpoint_on version_1 held
+  same_checkpoint = ap (λ (n : ℕ). piece 57 n image) same_size ∙ piece_alike m held image alike 57 (size_on held) (omega (arith, h.start_is, within))
+
+  long_image : m ≤ length image
+  long_image = length_alike m held image alike there
+
+  same_absent : is_absent image ≡ false
+  same_absent =
+      let gate = byte_alike m held image alike 0 (omega (arith, at_least, within)) in
+      let was = h.gate in
+      let long : 57 ≤ length image = omega (arith, long_image, at_least, within) in
+      grind (arith, nat_tests)
+
+  same_tests : first_fault (header_tests version_1 odd image) ≡ None
+  same_tests =
+      let all = are_false (header_tests version_1 odd held) h.tests in
+      let name = piece_alike m held image alike 1 8 (omega (arith, at_least, within)) in
+      let fields = piece_alike m held image alike 1 24 (omega (arith, at_least, within)) in
+      let stored = piece_alike m held image alike 25 32 (omega (arith, at_least, within)) in
+      let long : nat_lt (length image) (start_on version_1 image) ≡ false = let e = same_start in let l = long_image in grind (arith, nat_tests) in
+      no_fault (header_tests version_1 odd image) (
+        ap (λ (l : List ℕ). not (bytes_eq l version_1.name)) name ∙ all.0,
+        (
+          ap (λ (g : ℕ). not (is_generation odd g)) same_generation ∙ all.1.0,
+          (
+            ap (λ (g : ℕ). not (is_size g (size_on image))) same_generation ∙ ap (λ (n : ℕ). not (is_size (generation_on held) n)) same_size ∙ all.1.1.0,
+            (
+              long,
+              (
+                ap (λ (l : List ℕ). not (bytes_eq l (header_digest (piece 1 24 image) (checkpoint_on version_1 image)))) stored
+                    ∙ ap (λ (l : List ℕ). not (bytes_eq (piece 25 32 held) (header_digest l (checkpoint_on version_1 image)))) fields
+                    ∙ ap (λ (l : List ℕ). not (bytes_eq (piece 25 32 held) (header_digest (piece 1 24 held) l))) same_checkpoint
+                    ∙ all.1.1.1.1.0,
+                tt,
+              ),
+            ),
+          ),
+        ),
+      )
+
+  pub headed_alike : Headed odd image generation checkpoint start
+  headed_alike = record {
+    gate = same_absent;
+    tests = same_tests;
+    generation_is = same_generation ∙ h.generation_is;
+    checkpoint_is = same_checkpoint ∙ h.checkpoint_is;
+    start_is = same_start;
+    long = omega (arith, long_image, within);
+  }

@@ -1,0 +1,4 @@
+mod Appending
+mod Creating
+mod Heading
+mod Reading

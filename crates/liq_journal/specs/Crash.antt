@@ -1,0 +1,59 @@
+-- What a crash may leave of a journal.
+use Rattle.std.specs.Prelude.{◌≡◌, ◌⊎◌, ℕ, ◌+◌, ◌<◌, List, [], ◌∷◌, length, take, get_or, Bool, true, false, Option, Some, Ok, ◌%◌, ◌==◌}
+use Rattle.liq_outside.specs.Disk.{LeavesOnly, LeftNow, Only, overwritten}
+use Rattle.liq_types.specs.declared.requests.Command.{Command}
+use Rattle.liq_wire.specs.Fields.{command_of}
+use Rattle.liq_journal.specs.Written.{header_of, is_generation, Written, Found, Open, found_on, EndsWith, and_then, end_of, is_rotate, opened}
+
+-- open with this, and a 0 behind the last record
+pub record Stands (odd : Bool) (bytes : List ℕ) (w : Written) : Type 0 where
+  pub found : found_on odd bytes ≡ Open w
+  pub ended : EndsWith 0 bytes w
+
+-- One command more stands whole behind a gate that isn't open, with a 0 behind it.
+pub record IsPending (odd : Bool) (bytes : List ℕ) (w : Written) (command : Command) : Type 0 where
+  pub found : found_on odd bytes ≡ Open w
+  pub opened : found_on odd (opened (end_of w) bytes) ≡ Open (and_then w command)
+  pub ended : EndsWith 0 bytes (and_then w command)
+
+abbrev pub BeforeOrAfter : Bool → Written → Command → List ℕ → Type 0
+BeforeOrAfter odd w command bytes = Stands odd bytes w ⊎ (IsPending odd bytes w command ⊎ Stands odd bytes (and_then w command))
+
+-- the body spells this command, which is no rotation
+pub record IsBodyOf (body : List ℕ) (command : Command) : Type 0 where
+  pub spelled : command_of body ≡ Ok command
+  pub no_rotation : is_rotate command.call ≡ false
+
+-- no journal is open on it
+abbrev pub IsClosed : List ℕ → Type 0
+IsClosed bytes = (length bytes < 57) ⊎ ((0 < length bytes) × (get_or bytes 0 0 ≡ 0))
+
+-- these bytes with some byte at the place
+abbrev pub HasByteAt : ℕ → List ℕ → List ℕ → Type 0
+HasByteAt place held bytes = (byte : ℕ) × (bytes ≡ overwritten held place (byte ∷ []))
+
+-- what is written by a creation
+abbrev pub beginning : ℕ → List ℕ → Written
+beginning generation checkpoint = record { generation = generation; checkpoint = checkpoint; commands = [] }
+
+-- A creation leaves a disk closed, as it was, with any byte at place 0, or created with any byte there.
+abbrev pub CreateLeaves : Bool → List ℕ → Written → List ℕ → Type 0
+CreateLeaves odd held w bytes = IsClosed bytes ⊎ ((bytes ≡ held) ⊎ (HasByteAt 0 held bytes ⊎ Stands odd (opened 0 bytes) w))
+
+-- a closed gate stands at place 0
+abbrev pub IsShut : List ℕ → Type 0
+IsShut bytes = take 1 bytes ≡ 0 ∷ []
+
+-- header, checkpoint and a shut gate written behind the gate at place 0
+abbrev pub filled : ℕ → List ℕ → List ℕ → List ℕ
+filled generation checkpoint held = overwritten (overwritten (overwritten held 1 (header_of generation checkpoint)) 57 checkpoint) (57 + length checkpoint) (0 ∷ [])
+
+-- the parity of a generation
+abbrev pub is_odd : ℕ → Bool
+is_odd n = (n % 2) == 1
+
+-- what a crash may leave of a disk on which a journal is created, whose content is told and on the disk
+abbrev pub CrashOfCreate : {D : Type 0} → (D → Option (List ℕ)) → (D → ℕ) → (D → ℕ → List ℕ → Type 0) → D → D → ℕ → List ℕ → Type 0
+CrashOfCreate seen moment left_at old new generation checkpoint =
+    (held : List ℕ) → seen old ≡ Some held → Only held (LeftNow moment left_at old) → is_generation (is_odd generation) generation ≡ true
+    → LeavesOnly moment left_at old new (CreateLeaves (is_odd generation) held (beginning generation checkpoint))

@@ -1,0 +1,4 @@
+pub mod Crash
+pub mod Records
+pub mod Settled
+pub mod Written

@@ -1,0 +1,21 @@
+-- A journal as contracts see it.
+use Rattle.std.specs.Prelude.{◌≡◌, ℕ, ◌+◌, Bool, List, length}
+use Rattle.liq_journal.specs.Written.{Written}
+use Rattle.liq_journal.specs.Crash.{Stands, is_odd}
+
+-- a disk, and what is known of the journal on it
+pub record JournalOn (D : Type 0) : Type 0 where
+  pub disk : D
+  pub generation : ℕ
+  -- where the records begin
+  pub start : ℕ
+  -- how many there are
+  pub count : ℕ
+
+-- The bytes are whole records of this generation and a 0 behind them, as many as are known of.
+pub record IsSettled (generation start count : ℕ) (bytes : List ℕ) : Type 0 where
+  pub written : Written
+  pub stands : Stands (is_odd generation) bytes written
+  pub generation_is : written.generation ≡ generation
+  pub start_is : 57 + length written.checkpoint ≡ start
+  pub count_is : length written.commands ≡ count

@@ -1,0 +1,163 @@
+-- What one disk is: absent, damaged, or open with its generation, its checkpoint and its commands.
+use Rattle.std.specs.Prelude.{◌≡◌, ℕ, ◌+◌, ◌*◌, ◌-◌, ◌<◌, ◌≤◌, List, [], ◌∷◌, ◌++◌, length, take, drop, get_or, Option, Some, None, Result, Ok, Err, Bool, true, false, not, ◌||◌, ◌&&◌, ◌==◌, nat_lt, if◌then◌else◌}
+use Rattle.std.specs.Str.{bytes_eq}
+use Rattle.byteorder.specs.Endian.{big_bytes}
+use Rattle.sha2.specs.Sha256.{sha256}
+use Rattle.liq_types.specs.declared.requests.Command.{Command}
+use Rattle.liq_types.specs.declared.requests.Call.{Call}
+use Rattle.liq_types.specs.declared.requests.Call.TheVariants.{Rotate}
+use Rattle.liq_wire.specs.Fields.{number_at, command_of}
+use Rattle.liq_outside.specs.Disk.{overwritten}
+use Rattle.liq_journal.specs.declared.damage.Damage.{Damage}
+use Rattle.liq_journal.specs.declared.damage.What.{What}
+use Rattle.liq_journal.specs.declared.damage.What.TheVariants.{Digest, Form}
+use Rattle.liq_journal.specs.Records.{records}
+
+-- what stands where in a header: the name from place 1 on, and the digest, behind which the checkpoint begins
+pub record Layout : Type 0 where
+  pub name : List ℕ
+  pub digest : ℕ
+
+-- LIQJRNL1
+abbrev pub version_1 : Layout
+version_1 = record { name = 76 ∷ 73 ∷ 81 ∷ 74 ∷ 82 ∷ 78 ∷ 76 ∷ 49 ∷ []; digest = 25 }
+
+abbrev pub header_size : Layout → ℕ
+header_size layout = layout.digest + 32
+
+-- so many bytes from a place on
+abbrev pub piece : ℕ → ℕ → List ℕ → List ℕ
+piece place count bytes = take count (drop place bytes)
+
+abbrev pub generation_on : List ℕ → ℕ
+generation_on bytes = number_at 9 8 bytes
+
+-- the checkpoint's length
+abbrev pub size_on : List ℕ → ℕ
+size_on bytes = number_at 17 8 bytes
+
+-- where the records begin
+abbrev pub start_on : Layout → List ℕ → ℕ
+start_on layout bytes = header_size layout + size_on bytes
+
+abbrev pub checkpoint_on : Layout → List ℕ → List ℕ
+checkpoint_on layout bytes = piece (header_size layout) (size_on bytes) bytes
+
+-- of the fields in front of it and the checkpoint
+unfoldable pub header_digest : List ℕ → List ℕ → List ℕ
+header_digest fields checkpoint = sha256 (fields ++ checkpoint)
+
+unfoldable pub record_digest : ℕ → ℕ → List ℕ → List ℕ
+record_digest generation index body = sha256 (big_bytes 8 generation ++ big_bytes 8 index ++ body)
+
+-- The generations that a disk may have. Until there is rotation, the left one has generation 1, and the right one none.
+abbrev pub is_generation : Bool → ℕ → Bool
+is_generation odd generation = odd && (generation == 1)
+
+-- The first generation begins with the opening state and has no checkpoint, every other has one.
+abbrev pub is_size : ℕ → ℕ → Bool
+is_size generation size = if generation == 1 then size == 0 else nat_lt 0 size && nat_lt size 68719476737
+
+-- the first fault of those whose test holds
+abbrev pub first_fault : List (Bool × What) → Option What
+first_fault [] = None
+first_fault (test ∷ tests) = if test.0 then Some test.1 else first_fault tests
+
+-- what an open disk's header has to be, in the order of the places
+abbrev pub header_tests : Layout → Bool → List ℕ → List (Bool × What)
+header_tests layout odd bytes =
+    (not (bytes_eq (piece 1 8 bytes) layout.name), Form 1)
+    ∷ (not (is_generation odd (generation_on bytes)), Form 9)
+    ∷ (not (is_size (generation_on bytes) (size_on bytes)), Form 17)
+    ∷ (nat_lt (length bytes) (start_on layout bytes), Form (length bytes))
+    ∷ (
+      not (bytes_eq (piece layout.digest 32 bytes) (header_digest (piece 1 (layout.digest - 1) bytes) (checkpoint_on layout bytes))),
+      Digest (piece layout.digest 32 bytes) (header_digest (piece 1 (layout.digest - 1) bytes) (checkpoint_on layout bytes)),
+    )
+    ∷ []
+
+-- fewer bytes than a header's, or a gate that isn't open
+abbrev pub is_absent : List ℕ → Bool
+is_absent bytes = nat_lt (length bytes) 57 || not (get_or bytes 0 0 == 1)
+
+abbrev pub is_rotate : Call → Bool
+is_rotate Rotate = true
+is_rotate _ = false
+
+-- a record's command: no rotation, which no record holds
+abbrev pub unless_rotate : ℕ → Command → Result Command What
+unless_rotate place command = if is_rotate command.call then Err (Form place) else Ok command
+
+abbrev pub command_from : ℕ → Result Command ℕ → Result Command What
+command_from place (Ok command) = unless_rotate place command
+command_from place (Err at) = Err (Form (place + at))
+
+-- the record whose body begins at the place, or its first fault
+unfoldable pub record_on : ℕ → ℕ → ℕ → List ℕ → Result Command What
+record_on generation index place raw =
+    if not (bytes_eq (drop 96 raw) (record_digest generation index (take 96 raw)))
+    then Err (Digest (drop 96 raw) (record_digest generation index (take 96 raw)))
+    else command_from place (command_of (take 96 raw))
+
+-- what is written in a journal
+pub record Written : Type 0 where
+  pub generation : ℕ
+  pub checkpoint : List ℕ
+  pub commands : List Command
+
+pub data Found : Type 0 where
+  Absent : Found
+  Damaged : Damage → Found
+  Open : Written → Found
+
+abbrev pub with_command : Command → Found → Found
+with_command command Absent = Absent
+with_command command (Damaged damage) = Damaged damage
+with_command command (Open w) = Open (record w { commands = command ∷ w.commands })
+
+abbrev pub found_record : ℕ → Result Command What → Found → Found
+found_record index (Ok command) rest = with_command command rest
+found_record index (Err what) rest = Damaged (record { index = index; what = what })
+
+-- the records from this one on, whose gate stands at the place
+abbrev pub found_records : ℕ → List ℕ → ℕ → ℕ → List (List ℕ) → Found
+found_records generation checkpoint index place [] = Open (record { generation = generation; checkpoint = checkpoint; commands = [] })
+found_records generation checkpoint index place (raw ∷ raws) =
+    found_record index (record_on generation index (place + 1) raw) (found_records generation checkpoint (index + 1) (place + 129) raws)
+
+-- one record more than a replay accepts
+abbrev pub most_records : ℕ
+most_records = 1000001
+
+abbrev pub found_behind : Layout → List ℕ → Option What → Found
+found_behind layout bytes (Some what) = Damaged (record { index = 0; what = what })
+found_behind layout bytes None =
+    found_records (generation_on bytes) (checkpoint_on layout bytes) 1 (start_on layout bytes) (records most_records (drop (start_on layout bytes) bytes))
+
+unfoldable pub found_on : Bool → List ℕ → Found
+found_on odd bytes = if is_absent bytes then Absent else found_behind version_1 bytes (first_fault (header_tests version_1 odd bytes))
+
+-- the place behind the last record, where the next one's gate stands
+abbrev pub end_of : Written → ℕ
+end_of w = header_size version_1 + length w.checkpoint + 129 * length w.commands
+
+-- that byte is there, and is this
+pub record EndsWith (byte : ℕ) (bytes : List ℕ) (w : Written) : Type 0 where
+  pub there : end_of w < length bytes
+  pub is : get_or bytes (end_of w) 0 ≡ byte
+
+-- with one command more
+abbrev pub and_then : Written → Command → Written
+and_then w command = record w { commands = w.commands ++ command ∷ [] }
+
+-- with an open gate at the place
+abbrev pub opened : ℕ → List ℕ → List ℕ
+opened place bytes = overwritten bytes place (1 ∷ [])
+
+-- the fields of a header in front of its digest
+abbrev pub fields_of : ℕ → ℕ → List ℕ
+fields_of generation size = version_1.name ++ big_bytes 8 generation ++ big_bytes 8 size
+
+-- a header behind its gate
+abbrev pub header_of : ℕ → List ℕ → List ℕ
+header_of generation checkpoint = fields_of generation (length checkpoint) ++ header_digest (fields_of generation (length checkpoint)) checkpoint

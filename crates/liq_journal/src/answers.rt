@@ -1,0 +1,43 @@
+// What the calls of a journal answer where they fail.
+use crate::damage::Damage;
+use liq_outside::Failed;
+
+/// A device call failed in this call.
+#[derive(Clone, Copy, Debug, PartialEq, Eq)]
+pub struct DiskFault;
+
+impl From<Failed> for DiskFault {
+    fn from(_: Failed) -> Self {
+        DiskFault
+    }
+}
+
+/// Why a disk could not be looked at, or a record not be read.
+#[derive(Clone, Copy, Debug, PartialEq, Eq)]
+pub enum LookFault {
+    DiskFault,
+    Damaged(Damage),
+}
+
+/// The disk met a fault while a journal was created on it.
+#[derive(Debug)]
+pub struct CreateFault<D> {
+    pub disk: D,
+}
+
+/// Why no journal was opened.
+#[derive(Clone, Copy, Debug, PartialEq, Eq)]
+pub enum OpenWhy {
+    /// There is none: the disk has fewer bytes than a header, or its gate isn't open.
+    Absent,
+    DiskFault,
+    Damaged(Damage),
+    NoMemory,
+}
+
+/// No journal was opened, and the disk is handed back.
+#[derive(Debug)]
+pub struct OpenFault<D> {
+    pub disk: D,
+    pub why: OpenWhy,
+}

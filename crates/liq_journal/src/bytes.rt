@@ -1,0 +1,22 @@
+// A write that is on the disk when it returns.
+ghost use Rattle.std.specs.Prelude.{◌≡◌, ◌≤◌, ◌+◌, ◌^◌, ◌↔◌, Some, List, ℕ, length, option_map, OnOk, OnErr, IfSome, IsSome};
+ghost use Rattle.liq_outside.specs.Disk.{GoesOn, LeavesOnly, LeftNow, Only, Torn, overwritten};
+ghost use Rattle.liq_outside.specs.Faults.{Rose};
+
+use liq_outside::{Disk, Failed};
+
+// Writes bytes at a place and syncs. A crash in it leaves any part of the write.
+pub fn write_synced<D: Disk>(disk: &mut D, at: u64, bytes: &[u8]) -> Result<(), Failed>
+    requires inside { IfSome (D.seen disk.old) (λ held. at ≤ length held) }
+    requires limit { at + length bytes.now ≤ 2 ^ 40 }
+    ensures written { OnOk result (D.seen disk.new ≡ option_map (λ held. overwritten held at bytes.now) (D.seen disk.old)) }
+    ensures durable { OnOk result (IfSome (D.seen disk.new) (λ held. Only held (LeftNow D.moment D.left_at disk.new))) }
+    ensures telling { IsSome (D.seen disk.new) ↔ IsSome (D.seen disk.old) }
+    ensures crash { (held : List ℕ) → D.seen disk.old ≡ Some held → Only held (LeftNow D.moment D.left_at disk.old) → LeavesOnly D.moment D.left_at disk.old disk.new (Torn at (length bytes.now) held) }
+    ensures time { GoesOn D.moment D.left_at disk.old disk.new }
+    ensures count { D.faults disk.old ≤ D.faults disk.new }
+    ensures cause { OnErr result (Rose (D.faults disk.old) (D.faults disk.new)) }
+{
+    disk.write_at(at, bytes)?;
+    disk.sync()
+}

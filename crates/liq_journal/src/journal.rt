@@ -1,0 +1,137 @@
+// A journal that is open.
+ghost use Rattle.std.specs.Prelude.{◌≡◌, ◌≤◌, ◌<◌, ◌+◌, ◌*◌, ◌^◌, ◌↔◌, Some, List, ℕ, true, length, OnOk, OnErr, IfOk, IfErr, IfSome, IsSome};
+ghost use Rattle.std.specs.Result.{MatchResult};
+ghost use Rattle.liq_types.specs.declared.requests.Command.{Command};
+ghost use Rattle.liq_outside.specs.Disk.{GoesOn, LeavesOnly, LeftNow, Only};
+ghost use Rattle.liq_outside.specs.Faults.{Rose};
+ghost use Rattle.liq_journal.specs.Crash.{BeforeOrAfter, CrashOfCreate, IsBodyOf, Stands, beginning, is_odd};
+ghost use Rattle.liq_journal.specs.Settled.{IsSettled};
+ghost use Rattle.liq_journal.specs.Written.{Written, and_then, is_generation, is_size};
+
+use crate::answers::{CreateFault, DiskFault};
+use crate::bytes::write_synced;
+use crate::create::{HEADER, make};
+use crate::digests::record_bytes;
+use liq_outside::Disk;
+use std::marker::Model;
+
+// A gate byte, 96 bytes of a command and 32 of their digest.
+const RECORD: u64 = 129;
+
+/// A journal on a disk. A contract sees the disk, the generation, the place of the first record's gate
+/// and the number of records.
+pub struct Journal<D> {
+    disk: D,
+    generation: u64,
+    start: u64,
+    count: u64,
+}
+
+impl<D> Model for Journal<D> {
+    ghost use Rattle.std.specs.Prelude.{◌≤◌};
+    ghost use Rattle.liq_journal.specs.Settled.{JournalOn};
+
+    ghost Value = { JournalOn D };
+
+    ghost view = { λ j. record { disk = j.disk; generation = j.generation; start = j.start; count = j.count } };
+
+    // A header and the longest checkpoint; one record more than a journal may have.
+    ghost invariant = { λ j. (j.start ≤ 68719476793) × (j.count ≤ 1000001) };
+}
+
+impl<D: Disk> Journal<D> {
+    /// A new journal on this disk, without records. The generation is at least 1, and the checkpoint has
+    /// at most 2^36 bytes, and none exactly in generation 1.
+    ///
+    /// A crash in it leaves a disk on which none is open, or the disk as it was, or with another byte at
+    /// place 0, or the new journal, with any byte there until the last sync.
+    pub fn create(disk: D, generation: u64, checkpoint: &[u8]) -> Result<Journal<D>, CreateFault<D>>
+        requires limit { length checkpoint.now ≤ 2 ^ 36 }
+        requires size { is_size generation (length checkpoint.now) ≡ true }
+
+        ensures known { IfOk result (λ j. (j.generation ≡ generation) × (j.start ≡ 57 + length checkpoint.now) × (j.count ≡ 0)) }
+        ensures created { IfOk result (λ j. (held : List ℕ) → D.seen disk ≡ Some held → is_generation (is_odd generation) generation ≡ true
+            → (after : List ℕ) × (D.seen j.disk ≡ Some after) × Stands (is_odd generation) after (beginning generation checkpoint.now)) }
+        ensures durable { IfOk result (λ j. IfSome (D.seen j.disk) (λ after. Only after (LeftNow D.moment D.left_at j.disk))) }
+        ensures telling { MatchResult result (λ j. IsSome (D.seen j.disk) ↔ IsSome (D.seen disk)) (λ e. IsSome (D.seen e.disk) ↔ IsSome (D.seen disk)) }
+        ensures crash { MatchResult result (λ j. CrashOfCreate D.seen D.moment D.left_at disk j.disk generation checkpoint.now) (λ e. CrashOfCreate D.seen D.moment D.left_at disk e.disk generation checkpoint.now) }
+        ensures time { MatchResult result (λ j. GoesOn D.moment D.left_at disk j.disk) (λ e. GoesOn D.moment D.left_at disk e.disk) }
+        ensures count { MatchResult result (λ j. D.faults disk ≤ D.faults j.disk) (λ e. D.faults disk ≤ D.faults e.disk) }
+        ensures cause { IfErr result (λ e. Rose (D.faults disk) (D.faults e.disk)) }
+    {
+        let mut disk = disk;
+        match make(&mut disk, generation, checkpoint) {
+            Ok(()) => Ok(Journal {
+                disk,
+                generation,
+                start: HEADER + checkpoint.len() as u64,
+                count: 0,
+            }),
+            Err(_) => Err(CreateFault { disk }),
+        }
+    }
+
+    /// Adds a record: its bytes first, which count only once the gate before them is opened by a second
+    /// write. At `Ok` it is on the disk. After `DiskFault` nothing more may be appended: open the disk again.
+    ///
+    /// A crash at any moment leaves the records before the call or with the new one.
+    pub fn append(&mut self, body: &[u8; 96]) -> Result<(), DiskFault>
+        requires few { self.old.count < 1000000 }
+        requires settled { IfSome (D.seen self.old.disk) (IsSettled self.old.generation self.old.start self.old.count) }
+
+        ensures generation { self.new.generation ≡ self.old.generation }
+        ensures start { self.new.start ≡ self.old.start }
+        ensures one_more { OnOk result (self.new.count ≡ self.old.count + 1) }
+        ensures no_more { OnErr result (self.new.count ≡ self.old.count) }
+
+        // Where the disk tells its content.
+        ensures telling { IsSome (D.seen self.new.disk) ↔ IsSome (D.seen self.old.disk) }
+        ensures appended { OnOk result ((held : List ℕ) (w : Written) (command : Command) → D.seen self.old.disk ≡ Some held → Stands (is_odd self.old.generation) held w → IsBodyOf body.now command
+            → (after : List ℕ) × (D.seen self.new.disk ≡ Some after) × Stands (is_odd self.old.generation) after (and_then w command)) }
+        ensures durable { OnOk result (IfSome (D.seen self.new.disk) (λ held. Only held (LeftNow D.moment D.left_at self.new.disk))) }
+        ensures crash { (held : List ℕ) (w : Written) (command : Command) → D.seen self.old.disk ≡ Some held → Only held (LeftNow D.moment D.left_at self.old.disk) → Stands (is_odd self.old.generation) held w → IsBodyOf body.now command
+            → LeavesOnly D.moment D.left_at self.old.disk self.new.disk (BeforeOrAfter (is_odd self.old.generation) w command) }
+
+        // What is read afterwards, after a fault too.
+        ensures reads { (held after : List ℕ) (w : Written) (command : Command) → D.seen self.old.disk ≡ Some held → Only held (LeftNow D.moment D.left_at self.old.disk) → Stands (is_odd self.old.generation) held w → IsBodyOf body.now command
+            → D.seen self.new.disk ≡ Some after → BeforeOrAfter (is_odd self.old.generation) w command after }
+
+        ensures time { GoesOn D.moment D.left_at self.old.disk self.new.disk }
+        ensures count { D.faults self.old.disk ≤ D.faults self.new.disk }
+        ensures cause { OnErr result (Rose (D.faults self.old.disk) (D.faults self.new.disk)) }
+    {
+        let gate = self.start + RECORD * self.count;
+        let record = record_bytes(self.generation, self.count + 1, body);
+        write_synced(&mut self.disk, gate + 1, &record)?;
+        write_synced(&mut self.disk, gate, &[1])?;
+        self.count += 1;
+        Ok(())
+    }
+
+    /// How many records there are.
+    pub fn records(&self) -> u64
+        ensures { result ≡ self.now.count }
+    {
+        self.count
+    }
+
+    /// How many faults its disk has met. It is no device call.
+    pub fn faults(&self) -> u64
+        ensures { result ≡ D.faults self.now.disk }
+    {
+        self.disk.faults()
+    }
+
+    /// The disk, as it is.
+    pub fn close(self) -> D
+        ensures { result ≡ self.disk }
+    {
+        let Journal {
+            disk,
+            generation: _,
+            start: _,
+            count: _,
+        } = self;
+        disk
+    }
+}

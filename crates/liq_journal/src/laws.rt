@@ -1,0 +1,21 @@
+//! Laws of a journal's bytes.
+ghost use Rattle.std.specs.Prelude.{◌≡◌, ◌+◌, ◌*◌, ◌++◌, ◌<◌, ◌≤◌, Bool, List, ℕ, length, take, drop};
+ghost use Rattle.liq_journal.specs.Records.{records};
+ghost use Rattle.liq_journal.specs.Crash.{Stands};
+ghost use Rattle.liq_outside.specs.Disk.{Torn};
+ghost use Rattle.liq_journal.specs.Written.{Open, Written, end_of, found_on, found_records, most_records};
+
+/// A front of whole records that other bytes have too is read there too, and then what stands behind it.
+pub fn a_front_is_read()
+    ensures { (k fuel most : ℕ) (xs ys : List ℕ) → fuel ≡ k + most → length (records fuel xs) ≡ k → take (129 * k) ys ≡ take (129 * k) xs → records fuel ys ≡ records fuel xs ++ records most (drop (129 * k) ys) }
+{}
+
+/// The bytes up to a header's end decide the header.
+pub fn a_header_is_decided()
+    ensures { (odd : Bool) (held image : List ℕ) (w : Written) (m : ℕ) → found_on odd held ≡ Open w → 57 + length w.checkpoint ≤ m → m ≤ length held → take m image ≡ take m held → found_on odd image ≡ found_records w.generation w.checkpoint 1 (57 + length w.checkpoint) (records most_records (drop (57 + length w.checkpoint) image)) }
+{}
+
+/// Any part of a write behind the closed gate at the end leaves what is found.
+pub fn behind_the_gate_nothing_counts()
+    ensures { (odd : Bool) (held image : List ℕ) (w : Written) (n : ℕ) → Stands odd held w → length w.commands < 1000000 → Torn (end_of w + 1) n held image → Stands odd image w }
+{}

@@ -1,0 +1,16 @@
+//! A journal on one disk: a header, a checkpoint, and records of 96 bytes, each behind a gate byte and
+//! before its digest. A crash at any moment leaves the records before a call or with its new one.
+#![tactic(auto)]
+
+mod answers;
+mod bytes;
+mod create;
+mod damage;
+mod digests;
+mod journal;
+
+pub use answers::{CreateFault, DiskFault, LookFault, OpenFault, OpenWhy};
+pub use damage::{Damage, What};
+pub use journal::Journal;
+
+pub mod laws;

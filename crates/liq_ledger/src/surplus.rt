@@ -1,0 +1,84 @@
+//! What owners may claim.
+
+ghost use Rattle.std.specs.Prelude.{◌≡◌, ◌≤◌, ◌+◌, [], OnOk};
+ghost use Rattle.std.specs.List.{All};
+ghost use Rattle.liq_types.specs.Payments.{surplus_added_in, surplus_taken_in};
+ghost use Rattle.liq_types.specs.State.{surplus_in};
+ghost use Rattle.liq_tables.specs.WithRoom.{HasRoom, KeepsRoom};
+
+use liq_tables::Reserved;
+use liq_types::NoMemory;
+use liq_types::amounts::LIM;
+use std::alloc::Global;
+use std::marker::Model;
+
+/// The collateral (gwei) that each owner of a closed trove may claim. Only [`Surplus::reserve`] takes memory.
+#[derive(Drop)]
+pub struct Surplus {
+    table: Reserved<u64>,
+}
+
+impl Model for Surplus {
+    ghost use Rattle.std.specs.Prelude.{ℕ};
+    ghost use Rattle.liq_tables.specs.WithRoom.{WithRoom};
+
+    ghost Value = { WithRoom ℕ };
+
+    ghost view = { λ s. s.table };
+}
+
+impl Surplus {
+    /// Nothing to claim.
+    pub fn new(alloc: Global) -> Surplus
+        ensures { result.rows ≡ [] }
+    {
+        Surplus {
+            table: Reserved::new(alloc),
+        }
+    }
+
+    /// Makes room for these accounts. What may be claimed stays, also where there is no memory, and so does all room that
+    /// there was.
+    pub fn reserve(&mut self, accounts: &[u32]) -> Result<(), NoMemory>
+        ensures rows { self.new.rows ≡ self.old.rows }
+        ensures room { OnOk result (All (HasRoom self.new) accounts.now) }
+        ensures kept { KeepsRoom self.old self.new }
+    {
+        for &account in accounts {
+            self.table.reserve(account)?;
+        }
+        Ok(())
+    }
+
+    /// Adds to what an account may claim. What the others may claim stays.
+    pub fn add(&mut self, account: u32, coll: u64)
+        requires room { HasRoom self.old account }
+        requires limit { surplus_in self.old.rows account + coll ≤ LIM }
+        ensures added { self.new.rows ≡ surplus_added_in self.old.rows account coll }
+        ensures room { self.new.room ≡ self.old.room }
+    {
+        let sum = self.read(account) + coll;
+        self.table.write(account, sum);
+    }
+
+    /// Takes all that an account may claim, 0 where there is nothing. What the others may claim stays.
+    pub fn take(&mut self, account: u32) -> u64
+        ensures claimed { result ≡ surplus_in self.old.rows account }
+        ensures taken { self.new.rows ≡ surplus_taken_in self.old.rows account }
+        ensures room { self.new.room ≡ self.old.room }
+    {
+        let claimed = self.read(account);
+        self.table.clear(account);
+        claimed
+    }
+
+    /// What an account may claim, 0 where there is nothing.
+    pub fn read(&self, account: u32) -> u64
+        ensures { result ≡ surplus_in self.now.rows account }
+    {
+        match self.table.get(account) {
+            Some(coll) => *coll,
+            None => 0,
+        }
+    }
+}

@@ -1,0 +1,166 @@
+//! The wallets of all accounts.
+
+ghost use Rattle.std.specs.Prelude.{◌≡◌, ◌≤◌, ◌+◌, [], OnOk, OnErr, IsTrue};
+ghost use Rattle.liq_types.specs.Payments.{paid_in, charged_in};
+ghost use Rattle.liq_types.specs.State.{is_used_wallet, wallet_in, with_wallet};
+ghost use Rattle.liq_tables.specs.WithRoom.{HasRoom, KeepsRoom};
+ghost use Rattle.liq_ledger.specs.Refusals.{funding, charging, ruled};
+
+use liq_tables::Reserved;
+use liq_types::amounts::LIM;
+use liq_types::{NoMemory, Refusal, Wallet};
+use std::alloc::Global;
+use std::marker::Model;
+
+/// What each account has outside troves and deposits. Only [`Wallets::reserve`] takes memory.
+#[derive(Drop)]
+pub struct Wallets {
+    table: Reserved<Wallet>,
+}
+
+impl Model for Wallets {
+    ghost use Rattle.liq_types.specs.declared.figures.Wallet.{Wallet};
+    ghost use Rattle.liq_tables.specs.WithRoom.{WithRoom};
+
+    ghost Value = { WithRoom Wallet };
+
+    ghost view = { λ w. w.table };
+}
+
+impl Wallets {
+    /// Wallets of nothing.
+    pub fn new(alloc: Global) -> Wallets
+        ensures { result.rows ≡ [] }
+    {
+        Wallets {
+            table: Reserved::new(alloc),
+        }
+    }
+
+    /// Makes room for an account's wallet. What the accounts have stays, and so does all room that there was. Where there is
+    /// no memory nothing changes.
+    pub fn reserve(&mut self, account: u32) -> Result<(), NoMemory>
+        ensures rows { self.new.rows ≡ self.old.rows }
+        ensures room { OnOk result (HasRoom self.new account) }
+        ensures kept { KeepsRoom self.old self.new }
+        ensures err { OnErr result (self.new ≡ self.old) }
+    {
+        self.table.reserve(account)
+    }
+
+    /// What an account has: collateral in gwei, LUSD in micro-LUSD.
+    pub fn read(&self, account: u32) -> Wallet
+        ensures { result ≡ wallet_in self.now.rows account }
+    {
+        match self.table.get(account) {
+            Some(wallet) => *wallet,
+            None => Wallet { coll: 0, lusd: 0 },
+        }
+    }
+
+    /// Collateral (gwei) into an account's wallet. `AmountLimit` comes where the wallet would have more than may be inside,
+    /// and nothing changes then. The other wallets stay.
+    pub fn fund(&mut self, account: u32, coll: u64) -> Result<(), Refusal>
+        requires { HasRoom self.old account }
+        ensures refused { result ≡ ruled (funding (wallet_in self.old.rows account) coll) }
+        ensures moved { OnOk result (self.new.rows ≡ paid_in self.old.rows account coll 0) }
+        ensures room { self.new.room ≡ self.old.room }
+        ensures err { OnErr result (self.new ≡ self.old) }
+    {
+        let had = self.read(account);
+        let sum = u128::from(had.coll) + u128::from(coll);
+        if sum > u128::from(LIM) {
+            return Err(Refusal::AmountLimit { sum, limit: LIM });
+        }
+        let coll = had.coll + coll;
+        self.table.write(account, Wallet { coll, ..had });
+        Ok(())
+    }
+
+    /// Collateral (gwei) out of an account's wallet. `ShortCollateral` comes where there is less, and nothing changes then.
+    /// The other wallets stay.
+    pub fn take(&mut self, account: u32, coll: u64) -> Result<(), Refusal>
+        ensures refused { result ≡ ruled (charging (wallet_in self.old.rows account) coll 0) }
+        ensures moved { OnOk result (self.new.rows ≡ charged_in self.old.rows account coll 0) }
+        ensures room { self.new.room ≡ self.old.room }
+        ensures err { OnErr result (self.new ≡ self.old) }
+    {
+        self.charge(account, coll, 0)
+    }
+
+    /// LUSD (micro-LUSD) from one account's wallet into another's, which may be the same. `ShortTokens` comes where the first
+    /// has less, and nothing changes then. The other wallets stay.
+    pub fn send(&mut self, from: u32, to: u32, lusd: u64) -> Result<(), Refusal>
+        requires room { HasRoom self.old to }
+        requires limit { lusd ≤ (wallet_in self.old.rows from).lusd → (wallet_in (charged_in self.old.rows from 0 lusd) to).lusd + lusd ≤ LIM }
+        ensures refused { result ≡ ruled (charging (wallet_in self.old.rows from) 0 lusd) }
+        ensures moved { OnOk result (self.new.rows ≡ paid_in (charged_in self.old.rows from 0 lusd) to 0 lusd) }
+        ensures room { self.new.room ≡ self.old.room }
+        ensures err { OnErr result (self.new ≡ self.old) }
+    {
+        self.charge(from, 0, lusd)?;
+        let had = self.read(to);
+        let lusd = had.lusd + lusd;
+        self.table.write(to, Wallet { lusd, ..had });
+        Ok(())
+    }
+
+    /// Collateral (gwei) and LUSD (micro-LUSD) out of an account's wallet. `ShortCollateral` and then `ShortTokens` come where
+    /// there is less, and nothing changes then. The other wallets stay.
+    pub fn charge(&mut self, account: u32, coll: u64, lusd: u64) -> Result<(), Refusal>
+        ensures refused { result ≡ ruled (charging (wallet_in self.old.rows account) coll lusd) }
+        ensures moved { OnOk result (self.new.rows ≡ charged_in self.old.rows account coll lusd) }
+        ensures room { self.new.room ≡ self.old.room }
+        ensures err { OnErr result (self.new ≡ self.old) }
+    {
+        let had = self.read(account);
+        if had.coll < coll {
+            return Err(Refusal::ShortCollateral {
+                need: coll,
+                have: had.coll,
+            });
+        }
+        if had.lusd < lusd {
+            return Err(Refusal::ShortTokens {
+                need: lusd,
+                have: had.lusd,
+            });
+        }
+        let left = Wallet {
+            coll: had.coll - coll,
+            lusd: had.lusd - lusd,
+        };
+        self.put(account, left);
+        Ok(())
+    }
+
+    /// Collateral (gwei) and LUSD (micro-LUSD) into an account's wallet. The other wallets stay.
+    pub fn pay(&mut self, account: u32, coll: u64, lusd: u64)
+        requires room { HasRoom self.old account }
+        requires coll { (wallet_in self.old.rows account).coll + coll ≤ LIM }
+        requires lusd { (wallet_in self.old.rows account).lusd + lusd ≤ LIM }
+        ensures moved { self.new.rows ≡ paid_in self.old.rows account coll lusd }
+        ensures room { self.new.room ≡ self.old.room }
+    {
+        let had = self.read(account);
+        let sum = Wallet {
+            coll: had.coll + coll,
+            lusd: had.lusd + lusd,
+        };
+        self.table.write(account, sum);
+    }
+
+    /// Writes a wallet that has no more than the account had: one that is used had a row, and so room.
+    fn put(&mut self, account: u32, wallet: Wallet)
+        requires coll { wallet.coll ≤ (wallet_in self.old.rows account).coll }
+        requires lusd { wallet.lusd ≤ (wallet_in self.old.rows account).lusd }
+        ensures written { self.new.rows ≡ with_wallet self.old.rows account wallet }
+        ensures room { self.new.room ≡ self.old.room }
+    {
+        if self.table.get(account).is_some() {
+            self.table.write(account, wallet);
+        } else {
+            self.table.clear(account);
+        }
+    }
+}

@@ -1,0 +1,238 @@
+-- Where an account is in the list, and what its neighbours are.
+use Rattle.std.proofs.Common.{◌≡◌, ℕ, ℤ, suc, ◌+◌, ◌-◌, ◌<◌, Bool, true, false, cond, List, [], ◌∷◌, ◌++◌, length, get_or, map, refl, sym, ap, ◌∙◌, subst, Some, None, Option, inl, inr, arith, append-nil}
+use Rattle.std.specs.Prelude.{◌≢◌, ◌⊎◌, ◌==◌, not, nat_lt, reverse, filter, find, position, option_map, IsSome, is_some}
+use Rattle.std.specs.List.{AllByRecursion, position_or_len, remove}
+use Rattle.std.proofs.lemmas.Bool.Decides.{nat_tests}
+use Rattle.std.proofs.lemmas.List.{reverse-append, get_or_append_left, get_or-reverse, length-append, length-reverse, append_assoc}
+use Rattle.std.proofs.lemmas.List.Elements.{filter-append}
+use Rattle.liq_types.specs.Ranked.{Ranked, IsAscending, key_in, without_ranked, before_in, after_account, first_of, rank_order}
+use Rattle.std.specs.declared.cmp.Ordering.TheVariants.{Less}
+use Rattle.liq_order.specs.Listed.{IsAbsent, AreDistinct}
+
+abbrev has : ℕ → Ranked → Bool
+has account = λ (e : Ranked). e.1 == account
+
+-- the list around an account's entry
+pub record IsAt (list : List Ranked) (account index : ℕ) : Type 0 where
+  pub front : List Ranked
+  pub entry : Ranked
+  pub back : List Ranked
+  pub whole : list ≡ front ++ entry ∷ back
+  pub place : length front ≡ index
+  pub same : (entry.1 == account) ≡ true
+  pub first : IsAbsent account front
+
+-- ---- tests of accounts
+
+apart : (a b : ℕ) → (a == b) ≡ false → a ≢ b
+apart a b test same = grind (arith, nat_tests)
+
+other : (a b : ℕ) → a ≢ b → (a == b) ≡ false
+other a b ne = grind (arith, nat_tests)
+
+equal : (a b : ℕ) → (a == b) ≡ true → a ≡ b
+equal a b test = grind (arith, nat_tests)
+
+-- ---- an account is absent, or at some index
+
+split_first : (e : Ranked) (es : List Ranked) (account : ℕ) (b : Bool) → (e.1 == account) ≡ b → IsAbsent account es ⊎ ((i : ℕ) × IsAt es account i) → IsAbsent account (e ∷ es) ⊎ ((i : ℕ) × IsAt (e ∷ es) account i)
+split_first e es account true test more = inr (0, record { front = []; entry = e; back = es; whole = refl; place = refl; same = test; first = tt })
+split_first e es account false test (inl absent) = inl (apart e.1 account test, absent)
+split_first e es account false test (inr (i, s)) =
+    inr (
+      suc i,
+      record {
+        front = e ∷ s.front;
+        entry = s.entry;
+        back = s.back;
+        whole = ap (λ l. e ∷ l) s.whole;
+        place = ap (λ k. suc k) s.place;
+        same = s.same;
+        first = (apart e.1 account test, s.first);
+      },
+    )
+
+pub split : (list : List Ranked) (account : ℕ) → IsAbsent account list ⊎ ((i : ℕ) × IsAt list account i)
+split [] account = inl tt
+split (e ∷ es) account = split_first e es account (e.1 == account) refl (split es account)
+
+-- ---- what a search finds
+
+skipped : (account : ℕ) (front rest : List Ranked) → IsAbsent account front → position_or_len (has account) (front ++ rest) ≡ length front + position_or_len (has account) rest
+skipped account [] rest h = omega arith
+skipped account (e ∷ es) rest h =
+    ap (λ b. cond (not b) (1 + position_or_len (has account) (es ++ rest)) 0) (other e.1 account h.0)
+    ∙ omega (arith, skipped account es rest h.1)
+
+within : (n len : ℕ) → n < len → cond (nat_lt n len) (Some n) None ≡ Some n
+within n len h = grind (arith, nat_tests)
+
+past : (n len : ℕ) → n ≡ len → cond (nat_lt n len) (Some n) None ≡ None
+past n len h = grind (arith, nat_tests)
+
+position_absent : (list : List Ranked) (account : ℕ) → IsAbsent account list → position (has account) list ≡ None
+position_absent list account h =
+    let all = skipped account list [] h in
+    let whole = ap (λ l. position_or_len (has account) l) (append-nil list) in
+    past (position_or_len (has account) list) (length list) (omega (arith, all, whole))
+
+position_at : (list : List Ranked) (account index : ℕ) → IsAt list account index → position (has account) list ≡ Some index
+position_at list account index s =
+    let front = skipped account s.front (s.entry ∷ s.back) s.first in
+    let here : position_or_len (has account) (s.entry ∷ s.back) ≡ 0 = ap (λ b. cond (not b) (1 + position_or_len (has account) s.back) 0) s.same in
+    let at : position_or_len (has account) list ≡ index = ap (λ l. position_or_len (has account) l) s.whole ∙ omega (arith, front, here, s.place) in
+    let long : length list ≡ length s.front + length (s.entry ∷ s.back) = ap (λ l. length l) s.whole ∙ length-append s.front (s.entry ∷ s.back) in
+    within (position_or_len (has account) list) (length list) (omega (arith, at, long, s.place)) ∙ ap (λ k. Some k) at
+
+key_absent : (list : List Ranked) (account : ℕ) → IsAbsent account list → key_in list account ≡ None
+key_absent [] account h = refl
+key_absent (e ∷ es) account h =
+    ap (λ b. option_map (λ (f : Ranked). f.0) (cond b (Some e) (find (has account) es))) (other e.1 account h.0) ∙ key_absent es account h.1
+
+key_front : (account : ℕ) (front back : List Ranked) (entry : Ranked) → IsAbsent account front → (entry.1 == account) ≡ true → key_in (front ++ entry ∷ back) account ≡ Some entry.0
+key_front account [] back entry h same = ap (λ b. option_map (λ (f : Ranked). f.0) (cond b (Some entry) (find (has account) back))) same
+key_front account (e ∷ es) back entry h same =
+    ap (λ b. option_map (λ (f : Ranked). f.0) (cond b (Some e) (find (has account) (es ++ entry ∷ back)))) (other e.1 account h.0) ∙ key_front account es back entry h.1 same
+
+key_at : (list : List Ranked) (account index : ℕ) (s : IsAt list account index) → key_in list account ≡ Some s.entry.0
+key_at list account index s = ap (λ l. key_in l account) s.whole ∙ key_front account s.front s.back s.entry s.first s.same
+
+-- ---- what is known by what was found
+
+pub found : (list : List Ranked) (account index : ℕ) → Some index ≡ position (has account) list → IsAt list account index
+found list account index h = elim (split list account) [
+  | inl absent ↦ absurd (none (h ∙ position_absent list account absent))
+  | inr s ↦ subst (IsAt list account) (sym (one (h ∙ position_at list account s.0 s.1))) s.1
+] where
+  none : {i : ℕ} → Some i ≡ None → ⊥
+  none e = cc
+
+  one : {i j : ℕ} → Some i ≡ Some j → i ≡ j
+  one e = cc
+
+pub absent_from_key : (list : List Ranked) (account : ℕ) → key_in list account ≡ None → IsAbsent account list
+absent_from_key list account h = elim (split list account) [
+  | inl absent ↦ absent
+  | inr s ↦ absurd (none (sym (key_at list account s.0 s.1) ∙ h))
+] where
+  none : {k : ℤ} → Some k ≡ None → ⊥
+  none e = cc
+
+pub not_found : (list : List Ranked) (account : ℕ) → None ≡ position (has account) list → IsSome (key_in list account) → ⊥
+not_found list account h some = elim (split list account) [
+  | inl absent ↦ nothing (key_absent list account absent) some
+  | inr s ↦ none (h ∙ position_at list account s.0 s.1)
+] where
+  none : {i : ℕ} → None ≡ Some i → ⊥
+  none e = cc
+
+  nothing : {o : Option ℤ} → o ≡ None → is_some o ≡ true → ⊥
+  nothing e s = cc
+
+-- ---- without an account
+
+distinct_back : (front back : List Ranked) (e : Ranked) → AreDistinct (front ++ e ∷ back) → IsAbsent e.1 back
+distinct_back [] back e h = h.0
+distinct_back (f ∷ fs) back e h = distinct_back fs back e h.1
+
+pub absent_back : (list : List Ranked) (account index : ℕ) (s : IsAt list account index) → AreDistinct list → IsAbsent account s.back
+absent_back list account index s h =
+    subst (λ a. IsAbsent a s.back) (equal s.entry.1 account s.same) (distinct_back s.front s.back s.entry (subst AreDistinct s.whole h))
+
+without_absent : (list : List Ranked) (account : ℕ) → IsAbsent account list → without_ranked list account ≡ list
+without_absent [] account h = refl
+without_absent (e ∷ es) account h =
+    ap (λ b. cond (not b) (e ∷ without_ranked es account) (without_ranked es account)) (other e.1 account h.0) ∙ ap (λ l. e ∷ l) (without_absent es account h.1)
+
+removed_middle : (front back : List Ranked) (e : Ranked) → remove (front ++ e ∷ back) (length front) ≡ front ++ back
+removed_middle [] back e = refl
+removed_middle (f ∷ fs) back e = ap (λ l. f ∷ l) (removed_middle fs back e)
+
+pub removed : (list : List Ranked) (account index : ℕ) → IsAt list account index → AreDistinct list → remove list index ≡ without_ranked list account
+removed list account index s h =
+    let back = without_absent s.back account (absent_back list account index s h) in
+    let front = without_absent s.front account s.first in
+    let here : without_ranked (s.entry ∷ s.back) account ≡ s.back = ap (λ b. cond (not b) (s.entry ∷ without_ranked s.back account) (without_ranked s.back account)) s.same ∙ back in
+    ap (λ l. remove l index) s.whole
+    ∙ ap (λ i. remove (s.front ++ s.entry ∷ s.back) i) (sym s.place)
+    ∙ removed_middle s.front s.back s.entry
+    ∙ sym (ap (λ l. without_ranked l account) s.whole ∙ filter-append (λ (e : Ranked). not (e.1 == account)) s.front (s.entry ∷ s.back) ∙ ap (λ l. l ++ without_ranked (s.entry ∷ s.back) account) front ∙ ap (λ l. s.front ++ l) here)
+
+all_kept : (P : Ranked → Type 0) (q : Ranked → Bool) (list : List Ranked) → AllByRecursion P list → AllByRecursion P (filter q list)
+all_kept P q [] h = tt
+all_kept P q (e ∷ es) h = by (q e) (all_kept P q es h.1) where
+  by : (b : Bool) → AllByRecursion P (filter q es) → AllByRecursion P (cond b (e ∷ filter q es) (filter q es))
+  by true more = (h.0, more)
+  by false more = more
+
+pub ascending_kept : (q : Ranked → Bool) (list : List Ranked) → IsAscending list → IsAscending (filter q list)
+ascending_kept q [] h = tt
+ascending_kept q (e ∷ es) h = by (q e) (ascending_kept q es h.1) where
+  by : (b : Bool) → IsAscending (filter q es) → IsAscending (cond b (e ∷ filter q es) (filter q es))
+  by true more = (all_kept (λ f. rank_order e f ≡ Less) q es h.0, more)
+  by false more = more
+
+pub distinct_kept : (q : Ranked → Bool) (list : List Ranked) → AreDistinct list → AreDistinct (filter q list)
+distinct_kept q [] h = tt
+distinct_kept q (e ∷ es) h = by (q e) (distinct_kept q es h.1) where
+  by : (b : Bool) → AreDistinct (filter q es) → AreDistinct (cond b (e ∷ filter q es) (filter q es))
+  by true more = (all_kept (λ (f : Ranked). f.1 ≢ e.1) q es h.0, more)
+  by false more = more
+
+-- ---- the account before
+
+abbrev accounts : List Ranked → List ℕ
+accounts list = map (λ (e : Ranked). e.1) list
+
+reverse_first : (e : Ranked) (es : List Ranked) → reverse (e ∷ es) ≡ reverse es ++ e ∷ []
+reverse_first e es = reverse-append (e ∷ []) es
+
+absent_push : (list : List Ranked) (e : Ranked) (account : ℕ) → IsAbsent account list → e.1 ≢ account → IsAbsent account (list ++ e ∷ [])
+absent_push [] e account h n = (n, tt)
+absent_push (f ∷ fs) e account h n = (h.0, absent_push fs e account h.1 n)
+
+absent_reverse : (list : List Ranked) (account : ℕ) → IsAbsent account list → IsAbsent account (reverse list)
+absent_reverse [] account h = tt
+absent_reverse (e ∷ es) account h = subst (IsAbsent account) (sym (reverse_first e es)) (absent_push (reverse es) e account (absent_reverse es account h.1) h.0)
+
+after_passed : (list rest : List Ranked) (e : Ranked) (account : ℕ) → IsAbsent account list → (e.1 == account) ≡ true → after_account (accounts (list ++ e ∷ rest)) account ≡ first_of (accounts rest)
+after_passed [] rest e account h same = ap (λ b. cond b (first_of (accounts rest)) (after_account (accounts rest) account)) same
+after_passed (f ∷ fs) rest e account h same =
+    ap (λ b. cond b (first_of (accounts (fs ++ e ∷ rest))) (after_account (accounts (fs ++ e ∷ rest)) account)) (other f.1 account h.0)
+    ∙ after_passed fs rest e account h.1 same
+
+pub before_found : (list : List Ranked) (account index : ℕ) (s : IsAt list account index) → AreDistinct list → before_in list account ≡ first_of (accounts (reverse s.front))
+before_found list account index s h =
+    let back = absent_reverse s.back account (absent_back list account index s h) in
+    let turned : reverse (s.front ++ s.entry ∷ s.back) ≡ reverse s.back ++ s.entry ∷ reverse s.front =
+    reverse-append s.front (s.entry ∷ s.back) ∙ ap (λ l. l ++ reverse s.front) (reverse_first s.entry s.back) ∙ append_assoc (reverse s.back) (s.entry ∷ []) (reverse s.front) in
+    ap (λ l. before_in l account) s.whole ∙ ap (λ l. after_account (accounts l) account) turned ∙ after_passed (reverse s.back) (reverse s.front) s.entry account back s.same
+
+first_is : (list : List Ranked) (d : Ranked) → 0 < length list → first_of (accounts list) ≡ Some (get_or list 0 d).1
+first_is [] d h = absurd (omega (arith, h))
+first_is (e ∷ es) d h = refl
+
+last_is : (list : List Ranked) (d : Ranked) → 0 < length list → first_of (accounts (reverse list)) ≡ Some (get_or list (length list - 1) d).1
+last_is list d h =
+    let long : 0 < length (reverse list) = omega (arith, h, length-reverse list) in
+    let same : length list - 1 - 0 ≡ length list - 1 = omega arith in
+    first_is (reverse list) d long ∙ ap (λ (e : Ranked). Some e.1) (get_or-reverse list 0 d h ∙ ap (λ k. get_or list k d) same)
+
+-- the account next nearer the front is at the index before
+pub before_at : (list : List Ranked) (account index : ℕ) (d : Ranked) → IsAt list account index → AreDistinct list → 0 < index → before_in list account ≡ Some (get_or list (index - 1) d).1
+before_at list account index d s h some =
+    let long : 0 < length s.front = omega (arith, some, s.place) in
+    let near : get_or list (index - 1) d ≡ get_or s.front (length s.front - 1) d =
+    ap (λ l. get_or l (index - 1) d) s.whole ∙ get_or_append_left s.front (s.entry ∷ s.back) d (index - 1) (omega (arith, some, s.place)) ∙ ap (λ k. get_or s.front (k - 1) d) (sym s.place) in
+    before_found list account index s h ∙ last_is s.front d long ∙ ap (λ (e : Ranked). Some e.1) (sym near)
+
+pub before_first : (list : List Ranked) (account : ℕ) → IsAt list account 0 → AreDistinct list → before_in list account ≡ None
+before_first list account s h = before_found list account 0 s h ∙ ap (λ l. first_of (accounts (reverse l))) (none s.front s.place) where
+  none : (l : List Ranked) → length l ≡ 0 → l ≡ []
+  none [] e = refl
+  none (x ∷ xs) e = absurd (omega (arith, e))
+
+pub at_within : (list : List Ranked) (account index : ℕ) → IsAt list account index → index < length list
+at_within list account index s =
+    let long : length list ≡ length s.front + length (s.entry ∷ s.back) = ap (λ l. length l) s.whole ∙ length-append s.front (s.entry ∷ s.back) in
+    omega (arith, long, s.place)

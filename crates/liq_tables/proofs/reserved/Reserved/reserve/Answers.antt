@@ -1,0 +1,32 @@
+use Rattle.std.proofs.Common.{ap, sym, ◌∙◌, subst}
+use Rattle.std.specs.List.{Contains}
+use Rattle.std.specs.Map.{keys_of}
+use Rattle.liq_types.specs.Tables.{Table, at, rows}
+use Rattle.liq_types.proofs.UsedRows.{rows-put_unused}
+use Rattle.liq_tables.specs.WithRoom.{WithRoom, HasRoom}
+use Rattle.liq_tables.proofs.Room.{room_from_row, missing, room-put, room-put_same}
+use Rattle.liq_tables.proofs.reserved.Reserved.reserve.Goals as goal
+
+pub returns-then-contains_key-clause-room : goal.returns-then-contains_key-clause-room
+returns-then-contains_key-clause-room g c =
+    let there = sym c.contains_key.ensures ∙ c.if-contains_key.true in
+    subst (λ (t : WithRoom g.row.X.Denot). HasRoom t c.args.key) c.self.view_is (room_from_row c.self.inside.map.entries c.args.key there)
+
+pub returns-clause-rows : goal.returns-clause-rows
+returns-clause-rows g c =
+    let none = missing (at c.self.inside.map.entries c.args.key) (sym c.contains_key.ensures ∙ c.if-contains_key.false) in
+    let unused = ap g.X.Row.used c.nothing.ensures ∙ g.met.X.Row.is_unused in
+    ap (λ (t : Table g.row.X.Denot). rows g.X.Row.used t) c.in-Ok.ensures.entries
+    ∙ rows-put_unused g.X.Row.used c.self.inside.map.entries c.args.key c.nothing.result unused none
+    ∙ ap (λ (t : WithRoom g.row.X.Denot). t.rows) c.self.view_is
+
+pub returns-clause-room : goal.returns-clause-room
+returns-clause-room g c =
+    subst (λ (t : Table g.row.X.Denot). Contains (keys_of t) c.args.key) (sym c.in-Ok.ensures.entries)
+    (room-put_same c.self.inside.map.entries c.args.key c.nothing.result)
+
+pub returns-clause-kept : goal.returns-clause-kept
+returns-clause-kept g c q h =
+    let had = subst (λ (t : WithRoom g.row.X.Denot). HasRoom t q) (sym c.self.view_is) h in
+    subst (λ (t : Table g.row.X.Denot). Contains (keys_of t) q) (sym c.in-Ok.ensures.entries)
+    (room-put c.self.inside.map.entries c.args.key c.nothing.result q had)

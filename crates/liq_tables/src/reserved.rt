@@ -1,0 +1,90 @@
+//! A table over a map.
+
+ghost use Rattle.std.specs.Prelude.{◌≡◌, [], OnOk, OnErr, OnSome, option_copied};
+ghost use Rattle.liq_types.specs.Tables.{at, without};
+ghost use Rattle.liq_tables.specs.WithRoom.{HasRoom, KeepsRoom, written};
+
+use crate::row::Row;
+use liq_types::NoMemory;
+use std::alloc::Global;
+use std::collections::BTreeMap;
+use std::marker::Model;
+
+/// Rows by their account or client. Contracts see the used rows, in ascending keys, and the keys that have room. Only
+/// [`Reserved::reserve`] takes memory.
+#[derive(Drop)]
+pub struct Reserved<X: Row> {
+    map: BTreeMap<u32, X>,
+}
+
+impl<X: Row> Model for Reserved<X> {
+    ghost use Rattle.std.specs.List.Sorted.{IsStrictlySortedBy};
+    ghost use Rattle.std.specs.Map.{keys_of};
+    ghost use Rattle.std.specs.Ordering.{nat_cmp};
+    ghost use Rattle.liq_tables.specs.WithRoom.{WithRoom, seen};
+
+    ghost Value = { WithRoom X };
+
+    ghost view = { λ t. seen X.used t.map.entries };
+
+    ghost invariant = { λ t. IsStrictlySortedBy nat_cmp (keys_of t.map.entries) };
+}
+
+impl<X: Row> Reserved<X> {
+    /// A table without rows.
+    pub fn new(alloc: Global) -> Reserved<X>
+        ensures { result.rows ≡ [] }
+    {
+        Reserved {
+            map: BTreeMap::new(alloc),
+        }
+    }
+
+    /// The row at a key, if there is one. Where it is, there is room.
+    pub fn get(&self, key: u32) -> Option<&X>
+        ensures row { option_copied result ≡ at self.now.rows key }
+        ensures room { OnSome result (HasRoom self.now key) }
+    {
+        let row = self.map.get(&key)?;
+        if row.is_used() { Some(row) } else { None }
+    }
+
+    /// Makes room for a row at a key. The rows stay, and so does all room that there was. Where there is no memory nothing
+    /// changes.
+    pub fn reserve(&mut self, key: u32) -> Result<(), NoMemory>
+        ensures rows { self.new.rows ≡ self.old.rows }
+        ensures room { OnOk result (HasRoom self.new key) }
+        ensures kept { KeepsRoom self.old self.new }
+        ensures err { OnErr result (self.new ≡ self.old) }
+    {
+        if self.map.contains_key(&key) {
+            return Ok(());
+        }
+        let Ok(_) = self.map.insert(key, X::nothing()) else {
+            return Err(NoMemory);
+        };
+        Ok(())
+    }
+
+    /// Writes a row at a key that has room. A row that is not used takes the key's row out. The room stays.
+    pub fn write(&mut self, key: u32, row: X)
+        requires { HasRoom self.old key }
+        ensures rows { self.new.rows ≡ written X.used self.old.rows key row }
+        ensures room { self.new.room ≡ self.old.room }
+    {
+        match self.map.insert(key, row) {
+            Ok(_) => {}
+            Err(_) => unreachable!(),
+        }
+    }
+
+    /// Takes the row at a key out, if there is one. The room stays.
+    pub fn clear(&mut self, key: u32)
+        ensures rows { self.new.rows ≡ without self.old.rows key }
+        ensures room { self.new.room ≡ self.old.room }
+    {
+        if self.map.contains_key(&key) {
+            self.write(key, X::nothing());
+        }
+    }
+}

@@ -1,0 +1,241 @@
+-- What holds of the troves at all times: kept where one is set or taken out, where sums rise and where stakes are snapped.
+use Rattle.std.proofs.Common.{◌≡◌, ℕ, zero, suc, ◌+◌, ◌≤◌, ◌<◌, Bool, true, false, [], ◌∷◌, ◌++◌, refl, sym, ap, ◌∙◌, subst, arith, Some, None, Option, length, take, drop, get_or}
+use Rattle.std.specs.Prelude.{sum_by, option_map, unwrap_or, IfSome, nat_le, ◌&&◌}
+use denote.Ref.{Bor}
+use Rattle.std.specs.Prelude.{option_copied, if◌then◌else◌}
+use Rattle.std.specs.BTreeMap.{is_at}
+use Rattle.std.specs.Cmp.{nat_cmp_total}
+use Rattle.std.specs.List.{AllByRecursion}
+use Rattle.std.specs.List.Sorted.{IsStrictlySortedBy}
+use Rattle.std.specs.Map.{keys_of, values_of}
+use Rattle.std.specs.Ordering.{nat_cmp, match_ordering, ordering_reverse}
+use Rattle.std.specs.declared.cmp.Ordering.TheVariants.{Less}
+use Rattle.std.proofs.lemmas.Bool.Decides.{nat_tests}
+use Rattle.std.proofs.lemmas.List.{take-append-drop, drop_more, take_more}
+use Rattle.std.proofs.lemmas.List.Sums.{sum_by-cons}
+use Rattle.std.proofs.lemmas.Map.Entries.{sum_by-remove_entry, sum_by-insert_entry}
+use Rattle.liq_types.specs.declared.amounts.TheConstants.{LIM, SUM_MOST, RESERVE, MIN_NET}
+use Rattle.liq_types.specs.declared.figures.Trove.{Trove}
+use Rattle.liq_types.specs.Soundness.{is_sound_trove}
+use Rattle.liq_types.specs.Tables.{Table, at, put, without}
+use Rattle.liq_types.specs.WellFormed.{Ascends}
+use Rattle.liq_types.proofs.Ascending.{put-ascends, without-ascends}
+use Rattle.liq_types.proofs.Lookups.{all-at}
+use Rattle.liq_tables.specs.Rows.{is_used_trove}
+use Rattle.liq_tables.specs.WithRoom.{written}
+use Rattle.liq_types.proofs.MapRows.{all-put, all-without, all-weaken}
+use Rattle.liq_troves.specs.declared.sums.Sums.{Sums}
+use Rattle.liq_troves.specs.Kept.{IsKept, AreKept, AreSoundRows, coll_in}
+use Rattle.liq_troves.specs.Rows.{stakes_in, set_row, set_in, beside, sums_spread, sums_snapped, sum_after}
+use Rattle.liq_troves.proofs.Added.{sum_taken, sums_within}
+use Rattle.liq_troves.proofs.Standing.{stake_within}
+
+-- ---- counts and sums
+
+counted : {X : Type 0} (table : Table X) → sum_by (λ (x : X). 1) (values_of table) ≡ length table
+counted [] = refl
+counted {X} (e ∷ es) =
+    let law = sum_by-cons (λ (x : X). 1) e.1 (values_of es) in
+    let more = counted es in
+    omega (arith, law, more)
+
+-- a row put in, beside the other rows
+pub sum_beside : {X : Type 0} (f : X → ℕ) (table : Table X) (key : ℕ) (x : X) → Ascends table → sum_by f (values_of (put table key x)) ≡ sum_by f (values_of (without table key)) + f x
+sum_beside f table key x s =
+    let with = sum_by-insert_entry f nat_cmp_total table key x s in
+    let out = sum_by-remove_entry f (is_at (nat_cmp key)) table in
+    omega (arith, with, out)
+
+pub count_beside : {X : Type 0} (table : Table X) (key : ℕ) (x : X) → Ascends table → length (put table key x) ≡ length (without table key) + 1
+count_beside {X} table key x s =
+    let law = sum_beside (λ (y : X). 1) table key x s in
+    omega (arith, law, counted (put table key x), counted (without table key))
+
+pub count_taken : {X : Type 0} (table : Table X) (key : ℕ) (x : X) → at table key ≡ Some x → length (without table key) + 1 ≡ length table
+count_taken {X} table key x h =
+    let law = sum_taken (λ (y : X). 1) table key x h in
+    omega (arith, law, counted table, counted (without table key))
+
+-- an account without a trove has none to take out
+pub sum_none : {X : Type 0} (f : X → ℕ) (table : Table X) (key : ℕ) → at table key ≡ None → sum_by f (values_of (without table key)) ≡ sum_by f (values_of table)
+sum_none {X} f table key h =
+    let law = sum_by-remove_entry f (is_at (nat_cmp key)) table in
+    let none : unwrap_or (option_map f (at table key)) 0 ≡ 0 = ap (λ (o : Option X). unwrap_or (option_map f o) 0) h in
+    omega (arith, law, none)
+
+pub count_none : {X : Type 0} (table : Table X) (key : ℕ) → at table key ≡ None → length (without table key) ≡ length table
+count_none {X} table key h =
+    let law = sum_none (λ (y : X). 1) table key h in
+    omega (arith, law, counted table, counted (without table key))
+
+-- ---- bounds
+
+pub stakes_least : (coll debt : ℕ) (troves : Table Trove) → AllByRecursion (λ (row : ℕ × Trove). IsKept coll debt row.1) troves → length troves ≤ stakes_in troves
+stakes_least coll debt troves h =
+    let less = sums_within (λ (t : Trove). 1) (λ (t : Trove). t.stake) (IsKept coll debt) (λ t k. k.some) troves h in
+    omega (arith, less, counted troves)
+
+pub stakes_most : (coll debt : ℕ) (troves : Table Trove) → AllByRecursion (λ (row : ℕ × Trove). IsKept coll debt row.1) troves → stakes_in troves ≤ coll_in troves
+stakes_most coll debt troves h = sums_within (λ (t : Trove). t.stake) (λ (t : Trove). t.coll) (IsKept coll debt) (λ t k. k.within) troves h
+
+-- ---- rows that are found and written
+
+pub found_kept : (coll debt : ℕ) (troves : Table Trove) (account : ℕ) (o : Option (Bor Trove)) → option_copied o ≡ at troves account → AllByRecursion (λ (row : ℕ × Trove). IsKept coll debt row.1) troves → IfSome o (λ t. IsKept coll debt t.now)
+found_kept coll debt troves account None is h = tt
+found_kept coll debt troves account (Some t) is h = all-at (IsKept coll debt) troves account t.now h (sym is)
+
+pub used_row : (t : Trove) → 1 ≤ t.stake → is_used_trove t ≡ true
+used_row t h = grind (arith, nat_tests)
+
+pub written_row : (troves : Table Trove) (account : ℕ) (t : Trove) → 1 ≤ t.stake → written is_used_trove troves account t ≡ put troves account t
+written_row troves account t h = ap (λ b. if b then put troves account t else without troves account) (used_row t h)
+
+-- ---- kept
+
+pub set_kept : (troves : Table Trove) (sums : Sums) (count account coll debt : ℕ) → AreKept troves sums count → 1 ≤ coll → coll_in (set_in sums troves account coll debt) ≤ LIM → AreKept (set_in sums troves account coll debt) (beside sums (set_in sums troves account coll debt)) (length (set_in sums troves account coll debt))
+set_kept troves sums count account coll debt h some limit =
+    let stake = stake_within sums.snap_stakes sums.snap_coll coll h.snap some in
+    let row : IsKept sums.coll sums.debt (set_row sums coll debt) = record { some = stake.some; within = stake.within; mark_coll = omega arith; mark_debt = omega arith } in
+    record {
+      ascend = put-ascends troves account (set_row sums coll debt) h.ascend;
+      each = all-put (IsKept sums.coll sums.debt) troves account (set_row sums coll debt) row h.each;
+      sum_coll = h.sum_coll;
+      sum_debt = h.sum_debt;
+      stakes = refl;
+      snap = h.snap;
+      limit = limit;
+      counted = refl;
+    }
+
+-- what a trove that is set makes of the number and the stakes of the others
+pub record IsSetBeside (troves : Table Trove) (sums : Sums) (account coll debt others stakes : ℕ) : Type 0 where
+  pub kept : AreKept (set_in sums troves account coll debt) (beside sums (set_in sums troves account coll debt)) (length (set_in sums troves account coll debt))
+  pub count_is : others + 1 ≡ length (set_in sums troves account coll debt)
+  pub stakes_are : stakes + (set_row sums coll debt).stake ≡ stakes_in (set_in sums troves account coll debt)
+  pub count_fits : others + 1 ≤ LIM
+  pub stakes_fit : stakes + (set_row sums coll debt).stake ≤ LIM
+  pub some : 1 ≤ (set_row sums coll debt).stake
+
+pub set_beside : (troves : Table Trove) (sums : Sums) (count account coll debt others stakes : ℕ) → AreKept troves sums count → 1 ≤ coll → coll_in (set_in sums troves account coll debt) ≤ LIM → others ≡ length (without troves account) → stakes ≡ stakes_in (without troves account) → IsSetBeside troves sums account coll debt others stakes
+set_beside troves sums count account coll debt others stakes h some limit others_are stakes_are =
+    let kept = set_kept troves sums count account coll debt h some limit in
+    let row = set_row sums coll debt in
+    let many = count_beside troves account row h.ascend in
+    let all = sum_beside (λ (t : Trove). t.stake) troves account row h.ascend in
+    let least = stakes_least sums.coll sums.debt (set_in sums troves account coll debt) kept.each in
+    let most = stakes_most sums.coll sums.debt (set_in sums troves account coll debt) kept.each in
+    record {
+      kept = kept;
+      count_is = omega (arith, many, others_are);
+      stakes_are = omega (arith, all, stakes_are);
+      count_fits = omega (arith, many, others_are, least, most, limit);
+      stakes_fit = omega (arith, all, stakes_are, most, limit);
+      some = (stake_within sums.snap_stakes sums.snap_coll coll h.snap some).some;
+    }
+
+pub without_kept : (troves : Table Trove) (sums : Sums) (count account : ℕ) → AreKept troves sums count → AreKept (without troves account) (beside sums (without troves account)) (length (without troves account))
+without_kept troves sums count account h =
+    let out = sum_by-remove_entry (λ (t : Trove). t.coll) (is_at (nat_cmp account)) troves in
+    record {
+      ascend = without-ascends troves account h.ascend;
+      each = all-without (IsKept sums.coll sums.debt) troves account h.each;
+      sum_coll = h.sum_coll;
+      sum_debt = h.sum_debt;
+      stakes = refl;
+      snap = h.snap;
+      limit = omega (arith, out, h.limit);
+      counted = refl;
+    }
+
+pub spread_kept : (troves : Table Trove) (sums : Sums) (count coll debt : ℕ) → AreKept troves sums count → sum_after sums.coll coll sums.stakes ≤ SUM_MOST → sum_after sums.debt debt sums.stakes ≤ SUM_MOST → AreKept troves (sums_spread sums coll debt) count
+spread_kept troves sums count coll debt h coll_fits debt_fits = record {
+  ascend = h.ascend;
+  each = all-weaken (IsKept sums.coll sums.debt) (IsKept (sum_after sums.coll coll sums.stakes) (sum_after sums.debt debt sums.stakes))
+      (λ t k. record { some = k.some; within = k.within; mark_coll = omega (arith, k.mark_coll); mark_debt = omega (arith, k.mark_debt) }) troves h.each;
+  sum_coll = coll_fits;
+  sum_debt = debt_fits;
+  stakes = h.stakes;
+  snap = h.snap;
+  limit = h.limit;
+  counted = h.counted;
+}
+
+pub snapped_kept : (troves : Table Trove) (sums : Sums) (count total : ℕ) → AreKept troves sums count → coll_in troves ≤ total → AreKept troves (sums_snapped sums total) count
+snapped_kept troves sums count total h enough =
+    let less = stakes_most sums.coll sums.debt troves h.each in
+    record {
+      ascend = h.ascend;
+      each = h.each;
+      sum_coll = h.sum_coll;
+      sum_debt = h.sum_debt;
+      stakes = h.stakes;
+      snap = omega (arith, less, h.stakes, enough);
+      limit = h.limit;
+      counted = h.counted;
+    }
+
+-- ---- made of rows
+
+kept_from_sound : (coll debt : ℕ) (t : Trove) → is_sound_trove coll debt t ≡ true → IsKept coll debt t
+kept_from_sound coll debt t h = record {
+  some = both.0;
+  within = both.1;
+  mark_coll = both.2;
+  mark_debt = both.3;
+} where
+  split : (a b : Bool) → (a && b) ≡ true → (a ≡ true) × (b ≡ true)
+  split true true h = (refl, refl)
+  split true false h = cc
+  split false b h = cc
+
+  le : (m n : ℕ) → nat_le m n ≡ true → m ≤ n
+  le m n e = grind (arith, nat_tests)
+
+  both : (1 ≤ t.stake) × (t.stake ≤ t.coll) × (t.mark_coll ≤ coll) × (t.mark_debt ≤ debt)
+  both =
+      let a = split (nat_le 1 t.stake && nat_le t.stake t.coll && nat_le (RESERVE + MIN_NET) t.debt && nat_le t.mark_coll coll) (nat_le t.mark_debt debt) h in
+      let b = split (nat_le 1 t.stake && nat_le t.stake t.coll && nat_le (RESERVE + MIN_NET) t.debt) (nat_le t.mark_coll coll) a.0 in
+      let c = split (nat_le 1 t.stake && nat_le t.stake t.coll) (nat_le (RESERVE + MIN_NET) t.debt) b.0 in
+      let d = split (nat_le 1 t.stake) (nat_le t.stake t.coll) c.0 in
+      (le 1 t.stake d.0, le t.stake t.coll d.1, le t.mark_coll coll b.1, le t.mark_debt debt a.1)
+
+pub each_from_sound : (troves : Table Trove) (sums : Sums) → AreSoundRows troves sums → AllByRecursion (λ (row : ℕ × Trove). IsKept sums.coll sums.debt row.1) troves
+each_from_sound troves sums h = all-weaken (λ t. is_sound_trove sums.coll sums.debt t ≡ true) (IsKept sums.coll sums.debt) (kept_from_sound sums.coll sums.debt) troves h.each
+
+pub kept_from_rows : (troves : Table Trove) (sums : Sums) (count : ℕ) → count ≡ length troves → AreSoundRows troves sums → AreKept troves sums count
+kept_from_rows troves sums count counts h = record {
+  ascend = h.ascend;
+  each = each_from_sound troves sums h;
+  sum_coll = h.sum_coll;
+  sum_debt = h.sum_debt;
+  stakes = h.stakes;
+  snap = h.snap;
+  limit = h.limit;
+  counted = counts;
+}
+
+-- ---- rows one after the other
+
+module _ {X : Type 0} where
+  later : (front : Table X) (e : ℕ × X) (back : Table X) (key : ℕ) → AllByRecursion (λ y. nat_cmp key y ≡ Less) (keys_of (front ++ e ∷ back)) → nat_cmp key e.0 ≡ Less
+  later [] e back key h = h.0
+  later (f ∷ fs) e back key h = later fs e back key h.1
+
+  -- a row behind all others is put at the end
+  pub put_end : (front : Table X) (e : ℕ × X) (back : Table X) → Ascends (front ++ e ∷ back) → put front e.0 e.1 ≡ front ++ e ∷ []
+  unfolding IsStrictlySortedBy
+  put_end [] e back h = refl
+  put_end (f ∷ fs) e back h =
+      let greater = nat_cmp_total.antisymm e.0 f.0 ∙ ap ordering_reverse (later fs e back f.0 h.0) in
+      ap (λ o. match_ordering o ((e.0, e.1) ∷ f ∷ fs) ((f.0, e.1) ∷ fs) (f ∷ put fs e.0 e.1)) greater ∙ ap (λ (t : Table X). f ∷ t) (put_end fs e back h.1)
+
+  -- the next row of a table goes behind those before it
+  pub put_next : (table : Table X) (i : ℕ) (d : ℕ × X) → i < length table → Ascends table → put (take i table) (get_or table i d).0 (get_or table i d).1 ≡ take (i + 1) table
+  put_next table i d less h =
+      let whole : table ≡ take i table ++ get_or table i d ∷ drop (i + 1) table = sym (take-append-drop i table) ∙ ap (λ l. take i table ++ l) (drop_more table i d less) in
+      put_end (take i table) (get_or table i d) (drop (i + 1) table) (subst Ascends whole h) ∙ sym (take_more table i d less)
+
+  pub row_at : (P : X → Type 0) (table : Table X) (i : ℕ) (d : ℕ × X) → AllByRecursion (λ (row : ℕ × X). P row.1) table → i < length table → P (get_or table i d).1
+  row_at P [] i d h less = absurd (omega (arith, less))
+  row_at P (e ∷ es) zero d h less = h.0
+  row_at P (e ∷ es) (suc i) d h less = row_at P es i d h.1 (omega (arith, less))

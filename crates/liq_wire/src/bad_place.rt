@@ -1,0 +1,9 @@
+use thiserror::Error;
+
+/// The bytes are no command.
+#[derive(Clone, Copy, Debug, PartialEq, Eq, Error)]
+#[error("byte {place} begins a field that fits no command")]
+pub struct BadPlace {
+    /// Where the first field begins that fits no command.
+    pub place: u8,
+}

@@ -1,0 +1,9 @@
+//! Laws of the 96 bytes, each the contract of a function without a body.
+ghost use Rattle.std.specs.Prelude.{◌≡◌, List, ℕ};
+ghost use Rattle.liq_types.specs.declared.requests.Command.{Command};
+ghost use Rattle.liq_wire.specs.Fields.{HasHints, Spells96};
+
+/// No two commands whose hints are absent or below the greatest word have the same bytes.
+pub fn one_command()
+    ensures { (bytes : List ℕ) (c d : Command) → Spells96 bytes c → Spells96 bytes d → HasHints c.call → HasHints d.call → c ≡ d }
+{}
