@@ -31,8 +31,7 @@ ghost use Rattle.liq_core.specs.Verbs.{kind, unhinted};
 ghost use Rattle.liq_core.specs.View.{view_of, view_after, all_followed, changes, changes_list};
 ghost use Rattle.liq_types.specs.WellFormed.{AreFinished, IsWellFormed, TablesAscend, stakes_in};
 
-use crate::engine::Protocol;
-pub use crate::engine::protocols_are_sound;
+pub use crate::engine::{protocols_are_sound, protocols_stand};
 
 /// A refused request, a query and a command that comes again leave the state.
 pub fn only_new_commands_change()
