@@ -22,11 +22,14 @@ pub mod Rows
 pub mod Ruled
 pub mod Runs
 pub mod SoundBorrow
+pub mod SoundBounds
 pub mod SoundCalls
 pub mod SoundCores
+pub mod SoundEvents
 pub mod SoundFacts
 pub mod SoundLiquidate
 pub mod SoundPool
+pub mod SoundPromises
 pub mod SoundRedeem
 pub mod SoundRules
 pub mod SoundStart

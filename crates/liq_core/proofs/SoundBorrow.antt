@@ -18,7 +18,7 @@ use Rattle.liq_types.specs.Totals.{market_of, or_nothing, is_recovery, is_normal
 use Rattle.liq_types.specs.WellFormed.{Ascends}
 use Rattle.liq_types.proofs.Ascending.{wallet-ascends}
 use Rattle.liq_types.proofs.Lookups.{at-without_same}
-use Rattle.liq_types.proofs.MapRows.{at-map}
+use Rattle.liq_types.proofs.MapRows.{at-map, all-put, all-without}
 use Rattle.liq_rate.specs.Rate.{decayed, rate_left}
 use Rattle.liq_rate.specs.declared.rate.Rate.{Rate}
 use Rattle.liq_troves.specs.Own.{lifted_entry, lifted, placed, set_trove, stake_for}
@@ -33,6 +33,7 @@ use Rattle.liq_borrow.specs.declared.change.Change.{Change}
 use Rattle.liq_borrow.specs.declared.change.Plan.{Plan}
 use Rattle.liq_borrow.specs.Borrowing.{rate_borrowed, least_ratio, opening_terms, open_rules, adjusting_terms, adjust_rules, closing_terms, close_rules}
 use Rattle.liq_core.specs.Borrowing.{with_fee, opened, adjusted, closed}
+use Rattle.liq_core.specs.SoundState.{IsSetSince}
 use Rattle.liq_core.specs.Rules.{rules, effect}
 use Rattle.liq_core.proofs.AlikeChanges.{balance_within, gain_within}
 use Rattle.liq_core.proofs.Moving.{paid_coll, paid_lusd, charged_coll, charged_lusd}
@@ -153,6 +154,8 @@ open_leaves s f account coll borrow bound hint k h =
         generation = refl;
         records = refl;
         clients = refl;
+        snap = λ n. n;
+        marks = λ h. all-put (λ (x : TroveEntry). IsSetSince x.mark) s.troves account (record { coll = coll; debt = plan.debt; stake = stake_for (record lent { reserve = lent.reserve + RESERVE }) coll; mark = After (length s.redistributions) }) tt h;
       };
     }
   where
@@ -257,6 +260,8 @@ module _ (s : State) (f : Finds s) (account coll debt : ℕ) (change : Change) (
         generation = refl;
         records = refl;
         clients = refl;
+        snap = λ n. n;
+        marks = λ n. all-put (λ (x : TroveEntry). IsSetSince x.mark) (without s.troves account) account (record { coll = plan.coll; debt = plan.debt; stake = stake_for moved plan.coll; mark = After (length s.redistributions) }) tt (all-without (λ (x : TroveEntry). IsSetSince x.mark) s.troves account n);
       })
 
 pub adjust_leaves : (s : State) → Finds s → (account bound : ℕ) (change : Change) → account < ACCOUNTS → first_refusal (adjust_rules (market_of s) (wallet_of s account) (entire_of s account) account change bound) ≡ None → Leaves 0 s (adjusted s account change (adjusting_terms (market_of s) (or_nothing (entire_of s account)) change))
@@ -313,6 +318,8 @@ module _ (s : State) (f : Finds s) (account coll debt : ℕ) (there : entire_of 
         generation = refl;
         records = refl;
         clients = refl;
+        snap = λ n. n;
+        marks = λ n. all-without (λ (x : TroveEntry). IsSetSince x.mark) s.troves account n;
       })
 
 pub close_leaves : (s : State) → Finds s → (account : ℕ) → account < ACCOUNTS → first_refusal (close_rules (market_of s) (wallet_of s account) (entire_of s account) account) ≡ None → Leaves 0 s (closed s account (closing_terms (or_nothing (entire_of s account))).0 (closing_terms (or_nothing (entire_of s account))).1)
@@ -365,6 +372,8 @@ module _ (s : State) (f : Finds s) (account coll debt : ℕ) (there : entire_of 
         generation = refl;
         records = refl;
         clients = refl;
+        snap = λ n. n;
+        marks = λ n. all-put (λ (x : TroveEntry). IsSetSince x.mark) (without s.troves account) account (record { coll = coll + gain; debt = debt; stake = stake_for pooled (coll + gain); mark = After (length s.redistributions) }) tt (all-without (λ (x : TroveEntry). IsSetSince x.mark) s.troves account n);
       })
 
 pub gain_leaves : (s : State) → Finds s → (account : ℕ) → account < ACCOUNTS → is_none (entire_of s account) ≡ false → Leaves 0 s (set_trove (owned s account 0 0) account ((or_nothing (entire_of s account)).0 + gain_of s account) (or_nothing (entire_of s account)).1)

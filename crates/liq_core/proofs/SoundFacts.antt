@@ -34,6 +34,7 @@ use Rattle.liq_troves.proofs.Standing.{lift_stands, place_stands, spread_stands,
 use Rattle.liq_stability.specs.Own.{owned, offset, amount_after}
 use Rattle.liq_stability.specs.Position.{balance_of, deposit_row, words_of}
 use Rattle.liq_core.specs.Image.{image}
+use Rattle.liq_core.specs.SoundState.{AreSetSince}
 use Rattle.liq_core.specs.Identities.{IsConserved}
 use Rattle.liq_core.proofs.AlikeChanges.{formed-lifted, formed-placed, formed-redistributed, formed-owned, formed-offset}
 use Rattle.liq_core.proofs.Rows.{equal_keys}
@@ -386,6 +387,9 @@ pub record Rest (few : ℕ) (s t : State) : Type 0 where
   pub generation : t.generation ≡ s.generation
   pub records : t.records ≡ s.records
   pub clients : t.clients ≡ s.clients
+  -- it keeps a snapshot within the limit, and troves that were set since the start
+  pub snap : s.snap_coll ≤ LIM → t.snap_coll ≤ LIM
+  pub marks : AreSetSince s.troves → AreSetSince t.troves
 
 pub record Leaves (few : ℕ) (s t : State) : Type 0 where
   pub stands : Stands LIM t
@@ -462,6 +466,8 @@ leaves_itself s f =
         generation = refl;
         records = refl;
         clients = refl;
+        snap = λ k. k;
+        marks = λ k. k;
       };
     }
 
@@ -480,6 +486,8 @@ leaves_more few many s t k h =
         generation = r.generation;
         records = r.records;
         clients = r.clients;
+        snap = r.snap;
+        marks = r.marks;
       };
     }
 
@@ -499,5 +507,7 @@ leaves_then few more many r s t k g h =
         generation = b.generation ∙ a.generation;
         records = b.records ∙ a.records;
         clients = b.clients ∙ a.clients;
+        snap = λ n. b.snap (a.snap n);
+        marks = λ n. b.marks (a.marks n);
       };
     }

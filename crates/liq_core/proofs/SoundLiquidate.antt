@@ -15,7 +15,7 @@ use Rattle.liq_types.specs.Rules.{first_refusal, outcome}
 use Rattle.liq_types.specs.State.{State, TroveEntry}
 use Rattle.liq_types.specs.Tables.{Table, at}
 use Rattle.liq_types.specs.Totals.{is_below_percent, is_at_most_whole, is_ratio_below, is_normal, market_of, pool_total, pool_coll, stakes_of, trove_count, worth, asked}
-use Rattle.liq_types.proofs.MapRows.{at-map, map-length}
+use Rattle.liq_types.proofs.MapRows.{at-map, map-length, all-without}
 use Rattle.liq_types.proofs.Rounding.{offset_worth}
 use Rattle.liq_troves.specs.Own.{lifted_entry, redistributed, snapped}
 use Rattle.liq_troves.specs.Rows.{entire_by, sum_after}
@@ -31,6 +31,7 @@ use Rattle.liq_liquidation.specs.declared.one.One.{One}
 use Rattle.liq_liquidation.specs.declared.one.Victim.{Victim}
 use Rattle.liq_liquidation.specs.One.{Treatment, Plain, Redistributed, Capped, Kept, treatment, treated, gas_of, cap_of, plain, capped, is_capped, is_kept, without_stake, one_rules, one_in, one, offset_if_any, struck, rewarded, liquidated}
 use Rattle.liq_liquidation.specs.Lowest.{lowest, next_victim, victim_at, victim_by}
+use Rattle.liq_core.specs.SoundState.{IsSetSince}
 use Rattle.liq_core.specs.Liquidation.{listed, all_liquidated}
 use Rattle.liq_core.proofs.Moving.{paid_coll, paid_lusd}
 use Rattle.liq_core.proofs.SoundBorrow.{HasTrove}
@@ -256,6 +257,8 @@ module _ (s : State) (f : Finds s) (liquidator : ℕ) (k : liquidator < ACCOUNTS
         generation = refl;
         records = refl;
         clients = refl;
+        snap = λ n. omega (arith, c.coll, f.balanced.coll_limit, p.coll_is, x.has.coll_is, w.coll, w.pending_coll);
+        marks = λ n. all-without (λ (x : TroveEntry). IsSetSince x.mark) s.troves account n;
       }
   after_rest false e =
       let c = f.balanced.homes in
@@ -287,6 +290,8 @@ module _ (s : State) (f : Finds s) (liquidator : ℕ) (k : liquidator < ACCOUNTS
         generation = refl;
         records = refl;
         clients = refl;
+        snap = λ n. omega (arith, c.coll, f.balanced.coll_limit, p.coll_is, x.has.coll_is, w.coll, w.pending_coll);
+        marks = λ n. all-without (λ (x : TroveEntry). IsSetSince x.mark) s.troves account n;
       }
 
   pub victim_leaves : Leaves 3 s (liquidated s liquidator victim)
@@ -304,10 +309,10 @@ liquidate_leaves s f liquidator account k = by (one s account) refl where
 
 -- ---- several: planned along the states that are struck, and applied along those in which the liquidator was paid too
 
-abbrev with_pay : State → Table Wallet → ℕ → State
+abbrev pub with_pay : State → Table Wallet → ℕ → State
 with_pay s wallets reserve = record s { wallets = wallets; reserve = reserve }
 
-struck_paid : (s : State) (v : Victim) (wallets : Table Wallet) (reserve : ℕ) → struck (with_pay s wallets reserve) v ≡ with_pay (struck s v) wallets reserve
+pub struck_paid : (s : State) (v : Victim) (wallets : Table Wallet) (reserve : ℕ) → struck (with_pay s wallets reserve) v ≡ with_pay (struck s v) wallets reserve
 struck_paid s v wallets reserve = by (at s.troves v.account) (v.one.offset_debt == 0) where
   by : (o : Option TroveEntry) (b : Bool) → surplus_added (snapped (redistributed (cond b (lifted_entry (with_pay s wallets reserve) v.account o) (offset (lifted_entry (with_pay s wallets reserve) v.account o) v.one.offset_debt v.one.offset_coll)) v.one.spread_coll v.one.spread_debt)) v.account v.one.surplus
       ≡ with_pay (surplus_added (snapped (redistributed (cond b (lifted_entry s v.account o) (offset (lifted_entry s v.account o) v.one.offset_debt v.one.offset_coll)) v.one.spread_coll v.one.spread_debt)) v.account v.one.surplus) wallets reserve
@@ -316,10 +321,10 @@ struck_paid s v wallets reserve = by (at s.troves v.account) (v.one.offset_debt 
   by (Some t) true = refl
   by (Some t) false = refl
 
-abbrev lowest_by : ℕ → State → Option Victim → List Victim
+abbrev pub lowest_by : ℕ → State → Option Victim → List Victim
 lowest_by more s next = elim next [ None ↦ [] | Some v ↦ v ∷ lowest (struck s v) more ]
 
-lowest_paid : (n : ℕ) (s : State) (wallets : Table Wallet) (reserve : ℕ) → lowest (with_pay s wallets reserve) n ≡ lowest s n
+pub lowest_paid : (n : ℕ) (s : State) (wallets : Table Wallet) (reserve : ℕ) → lowest (with_pay s wallets reserve) n ≡ lowest s n
 lowest_paid zero s wallets reserve = refl
 lowest_paid (suc n) s wallets reserve = by (next_victim s) (λ v. lowest_paid n (struck s v) wallets reserve) where
   by : (next : Option Victim) → ((v : Victim) → lowest (with_pay (struck s v) wallets reserve) n ≡ lowest (struck s v) n) → lowest_by n (with_pay s wallets reserve) next ≡ lowest_by n s next

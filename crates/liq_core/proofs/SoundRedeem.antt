@@ -25,7 +25,7 @@ use Rattle.liq_types.specs.Totals.{is_below_percent, market_of, trove_count, wor
 use Rattle.liq_types.specs.WellFormed.{Ascends}
 use Rattle.liq_types.proofs.Ascending.{wallet-ascends}
 use Rattle.liq_types.proofs.Lookups.{at-without_same, at-without_other, at-put_other}
-use Rattle.liq_types.proofs.MapRows.{at-map}
+use Rattle.liq_types.proofs.MapRows.{at-map, all-put, all-without}
 use Rattle.liq_types.proofs.Places.{nat_cmp-eq}
 use Rattle.liq_troves.specs.Own.{lifted_entry, lifted, placed, set_trove, stake_for}
 use Rattle.liq_troves.specs.Rows.{entire_by}
@@ -37,6 +37,7 @@ use Rattle.liq_redemption.specs.declared.cut.Cut.{Cut}
 use Rattle.liq_redemption.specs.Redemption.{Visit, visit, is_visited, visited, net_debt, cut_of, draw_of, stops_before, troves_after, cuts, redeemed, drawn, RedeemTerms, redeeming_terms, redeem_rules, closed_by, cut_entire, cut_down, redeemed_by}
 use Rattle.liq_types.specs.Soundness.{coll_homes, lusd_homes}
 use Rattle.liq_core.specs.Image.{image}
+use Rattle.liq_core.specs.SoundState.{IsSetSince, AreSetSince}
 use Rattle.liq_core.proofs.Moving.{paid_coll, paid_lusd, charged_coll, charged_lusd}
 use Rattle.liq_core.proofs.SoundBorrow.{HasTrove, has_trove, set_stands, RateInRange, ranges_with}
 use Rattle.liq_core.proofs.SoundFacts.{Finds, Stands, Leaves, trove_table, all_false, lt_false, paid_stands, charged_stands, added_stands, lifted_stands, reserve_stands, fees_stand, length_without, length_put, key_below, surplus_sum}
@@ -126,6 +127,8 @@ pub record Cutting (s t : State) (coll lusd : ℕ) : Type 0 where
   pub generation : t.generation ≡ s.generation
   pub records : t.records ≡ s.records
   pub clients : t.clients ≡ s.clients
+  pub snap : t.snap_coll ≡ s.snap_coll
+  pub marks : AreSetSince s.troves → AreSetSince t.troves
 
 -- what is drawn for a lot is less than the trove has
 draw_less : (coll debt price lot : ℕ) → 1 ≤ price → RESERVE ≤ debt → lot ≤ debt - RESERVE → is_below_percent coll debt price MCR ≡ false → draw_of price lot < coll
@@ -205,6 +208,8 @@ module _ (s t : State) (coll lusd : ℕ) (c : Cutting s t coll lusd) (v : Visit)
         generation = c.generation;
         records = c.records;
         clients = c.clients;
+        snap = c.snap;
+        marks = λ n. all-without (λ (x : TroveEntry). IsSetSince x.mark) t.troves v.account (c.marks n);
       }) stands
 
   -- or it is left with less
@@ -235,6 +240,8 @@ module _ (s t : State) (coll lusd : ℕ) (c : Cutting s t coll lusd) (v : Visit)
         generation = c.generation;
         records = c.records;
         clients = c.clients;
+        snap = c.snap;
+        marks = λ n. all-put (λ (x : TroveEntry). IsSetSince x.mark) (without t.troves v.account) v.account (entry t) tt (all-without (λ (x : TroveEntry). IsSetSince x.mark) t.troves v.account (c.marks n));
       }) stands
 
   closed_after : cut.full ≡ true → After t (closed_by t cut (v.coll, v.debt)) cut
@@ -358,6 +365,8 @@ module _ (s : State) (f : Finds s) (account amount bound : ℕ) (h : first_refus
         generation = refl;
         records = refl;
         clients = refl;
+        snap = refl;
+        marks = λ n. n;
       }
 
   cut_done : Cutting s cut_state terms.drawn terms.redeemed
@@ -406,6 +415,8 @@ module _ (s : State) (f : Finds s) (account amount bound : ℕ) (h : first_refus
           generation = c.generation;
           records = c.records;
           clients = c.clients;
+          snap = λ n. omega (arith, c.snap, n);
+          marks = c.marks;
         };
       }
     where

@@ -201,7 +201,7 @@ pub finds : (s : State) → SoundFacts s → Finds s
 finds s h = record { stands = h.stands; balanced = h.balanced; ranges = h.ranges }
 
 -- the journal begins anew
-is_rotate : (call : Call) → rotates call ≡ true → call ≡ Rotate
+pub is_rotate : (call : Call) → rotates call ≡ true → call ≡ Rotate
 is_rotate Rotate h = refl
 is_rotate _ h = cc
 

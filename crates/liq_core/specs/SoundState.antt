@@ -1,8 +1,19 @@
 -- Sound states: what every state is that the rules reach, and what every step keeps.
-use Rattle.liq_types.specs.Soundness.{IsSoundImage}
-use Rattle.liq_types.specs.State.{State}
+use Rattle.std.specs.Prelude.{ℕ, ◌+◌, ◌-◌, ◌*◌, ◌≤◌}
+use Rattle.std.specs.List.{AllByRecursion}
+use Rattle.std.specs.Map.{values_of}
+use Rattle.liq_types.specs.declared.amounts.TheConstants.{OFFSET_MOST, P_OPENING, P_LEAST, SUM_MOST, RESERVE, MIN_NET}
+use Rattle.liq_types.specs.declared.figures.Wallet.{Wallet}
+use Rattle.liq_types.specs.Image.{Place}
+use Rattle.liq_types.specs.Product.{IsWithinRange, place_of, sumat}
+use Rattle.liq_types.specs.Soundness.{IsSoundImage, places_most}
+use Rattle.liq_types.specs.State.{State, Mark, AtStart, After, StakeSums, TroveEntry, DepositEntry}
+use Rattle.liq_types.specs.Tables.{Table}
+use Rattle.liq_types.specs.Totals.{pool_total, pool_coll, stakes_of}
 use Rattle.liq_types.specs.WellFormed.{IsWellFormed, TablesAscend}
 use Rattle.liq_troves.specs.Standing.{HadStakes}
+use Rattle.liq_troves.specs.StakeSums.{sums_now, sums_at, pending_coll, pending_debt, entire}
+use Rattle.liq_stability.specs.Position.{words_of, mark_of, sums_from}
 use Rattle.liq_core.specs.Image.{image}
 
 -- It is well formed, its tables are in order, its image meets the rules beside its records, and every redistribution went to
@@ -12,3 +23,69 @@ pub record IsSoundState (s : State) : Type 0 where
   pub ordered : TablesAscend s
   pub sound : IsSoundImage (image s) s.records
   pub spread : HadStakes s.redistributions
+
+-- ---- troves that were set since the start
+
+abbrev pub IsSetSince : Mark StakeSums → Type 0
+IsSetSince (AtStart fields) = ⊥
+IsSetSince (After items) = Unit {0}
+
+-- the owner of each trove has set it since the state began
+abbrev pub AreSetSince : Table TroveEntry → Type 0
+AreSetSince troves = AllByRecursion (λ (row : ℕ × TroveEntry). IsSetSince row.1.mark) troves
+
+-- ---- bounds
+
+-- no amount is more than so much, but for those of a snapshot
+pub record AmountsWithin (most : ℕ) (s : State) : Type 0 where
+  pub brought : s.brought ≤ most
+  pub active_coll : s.active_coll ≤ most
+  pub active_debt : s.active_debt ≤ most
+  pub default_coll : s.default_coll ≤ most
+  pub default_debt : s.default_debt ≤ most
+  pub reserve : s.reserve ≤ most
+  pub surplus : s.surplus ≤ most
+  pub fee_coll : s.fee_coll ≤ most
+  pub fee_lusd : s.fee_lusd ≤ most
+  pub pool_total : pool_total s ≤ most
+  pub pool_coll : pool_coll s ≤ most
+  pub stakes : stakes_of s ≤ most
+  pub wallets_coll : AllByRecursion (λ (w : Wallet). w.coll ≤ most) (values_of s.wallets)
+  pub wallets_lusd : AllByRecursion (λ (w : Wallet). w.lusd ≤ most) (values_of s.wallets)
+  pub troves_coll : AllByRecursion (λ (t : TroveEntry). t.coll ≤ most) (values_of s.troves)
+  pub troves_debt : AllByRecursion (λ (t : TroveEntry). t.debt ≤ most) (values_of s.troves)
+  pub troves_stake : AllByRecursion (λ (t : TroveEntry). t.stake ≤ most) (values_of s.troves)
+  pub surplus_rows : AllByRecursion (λ coll. coll ≤ most) (values_of s.surplus_rows)
+  pub deposits : AllByRecursion (λ (d : DepositEntry). d.amount ≤ most) (values_of s.deposits)
+
+-- the words of a snapshot
+pub record SnapshotWithin (most : ℕ) (s : State) : Type 0 where
+  pub stakes : s.snap_stakes ≤ most
+  pub coll : s.snap_coll ≤ most
+
+-- product, sums and place of the Stability Pool, and the sums per stake
+pub record WordsWithin (s : State) : Type 0 where
+  pub product : IsWithinRange (words_of s)
+  pub sum : sumat s.start s.offsets (place_of (words_of s)) ≤ OFFSET_MOST * (P_OPENING - (words_of s).p)
+  pub sums : (place : Place) → sumat s.start s.offsets place ≤ OFFSET_MOST * P_OPENING
+  pub scale : (words_of s).scale ≤ places_most s.generation s.records
+  pub epoch : (words_of s).epoch ≤ places_most s.generation s.records
+  pub sum_coll : (sums_now s).coll ≤ SUM_MOST
+  pub sum_debt : (sums_now s).debt ≤ SUM_MOST
+
+-- ---- what a trove and a deposit are beside the pools
+
+-- nothing is taken from an amount that is less
+pub record TroveIsCovered (s : State) (t : TroveEntry) : Type 0 where
+  pub mark_coll : (sums_at s t.mark).coll ≤ (sums_now s).coll
+  pub mark_debt : (sums_at s t.mark).debt ≤ (sums_now s).debt
+  pub coll : t.coll ≤ s.active_coll
+  pub debt : t.debt ≤ s.active_debt
+  pub pending_coll : pending_coll s t ≤ s.default_coll
+  pub pending_debt : pending_debt s t ≤ s.default_debt
+  pub entire_debt : RESERVE + MIN_NET ≤ (entire s t).1
+  pub reserve : RESERVE ≤ s.reserve
+
+pub record DepositIsCovered (s : State) (d : DepositEntry) : Type 0 where
+  pub sum : (mark_of s d.mark).sum ≤ sums_from s (mark_of s d.mark) 0
+  pub product : P_LEAST ≤ (mark_of s d.mark).p

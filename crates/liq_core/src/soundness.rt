@@ -1,15 +1,26 @@
 //! What holds of every sound state, and that every step keeps it sound. The functions here do nothing: each is the place
 //! where the facts of its contract are proved.
 
-ghost use Rattle.std.specs.Prelude.{◌≡◌, List, None};
-ghost use Rattle.liq_types.specs.declared.requests.Call.{Call};
+ghost use Rattle.std.specs.Prelude.{◌≡◌, ℕ, ◌-◌, ◌*◌, ◌^◌, ◌≤◌, ◌<◌, List, drop, Some, pos, ◌≤ℤ◌};
+ghost use Rattle.liq_types.specs.declared.amounts.TheConstants.{ACCOUNTS, LIM, ONE, P_OPENING, OFFSET_MOST};
 ghost use Rattle.liq_types.specs.declared.requests.Request.{Request};
-ghost use Rattle.liq_types.specs.Image.{Image};
+ghost use Rattle.liq_types.specs.Image.{Image, Place};
+ghost use Rattle.liq_types.specs.PlainLedger.{AreOwnedBelow};
+ghost use Rattle.liq_types.specs.Product.{sumat};
 ghost use Rattle.liq_types.specs.Soundness.{IsSoundImage};
-ghost use Rattle.liq_types.specs.State.{State, opening, started};
+ghost use Rattle.liq_types.specs.State.{State, opening, started, TroveEntry, DepositEntry, Redistribution, After};
+ghost use Rattle.liq_types.specs.Tables.{at};
+ghost use Rattle.liq_types.specs.WellFormed.{IsWellFormed};
+ghost use Rattle.liq_troves.specs.StakeSums.{sums_now, sums_at, pending_coll, pending_debt, exact_part, somethings, IsShortOf};
+ghost use Rattle.liq_stability.specs.Position.{words_of};
+ghost use Rattle.liq_stability.specs.Promise.{IsWithinAllowance};
+ghost use Rattle.liq_stability.specs.Lawful.{IsLawful};
+ghost use Rattle.liq_core.specs.Dust.{IsCovered, dust};
+ghost use Rattle.liq_core.specs.Events.{events};
 ghost use Rattle.liq_core.specs.Identities.{IsConserved};
-ghost use Rattle.liq_core.specs.SoundState.{IsSoundState};
-ghost use Rattle.liq_core.specs.Step.{step, run};
+ghost use Rattle.liq_core.specs.Image.{image};
+ghost use Rattle.liq_core.specs.SoundState.{IsSoundState, AmountsWithin, SnapshotWithin, WordsWithin, TroveIsCovered, DepositIsCovered};
+ghost use Rattle.liq_core.specs.Step.{step, run, accepted};
 
 /// The opening is sound, and so is a state that begins with a sound image, as a checkpoint has one.
 pub fn sound_images_begin_sound_states()
@@ -30,4 +41,62 @@ pub fn steps_keep_states_sound()
 pub fn sound_states_are_conserved()
     ensures state { (s : State) → IsSoundState s → IsConserved s }
     ensures run { (s : State) → IsSoundState s → (requests : List Request) → IsConserved (run s requests).0 }
+{}
+
+/// The events of the accepted commands of every run of a sound state, so of every run from the opening, are a lawful list: each
+/// says what the pool's rules give at its moment. They are owned by accounts in range.
+pub fn events_of_runs_are_lawful()
+    ensures run { (s : State) → IsSoundState s → (requests : List Request) → IsLawful s (events s (accepted s requests)) }
+    ensures opening { (requests : List Request) → IsLawful opening (events opening (accepted opening requests)) }
+    ensures owners { (s : State) → IsSoundState s → (requests : List Request) → AreOwnedBelow ACCOUNTS (events s (accepted s requests)) }
+{}
+
+/// Every depositor of every state that is reached from the opening has its exact share, as the plain ledger of the run's events
+/// gives it, but for the allowance; so it has in every well-formed state with the same image, as one that begins again.
+pub fn depositors_of_runs_get_their_shares()
+    ensures reached { (requests : List Request) → (account : ℕ) → IsWithinAllowance (run opening requests).0 account (events opening (accepted opening requests)) }
+    ensures same { (requests : List Request) → (s : State) → IsWellFormed s → image s ≡ image (run opening requests).0 → (account : ℕ) → IsWithinAllowance s account (events opening (accepted opening requests)) }
+{}
+
+/// Dust is never negative: in every sound state what is pending for all troves is in the default pool, and in every state that
+/// is reached from the opening what all depositors may take is in the Stability Pool too.
+pub fn dust_is_never_negative()
+    ensures default_coll { (s : State) → IsSoundState s → pos 0 ≤ℤ (dust s).default_coll }
+    ensures default_debt { (s : State) → IsSoundState s → pos 0 ≤ℤ (dust s).default_debt }
+    ensures reached { (requests : List Request) → IsCovered (dust (run opening requests).0) }
+{}
+
+/// Bounds of every sound state: the product and the sums of the Stability Pool, its scale and epoch by the counts of records,
+/// the sums per stake, and all amounts but those of a snapshot. A snapshot's are within the limit too where the state is reached
+/// from the opening: the rules of an image leave them open.
+pub fn sound_states_stay_within_bounds()
+    ensures words { (s : State) → IsSoundState s → WordsWithin s }
+    ensures amounts { (s : State) → IsSoundState s → AmountsWithin LIM s }
+    ensures snapshot { (requests : List Request) → SnapshotWithin LIM (run opening requests).0 }
+{}
+
+/// Where the rules take something away from an amount, the amount is no less: the sums of a trove's and of a deposit's mark are
+/// at most those of now, and each pool has what a trove takes out of it.
+pub fn nothing_is_cut_at_zero()
+    ensures troves { (s : State) → IsSoundState s → (account : ℕ) → (t : TroveEntry) → at s.troves account ≡ Some t → TroveIsCovered s t }
+    ensures deposits { (s : State) → IsSoundState s → (account : ℕ) → (d : DepositEntry) → at s.deposits account ≡ Some d → DepositIsCovered s d }
+{}
+
+/// The products that are divided stay far below 2^128: what is due to a trove before any rounding, and a deposit's amount times
+/// the product or any sum. (What is due is not bounded by the stake and the sums alone.)
+pub fn products_fit()
+    ensures due_coll { (s : State) → IsSoundState s → (account : ℕ) → (t : TroveEntry) → at s.troves account ≡ Some t → t.stake * ((sums_now s).coll - (sums_at s t.mark).coll) ≤ ONE * LIM }
+    ensures due_debt { (s : State) → IsSoundState s → (account : ℕ) → (t : TroveEntry) → at s.troves account ≡ Some t → t.stake * ((sums_now s).debt - (sums_at s t.mark).debt) ≤ ONE * LIM }
+    ensures balance { (s : State) → IsSoundState s → (account : ℕ) → (d : DepositEntry) → at s.deposits account ≡ Some d → d.amount * (words_of s).p ≤ P_OPENING * LIM }
+    ensures gain { (s : State) → IsSoundState s → (account : ℕ) → (d : DepositEntry) → at s.deposits account ≡ Some d → (place : Place) → d.amount * sumat s.start s.offsets place ≤ OFFSET_MOST * P_OPENING * LIM }
+    ensures below { OFFSET_MOST * P_OPENING * LIM < 2 ^ 128 }
+{}
+
+/// What is pending for a trove that was set since the state began is at most its exact part of the redistributions since, and
+/// short of it by less than 1 and the stake's 10^18th part for each of them that was of more than nothing. In a state that is
+/// reached from the opening every trove is such a one.
+pub fn pending_is_nearly_exact()
+    ensures coll { (s : State) → IsSoundState s → (t : TroveEntry) → (n : ℕ) → t.mark ≡ After n → IsShortOf (pending_coll s t) t.stake (somethings (λ (r : Redistribution). r.coll) (drop n s.redistributions)) (exact_part (λ (r : Redistribution). r.coll) t.stake (drop n s.redistributions)) }
+    ensures debt { (s : State) → IsSoundState s → (t : TroveEntry) → (n : ℕ) → t.mark ≡ After n → IsShortOf (pending_debt s t) t.stake (somethings (λ (r : Redistribution). r.debt) (drop n s.redistributions)) (exact_part (λ (r : Redistribution). r.debt) t.stake (drop n s.redistributions)) }
+    ensures reached { (requests : List Request) → (account : ℕ) → (t : TroveEntry) → at (run opening requests).0.troves account ≡ Some t → (n : ℕ) × (t.mark ≡ After n) }
 {}
