@@ -4,19 +4,22 @@ use Rattle.std.specs.Prelude.{fold, All}
 use Rattle.std.proofs.lemmas.List.{take_more}
 use Rattle.std.proofs.lemmas.List.Elements.{All-map}
 use Rattle.std.proofs.lemmas.List.Sums.{fold-append, sum_by-take-le}
+use Rattle.liq_num.specs.Quotient.{ceiling_of}
 use Rattle.liq_types.specs.declared.amounts.TheConstants.{LIM}
 use Rattle.liq_types.specs.declared.events.PoolEvent.{PoolEvent}
 use Rattle.liq_types.specs.declared.events.PoolEvent.TheVariants as event
-use Rattle.liq_types.specs.Allowance.{watched}
+use Rattle.liq_types.specs.Allowance.{weight_of, balance_allowance, gain_allowance}
 use Rattle.liq_types.specs.PlainLedger.{coll_of, offsets_coll}
-use Rattle.liq_types.specs.Product.{Words}
+use Rattle.liq_types.specs.Product.{ScaledProduct}
 use Rattle.liq_audit.specs.declared.enclosure.Enclosure.{Enclosure}
 use Rattle.liq_audit.specs.declared.rows.TheConstants.{OFFSETS_MOST}
 use Rattle.liq_audit.specs.declared.watcher.Watcher.{Watcher}
 use Rattle.liq_audit.specs.declared.rows.EngineRow.{EngineRow}
 use Rattle.liq_audit.specs.Auditable.{IsAuditable, IsAuditableEvent, AreAuditable, words_along, is_offset, offsets_in, row_of, EnclosesShare}
 use Rattle.liq_audit.specs.Enclosure.{enclosed, HasParts, HasTotals, IsSmall}
-use Rattle.liq_audit.specs.Watching.{watcher_of, weight_most, HasRise, IsShort}
+use Rattle.liq_audit.specs.Watching.{weight_most, IsShort}
+use Rattle.liq_audit.proofs.Watchers.{watcher_of, HasRise}
+use Rattle.liq_types.proofs.Watching.{watched, weight_is, own_events_are}
 use Rattle.liq_audit.proofs.Enclosing.{encloses}
 use Rattle.liq_audit.proofs.Fitting.{bounded_none, StandsAlong, along, small, watched_words, few_own_events, has_parts, has_rise, is_few}
 
@@ -78,8 +81,8 @@ module _ (events : List PoolEvent) (h : IsAuditable events) (account k : ℕ) (l
   pub short_at : (d : PoolEvent) → k < length events → offsets_in events ≤ OFFSETS_MOST → (v : Watcher) → v ≡ watcher_of (watched account (take k events)) → v.weight ≤ offsets_in (take k events) * 2 ^ 64 → IsShort v (get_or events k d)
   short_at d less limit v is light =
       let words = watched_words account (take k events) in
-      let scale : v.scale ≡ (words_along (take k events)).scale = ap (λ (u : Watcher). u.scale) is ∙ ap (λ (w : Words). w.scale) words in
-      let epoch : v.epoch ≡ (words_along (take k events)).epoch = ap (λ (u : Watcher). u.epoch) is ∙ ap (λ (w : Words). w.epoch) words in
+      let scale : v.scale ≡ (words_along (take k events)).scale = ap (λ (u : Watcher). u.scale) is ∙ ap (λ (w : ScaledProduct). w.scale) words in
+      let epoch : v.epoch ≡ (words_along (take k events)).epoch = ap (λ (u : Watcher). u.epoch) is ∙ ap (λ (w : ScaledProduct). w.epoch) words in
       let bounded = stands.bounded in
       let offsets = offsets_few events k in
       let own = own_at v is in
@@ -93,7 +96,40 @@ module _ (events : List PoolEvent) (h : IsAuditable events) (account k : ℕ) (l
         rise = is_few (take k events) (get_or events k d) bounded.range (next_at d less);
       }
 
+-- ---- the allowances
+
+-- as they are read from the watcher after all events
+pub balance_allowed : (account : ℕ) (events : List PoolEvent) (v : Watcher) → v ≡ watcher_of (watched account events) → ceiling_of v.weight 1 (10 ^ 9) + v.own_events ≡ balance_allowance account events
+balance_allowed account events v is =
+    ap (λ (u : Watcher). ceiling_of u.weight 1 (10 ^ 9) + u.own_events) is
+    ∙ ap (λ w. ceiling_of w 1 (10 ^ 9) + (watched account events).own_events) (weight_is account events)
+    ∙ ap (λ m. ceiling_of (weight_of account events) 1 (10 ^ 9) + m) (own_events_are account events)
+
+pub gain_allowed : (account : ℕ) (events : List PoolEvent) (v : Watcher) → v ≡ watcher_of (watched account events) → ceiling_of 12 v.weight (10 ^ 9) + 15 * v.own_events ≡ gain_allowance account events
+gain_allowed account events v is =
+    ap (λ (u : Watcher). ceiling_of 12 u.weight (10 ^ 9) + 15 * u.own_events) is
+    ∙ ap (λ w. ceiling_of 12 w (10 ^ 9) + 15 * (watched account events).own_events) (weight_is account events)
+    ∙ ap (λ m. ceiling_of 12 (weight_of account events) (10 ^ 9) + 15 * m) (own_events_are account events)
+
 -- ---- the rows
+
+-- from its parts
+pub row_made : (events : List PoolEvent) (engine : EngineRow) (e : Enclosure) (balance_allow gain_allow : ℕ) → e ≡ enclosed engine.account events → balance_allow ≡ balance_allowance engine.account events → gain_allow ≡ gain_allowance engine.account events → record {
+  account = engine.account;
+  balance_lo = e.balance_lo;
+  balance_hi = e.balance_hi;
+  balance = engine.balance;
+  balance_allow = balance_allow;
+  gain_lo = e.gain_lo;
+  gain_hi = e.gain_hi;
+  gain = engine.gain;
+  gain_allow = gain_allow;
+} ≡ row_of events engine
+row_made events engine e balance_allow gain_allow is b g =
+    let row = row_of events engine in
+    ap (λ (x : Enclosure). record row { balance_lo = x.balance_lo; balance_hi = x.balance_hi; gain_lo = x.gain_lo; gain_hi = x.gain_hi; balance_allow = balance_allow; gain_allow = gain_allow }) is
+    ∙ ap (λ n. record row { balance_allow = n; gain_allow = gain_allow }) b
+    ∙ ap (λ n. record row { gain_allow = n }) g
 
 have_totals : (before events : List PoolEvent) → AreAuditable before events → HasTotals events
 have_totals before [] h = tt

@@ -9,23 +9,24 @@ use Rattle.liq_num.specs.Quotient.{floor_of, ceiling_of}
 use Rattle.liq_types.specs.declared.amounts.TheConstants.{LIM, RISES_MOST}
 use Rattle.liq_types.specs.declared.events.PoolEvent.{PoolEvent}
 use Rattle.liq_types.specs.declared.events.PoolEvent.TheVariants as event
-use Rattle.liq_types.specs.Allowance.{Watch, no_watch, watch_after, watched}
 use Rattle.liq_types.specs.PlainLedger.{Share, no_share, share_after, exact_share, den_of, coll_of, offsets_coll}
-use Rattle.liq_types.specs.Product.{Words, opening_words, after_offset, rise_of, IsWithinRange, TakesPartUpTo}
-use Rattle.liq_types.specs.State.{Offset}
+use Rattle.liq_types.specs.Product.{ScaledProduct, opening_words, after_offset, rise_of, IsWithinRange, TakesPartUpTo}
+use Rattle.liq_types.specs.State.{PoolOffset}
+use Rattle.liq_types.proofs.Watching.{Watch, no_watch, watch_after, watched}
 use Rattle.liq_types.proofs.Accounts.{over-term, above_with, owned_with, under_with, share_den}
 use Rattle.liq_types.proofs.Ranges.{offset_within, rise_few}
 use Rattle.liq_types.proofs.Sums.{leaves_part, takes_all}
 use Rattle.liq_audit.specs.declared.enclosure.Enclosure.{Enclosure}
 use Rattle.liq_audit.specs.Auditable.{word_after, words_along, AddUpWithin, IsAuditableOffset, IsAuditableEvent, AreAuditable}
 use Rattle.liq_audit.specs.Enclosure.{nothing_enclosed, enclosure_after, enclosure_shared, enclosed, HasParts, IsSmall}
-use Rattle.liq_audit.specs.Watching.{HasRise, IsFew}
+use Rattle.liq_audit.specs.Watching.{IsFew}
+use Rattle.liq_audit.proofs.Watchers.{HasRise}
 use Rattle.liq_audit.proofs.Enclosing.{IsEnclosed, event_encloses}
 
 -- ---- along the events
 
 -- after so many events, with so much collateral brought
-pub record IsBounded (k colls : ℕ) (e : Enclosure) (share : Share) (now : Words) : Type 0 where
+pub record IsBounded (k colls : ℕ) (e : Enclosure) (share : Share) (now : ScaledProduct) : Type 0 where
   pub some : 0 < share.den
   pub balance : share.bal ≤ LIM * share.den
   pub encloses : IsEnclosed e share
@@ -42,7 +43,7 @@ hi_most hi den bal k pos limit near = le_of_mul-le-mul_right {m = hi} {n = LIM +
 lo_most : (lo den bal : ℕ) → 0 < den → bal ≤ LIM * den → lo * den ≤ bal → lo ≤ LIM
 lo_most lo den bal pos limit low = le_of_mul-le-mul_right {m = lo} {n = LIM} {k = den} (omega (arith, limit, low)) pos
 
-pub small : (k colls : ℕ) (e : Enclosure) (share : Share) (now : Words) → k < 2 ^ 40 → colls ≤ LIM → IsBounded k colls e share now → IsSmall e
+pub small : (k colls : ℕ) (e : Enclosure) (share : Share) (now : ScaledProduct) → k < 2 ^ 40 → colls ≤ LIM → IsBounded k colls e share now → IsSmall e
 small k colls e share now few limit h =
     let hi = hi_most e.balance_hi share.den share.bal k h.some h.balance h.near in
     let lo = lo_most e.balance_lo share.den share.bal h.some h.balance h.encloses.balance_lo in
@@ -81,7 +82,7 @@ gained_most gain colls balance coll q low most h =
     let first : balance * coll ≤ 2 ^ 60 * coll = mul-le-mul_right coll low in
     omega arith
 
-words_after : (k : ℕ) (now : Words) (o : Offset) → IsWithinRange now → TakesPartUpTo LIM o → now.scale ≤ RISES_MOST * k → now.epoch ≤ k → ((after_offset now o).scale ≤ RISES_MOST * (k + 1)) × ((after_offset now o).epoch ≤ k + 1)
+words_after : (k : ℕ) (now : ScaledProduct) (o : PoolOffset) → IsWithinRange now → TakesPartUpTo LIM o → now.scale ≤ RISES_MOST * k → now.epoch ≤ k → ((after_offset now o).scale ≤ RISES_MOST * (k + 1)) × ((after_offset now o).epoch ≤ k + 1)
 words_after k now o range takes scale epoch = by (o.debt == o.total) refl where
   by : (b : Bool) → (o.debt == o.total) ≡ b → ((after_offset now o).scale ≤ RISES_MOST * (k + 1)) × ((after_offset now o).epoch ≤ k + 1)
   by true e = let all = takes_all now o e in (omega (arith, all.scale), omega (arith, all.epoch, epoch))
@@ -93,7 +94,7 @@ words_after k now o range takes scale epoch = by (o.debt == o.total) refl where
 taken : (before : List PoolEvent) (debt coll total rise : ℕ) → IsAuditableOffset before debt coll total rise → TakesPartUpTo LIM (record { debt = debt; coll = coll; total = total })
 taken before debt coll total rise h = record { some = h.some; within = h.within; limit = h.limit }
 
-module _ (account k colls : ℕ) (e : Enclosure) (share : Share) (now : Words) (few : k < 2 ^ 40) (limit : colls ≤ LIM) (h : IsBounded k colls e share now) where
+module _ (account k colls : ℕ) (e : Enclosure) (share : Share) (now : ScaledProduct) (few : k < 2 ^ 40) (limit : colls ≤ LIM) (h : IsBounded k colls e share now) where
   after_own : (owner put_in out gain amount : ℕ) → (share_after account share (event.Own owner put_in out gain amount)).bal ≤ LIM * (share_after account share (event.Own owner put_in out gain amount)).den → IsBounded (k + 1) (colls + 0) (enclosure_after account e (event.Own owner put_in out gain amount)) (share_after account share (event.Own owner put_in out gain amount)) now
   after_own owner put_in out gain amount most = record {
     some = positive (owner == account);
@@ -192,7 +193,7 @@ module _ (account : ℕ) (before : List PoolEvent) (ev : PoolEvent) where
       (subst (λ c. IsBounded (length before + 1) c (enclosed account (before ++ ev ∷ [])) (exact_share account (before ++ ev ∷ [])) (words_along (before ++ ev ∷ []))) (sym (fold-append (λ c e. c + coll_of e) 0 before (ev ∷ [])))
       (subst (λ (e : Enclosure). IsBounded (length before + 1) (offsets_coll before + coll_of ev) e (exact_share account (before ++ ev ∷ [])) (words_along (before ++ ev ∷ []))) (sym (fold-append (enclosure_after account) nothing_enclosed before (ev ∷ [])))
       (subst (λ (s : Share). IsBounded (length before + 1) (offsets_coll before + coll_of ev) (enclosure_after account (enclosed account before) ev) s (words_along (before ++ ev ∷ []))) (sym share-snoc)
-      (subst (λ (w : Words). IsBounded (length before + 1) (offsets_coll before + coll_of ev) (enclosure_after account (enclosed account before) ev) (share_after account (exact_share account before) ev) w) (sym (fold-append word_after opening_words before (ev ∷ []))) made))))
+      (subst (λ (w : ScaledProduct). IsBounded (length before + 1) (offsets_coll before + coll_of ev) (enclosure_after account (enclosed account before) ev) (share_after account (exact_share account before) ev) w) (sym (fold-append word_after opening_words before (ev ∷ []))) made))))
 
 coll_more : (before : List PoolEvent) (ev : PoolEvent) (es : List PoolEvent) (most : ℕ) → offsets_coll (before ++ ev ∷ es) ≤ most → offsets_coll before ≤ most
 coll_more before ev es most h =
@@ -236,15 +237,15 @@ along account before (ev ∷ es) (suc j) low few limit h b =
 
 -- ---- the words of an account's watch
 
-watch_words : (account : ℕ) (w : Watch) (now : Words) → w.now ≡ now → (events : List PoolEvent) → (fold (watch_after account) w events).now ≡ fold word_after now events
+watch_words : (account : ℕ) (w : Watch) (now : ScaledProduct) → w.now ≡ now → (events : List PoolEvent) → (fold (watch_after account) w events).now ≡ fold word_after now events
 watch_words account w now h [] = h
 watch_words account w now h (event.Own owner put_in out gain amount ∷ es) =
     watch_words account (watch_after account w (event.Own owner put_in out gain amount)) now (either (owner == account) ∙ h) es where
-      either : (b : Bool) → (cond b (record w { amount = amount; epoch = w.now.epoch; scale = w.now.scale; own_events = w.own_events + 1 }) w).now ≡ w.now
+      either : (b : Bool) → (cond b (record w { amount = amount; place = (w.now.epoch, w.now.scale); own_events = w.own_events + 1 }) w).now ≡ w.now
       either true = refl
       either false = refl
 watch_words account w now h (event.Offset debt coll total rise ∷ es) =
-    watch_words account (watch_after account w (event.Offset debt coll total rise)) (word_after now (event.Offset debt coll total rise)) (ap (λ (v : Words). after_offset v (record { debt = debt; coll = coll; total = total })) h) es
+    watch_words account (watch_after account w (event.Offset debt coll total rise)) (word_after now (event.Offset debt coll total rise)) (ap (λ (v : ScaledProduct). after_offset v (record { debt = debt; coll = coll; total = total })) h) es
 
 pub watched_words : (account : ℕ) (events : List PoolEvent) → (watched account events).now ≡ words_along events
 watched_words account events = watch_words account no_watch opening_words refl events
@@ -255,7 +256,7 @@ few_own account w (event.Own owner put_in out gain amount ∷ es) =
     let more = few_own account (watch_after account w (event.Own owner put_in out gain amount)) es in
     let one = either (owner == account) in
     omega (arith, more, one) where
-      either : (b : Bool) → (cond b (record w { amount = amount; epoch = w.now.epoch; scale = w.now.scale; own_events = w.own_events + 1 }) w).own_events ≤ w.own_events + 1
+      either : (b : Bool) → (cond b (record w { amount = amount; place = (w.now.epoch, w.now.scale); own_events = w.own_events + 1 }) w).own_events ≤ w.own_events + 1
       either true = omega arith
       either false = omega arith
 few_own account w (event.Offset debt coll total rise ∷ es) =
@@ -274,7 +275,7 @@ has_parts before (event.Offset debt coll total rise) h = (omega (arith, h.some, 
 pub has_rise : (account : ℕ) (before : List PoolEvent) (ev : PoolEvent) → IsAuditableEvent before ev → HasRise (watched account before) ev
 has_rise account before (event.Own owner put_in out gain amount) h = tt
 has_rise account before (event.Offset debt coll total rise) h =
-    subst (λ (v : Words). rise ≡ rise_of v.p (record { debt = debt; coll = coll; total = total })) (sym (watched_words account before)) h.rise_is
+    subst (λ (v : ScaledProduct). rise ≡ rise_of v.p (record { debt = debt; coll = coll; total = total })) (sym (watched_words account before)) h.rise_is
 
 pub is_few : (before : List PoolEvent) (ev : PoolEvent) → IsWithinRange (words_along before) → IsAuditableEvent before ev → IsFew ev
 is_few before (event.Own owner put_in out gain amount) range h = tt

@@ -6,7 +6,7 @@ use Rattle.liq_types.specs.declared.events.PoolEvent.{PoolEvent}
 use Rattle.liq_types.specs.declared.events.PoolEvent.TheVariants as event
 use Rattle.liq_types.specs.Allowance.{balance_allowance, gain_allowance}
 use Rattle.liq_types.specs.PlainLedger.{exact_share, den_of, offsets_coll, AreOwnedBelow, over_accounts}
-use Rattle.liq_types.specs.Product.{Words, opening_words, after_offset, rise_of}
+use Rattle.liq_types.specs.Product.{ScaledProduct, opening_words, after_offset, rise_of}
 use Rattle.liq_types.specs.Tables.{Table, put}
 use Rattle.liq_audit.specs.declared.rows.TheConstants.{OFFSETS_MOST, ACCOUNTS_MOST}
 use Rattle.liq_audit.specs.declared.rows.EngineRow.{EngineRow}
@@ -16,11 +16,11 @@ use Rattle.liq_audit.specs.Enclosure.{enclosed}
 -- ---- the events
 
 -- the words that the offsets of events leave
-abbrev pub word_after : Words → PoolEvent → Words
+abbrev pub word_after : ScaledProduct → PoolEvent → ScaledProduct
 word_after w (event.Own owner put paid gain amount) = w
 word_after w (event.Offset debt coll total rise) = after_offset w (record { debt = debt; coll = coll; total = total })
 
-abbrev pub words_along : List PoolEvent → Words
+abbrev pub words_along : List PoolEvent → ScaledProduct
 words_along events = fold word_after opening_words events
 
 -- after these events the plain balances of all accounts add up to so much

@@ -1,7 +1,6 @@
 ghost use Rattle.std.specs.Prelude.{◌≡◌, ◌+◌, ◌*◌, ◌^◌, ◌<◌, ◌≤◌, if◌then◌else◌};
 ghost use Rattle.liq_num.specs.Quotient.{ceiling_of};
-ghost use Rattle.liq_types.specs.Allowance.{Watch, no_watch, watch_after};
-ghost use Rattle.liq_audit.specs.Watching.{watcher_of, cost_of, IsShort, HasRise, weight_most};
+ghost use Rattle.liq_audit.specs.Watching.{nothing_watched, watcher_after, cost_now, IsShort, weight_most};
 
 use crate::rows::OFFSETS_MOST;
 use liq_num::mul_div_up;
@@ -28,7 +27,7 @@ pub struct Watcher {
 impl Watcher {
     /// That of an account before the first event.
     pub fn new() -> Watcher
-        ensures { result ≡ watcher_of no_watch }
+        ensures { result ≡ nothing_watched }
     {
         Watcher {
             scale: 0,
@@ -43,8 +42,8 @@ impl Watcher {
 
     /// That of `account` after one more event.
     pub fn after(self, account: u32, event: &PoolEvent) -> Watcher
-        requires short { IsShort self event.now }
-        ensures after { (w : Watch) → self ≡ watcher_of w → HasRise w event.now → result ≡ watcher_of (watch_after account w event.now) }
+        requires { IsShort self event.now }
+        ensures after { result ≡ watcher_after account self event.now }
         ensures weight { result.weight ≤ self.weight + weight_most event.now }
     {
         match *event {
@@ -90,7 +89,7 @@ impl Watcher {
         ensures { result ≡ record self {
           epoch = if ends then self.epoch + 1 else self.epoch;
           scale = if ends then 0 else self.scale + rise;
-          weight = self.weight + cost_of self;
+          weight = self.weight + cost_now self;
         } }
     {
         let weight = self.weight + u128::from(self.cost());
@@ -112,7 +111,7 @@ impl Watcher {
 
     /// What an offset may cost the account now.
     fn cost(self) -> u64
-        ensures { result ≡ cost_of self }
+        ensures { result ≡ cost_now self }
     {
         if self.amount == 0 || self.epoch != self.own_epoch {
             return 0;

@@ -10,11 +10,11 @@ use Rattle.liq_types.specs.declared.amounts.TheConstants.{ONE}
 use Rattle.liq_types.specs.declared.figures.Trove.{Trove}
 use Rattle.liq_types.specs.declared.figures.Deposit.{Deposit}
 use Rattle.liq_types.specs.Image.{Image, Place}
-use Rattle.liq_types.specs.Product.{Words, after_offset, prod, sumat, start_sum, sum_rise, place_of, mark_after}
-use Rattle.liq_types.specs.State.{State, StakeSums, PoolMark, Mark, AtStart, After, TroveEntry, DepositEntry, Offset, Redistribution}
+use Rattle.liq_types.specs.Product.{ScaledProduct, after_offset, prod, sumat, start_sum, sum_growth, place_of, mark_after}
+use Rattle.liq_types.specs.State.{State, StakeSums, PoolMark, Mark, AtStart, After, TroveEntry, DepositEntry, PoolOffset, Redistribution}
 use Rattle.liq_types.specs.Tables.{Table, at, put, without, map_rows}
 use Rattle.liq_types.specs.Totals.{stakes_of, pool_total, pool_coll}
-use Rattle.liq_troves.specs.StakeSums.{sums_at, trove_row, pending, coll_rise, debt_rise}
+use Rattle.liq_troves.specs.StakeSums.{sums_at, trove_row, pending, coll_growth, debt_growth}
 use Rattle.liq_troves.specs.Own.{lifted_entry, lifted, placed, stake_for, redistributed}
 use Rattle.liq_stability.specs.Position.{words_of, mark_of, deposit_row, balance_by, gain_by, balance_in, gain_in, balance_of, gain_of, sums_from}
 use Rattle.liq_stability.specs.Own.{owned, offset, with_deposit, amount_after}
@@ -90,7 +90,7 @@ redistribute i coll debt =
 sums-grown : (s : State) (coll debt : ℕ) (mark : Mark StakeSums) → IsMoment (length s.redistributions) mark → sums_at (redistributed s coll debt) mark ≡ sums_at s mark
 sums-grown s coll debt (AtStart fields) h = refl
 sums-grown s coll debt (After n) h =
-    ap (λ (rs : List Redistribution). record { coll = s.start.sum_coll + sum_by coll_rise rs; debt = s.start.sum_debt + sum_by debt_rise rs })
+    ap (λ (rs : List Redistribution). record { coll = s.start.sum_coll + sum_by coll_growth rs; debt = s.start.sum_debt + sum_by debt_growth rs })
     (take-append-le n s.redistributions (record { coll = coll; debt = debt; stakes = stakes_of s } ∷ []) h)
 
 pub row-grown : (s : State) (coll debt : ℕ) (t : TroveEntry) → IsMoment (length s.redistributions) t.mark → trove_row (redistributed s coll debt) t ≡ trove_row s t
@@ -113,12 +113,12 @@ redistribute-image s coll debt h =
     let more : Redistribution = record { coll = coll; debt = debt; stakes = stakes_of s } in
     let left = image (redistributed s coll debt) in
     ap (λ (rows : Table Trove). record left { troves = rows }) (map-cong (trove_row (redistributed s coll debt)) (trove_row s) (λ t. IsMoment (length s.redistributions) t.mark) (row-grown s coll debt) s.troves h.1)
-    ∙ ap (λ n. record (image s) { default_coll = s.default_coll + coll; default_debt = s.default_debt + debt; sum_coll = n; sum_debt = left.sum_debt }) (sum-grown coll_rise s.start.sum_coll s.redistributions more)
-    ∙ ap (λ n. record (image s) { default_coll = s.default_coll + coll; default_debt = s.default_debt + debt; sum_coll = (image s).sum_coll + coll_rise more; sum_debt = n }) (sum-grown debt_rise s.start.sum_debt s.redistributions more)
+    ∙ ap (λ n. record (image s) { default_coll = s.default_coll + coll; default_debt = s.default_debt + debt; sum_coll = n; sum_debt = left.sum_debt }) (sum-grown coll_growth s.start.sum_coll s.redistributions more)
+    ∙ ap (λ n. record (image s) { default_coll = s.default_coll + coll; default_debt = s.default_debt + debt; sum_coll = (image s).sum_coll + coll_growth more; sum_debt = n }) (sum-grown debt_growth s.start.sum_debt s.redistributions more)
 
 -- ---- the Stability Pool, by the image
 
-pub words_by : Image → Words
+pub words_by : Image → ScaledProduct
 words_by i = record { p = i.p; scale = i.scale; epoch = i.epoch }
 
 pub mark_by : Deposit → PoolMark
@@ -190,9 +190,9 @@ own-image s h account put_in out =
     ap (λ (rows : Table Deposit). record made { deposits = rows }) (deposit-map (deposit_row s) s.deposits account entry refl)
     ∙ ap (λ (m : PoolMark). record made { deposits = with_deposit_row (image s).deposits account (record { amount = left; p = m.p; sum = m.sum; scale = m.scale; epoch = m.epoch }) }) (mark-full s)
     ∙ ap (λ n. record (own (image s) account put_in out gain left) { total = n; pool_coll = made.pool_coll })
-    (own_total s.start.total s.provided s.withdrawn (sum_by (λ (o : Offset). o.debt) s.offsets) put_in out h.3.0)
+    (own_total s.start.total s.provided s.withdrawn (sum_by (λ (o : PoolOffset). o.debt) s.offsets) put_in out h.3.0)
     ∙ ap (λ n. record (own (image s) account put_in out gain left) { pool_coll = n })
-    (own_coll (s.start.pool_coll + sum_by (λ (o : Offset). o.coll) s.offsets) s.gains_paid gain)
+    (own_coll (s.start.pool_coll + sum_by (λ (o : PoolOffset). o.coll) s.offsets) s.gains_paid gain)
 
 -- the pool after an own operation
 pub owned_total : (s : State) → IsWellFormed s → (account put_in out : ℕ) → pool_total (owned s account put_in out) ≡ pool_total s + put_in - out
@@ -206,7 +206,7 @@ owned_coll s w account put_in out = ap (λ (i : Image). i.pool_coll) (own-image 
 -- an offset
 pub offset_by : Image → ℕ → ℕ → Image
 offset_by i debt coll =
-    let o : Offset = record { debt = debt; coll = coll; total = i.total } in
+    let o : PoolOffset = record { debt = debt; coll = coll; total = i.total } in
     let w = words_by i in
     let next = after_offset w o in
     record i {
@@ -214,7 +214,7 @@ offset_by i debt coll =
       scale = next.scale;
       epoch = next.epoch;
       sum = sum_after w o i.sum;
-      finished = finished_after i.finished w o (i.sum + sum_rise w o);
+      finished = finished_after i.finished w o (i.sum + sum_growth w o);
       total = i.total - debt;
       pool_coll = i.pool_coll + coll;
     }
@@ -240,15 +240,15 @@ offset_coll had gains colls more coll e h = omega (arith, e)
 pub offset-image : (s : State) → IsWellFormed s → (debt coll : ℕ) → image (offset s debt coll) ≡ offset_by (image s) debt coll
 unfolding offset_by words_by
 offset-image s h debt coll =
-    let o : Offset = record { debt = debt; coll = coll; total = pool_total s } in
+    let o : PoolOffset = record { debt = debt; coll = coll; total = pool_total s } in
     let w = words_of s in
     let made = image (offset s debt coll) in
     let target = offset_by (image s) debt coll in
     ap (λ (rows : Table Deposit). record made { deposits = rows }) (map-cong (deposit_row (offset s debt coll)) (deposit_row s) (λ d. IsMoment (length s.offsets) d.mark) (deposit-grown s debt coll) s.deposits h.2)
-    ∙ ap (λ (v : Words). record made { deposits = target.deposits; p = v.p; scale = v.scale; epoch = v.epoch; sum = sumat s.start (s.offsets ++ o ∷ []) (place_of v) }) (fold-snoc after_offset (prod s.start []) s.offsets o)
+    ∙ ap (λ (v : ScaledProduct). record made { deposits = target.deposits; p = v.p; scale = v.scale; epoch = v.epoch; sum = sumat s.start (s.offsets ++ o ∷ []) (place_of v) }) (fold-snoc after_offset (prod s.start []) s.offsets o)
     ∙ ap (λ n. record target { sum = n; finished = made.finished; total = made.total; pool_coll = made.pool_coll }) (sum-snoc s.start s.offsets o h.0)
     ∙ ap (λ (f : List (Place × ℕ)). record target { finished = f; total = made.total; pool_coll = made.pool_coll }) (finished-snoc s.start s.offsets o)
     ∙ ap (λ n. record target { total = n; pool_coll = made.pool_coll })
-    (offset_total s.start.total s.provided s.withdrawn (sum_by (λ (x : Offset). x.debt) s.offsets) (sum_by (λ (x : Offset). x.debt) (s.offsets ++ o ∷ [])) debt (sum_by-append (λ (x : Offset). x.debt) s.offsets (o ∷ []) ∙ omega arith))
+    (offset_total s.start.total s.provided s.withdrawn (sum_by (λ (x : PoolOffset). x.debt) s.offsets) (sum_by (λ (x : PoolOffset). x.debt) (s.offsets ++ o ∷ [])) debt (sum_by-append (λ (x : PoolOffset). x.debt) s.offsets (o ∷ []) ∙ omega arith))
     ∙ ap (λ n. record target { pool_coll = n })
-    (offset_coll s.start.pool_coll s.gains_paid (sum_by (λ (x : Offset). x.coll) s.offsets) (sum_by (λ (x : Offset). x.coll) (s.offsets ++ o ∷ [])) coll (sum_by-append (λ (x : Offset). x.coll) s.offsets (o ∷ []) ∙ omega arith) h.3.1)
+    (offset_coll s.start.pool_coll s.gains_paid (sum_by (λ (x : PoolOffset). x.coll) s.offsets) (sum_by (λ (x : PoolOffset). x.coll) (s.offsets ++ o ∷ [])) coll (sum_by-append (λ (x : PoolOffset). x.coll) s.offsets (o ∷ []) ∙ omega arith) h.3.1)

@@ -3,8 +3,8 @@ use Rattle.std.proofs.Common.{◌≡◌, ℕ, ◌+◌, ◌-◌, ◌≤◌, Bool,
 use Rattle.std.specs.Prelude.{unwrap_or, sum_by, ◌==◌}
 use Rattle.std.proofs.lemmas.List.Sums.{sum_by-append}
 use Rattle.liq_types.specs.Image.{Image}
-use Rattle.liq_types.specs.Payments.{paid, charged, surplus_added, surplus_taken}
-use Rattle.liq_types.specs.State.{State, Mark, AtStart, After, TroveEntry, DepositEntry, Offset, Redistribution, no_wallet, with_wallet, with_surplus}
+use Rattle.liq_types.specs.Payments.{credited, charged, surplus_added, surplus_taken}
+use Rattle.liq_types.specs.State.{State, Mark, AtStart, After, TroveEntry, DepositEntry, PoolOffset, Redistribution, no_wallet, with_wallet, with_surplus}
 use Rattle.liq_types.specs.Tables.{Table, at, put, without}
 use Rattle.liq_types.specs.Totals.{stakes_of, pool_total, pool_coll}
 use Rattle.liq_troves.specs.Own.{lifted_entry, lifted, placed, redistributed, snapped, set_trove}
@@ -73,8 +73,8 @@ formed-owned s account put_in out within h =
       h.1,
       with_deposit-marked (length s.offsets) s.deposits account _ (omega arith) h.2,
       (
-        still_covered s.withdrawn (sum_by (λ (o : Offset). o.debt) s.offsets) s.start.total s.provided put_in out h.3.0 (omega (arith, within, some)),
-        gains_covered s.gains_paid (s.start.pool_coll + sum_by (λ (o : Offset). o.coll) s.offsets) (gain_of s account) h.3.1 (gain_within s (at s.deposits account)),
+        still_covered s.withdrawn (sum_by (λ (o : PoolOffset). o.debt) s.offsets) s.start.total s.provided put_in out h.3.0 (omega (arith, within, some)),
+        gains_covered s.gains_paid (s.start.pool_coll + sum_by (λ (o : PoolOffset). o.coll) s.offsets) (gain_of s account) h.3.1 (gain_within s (at s.deposits account)),
       ),
     )
 
@@ -83,15 +83,15 @@ taken_covered withdrawn debts more total provided debt e h k = omega (arith, e)
 
 pub formed-offset : (s : State) (debt coll : ℕ) → debt ≤ pool_total s → IsWellFormed s → IsWellFormed (offset s debt coll)
 formed-offset s debt coll within h =
-    let o : Offset = record { debt = debt; coll = coll; total = pool_total s } in
-    let debts = sum_by-append (λ (x : Offset). x.debt) s.offsets (o ∷ []) in
-    let colls = sum_by-append (λ (x : Offset). x.coll) s.offsets (o ∷ []) in (
+    let o : PoolOffset = record { debt = debt; coll = coll; total = pool_total s } in
+    let debts = sum_by-append (λ (x : PoolOffset). x.debt) s.offsets (o ∷ []) in
+    let colls = sum_by-append (λ (x : PoolOffset). x.coll) s.offsets (o ∷ []) in (
       h.0,
       h.1,
       deposits-more (length s.offsets) (length (s.offsets ++ o ∷ [])) (length-more s.offsets o) s.deposits h.2,
       (
-        taken_covered s.withdrawn (sum_by (λ (x : Offset). x.debt) s.offsets) (sum_by (λ (x : Offset). x.debt) (s.offsets ++ o ∷ [])) s.start.total s.provided debt (debts ∙ omega arith) h.3.0 within,
-        more_gains s.gains_paid s.start.pool_coll (sum_by (λ (x : Offset). x.coll) s.offsets) (sum_by (λ (x : Offset). x.coll) (s.offsets ++ o ∷ [])) coll (colls ∙ omega arith) h.3.1,
+        taken_covered s.withdrawn (sum_by (λ (x : PoolOffset). x.debt) s.offsets) (sum_by (λ (x : PoolOffset). x.debt) (s.offsets ++ o ∷ [])) s.start.total s.provided debt (debts ∙ omega arith) h.3.0 within,
+        more_gains s.gains_paid s.start.pool_coll (sum_by (λ (x : PoolOffset). x.coll) s.offsets) (sum_by (λ (x : PoolOffset). x.coll) (s.offsets ++ o ∷ [])) coll (colls ∙ omega arith) h.3.1,
       ),
     ) where
       more_gains : (gains had colls more c : ℕ) → more ≡ colls + c → gains ≤ had + colls → gains ≤ had + more
@@ -119,9 +119,9 @@ charge account amounts i =
     let had = unwrap_or (at i.wallets account) no_wallet in
     record i { wallets = with_wallet i.wallets account (record { coll = had.coll - amounts.0; lusd = had.lusd - amounts.1 }) }
 
-pub paid_alike : {s t : State} → Alike s t → (account : ℕ) (c d m n : ℕ) → c ≡ d → m ≡ n → Alike (paid s account c m) (paid t account d n)
+pub paid_alike : {s t : State} → Alike s t → (account : ℕ) (c d m n : ℕ) → c ≡ d → m ≡ n → Alike (credited s account c m) (credited t account d n)
 paid_alike {s} {t} h account c d m n e f =
-    alike_by_two (pay account) (c, m) (d, n) s t (paid s account c m) (paid t account d n) (ap (λ x. (x, m)) e ∙ ap (λ x. (d, x)) f) h refl refl refl refl h.left h.right
+    alike_by_two (pay account) (c, m) (d, n) s t (credited s account c m) (credited t account d n) (ap (λ x. (x, m)) e ∙ ap (λ x. (d, x)) f) h refl refl refl refl h.left h.right
 
 pub charged_alike : {s t : State} → Alike s t → (account : ℕ) (c d m n : ℕ) → c ≡ d → m ≡ n → Alike (charged s account c m) (charged t account d n)
 charged_alike {s} {t} h account c d m n e f =

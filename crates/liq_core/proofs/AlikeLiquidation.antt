@@ -10,7 +10,7 @@ use Rattle.liq_types.specs.Image.{Image}
 use Rattle.liq_types.specs.declared.replies.Refusal.{Refusal}
 use Rattle.liq_types.specs.declared.replies.Refusal.TheVariants.{NotLiquidatable, PoolTooSmall}
 use Rattle.liq_types.specs.Rules.{Rule, first_refusal, outcome, last_trove_stays}
-use Rattle.liq_types.specs.State.{State, TroveEntry, Offset}
+use Rattle.liq_types.specs.State.{State, TroveEntry, PoolOffset}
 use Rattle.liq_types.specs.Tables.{at}
 use Rattle.liq_types.specs.Totals.{market_of, pool_total}
 use Rattle.liq_troves.specs.Own.{lifted_entry, lifted}
@@ -80,9 +80,9 @@ lifted-total s account = lifted_entry-total s account (at s.troves account)
 
 offset-total : (s : State) (debt coll : ℕ) → pool_total (offset s debt coll) ≡ pool_total s - debt
 offset-total s debt coll =
-    let o : Offset = record { debt = debt; coll = coll; total = pool_total s } in
-    let debts = sum_by-append (λ (x : Offset). x.debt) s.offsets (o ∷ []) in
-    minus (s.start.total + s.provided - s.withdrawn) (sum_by (λ (x : Offset). x.debt) s.offsets) debt (sum_by (λ (x : Offset). x.debt) (s.offsets ++ o ∷ [])) (debts ∙ omega arith) where
+    let o : PoolOffset = record { debt = debt; coll = coll; total = pool_total s } in
+    let debts = sum_by-append (λ (x : PoolOffset). x.debt) s.offsets (o ∷ []) in
+    minus (s.start.total + s.provided - s.withdrawn) (sum_by (λ (x : PoolOffset). x.debt) s.offsets) debt (sum_by (λ (x : PoolOffset). x.debt) (s.offsets ++ o ∷ [])) (debts ∙ omega arith) where
       minus : (all before d after : ℕ) → after ≡ before + d → all - after ≡ all - before - d
       minus all before d after e = omega (arith, e)
 

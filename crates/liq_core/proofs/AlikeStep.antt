@@ -7,7 +7,7 @@ use Rattle.liq_types.specs.declared.replies.Refusal.{Refusal}
 use Rattle.liq_types.specs.declared.requests.Call.{Call}
 use Rattle.liq_types.specs.declared.requests.Call.TheVariants.{Price, Advance, Fund, Take, Send, Open, Adjust, Close, Provide, Withdraw, GainToTrove, Liquidate, LiquidateLowest, Redeem, Claim, Rotate}
 use Rattle.liq_types.specs.Image.{Image}
-use Rattle.liq_types.specs.Payments.{paid}
+use Rattle.liq_types.specs.Payments.{credited}
 use Rattle.liq_types.specs.State.{State, with_wallet, no_wallet}
 use Rattle.liq_types.specs.Tables.{at}
 use Rattle.liq_types.specs.Totals.{market_of}
@@ -103,7 +103,7 @@ out_alike : {s t : State} → Alike s t → (account lusd : ℕ) → out_of s ac
 out_alike h account lusd = ap (λ n. min lusd n) (balance_alike h account)
 
 withdrawn_by : State → ℕ → ℕ → State
-withdrawn_by s account out = paid (owned s account 0 out) account (gain_of s account) out
+withdrawn_by s account out = credited (owned s account 0 out) account (gain_of s account) out
 
 withdrawn_by_alike : {s t : State} → Alike s t → (account out : ℕ) → out ≤ balance_of s account → out ≤ balance_of t account → Alike (withdrawn_by s account out) (withdrawn_by t account out)
 unfolding withdrawn_by

@@ -8,7 +8,7 @@ use Rattle.liq_types.specs.declared.requests.Call.TheVariants.{Price, Advance, F
 use Rattle.liq_types.specs.declared.requests.Command.{Command}
 use Rattle.liq_types.specs.declared.requests.Request.{Request}
 use Rattle.liq_types.specs.declared.requests.Request.TheVariants.{Do, Ask}
-use Rattle.liq_types.specs.Payments.{paid, charged, surplus_added, surplus_taken}
+use Rattle.liq_types.specs.Payments.{credited, charged, surplus_added, surplus_taken}
 use Rattle.liq_types.specs.State.{State, TroveEntry, wallet_of}
 use Rattle.liq_types.specs.Tables.{at}
 use Rattle.liq_troves.specs.Own.{lifted_entry, lifted, placed, set_trove, redistributed, snapped}
@@ -35,7 +35,7 @@ use Rattle.liq_types.proofs.Ascending.{wallet-ascends, surplus-ascends, put-asce
 pub record Ordered (s : State) : Type 0 where
   pub tables : TablesAscend s
 
-pub paid-ascends : {s : State} (account coll lusd : ℕ) → Ordered s → Ordered (paid s account coll lusd)
+pub paid-ascends : {s : State} (account coll lusd : ℕ) → Ordered s → Ordered (credited s account coll lusd)
 paid-ascends {s} account coll lusd h = record { tables = (wallet-ascends s.wallets account (record { coll = (wallet_of s account).coll + coll; lusd = (wallet_of s account).lusd + lusd }) h.tables.0, h.tables.1, h.tables.2, h.tables.3, h.tables.4) }
 
 pub charged-ascends : {s : State} (account coll lusd : ℕ) → Ordered s → Ordered (charged s account coll lusd)
@@ -109,11 +109,11 @@ redeem-ascends s account terms h =
 pub effect-ascends : (s : State) (call : Call) → Ordered s → Ordered (effect s call)
 effect-ascends s (Price price) h = record { tables = h.tables }
 effect-ascends s (Advance minutes) h = record { tables = h.tables }
-effect-ascends s (Fund account coll) h = let paid_h : Ordered (paid s account coll 0) = paid-ascends account coll 0 h in record { tables = paid_h.tables }
+effect-ascends s (Fund account coll) h = let paid_h : Ordered (credited s account coll 0) = paid-ascends account coll 0 h in record { tables = paid_h.tables }
 effect-ascends s (Take account coll) h = let charged_h : Ordered (charged s account coll 0) = charged-ascends account coll 0 h in record { tables = charged_h.tables }
 effect-ascends s (Send from to lusd) h = paid-ascends to 0 lusd (charged-ascends from 0 lusd h)
 effect-ascends s (Open account coll borrow bound hint) h =
-    let lent : Ordered (paid (charged s account coll 0) account 0 borrow) = paid-ascends account 0 borrow (charged-ascends account coll 0 h) in
+    let lent : Ordered (credited (charged s account coll 0) account 0 borrow) = paid-ascends account 0 borrow (charged-ascends account coll 0 h) in
     record { tables = (lent.tables.0, put-ascends s.troves account _ h.tables.1, h.tables.2, h.tables.3, h.tables.4) }
 effect-ascends s (Adjust account coll_in coll_out borrow repay bound hint) h =
     set-ascends account _ _

@@ -17,7 +17,7 @@ use Rattle.liq_types.specs.declared.requests.Request.{Request}
 use Rattle.liq_types.specs.declared.requests.Request.TheVariants.{Do, Ask}
 use Rattle.liq_types.specs.State.{State, TroveEntry}
 use Rattle.liq_types.specs.declared.amounts.TheConstants.{RESERVE}
-use Rattle.liq_types.specs.Payments.{paid, charged, surplus_added}
+use Rattle.liq_types.specs.Payments.{credited, charged, surplus_added}
 use Rattle.liq_types.specs.Tables.{Table, at, put, without, map_rows}
 use Rattle.liq_types.specs.Totals.{market_of, or_nothing, pool_total}
 use Rattle.liq_types.specs.WellFormed.{Ascends, IsMoment, IsWellFormed, TrovesAreMarked}
@@ -278,12 +278,12 @@ call_follows s (Adjust account coll_in coll_out borrow repay bound hint) w h =
     let call = Adjust account coll_in coll_out borrow repay bound hint in
     let change : Change = record { coll_in = coll_in; coll_out = coll_out; borrow = borrow; repay = repay } in
     let plan = adjusting_terms (market_of s) (or_nothing (entire_of s account)) change in
-    let moved = paid (charged (with_fee s plan) account coll_in repay) account coll_out borrow in
+    let moved = credited (charged (with_fee s plan) account coll_in repay) account coll_out borrow in
     let changed = set_changes moved account plan.coll plan.debt h.tables.1 in
     follows s (effect s call) (account ∷ []) h.tables.1 (effect-ascends s call h).tables.1 (record { words = changed.words; others = changed.others })
 call_follows s (Close account) w h =
     let terms = closing_terms (or_nothing (entire_of s account)) in
-    let settled = paid (charged s account 0 terms.0) account terms.1 0 in
+    let settled = credited (charged s account 0 terms.0) account terms.1 0 in
     let before = record settled { reserve = settled.reserve - RESERVE } in
     let changed = lifted_changes before account h.tables.1 in
     ap (λ (change : ListChange). followed (view_of s) change) (lifted_stands before account h.tables.1)

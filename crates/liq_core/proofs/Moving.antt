@@ -8,7 +8,7 @@ use Rattle.std.specs.Ordering.{nat_cmp}
 use Rattle.std.proofs.lemmas.Bool.Decides.{nat_tests}
 use Rattle.std.proofs.lemmas.Map.Entries.{sum_by-remove_entry}
 use Rattle.liq_types.specs.declared.figures.Wallet.{Wallet}
-use Rattle.liq_types.specs.Payments.{paid, charged}
+use Rattle.liq_types.specs.Payments.{credited, charged}
 use Rattle.liq_types.specs.State.{State, no_wallet, is_used_wallet, with_wallet, wallet_of}
 use Rattle.liq_types.specs.Tables.{Table, at, put, without}
 use Rattle.liq_core.specs.Identities.{wallets_coll, wallets_lusd, WalletsAscend}
@@ -37,12 +37,12 @@ pub unused_lusd : (w : Wallet) → is_used_wallet w ≡ false → w.lusd ≡ 0
 unused_lusd w h = grind (arith, nat_tests, h)
 
 module _ (s : State) (account coll lusd : ℕ) (ascend : WalletsAscend s) where
-  pub paid_coll : wallets_coll (paid s account coll lusd) ≡ wallets_coll s + coll
+  pub paid_coll : wallets_coll (credited s account coll lusd) ≡ wallets_coll s + coll
   paid_coll =
       let moved = exchanged (λ (w : Wallet). w.coll) refl unused_coll s.wallets account (record { coll = (wallet_of s account).coll + coll; lusd = (wallet_of s account).lusd + lusd }) ascend in
       omega (arith, moved)
 
-  pub paid_lusd : wallets_lusd (paid s account coll lusd) ≡ wallets_lusd s + lusd
+  pub paid_lusd : wallets_lusd (credited s account coll lusd) ≡ wallets_lusd s + lusd
   paid_lusd =
       let moved = exchanged (λ (w : Wallet). w.lusd) refl unused_lusd s.wallets account (record { coll = (wallet_of s account).coll + coll; lusd = (wallet_of s account).lusd + lusd }) ascend in
       omega (arith, moved)

@@ -10,7 +10,7 @@ use Rattle.liq_types.specs.declared.figures.Market.{Market}
 use Rattle.liq_types.specs.declared.figures.Trove.{Trove}
 use Rattle.liq_types.specs.declared.hints.HintWords.{HintWords}
 use Rattle.liq_types.specs.declared.requests.Call.TheVariants.{Open}
-use Rattle.liq_types.specs.Payments.{paid, charged}
+use Rattle.liq_types.specs.Payments.{credited, charged}
 use Rattle.liq_types.specs.Rules.{first_refusal}
 use Rattle.liq_types.specs.State.{State, TroveEntry, After, wallet_of}
 use Rattle.liq_types.specs.Tables.{at, without}
@@ -138,7 +138,7 @@ open_leaves s f account coll borrow bound hint k h =
     let limit = lt_false LIM (m.total_debt + plan.debt) rules.1.1.1.1.0 in
     let some = ratio_some coll s.price (least_ratio m) plan.debt rules.1.1.1.1.1.1.0 (some_percent m plan.debt (omega (arith, net))) in
     let feed = with_fee s plan in
-    let lent = paid (charged feed account coll 0) account 0 borrow in
+    let lent = credited (charged feed account coll 0) account 0 borrow in
     let fed : Stands LIM feed = fees_stand s plan.rate.base plan.rate.minute s.fee_coll (s.fee_lusd + plan.fee) f.stands in
     let moved : Stands LIM lent = paid_stands (charged feed account coll 0) account k (charged_stands feed account k fed coll 0) 0 borrow in
     let conserved = opening_conserves s account coll borrow bound (in_order s f.stands) h (conserved_by s f.stands f.balanced.homes) in
@@ -224,7 +224,7 @@ module _ (s : State) (f : Finds s) (account coll debt : ℕ) (change : Change) (
       let feed = with_fee s plan in
       let fed : Stands LIM feed = fees_stand s plan.rate.base plan.rate.minute s.fee_coll (s.fee_lusd + plan.fee) f.stands in
       let moved = paid_stands (charged feed account change.coll_in change.repay) account k (charged_stands feed account k fed change.coll_in change.repay) change.coll_out change.borrow in
-      set_stands (paid (charged feed account change.coll_in change.repay) account change.coll_out change.borrow) account plan.coll plan.debt k a.some a.least moved
+      set_stands (credited (charged feed account change.coll_in change.repay) account change.coll_out change.borrow) account plan.coll plan.debt k a.some a.least moved
 
   adjust_rest : Rest 0 s (adjusted s account change (adjusting_terms (market_of s) (coll, debt) change))
   adjust_rest =
@@ -236,7 +236,7 @@ module _ (s : State) (f : Finds s) (account coll debt : ℕ) (change : Change) (
       let c = f.balanced.homes in
       let feed = with_fee s plan in
       let mid = charged feed account change.coll_in change.repay in
-      let moved = paid mid account change.coll_out change.borrow in
+      let moved = credited mid account change.coll_out change.borrow in
       let ordered = wallet-ascends s.wallets account (record { coll = (wallet_of s account).coll - change.coll_in; lusd = (wallet_of s account).lusd - change.repay }) f.stands.wallets.ascend in
       let c1 = charged_coll feed account change.coll_in change.repay f.stands.wallets.ascend a.coll_in in
       let l1 = charged_lusd feed account change.coll_in change.repay f.stands.wallets.ascend a.repay in
@@ -280,7 +280,7 @@ module _ (s : State) (f : Finds s) (account coll debt : ℕ) (there : entire_of 
   close_stands : account < ACCOUNTS → Stands LIM (closed s account (debt - RESERVE) coll)
   close_stands k =
       let repaid = debt - RESERVE in
-      let settled = paid (charged s account 0 repaid) account coll 0 in
+      let settled = credited (charged s account 0 repaid) account coll 0 in
       let moved = paid_stands (charged s account 0 repaid) account k (charged_stands s account k f.stands 0 repaid) coll 0 in
       lifted_stands (record settled { reserve = settled.reserve - RESERVE }) account (reserve_stands settled (settled.reserve - RESERVE) moved)
 
@@ -294,7 +294,7 @@ module _ (s : State) (f : Finds s) (account coll debt : ℕ) (there : entire_of 
       let r = f.ranges in
       let limit = f.balanced.debt_limit in
       let mid = charged s account 0 repaid in
-      let settled = paid mid account coll 0 in
+      let settled = credited mid account coll 0 in
       let burned = record settled { reserve = settled.reserve - RESERVE } in
       let ordered = wallet-ascends s.wallets account (record { coll = (wallet_of s account).coll - 0; lusd = (wallet_of s account).lusd - repaid }) f.stands.wallets.ascend in
       let c1 = charged_coll s account 0 repaid f.stands.wallets.ascend (omega arith) in

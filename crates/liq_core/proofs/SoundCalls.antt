@@ -5,9 +5,9 @@ use Rattle.std.proofs.lemmas.Bool.Decides.{nat_tests}
 use Rattle.liq_types.specs.declared.amounts.TheConstants.{ACCOUNTS, LIM, PRICE_LEAST, PRICE_MOST, MINUTE_MOST}
 use Rattle.liq_types.specs.declared.requests.Call.{Call}
 use Rattle.liq_types.specs.declared.requests.Call.TheVariants.{Price, Advance, Fund, Take, Send, Provide, Withdraw, Claim}
-use Rattle.liq_types.specs.Payments.{paid, charged, surplus_taken}
+use Rattle.liq_types.specs.Payments.{credited, charged, surplus_taken}
 use Rattle.liq_types.specs.Rules.{first_refusal}
-use Rattle.liq_types.specs.Product.{Words}
+use Rattle.liq_types.specs.Product.{ScaledProduct}
 use Rattle.liq_types.specs.State.{State, wallet_of, surplus_of}
 use Rattle.liq_types.specs.Tables.{at}
 use Rattle.liq_types.specs.Totals.{pool_total}
@@ -27,8 +27,8 @@ module _ (s : State) (f : Finds s) where
   plain_rest : (call : Call) → (t : State) → t ≡ effect s call → IsConserved t → t.brought ≤ LIM → t.active_debt ≤ s.active_debt → t.default_debt ≤ s.default_debt → InRange t → words_of t ≡ words_of s → t.generation ≡ s.generation → t.records ≡ s.records → t.clients ≡ s.clients → t.snap_coll ≡ s.snap_coll → t.troves ≡ s.troves → Rest 0 s t
   plain_rest call t e c coll active default r w g n k snap troves =
       let limit = f.balanced.debt_limit in
-      let scale = ap (λ (v : Words). v.scale) w in
-      let epoch = ap (λ (v : Words). v.epoch) w in
+      let scale = ap (λ (v : ScaledProduct). v.scale) w in
+      let epoch = ap (λ (v : ScaledProduct). v.epoch) w in
       record {
         homes = homes_of t c;
         coll_limit = coll;
@@ -85,7 +85,7 @@ module _ (s : State) (f : Finds s) where
   pub fund_leaves : (account coll : ℕ) → account < ACCOUNTS → first_refusal (rules s (Fund account coll)) ≡ None → Leaves 0 s (effect s (Fund account coll))
   fund_leaves account coll k h =
       record {
-        stands = words_stand (paid s account coll 0) s.price s.minute (s.brought + coll) (paid_stands s account k f.stands coll 0);
+        stands = words_stand (credited s account coll 0) s.price s.minute (s.brought + coll) (paid_stands s account k f.stands coll 0);
         rest = plain_rest (Fund account coll) (effect s (Fund account coll)) refl (call_conserves s (Fund account coll) refl f.stands.formed (in_order s f.stands) h (conserved_by s f.stands f.balanced.homes)) (fund_within s account coll h) (omega arith) (omega arith)
             (same_range (effect s (Fund account coll)) refl refl refl refl refl) refl refl refl refl refl refl;
       }

@@ -15,7 +15,7 @@ use Rattle.liq_types.specs.declared.requests.Command.{Command}
 use Rattle.liq_types.specs.declared.requests.Request.{Request}
 use Rattle.liq_types.specs.declared.requests.Request.TheVariants.{Do, Ask}
 use Rattle.liq_types.specs.PlainLedger.{AreOwnedBelow}
-use Rattle.liq_types.specs.Payments.{paid, charged, surplus_added}
+use Rattle.liq_types.specs.Payments.{credited, charged, surplus_added}
 use Rattle.liq_types.specs.Product.{rise_of}
 use Rattle.liq_types.specs.Rules.{first_refusal}
 use Rattle.liq_types.specs.State.{State, TroveEntry, opening, wallet_of}
@@ -237,11 +237,11 @@ call_follows s f (Send from to lusd) k h = nothing s _ f refl
 call_follows s f (Open account coll borrow bound hint) k h = nothing s _ f refl
 call_follows s f (Adjust account coll_in coll_out borrow repay bound hint) k h =
     let change : Change = record { coll_in = coll_in; coll_out = coll_out; borrow = borrow; repay = repay } in
-    let moved = paid (charged (with_fee s (adjusting_terms (market_of s) (or_nothing (entire_of s account)) change)) account coll_in repay) account coll_out borrow in
+    let moved = credited (charged (with_fee s (adjusting_terms (market_of s) (or_nothing (entire_of s account)) change)) account coll_in repay) account coll_out borrow in
     nothing s (effect s (Adjust account coll_in coll_out borrow repay bound hint)) f (lifted_pool moved account (at s.troves account))
 call_follows s f (Close account) k h =
     let terms = closing_terms (or_nothing (entire_of s account)) in
-    let settled = paid (charged s account 0 terms.0) account terms.1 0 in
+    let settled = credited (charged s account 0 terms.0) account terms.1 0 in
     nothing s (effect s (Close account)) f (lifted_pool (record settled { reserve = settled.reserve - RESERVE }) account (at s.troves account))
 call_follows s f (Provide account lusd) k h =
     let enough = lt_false (wallet_of s account).lusd lusd (all_false (rules s (Provide account lusd)) h).1.0 in

@@ -16,7 +16,7 @@ use Rattle.std.proofs.lemmas.Map.Made.{keys_of-map_values}
 use Rattle.liq_types.specs.declared.amounts.TheConstants.{ACCOUNTS, OFFSET_MOST, RISES_MOST, SUM_MOST, RESERVE, MIN_NET, ONE, PRICE_LEAST, PRICE_MOST, MINUTE_MOST, GENERATIONS_MOST, LIM}
 use Rattle.liq_types.specs.declared.figures.Wallet.{Wallet}
 use Rattle.liq_types.specs.declared.figures.Client.{Client}
-use Rattle.liq_types.specs.Payments.{paid, charged, surplus_added, surplus_taken}
+use Rattle.liq_types.specs.Payments.{credited, charged, surplus_added, surplus_taken}
 use Rattle.liq_types.specs.Rules.{Rule, first_refusal}
 use Rattle.liq_types.specs.Soundness.{IsClientRow, is_sound_client, coll_homes, lusd_homes}
 use Rattle.liq_types.specs.State.{State, TroveEntry, DepositEntry, Redistribution, is_used_wallet, wallet_of, surplus_in, with_wallet, with_surplus}
@@ -163,7 +163,7 @@ in_order s h = (h.wallets.ascend, trove_table s h.troves.ascend, h.surplus.ascen
 -- ---- payments
 
 module _ {most : ℕ} (s : State) (account : ℕ) (k : account < ACCOUNTS) (h : Stands most s) where
-  pub paid_stands : (coll lusd : ℕ) → Stands most (paid s account coll lusd)
+  pub paid_stands : (coll lusd : ℕ) → Stands most (credited s account coll lusd)
   paid_stands coll lusd =
       record {
         formed = h.formed;

@@ -12,8 +12,8 @@ use Rattle.std.proofs.lemmas.Bool.Decides.{nat_tests}
 use Rattle.liq_types.specs.declared.amounts.TheConstants.{P_OPENING, P_LEAST, OFFSET_MOST, RISES_MOST}
 use Rattle.liq_types.specs.declared.figures.Deposit.{Deposit}
 use Rattle.liq_types.specs.Image.{Image, Place, opening_image}
-use Rattle.liq_types.specs.Product.{Words, IsWithinRange, TakesPartUpTo, after_offset, place_of, is_place, place_order, sum_rise, start_sum, start_words, sumat}
-use Rattle.liq_types.specs.State.{State, Offset, PoolMark, After, DepositEntry}
+use Rattle.liq_types.specs.Product.{ScaledProduct, IsWithinRange, TakesPartUpTo, after_offset, place_of, is_place, place_order, sum_growth, start_sum, start_words, sumat}
+use Rattle.liq_types.specs.State.{State, PoolOffset, PoolMark, After, DepositEntry}
 use Rattle.liq_types.specs.Tables.{Table, put, without, map_rows}
 use Rattle.liq_types.specs.Totals.{pool_total}
 use Rattle.liq_types.specs.WellFormed.{IsBefore, IsMoment, IsWellFormed, Ascends}
@@ -140,11 +140,11 @@ some_sum n e = grind (arith, nat_tests, e)
 abbrev image_with : PoolPart → Image
 image_with w = record opening_image { p = w.p; scale = w.scale; epoch = w.epoch; sum = w.sum; finished = w.finished }
 
-abbrev words_with : PoolPart → Words
+abbrev words_with : PoolPart → ScaledProduct
 words_with w = record { p = w.p; scale = w.scale; epoch = w.epoch }
 
 -- the part after an offset
-abbrev offset_part : PoolPart → Offset → PoolPart
+abbrev offset_part : PoolPart → PoolOffset → PoolPart
 offset_part w o =
     let next = after_offset (words_with w) o in
     record w {
@@ -152,39 +152,39 @@ offset_part w o =
       scale = next.scale;
       epoch = next.epoch;
       sum = sum_after (words_with w) o w.sum;
-      finished = finished_after w.finished (words_with w) o (w.sum + sum_rise (words_with w) o);
+      finished = finished_after w.finished (words_with w) o (w.sum + sum_growth (words_with w) o);
     }
 
-module _ (most : ℕ) (served : most ≤ 10 ^ (9 * RISES_MOST)) (w : PoolPart) (o : Offset) (range : IsWithinRange (words_with w)) (takes : TakesPartUpTo most o) (less : o.coll ≤ OFFSET_MOST * o.debt) where
-  abbrev next : Words
+module _ (most : ℕ) (served : most ≤ 10 ^ (9 * RISES_MOST)) (w : PoolPart) (o : PoolOffset) (range : IsWithinRange (words_with w)) (takes : TakesPartUpTo most o) (less : o.coll ≤ OFFSET_MOST * o.debt) where
+  abbrev next : ScaledProduct
   next = after_offset (words_with w) o
 
   reaches : IsUpTo (place_of (words_with w)) (place_of next)
   reaches = list_reaches (words_with w) (o ∷ [])
 
-  sum_next : w.sum + OFFSET_MOST * w.p ≤ OFFSET_MOST * P_OPENING → (b : Bool) → is_place (place_of (words_with w)) (place_of next) ≡ b → cond b (w.sum + sum_rise (words_with w) o) 0 + OFFSET_MOST * next.p ≤ OFFSET_MOST * P_OPENING
+  sum_next : w.sum + OFFSET_MOST * w.p ≤ OFFSET_MOST * P_OPENING → (b : Bool) → is_place (place_of (words_with w)) (place_of next) ≡ b → cond b (w.sum + sum_growth (words_with w) o) 0 + OFFSET_MOST * next.p ≤ OFFSET_MOST * P_OPENING
   sum_next h true e = stays_within most (words_with w) o w.sum range takes less h (sym (is_place-same (place_of (words_with w)) (place_of next) e))
   sum_next h false e = let within = offset_within most served (words_with w) o range takes in omega (arith, within.most)
 
-  rows_next : w.sum + OFFSET_MOST * w.p ≤ OFFSET_MOST * P_OPENING → AllByRecursion (FinishedStands (w.epoch, w.scale)) w.finished → (b c : Bool) → is_place (place_of (words_with w)) (place_of next) ≡ b → (w.sum + sum_rise (words_with w) o == 0) ≡ c → AllByRecursion (FinishedStands (place_of next)) (cond b w.finished (cond c w.finished (insert_entry place_order w.finished (place_of (words_with w)) (w.sum + sum_rise (words_with w) o))))
+  rows_next : w.sum + OFFSET_MOST * w.p ≤ OFFSET_MOST * P_OPENING → AllByRecursion (FinishedStands (w.epoch, w.scale)) w.finished → (b c : Bool) → is_place (place_of (words_with w)) (place_of next) ≡ b → (w.sum + sum_growth (words_with w) o == 0) ≡ c → AllByRecursion (FinishedStands (place_of next)) (cond b w.finished (cond c w.finished (insert_entry place_order w.finished (place_of (words_with w)) (w.sum + sum_growth (words_with w) o))))
   rows_next h rows true c e f = later_rows (w.epoch, w.scale) (place_of next) reaches w.finished rows
   rows_next h rows false true e f = later_rows (w.epoch, w.scale) (place_of next) reaches w.finished rows
   rows_next h rows false false e f =
-      let made : FinishedStands (place_of next) (place_of (words_with w), w.sum + sum_rise (words_with w) o) =
+      let made : FinishedStands (place_of next) (place_of (words_with w), w.sum + sum_growth (words_with w) o) =
       record {
-        some = some_sum (w.sum + sum_rise (words_with w) o) f;
+        some = some_sum (w.sum + sum_growth (words_with w) o) f;
         most = finishes_within most (words_with w) o w.sum takes less h;
         before = up_to_other (place_of (words_with w)) (place_of next) reaches e;
       } in
-      all_insert (FinishedStands (place_of next)) (place_of (words_with w)) (w.sum + sum_rise (words_with w) o) w.finished made
+      all_insert (FinishedStands (place_of next)) (place_of (words_with w)) (w.sum + sum_growth (words_with w) o) w.finished made
       (later_rows (w.epoch, w.scale) (place_of next) reaches w.finished rows) rows
 
   -- the table of one offset, made from the part on
-  ordered_next : IsStrictlySortedBy place_order (keys_of w.finished) → IsStrictlySortedBy place_order (keys_of (finished_after w.finished (words_with w) o (w.sum + sum_rise (words_with w) o)))
+  ordered_next : IsStrictlySortedBy place_order (keys_of w.finished) → IsStrictlySortedBy place_order (keys_of (finished_after w.finished (words_with w) o (w.sum + sum_growth (words_with w) o)))
   ordered_next h =
       let i = image_with w in
       let whole : sumat i [] (place_of (words_with w)) ≡ w.sum = added (ap (λ b. cond b w.sum (unwrap_or (lookup (is_place (w.epoch, w.scale)) w.finished) 0)) (is_place-itself (w.epoch, w.scale))) in
-      subst (λ n. IsStrictlySortedBy place_order (keys_of (finished_after w.finished (words_with w) o (n + sum_rise (words_with w) o)))) whole
+      subst (λ n. IsStrictlySortedBy place_order (keys_of (finished_after w.finished (words_with w) o (n + sum_growth (words_with w) o)))) whole
       (subst (λ (t : List (Place × ℕ)). IsStrictlySortedBy place_order (keys_of t)) (finished-snoc i [] o) (finished-ascend i (o ∷ []) h))
     where
       added : start_sum (image_with w) (w.epoch, w.scale) ≡ w.sum → start_sum (image_with w) (w.epoch, w.scale) + 0 ≡ w.sum
@@ -198,7 +198,7 @@ module _ (most : ℕ) (served : most ≤ 10 ^ (9 * RISES_MOST)) (w : PoolPart) (
         least = within.least;
         highest = within.most;
         sum = sum_next h.sum (is_place (place_of (words_with w)) (place_of next)) refl;
-        finished = rows_next h.sum h.finished (is_place (place_of (words_with w)) (place_of next)) (w.sum + sum_rise (words_with w) o == 0) refl refl;
+        finished = rows_next h.sum h.finished (is_place (place_of (words_with w)) (place_of next)) (w.sum + sum_growth (words_with w) o == 0) refl refl;
         ordered = ordered_next h.ordered;
         ascend = h.ascend;
         deposits = all-weaken (DepositStands most (w.epoch, w.scale) w.sum w.finished) (DepositStands most (place_of next) (offset_part w o).sum (offset_part w o).finished)
@@ -222,7 +222,7 @@ part_offset s f debt coll =
     let made = part_of (image (offset s debt coll)) in
     let target = offset_part (part_of (image s)) o in
     ap (λ (rows : Table Deposit). record made { deposits = rows }) (map-cong (deposit_row (offset s debt coll)) (deposit_row s) (λ d. IsMoment (length s.offsets) d.mark) (deposit_grown s debt coll) s.deposits f.2)
-    ∙ ap (λ (v : Words). record made { deposits = target.deposits; p = v.p; scale = v.scale; epoch = v.epoch; sum = sumat s.start (s.offsets ++ o ∷ []) (place_of v) }) (words-snoc s debt coll)
+    ∙ ap (λ (v : ScaledProduct). record made { deposits = target.deposits; p = v.p; scale = v.scale; epoch = v.epoch; sum = sumat s.start (s.offsets ++ o ∷ []) (place_of v) }) (words-snoc s debt coll)
     ∙ ap (λ n. record target { sum = n; finished = made.finished }) (sum-snoc s.start s.offsets o f.0)
     ∙ ap (λ (t : List (Place × ℕ)). record target { finished = t }) (finished-snoc s.start s.offsets o)
 
@@ -261,4 +261,4 @@ module _ (most : ℕ) (served : most ≤ 10 ^ (9 * RISES_MOST)) (s : State) (deb
 
   pub offset_moves : MovesFew (place_of (words_of s)) (place_of (words_of (offset s debt coll)))
   offset_moves =
-      subst (λ (v : Words). MovesFew (place_of (words_of s)) (place_of v)) (sym (words-snoc s debt coll)) (moves_few (debt == pool_total s) refl)
+      subst (λ (v : ScaledProduct). MovesFew (place_of (words_of s)) (place_of v)) (sym (words-snoc s debt coll)) (moves_few (debt == pool_total s) refl)

@@ -14,8 +14,8 @@ use Rattle.liq_types.specs.declared.amounts.TheConstants.{ACCOUNTS, LIM, RESERVE
 use Rattle.liq_types.specs.declared.figures.Trove.{Trove}
 use Rattle.liq_types.specs.declared.figures.Wallet.{Wallet}
 use Rattle.liq_types.specs.Image.{Image}
-use Rattle.liq_types.specs.Payments.{paid, charged, surplus_added}
-use Rattle.liq_types.specs.Product.{Words}
+use Rattle.liq_types.specs.Payments.{credited, charged, surplus_added}
+use Rattle.liq_types.specs.Product.{ScaledProduct}
 use Rattle.liq_types.specs.Ranked.{Ranked, from_last}
 use Rattle.liq_types.specs.Rules.{first_refusal}
 use Rattle.liq_types.specs.State.{State, TroveEntry, Redistribution, wallet_of, wallet_in}
@@ -393,10 +393,10 @@ module _ (s : State) (f : Finds s) (account amount bound : ℕ) (h : first_refus
       let l1 = charged_lusd t account 0 terms.redeemed ascend enough in
       let c2 = paid_coll mid account (terms.drawn - terms.fee) 0 ordered in
       let l2 = paid_lusd mid account (terms.drawn - terms.fee) 0 ordered in
-      let given = paid mid account (terms.drawn - terms.fee) 0 in
+      let given = credited mid account (terms.drawn - terms.fee) 0 in
       let moved = paid_stands mid account k (charged_stands t account k c.stands 0 terms.redeemed) (terms.drawn - terms.fee) 0 in
-      let scale = ap (λ (v : Words). v.scale) c.words in
-      let epoch = ap (λ (v : Words). v.epoch) c.words in
+      let scale = ap (λ (v : ScaledProduct). v.scale) c.words in
+      let epoch = ap (λ (v : ScaledProduct). v.epoch) c.words in
       let rate : RateInRange s terms.rate = record { base = omega arith; minute = omega arith } in
       record {
         stands = fees_stand given terms.rate.base terms.rate.minute (s.fee_coll + terms.fee) given.fee_lusd moved;

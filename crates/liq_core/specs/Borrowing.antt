@@ -2,7 +2,7 @@
 use Rattle.std.specs.Prelude.{ℕ, ◌+◌, ◌-◌, is_some, [], ◌∷◌}
 use Rattle.liq_types.specs.declared.amounts.TheConstants.{RESERVE}
 use Rattle.liq_types.specs.declared.events.ListChange.TheVariants.{Gone}
-use Rattle.liq_types.specs.Payments.{paid, charged}
+use Rattle.liq_types.specs.Payments.{credited, charged}
 use Rattle.liq_types.specs.State.{State, wallet_of}
 use Rattle.liq_types.specs.Tables.{at}
 use Rattle.liq_types.specs.Totals.{market_of, or_nothing}
@@ -27,7 +27,7 @@ with_fee s plan =
 
 abbrev pub opened : State → ℕ → ℕ → Plan → State
 opened s account borrow plan =
-    let lent = paid (charged (with_fee s plan) account plan.coll 0) account 0 borrow in
+    let lent = credited (charged (with_fee s plan) account plan.coll 0) account 0 borrow in
     placed (record lent { reserve = lent.reserve + RESERVE }) account plan.coll plan.debt
 
 abbrev pub open_row : State → ℕ → ℕ → ℕ → ℕ → Row
@@ -47,7 +47,7 @@ open_row s account coll borrow bound =
 
 abbrev pub adjusted : State → ℕ → Change → Plan → State
 adjusted s account change plan =
-    let moved = paid (charged (with_fee s plan) account change.coll_in change.repay) account change.coll_out change.borrow in
+    let moved = credited (charged (with_fee s plan) account change.coll_in change.repay) account change.coll_out change.borrow in
     set_trove moved account plan.coll plan.debt
 
 abbrev pub adjust_row : State → ℕ → Change → ℕ → Row
@@ -69,7 +69,7 @@ adjust_row s account change bound =
 -- what is owed beside the reserve is repaid, and the reserve is burned
 abbrev pub closed : State → ℕ → ℕ → ℕ → State
 closed s account repaid coll =
-    let settled = paid (charged s account 0 repaid) account coll 0 in
+    let settled = credited (charged s account 0 repaid) account coll 0 in
     lifted (record settled { reserve = settled.reserve - RESERVE }) account
 
 abbrev pub close_row : State → ℕ → Row

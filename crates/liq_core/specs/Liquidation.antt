@@ -7,7 +7,7 @@ use Rattle.liq_types.specs.declared.events.PoolEvent.{PoolEvent}
 use Rattle.liq_types.specs.declared.events.PoolEvent.TheVariants.{Offset}
 use Rattle.liq_types.specs.declared.replies.Refusal.{Refusal}
 use Rattle.liq_types.specs.declared.replies.Refusal.TheVariants.{AmountLimit, NoSurplus}
-use Rattle.liq_types.specs.Payments.{paid, surplus_taken}
+use Rattle.liq_types.specs.Payments.{credited, surplus_taken}
 use Rattle.liq_types.specs.Product.{rise_of}
 use Rattle.liq_types.specs.Rules.{where_above}
 use Rattle.liq_types.specs.State.{State, surplus_of}
@@ -93,7 +93,7 @@ claim_row s account =
     let coll = surplus_of s account in
     record {
       rules = (coll == 0, NoSurplus account) ∷ [];
-      effect = paid (surplus_taken s account) account coll 0;
+      effect = credited (surplus_taken s account) account coll 0;
       values = coll ∷ [];
       events = [];
       changes = [];

@@ -2,7 +2,7 @@
 use Rattle.std.specs.Prelude.{ℕ, ◌+◌, ◌-◌, ◌||◌, nat_lt, [], ◌∷◌}
 use Rattle.liq_types.specs.declared.amounts.TheConstants.{PRICE_LEAST, PRICE_MOST, MINUTE_MOST}
 use Rattle.liq_types.specs.declared.replies.Refusal.TheVariants.{PriceRange, AmountLimit, ShortCollateral, ShortTokens}
-use Rattle.liq_types.specs.Payments.{paid, charged}
+use Rattle.liq_types.specs.Payments.{credited, charged}
 use Rattle.liq_types.specs.Rules.{where_short, where_above}
 use Rattle.liq_types.specs.State.{State, wallet_of}
 use Rattle.liq_types.specs.Totals.{limit_of, market_of}
@@ -34,7 +34,7 @@ fund_row s account coll =
     let brought = s.brought + coll in
     record {
       rules = not_zero coll ∷ where_above brought (limit_of (market_of s)) AmountLimit ∷ [];
-      effect = record (paid s account coll 0) { brought = brought };
+      effect = record (credited s account coll 0) { brought = brought };
       values = [];
       events = [];
       changes = [];
@@ -54,7 +54,7 @@ abbrev pub send_row : State → ℕ → ℕ → ℕ → Row
 send_row s from to lusd =
     record {
       rules = not_zero lusd ∷ where_short lusd (wallet_of s from).lusd ShortTokens ∷ [];
-      effect = paid (charged s from 0 lusd) to 0 lusd;
+      effect = credited (charged s from 0 lusd) to 0 lusd;
       values = [];
       events = [];
       changes = [];

@@ -3,7 +3,7 @@ use Rattle.std.specs.Prelude.{ℕ, nat_lt, is_none, min, Option, Some, None, Lis
 use Rattle.liq_types.specs.declared.amounts.TheConstants.{MCR}
 use Rattle.liq_types.specs.declared.events.PoolEvent.TheVariants.{Own}
 use Rattle.liq_types.specs.declared.replies.Refusal.TheVariants.{ShortTokens, NoDeposit, TroveUnder}
-use Rattle.liq_types.specs.Payments.{paid, charged}
+use Rattle.liq_types.specs.Payments.{credited, charged}
 use Rattle.liq_types.specs.Rules.{Rule, where_below, where_short}
 use Rattle.liq_types.specs.State.{State, wallet_of}
 use Rattle.liq_types.specs.Tables.{at}
@@ -33,7 +33,7 @@ provide_row s account lusd =
     let amount = amount_after s account lusd 0 in
     record {
       rules = not_zero lusd ∷ where_short lusd (wallet_of s account).lusd ShortTokens ∷ [];
-      effect = paid (charged (owned s account lusd 0) account 0 lusd) account gain 0;
+      effect = credited (charged (owned s account lusd 0) account 0 lusd) account gain 0;
       values = amount ∷ gain ∷ [];
       events = Own account lusd 0 gain amount ∷ [];
       changes = [];
@@ -46,7 +46,7 @@ withdraw_row s account lusd =
     let out = min lusd (balance_of s account) in
     record {
       rules = no_deposit s account ∷ (if nat_lt 0 lusd then trove_under s (last_trove s) else []);
-      effect = paid (owned s account 0 out) account gain out;
+      effect = credited (owned s account 0 out) account gain out;
       values = out ∷ gain ∷ [];
       events = Own account 0 out gain (amount_after s account 0 out) ∷ [];
       changes = [];

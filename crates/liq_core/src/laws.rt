@@ -18,7 +18,7 @@ ghost use Rattle.liq_types.specs.Codes.{value_count};
 ghost use Rattle.liq_types.specs.Image.{Image, opening_image};
 ghost use Rattle.liq_types.specs.Soundness.{IsSoundImage};
 ghost use Rattle.liq_types.specs.State.{State, opening, started, wallet_of, client_of};
-ghost use Rattle.liq_types.specs.Payments.{paid, charged};
+ghost use Rattle.liq_types.specs.Payments.{credited, charged};
 ghost use Rattle.liq_core.specs.Dust.{IsCovered, dust};
 ghost use Rattle.liq_core.specs.History.{Entry, IsLegal, GoesOn, requests_of, state_after};
 ghost use Rattle.liq_core.specs.Identities.{IsAtHome, IsConserved, WalletsAscend, touches_no_trove, wallets_coll, wallets_lusd};
@@ -31,8 +31,7 @@ ghost use Rattle.liq_core.specs.Verbs.{kind, unhinted};
 ghost use Rattle.liq_core.specs.View.{view_of, view_after, all_followed, changes, changes_list};
 ghost use Rattle.liq_types.specs.WellFormed.{AreFinished, IsWellFormed, TablesAscend, stakes_in};
 
-use crate::engine::Protocol;
-pub use crate::engine::protocols_are_sound;
+pub use crate::engine::{protocols_are_sound, protocols_stand};
 
 /// A refused request, a query and a command that comes again leave the state.
 pub fn only_new_commands_change()
@@ -116,12 +115,12 @@ pub fn histories_grow()
 /// A payment moves exactly its amounts into or out of its account's wallet, and every other wallet stays. So what all wallets
 /// have grows by what is paid, and shrinks by what is charged.
 pub fn payments_move_exactly()
-    ensures paid { (s : State) → (account coll lusd : ℕ) → WalletsAscend s → wallet_of (paid s account coll lusd) account ≡ record { coll = (wallet_of s account).coll + coll; lusd = (wallet_of s account).lusd + lusd } }
-    ensures paid_others { (s : State) → (account coll lusd other : ℕ) → other ≢ account → wallet_of (paid s account coll lusd) other ≡ wallet_of s other }
+    ensures paid { (s : State) → (account coll lusd : ℕ) → WalletsAscend s → wallet_of (credited s account coll lusd) account ≡ record { coll = (wallet_of s account).coll + coll; lusd = (wallet_of s account).lusd + lusd } }
+    ensures paid_others { (s : State) → (account coll lusd other : ℕ) → other ≢ account → wallet_of (credited s account coll lusd) other ≡ wallet_of s other }
     ensures charged { (s : State) → (account coll lusd : ℕ) → WalletsAscend s → wallet_of (charged s account coll lusd) account ≡ record { coll = (wallet_of s account).coll - coll; lusd = (wallet_of s account).lusd - lusd } }
     ensures charged_others { (s : State) → (account coll lusd other : ℕ) → other ≢ account → wallet_of (charged s account coll lusd) other ≡ wallet_of s other }
-    ensures paid_coll { (s : State) → (account coll lusd : ℕ) → WalletsAscend s → wallets_coll (paid s account coll lusd) ≡ wallets_coll s + coll }
-    ensures paid_lusd { (s : State) → (account coll lusd : ℕ) → WalletsAscend s → wallets_lusd (paid s account coll lusd) ≡ wallets_lusd s + lusd }
+    ensures paid_coll { (s : State) → (account coll lusd : ℕ) → WalletsAscend s → wallets_coll (credited s account coll lusd) ≡ wallets_coll s + coll }
+    ensures paid_lusd { (s : State) → (account coll lusd : ℕ) → WalletsAscend s → wallets_lusd (credited s account coll lusd) ≡ wallets_lusd s + lusd }
     ensures charged_coll { (s : State) → (account coll lusd : ℕ) → WalletsAscend s → coll ≤ (wallet_of s account).coll → wallets_coll (charged s account coll lusd) + coll ≡ wallets_coll s }
     ensures charged_lusd { (s : State) → (account coll lusd : ℕ) → WalletsAscend s → lusd ≤ (wallet_of s account).lusd → wallets_lusd (charged s account coll lusd) + lusd ≡ wallets_lusd s }
 {}

@@ -1,7 +1,7 @@
 //! The wallets of all accounts.
 
 ghost use Rattle.std.specs.Prelude.{◌≡◌, ◌≤◌, ◌+◌, [], OnOk, OnErr, IsTrue};
-ghost use Rattle.liq_types.specs.Payments.{paid_in, charged_in};
+ghost use Rattle.liq_types.specs.Payments.{credited_in, charged_in};
 ghost use Rattle.liq_types.specs.State.{is_used_wallet, wallet_in, with_wallet};
 ghost use Rattle.liq_tables.specs.WithRoom.{HasRoom, KeepsRoom};
 ghost use Rattle.liq_ledger.specs.Refusals.{funding, charging, ruled};
@@ -63,7 +63,7 @@ impl Wallets {
     pub fn fund(&mut self, account: u32, coll: u64) -> Result<(), Refusal>
         requires { HasRoom self.old account }
         ensures refused { result ≡ ruled (funding (wallet_in self.old.rows account) coll) }
-        ensures moved { OnOk result (self.new.rows ≡ paid_in self.old.rows account coll 0) }
+        ensures moved { OnOk result (self.new.rows ≡ credited_in self.old.rows account coll 0) }
         ensures room { self.new.room ≡ self.old.room }
         ensures err { OnErr result (self.new ≡ self.old) }
     {
@@ -94,7 +94,7 @@ impl Wallets {
         requires room { HasRoom self.old to }
         requires limit { lusd ≤ (wallet_in self.old.rows from).lusd → (wallet_in (charged_in self.old.rows from 0 lusd) to).lusd + lusd ≤ LIM }
         ensures refused { result ≡ ruled (charging (wallet_in self.old.rows from) 0 lusd) }
-        ensures moved { OnOk result (self.new.rows ≡ paid_in (charged_in self.old.rows from 0 lusd) to 0 lusd) }
+        ensures moved { OnOk result (self.new.rows ≡ credited_in (charged_in self.old.rows from 0 lusd) to 0 lusd) }
         ensures room { self.new.room ≡ self.old.room }
         ensures err { OnErr result (self.new ≡ self.old) }
     {
@@ -139,7 +139,7 @@ impl Wallets {
         requires room { HasRoom self.old account }
         requires coll { (wallet_in self.old.rows account).coll + coll ≤ LIM }
         requires lusd { (wallet_in self.old.rows account).lusd + lusd ≤ LIM }
-        ensures moved { self.new.rows ≡ paid_in self.old.rows account coll lusd }
+        ensures moved { self.new.rows ≡ credited_in self.old.rows account coll lusd }
         ensures room { self.new.room ≡ self.old.room }
     {
         let had = self.read(account);

@@ -6,7 +6,7 @@ use Rattle.liq_types.specs.declared.figures.Market.{Market}
 use Rattle.liq_types.specs.declared.figures.Trove.{Trove}
 use Rattle.liq_types.specs.declared.replies.Refusal.{Refusal}
 use Rattle.liq_types.specs.declared.replies.Refusal.TheVariants.{NoTrove, NotLiquidatable, PoolTooSmall}
-use Rattle.liq_types.specs.Payments.{paid, surplus_added}
+use Rattle.liq_types.specs.Payments.{credited, surplus_added}
 use Rattle.liq_types.specs.Rules.{Rule, first_refusal, outcome, last_trove_stays}
 use Rattle.liq_types.specs.State.{State}
 use Rattle.liq_types.specs.Tables.{at}
@@ -156,7 +156,7 @@ struck s v =
 
 -- the liquidator gets the trove's reserve, and a part of its collateral
 abbrev pub rewarded : State → ℕ → ℕ → State
-rewarded s liquidator gas = paid (record s { reserve = s.reserve - RESERVE }) liquidator gas RESERVE
+rewarded s liquidator gas = credited (record s { reserve = s.reserve - RESERVE }) liquidator gas RESERVE
 
 abbrev pub liquidated : State → ℕ → Victim → State
 liquidated s liquidator v = rewarded (struck s v) liquidator v.one.gas

@@ -8,7 +8,7 @@ use Rattle.liq_types.specs.declared.figures.Trove.{Trove}
 use Rattle.liq_types.specs.declared.figures.Wallet.{Wallet}
 use Rattle.liq_types.specs.declared.replies.Refusal.{Refusal}
 use Rattle.liq_types.specs.declared.replies.Refusal.TheVariants.{AmountZero, ShortTokens, Bootstrap, SystemUnder, NothingRedeemed, FeeEatsAll}
-use Rattle.liq_types.specs.Payments.{paid, charged, surplus_added}
+use Rattle.liq_types.specs.Payments.{credited, charged, surplus_added}
 use Rattle.liq_types.specs.Rules.{Rule, first_refusal, outcome, where_below, where_short}
 use Rattle.liq_types.specs.Ranked.{Ranked, first_of, from_last}
 use Rattle.liq_types.specs.State.{State}
@@ -161,5 +161,5 @@ cut_down s cut = cut_entire s cut (entire_of s cut.account)
 abbrev pub redeemed_by : State → ℕ → RedeemTerms → State
 redeemed_by s account terms =
     let cut = fold cut_down s terms.cuts in
-    let given = paid (charged cut account 0 terms.redeemed) account (terms.drawn - terms.fee) 0 in
+    let given = credited (charged cut account 0 terms.redeemed) account (terms.drawn - terms.fee) 0 in
     record given { base = terms.rate.base; fee_minute = terms.rate.minute; fee_coll = s.fee_coll + terms.fee }

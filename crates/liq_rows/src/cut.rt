@@ -65,7 +65,7 @@ fn check_call<R: Abort>(
     Ok(())
 }
 
-/// Runs it whole, and then with each call failing from the first that is behind so many bytes.
+/// Runs it whole, and then with each of so many last calls failing.
 pub fn check_cuts<R: Abort>(
     rt: &R,
     alloc: Global,
@@ -73,7 +73,7 @@ pub fn check_cuts<R: Abort>(
     chunk: usize,
     most: usize,
     output: &[u8],
-    behind: usize,
+    last: usize,
 ) -> Result<(), Fail>
     requires some { 0 < most }
     requires chunk { 1 ≤ chunk }
@@ -81,7 +81,7 @@ pub fn check_cuts<R: Abort>(
     let (status, whole) = run_on(alloc, run, chunk, SmallSink::new(alloc, most, NONE))?;
     assert!(rt; whole.bytes() == output);
     assert_eq!(rt; status, run.status);
-    for call in behind / most..whole.calls() {
+    for call in whole.calls().saturating_sub(last)..whole.calls() {
         check_call(rt, alloc, run, chunk, most, &whole, call)?;
     }
     Ok(())
@@ -154,7 +154,7 @@ fn check_run<R: Abort>(
     requires { 1 ≤ chunk }
 {
     for most in 1..4 {
-        check_cuts(rt, alloc, run, chunk, most, output, 0)?;
+        check_cuts(rt, alloc, run, chunk, most, output, NONE)?;
     }
     Ok(())
 }

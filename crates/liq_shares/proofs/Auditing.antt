@@ -1,25 +1,23 @@
 -- Lawful events can be audited.
-use Rattle.std.proofs.Common.{◌≡◌, ℕ, ◌+◌, ◌*◌, ◌^◌, ◌<◌, ◌≤◌, List, [], ◌∷◌, ◌++◌, length, ap, sym, ◌∙◌, subst, arith, refl, append_assoc}
-use Rattle.std.specs.Prelude.{fold}
+use Rattle.std.proofs.Common.{◌≡◌, ℕ, ◌+◌, ◌*◌, ◌^◌, ◌<◌, ◌≤◌, List, [], ◌∷◌, ◌++◌, length, ap, sym, ◌∙◌, subst, arith, refl}
 use Rattle.std.proofs.Math.Nat.{mul-le-mul_right, le_of_mul-le-mul_right}
 use Rattle.std.proofs.lemmas.List.Sums.{fold-append}
 use Rattle.liq_types.specs.declared.amounts.TheConstants.{LIM}
 use Rattle.liq_types.specs.declared.events.PoolEvent.{PoolEvent}
 use Rattle.liq_types.specs.declared.events.PoolEvent.TheVariants as event
-use Rattle.liq_types.specs.Allowance.{watched}
-use Rattle.liq_types.specs.PlainLedger.{exact_share, den_of, offsets_coll, over_accounts}
-use Rattle.liq_types.specs.Product.{Words, rise_of}
+use Rattle.liq_types.specs.PlainLedger.{exact_share, den_of, offsets_coll}
+use Rattle.liq_types.specs.Product.{ScaledProduct, rise_of}
 use Rattle.liq_types.specs.State.{State, opening}
 use Rattle.liq_types.specs.Totals.{pool_total}
 use Rattle.liq_stability.specs.Lawful.{IsLawful, IsLawfulEvent, IsLawfulUpTo}
 use Rattle.liq_stability.specs.Own.{after_event, after_events}
 use Rattle.liq_stability.specs.Position.{balance_of}
-use Rattle.liq_stability.specs.Promise.{gained_of, IsWithinAllowance}
+use Rattle.liq_stability.specs.Promise.{gained_of}
 use Rattle.liq_stability.specs.Words.{words_of}
 use Rattle.liq_stability.proofs.LawfulLists.{lawful_limit, lawful_joined, lawful_first, lawful_rest}
 use Rattle.liq_stability.proofs.Promise.{whole_with, all_balances_are, one_den, within_allowance}
 use Rattle.liq_audit.specs.declared.rows.EngineRow.{EngineRow}
-use Rattle.liq_audit.specs.Auditable.{AddUpWithin, IsAuditableEvent, AreAuditable, IsAuditable, words_along, row_of, EnclosesShare, IsWithinRow}
+use Rattle.liq_audit.specs.Auditable.{AddUpWithin, IsAuditableEvent, AreAuditable, IsAuditable, words_along, row_of, IsWithinRow}
 use Rattle.liq_audit.proofs.Auditing.{encloses_row}
 use Rattle.liq_audit.proofs.Fitting.{watched_words}
 
@@ -46,7 +44,7 @@ auditable_event before (event.Offset debt coll total rise) h limit k = record {
   within = k.within;
   limit = omega (arith, k.total_is, limit);
   total_is = λ n below. all_balances_are LIM (omega arith) before h n below ∙ ap (λ t. t * den_of before) (sym k.total_is);
-  rise_is = subst (λ (w : Words). rise ≡ rise_of w.p (record { debt = debt; coll = coll; total = total })) (sym (same_words before h)) k.rise_is;
+  rise_is = subst (λ (w : ScaledProduct). rise ≡ rise_of w.p (record { debt = debt; coll = coll; total = total })) (sym (same_words before h)) k.rise_is;
 }
 
 auditable_along : (before es : List PoolEvent) → IsLawful opening before → IsLawfulUpTo LIM (after_events before) es → AreAuditable before es

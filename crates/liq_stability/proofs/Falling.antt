@@ -5,8 +5,8 @@ use Rattle.std.proofs.Math.Nat.{div-lt_iff_lt-mul}
 use Rattle.std.proofs.lemmas.Bool.{cases_lt}
 use Rattle.std.proofs.lemmas.Bool.Decides.{nat_tests}
 use Rattle.liq_types.specs.declared.amounts.TheConstants.{P_LEAST, RISES_MOST}
-use Rattle.liq_types.specs.Product.{Words, IsWithinRange, TakesPartUpTo, after_offset, product_after, rise_of, sum_rise, place_of, is_place}
-use Rattle.liq_types.specs.State.{Offset, PoolMark}
+use Rattle.liq_types.specs.Product.{ScaledProduct, IsWithinRange, TakesPartUpTo, after_offset, product_after, rise_of, sum_growth, place_of, is_place}
+use Rattle.liq_types.specs.State.{PoolOffset, PoolMark}
 use Rattle.liq_types.proofs.Places.{after_not_place}
 use Rattle.liq_types.proofs.Ranges.{rise_no_more}
 use Rattle.liq_types.proofs.Rounding.{worth_below, worth_near, gain_below, gain_near, little_left}
@@ -15,17 +15,17 @@ use Rattle.liq_stability.specs.Worth.{base_of, reach}
 use Rattle.liq_stability.proofs.Reading.{IsLive, IsPast, reach_split, reach_low, some_power, floor_low, floor_high}
 
 -- what a unit of the amount was worth, and is worth now, beside the part of the pool that is left
-pub record StaysLive (now : Words) (o : Offset) (mark : PoolMark) (j k : ℕ) : Type 0 where
+pub record StaysLive (now : ScaledProduct) (o : PoolOffset) (mark : PoolMark) (j k : ℕ) : Type 0 where
   pub live : IsLive (after_offset now o) mark k
   pub low : (after_offset now o).p * reach k * o.total ≤ now.p * reach j * (o.total - o.debt)
   pub near : now.p * reach j * (o.total - o.debt) ≤ (after_offset now o).p * reach k * o.total + reach j * o.total
 
 -- less than a unit is left of all of it
-pub record FallsPast (now : Words) (o : Offset) (mark : PoolMark) (j : ℕ) : Type 0 where
+pub record FallsPast (now : ScaledProduct) (o : PoolOffset) (mark : PoolMark) (j : ℕ) : Type 0 where
   pub past : IsPast (after_offset now o) mark
   pub little : (amount : ℕ) → amount ≤ 10 ^ 27 → amount * (now.p * reach j) * (o.total - o.debt) ≤ base_of mark * o.total
 
-module _ (most : ℕ) (served : most ≤ 10 ^ (9 * RISES_MOST)) (now : Words) (o : Offset) (range : IsWithinRange now) (takes : TakesPartUpTo most o) (mark : PoolMark) (least : P_LEAST ≤ mark.p) where
+module _ (most : ℕ) (served : most ≤ 10 ^ (9 * RISES_MOST)) (now : ScaledProduct) (o : PoolOffset) (range : IsWithinRange now) (takes : TakesPartUpTo most o) (mark : PoolMark) (least : P_LEAST ≤ mark.p) where
   stays : (j k : ℕ) → rise_of now.p o ≡ k → j + k ≤ 3 → IsLive now mark j → LeavesPart now o → StaysLive now o mark j (j + k)
   stays j k is near h part =
       let next = after_offset now o in
@@ -82,16 +82,16 @@ module _ (most : ℕ) (served : most ≤ 10 ^ (9 * RISES_MOST)) (now : Words) (o
 -- ---- what the sums gain
 
 -- in the unit of a deposit that counts
-pub gained_low : (now : Words) (o : Offset) (j : ℕ) → sum_rise now o * reach j * o.total ≤ o.coll * (now.p * reach j)
-gained_low now o j = gain_below now.p (sum_rise now o) (reach j) o.total o.coll (floor_low o.coll now.p o.total)
+pub gained_low : (now : ScaledProduct) (o : PoolOffset) (j : ℕ) → sum_growth now o * reach j * o.total ≤ o.coll * (now.p * reach j)
+gained_low now o j = gain_below now.p (sum_growth now o) (reach j) o.total o.coll (floor_low o.coll now.p o.total)
 
-pub gained_near : (now : Words) (o : Offset) (j : ℕ) → 0 < o.total → o.coll * (now.p * reach j) ≤ sum_rise now o * reach j * o.total + reach j * o.total
-gained_near now o j pos = gain_near now.p (sum_rise now o) (reach j) o.total o.coll (floor_high o.coll now.p o.total pos)
+pub gained_near : (now : ScaledProduct) (o : PoolOffset) (j : ℕ) → 0 < o.total → o.coll * (now.p * reach j) ≤ sum_growth now o * reach j * o.total + reach j * o.total
+gained_near now o j pos = gain_near now.p (sum_growth now o) (reach j) o.total o.coll (floor_high o.coll now.p o.total pos)
 
 -- the place of now among the four places of a deposit
-pub live_place : (now : Words) (mark : PoolMark) (j i : ℕ) → IsLive now mark j → is_place (place_of now) (mark.epoch, mark.scale + i) ≡ (i == j)
+pub live_place : (now : ScaledProduct) (mark : PoolMark) (j i : ℕ) → IsLive now mark j → is_place (place_of now) (mark.epoch, mark.scale + i) ≡ (i == j)
 live_place now mark j i h = grind (arith, nat_tests, h.epoch, h.scale)
 
-pub past_place : (now : Words) (mark : PoolMark) (i : ℕ) → i ≤ 3 → IsPast now mark → is_place (place_of now) (mark.epoch, mark.scale + i) ≡ false
+pub past_place : (now : ScaledProduct) (mark : PoolMark) (i : ℕ) → i ≤ 3 → IsPast now mark → is_place (place_of now) (mark.epoch, mark.scale + i) ≡ false
 past_place now mark i few (inl h) = after_not_place (mark.epoch, mark.scale + i) (place_of now) (inl h)
 past_place now mark i few (inr h) = after_not_place (mark.epoch, mark.scale + i) (place_of now) (inr (h.0, omega (arith, h.1)))

@@ -2,6 +2,7 @@ pub mod Falling
 pub mod Holding
 pub mod LawfulLists
 pub mod Pool
+pub mod PoolPart
 pub mod Promise
 pub mod Reading
 pub mod Standing

@@ -6,8 +6,8 @@ use Rattle.std.proofs.Math.Seq.{take-length}
 use Rattle.std.proofs.lemmas.List.{take-append-le}
 use Rattle.std.proofs.lemmas.List.Sums.{sum_by-append, fold-append}
 use Rattle.liq_types.specs.Image.{Place}
-use Rattle.liq_types.specs.Product.{Words, after_offset, sumat, start_words, place_of, is_place, place_order, mark_after, with_finished, finished_sums}
-use Rattle.liq_types.specs.State.{State, PoolMark, Mark, AtStart, After, DepositEntry, Offset}
+use Rattle.liq_types.specs.Product.{ScaledProduct, after_offset, sumat, start_words, place_of, is_place, place_order, mark_after, with_finished, finished_sums}
+use Rattle.liq_types.specs.State.{State, PoolMark, Mark, AtStart, After, DepositEntry, PoolOffset}
 use Rattle.liq_types.specs.Tables.{Table, at, put, without}
 use Rattle.liq_types.specs.Totals.{pool_total, pool_coll}
 use Rattle.liq_types.specs.WellFormed.{IsMoment, AreFinished, DepositsAreMarked, IsPoolCovered, Ascends}
@@ -38,10 +38,10 @@ own_coll : (had paid_before gain : ℕ) → had - (paid_before + gain) ≡ had -
 own_coll had paid_before gain = omega arith
 
 pub owned-total : (s : State) → IsPoolCovered s → (account put_in out : ℕ) → pool_total (owned s account put_in out) ≡ pool_total s + put_in - out
-owned-total s h account put_in out = own_total s.start.total s.provided s.withdrawn (sum_by (λ (o : Offset). o.debt) s.offsets) put_in out h.0
+owned-total s h account put_in out = own_total s.start.total s.provided s.withdrawn (sum_by (λ (o : PoolOffset). o.debt) s.offsets) put_in out h.0
 
 pub owned-coll : (s : State) (account put_in out : ℕ) → pool_coll (owned s account put_in out) ≡ pool_coll s - gain_of s account
-owned-coll s account put_in out = own_coll (s.start.pool_coll + sum_by (λ (o : Offset). o.coll) s.offsets) s.gains_paid (gain_of s account)
+owned-coll s account put_in out = own_coll (s.start.pool_coll + sum_by (λ (o : PoolOffset). o.coll) s.offsets) s.gains_paid (gain_of s account)
 
 less_debt : (start_total provided withdrawn debts more debt : ℕ) → more ≡ debts + debt → start_total + provided - withdrawn - more ≡ start_total + provided - withdrawn - debts - debt
 less_debt start_total provided withdrawn debts more debt e = omega (arith, e)
@@ -50,24 +50,24 @@ more_coll : (had gains colls more coll : ℕ) → more ≡ colls + coll → gain
 more_coll had gains colls more coll e h = omega (arith, e)
 
 -- the offset that a state adds to its list
-abbrev pub offset_now : State → ℕ → ℕ → Offset
+abbrev pub offset_now : State → ℕ → ℕ → PoolOffset
 offset_now s debt coll = record { debt = debt; coll = coll; total = pool_total s }
 
-debts-snoc : (os : List Offset) (o : Offset) → sum_by (λ (x : Offset). x.debt) (os ++ o ∷ []) ≡ sum_by (λ (x : Offset). x.debt) os + o.debt
-debts-snoc os o = sum_by-append (λ (x : Offset). x.debt) os (o ∷ []) ∙ omega arith
+debts-snoc : (os : List PoolOffset) (o : PoolOffset) → sum_by (λ (x : PoolOffset). x.debt) (os ++ o ∷ []) ≡ sum_by (λ (x : PoolOffset). x.debt) os + o.debt
+debts-snoc os o = sum_by-append (λ (x : PoolOffset). x.debt) os (o ∷ []) ∙ omega arith
 
-colls-snoc : (os : List Offset) (o : Offset) → sum_by (λ (x : Offset). x.coll) (os ++ o ∷ []) ≡ sum_by (λ (x : Offset). x.coll) os + o.coll
-colls-snoc os o = sum_by-append (λ (x : Offset). x.coll) os (o ∷ []) ∙ omega arith
+colls-snoc : (os : List PoolOffset) (o : PoolOffset) → sum_by (λ (x : PoolOffset). x.coll) (os ++ o ∷ []) ≡ sum_by (λ (x : PoolOffset). x.coll) os + o.coll
+colls-snoc os o = sum_by-append (λ (x : PoolOffset). x.coll) os (o ∷ []) ∙ omega arith
 
 pub offset-total : (s : State) (debt coll : ℕ) → pool_total (offset s debt coll) ≡ pool_total s - debt
 offset-total s debt coll =
     let o = offset_now s debt coll in
-    less_debt s.start.total s.provided s.withdrawn (sum_by (λ (x : Offset). x.debt) s.offsets) (sum_by (λ (x : Offset). x.debt) (s.offsets ++ o ∷ [])) debt (debts-snoc s.offsets o)
+    less_debt s.start.total s.provided s.withdrawn (sum_by (λ (x : PoolOffset). x.debt) s.offsets) (sum_by (λ (x : PoolOffset). x.debt) (s.offsets ++ o ∷ [])) debt (debts-snoc s.offsets o)
 
 pub offset-coll : (s : State) → IsPoolCovered s → (debt coll : ℕ) → pool_coll (offset s debt coll) ≡ pool_coll s + coll
 offset-coll s h debt coll =
     let o = offset_now s debt coll in
-    more_coll s.start.pool_coll s.gains_paid (sum_by (λ (x : Offset). x.coll) s.offsets) (sum_by (λ (x : Offset). x.coll) (s.offsets ++ o ∷ [])) coll (colls-snoc s.offsets o) h.1
+    more_coll s.start.pool_coll s.gains_paid (sum_by (λ (x : PoolOffset). x.coll) s.offsets) (sum_by (λ (x : PoolOffset). x.coll) (s.offsets ++ o ∷ [])) coll (colls-snoc s.offsets o) h.1
 
 -- ---- what is covered stays so
 
@@ -80,8 +80,8 @@ gains_covered gains had gain h k = omega arith
 pub owned-covered : (s : State) (account put_in out : ℕ) → out ≤ balance_of s account → IsPoolCovered s → IsPoolCovered (owned s account put_in out)
 owned-covered s account put_in out within h =
     let some = balance_within s (at s.deposits account) in (
-      still_covered s.withdrawn (sum_by (λ (o : Offset). o.debt) s.offsets) s.start.total s.provided put_in out h.0 (omega (arith, within, some)),
-      gains_covered s.gains_paid (s.start.pool_coll + sum_by (λ (o : Offset). o.coll) s.offsets) (gain_of s account) h.1 (gain_within s (at s.deposits account)),
+      still_covered s.withdrawn (sum_by (λ (o : PoolOffset). o.debt) s.offsets) s.start.total s.provided put_in out h.0 (omega (arith, within, some)),
+      gains_covered s.gains_paid (s.start.pool_coll + sum_by (λ (o : PoolOffset). o.coll) s.offsets) (gain_of s account) h.1 (gain_within s (at s.deposits account)),
     )
 
 taken_covered : (withdrawn debts more total provided debt : ℕ) → more ≡ debts + debt → withdrawn + debts ≤ total + provided → debt ≤ total + provided - withdrawn - debts → withdrawn + more ≤ total + provided
@@ -93,8 +93,8 @@ more_gains gains had colls more c e k = omega (arith, e)
 pub offset-covered : (s : State) (debt coll : ℕ) → debt ≤ pool_total s → IsPoolCovered s → IsPoolCovered (offset s debt coll)
 offset-covered s debt coll within h =
     let o = offset_now s debt coll in (
-      taken_covered s.withdrawn (sum_by (λ (x : Offset). x.debt) s.offsets) (sum_by (λ (x : Offset). x.debt) (s.offsets ++ o ∷ [])) s.start.total s.provided debt (debts-snoc s.offsets o) h.0 within,
-      more_gains s.gains_paid s.start.pool_coll (sum_by (λ (x : Offset). x.coll) s.offsets) (sum_by (λ (x : Offset). x.coll) (s.offsets ++ o ∷ [])) coll (colls-snoc s.offsets o) h.1,
+      taken_covered s.withdrawn (sum_by (λ (x : PoolOffset). x.debt) s.offsets) (sum_by (λ (x : PoolOffset). x.debt) (s.offsets ++ o ∷ [])) s.start.total s.provided debt (debts-snoc s.offsets o) h.0 within,
+      more_gains s.gains_paid s.start.pool_coll (sum_by (λ (x : PoolOffset). x.coll) s.offsets) (sum_by (λ (x : PoolOffset). x.coll) (s.offsets ++ o ∷ [])) coll (colls-snoc s.offsets o) h.1,
     )
 
 -- ---- marks
@@ -137,7 +137,7 @@ unfolding sum_after
 offset-words s f h debt coll =
     let made = pool_words (offset s debt coll) in
     let target = words_after (pool_words s) debt coll in
-    ap (λ (v : Words). record made { p = v.p; scale = v.scale; epoch = v.epoch; sum = sumat s.start (s.offsets ++ offset_now s debt coll ∷ []) (place_of v) }) (words-snoc s debt coll)
+    ap (λ (v : ScaledProduct). record made { p = v.p; scale = v.scale; epoch = v.epoch; sum = sumat s.start (s.offsets ++ offset_now s debt coll ∷ []) (place_of v) }) (words-snoc s debt coll)
     ∙ ap (λ n. record target { sum = n; total = made.total; coll = made.coll }) (sum-snoc s.start s.offsets (offset_now s debt coll) f)
     ∙ ap (λ n. record target { total = n; coll = made.coll }) (offset-total s debt coll)
     ∙ ap (λ n. record target { coll = n }) (offset-coll s h debt coll)

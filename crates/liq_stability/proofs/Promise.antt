@@ -8,14 +8,15 @@ use Rattle.std.proofs.lemmas.Grind.{div_ceil_times}
 use Rattle.liq_num.specs.Quotient.{ceiling_of}
 use Rattle.liq_types.specs.declared.amounts.TheConstants.{OFFSET_MOST, P_OPENING, RISES_MOST}
 use Rattle.liq_types.specs.declared.events.PoolEvent.{PoolEvent}
-use Rattle.liq_types.specs.Allowance.{no_watch, watched, balance_allowance, gain_allowance}
+use Rattle.liq_types.specs.Allowance.{weight_of, balance_allowance, gain_allowance}
 use Rattle.liq_types.specs.Image.{Place}
-use Rattle.liq_types.specs.PlainLedger.{no_share, exact_share, den_of, offsets_coll, gains_paid_to, AreOwnedBelow, over_accounts}
+use Rattle.liq_types.specs.PlainLedger.{no_share, exact_share, den_of, offsets_coll, gains_paid_to, own_events_of, AreOwnedBelow, over_accounts}
 use Rattle.liq_types.specs.Product.{is_place}
 use Rattle.liq_types.specs.State.{DepositEntry, opening}
 use Rattle.liq_types.specs.Tables.{at}
 use Rattle.liq_types.specs.Totals.{pool_total, pool_coll}
 use Rattle.liq_types.proofs.Accounts.{over-none, above_with, owned_with, under_with}
+use Rattle.liq_types.proofs.Watching.{no_watch, watched, weight_is, own_events_are}
 use Rattle.liq_types.proofs.Rounding.{balance_law, gain_law}
 use Rattle.liq_stability.specs.Lawful.{IsLawfulUpTo}
 use Rattle.liq_stability.specs.Own.{after_events}
@@ -76,8 +77,11 @@ module _ (most : ℕ) (served : most ≤ 10 ^ (9 * RISES_MOST)) (events : List P
     plus : (x y : ℕ) → x + y ≡ y + x
     plus x y = omega arith
 
-  reads_turned : (account : ℕ) → IsRead (exact_share account events) (watched account events).weight (watched account events).own_events (balance_of (after_events events) account) (gained_of (after_events events) account events)
-  reads_turned account = subst (λ g. IsRead (exact_share account events) (watched account events).weight (watched account events).own_events (balance_of (after_events events) account) g) (turned account) (reads_of account)
+  reads_turned : (account : ℕ) → IsRead (exact_share account events) (weight_of account events) (own_events_of account events) (balance_of (after_events events) account) (gained_of (after_events events) account events)
+  reads_turned account =
+      subst (λ m. IsRead (exact_share account events) (weight_of account events) m (balance_of (after_events events) account) (gained_of (after_events events) account events)) (own_events_are account events)
+      (subst (λ w. IsRead (exact_share account events) w (watched account events).own_events (balance_of (after_events events) account) (gained_of (after_events events) account events)) (weight_is account events)
+      (subst (λ g. IsRead (exact_share account events) (watched account events).weight (watched account events).own_events (balance_of (after_events events) account) g) (turned account) (reads_of account)))
 
   pub balance_at_most : (account : ℕ) → balance_of (after_events events) account * (exact_share account events).den ≤ (exact_share account events).bal
   balance_at_most account = (reads_turned account).upper_balance
@@ -87,20 +91,20 @@ module _ (most : ℕ) (served : most ≤ 10 ^ (9 * RISES_MOST)) (events : List P
 
   pub balance_at_least : (account : ℕ) → (exact_share account events).bal ≤ (balance_of (after_events events) account + balance_allowance account events) * (exact_share account events).den
   balance_at_least account =
-      let w = watched account events in
+      let weight = weight_of account events in
       let share = exact_share account events in
-      let up : w.weight * 1 ≤ ceiling_of w.weight 1 (10 ^ 9) * 10 ^ 9 = (div_ceil_times (w.weight * 1) (10 ^ 9) (omega arith)).0 in
+      let up : weight * 1 ≤ ceiling_of weight 1 (10 ^ 9) * 10 ^ 9 = (div_ceil_times (weight * 1) (10 ^ 9) (omega arith)).0 in
       le_of_mul-le-mul_right {k = 10 ^ 9}
-      (balance_law (balance_of (after_events events) account) share.den share.bal (10 ^ 9) w.weight (ceiling_of w.weight 1 (10 ^ 9)) w.own_events (omega (arith, up)) (reads_turned account).balance)
+      (balance_law (balance_of (after_events events) account) share.den share.bal (10 ^ 9) weight (ceiling_of weight 1 (10 ^ 9)) (own_events_of account events) (omega (arith, up)) (reads_turned account).balance)
       (omega arith)
 
   pub gain_at_least : (account : ℕ) → (exact_share account events).gain ≤ (gained_of (after_events events) account events + gain_allowance account events) * (exact_share account events).den
   gain_at_least account =
-      let w = watched account events in
+      let weight = weight_of account events in
       let share = exact_share account events in
-      let up : 12 * w.weight ≤ ceiling_of 12 w.weight (10 ^ 9) * 10 ^ 9 = (div_ceil_times (12 * w.weight) (10 ^ 9) (omega arith)).0 in
+      let up : 12 * weight ≤ ceiling_of 12 weight (10 ^ 9) * 10 ^ 9 = (div_ceil_times (12 * weight) (10 ^ 9) (omega arith)).0 in
       le_of_mul-le-mul_right {k = 10 ^ 9}
-      (gain_law (balance_of (after_events events) account) (gained_of (after_events events) account events) share.den share.gain share.bal (10 ^ 9) w.weight (ceiling_of 12 w.weight (10 ^ 9)) w.own_events up (reads_turned account).upper_balance (reads_turned account).gain)
+      (gain_law (balance_of (after_events events) account) (gained_of (after_events events) account events) share.den share.gain share.bal (10 ^ 9) weight (ceiling_of 12 weight (10 ^ 9)) (own_events_of account events) up (reads_turned account).upper_balance (reads_turned account).gain)
       (omega arith)
 
   pub within_allowance : (account : ℕ) → IsWithinAllowance (after_events events) account events

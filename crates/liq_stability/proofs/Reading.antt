@@ -5,7 +5,7 @@ use Rattle.std.proofs.Math.Nat.{div-mul-le_self, lt-div-mul-add, mul-le-mul_righ
 use Rattle.std.proofs.lemmas.Nat.{pow-add}
 use Rattle.std.proofs.lemmas.Bool.Decides.{nat_tests}
 use Rattle.liq_num.specs.Quotient.{floor_of}
-use Rattle.liq_types.specs.Product.{Words}
+use Rattle.liq_types.specs.Product.{ScaledProduct}
 use Rattle.liq_types.specs.State.{PoolMark}
 use Rattle.liq_stability.specs.Position.{balance_by, gain_by, growth}
 use Rattle.liq_stability.specs.Worth.{base_of, reach, worth_of}
@@ -33,42 +33,42 @@ some_power k = pow-le-pow_right {n = 10} (omega arith) {i = 0} {j = k} (omega ar
 -- ---- live and past
 
 -- so many scales above the mark, in its epoch
-pub record IsLive (now : Words) (mark : PoolMark) (j : ℕ) : Type 0 where
+pub record IsLive (now : ScaledProduct) (mark : PoolMark) (j : ℕ) : Type 0 where
   pub few : j ≤ 3
   pub epoch : now.epoch ≡ mark.epoch
   pub scale : now.scale ≡ mark.scale + j
 
 -- the mark's epoch is over, or the scale more than three above it
-abbrev pub IsPast : Words → PoolMark → Type 0
+abbrev pub IsPast : ScaledProduct → PoolMark → Type 0
 IsPast now mark = (mark.epoch < now.epoch) ⊎ ((mark.epoch ≡ now.epoch) × (mark.scale + 3 < now.scale))
 
-abbrev counts : Words → PoolMark → Bool
+abbrev counts : ScaledProduct → PoolMark → Bool
 counts now mark = now.epoch == mark.epoch && nat_le (now.scale - mark.scale) 3
 
-live_counts : (now : Words) (mark : PoolMark) (j : ℕ) → IsLive now mark j → counts now mark ≡ true
+live_counts : (now : ScaledProduct) (mark : PoolMark) (j : ℕ) → IsLive now mark j → counts now mark ≡ true
 live_counts now mark j h = grind (arith, nat_tests, h.few, h.epoch, h.scale)
 
-past_counts : (now : Words) (mark : PoolMark) → IsPast now mark → counts now mark ≡ false
+past_counts : (now : ScaledProduct) (mark : PoolMark) → IsPast now mark → counts now mark ≡ false
 past_counts now mark (inl h) = grind (arith, nat_tests, h)
 past_counts now mark (inr h) = grind (arith, nat_tests, h.0, h.1)
 
-rise_is : (now : Words) (mark : PoolMark) (j : ℕ) → IsLive now mark j → now.scale - mark.scale ≡ j
+rise_is : (now : ScaledProduct) (mark : PoolMark) (j : ℕ) → IsLive now mark j → now.scale - mark.scale ≡ j
 rise_is now mark j h = omega (arith, h.scale)
 
-pub balance-live : (amount : ℕ) (now : Words) (mark : PoolMark) (j : ℕ) → IsLive now mark j → balance_by amount mark now ≡ floor_of amount now.p (mark.p * 10 ^ (9 * j))
+pub balance-live : (amount : ℕ) (now : ScaledProduct) (mark : PoolMark) (j : ℕ) → IsLive now mark j → balance_by amount mark now ≡ floor_of amount now.p (mark.p * 10 ^ (9 * j))
 balance-live amount now mark j h =
     ap (λ b. cond b (floor_of amount now.p (mark.p * 10 ^ (9 * (now.scale - mark.scale)))) 0) (live_counts now mark j h)
     ∙ ap (λ r. floor_of amount now.p (mark.p * 10 ^ (9 * r))) (rise_is now mark j h)
 
-pub worth-live : (now : Words) (mark : PoolMark) (j : ℕ) → IsLive now mark j → worth_of mark now ≡ now.p * reach j
+pub worth-live : (now : ScaledProduct) (mark : PoolMark) (j : ℕ) → IsLive now mark j → worth_of mark now ≡ now.p * reach j
 worth-live now mark j h =
     ap (λ b. cond b (now.p * reach (now.scale - mark.scale)) 0) (live_counts now mark j h)
     ∙ ap (λ r. now.p * reach r) (rise_is now mark j h)
 
-pub balance-past : (amount : ℕ) (now : Words) (mark : PoolMark) → IsPast now mark → balance_by amount mark now ≡ 0
+pub balance-past : (amount : ℕ) (now : ScaledProduct) (mark : PoolMark) → IsPast now mark → balance_by amount mark now ≡ 0
 balance-past amount now mark h = ap (λ b. cond b (floor_of amount now.p (mark.p * 10 ^ (9 * (now.scale - mark.scale)))) 0) (past_counts now mark h)
 
-pub worth-past : (now : Words) (mark : PoolMark) → IsPast now mark → worth_of mark now ≡ 0
+pub worth-past : (now : ScaledProduct) (mark : PoolMark) → IsPast now mark → worth_of mark now ≡ 0
 worth-past now mark h = ap (λ b. cond b (now.p * reach (now.scale - mark.scale)) 0) (past_counts now mark h)
 
 -- ---- the balance
@@ -96,14 +96,14 @@ read_near b a p p0 power h all split high =
 positive_product : (a b : ℕ) → 1 ≤ a → 1 ≤ b → 0 < a * b
 positive_product a b h k = let more : 1 * b ≤ a * b = mul-le-mul_right b h in omega arith
 
-pub balance_low : (amount : ℕ) (now : Words) (mark : PoolMark) (j : ℕ) → IsLive now mark j → balance_by amount mark now * base_of mark ≤ amount * (now.p * reach j)
+pub balance_low : (amount : ℕ) (now : ScaledProduct) (mark : PoolMark) (j : ℕ) → IsLive now mark j → balance_by amount mark now * base_of mark ≤ amount * (now.p * reach j)
 balance_low amount now mark j h =
     let b = floor_of amount now.p (mark.p * 10 ^ (9 * j)) in
     let low : b * (mark.p * 10 ^ 27) ≤ amount * (now.p * reach j) = read_below b amount now.p mark.p (10 ^ (9 * j)) (reach j) (10 ^ 27) (reach_whole j h.few) (floor_low amount now.p (mark.p * 10 ^ (9 * j))) in
     let is : balance_by amount mark now * (mark.p * 10 ^ 27) ≡ b * (mark.p * 10 ^ 27) = ap (λ n. n * (mark.p * 10 ^ 27)) (balance-live amount now mark j h) in
     omega arith
 
-pub balance_high : (amount : ℕ) (now : Words) (mark : PoolMark) (j : ℕ) → 1 ≤ mark.p → IsLive now mark j → amount * (now.p * reach j) ≤ (balance_by amount mark now + 1) * base_of mark
+pub balance_high : (amount : ℕ) (now : ScaledProduct) (mark : PoolMark) (j : ℕ) → 1 ≤ mark.p → IsLive now mark j → amount * (now.p * reach j) ≤ (balance_by amount mark now + 1) * base_of mark
 balance_high amount now mark j some h =
     let b = floor_of amount now.p (mark.p * 10 ^ (9 * j)) in
     let pos = positive_product mark.p (10 ^ (9 * j)) some (some_power (9 * j)) in

@@ -6,16 +6,17 @@ use Rattle.std.proofs.lemmas.Grind.{div_ceil_times}
 use Rattle.liq_num.specs.Quotient.{ceiling_of}
 use Rattle.liq_types.specs.declared.amounts.TheConstants.{P_LEAST, RISES_MOST}
 use Rattle.liq_types.specs.declared.events.PoolEvent.TheVariants as event
-use Rattle.liq_types.specs.Allowance.{Watch, weight_of, watch_after}
+use Rattle.liq_types.specs.Allowance.{cost_of}
 use Rattle.liq_types.specs.PlainLedger.{Share, share_after}
-use Rattle.liq_types.specs.Product.{Words, IsWithinRange, TakesPartUpTo, after_offset, sum_rise, place_of, is_place, sumat, start_words, mark_after}
-use Rattle.liq_types.specs.State.{State, PoolMark, After, DepositEntry, Offset}
+use Rattle.liq_types.specs.Product.{ScaledProduct, IsWithinRange, TakesPartUpTo, after_offset, sum_growth, place_of, is_place, sumat, start_words, mark_after}
+use Rattle.liq_types.specs.State.{State, PoolMark, After, DepositEntry, PoolOffset}
 use Rattle.liq_types.specs.Tables.{Table, at, put, without}
 use Rattle.liq_types.specs.Totals.{pool_total}
 use Rattle.liq_types.specs.WellFormed.{IsMoment, AreFinished, Ascends}
 use Rattle.liq_types.proofs.Lookups.{at-put_same, at-put_other, at-without_same, at-without_other}
 use Rattle.liq_types.proofs.Places.{rises-snoc, later_none}
 use Rattle.liq_types.proofs.Rounding.{weight_covers}
+use Rattle.liq_types.proofs.Watching.{Watch, watch_after}
 use Rattle.liq_stability.specs.Own.{offset, with_deposit}
 use Rattle.liq_stability.specs.Position.{mark_of, sums_from, balance_by, gain_by}
 use Rattle.liq_stability.specs.Words.{words_of}
@@ -33,20 +34,20 @@ pub record IsMarked (mark : PoolMark) (sum : ℕ) (w : Watch) (amount lost : ℕ
   pub some : 1 ≤ amount
   pub most : amount ≤ 10 ^ 27
   pub least_p : P_LEAST ≤ mark.p
-  pub epoch_is : w.epoch ≡ mark.epoch
-  pub scale_is : w.scale ≡ mark.scale
+  pub epoch_is : w.place.0 ≡ mark.epoch
+  pub scale_is : w.place.1 ≡ mark.scale
   pub events : w.own_events ≡ lost + 1
   pub sum_then : mark.sum ≤ sum
 
-pub record StandsLive (now : Words) (share : Share) (w : Watch) (got amount lost s : ℕ) (mark : PoolMark) (j : ℕ) : Type 0 where
+pub record StandsLive (now : ScaledProduct) (share : Share) (w : Watch) (got amount lost s : ℕ) (mark : PoolMark) (j : ℕ) : Type 0 where
   pub live : IsLive now mark j
   pub holds : HoldsLive share w.weight got amount lost (now.p * reach j) (base_of mark) s
 
-pub record StandsPast (now : Words) (share : Share) (w : Watch) (got amount lost s : ℕ) (mark : PoolMark) : Type 0 where
+pub record StandsPast (now : ScaledProduct) (share : Share) (w : Watch) (got amount lost s : ℕ) (mark : PoolMark) : Type 0 where
   pub past : IsPast now mark
   pub holds : HoldsPast share w.weight got amount lost (base_of mark) s
 
-abbrev pub StandsEither : Words → Share → Watch → ℕ → ℕ → ℕ → ℕ → PoolMark → Type 0
+abbrev pub StandsEither : ScaledProduct → Share → Watch → ℕ → ℕ → ℕ → ℕ → PoolMark → Type 0
 StandsEither now share w got amount lost s mark = ((j : ℕ) × StandsLive now share w got amount lost s mark j) ⊎ StandsPast now share w got amount lost s mark
 
 abbrev pub StandsAt : State → Share → Watch → ℕ → ℕ → PoolMark → Type 0
@@ -97,22 +98,22 @@ module _ (s : State) (share : Share) (w : Watch) (got : ℕ) where
 -- ---- through an offset
 
 -- what an offset may cost a deposit that counts
-weighs : (w : Watch) (now : Words) (mark : PoolMark) (j sum amount lost : ℕ) → w.now ≡ now → IsMarked mark sum w amount lost → IsLive now mark j → amount ≤ weight_of w * 10 ^ (9 * j)
+weighs : (w : Watch) (now : ScaledProduct) (mark : PoolMark) (j sum amount lost : ℕ) → w.now ≡ now → IsMarked mark sum w amount lost → IsLive now mark j → amount ≤ cost_of w.amount w.place (place_of w.now) * 10 ^ (9 * j)
 weighs w now mark j sum amount lost is m h =
-    let epoch_now : w.now.epoch ≡ now.epoch = ap (λ (v : Words). v.epoch) is in
-    let scale_now : w.now.scale ≡ now.scale = ap (λ (v : Words). v.scale) is in
-    let rise : w.now.scale - w.scale ≡ j = omega (arith, scale_now, m.scale_is, h.scale) in
-    let test : (not (w.amount == 0) && w.now.epoch == w.epoch) ≡ true = tested w.amount w.now.epoch w.epoch (omega (arith, m.amount_is, m.some)) (epoch_now ∙ h.epoch ∙ sym m.epoch_is) in
-    let is_ceiling : weight_of w ≡ ceiling_of w.amount 1 (10 ^ (9 * j)) =
-    ap (λ b. cond b (ceiling_of w.amount 1 (10 ^ (9 * (w.now.scale - w.scale)))) 0) test ∙ ap (λ r. ceiling_of w.amount 1 (10 ^ (9 * r))) rise in
+    let epoch_now : w.now.epoch ≡ now.epoch = ap (λ (v : ScaledProduct). v.epoch) is in
+    let scale_now : w.now.scale ≡ now.scale = ap (λ (v : ScaledProduct). v.scale) is in
+    let rise : w.now.scale - w.place.1 ≡ j = omega (arith, scale_now, m.scale_is, h.scale) in
+    let test : (not (w.amount == 0) && w.now.epoch == w.place.0) ≡ true = tested w.amount w.now.epoch w.place.0 (omega (arith, m.amount_is, m.some)) (epoch_now ∙ h.epoch ∙ sym m.epoch_is) in
+    let is_ceiling : cost_of w.amount w.place (place_of w.now) ≡ ceiling_of w.amount 1 (10 ^ (9 * j)) =
+    ap (λ b. cond b (ceiling_of w.amount 1 (10 ^ (9 * (w.now.scale - w.place.1)))) 0) test ∙ ap (λ r. ceiling_of w.amount 1 (10 ^ (9 * r))) rise in
     let above : w.amount * 1 ≤ ceiling_of w.amount 1 (10 ^ (9 * j)) * 10 ^ (9 * j) = (div_ceil_times (w.amount * 1) (10 ^ (9 * j)) (some_power (9 * j))).0 in
-    let same : weight_of w * 10 ^ (9 * j) ≡ ceiling_of w.amount 1 (10 ^ (9 * j)) * 10 ^ (9 * j) = ap (λ n. n * 10 ^ (9 * j)) is_ceiling in
+    let same : cost_of w.amount w.place (place_of w.now) * 10 ^ (9 * j) ≡ ceiling_of w.amount 1 (10 ^ (9 * j)) * 10 ^ (9 * j) = ap (λ n. n * 10 ^ (9 * j)) is_ceiling in
     omega (arith, above, same, m.amount_is) where
       tested : (amount epoch then_epoch : ℕ) → 1 ≤ amount → epoch ≡ then_epoch → (not (amount == 0) && epoch == then_epoch) ≡ true
       tested amount epoch then_epoch some e = grind (arith, nat_tests, some, e)
 
 module _ (most : ℕ) (served : most ≤ 10 ^ (9 * RISES_MOST)) (s : State) (debt coll rise : ℕ) (range : IsWithinRange (words_of s)) (takes : TakesPartUpTo most (offset_now s debt coll)) (worth_less : coll ≤ 11 * debt) (account : ℕ) (share : Share) (w : Watch) (got : ℕ) (now_is : w.now ≡ words_of s) where
-  now_offset : Offset
+  now_offset : PoolOffset
   now_offset = offset_now s debt coll
 
   abbrev share_then : Share
@@ -121,7 +122,7 @@ module _ (most : ℕ) (served : most ≤ 10 ^ (9 * RISES_MOST)) (s : State) (deb
   abbrev watch_then : Watch
   watch_then = watch_after account w (event.Offset debt coll (pool_total s) rise)
 
-  sums_more : (mark : PoolMark) (i : ℕ) → sums_from (offset s debt coll) mark i ≡ sums_from s mark i + cond (is_place (place_of (words_of s)) (mark.epoch, mark.scale + i)) (sum_rise (words_of s) (offset_now s debt coll)) 0
+  sums_more : (mark : PoolMark) (i : ℕ) → sums_from (offset s debt coll) mark i ≡ sums_from s mark i + cond (is_place (place_of (words_of s)) (mark.epoch, mark.scale + i)) (sum_growth (words_of s) (offset_now s debt coll)) 0
   sums_more mark i =
       let snoc = rises-snoc (start_words s.start) s.offsets (offset_now s debt coll) (mark.epoch, mark.scale + i) in
       omega (arith, snoc)
@@ -142,10 +143,10 @@ module _ (most : ℕ) (served : most ≤ 10 ^ (9 * RISES_MOST)) (s : State) (deb
   live_then mark amount lost m j h =
       let o = offset_now s debt coll in
       let now = words_of s in
-      let x = sum_rise now o in
+      let x = sum_growth now o in
       let total = pool_total s in
       let pos : 0 < total = omega (arith, takes.some, takes.within) in
-      let light : 10 ^ 9 * amount * reach j ≤ weight_of w * base_of mark = weight_covers amount (weight_of w) (10 ^ 9) mark.p (10 ^ (9 * j)) (reach j) (10 ^ 27) (reach_whole j h.live.few) m.least_p (weighs w now mark j (sums_from s mark 0) amount lost now_is m h.live) in
+      let light : 10 ^ 9 * amount * reach j ≤ cost_of w.amount w.place (place_of w.now) * base_of mark = weight_covers amount (cost_of w.amount w.place (place_of w.now)) (10 ^ 9) mark.p (10 ^ (9 * j)) (reach j) (10 ^ 27) (reach_whole j h.live.few) m.least_p (weighs w now mark j (sums_from s mark 0) amount lost now_is m h.live) in
       let grows : grown mark (sums_from (offset s debt coll) mark) ≡ grown mark (sums_from s mark) + x * reach j =
       grown_more mark (sums_from (offset s debt coll) mark) (sums_from s mark) x j h.live.few m.sum_then (λ i. sums_more mark i ∙ ap (λ b. sums_from s mark i + cond b x 0) (live_place now mark j i h.live)) in
       elim (where_left most served now o range takes mark m.least_p j h.live) [
@@ -154,15 +155,15 @@ module _ (most : ℕ) (served : most ≤ 10 ^ (9 * RISES_MOST)) (s : State) (deb
           record {
             live = k.1.live;
             holds =
-                subst (λ z. HoldsLive share_then (w.weight + weight_of w) got amount lost ((after_offset now o).p * reach k.0) (base_of mark) z) (sym grows)
-                (live_to_live account share debt coll total rise takes.within worth_less w.weight (weight_of w) got amount lost (now.p * reach j) ((after_offset now o).p * reach k.0) (base_of mark) (grown mark (sums_from s mark)) (x * reach j) (reach j) k.1.low k.1.near (gained_low now o j) (gained_near now o j pos) light h.holds);
+                subst (λ z. HoldsLive share_then (w.weight + cost_of w.amount w.place (place_of w.now)) got amount lost ((after_offset now o).p * reach k.0) (base_of mark) z) (sym grows)
+                (live_to_live account share debt coll total rise takes.within worth_less w.weight (cost_of w.amount w.place (place_of w.now)) got amount lost (now.p * reach j) ((after_offset now o).p * reach k.0) (base_of mark) (grown mark (sums_from s mark)) (x * reach j) (reach j) k.1.low k.1.near (gained_low now o j) (gained_near now o j pos) light h.holds);
           },
         )
         | inr k ↦ inr (record {
           past = k.past;
           holds =
-              subst (λ z. HoldsPast share_then (w.weight + weight_of w) got amount lost (base_of mark) z) (sym grows)
-              (live_to_past account share debt coll total rise takes.within worth_less w.weight (weight_of w) got amount lost (now.p * reach j) (base_of mark) (grown mark (sums_from s mark)) (x * reach j) (reach j) (positive_base mark m.least_p) (k.little amount m.most) (gained_low now o j) (gained_near now o j pos) light h.holds);
+              subst (λ z. HoldsPast share_then (w.weight + cost_of w.amount w.place (place_of w.now)) got amount lost (base_of mark) z) (sym grows)
+              (live_to_past account share debt coll total rise takes.within worth_less w.weight (cost_of w.amount w.place (place_of w.now)) got amount lost (now.p * reach j) (base_of mark) (grown mark (sums_from s mark)) (x * reach j) (reach j) (positive_base mark m.least_p) (k.little amount m.most) (gained_low now o j) (gained_near now o j pos) light h.holds);
         })
       ]
 
@@ -171,12 +172,12 @@ module _ (most : ℕ) (served : most ≤ 10 ^ (9 * RISES_MOST)) (s : State) (deb
       let o = offset_now s debt coll in
       let now = words_of s in
       let same : grown mark (sums_from (offset s debt coll) mark) ≡ grown mark (sums_from s mark) =
-      grown_same mark (sums_from (offset s debt coll) mark) (sums_from s mark) (λ i few. sums_more mark i ∙ unchanged (sums_from s mark i) (sum_rise now o) (is_place (place_of now) (mark.epoch, mark.scale + i)) (past_place now mark i few h.past)) in
+      grown_same mark (sums_from (offset s debt coll) mark) (sums_from s mark) (λ i few. sums_more mark i ∙ unchanged (sums_from s mark i) (sum_growth now o) (is_place (place_of now) (mark.epoch, mark.scale + i)) (past_place now mark i few h.past)) in
       record {
         past = stays_past most served now o range takes mark m.least_p h.past;
         holds =
-            subst (λ z. HoldsPast share_then (w.weight + weight_of w) got amount lost (base_of mark) z) (sym same)
-            (past_to_past account share debt coll (pool_total s) rise takes.within worth_less w.weight (weight_of w) got amount lost (base_of mark) (grown mark (sums_from s mark)) h.holds);
+            subst (λ z. HoldsPast share_then (w.weight + cost_of w.amount w.place (place_of w.now)) got amount lost (base_of mark) z) (sym same)
+            (past_to_past account share debt coll (pool_total s) rise takes.within worth_less w.weight (cost_of w.amount w.place (place_of w.now)) got amount lost (base_of mark) (grown mark (sums_from s mark)) h.holds);
       } where
         unchanged : (n x : ℕ) (b : Bool) → b ≡ false → n + cond b x 0 ≡ n
         unchanged n x b e = ap (λ c. n + cond c x 0) e ∙ none n where
@@ -187,7 +188,7 @@ module _ (most : ℕ) (served : most ≤ 10 ^ (9 * RISES_MOST)) (s : State) (deb
   at_then amount mark h = (
     h.0,
     marked_then mark amount h.0 h.1,
-    subst (λ (v : Words). StandsEither v share_then watch_then got amount h.0 (grown mark (sums_from (offset s debt coll) mark)) mark) (sym (words-snoc s debt coll))
+    subst (λ (v : ScaledProduct). StandsEither v share_then watch_then got amount h.0 (grown mark (sums_from (offset s debt coll) mark)) mark) (sym (words-snoc s debt coll))
         (elim h.2 [
           | inl k ↦ live_then mark amount h.0 h.1 k.0 k.1
           | inr k ↦ inr (past_then mark amount h.0 h.1 k)
@@ -195,7 +196,7 @@ module _ (most : ℕ) (served : most ≤ 10 ^ (9 * RISES_MOST)) (s : State) (deb
   )
 
   pub offset_stands : (o : Option DepositEntry) → StandsBy s share w got o → StandsBy (offset s debt coll) share_then watch_then got o
-  offset_stands None h = (h.0, none_to_none account share debt coll (pool_total s) rise takes.within worth_less w.weight (weight_of w) w.own_events got h.1)
+  offset_stands None h = (h.0, none_to_none account share debt coll (pool_total s) rise takes.within worth_less w.weight (cost_of w.amount w.place (place_of w.now)) w.own_events got h.1)
   offset_stands (Some d) h = (
     moment-more (length s.offsets) (length (s.offsets ++ offset_now s debt coll ∷ [])) (length-more s.offsets (offset_now s debt coll)) d.mark h.0,
     subst (StandsAt (offset s debt coll) share_then watch_then got d.amount) (sym (mark-grown s debt coll d.mark h.0)) (at_then d.amount (mark_of s d.mark) h.1),
@@ -226,7 +227,7 @@ deposit_other table account d q h = by (d.amount == 0) where
 module _ (s : State) (finished : AreFinished s.start) (range : IsWithinRange (words_of s)) (ascends : Ascends s.deposits) (account put_in out : ℕ) (share : Share) (w : Watch) (g : ℕ) (now_is : w.now ≡ words_of s) (b : ℕ) (within : out ≤ b) (read : IsRead share w.weight w.own_events b g) (left : ℕ) (left_is : left ≡ b + put_in - out) (most : left ≤ 10 ^ 27) where
   -- what the plain account of the events has then
   abbrev pub watch_moved : Watch
-  watch_moved = record w { amount = left; epoch = w.now.epoch; scale = w.now.scale; own_events = w.own_events + 1 }
+  watch_moved = record w { amount = left; place = place_of w.now; own_events = w.own_events + 1 }
 
   abbrev pub share_moved : Share
   share_moved = moved account share w.weight w.own_events b g put_in out within read
@@ -250,8 +251,8 @@ module _ (s : State) (finished : AreFinished s.start) (range : IsWithinRange (wo
       some = some;
       most = most;
       least_p = range.least;
-      epoch_is = ap (λ (v : Words). v.epoch) now_is;
-      scale_is = ap (λ (v : Words). v.scale) now_is;
+      epoch_is = ap (λ (v : ScaledProduct). v.epoch) now_is;
+      scale_is = ap (λ (v : ScaledProduct). v.scale) now_is;
       events = refl;
       sum_then = omega (arith, here);
     },

@@ -11,15 +11,15 @@ use Rattle.std.proofs.lemmas.Bool.Decides.{nat_tests}
 use Rattle.liq_types.specs.declared.amounts.TheConstants.{OFFSET_MOST, P_OPENING, RISES_MOST}
 use Rattle.liq_types.specs.declared.events.PoolEvent.{PoolEvent}
 use Rattle.liq_types.specs.declared.events.PoolEvent.TheVariants as event
-use Rattle.liq_types.specs.Allowance.{Watch, watch_after}
 use Rattle.liq_types.specs.PlainLedger.{Share, share_after, total_of, gain_paid, coll_of, IsOwnedBelow, AreOwnedBelow, over_accounts}
-use Rattle.liq_types.specs.Product.{Words, IsWithinRange, TakesPartUpTo, after_offset, place_of, sumat}
+use Rattle.liq_types.specs.Product.{ScaledProduct, IsWithinRange, TakesPartUpTo, after_offset, place_of, sumat}
 use Rattle.liq_types.specs.State.{State, After, DepositEntry}
 use Rattle.liq_types.specs.Tables.{Table, at, put, without}
 use Rattle.liq_types.specs.Totals.{pool_total, pool_coll}
 use Rattle.liq_types.specs.WellFormed.{AreFinished, IsPoolCovered, Ascends}
 use Rattle.liq_types.proofs.Accounts.{over-same, over-plus, over-times, over-le, over-term, over-one, keys-within}
 use Rattle.liq_types.proofs.Ranges.{offset_within}
+use Rattle.liq_types.proofs.Watching.{Watch, watch_after}
 use Rattle.liq_types.proofs.Sums.{SumsAreWithin, now-snoc, all-snoc}
 use Rattle.liq_stability.specs.Lawful.{IsLawfulEvent, IsWithinLimit, IsLawfulUpTo}
 use Rattle.liq_stability.specs.Own.{owned, offset, with_deposit, amount_after, after_event}
@@ -60,7 +60,7 @@ module _ (most : ℕ) (served : most ≤ 10 ^ (9 * RISES_MOST)) where
         range = subst IsWithinRange (sym (words-snoc s debt coll)) next;
         sums = record {
           now =
-              subst (λ (v : Words). sumat s.start (s.offsets ++ o ∷ []) (place_of v) + OFFSET_MOST * v.p ≤ OFFSET_MOST * P_OPENING) (sym (words-snoc s debt coll))
+              subst (λ (v : ScaledProduct). sumat s.start (s.offsets ++ o ∷ []) (place_of v) + OFFSET_MOST * v.p ≤ OFFSET_MOST * P_OPENING) (sym (words-snoc s debt coll))
               (now-snoc most s.start s.offsets o h.finished h.range next takes worth_less h.sums);
           all = all-snoc most s.start s.offsets o h.finished h.range next takes worth_less h.sums;
         };
@@ -163,7 +163,7 @@ module _ (most : ℕ) (served : most ≤ 10 ^ (9 * RISES_MOST)) (n : ℕ) where
       record {
         pool = pool_offset most served s debt coll takes worth_less h.pool;
         owners = h.owners;
-        now = λ a. ap (λ (v : Words). after_offset v o) (h.now a) ∙ sym (words-snoc s debt coll);
+        now = λ a. ap (λ (v : ScaledProduct). after_offset v o) (h.now a) ∙ sym (words-snoc s debt coll);
         dens = λ a. ap (λ k. k * total) (h.dens a);
         some =
             let pos : 1 ≤ total = omega (arith, takes.some, takes.within) in
@@ -233,7 +233,7 @@ module _ (most : ℕ) (served : most ≤ 10 ^ (9 * RISES_MOST)) (n : ℕ) where
     share_moved a = record (shares a) { bal = (shares a).bal + put_in * (shares a).den - out * (shares a).den }
 
     abbrev watch_moved : ℕ → Watch
-    watch_moved a = record (watches a) { amount = amount_after s account put_in out; epoch = (watches a).now.epoch; scale = (watches a).now.scale; own_events = (watches a).own_events + 1 }
+    watch_moved a = record (watches a) { amount = amount_after s account put_in out; place = place_of (watches a).now; own_events = (watches a).own_events + 1 }
 
     same_each : StandsBy state_then (share_moved account) (watch_moved account) (gots account + gain_of s account) (at state_then.deposits account)
     same_each =

@@ -3,23 +3,23 @@ use Rattle.std.specs.Prelude.{ℕ, ◌+◌, ◌-◌, ◌*◌, ◌/◌, ◌%◌, 
 use Rattle.liq_num.specs.Quotient.{ceiling_of}
 use Rattle.liq_types.specs.declared.amounts.TheConstants.{P_LEAST}
 use Rattle.liq_types.specs.Image.{Place}
-use Rattle.liq_types.specs.Product.{Words, STEPS_TRIED, opening_words, least_from, after_offset, place_of, is_place}
-use Rattle.liq_types.specs.State.{State, Offset, PoolMark}
+use Rattle.liq_types.specs.Product.{ScaledProduct, STEPS_TRIED, opening_words, least_from, after_offset, place_of, is_place}
+use Rattle.liq_types.specs.State.{State, PoolOffset, PoolMark}
 use Rattle.liq_stability.specs.Position.{balance_by, gain_by}
 
 -- ---- the product rounded upward
 
-abbrev pub product_upward : ℕ → Offset → ℕ → ℕ
+abbrev pub product_upward : ℕ → PoolOffset → ℕ → ℕ
 product_upward p o steps = ceiling_of p ((o.total - o.debt) * 10 ^ (9 * steps)) o.total
 
-abbrev pub after_upward : Words → Offset → Words
+abbrev pub after_upward : ScaledProduct → PoolOffset → ScaledProduct
 after_upward w o =
     let steps = least_from (λ k. nat_le P_LEAST (product_upward w.p o k)) 0 STEPS_TRIED in
     if o.debt == o.total
     then record opening_words { epoch = w.epoch + 1 }
     else record { p = product_upward w.p o steps; scale = w.scale + steps; epoch = w.epoch }
 
-abbrev pub words_upward : List Offset → Words
+abbrev pub words_upward : List PoolOffset → ScaledProduct
 words_upward offsets = fold after_upward opening_words offsets
 
 -- what an amount is worth that was recorded after so many offsets
@@ -31,7 +31,7 @@ balance_upward s amount items =
 -- ---- the remainder of a sum's quotient carried into the next offset
 
 -- what offsets add to the sum of a place, with a remainder from before
-abbrev pub carried_at : Words → ℕ → List Offset → Place → ℕ
+abbrev pub carried_at : ScaledProduct → ℕ → List PoolOffset → Place → ℕ
 carried_at w carried [] place = 0
 carried_at w carried (o ∷ os) place =
     let due = o.coll * w.p + carried in

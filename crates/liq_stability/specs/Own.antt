@@ -37,3 +37,15 @@ after_event s (event.Offset debt coll total rise) = offset s debt coll
 -- the state after events from the opening on
 abbrev pub after_events : List PoolEvent → State
 after_events events = fold after_event opening events
+
+-- the part of a state that is the Stability Pool's
+abbrev pub pool_of : State → State
+pool_of s =
+    record opening {
+      start = s.start;
+      provided = s.provided;
+      withdrawn = s.withdrawn;
+      gains_paid = s.gains_paid;
+      offsets = s.offsets;
+      deposits = s.deposits;
+    }

@@ -2,7 +2,7 @@
 use Rattle.std.specs.Prelude.{ℕ, ◌+◌, ◌-◌, ◌*◌, ◌^◌, ◌==◌, ◌&&◌, nat_le, min, Option, Some, None, [], ◌∷◌, take, sum_by, if◌then◌else◌}
 use Rattle.liq_num.specs.Quotient.{floor_of}
 use Rattle.liq_types.specs.declared.figures.Deposit.{Deposit}
-use Rattle.liq_types.specs.Product.{Words, sumat, mark_after}
+use Rattle.liq_types.specs.Product.{ScaledProduct, sumat, mark_after}
 use Rattle.liq_types.specs.State.{State, Mark, AtStart, After, PoolMark, DepositEntry}
 use Rattle.liq_types.specs.Tables.{Table, at, map_rows}
 use Rattle.liq_stability.specs.declared.words.PoolWords.{PoolWords}
@@ -12,7 +12,7 @@ pub use Rattle.liq_stability.specs.Words.{words_of}
 -- ---- by words and sums
 
 -- what is left of an amount; nothing after the epoch's end, and too little to count after more than three scales
-abbrev pub balance_by : ℕ → PoolMark → Words → ℕ
+abbrev pub balance_by : ℕ → PoolMark → ScaledProduct → ℕ
 balance_by amount mark now =
     let rise = now.scale - mark.scale in
     if now.epoch == mark.epoch && nat_le rise 3 then floor_of amount now.p (mark.p * 10 ^ (9 * rise)) else 0

@@ -2,8 +2,8 @@
 use Rattle.std.specs.Prelude.{ℕ, ◌+◌, ◌-◌, ◌||◌, ◌==◌, List, Option, Some, None, if◌then◌else◌}
 use Rattle.std.specs.BTreeMap.{insert_entry}
 use Rattle.liq_types.specs.Image.{Place}
-use Rattle.liq_types.specs.Product.{Words, after_offset, prod, sumat, sum_rise, place_of, is_place, place_order}
-use Rattle.liq_types.specs.State.{State, Offset}
+use Rattle.liq_types.specs.Product.{ScaledProduct, after_offset, prod, sumat, sum_growth, place_of, is_place, place_order}
+use Rattle.liq_types.specs.State.{State, PoolOffset}
 use Rattle.liq_types.specs.Totals.{pool_total, pool_coll}
 use Rattle.liq_stability.specs.declared.words.PoolWords.{PoolWords}
 use Rattle.liq_stability.specs.declared.words.FinishedSum.{FinishedSum}
@@ -11,16 +11,16 @@ use Rattle.liq_stability.specs.declared.words.FinishedSum.{FinishedSum}
 -- ---- over the words as they are kept
 
 -- the product, and where it counts
-abbrev pub words_in : PoolWords → Words
+abbrev pub words_in : PoolWords → ScaledProduct
 words_in w = record { p = w.p; scale = w.scale; epoch = w.epoch }
 
 -- the pool takes over debt for collateral
-abbrev pub offset_in : PoolWords → ℕ → ℕ → Offset
+abbrev pub offset_in : PoolWords → ℕ → ℕ → PoolOffset
 offset_in w debt coll = record { debt = debt; coll = coll; total = w.total }
 
 -- the sum of the words' place, with what an offset adds to it
 abbrev pub sum_with : PoolWords → ℕ → ℕ → ℕ
-sum_with w debt coll = w.sum + sum_rise (words_in w) (offset_in w debt coll)
+sum_with w debt coll = w.sum + sum_growth (words_in w) (offset_in w debt coll)
 
 -- A sum counts at its place alone: where an offset leaves the place, the next one begins at 0.
 abbrev pub words_after : PoolWords → ℕ → ℕ → PoolWords
@@ -51,7 +51,7 @@ finished_with table (Some f) = insert_entry place_order table (f.epoch, f.scale)
 
 -- ---- in a state
 
-abbrev pub words_of : State → Words
+abbrev pub words_of : State → ScaledProduct
 words_of s = prod s.start s.offsets
 
 abbrev pub pool_words : State → PoolWords

@@ -1,22 +1,22 @@
 //! What holds of the definitions that the contracts cite. The functions here do nothing: each is the place where the facts
 //! of its contract are proved.
 
-ghost use Rattle.std.specs.Prelude.{◌≡◌, ℕ, ◌+◌, ◌-◌, ◌*◌, ◌/◌, ◌^◌, ◌≤◌, ◌<◌, List, ◌++◌, Some, sum, map, fold};
+ghost use Rattle.std.specs.Prelude.{◌≡◌, ℕ, ◌+◌, ◌-◌, ◌*◌, ◌/◌, ◌^◌, ◌≤◌, ◌<◌, List, ◌++◌, false, unwrap_or, Some, sum, map, fold};
 ghost use Rattle.std.specs.List.{AllByRecursion};
 ghost use Rattle.std.specs.List.Sorted.{IsStrictlySortedBy};
-ghost use Rattle.std.specs.Map.{keys_of, values_of};
+ghost use Rattle.std.specs.Map.{keys_of, values_of, lookup};
 ghost use Rattle.liq_num.specs.Quotient.{floor_of};
 ghost use Rattle.liq_types.specs.declared.events.PoolEvent.{PoolEvent};
 ghost use Rattle.liq_types.specs.Allowance.{balance_allowance, gain_allowance};
 ghost use Rattle.liq_types.specs.Image.{Image, Place};
 ghost use Rattle.liq_types.specs.PlainLedger.{exact_share, den_of, offsets_coll, gains_paid_to, AreOwnedBelow, over_accounts};
-ghost use Rattle.liq_types.specs.Product.{IsWithinRange, place_order, place_of, prod, sumat, finished_sums};
-ghost use Rattle.liq_types.specs.State.{State, DepositEntry, Offset, opening};
+ghost use Rattle.liq_types.specs.Product.{IsWithinRange, is_place, place_order, place_of, prod, sumat, finished_sums};
+ghost use Rattle.liq_types.specs.State.{State, DepositEntry, PoolOffset, opening};
 ghost use Rattle.liq_types.specs.Tables.{at};
 ghost use Rattle.liq_types.specs.Totals.{pool_total, pool_coll};
 ghost use Rattle.liq_types.specs.WellFormed.{AreFinished, IsBefore, IsPoolCovered};
 ghost use Rattle.liq_stability.specs.Lawful.{IsLawful, IsLawfulUpTo};
-ghost use Rattle.liq_stability.specs.Own.{offset, after_event, after_events};
+ghost use Rattle.liq_stability.specs.Own.{offset, after_event, after_events, pool_of};
 ghost use Rattle.liq_stability.specs.Position.{balance_of, gain_of, balance_by, gain_by, mark_of, sums_from};
 ghost use Rattle.liq_stability.specs.Promise.{IsWithinAllowance, gained_of};
 ghost use Rattle.liq_stability.specs.Words.{words_of, pool_words, words_after, finished_by, finished_with};
@@ -46,14 +46,16 @@ pub fn offsets_move_the_words()
 {}
 
 /// The finished sums ascend by their places, which all come before the place of now, and none is 0, where this holds of the
-/// image from which the offsets began.
+/// image from which the offsets began. Each is the sum of its place, and where there is none the sum is 0.
 pub fn finished_sums_stay_in_order()
-    ensures ascending { (i : Image) → (offsets : List Offset) → IsStrictlySortedBy place_order (keys_of i.finished) →
+    ensures ascending { (i : Image) → (offsets : List PoolOffset) → IsStrictlySortedBy place_order (keys_of i.finished) →
         IsStrictlySortedBy place_order (keys_of (finished_sums i offsets)) }
-    ensures some { (i : Image) → (offsets : List Offset) → AllByRecursion (λ sum. 1 ≤ sum) (values_of i.finished) →
+    ensures some { (i : Image) → (offsets : List PoolOffset) → AllByRecursion (λ sum. 1 ≤ sum) (values_of i.finished) →
         AllByRecursion (λ sum. 1 ≤ sum) (values_of (finished_sums i offsets)) }
-    ensures before { (i : Image) → (offsets : List Offset) → AreFinished i →
+    ensures before { (i : Image) → (offsets : List PoolOffset) → AreFinished i →
         AllByRecursion (λ (row : Place × ℕ). IsBefore row.0 (place_of (prod i offsets))) (finished_sums i offsets) }
+    ensures shown { (i : Image) → (offsets : List PoolOffset) → AreFinished i → (place : Place) → is_place (place_of (prod i offsets)) place ≡ false →
+        unwrap_or (lookup (is_place place) (finished_sums i offsets)) 0 ≡ sumat i offsets place }
 {}
 
 /// Lawful lists one after another are a lawful list, and each part of a lawful list is lawful where it begins.
@@ -63,6 +65,18 @@ pub fn lawful_lists_join()
     ensures first { (most : ℕ) → (s : State) → (first rest : List PoolEvent) → IsLawfulUpTo most s (first ++ rest) → IsLawfulUpTo most s first }
     ensures rest { (most : ℕ) → (s : State) → (first rest : List PoolEvent) → IsLawfulUpTo most s (first ++ rest) →
         IsLawfulUpTo most (fold after_event s first) rest }
+{}
+
+/// Positions, words and lawful lists rest on the Stability Pool's part of a state alone, and events change that part alone. So
+/// what every depositor is promised holds in each state that has the pool of these events, whatever else it has.
+pub fn only_the_pool_counts()
+    ensures positions { (s : State) → (account : ℕ) →
+        (balance_of (pool_of s) account ≡ balance_of s account) × (gain_of (pool_of s) account ≡ gain_of s account) }
+    ensures words { (s : State) → pool_words (pool_of s) ≡ pool_words s }
+    ensures events { (s : State) → (e : PoolEvent) → pool_of (after_event s e) ≡ after_event (pool_of s) e }
+    ensures lawful { (most : ℕ) → (s t : State) → pool_of s ≡ pool_of t → (events : List PoolEvent) → IsLawfulUpTo most s events → IsLawfulUpTo most t events }
+    ensures promise { (s : State) → (events : List PoolEvent) → IsLawful opening events → pool_of s ≡ pool_of (after_events events) →
+        (account : ℕ) → IsWithinAllowance s account events }
 {}
 
 /// After lawful events no balance and no sum of all gains is more than the exact share, whatever the pool's limit is, as long

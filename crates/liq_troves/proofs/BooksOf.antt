@@ -14,7 +14,7 @@ use Rattle.liq_types.proofs.MapRows.{at-map, map-put, map-without, map-sum, map-
 use Rattle.liq_troves.specs.Own.{lifted_entry, lifted, placed, stake_for, redistributed, snapped}
 use Rattle.liq_troves.specs.Rows.{stakes_in}
 use Rattle.liq_troves.specs.Standing.{Books, books_of, lifted_row, lift, place, spread, snap}
-use Rattle.liq_troves.specs.StakeSums.{sums_at, trove_row, coll_rise, debt_rise}
+use Rattle.liq_troves.specs.StakeSums.{sums_at, trove_row, coll_growth, debt_growth}
 
 stakes_shown : (s : State) (table : Table TroveEntry) → sum_by (λ (t : TroveEntry). t.stake) (values_of table) ≡ stakes_in (map_rows (trove_row s) table)
 stakes_shown s table = sym (map-sum (trove_row s) (λ (t : Trove). t.stake) table)
@@ -48,7 +48,7 @@ place_books s account coll debt =
 sums_grown : (s : State) (coll debt : ℕ) (mark : Mark StakeSums) → IsMoment (length s.redistributions) mark → sums_at (redistributed s coll debt) mark ≡ sums_at s mark
 sums_grown s coll debt (AtStart fields) h = refl
 sums_grown s coll debt (After n) h =
-    ap (λ (rs : List Redistribution). record { coll = s.start.sum_coll + sum_by coll_rise rs; debt = s.start.sum_debt + sum_by debt_rise rs })
+    ap (λ (rs : List Redistribution). record { coll = s.start.sum_coll + sum_by coll_growth rs; debt = s.start.sum_debt + sum_by debt_growth rs })
     (take-append-le n s.redistributions (record { coll = coll; debt = debt; stakes = stakes_of s } ∷ []) h)
 
 row_grown : (s : State) (coll debt : ℕ) (t : TroveEntry) → IsMoment (length s.redistributions) t.mark → trove_row (redistributed s coll debt) t ≡ trove_row s t
@@ -71,8 +71,8 @@ spread_books s coll debt h =
     let left = books_of (redistributed s coll debt) in
     let made = spread (books_of s) coll debt in
     ap (λ (rows : Table Trove). record left { troves = rows }) (map-cong (trove_row (redistributed s coll debt)) (trove_row s) (λ t. IsMoment (length s.redistributions) t.mark) (row_grown s coll debt) s.troves h)
-    ∙ ap (λ n. record made { sums = record made.sums { coll = n; debt = left.sums.debt } }) (sum_more coll_rise s.start.sum_coll s.redistributions more)
-    ∙ ap (λ n. record made { sums = record made.sums { debt = n } }) (sum_more debt_rise s.start.sum_debt s.redistributions more)
+    ∙ ap (λ n. record made { sums = record made.sums { coll = n; debt = left.sums.debt } }) (sum_more coll_growth s.start.sum_coll s.redistributions more)
+    ∙ ap (λ n. record made { sums = record made.sums { debt = n } }) (sum_more debt_growth s.start.sum_debt s.redistributions more)
 
 pub snap_books : (s : State) → books_of (snapped s) ≡ snap (books_of s)
 snap_books s = refl

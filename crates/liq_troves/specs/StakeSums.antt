@@ -12,18 +12,18 @@ use Rattle.liq_troves.specs.Rows.{entire_by, entire_in, key_by, growth}
 -- ---- sums along the list
 
 -- what a redistribution gives to each unit of stake, over ONE
-abbrev pub coll_rise : Redistribution → ℕ
-coll_rise r = growth r.coll r.stakes
+abbrev pub coll_growth : Redistribution → ℕ
+coll_growth r = growth r.coll r.stakes
 
-abbrev pub debt_rise : Redistribution → ℕ
-debt_rise r = growth r.debt r.stakes
+abbrev pub debt_growth : Redistribution → ℕ
+debt_growth r = growth r.debt r.stakes
 
 -- the sums after so many redistributions
 abbrev pub sums_after : State → ℕ → StakeSums
 sums_after s items =
     record {
-      coll = s.start.sum_coll + sum_by coll_rise (take items s.redistributions);
-      debt = s.start.sum_debt + sum_by debt_rise (take items s.redistributions);
+      coll = s.start.sum_coll + sum_by coll_growth (take items s.redistributions);
+      debt = s.start.sum_debt + sum_by debt_growth (take items s.redistributions);
     }
 
 abbrev pub sums_now : State → StakeSums

@@ -12,7 +12,7 @@ use Rattle.std.specs.declared.cmp.Ordering.TheVariants.{Less, Equal, Greater}
 use Rattle.std.proofs.lemmas.Bool.Decides.{nat_tests}
 use Rattle.liq_types.specs.Image.{Image, Place}
 use Rattle.liq_types.specs.Product.{place_of, place_order, prod, start_words, sumat, places_left, with_finished, finished_sums}
-use Rattle.liq_types.specs.State.{Offset}
+use Rattle.liq_types.specs.State.{PoolOffset}
 use Rattle.liq_types.specs.WellFormed.{IsBefore, AreFinished}
 use Rattle.liq_types.proofs.Places.{before_up_to, list_reaches, left_before}
 
@@ -56,7 +56,7 @@ finish-ascends : (v : Place → ℕ) (table : Finished) (places : List Place) �
 finish-ascends v table [] h = h
 finish-ascends v table (p ∷ ps) h = finish-ascends v (with_finished table p (v p)) ps (with-ascends table p (v p) h)
 
-pub finished-ascend : (i : Image) (os : List Offset) → IsStrictlySortedBy place_order (keys_of i.finished) → IsStrictlySortedBy place_order (keys_of (finished_sums i os))
+pub finished-ascend : (i : Image) (os : List PoolOffset) → IsStrictlySortedBy place_order (keys_of i.finished) → IsStrictlySortedBy place_order (keys_of (finished_sums i os))
 finished-ascend i os h = finish-ascends (sumat i os) i.finished (places_left (start_words i) os) h
 
 -- ---- rows that are written
@@ -81,7 +81,7 @@ module _ (P : Place → ℕ → Type 0) where
     by true e = h
     by false e = rows-insert keep table p (v p) (made p q.0 e) h
 
-pub finished-before : (i : Image) (os : List Offset) → AreFinished i → AllByRecursion (λ (row : Place × ℕ). IsBefore row.0 (place_of (prod i os))) (finished_sums i os)
+pub finished-before : (i : Image) (os : List PoolOffset) → AreFinished i → AllByRecursion (λ (row : Place × ℕ). IsBefore row.0 (place_of (prod i os))) (finished_sums i os)
 finished-before i os f =
     rows-finish (λ place sum. IsBefore place (place_of (prod i os))) (λ a b n m e p q. q) (sumat i os) (λ p. IsBefore p (place_of (prod i os))) (λ p q e. q) i.finished (places_left (start_words i) os)
     (left_before (start_words i) os) (first i.finished f) where
@@ -104,7 +104,7 @@ to_values : (table : Finished) → AllByRecursion (λ (row : Place × ℕ). 1 �
 to_values [] h = tt
 to_values (e ∷ es) h = (h.0, to_values es h.1)
 
-pub finished-some : (i : Image) (os : List Offset) → AllByRecursion (λ sum. 1 ≤ sum) (values_of i.finished) → AllByRecursion (λ sum. 1 ≤ sum) (values_of (finished_sums i os))
+pub finished-some : (i : Image) (os : List PoolOffset) → AllByRecursion (λ sum. 1 ≤ sum) (values_of i.finished) → AllByRecursion (λ sum. 1 ≤ sum) (values_of (finished_sums i os))
 finished-some i os h =
     to_values (finished_sums i os)
     (rows-finish (λ place sum. 1 ≤ sum) (λ a b n m e p q. p) (sumat i os) (λ p. Unit {0}) (λ p q e. some_sum (sumat i os p) e) i.finished (places_left (start_words i) os)

@@ -9,3 +9,4 @@ pub mod Ranges
 pub mod Rounding
 pub mod Sums
 pub mod UsedRows
+pub mod Watching

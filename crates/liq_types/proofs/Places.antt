@@ -12,8 +12,8 @@ use Rattle.std.proofs.lemmas.Bool.{cases_lt}
 use Rattle.std.proofs.lemmas.Bool.Decides.{nat_tests}
 use Rattle.liq_types.specs.declared.amounts.TheConstants.{P_OPENING}
 use Rattle.liq_types.specs.Image.{Image, Place}
-use Rattle.liq_types.specs.Product.{Words, after_offset, rise_of, product_after, start_words, prod, place_of, is_place, place_order, sum_rise, rises_at, start_sum, sumat, places_left, with_finished, finished_sums}
-use Rattle.liq_types.specs.State.{Offset}
+use Rattle.liq_types.specs.Product.{ScaledProduct, after_offset, rise_of, product_after, start_words, prod, place_of, is_place, place_order, sum_growth, growth_at, start_sum, sumat, places_left, with_finished, finished_sums}
+use Rattle.liq_types.specs.State.{PoolOffset}
 use Rattle.liq_types.specs.WellFormed.{IsBefore, AreFinished}
 
 -- ---- places in their order
@@ -68,31 +68,31 @@ is_place-turned a b = grind (arith, nat_tests)
 
 -- ---- along a list of offsets
 
-after_reaches : (w : Words) (o : Offset) → IsUpTo (place_of w) (place_of (after_offset w o))
+after_reaches : (w : ScaledProduct) (o : PoolOffset) → IsUpTo (place_of w) (place_of (after_offset w o))
 after_reaches w o = by (o.debt == o.total) where
   by : (b : Bool) → IsUpTo (place_of w) (place_of (cond b (record { p = P_OPENING; scale = 0; epoch = w.epoch + 1 }) (record { p = product_after w.p o (rise_of w.p o); scale = w.scale + rise_of w.p o; epoch = w.epoch })))
   by true = inl (omega arith)
   by false = inr (refl, omega arith)
 
-pub list_reaches : (w : Words) (os : List Offset) → IsUpTo (place_of w) (place_of (fold after_offset w os))
+pub list_reaches : (w : ScaledProduct) (os : List PoolOffset) → IsUpTo (place_of w) (place_of (fold after_offset w os))
 list_reaches w [] = inr (refl, omega arith)
 list_reaches w (o ∷ os) = up_to_trans (place_of w) (place_of (after_offset w o)) _ (after_reaches w o) (list_reaches (after_offset w o) os)
 
 -- no offset counts at a place past the last
-pub none_later : (w : Words) (os : List Offset) (q : Place) → IsBefore (place_of (fold after_offset w os)) q → rises_at w os q ≡ 0
+pub none_later : (w : ScaledProduct) (os : List PoolOffset) (q : Place) → IsBefore (place_of (fold after_offset w os)) q → growth_at w os q ≡ 0
 none_later w [] q h = refl
 none_later w (o ∷ os) q h =
     let here = before_not_place (place_of w) q (up_to_before (place_of w) (place_of (fold after_offset w (o ∷ os))) q (list_reaches w (o ∷ os)) h) in
     let later = none_later (after_offset w o) os q h in
-    ap (λ b. cond b (sum_rise w o) 0 + rises_at (after_offset w o) os q) here ∙ omega (arith, later)
+    ap (λ b. cond b (sum_growth w o) 0 + growth_at (after_offset w o) os q) here ∙ omega (arith, later)
 
 -- a further offset counts at the last place
-pub rises-snoc : (w : Words) (os : List Offset) (o : Offset) (q : Place) → rises_at w (os ++ o ∷ []) q ≡ rises_at w os q + cond (is_place (place_of (fold after_offset w os)) q) (sum_rise (fold after_offset w os) o) 0
+pub rises-snoc : (w : ScaledProduct) (os : List PoolOffset) (o : PoolOffset) (q : Place) → growth_at w (os ++ o ∷ []) q ≡ growth_at w os q + cond (is_place (place_of (fold after_offset w os)) q) (sum_growth (fold after_offset w os) o) 0
 rises-snoc w [] o q = omega arith
 rises-snoc w (x ∷ os) o q = let more = rises-snoc (after_offset w x) os o q in omega (arith, more)
 
 -- the last place, if a further offset leaves it
-abbrev pub left_last : Words → Offset → List Place
+abbrev pub left_last : ScaledProduct → PoolOffset → List Place
 left_last last o = cond (is_place (place_of last) (place_of (after_offset last o))) [] (place_of last ∷ [])
 
 under : (b : Bool) (p : Place) (long short tail : List Place) → long ≡ short ++ tail → cond b long (p ∷ long) ≡ cond b short (p ∷ short) ++ tail
@@ -100,14 +100,14 @@ under true p long short tail h = h
 under false p long short tail h = ap (λ (ps : List Place). p ∷ ps) h
 
 -- and leaves it, or not
-pub left-snoc : (w : Words) (os : List Offset) (o : Offset) → places_left w (os ++ o ∷ []) ≡ places_left w os ++ left_last (fold after_offset w os) o
+pub left-snoc : (w : ScaledProduct) (os : List PoolOffset) (o : PoolOffset) → places_left w (os ++ o ∷ []) ≡ places_left w os ++ left_last (fold after_offset w os) o
 left-snoc w [] o = refl
 left-snoc w (x ∷ os) o =
     under (is_place (place_of w) (place_of (after_offset w x))) (place_of w) (places_left (after_offset w x) (os ++ o ∷ [])) (places_left (after_offset w x) os)
     (left_last (fold after_offset (after_offset w x) os) o) (left-snoc (after_offset w x) os o)
 
 -- the places that are left come before the last
-pub left_before : (w : Words) (os : List Offset) → AllByRecursion (λ (p : Place). IsBefore p (place_of (fold after_offset w os))) (places_left w os)
+pub left_before : (w : ScaledProduct) (os : List PoolOffset) → AllByRecursion (λ (p : Place). IsBefore p (place_of (fold after_offset w os))) (places_left w os)
 left_before w [] = tt
 left_before w (o ∷ os) = by (is_place (place_of w) (place_of (after_offset w o))) refl (left_before (after_offset w o) os) where
   by : (b : Bool) → is_place (place_of w) (place_of (after_offset w o)) ≡ b → AllByRecursion (λ (p : Place). IsBefore p (place_of (fold after_offset (after_offset w o) os))) (places_left (after_offset w o) os) → AllByRecursion (λ (p : Place). IsBefore p (place_of (fold after_offset (after_offset w o) os))) (cond b (places_left (after_offset w o) os) (place_of w ∷ places_left (after_offset w o) os))
@@ -136,43 +136,43 @@ finish-cong u v P same table [] h = refl
 finish-cong u v P same table (p ∷ ps) h =
     ap (λ n. finish u (with_finished table p n) ps) (same p h.0) ∙ finish-cong u v P same (with_finished table p (v p)) ps h.1
 
-abbrev pub last_of : Image → List Offset → Place
+abbrev pub last_of : Image → List PoolOffset → Place
 last_of i os = place_of (prod i os)
 
 -- a further offset leaves the sums of earlier places
-sumat-earlier : (i : Image) (os : List Offset) (o : Offset) (p : Place) → IsBefore p (last_of i os) → sumat i (os ++ o ∷ []) p ≡ sumat i os p
+sumat-earlier : (i : Image) (os : List PoolOffset) (o : PoolOffset) (p : Place) → IsBefore p (last_of i os) → sumat i (os ++ o ∷ []) p ≡ sumat i os p
 sumat-earlier i os o p h =
     let no_more = after_not_place p (last_of i os) h in
     let snoc = rises-snoc (start_words i) os o p in
-    let none = ap (λ b. cond b (sum_rise (prod i os) o) 0) no_more in
+    let none = ap (λ b. cond b (sum_growth (prod i os) o) 0) no_more in
     omega (arith, snoc, none)
 
-pub sumat-last : (i : Image) (os : List Offset) (o : Offset) → sumat i (os ++ o ∷ []) (last_of i os) ≡ sumat i os (last_of i os) + sum_rise (prod i os) o
+pub sumat-last : (i : Image) (os : List PoolOffset) (o : PoolOffset) → sumat i (os ++ o ∷ []) (last_of i os) ≡ sumat i os (last_of i os) + sum_growth (prod i os) o
 sumat-last i os o =
     let snoc = rises-snoc (start_words i) os o (last_of i os) in
-    let some = ap (λ b. cond b (sum_rise (prod i os) o) 0) (is_place-itself (last_of i os)) in
+    let some = ap (λ b. cond b (sum_growth (prod i os) o) 0) (is_place-itself (last_of i os)) in
     omega (arith, snoc, some)
 
 -- what a further offset finishes
-unfoldable pub finished_after : Finished → Words → Offset → ℕ → Finished
+unfoldable pub finished_after : Finished → ScaledProduct → PoolOffset → ℕ → Finished
 finished_after table last o sum =
     cond (is_place (place_of last) (place_of (after_offset last o))) table (with_finished table (place_of last) sum)
 
-finish_tail : (v : Place → ℕ) (table : Finished) (last : Words) (o : Offset) (sum : ℕ) → v (place_of last) ≡ sum → finish v table (left_last last o) ≡ finished_after table last o sum
+finish_tail : (v : Place → ℕ) (table : Finished) (last : ScaledProduct) (o : PoolOffset) (sum : ℕ) → v (place_of last) ≡ sum → finish v table (left_last last o) ≡ finished_after table last o sum
 unfolding finished_after
 finish_tail v table last o sum e = by (is_place (place_of last) (place_of (after_offset last o))) where
   by : (b : Bool) → finish v table (cond b [] (place_of last ∷ [])) ≡ cond b table (with_finished table (place_of last) sum)
   by true = refl
   by false = ap (λ n. with_finished table (place_of last) n) e
 
-pub finished-snoc : (i : Image) (os : List Offset) (o : Offset) → finished_sums i (os ++ o ∷ []) ≡ finished_after (finished_sums i os) (prod i os) o (sumat i os (last_of i os) + sum_rise (prod i os) o)
+pub finished-snoc : (i : Image) (os : List PoolOffset) (o : PoolOffset) → finished_sums i (os ++ o ∷ []) ≡ finished_after (finished_sums i os) (prod i os) o (sumat i os (last_of i os) + sum_growth (prod i os) o)
 finished-snoc i os o =
     let places = places_left (start_words i) os in
     ap (λ (ps : List Place). finish (sumat i (os ++ o ∷ [])) i.finished ps) (left-snoc (start_words i) os o)
     ∙ finish-append (sumat i (os ++ o ∷ [])) i.finished places (left_last (prod i os) o)
     ∙ ap (λ (t : Finished). finish (sumat i (os ++ o ∷ [])) t (left_last (prod i os) o))
     (finish-cong (sumat i (os ++ o ∷ [])) (sumat i os) (λ p. IsBefore p (last_of i os)) (sumat-earlier i os o) i.finished places (left_before (start_words i) os))
-    ∙ finish_tail (sumat i (os ++ o ∷ [])) (finished_sums i os) (prod i os) o (sumat i os (last_of i os) + sum_rise (prod i os) o) (sumat-last i os o)
+    ∙ finish_tail (sumat i (os ++ o ∷ [])) (finished_sums i os) (prod i os) o (sumat i os (last_of i os) + sum_growth (prod i os) o) (sumat-last i os o)
 
 -- ---- reading finished sums
 
@@ -266,9 +266,9 @@ finish-skips v table (p ∷ ps) q h = finish-skips v (with_finished table p (v p
 -- ---- every place
 
 -- a place that offsets have not reached, or have passed without counting there
-pub record IsUntouched (w : Words) (os : List Offset) (q : Place) : Type 0 where
+pub record IsUntouched (w : ScaledProduct) (os : List PoolOffset) (q : Place) : Type 0 where
   pub never_left : AllByRecursion (λ (p : Place). is_place q p ≡ false) (places_left w os)
-  pub nothing : rises_at w os q ≡ 0
+  pub nothing : growth_at w os q ≡ 0
   pub not_first : is_place (place_of w) q ≡ false
 
 -- a place other than the last was left, or untouched
@@ -295,21 +295,21 @@ moved_on a b q h n = by (is_place a b) refl where
     clash x y = cc
   by false e = refl
 
-step_untouched : (w : Words) (o : Offset) (os : List Offset) (q : Place) → IsUntouched (after_offset w o) os q → (b : Bool) → is_place (place_of w) q ≡ b → IsAmong q (places_left w (o ∷ os)) ⊎ IsUntouched w (o ∷ os) q
+step_untouched : (w : ScaledProduct) (o : PoolOffset) (os : List PoolOffset) (q : Place) → IsUntouched (after_offset w o) os q → (b : Bool) → is_place (place_of w) q ≡ b → IsAmong q (places_left w (o ∷ os)) ⊎ IsUntouched w (o ∷ os) q
 step_untouched w o os q h true e =
     inl (among_first (is_place (place_of w) (place_of (after_offset w o))) q (place_of w) (places_left (after_offset w o) os)
     (moved_on (place_of w) (place_of (after_offset w o)) q e h.not_first) (is_place-turned q (place_of w) ∙ e))
 step_untouched w o os q h false e =
     inr (record {
       never_left = none_cons (is_place (place_of w) (place_of (after_offset w o))) q (place_of w) (places_left (after_offset w o) os) (is_place-turned q (place_of w) ∙ e) h.never_left;
-      nothing = ap (λ b. cond b (sum_rise w o) 0 + rises_at (after_offset w o) os q) e ∙ zero_and h.nothing;
+      nothing = ap (λ b. cond b (sum_growth w o) 0 + growth_at (after_offset w o) os q) e ∙ zero_and h.nothing;
       not_first = e;
     }) where
-      zero_and : rises_at (after_offset w o) os q ≡ 0 → 0 + rises_at (after_offset w o) os q ≡ 0
+      zero_and : growth_at (after_offset w o) os q ≡ 0 → 0 + growth_at (after_offset w o) os q ≡ 0
       zero_and z = omega (arith, z)
 
 -- a place other than the last was left, or is untouched
-left_or_untouched : (w : Words) (os : List Offset) (q : Place) → is_place (place_of (fold after_offset w os)) q ≡ false → IsAmong q (places_left w os) ⊎ IsUntouched w os q
+left_or_untouched : (w : ScaledProduct) (os : List PoolOffset) (q : Place) → is_place (place_of (fold after_offset w os)) q ≡ false → IsAmong q (places_left w os) ⊎ IsUntouched w os q
 left_or_untouched w [] q h = inr (record { never_left = tt; nothing = refl; not_first = h })
 left_or_untouched w (o ∷ os) q h =
     elim (left_or_untouched (after_offset w o) os q h) [
@@ -338,13 +338,13 @@ none_read i f q rises z false e =
     omega (arith, same, z)
 
 -- The image's finished sums and its sum are those of every place.
-pub sum_shown : (i : Image) (os : List Offset) → AreFinished i → (q : Place) → cond (is_place (last_of i os) q) (sumat i os (last_of i os)) (read (finished_sums i os) q) ≡ sumat i os q
+pub sum_shown : (i : Image) (os : List PoolOffset) → AreFinished i → (q : Place) → cond (is_place (last_of i os) q) (sumat i os (last_of i os)) (read (finished_sums i os) q) ≡ sumat i os q
 sum_shown i os f q = by (is_place (last_of i os) q) refl where
   untouched : IsUntouched (start_words i) os q → read (finished_sums i os) q ≡ sumat i os q
   untouched u =
       let skipped = finish-skips (sumat i os) i.finished (places_left (start_words i) os) q u.never_left in
       let begun = start_reads i f q false u.not_first refl in
-      skipped ∙ add_none (read i.finished q) (start_sum i q) (rises_at (start_words i) os q) begun u.nothing where
+      skipped ∙ add_none (read i.finished q) (start_sum i q) (growth_at (start_words i) os q) begun u.nothing where
         add_none : (r a b : ℕ) → a ≡ r → b ≡ 0 → r ≡ a + b
         add_none r a b x y = omega arith
 
@@ -352,14 +352,14 @@ sum_shown i os f q = by (is_place (last_of i os) q) refl where
   by true e = ap (sumat i os) (is_place-same (last_of i os) q e)
   by false e =
       elim (left_or_untouched (start_words i) os q e) [
-        | inl among ↦ finish-hits (sumat i os) i.finished (places_left (start_words i) os) q among (λ z. none_read i f q (rises_at (start_words i) os q) z (is_place (i.epoch, i.scale) q) refl)
+        | inl among ↦ finish-hits (sumat i os) i.finished (places_left (start_words i) os) q among (λ z. none_read i f q (growth_at (start_words i) os q) z (is_place (i.epoch, i.scale) q) refl)
         | inr u ↦ untouched u
       ]
 
 -- ---- the sum of the place that a further offset reaches
 
 -- a place past the last has nothing
-pub later_none : (i : Image) (os : List Offset) → AreFinished i → (q : Place) → IsBefore (last_of i os) q → sumat i os q ≡ 0
+pub later_none : (i : Image) (os : List PoolOffset) → AreFinished i → (q : Place) → IsBefore (last_of i os) q → sumat i os q ≡ 0
 later_none i os f q h =
     let first : IsBefore (i.epoch, i.scale) q = up_to_before (i.epoch, i.scale) (last_of i os) q (list_reaches (start_words i) os) h in
     let away = before_not_place (i.epoch, i.scale) q first in
@@ -371,20 +371,20 @@ later_none i os f q h =
       weak (inl x) = inl x
       weak (inr x) = inr (x.0, omega (arith, x.1))
 
-unfoldable pub sum_after : Words → Offset → ℕ → ℕ
-sum_after last o sum = cond (is_place (place_of last) (place_of (after_offset last o))) (sum + sum_rise last o) 0
+unfoldable pub sum_after : ScaledProduct → PoolOffset → ℕ → ℕ
+sum_after last o sum = cond (is_place (place_of last) (place_of (after_offset last o))) (sum + sum_growth last o) 0
 
-pub sum-snoc : (i : Image) (os : List Offset) (o : Offset) → AreFinished i → sumat i (os ++ o ∷ []) (place_of (after_offset (prod i os) o)) ≡ sum_after (prod i os) o (sumat i os (last_of i os))
+pub sum-snoc : (i : Image) (os : List PoolOffset) (o : PoolOffset) → AreFinished i → sumat i (os ++ o ∷ []) (place_of (after_offset (prod i os) o)) ≡ sum_after (prod i os) o (sumat i os (last_of i os))
 unfolding sum_after
 sum-snoc i os o f = by (is_place (last_of i os) (place_of (after_offset (prod i os) o))) refl where
   next : Place
   next = place_of (after_offset (prod i os) o)
 
-  by : (b : Bool) → is_place (last_of i os) (place_of (after_offset (prod i os) o)) ≡ b → sumat i (os ++ o ∷ []) (place_of (after_offset (prod i os) o)) ≡ cond b (sumat i os (last_of i os) + sum_rise (prod i os) o) 0
-  by true e = subst (λ (r : Place). sumat i (os ++ o ∷ []) r ≡ sumat i os (last_of i os) + sum_rise (prod i os) o) (is_place-same (last_of i os) _ e) (sumat-last i os o)
+  by : (b : Bool) → is_place (last_of i os) (place_of (after_offset (prod i os) o)) ≡ b → sumat i (os ++ o ∷ []) (place_of (after_offset (prod i os) o)) ≡ cond b (sumat i os (last_of i os) + sum_growth (prod i os) o) 0
+  by true e = subst (λ (r : Place). sumat i (os ++ o ∷ []) r ≡ sumat i os (last_of i os) + sum_growth (prod i os) o) (is_place-same (last_of i os) _ e) (sumat-last i os o)
   by false e =
       let before = up_to_other (last_of i os) (place_of (after_offset (prod i os) o)) (after_reaches (prod i os) o) e in
       let none = later_none i os f (place_of (after_offset (prod i os) o)) before in
       let snoc = rises-snoc (start_words i) os o (place_of (after_offset (prod i os) o)) in
-      let idle = ap (λ b. cond b (sum_rise (prod i os) o) 0) e in
+      let idle = ap (λ b. cond b (sum_growth (prod i os) o) 0) e in
       omega (arith, none, snoc, idle)

@@ -9,8 +9,8 @@ use Rattle.std.proofs.lemmas.Bool.Decides.{nat_tests}
 use Rattle.liq_num.specs.Quotient.{floor_of}
 use Rattle.liq_types.specs.declared.amounts.TheConstants.{P_OPENING, P_LEAST, RISES_MOST}
 use Rattle.liq_types.specs.Image.{Image}
-use Rattle.liq_types.specs.Product.{Words, IsWithinRange, TakesPartUpTo, STEPS_TRIED, opening_words, least_from, product_after, rise_of, after_offset, start_words, prod}
-use Rattle.liq_types.specs.State.{Offset}
+use Rattle.liq_types.specs.Product.{ScaledProduct, IsWithinRange, TakesPartUpTo, STEPS_TRIED, opening_words, least_from, product_after, rise_of, after_offset, start_words, prod}
+use Rattle.liq_types.specs.State.{PoolOffset}
 use Rattle.liq_types.proofs.Least.{IsFirst, least_from-first}
 
 times_some : (p rest : ℕ) → 1 ≤ rest → p ≤ p * rest
@@ -41,31 +41,31 @@ raised p rest total power pos low =
 
 -- ---- the least rise of an offset that leaves a part of the pool
 
-abbrev enough : ℕ → Offset → ℕ → Bool
+abbrev enough : ℕ → PoolOffset → ℕ → Bool
 enough p o steps = nat_le P_LEAST (product_after p o steps)
 
-pub least_rise : ℕ → Offset → ℕ
+pub least_rise : ℕ → PoolOffset → ℕ
 least_rise p o = least_from (enough p o) 0 STEPS_TRIED
 
 -- a limit that the most steps serve
 module _ (most : ℕ) (served : most ≤ 10 ^ (9 * RISES_MOST)) where
-  most_are_enough : (p : ℕ) (o : Offset) → P_LEAST ≤ p → TakesPartUpTo most o → o.debt < o.total → enough p o RISES_MOST ≡ true
+  most_are_enough : (p : ℕ) (o : PoolOffset) → P_LEAST ≤ p → TakesPartUpTo most o → o.debt < o.total → enough p o RISES_MOST ≡ true
   most_are_enough p o low h less =
       le-leb P_LEAST (product_after p o RISES_MOST) (most_suffice p (o.total - o.debt) o.total low (omega arith) (omega (arith, h.limit, served)) (omega arith))
 
-  pub first_rise : (p : ℕ) (o : Offset) → P_LEAST ≤ p → TakesPartUpTo most o → o.debt < o.total → IsFirst (enough p o) 0 (least_rise p o)
+  pub first_rise : (p : ℕ) (o : PoolOffset) → P_LEAST ≤ p → TakesPartUpTo most o → o.debt < o.total → IsFirst (enough p o) 0 (least_rise p o)
   unfolding least_rise
   first_rise p o low h less = least_from-first (enough p o) 0 STEPS_TRIED RISES_MOST (omega arith) (most_are_enough p o low h less)
 
-  passes_least : (p : ℕ) (o : Offset) (n : ℕ) → enough p o n ≡ true → P_LEAST ≤ product_after p o n
+  passes_least : (p : ℕ) (o : PoolOffset) (n : ℕ) → enough p o n ≡ true → P_LEAST ≤ product_after p o n
   passes_least p o n pass = leb-true P_LEAST (product_after p o n) pass
 
-  fails_least : (p : ℕ) (o : Offset) (n : ℕ) → enough p o n ≡ false → product_after p o n < P_LEAST
+  fails_least : (p : ℕ) (o : PoolOffset) (n : ℕ) → enough p o n ≡ false → product_after p o n < P_LEAST
   fails_least p o n fail = by (product_after p o n) fail where
     by : (m : ℕ) → nat_le P_LEAST m ≡ false → m < P_LEAST
     by m e = grind (arith, nat_tests, e)
 
-  pub few_rises : (p : ℕ) (o : Offset) → P_LEAST ≤ p → TakesPartUpTo most o → o.debt < o.total → least_rise p o ≤ RISES_MOST
+  pub few_rises : (p : ℕ) (o : PoolOffset) → P_LEAST ≤ p → TakesPartUpTo most o → o.debt < o.total → least_rise p o ≤ RISES_MOST
   few_rises p o low h less =
       let first = first_rise p o low h less in
       elim (cases_lt RISES_MOST (least_rise p o)) [ inl more ↦ absurd (clash (first.first RISES_MOST (omega arith) more) (most_are_enough p o low h less)) | inr few ↦ few ]
@@ -78,7 +78,7 @@ module _ (most : ℕ) (served : most ≤ 10 ^ (9 * RISES_MOST)) where
     nine : (i : ℕ) → 9 * suc i ≡ 9 * i + 9
     nine i = omega arith
 
-  most_at : (p : ℕ) (o : Offset) (n : ℕ) → p ≤ P_OPENING → TakesPartUpTo most o → o.debt < o.total → IsFirst (enough p o) 0 n → product_after p o n ≤ P_OPENING
+  most_at : (p : ℕ) (o : PoolOffset) (n : ℕ) → p ≤ P_OPENING → TakesPartUpTo most o → o.debt < o.total → IsFirst (enough p o) 0 n → product_after p o n ≤ P_OPENING
   most_at p o zero high h less first = unraised p (o.total - o.debt) o.total high (omega arith)
   most_at p o (suc j) high h less first =
       let low = fails_least p o j (first.first j (omega arith) (omega arith)) in
@@ -87,7 +87,7 @@ module _ (most : ℕ) (served : most ≤ 10 ^ (9 * RISES_MOST)) where
 
   -- ---- one offset
 
-  pub offset_within : (w : Words) (o : Offset) → IsWithinRange w → TakesPartUpTo most o → IsWithinRange (after_offset w o)
+  pub offset_within : (w : ScaledProduct) (o : PoolOffset) → IsWithinRange w → TakesPartUpTo most o → IsWithinRange (after_offset w o)
   unfolding least_rise
   offset_within w o within h = by (o.debt == o.total) refl where
     left : (b : Bool) → (o.debt == o.total) ≡ b → b ≡ false → o.debt < o.total
@@ -100,7 +100,7 @@ module _ (most : ℕ) (served : most ≤ 10 ^ (9 * RISES_MOST)) where
         let first = first_rise w.p o within.least h less in
         record { least = passes_least w.p o (least_rise w.p o) first.passes; most = most_at w.p o (least_rise w.p o) within.most h less first }
 
-  pub rise_few : (w : Words) (o : Offset) → IsWithinRange w → TakesPartUpTo most o → rise_of w.p o ≤ RISES_MOST
+  pub rise_few : (w : ScaledProduct) (o : PoolOffset) → IsWithinRange w → TakesPartUpTo most o → rise_of w.p o ≤ RISES_MOST
   unfolding least_rise
   rise_few w o within h = by (o.debt == o.total) refl where
     left : (b : Bool) → (o.debt == o.total) ≡ b → b ≡ false → o.debt < o.total
@@ -110,7 +110,7 @@ module _ (most : ℕ) (served : most ≤ 10 ^ (9 * RISES_MOST)) where
     by true e = omega arith
     by false e = few_rises w.p o within.least h (left false e refl)
 
-  pub rise_no_more : (w : Words) (o : Offset) → IsWithinRange w → TakesPartUpTo most o → (steps : ℕ) → steps < rise_of w.p o → product_after w.p o steps < P_LEAST
+  pub rise_no_more : (w : ScaledProduct) (o : PoolOffset) → IsWithinRange w → TakesPartUpTo most o → (steps : ℕ) → steps < rise_of w.p o → product_after w.p o steps < P_LEAST
   unfolding least_rise
   rise_no_more w o within h steps = by (o.debt == o.total) refl where
     left : (b : Bool) → (o.debt == o.total) ≡ b → b ≡ false → o.debt < o.total
@@ -122,9 +122,9 @@ module _ (most : ℕ) (served : most ≤ 10 ^ (9 * RISES_MOST)) where
 
   -- ---- all of a list
 
-  offsets_within : (w : Words) (offsets : List Offset) → IsWithinRange w → AllByRecursion (TakesPartUpTo most) offsets → IsWithinRange (fold after_offset w offsets)
+  offsets_within : (w : ScaledProduct) (offsets : List PoolOffset) → IsWithinRange w → AllByRecursion (TakesPartUpTo most) offsets → IsWithinRange (fold after_offset w offsets)
   offsets_within w [] within h = within
   offsets_within w (o ∷ os) within h = offsets_within (after_offset w o) os (offset_within w o within h.0) h.1
 
-  pub prod_within : (i : Image) (offsets : List Offset) → IsWithinRange (start_words i) → AllByRecursion (TakesPartUpTo most) offsets → IsWithinRange (prod i offsets)
+  pub prod_within : (i : Image) (offsets : List PoolOffset) → IsWithinRange (start_words i) → AllByRecursion (TakesPartUpTo most) offsets → IsWithinRange (prod i offsets)
   prod_within i offsets within h = offsets_within (start_words i) offsets within h

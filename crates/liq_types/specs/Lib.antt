@@ -12,4 +12,5 @@ pub mod Soundness
 pub mod State
 pub mod Tables
 pub mod Totals
+pub mod Views
 pub mod WellFormed

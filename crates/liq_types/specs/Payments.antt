@@ -7,8 +7,8 @@ use Rattle.liq_types.specs.Tables.{Table}
 -- ---- over the tables
 
 -- collateral and LUSD into a wallet
-abbrev pub paid_in : Table Wallet → ℕ → ℕ → ℕ → Table Wallet
-paid_in wallets account coll lusd =
+abbrev pub credited_in : Table Wallet → ℕ → ℕ → ℕ → Table Wallet
+credited_in wallets account coll lusd =
     let had = wallet_in wallets account in
     with_wallet wallets account (record { coll = had.coll + coll; lusd = had.lusd + lusd })
 
@@ -28,8 +28,8 @@ surplus_taken_in surplus account = with_surplus surplus account 0
 
 -- ---- in a state
 
-abbrev pub paid : State → ℕ → ℕ → ℕ → State
-paid s account coll lusd = record s { wallets = paid_in s.wallets account coll lusd }
+abbrev pub credited : State → ℕ → ℕ → ℕ → State
+credited s account coll lusd = record s { wallets = credited_in s.wallets account coll lusd }
 
 abbrev pub charged : State → ℕ → ℕ → ℕ → State
 charged s account coll lusd = record s { wallets = charged_in s.wallets account coll lusd }

@@ -43,7 +43,7 @@ pub record DepositEntry : Type 0 where
   pub mark : Mark PoolMark
 
 -- the Stability Pool took over debt for collateral; its total before
-pub record Offset : Type 0 where
+pub record PoolOffset : Type 0 where
   pub debt : ℕ
   pub coll : ℕ
   pub total : ℕ
@@ -83,7 +83,7 @@ pub record State : Type 0 where
   pub provided : ℕ
   pub withdrawn : ℕ
   pub gains_paid : ℕ
-  pub offsets : List Offset
+  pub offsets : List PoolOffset
   pub redistributions : List Redistribution
   pub wallets : Table Wallet
   pub troves : Table TroveEntry

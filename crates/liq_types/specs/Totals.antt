@@ -4,7 +4,7 @@ use Rattle.std.specs.Map.{values_of}
 use Rattle.liq_num.specs.declared.ratio.TheConstants.{GWEI_PER_ETH}
 use Rattle.liq_types.specs.declared.amounts.TheConstants.{CCR, LIM}
 use Rattle.liq_types.specs.declared.figures.Market.{Market}
-use Rattle.liq_types.specs.State.{State, TroveEntry, Offset}
+use Rattle.liq_types.specs.State.{State, TroveEntry, PoolOffset}
 
 -- ---- ratios
 
@@ -45,11 +45,11 @@ stakes_of s = sum_by (λ (t : TroveEntry). t.stake) (values_of s.troves)
 
 -- LUSD in the Stability Pool: what was put in, less what was paid out and what offsets took
 abbrev pub pool_total : State → ℕ
-pool_total s = s.start.total + s.provided - s.withdrawn - sum_by (λ (o : Offset). o.debt) s.offsets
+pool_total s = s.start.total + s.provided - s.withdrawn - sum_by (λ (o : PoolOffset). o.debt) s.offsets
 
 -- collateral in the Stability Pool: what offsets brought, less the gains that were paid
 abbrev pub pool_coll : State → ℕ
-pool_coll s = s.start.pool_coll + sum_by (λ (o : Offset). o.coll) s.offsets - s.gains_paid
+pool_coll s = s.start.pool_coll + sum_by (λ (o : PoolOffset). o.coll) s.offsets - s.gains_paid
 
 abbrev pub market_of : State → Market
 market_of s =

@@ -7,7 +7,7 @@ use Rattle.std.specs.Map.{keys_of, values_of}
 use Rattle.std.specs.Ordering.{nat_cmp}
 use Rattle.liq_types.specs.declared.figures.Trove.{Trove}
 use Rattle.liq_types.specs.Image.{Image, Place}
-use Rattle.liq_types.specs.State.{State, Mark, AtStart, After, TroveEntry, DepositEntry, Offset}
+use Rattle.liq_types.specs.State.{State, Mark, AtStart, After, TroveEntry, DepositEntry, PoolOffset}
 use Rattle.liq_types.specs.Tables.{Table}
 
 -- a place comes before another: in an earlier epoch, or at a lower scale of the same one
@@ -30,8 +30,8 @@ DepositsAreMarked items deposits = AllByRecursion (λ (row : ℕ × DepositEntry
 -- what left the Stability Pool had come into it
 abbrev pub IsPoolCovered : State → Type 0
 IsPoolCovered s =
-    (s.withdrawn + sum_by (λ (o : Offset). o.debt) s.offsets ≤ s.start.total + s.provided)
-    × (s.gains_paid ≤ s.start.pool_coll + sum_by (λ (o : Offset). o.coll) s.offsets)
+    (s.withdrawn + sum_by (λ (o : PoolOffset). o.debt) s.offsets ≤ s.start.total + s.provided)
+    × (s.gains_paid ≤ s.start.pool_coll + sum_by (λ (o : PoolOffset). o.coll) s.offsets)
 
 abbrev pub IsWellFormed : State → Type 0
 IsWellFormed s =

@@ -6,11 +6,12 @@ ghost use Rattle.std.specs.List.{AllByRecursion};
 ghost use Rattle.liq_num.specs.Ratio.{IsBelow, IsBelowPercent};
 ghost use Rattle.liq_num.specs.declared.ratio.TheConstants.{GWEI_PER_ETH};
 ghost use Rattle.liq_types.specs.Image.{Image};
-ghost use Rattle.liq_types.specs.Product.{Words, IsWithinRange, TakesPart, after_offset, product_after, rise_of, sum_rise, place_of, start_words, prod};
-ghost use Rattle.liq_types.specs.State.{Offset};
+ghost use Rattle.liq_types.specs.Product.{ScaledProduct, IsWithinRange, TakesPart, after_offset, product_after, rise_of, sum_growth, place_of, start_words, prod};
+ghost use Rattle.liq_types.specs.State.{PoolOffset};
 ghost use Rattle.liq_types.specs.Totals.{is_below_percent, is_at_most_whole, is_ratio_below};
 
 use crate::amounts::{OFFSET_MOST, P_LEAST, P_OPENING, RISES_MOST};
+use liq_num::GWEI_PER_ETH;
 
 /// The tests of ratios decide the comparisons.
 pub fn tests_of_ratios_decide()
@@ -23,13 +24,13 @@ pub fn tests_of_ratios_decide()
 /// the scale by at most [`RISES_MOST`] steps, and by no more than it must. Beside a product a sum has at most the part of
 /// the whole that the product has lost, [`OFFSET_MOST`] times, and one that is finished at most that of the whole.
 pub fn product_stays_within()
-    ensures one { (w : Words) → (o : Offset) → IsWithinRange w → TakesPart o → IsWithinRange (after_offset w o) }
-    ensures few { (w : Words) → (o : Offset) → IsWithinRange w → TakesPart o → rise_of w.p o ≤ RISES_MOST }
-    ensures no_more { (w : Words) → (o : Offset) → IsWithinRange w → TakesPart o → (steps : ℕ) → steps < rise_of w.p o → product_after w.p o steps < P_LEAST }
-    ensures sum { (w : Words) → (o : Offset) → (sum : ℕ) → IsWithinRange w → TakesPart o → o.coll ≤ OFFSET_MOST * o.debt →
+    ensures one { (w : ScaledProduct) → (o : PoolOffset) → IsWithinRange w → TakesPart o → IsWithinRange (after_offset w o) }
+    ensures few { (w : ScaledProduct) → (o : PoolOffset) → IsWithinRange w → TakesPart o → rise_of w.p o ≤ RISES_MOST }
+    ensures no_more { (w : ScaledProduct) → (o : PoolOffset) → IsWithinRange w → TakesPart o → (steps : ℕ) → steps < rise_of w.p o → product_after w.p o steps < P_LEAST }
+    ensures sum { (w : ScaledProduct) → (o : PoolOffset) → (sum : ℕ) → IsWithinRange w → TakesPart o → o.coll ≤ OFFSET_MOST * o.debt →
         sum ≤ OFFSET_MOST * (P_OPENING - w.p) → place_of (after_offset w o) ≡ place_of w →
-        sum + sum_rise w o ≤ OFFSET_MOST * (P_OPENING - (after_offset w o).p) }
-    ensures finished { (w : Words) → (o : Offset) → (sum : ℕ) → IsWithinRange w → TakesPart o → o.coll ≤ OFFSET_MOST * o.debt →
-        sum ≤ OFFSET_MOST * (P_OPENING - w.p) → sum + sum_rise w o ≤ OFFSET_MOST * P_OPENING }
-    ensures all { (i : Image) → (offsets : List Offset) → IsWithinRange (start_words i) → AllByRecursion TakesPart offsets → IsWithinRange (prod i offsets) }
+        sum + sum_growth w o ≤ OFFSET_MOST * (P_OPENING - (after_offset w o).p) }
+    ensures finished { (w : ScaledProduct) → (o : PoolOffset) → (sum : ℕ) → IsWithinRange w → TakesPart o → o.coll ≤ OFFSET_MOST * o.debt →
+        sum ≤ OFFSET_MOST * (P_OPENING - w.p) → sum + sum_growth w o ≤ OFFSET_MOST * P_OPENING }
+    ensures all { (i : Image) → (offsets : List PoolOffset) → IsWithinRange (start_words i) → AllByRecursion TakesPart offsets → IsWithinRange (prod i offsets) }
 {}

@@ -1,8 +1,8 @@
 use Rattle.std.proofs.Common.{◌≡◌, ◌≤◌, ◌*◌, ◌^◌, take}
-use Rattle.liq_types.specs.Allowance.{watched}
+use Rattle.liq_types.proofs.Watching.{watched}
 use Rattle.liq_audit.specs.Auditable.{offsets_in}
 use Rattle.liq_audit.specs.Enclosure.{enclosed}
-use Rattle.liq_audit.specs.Watching.{watcher_of}
+use Rattle.liq_audit.proofs.Watchers.{watcher_of}
 use Rattle.liq_audit.proofs.auditor.audited.Given as goal
 
 abbrev pub invariant-loop-event : goal.invariant-loop-event
