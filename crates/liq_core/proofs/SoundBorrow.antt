@@ -33,7 +33,7 @@ use Rattle.liq_borrow.specs.declared.change.Change.{Change}
 use Rattle.liq_borrow.specs.declared.change.Plan.{Plan}
 use Rattle.liq_borrow.specs.Borrowing.{rate_borrowed, least_ratio, opening_terms, open_rules, adjusting_terms, adjust_rules, closing_terms, close_rules}
 use Rattle.liq_core.specs.Borrowing.{with_fee, opened, adjusted, closed}
-use Rattle.liq_core.specs.SoundState.{IsSetSince}
+use Rattle.liq_core.specs.SoundState.{IsSetSince, ChangeIsCovered}
 use Rattle.liq_core.specs.Rules.{rules, effect}
 use Rattle.liq_core.proofs.AlikeChanges.{balance_within, gain_within}
 use Rattle.liq_core.proofs.Moving.{paid_coll, paid_lusd, charged_coll, charged_lusd}
@@ -381,3 +381,17 @@ gain_leaves s f account k h =
     let own = or_nothing (entire_of s account) in
     let there = told (entire_of s account) h in
     record { stands = gain_stands s f account own.0 own.1 there k; rest = gain_rest s f account own.0 own.1 there }
+
+-- ---- what is changed
+
+pub change_covered : (s : State) → Finds s → (account bound : ℕ) (change : Change) (own : ℕ × ℕ) → entire_of s account ≡ Some own → first_refusal (adjust_rules (market_of s) (wallet_of s account) (entire_of s account) account change bound) ≡ None → ChangeIsCovered own change (adjusting_terms (market_of s) own change)
+change_covered s f account bound change own there h =
+    let a = adjust_allows s f account own.0 own.1 change bound there h in
+    record {
+      coll_out = a.coll_out;
+      repay = a.repays_part;
+      coll = omega (arith, a.coll_is, a.coll_out);
+      debt = omega (arith, a.debt_is, a.repays_part);
+      some = a.some;
+      least = a.least;
+    }

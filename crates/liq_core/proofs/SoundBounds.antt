@@ -1,9 +1,11 @@
 -- Bounds of every sound state, and of those that are reached from the opening.
-use Rattle.std.proofs.Common.{◌≡◌, ℕ, ◌+◌, ◌-◌, ◌*◌, ◌≤◌, ◌<◌, Bool, true, false, cond, List, [], ◌∷◌, refl, ap, sym, ◌∙◌, subst, arith, drop, length, Some, None, Option}
-use Rattle.std.specs.Prelude.{sum, sum_by, unwrap_or, option_map}
+use Rattle.std.proofs.Common.{◌≡◌, ℕ, ◌+◌, ◌-◌, ◌*◌, ◌≤◌, ◌<◌, Bool, true, false, cond, List, [], ◌∷◌, refl, ap, sym, ◌∙◌, subst, arith, drop, length, Some, None, Option, inl, inr, ◌^◌}
+use Rattle.std.specs.Prelude.{◌⊎◌, ◌==◌, sum, sum_by, unwrap_or, option_map}
 use Rattle.std.specs.List.{AllByRecursion}
 use Rattle.std.specs.Map.{values_of, lookup}
-use Rattle.std.proofs.Math.Nat.{mul-le-mul_left, mul-le-mul_right}
+use Rattle.std.proofs.Math.Nat.{mul-le-mul_left, mul-le-mul_right, div-lt_iff_lt-mul}
+use Rattle.std.proofs.lemmas.Bool.{cases_lt}
+use Rattle.std.proofs.lemmas.Bool.Decides.{nat_tests}
 use Rattle.std.proofs.lemmas.List.Sums.{sum_by-cons}
 use Rattle.liq_types.specs.declared.amounts.TheConstants.{ACCOUNTS, LIM, ONE, OFFSET_MOST, P_OPENING}
 use Rattle.liq_types.specs.declared.figures.Deposit.{Deposit}
@@ -14,12 +16,15 @@ use Rattle.liq_types.specs.declared.requests.Command.{Command}
 use Rattle.liq_types.specs.declared.requests.Request.{Request}
 use Rattle.liq_types.specs.declared.requests.Request.TheVariants.{Do, Ask}
 use Rattle.liq_types.specs.Image.{Place}
-use Rattle.liq_types.specs.Product.{is_place, place_of, sumat}
+use Rattle.liq_types.specs.Product.{is_place, place_of, sumat, IsWithinRange, TakesPartUpTo, product_after, rise_of}
 use Rattle.liq_types.specs.Rules.{first_refusal}
-use Rattle.liq_types.specs.State.{State, Mark, AtStart, After, StakeSums, TroveEntry, DepositEntry, Redistribution, opening}
+use Rattle.liq_types.specs.State.{State, Mark, AtStart, After, StakeSums, TroveEntry, DepositEntry, Redistribution, opening, Offset}
 use Rattle.liq_types.specs.Tables.{Table, at, map_rows}
+use Rattle.liq_types.specs.Totals.{pool_total}
 use Rattle.liq_types.proofs.Lookups.{all-at}
 use Rattle.liq_types.proofs.MapRows.{at-map, map-sum}
+use Rattle.liq_types.proofs.Ranges.{offset_within, rise_no_more}
+use Rattle.liq_types.proofs.Sums.{leaves_part}
 use Rattle.liq_types.proofs.Places.{sum_shown}
 use Rattle.liq_troves.specs.Rows.{pending}
 use Rattle.liq_troves.specs.Standing.{books_of, coll_due, debt_due}
@@ -28,12 +33,14 @@ use Rattle.liq_troves.proofs.Added.{one_within}
 use Rattle.liq_troves.proofs.Parts.{pending_near_part}
 use Rattle.liq_troves.proofs.Standing.{trove_within, entire_within, stakes_within}
 use Rattle.liq_stability.specs.Position.{words_of, mark_of, deposit_row, sums_from}
+use Rattle.liq_stability.proofs.Pool.{offset_now}
 use Rattle.liq_core.specs.Image.{image}
 use Rattle.liq_core.specs.Rules.{rules, effect}
 use Rattle.liq_core.specs.SoundState.{IsSoundState, IsSetSince, AreSetSince, AmountsWithin, SnapshotWithin, WordsWithin, TroveIsCovered, DepositIsCovered}
 use Rattle.liq_core.specs.Step.{Ruling, Refused, Repeated, Allowed, ruling, after_ruling, accounts, after, run}
 use Rattle.liq_core.specs.Verbs.{rotates}
 use Rattle.liq_core.proofs.SoundFacts.{Finds, length_without}
+use Rattle.liq_core.proofs.SoundLiquidate.{served_limit}
 use Rattle.liq_core.proofs.SoundPool.{FinishedStands, DepositStands, sum_in}
 use Rattle.liq_core.proofs.SoundStart.{opening_sound}
 use Rattle.liq_core.proofs.SoundStep.{allowed_has, effect_leaves, finds, after_sound, run_sound, is_rotate}
@@ -63,6 +70,8 @@ amounts_within s h =
     let troves_debt = map-sum (trove_row s) (λ (x : Trove). x.debt) s.troves in
     record {
       brought = b.coll_limit;
+      total_coll = omega (arith, c, b.coll_limit);
+      total_debt = b.debt_limit;
       active_coll = omega (arith, c, b.coll_limit);
       active_debt = omega (arith, b.debt_limit);
       default_coll = omega (arith, c, b.coll_limit);
@@ -130,7 +139,10 @@ trove_covered s h account t there =
       debt = w.debt;
       pending_coll = w.pending_coll;
       pending_debt = w.pending_debt;
-      entire_debt = own.least;
+      some_coll = own.some;
+      least_debt = own.least;
+      entire_coll = own.coll;
+      entire_debt = own.debt;
       reserve = omega (arith, f.balanced.homes.reserve, some);
     }
 
@@ -231,3 +243,40 @@ deposit_fits s h account d there =
         let first : a * b ≤ LIM * b = mul-le-mul_right b m in
         let second : LIM * b ≤ LIM * top = mul-le-mul_left LIM n in
         omega (arith, first, second)
+
+-- so does what an offset makes of the product, for each rise that is tried up to the one that is reached
+pub product_fits : (s : State) → IsSoundState s → (debt coll : ℕ) → 1 ≤ debt → debt < pool_total s → (steps : ℕ) → steps ≤ rise_of (words_of s).p (offset_now s debt coll) → (words_of s).p * ((pool_total s - debt) * 10 ^ (9 * steps)) < (P_OPENING + 1) * LIM
+product_fits s h debt coll some less steps few = by (cases_lt steps (rise_of (words_of s).p (offset_now s debt coll))) where
+  o : Offset
+  o = offset_now s debt coll
+
+  range : IsWithinRange (words_of s)
+  range = (words_within s h).product
+
+  limit : pool_total s ≤ LIM
+  limit = (amounts_within s h).pool_total
+
+  takes : TakesPartUpTo LIM (offset_now s debt coll)
+  takes = record { some = some; within = omega (arith, less); limit = limit }
+
+  under : (top : ℕ) → top ≤ P_OPENING → product_after (words_of s).p (offset_now s debt coll) steps ≤ top → (words_of s).p * ((pool_total s - debt) * 10 ^ (9 * steps)) < (P_OPENING + 1) * LIM
+  under top small low =
+      let below : (words_of s).p * ((pool_total s - debt) * 10 ^ (9 * steps)) < (top + 1) * pool_total s = (div-lt_iff_lt-mul {k = pool_total s} {x = (words_of s).p * ((pool_total s - debt) * 10 ^ (9 * steps))} {y = top + 1} (omega (arith, less))).0 (omega (arith, low)) in
+      let first : (top + 1) * pool_total s ≤ (P_OPENING + 1) * pool_total s = mul-le-mul_right (pool_total s) (omega (arith, small)) in
+      omega (arith, below, first, limit)
+
+  reached : steps ≡ rise_of (words_of s).p (offset_now s debt coll) → product_after (words_of s).p (offset_now s debt coll) steps ≤ P_OPENING
+  reached e =
+      let part = leaves_part (words_of s) (offset_now s debt coll) takes.within (not_all less) in
+      let after = offset_within LIM served_limit (words_of s) (offset_now s debt coll) range takes in
+      let same : product_after (words_of s).p (offset_now s debt coll) steps ≡ product_after (words_of s).p (offset_now s debt coll) (rise_of (words_of s).p (offset_now s debt coll)) = ap (product_after (words_of s).p (offset_now s debt coll)) e in
+      omega (arith, part.p, after.most, same)
+    where
+      not_all : debt < pool_total s → (debt == pool_total s) ≡ false
+      not_all n = grind (arith, nat_tests, n)
+
+  by : (steps < rise_of (words_of s).p (offset_now s debt coll)) ⊎ (rise_of (words_of s).p (offset_now s debt coll) ≤ steps) → (words_of s).p * ((pool_total s - debt) * 10 ^ (9 * steps)) < (P_OPENING + 1) * LIM
+  by (inl earlier) =
+      let low = rise_no_more LIM served_limit (words_of s) (offset_now s debt coll) range takes steps earlier in
+      under P_OPENING (omega arith) (omega (arith, low))
+  by (inr last) = under P_OPENING (omega arith) (reached (omega (arith, last, few)))

@@ -10,7 +10,7 @@ use Rattle.liq_types.specs.declared.figures.Trove.{Trove}
 use Rattle.liq_types.specs.declared.figures.Wallet.{Wallet}
 use Rattle.liq_types.specs.declared.replies.Refusal.{Refusal}
 use Rattle.liq_types.specs.Payments.{surplus_added}
-use Rattle.liq_types.specs.Product.{place_of}
+use Rattle.liq_types.specs.Product.{IsWithinRange, place_of}
 use Rattle.liq_types.specs.Rules.{first_refusal, outcome}
 use Rattle.liq_types.specs.State.{State, TroveEntry}
 use Rattle.liq_types.specs.Tables.{Table, at}
@@ -19,8 +19,8 @@ use Rattle.liq_types.proofs.MapRows.{at-map, map-length, all-without}
 use Rattle.liq_types.proofs.Rounding.{offset_worth}
 use Rattle.liq_troves.specs.Own.{lifted_entry, redistributed, snapped}
 use Rattle.liq_troves.specs.Rows.{entire_by, sum_after}
-use Rattle.liq_troves.specs.Standing.{books_of}
-use Rattle.liq_troves.specs.StakeSums.{trove_row, trove_rows, sums_words, sums_now}
+use Rattle.liq_troves.specs.Standing.{TrovesStand, books_of}
+use Rattle.liq_troves.specs.StakeSums.{trove_row, trove_rows, sums_words, sums_now, pending_coll, pending_debt, entire_of}
 use Rattle.liq_troves.proofs.Added.{sum_taken}
 use Rattle.liq_troves.proofs.Standing.{some_stake, trove_within}
 use Rattle.liq_order.specs.Order.{last_trove}
@@ -31,10 +31,10 @@ use Rattle.liq_liquidation.specs.declared.one.One.{One}
 use Rattle.liq_liquidation.specs.declared.one.Victim.{Victim}
 use Rattle.liq_liquidation.specs.One.{Treatment, Plain, Redistributed, Capped, Kept, treatment, treated, gas_of, cap_of, plain, capped, is_capped, is_kept, without_stake, one_rules, one_in, one, offset_if_any, struck, rewarded, liquidated}
 use Rattle.liq_liquidation.specs.Lowest.{lowest, next_victim, victim_at, victim_by}
-use Rattle.liq_core.specs.SoundState.{IsSetSince}
+use Rattle.liq_core.specs.SoundState.{IsSetSince, StruckStand, OneIsCovered}
 use Rattle.liq_core.specs.Liquidation.{listed, all_liquidated}
 use Rattle.liq_core.proofs.Moving.{paid_coll, paid_lusd}
-use Rattle.liq_core.proofs.SoundBorrow.{HasTrove}
+use Rattle.liq_core.proofs.SoundBorrow.{HasTrove, has_trove}
 use Rattle.liq_core.proofs.SoundFacts.{Finds, Stands, InRange, Rest, Leaves, all_false, lt_false, paid_stands, added_stands, lifted_stands, redistributed_stands, snapped_stands, offset_keeps, reserve_stands, length_without, key_below, surplus_sum, finds_after, leaves_itself, leaves_more, leaves_then}
 use Rattle.liq_core.proofs.SoundPool.{MovesFew, offset_moves}
 
@@ -159,7 +159,7 @@ strikes s f account made h =
 
 -- ---- one victim
 
-served_limit : LIM ≤ 10 ^ (9 * RISES_MOST)
+pub served_limit : LIM ≤ 10 ^ (9 * RISES_MOST)
 served_limit = omega arith
 
 module _ (s : State) (f : Finds s) (liquidator : ℕ) (k : liquidator < ACCOUNTS) (account : ℕ) (made : One) (x : Strikes s account made) where
@@ -355,3 +355,40 @@ lowest_leaves (suc n) s f liquidator k = by (next_victim s) (found s (last_trove
       let same : lowest (liquidated s liquidator v) n ≡ lowest (struck s v) n = lowest_paid n (struck s v) (liquidated s liquidator v).wallets ((struck s v).reserve - RESERVE) in
       leaves_then 3 (3 * n) (3 * suc n) s (liquidated s liquidator v) (all_liquidated (liquidated s liquidator v) liquidator (lowest (struck s v) n)) (omega arith) first
       (subst (λ (vs : List Victim). Leaves (3 * n) (liquidated s liquidator v) (all_liquidated (liquidated s liquidator v) liquidator vs)) same rest)
+
+-- ---- what is struck
+
+one_covered : (s : State) (account : ℕ) (made : One) (x : Strikes s account made) (own : ℕ × ℕ) (h : HasTrove s account own.0 own.1) → OneIsCovered s own made
+one_covered s account made x own h =
+    let same : x.has.entry ≡ h.entry = the (sym x.has.there ∙ h.there) in
+    let coll : x.coll ≡ own.0 = x.has.coll_is ∙ ap (λ (e : TroveEntry). e.coll + pending_coll s e) same ∙ sym h.coll_is in
+    let debt : x.debt ≡ own.1 = x.has.debt_is ∙ ap (λ (e : TroveEntry). e.debt + pending_debt s e) same ∙ sym h.debt_is in
+    record { coll = omega (arith, x.parts.coll_is, coll); debt = omega (arith, x.parts.debt_is, debt); served = x.parts.served; worth = x.parts.worth_less }
+  where
+    the : {a b : TroveEntry} → Some a ≡ Some b → a ≡ b
+    the e = cc
+
+pub ones_covered : (s : State) → Finds s → (account : ℕ) (made : One) (own : ℕ × ℕ) → one s account ≡ Ok made → entire_of s account ≡ Some own → OneIsCovered s own made
+ones_covered s f account made own e there = one_covered s account made (strikes s f account made e) own (has_trove s account own f.stands there)
+
+struck_stands_paid : (vs : List Victim) (s : State) (wallets : Table Wallet) (reserve : ℕ) → StruckStand (with_pay s wallets reserve) vs → StruckStand s vs
+struck_stands_paid [] s wallets reserve h = tt
+struck_stands_paid (v ∷ vs) s wallets reserve h =
+    let e = struck_paid s v wallets reserve in
+    let troves = subst (λ (t : State). TrovesStand (books_of t)) e h.1 in
+    let words = subst (λ (t : State). IsWithinRange (words_of t)) e h.2 in
+    let later = subst (λ (t : State). StruckStand t vs) e h.3 in
+    (h.0, troves, words, struck_stands_paid vs (struck s v) wallets reserve later)
+
+pub lowest_stand : (n : ℕ) (s : State) → Finds s → StruckStand s (lowest s n)
+lowest_stand zero s f = tt
+lowest_stand (suc n) s f = by (next_victim s) (found s (last_trove s)) (λ v h. lowest_stand n (liquidated s 0 v) h) where
+  by : (next : Option Victim) → ((v : Victim) → next ≡ Some v → one s v.account ≡ Ok v.one) → ((v : Victim) → Finds (liquidated s 0 v) → StruckStand (liquidated s 0 v) (lowest (liquidated s 0 v) n)) → StruckStand s (lowest_by n s next)
+  by None known later = tt
+  by (Some v) known later =
+      let next = liquidated s 0 v in
+      let first = victim_leaves s f 0 (omega arith) v.account v.one (strikes s f v.account v.one (known v refl)) in
+      let rest = later v (finds_after s next first) in
+      let same : lowest next n ≡ lowest (struck s v) n = lowest_paid n (struck s v) next.wallets ((struck s v).reserve - RESERVE) in
+      let told = subst (λ (vs : List Victim). StruckStand next vs) same rest in
+      (known v refl, first.stands.troves, record { least = first.stands.pool.least; most = first.stands.pool.highest }, struck_stands_paid (lowest (struck s v) n) (struck s v) next.wallets ((struck s v).reserve - RESERVE) told)

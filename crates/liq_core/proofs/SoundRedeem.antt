@@ -34,10 +34,10 @@ use Rattle.liq_order.specs.Order.{ranks, trove_order}
 use Rattle.liq_order.proofs.Sorting.{sorted_same}
 use Rattle.liq_stability.specs.Position.{words_of}
 use Rattle.liq_redemption.specs.declared.cut.Cut.{Cut}
-use Rattle.liq_redemption.specs.Redemption.{Visit, visit, is_visited, visited, net_debt, cut_of, draw_of, stops_before, troves_after, cuts, redeemed, drawn, RedeemTerms, redeeming_terms, redeem_rules, closed_by, cut_entire, cut_down, redeemed_by}
+use Rattle.liq_redemption.specs.Redemption.{Visit, visit, is_visited, visited, net_debt, cut_of, draw_of, stops_before, troves_after, cuts, redeemed, drawn, RedeemTerms, redeeming_terms, redeem_rules, closed_by, cut_entire, cut_down, redeemed_by, cuts_in}
 use Rattle.liq_types.specs.Soundness.{coll_homes, lusd_homes}
 use Rattle.liq_core.specs.Image.{image}
-use Rattle.liq_core.specs.SoundState.{IsSetSince, AreSetSince}
+use Rattle.liq_core.specs.SoundState.{IsSetSince, AreSetSince, CutIsCovered}
 use Rattle.liq_core.proofs.Moving.{paid_coll, paid_lusd, charged_coll, charged_lusd}
 use Rattle.liq_core.proofs.SoundBorrow.{HasTrove, has_trove, set_stands, RateInRange, ranges_with}
 use Rattle.liq_core.proofs.SoundFacts.{Finds, Stands, Leaves, trove_table, all_false, lt_false, paid_stands, charged_stands, added_stands, lifted_stands, reserve_stands, fees_stand, length_without, length_put, key_below, surplus_sum}
@@ -422,3 +422,32 @@ module _ (s : State) (f : Finds s) (account amount bound : ℕ) (h : first_refus
     where
       fee_below : (drawn fee : ℕ) → nat_le drawn fee ≡ false → fee < drawn
       fee_below drawn fee e = grind (arith, nat_tests, e)
+
+-- ---- what is cut
+
+module _ (s : State) (f : Finds s) where
+  cuts_covered_by : (vs : List Visit) (troves wanted : ℕ) → AreVisits s s.price vs → AllByRecursion (CutIsCovered s) (cuts s.price troves wanted vs)
+  cuts_covered_by [] troves wanted h = tt
+  cuts_covered_by (v ∷ vs) troves wanted h = by (wanted == 0) (stops_before v (cut_of s.price v wanted) troves) (cuts_covered_by vs (troves_after (cut_of s.price v wanted) troves) (wanted - (cut_of s.price v wanted).lot) h.2) where
+    covered : CutIsCovered s (cut_of s.price v wanted)
+    covered =
+        let has = has_trove s v.account (v.coll, v.debt) f.stands h.0.entire_is in
+        let part : (cut_of s.price v wanted).lot ≤ v.debt - RESERVE = omega arith in
+        let least = f.ranges.price_least in
+        record {
+          own = (v.coll, v.debt);
+          entire_is = h.0.entire_is;
+          draw = draw_less v.coll v.debt s.price (cut_of s.price v wanted).lot (omega (arith, least)) (omega (arith, has.least)) part h.0.above;
+          lot = omega (arith, part, has.least);
+        }
+
+    by : (done stops : Bool) → AllByRecursion (CutIsCovered s) (cuts s.price (troves_after (cut_of s.price v wanted) troves) (wanted - (cut_of s.price v wanted).lot) vs) → AllByRecursion (CutIsCovered s) (cond done [] (cond stops [] (cut_of s.price v wanted ∷ cuts s.price (troves_after (cut_of s.price v wanted) troves) (wanted - (cut_of s.price v wanted).lot) vs)))
+    by true stops later = tt
+    by false true later = tt
+    by false false later = (covered, later)
+
+  pub cuts_covered : (amount : ℕ) → AllByRecursion (CutIsCovered s) (cuts_in s amount)
+  cuts_covered amount = cuts_covered_by (visited s) (trove_count s) amount (visited_are s f.stands.troves.ascend)
+
+  pub cuts_within : (amount : ℕ) → redeemed (cuts_in s amount) ≤ amount
+  cuts_within amount = redeemed_within s.price (visited s) (trove_count s) amount

@@ -1,5 +1,5 @@
 -- Sound states: what every state is that the rules reach, and what every step keeps.
-use Rattle.std.specs.Prelude.{ℕ, ◌+◌, ◌-◌, ◌*◌, ◌≤◌}
+use Rattle.std.specs.Prelude.{◌≡◌, ℕ, ◌+◌, ◌-◌, ◌*◌, ◌≤◌, ◌<◌, List, [], ◌∷◌, Some, Ok}
 use Rattle.std.specs.List.{AllByRecursion}
 use Rattle.std.specs.Map.{values_of}
 use Rattle.liq_types.specs.declared.amounts.TheConstants.{OFFSET_MOST, P_OPENING, P_LEAST, SUM_MOST, RESERVE, MIN_NET}
@@ -9,11 +9,17 @@ use Rattle.liq_types.specs.Product.{IsWithinRange, place_of, sumat}
 use Rattle.liq_types.specs.Soundness.{IsSoundImage, places_most}
 use Rattle.liq_types.specs.State.{State, Mark, AtStart, After, StakeSums, TroveEntry, DepositEntry}
 use Rattle.liq_types.specs.Tables.{Table}
-use Rattle.liq_types.specs.Totals.{pool_total, pool_coll, stakes_of}
+use Rattle.liq_types.specs.Totals.{total_coll, total_debt, pool_total, pool_coll, stakes_of}
 use Rattle.liq_types.specs.WellFormed.{IsWellFormed, TablesAscend}
-use Rattle.liq_troves.specs.Standing.{HadStakes}
-use Rattle.liq_troves.specs.StakeSums.{sums_now, sums_at, pending_coll, pending_debt, entire}
+use Rattle.liq_troves.specs.Standing.{HadStakes, TrovesStand, books_of}
+use Rattle.liq_troves.specs.StakeSums.{sums_now, sums_at, pending_coll, pending_debt, entire, entire_of}
 use Rattle.liq_stability.specs.Position.{words_of, mark_of, sums_from}
+use Rattle.liq_borrow.specs.declared.change.Change.{Change}
+use Rattle.liq_borrow.specs.declared.change.Plan.{Plan}
+use Rattle.liq_liquidation.specs.declared.one.One.{One}
+use Rattle.liq_liquidation.specs.declared.one.Victim.{Victim}
+use Rattle.liq_liquidation.specs.One.{one, one_total_coll, one_total_debt, struck}
+use Rattle.liq_redemption.specs.declared.cut.Cut.{Cut}
 use Rattle.liq_core.specs.Image.{image}
 
 -- It is well formed, its tables are in order, its image meets the rules beside its records, and every redistribution went to
@@ -39,6 +45,8 @@ AreSetSince troves = AllByRecursion (λ (row : ℕ × TroveEntry). IsSetSince ro
 -- no amount is more than so much, but for those of a snapshot
 pub record AmountsWithin (most : ℕ) (s : State) : Type 0 where
   pub brought : s.brought ≤ most
+  pub total_coll : total_coll s ≤ most
+  pub total_debt : total_debt s ≤ most
   pub active_coll : s.active_coll ≤ most
   pub active_debt : s.active_debt ≤ most
   pub default_coll : s.default_coll ≤ most
@@ -83,9 +91,43 @@ pub record TroveIsCovered (s : State) (t : TroveEntry) : Type 0 where
   pub debt : t.debt ≤ s.active_debt
   pub pending_coll : pending_coll s t ≤ s.default_coll
   pub pending_debt : pending_debt s t ≤ s.default_debt
-  pub entire_debt : RESERVE + MIN_NET ≤ (entire s t).1
+  pub some_coll : 1 ≤ (entire s t).0
+  pub least_debt : RESERVE + MIN_NET ≤ (entire s t).1
+  pub entire_coll : (entire s t).0 ≤ total_coll s
+  pub entire_debt : (entire s t).1 ≤ total_debt s
   pub reserve : RESERVE ≤ s.reserve
 
 pub record DepositIsCovered (s : State) (d : DepositEntry) : Type 0 where
   pub sum : (mark_of s d.mark).sum ≤ sums_from s (mark_of s d.mark) 0
   pub product : P_LEAST ≤ (mark_of s d.mark).p
+
+-- ---- what an allowed call takes
+
+-- of the troves that are struck one after the other each may be liquidated at its moment, and what stands of the troves and of
+-- the product stands after each
+abbrev pub StruckStand : State → List Victim → Type 0
+StruckStand s [] = Unit {0}
+StruckStand s (v ∷ vs) = (one s v.account ≡ Ok v.one) × TrovesStand (books_of (struck s v)) × IsWithinRange (words_of (struck s v)) × StruckStand (struck s v) vs
+
+-- all that becomes of a trove with these entire amounts is in it, and the pool takes over no more than it has
+pub record OneIsCovered (s : State) (own : ℕ × ℕ) (one : One) : Type 0 where
+  pub coll : one_total_coll one ≡ own.0
+  pub debt : one_total_debt one ≡ own.1
+  pub served : one.offset_debt ≤ pool_total s
+  pub worth : one.offset_coll ≤ OFFSET_MOST * one.offset_debt
+
+-- a cut takes less collateral than the trove has, and no more debt than it has beside its reserve
+pub record CutIsCovered (s : State) (cut : Cut) : Type 0 where
+  pub own : ℕ × ℕ
+  pub entire_is : entire_of s cut.account ≡ Some own
+  pub draw : cut.draw < own.0
+  pub lot : cut.lot + RESERVE ≤ own.1
+
+-- a change takes no more than there is, and leaves some collateral and the least debt
+pub record ChangeIsCovered (own : ℕ × ℕ) (change : Change) (plan : Plan) : Type 0 where
+  pub coll_out : change.coll_out ≤ own.0
+  pub repay : change.repay ≤ own.1
+  pub coll : plan.coll + change.coll_out ≡ own.0 + change.coll_in
+  pub debt : plan.debt + change.repay ≡ own.1 + change.borrow + plan.fee
+  pub some : 1 ≤ plan.coll
+  pub least : RESERVE + MIN_NET ≤ plan.debt

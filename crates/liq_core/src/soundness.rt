@@ -1,25 +1,34 @@
 //! What holds of every sound state, and that every step keeps it sound. The functions here do nothing: each is the place
 //! where the facts of its contract are proved.
 
-ghost use Rattle.std.specs.Prelude.{◌≡◌, ℕ, ◌-◌, ◌*◌, ◌^◌, ◌≤◌, ◌<◌, List, drop, Some, pos, ◌≤ℤ◌};
+ghost use Rattle.std.specs.Prelude.{◌≡◌, ℕ, ◌+◌, ◌-◌, ◌*◌, ◌^◌, ◌≤◌, ◌<◌, List, drop, Some, None, Ok, pos, ◌≤ℤ◌};
+ghost use Rattle.std.specs.List.{AllByRecursion};
 ghost use Rattle.liq_types.specs.declared.amounts.TheConstants.{ACCOUNTS, LIM, ONE, P_OPENING, OFFSET_MOST};
 ghost use Rattle.liq_types.specs.declared.requests.Request.{Request};
 ghost use Rattle.liq_types.specs.Image.{Image, Place};
 ghost use Rattle.liq_types.specs.PlainLedger.{AreOwnedBelow};
-ghost use Rattle.liq_types.specs.Product.{sumat};
+ghost use Rattle.liq_types.specs.Product.{rise_of, sumat};
+ghost use Rattle.liq_types.specs.Rules.{first_refusal};
 ghost use Rattle.liq_types.specs.Soundness.{IsSoundImage};
-ghost use Rattle.liq_types.specs.State.{State, opening, started, TroveEntry, DepositEntry, Redistribution, After};
+ghost use Rattle.liq_types.specs.State.{State, opening, started, TroveEntry, DepositEntry, Redistribution, After, wallet_of};
 ghost use Rattle.liq_types.specs.Tables.{at};
+ghost use Rattle.liq_types.specs.Totals.{market_of, pool_total};
 ghost use Rattle.liq_types.specs.WellFormed.{IsWellFormed};
-ghost use Rattle.liq_troves.specs.StakeSums.{sums_now, sums_at, pending_coll, pending_debt, exact_part, somethings, IsShortOf};
+ghost use Rattle.liq_troves.specs.StakeSums.{sums_now, sums_at, pending_coll, pending_debt, entire_of, exact_part, somethings, IsShortOf};
 ghost use Rattle.liq_stability.specs.Position.{words_of};
 ghost use Rattle.liq_stability.specs.Promise.{IsWithinAllowance};
 ghost use Rattle.liq_stability.specs.Lawful.{IsLawful};
+ghost use Rattle.liq_borrow.specs.declared.change.Change.{Change};
+ghost use Rattle.liq_borrow.specs.Borrowing.{adjusting_terms, adjust_rules};
+ghost use Rattle.liq_liquidation.specs.declared.one.One.{One};
+ghost use Rattle.liq_liquidation.specs.Lowest.{lowest};
+ghost use Rattle.liq_liquidation.specs.One.{one};
+ghost use Rattle.liq_redemption.specs.Redemption.{cuts_in, redeemed};
 ghost use Rattle.liq_core.specs.Dust.{IsCovered, dust};
 ghost use Rattle.liq_core.specs.Events.{events};
 ghost use Rattle.liq_core.specs.Identities.{IsConserved};
 ghost use Rattle.liq_core.specs.Image.{image};
-ghost use Rattle.liq_core.specs.SoundState.{IsSoundState, AmountsWithin, SnapshotWithin, WordsWithin, TroveIsCovered, DepositIsCovered};
+ghost use Rattle.liq_core.specs.SoundState.{IsSoundState, AmountsWithin, SnapshotWithin, WordsWithin, TroveIsCovered, DepositIsCovered, ChangeIsCovered, OneIsCovered, StruckStand, CutIsCovered};
 ghost use Rattle.liq_core.specs.Step.{step, run, accepted};
 
 /// The opening is sound, and so is a state that begins with a sound image, as a checkpoint has one.
@@ -83,12 +92,14 @@ pub fn nothing_is_cut_at_zero()
 {}
 
 /// The products that are divided stay far below 2^128: what is due to a trove before any rounding, and a deposit's amount times
-/// the product or any sum. (What is due is not bounded by the stake and the sums alone.)
+/// the product or any sum, and what an offset makes of the product, for each rise of the scale that is tried. (What is due is
+/// not bounded by the stake and the sums alone.)
 pub fn products_fit()
     ensures due_coll { (s : State) → IsSoundState s → (account : ℕ) → (t : TroveEntry) → at s.troves account ≡ Some t → t.stake * ((sums_now s).coll - (sums_at s t.mark).coll) ≤ ONE * LIM }
     ensures due_debt { (s : State) → IsSoundState s → (account : ℕ) → (t : TroveEntry) → at s.troves account ≡ Some t → t.stake * ((sums_now s).debt - (sums_at s t.mark).debt) ≤ ONE * LIM }
     ensures balance { (s : State) → IsSoundState s → (account : ℕ) → (d : DepositEntry) → at s.deposits account ≡ Some d → d.amount * (words_of s).p ≤ P_OPENING * LIM }
     ensures gain { (s : State) → IsSoundState s → (account : ℕ) → (d : DepositEntry) → at s.deposits account ≡ Some d → (place : Place) → d.amount * sumat s.start s.offsets place ≤ OFFSET_MOST * P_OPENING * LIM }
+    ensures product { (s : State) → IsSoundState s → (debt coll : ℕ) → 1 ≤ debt → debt < pool_total s → (steps : ℕ) → steps ≤ rise_of (words_of s).p (record { debt = debt; coll = coll; total = pool_total s }) → (words_of s).p * ((pool_total s - debt) * 10 ^ (9 * steps)) < (P_OPENING + 1) * LIM }
     ensures below { OFFSET_MOST * P_OPENING * LIM < 2 ^ 128 }
 {}
 
@@ -99,4 +110,17 @@ pub fn pending_is_nearly_exact()
     ensures coll { (s : State) → IsSoundState s → (t : TroveEntry) → (n : ℕ) → t.mark ≡ After n → IsShortOf (pending_coll s t) t.stake (somethings (λ (r : Redistribution). r.coll) (drop n s.redistributions)) (exact_part (λ (r : Redistribution). r.coll) t.stake (drop n s.redistributions)) }
     ensures debt { (s : State) → IsSoundState s → (t : TroveEntry) → (n : ℕ) → t.mark ≡ After n → IsShortOf (pending_debt s t) t.stake (somethings (λ (r : Redistribution). r.debt) (drop n s.redistributions)) (exact_part (λ (r : Redistribution). r.debt) t.stake (drop n s.redistributions)) }
     ensures reached { (requests : List Request) → (account : ℕ) → (t : TroveEntry) → at (run opening requests).0.troves account ≡ Some t → (n : ℕ) × (t.mark ≡ After n) }
+{}
+
+/// What an allowed call takes from troves and pool is there, so that nothing is cut at zero. An adjusted trove keeps some
+/// collateral and the least debt. All that becomes of a liquidated trove is in it, and comes together to it; the pool takes over
+/// no more than it has, for at most [`OFFSET_MOST`] gwei each micro-LUSD. So it is along the lowest troves too: after each the
+/// troves stand as in a sound state. A redemption takes less collateral than a trove has, and no more debt than beside its
+/// reserve; together no more than is wanted.
+pub fn calls_take_what_is_there()
+    ensures adjust { (s : State) → IsSoundState s → (account bound : ℕ) → (change : Change) → (own : ℕ × ℕ) → entire_of s account ≡ Some own → first_refusal (adjust_rules (market_of s) (wallet_of s account) (entire_of s account) account change bound) ≡ None → ChangeIsCovered own change (adjusting_terms (market_of s) own change) }
+    ensures liquidate { (s : State) → IsSoundState s → (account : ℕ) → (made : One) → (own : ℕ × ℕ) → one s account ≡ Ok made → entire_of s account ≡ Some own → OneIsCovered s own made }
+    ensures lowest { (s : State) → IsSoundState s → (count : ℕ) → StruckStand s (lowest s count) }
+    ensures redeem { (s : State) → IsSoundState s → (amount : ℕ) → AllByRecursion (CutIsCovered s) (cuts_in s amount) }
+    ensures redeem_together { (s : State) → IsSoundState s → (amount : ℕ) → redeemed (cuts_in s amount) ≤ amount }
 {}

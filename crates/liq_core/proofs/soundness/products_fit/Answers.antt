@@ -1,5 +1,5 @@
 use Rattle.std.proofs.Common.{arith}
-use Rattle.liq_core.proofs.SoundBounds.{due_fits, deposit_fits}
+use Rattle.liq_core.proofs.SoundBounds.{due_fits, deposit_fits, product_fits}
 use Rattle.liq_core.proofs.soundness.products_fit.Goals as goal
 
 pub returns-clause-due_coll : goal.returns-clause-due_coll
@@ -16,3 +16,6 @@ returns-clause-gain c s h account d there = (deposit_fits s h account d there).1
 
 pub returns-clause-below : goal.returns-clause-below
 returns-clause-below c = omega arith
+
+pub returns-clause-product : goal.returns-clause-product
+returns-clause-product c = product_fits
