@@ -18,7 +18,7 @@ use Rattle.liq_types.specs.declared.requests.Request.TheVariants.{Do, Ask}
 use Rattle.liq_types.specs.Image.{Place}
 use Rattle.liq_types.specs.Product.{is_place, place_of, sumat, IsWithinRange, TakesPartUpTo, product_after, rise_of}
 use Rattle.liq_types.specs.Rules.{first_refusal}
-use Rattle.liq_types.specs.State.{State, Mark, AtStart, After, StakeSums, TroveEntry, DepositEntry, Redistribution, opening, Offset}
+use Rattle.liq_types.specs.State.{State, Mark, AtStart, After, StakeSums, TroveEntry, DepositEntry, Redistribution, opening, PoolOffset}
 use Rattle.liq_types.specs.Tables.{Table, at, map_rows}
 use Rattle.liq_types.specs.Totals.{pool_total}
 use Rattle.liq_types.proofs.Lookups.{all-at}
@@ -247,7 +247,7 @@ deposit_fits s h account d there =
 -- so does what an offset makes of the product, for each rise that is tried up to the one that is reached
 pub product_fits : (s : State) → IsSoundState s → (debt coll : ℕ) → 1 ≤ debt → debt < pool_total s → (steps : ℕ) → steps ≤ rise_of (words_of s).p (offset_now s debt coll) → (words_of s).p * ((pool_total s - debt) * 10 ^ (9 * steps)) < (P_OPENING + 1) * LIM
 product_fits s h debt coll some less steps few = by (cases_lt steps (rise_of (words_of s).p (offset_now s debt coll))) where
-  o : Offset
+  o : PoolOffset
   o = offset_now s debt coll
 
   range : IsWithinRange (words_of s)
