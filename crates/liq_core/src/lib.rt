@@ -7,6 +7,7 @@
 mod engine;
 pub mod examples;
 pub mod laws;
+pub mod shares;
 pub mod soundness;
 mod tables;
 mod turns;
