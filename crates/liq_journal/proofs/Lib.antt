@@ -1,4 +1,11 @@
 mod Appending
+mod Counting
 mod Creating
+mod HeaderFound
 mod Heading
+mod Looking
+mod Opening
 mod Reading
+mod Scanning
+mod Settling
+mod Testing

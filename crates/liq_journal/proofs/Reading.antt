@@ -87,3 +87,24 @@ records_alike (suc k) (suc fuel) most xs ys is some alike = elim (true_or_false 
       records_whole fuel ys whole_2 ∙ (λ i. raw i ∷ more i) ∙ ap (λ (l : List ℕ). (take 128 (drop 1 xs) ∷ records fuel (drop 129 xs)) ++ records most l) there
       ∙ ap (λ (l : List (List ℕ)). l ++ records most (drop (129 * suc k) ys)) (sym read)
 ]
+
+-- whole records are as long as they are
+pub records_long : (fuel : ℕ) (xs : List ℕ) → 129 * length (records fuel xs) ≤ length xs
+records_long zero xs = let e = ap length (records_zero xs) in omega arith
+records_long (suc fuel) xs = elim (true_or_false (begins_whole xs)) [
+  | inr none ↦ let e = ap length (records_none (suc fuel) xs none) in omega arith
+  | inl whole ↦
+      let e = ap length (records_whole fuel xs whole) in
+      let more = records_long fuel (drop 129 xs) in
+      let d = length-drop 129 xs in
+      let l = whole_long xs whole in
+      omega arith
+]
+
+-- and no more than are read
+pub records_few : (fuel : ℕ) (xs : List ℕ) → length (records fuel xs) ≤ fuel
+records_few zero xs = let e = ap length (records_zero xs) in omega arith
+records_few (suc fuel) xs = elim (true_or_false (begins_whole xs)) [
+  | inr none ↦ let e = ap length (records_none (suc fuel) xs none) in omega arith
+  | inl whole ↦ let e = ap length (records_whole fuel xs whole) in let more = records_few fuel (drop 129 xs) in omega arith
+]

@@ -1,4 +1,9 @@
+pub mod Counted
 pub mod Crash
+pub mod Header
+pub mod Looked
+pub mod Opened
 pub mod Records
 pub mod Settled
+pub mod Tested
 pub mod Written

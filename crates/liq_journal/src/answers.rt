@@ -20,7 +20,7 @@ pub enum LookFault {
 }
 
 /// The disk met a fault while a journal was created on it.
-#[derive(Debug)]
+#[derive(Debug, Drop)]
 pub struct CreateFault<D> {
     pub disk: D,
 }
@@ -36,7 +36,7 @@ pub enum OpenWhy {
 }
 
 /// No journal was opened, and the disk is handed back.
-#[derive(Debug)]
+#[derive(Debug, Drop)]
 pub struct OpenFault<D> {
     pub disk: D,
     pub why: OpenWhy,

@@ -34,7 +34,7 @@ pub fn record_bytes(generation: u64, index: u64, body: &[u8; 96]) -> [u8; 129]
     bytes
 }
 
-fn put(bytes: &mut [u8], at: usize, part: &[u8])
+pub fn put(bytes: &mut [u8], at: usize, part: &[u8])
     requires { at + length part.now ≤ length bytes.old }
     ensures { bytes.new ≡ take at bytes.old ++ part.now ++ drop (at + length part.now) bytes.old }
 {

@@ -5,21 +5,26 @@ ghost use Rattle.liq_types.specs.declared.requests.Command.{Command};
 ghost use Rattle.liq_outside.specs.Disk.{GoesOn, LeavesOnly, LeftNow, Only};
 ghost use Rattle.liq_outside.specs.Faults.{Rose};
 ghost use Rattle.liq_journal.specs.Crash.{BeforeOrAfter, CrashOfCreate, IsBodyOf, Stands, beginning, is_odd};
+ghost use Rattle.liq_journal.specs.Opened.{CrashOfOpen, IsKept, IsOpened, IsWhyOf, ReadsOfOpen};
 ghost use Rattle.liq_journal.specs.Settled.{IsSettled};
-ghost use Rattle.liq_journal.specs.Written.{Written, and_then, is_generation, is_size};
+ghost use Rattle.liq_journal.specs.Written.{Open, Written, and_then, found_on, is_generation, is_size};
 
-use crate::answers::{CreateFault, DiskFault};
+use crate::answers::{CreateFault, DiskFault, OpenFault, OpenWhy};
 use crate::bytes::write_synced;
 use crate::create::{HEADER, make};
 use crate::digests::record_bytes;
+use crate::open::open_on;
+use crate::scanned::Scanned;
 use liq_outside::Disk;
+use std::alloc::Global;
 use std::marker::Model;
 
 // A gate byte, 96 bytes of a command and 32 of their digest.
-const RECORD: u64 = 129;
+pub const RECORD: u64 = 129;
 
 /// A journal on a disk. A contract sees the disk, the generation, the place of the first record's gate
 /// and the number of records.
+#[derive(Drop)]
 pub struct Journal<D> {
     disk: D,
     generation: u64,
@@ -29,6 +34,7 @@ pub struct Journal<D> {
 
 impl<D> Model for Journal<D> {
     ghost use Rattle.std.specs.Prelude.{◌≤◌};
+    ghost use Rattle.liq_journal.specs.Opened.{CrashOfOpen, IsKept, IsOpened, IsWhyOf, ReadsOfOpen};
     ghost use Rattle.liq_journal.specs.Settled.{JournalOn};
 
     ghost Value = { JournalOn D };
@@ -68,6 +74,46 @@ impl<D: Disk> Journal<D> {
                 count: 0,
             }),
             Err(_) => Err(CreateFault { disk }),
+        }
+    }
+
+    /// Opens the journal of a disk, and gives the checkpoint's bytes; `odd` says whether this disk has the
+    /// odd generations. It begins with a sync, tests all of the disk, and shuts the byte behind the last
+    /// whole record, or place 0 of a disk on which none is open.
+    ///
+    /// `Absent` comes where none is open, `Damaged` with the disk's first fault, `NoMemory` for want of it.
+    pub fn open(alloc: Global, disk: D, odd: bool) -> Result<(Journal<D>, Vec<u8>), OpenFault<D>>
+        ensures found { IfOk result (λ r. IfSome (D.seen disk) (λ held. IsOpened odd held r.0.generation r.0.start r.0.count r.1.items)) }
+        ensures stands { IfOk result (λ r. (held : List ℕ) (w : Written) → D.seen disk ≡ Some held → found_on odd held ≡ Open w → IfSome (D.seen r.0.disk) (λ after. Stands odd after w)) }
+        ensures settled { IfOk result (λ r. IfSome (D.seen r.0.disk) (IsSettled r.0.generation r.0.start r.0.count)) }
+        ensures durable { IfOk result (λ r. IfSome (D.seen r.0.disk) (λ after. Only after (LeftNow D.moment D.left_at r.0.disk))) }
+        ensures why { IfErr result (λ e. IfSome (D.seen disk) (λ held. IsWhyOf odd held e.why)) }
+        ensures kept { IfErr result (λ e. IsKept e.why → D.seen e.disk ≡ D.seen disk) }
+        ensures telling { MatchResult result (λ r. IsSome (D.seen r.0.disk) ↔ IsSome (D.seen disk)) (λ e. IsSome (D.seen e.disk) ↔ IsSome (D.seen disk)) }
+        ensures crash { MatchResult result (λ r. CrashOfOpen D.seen D.moment D.left_at disk r.0.disk odd) (λ e. CrashOfOpen D.seen D.moment D.left_at disk e.disk odd) }
+        ensures reads { MatchResult result (λ r. ReadsOfOpen D.seen disk r.0.disk odd) (λ e. ReadsOfOpen D.seen disk e.disk odd) }
+        ensures time { MatchResult result (λ r. GoesOn D.moment D.left_at disk r.0.disk) (λ e. GoesOn D.moment D.left_at disk e.disk) }
+        ensures count { MatchResult result (λ r. D.faults disk ≤ D.faults r.0.disk) (λ e. D.faults disk ≤ D.faults e.disk) }
+        ensures cause { IfErr result (λ e. e.why ≡ OpenWhy.DiskFault → Rose (D.faults disk) (D.faults e.disk)) }
+    {
+        let mut disk = disk;
+        match open_on(alloc, &mut disk, odd) {
+            Ok(scanned) => {
+                let Scanned {
+                    generation,
+                    start,
+                    count,
+                    checkpoint,
+                } = scanned;
+                let journal = Journal {
+                    disk,
+                    generation,
+                    start,
+                    count,
+                };
+                Ok((journal, checkpoint))
+            }
+            Err(why) => Err(OpenFault { disk, why }),
         }
     }
 

@@ -7,7 +7,12 @@ mod bytes;
 mod create;
 mod damage;
 mod digests;
+mod head;
+mod header;
 mod journal;
+mod open;
+mod records;
+mod scanned;
 
 pub use answers::{CreateFault, DiskFault, LookFault, OpenFault, OpenWhy};
 pub use damage::{Damage, What};

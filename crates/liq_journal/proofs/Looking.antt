@@ -1,0 +1,44 @@
+-- How looks at a disk go on.
+use Rattle.std.proofs.Common.{◌≡◌, ℕ, ◌+◌, ◌-◌, ◌≤◌, min, List, ◌++◌, length, take, drop, Option, Some, None, IfSome, ◌∙◌, sym, ap, subst, arith, refl, take-append-drop, length-append, length-take}
+use Rattle.std.proofs.lemmas.List.{take-take, drop-take, drop-drop}
+use Rattle.liq_journal.specs.Written.{piece}
+use Rattle.liq_outside.specs.Disk.{LeavesOnly, LeftNow, Within, Elapses}
+use Rattle.liq_outside.proofs.Moments.{chained, weaker, call, started}
+use Rattle.liq_journal.specs.Looked.{Looked}
+
+module _ {D : Type 0} (seen : D → Option (List ℕ)) (moment : D → ℕ) (left_at : D → ℕ → List ℕ → Type 0) (faults : D → ℕ) where
+  pub looked_none : (old : D) → Looked seen moment left_at faults old old
+  looked_none old = record { same = refl; within = λ image left. left; leaves = started moment left_at old (LeftNow moment left_at old) (λ image left. left); count = omega arith }
+
+  pub looked_once : (old new : D) → seen new ≡ seen old → Within (LeftNow moment left_at new) (LeftNow moment left_at old) → Elapses moment left_at old new → faults old ≤ faults new → Looked seen moment left_at faults old new
+  looked_once old new same within time count = record { same = same; within = within; leaves = call moment left_at old new (LeftNow moment left_at old) time (λ image left. left) within; count = count }
+
+  pub looked_on : (old mid new : D) → Looked seen moment left_at faults old mid → Looked seen moment left_at faults mid new → Looked seen moment left_at faults old new
+  looked_on old mid new first second = record {
+    same = second.same ∙ first.same;
+    within = λ image left. first.within image (second.within image left);
+    leaves = chained moment left_at old mid new (LeftNow moment left_at old) first.leaves (weaker moment left_at mid new (LeftNow moment left_at mid) (LeftNow moment left_at old) second.leaves first.within);
+    count = omega (arith, first.count, second.count);
+  }
+
+-- one piece behind another
+pub piece_more : (place n m : ℕ) (bytes : List ℕ) → piece place n bytes ++ take m (drop (place + n) bytes) ≡ piece place (n + m) bytes
+piece_more place n m bytes =
+    let l = drop place bytes in
+    let first : take n l ≡ take n (take (n + m) l) = sym (take-take n (n + m) l (omega arith)) in
+    let second : take m (drop (place + n) bytes) ≡ drop n (take (n + m) l) = ap (take m) (sym (drop-drop n place bytes)) ∙ sym (drop-take n m l) in
+    (λ i. first i ++ second i) ∙ take-append-drop n (take (n + m) l)
+
+pub read_more : (told now : Option (List ℕ)) → now ≡ told → (size at n : ℕ) (old new part buf : List ℕ) → at ≡ 57 + length old → n ≤ length buf → length new ≡ length old + n → new ≡ old ++ take n part → IfSome now (λ held. (n ≡ min (length buf) (length held - at)) × (take n part ≡ take n (drop at held))) → IfSome told (λ held. 57 + size ≤ length held → old ≡ piece 57 (length old) held) → IfSome told (λ held. 57 + size ≤ length held → new ≡ piece 57 (length new) held)
+read_more told now same size at n old new part buf is within long grows read so_far = go told (subst (λ (o : Option (List ℕ)). IfSome o (λ held. (n ≡ min (length buf) (length held - at)) × (take n part ≡ take n (drop at held)))) same read) so_far
+  where
+    go : (o : Option (List ℕ)) → IfSome o (λ held. (n ≡ min (length buf) (length held - at)) × (take n part ≡ take n (drop at held))) → IfSome o (λ held. 57 + size ≤ length held → old ≡ piece 57 (length old) held) → IfSome o (λ held. 57 + size ≤ length held → new ≡ piece 57 (length new) held)
+    go None r s = tt
+    go (Some held) r s = λ room.
+        grows ∙ (λ i. s room i ++ r.1 i) ∙ ap (λ (k : ℕ). piece 57 (length old) held ++ take n (drop k held)) is ∙ piece_more 57 (length old) n held ∙ ap (λ (k : ℕ). piece 57 k held) (sym long)
+
+pub grown : (old new part : List ℕ) (n : ℕ) → new ≡ old ++ take n part → n ≤ length part → length new ≡ length old + n
+grown old new part n is within = ap length is ∙ length-append old (take n part) ∙ ap (λ (k : ℕ). length old + k) (length-take n part ∙ omega arith)
+
+pub sum_within : (at n want end : ℕ) → n ≤ want → want ≤ end - at → at ≤ end → at + n ≤ end
+sum_within at n want end fits room within = omega arith

@@ -1,0 +1,99 @@
+-- What an opening leaves and finds afterwards.
+use Rattle.std.proofs.Common.{◌≡◌, ◌⊎◌, inl, inr, ⊎_elim, ℕ, ◌+◌, ◌*◌, ◌-◌, ◌<◌, ◌≤◌, List, length, take, drop, get_or, Option, Some, None, IfSome, IsSome, ◌↔◌, true, false, not, ◌&&◌, ◌==◌, rules, Result, Ok, Err, IfOk, Bool, refl, sym, ◌∙◌, ap, subst, arith, length-drop}
+use Rattle.liq_outside.specs.Disk.{Only, LeftNow, LeavesOnly}
+use Rattle.liq_outside.proofs.Moments.{chained, weaker}
+use Rattle.liq_journal.specs.Records.{records}
+use Rattle.liq_journal.specs.declared.scanned.Scanned.{Scanned}
+use Rattle.liq_journal.specs.Written.{Written, Found, Open, Absent, most_records, found_on, end_of, EndsWith, header_tests, version_1}
+use Rattle.liq_journal.specs.Crash.{Stands, HasByteAt, is_odd}
+use Rattle.liq_journal.specs.Settled.{IsSettled}
+use Rattle.std.proofs.lemmas.Bool.Decides.{nat_tests}
+use Rattle.liq_journal.specs.Opened.{IsOpened, HasGate, IsScanOf, IsUnshut, IsUnsettled, OpenLeaves, SettleLeaves, AbsentLeaves}
+use Rattle.liq_journal.proofs.Reading.{records_long, records_few}
+use Rattle.liq_journal.proofs.Heading.{is_open, of_records, are_false}
+use Rattle.liq_journal.proofs.Appending.{held_on}
+
+module _ (odd : Bool) (held : List ℕ) (w : Written) (found : found_on odd held ≡ Open w) where
+  abbrev raws : List (List ℕ)
+  raws = records most_records (drop (57 + length w.checkpoint) held)
+
+  counted : length raws ≡ length w.commands
+  counted = (of_records w.generation w.checkpoint 1 (57 + length w.checkpoint) raws w (is_open odd held w found).behind).count
+
+  pub ends_inside : end_of w ≤ length held
+  ends_inside =
+      let long = records_long most_records (drop (57 + length w.checkpoint) held) in
+      let d = length-drop (57 + length w.checkpoint) held in
+      let c = counted in
+      let s = (is_open odd held w found).headed.long in
+      omega arith
+
+  few : length w.commands ≤ 1000001
+  few = let f = records_few most_records (drop (57 + length w.checkpoint) held) in let c = counted in omega arith
+
+  pub stands_settled : (after : List ℕ) → take (end_of w) after ≡ take (end_of w) held → HasGate (end_of w) after → Stands odd after w
+  stands_settled after front gate = record {
+    found = held_on odd held w found after (1000001 - length w.commands) (let f = few in omega arith) ends_inside front (λ is. let e = sym gate.shut ∙ is in absurd (cc (e)));
+    ended = record { there = gate.there; is = gate.shut };
+  }
+
+-- where the records of a scan end
+pub scan_end : (odd : Bool) (held : List ℕ) (s : Scanned) (scan : IsScanOf odd held s) → s.start + 129 * s.count ≡ end_of scan.written
+scan_end odd held s scan = let a = scan.start_is in let b = scan.count_is in omega arith
+
+pub told_inside : (told : Option (List ℕ)) (odd : Bool) (s : Scanned) → IfSome told (λ held. IsScanOf odd held s) → IfSome told (λ held. s.start + 129 * s.count ≤ length held)
+told_inside None odd s scan = tt
+told_inside (Some held) odd s scan = let e = scan_end odd held s scan in let i = ends_inside odd held scan.written scan.found in omega arith
+
+same_written : (odd : Bool) (held : List ℕ) (w v : Written) → found_on odd held ≡ Open w → found_on odd held ≡ Open v → w ≡ v
+same_written odd held w v a b = let e : Open w ≡ Open v = sym a ∙ b in cc (e)
+
+pub told_stands : (told now : Option (List ℕ)) (odd : Bool) (s : Scanned) (held : List ℕ) (w : Written) → told ≡ Some held → IfSome told (λ l. IsScanOf odd l s) → found_on odd held ≡ Open w → IfSome now (λ after. take (s.start + 129 * s.count) after ≡ take (s.start + 129 * s.count) held) → IfSome now (λ after. HasGate (s.start + 129 * s.count) after) → IfSome now (λ after. Stands odd after w)
+told_stands told None odd s held w is scan found front gate = tt
+told_stands told (Some after) odd s held w is scan found front gate =
+    let sc = subst (λ (o : Option (List ℕ)). IfSome o (λ l. IsScanOf odd l s)) is scan in
+    let e : s.start + 129 * s.count ≡ end_of w = scan_end odd held s sc ∙ ap end_of (same_written odd held sc.written w sc.found found) in
+    stands_settled odd held w found after (subst (λ (n : ℕ). take n after ≡ take n held) e front) (subst (λ (n : ℕ). HasGate n after) e gate)
+
+module _ {D : Type 0} (moment : D → ℕ) (left_at : D → ℕ → List ℕ → Type 0) (old new : D) (odd : Bool) (held : List ℕ) where
+  pub leaves_behind : (told : Option (List ℕ)) (s : Scanned) → told ≡ Some held → IfSome told (λ l. IsScanOf odd l s) → LeavesOnly moment left_at old new (SettleLeaves (s.start + 129 * s.count) held) → LeavesOnly moment left_at old new (OpenLeaves odd held)
+  leaves_behind told s is scan leaves =
+      let sc = subst (λ (o : Option (List ℕ)). IfSome o (λ l. IsScanOf odd l s)) is scan in
+      weaker moment left_at old new (SettleLeaves (s.start + 129 * s.count) held) (OpenLeaves odd held) leaves
+      (λ image l. ⊎_elim (λ same. inl same) (λ byte. inr (s.start + 129 * s.count, inl (sc.written, sc.found, scan_end odd held s sc, byte.0), byte.1)) l)
+
+  pub leaves_absent : found_on odd held ≡ Absent → LeavesOnly moment left_at old new (AbsentLeaves held) → LeavesOnly moment left_at old new (OpenLeaves odd held)
+  leaves_absent found leaves = weaker moment left_at old new (AbsentLeaves held) (OpenLeaves odd held) leaves
+      (λ image l. ⊎_elim (λ same. inl same) (λ byte. inr (0, inr (found, refl, byte.0), byte.1)) l)
+
+pub if_ok_map : {T E : Type 0} (r : Result T E) (P Q : T → Type 0) → ((x : T) → P x → Q x) → IfOk r P → IfOk r Q
+if_ok_map (Ok x) P Q f p = f x p
+if_ok_map (Err e) P Q f p = tt
+
+by_parity : (odd : Bool) (g : ℕ) → not (odd && (g == 1)) ≡ false → is_odd g ≡ odd
+by_parity false g is = absurd (cc (is))
+by_parity true g is = let one : g ≡ 1 = grind (arith, nat_tests) in ap is_odd one
+
+parity : (odd : Bool) (held : List ℕ) (w : Written) → found_on odd held ≡ Open w → is_odd w.generation ≡ odd
+parity odd held w found =
+    let h = (is_open odd held w found).headed in
+    let all = are_false (header_tests version_1 odd held) h.tests in
+    by_parity odd w.generation (ap (λ (n : ℕ). not (odd && (n == 1))) (sym h.generation_is) ∙ all.1.0)
+
+pub told_opened : (told : Option (List ℕ)) (odd : Bool) (s : Scanned) → IfSome told (λ held. IsScanOf odd held s) → IfSome told (λ held. IsOpened odd held s.generation s.start s.count s.checkpoint.items)
+told_opened None odd s scan = tt
+told_opened (Some held) odd s scan = record { written = scan.written; found = scan.found; generation_is = scan.generation_is; start_is = scan.start_is; count_is = scan.count_is; checkpoint_is = scan.checkpoint_is }
+
+pub told_settled : (told now : Option (List ℕ)) (odd : Bool) (s : Scanned) → (IsSome now ↔ IsSome told) → IfSome told (λ held. IsScanOf odd held s) → ((held : List ℕ) (w : Written) → told ≡ Some held → found_on odd held ≡ Open w → IfSome now (λ after. Stands odd after w)) → IfSome now (IsSettled s.generation s.start s.count)
+told_settled told None odd s telling scan stands = tt
+told_settled None (Some after) odd s telling scan stands = let t : IsSome (Some after) = search rules in absurd (none_is (telling.0 t))
+  where
+    none_is : IsSome {T = List ℕ} None → ⊥
+    none_is is = absurd (search rules)
+told_settled (Some held) (Some after) odd s telling scan stands = record {
+  written = scan.written;
+  stands = subst (λ (b : Bool). Stands b after scan.written) (sym (ap is_odd (sym scan.generation_is) ∙ parity odd held scan.written scan.found)) (stands held scan.written refl scan.found);
+  generation_is = scan.generation_is;
+  start_is = scan.start_is;
+  count_is = scan.count_is;
+}

@@ -1,0 +1,83 @@
+-- What an opening finds, and what it leaves.
+use Rattle.std.specs.Prelude.{◌≡◌, ◌⊎◌, ◌+◌, ◌<◌, ℕ, List, length, get_or, Bool, Option, Some}
+use Rattle.liq_outside.specs.Disk.{LeavesOnly, LeftNow, Only}
+use Rattle.liq_journal.specs.declared.answers.LookFault.{LookFault}
+use Rattle.liq_journal.specs.declared.answers.LookFault.TheVariants as look
+use Rattle.liq_journal.specs.declared.answers.OpenWhy.{OpenWhy}
+use Rattle.liq_journal.specs.declared.answers.OpenWhy.TheVariants as why
+use Rattle.liq_journal.specs.declared.scanned.Scanned.{Scanned}
+use Rattle.liq_journal.specs.Written.{Written, Found, Absent, Damaged, Open, found_on, end_of}
+use Rattle.liq_journal.specs.Crash.{HasByteAt}
+
+-- a shut gate is there
+pub record HasGate (place : ℕ) (bytes : List ℕ) : Type 0 where
+  pub there : place < length bytes
+  pub shut : get_or bytes place 0 ≡ 0
+
+-- a look's fault as an opening's
+abbrev pub why_of : LookFault → OpenWhy
+why_of look.DiskFault = why.DiskFault
+why_of (look.Damaged damage) = why.Damaged damage
+
+-- what was read is what is found
+pub record IsScanOf (odd : Bool) (held : List ℕ) (scanned : Scanned) : Type 0 where
+  pub written : Written
+  pub found : found_on odd held ≡ Open written
+  pub generation_is : written.generation ≡ scanned.generation
+  pub checkpoint_is : written.checkpoint ≡ scanned.checkpoint.items
+  pub start_is : 57 + length written.checkpoint ≡ scanned.start
+  pub count_is : length written.commands ≡ scanned.count
+
+-- why nothing was opened
+abbrev pub IsWhyOf : Bool → List ℕ → OpenWhy → Type 0
+IsWhyOf odd held why.Absent = found_on odd held ≡ Absent
+IsWhyOf odd held why.DiskFault = Unit {0}
+IsWhyOf odd held (why.Damaged damage) = found_on odd held ≡ Damaged damage
+IsWhyOf odd held why.NoMemory = Unit {0}
+
+-- a byte other than 0 at place 0
+pub record IsUnshut (bytes : List ℕ) : Type 0 where
+  pub there : 0 < length bytes
+  pub isnt : get_or bytes 0 0 ≡ 0 → ⊥
+
+-- The byte that an opening shuts: behind the records where no 0 is there, and at place 0 of a disk on
+-- which none is open where it is there and isn't 0.
+abbrev pub IsUnsettled : Bool → List ℕ → ℕ → Type 0
+IsUnsettled odd held place =
+    ((w : Written) × (found_on odd held ≡ Open w) × (place ≡ end_of w) × (HasGate place held → ⊥))
+    ⊎ ((found_on odd held ≡ Absent) × (place ≡ 0) × IsUnshut held)
+
+-- An opening leaves the bytes as they were, or with some byte where it shuts one.
+abbrev pub OpenLeaves : Bool → List ℕ → List ℕ → Type 0
+OpenLeaves odd held bytes = (bytes ≡ held) ⊎ ((place : ℕ) × IsUnsettled odd held place × HasByteAt place held bytes)
+
+-- as they were, or with some byte at this place, where no shut gate is
+abbrev pub SettleLeaves : ℕ → List ℕ → List ℕ → Type 0
+SettleLeaves place held bytes = (bytes ≡ held) ⊎ ((HasGate place held → ⊥) × HasByteAt place held bytes)
+
+abbrev pub AbsentLeaves : List ℕ → List ℕ → Type 0
+AbsentLeaves held bytes = (bytes ≡ held) ⊎ (IsUnshut held × HasByteAt 0 held bytes)
+
+-- after it the disk tells what it told before
+abbrev pub IsKept : OpenWhy → Type 0
+IsKept why.NoMemory = Unit {0}
+IsKept (why.Damaged damage) = Unit {0}
+IsKept why.Absent = ⊥
+IsKept why.DiskFault = ⊥
+
+-- what was found is what the journal and the bytes of the checkpoint are
+pub record IsOpened (odd : Bool) (held : List ℕ) (generation start count : ℕ) (checkpoint : List ℕ) : Type 0 where
+  pub written : Written
+  pub found : found_on odd held ≡ Open written
+  pub generation_is : written.generation ≡ generation
+  pub start_is : 57 + length written.checkpoint ≡ start
+  pub count_is : length written.commands ≡ count
+  pub checkpoint_is : written.checkpoint ≡ checkpoint
+
+-- what a crash may leave of a disk that is opened, whose content is told and on the disk
+abbrev pub CrashOfOpen : {D : Type 0} → (D → Option (List ℕ)) → (D → ℕ) → (D → ℕ → List ℕ → Type 0) → D → D → Bool → Type 0
+CrashOfOpen seen moment left_at old new odd = (held : List ℕ) → seen old ≡ Some held → Only held (LeftNow moment left_at old) → LeavesOnly moment left_at old new (OpenLeaves odd held)
+
+-- what it reads afterwards, whatever was pending
+abbrev pub ReadsOfOpen : {D : Type 0} → (D → Option (List ℕ)) → D → D → Bool → Type 0
+ReadsOfOpen seen old new odd = (held after : List ℕ) → seen old ≡ Some held → seen new ≡ Some after → OpenLeaves odd held after

@@ -1,0 +1,212 @@
+// A journal opened: all of its disk tested, and the byte behind it shut.
+ghost use Rattle.std.specs.Prelude.{◌≡◌, ◌≤◌, ◌<◌, ◌+◌, ◌^◌, ◌⊎◌, ◌↔◌, Some, IsTrue, Ok, Err, List, ℕ, length, drop, take, OnOk, OnErr, IfOk, IfErr, IfSome, IsSome};
+ghost use Rattle.std.specs.Result.{MatchResult};
+ghost use Rattle.liq_journal.specs.Crash.{Stands};
+ghost use Rattle.liq_outside.specs.Disk.{GoesOn, LeavesOnly, LeftNow, Only};
+ghost use Rattle.liq_outside.specs.Faults.{Rose};
+ghost use Rattle.liq_journal.specs.declared.damage.Damage.{Damage};
+ghost use Rattle.liq_journal.specs.Looked.{Looked};
+ghost use Rattle.liq_journal.specs.Opened.{AbsentLeaves, HasGate, IsKept, IsScanOf, IsUnshut, IsWhyOf, OpenLeaves, SettleLeaves, why_of};
+ghost use Rattle.liq_journal.specs.Written.{Open, Written, found_on, piece};
+
+use crate::answers::{LookFault, OpenWhy};
+use crate::bytes::write_synced;
+use crate::create::HEADER;
+use crate::damage::{Damage, What};
+use crate::digests::header_digest;
+use crate::header::read_header;
+use crate::journal::RECORD;
+use crate::records::count_records;
+use crate::scanned::Scanned;
+use liq_outside::{Disk, Failed};
+use std::alloc::{AllocError, Global};
+
+// Whether a shut gate is at the place.
+fn is_shut<D: Disk>(disk: &mut D, place: u64) -> Result<bool, Failed>
+    ensures looked { Looked D.seen D.moment D.left_at D.faults disk.old disk.new }
+    ensures told { IfOk result (λ shut. IfSome (D.seen disk.old) (λ held. IsTrue shut ↔ HasGate place held)) }
+    ensures cause { OnErr result (Rose (D.faults disk.old) (D.faults disk.new)) }
+{
+    let mut gate = [1];
+    let count = disk.read_at(place, &mut gate)?;
+    Ok(count == 1 && gate[0] == 0)
+}
+
+// Shuts the gate at the place, unless it is there and shut.
+pub fn settle<D: Disk>(disk: &mut D, place: u64) -> Result<(), Failed>
+    requires inside { IfSome (D.seen disk.old) (λ held. place ≤ length held) }
+    requires limit { place < 2 ^ 40 }
+    ensures settled { OnOk result (IfSome (D.seen disk.new) (λ after. HasGate place after)) }
+    ensures front { OnOk result ((held : List ℕ) → D.seen disk.old ≡ Some held → IfSome (D.seen disk.new) (λ after. take place after ≡ take place held)) }
+    ensures durable { OnOk result ((held : List ℕ) → D.seen disk.old ≡ Some held → Only held (LeftNow D.moment D.left_at disk.old) → IfSome (D.seen disk.new) (λ after. Only after (LeftNow D.moment D.left_at disk.new))) }
+    ensures telling { IsSome (D.seen disk.new) ↔ IsSome (D.seen disk.old) }
+    ensures crash { (held : List ℕ) → D.seen disk.old ≡ Some held → Only held (LeftNow D.moment D.left_at disk.old) → LeavesOnly D.moment D.left_at disk.old disk.new (SettleLeaves place held) }
+    ensures time { GoesOn D.moment D.left_at disk.old disk.new }
+    ensures count { D.faults disk.old ≤ D.faults disk.new }
+    ensures cause { OnErr result (Rose (D.faults disk.old) (D.faults disk.new)) }
+{
+    if is_shut(disk, place)? {
+        return Ok(());
+    }
+    write_synced(disk, place, &[0])
+}
+
+// The bytes of the checkpoint behind the header. A disk whose content is told has them all.
+fn read_checkpoint<D: Disk>(alloc: Global, disk: &mut D, size: u64) -> Result<Vec<u8>, OpenWhy>
+    requires { size ≤ 68719476736 }
+    ensures looked { Looked D.seen D.moment D.left_at D.faults disk.old disk.new }
+    ensures read { IfOk result (λ bytes. IfSome (D.seen disk.old) (λ held. 57 + size ≤ length held → bytes.items ≡ piece 57 size held)) }
+    ensures cause { result ≡ Err OpenWhy.DiskFault → Rose (D.faults disk.old) (D.faults disk.new) }
+    ensures absent { result ≡ Err OpenWhy.Absent → ⊥ }
+    ensures damaged { (damage : Damage) → result ≡ Err (OpenWhy.Damaged damage) → ⊥ }
+{
+    let mut checkpoint = Vec::new(alloc);
+    let end = HEADER + size;
+    let mut at = HEADER;
+    while at < end {
+        let mut chunk = [0; 512];
+        let want = (end - at).min(512) as usize;
+        let part = &mut chunk[..want];
+        let count = match disk.read_at(at, part) {
+            Ok(count) => count,
+            Err(_) => return Err(OpenWhy::DiskFault),
+        };
+        if count == 0 {
+            return Ok(checkpoint);
+        }
+        match checkpoint.extend_from_slice(&part[..count]) {
+            Ok(()) => {}
+            Err(_) => return Err(OpenWhy::NoMemory),
+        }
+        at += count as u64;
+    }
+    Ok(checkpoint)
+}
+
+fn why_of(why: LookFault) -> OpenWhy
+    ensures { result ≡ why_of why }
+{
+    match why {
+        LookFault::DiskFault => OpenWhy::DiskFault,
+        LookFault::Damaged(damage) => OpenWhy::Damaged(damage),
+    }
+}
+
+// Reads and tests all of a disk, in the order of its faults.
+fn scan<D: Disk>(alloc: Global, disk: &mut D, odd: bool) -> Result<Scanned, OpenWhy>
+    ensures looked { Looked D.seen D.moment D.left_at D.faults disk.old disk.new }
+    ensures bounds { IfOk result (λ s. (s.start ≤ 68719476793) × (s.count ≤ 1000001)) }
+    ensures found { IfOk result (λ s. IfSome (D.seen disk.old) (λ held. IsScanOf odd held s)) }
+    ensures why { IfErr result (λ why. IfSome (D.seen disk.old) (λ held. IsWhyOf odd held why)) }
+    ensures cause { result ≡ Err OpenWhy.DiskFault → Rose (D.faults disk.old) (D.faults disk.new) }
+{
+    let head = match read_header(disk, odd) {
+        Ok(Some(head)) => head,
+        Ok(None) => return Err(OpenWhy::Absent),
+        Err(why) => return Err(why_of(why)),
+    };
+    let checkpoint = match read_checkpoint(alloc, disk, head.size) {
+        Ok(checkpoint) => checkpoint,
+        Err(why) => return Err(why),
+    };
+    let computed = header_digest(&head.fields, &checkpoint);
+    if head.stored != computed {
+        return Err(OpenWhy::Damaged(Damage {
+            index: 0,
+            what: What::Digest {
+                stored: head.stored,
+                computed,
+            },
+        }));
+    }
+    let start = HEADER + head.size;
+    match count_records(disk, head.generation, start) {
+        Ok(count) => Ok(Scanned {
+            generation: head.generation,
+            start,
+            count,
+            checkpoint,
+        }),
+        Err(why) => Err(why_of(why)),
+    }
+}
+
+// Whether a byte other than 0 is at place 0.
+fn is_unshut<D: Disk>(disk: &mut D) -> Result<bool, Failed>
+    ensures looked { Looked D.seen D.moment D.left_at D.faults disk.old disk.new }
+    ensures told { IfOk result (λ unshut. IfSome (D.seen disk.old) (λ held. IsTrue unshut ↔ IsUnshut held)) }
+    ensures cause { OnErr result (Rose (D.faults disk.old) (D.faults disk.new)) }
+{
+    let mut gate = [0];
+    let count = disk.read_at(0, &mut gate)?;
+    Ok(count == 1 && gate[0] != 0)
+}
+
+// Shuts the gate of a disk on which no journal is open, where it is there and isn't shut.
+fn settle_absent<D: Disk>(disk: &mut D) -> Result<(), Failed>
+    ensures telling { IsSome (D.seen disk.new) ↔ IsSome (D.seen disk.old) }
+    ensures crash { (held : List ℕ) → D.seen disk.old ≡ Some held → Only held (LeftNow D.moment D.left_at disk.old) → LeavesOnly D.moment D.left_at disk.old disk.new (AbsentLeaves held) }
+    ensures time { GoesOn D.moment D.left_at disk.old disk.new }
+    ensures count { D.faults disk.old ≤ D.faults disk.new }
+    ensures cause { OnErr result (Rose (D.faults disk.old) (D.faults disk.new)) }
+{
+    if !is_unshut(disk)? {
+        return Ok(());
+    }
+    write_synced(disk, 0, &[0])
+}
+
+// Shuts the byte that an opening shuts, once the disk is read.
+fn settle_scanned<D: Disk>(
+    disk: &mut D,
+    odd: bool,
+    found: Result<Scanned, OpenWhy>,
+) -> Result<Scanned, OpenWhy>
+    requires found { MatchResult found (λ s. IfSome (D.seen disk.old) (λ held. IsScanOf odd held s) × ((s.start ≤ 68719476793) × (s.count ≤ 1000001))) (λ why. IfSome (D.seen disk.old) (λ held. IsWhyOf odd held why)) }
+    ensures same { MatchResult result (λ s. found ≡ Ok s) (λ why. (found ≡ Err why) ⊎ (why ≡ OpenWhy.DiskFault)) }
+    ensures stands { IfOk result (λ _. (held : List ℕ) (w : Written) → D.seen disk.old ≡ Some held → found_on odd held ≡ Open w → IfSome (D.seen disk.new) (λ after. Stands odd after w)) }
+    ensures durable { IfOk result (λ _. (held : List ℕ) → D.seen disk.old ≡ Some held → Only held (LeftNow D.moment D.left_at disk.old) → IfSome (D.seen disk.new) (λ after. Only after (LeftNow D.moment D.left_at disk.new))) }
+    ensures telling { IsSome (D.seen disk.new) ↔ IsSome (D.seen disk.old) }
+    ensures kept { IfErr result (λ why. IsKept why → D.seen disk.new ≡ D.seen disk.old) }
+    ensures crash { (held : List ℕ) → D.seen disk.old ≡ Some held → Only held (LeftNow D.moment D.left_at disk.old) → LeavesOnly D.moment D.left_at disk.old disk.new (OpenLeaves odd held) }
+    ensures time { GoesOn D.moment D.left_at disk.old disk.new }
+    ensures count { D.faults disk.old ≤ D.faults disk.new }
+    ensures cause { (result ≡ Err OpenWhy.DiskFault) → (found ≡ Err OpenWhy.DiskFault) ⊎ Rose (D.faults disk.old) (D.faults disk.new) }
+{
+    match found {
+        Ok(scanned) => match settle(disk, scanned.start + RECORD * scanned.count) {
+            Ok(()) => Ok(scanned),
+            Err(_) => Err(OpenWhy::DiskFault),
+        },
+        Err(why) => match why {
+            OpenWhy::Absent => match settle_absent(disk) {
+                Ok(()) => Err(OpenWhy::Absent),
+                Err(_) => Err(OpenWhy::DiskFault),
+            },
+            _ => Err(why),
+        },
+    }
+}
+
+// Opens the journal of a disk: syncs it, reads and tests all of it, and shuts the byte that is to be shut.
+pub fn open_on<D: Disk>(alloc: Global, disk: &mut D, odd: bool) -> Result<Scanned, OpenWhy>
+    ensures bounds { IfOk result (λ s. (s.start ≤ 68719476793) × (s.count ≤ 1000001)) }
+    ensures found { IfOk result (λ s. IfSome (D.seen disk.old) (λ held. IsScanOf odd held s)) }
+    ensures stands { IfOk result (λ _. (held : List ℕ) (w : Written) → D.seen disk.old ≡ Some held → found_on odd held ≡ Open w → IfSome (D.seen disk.new) (λ after. Stands odd after w)) }
+    ensures durable { IfOk result (λ _. IfSome (D.seen disk.new) (λ after. Only after (LeftNow D.moment D.left_at disk.new))) }
+    ensures why { IfErr result (λ why. IfSome (D.seen disk.old) (λ held. IsWhyOf odd held why)) }
+    ensures kept { IfErr result (λ why. IsKept why → D.seen disk.new ≡ D.seen disk.old) }
+    ensures telling { IsSome (D.seen disk.new) ↔ IsSome (D.seen disk.old) }
+    ensures crash { (held : List ℕ) → D.seen disk.old ≡ Some held → Only held (LeftNow D.moment D.left_at disk.old) → LeavesOnly D.moment D.left_at disk.old disk.new (OpenLeaves odd held) }
+    ensures reads { (held after : List ℕ) → D.seen disk.old ≡ Some held → D.seen disk.new ≡ Some after → OpenLeaves odd held after }
+    ensures time { GoesOn D.moment D.left_at disk.old disk.new }
+    ensures count { D.faults disk.old ≤ D.faults disk.new }
+    ensures cause { result ≡ Err OpenWhy.DiskFault → Rose (D.faults disk.old) (D.faults disk.new) }
+{
+    match disk.sync() {
+        Ok(()) => {}
+        Err(_) => return Err(OpenWhy::DiskFault),
+    }
+    let found = scan(alloc, disk, odd);
+    settle_scanned(disk, odd, found)
+}

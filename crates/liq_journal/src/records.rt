@@ -1,0 +1,98 @@
+// Records read back and tested.
+ghost use Rattle.std.specs.Prelude.{◌≡◌, ◌≤◌, ◌<◌, ◌+◌, ◌*◌, ◌^◌, ◌++◌, Some, Ok, Err, true, false, List, ℕ, length, take, drop, IfOk, IfErr, IfSome};
+ghost use Rattle.std.specs.Result.{MatchResult};
+ghost use Rattle.liq_types.specs.declared.requests.Command.{Command};
+ghost use Rattle.liq_outside.specs.Faults.{Rose};
+ghost use Rattle.liq_journal.specs.Counted.{AreRecords, IsFaultIn};
+ghost use Rattle.liq_journal.specs.Looked.{Looked};
+ghost use Rattle.liq_journal.specs.Records.{begins_whole};
+ghost use Rattle.liq_journal.specs.Tested.{IsFaultOf, IsTested};
+ghost use Rattle.liq_journal.specs.Written.{piece, record_on};
+
+use crate::answers::LookFault;
+use crate::damage::{Damage, What};
+use crate::digests::record_digest;
+use liq_outside::Disk;
+use liq_types::{Call, Command};
+use liq_wire::decode;
+
+// The command of a record whose body begins at the place, or its first fault.
+pub fn tested(
+    body: &[u8; 96],
+    stored: &[u8; 32],
+    generation: u64,
+    index: u64,
+    place: u64,
+) -> Result<Command, What>
+    requires { place ≤ 2 ^ 40 }
+    ensures { MatchResult result (λ c. record_on generation index place (body.now ++ stored.now) ≡ Ok c) (λ what. record_on generation index place (body.now ++ stored.now) ≡ Err what) }
+{
+    let computed = record_digest(generation, index, body);
+    if *stored != computed {
+        return Err(What::Digest {
+            stored: *stored,
+            computed,
+        });
+    }
+    match decode(body) {
+        Ok(command) => match command.call {
+            Call::Rotate => Err(What::Form { place }),
+            _ => Ok(command),
+        },
+        Err(bad) => Err(What::Form {
+            place: place + bad.place as u64,
+        }),
+    }
+}
+
+// The body of the record whose gate stands at the place, once it is tested; `None` where no whole
+// record stands there behind an open gate.
+pub fn read_record<D: Disk>(
+    disk: &mut D,
+    generation: u64,
+    index: u64,
+    place: u64,
+) -> Result<Option<[u8; 96]>, LookFault>
+    requires { place < 2 ^ 40 }
+    ensures looked { Looked D.seen D.moment D.left_at D.faults disk.old disk.new }
+    ensures tested { IfOk result (λ body. IfSome (D.seen disk.old) (λ held. IsTested generation index place held body)) }
+    ensures fault { IfErr result (λ why. IfSome (D.seen disk.old) (λ held. IsFaultOf generation index place held why)) }
+    ensures cause { result ≡ Err LookFault.DiskFault → Rose (D.faults disk.old) (D.faults disk.new) }
+{
+    let mut bytes = [0; 129];
+    let count = match disk.read_at(place, &mut bytes) {
+        Ok(count) => count,
+        Err(_) => return Err(LookFault::DiskFault),
+    };
+    if count < 129 || bytes[0] != 1 {
+        return Ok(None);
+    }
+    let mut body = [0; 96];
+    body.copy_from_slice(&bytes[1..97]);
+    let mut stored = [0; 32];
+    stored.copy_from_slice(&bytes[97..129]);
+    match tested(&body, &stored, generation, index, place + 1) {
+        Ok(_) => Ok(Some(body)),
+        Err(what) => Err(LookFault::Damaged(Damage { index, what })),
+    }
+}
+
+// How many whole records there are from the place on, one more at most than a journal may have, each
+// tested; or the first fault of them.
+pub fn count_records<D: Disk>(disk: &mut D, generation: u64, start: u64) -> Result<u64, LookFault>
+    requires { start ≤ 68719476793 }
+    ensures looked { Looked D.seen D.moment D.left_at D.faults disk.old disk.new }
+    ensures most { IfOk result (λ count. count ≤ 1000001) }
+    ensures counted { IfOk result (λ count. IfSome (D.seen disk.old) (λ held. AreRecords generation start held count)) }
+    ensures fault { IfErr result (λ why. IfSome (D.seen disk.old) (λ held. IsFaultIn generation start held why)) }
+    ensures cause { result ≡ Err LookFault.DiskFault → Rose (D.faults disk.old) (D.faults disk.new) }
+{
+    for count in 0..1_000_001 {
+        match read_record(disk, generation, count + 1, start + 129 * count) {
+            Ok(Some(_)) => {}
+            Ok(None) => return Ok(count),
+            Err(why) => return Err(why),
+        }
+    }
+    Ok(1_000_001)
+}

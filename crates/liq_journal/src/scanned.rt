@@ -1,0 +1,8 @@
+// What was read of an open disk.
+#[derive(Drop)]
+pub struct Scanned {
+    pub generation: u64,
+    pub start: u64,
+    pub count: u64,
+    pub checkpoint: Vec<u8>,
+}
