@@ -1,5 +1,5 @@
--- A legal history: every entry's reply is the step's in the state after all entries before it, and each session's own
--- calls are counted 1, 2, 3 and so on.
+-- A legal history: each reply is what the step gives where the entries before have led, and a session's entries are numbered
+-- one by one from 1.
 use Rattle.std.specs.Prelude.{◌≡◌, ℕ, ◌+◌, ◌==◌, List, [], ◌∷◌, map, filter, length}
 use Rattle.liq_types.specs.declared.replies.Reply.{Reply}
 use Rattle.liq_types.specs.declared.requests.Request.{Request}

@@ -112,7 +112,7 @@ abbrev pub newly_accepted : State → Request → List Command
 newly_accepted s (Do c) = if is_allowed (ruling s c) then c ∷ [] else []
 newly_accepted s (Ask q) = []
 
--- the commands of a list that were new and got their reply
+-- the commands of a list that made a step, in order
 abbrev pub accepted : State → List Request → List Command
 accepted s [] = []
 accepted s (request ∷ requests) = newly_accepted s request ++ accepted (step s request).0 requests

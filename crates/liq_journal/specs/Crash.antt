@@ -36,7 +36,8 @@ HasByteAt place held bytes = (byte : ℕ) × (bytes ≡ overwritten held place (
 abbrev pub beginning : ℕ → List ℕ → Written
 beginning generation checkpoint = record { generation = generation; checkpoint = checkpoint; commands = [] }
 
--- A creation leaves a disk closed, as it was, with any byte at place 0, or created with any byte there.
+-- A stop within a creation leaves nothing that is open, or what was there, or what is made; of the latter two the first byte may be
+-- any.
 abbrev pub CreateLeaves : Bool → List ℕ → Written → List ℕ → Type 0
 CreateLeaves odd held w bytes = IsClosed bytes ⊎ ((bytes ≡ held) ⊎ (HasByteAt 0 held bytes ⊎ Stands odd (opened 0 bytes) w))
 

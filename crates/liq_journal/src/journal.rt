@@ -41,7 +41,7 @@ impl<D> Model for Journal<D> {
 
     ghost view = { λ j. record { disk = j.disk; generation = j.generation; start = j.start; count = j.count } };
 
-    // A header and the longest checkpoint; one record more than a journal may have.
+    // The records begin behind a header and at most 2^36 bytes; a scan counts one record past the last that may be.
     ghost invariant = { λ j. (j.start ≤ 68719476793) × (j.count ≤ 1000001) };
 }
 

@@ -19,32 +19,32 @@ module _ {T I : Type 0} where
     pub serving : ℕ
     pub log : List I
     pub words : (count : ℕ) × (s.words ≡ ticket % 2 ^ 64 ∷ serving % 2 ^ 64 ∷ count ∷ []) × (count ≡ length log)
-    -- 1. The tickets that views hold are just the numbers from `serving` up to and without `ticket`, each held by one view
+    -- 1. Every ticket drawn and not yet served is some view's, no other is, and no two views share one
     pub tickets : (t : ℕ) → ((j : ℕ) × (v : View I) × Lives s j v × (v.ticket ≡ Some t)) ↔ ((serving ≤ t) × (t < ticket))
     pub held_once : (t i j : ℕ) (v w : View I) → Lives s i v → Lives s j w → v.ticket ≡ Some t → w.ticket ≡ Some t → i ≡ j
-    -- 2. At most one view is inside, and its ticket is `serving`
+    -- 2. No two views have the turn, and who has it holds the ticket that is now served
     pub one_inside : (i j : ℕ) (v w : View I) → Lives s i v → Lives s j w → v.inside ≡ true → w.inside ≡ true → i ≡ j
     pub turn : (j : ℕ) (v : View I) → Lives s j v → v.inside ≡ true → v.ticket ≡ Some serving
-    -- 3. The one history is the longest of the seen lists; its length is the third word
+    -- 3. Some view has seen everything, and the third word counts it
     pub longest : (j : ℕ) × (v : View I) × Lives s j v × (v.seen ≡ log)
-    -- 4. The one history begins with each seen list
+    -- 4. What a view has seen is a beginning of the history
     pub begins : (j : ℕ) (v : View I) → Lives s j v → (beyond : List I) × (log ≡ v.seen ++ beyond)
-    -- 5. The view that is inside has seen all of it, and the slot is out
+    -- 5. Who has the turn has seen everything, and the value is out
     pub seen_inside : (j : ℕ) (v : View I) → Lives s j v → v.inside ≡ true → (v.seen ≡ log) × (s.homes ≡ none ∷ [])
-    -- 6. While none is inside the slot is at home with a value, whose history is the one history
+    -- 6. Where nobody has the turn the value is in its slot, with the whole history
     pub slot_home : ((j : ℕ) (v : View I) → Lives s j v → v.inside ≡ false) → (x : T) × (s.homes ≡ some (Some x) ∷ []) × (history x ≡ log)
-    -- 7. The numbers of views differ; they and those of all items are from 1 to n
+    -- 7. Views are told apart by their numbers; these and the makers of items lie from 1 to n
     pub numbers_differ : (i j : ℕ) (v w : View I) → Lives s i v → Lives s j w → v.number ≡ w.number → i ≡ j
     pub numbers_within : (j : ℕ) (v : View I) → Lives s j v → (1 ≤ v.number) × (v.number ≤ n)
     pub makers_within : Within maker n log
-    -- 8. Each view stands for its own number and those joined into it: no number stands with two views, and once all seats
-    -- are made each number stands with one
+    -- 8. A view answers for its own number and those that it took over; none is answered for twice, and once all seats are
+    -- made each is answered for
     pub own_number : (j : ℕ) (v : View I) → Lives s j v → Contains v.stands v.number
     pub stands_once : (x i j : ℕ) (v w : View I) → Lives s i v → Lives s j w → Contains v.stands x → Contains w.stands x → i ≡ j
     pub all_stand : ((j : ℕ) (v : View I) → Lives s j v → v.splitting ≡ false) → (x : ℕ) → 1 ≤ x → x ≤ n → (j : ℕ) × (v : View I) × Lives s j v × Contains v.stands x
-    -- 9. Each view has seen all items that carry a number for which it stands
+    -- 9. No view has missed an item of a number that it answers for
     pub own_items : (j : ℕ) (v : View I) → Lives s j v → (beyond : List I) → log ≡ v.seen ++ beyond → NoneOf maker v.stands beyond
-    -- 10. Each view has a share, and all shares together are n
+    -- 10. Nobody is without a share, and all come to n
     pub some_share : (j : ℕ) (v : View I) → Lives s j v → 1 ≤ v.shares
     pub all_shares : sum_by shares s.views ≡ n
     -- Of the mark of a view out of which seats are still made: at most one has it, and it has number 1. While it has k shares

@@ -10,7 +10,7 @@ module _ {T I : Type 0} where
   abbrev pub Draws : Step (Option T) → Me (Option T) (View I) → ℕ → Me (Option T) (View I) → Type 0
   Draws st m found n = (t : ℕ) × (n ≡ (drew m.0 t, m.1)) × (found ≡ t % 2 ^ 64)
 
-  -- the view is inside, has seen the whole history of the value, which goes on from what it had seen, and its seat has the slot
+  -- the turn has come: the view knows the value's history to its end, which goes on from what it knew, and its seat holds the slot
   abbrev pub Enters : (T → List I) → (I → ℕ) → Me (Option T) (View I) → Me (Option T) (View I) → Type 0
   Enters history maker m n = (x : T) × (n ≡ (entered m.0 (history x), (0, Some x) ∷ m.1)) × Behind maker (history x) m.0.stands m.0.seen
 

@@ -1,4 +1,4 @@
-//! A lock for a value with a history that only grows, as the book of a service.
+//! A lock round a value that keeps a history, as the book of a service does: items are added and none is taken away.
 //!
 //! A lock is made with a number of seats. A seat takes the value, works on it, adds items to its history and gives it
 //! back; the contracts say what a seat then knows of the one history that all seats share. Of the calls only

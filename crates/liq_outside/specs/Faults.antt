@@ -5,7 +5,7 @@ use Rattle.std.specs.Prelude.{ℕ, ◌≡◌, ◌<◌, ◌≤◌, ◌⊎◌, Res
 abbrev pub count_most : ℕ
 count_most = 18446744073709551615
 
--- The count rose, or stands at its last value.
+-- a fault was counted, as far as the count goes
 abbrev pub Rose : ℕ → ℕ → Type 0
 Rose before after = (before < after) ⊎ (count_most ≤ after)
 

@@ -57,8 +57,8 @@ impl MemoryDisk {
         &self.bytes
     }
 
-    /// The disk after a crash at this moment: one of the images that may be left, with no call failing.
-    /// Choice 0 keeps all that was written, 1 nothing that wasn't synced, 2 and 3 a half of each write,
+    /// The disk after a crash at this moment, with no call failing. It is one of the images that may be left; which one is not
+    /// promised. As it is built, choice 0 keeps all that was written, 1 nothing that wasn't synced, 2 and 3 a half of each write,
     /// 4 to 7 the same with other bytes in place of those that are lost.
     pub fn crash(self, choice: u64) -> MemoryDisk
         ensures left { LeftNow moment_of left_by self result.disk.held }

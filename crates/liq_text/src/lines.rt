@@ -90,7 +90,7 @@ fn session_request_in(line: &[u8]) -> Option<(u8, Request)>
 }
 
 /// The session, from 1 to 8, and the request that a line of several sessions spells: the session's digit and a space stand in
-/// front of a line as [`read_line`] reads it. The bound of 200 bytes counts the whole line.
+/// front of a line as [`read_line`] reads it. Session and space count towards the 200 bytes.
 pub fn read_session_line(line: &[u8]) -> Result<(u8, Request), BadLine>
     ensures found { IfOk result (λ read. SpellsInSession line.now read.0 read.1) }
     // So at most one session and request are spelled.

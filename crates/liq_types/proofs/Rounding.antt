@@ -243,7 +243,7 @@ pending_near stake u r rise num den coll stakes one high h =
     let second : num * one * stakes ≤ (u + r * stake) * den * stakes = mul-le-mul_right stakes h in
     omega arith
 
--- stage (f): the upper side of rewards needs the unrounded fact h
+-- of use for rewards: the upper side needs the unrounded fact h
 pub reward_kept : (a v x g s den bal rew q total units : ℕ) → x * total ≤ units * v → a * v * den ≤ bal * q → (g * q + a * s) * den ≤ rew * q → (g * q + a * (s + x)) * (den * total) ≤ (rew * total + units * bal) * q
 reward_kept a v x g s den bal rew q total units less h k =
     let first : x * total * (a * den) ≤ units * v * (a * den) = mul-le-mul_right (a * den) less in

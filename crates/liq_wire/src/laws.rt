@@ -3,7 +3,7 @@ ghost use Rattle.std.specs.Prelude.{◌≡◌, List, ℕ};
 ghost use Rattle.liq_types.specs.declared.requests.Command.{Command};
 ghost use Rattle.liq_wire.specs.Fields.{HasHints, Spells96};
 
-/// No two commands whose hints are absent or below the greatest word have the same bytes.
+/// The bytes tell commands apart, as long as no hint is the greatest word, which stands for none.
 pub fn one_command()
     ensures { (bytes : List ℕ) (c d : Command) → Spells96 bytes c → Spells96 bytes d → HasHints c.call → HasHints d.call → c ≡ d }
 {}
