@@ -5,6 +5,7 @@ use Rattle.liq_types.specs.declared.requests.Request.{Request}
 use Rattle.liq_types.specs.declared.amounts.TheConstants.{LINE_BYTES}
 use Rattle.liq_core.specs.Step.{built}
 use Rattle.liq_text.specs.Spelling.{Spells}
+use Rattle.liq_text.proofs.LineLengths.{request_short}
 use Rattle.liq_serve.specs.Lines.{lines_in, IsWithinLine}
 use Rattle.liq_serve.specs.Progress.{ReadsBad, with_end, without_end, too_long}
 use Rattle.liq_serve.specs.Reading.{Reads, IsOver}
@@ -21,7 +22,7 @@ bad_unbuilt line only read is spelled unbuilt q h =
 
 -- a line of more than 200 bytes
 bad_long : (line : List ℕ) → 201 ≤ length line → IsBadLine line
-bad_long line long q h = omega (arith, long, h.0.0)
+bad_long line long q h = omega (arith, long, request_short line q h.0)
 
 -- the first line of what is unread, where it goes on past its limit
 bad_too_long : (line : List ℕ) (byte : ℕ) (after : Option (List ℕ)) (bytes : List ℕ) → IsWithinLine line → (byte ≡ 10 → ⊥) → length line ≡ LINE_BYTES → Reads (Some bytes) (line ++ byte ∷ []) after → (first : List ℕ) × IsBadLine first × ((more : List (List ℕ)) × (lines_in bytes ≡ first ∷ more))

@@ -89,8 +89,8 @@ closing_cut end Limit bytes left w w' before now after other h f = absurd f
 closing_cut end WriteFault bytes left w w' before now after other h f =
     cut_ends bytes left w' before after (cut_comes bytes h.requests left w w' h.more before now after h.few h.begins (waited end bytes left w before now other h) f)
 
-pub no_session : (bytes : List ℕ) (left before : Option (List ℕ)) → Ends (Err NoMemory) bytes left before before
-no_session bytes left before =
+pub no_room : (bytes : List ℕ) (left before : Option (List ℕ)) → Ends (Err NoMemory) bytes left before before
+no_room bytes left before =
     record {
       requests = [];
       few = omega arith;

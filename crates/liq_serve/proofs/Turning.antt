@@ -5,6 +5,7 @@ use Rattle.liq_types.specs.declared.amounts.TheConstants.{LINES_MOST}
 use Rattle.liq_types.specs.State.{State, opening}
 use Rattle.liq_core.specs.Core.{Core, StandsFor}
 use Rattle.liq_core.specs.Step.{step, run}
+use Rattle.liq_core.proofs.SoundPromises.{reached_shares}
 use Rattle.liq_serve.specs.declared.halts.Halt.{Halt}
 use Rattle.liq_serve.specs.declared.halts.Halt.TheVariants.{BadLine, ReadFault, WriteFault, NoMemory, Limit}
 use Rattle.liq_serve.specs.Lines.{lines_in, ended, IsWithinLine}
@@ -124,10 +125,11 @@ reading_ends bytes taken n core u left w before now few r over a =
     record {
       requests = a.requests;
       few = omega (arith, few, a.count);
-      read = (
-        subst (λ (ls : List (List ℕ)). AreRequests ls a.requests) (sym (begins bytes n core u w before now a ∙ ap (λ (t : List ℕ). a.front ++ lines_in t) done.1 ∙ append-nil a.front)) a.spelled,
-        done.0,
-      );
+      read = record {
+        spelled = subst (λ (ls : List (List ℕ)). AreRequests ls a.requests) (sym (begins bytes n core u w before now a ∙ ap (λ (t : List ℕ). a.front ++ lines_in t) done.1 ∙ append-nil a.front)) a.spelled;
+        over = done.0;
+        shares = reached_shares a.requests;
+      };
       more = lines_in a.rest;
       begins = begins_with bytes n core u w before now a;
       written = a.written;
@@ -172,7 +174,11 @@ last_answered bytes line taken r n core core' u left w w' before now now' few is
     record {
       requests = a.requests ++ r ∷ [];
       few = omega (arith, few, a.count, length-append a.requests (r ∷ []));
-      read = (subst (λ (ls : List (List ℕ)). AreRequests ls (a.requests ++ r ∷ [])) (sym whole) spelled, done.0);
+      read = record {
+        spelled = subst (λ (ls : List (List ℕ)). AreRequests ls (a.requests ++ r ∷ [])) (sym whole) spelled;
+        over = done.0;
+        shares = reached_shares (a.requests ++ r ∷ []);
+      };
       more = [];
       begins = (a.front ++ line ∷ [], spelled, whole ∙ sym (append-nil (a.front ++ line ∷ [])));
       written = wrote_more a.requests r w said.1.0 w' before now now' a.written said.1.1 said.1.2;

@@ -8,8 +8,8 @@ use Rattle.liq_core.specs.Core.{Core, StandsFor}
 use Rattle.liq_core.specs.Step.{run, step}
 use Rattle.liq_serve.specs.declared.halts.Halt.{Halt}
 use Rattle.liq_serve.specs.declared.halts.Halt.TheVariants.{BadLine, ReadFault, WriteFault, NoMemory}
-use Rattle.liq_serve.specs.declared.session.Next.{Next}
-use Rattle.liq_serve.specs.declared.session.Next.TheVariants.{Line, LastLine, End}
+use Rattle.liq_serve.specs.declared.run.Next.{Next}
+use Rattle.liq_serve.specs.declared.run.Next.TheVariants.{Line, LastLine, End}
 use Rattle.liq_serve.specs.Lines.{ended, IsWithinLine}
 use Rattle.liq_serve.specs.Output.{lines, reply_line}
 use Rattle.liq_serve.specs.Reading.{Reads, IsOver}

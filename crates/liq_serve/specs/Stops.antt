@@ -2,6 +2,10 @@
 use Rattle.std.specs.Prelude.{ℕ, ◌≡◌, ◌≢◌, ◌≤◌, ◌+◌, ◌∷◌, [], ◌++◌, ◌⊎◌, List, length, Option, Some, Result, Ok, Err}
 use Rattle.liq_types.specs.declared.amounts.TheConstants.{LINES_MOST}
 use Rattle.liq_types.specs.declared.requests.Request.{Request}
+use Rattle.liq_types.specs.State.{opening}
+use Rattle.liq_stability.specs.Promise.{IsWithinAllowance}
+use Rattle.liq_core.specs.Events.{events}
+use Rattle.liq_core.specs.Step.{run, accepted}
 use Rattle.liq_serve.specs.declared.halts.Halt.{Halt}
 use Rattle.liq_serve.specs.declared.halts.Halt.TheVariants.{BadLine, ReadFault, WriteFault, NoMemory, Limit}
 use Rattle.liq_serve.specs.Lines.{lines_in, ended, IsWithinLine}
@@ -19,10 +23,23 @@ IsCutInLastLine part requests =
     (earlier : List Request) × (request : Request) × (requests ≡ earlier ++ request ∷ [])
     × IsFrontOf (lines earlier) part × ((missing : List ℕ) × (missing ≢ []) × (lines requests ≡ part ++ missing))
 
+-- Every depositor has its share after these requests: an account's balance and all that it gained are at most its exact share of
+-- what the accepted commands did to the Stability Pool, and short of it by at most the allowance.
+abbrev pub HaveTheirShares : List Request → Type 0
+HaveTheirShares requests = (account : ℕ) → IsWithinAllowance (run opening requests).0 account (events opening (accepted opening requests))
+
+-- all of the bytes was answered by these requests
+pub record IsAnswered (bytes : List ℕ) (left : Option (List ℕ)) (requests : List Request) : Type 0 where
+  -- they are those of all lines
+  pub spelled : AreRequests (lines_in bytes) requests
+  -- the source is at its end
+  pub over : left ≡ Some []
+  -- and no depositor has more than its share, or less by more than is allowed
+  pub shares : HaveTheirShares requests
+
 -- Why a run ended after these requests of the bytes. `left` is what the source still tells.
 abbrev pub EndsAfter : Result (Unit {0}) Halt → List ℕ → Option (List ℕ) → List Request → Type 0
--- they are those of all lines, and the source is at its end
-EndsAfter (Ok done) bytes left requests = AreRequests (lines_in bytes) requests × (left ≡ Some [])
+EndsAfter (Ok done) bytes left requests = IsAnswered bytes left requests
 -- the next line is the first that is no request
 EndsAfter (Err (BadLine number)) bytes left requests =
     (number ≡ length requests + 1) × (number ≤ LINES_MOST)

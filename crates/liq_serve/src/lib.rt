@@ -5,7 +5,7 @@ mod calls;
 mod ending;
 mod halts;
 mod reader;
-mod session;
+mod run;
 mod top;
 mod waiting;
 mod writer;

@@ -14,7 +14,7 @@ ghost use Rattle.liq_serve.specs.Stops.{Adds, EndsIn};
 
 use crate::ending::{status, write_last, write_usage};
 use crate::halts::Halt;
-use crate::session::Session;
+use crate::run::Run;
 use liq_outside::{Sink, Source};
 use liq_types::Steps;
 use liq_types::amounts::LINES_MOST;
@@ -123,7 +123,7 @@ fn run_on<L: Ledger, S: Source, K: Sink>(
     end
 }
 
-/// Answers the input's lines on a new session.
+/// Answers the input's lines from the opening of a protocol.
 fn answer_lines<S: Source, K: Sink, L: Ledger>(
     alloc: Global,
     input: &mut S,
@@ -135,6 +135,6 @@ fn answer_lines<S: Source, K: Sink, L: Ledger>(
     ensures source { ReadCause result (S.faults input.old) (S.faults input.new) }
     ensures sink { WriteCause result (K.faults out.old) (K.faults out.new) }
 {
-    let mut session = Session::new(alloc)?;
-    session.answer_all(input, out, steps)
+    let mut run = Run::new(alloc)?;
+    run.answer_all(input, out, steps)
 }

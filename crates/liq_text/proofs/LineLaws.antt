@@ -1,5 +1,5 @@
 -- A line and its words.
-use Rattle.std.proofs.Common.{◌≡◌, cond, leb, ℕ, ◌≤◌, Bool, true, false, eqb, List, [], ◌∷◌, length, Option, Some, None, Result, Ok, refl, sym, ap, subst, ◌∙◌}
+use Rattle.std.proofs.Common.{◌≡◌, cond, leb, ℕ, ◌≤◌, Bool, true, false, eqb, List, [], ◌∷◌, Option, Some, None, Result, Ok, refl, sym, ap, subst, ◌∙◌}
 use Rattle.std.specs.Prelude.{not, ◌&&◌, IfOk, OnErr}
 use Rattle.std.specs.Option.{ok_or}
 use Rattle.std.proofs.lemmas.Option.{same_Some, cond_some}
@@ -42,15 +42,15 @@ same_pieces line piece pieces e p = ap pieces_of e ∙ pieces_of-join piece piec
 
 -- ---- a request
 
-pub read_is_spelled : (line : List ℕ) (r : Request) → length line ≤ 200 → request_of (pieces_of line) ≡ Some r → Spells line r
-read_is_spelled line r short e = (short, (pieces_of line, join-pieces_of line, request_takes (pieces_of line) r e))
+pub read_is_spelled : (line : List ℕ) (r : Request) → request_of (pieces_of line) ≡ Some r → Spells line r
+read_is_spelled line r e = (pieces_of line, join-pieces_of line, request_takes (pieces_of line) r e)
 
 request_again_of : (line : List ℕ) (r : Request) (pieces : List (List ℕ)) → line ≡ join_with_byte 32 pieces → SpellEach pieces (request_words r) → request_of (pieces_of line) ≡ Some r
 request_again_of line r [] e s = absurd (nonempty_request r s)
 request_again_of line r (piece ∷ pieces) e s = ap request_of (same_pieces line piece pieces e (plain_request r (piece ∷ pieces) s)) ∙ request_again (piece ∷ pieces) r s
 
 pub spelled_is_read : (line : List ℕ) (r : Request) → Spells line r → request_of (pieces_of line) ≡ Some r
-spelled_is_read line r s = request_again_of line r s.1.0 s.1.1 s.1.2
+spelled_is_read line r s = request_again_of line r s.0 s.1 s.2
 
 pub one_request : (line : List ℕ) (a b : Request) → Spells line a → Spells line b → a ≡ b
 one_request line a b s t = same_Some a b (sym (spelled_is_read line a s) ∙ spelled_is_read line b t)
@@ -90,13 +90,13 @@ session_request_again line n r (piece ∷ pieces) e low high s =
     ∙ ap (λ (o : Option ℕ). o >>= λ session. request_of pieces >>= λ request. Some (session, request)) (session_again piece n low high s.0)
     ∙ ap (λ (o : Option Request). o >>= λ request. Some (n, request)) (request_again pieces r s.1)
 
-pub session_read_is_spelled : (line : List ℕ) (n : ℕ) (r : Request) → length line ≤ 200 → session_request_of (pieces_of line) ≡ Some (n, r) → SpellsInSession line n r
-session_read_is_spelled line n r short e =
+pub session_read_is_spelled : (line : List ℕ) (n : ℕ) (r : Request) → session_request_of (pieces_of line) ≡ Some (n, r) → SpellsInSession line n r
+session_read_is_spelled line n r e =
     let t = session_request_takes (pieces_of line) n r e in
-    (t.0, t.1, (short, (pieces_of line, join-pieces_of line, t.2)))
+    (t.0, t.1, (pieces_of line, join-pieces_of line, t.2))
 
 pub session_spelled_is_read : (line : List ℕ) (n : ℕ) (r : Request) → SpellsInSession line n r → session_request_of (pieces_of line) ≡ Some (n, r)
-session_spelled_is_read line n r s = session_request_again line n r s.2.1.0 s.2.1.1 s.0 s.1 s.2.1.2
+session_spelled_is_read line n r s = session_request_again line n r s.2.0 s.2.1 s.0 s.1 s.2.2
 
 pub one_session_request : (line : List ℕ) (m n : ℕ) (a b : Request) → SpellsInSession line m a → SpellsInSession line n b → (m ≡ n) × (a ≡ b)
 one_session_request line m n a b s t =

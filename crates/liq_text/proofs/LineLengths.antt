@@ -9,7 +9,8 @@ use Rattle.liq_types.specs.declared.requests.Query.{Query}
 use Rattle.liq_types.specs.declared.requests.Query.TheVariants as queries
 use Rattle.liq_types.specs.declared.requests.Request.{Request}
 use Rattle.liq_types.specs.declared.requests.Request.TheVariants.{Do, Ask}
-use Rattle.liq_text.specs.Spelling.{Word, text, account, number, hint, Spell, SpellEach, call_words, query_words, request_words}
+use Rattle.liq_types.specs.declared.amounts.TheConstants.{LINE_BYTES}
+use Rattle.liq_text.specs.Spelling.{Word, text, account, number, hint, Spell, SpellEach, IsLineOf, Spells, SpellsInSession, call_words, query_words, request_words}
 use Rattle.liq_text.specs.Writing.{spaced}
 use Rattle.liq_text.proofs.WritingLaws.{join_spaced}
 
@@ -82,8 +83,11 @@ request_most : (request : Request) → all_most (request_words request) ≤ 177
 request_most (Do c) = omega (arith, call_most c.call)
 request_most (Ask q) = omega (arith, query_most q)
 
-pub request_short : (pieces : List (List ℕ)) (request : Request) → SpellEach pieces (request_words request) → length (join_with_byte 32 pieces) ≤ 200
-request_short pieces request h = omega (arith, line_short pieces (request_words request) h, request_most request)
+is_short : (line : List ℕ) (words : List Word) → all_most words ≤ 200 → IsLineOf line words → length line ≤ LINE_BYTES
+is_short line words few h = omega (arith, few, ap (λ (x : List ℕ). length x) h.1, line_short h.0 words h.2)
 
-pub session_request_short : (pieces : List (List ℕ)) (session : ℕ) (request : Request) → SpellEach pieces (number session ∷ request_words request) → length (join_with_byte 32 pieces) ≤ 200
-session_request_short pieces session request h = omega (arith, line_short pieces (number session ∷ request_words request) h, request_most request)
+pub request_short : (line : List ℕ) (request : Request) → Spells line request → length line ≤ LINE_BYTES
+request_short line request h = is_short line (request_words request) (omega (arith, request_most request)) h
+
+pub session_request_short : (line : List ℕ) (session : ℕ) (request : Request) → SpellsInSession line session request → length line ≤ LINE_BYTES
+session_request_short line session request h = is_short line (number session ∷ request_words request) (omega (arith, request_most request)) h.2

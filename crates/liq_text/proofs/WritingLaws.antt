@@ -1,5 +1,5 @@
 -- Words written one after the other.
-use Rattle.std.proofs.Common.{Option, Some, None, inl, length-append, suc, ◌^◌, ◌≡◌, ℕ, ◌+◌, ◌*◌, ◌-◌, ◌<◌, ◌≤◌, List, [], ◌∷◌, ◌++◌, length, get_or, take, drop, refl, sym, ap, ◌∙◌, append_assoc, drop-cons, add-one, mul-le-mul_right, arith}
+use Rattle.std.proofs.Common.{Option, Some, None, inl, suc, ◌^◌, ◌≡◌, ℕ, ◌+◌, ◌*◌, ◌-◌, ◌<◌, ◌≤◌, List, [], ◌∷◌, ◌++◌, length, get_or, take, drop, refl, sym, ap, ◌∙◌, append_assoc, drop-cons, add-one, mul-le-mul_right, arith}
 use Rattle.std.specs.Prelude.{decimal, map}
 use Rattle.std.specs.List.{join_with_byte, AllByRecursion}
 use Rattle.std.proofs.lemmas.List.{append-nil, take_all}
@@ -84,8 +84,7 @@ spells_each (hint None ∷ words) range hints = (inl refl, spells_each words ran
 spells_each (hint (Some a) ∷ words) range hints = ((hints.0, refl), spells_each words range.1 hints.1)
 
 -- what was appended is a line of the request
-pub appends_line : (old new : List ℕ) (r : Request) → length new ≤ length old + 200 → new ≡ old ++ join_with_byte 32 (map piece_of (request_words r)) → AllByRecursion IsInRange (request_words r) → HasSpelling r → AppendsLine old new r
-appends_line old new r short e range hints =
+pub appends_line : (old new : List ℕ) (r : Request) → new ≡ old ++ join_with_byte 32 (map piece_of (request_words r)) → AllByRecursion IsInRange (request_words r) → HasSpelling r → AppendsLine old new r
+appends_line old new r e range hints =
     let line = join_with_byte 32 (map piece_of (request_words r)) in
-    let long : length new ≡ length old + length line = ap (λ (x : List ℕ). length x) e ∙ length-append old line in
-    (line, e, (omega (arith, long, short), (map piece_of (request_words r), refl, spells_each (request_words r) range hints)))
+    (line, e, (map piece_of (request_words r), refl, spells_each (request_words r) range hints))

@@ -1,5 +1,5 @@
 -- Reading the words of a line from left to right.
-use Rattle.std.specs.Prelude.{ℕ, List, [], ◌∷◌, Option, Some, None, codes, decimal, nat_lt, nat_le, ◌==◌, ◌&&◌, ◌^◌, if◌then◌else◌, Bool, true, false}
+use Rattle.std.specs.Prelude.{ℕ, List, [], ◌∷◌, Option, Some, None, option_and_then, codes, decimal, nat_lt, nat_le, ◌==◌, ◌&&◌, ◌^◌, if◌then◌else◌, Bool, true, false}
 use Rattle.std.specs.List.{slice_split}
 use Rattle.std.specs.Str.{bytes_eq}
 use Rattle.std.specs.Str.Parse.{digits_value}
@@ -17,8 +17,7 @@ use Rattle.liq_types.specs.declared.requests.Query.TheVariants as queries
 
 infixl 10 ◌>>=◌
 abbrev pub ◌>>=◌ : {A B : Type 0} → Option A → (A → Option B) → Option B
-(Some x) >>= f = f x
-None >>= f = None
+o >>= f = option_and_then f o
 
 -- the words of a line
 unfoldable pub pieces_of : List ℕ → List (List ℕ)

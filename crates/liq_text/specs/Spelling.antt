@@ -1,7 +1,6 @@
 -- Which bytes are the line of a request.
-use Rattle.std.specs.Prelude.{◌≡◌, ℕ, ◌<◌, ◌≤◌, ◌^◌, ◌⊎◌, List, [], ◌∷◌, ◌++◌, length, Option, Some, None, IfSome, codes, decimal}
+use Rattle.std.specs.Prelude.{◌≡◌, ℕ, ◌<◌, ◌≤◌, ◌^◌, ◌⊎◌, List, [], ◌∷◌, ◌++◌, Option, Some, None, IfSome, codes, decimal}
 use Rattle.std.specs.List.{join_with_byte, AllByRecursion}
-use Rattle.liq_types.specs.declared.amounts.TheConstants.{LINE_BYTES}
 use Rattle.liq_types.specs.declared.requests.Request.{Request}
 use Rattle.liq_types.specs.declared.requests.Request.TheVariants.{Do, Ask}
 use Rattle.liq_types.specs.declared.requests.Call.{Call}
@@ -63,9 +62,9 @@ abbrev pub request_words : Request → List Word
 request_words (Do c) = account c.client ∷ number c.number ∷ call_words c.call
 request_words (Ask q) = text (codes "?") ∷ query_words q
 
--- The line is pieces that spell the words, with one space between two, in at most 200 bytes.
+-- The line is pieces that spell the words, with one space between two.
 abbrev pub IsLineOf : List ℕ → List Word → Type 0
-IsLineOf line words = (length line ≤ LINE_BYTES) × ((pieces : List (List ℕ)) × (line ≡ join_with_byte 32 pieces) × SpellEach pieces words)
+IsLineOf line words = (pieces : List (List ℕ)) × (line ≡ join_with_byte 32 pieces) × SpellEach pieces words
 
 abbrev pub Spells : List ℕ → Request → Type 0
 Spells line request = IsLineOf line (request_words request)

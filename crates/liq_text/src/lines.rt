@@ -12,7 +12,6 @@ use crate::names::{read_topic, read_verb};
 use crate::pieces::Pieces;
 use crate::queries::subject;
 use crate::values;
-use liq_types::amounts::LINE_BYTES;
 use liq_types::{Call, Command, Query, Request};
 
 #[tactic(auto, unfolding(crate::specs::Reading::call_of, crate::specs::Reading::first))]
@@ -55,7 +54,7 @@ fn request_in(line: &[u8]) -> Option<Request>
     request(&mut Pieces::new(line))
 }
 
-/// The request that a line spells, the line end not counted: [`BadLine`] where no request is spelled so, as every line of
+/// The request that a line spells, the line end not counted: [`BadLine`] where no request is spelled so, as on every line of
 /// more than 200 bytes.
 pub fn read_line(line: &[u8]) -> Result<Request, BadLine>
     ensures found { IfOk result (λ request. Spells line.now request) }
@@ -63,9 +62,6 @@ pub fn read_line(line: &[u8]) -> Result<Request, BadLine>
     ensures only { (request : Request) → Spells line.now request → result ≡ Ok request }
     ensures bad { OnErr result ((request : Request) → Spells line.now request → ⊥) }
 {
-    if line.len() > LINE_BYTES {
-        return Err(BadLine);
-    }
     request_in(line).ok_or(BadLine)
 }
 
@@ -90,15 +86,12 @@ fn session_request_in(line: &[u8]) -> Option<(u8, Request)>
 }
 
 /// The session, from 1 to 8, and the request that a line of several sessions spells: the session's digit and a space stand in
-/// front of a line as [`read_line`] reads it. Session and space count towards the 200 bytes.
+/// front of a line as [`read_line`] reads it. No such line has more than 200 bytes either.
 pub fn read_session_line(line: &[u8]) -> Result<(u8, Request), BadLine>
     ensures found { IfOk result (λ read. SpellsInSession line.now read.0 read.1) }
     // So at most one session and request are spelled.
     ensures only { (session : ℕ) (request : Request) → SpellsInSession line.now session request → result ≡ Ok (session, request) }
     ensures bad { OnErr result ((session : ℕ) (request : Request) → SpellsInSession line.now session request → ⊥) }
 {
-    if line.len() > LINE_BYTES {
-        return Err(BadLine);
-    }
     session_request_in(line).ok_or(BadLine)
 }

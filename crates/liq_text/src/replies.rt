@@ -132,9 +132,9 @@ fn put_info(out: &mut Vec<u8>, info: &Info)
 }
 
 fn put_reply(out: &mut Vec<u8>, reply: &Reply)
-    requires { vec_len out.old + 255 ≤ vec_capacity out.old }
+    requires { vec_len out.old + REPLY_BYTES ≤ vec_capacity out.old }
     ensures items { out.new.items ≡ out.old.items ++ text reply.now }
-    ensures len { vec_len out.new ≤ vec_len out.old + 255 }
+    ensures len { vec_len out.new ≤ vec_len out.old + REPLY_BYTES }
     ensures capacity { vec_capacity out.old ≤ vec_capacity out.new }
 {
     match reply {
@@ -154,9 +154,9 @@ fn put_reply(out: &mut Vec<u8>, reply: &Reply)
 /// there is room for as many, it is not refused.
 pub fn write_reply(reply: &Reply, out: &mut Vec<u8>) -> Result<(), NoMemory>
     ensures ok { OnOk result (out.new.items ≡ out.old.items ++ text reply.now) }
-    ensures short { OnOk result (length (text reply.now) ≤ 255) }
+    ensures short { OnOk result (length (text reply.now) ≤ REPLY_BYTES) }
     ensures err { OnErr result (out.new.items ≡ out.old.items) }
-    ensures room { vec_len out.old + 255 ≤ vec_capacity out.old → IsOk result }
+    ensures room { vec_len out.old + REPLY_BYTES ≤ vec_capacity out.old → IsOk result }
     ensures capacity { vec_capacity out.old ≤ vec_capacity out.new }
 {
     if out.reserve(REPLY_BYTES).is_err() {

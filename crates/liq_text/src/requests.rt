@@ -18,7 +18,7 @@ pub fn write_request(request: &Request, out: &mut Vec<u8>) -> Result<(), NoMemor
     ensures written { OnOk result (out.new.items ≡ out.old.items ++ line_of request.now) }
     ensures ok { HasSpelling request.now → OnOk result (AppendsLine out.old.items out.new.items request.now) }
     ensures err { OnErr result (out.new.items ≡ out.old.items) }
-    ensures room { vec_len out.old + 200 ≤ vec_capacity out.old → IsOk result }
+    ensures room { vec_len out.old + LINE_BYTES ≤ vec_capacity out.old → IsOk result }
     ensures capacity { vec_capacity out.old ≤ vec_capacity out.new }
 {
     if out.reserve(LINE_BYTES).is_err() {
@@ -29,10 +29,10 @@ pub fn write_request(request: &Request, out: &mut Vec<u8>) -> Result<(), NoMemor
 }
 
 fn put_request(out: &mut Vec<u8>, request: &Request)
-    requires { vec_len out.old + 200 ≤ vec_capacity out.old }
+    requires { vec_len out.old + LINE_BYTES ≤ vec_capacity out.old }
     ensures items { out.new.items ≡ out.old.items ++ line_of request.now }
     ensures range { AllByRecursion IsInRange (request_words request.now) }
-    ensures len { vec_len out.new ≤ vec_len out.old + 200 }
+    ensures len { vec_len out.new ≤ vec_len out.old + LINE_BYTES }
     ensures capacity { vec_capacity out.old ≤ vec_capacity out.new }
 {
     match request {

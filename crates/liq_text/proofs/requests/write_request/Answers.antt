@@ -1,4 +1,4 @@
-use Rattle.std.proofs.Common.{◌≤◌, ◌+◌, length, arith, ap, ◌∙◌, List, ℕ, ◌++◌}
+use Rattle.std.proofs.Common.{ap, ◌∙◌, List, ℕ, ◌++◌}
 use Rattle.std.specs.Prelude.{map}
 use Rattle.std.specs.List.{join_with_byte}
 use Rattle.liq_text.specs.Spelling.{request_words}
@@ -8,8 +8,7 @@ use Rattle.liq_text.proofs.requests.write_request.Goals as goal
 
 pub returns-clause-ok : goal.returns-clause-ok
 returns-clause-ok c = λ hints.
-    let short : length c.put_request.new.out.items ≤ length c.args.out.now.items + 200 = omega (arith, c.put_request.new.out.ok, c.reserve.ensures.len, c.args.out.now.ok) in
-    appends_line c.args.out.now.items c.put_request.new.out.items c.args.request.now short
+    appends_line c.args.out.now.items c.put_request.new.out.items c.args.request.now
     (c.put_request.ensures.items ∙ ap (λ (x : List ℕ). x ++ join_with_byte 32 (map piece_of (request_words c.args.request.now))) c.reserve.ensures.items)
     c.put_request.ensures.range hints
 

@@ -4,8 +4,8 @@ use Rattle.liq_serve.specs.declared.halts.Halt.TheVariants.{WriteFault}
 use Rattle.liq_serve.specs.Progress.{Ends}
 use Rattle.liq_serve.proofs.EndingLines.{closing_cut}
 use Rattle.liq_serve.proofs.Residual.{handed_on}
-use Rattle.liq_serve.proofs.session.Session.close.Goals as goal
-use Rattle.liq_serve.proofs.session.Session.close.Goals.{in_default-via-in-Err+in_default, in_default-via-in_default}
+use Rattle.liq_serve.proofs.run.Run.close.Goals as goal
+use Rattle.liq_serve.proofs.run.Run.close.Goals.{in_default-via-in-Err+in_default, in_default-via-in_default}
 
 pub returns-in_err-flush-in_default-clause-run : goal.returns-in_err-flush-in_default-clause-run
 returns-in_err-flush-in_default-clause-run g c bytes left before h =

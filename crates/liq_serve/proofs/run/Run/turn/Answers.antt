@@ -7,7 +7,7 @@ use Rattle.liq_serve.specs.Progress.{Answered, Turns, Comes}
 use Rattle.liq_serve.specs.Reading.{unread, Reads}
 use Rattle.liq_serve.proofs.Residual.{handed_on}
 use Rattle.liq_serve.proofs.Turning.{answered_on, answered_cut, reading_halts, reading_ends, line_answered, last_answered, answering_halts, first_line, last_line}
-use Rattle.liq_serve.proofs.session.Session.turn.Goals as goal
+use Rattle.liq_serve.proofs.run.Run.turn.Goals as goal
 
 turn_halts : (bytes : List ℕ) (n : ℕ) (core : Core) (u left : Option (List ℕ)) (w : List ℕ) (before now : Option (List ℕ)) (end : Result Bool Halt) (halt : Halt) → end ≡ Err halt → Comes (Err halt) bytes left w before now → Turns bytes n core u left w before now end
 turn_halts bytes n core u left w before now end halt is h = subst (λ (e : Result Bool Halt). Turns bytes n core u left w before now e) (sym is) h

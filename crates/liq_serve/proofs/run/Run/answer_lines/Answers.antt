@@ -4,7 +4,7 @@ use Rattle.liq_serve.specs.declared.halts.Halt.{Halt}
 use Rattle.liq_serve.specs.Progress.{Comes}
 use Rattle.liq_serve.proofs.Residual.{handed_on}
 use Rattle.liq_serve.proofs.Turning.{opened, answered_on, answered_cut, reading_fails, reading_ends, limit_halts}
-use Rattle.liq_serve.proofs.session.Session.answer_lines.Goals as goal
+use Rattle.liq_serve.proofs.run.Run.answer_lines.Goals as goal
 
 pub loop-answered-init : goal.loop-answered-init
 loop-answered-init g c = record {

@@ -1,7 +1,7 @@
-use Rattle.std.proofs.Common.{◌≡◌, ◌≤◌, ℕ, List, Some}
+use Rattle.std.proofs.Common.{◌≡◌, ℕ, List, Some}
 use Rattle.liq_serve.specs.Progress.{Answered}
 use Rattle.liq_serve.specs.Reading.{unread}
-use Rattle.liq_serve.proofs.session.Session.answer_lines.Given as goal
+use Rattle.liq_serve.proofs.run.Run.answer_lines.Given as goal
 
 -- as many lines are answered as were counted
 abbrev pub invariant-loop-answered : goal.invariant-loop-answered

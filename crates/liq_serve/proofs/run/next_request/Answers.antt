@@ -1,12 +1,12 @@
 use Rattle.std.proofs.Common.{◌≡◌, ℕ, List, Option, Err, Result, refl, sym, subst}
 use Rattle.liq_serve.specs.declared.halts.Halt.{Halt}
 use Rattle.liq_serve.specs.declared.halts.Halt.TheVariants.{BadLine}
-use Rattle.liq_serve.specs.declared.session.Next.{Next}
+use Rattle.liq_serve.specs.declared.run.Next.{Next}
 use Rattle.liq_serve.specs.Progress.{ReadsRequest, ReadsBad, with_end, without_end, too_long}
 use Rattle.liq_serve.specs.Reading.{unread}
 use Rattle.liq_serve.specs.Requests.{IsBadLine}
 use Rattle.liq_serve.proofs.Residual.{handed_on}
-use Rattle.liq_serve.proofs.session.next_request.Goals as goal
+use Rattle.liq_serve.proofs.run.next_request.Goals as goal
 
 bad_request : (before after : Option (List ℕ)) (taken : List ℕ) (number : ℕ) (end : Result Next Halt) (halt : Halt) → end ≡ Err halt → halt ≡ BadLine number → ReadsBad before after → ReadsRequest before after taken number end
 bad_request before after taken number end halt is at bad = subst (λ (e : Result Next Halt). ReadsRequest before after taken number e) (sym (subst (λ h. end ≡ Err h) at is)) (refl, bad)

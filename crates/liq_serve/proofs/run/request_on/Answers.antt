@@ -1,6 +1,6 @@
 use Rattle.std.proofs.Common.{sym, ◌∙◌, refl}
 use Rattle.liq_serve.proofs.BadLines.{bad_unbuilt}
-use Rattle.liq_serve.proofs.session.request_on.Goals as goal
+use Rattle.liq_serve.proofs.run.request_on.Goals as goal
 
 pub returns-in_default : goal.returns-in_default
 returns-in_default c = (refl, bad_unbuilt c.args.line.now c.in-Ok.request c.read_line.result c.in-Ok.is c.read_line.ensures.only (sym c.is_built.ensures ∙ c.if-is_built.false))

@@ -1,4 +1,4 @@
-//! A session: one protocol, and the lines that it is asked and answers.
+//! A run: one protocol, and the lines that it is asked and answers.
 
 ghost use Rattle.std.specs.Prelude.{Contains, Err, Option, Some, ◌≡◌, ◌≢◌, IsTrue, ◌≤◌, ◌<◌, ◌+◌, [], ℕ, List, OnOk, OnErr, IfOk, vec_capacity};
 ghost use Rattle.liq_types.specs.State.{State, opening};
@@ -68,7 +68,7 @@ fn request_on(line: &[u8], number: u64) -> Result<Request, Halt>
 
 /// One protocol, and where it has come to in its input.
 #[derive(Drop)]
-pub struct Session {
+pub struct Run {
     protocol: Protocol,
     reader: Reader,
     line: Vec<u8>,
@@ -77,12 +77,12 @@ pub struct Session {
     ghost waiting_room: { WAITING_MOST ≤ vec_capacity waiting },
 }
 
-impl Session {
-    /// A session at the opening of a protocol.
-    pub fn new(alloc: Global) -> Result<Session, AllocError>
-        ensures { IfOk result (λ session. StandsFor session.protocol opening × (session.reader ≡ []) × (session.waiting.items ≡ [])) }
+impl Run {
+    /// A run at the opening of a protocol.
+    pub fn new(alloc: Global) -> Result<Run, AllocError>
+        ensures { IfOk result (λ run. StandsFor run.protocol opening × (run.reader ≡ []) × (run.waiting.items ≡ [])) }
     {
-        Ok(Session {
+        Ok(Run {
             protocol: Protocol::new(alloc),
             reader: Reader::new(alloc)?,
             line: Vec::with_capacity(alloc, LINE_BYTES)?,
