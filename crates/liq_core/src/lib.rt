@@ -7,8 +7,9 @@
 mod engine;
 pub mod examples;
 pub mod laws;
+mod payments;
+mod queries;
 pub mod soundness;
-mod tables;
 mod turns;
 
 pub use engine::{Protocol, is_built};
