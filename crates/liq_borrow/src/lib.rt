@@ -14,3 +14,4 @@ pub use change::{Change, Plan};
 pub use close::plan_close;
 pub use gain::plan_gain;
 pub use open::plan_open;
+pub use terms::is_recovery;

@@ -150,7 +150,7 @@ ruling_alike {s} {t} h c =
 
 -- ---- queries
 
-trove_told : Image → Option Trove → Info
+unfoldable pub trove_told : Image → Option Trove → Info
 trove_told i None = info.NoTrove
 trove_told i (Some t) = info.Trove (t.coll + pending t.stake i.sum_coll t.mark_coll) (t.debt + pending t.stake i.sum_debt t.mark_debt) t.stake
 
@@ -159,7 +159,7 @@ unfolding trove_told
 trove_info-image s None = refl
 trove_info-image s (Some t) = refl
 
-trove_told_at : (s : State) (account : ℕ) → trove_info s (at s.troves account) ≡ trove_told (image s) (at (image s).troves account)
+pub trove_told_at : (s : State) (account : ℕ) → trove_info s (at s.troves account) ≡ trove_told (image s) (at (image s).troves account)
 trove_told_at s account = trove_info-image s (at s.troves account) ∙ ap (trove_told (image s)) (sym (at-map (trove_row s) s.troves account))
 
 told : Bool → ℕ → ℕ → Info

@@ -2,12 +2,12 @@
 use Rattle.std.proofs.Common.{◌≡◌, ℕ, ◌+◌, ◌≤◌, Bool, true, false, nat_lt, cond, List, [], ◌∷◌, ◌++◌, Some, None, Option, refl, ap, subst, ◌<◌, nat_le, ◌∙◌, arith}
 use Rattle.std.specs.Prelude.{IsTrue, map, ◌==◌}
 use Rattle.std.proofs.lemmas.Bool.Decides.{nat_tests}
-use Rattle.liq_types.specs.declared.amounts.TheConstants.{LIM, RECORDS_MOST, GENERATIONS_MOST, CHECKPOINT_BYTES_MOST}
+use Rattle.liq_types.specs.declared.amounts.TheConstants.{LIM, MINUTE_MOST, RECORDS_MOST, GENERATIONS_MOST, CHECKPOINT_BYTES_MOST}
 use Rattle.liq_types.specs.declared.replies.Done.{Done}
 use Rattle.liq_types.specs.declared.replies.Refusal.{Refusal}
-use Rattle.liq_types.specs.declared.replies.Refusal.TheVariants.{AmountZero, AmountLimit, ShortCollateral, JournalFull}
+use Rattle.liq_types.specs.declared.replies.Refusal.TheVariants.{AmountZero, AmountLimit, ShortCollateral, ShortTokens, JournalFull}
 use Rattle.liq_types.specs.declared.requests.Call.{Call}
-use Rattle.liq_types.specs.declared.requests.Call.TheVariants.{Fund, Take}
+use Rattle.liq_types.specs.declared.requests.Call.TheVariants.{Price, Advance, Fund, Take, Send}
 use Rattle.liq_types.specs.declared.requests.Command.{Command}
 use Rattle.liq_types.specs.Rules.{Rule, first_refusal, where_above}
 use Rattle.liq_core.specs.Image.{image}
@@ -83,14 +83,31 @@ take_enough s account coll h =
     let enough : nat_lt have coll ≡ false = second_false (coll == 0, AmountZero) (nat_lt have coll, ShortCollateral coll have) h in
     grind (arith, nat_tests, enough)
 
+pub advance_within : (s : State) (minutes : ℕ) → first_refusal (rules s (Advance minutes)) ≡ None → s.minute + minutes ≤ MINUTE_MOST
+advance_within s minutes h =
+    let fits : nat_lt MINUTE_MOST (s.minute + minutes) ≡ false = second_false (minutes == 0, AmountZero) (nat_lt MINUTE_MOST (s.minute + minutes), AmountLimit (s.minute + minutes) MINUTE_MOST) h in
+    grind (arith, nat_tests, fits)
+
+pub send_enough : (s : State) (from to lusd : ℕ) → first_refusal (rules s (Send from to lusd)) ≡ None → lusd ≤ (wallet_of s from).lusd
+send_enough s from to lusd h =
+    let have = (wallet_of s from).lusd in
+    let enough : nat_lt have lusd ≡ false = second_false (lusd == 0, AmountZero) (nat_lt have lusd, ShortTokens lusd have) h in
+    grind (arith, nat_tests, enough)
+
 -- the effect of a built call leaves the count of records
 pub effect-records : (s : State) (call : Call) → IsTrue (built_call call) → (effect s call).records ≡ s.records
+effect-records s (Price price) built = refl
+effect-records s (Advance minutes) built = refl
 effect-records s (Fund account coll) built = refl
 effect-records s (Take account coll) built = refl
+effect-records s (Send from to lusd) built = refl
 effect-records s _ built = cc
 
 -- no built verb begins a new generation
 pub built-rotates : (call : Call) → IsTrue (built_call call) → rotates call ≡ false
+built-rotates (Price price) built = refl
+built-rotates (Advance minutes) built = refl
 built-rotates (Fund account coll) built = refl
 built-rotates (Take account coll) built = refl
+built-rotates (Send from to lusd) built = refl
 built-rotates _ built = cc

@@ -16,7 +16,9 @@ pub mod Following
 pub mod Histories
 pub mod KeptReplies
 pub mod Moving
+pub mod Noting
 pub mod Opening
+pub mod Paying
 pub mod Ranking
 pub mod Rows
 pub mod Ruled
@@ -35,5 +37,5 @@ pub mod SoundRules
 pub mod SoundStart
 pub mod SoundStep
 pub mod SoundTests
-pub mod Standing
 pub mod Started
+pub mod Telling

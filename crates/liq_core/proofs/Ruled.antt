@@ -1,19 +1,26 @@
 -- Rulings from what is tested, and of states that are the same.
 use Rattle.std.proofs.Common.{◌≡◌, ◌+◌, ◌<◌, Bool, true, false, cond, nat_le, List, [], ◌∷◌, ◌++◌, Some, None, Option, refl, ap, sym, ◌∙◌, arith}
-use Rattle.std.specs.Prelude.{map, ◌==◌, ◌&&◌, not}
+use Rattle.std.specs.Prelude.{IsTrue, map, ◌==◌, ◌&&◌, not}
 use Rattle.std.proofs.lemmas.Bool.Decides.{nat_tests}
-use Rattle.liq_types.specs.declared.amounts.TheConstants.{ACCOUNTS}
+use Rattle.liq_types.specs.declared.amounts.TheConstants.{ACCOUNTS, RECORDS_MOST, GENERATIONS_MOST, CHECKPOINT_BYTES_MOST}
 use Rattle.liq_types.specs.declared.replies.Refusal.{Refusal}
-use Rattle.liq_types.specs.declared.replies.Refusal.TheVariants.{AccountRange, OutOfTurn}
+use Rattle.liq_types.specs.declared.replies.Refusal.TheVariants.{AccountRange, AmountLimit, OutOfTurn, JournalFull}
+use Rattle.liq_types.specs.declared.requests.Call.{Call}
 use Rattle.liq_types.specs.declared.requests.Command.{Command}
-use Rattle.liq_types.specs.Rules.{Rule, first_refusal}
+use Rattle.liq_types.specs.Rules.{Rule, first_refusal, where_above}
+use Rattle.liq_core.specs.Image.{image}
+use Rattle.liq_core.specs.Length.{checkpoint_length}
+use Rattle.liq_core.specs.Step.{after}
+use Rattle.liq_core.specs.Verbs.{rotates}
 use Rattle.liq_types.specs.State.{State, client_of}
 use Rattle.liq_types.specs.Soundness.{IsSoundImage}
-use Rattle.liq_core.specs.Core.{Core, StandsFor, image_of, state_of}
+use Rattle.liq_core.specs.Core.{Core, Changes, StandsFor, state_of}
 use Rattle.liq_core.specs.Queries.{next_number}
-use Rattle.liq_core.specs.Step.{Refused, Repeated, Allowed, unless_refused, ruling, rules, accounts, in_range, is_repeated, tests, room_rules}
+use Rattle.liq_core.specs.Step.{Refused, Repeated, Allowed, unless_refused, ruling, rules, accounts, in_range, is_repeated, tests, room_rules, effect, built_call}
 use Rattle.liq_core.proofs.AlikeReads.{Alike}
 use Rattle.liq_core.proofs.AlikeReplies.{ruling_alike}
+use Rattle.liq_core.proofs.AlikeStep.{effect_alike}
+use Rattle.liq_core.proofs.Allowed.{effect-records}
 use Rattle.liq_core.proofs.SoundCores.{sound_stands}
 
 pub some_first : (front more : List Rule) (refusal : Refusal) → first_refusal front ≡ Some refusal → first_refusal (front ++ more) ≡ Some refusal
@@ -55,11 +62,30 @@ refused_room s c refusal within next passed h =
     next_ruling s c within next
     ∙ ap (λ (o : Option Refusal). unless_refused o Allowed) (none_first_of (map in_range (accounts c.call) ++ rules s c.call) (room_rules s c) passed ∙ h)
 
+-- there is room for a command that is no rotation, in a journal that is not full
+pub room_left : (s : State) (c : Command) → rotates c.call ≡ false → s.records < RECORDS_MOST → first_refusal (room_rules s c) ≡ None
+room_left s c stays few =
+    let free : nat_le RECORDS_MOST s.records ≡ false = grind (arith, nat_tests, few) in
+    ap (λ b. first_refusal (cond b (where_above (s.generation + 1) GENERATIONS_MOST AmountLimit ∷ where_above (checkpoint_length (image (after s c))) CHECKPOINT_BYTES_MOST AmountLimit ∷ []) ((nat_le RECORDS_MOST s.records, JournalFull RECORDS_MOST) ∷ []))) stays
+    ∙ ap (λ b. cond b (Some (JournalFull RECORDS_MOST)) None) free
+
+-- what nothing refuses
+pub allowed_call : (s : State) (c : Command) → c.client < ACCOUNTS → c.number ≡ (client_of s c.client).last + 1 → first_refusal (map in_range (accounts c.call) ++ rules s c.call) ≡ None → first_refusal (room_rules s c) ≡ None → ruling s c ≡ Allowed
+allowed_call s c within next passed room =
+    next_ruling s c within next
+    ∙ ap (λ (o : Option Refusal). unless_refused o Allowed) (none_first_of (map in_range (accounts c.call) ++ rules s c.call) (room_rules s c) passed ∙ room)
+
 -- a state for which a core stands is the same as the one that begins with the core's image
-pub standing_alike : (core : Core) (s : State) → IsSoundImage (image_of core) core.records → StandsFor core s → Alike s (state_of core)
+pub standing_alike : (core : Core) (s : State) → IsSoundImage core.image core.records → StandsFor core s → Alike s (state_of core)
 standing_alike core s sound h =
     let itself = sound_stands core sound in
     record { image = sym h.image ∙ itself.image; records = sym h.records ∙ itself.records; left = h.formed; right = itself.formed }
 
-pub standing_ruling : (core : Core) (s : State) (c : Command) → IsSoundImage (image_of core) core.records → StandsFor core s → ruling s c ≡ ruling (state_of core) c
+pub standing_ruling : (core : Core) (s : State) (c : Command) → IsSoundImage core.image core.records → StandsFor core s → ruling s c ≡ ruling (state_of core) c
 standing_ruling core s c sound h = ruling_alike (standing_alike core s sound h) c
+
+-- a core that stands for a state stands for what the call makes of it, once it is changed
+pub changed_stands : (old new : Core) (call : Call) → IsSoundImage old.image old.records → IsTrue (built_call call) → Changes old call new → (s : State) → StandsFor old s → StandsFor new (effect s call)
+changed_stands old new call sound built made s h =
+    let e = effect_alike (standing_alike old s sound h) call in
+    record { image = made.image ∙ sym e.image; records = made.records ∙ h.records ∙ sym (effect-records s call built); formed = e.left }

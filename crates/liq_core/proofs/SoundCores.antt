@@ -1,33 +1,39 @@
--- What is read of a sound core, and what each change leaves of it.
-use Rattle.std.proofs.Common.{◌≡◌, ℕ, ◌+◌, ◌≤◌, ◌<◌, true, cond, nat_le, [], refl, ap, sym, subst, ◌∙◌, arith, inl, inr, nat_lt, List, ◌∷◌, Bool, false}
-use Rattle.std.specs.Prelude.{unwrap_or, ◌&&◌, ◌==◌}
+-- A sound core: what is read of it, and what a change leaves of it.
+use Rattle.std.proofs.Common.{◌≡◌, ℕ, ◌+◌, ◌≤◌, true, false, nat_le, nat_lt, List, [], ◌∷◌, Bool, refl, ap, sym, subst, ◌∙◌, arith, inl, inr}
+use Rattle.std.specs.Prelude.{◌&&◌, ◌==◌, sum_by}
 use Rattle.std.specs.BTreeMap.{is_at}
 use Rattle.std.specs.List.{AllByRecursion, list_all}
 use Rattle.std.specs.List.Sorted.{IsStrictlySortedBy}
+use Rattle.std.specs.Map.{values_of}
 use Rattle.std.specs.Ordering.{nat_cmp}
 use Rattle.std.proofs.lemmas.Bool.Decides.{nat_tests}
 use Rattle.std.proofs.lemmas.Map.Entries.{sum_by-remove_entry}
-use Rattle.liq_types.specs.declared.amounts.TheConstants.{ACCOUNTS, LIM, RECORDS_MOST}
+use Rattle.liq_types.specs.declared.amounts.TheConstants.{LIM}
 use Rattle.liq_types.specs.declared.figures.Client.{Client}
+use Rattle.liq_types.specs.declared.figures.Trove.{Trove}
 use Rattle.liq_types.specs.declared.figures.Wallet.{Wallet}
+use Rattle.liq_types.specs.declared.requests.Call.{Call}
 use Rattle.liq_types.specs.Image.{Image, opening_image, Place}
-use Rattle.liq_types.specs.Rows.{Reserves}
-use Rattle.liq_types.specs.Soundness.{IsSoundImage, HasTables, coll_homes, has_keys_in_range, is_before}
-use Rattle.liq_types.specs.State.{is_used_wallet, is_used_client, no_wallet, no_client}
-use Rattle.liq_types.specs.Tables.{Table, at, put, without, rows}
-use Rattle.liq_types.specs.WellFormed.{Ascends, IsBefore, AreFinished, stakes_in}
-use Rattle.liq_types.proofs.UsedRows.{rows-put, rows-reserve}
-use Rattle.liq_core.specs.Core.{Core, StandsFor, image_of, state_of}
+use Rattle.liq_types.specs.Payments.{charged_in}
+use Rattle.liq_types.specs.Soundness.{IsSoundImage, HasTables, is_before}
+use Rattle.liq_types.specs.State.{State, wallet_in}
+use Rattle.liq_types.specs.Tables.{Table, at}
+use Rattle.liq_types.specs.WellFormed.{IsBefore, AreFinished, stakes_in}
+use Rattle.liq_order.specs.Order.{order_by}
+use Rattle.liq_troves.specs.declared.sums.Sums.{Sums}
+use Rattle.liq_core.specs.declared.engine.Protocol.TheInside.{Inside}
+use Rattle.liq_core.specs.Core.{Core, Changes, StandsFor, state_of}
+use Rattle.liq_core.specs.Image.{image}
+use Rattle.liq_core.specs.Rules.{effect}
+use Rattle.liq_core.specs.Sound.{IsSound, core_of}
+use Rattle.liq_core.proofs.Moving.{read_or, charged_lusd}
+use Rattle.liq_core.proofs.SoundFacts.{Finds, Leaves}
+use Rattle.liq_core.proofs.SoundRules.{meets, both_first, both_second}
+use Rattle.liq_core.proofs.SoundStart.{started_with}
+use Rattle.liq_core.proofs.SoundTests.{SoundFacts, sound_facts, facts_sound}
 use Rattle.liq_core.proofs.Started.{started_image, started_formed}
-use Rattle.liq_core.specs.Sound.{IsSound, IsKeptRow}
-use Rattle.liq_core.proofs.Moving.{read_or}
-use Rattle.liq_core.proofs.SoundRules.{meets, both_first, both_second, moved_sound, noted_sound, put_in_range}
-use Rattle.liq_core.proofs.Standing.{seen_wallet}
 
 -- ---- the opening
-
-abbrev opening_core : Core
-opening_core = record { brought = 0; records = 0; wallets = []; clients = [] }
 
 opening_tables : HasTables opening_image
 unfolding IsStrictlySortedBy
@@ -46,104 +52,20 @@ opening_tables =
       client_rows = tt;
     }
 
-opening_sound : IsSound opening_core
-unfolding IsStrictlySortedBy
-opening_sound =
-    record {
-      image = record { rules = refl; tables = opening_tables };
-      wallets_ascend = tt;
-      clients_ascend = tt;
-      wallets_in_range = refl;
-      clients_in_range = refl;
-    }
+pub opening_image_sound : IsSoundImage opening_image 0
+opening_image_sound = record { rules = refl; tables = opening_tables }
 
-pub empty_sound : (wallets : Table Wallet) (clients : Table Client) → wallets ≡ [] → clients ≡ [] → IsSound (record { brought = 0; records = 0; wallets = wallets; clients = clients })
-empty_sound wallets clients w c =
-    subst (λ (t : Table Wallet). IsSound (record { brought = 0; records = 0; wallets = t; clients = clients })) (sym w)
-    (subst (λ (t : Table Client). IsSound (record { brought = 0; records = 0; wallets = []; clients = t })) (sym c) opening_sound)
+abbrev no_sums : Sums
+no_sums = record { coll = 0; debt = 0; stakes = 0; snap_stakes = 0; snap_coll = 0 }
 
--- ---- what is read
-
-pub brought_within : (core : Core) → IsSound core → core.brought ≤ LIM
-brought_within core sound =
-    let last : nat_le core.brought LIM ≡ true = both_second _ (nat_le core.brought LIM) (meets (image_of core) core.records sound.image).ranges in
-    grind (arith, nat_tests, last)
-
-pub wallet_within : (core : Core) → IsSound core → (account : ℕ) → (unwrap_or (at core.wallets account) no_wallet).coll ≤ core.brought
-wallet_within core sound account =
-    let table = (image_of core).wallets in
-    let home : core.brought ≡ coll_homes (image_of core) = grind (arith, nat_tests, (meets (image_of core) core.records sound.image).coll) in
-    let seen = ap (λ (w : Wallet). w.coll) (seen_wallet core sound account) in
-    let part = sum_by-remove_entry (λ (w : Wallet). w.coll) (is_at (nat_cmp account)) table in
-    let had = read_or (λ (w : Wallet). w.coll) refl (at table account) in
-    omega (arith, home, seen, part, had)
-
--- ---- rows that are reserved
-
-pub reserved_wallets : (core : Core) (table : Table Wallet) (account : ℕ) → IsSound core → account < ACCOUNTS → Reserves core.wallets table account no_wallet → Ascends table → IsSound (record core { wallets = table })
-reserved_wallets core table account sound inside made ascend =
-    record {
-      image =
-          subst (λ (i : Image). IsSoundImage i core.records)
-          (sym (ap (λ t. record (image_of core) { wallets = t }) (rows-reserve is_used_wallet core.wallets table account no_wallet refl made))) sound.image;
-      wallets_ascend = ascend;
-      clients_ascend = sound.clients_ascend;
-      wallets_in_range = range made;
-      clients_in_range = sound.clients_in_range;
-    } where
-      range : Reserves core.wallets table account no_wallet → has_keys_in_range table ≡ true
-      range (inl same) = subst (λ (t : Table Wallet). has_keys_in_range t ≡ true) (sym same) sound.wallets_in_range
-      range (inr new) = subst (λ (t : Table Wallet). has_keys_in_range t ≡ true) (sym new.1) (put_in_range core.wallets account no_wallet inside sound.wallets_in_range)
-
-pub reserved_clients : (core : Core) (table : Table Client) (client : ℕ) → IsSound core → client < ACCOUNTS → Reserves core.clients table client no_client → Ascends table → IsSound (record core { clients = table })
-reserved_clients core table client sound inside made ascend =
-    record {
-      image =
-          subst (λ (i : Image). IsSoundImage i core.records)
-          (sym (ap (λ t. record (image_of core) { clients = t }) (rows-reserve is_used_client core.clients table client no_client refl made))) sound.image;
-      wallets_ascend = sound.wallets_ascend;
-      clients_ascend = ascend;
-      wallets_in_range = sound.wallets_in_range;
-      clients_in_range = range made;
-    } where
-      range : Reserves core.clients table client no_client → has_keys_in_range table ≡ true
-      range (inl same) = subst (λ (t : Table Client). has_keys_in_range t ≡ true) (sym same) sound.clients_in_range
-      range (inr new) = subst (λ (t : Table Client). has_keys_in_range t ≡ true) (sym new.1) (put_in_range core.clients client no_client inside sound.clients_in_range)
-
--- ---- rows that are written
-
-pub written_wallet : (core : Core) (table : Table Wallet) (brought account : ℕ) (w : Wallet) → IsSound core → account < ACCOUNTS → brought ≤ LIM → brought + (unwrap_or (at core.wallets account) no_wallet).coll ≡ core.brought + w.coll → w.lusd ≡ (unwrap_or (at core.wallets account) no_wallet).lusd → table ≡ put core.wallets account w → Ascends table → IsSound (record core { brought = brought; wallets = table })
-written_wallet core table brought account w sound inside within moved same written ascend =
-    let seen = seen_wallet core sound account in
-    let shown = ap (λ (t : Table Wallet). rows is_used_wallet t) written ∙ rows-put is_used_wallet core.wallets account w sound.wallets_ascend in
-    record {
-      image =
-          subst (λ (t : Table Wallet). IsSoundImage (record (image_of core) { brought = brought; wallets = t }) core.records) (sym shown)
-          (moved_sound (image_of core) core.records brought account w sound.image inside within
-          (subst (λ (had : Wallet). brought + had.coll ≡ core.brought + w.coll) seen moved)
-          (subst (λ (had : Wallet). w.lusd ≡ had.lusd) seen same));
-      wallets_ascend = ascend;
-      clients_ascend = sound.clients_ascend;
-      wallets_in_range = subst (λ (t : Table Wallet). has_keys_in_range t ≡ true) (sym written) (put_in_range core.wallets account w inside sound.wallets_in_range);
-      clients_in_range = sound.clients_in_range;
-    }
-
-pub written_client : (core : Core) (table : Table Client) (client : ℕ) (row : Client) → IsSound core → client < ACCOUNTS → core.records < RECORDS_MOST → IsKeptRow row → table ≡ put core.clients client row → Ascends table → IsSound (record core { records = core.records + 1; clients = table })
-written_client core table client row sound inside few kept written ascend =
-    let used : is_used_client row ≡ true = grind (arith, nat_tests, kept.form.last) in
-    let shown =
-    ap (λ (t : Table Client). rows is_used_client t) written
-    ∙ rows-put is_used_client core.clients client row sound.clients_ascend
-    ∙ ap (λ b. cond b (put (rows is_used_client core.clients) client row) (without (rows is_used_client core.clients) client)) used in
-    record {
-      image =
-          subst (λ (t : Table Client). IsSoundImage (record (image_of core) { clients = t }) (core.records + 1)) (sym shown)
-          (noted_sound (image_of core) core.records client row sound.image inside few kept.form kept.shown);
-      wallets_ascend = sound.wallets_ascend;
-      clients_ascend = ascend;
-      wallets_in_range = sound.wallets_in_range;
-      clients_in_range = subst (λ (t : Table Client). has_keys_in_range t ≡ true) (sym written) (put_in_range core.clients client row inside sound.clients_in_range);
-    }
+-- what is kept of nothing is the opening image
+pub opened_image : (wallets : Table Wallet) (troves : Table Trove) (sums : Sums) (surplus : Table ℕ) (clients : Table Client) → wallets ≡ [] → troves ≡ [] → sums ≡ no_sums → surplus ≡ [] → clients ≡ [] → record opening_image { sum_coll = sums.coll; sum_debt = sums.debt; stakes = sums.stakes; snap_stakes = sums.snap_stakes; snap_coll = sums.snap_coll; wallets = wallets; troves = troves; surplus_rows = surplus; clients = clients } ≡ opening_image
+opened_image wallets troves sums surplus clients w t u s c =
+    ap (λ (ws : Table Wallet). record opening_image { sum_coll = sums.coll; sum_debt = sums.debt; stakes = sums.stakes; snap_stakes = sums.snap_stakes; snap_coll = sums.snap_coll; wallets = ws; troves = troves; surplus_rows = surplus; clients = clients }) w
+    ∙ ap (λ (ts : Table Trove). record opening_image { sum_coll = sums.coll; sum_debt = sums.debt; stakes = sums.stakes; snap_stakes = sums.snap_stakes; snap_coll = sums.snap_coll; troves = ts; surplus_rows = surplus; clients = clients }) t
+    ∙ ap (λ (us : Sums). record opening_image { sum_coll = us.coll; sum_debt = us.debt; stakes = us.stakes; snap_stakes = us.snap_stakes; snap_coll = us.snap_coll; surplus_rows = surplus; clients = clients }) u
+    ∙ ap (λ (ss : Table ℕ). record opening_image { surplus_rows = ss; clients = clients }) s
+    ∙ ap (λ (cs : Table Client). record opening_image { clients = cs }) c
 
 -- ---- the state that begins with a sound image
 
@@ -168,11 +90,87 @@ sound_stakes i records h =
     let stakes : (i.stakes == stakes_in i) ≡ true = both_first _ _ (both_first _ _ (both_first _ (nat_le i.snap_stakes i.snap_coll) (both_first _ _ (meets i records h).added))) in
     grind (arith, nat_tests, stakes)
 
--- whatever the core keeps, its sound image makes it stand for the state that begins with it
-pub sound_stands : (core : Core) → IsSoundImage (image_of core) core.records → StandsFor core (state_of core)
-sound_stands core h =
+module _ (core : Core) (h : IsSoundImage core.image core.records) where
+  pub image_back : image (state_of core) ≡ core.image
+  image_back = started_image core.image (sound_stakes core.image core.records h)
+
+  -- whatever the core keeps, its sound image makes it stand for the state that begins with it
+  pub sound_stands : StandsFor core (state_of core)
+  sound_stands =
+      record { image = sym image_back; records = refl; formed = started_formed core.image (sound_finished core.image core.records h) }
+
+  pub core_facts : SoundFacts (state_of core)
+  core_facts = sound_facts (state_of core) (started_with core.image core.records h)
+
+  pub core_finds : Finds (state_of core)
+  core_finds = record { stands = core_facts.stands; balanced = core_facts.balanced; ranges = core_facts.ranges }
+
+  -- ---- what is read
+
+  pub wallet_coll : (account : ℕ) → (wallet_in core.image.wallets account).coll ≤ core.image.brought
+  wallet_coll account =
+      let table = core.image.wallets in
+      let home = core_facts.balanced.homes.coll in
+      let part = sum_by-remove_entry (λ (w : Wallet). w.coll) (is_at (nat_cmp account)) table in
+      let had = read_or (λ (w : Wallet). w.coll) refl (at table account) in
+      omega (arith, home, part, had)
+
+  pub brought_within : core.image.brought ≤ LIM
+  brought_within = core_facts.balanced.coll_limit
+
+  pub wallets_within : sum_by (λ (w : Wallet). w.lusd) (values_of core.image.wallets) ≤ LIM
+  wallets_within =
+      let home = core_facts.balanced.homes.lusd in
+      let limit = core_facts.balanced.debt_limit in
+      omega (arith, home, limit)
+
+  pub wallet_lusd : (account : ℕ) → (wallet_in core.image.wallets account).lusd ≤ LIM
+  wallet_lusd account =
+      let part = lusd_within core.image.wallets account in
+      omega (arith, part, wallets_within)
+    where
+      lusd_within : (table : Table Wallet) (account : ℕ) → (wallet_in table account).lusd ≤ sum_by (λ (w : Wallet). w.lusd) (values_of table)
+      lusd_within table account =
+          let part = sum_by-remove_entry (λ (w : Wallet). w.lusd) (is_at (nat_cmp account)) table in
+          let had = read_or (λ (w : Wallet). w.lusd) refl (at table account) in
+          omega (arith, part, had)
+
+  -- a wallet that is paid what another one was charged stays within the limit
+  pub sent_within : (from to lusd : ℕ) → lusd ≤ (wallet_in core.image.wallets from).lusd → (wallet_in (charged_in core.image.wallets from 0 lusd) to).lusd + lusd ≤ LIM
+  sent_within from to lusd enough =
+      let table = charged_in core.image.wallets from 0 lusd in
+      let part = sum_by-remove_entry (λ (w : Wallet). w.lusd) (is_at (nat_cmp to)) table in
+      let had = read_or (λ (w : Wallet). w.lusd) refl (at table to) in
+      let left = charged_lusd (state_of core) from 0 lusd core_finds.stands.wallets.ascend enough in
+      omega (arith, part, had, left, wallets_within)
+
+  -- ---- what a change leaves
+
+  -- a change that leaves the Stability Pool's place
+  pub left_sound : (t : State) → Leaves 0 (state_of core) t → IsSoundImage (image t) core.records
+  left_sound t l =
+      let f = core_facts in
+      let r = l.rest in
+      let made = facts_sound t (record {
+        stands = l.stands;
+        balanced = record { homes = r.homes; coll_limit = r.coll_limit; debt_limit = r.debt_limit };
+        ranges = r.ranges;
+        records = omega (arith, f.records, r.records);
+        scale = omega (arith, f.scale, r.scale, r.generation, r.records);
+        epoch = omega (arith, f.epoch, r.epoch, r.generation, r.records);
+      }) in
+      subst (λ n. IsSoundImage (image t) n) r.records made.sound
+
+  -- price, time, what is inside and wallets are the only words of an image that payments write
+  pub plain_image : (price minute brought : ℕ) (wallets : Table Wallet) → record core.image { price = price; minute = minute; brought = brought; wallets = wallets } ≡ image (record (state_of core) { price = price; minute = minute; brought = brought; wallets = wallets })
+  plain_image price minute brought wallets =
+      ap (λ (i : Image). record i { price = price; minute = minute; brought = brought; wallets = wallets }) (sym image_back)
+
+pub sound_after : (p q : Inside) (old : Core) (call : Call) → core_of p ≡ old → IsSound p → Leaves 0 (state_of old) (effect (state_of old) call) → Changes old call (core_of q) → q.order.entries ≡ order_by q.troves.table.rows → IsSound q
+sound_after p q old call view sound left made order =
+    let h = subst (λ (core : Core). IsSoundImage core.image core.records) view sound.image in
+    let kept = left_sound old h (effect (state_of old) call) left in
     record {
-      image = sym (started_image (image_of core) (sound_stakes (image_of core) core.records h));
-      records = refl;
-      formed = started_formed (image_of core) (sound_finished (image_of core) core.records h);
+      image = subst (λ (i : Image). IsSoundImage i q.records) (sym made.image) (subst (λ n. IsSoundImage (image (effect (state_of old) call)) n) (sym made.records) kept);
+      order = order;
     }

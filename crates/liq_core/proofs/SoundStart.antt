@@ -18,13 +18,13 @@ before_rows : (now : Place) (table : List (Place × ℕ)) → AllByRecursion (Fi
 before_rows now [] h = tt
 before_rows now (e ∷ es) h = (h.0.before, before_rows now es h.1)
 
-finished_before : (i : Image) → IsSoundImage i 0 → AreFinished i
-finished_before i h = before_rows (i.epoch, i.scale) i.finished (finished_rows i 0 h)
+finished_before : (i : Image) (records : ℕ) → IsSoundImage i records → AreFinished i
+finished_before i records h = before_rows (i.epoch, i.scale) i.finished (finished_rows i records h)
 
-pub started_sound : (i : Image) → IsSoundImage i 0 → IsSoundState (started i)
-started_sound i h =
+pub started_with : (i : Image) (records : ℕ) → IsSoundImage i records → IsSoundState (record (started i) { records = records })
+started_with i records h =
     record {
-      formed = started_formed i (finished_before i h);
+      formed = started_formed i (finished_before i records h);
       ordered = (
         h.tables.wallets,
         subst (λ (keys : List ℕ). IsStrictlySortedBy nat_cmp keys) (sym (keys_of-map_values started_trove i.troves)) h.tables.troves,
@@ -32,9 +32,12 @@ started_sound i h =
         subst (λ (keys : List ℕ). IsStrictlySortedBy nat_cmp keys) (sym (keys_of-map_values started_deposit i.deposits)) h.tables.deposits,
         h.tables.clients,
       );
-      sound = subst (λ (j : Image). IsSoundImage j 0) (sym (started_image i (stakes_added i 0 h))) h;
+      sound = subst (λ (j : Image). IsSoundImage j records) (sym (started_image i (stakes_added i records h))) h;
       spread = tt;
     }
+
+pub started_sound : (i : Image) → IsSoundImage i 0 → IsSoundState (started i)
+started_sound i h = started_with i 0 h
 
 pub opening_sound : IsSoundState opening
 unfolding IsStrictlySortedBy

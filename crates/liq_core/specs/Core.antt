@@ -1,40 +1,43 @@
 -- What the code of a protocol holds, and the states for which it stands.
-use Rattle.std.specs.Prelude.{◌≡◌, ℕ}
-use Rattle.liq_types.specs.declared.figures.Wallet.{Wallet}
-use Rattle.liq_types.specs.declared.figures.Client.{Client}
-use Rattle.liq_types.specs.Image.{Image, opening_image}
-use Rattle.liq_types.specs.State.{State, started, is_used_wallet, is_used_client}
-use Rattle.liq_types.specs.Tables.{Table, rows}
+use Rattle.std.specs.Prelude.{◌≡◌, ℕ, List}
+use Rattle.liq_types.specs.declared.requests.Call.{Call}
+use Rattle.liq_types.specs.Image.{Image}
+use Rattle.liq_types.specs.State.{State, started}
 use Rattle.liq_types.specs.WellFormed.{IsWellFormed}
 use Rattle.liq_core.specs.Image.{image}
+use Rattle.liq_core.specs.Rules.{effect}
 
--- The tables have rows that were reserved and are still empty.
+-- the keys of each table at which a row can be written without memory, and for how many more troves the list has room
+pub record Room : Type 0 where
+  pub wallets : List ℕ
+  pub troves : List ℕ
+  pub surplus : List ℕ
+  pub clients : List ℕ
+  pub list : ℕ
+
+-- The image has no row that only keeps room.
 pub record Core : Type 0 where
-  pub brought : ℕ
+  pub image : Image
   pub records : ℕ
-  pub wallets : Table Wallet
-  pub clients : Table Client
-
--- its image, in which no empty row is seen; what is not built yet is as at the opening
-abbrev pub image_of : Core → Image
-image_of core =
-    record opening_image {
-      brought = core.brought;
-      wallets = rows is_used_wallet core.wallets;
-      clients = rows is_used_client core.clients;
-    }
+  pub room : Room
 
 -- the state that begins with the core's image
 abbrev pub state_of : Core → State
-state_of core = record (started (image_of core)) { records = core.records }
+state_of core = record (started core.image) { records = core.records }
 
 -- the core has the state's image and its records, and the state is one that the rules can reach
 pub record StandsFor (core : Core) (s : State) : Type 0 where
-  pub image : image_of core ≡ image s
+  pub image : core.image ≡ image s
   pub records : core.records ≡ s.records
   pub formed : IsWellFormed s
 
--- the same but for reserved rows
+-- the same but for what there is room for
 pub record SameContent (old new : Core) : Type 0 where
-  pub image : image_of new ≡ image_of old
+  pub image : new.image ≡ old.image
   pub records : new.records ≡ old.records
+
+-- the new core is the old one after a call that is allowed, not yet counted
+pub record Changes (old : Core) (call : Call) (new : Core) : Type 0 where
+  pub image : new.image ≡ image (effect (state_of old) call)
+  pub records : new.records ≡ old.records
+  pub clients : new.room.clients ≡ old.room.clients

@@ -1,12 +1,11 @@
 -- A planned command, the states on which it may be applied, and the rows that it wants.
-use Rattle.std.specs.Prelude.{◌≡◌, ◌<◌, IsSome, IsTrue}
-use Rattle.std.specs.List.{AllByRecursion}
+use Rattle.std.specs.Prelude.{◌≡◌, ◌<◌, IsTrue}
+use Rattle.std.specs.List.{AllByRecursion, Contains}
 use Rattle.liq_types.specs.declared.amounts.TheConstants.{ACCOUNTS}
 use Rattle.liq_types.specs.declared.replies.Done.{Done}
 use Rattle.liq_types.specs.declared.requests.Command.{Command}
 use Rattle.liq_types.specs.State.{State}
 use Rattle.liq_core.specs.Core.{Core, StandsFor}
-use Rattle.liq_types.specs.Tables.{at}
 use Rattle.liq_core.specs.Step.{Allowed, ruling, done_of}
 use Rattle.liq_core.specs.Verbs.{accounts, built_call}
 
@@ -26,8 +25,8 @@ IsPlannedOn core plan = (s : State) → StandsFor core s → IsPlan s plan
 
 -- there is a row for all that the planned command writes
 pub record HasRoom (core : Core) (plan : Plan) : Type 0 where
-  pub wallets : AllByRecursion (λ account. IsSome (at core.wallets account)) (accounts plan.command.call)
-  pub client : IsSome (at core.clients plan.command.client)
+  pub wallets : AllByRecursion (λ account. Contains core.room.wallets account) (accounts plan.command.call)
+  pub client : Contains core.room.clients plan.command.client
 
 -- what holds of every planned command: its verb is built, and its client and its accounts are in range
 pub record IsSoundPlan (plan : Plan) : Type 0 where

@@ -1,5 +1,5 @@
 -- What planning answers.
-use Rattle.std.specs.Prelude.{◌≡◌, ◌++◌, map, Result, Ok, Err, Some, None}
+use Rattle.std.specs.Prelude.{◌≡◌, ◌++◌, map, Result, Ok, Err, Some, None, IsTrue}
 use Rattle.liq_types.specs.declared.replies.Done.{Done}
 use Rattle.liq_types.specs.declared.replies.Refusal.{Refusal}
 use Rattle.liq_types.specs.declared.requests.Call.{Call}
@@ -11,13 +11,14 @@ use Rattle.liq_core.specs.declared.turns.PlanFault.{PlanFault}
 use Rattle.liq_core.specs.declared.turns.PlanFault.TheVariants.{No, NoMemory}
 use Rattle.liq_core.specs.Plan.{IsPlan}
 use Rattle.liq_core.specs.Step.{Refused, Repeated, ruling, first_refusal, in_range, accounts, rules, done_of}
+use Rattle.liq_core.specs.Verbs.{plans_list}
 
--- Planning gives the ruling. Only want of memory says nothing of it.
+-- Planning gives the ruling. Only where a list is planned may there be no memory for it, which says nothing of the ruling.
 abbrev pub Plans : State → Command → Result Turn PlanFault → Type 0
 Plans s c (Ok (Again kept)) = ruling s c ≡ Repeated kept
 Plans s c (Ok (New plan)) = (plan.command ≡ c) × IsPlan s plan
 Plans s c (Err (No refusal)) = ruling s c ≡ Refused refusal
-Plans s c (Err NoMemory) = Unit {0}
+Plans s c (Err NoMemory) = IsTrue (plans_list c.call)
 
 -- the refusal of the call's accounts and of what its verb tests, or its reply
 abbrev pub IsRuled : State → Call → Result Done Refusal → Type 0

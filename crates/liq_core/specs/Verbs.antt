@@ -12,12 +12,18 @@ use Rattle.liq_types.specs.declared.requests.Request.TheVariants.{Do, Ask}
 -- ---- what is built
 
 abbrev pub built_call : Call → Bool
+built_call (Price price) = true
+built_call (Advance minutes) = true
 built_call (Fund account coll) = true
 built_call (Take account coll) = true
+built_call (Send from to lusd) = true
 built_call _ = false
 
 abbrev pub built_query : Query → Bool
 built_query (query.Wallet account) = true
+built_query (query.Trove account) = true
+built_query query.Pools = true
+built_query query.System = true
 built_query (query.NextNumber client) = true
 built_query _ = false
 
@@ -69,6 +75,12 @@ accounts Rotate = []
 abbrev pub rotates : Call → Bool
 rotates Rotate = true
 rotates _ = false
+
+-- whether more than a bounded number of troves may be planned for, as a list
+abbrev pub plans_list : Call → Bool
+plans_list (LiquidateLowest liquidator count) = true
+plans_list (Redeem account lusd bound hint) = true
+plans_list _ = false
 
 -- ---- hints
 

@@ -1,37 +1,46 @@
 //! The protocol's state, and its steps.
 
-ghost use Rattle.std.specs.Prelude.{◌≡◌, ◌≤◌, ◌<◌, ◌+◌, ◌-◌, ◌++◌, IsTrue, IsSome, OnOk, MatchResult, None, Some, replicate, unwrap_or};
-ghost use Rattle.std.specs.List.{AllByRecursion};
+ghost use Rattle.std.specs.Prelude.{◌≡◌, ◌≤◌, ◌<◌, ◌+◌, ◌++◌, ℕ, IsTrue, OnOk, None};
+ghost use Rattle.std.specs.List.{AllByRecursion, Contains};
 ghost use Rattle.liq_types.specs.declared.requests.Request.TheVariants.{Do, Ask};
 ghost use Rattle.liq_types.specs.declared.replies.Reply.TheVariants.{Said};
-ghost use Rattle.liq_types.specs.declared.requests.Call.TheVariants.{Fund, Take};
-ghost use Rattle.liq_types.specs.declared.requests.Query.TheVariants as asked;
 ghost use Rattle.liq_types.specs.Soundness.{IsSoundImage};
-ghost use Rattle.liq_types.specs.State.{State, opening, no_wallet, wallet_of, client_of, with_wallet};
-ghost use Rattle.liq_types.specs.Tables.{at, put};
-ghost use Rattle.liq_core.specs.Core.{StandsFor, image_of, state_of};
+ghost use Rattle.liq_types.specs.State.{State, opening, client_of};
+ghost use Rattle.liq_tables.specs.WithRoom.{KeepsRoom};
+ghost use Rattle.liq_core.specs.Core.{Changes, StandsFor, SameContent, state_of};
 ghost use Rattle.liq_core.specs.Sound.{IsKeptRow};
-ghost use Rattle.liq_core.specs.Step.{built, built_call, accounts, rules, in_range, first_refusal, done_of, effect, noted, step, answer};
+ghost use Rattle.liq_core.specs.Step.{built, built_call, accounts, rules, first_refusal, noted, step};
 
-use crate::tables;
+use crate::payments::plan_price;
 use crate::turns::{PlanFault, Planned, Turn};
-use liq_types::amounts::{ACCOUNTS, LIM, RECORDS_MOST};
+use liq_ledger::{Pools, Surplus, Wallets};
+use liq_order::Order;
+use liq_rate::Rate;
+use liq_tables::Reserved;
+use liq_troves::Troves;
+use liq_types::amounts::{ACCOUNTS, PRICE_OPENING, RECORDS_MOST};
 use liq_types::{
-    Call, Client, Command, Done, Hint, Info, NoMemory, Query, Refusal, Reply, Request, Steps,
-    Wallet,
+    Call, Client, Command, Done, Hint, NoMemory, Query, Refusal, Reply, Request, Steps,
 };
 use std::alloc::Global;
-use std::collections::BTreeMap;
 use std::marker::Model;
 use std::sync::ledger::Ledger;
 
-/// The protocol: wallets and clients, and the collateral inside.
+/// The protocol: wallets, troves and their order, what owners may claim, pools and fees, time and price, and the clients.
 #[derive(Drop)]
 pub struct Protocol {
-    brought: u64,
-    records: u64,
-    wallets: BTreeMap<u32, Wallet>,
-    clients: BTreeMap<u32, Client>,
+    pub(crate) price: u64,
+    pub(crate) minute: u64,
+    pub(crate) rate: Rate,
+    pub(crate) generation: u64,
+    pub(crate) records: u64,
+    pub(crate) brought: u64,
+    pub(crate) pools: Pools,
+    pub(crate) wallets: Wallets,
+    pub(crate) troves: Troves,
+    pub(crate) order: Order,
+    pub(crate) surplus: Surplus,
+    pub(crate) clients: Reserved<Client>,
 }
 
 impl Model for Protocol {
@@ -43,11 +52,8 @@ impl Model for Protocol {
 
     ghost view = { core_of };
 
-    ghost invariant = { λ p. IsSound (core_of p) };
+    ghost invariant = { λ p. IsSound p };
 }
-
-/// A wallet of nothing.
-const NO_WALLET: Wallet = Wallet { coll: 0, lusd: 0 };
 
 /// A client of which no command was accepted.
 const NO_CLIENT: Client = Client {
@@ -58,8 +64,19 @@ const NO_CLIENT: Client = Client {
     },
 };
 
+/// Pools of nothing.
+const NO_POOLS: Pools = Pools {
+    active_coll: 0,
+    active_debt: 0,
+    default_coll: 0,
+    default_debt: 0,
+    reserve: 0,
+    surplus: 0,
+    fee_coll: 0,
+    fee_lusd: 0,
+};
+
 impl Protocol {
-    ghost use Rattle.liq_core.specs.Core.{StandsFor, SameContent, state_of};
     ghost use Rattle.liq_core.specs.Plan.{HasRoom, IsPlannedOn};
     ghost use Rattle.liq_core.specs.Turn.{Plans, IsRuled};
 
@@ -68,31 +85,46 @@ impl Protocol {
         ensures { StandsFor result opening }
     {
         Protocol {
-            brought: 0,
+            price: PRICE_OPENING,
+            minute: 0,
+            rate: Rate { base: 0, minute: 0 },
+            generation: 1,
             records: 0,
-            wallets: BTreeMap::new(alloc),
-            clients: BTreeMap::new(alloc),
+            brought: 0,
+            pools: NO_POOLS,
+            wallets: Wallets::new(alloc),
+            troves: Troves::new(alloc),
+            order: Order::new(alloc),
+            surplus: Surplus::new(alloc),
+            clients: Reserved::new(alloc),
         }
     }
 
-    fn wallet(&self, account: u32) -> Wallet
-        ensures row { result ≡ unwrap_or (at self.now.wallets account) no_wallet }
-        ensures seen { result ≡ wallet_of (state_of self.now) account }
-        ensures within { result.coll ≤ self.now.brought }
-        ensures limit { self.now.brought ≤ LIM }
+    /// How many commands were accepted since the opening or the last rotation.
+    pub fn records(&self) -> u64
+        ensures { result ≡ self.now.records }
     {
-        self.wallets.get(&account).copied().unwrap_or(NO_WALLET)
+        self.records
     }
 
-    fn client(&self, client: u32) -> Client
-        ensures last { result.last ≡ (client_of (state_of self.now) client).last }
-        ensures kept { 0 < result.last → result.kept ≡ (client_of (state_of self.now) client).kept }
+    /// The journal's generation, from 1.
+    pub fn generation(&self) -> u64
+        ensures { result ≡ self.now.image.generation }
     {
-        self.clients.get(&client).copied().unwrap_or(NO_CLIENT)
+        self.generation
+    }
+
+    pub(crate) fn client(&self, client: u32) -> Client
+        ensures { result ≡ client_of (state_of self.now) client }
+    {
+        match self.clients.get(client) {
+            Some(row) => *row,
+            None => NO_CLIENT,
+        }
     }
 
     /// Rules on a command, and plans it where it is allowed. A refusal is the first whose condition holds, in the order
-    /// of the rules; the last is that the journal is full.
+    /// of the rules; the last is that the journal is full. Only a list of troves may find no memory.
     pub fn plan(&self, command: &Command) -> Result<Turn, PlanFault>
         requires built { IsTrue (built (Do command.now)) }
         ensures { (s : State) → StandsFor self.now s → Plans s command.now result }
@@ -130,42 +162,13 @@ impl Protocol {
         ensures { IsRuled (state_of self.now) call.now result }
     {
         match *call {
+            Call::Price(price) => plan_price(price),
+            Call::Advance(minutes) => self.plan_advance(minutes),
             Call::Fund(account, coll) => self.plan_fund(account, coll),
             Call::Take(account, coll) => self.plan_take(account, coll),
+            Call::Send(from, to, lusd) => self.plan_send(from, to, lusd),
             _ => unreachable!(),
         }
-    }
-
-    fn plan_fund(&self, account: u32, coll: u64) -> Result<Done, Refusal>
-        ensures { IsRuled (state_of self.now) (Fund account coll) result }
-    {
-        if account >= ACCOUNTS {
-            return Err(Refusal::AccountRange { value: account });
-        }
-        if coll == 0 {
-            return Err(Refusal::AmountZero);
-        }
-        let sum = u128::from(self.brought) + u128::from(coll);
-        if sum > u128::from(LIM) {
-            return Err(Refusal::AmountLimit { sum, limit: LIM });
-        }
-        Ok(done(3))
-    }
-
-    fn plan_take(&self, account: u32, coll: u64) -> Result<Done, Refusal>
-        ensures { IsRuled (state_of self.now) (Take account coll) result }
-    {
-        if account >= ACCOUNTS {
-            return Err(Refusal::AccountRange { value: account });
-        }
-        if coll == 0 {
-            return Err(Refusal::AmountZero);
-        }
-        let have = self.wallet(account).coll;
-        if have < coll {
-            return Err(Refusal::ShortCollateral { need: coll, have });
-        }
-        Ok(done(4))
     }
 
     /// Makes room for what the planned command writes, so that [`Protocol::apply`] takes no memory. What is seen of the
@@ -176,26 +179,36 @@ impl Protocol {
     {
         self.reserve_client(planned.command.client)?;
         match planned.command.call {
+            Call::Price(_) | Call::Advance(_) => Ok(()),
             Call::Fund(account, _) | Call::Take(account, _) => self.reserve_wallet(account),
+            Call::Send(from, to, _) => self.reserve_wallets(from, to),
             _ => unreachable!(),
         }
     }
 
     fn reserve_wallet(&mut self, account: u32) -> Result<(), NoMemory>
-        requires { account < ACCOUNTS }
         ensures same { SameContent self.old self.new }
-        ensures room { OnOk result (IsSome (at self.new.wallets account)) }
-        ensures clients { self.new.clients ≡ self.old.clients }
+        ensures room { OnOk result (Contains self.new.room.wallets account) }
+        ensures kept { (other : ℕ) → Contains self.old.room.wallets other → Contains self.new.room.wallets other }
+        ensures clients { self.new.room.clients ≡ self.old.room.clients }
     {
-        tables::reserve(&mut self.wallets, account, NO_WALLET)
+        self.wallets.reserve(account)
+    }
+
+    fn reserve_wallets(&mut self, first: u32, second: u32) -> Result<(), NoMemory>
+        ensures same { SameContent self.old self.new }
+        ensures room { OnOk result (Contains self.new.room.wallets first × Contains self.new.room.wallets second) }
+        ensures clients { self.new.room.clients ≡ self.old.room.clients }
+    {
+        self.reserve_wallet(first)?;
+        self.reserve_wallet(second)
     }
 
     fn reserve_client(&mut self, client: u32) -> Result<(), NoMemory>
-        requires { client < ACCOUNTS }
         ensures same { SameContent self.old self.new }
-        ensures room { OnOk result (IsSome (at self.new.clients client)) }
+        ensures room { OnOk result (Contains self.new.room.clients client) }
     {
-        tables::reserve(&mut self.clients, client, NO_CLIENT)
+        self.clients.reserve(client)
     }
 
     /// Makes the planned command's step. It takes no memory and cannot fail: the command was planned on this state, and
@@ -224,63 +237,23 @@ impl Protocol {
         requires built { IsTrue (built_call call.now) }
         requires range { AllByRecursion (λ account. account < ACCOUNTS) (accounts call.now) }
         requires allowed { first_refusal (rules (state_of self.old) call.now) ≡ None }
-        requires room { AllByRecursion (λ account. IsSome (at self.old.wallets account)) (accounts call.now) }
-        ensures effect { (s : State) → StandsFor self.old s → StandsFor self.new (effect s call.now) }
-        ensures clients { self.new.clients ≡ self.old.clients }
+        requires room { AllByRecursion (λ account. Contains self.old.room.wallets account) (accounts call.now) }
+        ensures { Changes self.old call.now self.new }
     {
         match *call {
+            Call::Price(price) => self.set_price(price),
+            Call::Advance(minutes) => self.pass(minutes),
             Call::Fund(account, coll) => self.bring_in(account, coll),
             Call::Take(account, coll) => self.take_out(account, coll),
+            Call::Send(from, to, lusd) => self.send(from, to, lusd),
             _ => unreachable!(),
         }
-    }
-
-    /// Collateral from outside into a wallet.
-    fn bring_in(&mut self, account: u32, coll: u64)
-        requires range { account < ACCOUNTS }
-        requires row { IsSome (at self.old.wallets account) }
-        requires limit { self.old.brought + coll ≤ LIM }
-        ensures effect { (s : State) → StandsFor self.old s → StandsFor self.new (effect s (Fund account coll)) }
-        ensures clients { self.new.clients ≡ self.old.clients }
-    {
-        let mut wallet = self.wallet(account);
-        let brought = self.brought + coll;
-        wallet.coll += coll;
-        self.set_wallet(account, wallet, brought);
-    }
-
-    /// Collateral from a wallet to the outside.
-    fn take_out(&mut self, account: u32, coll: u64)
-        requires range { account < ACCOUNTS }
-        requires row { IsSome (at self.old.wallets account) }
-        requires enough { coll ≤ (wallet_of (state_of self.old) account).coll }
-        ensures effect { (s : State) → StandsFor self.old s → StandsFor self.new (effect s (Take account coll)) }
-        ensures clients { self.new.clients ≡ self.old.clients }
-    {
-        let mut wallet = self.wallet(account);
-        let brought = self.brought - coll;
-        wallet.coll -= coll;
-        self.set_wallet(account, wallet, brought);
-    }
-
-    /// Writes a wallet, and the collateral inside beside it.
-    fn set_wallet(&mut self, account: u32, wallet: Wallet, brought: u64)
-        requires range { account < ACCOUNTS }
-        requires row { IsSome (at self.old.wallets account) }
-        requires moved { brought + (unwrap_or (at self.old.wallets account) no_wallet).coll ≡ self.old.brought + wallet.coll }
-        requires lusd { wallet.lusd ≡ (unwrap_or (at self.old.wallets account) no_wallet).lusd }
-        requires limit { brought ≤ LIM }
-        ensures rows { self.new ≡ record self.old { brought = brought; wallets = put self.old.wallets account wallet } }
-        ensures seen { (s : State) → StandsFor self.old s → StandsFor self.new (record s { brought = brought; wallets = with_wallet s.wallets account wallet }) }
-    {
-        self.brought = brought;
-        tables::write(&mut self.wallets, account, wallet);
     }
 
     /// Counts the command, and keeps its reply under its number.
     fn note(&mut self, command: &Command, done: Done)
         requires built { IsTrue (built_call command.now.call) }
-        requires row { IsSome (at self.old.clients command.now.client) }
+        requires row { Contains self.old.room.clients command.now.client }
         requires number { 0 < command.now.number }
         requires few { self.old.records < RECORDS_MOST }
         requires range { command.now.client < ACCOUNTS }
@@ -289,11 +262,8 @@ impl Protocol {
     {
         self.records += 1;
         let last = command.number;
-        tables::write(
-            &mut self.clients,
-            command.client,
-            Client { last, kept: done },
-        );
+        self.clients
+            .write(command.client, Client { last, kept: done });
     }
 
     /// The answer to a query.
@@ -301,41 +271,9 @@ impl Protocol {
         requires { IsTrue (built (Ask query.now)) }
         ensures { (s : State) → StandsFor self.now s → (step s (Ask query.now)).1 ≡ result }
     {
-        match *query {
-            Query::Wallet(account) => self.wallet_info(account),
-            Query::NextNumber(client) => self.next_number_info(client),
-            _ => unreachable!(),
-        }
-    }
-
-    fn wallet_info(&self, account: u32) -> Reply
-        ensures { result ≡ answer (state_of self.now) (asked.Wallet account) }
-    {
-        if account >= ACCOUNTS {
-            return Reply::No(Refusal::AccountRange { value: account });
-        }
-        let Wallet { coll, lusd } = self.wallet(account);
-        Reply::Told(Info::Wallet { coll, lusd })
-    }
-
-    fn next_number_info(&self, client: u32) -> Reply
-        ensures { result ≡ answer (state_of self.now) (asked.NextNumber client) }
-    {
-        if client >= ACCOUNTS {
-            return Reply::No(Refusal::AccountRange { value: client });
-        }
-        let number = self.client(client).last.saturating_add(1);
-        Reply::Told(Info::Next { number })
-    }
-}
-
-/// A reply without values.
-fn done(kind: u8) -> Done
-    ensures { result ≡ record { kind = kind; values = replicate 6 0 } }
-{
-    Done {
-        kind,
-        values: [0; 6],
+        // Where no field is used, nothing is known of the protocol.
+        let _ = &self.records;
+        self.answer(query)
     }
 }
 
@@ -344,16 +282,19 @@ pub fn is_built(request: &Request) -> bool
     ensures { result ≡ built request.now }
 {
     match request {
-        Request::Do(command) => matches!(command.call, Call::Fund(..) | Call::Take(..)),
-        Request::Ask(query) => matches!(query, Query::Wallet(..) | Query::NextNumber(..)),
+        Request::Do(command) => matches!(
+            command.call,
+            Call::Price(..) | Call::Advance(..) | Call::Fund(..) | Call::Take(..) | Call::Send(..)
+        ),
+        Request::Ask(query) => !matches!(query, Query::Deposit(..)),
     }
 }
 
 /// Every protocol is sound: its image meets all rules of an image, beside the records, and its tables are in form.
 pub fn protocols_are_sound(protocol: &Protocol)
-    ensures { IsSoundImage (image_of protocol.now) protocol.now.records }
+    ensures { IsSoundImage protocol.now.image protocol.now.records }
 {
-    let _ = &protocol.brought;
+    let _ = &protocol.records;
 }
 
 /// Every protocol stands for the state that begins with its image and has its records. So what its calls say of each state
@@ -361,5 +302,5 @@ pub fn protocols_are_sound(protocol: &Protocol)
 pub fn protocols_stand(protocol: &Protocol)
     ensures { StandsFor protocol.now (state_of protocol.now) }
 {
-    let _ = &protocol.brought;
+    let _ = &protocol.records;
 }

@@ -7,9 +7,10 @@
 mod engine;
 pub mod examples;
 pub mod laws;
+mod payments;
+mod queries;
 pub mod shares;
 pub mod soundness;
-mod tables;
 mod turns;
 
 pub use engine::{Protocol, is_built};

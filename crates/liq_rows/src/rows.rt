@@ -117,6 +117,66 @@ const RANGES: [Row; 5] = [
     ("no input at all", b"", b"", 0),
 ];
 
+const PRICES: [Row; 5] = [
+    (
+        "the price that the protocol opens with, and what else there is at the opening",
+        b"? system\n? pools\n? trove 1\n",
+        b"1000000000 0 0 0 0 0 0 0 0 0\n0 0 0 0 0 0 0 0 0 0\nnone\n",
+        0,
+    ),
+    (
+        "a price at both limits, and one beside each",
+        b"1 1 price 99999999\n1 1 price 100000000\n1 2 price 1000000000000\n1 3 price 1000000000001\n? system\n",
+        b"no 10 99999999\nok\nok\nno 10 1000000000001\n1000000000000 0 0 0 0 0 0 0 0 2\n",
+        0,
+    ),
+    (
+        "a price of nothing and the greatest number",
+        b"1 1 price 0\n1 1 price 18446744073709551615\n1 1 price 460000000\n? system\n",
+        b"no 10 0\nno 10 18446744073709551615\nok\n460000000 0 0 0 0 0 0 0 0 1\n",
+        0,
+    ),
+    (
+        "no minute passes, and no more than there are",
+        b"1 1 advance 0\n1 1 advance 1000000000001\n1 1 advance 18446744073709551615\n1 1 advance 999999999999\n1 2 advance 2\n1 2 advance 1\n1 3 advance 1\n? system\n",
+        b"no 11\nno 12 1000000000001 1000000000000\nno 12 18446744073709551615 1000000000000\nok 999999999999\nno 12 1000000000001 1000000000000\nok 1000000000000\nno 12 1000000000001 1000000000000\n1000000000 1000000000000 0 0 0 0 0 0 0 2\n",
+        0,
+    ),
+    (
+        "minutes add up, and the kept reply shows those of its time",
+        b"1 1 advance 20159\n1 2 advance 1\n2 1 advance 5\n1 2 advance 1\n? system\n",
+        b"ok 20159\nok 20160\nok 20165\nok 20160\n1000000000 20165 0 0 0 0 0 0 0 3\n",
+        0,
+    ),
+];
+
+const SENDING: [Row; 4] = [
+    (
+        "no more LUSD is sent than is there",
+        b"1 1 fund 1 5\n1 2 send 1 2 1\n1 2 send 1 1 1\n1 2 send 1 2 0\n1 2 send 1 2 18446744073709551615\n? wallet 1\n",
+        b"ok\nno 15 1 0\nno 15 1 0\nno 11\nno 15 18446744073709551615 0\n5 0\n",
+        0,
+    ),
+    (
+        "the sender's range is tested before the receiver's, and both before the amount",
+        b"1 1 send 1048577 1048576 0\n1 1 send 1 1048576 0\n1 1 send 1048576 1 0\n1 1 send 1048575 1048575 0\n",
+        b"no 13 1048577\nno 13 1048576\nno 13 1048576\nno 11\n",
+        0,
+    ),
+    (
+        "the number is tested before the price, the minutes and the amount",
+        b"1 2 price 1\n1 2 advance 0\n1 2 send 1 2 0\n1048576 2 price 1\n",
+        b"no 70 1\nno 70 1\nno 70 1\nno 13 1048576\n",
+        0,
+    ),
+    (
+        "accounts and a client at the end of the range",
+        b"1048575 1 fund 1048575 7\n1048575 2 take 1048575 8\n1048575 2 take 1048575 3\n1048575 3 send 1048575 0 1\n? wallet 1048575\n? trove 1048575\n? trove 1048576\n? next_number 1048575\n",
+        b"ok\nno 14 8 7\nok\nno 15 1 0\n4 0\nnone\nno 13 1048576\n3\n",
+        0,
+    ),
+];
+
 const BAD_LINES: [Row; 13] = [
     ("an empty line", b"\n", b"bad line 1\n", 2),
     (
@@ -158,7 +218,7 @@ const BAD_LINES: [Row; 13] = [
     ),
     (
         "a query that is not built",
-        b"? pools\n",
+        b"? deposit 1\n",
         b"bad line 1\n",
         2,
     ),
@@ -209,6 +269,8 @@ fn rows(rt: HostRuntime) -> Result<(), Fail> {
     check_rows(&rt, alloc, &TURNS, 16_384)?;
     check_rows(&rt, alloc, &AMOUNTS, 16_384)?;
     check_rows(&rt, alloc, &RANGES, 16_384)?;
+    check_rows(&rt, alloc, &PRICES, 16_384)?;
+    check_rows(&rt, alloc, &SENDING, 16_384)?;
     check_rows(&rt, alloc, &BAD_LINES, 16_384)
 }
 

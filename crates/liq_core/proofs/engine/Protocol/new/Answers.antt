@@ -1,5 +1,16 @@
-use Rattle.liq_core.proofs.SoundCores.{empty_sound}
+use Rattle.std.proofs.Common.{ap, sym, subst, ◌∙◌}
+use Rattle.liq_types.specs.Image.{Image}
+use Rattle.liq_types.specs.Soundness.{IsSoundImage}
+use Rattle.liq_order.specs.Order.{order_by}
+use Rattle.liq_core.proofs.SoundCores.{opened_image, opening_image_sound}
 use Rattle.liq_core.proofs.engine.Protocol.new.Goals as goal
 
 pub invariant_of-result : goal.invariant_of-result
-invariant_of-result c = empty_sound c.new.result.entries c.new-2.result.entries c.new.ensures.empty c.new-2.ensures.empty
+invariant_of-result c =
+    record {
+      image =
+          subst (λ (i : Image). IsSoundImage i 0)
+          (sym (opened_image c.new.result.rows c.new-2.result.table.rows c.new-2.result.sums c.new-4.result.rows c.new-5.result.rows c.new.ensures c.new-2.ensures.rows c.new-2.ensures.sums c.new-4.ensures c.new-5.ensures))
+          opening_image_sound;
+      order = c.new-3.ensures ∙ sym (ap order_by c.new-2.ensures.rows);
+    }

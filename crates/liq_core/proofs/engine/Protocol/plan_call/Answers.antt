@@ -1,0 +1,9 @@
+use Rattle.std.proofs.Common.{sym, subst}
+use Rattle.liq_types.specs.declared.requests.Call.{Call}
+use Rattle.liq_core.specs.Core.{state_of}
+use Rattle.liq_core.specs.Turn.{IsRuled}
+use Rattle.liq_core.proofs.engine.Protocol.plan_call.Goals as goal
+
+pub returns-in-Price : goal.returns-in-Price
+returns-in-Price c =
+    subst (λ (call : Call). IsRuled (state_of c.args.self.now) call c.plan_price.result) (sym c.in-Price.is) (c.plan_price.ensures (state_of c.args.self.now))

@@ -1,0 +1,14 @@
+use Rattle.liq_core.specs.Sound.{core_of}
+use Rattle.liq_core.proofs.Paying.{sent, sent_sound}
+use Rattle.liq_core.proofs.SoundCores.{sent_within}
+use Rattle.liq_core.proofs.engine.Protocol.send.Goals as goal
+
+pub send-requires-clause-limit : goal.send-requires-clause-limit
+send-requires-clause-limit c enough = sent_within (core_of c.self.inside) c.self.invariant.image c.args.from c.args.to c.args.lusd enough
+
+pub invariant_of-self : goal.invariant_of-self
+invariant_of-self c =
+    sent_sound c.self.inside c.args.self.now c.self.view_is c.self.invariant c.args.from c.args.to c.args.lusd _ c.requires.from c.requires.to c.requires.allowed c.in-Ok.ensures.moved
+
+pub returns : goal.returns
+returns c = sent c.self.inside c.args.self.now c.self.view_is c.self.invariant c.args.from c.args.to c.args.lusd _ c.in-Ok.ensures.moved

@@ -1,0 +1,135 @@
+//! What the protocol tells of itself.
+
+ghost use Rattle.std.specs.Prelude.{◌≡◌, IsTrue};
+ghost use Rattle.liq_types.specs.declared.requests.Query.TheVariants as asked;
+ghost use Rattle.liq_types.specs.declared.replies.Info.TheVariants as info;
+ghost use Rattle.liq_types.specs.Totals.{market_of};
+ghost use Rattle.liq_borrow.specs.Given.{IsMarket};
+ghost use Rattle.liq_core.specs.Core.{state_of};
+ghost use Rattle.liq_core.specs.Queries.{trove_info, pools, system};
+ghost use Rattle.liq_core.specs.Step.{built_query, answer};
+ghost use Rattle.liq_types.specs.Tables.{at};
+
+use crate::engine::Protocol;
+use liq_borrow::is_recovery;
+use liq_troves::entire;
+use liq_types::amounts::ACCOUNTS;
+use liq_types::{Info, Market, Query, Refusal, Reply};
+
+impl Protocol {
+    pub(crate) fn answer(&self, query: &Query) -> Reply
+        requires { IsTrue (built_query query.now) }
+        ensures { result ≡ answer (state_of self.now) query.now }
+    {
+        match *query {
+            Query::Wallet(account) => self.wallet_info(account),
+            Query::Trove(account) => self.trove_reply(account),
+            Query::Pools => Reply::Told(self.pools_info()),
+            Query::System => Reply::Told(self.system_info()),
+            Query::NextNumber(client) => self.next_number_info(client),
+            Query::Deposit(_) => unreachable!(),
+        }
+    }
+
+    fn wallet_info(&self, account: u32) -> Reply
+        ensures { result ≡ answer (state_of self.now) (asked.Wallet account) }
+    {
+        if account >= ACCOUNTS {
+            return Reply::No(Refusal::AccountRange { value: account });
+        }
+        let wallet = self.wallet(account);
+        Reply::Told(Info::Wallet {
+            coll: wallet.coll,
+            lusd: wallet.lusd,
+        })
+    }
+
+    fn next_number_info(&self, client: u32) -> Reply
+        ensures { result ≡ answer (state_of self.now) (asked.NextNumber client) }
+    {
+        if client >= ACCOUNTS {
+            return Reply::No(Refusal::AccountRange { value: client });
+        }
+        let number = self.client(client).last.saturating_add(1);
+        Reply::Told(Info::Next { number })
+    }
+
+    fn trove_reply(&self, account: u32) -> Reply
+        ensures { result ≡ answer (state_of self.now) (asked.Trove account) }
+    {
+        if account >= ACCOUNTS {
+            return Reply::No(Refusal::AccountRange { value: account });
+        }
+        Reply::Told(self.trove_info(account))
+    }
+
+    fn trove_info(&self, account: u32) -> Info
+        ensures { result ≡ trove_info (state_of self.now) (at (state_of self.now).troves account) }
+    {
+        match self.troves.get(account) {
+            None => Info::NoTrove,
+            Some(trove) => {
+                let (coll, debt) = entire(trove, self.troves.sums());
+                let stake = trove.stake;
+                Info::Trove { coll, debt, stake }
+            }
+        }
+    }
+
+    fn pools_info(&self) -> Info
+        ensures { result ≡ info.Pools (pools (state_of self.now)) }
+    {
+        let held = self.pools;
+        Info::Pools {
+            pools: [
+                held.active_coll,
+                held.active_debt,
+                held.default_coll,
+                held.default_debt,
+                held.reserve,
+                held.surplus,
+                held.fee_coll,
+                held.fee_lusd,
+                0,
+                0,
+            ],
+        }
+    }
+
+    /// What the rules on troves read.
+    pub(crate) fn market(&self) -> Market
+        ensures market { result ≡ market_of (state_of self.now) }
+        ensures sound { IsMarket result }
+    {
+        Market {
+            price: self.price,
+            minute: self.minute,
+            base: self.rate.base,
+            fee_minute: self.rate.minute,
+            total_coll: self.pools.active_coll + self.pools.default_coll,
+            total_debt: self.pools.active_debt + self.pools.default_debt,
+            troves: self.troves.count(),
+        }
+    }
+
+    fn system_info(&self) -> Info
+        ensures { result ≡ info.System (system (state_of self.now)) }
+    {
+        let market = self.market();
+        let stakes = self.troves.sums().stakes;
+        Info::System {
+            words: [
+                market.price,
+                market.minute,
+                market.base,
+                market.fee_minute,
+                u64::from(is_recovery(&market)),
+                market.troves,
+                stakes,
+                market.total_coll,
+                market.total_debt,
+                self.records,
+            ],
+        }
+    }
+}
