@@ -11,6 +11,7 @@ pub mod Length
 pub mod LimitExamples
 pub mod Liquidation
 pub mod ListChanges
+pub mod Parts
 pub mod Payments
 pub mod Plan
 pub mod Pool

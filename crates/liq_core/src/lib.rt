@@ -8,6 +8,7 @@ mod engine;
 pub mod examples;
 pub mod laws;
 mod payments;
+pub mod plans;
 mod queries;
 pub mod shares;
 pub mod soundness;
