@@ -1,6 +1,6 @@
 //! The protocol's state, and its steps.
 
-ghost use Rattle.std.specs.Prelude.{◌≡◌, ◌≤◌, ◌<◌, ◌+◌, ◌++◌, ℕ, IsTrue, OnOk, None};
+ghost use Rattle.std.specs.Prelude.{◌≡◌, ◌≤◌, ◌<◌, ◌+◌, ◌++◌, ℕ, IsOk, IsTrue, OnOk, None};
 ghost use Rattle.std.specs.List.{AllByRecursion, Contains};
 ghost use Rattle.liq_types.specs.declared.requests.Request.TheVariants.{Do, Ask};
 ghost use Rattle.liq_types.specs.declared.replies.Reply.TheVariants.{Said};
@@ -172,10 +172,11 @@ impl Protocol {
     }
 
     /// Makes room for what the planned command writes, so that [`Protocol::apply`] takes no memory. What is seen of the
-    /// protocol stays, also where there is no memory.
+    /// protocol stays, also where there is no memory. Where there was room none is wanted.
     pub fn reserve(&mut self, planned: &Planned) -> Result<(), NoMemory>
         ensures same { SameContent self.old self.new }
         ensures room { OnOk result (HasRoom self.new planned.now) }
+        ensures had { HasRoom self.old planned.now → IsOk result }
     {
         self.reserve_client(planned.command.client)?;
         match planned.command.call {
@@ -189,6 +190,7 @@ impl Protocol {
     fn reserve_wallet(&mut self, account: u32) -> Result<(), NoMemory>
         ensures same { SameContent self.old self.new }
         ensures room { OnOk result (Contains self.new.room.wallets account) }
+        ensures had { Contains self.old.room.wallets account → IsOk result }
         ensures kept { (other : ℕ) → Contains self.old.room.wallets other → Contains self.new.room.wallets other }
         ensures clients { self.new.room.clients ≡ self.old.room.clients }
     {
@@ -198,6 +200,7 @@ impl Protocol {
     fn reserve_wallets(&mut self, first: u32, second: u32) -> Result<(), NoMemory>
         ensures same { SameContent self.old self.new }
         ensures room { OnOk result (Contains self.new.room.wallets first × Contains self.new.room.wallets second) }
+        ensures had { Contains self.old.room.wallets first → Contains self.old.room.wallets second → IsOk result }
         ensures clients { self.new.room.clients ≡ self.old.room.clients }
     {
         self.reserve_wallet(first)?;
@@ -207,6 +210,8 @@ impl Protocol {
     fn reserve_client(&mut self, client: u32) -> Result<(), NoMemory>
         ensures same { SameContent self.old self.new }
         ensures room { OnOk result (Contains self.new.room.clients client) }
+        ensures had { Contains self.old.room.clients client → IsOk result }
+        ensures wallets { self.new.room.wallets ≡ self.old.room.wallets }
     {
         self.clients.reserve(client)
     }

@@ -1,6 +1,6 @@
 //! The wallets of all accounts.
 
-ghost use Rattle.std.specs.Prelude.{◌≡◌, ◌≤◌, ◌+◌, [], OnOk, OnErr, IsTrue};
+ghost use Rattle.std.specs.Prelude.{◌≡◌, ◌≤◌, ◌+◌, [], IsOk, OnOk, OnErr, IsTrue};
 ghost use Rattle.liq_types.specs.Payments.{credited_in, charged_in};
 ghost use Rattle.liq_types.specs.State.{is_used_wallet, wallet_in, with_wallet};
 ghost use Rattle.liq_tables.specs.WithRoom.{HasRoom, KeepsRoom};
@@ -38,11 +38,12 @@ impl Wallets {
     }
 
     /// Makes room for an account's wallet. What the accounts have stays, and so does all room that there was. Where there is
-    /// no memory nothing changes.
+    /// no memory nothing changes; where there was room none is wanted.
     pub fn reserve(&mut self, account: u32) -> Result<(), NoMemory>
         ensures rows { self.new.rows ≡ self.old.rows }
         ensures room { OnOk result (HasRoom self.new account) }
         ensures kept { KeepsRoom self.old self.new }
+        ensures had { HasRoom self.old account → IsOk result }
         ensures err { OnErr result (self.new ≡ self.old) }
     {
         self.table.reserve(account)

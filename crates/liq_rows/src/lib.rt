@@ -8,6 +8,8 @@ mod cut;
 #[cfg(test)]
 mod faults;
 #[cfg(test)]
+mod full_journal;
+#[cfg(test)]
 mod limit;
 #[cfg(test)]
 mod lines;

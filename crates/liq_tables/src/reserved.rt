@@ -1,6 +1,6 @@
 //! A table over a map.
 
-ghost use Rattle.std.specs.Prelude.{◌≡◌, [], OnOk, OnErr, OnSome, option_copied};
+ghost use Rattle.std.specs.Prelude.{◌≡◌, [], IsOk, OnOk, OnErr, OnSome, option_copied};
 ghost use Rattle.liq_types.specs.Tables.{at, without};
 ghost use Rattle.liq_tables.specs.WithRoom.{HasRoom, KeepsRoom, written};
 
@@ -50,11 +50,12 @@ impl<X: Row> Reserved<X> {
     }
 
     /// Makes room for a row at a key. The rows stay, and so does all room that there was. Where there is no memory nothing
-    /// changes.
+    /// changes; where there was room none is wanted.
     pub fn reserve(&mut self, key: u32) -> Result<(), NoMemory>
         ensures rows { self.new.rows ≡ self.old.rows }
         ensures room { OnOk result (HasRoom self.new key) }
         ensures kept { KeepsRoom self.old self.new }
+        ensures had { HasRoom self.old key → IsOk result }
         ensures err { OnErr result (self.new ≡ self.old) }
     {
         if self.map.contains_key(&key) {

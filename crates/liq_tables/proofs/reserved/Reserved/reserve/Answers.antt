@@ -4,7 +4,7 @@ use Rattle.std.specs.Map.{keys_of}
 use Rattle.liq_types.specs.Tables.{Table, at, rows}
 use Rattle.liq_types.proofs.UsedRows.{rows-put_unused}
 use Rattle.liq_tables.specs.WithRoom.{WithRoom, HasRoom}
-use Rattle.liq_tables.proofs.Room.{room_from_row, missing, room-put, room-put_same}
+use Rattle.liq_tables.proofs.Room.{room_from_row, missing, row_from_room, room-put, room-put_same}
 use Rattle.liq_tables.proofs.reserved.Reserved.reserve.Goals as goal
 
 pub returns-then-contains_key-clause-room : goal.returns-then-contains_key-clause-room
@@ -30,3 +30,9 @@ returns-clause-kept g c q h =
     let had = subst (λ (t : WithRoom g.row.X.Denot). HasRoom t q) (sym c.self.view_is) h in
     subst (λ (t : Table g.row.X.Denot). Contains (keys_of t) q) (sym c.in-Ok.ensures.entries)
     (room-put c.self.inside.map.entries c.args.key c.nothing.result q had)
+
+pub returns-in_default-clause-had : goal.returns-in_default-clause-had
+returns-in_default-clause-had g c h =
+    let had = subst (λ (t : WithRoom g.row.X.Denot). HasRoom t c.args.key) (sym c.self.view_is) h in
+    let none = sym c.contains_key.ensures ∙ c.if-contains_key.false in
+    sym none ∙ row_from_room c.self.inside.map.entries c.args.key had
