@@ -1,13 +1,14 @@
 //! How the step reads what the calls plan. The functions here do nothing: each is the place where the facts of its contract
 //! are proved.
 
-ghost use Rattle.std.specs.Prelude.{◌≡◌, ℕ, is_some, pos, ◌∷◌, []};
+ghost use Rattle.std.specs.Prelude.{◌≡◌, ℕ, is_some, pos, ◌∷◌, [], Some, None};
 ghost use Rattle.liq_types.specs.declared.hints.HintWords.{HintWords};
 ghost use Rattle.liq_types.specs.declared.requests.Call.TheVariants.{Open, Adjust, Close, Redeem};
 ghost use Rattle.liq_types.specs.Rules.{first_refusal, outcome};
 ghost use Rattle.liq_types.specs.State.{State, wallet_of};
 ghost use Rattle.liq_types.specs.Tables.{at};
 ghost use Rattle.liq_types.specs.Totals.{market_of, or_nothing};
+ghost use Rattle.liq_types.specs.Ranked.{neighbours};
 ghost use Rattle.liq_types.specs.Views.{View, key_seen, stake_seen};
 ghost use Rattle.liq_troves.specs.StakeSums.{entire_of, sums_words, trove_rows};
 ghost use Rattle.liq_order.specs.Order.{trove_order};
@@ -47,4 +48,12 @@ pub fn places_seen_example()
     ensures least { stake_seen (record { list = []; snap_stakes = 0; snap_coll = 0; sum_debt = 0 }) 0 ≡ 1 }
     ensures part { stake_seen (record { list = []; snap_stakes = 9; snap_coll = 10; sum_debt = 0 }) 1000 ≡ 900 }
     ensures key { key_seen (record { list = []; snap_stakes = 0; snap_coll = 0; sum_debt = 5 }) 10000000000 4000000000 ≡ pos 421999999999999995 }
+{}
+
+/// An entry's neighbours are the accounts between which it stands or would stand, its own account aside; at an end there is none.
+pub fn neighbours_example()
+    ensures between { neighbours ((pos 10, 1) ∷ (pos 20, 2) ∷ (pos 30, 3) ∷ []) (pos 25, 9) ≡ (Some 2, Some 3) }
+    ensures aside { neighbours ((pos 10, 1) ∷ (pos 20, 2) ∷ (pos 30, 3) ∷ []) (pos 20, 2) ≡ (Some 1, Some 3) }
+    ensures front { neighbours ((pos 10, 1) ∷ (pos 20, 2) ∷ []) (pos 5, 9) ≡ (None, Some 1) }
+    ensures alone { neighbours [] (pos 5, 9) ≡ (None, None) }
 {}
