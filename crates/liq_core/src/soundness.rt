@@ -31,10 +31,12 @@ ghost use Rattle.liq_core.specs.Image.{image};
 ghost use Rattle.liq_core.specs.SoundState.{IsSoundState, AmountsWithin, SnapshotWithin, WordsWithin, TroveIsCovered, DepositIsCovered, ChangeIsCovered, OneIsCovered, StruckStand, CutIsCovered};
 ghost use Rattle.liq_core.specs.Step.{step, run, accepted};
 
-/// The opening is sound, and so is a state that begins with a sound image, as a checkpoint has one.
+/// The opening is sound, and so is a state that begins with a sound image, as a checkpoint has one; so it is with any count of
+/// records beside which the image is sound, as a protocol has one.
 pub fn sound_images_begin_sound_states()
     ensures opening { IsSoundState opening }
     ensures started { (i : Image) → IsSoundImage i 0 → IsSoundState (started i) }
+    ensures counted { (i : Image) → (records : ℕ) → IsSoundImage i records → IsSoundState (record (started i) { records = records }) }
 {}
 
 /// Every step keeps a sound state, whatever is asked: each of the sixteen verbs, refused or not, and each query; and so does
