@@ -24,12 +24,15 @@ ghost use Rattle.liq_liquidation.specs.declared.one.One.{One};
 ghost use Rattle.liq_liquidation.specs.Lowest.{lowest};
 ghost use Rattle.liq_liquidation.specs.One.{one};
 ghost use Rattle.liq_redemption.specs.Redemption.{cuts_in, redeemed};
+ghost use Rattle.liq_core.specs.Core.{state_of};
 ghost use Rattle.liq_core.specs.Dust.{IsCovered, dust};
 ghost use Rattle.liq_core.specs.Events.{events};
 ghost use Rattle.liq_core.specs.Identities.{IsConserved};
 ghost use Rattle.liq_core.specs.Image.{image};
 ghost use Rattle.liq_core.specs.SoundState.{IsSoundState, AmountsWithin, SnapshotWithin, WordsWithin, TroveIsCovered, DepositIsCovered, ChangeIsCovered, OneIsCovered, StruckStand, CutIsCovered};
 ghost use Rattle.liq_core.specs.Step.{step, run, accepted};
+
+use crate::Protocol;
 
 /// The opening is sound, and so is a state that begins with a sound image, as a checkpoint has one; so it is with any count of
 /// records beside which the image is sound, as a protocol has one.
@@ -38,6 +41,14 @@ pub fn sound_images_begin_sound_states()
     ensures started { (i : Image) → IsSoundImage i 0 → IsSoundState (started i) }
     ensures counted { (i : Image) → (records : ℕ) → IsSoundImage i records → IsSoundState (record (started i) { records = records }) }
 {}
+
+/// Every protocol stands for a sound state: the one that begins with its image and has its records. So all that is said here of
+/// sound states is said of it, whatever it has been asked.
+pub fn protocols_are_sound_states(protocol: &Protocol)
+    ensures { IsSoundState (state_of protocol.now) }
+{
+    let _ = &protocol.records;
+}
 
 /// Every step keeps a sound state, whatever is asked: each of the sixteen verbs, refused or not, and each query; and so does
 /// every run.
