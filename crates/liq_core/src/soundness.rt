@@ -6,16 +6,16 @@ ghost use Rattle.std.specs.List.{AllByRecursion};
 ghost use Rattle.liq_types.specs.declared.amounts.TheConstants.{ACCOUNTS, LIM, ONE, P_OPENING, OFFSET_MOST};
 ghost use Rattle.liq_types.specs.declared.requests.Request.{Request};
 ghost use Rattle.liq_types.specs.Image.{Image, Place};
-ghost use Rattle.liq_types.specs.PlainLedger.{AreOwnedBelow};
+ghost use Rattle.liq_types.specs.PlainLedger.{exact_share, den_of, offsets_coll, gains_paid_to, AreOwnedBelow, over_accounts};
 ghost use Rattle.liq_types.specs.Product.{rise_of, sumat};
 ghost use Rattle.liq_types.specs.Rules.{first_refusal};
 ghost use Rattle.liq_types.specs.Soundness.{IsSoundImage};
 ghost use Rattle.liq_types.specs.State.{State, opening, started, TroveEntry, DepositEntry, Redistribution, After, wallet_of};
 ghost use Rattle.liq_types.specs.Tables.{at};
-ghost use Rattle.liq_types.specs.Totals.{market_of, pool_total};
+ghost use Rattle.liq_types.specs.Totals.{market_of, pool_total, pool_coll};
 ghost use Rattle.liq_types.specs.WellFormed.{IsWellFormed};
 ghost use Rattle.liq_troves.specs.StakeSums.{sums_now, sums_at, pending_coll, pending_debt, entire_of, exact_part, somethings, IsShortOf};
-ghost use Rattle.liq_stability.specs.Position.{words_of};
+ghost use Rattle.liq_stability.specs.Position.{balance_of, gain_of, balance_by, gain_by, mark_of, sums_from, words_of};
 ghost use Rattle.liq_stability.specs.Promise.{IsWithinAllowance};
 ghost use Rattle.liq_stability.specs.Lawful.{IsLawful};
 ghost use Rattle.liq_borrow.specs.declared.change.Change.{Change};
@@ -78,6 +78,16 @@ pub fn events_of_runs_are_lawful()
 pub fn depositors_of_runs_get_their_shares()
     ensures reached { (requests : List Request) → (account : ℕ) → IsWithinAllowance (run opening requests).0 account (events opening (accepted opening requests)) }
     ensures same { (requests : List Request) → (s : State) → IsWellFormed s → image s ≡ image (run opening requests).0 → (account : ℕ) → IsWithinAllowance s account (events opening (accepted opening requests)) }
+{}
+
+/// In every state that is reached from the opening the Stability Pool is what the plain ledger of the run's events says: the
+/// exact balances of all accounts come to its LUSD, their exact gains to the collateral of all offsets, and what was paid of these
+/// is what is no longer in it. The caps on a position never act.
+pub fn pools_of_runs_are_exact()
+    ensures balances { (requests : List Request) → let es = events opening (accepted opening requests) in over_accounts ACCOUNTS (λ account. (exact_share account es).bal) ≡ pool_total (run opening requests).0 * den_of es }
+    ensures gains { (requests : List Request) → let es = events opening (accepted opening requests) in over_accounts ACCOUNTS (λ account. (exact_share account es).gain) ≡ offsets_coll es * den_of es }
+    ensures paid { (requests : List Request) → let es = events opening (accepted opening requests) in pool_coll (run opening requests).0 + over_accounts ACCOUNTS (λ account. gains_paid_to account es) ≡ offsets_coll es }
+    ensures caps { (requests : List Request) → (account : ℕ) → (d : DepositEntry) → let now = (run opening requests).0 in at now.deposits account ≡ Some d → (balance_of now account ≡ balance_by d.amount (mark_of now d.mark) (words_of now)) × (gain_of now account ≡ gain_by d.amount (mark_of now d.mark) (sums_from now (mark_of now d.mark))) }
 {}
 
 /// Dust is never negative: in every sound state what is pending for all troves is in the default pool, and in every state that
