@@ -1,5 +1,5 @@
 -- Sound states: what every state is that the rules reach, and what every step keeps.
-use Rattle.std.specs.Prelude.{◌≡◌, ℕ, ◌+◌, ◌-◌, ◌*◌, ◌≤◌, ◌<◌, List, [], ◌∷◌, Some, Ok}
+use Rattle.std.specs.Prelude.{◌≡◌, ℕ, ◌+◌, ◌-◌, ◌*◌, ◌≤◌, ◌<◌, List, [], ◌∷◌, Some, Ok, sum_by}
 use Rattle.std.specs.List.{AllByRecursion}
 use Rattle.std.specs.Map.{values_of}
 use Rattle.liq_types.specs.declared.amounts.TheConstants.{OFFSET_MOST, P_OPENING, P_LEAST, SUM_MOST, RESERVE, MIN_NET}
@@ -7,7 +7,7 @@ use Rattle.liq_types.specs.declared.figures.Wallet.{Wallet}
 use Rattle.liq_types.specs.Image.{Place}
 use Rattle.liq_types.specs.Product.{IsWithinRange, place_of, sumat}
 use Rattle.liq_types.specs.Soundness.{IsSoundImage, places_most}
-use Rattle.liq_types.specs.State.{State, Mark, AtStart, After, StakeSums, TroveEntry, DepositEntry}
+use Rattle.liq_types.specs.State.{State, Mark, AtStart, After, StakeSums, TroveEntry, DepositEntry, PoolOffset}
 use Rattle.liq_types.specs.Tables.{Table}
 use Rattle.liq_types.specs.Totals.{total_coll, total_debt, pool_total, pool_coll, stakes_of}
 use Rattle.liq_types.specs.WellFormed.{IsWellFormed, TablesAscend}
@@ -91,6 +91,7 @@ pub record TroveIsCovered (s : State) (t : TroveEntry) : Type 0 where
   pub debt : t.debt ≤ s.active_debt
   pub pending_coll : pending_coll s t ≤ s.default_coll
   pub pending_debt : pending_debt s t ≤ s.default_debt
+  pub stake : t.stake ≤ stakes_of s
   pub some_coll : 1 ≤ (entire s t).0
   pub least_debt : RESERVE + MIN_NET ≤ (entire s t).1
   pub entire_coll : (entire s t).0 ≤ total_coll s
@@ -100,6 +101,13 @@ pub record TroveIsCovered (s : State) (t : TroveEntry) : Type 0 where
 pub record DepositIsCovered (s : State) (d : DepositEntry) : Type 0 where
   pub sum : (mark_of s d.mark).sum ≤ sums_from s (mark_of s d.mark) 0
   pub product : P_LEAST ≤ (mark_of s d.mark).p
+  pub epoch : (mark_of s d.mark).epoch ≤ (words_of s).epoch
+  pub scale : (mark_of s d.mark).epoch ≡ (words_of s).epoch → (mark_of s d.mark).scale ≤ (words_of s).scale
+
+-- what left the Stability Pool comes together with what is in it to what came in
+pub record PoolIsWhole (s : State) : Type 0 where
+  pub lusd : pool_total s + s.withdrawn + sum_by (λ (o : PoolOffset). o.debt) s.offsets ≡ s.start.total + s.provided
+  pub coll : pool_coll s + s.gains_paid ≡ s.start.pool_coll + sum_by (λ (o : PoolOffset). o.coll) s.offsets
 
 -- ---- what an allowed call takes
 

@@ -10,7 +10,7 @@ ghost use Rattle.liq_types.specs.PlainLedger.{exact_share, den_of, offsets_coll,
 ghost use Rattle.liq_types.specs.Product.{rise_of, sumat};
 ghost use Rattle.liq_types.specs.Rules.{first_refusal};
 ghost use Rattle.liq_types.specs.Soundness.{IsSoundImage};
-ghost use Rattle.liq_types.specs.State.{State, opening, started, TroveEntry, DepositEntry, Redistribution, After, wallet_of};
+ghost use Rattle.liq_types.specs.State.{State, opening, started, TroveEntry, DepositEntry, Redistribution, After, wallet_of, surplus_of};
 ghost use Rattle.liq_types.specs.Tables.{at};
 ghost use Rattle.liq_types.specs.Totals.{market_of, pool_total, pool_coll};
 ghost use Rattle.liq_types.specs.WellFormed.{IsWellFormed};
@@ -29,7 +29,7 @@ ghost use Rattle.liq_core.specs.Dust.{IsCovered, dust};
 ghost use Rattle.liq_core.specs.Events.{events};
 ghost use Rattle.liq_core.specs.Identities.{IsConserved};
 ghost use Rattle.liq_core.specs.Image.{image};
-ghost use Rattle.liq_core.specs.SoundState.{IsSoundState, AmountsWithin, SnapshotWithin, WordsWithin, TroveIsCovered, DepositIsCovered, ChangeIsCovered, OneIsCovered, StruckStand, CutIsCovered};
+ghost use Rattle.liq_core.specs.SoundState.{IsSoundState, AmountsWithin, SnapshotWithin, WordsWithin, TroveIsCovered, DepositIsCovered, PoolIsWhole, ChangeIsCovered, OneIsCovered, StruckStand, CutIsCovered};
 ghost use Rattle.liq_core.specs.Step.{step, run, accepted};
 
 use crate::Protocol;
@@ -108,10 +108,16 @@ pub fn sound_states_stay_within_bounds()
 {}
 
 /// Where the rules take something away from an amount, the amount is no less: the sums of a trove's and of a deposit's mark are
-/// at most those of now, and each pool has what a trove takes out of it.
+/// at most those of now, and so is its place; each pool has what a trove takes out of it, and the stakes the trove's own; what
+/// left the Stability Pool had come into it; what is in a wallet is inside, and what an owner may claim in the surplus pool; and
+/// the minute is not before the fee's.
 pub fn nothing_is_cut_at_zero()
     ensures troves { (s : State) → IsSoundState s → (account : ℕ) → (t : TroveEntry) → at s.troves account ≡ Some t → TroveIsCovered s t }
     ensures deposits { (s : State) → IsSoundState s → (account : ℕ) → (d : DepositEntry) → at s.deposits account ≡ Some d → DepositIsCovered s d }
+    ensures pool { (s : State) → IsWellFormed s → PoolIsWhole s }
+    ensures wallets { (s : State) → IsSoundState s → (account : ℕ) → (wallet_of s account).coll ≤ s.brought }
+    ensures surplus { (s : State) → IsSoundState s → (account : ℕ) → surplus_of s account ≤ s.surplus }
+    ensures minute { (s : State) → IsSoundState s → s.fee_minute ≤ s.minute }
 {}
 
 /// The products that are divided stay far below 2^128: what is due to a trove before any rounding, and a deposit's amount times
