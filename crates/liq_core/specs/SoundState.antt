@@ -2,7 +2,7 @@
 use Rattle.std.specs.Prelude.{◌≡◌, ℕ, ◌+◌, ◌-◌, ◌*◌, ◌≤◌, ◌<◌, List, [], ◌∷◌, Some, Ok, sum_by}
 use Rattle.std.specs.List.{AllByRecursion}
 use Rattle.std.specs.Map.{values_of}
-use Rattle.liq_types.specs.declared.amounts.TheConstants.{OFFSET_MOST, P_OPENING, P_LEAST, SUM_MOST, RESERVE, MIN_NET}
+use Rattle.liq_types.specs.declared.amounts.TheConstants.{ONE, LIM, OFFSET_MOST, P_OPENING, P_LEAST, SUM_MOST, RESERVE, MIN_NET}
 use Rattle.liq_types.specs.declared.figures.Wallet.{Wallet}
 use Rattle.liq_types.specs.Image.{Place}
 use Rattle.liq_types.specs.Product.{IsWithinRange, place_of, sumat}
@@ -123,6 +123,12 @@ pub record OneIsCovered (s : State) (own : ℕ × ℕ) (one : One) : Type 0 wher
   pub debt : one_total_debt one ≡ own.1
   pub served : one.offset_debt ≤ pool_total s
   pub worth : one.offset_coll ≤ OFFSET_MOST * one.offset_debt
+
+-- what is divided of a liquidated trove: the collateral of the offset times the product, and what each unit of stake gets
+pub record OneFits (s : State) (one : One) : Type 0 where
+  pub offset : one.offset_coll * (words_of s).p ≤ P_OPENING * LIM
+  pub spread_coll : one.spread_coll * ONE ≤ ONE * LIM
+  pub spread_debt : one.spread_debt * ONE ≤ ONE * LIM
 
 -- a cut takes less collateral than the trove has, and no more debt than it has beside its reserve
 pub record CutIsCovered (s : State) (cut : Cut) : Type 0 where

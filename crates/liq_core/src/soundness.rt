@@ -1,9 +1,11 @@
 //! What holds of every sound state, and that every step keeps it sound. The functions here do nothing: each is the place
 //! where the facts of its contract are proved.
 
-ghost use Rattle.std.specs.Prelude.{◌≡◌, ℕ, ◌+◌, ◌-◌, ◌*◌, ◌^◌, ◌≤◌, ◌<◌, List, drop, Some, None, Ok, pos, ◌≤ℤ◌};
+ghost use Rattle.std.specs.Prelude.{◌≡◌, ℕ, ◌+◌, ◌-◌, ◌*◌, ◌^◌, ◌≤◌, ◌<◌, List, drop, min, Some, None, Ok, pos, ◌≤ℤ◌};
 ghost use Rattle.std.specs.List.{AllByRecursion};
-ghost use Rattle.liq_types.specs.declared.amounts.TheConstants.{ACCOUNTS, LIM, ONE, P_OPENING, OFFSET_MOST};
+ghost use Rattle.liq_num.specs.Power.{power_of};
+ghost use Rattle.liq_num.specs.declared.ratio.TheConstants.{GWEI_PER_ETH};
+ghost use Rattle.liq_types.specs.declared.amounts.TheConstants.{ACCOUNTS, LIM, ONE, P_OPENING, OFFSET_MOST, CAP_WORTH, DECAY};
 ghost use Rattle.liq_types.specs.declared.requests.Request.{Request};
 ghost use Rattle.liq_types.specs.Image.{Image, Place};
 ghost use Rattle.liq_types.specs.PlainLedger.{exact_share, den_of, offsets_coll, gains_paid_to, AreOwnedBelow, over_accounts};
@@ -18,18 +20,19 @@ ghost use Rattle.liq_troves.specs.StakeSums.{sums_now, sums_at, pending_coll, pe
 ghost use Rattle.liq_stability.specs.Position.{balance_of, gain_of, balance_by, gain_by, mark_of, sums_from, words_of};
 ghost use Rattle.liq_stability.specs.Promise.{IsWithinAllowance};
 ghost use Rattle.liq_stability.specs.Lawful.{IsLawful};
+ghost use Rattle.liq_rate.specs.Rate.{borrow_rate, redeem_rate};
 ghost use Rattle.liq_borrow.specs.declared.change.Change.{Change};
 ghost use Rattle.liq_borrow.specs.Borrowing.{adjusting_terms, adjust_rules};
 ghost use Rattle.liq_liquidation.specs.declared.one.One.{One};
 ghost use Rattle.liq_liquidation.specs.Lowest.{lowest};
-ghost use Rattle.liq_liquidation.specs.One.{one};
+ghost use Rattle.liq_liquidation.specs.One.{one, gas_of};
 ghost use Rattle.liq_redemption.specs.Redemption.{cuts_in, redeemed};
 ghost use Rattle.liq_core.specs.Core.{state_of};
 ghost use Rattle.liq_core.specs.Dust.{IsCovered, dust};
 ghost use Rattle.liq_core.specs.Events.{events};
 ghost use Rattle.liq_core.specs.Identities.{IsConserved};
 ghost use Rattle.liq_core.specs.Image.{image};
-ghost use Rattle.liq_core.specs.SoundState.{IsSoundState, AmountsWithin, SnapshotWithin, WordsWithin, TroveIsCovered, DepositIsCovered, PoolIsWhole, ChangeIsCovered, OneIsCovered, StruckStand, CutIsCovered};
+ghost use Rattle.liq_core.specs.SoundState.{IsSoundState, AmountsWithin, SnapshotWithin, WordsWithin, TroveIsCovered, DepositIsCovered, PoolIsWhole, ChangeIsCovered, OneIsCovered, OneFits, StruckStand, CutIsCovered};
 ghost use Rattle.liq_core.specs.Step.{step, run, accepted};
 
 use crate::Protocol;
@@ -120,9 +123,12 @@ pub fn nothing_is_cut_at_zero()
     ensures minute { (s : State) → IsSoundState s → s.fee_minute ≤ s.minute }
 {}
 
-/// The products that are divided stay far below 2^128: what is due to a trove before any rounding, and a deposit's amount times
+/// The products that are divided stay below 2^128: what is due to a trove before any rounding, and a deposit's amount times
 /// the product or any sum, and what an offset makes of the product, for each rise of the scale that is tried. (What is due is
-/// not bounded by the stake and the sums alone.)
+/// not bounded by the stake and the sums alone.) So do the collateral of an offset times the product, what is spread of a
+/// liquidated trove, one's debt for its key, the cap on its collateral and the pool's share of it, what is drawn for a lot and
+/// what is redeemed beside the supply, the base rate times a power, any rate times an amount of 64 bits, and collateral times
+/// the stakes of a snapshot, where these have 64 bits, as they have wherever the state is reached from the opening.
 pub fn products_fit()
     ensures due_coll { (s : State) → IsSoundState s → (account : ℕ) → (t : TroveEntry) → at s.troves account ≡ Some t → t.stake * ((sums_now s).coll - (sums_at s t.mark).coll) ≤ ONE * LIM }
     ensures due_debt { (s : State) → IsSoundState s → (account : ℕ) → (t : TroveEntry) → at s.troves account ≡ Some t → t.stake * ((sums_now s).debt - (sums_at s t.mark).debt) ≤ ONE * LIM }
@@ -130,6 +136,19 @@ pub fn products_fit()
     ensures gain { (s : State) → IsSoundState s → (account : ℕ) → (d : DepositEntry) → at s.deposits account ≡ Some d → (place : Place) → d.amount * sumat s.start s.offsets place ≤ OFFSET_MOST * P_OPENING * LIM }
     ensures product { (s : State) → IsSoundState s → (debt coll : ℕ) → 1 ≤ debt → debt < pool_total s → (steps : ℕ) → steps ≤ rise_of (words_of s).p (record { debt = debt; coll = coll; total = pool_total s }) → (words_of s).p * ((pool_total s - debt) * 10 ^ (9 * steps)) < (P_OPENING + 1) * LIM }
     ensures below { OFFSET_MOST * P_OPENING * LIM < 2 ^ 128 }
+    ensures offset { (s : State) → IsSoundState s → (debt coll : ℕ) → debt ≤ pool_total s → coll ≤ OFFSET_MOST * debt → coll * (words_of s).p ≤ OFFSET_MOST * P_OPENING * LIM }
+    ensures liquidate { (s : State) → IsSoundState s → (account : ℕ) → (made : One) → one s account ≡ Ok made → OneFits s made }
+    ensures key { (s : State) → IsSoundState s → (account : ℕ) → (t : TroveEntry) → at s.troves account ≡ Some t → t.debt * ONE ≤ ONE * LIM }
+    ensures cap { (s : State) → IsSoundState s → (account : ℕ) → (own : ℕ × ℕ) → entire_of s account ≡ Some own → own.1 * CAP_WORTH ≤ CAP_WORTH * LIM }
+    ensures share { (s : State) → IsSoundState s → (account : ℕ) → (own : ℕ × ℕ) → entire_of s account ≡ Some own → (own.0 - gas_of own.0) * min own.1 (pool_total s) ≤ LIM * LIM }
+    ensures draw { (s : State) → IsSoundState s → (account : ℕ) → (own : ℕ × ℕ) → entire_of s account ≡ Some own → (lot : ℕ) → lot ≤ own.1 → lot * GWEI_PER_ETH ≤ GWEI_PER_ETH * LIM }
+    ensures redeem { (s : State) → IsSoundState s → (account amount : ℕ) → amount ≤ (wallet_of s account).lusd → redeemed (cuts_in s amount) * ONE ≤ ONE * LIM }
+    ensures decay { (s : State) → IsSoundState s → (minutes : ℕ) → s.base * power_of DECAY minutes ≤ ONE * ONE }
+    ensures rates { (rate amount : ℕ) → rate ≤ ONE → amount < 2 ^ 64 → rate * amount < ONE * 2 ^ 64 }
+    ensures fees { (left base amount : ℕ) → amount < 2 ^ 64 → (borrow_rate left * amount < ONE * 2 ^ 64) × (redeem_rate base * amount < ONE * 2 ^ 64) }
+    ensures stake { (s : State) → IsSoundState s → s.snap_stakes < 2 ^ 64 → (coll : ℕ) → coll ≤ s.brought → coll * s.snap_stakes < 2 ^ 64 * LIM }
+    ensures stake_reached { (requests : List Request) → let now = (run opening requests).0 in (coll : ℕ) → coll ≤ now.brought → coll * now.snap_stakes ≤ LIM * LIM }
+    ensures all_below { (ONE * LIM < 2 ^ 128) × (P_OPENING * LIM < 2 ^ 128) × ((P_OPENING + 1) * LIM < 2 ^ 128) × (LIM * LIM < 2 ^ 128) × (CAP_WORTH * LIM < 2 ^ 128) × (GWEI_PER_ETH * LIM < 2 ^ 128) × (ONE * ONE < 2 ^ 128) × (ONE * 2 ^ 64 < 2 ^ 128) × (2 ^ 64 * LIM < 2 ^ 128) }
 {}
 
 /// What is pending for a trove that was set since the state began is at most its exact part of the redistributions since, and
