@@ -280,14 +280,8 @@ deposit_fits s h account d there =
         omega (arith, first, second)
 
 -- so does what an offset makes of the product, for each rise that is tried up to the one that is reached
-pub product_fits : (s : State) → IsSoundState s → (debt coll : ℕ) → 1 ≤ debt → debt < pool_total s → (steps : ℕ) → steps ≤ rise_of (words_of s).p (offset_now s debt coll) → (words_of s).p * ((pool_total s - debt) * 10 ^ (9 * steps)) < (P_OPENING + 1) * LIM
-product_fits s h debt coll some less steps few = by (cases_lt steps (rise_of (words_of s).p (offset_now s debt coll))) where
-  range : IsWithinRange (words_of s)
-  range = (words_within s h).product
-
-  limit : pool_total s ≤ LIM
-  limit = (amounts_within s h).pool_total
-
+pub rise_fits : (s : State) → IsWithinRange (words_of s) → pool_total s ≤ LIM → (debt coll : ℕ) → 1 ≤ debt → debt < pool_total s → (steps : ℕ) → steps ≤ rise_of (words_of s).p (offset_now s debt coll) → (words_of s).p * ((pool_total s - debt) * 10 ^ (9 * steps)) < (P_OPENING + 1) * LIM
+rise_fits s range limit debt coll some less steps few = by (cases_lt steps (rise_of (words_of s).p (offset_now s debt coll))) where
   takes : TakesPartUpTo LIM (offset_now s debt coll)
   takes = record { some = some; within = omega (arith, less); limit = limit }
 
@@ -312,3 +306,6 @@ product_fits s h debt coll some less steps few = by (cases_lt steps (rise_of (wo
       let low = rise_no_more LIM served_limit (words_of s) (offset_now s debt coll) range takes steps earlier in
       under P_OPENING (omega arith) (omega (arith, low))
   by (inr last) = under P_OPENING (omega arith) (reached (omega (arith, last, few)))
+
+pub product_fits : (s : State) → IsSoundState s → (debt coll : ℕ) → 1 ≤ debt → debt < pool_total s → (steps : ℕ) → steps ≤ rise_of (words_of s).p (offset_now s debt coll) → (words_of s).p * ((pool_total s - debt) * 10 ^ (9 * steps)) < (P_OPENING + 1) * LIM
+product_fits s h debt coll some less steps few = rise_fits s (words_within s h).product (amounts_within s h).pool_total debt coll some less steps few

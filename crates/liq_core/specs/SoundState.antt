@@ -1,8 +1,8 @@
 -- Sound states: what every state is that the rules reach, and what every step keeps.
-use Rattle.std.specs.Prelude.{◌≡◌, ℕ, ◌+◌, ◌-◌, ◌*◌, ◌≤◌, ◌<◌, List, [], ◌∷◌, Some, Ok, sum_by}
+use Rattle.std.specs.Prelude.{◌≡◌, ℕ, ◌+◌, ◌-◌, ◌*◌, ◌≤◌, ◌<◌, List, [], ◌∷◌, Some, Ok, min, sum_by}
 use Rattle.std.specs.List.{AllByRecursion}
 use Rattle.std.specs.Map.{values_of}
-use Rattle.liq_types.specs.declared.amounts.TheConstants.{ONE, LIM, OFFSET_MOST, P_OPENING, P_LEAST, SUM_MOST, RESERVE, MIN_NET}
+use Rattle.liq_types.specs.declared.amounts.TheConstants.{ONE, LIM, CAP_WORTH, OFFSET_MOST, P_OPENING, P_LEAST, SUM_MOST, RESERVE, MIN_NET}
 use Rattle.liq_types.specs.declared.figures.Wallet.{Wallet}
 use Rattle.liq_types.specs.Image.{Place}
 use Rattle.liq_types.specs.Product.{IsWithinRange, place_of, sumat}
@@ -18,7 +18,7 @@ use Rattle.liq_borrow.specs.declared.change.Change.{Change}
 use Rattle.liq_borrow.specs.declared.change.Plan.{Plan}
 use Rattle.liq_liquidation.specs.declared.one.One.{One}
 use Rattle.liq_liquidation.specs.declared.one.Victim.{Victim}
-use Rattle.liq_liquidation.specs.One.{one, one_total_coll, one_total_debt, struck}
+use Rattle.liq_liquidation.specs.One.{one, gas_of, one_total_coll, one_total_debt, struck}
 use Rattle.liq_redemption.specs.declared.cut.Cut.{Cut}
 use Rattle.liq_core.specs.Image.{image}
 
@@ -129,6 +129,17 @@ pub record OneFits (s : State) (one : One) : Type 0 where
   pub offset : one.offset_coll * (words_of s).p ≤ P_OPENING * LIM
   pub spread_coll : one.spread_coll * ONE ≤ ONE * LIM
   pub spread_debt : one.spread_debt * ONE ≤ ONE * LIM
+
+-- what is divided before it: the cap on the collateral of a trove with these entire amounts, and the pool's share of it
+pub record OwnFits (s : State) (own : ℕ × ℕ) : Type 0 where
+  pub cap : own.1 * CAP_WORTH ≤ CAP_WORTH * LIM
+  pub share : (own.0 - gas_of own.0) * min own.1 (pool_total s) ≤ LIM * LIM
+
+-- the same of each of the troves that are struck one after the other, at its moment
+abbrev pub StruckFit : State → List Victim → Type 0
+StruckFit s [] = Unit {0}
+StruckFit s (v ∷ vs) =
+    (pool_total s ≤ LIM) × ((own : ℕ × ℕ) → entire_of s v.account ≡ Some own → OwnFits s own) × OneFits s v.one × StruckFit (struck s v) vs
 
 -- a cut takes less collateral than the trove has, and no more debt than it has beside its reserve
 pub record CutIsCovered (s : State) (cut : Cut) : Type 0 where

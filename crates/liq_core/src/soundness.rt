@@ -1,7 +1,7 @@
 //! What holds of every sound state, and that every step keeps it sound. The functions here do nothing: each is the place
 //! where the facts of its contract are proved.
 
-ghost use Rattle.std.specs.Prelude.{◌≡◌, ℕ, ◌+◌, ◌-◌, ◌*◌, ◌^◌, ◌≤◌, ◌<◌, List, drop, min, Some, None, Ok, pos, ◌≤ℤ◌};
+ghost use Rattle.std.specs.Prelude.{◌≡◌, ℕ, ◌+◌, ◌-◌, ◌*◌, ◌^◌, ◌≤◌, ◌<◌, List, drop, Some, None, Ok, pos, ◌≤ℤ◌};
 ghost use Rattle.std.specs.List.{AllByRecursion};
 ghost use Rattle.liq_num.specs.Power.{power_of};
 ghost use Rattle.liq_num.specs.declared.ratio.TheConstants.{GWEI_PER_ETH};
@@ -9,7 +9,7 @@ ghost use Rattle.liq_types.specs.declared.amounts.TheConstants.{ACCOUNTS, LIM, O
 ghost use Rattle.liq_types.specs.declared.requests.Request.{Request};
 ghost use Rattle.liq_types.specs.Image.{Image, Place};
 ghost use Rattle.liq_types.specs.PlainLedger.{exact_share, den_of, offsets_coll, gains_paid_to, AreOwnedBelow, over_accounts};
-ghost use Rattle.liq_types.specs.Product.{rise_of, sumat};
+ghost use Rattle.liq_types.specs.Product.{IsWithinRange, rise_of, sumat};
 ghost use Rattle.liq_types.specs.Rules.{first_refusal};
 ghost use Rattle.liq_types.specs.Soundness.{IsSoundImage};
 ghost use Rattle.liq_types.specs.State.{State, opening, started, TroveEntry, DepositEntry, Redistribution, After, wallet_of, surplus_of};
@@ -25,14 +25,14 @@ ghost use Rattle.liq_borrow.specs.declared.change.Change.{Change};
 ghost use Rattle.liq_borrow.specs.Borrowing.{adjusting_terms, adjust_rules};
 ghost use Rattle.liq_liquidation.specs.declared.one.One.{One};
 ghost use Rattle.liq_liquidation.specs.Lowest.{lowest};
-ghost use Rattle.liq_liquidation.specs.One.{one, gas_of};
+ghost use Rattle.liq_liquidation.specs.One.{one};
 ghost use Rattle.liq_redemption.specs.Redemption.{cuts_in, redeemed};
 ghost use Rattle.liq_core.specs.Core.{state_of};
 ghost use Rattle.liq_core.specs.Dust.{IsCovered, dust};
 ghost use Rattle.liq_core.specs.Events.{events};
 ghost use Rattle.liq_core.specs.Identities.{IsConserved};
 ghost use Rattle.liq_core.specs.Image.{image};
-ghost use Rattle.liq_core.specs.SoundState.{IsSoundState, AmountsWithin, SnapshotWithin, WordsWithin, TroveIsCovered, DepositIsCovered, PoolIsWhole, ChangeIsCovered, OneIsCovered, OneFits, StruckStand, CutIsCovered};
+ghost use Rattle.liq_core.specs.SoundState.{IsSoundState, AmountsWithin, SnapshotWithin, WordsWithin, TroveIsCovered, DepositIsCovered, PoolIsWhole, ChangeIsCovered, OneIsCovered, OneFits, OwnFits, StruckFit, StruckStand, CutIsCovered};
 ghost use Rattle.liq_core.specs.Step.{step, run, accepted};
 
 use crate::Protocol;
@@ -138,9 +138,10 @@ pub fn products_fit()
     ensures below { OFFSET_MOST * P_OPENING * LIM < 2 ^ 128 }
     ensures offset { (s : State) → IsSoundState s → (debt coll : ℕ) → debt ≤ pool_total s → coll ≤ OFFSET_MOST * debt → coll * (words_of s).p ≤ OFFSET_MOST * P_OPENING * LIM }
     ensures liquidate { (s : State) → IsSoundState s → (account : ℕ) → (made : One) → one s account ≡ Ok made → OneFits s made }
+    ensures own { (s : State) → IsSoundState s → (account : ℕ) → (own : ℕ × ℕ) → entire_of s account ≡ Some own → OwnFits s own }
+    ensures lowest { (s : State) → IsSoundState s → (count : ℕ) → StruckFit s (lowest s count) }
+    ensures rise { (s : State) → IsWithinRange (words_of s) → pool_total s ≤ LIM → (debt coll : ℕ) → 1 ≤ debt → debt < pool_total s → (steps : ℕ) → steps ≤ rise_of (words_of s).p (record { debt = debt; coll = coll; total = pool_total s }) → (words_of s).p * ((pool_total s - debt) * 10 ^ (9 * steps)) < (P_OPENING + 1) * LIM }
     ensures key { (s : State) → IsSoundState s → (account : ℕ) → (t : TroveEntry) → at s.troves account ≡ Some t → t.debt * ONE ≤ ONE * LIM }
-    ensures cap { (s : State) → IsSoundState s → (account : ℕ) → (own : ℕ × ℕ) → entire_of s account ≡ Some own → own.1 * CAP_WORTH ≤ CAP_WORTH * LIM }
-    ensures share { (s : State) → IsSoundState s → (account : ℕ) → (own : ℕ × ℕ) → entire_of s account ≡ Some own → (own.0 - gas_of own.0) * min own.1 (pool_total s) ≤ LIM * LIM }
     ensures draw { (s : State) → IsSoundState s → (account : ℕ) → (own : ℕ × ℕ) → entire_of s account ≡ Some own → (lot : ℕ) → lot ≤ own.1 → lot * GWEI_PER_ETH ≤ GWEI_PER_ETH * LIM }
     ensures redeem { (s : State) → IsSoundState s → (account amount : ℕ) → amount ≤ (wallet_of s account).lusd → redeemed (cuts_in s amount) * ONE ≤ ONE * LIM }
     ensures decay { (s : State) → IsSoundState s → (minutes : ℕ) → s.base * power_of DECAY minutes ≤ ONE * ONE }

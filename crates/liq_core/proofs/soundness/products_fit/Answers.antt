@@ -1,6 +1,6 @@
 use Rattle.std.proofs.Common.{arith}
-use Rattle.liq_core.proofs.SoundBounds.{due_fits, deposit_fits, product_fits}
-use Rattle.liq_core.proofs.SoundProducts.{offset_fits, liquidate_fits, key_fits, cap_fits, share_fits, draw_fits, redeem_fits, decay_fits, rate_fits, fees_fit, stake_fits, stake_reached_fits}
+use Rattle.liq_core.proofs.SoundBounds.{due_fits, deposit_fits, rise_fits, product_fits}
+use Rattle.liq_core.proofs.SoundProducts.{offset_fits, liquidate_fits, key_fits, own_sound_fits, lowest_sound_fit, draw_fits, redeem_fits, decay_fits, rate_fits, fees_fit, stake_fits, stake_reached_fits}
 use Rattle.liq_core.proofs.soundness.products_fit.Goals as goal
 
 pub returns-clause-due_coll : goal.returns-clause-due_coll
@@ -30,11 +30,14 @@ returns-clause-liquidate c = liquidate_fits
 pub returns-clause-key : goal.returns-clause-key
 returns-clause-key c = key_fits
 
-pub returns-clause-cap : goal.returns-clause-cap
-returns-clause-cap c = cap_fits
+pub returns-clause-own : goal.returns-clause-own
+returns-clause-own c = own_sound_fits
 
-pub returns-clause-share : goal.returns-clause-share
-returns-clause-share c = share_fits
+pub returns-clause-lowest : goal.returns-clause-lowest
+returns-clause-lowest c = lowest_sound_fit
+
+pub returns-clause-rise : goal.returns-clause-rise
+returns-clause-rise c = rise_fits
 
 pub returns-clause-draw : goal.returns-clause-draw
 returns-clause-draw c = draw_fits
