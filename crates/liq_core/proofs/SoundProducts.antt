@@ -1,11 +1,11 @@
 -- The products that bodies divide, in every sound state.
-use Rattle.std.proofs.Common.{◌≡◌, ℕ, zero, suc, ◌+◌, ◌-◌, ◌*◌, ◌^◌, ◌≤◌, ◌<◌, List, [], ◌∷◌, refl, subst, arith, Some, None, Option}
+use Rattle.std.proofs.Common.{◌≡◌, ℕ, zero, suc, ◌-◌, ◌*◌, ◌^◌, ◌≤◌, ◌<◌, List, [], ◌∷◌, refl, subst, arith, Some, None, Option}
 use Rattle.std.specs.Prelude.{min, Ok}
 use Rattle.std.proofs.Math.Nat.{mul-le-mul_left, mul-le-mul_right}
 use Rattle.liq_num.specs.Power.{power_of}
 use Rattle.liq_num.specs.declared.ratio.TheConstants.{GWEI_PER_ETH}
 use Rattle.liq_num.proofs.Digits.{power_of-le}
-use Rattle.liq_types.specs.declared.amounts.TheConstants.{LIM, ONE, RESERVE, OFFSET_MOST, P_OPENING, CAP_WORTH, DECAY}
+use Rattle.liq_types.specs.declared.amounts.TheConstants.{LIM, ONE, RESERVE, OFFSET_MOST, P_OPENING, DECAY}
 use Rattle.liq_types.specs.declared.figures.Wallet.{Wallet}
 use Rattle.liq_types.specs.declared.requests.Request.{Request}
 use Rattle.liq_types.specs.State.{State, TroveEntry, opening, wallet_of}

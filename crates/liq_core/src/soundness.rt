@@ -123,12 +123,13 @@ pub fn nothing_is_cut_at_zero()
     ensures minute { (s : State) → IsSoundState s → s.fee_minute ≤ s.minute }
 {}
 
-/// The products that are divided stay below 2^128: what is due to a trove before any rounding, and a deposit's amount times
-/// the product or any sum, and what an offset makes of the product, for each rise of the scale that is tried. (What is due is
-/// not bounded by the stake and the sums alone.) So do the collateral of an offset times the product, what is spread of a
-/// liquidated trove, one's debt for its key, the cap on its collateral and the pool's share of it, what is drawn for a lot and
-/// what is redeemed beside the supply, the base rate times a power, any rate times an amount of 64 bits, and collateral times
-/// the stakes of a snapshot, where these have 64 bits, as they have wherever the state is reached from the opening.
+/// The products that are divided stay below 2^128. Of the Stability Pool: a deposit's amount times the product or any sum, what an
+/// offset makes of the product, for each rise of the scale that is tried, and the collateral of an offset times the product. Of
+/// troves: what is due to one before any rounding (which is not bounded by the stake and the sums alone), its debt for its key, and
+/// its collateral times the stakes of a snapshot, where these have 64 bits, as they have in each state that is reached from the
+/// opening. Of a liquidation: the cap on the collateral, the pool's share of it and what is spread, also along the lowest troves.
+/// Of a redemption: what is drawn for a lot, and what is redeemed beside the supply. Of rates: the base rate times a power, and any
+/// rate times an amount of 64 bits.
 pub fn products_fit()
     ensures due_coll { (s : State) → IsSoundState s → (account : ℕ) → (t : TroveEntry) → at s.troves account ≡ Some t → t.stake * ((sums_now s).coll - (sums_at s t.mark).coll) ≤ ONE * LIM }
     ensures due_debt { (s : State) → IsSoundState s → (account : ℕ) → (t : TroveEntry) → at s.troves account ≡ Some t → t.stake * ((sums_now s).debt - (sums_at s t.mark).debt) ≤ ONE * LIM }
