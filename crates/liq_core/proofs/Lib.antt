@@ -31,6 +31,7 @@ pub mod SoundEvents
 pub mod SoundFacts
 pub mod SoundLiquidate
 pub mod SoundPool
+pub mod SoundProducts
 pub mod SoundPromises
 pub mod SoundRedeem
 pub mod SoundRules

@@ -18,14 +18,15 @@ use Rattle.liq_types.specs.declared.requests.Request.TheVariants.{Do, Ask}
 use Rattle.liq_types.specs.Image.{Place}
 use Rattle.liq_types.specs.Product.{is_place, place_of, sumat, IsWithinRange, TakesPartUpTo, product_after, rise_of}
 use Rattle.liq_types.specs.Rules.{first_refusal}
-use Rattle.liq_types.specs.State.{State, Mark, AtStart, After, StakeSums, TroveEntry, DepositEntry, Redistribution, opening}
+use Rattle.liq_types.specs.State.{State, Mark, AtStart, After, StakeSums, TroveEntry, DepositEntry, Redistribution, opening, wallet_of, surplus_of, no_wallet}
 use Rattle.liq_types.specs.Tables.{Table, at, map_rows}
 use Rattle.liq_types.specs.Totals.{pool_total}
+use Rattle.liq_types.specs.WellFormed.{IsWellFormed}
 use Rattle.liq_types.proofs.Lookups.{all-at}
 use Rattle.liq_types.proofs.MapRows.{at-map, map-sum}
 use Rattle.liq_types.proofs.Ranges.{offset_within, rise_no_more}
 use Rattle.liq_types.proofs.Sums.{leaves_part}
-use Rattle.liq_types.proofs.Places.{sum_shown}
+use Rattle.liq_types.proofs.Places.{IsUpTo, sum_shown}
 use Rattle.liq_troves.specs.Rows.{pending}
 use Rattle.liq_troves.specs.Standing.{books_of, coll_due, debt_due}
 use Rattle.liq_troves.specs.StakeSums.{trove_row, trove_rows, sums_now, sums_at, pending_coll, pending_debt, exact_part, somethings, IsShortOf}
@@ -36,7 +37,7 @@ use Rattle.liq_stability.specs.Position.{words_of, mark_of, deposit_row, sums_fr
 use Rattle.liq_stability.proofs.Pool.{offset_now}
 use Rattle.liq_core.specs.Image.{image}
 use Rattle.liq_core.specs.Rules.{rules, effect}
-use Rattle.liq_core.specs.SoundState.{IsSoundState, IsSetSince, AreSetSince, AmountsWithin, SnapshotWithin, WordsWithin, TroveIsCovered, DepositIsCovered}
+use Rattle.liq_core.specs.SoundState.{IsSoundState, IsSetSince, AreSetSince, AmountsWithin, SnapshotWithin, WordsWithin, TroveIsCovered, DepositIsCovered, PoolIsWhole}
 use Rattle.liq_core.specs.Step.{Ruling, Refused, Repeated, Allowed, ruling, after_ruling, accounts, after, run}
 use Rattle.liq_core.specs.Verbs.{rotates}
 use Rattle.liq_core.proofs.SoundFacts.{Finds, length_without}
@@ -132,6 +133,7 @@ trove_covered s h account t there =
     let w = trove_within (books_of s) account (trove_row s t) row f.stands.troves in
     let own = entire_within (books_of s) account (trove_row s t) row f.stands.troves in
     let some = some_row s.troves account t there in
+    let stakes = one_within (λ (x : TroveEntry). x.stake) s.troves account t there in
     record {
       mark_coll = w.stands.mark_coll;
       mark_debt = w.stands.mark_debt;
@@ -139,6 +141,7 @@ trove_covered s h account t there =
       debt = w.debt;
       pending_coll = w.pending_coll;
       pending_debt = w.pending_debt;
+      stake = stakes;
       some_coll = own.some;
       least_debt = own.least;
       entire_coll = own.coll;
@@ -155,10 +158,42 @@ deposit_covered s h account d there =
     let mark = mark_of s d.mark in
     let shown : sum_in (i.epoch, i.scale) i.sum i.finished (mark.epoch, mark.scale) ≡ sumat s.start s.offsets (mark.epoch, mark.scale) = sum_shown s.start s.offsets f.stands.formed.0 (mark.epoch, mark.scale) in
     let here : sumat s.start s.offsets (mark.epoch, mark.scale) ≡ sums_from s mark 0 = ap (λ n. sumat s.start s.offsets (mark.epoch, n)) (none_more mark.scale) in
-    record { sum = omega (arith, stands.within, shown, here); product = stands.least_p }
+    let place = up_to (mark.epoch, mark.scale) (i.epoch, i.scale) stands.place in
+    record { sum = omega (arith, stands.within, shown, here); product = stands.least_p; epoch = place.0; scale = place.1 }
   where
     none_more : (n : ℕ) → n ≡ n + 0
     none_more n = omega arith
+
+    up_to : (a b : Place) → IsUpTo a b → (a.0 ≤ b.0) × (a.0 ≡ b.0 → a.1 ≤ b.1)
+    up_to a b (inl less) = (omega (arith, less), λ same. omega (arith, less, same))
+    up_to a b (inr same) = (omega (arith, same.0), λ e. same.1)
+
+pub pool_whole : (s : State) → IsWellFormed s → PoolIsWhole s
+pool_whole s h =
+    let covered = h.3 in
+    record { lusd = omega (arith, covered.0); coll = omega (arith, covered.1) }
+
+pub wallet_covered : (s : State) → IsSoundState s → (account : ℕ) → ((wallet_of s account).coll ≤ s.brought) × ((wallet_of s account).lusd ≤ LIM)
+wallet_covered s h account = by (at s.wallets account) refl where
+  by : (o : Option Wallet) → at s.wallets account ≡ o → ((unwrap_or o no_wallet).coll ≤ s.brought) × ((unwrap_or o no_wallet).lusd ≤ LIM)
+  by None e = (omega arith, omega arith)
+  by (Some w) e =
+      let b = (sound_facts s h).balanced in
+      let coll = one_within (λ (x : Wallet). x.coll) s.wallets account w e in
+      let lusd = one_within (λ (x : Wallet). x.lusd) s.wallets account w e in
+      (omega (arith, coll, b.homes.coll), omega (arith, lusd, b.homes.lusd, b.debt_limit))
+
+pub surplus_covered : (s : State) → IsSoundState s → (account : ℕ) → surplus_of s account ≤ s.surplus
+surplus_covered s h account = by (at s.surplus_rows account) refl where
+  by : (o : Option ℕ) → at s.surplus_rows account ≡ o → unwrap_or o 0 ≤ s.surplus
+  by None e = omega arith
+  by (Some coll) e =
+      let own = one_within (λ (x : ℕ). x) s.surplus_rows account coll e in
+      let all = (sound_facts s h).balanced.homes.surplus in
+      omega (arith, own, all)
+
+pub fee_minute_past : (s : State) → IsSoundState s → s.fee_minute ≤ s.minute
+fee_minute_past s h = (sound_facts s h).ranges.fee_minute
 
 -- ---- what is pending
 
@@ -245,14 +280,8 @@ deposit_fits s h account d there =
         omega (arith, first, second)
 
 -- so does what an offset makes of the product, for each rise that is tried up to the one that is reached
-pub product_fits : (s : State) → IsSoundState s → (debt coll : ℕ) → 1 ≤ debt → debt < pool_total s → (steps : ℕ) → steps ≤ rise_of (words_of s).p (offset_now s debt coll) → (words_of s).p * ((pool_total s - debt) * 10 ^ (9 * steps)) < (P_OPENING + 1) * LIM
-product_fits s h debt coll some less steps few = by (cases_lt steps (rise_of (words_of s).p (offset_now s debt coll))) where
-  range : IsWithinRange (words_of s)
-  range = (words_within s h).product
-
-  limit : pool_total s ≤ LIM
-  limit = (amounts_within s h).pool_total
-
+pub rise_fits : (s : State) → IsWithinRange (words_of s) → pool_total s ≤ LIM → (debt coll : ℕ) → 1 ≤ debt → debt < pool_total s → (steps : ℕ) → steps ≤ rise_of (words_of s).p (offset_now s debt coll) → (words_of s).p * ((pool_total s - debt) * 10 ^ (9 * steps)) < (P_OPENING + 1) * LIM
+rise_fits s range limit debt coll some less steps few = by (cases_lt steps (rise_of (words_of s).p (offset_now s debt coll))) where
   takes : TakesPartUpTo LIM (offset_now s debt coll)
   takes = record { some = some; within = omega (arith, less); limit = limit }
 
@@ -277,3 +306,6 @@ product_fits s h debt coll some less steps few = by (cases_lt steps (rise_of (wo
       let low = rise_no_more LIM served_limit (words_of s) (offset_now s debt coll) range takes steps earlier in
       under P_OPENING (omega arith) (omega (arith, low))
   by (inr last) = under P_OPENING (omega arith) (reached (omega (arith, last, few)))
+
+pub product_fits : (s : State) → IsSoundState s → (debt coll : ℕ) → 1 ≤ debt → debt < pool_total s → (steps : ℕ) → steps ≤ rise_of (words_of s).p (offset_now s debt coll) → (words_of s).p * ((pool_total s - debt) * 10 ^ (9 * steps)) < (P_OPENING + 1) * LIM
+product_fits s h debt coll some less steps few = rise_fits s (words_within s h).product (amounts_within s h).pool_total debt coll some less steps few

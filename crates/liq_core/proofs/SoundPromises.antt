@@ -1,16 +1,16 @@
 -- What is promised of every state that is reached: depositors' shares, what is pending, dust and bounds.
 use Rattle.std.proofs.Common.{◌≡◌, ℕ, ◌+◌, ◌*◌, ◌≤◌, List, ap, sym, ◌∙◌, subst, arith}
-use Rattle.std.specs.Prelude.{pos, ◌-ℤ◌, ◌≤ℤ◌, map, sum, sum_by}
+use Rattle.std.specs.Prelude.{Some, pos, ◌-ℤ◌, ◌≤ℤ◌, map, sum, sum_by}
 use Rattle.std.specs.Map.{keys_of, values_of}
 use Rattle.std.proofs.lemmas.Int.{ints}
-use Rattle.liq_types.specs.declared.amounts.TheConstants.{LIM}
+use Rattle.liq_types.specs.declared.amounts.TheConstants.{ACCOUNTS, LIM}
 use Rattle.liq_types.specs.declared.events.PoolEvent.{PoolEvent}
 use Rattle.liq_types.specs.declared.figures.Trove.{Trove}
 use Rattle.liq_types.specs.declared.requests.Request.{Request}
 use Rattle.liq_types.specs.Allowance.{balance_allowance, gain_allowance}
 use Rattle.liq_types.specs.Image.{Image}
-use Rattle.liq_types.specs.PlainLedger.{exact_share, gains_paid_to}
-use Rattle.liq_types.specs.State.{State, opening}
+use Rattle.liq_types.specs.PlainLedger.{exact_share, den_of, offsets_coll, gains_paid_to, over_accounts}
+use Rattle.liq_types.specs.State.{State, DepositEntry, opening}
 use Rattle.liq_types.specs.Tables.{at}
 use Rattle.liq_types.specs.Totals.{pool_total, pool_coll}
 use Rattle.liq_types.specs.WellFormed.{IsWellFormed}
@@ -20,9 +20,9 @@ use Rattle.liq_troves.specs.Standing.{books_of}
 use Rattle.liq_troves.specs.StakeSums.{trove_row, pending_coll, pending_debt}
 use Rattle.liq_troves.proofs.Standing.{pending_covered}
 use Rattle.liq_stability.specs.Own.{after_events}
-use Rattle.liq_stability.specs.Position.{balance_of, gain_of}
+use Rattle.liq_stability.specs.Position.{balance_of, gain_of, balance_by, gain_by, mark_of, sums_from, words_of}
 use Rattle.liq_stability.specs.Promise.{IsWithinAllowance}
-use Rattle.liq_stability.proofs.Promise.{within_allowance, balances_held, gains_held}
+use Rattle.liq_stability.proofs.Promise.{within_allowance, all_balances_are, all_gains_are, all_paid_are, balance_uncapped, gain_uncapped, balances_held, gains_held}
 use Rattle.liq_core.specs.Dust.{IsCovered, dust}
 use Rattle.liq_core.specs.Events.{events}
 use Rattle.liq_core.specs.Image.{image}
@@ -70,6 +70,37 @@ same_shares requests s f e account =
     let balance = balance-image t account ∙ ap (λ (i : Image). balance_row i (at i.deposits account)) (sym e) ∙ sym (balance-image s account) in
     let gain = gain-image t formed account ∙ ap (λ (i : Image). gain_row i (at i.deposits account)) (sym e) ∙ sym (gain-image s f account) in
     allowance_same t s account (events opening (accepted opening requests)) balance gain (reached_shares requests account)
+
+-- ---- the pool and the plain ledger
+
+pub reached_balances : (requests : List Request) → over_accounts ACCOUNTS (λ account. (exact_share account (events opening (accepted opening requests))).bal) ≡ pool_total (run opening requests).0 * den_of (events opening (accepted opening requests))
+reached_balances requests =
+    let h = run_follows requests opening opening_sound in
+    let es = events opening (accepted opening requests) in
+    subst (λ (q : State). over_accounts ACCOUNTS (λ account. (exact_share account es).bal) ≡ pool_total q * den_of es) (sym h.pool) (all_balances_are LIM (omega arith) es h.lawful ACCOUNTS h.owners)
+
+pub reached_gains : (requests : List Request) → over_accounts ACCOUNTS (λ account. (exact_share account (events opening (accepted opening requests))).gain) ≡ offsets_coll (events opening (accepted opening requests)) * den_of (events opening (accepted opening requests))
+reached_gains requests =
+    let h = run_follows requests opening opening_sound in
+    let es = events opening (accepted opening requests) in
+    all_gains_are LIM (omega arith) es h.lawful ACCOUNTS h.owners
+
+pub reached_paid : (requests : List Request) → pool_coll (run opening requests).0 + over_accounts ACCOUNTS (λ account. gains_paid_to account (events opening (accepted opening requests))) ≡ offsets_coll (events opening (accepted opening requests))
+reached_paid requests =
+    let h = run_follows requests opening opening_sound in
+    let es = events opening (accepted opening requests) in
+    subst (λ (q : State). pool_coll q + over_accounts ACCOUNTS (λ account. gains_paid_to account es) ≡ offsets_coll es) (sym h.pool) (all_paid_are LIM (omega arith) es h.lawful ACCOUNTS h.owners)
+
+-- the caps on a depositor's position never act
+abbrev pub IsUncapped : State → ℕ → DepositEntry → Type 0
+IsUncapped s account d =
+    (balance_of s account ≡ balance_by d.amount (mark_of s d.mark) (words_of s)) × (gain_of s account ≡ gain_by d.amount (mark_of s d.mark) (sums_from s (mark_of s d.mark)))
+
+pub reached_uncapped : (requests : List Request) (account : ℕ) (d : DepositEntry) → at (run opening requests).0.deposits account ≡ Some d → IsUncapped (run opening requests).0 account d
+reached_uncapped requests account d there =
+    let h = run_follows requests opening opening_sound in
+    let es = events opening (accepted opening requests) in
+    subst (λ (q : State). at q.deposits account ≡ Some d → IsUncapped q account d) (sym h.pool) (λ is. (balance_uncapped LIM (omega arith) es h.lawful account d is, gain_uncapped LIM (omega arith) es h.lawful account d is)) there
 
 -- ---- dust
 

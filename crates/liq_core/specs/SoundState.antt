@@ -1,13 +1,13 @@
 -- Sound states: what every state is that the rules reach, and what every step keeps.
-use Rattle.std.specs.Prelude.{◌≡◌, ℕ, ◌+◌, ◌-◌, ◌*◌, ◌≤◌, ◌<◌, List, [], ◌∷◌, Some, Ok}
+use Rattle.std.specs.Prelude.{◌≡◌, ℕ, ◌+◌, ◌-◌, ◌*◌, ◌≤◌, ◌<◌, List, [], ◌∷◌, Some, Ok, min, sum_by}
 use Rattle.std.specs.List.{AllByRecursion}
 use Rattle.std.specs.Map.{values_of}
-use Rattle.liq_types.specs.declared.amounts.TheConstants.{OFFSET_MOST, P_OPENING, P_LEAST, SUM_MOST, RESERVE, MIN_NET}
+use Rattle.liq_types.specs.declared.amounts.TheConstants.{ONE, LIM, CAP_WORTH, OFFSET_MOST, P_OPENING, P_LEAST, SUM_MOST, RESERVE, MIN_NET}
 use Rattle.liq_types.specs.declared.figures.Wallet.{Wallet}
 use Rattle.liq_types.specs.Image.{Place}
 use Rattle.liq_types.specs.Product.{IsWithinRange, place_of, sumat}
 use Rattle.liq_types.specs.Soundness.{IsSoundImage, places_most}
-use Rattle.liq_types.specs.State.{State, Mark, AtStart, After, StakeSums, TroveEntry, DepositEntry}
+use Rattle.liq_types.specs.State.{State, Mark, AtStart, After, StakeSums, TroveEntry, DepositEntry, PoolOffset}
 use Rattle.liq_types.specs.Tables.{Table}
 use Rattle.liq_types.specs.Totals.{total_coll, total_debt, pool_total, pool_coll, stakes_of}
 use Rattle.liq_types.specs.WellFormed.{IsWellFormed, TablesAscend}
@@ -18,7 +18,7 @@ use Rattle.liq_borrow.specs.declared.change.Change.{Change}
 use Rattle.liq_borrow.specs.declared.change.Plan.{Plan}
 use Rattle.liq_liquidation.specs.declared.one.One.{One}
 use Rattle.liq_liquidation.specs.declared.one.Victim.{Victim}
-use Rattle.liq_liquidation.specs.One.{one, one_total_coll, one_total_debt, struck}
+use Rattle.liq_liquidation.specs.One.{one, gas_of, one_total_coll, one_total_debt, struck}
 use Rattle.liq_redemption.specs.declared.cut.Cut.{Cut}
 use Rattle.liq_core.specs.Image.{image}
 
@@ -91,6 +91,7 @@ pub record TroveIsCovered (s : State) (t : TroveEntry) : Type 0 where
   pub debt : t.debt ≤ s.active_debt
   pub pending_coll : pending_coll s t ≤ s.default_coll
   pub pending_debt : pending_debt s t ≤ s.default_debt
+  pub stake : t.stake ≤ stakes_of s
   pub some_coll : 1 ≤ (entire s t).0
   pub least_debt : RESERVE + MIN_NET ≤ (entire s t).1
   pub entire_coll : (entire s t).0 ≤ total_coll s
@@ -100,6 +101,13 @@ pub record TroveIsCovered (s : State) (t : TroveEntry) : Type 0 where
 pub record DepositIsCovered (s : State) (d : DepositEntry) : Type 0 where
   pub sum : (mark_of s d.mark).sum ≤ sums_from s (mark_of s d.mark) 0
   pub product : P_LEAST ≤ (mark_of s d.mark).p
+  pub epoch : (mark_of s d.mark).epoch ≤ (words_of s).epoch
+  pub scale : (mark_of s d.mark).epoch ≡ (words_of s).epoch → (mark_of s d.mark).scale ≤ (words_of s).scale
+
+-- what left the Stability Pool comes together with what is in it to what came in
+pub record PoolIsWhole (s : State) : Type 0 where
+  pub lusd : pool_total s + s.withdrawn + sum_by (λ (o : PoolOffset). o.debt) s.offsets ≡ s.start.total + s.provided
+  pub coll : pool_coll s + s.gains_paid ≡ s.start.pool_coll + sum_by (λ (o : PoolOffset). o.coll) s.offsets
 
 -- ---- what an allowed call takes
 
@@ -115,6 +123,23 @@ pub record OneIsCovered (s : State) (own : ℕ × ℕ) (one : One) : Type 0 wher
   pub debt : one_total_debt one ≡ own.1
   pub served : one.offset_debt ≤ pool_total s
   pub worth : one.offset_coll ≤ OFFSET_MOST * one.offset_debt
+
+-- what is divided of a liquidated trove: the collateral of the offset times the product, and what each unit of stake gets
+pub record OneFits (s : State) (one : One) : Type 0 where
+  pub offset : one.offset_coll * (words_of s).p ≤ P_OPENING * LIM
+  pub spread_coll : one.spread_coll * ONE ≤ ONE * LIM
+  pub spread_debt : one.spread_debt * ONE ≤ ONE * LIM
+
+-- what is divided before it: the cap on the collateral of a trove with these entire amounts, and the pool's share of it
+pub record OwnFits (s : State) (own : ℕ × ℕ) : Type 0 where
+  pub cap : own.1 * CAP_WORTH ≤ CAP_WORTH * LIM
+  pub share : (own.0 - gas_of own.0) * min own.1 (pool_total s) ≤ LIM * LIM
+
+-- the same of each of the troves that are struck one after the other, at its moment
+abbrev pub StruckFit : State → List Victim → Type 0
+StruckFit s [] = Unit {0}
+StruckFit s (v ∷ vs) =
+    (pool_total s ≤ LIM) × ((own : ℕ × ℕ) → entire_of s v.account ≡ Some own → OwnFits s own) × OneFits s v.one × StruckFit (struck s v) vs
 
 -- a cut takes less collateral than the trove has, and no more debt than it has beside its reserve
 pub record CutIsCovered (s : State) (cut : Cut) : Type 0 where

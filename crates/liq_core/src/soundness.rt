@@ -3,39 +3,55 @@
 
 ghost use Rattle.std.specs.Prelude.{◌≡◌, ℕ, ◌+◌, ◌-◌, ◌*◌, ◌^◌, ◌≤◌, ◌<◌, List, drop, Some, None, Ok, pos, ◌≤ℤ◌};
 ghost use Rattle.std.specs.List.{AllByRecursion};
-ghost use Rattle.liq_types.specs.declared.amounts.TheConstants.{ACCOUNTS, LIM, ONE, P_OPENING, OFFSET_MOST};
+ghost use Rattle.liq_num.specs.Power.{power_of};
+ghost use Rattle.liq_num.specs.declared.ratio.TheConstants.{GWEI_PER_ETH};
+ghost use Rattle.liq_types.specs.declared.amounts.TheConstants.{ACCOUNTS, LIM, ONE, P_OPENING, OFFSET_MOST, CAP_WORTH, DECAY};
 ghost use Rattle.liq_types.specs.declared.requests.Request.{Request};
 ghost use Rattle.liq_types.specs.Image.{Image, Place};
-ghost use Rattle.liq_types.specs.PlainLedger.{AreOwnedBelow};
-ghost use Rattle.liq_types.specs.Product.{rise_of, sumat};
+ghost use Rattle.liq_types.specs.PlainLedger.{exact_share, den_of, offsets_coll, gains_paid_to, AreOwnedBelow, over_accounts};
+ghost use Rattle.liq_types.specs.Product.{IsWithinRange, rise_of, sumat};
 ghost use Rattle.liq_types.specs.Rules.{first_refusal};
 ghost use Rattle.liq_types.specs.Soundness.{IsSoundImage};
-ghost use Rattle.liq_types.specs.State.{State, opening, started, TroveEntry, DepositEntry, Redistribution, After, wallet_of};
+ghost use Rattle.liq_types.specs.State.{State, opening, started, TroveEntry, DepositEntry, Redistribution, After, wallet_of, surplus_of};
 ghost use Rattle.liq_types.specs.Tables.{at};
-ghost use Rattle.liq_types.specs.Totals.{market_of, pool_total};
+ghost use Rattle.liq_types.specs.Totals.{market_of, pool_total, pool_coll};
 ghost use Rattle.liq_types.specs.WellFormed.{IsWellFormed};
 ghost use Rattle.liq_troves.specs.StakeSums.{sums_now, sums_at, pending_coll, pending_debt, entire_of, exact_part, somethings, IsShortOf};
-ghost use Rattle.liq_stability.specs.Position.{words_of};
+ghost use Rattle.liq_stability.specs.Position.{balance_of, gain_of, balance_by, gain_by, mark_of, sums_from, words_of};
 ghost use Rattle.liq_stability.specs.Promise.{IsWithinAllowance};
 ghost use Rattle.liq_stability.specs.Lawful.{IsLawful};
+ghost use Rattle.liq_rate.specs.Rate.{borrow_rate, redeem_rate};
 ghost use Rattle.liq_borrow.specs.declared.change.Change.{Change};
 ghost use Rattle.liq_borrow.specs.Borrowing.{adjusting_terms, adjust_rules};
 ghost use Rattle.liq_liquidation.specs.declared.one.One.{One};
 ghost use Rattle.liq_liquidation.specs.Lowest.{lowest};
 ghost use Rattle.liq_liquidation.specs.One.{one};
 ghost use Rattle.liq_redemption.specs.Redemption.{cuts_in, redeemed};
+ghost use Rattle.liq_core.specs.Core.{state_of};
 ghost use Rattle.liq_core.specs.Dust.{IsCovered, dust};
 ghost use Rattle.liq_core.specs.Events.{events};
 ghost use Rattle.liq_core.specs.Identities.{IsConserved};
 ghost use Rattle.liq_core.specs.Image.{image};
-ghost use Rattle.liq_core.specs.SoundState.{IsSoundState, AmountsWithin, SnapshotWithin, WordsWithin, TroveIsCovered, DepositIsCovered, ChangeIsCovered, OneIsCovered, StruckStand, CutIsCovered};
+ghost use Rattle.liq_core.specs.SoundState.{IsSoundState, AmountsWithin, SnapshotWithin, WordsWithin, TroveIsCovered, DepositIsCovered, PoolIsWhole, ChangeIsCovered, OneIsCovered, OneFits, OwnFits, StruckFit, StruckStand, CutIsCovered};
 ghost use Rattle.liq_core.specs.Step.{step, run, accepted};
 
-/// The opening is sound, and so is a state that begins with a sound image, as a checkpoint has one.
+use crate::Protocol;
+
+/// The opening is sound, and so is a state that begins with a sound image, as a checkpoint has one; so it is with any count of
+/// records beside which the image is sound, as a protocol has one.
 pub fn sound_images_begin_sound_states()
     ensures opening { IsSoundState opening }
     ensures started { (i : Image) → IsSoundImage i 0 → IsSoundState (started i) }
+    ensures counted { (i : Image) → (records : ℕ) → IsSoundImage i records → IsSoundState (record (started i) { records = records }) }
 {}
+
+/// Every protocol stands for a sound state: the one that begins with its image and has its records. So all that is said here of
+/// sound states is said of it, whatever it has been asked.
+pub fn protocols_are_sound_states(protocol: &Protocol)
+    ensures { IsSoundState (state_of protocol.now) }
+{
+    let _ = &protocol.records;
+}
 
 /// Every step keeps a sound state, whatever is asked: each of the sixteen verbs, refused or not, and each query; and so does
 /// every run.
@@ -67,6 +83,16 @@ pub fn depositors_of_runs_get_their_shares()
     ensures same { (requests : List Request) → (s : State) → IsWellFormed s → image s ≡ image (run opening requests).0 → (account : ℕ) → IsWithinAllowance s account (events opening (accepted opening requests)) }
 {}
 
+/// In every state that is reached from the opening the Stability Pool is what the plain ledger of the run's events says: the
+/// exact balances of all accounts come to its LUSD, their exact gains to the collateral of all offsets, and what was paid of these
+/// is what is no longer in it. The caps on a position never act.
+pub fn pools_of_runs_are_exact()
+    ensures balances { (requests : List Request) → let es = events opening (accepted opening requests) in over_accounts ACCOUNTS (λ account. (exact_share account es).bal) ≡ pool_total (run opening requests).0 * den_of es }
+    ensures gains { (requests : List Request) → let es = events opening (accepted opening requests) in over_accounts ACCOUNTS (λ account. (exact_share account es).gain) ≡ offsets_coll es * den_of es }
+    ensures paid { (requests : List Request) → let es = events opening (accepted opening requests) in pool_coll (run opening requests).0 + over_accounts ACCOUNTS (λ account. gains_paid_to account es) ≡ offsets_coll es }
+    ensures caps { (requests : List Request) → (account : ℕ) → (d : DepositEntry) → let now = (run opening requests).0 in at now.deposits account ≡ Some d → (balance_of now account ≡ balance_by d.amount (mark_of now d.mark) (words_of now)) × (gain_of now account ≡ gain_by d.amount (mark_of now d.mark) (sums_from now (mark_of now d.mark))) }
+{}
+
 /// Dust is never negative: in every sound state what is pending for all troves is in the default pool, and in every state that
 /// is reached from the opening what all depositors may take is in the Stability Pool too.
 pub fn dust_is_never_negative()
@@ -85,15 +111,25 @@ pub fn sound_states_stay_within_bounds()
 {}
 
 /// Where the rules take something away from an amount, the amount is no less: the sums of a trove's and of a deposit's mark are
-/// at most those of now, and each pool has what a trove takes out of it.
+/// at most those of now, and so is its place; each pool has what a trove takes out of it, and the stakes the trove's own; what
+/// left the Stability Pool had come into it; what is in a wallet is inside, and what an owner may claim in the surplus pool; and
+/// the minute is not before the fee's.
 pub fn nothing_is_cut_at_zero()
     ensures troves { (s : State) → IsSoundState s → (account : ℕ) → (t : TroveEntry) → at s.troves account ≡ Some t → TroveIsCovered s t }
     ensures deposits { (s : State) → IsSoundState s → (account : ℕ) → (d : DepositEntry) → at s.deposits account ≡ Some d → DepositIsCovered s d }
+    ensures pool { (s : State) → IsWellFormed s → PoolIsWhole s }
+    ensures wallets { (s : State) → IsSoundState s → (account : ℕ) → (wallet_of s account).coll ≤ s.brought }
+    ensures surplus { (s : State) → IsSoundState s → (account : ℕ) → surplus_of s account ≤ s.surplus }
+    ensures minute { (s : State) → IsSoundState s → s.fee_minute ≤ s.minute }
 {}
 
-/// The products that are divided stay far below 2^128: what is due to a trove before any rounding, and a deposit's amount times
-/// the product or any sum, and what an offset makes of the product, for each rise of the scale that is tried. (What is due is
-/// not bounded by the stake and the sums alone.)
+/// The products that are divided stay below 2^128. Of the Stability Pool: a deposit's amount times the product or any sum, what an
+/// offset makes of the product, for each rise of the scale that is tried, and the collateral of an offset times the product. Of
+/// troves: what is due to one before any rounding (which is not bounded by the stake and the sums alone), its debt for its key, and
+/// its collateral times the stakes of a snapshot, where these have 64 bits, as they have in each state that is reached from the
+/// opening. Of a liquidation: the cap on the collateral, the pool's share of it and what is spread, also along the lowest troves.
+/// Of a redemption: what is drawn for a lot, and what is redeemed beside the supply. Of rates: the base rate times a power, and any
+/// rate times an amount of 64 bits.
 pub fn products_fit()
     ensures due_coll { (s : State) → IsSoundState s → (account : ℕ) → (t : TroveEntry) → at s.troves account ≡ Some t → t.stake * ((sums_now s).coll - (sums_at s t.mark).coll) ≤ ONE * LIM }
     ensures due_debt { (s : State) → IsSoundState s → (account : ℕ) → (t : TroveEntry) → at s.troves account ≡ Some t → t.stake * ((sums_now s).debt - (sums_at s t.mark).debt) ≤ ONE * LIM }
@@ -101,6 +137,20 @@ pub fn products_fit()
     ensures gain { (s : State) → IsSoundState s → (account : ℕ) → (d : DepositEntry) → at s.deposits account ≡ Some d → (place : Place) → d.amount * sumat s.start s.offsets place ≤ OFFSET_MOST * P_OPENING * LIM }
     ensures product { (s : State) → IsSoundState s → (debt coll : ℕ) → 1 ≤ debt → debt < pool_total s → (steps : ℕ) → steps ≤ rise_of (words_of s).p (record { debt = debt; coll = coll; total = pool_total s }) → (words_of s).p * ((pool_total s - debt) * 10 ^ (9 * steps)) < (P_OPENING + 1) * LIM }
     ensures below { OFFSET_MOST * P_OPENING * LIM < 2 ^ 128 }
+    ensures offset { (s : State) → IsSoundState s → (debt coll : ℕ) → debt ≤ pool_total s → coll ≤ OFFSET_MOST * debt → coll * (words_of s).p ≤ OFFSET_MOST * P_OPENING * LIM }
+    ensures liquidate { (s : State) → IsSoundState s → (account : ℕ) → (made : One) → one s account ≡ Ok made → OneFits s made }
+    ensures own { (s : State) → IsSoundState s → (account : ℕ) → (own : ℕ × ℕ) → entire_of s account ≡ Some own → OwnFits s own }
+    ensures lowest { (s : State) → IsSoundState s → (count : ℕ) → StruckFit s (lowest s count) }
+    ensures rise { (s : State) → IsWithinRange (words_of s) → pool_total s ≤ LIM → (debt coll : ℕ) → 1 ≤ debt → debt < pool_total s → (steps : ℕ) → steps ≤ rise_of (words_of s).p (record { debt = debt; coll = coll; total = pool_total s }) → (words_of s).p * ((pool_total s - debt) * 10 ^ (9 * steps)) < (P_OPENING + 1) * LIM }
+    ensures key { (s : State) → IsSoundState s → (account : ℕ) → (t : TroveEntry) → at s.troves account ≡ Some t → t.debt * ONE ≤ ONE * LIM }
+    ensures draw { (s : State) → IsSoundState s → (account : ℕ) → (own : ℕ × ℕ) → entire_of s account ≡ Some own → (lot : ℕ) → lot ≤ own.1 → lot * GWEI_PER_ETH ≤ GWEI_PER_ETH * LIM }
+    ensures redeem { (s : State) → IsSoundState s → (account amount : ℕ) → amount ≤ (wallet_of s account).lusd → redeemed (cuts_in s amount) * ONE ≤ ONE * LIM }
+    ensures decay { (s : State) → IsSoundState s → (minutes : ℕ) → s.base * power_of DECAY minutes ≤ ONE * ONE }
+    ensures rates { (rate amount : ℕ) → rate ≤ ONE → amount < 2 ^ 64 → rate * amount < ONE * 2 ^ 64 }
+    ensures fees { (left base amount : ℕ) → amount < 2 ^ 64 → (borrow_rate left * amount < ONE * 2 ^ 64) × (redeem_rate base * amount < ONE * 2 ^ 64) }
+    ensures stake { (s : State) → IsSoundState s → s.snap_stakes < 2 ^ 64 → (coll : ℕ) → coll ≤ s.brought → coll * s.snap_stakes < 2 ^ 64 * LIM }
+    ensures stake_reached { (requests : List Request) → let now = (run opening requests).0 in (coll : ℕ) → coll ≤ now.brought → coll * now.snap_stakes ≤ LIM * LIM }
+    ensures all_below { (ONE * LIM < 2 ^ 128) × (P_OPENING * LIM < 2 ^ 128) × ((P_OPENING + 1) * LIM < 2 ^ 128) × (LIM * LIM < 2 ^ 128) × (CAP_WORTH * LIM < 2 ^ 128) × (GWEI_PER_ETH * LIM < 2 ^ 128) × (ONE * ONE < 2 ^ 128) × (ONE * 2 ^ 64 < 2 ^ 128) × (2 ^ 64 * LIM < 2 ^ 128) }
 {}
 
 /// What is pending for a trove that was set since the state began is at most its exact part of the redistributions since, and
