@@ -1,6 +1,6 @@
 -- What opening, adjusting and closing a trove make of a protocol.
 use Rattle.std.proofs.Common.{◌≡◌, ℕ, ◌+◌, ◌-◌, ◌≤◌, ◌<◌, refl, ap, sym, ◌∙◌, subst, arith, Some, None, Option}
-use Rattle.std.specs.Prelude.{option_map, sum_by, unwrap_or}
+use Rattle.std.specs.Prelude.{option_map, sum_by, IsSome}
 use Rattle.std.specs.BTreeMap.{is_at}
 use Rattle.std.specs.Map.{values_of}
 use Rattle.std.specs.Ordering.{nat_cmp}
@@ -14,19 +14,20 @@ use Rattle.liq_types.specs.declared.requests.Call.TheVariants.{Open, Adjust, Clo
 use Rattle.liq_types.specs.Image.{Image}
 use Rattle.liq_types.specs.Payments.{credited, charged, credited_in, charged_in}
 use Rattle.liq_types.specs.Rules.{first_refusal}
-use Rattle.liq_types.specs.Soundness.{IsSoundImage}
-use Rattle.liq_types.specs.State.{State, TroveEntry, wallet_in}
+use Rattle.liq_types.specs.Soundness.{coll_homes, lusd_homes}
+use Rattle.liq_types.specs.State.{State, TroveEntry, wallet_in, wallet_of}
 use Rattle.liq_types.specs.Tables.{Table, at}
 use Rattle.liq_types.specs.Totals.{market_of, or_nothing}
 use Rattle.liq_types.specs.WellFormed.{Ascends}
 use Rattle.liq_types.proofs.Ascending.{wallet-ascends}
+use Rattle.liq_types.proofs.Lookups.{at-without_same}
 use Rattle.liq_types.proofs.MapRows.{at-map}
 use Rattle.liq_tables.specs.WithRoom.{WithRoom}
 use Rattle.liq_ledger.specs.declared.pools.Pools.{Pools}
 use Rattle.liq_rate.specs.declared.rate.Rate.{Rate}
 use Rattle.liq_troves.specs.Kept.{Kept}
 use Rattle.liq_troves.specs.Own.{lifted, lifted_entry, placed, set_trove}
-use Rattle.liq_troves.specs.Standing.{Books, TrovesStand, books_of, lift, place}
+use Rattle.liq_troves.specs.Standing.{Books, TrovesStand, books_of, lifted_row, lift, place}
 use Rattle.liq_troves.specs.StakeSums.{entire_of, trove_row, trove_rows}
 use Rattle.liq_troves.proofs.BooksOf.{lift_books, place_books}
 use Rattle.liq_troves.proofs.Standing.{lift_stands}
@@ -34,7 +35,7 @@ use Rattle.liq_order.specs.Listed.{Listed}
 use Rattle.liq_order.specs.Order.{order_by}
 use Rattle.liq_borrow.specs.declared.change.Change.{Change}
 use Rattle.liq_borrow.specs.declared.change.Plan.{Plan}
-use Rattle.liq_borrow.specs.Borrowing.{opening_terms, adjusting_terms, closing_terms}
+use Rattle.liq_borrow.specs.Borrowing.{opening_terms, adjusting_terms, adjust_rules, closing_terms, close_rules}
 use Rattle.liq_core.specs.declared.engine.Protocol.TheInside.{Inside}
 use Rattle.liq_core.specs.Books.{kept_books, SameOthers}
 use Rattle.liq_core.specs.Borrowing.{with_fee, opened, adjusted, closed}
@@ -43,9 +44,9 @@ use Rattle.liq_core.specs.Image.{image}
 use Rattle.liq_core.specs.Rules.{rules, effect}
 use Rattle.liq_core.specs.Sound.{IsSound, core_of}
 use Rattle.liq_core.proofs.Moving.{read_or, wallet_here}
-use Rattle.liq_core.proofs.SoundBorrow.{open_allows, open_leaves, adjust_allows, adjust_leaves, close_leaves, has_trove, told}
+use Rattle.liq_core.proofs.SoundBorrow.{open_allows, open_leaves, adjust_allows_own, adjust_leaves, close_leaves, has_trove, told}
 use Rattle.liq_core.proofs.SoundCores.{core_finds, image_back, sound_after}
-use Rattle.liq_core.proofs.SoundFacts.{Finds, Leaves, finds_after, all_false, lt_false}
+use Rattle.liq_core.proofs.SoundFacts.{Finds, Leaves, finds_after, all_false, lt_false, length_without}
 use Rattle.liq_core.proofs.Telling.{books_by}
 
 -- ---- images by their parts
@@ -267,7 +268,191 @@ pub record MayAdjust (p : Inside) (account : ℕ) (change : Change) (plan : Plan
   pub active_coll : (lift (kept_books p.pools p.troves) account).active_coll + plan.coll ≤ LIM
   pub active_debt : (lift (kept_books p.pools p.troves) account).active_debt + plan.debt ≤ LIM
 
+-- what is conserved of an image, within the limits
+record IsWithin (i : Image) : Type 0 where
+  coll : i.brought ≡ coll_homes i
+  lusd : i.active_debt + i.default_debt ≡ lusd_homes i
+  coll_limit : i.brought ≤ LIM
+  debt_limit : i.active_debt + i.default_debt ≤ LIM
+
+within : (t : State) → Finds t → IsWithin (image t)
+within t f =
+    record { coll = f.balanced.homes.coll; lusd = f.balanced.homes.lusd; coll_limit = f.balanced.coll_limit; debt_limit = f.balanced.debt_limit }
+
 module _ (p : Inside) (sound : IsSound p) (account : ℕ) (change : Change) (bound : ℕ) (plan : Plan) (k : account < ACCOUNTS) (is : plan ≡ adjusting_terms (market_of (state_of (core_of p))) (or_nothing (entire_of (state_of (core_of p)) account)) change) (h : first_refusal (adjust_rules (market_of (state_of (core_of p))) (wallet_of (state_of (core_of p)) account) (entire_of (state_of (core_of p)) account) account change bound) ≡ None) where
-  moved : State
-  moved =
-      credited (charged (with_fee (state_of (core_of p)) plan) account change.coll_in change.repay) account change.coll_out change.borrow
+  adjust_left : Leaves 0 (state_of (core_of p)) (adjusted (state_of (core_of p)) account change (adjusting_terms (market_of (state_of (core_of p))) (or_nothing (entire_of (state_of (core_of p)) account)) change))
+  adjust_left = adjust_leaves (state_of (core_of p)) (core_finds (core_of p) sound.image) account bound change k h
+
+  adjust_finds : Finds (adjusted (state_of (core_of p)) account change plan)
+  adjust_finds =
+      subst (λ (x : Plan). Finds (adjusted (state_of (core_of p)) account change x)) (sym is) (finds_after (state_of (core_of p)) _ adjust_left)
+
+  adjust_image : image (adjusted (state_of (core_of p)) account change plan) ≡ with_books (image (credited (charged (with_fee (state_of (core_of p)) plan) account change.coll_in change.repay) account change.coll_out change.borrow)) (place (lift (kept_books p.pools p.troves) account) account plan.coll plan.debt)
+  adjust_image =
+      let paid = credited (charged (with_fee (state_of (core_of p)) plan) account change.coll_in change.repay) account change.coll_out change.borrow in
+      set_image paid account plan.coll plan.debt
+      ∙ ap (λ (b : Books). with_books (image paid) (place (lift b account) account plan.coll plan.debt)) (books_are p sound)
+
+  may_adjust : MayAdjust p account change plan
+  may_adjust =
+      let s = state_of (core_of p) in
+      let f = core_finds (core_of p) sound.image in
+      let own = or_nothing (entire_of s account) in
+      let a = adjust_allows_own s f account bound change h in
+      let there = told (entire_of s account) (all_false (adjust_rules (market_of s) (wallet_of s account) (entire_of s account) account change bound) h).0 in
+      let w = subst IsWithin adjust_image (within (adjusted s account change plan) adjust_finds) in
+      let paid = pay_within (adjusted s account change plan) adjust_finds (charged_in p.wallets.rows account change.coll_in change.repay) account change.coll_out change.borrow (charged-ascends p.wallets.rows account change.coll_in change.repay f.stands.wallets.ascend) (ap (λ (i : Image). i.wallets) adjust_image) in
+      record {
+        coll = a.coll_in;
+        lusd = a.repay;
+        coll_limit = paid.0;
+        lusd_limit = paid.1;
+        fee = omega (arith, w.lusd, w.debt_limit);
+        there = subst (λ (t : Table Trove). IsSome (at t account)) (rows_are p sound) (there_row s f account there);
+        some = subst (λ (x : Plan). 1 ≤ x.coll) (sym is) a.some;
+        least = subst (λ (x : Plan). RESERVE + MIN_NET ≤ x.debt) (sym is) a.least;
+        active_coll = omega (arith, w.coll, w.coll_limit);
+        active_debt = omega (arith, w.debt_limit);
+      }
+
+  adjusted_changes : (wallets : WithRoom Wallet) (pools : Pools) (troves : Kept) (order : Listed) (words : HintWords)
+    → wallets.rows ≡ credited_in (charged_in p.wallets.rows account change.coll_in change.repay) account change.coll_out change.borrow
+    → kept_books pools troves ≡ place (lift (kept_books p.pools p.troves) account) account plan.coll plan.debt
+    → SameOthers (record p.pools { fee_lusd = p.pools.fee_lusd + plan.fee }) pools
+    → Changes (core_of p) (Adjust account change.coll_in change.coll_out change.borrow change.repay bound words) (core_of (record p { rate = plan.rate; wallets = wallets; pools = pools; troves = troves; order = order }))
+  adjusted_changes wallets pools troves order words paid kept others =
+      let s = state_of (core_of p) in
+      changed_into p sound (Adjust account change.coll_in change.coll_out change.borrow change.repay bound words) plan.rate wallets pools (record p.pools { fee_lusd = p.pools.fee_lusd + plan.fee }) troves order
+      (place (lift (kept_books p.pools p.troves) account) account plan.coll plan.debt) (credited_in (charged_in p.wallets.rows account change.coll_in change.repay) account change.coll_out change.borrow) paid kept others
+      (ap (λ (x : Plan). image (adjusted s account change x)) (sym is) ∙ adjust_image)
+
+-- ---- close
+
+-- what a closing finds in a protocol
+pub record MayClose (p : Inside) (account repaid coll : ℕ) : Type 0 where
+  pub lusd : repaid ≤ (wallet_in p.wallets.rows account).lusd
+  pub coll_limit : (wallet_in (charged_in p.wallets.rows account 0 repaid) account).coll + coll ≤ LIM
+  pub lusd_limit : (wallet_in (charged_in p.wallets.rows account 0 repaid) account).lusd ≤ LIM
+  pub reserve : RESERVE ≤ p.pools.reserve
+  pub there : IsSome (at p.troves.table.rows account)
+
+module _ (p : Inside) (sound : IsSound p) (account repaid coll : ℕ) (k : account < ACCOUNTS) (is : (repaid, coll) ≡ closing_terms (or_nothing (entire_of (state_of (core_of p)) account))) (h : first_refusal (close_rules (market_of (state_of (core_of p))) (wallet_of (state_of (core_of p)) account) (entire_of (state_of (core_of p)) account) account) ≡ None) where
+  close_effect : effect (state_of (core_of p)) (Close account) ≡ closed (state_of (core_of p)) account repaid coll
+  close_effect = ap (λ (t : ℕ × ℕ). closed (state_of (core_of p)) account t.0 t.1) (sym is)
+
+  close_left : Leaves 0 (state_of (core_of p)) (effect (state_of (core_of p)) (Close account))
+  close_left = close_leaves (state_of (core_of p)) (core_finds (core_of p) sound.image) account k h
+
+  close_finds : Finds (closed (state_of (core_of p)) account repaid coll)
+  close_finds = subst Finds close_effect (finds_after (state_of (core_of p)) (effect (state_of (core_of p)) (Close account)) close_left)
+
+  close_image : image (closed (state_of (core_of p)) account repaid coll) ≡ with_books (image (record (credited (charged (state_of (core_of p)) account 0 repaid) account coll 0) { reserve = p.pools.reserve - RESERVE })) (lift (kept_books p.pools p.troves) account)
+  close_image =
+      let settled = record (credited (charged (state_of (core_of p)) account 0 repaid) account coll 0) { reserve = p.pools.reserve - RESERVE } in
+      lifted_image settled account ∙ ap (λ (b : Books). with_books (image settled) (lift b account)) (books_are p sound)
+
+  may_close : MayClose p account repaid coll
+  may_close =
+      let s = state_of (core_of p) in
+      let f = core_finds (core_of p) sound.image in
+      let own = or_nothing (entire_of s account) in
+      let rules = all_false (close_rules (market_of s) (wallet_of s account) (entire_of s account) account) h in
+      let there = told (entire_of s account) rules.0 in
+      let enough = lt_false (wallet_of s account).lusd (own.1 - RESERVE) rules.1.1.1.0 in
+      let repaid_is = ap (λ (t : ℕ × ℕ). t.0) is in
+      let has = has_trove s account own f.stands there in
+      let rows = length_without s.troves account has.entry has.there in
+      let paid = pay_within (closed s account repaid coll) close_finds (charged_in p.wallets.rows account 0 repaid) account coll 0 (charged-ascends p.wallets.rows account 0 repaid f.stands.wallets.ascend) (ap (λ (i : Image). i.wallets) close_image) in
+      record {
+        lusd = omega (arith, enough, repaid_is);
+        coll_limit = paid.0;
+        lusd_limit = omega (arith, paid.1);
+        reserve = omega (arith, f.balanced.homes.reserve, rows);
+        there = subst (λ (t : Table Trove). IsSome (at t account)) (rows_are p sound) (there_row s f account there);
+      }
+
+  closed_changes : (wallets : WithRoom Wallet) (pools : Pools) (troves : Kept) (order : Listed)
+    → wallets.rows ≡ credited_in (charged_in p.wallets.rows account 0 repaid) account coll 0
+    → kept_books pools troves ≡ lift (kept_books p.pools p.troves) account
+    → SameOthers (record p.pools { reserve = p.pools.reserve - RESERVE }) pools
+    → Changes (core_of p) (Close account) (core_of (record p { wallets = wallets; pools = pools; troves = troves; order = order }))
+  closed_changes wallets pools troves order paid kept others =
+      changed_into p sound (Close account) p.rate wallets pools (record p.pools { reserve = p.pools.reserve - RESERVE }) troves order
+      (lift (kept_books p.pools p.troves) account) (credited_in (charged_in p.wallets.rows account 0 repaid) account coll 0) paid kept others
+      (ap image close_effect ∙ close_image)
+
+-- ---- adjusting and closing, of the core that a protocol is seen as
+
+module _ (p : Inside) (old : Core) (view : core_of p ≡ old) (sound : IsSound p) (account : ℕ) (k : account < ACCOUNTS) where
+  module _ (change : Change) (plan : Plan) (is : plan ≡ adjusting_terms (market_of (state_of old)) (or_nothing (entire_of (state_of old) account)) change) (h : (bound : ℕ) × (words : HintWords) × (first_refusal (rules (state_of old) (Adjust account change.coll_in change.coll_out change.borrow change.repay bound words)) ≡ None)) where
+    adjust_is : plan ≡ adjusting_terms (market_of (state_of (core_of p))) (or_nothing (entire_of (state_of (core_of p)) account)) change
+    adjust_is = subst (λ (core : Core). plan ≡ adjusting_terms (market_of (state_of core)) (or_nothing (entire_of (state_of core) account)) change) (sym view) is
+
+    adjust_passes : first_refusal (adjust_rules (market_of (state_of (core_of p))) (wallet_of (state_of (core_of p)) account) (entire_of (state_of (core_of p)) account) account change h.0) ≡ None
+    adjust_passes = subst (λ (core : Core). first_refusal (adjust_rules (market_of (state_of core)) (wallet_of (state_of core) account) (entire_of (state_of core) account) account change h.0) ≡ None) (sym view) h.2
+
+    pub adjusts_so : MayAdjust p account change plan
+    adjusts_so = may_adjust p sound account change h.0 plan k adjust_is adjust_passes
+
+    module _ (wallets : WithRoom Wallet) (pools left_pools : Pools) (troves left_troves : Kept) (order : Listed)
+      (paid : wallets.rows ≡ credited_in (charged_in p.wallets.rows account change.coll_in change.repay) account change.coll_out change.borrow)
+      (left : kept_books left_pools left_troves ≡ lift (kept_books p.pools p.troves) account)
+      (kept : kept_books pools troves ≡ place (kept_books left_pools left_troves) account plan.coll plan.debt)
+      (first : SameOthers (record p.pools { fee_lusd = p.pools.fee_lusd + plan.fee }) left_pools)
+      (second : SameOthers left_pools pools) where
+      adjust_made : Changes (core_of p) (Adjust account change.coll_in change.coll_out change.borrow change.repay h.0 h.1) (core_of (record p { rate = plan.rate; wallets = wallets; pools = pools; troves = troves; order = order }))
+      adjust_made =
+          adjusted_changes p sound account change h.0 plan k adjust_is adjust_passes wallets pools troves order h.1 paid
+          (kept ∙ ap (λ (b : Books). place b account plan.coll plan.debt) left)
+          (record { reserve = second.reserve ∙ first.reserve; surplus = second.surplus ∙ first.surplus; fee_coll = second.fee_coll ∙ first.fee_coll; fee_lusd = second.fee_lusd ∙ first.fee_lusd })
+
+      pub adjust_changes : (bound : ℕ) (words : HintWords) → Changes old (Adjust account change.coll_in change.coll_out change.borrow change.repay bound words) (core_of (record p { rate = plan.rate; wallets = wallets; pools = pools; troves = troves; order = order }))
+      adjust_changes bound words =
+          subst (λ (core : Core). Changes core (Adjust account change.coll_in change.coll_out change.borrow change.repay bound words) (core_of (record p { rate = plan.rate; wallets = wallets; pools = pools; troves = troves; order = order }))) view
+          (record { image = adjust_made.image; records = adjust_made.records; clients = adjust_made.clients })
+
+      pub adjust_sound : order.entries ≡ order_by troves.table.rows → IsSound (record p { rate = plan.rate; wallets = wallets; pools = pools; troves = troves; order = order })
+      adjust_sound listed =
+          sound_after p (record p { rate = plan.rate; wallets = wallets; pools = pools; troves = troves; order = order }) (core_of p) (Adjust account change.coll_in change.coll_out change.borrow change.repay h.0 h.1) refl sound
+          (adjust_left p sound account change h.0 plan k adjust_is adjust_passes) adjust_made listed
+
+  module _ (repaid coll : ℕ) (is : (repaid, coll) ≡ closing_terms (or_nothing (entire_of (state_of old) account))) (h : first_refusal (rules (state_of old) (Close account)) ≡ None) where
+    close_is : (repaid, coll) ≡ closing_terms (or_nothing (entire_of (state_of (core_of p)) account))
+    close_is = subst (λ (core : Core). (repaid, coll) ≡ closing_terms (or_nothing (entire_of (state_of core) account))) (sym view) is
+
+    close_passes : first_refusal (close_rules (market_of (state_of (core_of p))) (wallet_of (state_of (core_of p)) account) (entire_of (state_of (core_of p)) account) account) ≡ None
+    close_passes = subst (λ (core : Core). first_refusal (rules (state_of core) (Close account)) ≡ None) (sym view) h
+
+    pub closes_so : MayClose p account repaid coll
+    closes_so = may_close p sound account repaid coll k close_is close_passes
+
+    module _ (wallets : WithRoom Wallet) (pools : Pools) (troves : Kept) (order : Listed)
+      (paid : wallets.rows ≡ credited_in (charged_in p.wallets.rows account 0 repaid) account coll 0)
+      (kept : kept_books pools troves ≡ lift (kept_books p.pools p.troves) account)
+      (others : SameOthers (record p.pools { reserve = p.pools.reserve - RESERVE }) pools) where
+      close_made : Changes (core_of p) (Close account) (core_of (record p { wallets = wallets; pools = pools; troves = troves; order = order }))
+      close_made = closed_changes p sound account repaid coll k close_is close_passes wallets pools troves order paid kept others
+
+      pub close_changes : Changes old (Close account) (core_of (record p { wallets = wallets; pools = pools; troves = troves; order = order }))
+      close_changes =
+          subst (λ (core : Core). Changes core (Close account) (core_of (record p { wallets = wallets; pools = pools; troves = troves; order = order }))) view close_made
+
+      pub close_sound : order.entries ≡ order_by troves.table.rows → IsSound (record p { wallets = wallets; pools = pools; troves = troves; order = order })
+      close_sound listed =
+          sound_after p (record p { wallets = wallets; pools = pools; troves = troves; order = order }) (core_of p) (Close account) refl sound
+          (close_left p sound account repaid coll k close_is close_passes) close_made listed
+
+-- ---- between the two halves of an adjustment
+
+module _ (b : Books) (stand : TrovesStand b) (account : ℕ) (pools : Pools) (troves : Kept) (left : kept_books pools troves ≡ lift b account) where
+  pub left_absent : at troves.table.rows account ≡ None
+  left_absent = ap (λ (x : Books). at x.troves account) left ∙ no_longer_there b account (at b.troves account) refl stand.ascend
+
+  pub left_stand : TrovesStand (kept_books pools troves)
+  left_stand = subst TrovesStand (sym left) (lift_stands b account stand)
+
+  pub left_coll : pools.active_coll ≡ (lift b account).active_coll
+  left_coll = ap (λ (x : Books). x.active_coll) left
+
+  pub left_debt : pools.active_debt ≡ (lift b account).active_debt
+  left_debt = ap (λ (x : Books). x.active_debt) left
