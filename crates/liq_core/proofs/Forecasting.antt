@@ -1,14 +1,14 @@
 -- What is planned of opening, adjusting and closing is what the step has.
-use Rattle.std.proofs.Common.{◌≡◌, ℕ, ◌+◌, ◌<◌, Bool, List, [], ◌∷◌, refl, ap, sym, ◌∙◌, subst, Some, None, Option}
-use Rattle.std.specs.Prelude.{Result, Ok, Err, is_some}
+use Rattle.std.proofs.Common.{◌≡◌, ℕ, ◌+◌, ◌<◌, Bool, List, [], ◌∷◌, refl, ap, sym, ◌∙◌, None, Option}
+use Rattle.std.specs.Prelude.{Ok, Err, is_some}
 use Rattle.liq_types.specs.declared.amounts.TheConstants.{ACCOUNTS, RESERVE}
 use Rattle.liq_types.specs.declared.events.ListChange.{ListChange}
-use Rattle.liq_types.specs.declared.events.ListChange.TheVariants.{Put, Gone}
+use Rattle.liq_types.specs.declared.events.ListChange.TheVariants.{Put}
 use Rattle.liq_types.specs.declared.figures.Market.{Market}
 use Rattle.liq_types.specs.declared.figures.Wallet.{Wallet}
 use Rattle.liq_types.specs.declared.hints.HintWords.{HintWords}
 use Rattle.liq_types.specs.declared.replies.Refusal.{Refusal}
-use Rattle.liq_types.specs.declared.requests.Call.TheVariants.{Open, Adjust, Close}
+use Rattle.liq_types.specs.declared.requests.Call.TheVariants.{Open, Adjust}
 use Rattle.liq_types.specs.Payments.{credited, charged}
 use Rattle.liq_types.specs.Rules.{first_refusal}
 use Rattle.liq_types.specs.State.{State, wallet_of}
@@ -18,7 +18,7 @@ use Rattle.liq_troves.specs.Rows.{key_by, set_row}
 use Rattle.liq_troves.specs.StakeSums.{entire_of, sums_words}
 use Rattle.liq_borrow.specs.declared.change.Change.{Change}
 use Rattle.liq_borrow.specs.declared.change.Plan.{Plan}
-use Rattle.liq_borrow.specs.Borrowing.{open_plan, adjust_plan, close_plan, opening_terms, adjusting_terms, closing_terms}
+use Rattle.liq_borrow.specs.Borrowing.{open_plan, adjust_plan, opening_terms, adjusting_terms}
 use Rattle.liq_core.specs.declared.told.ListChanges.TheVariants as changes
 use Rattle.liq_core.specs.declared.told.PoolEvents.TheVariants as events
 use Rattle.liq_core.specs.declared.turns.Forecast.{Forecast}

@@ -1,8 +1,7 @@
 -- What opening, adjusting and closing a trove make of a protocol.
 use Rattle.std.proofs.Common.{◌≡◌, ℕ, ◌+◌, ◌-◌, ◌≤◌, ◌<◌, refl, ap, sym, ◌∙◌, subst, arith, Some, None, Option}
-use Rattle.std.specs.Prelude.{option_map, sum_by, IsSome}
+use Rattle.std.specs.Prelude.{option_map, IsSome}
 use Rattle.std.specs.BTreeMap.{is_at}
-use Rattle.std.specs.Map.{values_of}
 use Rattle.std.specs.Ordering.{nat_cmp}
 use Rattle.std.proofs.lemmas.Map.Entries.{sum_by-remove_entry}
 use Rattle.liq_types.specs.declared.amounts.TheConstants.{ACCOUNTS, LIM, RESERVE, MIN_NET}
@@ -138,9 +137,9 @@ module _ (p : Inside) (sound : IsSound p) where
 
   -- a protocol with a state's image is changed into it
   changed_into : (call : Call) (rate : Rate) (wallets : WithRoom Wallet) (pools old_pools : Pools) (troves : Kept) (order : Listed) (b : Books) (paid : Table Wallet)
-    → wallets.rows ≡ paid → kept_books pools troves ≡ b → SameOthers old_pools pools
-    → image (effect (state_of (core_of p)) call) ≡ with_parts (image (state_of (core_of p))) rate old_pools.reserve old_pools.surplus old_pools.fee_coll old_pools.fee_lusd paid b
-    → Changes (core_of p) call (core_of (record p { rate = rate; wallets = wallets; pools = pools; troves = troves; order = order }))
+      → wallets.rows ≡ paid → kept_books pools troves ≡ b → SameOthers old_pools pools
+      → image (effect (state_of (core_of p)) call) ≡ with_parts (image (state_of (core_of p))) rate old_pools.reserve old_pools.surplus old_pools.fee_coll old_pools.fee_lusd paid b
+      → Changes (core_of p) call (core_of (record p { rate = rate; wallets = wallets; pools = pools; troves = troves; order = order }))
   changed_into call rate wallets pools old_pools troves order b paid paid_is kept others is =
       let i = (core_of p).image in
       record {
@@ -204,10 +203,10 @@ module _ (p : Inside) (sound : IsSound p) (account borrow bound : ℕ) (words : 
       }
 
   opened_changes : (wallets : WithRoom Wallet) (pools : Pools) (troves : Kept) (order : Listed)
-    → wallets.rows ≡ credited_in (charged_in p.wallets.rows account plan.coll 0) account 0 borrow
-    → kept_books pools troves ≡ place (kept_books p.pools p.troves) account plan.coll plan.debt
-    → SameOthers (record p.pools { fee_lusd = p.pools.fee_lusd + plan.fee; reserve = p.pools.reserve + RESERVE }) pools
-    → Changes (core_of p) (Open account plan.coll borrow bound words) (core_of (record p { rate = plan.rate; wallets = wallets; pools = pools; troves = troves; order = order }))
+      → wallets.rows ≡ credited_in (charged_in p.wallets.rows account plan.coll 0) account 0 borrow
+      → kept_books pools troves ≡ place (kept_books p.pools p.troves) account plan.coll plan.debt
+      → SameOthers (record p.pools { fee_lusd = p.pools.fee_lusd + plan.fee; reserve = p.pools.reserve + RESERVE }) pools
+      → Changes (core_of p) (Open account plan.coll borrow bound words) (core_of (record p { rate = plan.rate; wallets = wallets; pools = pools; troves = troves; order = order }))
   opened_changes wallets pools troves order paid kept others =
       let s = state_of (core_of p) in
       let lent = credited (charged (with_fee s plan) account plan.coll 0) account 0 borrow in
@@ -228,9 +227,9 @@ module _ (p : Inside) (old : Core) (view : core_of p ≡ old) (sound : IsSound p
   opens_so = may_open p sound account borrow h.0 h.1 plan k open_is open_passes
 
   module _ (wallets : WithRoom Wallet) (pools : Pools) (troves : Kept) (order : Listed)
-    (paid : wallets.rows ≡ credited_in (charged_in p.wallets.rows account plan.coll 0) account 0 borrow)
-    (kept : kept_books pools troves ≡ place (kept_books p.pools p.troves) account plan.coll plan.debt)
-    (others : SameOthers (record p.pools { fee_lusd = p.pools.fee_lusd + plan.fee; reserve = p.pools.reserve + RESERVE }) pools) where
+      (paid : wallets.rows ≡ credited_in (charged_in p.wallets.rows account plan.coll 0) account 0 borrow)
+      (kept : kept_books pools troves ≡ place (kept_books p.pools p.troves) account plan.coll plan.debt)
+      (others : SameOthers (record p.pools { fee_lusd = p.pools.fee_lusd + plan.fee; reserve = p.pools.reserve + RESERVE }) pools) where
     pub open_changes : (bound : ℕ) (words : HintWords) → Changes old (Open account plan.coll borrow bound words) (core_of (record p { rate = plan.rate; wallets = wallets; pools = pools; troves = troves; order = order }))
     open_changes bound words =
         subst (λ (core : Core). Changes core (Open account plan.coll borrow bound words) (core_of (record p { rate = plan.rate; wallets = wallets; pools = pools; troves = troves; order = order }))) view
@@ -316,10 +315,10 @@ module _ (p : Inside) (sound : IsSound p) (account : ℕ) (change : Change) (bou
       }
 
   adjusted_changes : (wallets : WithRoom Wallet) (pools : Pools) (troves : Kept) (order : Listed) (words : HintWords)
-    → wallets.rows ≡ credited_in (charged_in p.wallets.rows account change.coll_in change.repay) account change.coll_out change.borrow
-    → kept_books pools troves ≡ place (lift (kept_books p.pools p.troves) account) account plan.coll plan.debt
-    → SameOthers (record p.pools { fee_lusd = p.pools.fee_lusd + plan.fee }) pools
-    → Changes (core_of p) (Adjust account change.coll_in change.coll_out change.borrow change.repay bound words) (core_of (record p { rate = plan.rate; wallets = wallets; pools = pools; troves = troves; order = order }))
+      → wallets.rows ≡ credited_in (charged_in p.wallets.rows account change.coll_in change.repay) account change.coll_out change.borrow
+      → kept_books pools troves ≡ place (lift (kept_books p.pools p.troves) account) account plan.coll plan.debt
+      → SameOthers (record p.pools { fee_lusd = p.pools.fee_lusd + plan.fee }) pools
+      → Changes (core_of p) (Adjust account change.coll_in change.coll_out change.borrow change.repay bound words) (core_of (record p { rate = plan.rate; wallets = wallets; pools = pools; troves = troves; order = order }))
   adjusted_changes wallets pools troves order words paid kept others =
       let s = state_of (core_of p) in
       changed_into p sound (Adjust account change.coll_in change.coll_out change.borrow change.repay bound words) plan.rate wallets pools (record p.pools { fee_lusd = p.pools.fee_lusd + plan.fee }) troves order
@@ -372,10 +371,10 @@ module _ (p : Inside) (sound : IsSound p) (account repaid coll : ℕ) (k : accou
       }
 
   closed_changes : (wallets : WithRoom Wallet) (pools : Pools) (troves : Kept) (order : Listed)
-    → wallets.rows ≡ credited_in (charged_in p.wallets.rows account 0 repaid) account coll 0
-    → kept_books pools troves ≡ lift (kept_books p.pools p.troves) account
-    → SameOthers (record p.pools { reserve = p.pools.reserve - RESERVE }) pools
-    → Changes (core_of p) (Close account) (core_of (record p { wallets = wallets; pools = pools; troves = troves; order = order }))
+      → wallets.rows ≡ credited_in (charged_in p.wallets.rows account 0 repaid) account coll 0
+      → kept_books pools troves ≡ lift (kept_books p.pools p.troves) account
+      → SameOthers (record p.pools { reserve = p.pools.reserve - RESERVE }) pools
+      → Changes (core_of p) (Close account) (core_of (record p { wallets = wallets; pools = pools; troves = troves; order = order }))
   closed_changes wallets pools troves order paid kept others =
       changed_into p sound (Close account) p.rate wallets pools (record p.pools { reserve = p.pools.reserve - RESERVE }) troves order
       (lift (kept_books p.pools p.troves) account) (credited_in (charged_in p.wallets.rows account 0 repaid) account coll 0) paid kept others
@@ -395,11 +394,11 @@ module _ (p : Inside) (old : Core) (view : core_of p ≡ old) (sound : IsSound p
     adjusts_so = may_adjust p sound account change h.0 plan k adjust_is adjust_passes
 
     module _ (wallets : WithRoom Wallet) (pools left_pools : Pools) (troves left_troves : Kept) (order : Listed)
-      (paid : wallets.rows ≡ credited_in (charged_in p.wallets.rows account change.coll_in change.repay) account change.coll_out change.borrow)
-      (left : kept_books left_pools left_troves ≡ lift (kept_books p.pools p.troves) account)
-      (kept : kept_books pools troves ≡ place (kept_books left_pools left_troves) account plan.coll plan.debt)
-      (first : SameOthers (record p.pools { fee_lusd = p.pools.fee_lusd + plan.fee }) left_pools)
-      (second : SameOthers left_pools pools) where
+        (paid : wallets.rows ≡ credited_in (charged_in p.wallets.rows account change.coll_in change.repay) account change.coll_out change.borrow)
+        (left : kept_books left_pools left_troves ≡ lift (kept_books p.pools p.troves) account)
+        (kept : kept_books pools troves ≡ place (kept_books left_pools left_troves) account plan.coll plan.debt)
+        (first : SameOthers (record p.pools { fee_lusd = p.pools.fee_lusd + plan.fee }) left_pools)
+        (second : SameOthers left_pools pools) where
       adjust_made : Changes (core_of p) (Adjust account change.coll_in change.coll_out change.borrow change.repay h.0 h.1) (core_of (record p { rate = plan.rate; wallets = wallets; pools = pools; troves = troves; order = order }))
       adjust_made =
           adjusted_changes p sound account change h.0 plan k adjust_is adjust_passes wallets pools troves order h.1 paid
@@ -427,9 +426,9 @@ module _ (p : Inside) (old : Core) (view : core_of p ≡ old) (sound : IsSound p
     closes_so = may_close p sound account repaid coll k close_is close_passes
 
     module _ (wallets : WithRoom Wallet) (pools : Pools) (troves : Kept) (order : Listed)
-      (paid : wallets.rows ≡ credited_in (charged_in p.wallets.rows account 0 repaid) account coll 0)
-      (kept : kept_books pools troves ≡ lift (kept_books p.pools p.troves) account)
-      (others : SameOthers (record p.pools { reserve = p.pools.reserve - RESERVE }) pools) where
+        (paid : wallets.rows ≡ credited_in (charged_in p.wallets.rows account 0 repaid) account coll 0)
+        (kept : kept_books pools troves ≡ lift (kept_books p.pools p.troves) account)
+        (others : SameOthers (record p.pools { reserve = p.pools.reserve - RESERVE }) pools) where
       close_made : Changes (core_of p) (Close account) (core_of (record p { wallets = wallets; pools = pools; troves = troves; order = order }))
       close_made = closed_changes p sound account repaid coll k close_is close_passes wallets pools troves order paid kept others
 

@@ -1,13 +1,12 @@
 -- What plans are told of a protocol's troves, and what they tell.
-use Rattle.std.proofs.Common.{◌≡◌, ℕ, ◌+◌, ◌≤◌, ◌<◌, Bool, true, false, cond, List, [], ◌∷◌, refl, ap, sym, ◌∙◌, arith, nat_le, length, Some, None, Option}
-use Rattle.std.specs.Prelude.{Result, Ok, Err, is_some, sum_by}
+use Rattle.std.proofs.Common.{◌≡◌, ℕ, ◌+◌, ◌≤◌, ◌<◌, false, cond, List, ◌∷◌, refl, ap, sym, ◌∙◌, arith, nat_le, length, Some, None, Option}
+use Rattle.std.specs.Prelude.{Ok, Err, is_some, sum_by}
 use Rattle.std.specs.BTreeMap.{is_at}
 use Rattle.std.specs.Map.{values_of}
 use Rattle.std.specs.Ordering.{nat_cmp}
 use Rattle.std.proofs.lemmas.Bool.Decides.{nat_tests}
 use Rattle.std.proofs.lemmas.Map.Entries.{sum_by-remove_entry}
 use Rattle.liq_types.specs.declared.amounts.TheConstants.{ACCOUNTS, LIM}
-use Rattle.liq_types.specs.declared.events.ListChange.{ListChange}
 use Rattle.liq_types.specs.declared.events.ListChange.TheVariants.{Put}
 use Rattle.liq_types.specs.declared.figures.Trove.{Trove}
 use Rattle.liq_types.specs.declared.figures.Wallet.{Wallet}
@@ -17,16 +16,14 @@ use Rattle.liq_types.specs.Image.{Image}
 use Rattle.liq_types.specs.Rules.{Rule, first_refusal, outcome}
 use Rattle.liq_types.specs.Soundness.{IsSoundImage}
 use Rattle.liq_types.specs.State.{State, TroveEntry, After, wallet_of}
-use Rattle.liq_types.specs.Tables.{at, put}
+use Rattle.liq_types.specs.Tables.{at}
 use Rattle.liq_types.specs.Totals.{total_debt, or_nothing}
 use Rattle.liq_types.proofs.Lookups.{at-put_same}
 use Rattle.liq_types.proofs.MapRows.{at-map}
-use Rattle.liq_troves.specs.declared.sums.Sums.{Sums}
 use Rattle.liq_troves.specs.Own.{lifted, lifted_entry, placed, stake_for}
 use Rattle.liq_troves.specs.Rows.{entire_in, key_by, set_row}
 use Rattle.liq_troves.specs.StakeSums.{entire_of, sums_words, trove_row}
 use Rattle.liq_core.specs.Core.{Core, state_of}
-use Rattle.liq_core.specs.Image.{image}
 use Rattle.liq_core.specs.ListChanges.{standing, stands}
 use Rattle.liq_core.specs.Step.{in_range}
 use Rattle.liq_core.proofs.AlikeReads.{sums_by, some-map}

@@ -202,12 +202,7 @@ impl Protocol {
         );
         self.rate = plan.rate;
         self.pools.fee_lusd += plan.fee;
-        lift_trove(
-            &mut self.pools,
-            &mut self.troves,
-            &mut self.order,
-            account,
-        );
+        lift_trove(&mut self.pools, &mut self.troves, &mut self.order, account);
         place_trove(
             &mut self.pools,
             &mut self.troves,
@@ -238,12 +233,7 @@ impl Protocol {
             &Wallet { coll, lusd: 0 },
         );
         self.pools.reserve -= RESERVE;
-        lift_trove(
-            &mut self.pools,
-            &mut self.troves,
-            &mut self.order,
-            account,
-        );
+        lift_trove(&mut self.pools, &mut self.troves, &mut self.order, account);
     }
 }
 

@@ -250,12 +250,7 @@ impl Protocol {
 
     /// Makes the planned command's step. It takes no memory and cannot fail: the command was planned on this state, and
     /// its room was reserved. A hint never changes what is seen.
-    pub fn apply<L: Ledger>(
-        &mut self,
-        planned: Planned,
-        hint: &Hint,
-        steps: &mut Steps<L>,
-    ) -> Done
+    pub fn apply<L: Ledger>(&mut self, planned: Planned, hint: &Hint, steps: &mut Steps<L>) -> Done
         requires planned { IsPlannedOn self.old planned }
         requires room { HasRoom self.old planned }
         ensures state { (s : State) → StandsFor self.old s → StandsFor self.new (step s (Do planned.command)).0 }
@@ -271,13 +266,7 @@ impl Protocol {
     }
 
     /// The effect of a call that is allowed.
-    fn change<L: Ledger>(
-        &mut self,
-        call: &Call,
-        terms: &Terms,
-        hint: &Hint,
-        steps: &mut Steps<L>,
-    )
+    fn change<L: Ledger>(&mut self, call: &Call, terms: &Terms, hint: &Hint, steps: &mut Steps<L>)
         requires built { IsTrue (built_call call.now) }
         requires range { AllByRecursion (λ account. account < ACCOUNTS) (accounts call.now) }
         requires allowed { first_refusal (rules (state_of self.old) call.now) ≡ None }

@@ -17,12 +17,7 @@ use std::sync::ledger::Ledger;
 
 /// The account's trove leaves the table, the pools and the list. The other pools stay, and
 /// its room does in table and list.
-pub(crate) fn lift_trove(
-    pools: &mut Pools,
-    troves: &mut Troves,
-    order: &mut Order,
-    account: u32,
-)
+pub(crate) fn lift_trove(pools: &mut Pools, troves: &mut Troves, order: &mut Order, account: u32)
     requires there { IsSome (at troves.old.table.rows account) }
     requires stand { TrovesStand (kept_books pools.old troves.old) }
     requires list { order.old.entries ≡ order_by troves.old.table.rows }

@@ -1,8 +1,8 @@
-use Rattle.std.proofs.Common.{◌≡◌, ◌+◌, ◌≤◌, List, sym, ap, ◌∙◌, subst, None, arith, rules}
+use Rattle.std.proofs.Common.{List, sym, ap, ◌∙◌, arith, rules}
 use Rattle.std.proofs.lemmas.Int.{to_z-of_z}
 use Rattle.liq_types.specs.declared.figures.Trove.{Trove}
 use Rattle.liq_types.specs.Ranked.{Ranked, key_in, with_ranked}
-use Rattle.liq_types.specs.Tables.{Table, put}
+use Rattle.liq_types.specs.Tables.{Table}
 use Rattle.liq_troves.proofs.Standing.{place_stands}
 use Rattle.liq_troves.specs.Rows.{set_row, key_by}
 use Rattle.liq_order.specs.Order.{order_by}

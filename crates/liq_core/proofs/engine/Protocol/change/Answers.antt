@@ -1,14 +1,12 @@
 use Rattle.std.proofs.Common.{◌≡◌, ℕ, sym, ap, subst, None}
 use Rattle.liq_types.specs.declared.hints.HintWords.{HintWords}
 use Rattle.liq_types.specs.declared.requests.Call.{Call}
-use Rattle.liq_types.specs.declared.requests.Call.TheVariants.{Open, Adjust}
+use Rattle.liq_types.specs.declared.requests.Call.TheVariants.{Open}
 use Rattle.liq_types.specs.Rules.{first_refusal}
 use Rattle.liq_types.specs.State.{State}
-use Rattle.liq_types.specs.Totals.{market_of, or_nothing}
-use Rattle.liq_troves.specs.StakeSums.{entire_of}
-use Rattle.liq_borrow.specs.declared.change.Change.{Change}
+use Rattle.liq_types.specs.Totals.{market_of}
 use Rattle.liq_borrow.specs.declared.change.Plan.{Plan}
-use Rattle.liq_borrow.specs.Borrowing.{opening_terms, adjusting_terms}
+use Rattle.liq_borrow.specs.Borrowing.{opening_terms}
 use Rattle.liq_core.specs.declared.turns.Terms.{Terms}
 use Rattle.liq_core.specs.declared.turns.Terms.TheVariants.{Trove}
 use Rattle.liq_core.specs.Core.{Changes, state_of}
@@ -30,7 +28,7 @@ open_trove-requires-clause-allowed g c =
       c.in-Open.field-3,
       c.in-Open.words,
       subst (λ n. first_refusal (rules s (Open c.in-Open.account n c.in-Open.borrow c.in-Open.field-3 c.in-Open.words)) ≡ None) (sym coll)
-      (subst (λ (call : Call). first_refusal (rules s call) ≡ None) c.in-Open.is c.requires.allowed),
+          (subst (λ (call : Call). first_refusal (rules s call) ≡ None) c.in-Open.is c.requires.allowed),
     )
 
 pub returns-in-Open : goal.returns-in-Open

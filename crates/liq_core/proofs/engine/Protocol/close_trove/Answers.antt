@@ -1,4 +1,4 @@
-use Rattle.std.proofs.Common.{◌≤◌, ◌∙◌, sym, ap, subst, arith}
+use Rattle.std.proofs.Common.{arith}
 use Rattle.liq_core.proofs.Lending.{books_stand, coll_held, debt_held, closes_so, close_changes, close_sound}
 use Rattle.liq_core.proofs.engine.Protocol.close_trove.Goals as goal
 
@@ -27,11 +27,11 @@ pub lift_trove-requires-clause-debt : goal.lift_trove-requires-clause-debt
 lift_trove-requires-clause-debt c = debt_held c.self.inside c.self.invariant
 
 pub invariant_of-self : goal.invariant_of-self
-invariant_of-self c = 
+invariant_of-self c =
     close_sound c.self.inside c.args.self.now c.self.view_is c.self.invariant c.args.account c.requires.range c.args.repaid c.args.coll c.requires.terms c.requires.allowed
     c.exchange.new.wallets c.lift_trove.new.pools c.lift_trove.new.troves c.lift_trove.new.order c.exchange.ensures.rows c.lift_trove.ensures.books c.lift_trove.ensures.others c.lift_trove.ensures.list
 
 pub returns : goal.returns
-returns c = 
+returns c =
     close_changes c.self.inside c.args.self.now c.self.view_is c.self.invariant c.args.account c.requires.range c.args.repaid c.args.coll c.requires.terms c.requires.allowed
     c.exchange.new.wallets c.lift_trove.new.pools c.lift_trove.new.troves c.lift_trove.new.order c.exchange.ensures.rows c.lift_trove.ensures.books c.lift_trove.ensures.others

@@ -1,14 +1,11 @@
-use Rattle.std.proofs.Common.{◌≡◌, ℕ, ◌<◌, ◌^◌, ap, sym, ◌∙◌, subst, Some, Option}
+use Rattle.std.proofs.Common.{ℕ, ◌<◌, ◌^◌, ap, sym, ◌∙◌, subst, Some}
 use Rattle.std.specs.Prelude.{option_copied, option_map}
-use Rattle.liq_types.specs.declared.figures.Trove.{Trove}
 use Rattle.liq_types.specs.Soundness.{IsSoundImage}
-use Rattle.liq_types.specs.Tables.{at}
 use Rattle.liq_troves.specs.declared.sums.Sums.{Sums}
-use Rattle.liq_troves.specs.Rows.{entire_by, entire_in}
+use Rattle.liq_troves.specs.Rows.{entire_by}
 use Rattle.liq_troves.specs.StakeSums.{entire_of}
 use Rattle.liq_core.specs.Core.{Core, state_of}
 use Rattle.liq_core.specs.Sound.{core_of}
-use Rattle.liq_core.proofs.AlikeReads.{sums_by}
 use Rattle.liq_core.proofs.Reading.{entire_read, owned_within}
 use Rattle.liq_core.proofs.SoundCores.{core_finds}
 use Rattle.liq_core.proofs.Telling.{entire_fits}

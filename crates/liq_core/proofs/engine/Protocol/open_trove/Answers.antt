@@ -1,8 +1,5 @@
-use Rattle.std.proofs.Common.{◌≤◌, sym, ap, subst, arith}
-use Rattle.liq_types.specs.Payments.{credited_in}
-use Rattle.liq_core.specs.Core.{Core}
+use Rattle.std.proofs.Common.{arith}
 use Rattle.liq_core.proofs.Lending.{books_stand, opens_so, open_changes, open_sound}
-use Rattle.liq_core.proofs.engine.Protocol.open_trove.Given as given
 use Rattle.liq_core.proofs.engine.Protocol.open_trove.Goals as goal
 
 pub exchange-requires-clause-coll : goal.exchange-requires-clause-coll

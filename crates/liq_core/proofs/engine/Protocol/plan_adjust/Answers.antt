@@ -1,15 +1,12 @@
-use Rattle.std.proofs.Common.{◌≡◌, ℕ, ◌≤◌, sym, ◌∙◌, subst, arith}
+use Rattle.std.proofs.Common.{◌≤◌, sym, ◌∙◌, subst}
 use Rattle.std.proofs.lemmas.Result.{err_from_is_err_and}
 use Rattle.liq_types.specs.Soundness.{IsSoundImage}
-use Rattle.liq_types.specs.Totals.{or_nothing}
-use Rattle.liq_troves.specs.StakeSums.{entire_of}
 use Rattle.liq_borrow.specs.declared.change.Plan.{Plan}
 use Rattle.liq_core.specs.Core.{Core, state_of}
 use Rattle.liq_core.specs.Verbs.{no_hint}
 use Rattle.liq_core.proofs.Forecasting.{adjust_refused, adjust_allowed, adjust_forecast}
 use Rattle.liq_core.proofs.SoundBorrow.{adjust_allows_own}
 use Rattle.liq_core.proofs.SoundCores.{core_finds}
-use Rattle.liq_core.proofs.SoundFacts.{all_false}
 use Rattle.liq_core.proofs.engine.Protocol.plan_adjust.Goals as goal
 
 pub returns-in_err-plan : goal.returns-in_err-plan

@@ -4,8 +4,8 @@ use Rattle.liq_types.specs.declared.hints.HintWords.{HintWords}
 use Rattle.std.specs.List.{AllByRecursion, Contains}
 use Rattle.liq_types.specs.declared.requests.Call.{Call}
 use Rattle.liq_types.specs.declared.requests.Call.TheVariants.{Fund, Take, Adjust, Close}
-use Rattle.liq_core.specs.Core.{Core, Room}
-use Rattle.liq_core.specs.Plan.{Plan, HasRoom}
+use Rattle.liq_core.specs.Core.{Room}
+use Rattle.liq_core.specs.Plan.{Plan}
 use Rattle.liq_core.specs.Verbs.{accounts, opens}
 use Rattle.liq_core.proofs.engine.Protocol.reserve.Goals as goal
 
