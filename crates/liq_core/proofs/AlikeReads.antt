@@ -67,11 +67,11 @@ sums_by i =
 pub entire_alike : {s t : State} → Alike s t → (account : ℕ) → entire_of s account ≡ entire_of t account
 entire_alike h account = ap (λ (i : Image). entire_in (sums_by i) i.troves account) h.image
 
-some-map : {X Y : Type 0} (f : X → Y) (o : Option X) → is_some (option_map f o) ≡ is_some o
+pub some-map : {X Y : Type 0} (f : X → Y) (o : Option X) → is_some (option_map f o) ≡ is_some o
 some-map f None = refl
 some-map f (Some x) = refl
 
-none-map : {X Y : Type 0} (f : X → Y) (o : Option X) → is_none (option_map f o) ≡ is_none o
+pub none-map : {X Y : Type 0} (f : X → Y) (o : Option X) → is_none (option_map f o) ≡ is_none o
 none-map f None = refl
 none-map f (Some x) = refl
 

@@ -1,18 +1,26 @@
 -- What is known of a command that is allowed.
-use Rattle.std.proofs.Common.{◌≡◌, ℕ, ◌+◌, ◌≤◌, Bool, true, false, nat_lt, cond, List, [], ◌∷◌, ◌++◌, Some, None, Option, refl, ap, subst, ◌<◌, nat_le, ◌∙◌, arith}
+use Rattle.std.proofs.Common.{◌≡◌, ℕ, ◌+◌, ◌-◌, ◌≤◌, Bool, true, false, nat_lt, cond, List, [], ◌∷◌, ◌++◌, Some, None, Option, refl, ap, subst, ◌<◌, nat_le, ◌∙◌, arith}
 use Rattle.std.specs.Prelude.{IsTrue, map, ◌==◌}
 use Rattle.std.proofs.lemmas.Bool.Decides.{nat_tests}
-use Rattle.liq_types.specs.declared.amounts.TheConstants.{LIM, MINUTE_MOST, RECORDS_MOST, GENERATIONS_MOST, CHECKPOINT_BYTES_MOST}
+use Rattle.liq_types.specs.declared.amounts.TheConstants.{LIM, RESERVE, MINUTE_MOST, RECORDS_MOST, GENERATIONS_MOST, CHECKPOINT_BYTES_MOST}
 use Rattle.liq_types.specs.declared.replies.Done.{Done}
 use Rattle.liq_types.specs.declared.replies.Refusal.{Refusal}
 use Rattle.liq_types.specs.declared.replies.Refusal.TheVariants.{AmountZero, AmountLimit, ShortCollateral, ShortTokens, JournalFull}
 use Rattle.liq_types.specs.declared.requests.Call.{Call}
-use Rattle.liq_types.specs.declared.requests.Call.TheVariants.{Price, Advance, Fund, Take, Send}
+use Rattle.liq_types.specs.declared.requests.Call.TheVariants.{Price, Advance, Fund, Take, Send, Open, Adjust, Close}
 use Rattle.liq_types.specs.declared.requests.Command.{Command}
 use Rattle.liq_types.specs.Rules.{Rule, first_refusal, where_above}
 use Rattle.liq_core.specs.Image.{image}
 use Rattle.liq_core.specs.Length.{checkpoint_length}
-use Rattle.liq_types.specs.State.{State, wallet_of, client_of}
+use Rattle.liq_types.specs.Payments.{credited, charged}
+use Rattle.liq_types.specs.State.{State, TroveEntry, wallet_of, client_of}
+use Rattle.liq_types.specs.Tables.{at}
+use Rattle.liq_types.specs.Totals.{market_of, or_nothing}
+use Rattle.liq_troves.specs.Own.{lifted_entry}
+use Rattle.liq_troves.specs.StakeSums.{entire_of}
+use Rattle.liq_borrow.specs.declared.change.Change.{Change}
+use Rattle.liq_borrow.specs.Borrowing.{adjusting_terms, closing_terms}
+use Rattle.liq_core.specs.Borrowing.{with_fee}
 use Rattle.liq_core.specs.Step.{Ruling, Repeated, Allowed, unless_refused, ruling, rules, accounts, in_range, in_turn, is_repeated, after, tests, room_rules, effect, built_call}
 use Rattle.liq_core.specs.Verbs.{rotates}
 
@@ -94,6 +102,10 @@ send_enough s from to lusd h =
     let enough : nat_lt have lusd ≡ false = second_false (lusd == 0, AmountZero) (nat_lt have lusd, ShortTokens lusd have) h in
     grind (arith, nat_tests, enough)
 
+lifted-records : (s : State) (account : ℕ) (o : Option TroveEntry) → (lifted_entry s account o).records ≡ s.records
+lifted-records s account None = refl
+lifted-records s account (Some t) = refl
+
 -- the effect of a built call leaves the count of records
 pub effect-records : (s : State) (call : Call) → IsTrue (built_call call) → (effect s call).records ≡ s.records
 effect-records s (Price price) built = refl
@@ -101,6 +113,15 @@ effect-records s (Advance minutes) built = refl
 effect-records s (Fund account coll) built = refl
 effect-records s (Take account coll) built = refl
 effect-records s (Send from to lusd) built = refl
+effect-records s (Open account coll borrow bound hint) built = refl
+effect-records s (Adjust account coll_in coll_out borrow repay bound hint) built =
+    let change : Change = record { coll_in = coll_in; coll_out = coll_out; borrow = borrow; repay = repay } in
+    let plan = adjusting_terms (market_of s) (or_nothing (entire_of s account)) change in
+    lifted-records (credited (charged (with_fee s plan) account coll_in repay) account coll_out borrow) account (at s.troves account)
+effect-records s (Close account) built =
+    let terms = closing_terms (or_nothing (entire_of s account)) in
+    let settled = credited (charged s account 0 terms.0) account terms.1 0 in
+    lifted-records (record settled { reserve = settled.reserve - RESERVE }) account (at s.troves account)
 effect-records s _ built = cc
 
 -- no built verb begins a new generation
@@ -110,4 +131,7 @@ built-rotates (Advance minutes) built = refl
 built-rotates (Fund account coll) built = refl
 built-rotates (Take account coll) built = refl
 built-rotates (Send from to lusd) built = refl
+built-rotates (Open account coll borrow bound hint) built = refl
+built-rotates (Adjust account coll_in coll_out borrow repay bound hint) built = refl
+built-rotates (Close account) built = refl
 built-rotates _ built = cc

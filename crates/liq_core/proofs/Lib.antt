@@ -13,13 +13,16 @@ pub mod Changing
 pub mod Conserving
 pub mod Counting
 pub mod Following
+pub mod Forecasting
 pub mod Histories
 pub mod KeptReplies
+pub mod Lending
 pub mod Moving
 pub mod Noting
 pub mod Opening
 pub mod Paying
 pub mod Ranking
+pub mod Reading
 pub mod Rows
 pub mod Ruled
 pub mod Runs

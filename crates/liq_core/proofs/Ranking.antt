@@ -1,6 +1,6 @@
 -- The ordered list of a table of troves, when rows are written and taken out.
 use Rattle.std.proofs.Common.{◌≡◌, ℕ, Bool, true, false, cond, List, [], ◌∷◌, refl, ap, sym, subst, ◌∙◌, Some, None, Option, arith}
-use Rattle.std.specs.Prelude.{◌==◌, fold, not, unwrap_or}
+use Rattle.std.specs.Prelude.{ℤ, ◌==◌, fold, not, unwrap_or, find, option_map, IsSome}
 use Rattle.std.specs.List.{AllByRecursion}
 use Rattle.std.specs.Cmp.{IsTotalOrder}
 use Rattle.std.specs.declared.cmp.Ordering.{Ordering}
@@ -19,7 +19,7 @@ use Rattle.liq_types.specs.declared.figures.Trove.{Trove}
 use Rattle.liq_types.specs.Tables.{Table, at, put, without}
 use Rattle.liq_types.specs.WellFormed.{Ascends}
 use Rattle.liq_types.proofs.Ascending.{put-ascends, without-ascends}
-use Rattle.liq_types.specs.Ranked.{Ranked, rank_order, with_ranked, without_ranked}
+use Rattle.liq_types.specs.Ranked.{Ranked, rank_order, with_ranked, without_ranked, key_in}
 use Rattle.liq_troves.specs.Rows.{key_by}
 use Rattle.liq_order.specs.Order.{ranks, order_by}
 use Rattle.liq_core.proofs.Rows.{is_eq-same, equal_keys, differ, at-put_same, at-put_other, at-without_same, at-without_other}
@@ -262,3 +262,46 @@ pub put_list : (table : Table Trove) (account : ℕ) (row : Trove) → Ascends t
 put_list table account row s =
     put_absent (without table account) account row [] (at-without_same table account s)
     ∙ ap (λ (l : List Ranked). with_ranked l (key_by row, account)) (gone_list table account s)
+
+-- ---- whether an account is listed
+
+abbrev is_key : Ranked → ℤ
+is_key e = e.0
+
+away_key : (account : ℕ) (list : List Ranked) → Away account list → key_in list account ≡ None
+away_key account [] h = refl
+away_key account (e ∷ es) h =
+    ap (λ b. option_map is_key (cond b (Some e) (find (λ (f : Ranked). f.1 == account) es))) h.0 ∙ away_key account es h.1
+
+pub unlisted : (table : Table Trove) (account : ℕ) → at table account ≡ None → key_in (order_by table) account ≡ None
+unlisted table account n = away_key account (order_by table) (all_away account table [] n tt)
+
+found_here : (list : List Ranked) (e : Ranked) → IsSome (key_in (with_ranked list e) e.1)
+found_here list e = here list where
+  own : (e.1 == e.1) ≡ true
+  own = grind (arith, nat_tests)
+
+  first_found : (more : List Ranked) → IsSome (key_in (e ∷ more) e.1)
+  first_found more = subst (λ b. IsSome (option_map is_key (cond b (Some e) (find (λ (f : Ranked). f.1 == e.1) more)))) (sym own) refl
+
+  here : (l : List Ranked) → IsSome (key_in (with_ranked l e) e.1)
+  here [] = first_found []
+  here (f ∷ fs) = by (rank_order e f) (here fs) where
+    by : (o : Ordering) → IsSome (key_in (with_ranked fs e) e.1) → IsSome (key_in (match_ordering o (e ∷ f ∷ fs) (e ∷ f ∷ fs) (f ∷ with_ranked fs e)) e.1)
+    by Less more = first_found (f ∷ fs)
+    by Equal more = first_found (f ∷ fs)
+    by Greater more = deeper (f.1 == e.1) where
+      deeper : (b : Bool) → IsSome (option_map is_key (cond b (Some f) (find (λ (g : Ranked). g.1 == e.1) (with_ranked fs e))))
+      deeper true = refl
+      deeper false = more
+
+pub listed : (table : Table Trove) (account : ℕ) (row : Trove) → Ascends table → at table account ≡ Some row → IsSome (key_in (order_by table) account)
+listed table account row s h =
+    let left = without table account in
+    subst (λ (l : List Ranked). IsSome (key_in l account))
+    (sym (ap (λ (t : Table Trove). order_by t) (put-back table account row s h) ∙ put_absent left account row [] (at-without_same table account s)))
+    (found_here (order_by left) (key_by row, account))
+
+-- the ordered list of a table with a row more
+pub more_list : (table : Table Trove) (account : ℕ) (row : Trove) → at table account ≡ None → order_by (put table account row) ≡ with_ranked (order_by table) (key_by row, account)
+more_list table account row n = put_absent table account row [] n

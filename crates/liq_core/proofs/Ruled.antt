@@ -1,11 +1,14 @@
 -- Rulings from what is tested, and of states that are the same.
-use Rattle.std.proofs.Common.{◌≡◌, ◌+◌, ◌<◌, Bool, true, false, cond, nat_le, List, [], ◌∷◌, ◌++◌, Some, None, Option, refl, ap, sym, ◌∙◌, arith}
+use Rattle.std.proofs.Common.{◌≡◌, ℕ, ◌+◌, ◌≤◌, ◌<◌, Bool, true, false, subst, cond, nat_le, List, [], ◌∷◌, ◌++◌, Some, None, Option, refl, ap, sym, ◌∙◌, arith}
 use Rattle.std.specs.Prelude.{IsTrue, map, ◌==◌, ◌&&◌, not}
+use Rattle.std.specs.List.{AllByRecursion}
 use Rattle.std.proofs.lemmas.Bool.Decides.{nat_tests}
 use Rattle.liq_types.specs.declared.amounts.TheConstants.{ACCOUNTS, RECORDS_MOST, GENERATIONS_MOST, CHECKPOINT_BYTES_MOST}
 use Rattle.liq_types.specs.declared.replies.Refusal.{Refusal}
 use Rattle.liq_types.specs.declared.replies.Refusal.TheVariants.{AccountRange, AmountLimit, OutOfTurn, JournalFull}
+use Rattle.liq_types.specs.declared.figures.Market.{Market}
 use Rattle.liq_types.specs.declared.requests.Call.{Call}
+use Rattle.liq_types.specs.declared.requests.Call.TheVariants.{Price, Advance, Fund, Take, Send, Open, Adjust, Close, Provide, Withdraw, GainToTrove, Liquidate, LiquidateLowest, Redeem, Claim, Rotate}
 use Rattle.liq_types.specs.declared.requests.Command.{Command}
 use Rattle.liq_types.specs.Rules.{Rule, first_refusal, where_above}
 use Rattle.liq_core.specs.Image.{image}
@@ -13,14 +16,23 @@ use Rattle.liq_core.specs.Length.{checkpoint_length}
 use Rattle.liq_core.specs.Step.{after}
 use Rattle.liq_core.specs.Verbs.{rotates}
 use Rattle.liq_types.specs.State.{State, client_of}
+use Rattle.liq_types.specs.Totals.{market_of, or_nothing}
+use Rattle.liq_troves.specs.StakeSums.{entire_of}
+use Rattle.liq_borrow.specs.declared.change.Change.{Change}
+use Rattle.liq_borrow.specs.Borrowing.{opening_terms, adjusting_terms, closing_terms}
 use Rattle.liq_types.specs.Soundness.{IsSoundImage}
 use Rattle.liq_core.specs.Core.{Core, Changes, StandsFor, state_of}
 use Rattle.liq_core.specs.Queries.{next_number}
 use Rattle.liq_core.specs.Step.{Refused, Repeated, Allowed, unless_refused, ruling, rules, accounts, in_range, is_repeated, tests, room_rules, effect, built_call}
-use Rattle.liq_core.proofs.AlikeReads.{Alike}
+use Rattle.liq_core.specs.declared.turns.Forecast.{Forecast}
+use Rattle.liq_core.specs.declared.turns.Terms.{Terms}
+use Rattle.liq_core.specs.Plan.{IsForecast, IsPlan, plan_of}
+use Rattle.liq_core.specs.Terms.{AreTerms, IsTrove, IsClosing}
+use Rattle.liq_core.proofs.AlikeFollowed.{call_events_alike, call_changes_alike}
+use Rattle.liq_core.proofs.AlikeReads.{Alike, market_alike, entire_alike}
 use Rattle.liq_core.proofs.AlikeReplies.{ruling_alike}
-use Rattle.liq_core.proofs.AlikeStep.{effect_alike}
-use Rattle.liq_core.proofs.Allowed.{effect-records}
+use Rattle.liq_core.proofs.AlikeStep.{effect_alike, done_alike}
+use Rattle.liq_core.proofs.Allowed.{effect-records, none_first}
 use Rattle.liq_core.proofs.SoundCores.{sound_stands}
 
 pub some_first : (front more : List Rule) (refusal : Refusal) → first_refusal front ≡ Some refusal → first_refusal (front ++ more) ≡ Some refusal
@@ -69,6 +81,23 @@ room_left s c stays few =
     ap (λ b. first_refusal (cond b (where_above (s.generation + 1) GENERATIONS_MOST AmountLimit ∷ where_above (checkpoint_length (image (after s c))) CHECKPOINT_BYTES_MOST AmountLimit ∷ []) ((nat_le RECORDS_MOST s.records, JournalFull RECORDS_MOST) ∷ []))) stays
     ∙ ap (λ b. cond b (Some (JournalFull RECORDS_MOST)) None) free
 
+-- there is none in a journal that is full
+pub room_full : (s : State) (c : Command) → rotates c.call ≡ false → RECORDS_MOST ≤ s.records → first_refusal (room_rules s c) ≡ Some (JournalFull RECORDS_MOST)
+room_full s c stays many =
+    let full : nat_le RECORDS_MOST s.records ≡ true = grind (arith, nat_tests, many) in
+    ap (λ b. first_refusal (cond b (where_above (s.generation + 1) GENERATIONS_MOST AmountLimit ∷ where_above (checkpoint_length (image (after s c))) CHECKPOINT_BYTES_MOST AmountLimit ∷ []) ((nat_le RECORDS_MOST s.records, JournalFull RECORDS_MOST) ∷ []))) stays
+    ∙ ap (λ b. cond b (Some (JournalFull RECORDS_MOST)) None) full
+
+-- the accounts of a call that nothing refuses
+pub accounts_within : (numbers : List ℕ) (more : List Rule) → first_refusal (map in_range numbers ++ more) ≡ None → AllByRecursion (λ account. account < ACCOUNTS) numbers
+accounts_within [] more h = tt
+accounts_within (n ∷ ns) more h =
+    let first = none_first (in_range n) (map in_range ns ++ more) h in
+    (below n first.0, accounts_within ns more first.1)
+  where
+    below : (m : ℕ) → nat_le ACCOUNTS m ≡ false → m < ACCOUNTS
+    below m e = grind (arith, nat_tests, e)
+
 -- what nothing refuses
 pub allowed_call : (s : State) (c : Command) → c.client < ACCOUNTS → c.number ≡ (client_of s c.client).last + 1 → first_refusal (map in_range (accounts c.call) ++ rules s c.call) ≡ None → first_refusal (room_rules s c) ≡ None → ruling s c ≡ Allowed
 allowed_call s c within next passed room =
@@ -89,3 +118,37 @@ pub changed_stands : (old new : Core) (call : Call) → IsSoundImage old.image o
 changed_stands old new call sound built made s h =
     let e = effect_alike (standing_alike old s sound h) call in
     record { image = made.image ∙ sym e.image; records = made.records ∙ h.records ∙ sym (effect-records s call built); formed = e.left }
+
+-- what is planned for one state holds for each that is the same
+pub terms_alike : {s t : State} → Alike s t → (call : Call) (terms : Terms) → AreTerms t call terms → AreTerms s call terms
+terms_alike {s} {t} h (Open account coll borrow bound hint) terms are =
+    subst (λ (m : Market). IsTrove (opening_terms m coll borrow) terms) (sym (market_alike h)) are
+terms_alike {s} {t} h (Adjust account coll_in coll_out borrow repay bound hint) terms are =
+    let change : Change = record { coll_in = coll_in; coll_out = coll_out; borrow = borrow; repay = repay } in
+    subst (λ (m : Market). IsTrove (adjusting_terms m (or_nothing (entire_of s account)) change) terms) (sym (market_alike h))
+    (subst (λ (o : Option (ℕ × ℕ)). IsTrove (adjusting_terms (market_of t) (or_nothing o) change) terms) (sym (entire_alike h account)) are)
+terms_alike {s} {t} h (Close account) terms are =
+    subst (λ (o : Option (ℕ × ℕ)). IsClosing (closing_terms (or_nothing o)) terms) (sym (entire_alike h account)) are
+terms_alike h (Price price) terms are = are
+terms_alike h (Advance minutes) terms are = are
+terms_alike h (Fund account coll) terms are = are
+terms_alike h (Take account coll) terms are = are
+terms_alike h (Send from to lusd) terms are = are
+terms_alike h (Provide account lusd) terms are = are
+terms_alike h (Withdraw account lusd) terms are = are
+terms_alike h (GainToTrove account hint) terms are = are
+terms_alike h (Liquidate liquidator account) terms are = are
+terms_alike h (LiquidateLowest liquidator count) terms are = are
+terms_alike h (Redeem account lusd bound hint) terms are = are
+terms_alike h (Claim account) terms are = are
+terms_alike h Rotate terms are = are
+
+pub planned_alike : {s t : State} → Alike s t → (c : Command) (forecast : Forecast) → ruling s c ≡ Allowed → IsForecast t c.call forecast → IsPlan s (plan_of c forecast)
+planned_alike h c forecast allowed f =
+    record {
+      allowed = allowed;
+      done = f.done ∙ sym (done_alike h c.call);
+      terms = terms_alike h c.call forecast.terms f.terms;
+      events = f.events ∙ sym (call_events_alike h c.call);
+      changes = f.changes ∙ sym (call_changes_alike h c.call);
+    }

@@ -129,25 +129,48 @@ some_percent m debt h = by (is_recovery m) where
   by true = omega (arith, h)
   by false = omega (arith, h)
 
-pub open_leaves : (s : State) → Finds s → (account coll borrow bound : ℕ) (hint : HintWords) → account < ACCOUNTS → first_refusal (rules s (Open account coll borrow bound hint)) ≡ None → Leaves 0 s (effect s (Open account coll borrow bound hint))
-open_leaves s f account coll borrow bound hint k h =
+-- what an allowed opening is
+pub record OpenAllows (s : State) (account coll borrow : ℕ) : Type 0 where
+  pub absent : at s.troves account ≡ None
+  pub enough : coll ≤ (wallet_of s account).coll
+  pub limit : s.active_debt + s.default_debt + (opening_terms (market_of s) coll borrow).debt ≤ LIM
+  pub some : 1 ≤ coll
+  pub least : RESERVE + MIN_NET ≤ (opening_terms (market_of s) coll borrow).debt
+
+pub open_allows : (s : State) (account coll borrow bound : ℕ) → first_refusal (open_rules (market_of s) (wallet_of s account) (is_some (at s.troves account)) account coll borrow bound) ≡ None → OpenAllows s account coll borrow
+open_allows s account coll borrow bound h =
     let m = market_of s in
     let plan = opening_terms m coll borrow in
     let rules = all_false (open_rules m (wallet_of s account) (is_some (at s.troves account)) account coll borrow bound) h in
     let net = lt_false (borrow + plan.fee) MIN_NET rules.1.1.1.0 in
-    let limit = lt_false LIM (m.total_debt + plan.debt) rules.1.1.1.1.0 in
-    let some = ratio_some coll s.price (least_ratio m) plan.debt rules.1.1.1.1.1.1.0 (some_percent m plan.debt (omega (arith, net))) in
+    record {
+      absent = absent (at s.troves account) rules.0;
+      enough = lt_false (wallet_of s account).coll coll rules.1.1.1.1.1.0;
+      limit = lt_false LIM (m.total_debt + plan.debt) rules.1.1.1.1.0;
+      some = ratio_some coll s.price (least_ratio m) plan.debt rules.1.1.1.1.1.1.0 (some_percent m plan.debt (omega (arith, net)));
+      least = omega (arith, net);
+    }
+  where
+    absent : (o : Option TroveEntry) → is_some o ≡ false → o ≡ None
+    absent None e = refl
+    absent (Some t) e = cc
+
+pub open_leaves : (s : State) → Finds s → (account coll borrow bound : ℕ) (hint : HintWords) → account < ACCOUNTS → first_refusal (rules s (Open account coll borrow bound hint)) ≡ None → Leaves 0 s (effect s (Open account coll borrow bound hint))
+open_leaves s f account coll borrow bound hint k h =
+    let m = market_of s in
+    let plan = opening_terms m coll borrow in
+    let a = open_allows s account coll borrow bound h in
     let feed = with_fee s plan in
     let lent = credited (charged feed account coll 0) account 0 borrow in
     let fed : Stands LIM feed = fees_stand s plan.rate.base plan.rate.minute s.fee_coll (s.fee_lusd + plan.fee) f.stands in
     let moved : Stands LIM lent = paid_stands (charged feed account coll 0) account k (charged_stands feed account k fed coll 0) 0 borrow in
     let conserved = opening_conserves s account coll borrow bound (in_order s f.stands) h (conserved_by s f.stands f.balanced.homes) in
     record {
-      stands = placed_stands (record lent { reserve = lent.reserve + RESERVE }) account coll plan.debt k (absent (at s.troves account) rules.0) some (omega (arith, net)) (reserve_stands lent (lent.reserve + RESERVE) moved);
+      stands = placed_stands (record lent { reserve = lent.reserve + RESERVE }) account coll plan.debt k a.absent a.some a.least (reserve_stands lent (lent.reserve + RESERVE) moved);
       rest = record {
         homes = homes_of _ conserved;
         coll_limit = f.balanced.coll_limit;
-        debt_limit = omega (arith, limit);
+        debt_limit = omega (arith, a.limit);
         ranges = ranges_with s (opened s account borrow plan) f.ranges plan.rate (borrowed_in_range s f.ranges borrow) refl refl refl refl refl;
         scale = omega arith;
         epoch = omega arith;
@@ -158,27 +181,23 @@ open_leaves s f account coll borrow bound hint k h =
         marks = λ h. all-put (λ (x : TroveEntry). IsSetSince x.mark) s.troves account (record { coll = coll; debt = plan.debt; stake = stake_for (record lent { reserve = lent.reserve + RESERVE }) coll; mark = After (length s.redistributions) }) tt h;
       };
     }
-  where
-    absent : (o : Option TroveEntry) → is_some o ≡ false → o ≡ None
-    absent None e = refl
-    absent (Some t) e = cc
 
 -- ---- adjust
 
 -- what an allowed change is
-record Allows (s : State) (account coll debt : ℕ) (change : Change) (plan : Plan) : Type 0 where
-  coll_in : change.coll_in ≤ (wallet_of s account).coll
-  coll_out : change.coll_out ≤ coll
-  repay : change.repay ≤ (wallet_of s account).lusd
-  repays_part : change.repay ≤ debt
-  limit : s.active_debt + s.default_debt + change.borrow + plan.fee ≤ LIM
-  coll_is : plan.coll ≡ coll + change.coll_in - change.coll_out
-  debt_is : plan.debt ≡ debt + change.borrow + plan.fee - change.repay
-  some : 1 ≤ plan.coll
-  least : RESERVE + MIN_NET ≤ plan.debt
+pub record Allows (s : State) (account coll debt : ℕ) (change : Change) (plan : Plan) : Type 0 where
+  pub coll_in : change.coll_in ≤ (wallet_of s account).coll
+  pub coll_out : change.coll_out ≤ coll
+  pub repay : change.repay ≤ (wallet_of s account).lusd
+  pub repays_part : change.repay ≤ debt
+  pub limit : s.active_debt + s.default_debt + change.borrow + plan.fee ≤ LIM
+  pub coll_is : plan.coll ≡ coll + change.coll_in - change.coll_out
+  pub debt_is : plan.debt ≡ debt + change.borrow + plan.fee - change.repay
+  pub some : 1 ≤ plan.coll
+  pub least : RESERVE + MIN_NET ≤ plan.debt
 
 module _ (s : State) (f : Finds s) (account coll debt : ℕ) (change : Change) (bound : ℕ) (there : entire_of s account ≡ Some (coll, debt)) (h : first_refusal (adjust_rules (market_of s) (wallet_of s account) (entire_of s account) account change bound) ≡ None) where
-  adjust_allows : Allows s account coll debt change (adjusting_terms (market_of s) (coll, debt) change)
+  pub adjust_allows : Allows s account coll debt change (adjusting_terms (market_of s) (coll, debt) change)
   adjust_allows =
       let m = market_of s in
       let plan = adjusting_terms m (coll, debt) change in
@@ -263,6 +282,13 @@ module _ (s : State) (f : Finds s) (account coll debt : ℕ) (change : Change) (
         snap = λ n. n;
         marks = λ n. all-put (λ (x : TroveEntry). IsSetSince x.mark) (without s.troves account) account (record { coll = plan.coll; debt = plan.debt; stake = stake_for moved plan.coll; mark = After (length s.redistributions) }) tt (all-without (λ (x : TroveEntry). IsSetSince x.mark) s.troves account n);
       })
+
+-- the same, of the account's entire amounts
+pub adjust_allows_own : (s : State) → Finds s → (account bound : ℕ) (change : Change) → first_refusal (adjust_rules (market_of s) (wallet_of s account) (entire_of s account) account change bound) ≡ None → Allows s account (or_nothing (entire_of s account)).0 (or_nothing (entire_of s account)).1 change (adjusting_terms (market_of s) (or_nothing (entire_of s account)) change)
+adjust_allows_own s f account bound change h =
+    let own = or_nothing (entire_of s account) in
+    let first = (all_false (adjust_rules (market_of s) (wallet_of s account) (entire_of s account) account change bound) h).0 in
+    adjust_allows s f account own.0 own.1 change bound (told (entire_of s account) first) h
 
 pub adjust_leaves : (s : State) → Finds s → (account bound : ℕ) (change : Change) → account < ACCOUNTS → first_refusal (adjust_rules (market_of s) (wallet_of s account) (entire_of s account) account change bound) ≡ None → Leaves 0 s (adjusted s account change (adjusting_terms (market_of s) (or_nothing (entire_of s account)) change))
 adjust_leaves s f account bound change k h =

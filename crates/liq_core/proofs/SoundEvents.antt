@@ -18,13 +18,13 @@ use Rattle.liq_types.specs.PlainLedger.{AreOwnedBelow}
 use Rattle.liq_types.specs.Payments.{credited, charged, surplus_added}
 use Rattle.liq_types.specs.Product.{rise_of}
 use Rattle.liq_types.specs.Rules.{first_refusal}
-use Rattle.liq_types.specs.State.{State, TroveEntry, opening, wallet_of}
+use Rattle.liq_types.specs.State.{State, TroveEntry, wallet_of}
 use Rattle.liq_types.specs.Tables.{Table, at}
 use Rattle.liq_types.specs.Totals.{pool_total, pool_coll, market_of, or_nothing}
 use Rattle.liq_troves.specs.Own.{lifted_entry, set_trove, redistributed, snapped}
 use Rattle.liq_troves.specs.StakeSums.{entire_of}
 use Rattle.liq_stability.specs.Lawful.{IsLawfulEvent, IsWithinLimit, IsLawfulUpTo, IsLawful}
-use Rattle.liq_stability.specs.Own.{owned, offset, after_event, amount_after}
+use Rattle.liq_stability.specs.Own.{owned, offset, after_event, amount_after, pool_of}
 use Rattle.liq_stability.specs.Position.{balance_of, gain_of, words_of}
 use Rattle.liq_stability.proofs.Pool.{owned-total, owned-coll, offset-total, offset-coll}
 use Rattle.liq_borrow.specs.declared.change.Change.{Change}
@@ -47,12 +47,6 @@ use Rattle.liq_core.proofs.SoundFacts.{Finds, all_false, lt_false, finds_after}
 use Rattle.liq_core.proofs.SoundLiquidate.{Strikes, strikes, victim_leaves, found, with_pay, struck_paid, lowest_paid, lowest_by}
 use Rattle.liq_core.proofs.SoundStep.{allowed_has, finds, after_sound}
 use Rattle.liq_core.proofs.SoundTests.{sound_facts}
-
--- ---- the part of a state that the events move
-
-abbrev pub pool_of : State → State
-pool_of s =
-    record opening { start = s.start; provided = s.provided; withdrawn = s.withdrawn; gains_paid = s.gains_paid; offsets = s.offsets; deposits = s.deposits }
 
 -- ---- lawful lists rest on that part alone
 

@@ -19,7 +19,7 @@ use Rattle.liq_troves.specs.Rows.{pending}
 use Rattle.liq_troves.specs.Standing.{books_of}
 use Rattle.liq_troves.specs.StakeSums.{trove_row, pending_coll, pending_debt}
 use Rattle.liq_troves.proofs.Standing.{pending_covered}
-use Rattle.liq_stability.specs.Own.{after_events}
+use Rattle.liq_stability.specs.Own.{after_events, pool_of}
 use Rattle.liq_stability.specs.Position.{balance_of, gain_of, balance_by, gain_by, mark_of, sums_from, words_of}
 use Rattle.liq_stability.specs.Promise.{IsWithinAllowance}
 use Rattle.liq_stability.proofs.Promise.{within_allowance, all_balances_are, all_gains_are, all_paid_are, balance_uncapped, gain_uncapped, balances_held, gains_held}
@@ -29,7 +29,7 @@ use Rattle.liq_core.specs.Image.{image}
 use Rattle.liq_core.specs.SoundState.{IsSoundState}
 use Rattle.liq_core.specs.Step.{accepted, run}
 use Rattle.liq_core.proofs.Alike.{balance_row, gain_row, balance-image, gain-image}
-use Rattle.liq_core.proofs.SoundEvents.{pool_of, run_follows}
+use Rattle.liq_core.proofs.SoundEvents.{run_follows}
 use Rattle.liq_core.proofs.SoundStart.{opening_sound}
 use Rattle.liq_core.proofs.SoundStep.{run_sound}
 use Rattle.liq_core.proofs.SoundTests.{sound_facts}

@@ -3,21 +3,18 @@ use Rattle.std.proofs.Common.{◌≡◌, ℕ, ◌+◌, ◌*◌, ◌≤◌, ◌<�
 use Rattle.std.specs.Prelude.{◌==◌, ◌&&◌, IsTrue, length, sum, sum_by}
 use Rattle.std.specs.List.{AllByRecursion, list_all}
 use Rattle.std.specs.Map.{keys_of, values_of}
-use Rattle.std.specs.Ordering.{nat_cmp, is_eq, match_ordering}
+use Rattle.std.specs.Ordering.{nat_cmp, match_ordering}
 use Rattle.std.specs.declared.cmp.Ordering.{Ordering}
 use Rattle.std.specs.declared.cmp.Ordering.TheVariants.{Less, Equal, Greater}
 use Rattle.std.proofs.lemmas.Bool.Decides.{nat_tests}
-use Rattle.liq_types.specs.declared.amounts.TheConstants.{LIM, RESERVE, RECORDS_MOST, ACCOUNTS}
+use Rattle.liq_types.specs.declared.amounts.TheConstants.{RESERVE, RECORDS_MOST, ACCOUNTS}
 use Rattle.liq_types.specs.declared.figures.Client.{Client}
-use Rattle.liq_types.specs.declared.figures.Wallet.{Wallet}
 use Rattle.liq_types.specs.Image.{Image}
 use Rattle.liq_types.specs.Soundness.{has_ranges, has_accounts, has_keys_in_range, has_coll_at_home, has_lusd_at_home, has_surplus_at_home, has_sound_troves, has_troves_added_up, is_backed, has_sound_words, has_sound_deposits, has_sound_clients, is_sound_client, coll_homes, lusd_homes, places_most, soundness, first_failing, HasTables, IsClientRow, IsSoundImage}
-use Rattle.liq_types.specs.State.{is_used_wallet, with_wallet, wallet_in}
-use Rattle.liq_types.specs.Tables.{Table, put, without}
-use Rattle.liq_types.proofs.Ascending.{put-ascends, wallet-ascends}
+use Rattle.liq_types.specs.Tables.{Table, put}
+use Rattle.liq_types.proofs.Ascending.{put-ascends}
 use Rattle.liq_types.specs.declared.figures.Trove.{Trove}
 use Rattle.liq_core.specs.Identities.{IsAtHome}
-use Rattle.liq_core.proofs.Moving.{exchanged, unused_coll, unused_lusd}
 
 -- ---- all rules
 
@@ -90,9 +87,6 @@ both a b h k = ap (λ c. c && b) h ∙ k
 other_second : (a b c : Bool) → (a && b) ≡ true → c ≡ true → (a && c) ≡ true
 other_second a b c h k = both a c (both_first a b h) k
 
-other_first : (a b c : Bool) → (a && b) ≡ true → c ≡ true → (c && b) ≡ true
-other_first a b c h k = both c b k (both_second a b h)
-
 -- what is conserved
 pub sound_at_home : (i : Image) (records : ℕ) → IsSoundImage i records → IsAtHome i
 sound_at_home i records h =
@@ -133,13 +127,6 @@ module _ {X : Type 0} where
     by Equal more = h
     by Greater more = (h.0, more)
 
-  keys-without : (P : ℕ → Type 0) (table : Table X) (key : ℕ) → AllByRecursion P (keys_of table) → AllByRecursion P (keys_of (without table key))
-  keys-without P [] key h = tt
-  keys-without P (e ∷ es) key h = by (is_eq (nat_cmp key e.0)) (keys-without P es key h.1) where
-    by : (b : Bool) → AllByRecursion P (keys_of (without es key)) → AllByRecursion P (keys_of (cond b es (e ∷ without es key)))
-    by true more = h.1
-    by false more = (h.0, more)
-
   values-put : (P : X → Type 0) (table : Table X) (key : ℕ) (x : X) → P x → AllByRecursion P (values_of table) → AllByRecursion P (values_of (put table key x))
   values-put P [] key x p h = (p, tt)
   values-put P (e ∷ es) key x p h = by (nat_cmp key e.0) (values-put P es key x p h.1) where
@@ -148,105 +135,14 @@ module _ {X : Type 0} where
     by Equal more = (p, h.1)
     by Greater more = (h.0, more)
 
-  values-without : (P : X → Type 0) (table : Table X) (key : ℕ) → AllByRecursion P (values_of table) → AllByRecursion P (values_of (without table key))
-  values-without P [] key h = tt
-  values-without P (e ∷ es) key h = by (is_eq (nat_cmp key e.0)) (values-without P es key h.1) where
-    by : (b : Bool) → AllByRecursion P (values_of (without es key)) → AllByRecursion P (values_of (cond b es (e ∷ without es key)))
-    by true more = h.1
-    by false more = (h.0, more)
-
   in_range : (key : ℕ) → nat_lt key ACCOUNTS ≡ true → (table : Table X) (x : X) → has_keys_in_range table ≡ true → has_keys_in_range (put table key x) ≡ true
   in_range key k table x h =
       list_from (λ q. nat_lt q ACCOUNTS) (keys_of (put table key x))
       (keys-put (λ q. nat_lt q ACCOUNTS ≡ true) table key x k (list_of (λ q. nat_lt q ACCOUNTS) (keys_of table) h))
 
-  out_of_range : (key : ℕ) (table : Table X) → has_keys_in_range table ≡ true → has_keys_in_range (without table key) ≡ true
-  out_of_range key table h =
-      list_from (λ q. nat_lt q ACCOUNTS) (keys_of (without table key))
-      (keys-without (λ q. nat_lt q ACCOUNTS ≡ true) table key (list_of (λ q. nat_lt q ACCOUNTS) (keys_of table) h))
-
   -- a row more, at a number in range
   pub put_in_range : (table : Table X) (key : ℕ) (x : X) → key < ACCOUNTS → IsTrue (has_keys_in_range table) → IsTrue (has_keys_in_range (put table key x))
   put_in_range table key x k h = in_range key (grind (arith, nat_tests, k)) table x h
-
--- ---- a payment from outside or to it
-
-of_five : (w t s d c v : Bool) → ((((w && t) && s) && d) && c) ≡ true → v ≡ true → ((((v && t) && s) && d) && c) ≡ true
-of_five true t s d c v h k = ap (λ x. (((x && t) && s) && d) && c) k ∙ h
-of_five false t s d c v h k = cc
-
-wallets_in_range : (table : Table Wallet) (account : ℕ) (w : Wallet) → account < ACCOUNTS → has_keys_in_range table ≡ true → has_keys_in_range (with_wallet table account w) ≡ true
-wallets_in_range table account w k h = by (is_used_wallet w) where
-  by : (b : Bool) → has_keys_in_range (cond b (put table account w) (without table account)) ≡ true
-  by true = put_in_range table account w k h
-  by false = out_of_range account table h
-
-wallets_used : (table : Table Wallet) (account : ℕ) (w : Wallet) → AllByRecursion (λ x. is_used_wallet x ≡ true) (values_of table) → AllByRecursion (λ x. is_used_wallet x ≡ true) (values_of (with_wallet table account w))
-wallets_used table account w h = by (is_used_wallet w) refl where
-  by : (b : Bool) → is_used_wallet w ≡ b → AllByRecursion (λ x. is_used_wallet x ≡ true) (values_of (cond b (put table account w) (without table account)))
-  by true is = values-put (λ x. is_used_wallet x ≡ true) table account w is h
-  by false is = values-without (λ x. is_used_wallet x ≡ true) table account h
-
-module _ (i : Image) (records brought account : ℕ) (w : Wallet) (sound : IsSoundImage i records) (inside : account < ACCOUNTS) (within : brought ≤ LIM) (moved : brought + (wallet_in i.wallets account).coll ≡ i.brought + w.coll) (same : w.lusd ≡ (wallet_in i.wallets account).lusd) where
-  next : Image
-  next = record i { brought = brought; wallets = with_wallet i.wallets account w }
-
-  old : Meets i records
-  old = meets i records sound
-
-  coll_is : brought ≡ coll_homes next
-  unfolding next
-  coll_is =
-      let home : i.brought ≡ coll_homes i = grind (arith, nat_tests, old.coll) in
-      let sums = exchanged (λ (x : Wallet). x.coll) refl unused_coll i.wallets account w sound.tables.wallets in
-      omega (arith, home, sums, moved)
-
-  lusd_same : lusd_homes next ≡ lusd_homes i
-  unfolding next
-  lusd_same =
-      let sums = exchanged (λ (x : Wallet). x.lusd) refl unused_lusd i.wallets account w sound.tables.wallets in
-      omega (arith, sums, same)
-
-  limit : nat_le brought LIM ≡ true
-  limit = grind (arith, nat_tests, within)
-
-  home : (brought == coll_homes next) ≡ true
-  home = grind (arith, nat_tests, coll_is)
-
-  rules : Meets next records
-  unfolding next
-  rules =
-      record {
-        ranges = other_second _ _ _ old.ranges limit;
-        accounts = of_five _ _ _ _ _ _ old.accounts (wallets_in_range i.wallets account w inside (both_first _ _ (both_first _ _ (both_first _ _ (both_first _ _ old.accounts)))));
-        coll = home;
-        lusd = ap (λ n. (nat_le (i.active_debt + i.default_debt) LIM && (i.active_debt + i.default_debt) == n) && (i.reserve == RESERVE * length i.troves)) lusd_same ∙ old.lusd;
-        surplus = old.surplus;
-        troves = old.troves;
-        added = old.added;
-        backed = old.backed;
-        words = old.words;
-        deposits = old.deposits;
-        clients = old.clients;
-      }
-
-  pub moved_sound : IsSoundImage (record i { brought = brought; wallets = with_wallet i.wallets account w }) records
-  unfolding next
-  moved_sound =
-      sound_of next records rules
-      (record {
-        wallets = wallet-ascends i.wallets account w sound.tables.wallets;
-        used_wallets = wallets_used i.wallets account w sound.tables.used_wallets;
-        troves = sound.tables.troves;
-        surplus = sound.tables.surplus;
-        some_surplus = sound.tables.some_surplus;
-        finished = sound.tables.finished;
-        some_finished = sound.tables.some_finished;
-        deposits = sound.tables.deposits;
-        some_deposits = sound.tables.some_deposits;
-        clients = sound.tables.clients;
-        client_rows = sound.tables.client_rows;
-      })
 
 -- ---- a command that is counted, and its reply kept
 

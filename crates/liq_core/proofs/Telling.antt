@@ -19,7 +19,7 @@ use Rattle.liq_core.proofs.AlikeReads.{sums_by}
 use Rattle.liq_core.proofs.AlikeReplies.{trove_told, trove_told_at}
 use Rattle.liq_core.proofs.SoundCores.{image_back, core_facts}
 
-abbrev books_by : Image → Books
+abbrev pub books_by : Image → Books
 books_by i =
     record {
       sums = sums_by i;

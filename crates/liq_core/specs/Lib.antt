@@ -1,3 +1,4 @@
+pub mod Books
 pub mod Borrowing
 pub mod BorrowingExamples
 pub mod Core
@@ -24,6 +25,8 @@ pub mod Rules
 pub mod Sound
 pub mod SoundState
 pub mod Step
+pub mod Terms
+pub mod Told
 pub mod Turn
 pub mod Verbs
 pub mod View

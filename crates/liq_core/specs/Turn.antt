@@ -1,6 +1,5 @@
 -- What planning answers.
 use Rattle.std.specs.Prelude.{◌≡◌, ◌++◌, map, Result, Ok, Err, Some, None, IsTrue}
-use Rattle.liq_types.specs.declared.replies.Done.{Done}
 use Rattle.liq_types.specs.declared.replies.Refusal.{Refusal}
 use Rattle.liq_types.specs.declared.requests.Call.{Call}
 use Rattle.liq_types.specs.declared.requests.Command.{Command}
@@ -9,8 +8,9 @@ use Rattle.liq_core.specs.declared.turns.Turn.{Turn}
 use Rattle.liq_core.specs.declared.turns.Turn.TheVariants.{Again, New}
 use Rattle.liq_core.specs.declared.turns.PlanFault.{PlanFault}
 use Rattle.liq_core.specs.declared.turns.PlanFault.TheVariants.{No, NoMemory}
-use Rattle.liq_core.specs.Plan.{IsPlan}
-use Rattle.liq_core.specs.Step.{Refused, Repeated, ruling, first_refusal, in_range, accounts, rules, done_of}
+use Rattle.liq_core.specs.declared.turns.Forecast.{Forecast}
+use Rattle.liq_core.specs.Plan.{IsPlan, IsForecast}
+use Rattle.liq_core.specs.Step.{Refused, Repeated, ruling, first_refusal, in_range, accounts, rules}
 use Rattle.liq_core.specs.Verbs.{plans_list}
 
 -- Planning gives the ruling. Only where a list is planned may there be no memory for it, which says nothing of the ruling.
@@ -20,7 +20,7 @@ Plans s c (Ok (New plan)) = (plan.command ≡ c) × IsPlan s plan
 Plans s c (Err (No refusal)) = ruling s c ≡ Refused refusal
 Plans s c (Err NoMemory) = IsTrue (plans_list c.call)
 
--- the refusal of the call's accounts and of what its verb tests, or its reply
-abbrev pub IsRuled : State → Call → Result Done Refusal → Type 0
-IsRuled s call (Ok done) = (first_refusal (map in_range (accounts call) ++ rules s call) ≡ None) × (done ≡ done_of s call)
+-- the refusal of the call's accounts and of what its verb tests, or what it comes to
+abbrev pub IsRuled : State → Call → Result Forecast Refusal → Type 0
+IsRuled s call (Ok forecast) = (first_refusal (map in_range (accounts call) ++ rules s call) ≡ None) × IsForecast s call forecast
 IsRuled s call (Err refusal) = first_refusal (map in_range (accounts call) ++ rules s call) ≡ Some refusal

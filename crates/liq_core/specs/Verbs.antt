@@ -17,6 +17,9 @@ built_call (Advance minutes) = true
 built_call (Fund account coll) = true
 built_call (Take account coll) = true
 built_call (Send from to lusd) = true
+built_call (Open account coll borrow bound hint) = true
+built_call (Adjust account coll_in coll_out borrow repay bound hint) = true
+built_call (Close account) = true
 built_call _ = false
 
 abbrev pub built_query : Query → Bool
@@ -70,6 +73,11 @@ accounts (LiquidateLowest liquidator count) = liquidator ∷ []
 accounts (Redeem account lusd bound hint) = account ∷ []
 accounts (Claim account) = account ∷ []
 accounts Rotate = []
+
+-- the accounts for which a trove comes into being
+abbrev pub opens : Call → List ℕ
+opens (Open account coll borrow bound hint) = account ∷ []
+opens _ = []
 
 -- whether the verb begins a new generation of the journal
 abbrev pub rotates : Call → Bool

@@ -1,6 +1,6 @@
 //! The protocol's state, and its steps.
 
-ghost use Rattle.std.specs.Prelude.{◌≡◌, ◌≤◌, ◌<◌, ◌+◌, ◌++◌, ℕ, IsOk, IsTrue, OnOk, None};
+ghost use Rattle.std.specs.Prelude.{◌≡◌, ◌≢◌, ◌≤◌, ◌<◌, ◌+◌, ◌++◌, ℕ, length, IsOk, IsTrue, OnOk, None};
 ghost use Rattle.std.specs.List.{AllByRecursion, Contains};
 ghost use Rattle.liq_types.specs.declared.requests.Request.TheVariants.{Do, Ask};
 ghost use Rattle.liq_types.specs.declared.replies.Reply.TheVariants.{Said};
@@ -9,10 +9,13 @@ ghost use Rattle.liq_types.specs.State.{State, opening, client_of};
 ghost use Rattle.liq_tables.specs.WithRoom.{KeepsRoom};
 ghost use Rattle.liq_core.specs.Core.{Changes, StandsFor, SameContent, state_of};
 ghost use Rattle.liq_core.specs.Sound.{IsKeptRow};
+ghost use Rattle.liq_core.specs.Terms.{AreTerms};
+ghost use Rattle.liq_core.specs.Verbs.{opens, no_hint};
 ghost use Rattle.liq_core.specs.Step.{built, built_call, accounts, rules, first_refusal, noted, step};
 
 use crate::payments::plan_price;
-use crate::turns::{PlanFault, Planned, Turn};
+use crate::turns::{Forecast, PlanFault, Planned, Terms, Turn};
+use liq_borrow::Change;
 use liq_ledger::{Pools, Surplus, Wallets};
 use liq_order::Order;
 use liq_rate::Rate;
@@ -20,7 +23,7 @@ use liq_tables::Reserved;
 use liq_troves::Troves;
 use liq_types::amounts::{ACCOUNTS, PRICE_OPENING, RECORDS_MOST};
 use liq_types::{
-    Call, Client, Command, Done, Hint, NoMemory, Query, Refusal, Reply, Request, Steps,
+    Call, Client, Command, Done, Hint, HintWords, NoMemory, Query, Refusal, Reply, Request, Steps,
 };
 use std::alloc::Global;
 use std::marker::Model;
@@ -142,8 +145,8 @@ impl Protocol {
             let expected = client.last.saturating_add(1);
             return Err(PlanFault::No(Refusal::OutOfTurn { expected }));
         }
-        let done = match self.plan_call(&command.call) {
-            Ok(done) => done,
+        let forecast = match self.plan_call(&command.call) {
+            Ok(forecast) => forecast,
             Err(refusal) => return Err(PlanFault::No(refusal)),
         };
         if is_full {
@@ -152,12 +155,12 @@ impl Protocol {
         }
         Ok(Turn::New(Planned {
             command: *command,
-            done,
+            forecast,
         }))
     }
 
-    /// What a call has beside its client and number.
-    fn plan_call(&self, call: &Call) -> Result<Done, Refusal>
+    /// Rules on a call, whatever its client and number.
+    fn plan_call(&self, call: &Call) -> Result<Forecast, Refusal>
         requires { IsTrue (built_call call.now) }
         ensures { IsRuled (state_of self.now) call.now result }
     {
@@ -167,6 +170,19 @@ impl Protocol {
             Call::Fund(account, coll) => self.plan_fund(account, coll),
             Call::Take(account, coll) => self.plan_take(account, coll),
             Call::Send(from, to, lusd) => self.plan_send(from, to, lusd),
+            Call::Open(account, coll, borrow, bound, _) => {
+                self.plan_open(account, coll, borrow, bound)
+            }
+            Call::Adjust(account, coll_in, coll_out, borrow, repay, bound, _) => {
+                let change = Change {
+                    coll_in,
+                    coll_out,
+                    borrow,
+                    repay,
+                };
+                self.plan_adjust(account, &change, bound)
+            }
+            Call::Close(account) => self.plan_close(account),
             _ => unreachable!(),
         }
     }
@@ -181,8 +197,12 @@ impl Protocol {
         self.reserve_client(planned.command.client)?;
         match planned.command.call {
             Call::Price(_) | Call::Advance(_) => Ok(()),
-            Call::Fund(account, _) | Call::Take(account, _) => self.reserve_wallet(account),
+            Call::Fund(account, _)
+            | Call::Take(account, _)
+            | Call::Adjust(account, ..)
+            | Call::Close(account) => self.reserve_wallet(account),
             Call::Send(from, to, _) => self.reserve_wallets(from, to),
+            Call::Open(account, ..) => self.reserve_trove(account),
             _ => unreachable!(),
         }
     }
@@ -192,7 +212,7 @@ impl Protocol {
         ensures room { OnOk result (Contains self.new.room.wallets account) }
         ensures had { Contains self.old.room.wallets account → IsOk result }
         ensures kept { (other : ℕ) → Contains self.old.room.wallets other → Contains self.new.room.wallets other }
-        ensures clients { self.new.room.clients ≡ self.old.room.clients }
+        ensures others { self.new.room ≡ record self.old.room { wallets = self.new.room.wallets } }
     {
         self.wallets.reserve(account)
     }
@@ -201,29 +221,36 @@ impl Protocol {
         ensures same { SameContent self.old self.new }
         ensures room { OnOk result (Contains self.new.room.wallets first × Contains self.new.room.wallets second) }
         ensures had { Contains self.old.room.wallets first → Contains self.old.room.wallets second → IsOk result }
-        ensures clients { self.new.room.clients ≡ self.old.room.clients }
+        ensures others { self.new.room ≡ record self.old.room { wallets = self.new.room.wallets } }
     {
         self.reserve_wallet(first)?;
         self.reserve_wallet(second)
+    }
+
+    /// Room for a trove that comes into being, with its owner's wallet and its place in the list.
+    fn reserve_trove(&mut self, account: u32) -> Result<(), NoMemory>
+        ensures same { SameContent self.old self.new }
+        ensures room { OnOk result (Contains self.new.room.wallets account × Contains self.new.room.troves account × (1 ≤ self.new.room.list)) }
+        ensures had { Contains self.old.room.wallets account → Contains self.old.room.troves account → 1 ≤ self.old.room.list → IsOk result }
+        ensures clients { self.new.room.clients ≡ self.old.room.clients }
+    {
+        self.wallets.reserve(account)?;
+        self.troves.reserve(account)?;
+        self.order.reserve(1)
     }
 
     fn reserve_client(&mut self, client: u32) -> Result<(), NoMemory>
         ensures same { SameContent self.old self.new }
         ensures room { OnOk result (Contains self.new.room.clients client) }
         ensures had { Contains self.old.room.clients client → IsOk result }
-        ensures wallets { self.new.room.wallets ≡ self.old.room.wallets }
+        ensures others { self.new.room ≡ record self.old.room { clients = self.new.room.clients } }
     {
         self.clients.reserve(client)
     }
 
     /// Makes the planned command's step. It takes no memory and cannot fail: the command was planned on this state, and
     /// its room was reserved. A hint never changes what is seen.
-    pub fn apply<L: Ledger>(
-        &mut self,
-        planned: Planned,
-        _hint: &Hint,
-        _steps: &mut Steps<L>,
-    ) -> Done
+    pub fn apply<L: Ledger>(&mut self, planned: Planned, hint: &Hint, steps: &mut Steps<L>) -> Done
         requires planned { IsPlannedOn self.old planned }
         requires room { HasRoom self.old planned }
         ensures state { (s : State) → StandsFor self.old s → StandsFor self.new (step s (Do planned.command)).0 }
@@ -231,18 +258,22 @@ impl Protocol {
     {
         // Where no field is used, nothing is known of the protocol.
         let _ = &self.records;
-        let Planned { command, done } = planned;
-        self.change(&command.call);
+        let Planned { command, forecast } = planned;
+        let Forecast { done, terms, .. } = forecast;
+        self.change(&command.call, &terms, hint, steps);
         self.note(&command, done);
         done
     }
 
     /// The effect of a call that is allowed.
-    fn change(&mut self, call: &Call)
+    fn change<L: Ledger>(&mut self, call: &Call, terms: &Terms, hint: &Hint, steps: &mut Steps<L>)
         requires built { IsTrue (built_call call.now) }
         requires range { AllByRecursion (λ account. account < ACCOUNTS) (accounts call.now) }
         requires allowed { first_refusal (rules (state_of self.old) call.now) ≡ None }
-        requires room { AllByRecursion (λ account. Contains self.old.room.wallets account) (accounts call.now) }
+        requires terms { AreTerms (state_of self.old) call.now terms.now }
+        requires wallets { AllByRecursion (λ account. Contains self.old.room.wallets account) (accounts call.now) }
+        requires troves { AllByRecursion (λ account. Contains self.old.room.troves account) (opens call.now) }
+        requires list { length (opens call.now) ≤ self.old.room.list }
         ensures { Changes self.old call.now self.new }
     {
         match *call {
@@ -251,6 +282,24 @@ impl Protocol {
             Call::Fund(account, coll) => self.bring_in(account, coll),
             Call::Take(account, coll) => self.take_out(account, coll),
             Call::Send(from, to, lusd) => self.send(from, to, lusd),
+            Call::Open(account, _, borrow, _, words) => {
+                let hint = hint_of(&words, hint);
+                self.open_trove(account, borrow, terms.trove(), &hint, steps);
+            }
+            Call::Adjust(account, coll_in, coll_out, borrow, repay, _, words) => {
+                let change = Change {
+                    coll_in,
+                    coll_out,
+                    borrow,
+                    repay,
+                };
+                let hint = hint_of(&words, hint);
+                self.adjust_trove(account, &change, terms.trove(), &hint, steps);
+            }
+            Call::Close(account) => {
+                let (repaid, coll) = terms.closing();
+                self.close_trove(account, repaid, coll);
+            }
             _ => unreachable!(),
         }
     }
@@ -289,9 +338,31 @@ pub fn is_built(request: &Request) -> bool
     match request {
         Request::Do(command) => matches!(
             command.call,
-            Call::Price(..) | Call::Advance(..) | Call::Fund(..) | Call::Take(..) | Call::Send(..)
+            Call::Price(..)
+                | Call::Advance(..)
+                | Call::Fund(..)
+                | Call::Take(..)
+                | Call::Send(..)
+                | Call::Open(..)
+                | Call::Adjust(..)
+                | Call::Close(..)
         ),
         Request::Ask(query) => !matches!(query, Query::Deposit(..)),
+    }
+}
+
+/// The place at which to look first: that of the command's own words, where at least one of them is there, else the given one.
+fn hint_of(words: &HintWords, given: &Hint) -> Hint
+    ensures none { words.now ≡ no_hint → result ≡ given.now }
+    ensures own { words.now ≢ no_hint → (result.prev ≡ words.now.prev) × (result.next ≡ words.now.next) }
+{
+    if words.prev.is_none() && words.next.is_none() {
+        return *given;
+    }
+    Hint {
+        prev: words.prev,
+        next: words.next,
+        version: given.version,
     }
 }
 

@@ -4,6 +4,7 @@
 //! can write the command down between the two.
 #![tactic(auto)]
 
+mod borrowing;
 mod engine;
 pub mod examples;
 pub mod laws;
@@ -12,6 +13,8 @@ pub mod plans;
 mod queries;
 pub mod shares;
 pub mod soundness;
+mod standing;
+mod told;
 mod turns;
 
 pub use engine::{Protocol, is_built};

@@ -9,6 +9,7 @@ ghost use Rattle.liq_core.specs.Step.{rules, first_refusal};
 ghost use Rattle.liq_core.specs.Turn.{IsRuled};
 
 use crate::engine::Protocol;
+use crate::turns::Forecast;
 use liq_types::amounts::{ACCOUNTS, LIM, MINUTE_MOST, PRICE_LEAST, PRICE_MOST};
 use liq_types::{Done, Refusal, Wallet};
 
@@ -19,7 +20,7 @@ impl Protocol {
         self.wallets.read(account)
     }
 
-    pub(crate) fn plan_advance(&self, minutes: u64) -> Result<Done, Refusal>
+    pub(crate) fn plan_advance(&self, minutes: u64) -> Result<Forecast, Refusal>
         ensures { IsRuled (state_of self.now) (call.Advance minutes) result }
     {
         if minutes == 0 {
@@ -30,13 +31,13 @@ impl Protocol {
             let limit = MINUTE_MOST;
             return Err(Refusal::AmountLimit { sum, limit });
         }
-        Ok(Done {
+        Ok(Forecast::plain(Done {
             kind: 2,
             values: [self.minute + minutes, 0, 0, 0, 0, 0],
-        })
+        }))
     }
 
-    pub(crate) fn plan_fund(&self, account: u32, coll: u64) -> Result<Done, Refusal>
+    pub(crate) fn plan_fund(&self, account: u32, coll: u64) -> Result<Forecast, Refusal>
         ensures { IsRuled (state_of self.now) (call.Fund account coll) result }
     {
         if account >= ACCOUNTS {
@@ -49,10 +50,10 @@ impl Protocol {
         if sum > u128::from(LIM) {
             return Err(Refusal::AmountLimit { sum, limit: LIM });
         }
-        Ok(done(3))
+        Ok(Forecast::plain(done(3)))
     }
 
-    pub(crate) fn plan_take(&self, account: u32, coll: u64) -> Result<Done, Refusal>
+    pub(crate) fn plan_take(&self, account: u32, coll: u64) -> Result<Forecast, Refusal>
         ensures { IsRuled (state_of self.now) (call.Take account coll) result }
     {
         if account >= ACCOUNTS {
@@ -65,10 +66,10 @@ impl Protocol {
         if have < coll {
             return Err(Refusal::ShortCollateral { need: coll, have });
         }
-        Ok(done(4))
+        Ok(Forecast::plain(done(4)))
     }
 
-    pub(crate) fn plan_send(&self, from: u32, to: u32, lusd: u64) -> Result<Done, Refusal>
+    pub(crate) fn plan_send(&self, from: u32, to: u32, lusd: u64) -> Result<Forecast, Refusal>
         ensures { IsRuled (state_of self.now) (call.Send from to lusd) result }
     {
         if from >= ACCOUNTS {
@@ -84,7 +85,7 @@ impl Protocol {
         if have < lusd {
             return Err(Refusal::ShortTokens { need: lusd, have });
         }
-        Ok(done(5))
+        Ok(Forecast::plain(done(5)))
     }
 
     /// Sets the price.
@@ -147,13 +148,13 @@ impl Protocol {
 }
 
 /// Rules on a price: whatever the state, only its limits count.
-pub(crate) fn plan_price(price: u64) -> Result<Done, Refusal>
+pub(crate) fn plan_price(price: u64) -> Result<Forecast, Refusal>
     ensures { (s : State) → IsRuled s (call.Price price) result }
 {
     if price < PRICE_LEAST || price > PRICE_MOST {
         return Err(Refusal::PriceRange { price });
     }
-    Ok(done(1))
+    Ok(Forecast::plain(done(1)))
 }
 
 /// A reply without values.

@@ -1,6 +1,6 @@
 //! The list of troves in the order of their ratios, as a sorted vector.
 
-ghost use Rattle.std.specs.Prelude.{◌≡◌, ℕ, ◌+◌, ◌≤◌, ◌<◌, ◌==◌, ◌^◌, [], None, IsSome, IfSome, OnOk, IsTrue, length, position};
+ghost use Rattle.std.specs.Prelude.{◌≡◌, ℕ, ◌+◌, ◌≤◌, ◌<◌, ◌==◌, ◌^◌, [], None, IsOk, IsSome, IfSome, OnOk, IsTrue, length, position};
 ghost use Rattle.std.specs.Ordering.{is_lt};
 ghost use Rattle.liq_types.specs.Ranked.{Ranked, rank_order, with_ranked, without_ranked, last_account, before_in, key_in};
 ghost use Rattle.liq_order.specs.Listed.{IsPlace};
@@ -39,11 +39,12 @@ impl Order {
     }
 
     /// Makes room for so many more entries, so that [`Order::insert`] takes no memory. The list stays, also where there is
-    /// no memory; room that there was stays too.
+    /// no memory; room that there was stays too, and where it was enough none is wanted.
     pub fn reserve(&mut self, more: usize) -> Result<(), NoMemory>
         ensures same { self.new.entries ≡ self.old.entries }
         ensures room { OnOk result (more ≤ self.new.room) }
         ensures kept { self.old.room ≤ self.new.room }
+        ensures had { more ≤ self.old.room → IsOk result }
     {
         match self.entries.reserve(more) {
             Ok(()) => Ok(()),

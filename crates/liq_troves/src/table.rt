@@ -1,6 +1,6 @@
 //! The troves of all accounts, and the sums beside them.
 
-ghost use Rattle.std.specs.Prelude.{◌≡◌, ℕ, ◌+◌, ◌≤◌, [], None, Some, IsSome, IfSome, IfOk, OnOk, OnSome, MatchResult, length, ◌∷◌, option_copied, is_ok, if◌then◌else◌};
+ghost use Rattle.std.specs.Prelude.{◌≡◌, ℕ, ◌+◌, ◌≤◌, [], None, Some, IsOk, IsSome, IfSome, IfOk, OnOk, OnSome, MatchResult, length, ◌∷◌, option_copied, is_ok, if◌then◌else◌};
 ghost use Rattle.std.specs.List.{AllByRecursion};
 ghost use Rattle.liq_types.specs.Rules.{first_refusal, outcome};
 ghost use Rattle.liq_types.specs.Tables.{Table, at, without};
@@ -57,12 +57,13 @@ impl Troves {
     }
 
     /// Makes room for a trove of the account, so that [`Troves::set`] takes no memory. Rows and sums stay, also where there
-    /// is no memory, and so does all room that there was.
+    /// is no memory, and so does all room that there was; where there was room none is wanted.
     pub fn reserve(&mut self, account: u32) -> Result<(), NoMemory>
         ensures rows { self.new.table.rows ≡ self.old.table.rows }
         ensures sums { self.new.sums ≡ self.old.sums }
         ensures room { OnOk result (HasRoom self.new.table account) }
         ensures kept { KeepsRoom self.old.table self.new.table }
+        ensures had { HasRoom self.old.table account → IsOk result }
     {
         self.table.reserve(account)
     }
@@ -110,10 +111,12 @@ impl Troves {
         self.table.write(account, row);
     }
 
-    /// The row that an operation of its owner writes.
-    fn row_for(&self, coll: u64, debt: u64) -> Trove
+    /// The row that an operation of its owner writes, with these amounts in gwei and micro-LUSD.
+    pub fn row_for(&self, coll: u64, debt: u64) -> Trove
         requires { 1 ≤ coll }
-        ensures { result ≡ set_row self.now.sums coll debt }
+        ensures row { result ≡ set_row self.now.sums coll debt }
+        ensures stake { 1 ≤ result.stake }
+        ensures mark { result.mark_debt ≤ SUM_MOST }
     {
         Trove {
             coll,
@@ -135,12 +138,13 @@ impl Troves {
         }
     }
 
-    /// Takes the account's trove out.
+    /// Takes the account's trove out. The room stays, which there is where there is a trove.
     pub fn remove(&mut self, account: u32) -> Trove
         requires { IsSome (at self.old.table.rows account) }
         ensures row { Some result ≡ at self.old.table.rows account }
         ensures rows { self.new.table.rows ≡ without self.old.table.rows account }
         ensures room { self.new.table.room ≡ self.old.table.room }
+        ensures had { HasRoom self.old.table account }
         ensures sums { self.new.sums ≡ beside self.old.sums self.new.table.rows }
     {
         let trove = match self.table.get(account) {

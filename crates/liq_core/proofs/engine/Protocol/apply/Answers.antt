@@ -5,6 +5,7 @@ use Rattle.liq_types.specs.Soundness.{IsSoundImage}
 use Rattle.liq_core.specs.Core.{Core, StandsFor, state_of}
 use Rattle.liq_core.specs.Plan.{Plan}
 use Rattle.liq_core.specs.Sound.{IsKeptRow}
+use Rattle.liq_core.specs.Terms.{AreTerms}
 use Rattle.liq_core.specs.Step.{after, built_call, rules, effect, noted, after_ruling}
 use Rattle.liq_core.proofs.Allowed.{allowed_number, allowed_rules, allowed_few, built-rotates}
 use Rattle.liq_core.proofs.KeptReplies.{kept_reply}
@@ -17,6 +18,13 @@ change-requires-clause-allowed g c =
     let sound = subst (λ (core : Core). IsSoundImage core.image core.records) c.self.view_is c.self.invariant.image in
     let plan = c.requires.planned (state_of c.args.self.now) (sound_stands c.args.self.now sound) in
     subst (λ (p : Plan). first_refusal (rules (state_of c.args.self.now) p.command.call) ≡ None) (sym c.planned.view_is) (allowed_rules (state_of c.args.self.now) c.args.planned.command plan.allowed)
+
+pub change-requires-clause-terms : goal.change-requires-clause-terms
+change-requires-clause-terms g c =
+    let sound = subst (λ (core : Core). IsSoundImage core.image core.records) c.self.view_is c.self.invariant.image in
+    let s = state_of c.args.self.now in
+    let plan = c.requires.planned s (sound_stands c.args.self.now sound) in
+    subst (λ (p : Plan). AreTerms s p.command.call p.terms) (sym c.planned.view_is) plan.terms
 
 pub note-requires-clause-number : goal.note-requires-clause-number
 note-requires-clause-number g c =
@@ -52,7 +60,7 @@ returns-clause-state g c s h =
     let plan = c.requires.planned s h in
     let call = c.planned.inside.command.call in
     let changed = changed_stands c.args.self.now c.change.new.self call sound c.planned.invariant.built c.change.ensures s h in
-    let noted_is : StandsFor c.note.new.self (noted (effect s call) c.planned.inside.command c.planned.inside.done) = c.note.ensures (effect s call) changed in
+    let noted_is : StandsFor c.note.new.self (noted (effect s call) c.planned.inside.command c.planned.inside.forecast.done) = c.note.ensures (effect s call) changed in
     let seen : StandsFor c.note.new.self (noted (effect s c.args.planned.command.call) c.args.planned.command c.args.planned.done) =
     subst (λ (p : Plan). StandsFor c.note.new.self (noted (effect s p.command.call) p.command p.done)) c.planned.view_is noted_is in
     let done : StandsFor c.note.new.self (after s c.args.planned.command) =

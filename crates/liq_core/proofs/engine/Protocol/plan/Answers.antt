@@ -1,13 +1,15 @@
-use Rattle.std.proofs.Common.{◌≡◌, ◌+◌, ◌<◌, ◌∙◌, ap, sym, refl, subst, arith}
+use Rattle.std.proofs.Common.{◌≡◌, ◌+◌, ◌<◌, ◌∙◌, ap, refl, subst, arith}
 use Rattle.std.proofs.lemmas.Bool.Decides.{nat_tests}
 use Rattle.liq_types.specs.declared.amounts.TheConstants.{ACCOUNTS, RECORDS_MOST}
 use Rattle.liq_types.specs.declared.figures.Client.{Client}
 use Rattle.liq_types.specs.Soundness.{IsSoundImage}
 use Rattle.liq_types.specs.State.{client_of}
+use Rattle.liq_types.specs.declared.replies.Refusal.TheVariants.{JournalFull}
 use Rattle.liq_core.specs.Core.{Core, state_of}
-use Rattle.liq_core.proofs.AlikeStep.{done_alike}
+use Rattle.liq_core.specs.Rules.{rules}
+use Rattle.liq_core.specs.Verbs.{accounts}
 use Rattle.liq_core.proofs.Allowed.{built-rotates}
-use Rattle.liq_core.proofs.Ruled.{allowed_call, refused_call, room_left, standing_alike, standing_ruling}
+use Rattle.liq_core.proofs.Ruled.{accounts_within, allowed_call, planned_alike, refused_call, refused_room, room_full, room_left, standing_alike, standing_ruling}
 use Rattle.liq_core.proofs.engine.Protocol.plan.Goals as goal
 
 pub returns-in-Err : goal.returns-in-Err
@@ -21,6 +23,28 @@ returns-in-Err c s h =
     let sound = subst (λ (view : Core). IsSoundImage view.image view.records) c.self.view_is c.self.invariant.image in
     standing_ruling core s command sound h ∙ refused_call (state_of core) command c.in-Err.refusal within next c.in-Err.ensures
 
+pub returns-then-is_full : goal.returns-then-is_full
+returns-then-is_full c s h =
+    let core = c.args.self.now in
+    let command = c.args.command.now in
+    let within : command.client < ACCOUNTS = grind (arith, nat_tests, c.if-command-ge-ACCOUNTS.false) in
+    let last = ap (λ (k : Client). k.last) c.client-client.ensures in
+    let next : command.number ≡ (client_of (state_of core) command.client).last + 1 =
+    grind (arith, nat_tests, c.if-command-eq0.false, c.if-command-client-2.false, last) in
+    let sound = subst (λ (view : Core). IsSoundImage view.image view.records) c.self.view_is c.self.invariant.image in
+    let same = ap (λ (view : Core). view.records) c.self.view_is in
+    let full = room_full (state_of core) command (built-rotates command.call c.requires.built) (omega (arith, c.if-is_full.true, same)) in
+    standing_ruling core s command sound h ∙ refused_room (state_of core) command (JournalFull RECORDS_MOST) within next c.in-Ok.ensures.0 full
+
+pub invariant_of-result : goal.invariant_of-result
+invariant_of-result c =
+    let call = c.args.command.now.call in
+    record {
+      built = c.requires.built;
+      client = grind (arith, nat_tests, c.if-command-ge-ACCOUNTS.false);
+      accounts = accounts_within (accounts call) (rules (state_of c.args.self.now) call) c.in-Ok.ensures.0;
+    }
+
 pub returns : goal.returns
 returns c s h =
     let core = c.args.self.now in
@@ -32,10 +56,6 @@ returns c s h =
     let sound = subst (λ (view : Core). IsSoundImage view.image view.records) c.self.view_is c.self.invariant.image in
     let same = ap (λ (view : Core). view.records) c.self.view_is in
     let few : core.records < RECORDS_MOST = grind (arith, nat_tests, c.if-is_full.false, same) in
-    let free = room_left (state_of core) command (built-rotates command.call c.requires.built) few in (
-      refl,
-      record {
-        allowed = standing_ruling core s command sound h ∙ allowed_call (state_of core) command within next c.in-Ok.ensures.0 free;
-        done = c.in-Ok.ensures.1 ∙ sym (done_alike (standing_alike core s sound h) command.call);
-      },
-    )
+    let free = room_left (state_of core) command (built-rotates command.call c.requires.built) few in
+    let allowed = standing_ruling core s command sound h ∙ allowed_call (state_of core) command within next c.in-Ok.ensures.0 free in
+    (refl, planned_alike (standing_alike core s sound h) command c.in-Ok.forecast allowed c.in-Ok.ensures.1)

@@ -19,7 +19,7 @@ overflow_add-self-2 c =
     let b =
     set_beside c.args.self.now.table.rows c.args.self.now.sums c.self.inside.count c.args.account c.args.coll c.args.debt c.others-count.result.0 c.others-count.result.1
     (subst (λ v. AreKept v.table.rows v.sums c.self.inside.count) c.self.view_is c.self.invariant) c.requires.some c.requires.limit c.others-count.ensures.count c.others-count.ensures.stakes in
-    let row = ap (λ (t : Trove). t.stake) c.row_for-row.ensures in
+    let row = ap (λ (t : Trove). t.stake) c.row_for-row.ensures.row in
     record { fits = omega (arith, b.stakes_fit, row) }
 
 rows : (c : goal.After-write) → c.write.new.self.rows ≡ set_in c.args.self.now.sums c.args.self.now.table.rows c.args.account c.args.coll c.args.debt
@@ -27,17 +27,17 @@ rows c =
     let b =
     set_beside c.args.self.now.table.rows c.args.self.now.sums c.self.inside.count c.args.account c.args.coll c.args.debt c.others-count.result.0 c.others-count.result.1
     (subst (λ v. AreKept v.table.rows v.sums c.self.inside.count) c.self.view_is c.self.invariant) c.requires.some c.requires.limit c.others-count.ensures.count c.others-count.ensures.stakes in
-    let row = ap (λ (t : Trove). t.stake) c.row_for-row.ensures in
+    let row = ap (λ (t : Trove). t.stake) c.row_for-row.ensures.row in
     c.write.ensures.rows ∙ written_row c.self.inside.table.rows c.args.account c.row_for-row.result (omega (arith, b.some, row))
     ∙ ap (λ v. put v.table.rows c.args.account c.row_for-row.result) c.self.view_is
-    ∙ ap (λ t. put c.args.self.now.table.rows c.args.account t) c.row_for-row.ensures
+    ∙ ap (λ t. put c.args.self.now.table.rows c.args.account t) c.row_for-row.ensures.row
 
 stakes : (c : goal.After-write) → c.others-count.result.1 + c.row_for-row.result.stake ≡ stakes_in (set_in c.args.self.now.sums c.args.self.now.table.rows c.args.account c.args.coll c.args.debt)
 stakes c =
     let b =
     set_beside c.args.self.now.table.rows c.args.self.now.sums c.self.inside.count c.args.account c.args.coll c.args.debt c.others-count.result.0 c.others-count.result.1
     (subst (λ v. AreKept v.table.rows v.sums c.self.inside.count) c.self.view_is c.self.invariant) c.requires.some c.requires.limit c.others-count.ensures.count c.others-count.ensures.stakes in
-    let row = ap (λ (t : Trove). t.stake) c.row_for-row.ensures in
+    let row = ap (λ (t : Trove). t.stake) c.row_for-row.ensures.row in
     omega (arith, b.stakes_are, row)
 
 sums : (c : goal.After-write) → record c.self.inside.sums { stakes = c.others-count.result.1 + c.row_for-row.result.stake } ≡ beside c.args.self.now.sums (set_in c.args.self.now.sums c.args.self.now.table.rows c.args.account c.args.coll c.args.debt)

@@ -1,0 +1,51 @@
+use Rattle.std.proofs.Common.{◌≡◌, ℕ, sym, ap, subst, None}
+use Rattle.liq_types.specs.declared.hints.HintWords.{HintWords}
+use Rattle.liq_types.specs.declared.requests.Call.{Call}
+use Rattle.liq_types.specs.declared.requests.Call.TheVariants.{Open}
+use Rattle.liq_types.specs.Rules.{first_refusal}
+use Rattle.liq_types.specs.State.{State}
+use Rattle.liq_types.specs.Totals.{market_of}
+use Rattle.liq_borrow.specs.declared.change.Plan.{Plan}
+use Rattle.liq_borrow.specs.Borrowing.{opening_terms}
+use Rattle.liq_core.specs.declared.turns.Terms.{Terms}
+use Rattle.liq_core.specs.declared.turns.Terms.TheVariants.{Trove}
+use Rattle.liq_core.specs.Core.{Changes, state_of}
+use Rattle.liq_core.specs.Step.{rules}
+use Rattle.liq_core.specs.Terms.{AreTerms, IsTrove}
+use Rattle.liq_core.proofs.engine.Protocol.change.Goals as goal
+
+-- the collateral of an opening is its word
+opening_coll : (s : State) (call : Call) (all : Terms) (plan : Plan) (account coll borrow bound : ℕ) (words : HintWords) → AreTerms s call all → call ≡ Open account coll borrow bound words → all ≡ Trove plan → plan.coll ≡ coll
+opening_coll s call all plan account coll borrow bound words terms is told =
+    let trove = subst (λ (c : Call). AreTerms s c all) is terms in
+    let planned : plan ≡ opening_terms (market_of s) coll borrow = subst (IsTrove (opening_terms (market_of s) coll borrow)) told trove in
+    ap (λ (p : Plan). p.coll) planned
+
+pub open_trove-requires-clause-allowed : goal.open_trove-requires-clause-allowed
+open_trove-requires-clause-allowed g c =
+    let s = state_of c.args.self.now in
+    let coll = opening_coll s c.args.call.now c.args.terms.now c.trove.result.now c.in-Open.account c.in-Open.field-1 c.in-Open.borrow c.in-Open.field-3 c.in-Open.words c.requires.terms c.in-Open.is c.trove.ensures in (
+      c.in-Open.field-3,
+      c.in-Open.words,
+      subst (λ n. first_refusal (rules s (Open c.in-Open.account n c.in-Open.borrow c.in-Open.field-3 c.in-Open.words)) ≡ None) (sym coll)
+          (subst (λ (call : Call). first_refusal (rules s call) ≡ None) c.in-Open.is c.requires.allowed),
+    )
+
+pub returns-in-Open : goal.returns-in-Open
+returns-in-Open g c =
+    let old = c.args.self.now in
+    let new = c.open_trove.new.self in
+    let coll = opening_coll (state_of old) c.args.call.now c.args.terms.now c.trove.result.now c.in-Open.account c.in-Open.field-1 c.in-Open.borrow c.in-Open.field-3 c.in-Open.words c.requires.terms c.in-Open.is c.trove.ensures in
+    subst (λ (call : Call). Changes old call new) (sym c.in-Open.is)
+    (subst (λ n. Changes old (Open c.in-Open.account n c.in-Open.borrow c.in-Open.field-3 c.in-Open.words) new) coll (c.open_trove.ensures c.in-Open.field-3 c.in-Open.words))
+
+pub adjust_trove-requires-clause-allowed : goal.adjust_trove-requires-clause-allowed
+adjust_trove-requires-clause-allowed g c = (
+  c.in-Adjust.field-5,
+  c.in-Adjust.words,
+  subst (λ (call : Call). first_refusal (rules (state_of c.args.self.now) call) ≡ None) c.in-Adjust.is c.requires.allowed,
+)
+
+pub returns-in-Adjust : goal.returns-in-Adjust
+returns-in-Adjust g c =
+    subst (λ (call : Call). Changes c.args.self.now call c.adjust_trove.new.self) (sym c.in-Adjust.is) (c.adjust_trove.ensures c.in-Adjust.field-5 c.in-Adjust.words)

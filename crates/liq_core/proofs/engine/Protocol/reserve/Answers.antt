@@ -1,0 +1,61 @@
+use Rattle.std.proofs.Common.{◌≡◌, ℕ, ◌≤◌, List, [], ◌∷◌, length, inl, inr, sym, ap, ◌∙◌, subst}
+use Rattle.std.specs.Prelude.{◌⊎◌}
+use Rattle.liq_types.specs.declared.hints.HintWords.{HintWords}
+use Rattle.std.specs.List.{AllByRecursion, Contains}
+use Rattle.liq_types.specs.declared.requests.Call.{Call}
+use Rattle.liq_types.specs.declared.requests.Call.TheVariants.{Fund, Take, Adjust, Close}
+use Rattle.liq_core.specs.Core.{Room}
+use Rattle.liq_core.specs.Plan.{Plan}
+use Rattle.liq_core.specs.Verbs.{accounts, opens}
+use Rattle.liq_core.proofs.engine.Protocol.reserve.Goals as goal
+
+-- what there is room for, of a call that is known and of a protocol that differs in the room for clients alone
+module _ (old new : Room) (others : new ≡ record old { clients = new.clients }) (planned call : Call) (is : planned ≡ call) where
+  wallets : AllByRecursion (λ account. Contains old.wallets account) (accounts planned) → AllByRecursion (λ account. Contains new.wallets account) (accounts call)
+  wallets h =
+      subst (λ (keys : List ℕ). AllByRecursion (λ account. Contains keys account) (accounts call)) (sym (ap (λ (r : Room). r.wallets) others))
+      (subst (λ (c : Call). AllByRecursion (λ account. Contains old.wallets account) (accounts c)) is h)
+
+  troves : AllByRecursion (λ account. Contains old.troves account) (opens planned) → AllByRecursion (λ account. Contains new.troves account) (opens call)
+  troves h =
+      subst (λ (keys : List ℕ). AllByRecursion (λ account. Contains keys account) (opens call)) (sym (ap (λ (r : Room). r.troves) others))
+      (subst (λ (c : Call). AllByRecursion (λ account. Contains old.troves account) (opens c)) is h)
+
+  list : length (opens planned) ≤ old.list → length (opens call) ≤ new.list
+  list h =
+      subst (λ n. length (opens call) ≤ n) (sym (ap (λ (r : Room). r.list) others))
+      (subst (λ (c : Call). length (opens c) ≤ old.list) is h)
+
+-- the calls of one account
+one_account : (call : Call) (account : ℕ)
+    → ((coll : ℕ) × (call ≡ Fund account coll))
+    ⊎ ((coll : ℕ) × (call ≡ Take account coll))
+    ⊎ ((coll_in : ℕ) × (coll_out : ℕ) × (borrow : ℕ) × (repay : ℕ) × (bound : ℕ) × (words : HintWords) × (call ≡ Adjust account coll_in coll_out borrow repay bound words))
+    ⊎ (call ≡ Close account)
+    → accounts call ≡ account ∷ []
+one_account call account (inl e) = ap accounts e.1
+one_account call account (inr (inl e)) = ap accounts e.1
+one_account call account (inr (inr (inl e))) = ap accounts e.6
+one_account call account (inr (inr (inr e))) = ap accounts e
+
+pub returns-in-Send-clause-had : goal.returns-in-Send-clause-had
+returns-in-Send-clause-had c h =
+    let is = sym (ap (λ (p : Plan). p.command.call) c.planned.view_is) ∙ c.in-Send.is in
+    let rooms = wallets c.args.self.now.room c.reserve_client.new.self.room c.reserve_client.ensures.others c.args.planned.now.command.call _ is h.wallets in
+    c.reserve_wallets.ensures.had rooms.0 rooms.1.0
+
+pub returns-in-Open-clause-had : goal.returns-in-Open-clause-had
+returns-in-Open-clause-had c h =
+    let is = sym (ap (λ (p : Plan). p.command.call) c.planned.view_is) ∙ c.in-Open.is in
+    let old = c.args.self.now.room in
+    let new = c.reserve_client.new.self.room in
+    let others = c.reserve_client.ensures.others in
+    let call = c.args.planned.now.command.call in
+    c.reserve_trove.ensures.had (wallets old new others call _ is h.wallets).0 (troves old new others call _ is h.troves).0 (list old new others call _ is h.list)
+
+pub returns-in-Fund-clause-had : goal.returns-in-Fund-clause-had
+returns-in-Fund-clause-had c h =
+    let is = ap (λ (p : Plan). accounts p.command.call) (sym c.planned.view_is) ∙ one_account c.planned.inside.command.call c.in-Fund.account c.in-Fund.is in
+    let keys = ap (λ (r : Room). r.wallets) c.reserve_client.ensures.others in
+    let had = subst (λ (names : List ℕ). AllByRecursion (λ account. Contains c.args.self.now.room.wallets account) names) is h.wallets in
+    c.reserve_wallet.ensures.had (subst (λ (ks : List ℕ). Contains ks c.in-Fund.account) (sym keys) had.0)

@@ -1,0 +1,255 @@
+//! Borrowing: a trove is opened, adjusted and closed by its owner.
+
+ghost use Rattle.std.specs.Prelude.{◌≡◌, ◌≤◌, ◌<◌, ◌+◌, ℕ, None};
+ghost use Rattle.std.specs.List.{Contains};
+ghost use Rattle.liq_types.specs.declared.events.ListChange.TheVariants.{Put};
+ghost use Rattle.liq_types.specs.declared.hints.HintWords.{HintWords};
+ghost use Rattle.liq_types.specs.declared.requests.Call.TheVariants as call;
+ghost use Rattle.liq_types.specs.Payments.{credited_in, charged_in};
+ghost use Rattle.liq_types.specs.State.{wallet_in, wallet_of};
+ghost use Rattle.liq_types.specs.Totals.{market_of, or_nothing};
+ghost use Rattle.liq_tables.specs.WithRoom.{HasRoom};
+ghost use Rattle.liq_troves.specs.Rows.{key_by, set_row};
+ghost use Rattle.liq_troves.specs.StakeSums.{entire_of, sums_words};
+ghost use Rattle.liq_borrow.specs.Borrowing.{opening_terms, adjusting_terms, closing_terms};
+ghost use Rattle.liq_core.specs.Core.{Changes, state_of};
+ghost use Rattle.liq_core.specs.Step.{rules, first_refusal};
+ghost use Rattle.liq_core.specs.Turn.{IsRuled};
+
+use crate::engine::Protocol;
+use crate::standing::{lift_trove, place_trove};
+use crate::told::{ListChanges, PoolEvents};
+use crate::turns::{Forecast, Terms};
+use liq_borrow::{Change, Plan, plan_adjust, plan_close, plan_open};
+use liq_ledger::Wallets;
+use liq_troves::{entire, key};
+use liq_types::amounts::{ACCOUNTS, LIM, RESERVE};
+use liq_types::{Done, Hint, ListChange, Refusal, Steps, Wallet};
+use std::sync::ledger::Ledger;
+
+impl Protocol {
+    /// Entire collateral (gwei) and debt (micro-LUSD) of the account's trove, if it has one.
+    fn entire(&self, account: u32) -> Option<(u64, u64)>
+        ensures entire { result ≡ entire_of (state_of self.now) account }
+        ensures coll { (or_nothing result).0 + (wallet_of (state_of self.now) account).coll ≤ LIM }
+        ensures debt { (or_nothing result).1 ≤ (market_of (state_of self.now)).total_debt }
+    {
+        let trove = self.troves.get(account)?;
+        Some(entire(trove, self.troves.sums()))
+    }
+
+    /// Where a trove with these amounts will stand in the list.
+    fn standing(&self, account: u32, coll: u64, debt: u64) -> ListChange
+        requires { 1 ≤ coll }
+        ensures { result ≡ Put (key_by (set_row (sums_words (state_of self.now)) coll debt)) account }
+    {
+        let row = self.troves.row_for(coll, debt);
+        ListChange::Put {
+            key: key(&row),
+            account,
+        }
+    }
+
+    pub(crate) fn plan_open(
+        &self,
+        account: u32,
+        coll: u64,
+        borrow: u64,
+        bound: u64,
+    ) -> Result<Forecast, Refusal>
+        ensures { (hint : HintWords) → IsRuled (state_of self.now) (call.Open account coll borrow bound hint) result }
+    {
+        if account >= ACCOUNTS {
+            return Err(Refusal::AccountRange { value: account });
+        }
+        let exists = self.troves.get(account).is_some();
+        let wallet = self.wallet(account);
+        let plan = plan_open(
+            &self.market(),
+            &wallet,
+            exists,
+            account,
+            coll,
+            borrow,
+            bound,
+        )?;
+        Ok(Forecast {
+            done: Done {
+                kind: 6,
+                values: [plan.debt, plan.fee, 0, 0, 0, 0],
+            },
+            terms: Terms::Trove(plan),
+            events: PoolEvents::Nothing,
+            changes: ListChanges::One([self.standing(account, plan.coll, plan.debt)]),
+        })
+    }
+
+    pub(crate) fn plan_adjust(
+        &self,
+        account: u32,
+        change: &Change,
+        bound: u64,
+    ) -> Result<Forecast, Refusal>
+        ensures { (hint : HintWords) → IsRuled (state_of self.now) (call.Adjust account change.now.coll_in change.now.coll_out change.now.borrow change.now.repay bound hint) result }
+    {
+        if account >= ACCOUNTS {
+            return Err(Refusal::AccountRange { value: account });
+        }
+        // Where no field is used, nothing is known of the protocol.
+        let _ = &self.records;
+        let had = self.entire(account);
+        let wallet = self.wallet(account);
+        let plan = plan_adjust(&self.market(), &wallet, had, account, change, bound)?;
+        Ok(Forecast {
+            done: Done {
+                kind: 7,
+                values: [plan.coll, plan.debt, plan.fee, 0, 0, 0],
+            },
+            terms: Terms::Trove(plan),
+            events: PoolEvents::Nothing,
+            changes: ListChanges::One([self.standing(account, plan.coll, plan.debt)]),
+        })
+    }
+
+    pub(crate) fn plan_close(&self, account: u32) -> Result<Forecast, Refusal>
+        ensures { IsRuled (state_of self.now) (call.Close account) result }
+    {
+        if account >= ACCOUNTS {
+            return Err(Refusal::AccountRange { value: account });
+        }
+        let had = self.entire(account);
+        let wallet = self.wallet(account);
+        let (repaid, coll) = plan_close(&self.market(), &wallet, had, account)?;
+        Ok(Forecast {
+            done: Done {
+                kind: 8,
+                values: [repaid, coll, 0, 0, 0, 0],
+            },
+            terms: Terms::Closing { repaid, coll },
+            events: PoolEvents::Nothing,
+            changes: ListChanges::One([ListChange::Gone { account }]),
+        })
+    }
+
+    /// Opens the account's trove as it is planned: its collateral leaves the wallet, and what is borrowed comes into it.
+    pub(crate) fn open_trove<L: Ledger>(
+        &mut self,
+        account: u32,
+        borrow: u64,
+        plan: &Plan,
+        hint: &Hint,
+        steps: &mut Steps<L>,
+    )
+        requires allowed { (bound : ℕ) × (words : HintWords) × (first_refusal (rules (state_of self.old) (call.Open account plan.now.coll borrow bound words)) ≡ None) }
+        requires terms { plan.now ≡ opening_terms (market_of (state_of self.old)) plan.now.coll borrow }
+        requires range { account < ACCOUNTS }
+        requires wallet { Contains self.old.room.wallets account }
+        requires trove { Contains self.old.room.troves account }
+        requires list { 1 ≤ self.old.room.list }
+        ensures { (bound : ℕ) → (words : HintWords) → Changes self.old (call.Open account plan.now.coll borrow bound words) self.new }
+    {
+        let coll = plan.coll;
+        exchange(
+            &mut self.wallets,
+            account,
+            &Wallet { coll, lusd: 0 },
+            &Wallet {
+                coll: 0,
+                lusd: borrow,
+            },
+        );
+        self.rate = plan.rate;
+        self.pools.fee_lusd += plan.fee;
+        self.pools.reserve += RESERVE;
+        place_trove(
+            &mut self.pools,
+            &mut self.troves,
+            &mut self.order,
+            account,
+            coll,
+            plan.debt,
+            hint,
+            steps,
+        );
+    }
+
+    /// Adjusts the account's trove as it is planned: the owner gives and gets what is asked.
+    pub(crate) fn adjust_trove<L: Ledger>(
+        &mut self,
+        account: u32,
+        change: &Change,
+        plan: &Plan,
+        hint: &Hint,
+        steps: &mut Steps<L>,
+    )
+        requires allowed { (bound : ℕ) × (words : HintWords) × (first_refusal (rules (state_of self.old) (call.Adjust account change.now.coll_in change.now.coll_out change.now.borrow change.now.repay bound words)) ≡ None) }
+        requires terms { plan.now ≡ adjusting_terms (market_of (state_of self.old)) (or_nothing (entire_of (state_of self.old) account)) change.now }
+        requires range { account < ACCOUNTS }
+        requires room { Contains self.old.room.wallets account }
+        ensures { (bound : ℕ) → (words : HintWords) → Changes self.old (call.Adjust account change.now.coll_in change.now.coll_out change.now.borrow change.now.repay bound words) self.new }
+    {
+        exchange(
+            &mut self.wallets,
+            account,
+            &Wallet {
+                coll: change.coll_in,
+                lusd: change.repay,
+            },
+            &Wallet {
+                coll: change.coll_out,
+                lusd: change.borrow,
+            },
+        );
+        self.rate = plan.rate;
+        self.pools.fee_lusd += plan.fee;
+        lift_trove(&mut self.pools, &mut self.troves, &mut self.order, account);
+        place_trove(
+            &mut self.pools,
+            &mut self.troves,
+            &mut self.order,
+            account,
+            plan.coll,
+            plan.debt,
+            hint,
+            steps,
+        );
+    }
+
+    /// Closes the account's trove: its debt beside the reserve is repaid, the reserve is burned, and its collateral returns.
+    pub(crate) fn close_trove(&mut self, account: u32, repaid: u64, coll: u64)
+        requires allowed { first_refusal (rules (state_of self.old) (call.Close account)) ≡ None }
+        requires terms { (repaid, coll) ≡ closing_terms (or_nothing (entire_of (state_of self.old) account)) }
+        requires range { account < ACCOUNTS }
+        requires room { Contains self.old.room.wallets account }
+        ensures { Changes self.old (call.Close account) self.new }
+    {
+        exchange(
+            &mut self.wallets,
+            account,
+            &Wallet {
+                coll: 0,
+                lusd: repaid,
+            },
+            &Wallet { coll, lusd: 0 },
+        );
+        self.pools.reserve -= RESERVE;
+        lift_trove(&mut self.pools, &mut self.troves, &mut self.order, account);
+    }
+}
+
+/// What an owner gives leaves the wallet, and then what the owner gets comes into it. The other wallets stay.
+fn exchange(wallets: &mut Wallets, account: u32, given: &Wallet, got: &Wallet)
+    requires room { HasRoom wallets.old account }
+    requires coll { given.now.coll ≤ (wallet_in wallets.old.rows account).coll }
+    requires lusd { given.now.lusd ≤ (wallet_in wallets.old.rows account).lusd }
+    requires coll_limit { (wallet_in (charged_in wallets.old.rows account given.now.coll given.now.lusd) account).coll + got.now.coll ≤ LIM }
+    requires lusd_limit { (wallet_in (charged_in wallets.old.rows account given.now.coll given.now.lusd) account).lusd + got.now.lusd ≤ LIM }
+    ensures rows { wallets.new.rows ≡ credited_in (charged_in wallets.old.rows account given.now.coll given.now.lusd) account got.now.coll got.now.lusd }
+    ensures room { wallets.new.room ≡ wallets.old.room }
+{
+    match wallets.charge(account, given.coll, given.lusd) {
+        Ok(()) => {}
+        Err(_) => unreachable!(),
+    }
+    wallets.pay(account, got.coll, got.lusd);
+}

@@ -1,0 +1,71 @@
+//! Where a trove stands: in the table, in the pools that hold what it has, and in the list.
+
+ghost use Rattle.std.specs.Prelude.{◌≡◌, ◌≤◌, ◌+◌, IsSome, None};
+ghost use Rattle.liq_types.specs.declared.amounts.TheConstants.{MIN_NET};
+ghost use Rattle.liq_types.specs.Tables.{at};
+ghost use Rattle.liq_tables.specs.WithRoom.{HasRoom};
+ghost use Rattle.liq_troves.specs.Standing.{TrovesStand, lift, place};
+ghost use Rattle.liq_order.specs.Order.{order_by};
+ghost use Rattle.liq_core.specs.Books.{kept_books, SameOthers};
+
+use liq_ledger::Pools;
+use liq_order::Order;
+use liq_troves::{Troves, entire, key};
+use liq_types::amounts::{LIM, RESERVE};
+use liq_types::{Hint, Steps};
+use std::sync::ledger::Ledger;
+
+/// The account's trove leaves the table, the pools and the list. The other pools stay, and
+/// its room does in table and list.
+pub(crate) fn lift_trove(pools: &mut Pools, troves: &mut Troves, order: &mut Order, account: u32)
+    requires there { IsSome (at troves.old.table.rows account) }
+    requires stand { TrovesStand (kept_books pools.old troves.old) }
+    requires list { order.old.entries ≡ order_by troves.old.table.rows }
+    requires coll { pools.old.active_coll + pools.old.default_coll ≤ LIM }
+    requires debt { pools.old.active_debt + pools.old.default_debt ≤ LIM }
+    ensures books { kept_books pools.new troves.new ≡ lift (kept_books pools.old troves.old) account }
+    ensures others { SameOthers pools.old pools.new }
+    ensures list { order.new.entries ≡ order_by troves.new.table.rows }
+    ensures room { HasRoom troves.new.table account }
+    ensures spare { order.new.room ≡ order.old.room + 1 }
+{
+    let trove = troves.remove(account);
+    let (coll, debt) = entire(&trove, troves.sums());
+    pools.active_coll -= trove.coll;
+    pools.active_debt -= trove.debt;
+    pools.default_coll -= coll - trove.coll;
+    pools.default_debt -= debt - trove.debt;
+    order.remove(account);
+}
+
+/// A trove of the account comes into the table, the active pool and the list, with these amounts in gwei and micro-LUSD and
+/// nothing pending. The other pools stay.
+pub(crate) fn place_trove<L: Ledger>(
+    pools: &mut Pools,
+    troves: &mut Troves,
+    order: &mut Order,
+    account: u32,
+    coll: u64,
+    debt: u64,
+    hint: &Hint,
+    steps: &mut Steps<L>,
+)
+    requires absent { at troves.old.table.rows account ≡ None }
+    requires stand { TrovesStand (kept_books pools.old troves.old) }
+    requires list { order.old.entries ≡ order_by troves.old.table.rows }
+    requires some { 1 ≤ coll }
+    requires least { RESERVE + MIN_NET ≤ debt }
+    requires coll { pools.old.active_coll + coll ≤ LIM }
+    requires debt { pools.old.active_debt + debt ≤ LIM }
+    requires room { HasRoom troves.old.table account }
+    requires spare { 1 ≤ order.old.room }
+    ensures books { kept_books pools.new troves.new ≡ place (kept_books pools.old troves.old) account coll debt }
+    ensures others { SameOthers pools.old pools.new }
+    ensures list { order.new.entries ≡ order_by troves.new.table.rows }
+{
+    let row = troves.row_for(coll, debt);
+    pools.active_coll += coll;
+    pools.active_debt += debt;
+    troves.set(account, coll, debt);
+    order.insert(key(&row), account, hint, steps);
+}
