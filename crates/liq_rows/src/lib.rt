@@ -16,6 +16,12 @@ mod limit;
 #[cfg(test)]
 mod lines;
 #[cfg(test)]
+mod liquidating;
+#[cfg(test)]
+mod providing;
+#[cfg(test)]
+mod redeeming;
+#[cfg(test)]
 mod rows;
 #[cfg(test)]
 mod runs;

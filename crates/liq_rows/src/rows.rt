@@ -172,7 +172,7 @@ const SENDING: [Row; 4] = [
     ),
 ];
 
-const BAD_LINES: [Row; 13] = [
+const BAD_LINES: [Row; 12] = [
     ("an empty line", b"\n", b"bad line 1\n", 2),
     (
         "an empty line behind two lines",
@@ -209,12 +209,6 @@ const BAD_LINES: [Row; 13] = [
         "a verb that is not built",
         b"1 1 fund 1 5\n1 2 rotate\n",
         b"ok\nbad line 2\n",
-        2,
-    ),
-    (
-        "a query that is not built",
-        b"? deposit 1\n",
-        b"bad line 1\n",
         2,
     ),
     (
