@@ -53,10 +53,13 @@ sums_for words finished d i = sum_at words finished (d.epoch, d.scale + i)
 
 -- ---- what holds at all times
 
--- the rule on deposits, of one of them
-pub record IsDepositOf (words : PoolWords) (finished : List (Place × ℕ)) (d : Deposit) : Type 0 where
+-- the rule on deposits, of one of them, by the place of now and the sum of its own place
+pub record IsSoundDeposit (now : Place) (sum : ℕ) (d : Deposit) : Type 0 where
   pub amount : d.amount ≤ LIM
-  pub sound : IsTrue (is_sound_deposit (words.epoch, words.scale) (sums_for words finished d 0) d)
+  pub sound : IsTrue (is_sound_deposit now sum d)
+
+abbrev pub IsDepositOf : PoolWords → List (Place × ℕ) → Deposit → Type 0
+IsDepositOf words finished d = IsSoundDeposit (words.epoch, words.scale) (sum_at words finished (d.epoch, d.scale)) d
 
 -- The rules on words, finished sums and deposits, as far as they speak of these; each table has each key once, in order;
 -- and the pool has no more than may be inside.

@@ -1,10 +1,10 @@
 //! The Stability Pool of all depositors.
 
-ghost use Rattle.std.specs.Prelude.{◌≡◌, ◌+◌, ◌-◌, ◌*◌, ◌^◌, ◌≤◌, [], ◌∷◌, map, IsTrue, IfSome, IfOk, OnOk, OnErr, OnSome, slice_get, option_copied, option_map};
+ghost use Rattle.std.specs.Prelude.{◌≡◌, ◌+◌, ◌-◌, ◌*◌, ◌^◌, ◌≤◌, [], ◌∷◌, map, IsTrue, IfSome, IfOk, OnOk, OnErr, OnSome, slice_get, option_copied, option_map, unwrap_or};
 ghost use Rattle.std.specs.List.{AllByRecursion};
 ghost use Rattle.std.specs.List.Sorted.{IsStrictlySortedBy};
-ghost use Rattle.std.specs.Map.{keys_of};
-ghost use Rattle.liq_types.specs.Product.{place_order};
+ghost use Rattle.std.specs.Map.{keys_of, lookup};
+ghost use Rattle.liq_types.specs.Product.{is_place, place_order};
 ghost use Rattle.liq_types.specs.Rules.{first_refusal, outcome};
 ghost use Rattle.liq_types.specs.Soundness.{is_product, is_sum_beside};
 ghost use Rattle.liq_types.specs.Tables.{Table, at, rows};
@@ -229,19 +229,24 @@ impl Stability {
         ensures within { result ≤ OFFSET_MOST * P_OPENING }
     {
         if self.words.epoch == epoch && u128::from(self.words.scale) == scale {
-            return self.words.sum;
-        }
-        match self.place_of(epoch, scale) {
-            Ok(at) => self.finished[at].sum,
-            Err(_) => 0,
+            self.words.sum
+        } else {
+            self.finished_sum(epoch, scale)
         }
     }
 
-    /// Where the finished sum of an epoch and a scale is.
-    fn place_of(&self, epoch: u64, scale: u128) -> Result<usize, usize>
+    /// The finished sum of an epoch and a scale: one that is not kept is 0.
+    fn finished_sum(&self, epoch: u64, scale: u128) -> u128
+        ensures sum { result ≡ unwrap_or (lookup (is_place (epoch, scale)) self.now.finished) 0 }
+        ensures within { result ≤ OFFSET_MOST * P_OPENING }
     {
-        self.finished
-            .binary_search_by_key(&(epoch, scale), |sum| (sum.epoch, u128::from(sum.scale)))
+        let found = self
+            .finished
+            .binary_search_by_key(&(epoch, scale), |sum| (sum.epoch, u128::from(sum.scale)));
+        match found {
+            Ok(at) => self.finished[at].sum,
+            Err(_) => 0,
+        }
     }
 
     /// Balance and gain of an account, which has nothing without a deposit.
@@ -271,12 +276,12 @@ fn left_now(words: &PoolWords, amount: u64) -> Deposit
 }
 
 /// A table of just these deposits.
-fn filled(alloc: Global, rows: &[(u32, Deposit)]) -> Result<Reserved<Deposit>, NoMemory>
-    requires { Ascends rows.now }
-    ensures { IfOk result (λ table. table.rows ≡ rows is_used_deposit rows.now) }
+fn filled(alloc: Global, entries: &[(u32, Deposit)]) -> Result<Reserved<Deposit>, NoMemory>
+    requires { Ascends entries.now }
+    ensures { IfOk result (λ table. table.rows ≡ rows is_used_deposit entries.now) }
 {
     let mut table = Reserved::new(alloc);
-    for row in rows {
+    for row in entries {
         table.reserve(row.0)?;
         table.write(row.0, row.1);
     }
