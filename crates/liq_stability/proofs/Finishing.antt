@@ -1,6 +1,6 @@
 -- The table of finished sums: a sum is put at its end, and a search finds the one of a place.
 use Rattle.std.proofs.Common.{◌≡◌, ℕ, zero, suc, ◌+◌, ◌<◌, ◌≤◌, Bool, true, false, cond, List, [], ◌∷◌, ◌++◌, length, get_or, refl, ap, sym, ◌∙◌, subst, arith, Some, None, Option, inl, inr}
-use Rattle.std.specs.Prelude.{unwrap_or, map, ◌≢◌}
+use Rattle.std.specs.Prelude.{unwrap_or}
 use Rattle.std.specs.BTreeMap.{insert_entry}
 use Rattle.std.specs.Cmp.{IsTotalOrder, nat_cmp_is, nat_cmp_total, then_total, on_total}
 use Rattle.std.specs.List.{AllByRecursion}
@@ -16,7 +16,7 @@ use Rattle.liq_types.specs.Product.{place_order, is_place}
 use Rattle.liq_types.specs.WellFormed.{IsBefore}
 use Rattle.liq_types.proofs.Places.{IsUpTo, order-place, after_not_place, before_up_to, is_place-itself, is_place-turned, is_place-same}
 use Rattle.liq_stability.specs.declared.words.FinishedSum.{FinishedSum}
-use Rattle.liq_stability.specs.Kept.{finished_row, finished_rows}
+use Rattle.liq_stability.specs.Kept.{finished_rows}
 
 abbrev pub Finished : Type 0
 Finished = List (Place × ℕ)
@@ -143,14 +143,14 @@ pub not_parted : (items : List FinishedSum) (at : ℕ) (place : Place) → IsStr
 not_parted items at place sorted search =
     let parts = search (searchable items place sorted) in
     not_found items place (λ k d less same. elim (cases_lt k at) [
-  | inl early ↦ clash (place_order (key (get_or items k d)) place) (parts.0 k d (omega arith) early) same
-  | inr late ↦ clash-late (place_order (key (get_or items k d)) place) (parts.1 k d late less) same
-]) where
-  clash : (o : Ordering) → o ≡ Less → o ≡ Equal → ⊥
-  clash o a b = cc
+      | inl early ↦ clash (place_order (key (get_or items k d)) place) (parts.0 k d (omega arith) early) same
+      | inr late ↦ clash-late (place_order (key (get_or items k d)) place) (parts.1 k d late less) same
+    ]) where
+      clash : (o : Ordering) → o ≡ Less → o ≡ Equal → ⊥
+      clash o a b = cc
 
-  clash-late : (o : Ordering) → o ≡ Greater → o ≡ Equal → ⊥
-  clash-late o a b = cc
+      clash-late : (o : Ordering) → o ≡ Greater → o ≡ Equal → ⊥
+      clash-late o a b = cc
 
 -- each finished sum is within what holds of all
 pub sum_within : (most : ℕ) (items : List FinishedSum) (at : ℕ) (d : FinishedSum) → AllByRecursion (λ (row : Place × ℕ). row.1 ≤ most) (finished_rows items) → at < length items → (get_or items at d).sum ≤ most

@@ -1,4 +1,5 @@
 pub mod Falling
+pub mod Filling
 pub mod Finishing
 pub mod Holding
 pub mod Keeping

@@ -1,12 +1,12 @@
 -- The steps that an offset tries, from none on, until its product is no longer too little.
-use Rattle.std.proofs.Common.{◌≡◌, ℕ, suc, ◌+◌, ◌-◌, ◌*◌, ◌/◌, ◌^◌, ◌<◌, ◌≤◌, Bool, true, false, refl, ap, sym, ◌∙◌, subst, arith, inl, inr}
+use Rattle.std.proofs.Common.{◌≡◌, ℕ, ◌+◌, ◌-◌, ◌*◌, ◌/◌, ◌^◌, ◌<◌, ◌≤◌, Bool, true, false, refl, ap, ◌∙◌, subst, arith, inl, inr}
 use Rattle.std.specs.Prelude.{◌==◌, IsTrue}
 use Rattle.std.proofs.Math.Nat.{div-lt_iff_lt-mul, mul-le-mul_left, mul-le-mul_right}
 use Rattle.std.proofs.lemmas.Bool.{cases_lt}
 use Rattle.std.proofs.lemmas.Bool.Decides.{nat_tests}
 use Rattle.std.proofs.lemmas.Nat.{pow-add}
 use Rattle.liq_types.specs.declared.amounts.TheConstants.{LIM, P_LEAST, P_OPENING, RISES_MOST}
-use Rattle.liq_types.specs.Product.{ScaledProduct, IsWithinRange, TakesPart, product_after, rise_of, after_offset}
+use Rattle.liq_types.specs.Product.{ScaledProduct, IsWithinRange, TakesPart, product_after, rise_of}
 use Rattle.liq_types.specs.Soundness.{is_product}
 use Rattle.liq_types.specs.State.{PoolOffset}
 use Rattle.liq_types.proofs.Ranges.{offset_within, rise_few, rise_no_more}
@@ -78,12 +78,12 @@ module _ (w : ScaledProduct) (o : PoolOffset) (range : IsWithinRange w) (takes :
             omega (arith, h.part_is, more);
         within = omega (arith, under);
         few = elim (cases_lt rise (rise_of w.p o)) [
-            | inl early ↦ omega (arith, early)
-            | inr late ↦
-                let same : rise_of w.p o ≡ rise = omega (arith, late, h.few) in
-                let enough : P_LEAST ≤ product_after w.p o rise = subst (λ k. P_LEAST ≤ product_after w.p o k) same passes in
-                absurd (omega (arith, enough, low, quotient part rise h))
-          ];
+          | inl early ↦ omega (arith, early)
+          | inr late ↦
+              let same : rise_of w.p o ≡ rise = omega (arith, late, h.few) in
+              let enough : P_LEAST ≤ product_after w.p o rise = subst (λ k. P_LEAST ≤ product_after w.p o k) same passes in
+              absurd (omega (arith, enough, low, quotient part rise h))
+        ];
       }
 
   pub last_try : (part rise : ℕ) → IsTried w.p o part rise → P_LEAST ≤ part / o.total → rise ≡ rise_of w.p o

@@ -1,6 +1,6 @@
 -- What the tests of words, finished sums and deposits say.
-use Rattle.std.proofs.Common.{◌≡◌, ℕ, ◌-◌, ◌*◌, ◌<◌, ◌≤◌, Bool, true, false, refl, arith, nat_le, nat_lt, inl, inr}
-use Rattle.std.specs.Prelude.{◌&&◌, ◌||◌, ◌==◌, ◌⊎◌, not, IsTrue}
+use Rattle.std.proofs.Common.{◌≡◌, ℕ, ◌-◌, ◌*◌, ◌≤◌, Bool, true, false, refl, arith, nat_le, nat_lt, inl, inr}
+use Rattle.std.specs.Prelude.{◌&&◌, ◌||◌, ◌==◌, not, IsTrue}
 use Rattle.std.proofs.lemmas.Bool.Decides.{nat_tests}
 use Rattle.liq_types.specs.declared.amounts.TheConstants.{P_LEAST, P_OPENING, OFFSET_MOST}
 use Rattle.liq_types.specs.declared.figures.Deposit.{Deposit}

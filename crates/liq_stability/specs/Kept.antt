@@ -1,5 +1,5 @@
 -- The Stability Pool as its calls see it, and what holds of it at all times.
-use Rattle.std.specs.Prelude.{ℕ, ◌+◌, ◌-◌, ◌*◌, ◌≤◌, ◌&&◌, ◌==◌, nat_le, min, is_none, IsTrue, List, [], ◌∷◌, map, Option, Some, None, Result, unwrap_or, if◌then◌else◌}
+use Rattle.std.specs.Prelude.{ℕ, ◌+◌, ◌-◌, ◌*◌, ◌≤◌, ◌&&◌, ◌==◌, nat_le, min, is_none, IsTrue, List, [], ◌∷◌, ◌++◌, map, Option, Some, None, Result, unwrap_or, if◌then◌else◌}
 use Rattle.std.specs.List.{AllByRecursion}
 use Rattle.std.specs.List.Sorted.{IsStrictlySortedBy}
 use Rattle.std.specs.Map.{keys_of, lookup}
@@ -36,6 +36,11 @@ finished_rows sums = map finished_row sums
 
 abbrev pub finished_of : Place × ℕ → FinishedSum
 finished_of row = record { epoch = row.0.0; scale = row.0.1; sum = row.1 }
+
+-- the sums with one more at their end, if there is one
+abbrev pub with_last : List FinishedSum → Option FinishedSum → List FinishedSum
+with_last sums None = sums
+with_last sums (Some f) = sums ++ f ∷ []
 
 -- the room that an offset takes for the sum that it finishes
 abbrev pub room_for : Option FinishedSum → ℕ

@@ -1,6 +1,6 @@
 //! The Stability Pool of all depositors.
 
-ghost use Rattle.std.specs.Prelude.{◌≡◌, ◌+◌, ◌-◌, ◌*◌, ◌^◌, ◌≤◌, [], ◌∷◌, map, IsTrue, IfSome, IfOk, OnOk, OnErr, OnSome, slice_get, option_copied, option_map, unwrap_or};
+ghost use Rattle.std.specs.Prelude.{◌≡◌, ◌+◌, ◌-◌, ◌*◌, ◌^◌, ◌≤◌, ◌<◌, [], ◌∷◌, map, IsTrue, IfSome, IfOk, OnOk, OnErr, OnSome, slice_get, option_copied, option_map, unwrap_or, vec_len, vec_capacity};
 ghost use Rattle.std.specs.List.{AllByRecursion};
 ghost use Rattle.std.specs.List.Sorted.{IsStrictlySortedBy};
 ghost use Rattle.std.specs.Map.{keys_of, lookup};
@@ -13,7 +13,7 @@ ghost use Rattle.liq_tables.specs.Rows.{is_used_deposit};
 ghost use Rattle.liq_tables.specs.WithRoom.{HasRoom, KeepsRoom};
 ghost use Rattle.liq_stability.specs.Position.{deposit_now};
 ghost use Rattle.liq_stability.specs.Words.{words_after, finished_by, finished_with};
-ghost use Rattle.liq_stability.specs.Kept.{IsSoundPool, IsDepositOf, finished_rows, finished_of, sum_at, sums_for, position_at, left_in, words_owned, withdrawing, room_for};
+ghost use Rattle.liq_stability.specs.Kept.{IsSoundPool, IsDepositOf, finished_rows, finished_of, sum_at, sums_for, position_at, left_in, words_owned, withdrawing, room_for, with_last};
 
 use crate::offsets::offset_words;
 use crate::positions::position;
@@ -35,20 +35,19 @@ pub struct Stability {
 }
 
 impl Model for Stability {
-    ghost use Rattle.std.specs.Prelude.{◌-◌, ◌≤◌, vec_len, vec_capacity};
+    ghost use Rattle.std.specs.Prelude.{◌-◌, vec_len, vec_capacity};
     ghost use Rattle.liq_stability.specs.Kept.{Kept, IsSoundPool, finished_rows};
 
     ghost Value = { Kept };
 
     ghost view = { λ s. record {
-        words = s.words;
-        finished = finished_rows s.finished.items;
-        deposits = s.deposits;
-        spare = vec_capacity s.finished - vec_len s.finished;
+      words = s.words;
+      finished = finished_rows s.finished.items;
+      deposits = s.deposits;
+      spare = vec_capacity s.finished - vec_len s.finished;
     } };
 
-    ghost invariant = { λ s. IsSoundPool s.words (finished_rows s.finished.items) s.deposits.rows
-        × (vec_len s.finished ≤ vec_capacity s.finished) };
+    ghost invariant = { λ s. IsSoundPool s.words (finished_rows s.finished.items) s.deposits.rows };
 }
 
 impl Stability {
@@ -189,10 +188,8 @@ impl Stability {
         ensures spare { self.new.spare + room_for (finished_by self.old.words debt coll) ≡ self.old.spare }
     {
         let (words, finished) = offset_words(&self.words, debt, coll);
-        if let Some(sum) = finished {
-            self.finished.push_reserved(sum);
-        }
         self.words = words;
+        keep(&mut self.finished, finished);
     }
 
     /// The finished sum at an index, from 0, in ascending places: `None` exactly past the last.
@@ -272,6 +269,18 @@ fn left_now(words: &PoolWords, amount: u64) -> Deposit
         sum: words.sum,
         scale: words.scale,
         epoch: words.epoch,
+    }
+}
+
+/// Puts a sum that was finished, if there is one, behind those that were finished before.
+fn keep(sums: &mut Vec<FinishedSum>, finished: Option<FinishedSum>)
+    requires { vec_len sums.old < vec_capacity sums.old }
+    ensures items { sums.new.items ≡ with_last sums.old.items finished }
+    ensures len { vec_len sums.new ≡ vec_len sums.old + room_for finished }
+    ensures capacity { vec_capacity sums.new ≡ vec_capacity sums.old }
+{
+    if let Some(sum) = finished {
+        sums.push_reserved(sum);
     }
 }
 

@@ -34,7 +34,7 @@ pub fn offset_words(words: &PoolWords, debt: u64, coll: u64) -> (PoolWords, Opti
 {
     let sum = words.sum + mul_div(u128::from(coll), words.p, u128::from(words.total));
     let next = product_after(words, debt);
-    let stays = words.epoch == next.epoch && words.scale == next.scale;
+    let stays = (words.epoch, words.scale) == (next.epoch, next.scale);
     let after = PoolWords {
         p: next.p,
         scale: next.scale,

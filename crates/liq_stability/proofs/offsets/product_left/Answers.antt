@@ -1,4 +1,4 @@
-use Rattle.std.proofs.Common.{◌≡◌, ◌+◌, ◌*◌, ◌/◌, ◌<◌, ◌≤◌, sym, subst, ap, ◌∙◌, arith}
+use Rattle.std.proofs.Common.{◌+◌, ◌*◌, ◌/◌, ◌<◌, ◌≤◌, sym, subst, ap, ◌∙◌, arith}
 use Rattle.liq_types.specs.declared.amounts.TheConstants.{P_LEAST}
 use Rattle.liq_stability.specs.Words.{words_in, offset_in}
 use Rattle.liq_stability.proofs.Rising.{range_in, takes_in, IsTried, first_try, next_try, last_try, few_tries, quotient}
