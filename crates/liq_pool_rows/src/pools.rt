@@ -25,7 +25,10 @@ fn take_over<R: Abort>(rt: &R, pool: &mut Stability, debt: u64, coll: u64) {
     };
     let words = *pool.words();
     assert!(rt; debt >= 1 && debt <= words.total, "{debt}");
-    assert!(rt; u128::from(coll) <= u128::from(OFFSET_MOST) * u128::from(debt), "{coll}");
+    assert!(rt;
+        u128::from(coll) <= u128::from(OFFSET_MOST) * u128::from(debt),
+        "{coll}"
+    );
     assert!(rt; coll <= LIM - words.coll, "{coll}");
     assert!(rt; words.scale <= 1000 && words.epoch <= 1000);
     let (after, _) = offset_words(&words, debt, coll);
@@ -42,7 +45,10 @@ fn read(pool: &Stability, account: u32) -> Option<(u64, u64)> {
 // The accounts have just these positions.
 fn check_positions<R: Abort>(rt: &R, pool: &Stability, positions: &[(u32, u64, u64)]) {
     for (account, balance, gain) in positions {
-        assert!(rt; read(pool, *account) == Some((*balance, *gain)), "of {account}");
+        assert!(rt;
+            read(pool, *account) == Some((*balance, *gain)),
+            "of {account}"
+        );
     }
 }
 
@@ -176,7 +182,10 @@ fn withdrawals(rt: HostRuntime) -> Result<(), Fail> {
         (2, 130, 130, 46),
         (2, 1_000_000, 3, 0),
     ] {
-        assert!(rt; pool.withdraw(account, most) == Ok((paid, gain)), "of {account}");
+        assert!(rt;
+            pool.withdraw(account, most) == Ok((paid, gain)),
+            "of {account}"
+        );
     }
     assert!(rt; read(&pool, 1) == Some((60, 0)));
     assert!(rt; pool.deposit(2).is_none());

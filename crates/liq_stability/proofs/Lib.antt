@@ -1,6 +1,7 @@
 pub mod Falling
 pub mod Filling
 pub mod Finishing
+pub mod Following
 pub mod Holding
 pub mod Keeping
 pub mod LawfulLists

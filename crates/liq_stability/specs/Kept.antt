@@ -1,5 +1,5 @@
 -- The Stability Pool as its calls see it, and what holds of it at all times.
-use Rattle.std.specs.Prelude.{ℕ, ◌+◌, ◌-◌, ◌*◌, ◌≤◌, ◌&&◌, ◌==◌, nat_le, min, is_none, IsTrue, List, [], ◌∷◌, ◌++◌, map, Option, Some, None, Result, unwrap_or, if◌then◌else◌}
+use Rattle.std.specs.Prelude.{◌≡◌, ℕ, ◌+◌, ◌-◌, ◌*◌, ◌≤◌, ◌&&◌, ◌==◌, nat_le, min, is_none, IsTrue, List, [], ◌∷◌, ◌++◌, map, Option, Some, None, Result, unwrap_or, if◌then◌else◌}
 use Rattle.std.specs.List.{AllByRecursion}
 use Rattle.std.specs.List.Sorted.{IsStrictlySortedBy}
 use Rattle.std.specs.Map.{keys_of, lookup}
@@ -8,15 +8,17 @@ use Rattle.liq_types.specs.declared.figures.Deposit.{Deposit}
 use Rattle.liq_types.specs.declared.replies.Refusal.{Refusal}
 use Rattle.liq_types.specs.declared.replies.Refusal.TheVariants.{NoDeposit}
 use Rattle.liq_types.specs.Image.{Place}
-use Rattle.liq_types.specs.Product.{place_order, is_place}
+use Rattle.liq_types.specs.Product.{place_order, is_place, finished_sums}
 use Rattle.liq_types.specs.Rules.{Rule, first_refusal, outcome}
 use Rattle.liq_types.specs.Soundness.{is_product, is_sum_beside, is_before, is_sound_deposit}
+use Rattle.liq_types.specs.State.{State}
 use Rattle.liq_types.specs.Tables.{Table, at, put, without}
 use Rattle.liq_types.specs.WellFormed.{Ascends}
 use Rattle.liq_tables.specs.WithRoom.{WithRoom}
 use Rattle.liq_stability.specs.declared.words.PoolWords.{PoolWords}
 use Rattle.liq_stability.specs.declared.words.FinishedSum.{FinishedSum}
-use Rattle.liq_stability.specs.Position.{position_by, deposit_now}
+use Rattle.liq_stability.specs.Position.{position_by, deposit_now, deposit_rows}
+use Rattle.liq_stability.specs.Words.{pool_words}
 
 -- The six words; the finished sums, each beside its place; the deposits, with the accounts that have room for one; for how
 -- many more finished sums there is room.
@@ -105,3 +107,11 @@ abbrev pub withdrawing : Kept → ℕ → ℕ → Result (ℕ × ℕ) Refusal
 withdrawing pool account most =
     let own = position_at pool account in
     outcome (first_refusal (deposit_rules pool.deposits.rows account)) (min most own.0, own.1)
+
+-- ---- of a state
+
+-- the pool has what a state says of it
+pub record IsPoolOf (s : State) (pool : Kept) : Type 0 where
+  pub words : pool.words ≡ pool_words s
+  pub finished : pool.finished ≡ finished_sums s.start s.offsets
+  pub deposits : pool.deposits.rows ≡ deposit_rows s

@@ -1,6 +1,6 @@
 //! The Stability Pool of all depositors.
 
-ghost use Rattle.std.specs.Prelude.{◌≡◌, ◌+◌, ◌-◌, ◌*◌, ◌^◌, ◌≤◌, ◌<◌, [], ◌∷◌, map, IsTrue, IfSome, IfOk, OnOk, OnErr, OnSome, slice_get, option_copied, option_map, unwrap_or, vec_len, vec_capacity};
+ghost use Rattle.std.specs.Prelude.{◌≡◌, ◌+◌, ◌-◌, ◌*◌, ◌^◌, ◌≤◌, ◌<◌, [], ◌∷◌, map, IsTrue, IfSome, IfOk, IsOk, OnOk, OnErr, OnSome, slice_get, option_copied, option_map, unwrap_or, vec_len, vec_capacity};
 ghost use Rattle.std.specs.List.{AllByRecursion};
 ghost use Rattle.std.specs.List.Sorted.{IsStrictlySortedBy};
 ghost use Rattle.std.specs.Map.{keys_of, lookup};
@@ -73,7 +73,7 @@ impl Stability {
 
     /// Makes room for a deposit of the account, if one is named, and for so many offsets, so that [`Stability::provide`] and
     /// [`Stability::offset`] take no memory. Words, finished sums and deposits stay, also where there is no memory, and so
-    /// does all room that there was.
+    /// does all room that there was. Where there was this room none is wanted.
     pub fn reserve(&mut self, account: Option<u32>, offsets: usize) -> Result<(), NoMemory>
         ensures words { self.new.words ≡ self.old.words }
         ensures finished { self.new.finished ≡ self.old.finished }
@@ -82,6 +82,7 @@ impl Stability {
         ensures offsets { OnOk result (offsets ≤ self.new.spare) }
         ensures kept { KeepsRoom self.old.deposits self.new.deposits }
         ensures spare { self.old.spare ≤ self.new.spare }
+        ensures had { IfSome account (λ a. HasRoom self.old.deposits a) → offsets ≤ self.old.spare → IsOk result }
     {
         if let Some(account) = account {
             self.deposits.reserve(account)?;

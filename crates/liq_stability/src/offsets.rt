@@ -59,6 +59,7 @@ struct Product {
     epoch: u64,
 }
 
+/// The product after an offset, and where it counts: the whole in a new epoch, where all of the pool is taken.
 fn product_after(words: &PoolWords, debt: u64) -> Product
     requires product { IsTrue (is_product words.now.p) }
     requires some { 1 ≤ debt }
