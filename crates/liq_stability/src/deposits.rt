@@ -247,8 +247,8 @@ impl Stability {
         }
     }
 
-    /// Balance and gain of an account, which has nothing without a deposit.
-    fn position_of(&self, account: u32) -> (u64, u64)
+    /// Balance (micro-LUSD) and gain (gwei) of an account, which has nothing without a deposit.
+    pub fn position_of(&self, account: u32) -> (u64, u64)
         ensures position { result ≡ position_at self.now account }
         ensures balance { result.0 ≤ self.now.words.total }
         ensures gain { result.1 ≤ self.now.words.coll }
