@@ -1,6 +1,6 @@
 -- What depositors' operations, and claims, make of a protocol.
-use Rattle.std.proofs.Common.{◌≡◌, ℕ, ◌+◌, ◌-◌, ◌≤◌, ◌<◌, List, refl, ap, sym, ◌∙◌, subst, arith, false, cond, None, Some, Option, length}
-use Rattle.std.specs.Prelude.{◌==◌, is_none, min, nat_lt, IsSome, if◌then◌else◌, Result, Ok, Err}
+use Rattle.std.proofs.Common.{◌≡◌, ℕ, ◌+◌, ◌-◌, ◌≤◌, ◌<◌, List, refl, ap, sym, ◌∙◌, subst, arith, false, cond, None, Some}
+use Rattle.std.specs.Prelude.{is_none, min, IsSome, Result, Ok, Err}
 use Rattle.liq_types.specs.declared.amounts.TheConstants.{ACCOUNTS, LIM, RESERVE, MIN_NET}
 use Rattle.liq_types.specs.declared.figures.Deposit.{Deposit}
 use Rattle.liq_types.specs.declared.figures.Trove.{Trove}
@@ -9,19 +9,19 @@ use Rattle.liq_types.specs.declared.hints.HintWords.{HintWords}
 use Rattle.liq_types.specs.declared.requests.Call.{Call}
 use Rattle.liq_types.specs.declared.requests.Call.TheVariants.{Provide, Withdraw, GainToTrove, Claim}
 use Rattle.liq_types.specs.Image.{Image, Place}
-use Rattle.liq_types.specs.Payments.{credited, charged, credited_in, charged_in, surplus_taken_in}
+use Rattle.liq_types.specs.Payments.{credited_in, charged_in, surplus_taken_in}
 use Rattle.liq_types.specs.declared.replies.Refusal.{Refusal}
 use Rattle.liq_types.specs.declared.replies.Refusal.TheVariants.{NoDeposit}
 use Rattle.liq_types.specs.Rules.{first_refusal, outcome}
 use Rattle.liq_types.proofs.MapRows.{at-map}
-use Rattle.liq_types.specs.State.{State, wallet_in, wallet_of, surplus_in, surplus_of}
+use Rattle.liq_types.specs.State.{State, wallet_in, wallet_of, surplus_in}
 use Rattle.liq_types.specs.Tables.{Table, at}
-use Rattle.liq_types.specs.Totals.{market_of, or_nothing, pool_total}
+use Rattle.liq_types.specs.Totals.{market_of, or_nothing}
 use Rattle.liq_tables.specs.WithRoom.{WithRoom}
 use Rattle.liq_ledger.specs.declared.pools.Pools.{Pools}
 use Rattle.liq_troves.specs.Kept.{Kept as Troves}
 use Rattle.liq_troves.specs.Own.{set_trove}
-use Rattle.liq_troves.specs.Standing.{Books, books_of, lift, place}
+use Rattle.liq_troves.specs.Standing.{Books, lift, place}
 use Rattle.liq_troves.specs.StakeSums.{entire_of}
 use Rattle.liq_order.specs.Listed.{Listed}
 use Rattle.liq_order.specs.Order.{order_by}
@@ -30,7 +30,7 @@ use Rattle.liq_borrow.specs.Borrowing.{gaining_terms}
 use Rattle.liq_stability.specs.declared.words.PoolWords.{PoolWords}
 use Rattle.liq_stability.specs.Kept.{Kept, IsPoolOf, position_at, words_owned, left_in, withdrawing}
 use Rattle.liq_stability.specs.Own.{owned, amount_after}
-use Rattle.liq_stability.specs.Position.{balance_of, gain_of, deposit_row, deposit_rows}
+use Rattle.liq_stability.specs.Position.{balance_of, gain_of, deposit_row}
 use Rattle.liq_stability.specs.Words.{pool_words}
 use Rattle.liq_stability.proofs.Following.{position_follows, owned_follows}
 use Rattle.liq_core.specs.declared.engine.Protocol.TheInside.{Inside}
@@ -94,9 +94,9 @@ module _ (p : Inside) (sound : IsSound p) where
 
   -- a protocol that is given a state's pool and wallets
   pub pooled_into : (call : Call) (t : State) (pool : Kept) (wallets : WithRoom Wallet) (paid : Table Wallet) → IsPoolOf t pool → wallets.rows ≡ paid
-    → image t ≡ with_pool (image (state_of (core_of p))) (pool_words t) (image t).finished (image t).deposits
-    → effect (state_of (core_of p)) call ≡ record t { wallets = paid }
-    → Changes (core_of p) call (core_of (record p { pool = pool; wallets = wallets }))
+      → image t ≡ with_pool (image (state_of (core_of p))) (pool_words t) (image t).finished (image t).deposits
+      → effect (state_of (core_of p)) call ≡ record t { wallets = paid }
+      → Changes (core_of p) call (core_of (record p { pool = pool; wallets = wallets }))
   pooled_into call t pool wallets paid of moved same is =
       let i = (core_of p).image in
       record {
@@ -148,10 +148,10 @@ module _ (p : Inside) (sound : IsSound p) (account lusd gain : ℕ) (k : account
       }
 
   provided_changes : (pool : Kept) (wallets : WithRoom Wallet)
-    → pool.words ≡ words_owned p.pool.words lusd 0 gain → pool.finished ≡ p.pool.finished
-    → pool.deposits.rows ≡ left_in p.pool.deposits.rows p.pool.words account ((position_at p.pool account).0 + lusd)
-    → wallets.rows ≡ credited_in (charged_in p.wallets.rows account 0 lusd) account gain 0
-    → Changes (core_of p) (Provide account lusd) (core_of (record p { pool = pool; wallets = wallets }))
+      → pool.words ≡ words_owned p.pool.words lusd 0 gain → pool.finished ≡ p.pool.finished
+      → pool.deposits.rows ≡ left_in p.pool.deposits.rows p.pool.words account ((position_at p.pool account).0 + lusd)
+      → wallets.rows ≡ credited_in (charged_in p.wallets.rows account 0 lusd) account gain 0
+      → Changes (core_of p) (Provide account lusd) (core_of (record p { pool = pool; wallets = wallets }))
   provided_changes pool wallets words finished rows moved =
       let s = state_of (core_of p) in
       let balance = ap (λ (t : ℕ × ℕ). t.0) (position_is p sound account) in
@@ -163,7 +163,7 @@ module _ (p : Inside) (sound : IsSound p) (account lusd gain : ℕ) (k : account
 -- ---- withdraw
 
 -- a deposit that is there is in the pool
-deposit_there : (p : Inside) → IsSound p → (account : ℕ) → is_none (at p.pool.deposits.rows account) ≡ is_none (at (state_of (core_of p)).deposits account)
+pub deposit_there : (p : Inside) → IsSound p → (account : ℕ) → is_none (at p.pool.deposits.rows account) ≡ is_none (at (state_of (core_of p)).deposits account)
 deposit_there p sound account =
     let s = state_of (core_of p) in
     ap (λ (t : Table Deposit). is_none (at t account)) (pool_is p sound).deposits
@@ -198,10 +198,10 @@ module _ (p : Inside) (sound : IsSound p) (account lusd paid gain : ℕ) (k : ac
       record { coll_limit = fits.0; lusd_limit = fits.1 }
 
   withdrawn_changes : (pool : Kept) (wallets : WithRoom Wallet)
-    → pool.words ≡ words_owned p.pool.words 0 paid gain → pool.finished ≡ p.pool.finished
-    → pool.deposits.rows ≡ left_in p.pool.deposits.rows p.pool.words account ((position_at p.pool account).0 - paid)
-    → wallets.rows ≡ credited_in p.wallets.rows account gain paid
-    → Changes (core_of p) (Withdraw account lusd) (core_of (record p { pool = pool; wallets = wallets }))
+      → pool.words ≡ words_owned p.pool.words 0 paid gain → pool.finished ≡ p.pool.finished
+      → pool.deposits.rows ≡ left_in p.pool.deposits.rows p.pool.words account ((position_at p.pool account).0 - paid)
+      → wallets.rows ≡ credited_in p.wallets.rows account gain paid
+      → Changes (core_of p) (Withdraw account lusd) (core_of (record p { pool = pool; wallets = wallets }))
   withdrawn_changes pool wallets words finished rows moved =
       let s = state_of (core_of p) in
       let out = min lusd (balance_of s account) in
@@ -222,9 +222,9 @@ module _ (p : Inside) (old : Core) (view : core_of p ≡ old) (sound : IsSound p
     provides_so = may_provide p sound account lusd gain k provide_passes gain_is
 
     module _ (pool : Kept) (wallets : WithRoom Wallet)
-      (words : pool.words ≡ words_owned p.pool.words lusd 0 gain) (finished : pool.finished ≡ p.pool.finished)
-      (rows : pool.deposits.rows ≡ left_in p.pool.deposits.rows p.pool.words account ((position_at p.pool account).0 + lusd))
-      (moved : wallets.rows ≡ credited_in (charged_in p.wallets.rows account 0 lusd) account gain 0) where
+        (words : pool.words ≡ words_owned p.pool.words lusd 0 gain) (finished : pool.finished ≡ p.pool.finished)
+        (rows : pool.deposits.rows ≡ left_in p.pool.deposits.rows p.pool.words account ((position_at p.pool account).0 + lusd))
+        (moved : wallets.rows ≡ credited_in (charged_in p.wallets.rows account 0 lusd) account gain 0) where
       provide_made : Changes (core_of p) (Provide account lusd) (core_of (record p { pool = pool; wallets = wallets }))
       provide_made = provided_changes p sound account lusd gain k provide_passes gain_is pool wallets words finished rows moved
 
@@ -255,9 +255,9 @@ module _ (p : Inside) (old : Core) (view : core_of p ≡ old) (sound : IsSound p
       withdraws_so = may_withdraw p sound account lusd paid gain k withdraw_passes withdraw_paid withdraw_gain
 
       module _ (pool : Kept) (wallets : WithRoom Wallet)
-        (words : pool.words ≡ words_owned p.pool.words 0 paid gain) (finished : pool.finished ≡ p.pool.finished)
-        (rows : pool.deposits.rows ≡ left_in p.pool.deposits.rows p.pool.words account ((position_at p.pool account).0 - paid))
-        (moved : wallets.rows ≡ credited_in p.wallets.rows account gain paid) where
+          (words : pool.words ≡ words_owned p.pool.words 0 paid gain) (finished : pool.finished ≡ p.pool.finished)
+          (rows : pool.deposits.rows ≡ left_in p.pool.deposits.rows p.pool.words account ((position_at p.pool account).0 - paid))
+          (moved : wallets.rows ≡ credited_in p.wallets.rows account gain paid) where
         withdraw_made : Changes (core_of p) (Withdraw account lusd) (core_of (record p { pool = pool; wallets = wallets }))
         withdraw_made = withdrawn_changes p sound account lusd paid gain k withdraw_passes withdraw_paid withdraw_gain pool wallets words finished rows moved
 
@@ -312,10 +312,10 @@ module _ (p : Inside) (sound : IsSound p) (account : ℕ) (plan : Plan) (words :
       }
 
   moved_changes : (pool : Kept) (pools : Pools) (troves : Troves) (order : Listed)
-    → IsPoolOf (owned (state_of (core_of p)) account 0 0) pool
-    → kept_books pools troves ≡ place (lift (kept_books p.pools p.troves) account) account plan.coll plan.debt
-    → SameOthers p.pools pools
-    → Changes (core_of p) (GainToTrove account words) (core_of (record p { pool = pool; pools = pools; troves = troves; order = order }))
+      → IsPoolOf (owned (state_of (core_of p)) account 0 0) pool
+      → kept_books pools troves ≡ place (lift (kept_books p.pools p.troves) account) account plan.coll plan.debt
+      → SameOthers p.pools pools
+      → Changes (core_of p) (GainToTrove account words) (core_of (record p { pool = pool; pools = pools; troves = troves; order = order }))
   moved_changes pool pools troves order of kept others =
       let s = state_of (core_of p) in
       let i = (core_of p).image in
@@ -345,11 +345,11 @@ module _ (p : Inside) (old : Core) (view : core_of p ≡ old) (sound : IsSound p
   move_answer = withdrawn p sound account 0 (all_false (rules (state_of (core_of p)) (GainToTrove account h.0)) move_passes).0
 
   module _ (paid : ℕ × ℕ) (answered : withdrawing p.pool account 0 ≡ Ok paid) (pool : Kept) (pools left_pools : Pools) (troves left_troves : Troves) (order : Listed)
-    (pool_words : pool.words ≡ words_owned p.pool.words 0 paid.0 paid.1) (finished : pool.finished ≡ p.pool.finished)
-    (rows : pool.deposits.rows ≡ left_in p.pool.deposits.rows p.pool.words account ((position_at p.pool account).0 - paid.0))
-    (left : kept_books left_pools left_troves ≡ lift (kept_books p.pools p.troves) account)
-    (kept : kept_books pools troves ≡ place (kept_books left_pools left_troves) account plan.coll plan.debt)
-    (first : SameOthers p.pools left_pools) (second : SameOthers left_pools pools) where
+      (pool_words : pool.words ≡ words_owned p.pool.words 0 paid.0 paid.1) (finished : pool.finished ≡ p.pool.finished)
+      (rows : pool.deposits.rows ≡ left_in p.pool.deposits.rows p.pool.words account ((position_at p.pool account).0 - paid.0))
+      (left : kept_books left_pools left_troves ≡ lift (kept_books p.pools p.troves) account)
+      (kept : kept_books pools troves ≡ place (kept_books left_pools left_troves) account plan.coll plan.debt)
+      (first : SameOthers p.pools left_pools) (second : SameOthers left_pools pools) where
     move_made : Changes (core_of p) (GainToTrove account h.0) (core_of (record p { pool = pool; pools = pools; troves = troves; order = order }))
     move_made =
         let s = state_of (core_of p) in
@@ -398,8 +398,8 @@ module _ (p : Inside) (old : Core) (view : core_of p ≡ old) (sound : IsSound p
       record { surplus = omega (arith, within_pool, is); coll_limit = fits.0; lusd_limit = omega (arith, fits.1) }
 
   module _ (surplus : WithRoom ℕ) (wallets : WithRoom Wallet)
-    (taken : surplus.rows ≡ surplus_taken_in p.surplus.rows account)
-    (moved : wallets.rows ≡ credited_in p.wallets.rows account coll 0) where
+      (taken : surplus.rows ≡ surplus_taken_in p.surplus.rows account)
+      (moved : wallets.rows ≡ credited_in p.wallets.rows account coll 0) where
     claim_made : Changes (core_of p) (Claim account) (core_of (record p { surplus = surplus; pools = record p.pools { surplus = p.pools.surplus - coll }; wallets = wallets }))
     claim_made =
         let i = (core_of p).image in

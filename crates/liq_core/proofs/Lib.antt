@@ -22,6 +22,7 @@ pub mod Moving
 pub mod Noting
 pub mod Opening
 pub mod Paying
+pub mod Pooling
 pub mod Ranking
 pub mod Reading
 pub mod Rows

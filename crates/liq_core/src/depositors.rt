@@ -1,11 +1,13 @@
 //! The Stability Pool's depositors: LUSD is provided and withdrawn, and a gain moves into its owner's trove.
 
-ghost use Rattle.std.specs.Prelude.{◌≡◌, ◌≤◌, ◌<◌, ◌+◌, ℕ, None};
+ghost use Rattle.std.specs.Prelude.{◌≡◌, ◌≤◌, ◌<◌, ◌+◌, ℕ, is_none, None};
 ghost use Rattle.std.specs.List.{Contains};
 ghost use Rattle.liq_types.specs.declared.hints.HintWords.{HintWords};
 ghost use Rattle.liq_types.specs.declared.requests.Call.TheVariants as call;
-ghost use Rattle.liq_types.specs.Rules.{outcome};
-ghost use Rattle.liq_types.specs.Totals.{market_of, or_nothing, pool_total};
+ghost use Rattle.liq_types.specs.State.{wallet_of};
+ghost use Rattle.liq_types.specs.Tables.{at};
+ghost use Rattle.liq_types.specs.Totals.{market_of, or_nothing};
+ghost use Rattle.liq_ledger.specs.Refusals.{ruled};
 ghost use Rattle.liq_troves.specs.StakeSums.{entire_of};
 ghost use Rattle.liq_order.specs.Order.{last_trove};
 ghost use Rattle.liq_stability.specs.Position.{balance_of, gain_of};
@@ -21,7 +23,7 @@ use crate::told::{ListChanges, PoolEvents};
 use crate::turns::{Forecast, Terms};
 use liq_borrow::{Plan, plan_gain};
 use liq_num::GWEI_PER_ETH;
-use liq_types::amounts::{ACCOUNTS, MCR};
+use liq_types::amounts::{ACCOUNTS, LIM, MCR};
 use liq_types::{Done, Hint, PoolEvent, Refusal, Steps};
 use std::sync::ledger::Ledger;
 
@@ -29,9 +31,16 @@ impl Protocol {
     /// Balance (micro-LUSD) and gain (gwei) of an account, which has nothing without a deposit.
     pub(crate) fn position(&self, account: u32) -> (u64, u64)
         ensures position { result ≡ (balance_of (state_of self.now) account, gain_of (state_of self.now) account) }
-        ensures total { result.0 ≤ pool_total (state_of self.now) }
+        ensures lusd { result.0 + (wallet_of (state_of self.now) account).lusd ≤ LIM }
+        ensures coll { (or_nothing (entire_of (state_of self.now) account)).0 + result.1 ≤ LIM }
     {
         self.pool.position_of(account)
+    }
+
+    pub(crate) fn no_deposit(&self, account: u32) -> bool
+        ensures { result ≡ is_none (at (state_of self.now).deposits account) }
+    {
+        self.pool.deposit(account).is_none()
     }
 
     pub(crate) fn plan_provide(&self, account: u32, lusd: u64) -> Result<Forecast, Refusal>
@@ -72,7 +81,7 @@ impl Protocol {
         if account >= ACCOUNTS {
             return Err(Refusal::AccountRange { value: account });
         }
-        if self.pool.deposit(account).is_none() {
+        if self.no_deposit(account) {
             return Err(Refusal::NoDeposit { account });
         }
         if lusd > 0 {
@@ -99,7 +108,7 @@ impl Protocol {
 
     /// `TroveUnder`: the last trove of the list is below the least ratio.
     fn no_trove_under(&self) -> Result<(), Refusal>
-        ensures { result ≡ outcome (first_refusal (trove_under (state_of self.now) (last_trove (state_of self.now)))) tt }
+        ensures { result ≡ ruled (trove_under (state_of self.now) (last_trove (state_of self.now))) }
     {
         let Some(account) = self.order.last() else {
             return Ok(());
@@ -124,7 +133,7 @@ impl Protocol {
         if account >= ACCOUNTS {
             return Err(Refusal::AccountRange { value: account });
         }
-        if self.pool.deposit(account).is_none() {
+        if self.no_deposit(account) {
             return Err(Refusal::NoDeposit { account });
         }
         let (balance, gain) = self.position(account);
@@ -193,12 +202,7 @@ impl Protocol {
             Ok(_) => {}
             Err(_) => unreachable!(),
         }
-        lift_trove(
-            &mut self.pools,
-            &mut self.troves,
-            &mut self.order,
-            account,
-        );
+        lift_trove(&mut self.pools, &mut self.troves, &mut self.order, account);
         place_trove(
             &mut self.pools,
             &mut self.troves,

@@ -87,7 +87,7 @@ impl Protocol {
     fn deposit_info(&self, account: u32) -> Info
         ensures { result ≡ deposit_info (state_of self.now) account (at (state_of self.now).deposits account) }
     {
-        if self.pool.deposit(account).is_none() {
+        if self.no_deposit(account) {
             return Info::NoDeposit;
         }
         let (balance, gain) = self.position(account);

@@ -1,4 +1,4 @@
-use Rattle.std.proofs.Common.{◌≡◌, ◌≤◌, ap, sym, subst, ◌∙◌, arith}
+use Rattle.std.proofs.Common.{◌≡◌, sym, ◌∙◌, arith}
 use Rattle.std.specs.Prelude.{Result, Ok, Err}
 use Rattle.liq_core.specs.Books.{kept_books}
 use Rattle.liq_core.proofs.Depositing.{moves_so, move_answer, move_changes, move_sound}
@@ -46,11 +46,11 @@ place_trove-requires-clause-debt g c = let may = moves_so c.self.inside c.args.s
     omega (arith, may.active_debt, same)
 
 pub invariant_of-self : goal.invariant_of-self
-invariant_of-self g c = 
+invariant_of-self g c =
     move_sound c.self.inside c.args.self.now c.self.view_is c.self.invariant c.args.account c.args.plan.now c.requires.range c.requires.terms c.requires.allowed
     c.in-Ok.field-0 (sym c.withdraw.ensures.answer ∙ c.in-Ok.is) c.withdraw.new.self c.place_trove.new.pools c.lift_trove.new.pools c.place_trove.new.troves c.lift_trove.new.troves c.place_trove.new.order c.in-Ok.ensures.words c.in-Ok.ensures.finished c.in-Ok.ensures.deposits c.lift_trove.ensures.books c.place_trove.ensures.books c.lift_trove.ensures.others c.place_trove.ensures.others c.place_trove.ensures.list
 
 pub returns : goal.returns
-returns g c = 
+returns g c =
     move_changes c.self.inside c.args.self.now c.self.view_is c.self.invariant c.args.account c.args.plan.now c.requires.range c.requires.terms c.requires.allowed
     c.in-Ok.field-0 (sym c.withdraw.ensures.answer ∙ c.in-Ok.is) c.withdraw.new.self c.place_trove.new.pools c.lift_trove.new.pools c.place_trove.new.troves c.lift_trove.new.troves c.place_trove.new.order c.in-Ok.ensures.words c.in-Ok.ensures.finished c.in-Ok.ensures.deposits c.lift_trove.ensures.books c.place_trove.ensures.books c.lift_trove.ensures.others c.place_trove.ensures.others

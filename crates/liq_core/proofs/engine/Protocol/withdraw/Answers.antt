@@ -1,4 +1,4 @@
-use Rattle.std.proofs.Common.{◌≡◌, ap, sym, subst, ◌∙◌}
+use Rattle.std.proofs.Common.{◌≡◌, sym, ◌∙◌}
 use Rattle.std.specs.Prelude.{Result, Ok, Err}
 use Rattle.liq_core.proofs.Depositing.{withdraws_so, withdraw_answer, withdraw_changes, withdraw_sound}
 use Rattle.liq_core.proofs.engine.Protocol.withdraw.Goals as goal
@@ -13,12 +13,12 @@ pub pay-requires-clause-lusd : goal.pay-requires-clause-lusd
 pay-requires-clause-lusd c = (withdraws_so c.self.inside c.args.self.now c.self.view_is c.self.invariant c.args.account c.args.lusd c.requires.range c.requires.allowed c.in-Ok.paid c.in-Ok.gain (sym c.withdraw.ensures.answer ∙ c.in-Ok.is)).lusd_limit
 
 pub invariant_of-self : goal.invariant_of-self
-invariant_of-self c = 
+invariant_of-self c =
     withdraw_sound c.self.inside c.args.self.now c.self.view_is c.self.invariant c.args.account c.args.lusd c.requires.range c.requires.allowed c.in-Ok.paid c.in-Ok.gain (sym c.withdraw.ensures.answer ∙ c.in-Ok.is)
     c.withdraw.new.self c.pay.new.self c.in-Ok.ensures.words c.in-Ok.ensures.finished c.in-Ok.ensures.deposits c.pay.ensures.moved
 
 pub returns : goal.returns
-returns c = 
+returns c =
     withdraw_changes c.self.inside c.args.self.now c.self.view_is c.self.invariant c.args.account c.args.lusd c.requires.range c.requires.allowed c.in-Ok.paid c.in-Ok.gain (sym c.withdraw.ensures.answer ∙ c.in-Ok.is)
     c.withdraw.new.self c.pay.new.self c.in-Ok.ensures.words c.in-Ok.ensures.finished c.in-Ok.ensures.deposits c.pay.ensures.moved
 
