@@ -4,6 +4,8 @@
 #![tactic(auto)]
 
 #[cfg(test)]
+mod borrowing;
+#[cfg(test)]
 mod cut;
 #[cfg(test)]
 mod faults;
@@ -19,5 +21,7 @@ mod rows;
 mod runs;
 #[cfg(test)]
 mod small_sink;
+#[cfg(test)]
+mod tables;
 #[cfg(test)]
 mod texts;

@@ -1,12 +1,7 @@
 //! Whole runs: what comes in, what goes out, and the status.
 
-use crate::runs::run;
-use std::alloc::Global;
-use std::process::Abort;
+use crate::tables::{Row, check_rows};
 use std::test::Fail;
-
-/// What a row shows, its input, its output and its status.
-type Row = (&'static str, &'static [u8], &'static [u8], u8);
 
 const FIRST_PATH: [Row; 2] = [
     (
@@ -212,7 +207,7 @@ const BAD_LINES: [Row; 13] = [
     ),
     (
         "a verb that is not built",
-        b"1 1 fund 1 5\n1 1 close 1\n",
+        b"1 1 fund 1 5\n1 2 rotate\n",
         b"ok\nbad line 2\n",
         2,
     ),
@@ -247,15 +242,6 @@ const BAD_LINES: [Row; 13] = [
         2,
     ),
 ];
-
-// Runs each row, on an input of which a read gives at most so many bytes.
-fn check_rows<R: Abort>(rt: &R, alloc: Global, rows: &[Row], chunk: u16) -> Result<(), Fail> {
-    for (what, input, output, status) in rows {
-        let ran = run(alloc, input, usize::from(chunk).max(1))?;
-        ran.check(rt, output, *status, what, u64::from(chunk));
-    }
-    Ok(())
-}
 
 // A program that always answers that there is no memory passes every proof, and fails here.
 #[test]

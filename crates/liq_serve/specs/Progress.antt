@@ -13,7 +13,7 @@ use Rattle.liq_serve.specs.declared.run.Next.TheVariants.{Line, LastLine, End}
 use Rattle.liq_serve.specs.Lines.{ended, IsWithinLine}
 use Rattle.liq_serve.specs.Output.{lines, reply_line}
 use Rattle.liq_serve.specs.Reading.{Reads, IsOver}
-use Rattle.liq_serve.specs.Requests.{IsRequest, IsBadLine, IsCommand, AreRequests, BeginsWith}
+use Rattle.liq_serve.specs.Requests.{IsRequest, IsBadLine, IsCommand, TakesMemory, AreRequests, BeginsWith}
 use Rattle.liq_serve.specs.Stops.{EndsAfter, EndsIn, IsCutInLastLine, none_yet}
 use Rattle.liq_serve.specs.Writing.{Writes, WritesPart, WritesFront}
 
@@ -57,12 +57,12 @@ pub record Answered (bytes : List ℕ) (n : ℕ) (core : Core) (unread : Option 
   pub written : Written requests waiting before now
 
 -- The request's step was made and its reply waits behind what waited, of which a front was written first: all where the request
--- is a command. Or the sink met a fault at what waited, or there was no memory for a command: no step was made then.
+-- is a command. Or the sink met a fault at what waited, or there was no memory where it may be asked for: no step was made then.
 abbrev pub Answers : State → Request → Result (Unit {0}) Halt → Core → List ℕ → List ℕ → Option (List ℕ) → Option (List ℕ) → Type 0
 Answers s request (Ok done) core waited waits before after =
     StandsFor core (step s request).0
     × ((rest : List ℕ) × WritesFront (Ok tt) waited rest before after × (waits ≡ rest ++ reply_line (step s request).1) × (IsCommand request → rest ≡ []))
-Answers s request (Err NoMemory) core waited waits before after = StandsFor core s × IsCommand request × WritesFront (Ok tt) waited waits before after
+Answers s request (Err NoMemory) core waited waits before after = StandsFor core s × TakesMemory s request × WritesFront (Ok tt) waited waits before after
 Answers s request (Err WriteFault) core waited waits before after = StandsFor core s × WritesPart before waited after
 Answers s request (Err _) core waited waits before after = ⊥
 

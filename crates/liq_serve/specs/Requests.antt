@@ -1,8 +1,10 @@
 -- Which lines are requests.
-use Rattle.std.specs.Prelude.{ℕ, ◌≡◌, ◌∷◌, [], ◌++◌, List, IsTrue}
+use Rattle.std.specs.Prelude.{ℕ, ◌≡◌, ◌∷◌, [], ◌++◌, ◌⊎◌, List, IsTrue}
 use Rattle.liq_types.specs.declared.requests.Request.{Request}
 use Rattle.liq_types.specs.declared.requests.Request.TheVariants.{Do, Ask}
-use Rattle.liq_core.specs.Step.{built}
+use Rattle.liq_types.specs.State.{State}
+use Rattle.liq_core.specs.Step.{Allowed, built, ruling}
+use Rattle.liq_core.specs.Verbs.{plans_list}
 use Rattle.liq_text.specs.Spelling.{Spells}
 use Rattle.liq_serve.specs.Lines.{lines_in}
 
@@ -24,9 +26,15 @@ abbrev pub IsCommand : Request → Type 0
 IsCommand (Do command) = Unit {0}
 IsCommand (Ask query) = ⊥
 
--- the first of these lines is that of a command
-abbrev pub BeginsWithCommand : List (List ℕ) → Type 0
-BeginsWithCommand lines = (line : List ℕ) × (command : Request) × (more : List (List ℕ)) × IsRequest line command × IsCommand command × (lines ≡ line ∷ more)
+-- memory may be asked for: where a command is allowed, and where its verb plans a list
+abbrev pub TakesMemory : State → Request → Type 0
+TakesMemory s (Do command) = (ruling s command ≡ Allowed) ⊎ IsTrue (plans_list command.call)
+TakesMemory s (Ask query) = ⊥
+
+-- the first of these lines is that of a request for which memory may be asked
+abbrev pub BeginsWithTaker : State → List (List ℕ) → Type 0
+BeginsWithTaker s lines =
+    (line : List ℕ) × (request : Request) × (more : List (List ℕ)) × IsRequest line request × TakesMemory s request × (lines ≡ line ∷ more)
 
 -- the text begins with lines of these requests, and these lines follow
 abbrev pub BeginsWith : List ℕ → List Request → List (List ℕ) → Type 0

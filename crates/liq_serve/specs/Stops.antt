@@ -10,7 +10,7 @@ use Rattle.liq_serve.specs.declared.halts.Halt.{Halt}
 use Rattle.liq_serve.specs.declared.halts.Halt.TheVariants.{BadLine, ReadFault, WriteFault, NoMemory, Limit}
 use Rattle.liq_serve.specs.Lines.{lines_in, ended, IsWithinLine}
 use Rattle.liq_serve.specs.Output.{lines}
-use Rattle.liq_serve.specs.Requests.{AreRequests, IsBadLine, BeginsWith, BeginsWithCommand}
+use Rattle.liq_serve.specs.Requests.{AreRequests, IsBadLine, BeginsWith, BeginsWithTaker}
 use Rattle.liq_serve.specs.Writing.{Writes}
 
 -- the text is a front of the whole
@@ -48,8 +48,9 @@ EndsAfter (Err (BadLine number)) bytes left requests =
 EndsAfter (Err ReadFault) bytes left requests =
     (front : List (List ℕ)) × AreRequests front requests × ((part : List ℕ) × IsWithinLine part × ((rest : List ℕ) × (left ≡ Some rest) × (bytes ≡ ended front ++ part ++ rest)))
 EndsAfter (Err WriteFault) bytes left requests = (more : List (List ℕ)) × BeginsWith bytes requests more
--- memory is asked for before the first line, and then for commands alone
-EndsAfter (Err NoMemory) bytes left requests = (more : List (List ℕ)) × BeginsWith bytes requests more × ((requests ≡ []) ⊎ BeginsWithCommand more)
+-- memory is asked for before the first line, and then only for a command that is allowed or plans a list
+EndsAfter (Err NoMemory) bytes left requests =
+    (more : List (List ℕ)) × BeginsWith bytes requests more × ((requests ≡ []) ⊎ BeginsWithTaker (run opening requests).0 more)
 -- as many lines as one run answers, and a further one begins
 EndsAfter (Err Limit) bytes left requests =
     (length requests ≡ LINES_MOST) × ((line : List ℕ) × ((more : List (List ℕ)) × BeginsWith bytes requests (line ∷ more)))

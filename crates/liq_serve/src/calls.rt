@@ -5,7 +5,7 @@ ghost use Rattle.liq_types.specs.State.{State};
 ghost use Rattle.liq_types.specs.declared.requests.Request.TheVariants.{Do};
 ghost use Rattle.liq_core.specs.Core.{StandsFor};
 ghost use Rattle.liq_core.specs.Step.{built, step};
-ghost use Rattle.liq_serve.specs.Requests.{IsCommand};
+ghost use Rattle.liq_serve.specs.Requests.{TakesMemory};
 
 use liq_core::{PlanFault, Protocol, Turn};
 use liq_types::{Command, Hint, NoMemory, Reply, Request, Steps};
@@ -28,8 +28,8 @@ pub fn call<L: Ledger>(
     ensures ok { IfOk result (λ reply. (s : State) → StandsFor protocol.old s
         → StandsFor protocol.new (step s request.now).0 × ((step s request.now).1 ≡ reply)) }
     ensures err { OnErr result ((s : State) → StandsFor protocol.old s → StandsFor protocol.new s) }
-    // A query asks for no memory.
-    ensures command { OnErr result (IsCommand request.now) }
+    // No query, no repeated command and no refusal of a verb that plans no list asks for memory.
+    ensures takes { OnErr result ((s : State) → StandsFor protocol.old s → TakesMemory s request.now) }
 {
     match request {
         Request::Ask(query) => Ok(protocol.query(query)),
@@ -46,6 +46,7 @@ fn obey<L: Ledger>(
     ensures ok { IfOk result (λ reply. (s : State) → StandsFor protocol.old s
         → StandsFor protocol.new (step s (Do command.now)).0 × ((step s (Do command.now)).1 ≡ reply)) }
     ensures err { OnErr result ((s : State) → StandsFor protocol.old s → StandsFor protocol.new s) }
+    ensures takes { OnErr result ((s : State) → StandsFor protocol.old s → TakesMemory s (Do command.now)) }
 {
     let planned = match protocol.plan(command) {
         Ok(Turn::New(planned)) => planned,
