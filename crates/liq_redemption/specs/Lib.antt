@@ -1,1 +1,4 @@
+pub mod Answers
+pub mod Given
 pub mod Redemption
+pub mod Walk

@@ -2,5 +2,13 @@
 #![tactic(auto)]
 
 mod cut;
+mod cuts;
+mod fault;
+mod planning;
+mod visit;
+mod walk;
 
 pub use cut::Cut;
+pub use cuts::Cuts;
+pub use fault::RedeemFault;
+pub use planning::{RedeemPlan, plan};
