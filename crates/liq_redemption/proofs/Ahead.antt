@@ -110,7 +110,7 @@ distinct_push : (list : List Ranked) (e : Ranked) → IsAbsent e.1 list → AreD
 distinct_push [] e n h = (tt, tt)
 distinct_push (f ∷ fs) e n h = (absent_push fs e f.1 h.0 (λ same. n.0 (sym same)), distinct_push fs e n.1 h.1)
 
-distinct_turned : (list : List Ranked) → AreDistinct list → AreDistinct (reverse list)
+pub distinct_turned : (list : List Ranked) → AreDistinct list → AreDistinct (reverse list)
 distinct_turned [] h = tt
 distinct_turned (e ∷ es) h = subst AreDistinct (sym (turned_first e es)) (distinct_push (reverse es) e (absent_turned es e.1 h.0) (distinct_turned es h.1))
 

@@ -1,2 +1,6 @@
 pub mod Ahead
+pub mod Cutting
+pub mod Listing
+pub mod Parts
+pub mod Paying
 pub mod Taking

@@ -78,3 +78,15 @@ module _ (price : ℕ) (sums : Sums) (troves : Table Trove) (account : ℕ) (her
 -- where it does not go on, the cuts are those so far
 pub cuts_done : (price : ℕ) (w : Walk) (on : Bool) (ahead : List Visit) → on ≡ false → all_cuts price w (ahead_where on ahead) ≡ w.cuts
 cuts_done price w on ahead e = ap (λ b. all_cuts price w (ahead_where b ahead)) e ∙ append-nil w.cuts
+
+-- no more is redeemed than is wanted
+pub redeemed_within : (price : ℕ) (vs : List Visit) (troves wanted : ℕ) → redeemed (cuts price troves wanted vs) ≤ wanted
+redeemed_within price [] troves wanted = omega arith
+redeemed_within price (v ∷ vs) troves wanted = by (wanted == 0) (stops_before v (cut_of price v wanted) troves) (redeemed_within price vs (troves_after (cut_of price v wanted) troves) (wanted - (cut_of price v wanted).lot)) where
+  by : (done stops : Bool) → redeemed (cuts price (troves_after (cut_of price v wanted) troves) (wanted - (cut_of price v wanted).lot) vs) ≤ wanted - (cut_of price v wanted).lot → redeemed (cond done [] (cond stops [] (cut_of price v wanted ∷ cuts price (troves_after (cut_of price v wanted) troves) (wanted - (cut_of price v wanted).lot) vs))) ≤ wanted
+  by true stops later = omega arith
+  by false true later = omega arith
+  by false false later =
+      let lots = sum_by-cons (λ (x : Cut). x.lot) (cut_of price v wanted) (cuts price (troves_after (cut_of price v wanted) troves) (wanted - (cut_of price v wanted).lot) vs) in
+      let part : (cut_of price v wanted).lot ≤ wanted = omega arith in
+      omega (arith, lots, later, part)

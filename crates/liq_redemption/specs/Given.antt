@@ -1,13 +1,24 @@
 -- What the parts of every sound state are, as far as a redemption reads them.
-use Rattle.std.specs.Prelude.{ℕ, ◌≤◌, List}
+use Rattle.std.specs.Prelude.{◌≡◌, ℕ, ◌+◌, ◌-◌, ◌≤◌, ◌<◌, Some, IsSome, Ok}
 use Rattle.std.specs.List.{AllByRecursion}
 use Rattle.liq_types.specs.declared.amounts.TheConstants.{ONE, LIM, PRICE_LEAST, PRICE_MOST}
 use Rattle.liq_types.specs.declared.figures.Market.{Market}
 use Rattle.liq_types.specs.declared.figures.Trove.{Trove}
 use Rattle.liq_types.specs.declared.figures.Wallet.{Wallet}
-use Rattle.liq_types.specs.Tables.{Table}
+use Rattle.liq_types.specs.Ranked.{key_in}
+use Rattle.liq_types.specs.State.{surplus_in}
+use Rattle.liq_types.specs.Tables.{Table, at}
 use Rattle.liq_troves.specs.declared.sums.Sums.{Sums}
-use Rattle.liq_troves.specs.Rows.{entire_by}
+use Rattle.liq_troves.specs.Kept.{coll_in}
+use Rattle.liq_troves.specs.Rows.{entire_by, entire_in}
+use Rattle.liq_troves.specs.Standing.{TrovesStand}
+use Rattle.liq_order.specs.Listed.{AreDistinct}
+use Rattle.liq_redemption.specs.declared.cut.Cut.{Cut}
+use Rattle.liq_redemption.specs.declared.planning.RedeemPlan.{RedeemPlan}
+use Rattle.liq_redemption.specs.Parts.{Parts, books_in, cut_parts}
+use Rattle.liq_redemption.specs.Redemption.{redeem_plan, visited_by}
+
+-- ---- what is planned
 
 -- of a market and the redeemer's wallet: LUSD in a wallet is a part of all debt
 pub record IsMarket (m : Market) (wallet : Wallet) : Type 0 where
@@ -25,3 +36,36 @@ pub record IsEntireWithin (own : ℕ × ℕ) : Type 0 where
 
 abbrev pub AreEntireWithin : Sums → Table Trove → Type 0
 AreEntireWithin sums troves = AllByRecursion (λ (row : ℕ × Trove). IsEntireWithin (entire_by sums row.1)) troves
+
+-- ---- what is carried out
+
+-- Of the parts and of the redeemer's wallet: the troves are within the active and the default pool; each is in the list, and
+-- stands there once; nobody may claim more than there is; what the redeemer has and the pools together are within the limit.
+pub record AreSoundParts (p : Parts) (wallet : Wallet) : Type 0 where
+  pub troves : TrovesStand (books_in p)
+  pub listed : (account : ℕ) → IsSome (at p.troves account) → IsSome (key_in p.order account)
+  pub distinct : AreDistinct p.order
+  pub claims : (account : ℕ) → surplus_in p.surplus account ≤ p.pools.surplus
+  pub coll : wallet.coll + p.pools.active_coll + p.pools.default_coll + p.pools.surplus + p.pools.fee_coll ≤ LIM
+  pub debt : p.pools.active_debt + p.pools.default_debt ≤ LIM
+
+-- the plan is what planning answered in this state
+pub record IsPlannedOn (p : Parts) (wallet : Wallet) (plan : RedeemPlan) : Type 0 where
+  pub market : Market
+  pub amount : ℕ
+  pub bound : ℕ
+  pub sound : IsMarket market wallet
+  pub planned : redeem_plan market wallet (visited_by market.price p.sums p.troves p.order) amount bound ≡ Ok plan
+
+-- what a single cut asks of the parts at its moment
+pub record CutFits (p : Parts) (cut : Cut) : Type 0 where
+  pub own : ℕ × ℕ
+  pub entire_is : entire_in p.sums p.troves cut.account ≡ Some own
+  pub within : IsEntireWithin own
+  pub draw : cut.draw < own.0
+  pub listed : IsSome (key_in p.order cut.account)
+  pub active_coll : p.pools.active_coll ≤ LIM
+  pub active_debt : p.pools.active_debt ≤ LIM
+  pub surplus : p.pools.surplus ≤ LIM
+  pub claim : surplus_in p.surplus cut.account + (own.0 - cut.draw) ≤ LIM
+  pub limit : coll_in (cut_parts p cut).troves ≤ LIM
