@@ -1,5 +1,5 @@
 -- What the parts of every sound state are, as far as a redemption reads them.
-use Rattle.std.specs.Prelude.{◌≡◌, ℕ, ◌+◌, ◌-◌, ◌≤◌, ◌<◌, Some, IsSome, Ok}
+use Rattle.std.specs.Prelude.{◌≡◌, ℕ, ◌+◌, ◌-◌, ◌≤◌, ◌<◌, Some, IsSome, IsTrue, Ok}
 use Rattle.std.specs.List.{AllByRecursion}
 use Rattle.liq_types.specs.declared.amounts.TheConstants.{ONE, LIM, PRICE_LEAST, PRICE_MOST}
 use Rattle.liq_types.specs.declared.figures.Market.{Market}
@@ -8,6 +8,7 @@ use Rattle.liq_types.specs.declared.figures.Wallet.{Wallet}
 use Rattle.liq_types.specs.Ranked.{key_in}
 use Rattle.liq_types.specs.State.{surplus_in}
 use Rattle.liq_types.specs.Tables.{Table, at}
+use Rattle.liq_tables.specs.WithRoom.{WithRoom, HasRoom}
 use Rattle.liq_troves.specs.declared.sums.Sums.{Sums}
 use Rattle.liq_troves.specs.Kept.{coll_in}
 use Rattle.liq_troves.specs.Rows.{entire_by, entire_in}
@@ -56,6 +57,18 @@ pub record IsPlannedOn (p : Parts) (wallet : Wallet) (plan : RedeemPlan) : Type 
   pub bound : ℕ
   pub sound : IsMarket market wallet
   pub planned : redeem_plan market wallet (visited_by market.price p.sums p.troves p.order) amount bound ≡ Ok plan
+
+-- ---- room
+
+-- for what the owner of a closed trove may claim
+abbrev pub HasRoomToClose : WithRoom ℕ → Cut → Type 0
+HasRoomToClose surplus cut = IsTrue cut.full → HasRoom surplus cut.account
+
+-- for all that a plan of the account's redemption writes
+abbrev pub HasRoomFor : RedeemPlan → ℕ → WithRoom Wallet → WithRoom ℕ → Type 0
+HasRoomFor plan account wallets surplus = HasRoom wallets account × AllByRecursion (HasRoomToClose surplus) plan.cuts
+
+-- ---- a single cut
 
 -- what a single cut asks of the parts at its moment
 pub record CutFits (p : Parts) (cut : Cut) : Type 0 where

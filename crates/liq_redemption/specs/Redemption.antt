@@ -24,9 +24,13 @@ use Rattle.liq_troves.specs.StakeSums.{entire_of, sums_words, trove_rows}
 use Rattle.liq_order.specs.Order.{trove_order}
 use Rattle.liq_redemption.specs.declared.cut.Cut.{Cut}
 use Rattle.liq_redemption.specs.declared.planning.RedeemPlan.{RedeemPlan}
-pub use Rattle.liq_redemption.specs.declared.visit.Visit.{Visit}
+use Rattle.liq_redemption.specs.declared.visit.Visit.{Visit as TroveVisit}
 
 -- ---- the visited troves
+
+-- a trove on the way of a redemption, with its entire amounts
+abbrev pub Visit : Type 0
+Visit = TroveVisit
 
 -- the account's trove, if it has one
 abbrev pub visit : Sums → Table Trove → ℕ → Option Visit

@@ -1,17 +1,16 @@
 //! What a planned redemption does.
 
-ghost use Rattle.std.specs.Prelude.{◌≡◌, ℕ, ◌≤◌, ◌<◌, ◌+◌, ◌-◌, ◌^◌, Some, None, IsSome, IfSome, IsTrue, count_by, if◌then◌else◌};
-ghost use Rattle.std.specs.List.{AllByRecursion};
+ghost use Rattle.std.specs.Prelude.{◌≡◌, ℕ, ◌≤◌, ◌<◌, ◌+◌, ◌-◌, ◌^◌, Some, None, IsSome, IfSome, OnOk, count_by, if◌then◌else◌};
 ghost use Rattle.liq_types.specs.declared.amounts.TheConstants.{LIM};
 ghost use Rattle.liq_types.specs.Ranked.{key_in};
 ghost use Rattle.liq_types.specs.State.{wallet_in, surplus_in};
 ghost use Rattle.liq_types.specs.Tables.{at};
 ghost use Rattle.liq_types.specs.WellFormed.{Ascends};
-ghost use Rattle.liq_tables.specs.WithRoom.{WithRoom, HasRoom};
+ghost use Rattle.liq_tables.specs.WithRoom.{WithRoom, HasRoom, KeepsRoom};
 ghost use Rattle.liq_troves.specs.Kept.{Kept, coll_in};
 ghost use Rattle.liq_troves.specs.Rows.{entire_in, set_in, key_by};
 ghost use Rattle.liq_order.specs.Listed.{Listed};
-ghost use Rattle.liq_redemption.specs.Given.{AreSoundParts, IsPlannedOn, CutFits, IsEntireWithin};
+ghost use Rattle.liq_redemption.specs.Given.{AreSoundParts, IsPlannedOn, HasRoomFor, HasRoomToClose, CutFits, IsEntireWithin};
 ghost use Rattle.liq_redemption.specs.Parts.{parts_of, lifted_parts, placed_parts, closed_parts, cut_parts, redeemed_parts, redeemed_wallets};
 
 use crate::cut::Cut;
@@ -20,8 +19,41 @@ use liq_ledger::{Pools, Surplus, Wallets};
 use liq_order::Order;
 use liq_troves::{Troves, entire, key};
 use liq_types::amounts::RESERVE;
-use liq_types::{Hint, Steps};
+use liq_types::{Hint, NoMemory, Steps};
 use std::sync::ledger::Ledger;
+
+/// Makes room for what [`apply`] writes: the account's wallet, and what the owners of closed troves may claim. Wallets and
+/// claims stay, also where there is no memory, and so does all room that there was.
+pub fn reserve(
+    plan: &RedeemPlan,
+    account: u32,
+    wallets: &mut Wallets,
+    surplus: &mut Surplus,
+) -> Result<(), NoMemory>
+    ensures wallets { wallets.new.rows ≡ wallets.old.rows }
+    ensures claims { surplus.new.rows ≡ surplus.old.rows }
+    ensures room { OnOk result (HasRoomFor plan.now account wallets.new surplus.new) }
+    ensures wallets_kept { KeepsRoom wallets.old wallets.new }
+    ensures claims_kept { KeepsRoom surplus.old surplus.new }
+{
+    wallets.reserve(account)?;
+    for cut in plan.cuts.as_slice() {
+        reserve_claim(cut, surplus)?;
+    }
+    Ok(())
+}
+
+/// Makes room for what the owner of a trove may claim, where it is closed.
+fn reserve_claim(cut: &Cut, surplus: &mut Surplus) -> Result<(), NoMemory>
+    ensures rows { surplus.new.rows ≡ surplus.old.rows }
+    ensures room { OnOk result (HasRoomToClose surplus.new cut.now) }
+    ensures kept { KeepsRoom surplus.old surplus.new }
+{
+    if !cut.full {
+        return Ok(());
+    }
+    surplus.reserve(&[cut.account])
+}
 
 /// Carries out the redemption of an account that was planned on this state. The planned cuts are made: a trove of which all
 /// debt beside the reserve is taken leaves, its reserve is burned, and its owner may claim what is left of its collateral; any
@@ -42,8 +74,7 @@ pub fn apply<L: Ledger>(
     requires sound { AreSoundParts (parts_of pools.old surplus.old troves.old order.old) (wallet_in wallets.old.rows account) }
     requires planned { IsPlannedOn (parts_of pools.old surplus.old troves.old order.old) (wallet_in wallets.old.rows account) plan.now }
     requires ascend { Ascends wallets.old.rows }
-    requires wallet { HasRoom wallets.old account }
-    requires claims { AllByRecursion (λ cut. IsTrue cut.full → HasRoom surplus.old cut.account) plan.now.cuts }
+    requires room { HasRoomFor plan.now account wallets.old surplus.old }
     ensures parts { parts_of pools.new surplus.new troves.new order.new ≡ redeemed_parts (parts_of pools.old surplus.old troves.old order.old) plan.now }
     ensures wallets { wallets.new.rows ≡ redeemed_wallets wallets.old.rows account plan.now }
     ensures wallet_room { wallets.new.room ≡ wallets.old.room }
@@ -74,7 +105,7 @@ fn take_down<L: Ledger>(
     steps: &mut Steps<L>,
 )
     requires fits { CutFits (parts_of pools.old surplus.old troves.old order.old) cut.now }
-    requires claim { IsTrue cut.now.full → HasRoom surplus.old cut.now.account }
+    requires room { HasRoomToClose surplus.old cut.now }
     ensures parts { parts_of pools.new surplus.new troves.new order.new ≡ cut_parts (parts_of pools.old surplus.old troves.old order.old) cut.now }
     ensures surplus_room { surplus.new.room ≡ surplus.old.room }
     ensures trove_room { troves.new.table.room ≡ troves.old.table.room }

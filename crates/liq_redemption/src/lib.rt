@@ -9,7 +9,7 @@ mod planning;
 mod visit;
 mod walk;
 
-pub use applying::apply;
+pub use applying::{apply, reserve};
 pub use cut::Cut;
 pub use cuts::Cuts;
 pub use fault::RedeemFault;

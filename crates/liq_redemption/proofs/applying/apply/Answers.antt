@@ -1,15 +1,14 @@
 use Rattle.std.proofs.Common.{◌≡◌, ℕ, ◌+◌, ◌-◌, ◌≤◌, ◌<◌, false, cond, List, [], ◌∷◌, drop, fold, get_or, length, refl, sym, ap, ◌∙◌, subst, arith, add-one, drop-cons}
-use Rattle.std.specs.Prelude.{IsTrue, count_by}
+use Rattle.std.specs.Prelude.{count_by}
 use Rattle.std.specs.List.{AllByRecursion, Contains}
 use Rattle.std.proofs.lemmas.List.{drop_all}
 use Rattle.std.proofs.lemmas.List.Sums.{sum_by-cons}
 use Rattle.liq_types.specs.declared.figures.Wallet.{Wallet}
 use Rattle.liq_types.specs.State.{wallet_in}
 use Rattle.liq_types.specs.Tables.{Table}
-use Rattle.liq_tables.specs.WithRoom.{HasRoom}
 use Rattle.liq_redemption.specs.declared.cut.Cut.{Cut}
 use Rattle.liq_redemption.specs.Parts.{Parts, parts_of, cut_parts}
-use Rattle.liq_redemption.specs.Given.{CutFits}
+use Rattle.liq_redemption.specs.Given.{CutFits, HasRoomToClose}
 use Rattle.liq_redemption.proofs.Cutting.{CutsFit, planned_covered}
 use Rattle.liq_redemption.proofs.Paying.{charges, charged_less}
 use Rattle.liq_redemption.proofs.applying.apply.Goals as goal
@@ -23,7 +22,7 @@ loop-cut-init g c =
     record {
       parts = ap (λ (l : List Cut). fold cut_parts p l) same;
       fit = subst (λ (l : List Cut). CutsFit p l) (sym same) covered.cuts.fit;
-      claims = subst (λ (l : List Cut). AllByRecursion (λ (cut : Cut). IsTrue cut.full → HasRoom c.args.surplus.now cut.account) l) (sym same) c.requires.claims;
+      claims = subst (λ (l : List Cut). AllByRecursion (HasRoomToClose c.args.surplus.now) l) (sym same) c.requires.room.1;
       surplus_room = refl;
       trove_room = refl;
       order_room = ap (λ (l : List Cut). c.args.order.now.room + count_by (λ (cut : Cut). cut.full) l) same;
@@ -43,10 +42,10 @@ take_down-requires-clause-fits g c =
     let fit = subst (λ (l : List Cut). CutsFit now l) (next_cut c.as_slice-cut-items.result.now c.loop-cut.cut-index c.loop-cut-test.true) c.loop-cut.invariant.fit in
     fit.0
 
-pub take_down-requires-clause-claim : goal.take_down-requires-clause-claim
-take_down-requires-clause-claim g c full =
+pub take_down-requires-clause-room : goal.take_down-requires-clause-room
+take_down-requires-clause-room g c full =
     let cut = get_or c.as_slice-cut-items.result.now c.loop-cut.cut-index no_cut in
-    let claims = subst (λ (l : List Cut). AllByRecursion (λ (x : Cut). IsTrue x.full → HasRoom c.args.surplus.now x.account) l) (next_cut c.as_slice-cut-items.result.now c.loop-cut.cut-index c.loop-cut-test.true) c.loop-cut.invariant.claims in
+    let claims = subst (λ (l : List Cut). AllByRecursion (HasRoomToClose c.args.surplus.now) l) (next_cut c.as_slice-cut-items.result.now c.loop-cut.cut-index c.loop-cut-test.true) c.loop-cut.invariant.claims in
     subst (λ (room : List ℕ). Contains room cut.account) (sym c.loop-cut.invariant.surplus_room) (claims.0 full)
 
 pub loop-cut-preserved : goal.loop-cut-preserved
@@ -58,7 +57,7 @@ loop-cut-preserved g c =
     let next = next_cut items i c.loop-cut-test.true in
     let made = c.take_down.ensures.parts in
     let fit = subst (λ (l : List Cut). CutsFit now l) next c.loop-cut.invariant.fit in
-    let claims = subst (λ (l : List Cut). AllByRecursion (λ (x : Cut). IsTrue x.full → HasRoom c.args.surplus.now x.account) l) next c.loop-cut.invariant.claims in
+    let claims = subst (λ (l : List Cut). AllByRecursion (HasRoomToClose c.args.surplus.now) l) next c.loop-cut.invariant.claims in
     let room = sum_by-cons (λ (x : Cut). cond x.full 1 0) cut (drop (i + 1) items) in
     let rooms = ap (λ (l : List Cut). count_by (λ (x : Cut). x.full) l) next in
     record {
