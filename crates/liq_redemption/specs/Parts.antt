@@ -5,12 +5,14 @@ use Rattle.liq_types.specs.declared.figures.Trove.{Trove}
 use Rattle.liq_types.specs.declared.figures.Wallet.{Wallet}
 use Rattle.liq_types.specs.Payments.{credited_in, charged_in, surplus_added_in}
 use Rattle.liq_types.specs.Ranked.{Ranked, with_ranked, without_ranked}
+use Rattle.liq_types.specs.State.{State}
 use Rattle.liq_types.specs.Tables.{Table}
 use Rattle.liq_tables.specs.WithRoom.{WithRoom}
 use Rattle.liq_ledger.specs.declared.pools.Pools.{Pools}
 use Rattle.liq_troves.specs.declared.sums.Sums.{Sums}
 use Rattle.liq_troves.specs.Kept.{Kept}
 use Rattle.liq_troves.specs.Rows.{entire_in, set_row, key_by}
+use Rattle.liq_troves.specs.StakeSums.{sums_words, trove_rows}
 use Rattle.liq_troves.specs.Standing.{Books, lift, place}
 use Rattle.liq_order.specs.Listed.{Listed}
 use Rattle.liq_redemption.specs.declared.cut.Cut.{Cut}
@@ -101,3 +103,23 @@ redeemed_parts p terms =
 abbrev pub redeemed_wallets : Table Wallet → ℕ → RedeemTerms → Table Wallet
 redeemed_wallets wallets account terms =
     credited_in (charged_in wallets account 0 terms.redeemed) account (terms.drawn - terms.fee) 0
+
+-- ---- in a state
+
+abbrev pub pools_in : State → Pools
+pools_in s =
+    record {
+      active_coll = s.active_coll;
+      active_debt = s.active_debt;
+      default_coll = s.default_coll;
+      default_debt = s.default_debt;
+      reserve = s.reserve;
+      surplus = s.surplus;
+      fee_coll = s.fee_coll;
+      fee_lusd = s.fee_lusd;
+    }
+
+-- the parts of a state, with some list
+abbrev pub parts_with : State → List Ranked → Parts
+parts_with s order =
+    record { sums = sums_words s; troves = trove_rows s; pools = pools_in s; surplus = s.surplus_rows; order = order }

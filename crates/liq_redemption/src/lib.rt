@@ -5,6 +5,7 @@ mod applying;
 mod cut;
 mod cuts;
 mod fault;
+pub mod laws;
 mod planning;
 mod visit;
 mod walk;
