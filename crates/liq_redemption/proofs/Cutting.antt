@@ -1,33 +1,30 @@
 -- What a plan takes of sound parts, cut by cut: each cut fits at its moment.
 use Rattle.std.proofs.Common.{◌≡◌, ℕ, ℤ, ◌+◌, ◌-◌, ◌*◌, ◌≤◌, ◌<◌, Bool, true, false, cond, List, [], ◌∷◌, map, refl, sym, ap, ◌∙◌, subst, Some, None, Option, inl, inr, arith, nat_lt, nat_le, fold}
-use Rattle.std.specs.Prelude.{◌≢◌, ◌==◌, not, option_map, filter, filter_map, reverse, IsSome, is_some, min, unwrap_or, Result, Ok}
+use Rattle.std.specs.Prelude.{◌≢◌, ◌==◌, not, option_map, filter, filter_map, reverse, IsSome, is_some, unwrap_or, Ok}
 use Rattle.std.specs.List.{AllByRecursion, cons_option}
 use Rattle.std.proofs.Math.Nat.{mul-le-mul_right, div-mul-le_self}
 use Rattle.std.proofs.lemmas.Bool.{cases_lt}
 use Rattle.std.proofs.lemmas.Bool.Decides.{nat_tests}
 use Rattle.std.proofs.lemmas.List.Sums.{sum_by-cons}
-use Rattle.liq_types.specs.declared.amounts.TheConstants.{LIM, RESERVE, MIN_NET, MCR, PRICE_LEAST}
+use Rattle.liq_types.specs.declared.amounts.TheConstants.{LIM, RESERVE, MIN_NET, MCR}
 use Rattle.liq_types.specs.declared.figures.Trove.{Trove}
 use Rattle.liq_types.specs.declared.figures.Wallet.{Wallet}
 use Rattle.liq_types.specs.declared.replies.Refusal.{Refusal}
-use Rattle.liq_types.specs.Payments.{surplus_added_in}
-use Rattle.liq_types.specs.Ranked.{Ranked, key_in, from_last, with_ranked, without_ranked}
+use Rattle.liq_types.specs.Ranked.{Ranked, key_in, without_ranked}
 use Rattle.liq_types.specs.Rules.{Rule, first_refusal, outcome}
 use Rattle.liq_types.specs.State.{surplus_in, with_surplus}
 use Rattle.liq_types.specs.Tables.{Table, at, put, without}
 use Rattle.liq_types.specs.Totals.{is_below_percent, worth, asked}
 use Rattle.liq_types.proofs.Lookups.{at-put_other, at-without_same, at-without_other}
-use Rattle.liq_troves.specs.declared.sums.Sums.{Sums}
-use Rattle.liq_troves.specs.Rows.{entire_by, entire_in, pending, set_row, key_by, beside, set_in}
-use Rattle.liq_troves.specs.Kept.{coll_in}
-use Rattle.liq_troves.specs.Standing.{Books, TrovesStand, lifted_row, lift, place}
+use Rattle.liq_troves.specs.Rows.{entire_by, entire_in, pending, set_row, key_by}
+use Rattle.liq_troves.specs.Standing.{Books, TrovesStand, lifted_row}
 use Rattle.liq_troves.proofs.Standing.{IsWithinBooks, trove_within, IsEntire, entire_within, lift_stands, place_stands}
 use Rattle.liq_order.specs.Listed.{IsAbsent, AreDistinct}
 use Rattle.liq_redemption.specs.declared.cut.Cut.{Cut}
-use Rattle.liq_redemption.specs.Given.{AreSoundParts, IsPlannedOn, CutFits, IsEntireWithin}
+use Rattle.liq_redemption.specs.Given.{AreSoundParts, IsPlannedOn, CutFits}
 use Rattle.liq_redemption.specs.declared.planning.RedeemPlan.{RedeemPlan}
 use Rattle.liq_redemption.specs.Parts.{Parts, books_in, with_books, lifted_parts, placed_parts, closed_parts, cut_parts}
-use Rattle.liq_redemption.specs.Redemption.{Visit, visit, is_visited, net_debt, cut_of, draw_of, stops_before, troves_after, cuts, redeemed, drawn, redeem_rules, redeeming_terms}
+use Rattle.liq_redemption.specs.Redemption.{Visit, visit, is_visited, net_debt, cut_of, draw_of, stops_before, troves_after, cuts, drawn, redeem_rules, redeeming_terms}
 use Rattle.liq_redemption.proofs.Ahead.{distinct_turned}
 use Rattle.liq_redemption.proofs.Listing.{key_without_other, key_with_other}
 use Rattle.liq_redemption.proofs.Parts.{cut_closed, cut_placed}

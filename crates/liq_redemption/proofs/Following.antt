@@ -1,8 +1,6 @@
 -- What a redemption makes of a state's parts is what it makes of the state.
 use Rattle.std.proofs.Common.{◌≡◌, ℕ, ◌+◌, ◌-◌, Bool, true, false, cond, List, [], ◌∷◌, fold, refl, sym, ap, ◌∙◌, Some, None, Option}
-use Rattle.liq_types.specs.declared.amounts.TheConstants.{RESERVE}
 use Rattle.liq_types.specs.declared.figures.Wallet.{Wallet}
-use Rattle.liq_types.specs.Payments.{surplus_added}
 use Rattle.liq_types.specs.Ranked.{Ranked, with_ranked, without_ranked}
 use Rattle.liq_types.specs.State.{State, TroveEntry}
 use Rattle.liq_types.specs.Tables.{Table, at}
@@ -49,8 +47,8 @@ module _ (s : State) (order : List Ranked) (cut : Cut) (own : ℕ × ℕ) where
   own_follows false =
       any_order (made false) (state_made false) (with_ranked (without_ranked order cut.account) (key_by (set_row (sums_words (lifted s cut.account)) (own.0 - cut.draw) (own.1 - cut.lot)), cut.account))
       (
-        ap (λ (p : Parts). placed_parts p cut.account (own.0 - cut.draw) (own.1 - cut.lot)) (lifted_follows s order cut.account)
-        ∙ placed_follows (lifted s cut.account) (without_ranked order cut.account) cut.account (own.0 - cut.draw) (own.1 - cut.lot)
+      ap (λ (p : Parts). placed_parts p cut.account (own.0 - cut.draw) (own.1 - cut.lot)) (lifted_follows s order cut.account)
+      ∙ placed_follows (lifted s cut.account) (without_ranked order cut.account) cut.account (own.0 - cut.draw) (own.1 - cut.lot)
       )
 
 pub cut_follows : (s : State) (order : List Ranked) (cut : Cut) → cut_parts (parts_with s order) cut ≡ parts_with (cut_down s cut) (cut_parts (parts_with s order) cut).order
@@ -106,8 +104,8 @@ redeemed_follows s order account terms =
     let p = fold cut_parts (parts_with s order) terms.cuts in
     any_order (redeemed_parts (parts_with s order) terms) (redeemed_by s account terms) p.order
     (
-      ap (λ (q : Parts). record q { pools = record q.pools { fee_coll = q.pools.fee_coll + terms.fee } }) all
-      ∙ ap (λ fees. record (parts_with t p.order) { pools = record (parts_with t p.order).pools { fee_coll = fees + terms.fee } }) (cuts_leave terms.cuts s).fees
+    ap (λ (q : Parts). record q { pools = record q.pools { fee_coll = q.pools.fee_coll + terms.fee } }) all
+    ∙ ap (λ fees. record (parts_with t p.order) { pools = record (parts_with t p.order).pools { fee_coll = fees + terms.fee } }) (cuts_leave terms.cuts s).fees
     )
 
 pub redeemed_pays : (s : State) (account : ℕ) (terms : RedeemTerms) → (redeemed_by s account terms).wallets ≡ redeemed_wallets s.wallets account terms

@@ -1,14 +1,14 @@
 -- The parts of a state, and what a single cut makes of them.
-use Rattle.std.proofs.Common.{◌≡◌, ℕ, ◌+◌, ◌-◌, ◌≤◌, Bool, true, false, cond, List, refl, sym, ap, ◌∙◌, subst, Some, None, Option, arith}
+use Rattle.std.proofs.Common.{◌≡◌, ℕ, ◌-◌, ◌≤◌, true, false, cond, List, sym, ap, ◌∙◌, Some, None, Option, arith}
 use Rattle.liq_types.specs.declared.figures.Trove.{Trove}
-use Rattle.liq_types.specs.Ranked.{Ranked, without_ranked}
+use Rattle.liq_types.specs.Ranked.{Ranked}
 use Rattle.liq_types.specs.Tables.{Table, at}
 use Rattle.liq_ledger.specs.declared.pools.Pools.{Pools}
 use Rattle.liq_troves.specs.declared.sums.Sums.{Sums}
 use Rattle.liq_troves.specs.Rows.{entire_in}
 use Rattle.liq_troves.specs.Standing.{Books, lifted_row, lift}
 use Rattle.liq_redemption.specs.declared.cut.Cut.{Cut}
-use Rattle.liq_redemption.specs.Parts.{Parts, books_in, with_books, lifted_parts, placed_parts, closed_parts, cut_own, cut_parts}
+use Rattle.liq_redemption.specs.Parts.{Parts, lifted_parts, placed_parts, closed_parts, cut_own, cut_parts}
 
 -- parts are the same where each of them is
 pub same_parts : (p q : Parts) → p.sums ≡ q.sums → p.troves ≡ q.troves → p.pools ≡ q.pools → p.surplus ≡ q.surplus → p.order ≡ q.order → p ≡ q

@@ -1,13 +1,12 @@
 -- What is left in the redeemer's wallet.
-use Rattle.std.proofs.Common.{◌≡◌, ℕ, ◌+◌, ◌-◌, ◌≤◌, Bool, true, false, cond, refl, sym, ap, ◌∙◌, subst, Some, None, Option, arith, nat_lt, [], ◌∷◌}
-use Rattle.std.specs.Prelude.{Result, Ok, Err, unwrap_or}
+use Rattle.std.proofs.Common.{◌≡◌, ℕ, ◌-◌, ◌≤◌, Bool, true, false, cond, sym, ap, ◌∙◌, subst, Option, arith, nat_lt, [], ◌∷◌}
+use Rattle.std.specs.Prelude.{unwrap_or}
 use Rattle.std.proofs.lemmas.Bool.Decides.{nat_tests}
 use Rattle.liq_types.specs.declared.figures.Wallet.{Wallet}
 use Rattle.liq_types.specs.declared.replies.Refusal.{Refusal}
 use Rattle.liq_types.specs.Payments.{charged_in}
-use Rattle.liq_types.specs.Rules.{first_refusal, outcome}
 use Rattle.liq_types.specs.State.{is_used_wallet, no_wallet, wallet_in}
-use Rattle.liq_types.specs.Tables.{Table, at, put, without}
+use Rattle.liq_types.specs.Tables.{Table, put, without}
 use Rattle.liq_types.specs.WellFormed.{Ascends}
 use Rattle.liq_types.proofs.Lookups.{at-put_same, at-without_same}
 use Rattle.liq_ledger.specs.Refusals.{charging, ruled}

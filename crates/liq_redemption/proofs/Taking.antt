@@ -1,8 +1,8 @@
 -- What is taken along the visited troves.
-use Rattle.std.proofs.Common.{◌≡◌, ℕ, ◌+◌, ◌-◌, ◌*◌, ◌≤◌, Bool, true, false, cond, List, [], ◌∷◌, ◌++◌, refl, sym, ap, ◌∙◌, subst, Some, None, Option, arith, append-nil}
+use Rattle.std.proofs.Common.{◌≡◌, ℕ, ◌-◌, ◌*◌, ◌≤◌, Bool, true, false, cond, List, [], ◌∷◌, refl, sym, ap, ◌∙◌, Some, None, Option, arith, append-nil}
 use Rattle.std.specs.Prelude.{◌==◌, filter, filter_map}
 use Rattle.std.specs.List.{cons_option}
-use Rattle.std.proofs.Math.Nat.{mul-le-mul_right, div-mul-le_self}
+use Rattle.std.proofs.Math.Nat.{div-mul-le_self}
 use Rattle.std.proofs.lemmas.List.Sums.{sum_by-cons}
 use Rattle.liq_types.specs.declared.amounts.TheConstants.{PRICE_LEAST}
 use Rattle.liq_types.specs.declared.figures.Trove.{Trove}

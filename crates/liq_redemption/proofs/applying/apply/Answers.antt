@@ -1,4 +1,4 @@
-use Rattle.std.proofs.Common.{◌≡◌, ℕ, ◌+◌, ◌-◌, ◌≤◌, ◌<◌, false, cond, List, [], ◌∷◌, drop, fold, get_or, length, refl, sym, ap, ◌∙◌, subst, arith, add-one, drop-cons}
+use Rattle.std.proofs.Common.{◌≡◌, ℕ, ◌+◌, ◌≤◌, ◌<◌, false, cond, List, ◌∷◌, drop, fold, get_or, length, refl, sym, ap, ◌∙◌, subst, arith, add-one, drop-cons}
 use Rattle.std.specs.Prelude.{count_by}
 use Rattle.std.specs.List.{AllByRecursion, Contains}
 use Rattle.std.proofs.lemmas.List.{drop_all}
@@ -8,7 +8,7 @@ use Rattle.liq_types.specs.State.{wallet_in}
 use Rattle.liq_types.specs.Tables.{Table}
 use Rattle.liq_redemption.specs.declared.cut.Cut.{Cut}
 use Rattle.liq_redemption.specs.Parts.{Parts, parts_of, cut_parts}
-use Rattle.liq_redemption.specs.Given.{CutFits, HasRoomToClose}
+use Rattle.liq_redemption.specs.Given.{HasRoomToClose}
 use Rattle.liq_redemption.proofs.Cutting.{CutsFit, planned_covered}
 use Rattle.liq_redemption.proofs.Paying.{charges, charged_less}
 use Rattle.liq_redemption.proofs.applying.apply.Goals as goal

@@ -1,4 +1,4 @@
-use Rattle.std.proofs.Common.{◌≡◌, List, None, ap, ◌∙◌}
+use Rattle.std.proofs.Common.{List, ap, ◌∙◌}
 use Rattle.liq_types.specs.Ranked.{Ranked, key_in}
 use Rattle.liq_redemption.proofs.Listing.{key_without}
 use Rattle.liq_redemption.proofs.applying.lift.Goals as goal

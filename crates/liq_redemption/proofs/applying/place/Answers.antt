@@ -1,15 +1,14 @@
-use Rattle.std.proofs.Common.{◌≡◌, ◌+◌, ℕ, ℤ, List, Some, Option, refl, sym, ap, ◌∙◌, subst, rules}
+use Rattle.std.proofs.Common.{◌≡◌, ℕ, Some, Option, refl, ap, ◌∙◌, subst, rules}
 use mir.Syntax.{w128}
 use mir.Val.{SFits}
 use Rattle.std.proofs.lemmas.Int.{to_z-of_z}
 use Rattle.std.specs.Prelude.{IfSome, is_some}
 use Rattle.liq_types.specs.declared.figures.Trove.{Trove}
-use Rattle.liq_types.specs.Ranked.{Ranked, with_ranked}
-use Rattle.liq_types.specs.Tables.{Table, at, put}
+use Rattle.liq_types.specs.Ranked.{with_ranked}
+use Rattle.liq_types.specs.Tables.{Table, at}
 use Rattle.liq_types.proofs.Lookups.{at-put_same}
 use Rattle.liq_troves.specs.declared.sums.Sums.{Sums}
 use Rattle.liq_troves.specs.Rows.{beside, set_in, set_row, key_by}
-use Rattle.liq_redemption.specs.Parts.{parts_of, placed_parts}
 use Rattle.liq_redemption.proofs.Parts.{same_parts}
 use Rattle.liq_redemption.proofs.applying.place.Goals as goal
 

@@ -1,4 +1,4 @@
-use Rattle.std.proofs.Common.{◌≡◌, ℕ, ◌+◌, ◌<◌, zero, suc, false, List, [], ◌∷◌, take, get_or, length, sym, ◌∙◌, subst, arith, add-one}
+use Rattle.std.proofs.Common.{ℕ, ◌<◌, zero, suc, false, List, [], ◌∷◌, take, get_or, length, sym, ◌∙◌, subst, arith, add-one}
 use Rattle.std.specs.List.{AllByRecursion}
 use Rattle.liq_tables.specs.WithRoom.{WithRoom, KeepsRoom}
 use Rattle.liq_redemption.specs.declared.cut.Cut.{Cut}
@@ -26,6 +26,6 @@ loop-cut-preserved c =
       rows = c.reserve_claim.ensures.rows ∙ c.loop-cut.invariant.rows;
       kept = λ key had. c.reserve_claim.ensures.kept key (c.loop-cut.invariant.kept key had);
       room =
-        subst (λ k. AllByRecursion (HasRoomToClose new) (take k items)) (sym (add-one i))
-        (one_more (HasRoomToClose new) items i c.loop-cut-test.true (room_kept c.loop-cut.surplus new c.reserve_claim.ensures.kept (take i items) c.loop-cut.invariant.room) c.in_ok-reserve_claim.ensures.room);
+          subst (λ k. AllByRecursion (HasRoomToClose new) (take k items)) (sym (add-one i))
+          (one_more (HasRoomToClose new) items i c.loop-cut-test.true (room_kept c.loop-cut.surplus new c.reserve_claim.ensures.kept (take i items) c.loop-cut.invariant.room) c.in_ok-reserve_claim.ensures.room);
     }

@@ -1,6 +1,6 @@
 use Rattle.std.proofs.Common.{◌≡◌, take}
 use Rattle.std.specs.List.{AllByRecursion}
-use Rattle.liq_tables.specs.WithRoom.{HasRoom, KeepsRoom}
+use Rattle.liq_tables.specs.WithRoom.{KeepsRoom}
 use Rattle.liq_redemption.specs.Given.{HasRoomToClose}
 use Rattle.liq_redemption.proofs.applying.reserve.Given as goal
 

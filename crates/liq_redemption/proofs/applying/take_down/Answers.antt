@@ -1,9 +1,8 @@
-use Rattle.std.proofs.Common.{◌≡◌, ◌+◌, ◌-◌, ◌≤◌, ◌<◌, ℕ, Some, Option, sym, ap, ◌∙◌, subst, arith}
+use Rattle.std.proofs.Common.{◌≡◌, ◌-◌, ◌≤◌, ℕ, Some, Option, sym, ap, ◌∙◌, subst, arith}
 use Rattle.liq_types.specs.declared.amounts.TheConstants.{LIM}
 use Rattle.liq_troves.specs.Kept.{coll_in}
 use Rattle.liq_troves.specs.Rows.{set_in}
-use Rattle.liq_redemption.specs.Given.{CutFits, IsEntireWithin}
-use Rattle.liq_redemption.specs.Parts.{Parts, parts_of, books_in, lifted_parts, placed_parts, closed_parts, cut_parts}
+use Rattle.liq_redemption.specs.Parts.{Parts, parts_of, books_in, placed_parts, closed_parts}
 use Rattle.liq_redemption.proofs.Parts.{cut_closed, cut_placed, less_coll, less_debt}
 use Rattle.liq_redemption.proofs.applying.take_down.Goals as goal
 

@@ -1,7 +1,6 @@
-use Rattle.std.proofs.Common.{◌≡◌, ◌+◌, ◌≤◌, ◌<◌, ◌∷◌, ◌++◌, ℕ, Bool, List, length, ap, sym, ◌∙◌, arith, append-nil}
+use Rattle.std.proofs.Common.{◌∷◌, ◌++◌, ℕ, List, length, ap, sym, ◌∙◌, arith, append-nil}
 use Rattle.liq_types.specs.Ranked.{from_last, before_in}
 use Rattle.liq_redemption.specs.declared.cut.Cut.{Cut}
-use Rattle.liq_redemption.specs.Redemption.{Visit, cuts, first_net, redeemed, visited_by}
 use Rattle.liq_redemption.specs.Walk.{all_cuts, first_net_of, ahead_where}
 use Rattle.liq_redemption.proofs.Ahead.{ahead_of, step_on, next_step, is_listed}
 use Rattle.liq_redemption.proofs.Taking.{visits, cuts_step, first_step, cuts_done, nothing_wanted}
