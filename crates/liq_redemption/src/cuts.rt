@@ -50,14 +50,6 @@ impl Cuts {
         self.list.as_slice()
     }
 
-    /// The debt that is redeemed by all of them, in micro-LUSD.
-    pub(crate) fn redeemed(&self) -> u64
-        requires { rules.redeemed self.now < 2 ^ 64 }
-        ensures { result ≡ rules.redeemed self.now }
-    {
-        self.list.iter().map(|cut| cut.lot).sum()
-    }
-
     /// The collateral that is drawn by all of them, in gwei.
     pub(crate) fn drawn(&self) -> u64
         requires { rules.drawn self.now < 2 ^ 64 }
