@@ -1,2 +1,3 @@
-pub mod One
+pub mod Given
 pub mod Lowest
+pub mod One

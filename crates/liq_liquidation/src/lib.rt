@@ -3,5 +3,7 @@
 
 pub mod laws;
 mod one;
+mod plan;
 
 pub use one::{One, Victim};
+pub use plan::plan_one;
