@@ -5,6 +5,7 @@ use Rattle.liq_types.specs.declared.figures.Market.{Market}
 use Rattle.liq_types.specs.declared.figures.Trove.{Trove}
 use Rattle.liq_troves.specs.declared.sums.Sums.{Sums}
 use Rattle.liq_troves.specs.Rows.{entire_by}
+use Rattle.liq_liquidation.specs.declared.figures.Figures.{Figures}
 
 pub record IsMarket (m : Market) : Type 0 where
   pub price_some : 1 ≤ m.price
@@ -20,3 +21,9 @@ pub record IsTroveOf (m : Market) (sums : Sums) (t : Trove) : Type 0 where
   pub debt : (entire_by sums t).1 < 2 ^ 64
   -- where there are other troves they have some stake
   pub others : 2 ≤ m.troves → t.stake < sums.stakes
+
+-- and its entire amounts are within the totals
+pub record IsStruckOf (f : Figures) (t : Trove) : Type 0 where
+  pub trove : IsTroveOf f.market f.sums t
+  pub coll : (entire_by f.sums t).0 ≤ f.market.total_coll
+  pub debt : (entire_by f.sums t).1 ≤ f.market.total_debt

@@ -1,3 +1,4 @@
 pub mod Given
 pub mod Lowest
+pub mod Moment
 pub mod One

@@ -1,5 +1,5 @@
 -- The liquidation of one trove: how it is treated, what is refused, and what it does.
-use Rattle.std.specs.Prelude.{ℕ, ◌+◌, ◌-◌, ◌/◌, ◌==◌, ◌&&◌, Bool, true, false, nat_lt, min, Option, Some, None, Result, Err, List, [], ◌∷◌, if◌then◌else◌}
+use Rattle.std.specs.Prelude.{ℕ, ◌+◌, ◌-◌, ◌/◌, ◌==◌, ◌&&◌, Bool, true, false, nat_lt, min, Option, Some, None, Result, Err, List, [], ◌∷◌, ◌++◌, if◌then◌else◌}
 use Rattle.liq_num.specs.Quotient.{floor_of}
 use Rattle.liq_types.specs.declared.amounts.TheConstants.{MCR, RESERVE, GAS_PART, CAP_WORTH}
 use Rattle.liq_types.specs.declared.figures.Market.{Market}
@@ -104,17 +104,7 @@ abbrev pub is_capped : Treatment → Bool
 is_capped Capped = true
 is_capped _ = false
 
--- of a trove with these entire amounts, by the sums beside the other troves
-abbrev pub one_rules : Market → Sums → ℕ → ℕ → ℕ → List Rule
-one_rules m others coll debt total =
-    let treatment = treatment m coll debt in
-    let one = treated treatment m.price coll debt total in
-    last_trove_stays m
-    ∷ (is_kept treatment, NotLiquidatable coll debt m.price m.total_coll m.total_debt)
-    ∷ (is_capped treatment && nat_lt total debt, PoolTooSmall total debt)
-    ∷ spread_rules others one.spread_coll one.spread_debt
-
--- of a trove with these entire amounts, whatever the others have
+-- by the table alone, of a trove with these entire amounts
 abbrev pub treated_rules : Market → ℕ → ℕ → ℕ → List Rule
 treated_rules m coll debt total =
     let treatment = treatment m coll debt in
@@ -126,6 +116,12 @@ abbrev pub treated_of : Market → ℕ → ℕ → ℕ → Result One Refusal
 treated_of m coll debt total =
     outcome (first_refusal (treated_rules m coll debt total))
     (treated (treatment m coll debt) m.price coll debt total)
+
+-- and by the sums beside the other troves
+abbrev pub one_rules : Market → Sums → ℕ → ℕ → ℕ → List Rule
+one_rules m others coll debt total =
+    let one = treated (treatment m coll debt) m.price coll debt total in
+    last_trove_stays m ∷ (treated_rules m coll debt total ++ spread_rules others one.spread_coll one.spread_debt)
 
 abbrev pub one_of : Market → Sums → ℕ → ℕ → ℕ → Result One Refusal
 one_of m others coll debt total =

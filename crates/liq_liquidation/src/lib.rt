@@ -1,6 +1,7 @@
 //! The liquidation of troves: what becomes of one, and of the lowest ones.
 #![tactic(auto)]
 
+mod figures;
 pub mod laws;
 mod one;
 mod plan;

@@ -157,9 +157,18 @@ fn within_limit(sum: u128, amount: u64, stakes: u64) -> Result<(), Refusal>
     requires sum { sum ≤ SUM_MOST }
     ensures { result ≡ outcome (first_refusal (sum_limit (sum_after sum amount stakes) ∷ [])) tt }
 {
-    let sum = sum + mul_div(u128::from(amount), u128::from(ONE), u128::from(stakes));
+    let sum = grown(sum, amount, stakes);
     if sum > SUM_MOST {
         return Err(Refusal::SumLimit { sum });
     }
     Ok(())
+}
+
+/// The sum after an amount for so many units of stake.
+pub(crate) fn grown(sum: u128, amount: u64, stakes: u64) -> u128
+    requires stakes { 1 ≤ stakes }
+    requires sum { sum ≤ SUM_MOST }
+    ensures { result ≡ sum_after sum amount stakes }
+{
+    sum + mul_div(u128::from(amount), u128::from(ONE), u128::from(stakes))
 }
