@@ -1,5 +1,6 @@
 -- Moments: what a liquidation reads of a state, and what it leaves of that for the next one.
 use Rattle.std.specs.Prelude.{◌≡◌, ℕ, zero, suc, ◌+◌, ◌-◌, ◌≤◌, Option, Some, None, Result, Ok, Err, List, [], ◌∷◌, length}
+use Rattle.liq_types.specs.declared.amounts.TheConstants.{LIM}
 use Rattle.liq_types.specs.declared.figures.Market.{Market}
 use Rattle.liq_types.specs.declared.figures.Trove.{Trove}
 use Rattle.liq_types.specs.declared.replies.Refusal.{Refusal}
@@ -7,11 +8,16 @@ use Rattle.liq_types.specs.declared.replies.Refusal.TheVariants.{LastTrove}
 use Rattle.liq_types.specs.State.{State}
 use Rattle.liq_types.specs.Tables.{Table, at, without}
 use Rattle.liq_types.specs.Totals.{market_of, pool_total}
+use Rattle.liq_types.specs.WellFormed.{TrovesAreMarked}
+use Rattle.liq_troves.specs.declared.sums.Sums.{Sums}
 use Rattle.liq_troves.specs.Rows.{stakes_in, sums_spread, sums_snapped}
 use Rattle.liq_troves.specs.StakeSums.{sums_words, trove_rows}
-use Rattle.liq_troves.specs.Standing.{Books, TrovesStand, added_up}
+use Rattle.liq_troves.specs.Standing.{Books, TrovesStand, added_up, books_of}
 use Rattle.liq_order.specs.Order.{order_by, last_account}
+use Rattle.liq_stability.specs.declared.words.PoolWords.{PoolWords}
 use Rattle.liq_liquidation.specs.declared.figures.Figures.{Figures}
+use Rattle.liq_liquidation.specs.declared.lowest.LowestFault.{LowestFault}
+use Rattle.liq_liquidation.specs.declared.lowest.LowestFault.TheVariants.{No, NoMemory}
 use Rattle.liq_liquidation.specs.declared.one.One.{One}
 use Rattle.liq_liquidation.specs.declared.one.Victim.{Victim}
 use Rattle.liq_liquidation.specs.Given.{IsMarket}
@@ -28,6 +34,10 @@ moment_of s =
       figures = record { market = market_of s; sums = sums_words s; pool_total = pool_total s };
       troves = trove_rows s;
     }
+
+abbrev pub moment_by : Market → Sums → Table Trove → PoolWords → Moment
+moment_by m sums troves words =
+    record { figures = record { market = m; sums = sums; pool_total = words.total }; troves = troves }
 
 -- ---- what is left after a liquidation
 
@@ -76,6 +86,11 @@ lowest_from now (suc more) = elim (next_at now) [ Err refusal ↦ [] | Ok v ↦ 
 abbrev pub plan_from : Moment → ℕ → Result (List Victim) Refusal
 plan_from now count = elim (next_at now) [ Err refusal ↦ Err refusal | Ok v ↦ Ok (lowest_from now count) ]
 
+-- an answer that is no plan: this is refused, or there was no memory
+abbrev pub IsFaultOf : Result (List Victim) Refusal → LowestFault → Type 0
+IsFaultOf plan (No refusal) = plan ≡ Err refusal
+IsFaultOf plan NoMemory = Unit {0}
+
 -- ---- moments of sound states
 
 -- what is not recorded of the troves is pending
@@ -97,4 +112,11 @@ pub record IsSoundMoment (now : Moment) : Type 0 where
   pub counted : now.figures.market.troves ≡ length now.troves
   pub coll : added_up (λ t. t.coll) now.troves ≤ now.figures.market.total_coll
   pub debt : added_up (λ t. t.debt) now.troves ≤ now.figures.market.total_debt
+  pub coll_limit : now.figures.market.total_coll ≤ LIM
+  pub debt_limit : now.figures.market.total_debt ≤ LIM
   pub troves : TrovesStand (books_at now)
+
+-- what holds of the troves of every sound state
+pub record TrovesAreSound (s : State) : Type 0 where
+  pub troves : TrovesStand (books_of s)
+  pub marked : TrovesAreMarked (length s.redistributions) s.troves

@@ -15,6 +15,7 @@ use Rattle.liq_troves.specs.Own.{lifted, redistributed, snapped}
 use Rattle.liq_troves.specs.declared.sums.Sums.{Sums}
 use Rattle.liq_troves.specs.Rows.{entire_by, spread_rules}
 use Rattle.liq_troves.specs.StakeSums.{sums_words, trove_rows}
+use Rattle.liq_troves.specs.Standing.{Books, lift, spread, snap}
 use Rattle.liq_stability.specs.Own.{offset}
 use Rattle.liq_liquidation.specs.declared.one.One.{One}
 use Rattle.liq_liquidation.specs.declared.one.Victim.{Victim}
@@ -162,6 +163,10 @@ struck s v =
     let pooled = offset_if_any left v.one.offset_debt v.one.offset_coll in
     let shared = redistributed pooled v.one.spread_coll v.one.spread_debt in
     surplus_added (snapped shared) v.account v.one.surplus
+
+-- what it makes of the troves and of the pools that hold theirs
+abbrev pub struck_books : Books → Victim → Books
+struck_books b v = snap (spread (lift b v.account) v.one.spread_coll v.one.spread_debt)
 
 -- the liquidator gets the trove's reserve, and a part of its collateral
 abbrev pub rewarded : State → ℕ → ℕ → State

@@ -13,6 +13,7 @@ use liq_types::amounts::SUM_MOST;
 use liq_types::{Market, Refusal};
 
 /// The figures of one moment.
+#[derive(Clone, Copy)]
 pub(crate) struct Figures {
     pub market: Market,
     pub sums: Sums,

@@ -3,8 +3,10 @@
 
 mod figures;
 pub mod laws;
+mod lowest;
 mod one;
 mod plan;
 
+pub use lowest::{LowestFault, plan_lowest};
 pub use one::{One, Victim};
 pub use plan::plan_one;
