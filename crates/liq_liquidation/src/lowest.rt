@@ -1,6 +1,6 @@
 //! The lowest troves, liquidated one after the other.
 
-ghost use Rattle.std.specs.Prelude.{◌≡◌, ◌≤◌, MatchResult};
+ghost use Rattle.std.specs.Prelude.{◌≡◌, ◌≤◌, [], ◌∷◌, ◌++◌, MatchResult};
 ghost use Rattle.liq_types.specs.State.{State};
 ghost use Rattle.liq_order.specs.Order.{order_by};
 ghost use Rattle.liq_liquidation.specs.Lowest.{AreParts, lowest_plan};
@@ -42,11 +42,28 @@ pub fn plan_lowest(
     ensures moment { let plan = plan_from (moment_by m.now troves.now.sums troves.now.table.rows words.now) n in MatchResult result (λ v. plan ≡ Ok v.items) (IsFaultOf plan) }
     ensures state { (s : State) → AreParts s m.now troves.now.sums troves.now.table.rows order.now.entries words.now → TrovesAreSound s → MatchResult result (λ v. lowest_plan s n ≡ Ok v.items) (IsFaultOf (lowest_plan s n)) }
 {
-    let mut figures = Figures {
+    let figures = Figures {
         market: *m,
         sums: *troves.sums(),
         pool_total: words.total,
     };
+    lowest_from(alloc, figures, troves, order, n)
+}
+
+/// The lowest troves from this moment on.
+fn lowest_from(
+    alloc: Global,
+    mut figures: Figures,
+    troves: &Troves,
+    order: &Order,
+    n: u64,
+) -> Result<Vec<Victim>, LowestFault>
+    requires some { 1 ≤ n }
+    requires most { n ≤ 64 }
+    requires order { order.now.entries ≡ order_by troves.now.table.rows }
+    requires sound { IsSoundMoment (record { figures = figures; troves = troves.now.table.rows }) }
+    ensures { let plan = plan_from (record { figures = figures; troves = troves.now.table.rows }) n in MatchResult result (λ v. plan ≡ Ok v.items) (IsFaultOf plan) }
+{
     let first = match figures.strike(troves, order.last()) {
         Ok(first) => first,
         Err(refusal) => return Err(LowestFault::No(refusal)),
@@ -66,7 +83,9 @@ pub fn plan_lowest(
     Ok(victims)
 }
 
-fn add(victims: &mut Vec<Victim>, victim: Victim) -> Result<(), LowestFault> {
+fn add(victims: &mut Vec<Victim>, victim: Victim) -> Result<(), LowestFault>
+    ensures { MatchResult result (λ _. victims.new.items ≡ victims.old.items ++ victim ∷ []) (λ fault. fault ≡ LowestFault.NoMemory) }
+{
     match victims.push(victim) {
         Ok(()) => Ok(()),
         Err(_) => Err(LowestFault::NoMemory),
