@@ -40,11 +40,11 @@ pub record Hold (m : Market) (b : Books) : Type 0 where
 abbrev pub moment_with : Market → Books → ℕ → Moment
 moment_with m b total = record { figures = record { market = m; sums = b.sums; pool_total = total }; troves = b.troves }
 
-abbrev victim : ℕ → One → Victim
+abbrev pub victim : ℕ → One → Victim
 victim account made = record { account = account; one = made }
 
 -- the market after it
-abbrev left_market : Market → One → Market
+abbrev pub left_market : Market → One → Market
 left_market m made =
     record m {
       total_coll = m.total_coll - (made.gas + made.offset_coll + made.surplus);

@@ -1,6 +1,6 @@
 -- The walk along the order from its end: after each victim the troves that are left are a beginning of the list.
 use Rattle.std.proofs.Common.{◌≡◌, ℕ, zero, suc, ◌+◌, ◌-◌, ◌≤◌, ◌<◌, Bool, true, false, cond, List, [], ◌∷◌, ◌++◌, length, map, refl, ap, sym, ◌∙◌, subst, arith, Some, None, Option, inl, inr, append_assoc, append-nil}
-use Rattle.std.specs.Prelude.{◌≢◌, ◌⊎◌, ◌==◌, not, reverse, Result, Ok, Err, IfSome, IsSome}
+use Rattle.std.specs.Prelude.{◌≢◌, ◌⊎◌, ◌==◌, not, reverse, find, option_map, is_some, Result, Ok, Err, IfSome, IsSome}
 use Rattle.std.specs.List.{AllByRecursion}
 use Rattle.std.proofs.lemmas.Bool.Decides.{nat_tests}
 use Rattle.std.proofs.lemmas.List.{reverse-append}
@@ -18,10 +18,11 @@ use Rattle.liq_order.proofs.Found.{IsAt, before_found}
 use Rattle.liq_liquidation.specs.declared.figures.Figures.{Figures}
 use Rattle.liq_liquidation.specs.declared.one.One.{One}
 use Rattle.liq_liquidation.specs.declared.one.Victim.{Victim}
-use Rattle.liq_liquidation.specs.Moment.{Moment, moment_after, figures_after, victim_from, with_account, next_at, lowest_from, books_at, IsSoundMoment}
+use Rattle.liq_liquidation.specs.Given.{IsStruckOf}
+use Rattle.liq_liquidation.specs.Moment.{Moment, moment_after, figures_after, victim_from, with_account, next_at, lowest_from, plan_from, books_at, IsSoundMoment}
 use Rattle.liq_liquidation.specs.One.{one_by, one_in}
 use Rattle.liq_liquidation.proofs.Leaving.{left_order, order_absent, order_distinct}
-use Rattle.liq_liquidation.proofs.Struck.{sound_after, stakes_left, held}
+use Rattle.liq_liquidation.proofs.Struck.{sound_after, stakes_left, struck_of, held}
 
 -- ---- lists with each account once
 
@@ -64,6 +65,14 @@ without_last front e h =
     ∙ ap (λ (l : List Ranked). l ++ without_ranked (e ∷ []) e.1) (without_absent front e.1 h)
     ∙ ap (λ (l : List Ranked). front ++ l) own
     ∙ append-nil front
+
+-- an account of the list has a key
+listed : (front back : List Ranked) (e : Ranked) (account : ℕ) → (e.1 == account) ≡ true → IsSome (key_in (front ++ e ∷ back) account)
+listed [] back e account same = ap (λ b. is_some (option_map (λ (f : Ranked). f.0) (cond b (Some e) (find (λ (f : Ranked). f.1 == account) back)))) same
+listed (f ∷ fs) back e account same = by (f.1 == account) (listed fs back e account same) where
+  by : (b : Bool) → IsSome (key_in (fs ++ e ∷ back) account) → IsSome (option_map (λ (g : Ranked). g.0) (cond b (Some f) (find (λ (g : Ranked). g.1 == account) (fs ++ e ∷ back))))
+  by true more = refl
+  by false more = more
 
 -- ---- the end of a list
 
@@ -149,6 +158,13 @@ pub lowest_ends : (now : Moment) (refusal : Refusal) (count : ℕ) → next_at n
 lowest_ends now refusal zero h = refl
 lowest_ends now refusal (suc more) h = ap (λ (r : Result Victim Refusal). elim r [ Err refusal ↦ [] | Ok x ↦ x ∷ lowest_from (moment_after now x) more ]) h
 
+-- whichever trove it is, it may be struck
+pub row_struck : (now : Moment) (account : ℕ) → IsSoundMoment now → IfSome (at now.troves account) (IsStruckOf now.figures)
+row_struck now account s = by (at now.troves account) refl where
+  by : (o : Option Trove) → at now.troves account ≡ o → IfSome o (IsStruckOf now.figures)
+  by None there = tt
+  by (Some t) there = struck_of now.figures.market (books_at now) now.figures.pool_total account t there (held now s) s.counted s.coll_limit s.debt_limit
+
 -- ---- the walk
 
 -- after so many victims: the figures and the troves that are left, the list before and behind the place that was reached
@@ -201,6 +217,14 @@ module _ (start : Moment) (list : List Ranked) (count taken : ℕ) (figures : Fi
       let first = subst (λ a. IsAbsent a w.front) same (distinct_front w.front es e (subst AreDistinct whole d)) in
       before_found list last (length w.front) (record { front = w.front; entry = e; back = es; whole = whole; place = refl; same = test; first = first }) d
 
+  -- and may be struck by the figures of the moment
+  pub walk_struck : (account : ℕ) → last_account w.front ≡ Some account → IfSome (at start.troves account) (IsStruckOf figures)
+  walk_struck account is =
+      let e = ends_with w.front account is in
+      let behind : list ≡ e.front ++ e.entry ∷ w.back = w.whole ∙ ap (λ (l : List Ranked). l ++ w.back) e.whole ∙ append_assoc e.front (e.entry ∷ []) w.back in
+      let absent = subst (λ a. IsAbsent a w.back) e.same (distinct_back e.front w.back e.entry (subst AreDistinct behind d)) in
+      subst (λ (o : Option Trove). IfSome o (IsStruckOf figures)) (w.same account absent) (row_struck (record { figures = figures; troves = w.troves }) account w.sound)
+
 -- a walk that has reached an account
 pub record Reached (start : Moment) (list : List Ranked) (count taken : ℕ) (figures : Figures) (victims : List Victim) (last : ℕ) : Type 0 where
   pub walk : Walk start list count taken figures victims
@@ -250,3 +274,38 @@ module _ (start : Moment) (list : List Ranked) (count taken : ℕ) (figures afte
         back_is = refl;
         same = e.same;
       }
+
+-- after the first
+pub walk_first : (start : Moment) (list : List Ranked) (count : ℕ) (after : Figures) (is : list ≡ order_by start.troves) (s : IsSoundMoment start) (d : AreDistinct list) (v : Victim) → 1 ≤ count → next_at start ≡ Ok v → IfSome (at start.troves v.account) (λ t. after ≡ figures_after start.figures (start.figures.sums.stakes - t.stake) v.one) → Reached start list count 1 after (v ∷ []) v.account
+unfolding walk_begins
+walk_first start list count after is s d v some next passed =
+    walk_on start list count 0 start.figures after [] (walk_begins start list count is s) d v (omega (arith, some)) next passed
+
+module _ (start : Moment) (list : List Ranked) (count taken : ℕ) (figures : Figures) (victims : List Victim) (last : ℕ) (r : Reached start list count taken figures victims last) (d : AreDistinct list) where
+  pub reached_listed : IsSome (key_in list last)
+  reached_listed =
+      let whole : list ≡ r.walk.front ++ r.entry ∷ r.rest = r.walk.whole ∙ ap (λ (l : List Ranked). r.walk.front ++ l) r.back_is in
+      subst (λ (l : List Ranked). IsSome (key_in l last)) (sym whole) (listed r.walk.front r.rest r.entry last (subst (λ a. (r.entry.1 == a) ≡ true) r.same (itself r.entry.1)))
+
+  pub reached_before : before_in list last ≡ last_account r.walk.front
+  reached_before = before_is start list count taken figures victims r.walk d last r.entry r.rest r.back_is r.same
+
+  -- the trove before it, told by the troves of the start
+  pub reached_next : victim_from figures start.troves (before_in list last) ≡ next_at (record { figures = figures; troves = r.walk.troves })
+  reached_next = ap (victim_from figures start.troves) reached_before ∙ next_told start list count taken figures victims r.walk d
+
+-- ---- the plan
+
+pub plan_made : (start : Moment) (count : ℕ) (v : Victim) (victims : List Victim) → next_at start ≡ Ok v → lowest_from start count ≡ victims → plan_from start count ≡ Ok victims
+plan_made start count v victims h e =
+    ap (λ (r : Result Victim Refusal). elim r [ Err refusal ↦ Err refusal | Ok x ↦ Ok (lowest_from start count) ]) h ∙ ap (λ (l : List Victim). Ok l) e
+
+-- nothing is left to take, or the next one may not be liquidated
+pub walk_ends : (start : Moment) (list : List Ranked) (count taken : ℕ) (figures : Figures) (victims : List Victim) (w : Walk start list count taken figures victims) → count ≤ taken → lowest_from start count ≡ victims
+walk_ends start list count taken figures victims w all =
+    let none : count - taken ≡ 0 = omega (arith, all) in
+    w.planned ∙ ap (λ k. victims ++ lowest_from (record { figures = figures; troves = w.troves }) k) none ∙ append-nil victims
+
+pub walk_stops : (start : Moment) (list : List Ranked) (count taken : ℕ) (figures : Figures) (victims : List Victim) (w : Walk start list count taken figures victims) (refusal : Refusal) → next_at (record { figures = figures; troves = w.troves }) ≡ Err refusal → lowest_from start count ≡ victims
+walk_stops start list count taken figures victims w refusal is =
+    w.planned ∙ ap (λ (l : List Victim). victims ++ l) (lowest_ends (record { figures = figures; troves = w.troves }) refusal (count - taken) is) ∙ append-nil victims
