@@ -1,3 +1,4 @@
+pub mod Applied
 pub mod Given
 pub mod Lowest
 pub mod Moment
