@@ -1,18 +1,15 @@
 -- A planned liquidation on what is kept: on what it was planned, what must have room, and what it makes of each part.
-use Rattle.std.specs.Prelude.{◌≡◌, ℕ, ◌+◌, ◌-◌, ◌≤◌, ◌<◌, ◌^◌, ◌==◌, Result, Ok, List, length, if◌then◌else◌}
-use Rattle.liq_types.specs.declared.amounts.TheConstants.{LIM, PRICE_LEAST, PRICE_MOST, RESERVE}
+use Rattle.std.specs.Prelude.{◌≡◌, ℕ, ◌+◌, ◌-◌, ◌≤◌, ◌^◌, ◌==◌, Option, None, Result, Ok, length, if◌then◌else◌}
+use Rattle.liq_types.specs.declared.amounts.TheConstants.{LIM, PRICE_LEAST, RESERVE}
 use Rattle.liq_types.specs.declared.figures.Market.{Market}
 use Rattle.liq_types.specs.declared.figures.Wallet.{Wallet}
-use Rattle.liq_types.specs.Image.{Place}
-use Rattle.liq_types.specs.State.{surplus_in, wallet_in}
-use Rattle.liq_types.specs.Tables.{Table, at}
+use Rattle.liq_types.specs.Tables.{at}
 use Rattle.liq_tables.specs.WithRoom.{WithRoom, HasRoom}
 use Rattle.liq_ledger.specs.declared.pools.Pools.{Pools}
 use Rattle.liq_troves.specs.Kept as troves
 use Rattle.liq_troves.specs.Standing.{Books, TrovesStand}
-use Rattle.liq_stability.specs.Kept as stability
-use Rattle.liq_stability.specs.Kept.{room_for}
-use Rattle.liq_stability.specs.Words.{words_after, finished_by, finished_with}
+use Rattle.liq_stability.specs.Words.{words_after, finished_by}
+use Rattle.liq_stability.specs.declared.words.FinishedSum.{FinishedSum}
 use Rattle.liq_stability.specs.declared.words.PoolWords.{PoolWords}
 use Rattle.liq_liquidation.specs.declared.one.One.{One}
 use Rattle.liq_liquidation.specs.declared.one.Victim.{Victim}
@@ -40,36 +37,37 @@ pub record IsPlannedOn (b : Books) (total : ℕ) (v : Victim) : Type 0 where
   pub counted : market.troves ≡ length b.troves
   pub planned : one_in market b.sums total v.account (at b.troves v.account) ≡ Ok v.one
 
--- collateral inside and LUSD are within their limit, in each place that gets some
-pub record StayWithin (v : Victim) (wallet : Wallet) (owner : ℕ) (pools : Pools) (pool_coll : ℕ) : Type 0 where
+-- in each place that gets some, collateral and LUSD stay within their limit, and the pool's place can be counted on
+pub record StayWithin (v : Victim) (wallet : Wallet) (owner : ℕ) (pools : Pools) (words : PoolWords) : Type 0 where
   pub coll : pools.active_coll + pools.default_coll ≤ LIM
   pub debt : pools.active_debt + pools.default_debt ≤ LIM
   pub wallet_coll : wallet.coll + v.one.gas ≤ LIM
   pub wallet_lusd : wallet.lusd + RESERVE ≤ LIM
   pub claim : owner + v.one.surplus ≤ LIM
   pub surplus : pools.surplus + v.one.surplus ≤ LIM
-  pub pool : pool_coll + v.one.offset_coll ≤ LIM
+  pub pool : words.coll + v.one.offset_coll ≤ LIM
   pub reserve : RESERVE ≤ pools.reserve
+  pub scale : words.scale ≤ 2 ^ 64 - 4
+  pub epoch : words.epoch ≤ 2 ^ 64 - 4
 
--- room was made for all that is written; the pool's place can be counted on
-pub record HasRoomFor (v : Victim) (liquidator : ℕ) (wallets : WithRoom Wallet) (surplus : WithRoom ℕ) (pool : stability.Kept) : Type 0 where
+-- room was made for all that is written
+pub record HasRoomFor (v : Victim) (liquidator : ℕ) (wallets : WithRoom Wallet) (surplus : WithRoom ℕ) (spare : ℕ) : Type 0 where
   pub wallet : HasRoom wallets liquidator
   pub owner : HasRoom surplus v.account
-  pub offset : 1 ≤ pool.spare
-  pub scale : pool.words.scale ≤ 2 ^ 64 - 4
-  pub epoch : pool.words.epoch ≤ 2 ^ 64 - 4
+  -- where the Stability Pool takes over something, for the sum that this may finish
+  pub offset : 1 ≤ v.one.offset_debt → 1 ≤ spare
 
--- ---- what it makes of the pool
+-- ---- what it makes of the pools
 
--- where it takes over nothing it stays
+-- where the Stability Pool takes over nothing it stays
 abbrev pub words_left : PoolWords → One → PoolWords
 words_left words one = if one.offset_debt == 0 then words else words_after words one.offset_debt one.offset_coll
 
-abbrev pub finished_left : PoolWords → List (Place × ℕ) → One → List (Place × ℕ)
-finished_left words finished one =
-    if one.offset_debt == 0 then finished else finished_with finished (finished_by words one.offset_debt one.offset_coll)
+-- the sum that it finishes, if any
+abbrev pub finished_in : PoolWords → One → Option FinishedSum
+finished_in words one = if one.offset_debt == 0 then None else finished_by words one.offset_debt one.offset_coll
 
--- what it makes of the other pools
+-- the other pools: these books, and what moves beside them
 abbrev pub pools_left : Pools → Books → One → Pools
 pools_left pools b one =
     record {

@@ -6,10 +6,11 @@ ghost use Rattle.liq_types.specs.Ranked.{key_in, without_ranked};
 ghost use Rattle.liq_types.specs.Rules.{first_refusal};
 ghost use Rattle.liq_types.specs.State.{surplus_in, wallet_in};
 ghost use Rattle.liq_types.specs.Tables.{at};
-ghost use Rattle.liq_troves.specs.Kept.{coll_in};
 ghost use Rattle.liq_troves.specs.Rows.{spread_rules};
 ghost use Rattle.liq_troves.specs.Standing.{TrovesStand, lift, snap, spread};
-ghost use Rattle.liq_liquidation.specs.Applied.{HasRoomFor, IsPlannedOn, StayWithin, books_kept, finished_left, pools_left, words_left};
+ghost use Rattle.liq_stability.specs.Kept.{room_for};
+ghost use Rattle.liq_stability.specs.Words.{finished_with};
+ghost use Rattle.liq_liquidation.specs.Applied.{HasRoomFor, IsPlannedOn, StayWithin, books_kept, finished_in, pools_left, words_left};
 ghost use Rattle.liq_liquidation.specs.One.{struck_books};
 
 use crate::one::{One, Victim};
@@ -34,8 +35,8 @@ pub fn apply_one(
     stability: &mut Stability,
 )
     requires planned { IsPlannedOn (books_kept troves.old pools.old) stability.old.words.total victim.now }
-    requires within { StayWithin victim.now (wallet_in wallets.old.rows liquidator) (surplus_in surplus.old.rows victim.now.account) pools.old stability.old.words.coll }
-    requires room { HasRoomFor victim.now liquidator wallets.old surplus.old stability.old }
+    requires within { StayWithin victim.now (wallet_in wallets.old.rows liquidator) (surplus_in surplus.old.rows victim.now.account) pools.old stability.old.words }
+    requires room { HasRoomFor victim.now liquidator wallets.old surplus.old stability.old.spare }
     requires listed { IsSome (key_in order.old.entries victim.now.account) }
     ensures wallets { wallets.new.rows ≡ credited_in wallets.old.rows liquidator victim.now.one.gas RESERVE }
     ensures wallets_room { wallets.new.room ≡ wallets.old.room }
@@ -47,9 +48,9 @@ pub fn apply_one(
     ensures order { order.new.entries ≡ without_ranked order.old.entries victim.now.account }
     ensures order_room { order.new.room ≡ order.old.room + 1 }
     ensures words { stability.new.words ≡ words_left stability.old.words victim.now.one }
-    ensures finished { stability.new.finished ≡ finished_left stability.old.words stability.old.finished victim.now.one }
+    ensures finished { stability.new.finished ≡ finished_with stability.old.finished (finished_in stability.old.words victim.now.one) }
     ensures deposits { stability.new.deposits ≡ stability.old.deposits }
-    ensures spare { stability.old.spare ≤ stability.new.spare + 1 }
+    ensures spare { stability.new.spare + room_for (finished_in stability.old.words victim.now.one) ≡ stability.old.spare }
 {
     let one = &victim.one;
     take_out(victim.account, pools, troves);
