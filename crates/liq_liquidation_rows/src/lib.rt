@@ -2,4 +2,8 @@
 #![tactic(auto)]
 
 #[cfg(test)]
+mod lowest;
+#[cfg(test)]
 mod plans;
+#[cfg(test)]
+mod world;
