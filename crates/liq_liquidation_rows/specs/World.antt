@@ -1,7 +1,11 @@
 -- Small worlds: two or three troves, of the accounts from 1 on, as their owners opened them.
 use Rattle.std.specs.Prelude.{◌≡◌, ℕ, ◌+◌, ◌≤◌, ◌^◌, List, [], ◌∷◌}
 use Rattle.liq_types.specs.declared.figures.Trove.{Trove}
+use Rattle.liq_types.specs.declared.figures.Wallet.{Wallet}
 use Rattle.liq_types.specs.Tables.{Table}
+use Rattle.liq_tables.specs.WithRoom.{WithRoom, HasRoom}
+use Rattle.liq_ledger.specs.declared.pools.Pools.{Pools}
+use Rattle.liq_stability.specs.Kept as stability
 use Rattle.liq_troves.specs.declared.sums.Sums.{Sums}
 use Rattle.liq_troves.specs.Kept.{Kept}
 use Rattle.liq_order.specs.Listed.{Listed}
@@ -29,3 +33,15 @@ pub record IsSmall (own : ℕ × ℕ) : Type 0 where
   pub coll : own.0 ≤ 10 ^ 12
   pub least : 2000000000 ≤ own.1
   pub debt : own.1 ≤ 10 ^ 12
+
+-- What the call writes beside the troves, before it: nobody has anything but a depositor, and there is room.
+pub record AreOpened (wallets : WithRoom Wallet) (pools : Pools) (surplus : WithRoom ℕ) (pool : stability.Kept) : Type 0 where
+  pub wallets_are : wallets.rows ≡ []
+  pub liquidator : HasRoom wallets 3
+  pub surplus_is : surplus.rows ≡ []
+  pub owner : HasRoom surplus 1
+  pub pools_are : pools ≡ record { active_coll = 21100000000; active_debt = 8440000000; default_coll = 0; default_debt = 0; reserve = 400000000; surplus = 0; fee_coll = 0; fee_lusd = 40000000 }
+  pub coll : pool.words.coll ≡ 0
+  pub scale : pool.words.scale ≡ 0
+  pub epoch : pool.words.epoch ≡ 0
+  pub room : 1 ≤ pool.spare
