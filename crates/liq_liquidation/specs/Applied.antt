@@ -3,6 +3,8 @@ use Rattle.std.specs.Prelude.{◌≡◌, ℕ, ◌+◌, ◌-◌, ◌≤◌, ◌^�
 use Rattle.liq_types.specs.declared.amounts.TheConstants.{LIM, PRICE_LEAST, RESERVE}
 use Rattle.liq_types.specs.declared.figures.Market.{Market}
 use Rattle.liq_types.specs.declared.figures.Wallet.{Wallet}
+use Rattle.liq_types.specs.Payments.{credited_in, surplus_added_in}
+use Rattle.liq_types.specs.State.{State}
 use Rattle.liq_types.specs.Tables.{at}
 use Rattle.liq_tables.specs.WithRoom.{WithRoom, HasRoom}
 use Rattle.liq_ledger.specs.declared.pools.Pools.{Pools}
@@ -80,3 +82,15 @@ pools_left pools b one =
       fee_coll = pools.fee_coll;
       fee_lusd = pools.fee_lusd;
     }
+
+-- ---- in a state
+
+-- what of a state a liquidation changes beside the troves and the Stability Pool, and what stays
+pub record AreLeft (s after : State) (liquidator : ℕ) (v : Victim) : Type 0 where
+  pub wallets : after.wallets ≡ credited_in s.wallets liquidator v.one.gas RESERVE
+  pub reserve : after.reserve ≡ s.reserve - RESERVE
+  pub surplus : after.surplus ≡ s.surplus + v.one.surplus
+  pub surplus_rows : after.surplus_rows ≡ surplus_added_in s.surplus_rows v.account v.one.surplus
+  pub fee_coll : after.fee_coll ≡ s.fee_coll
+  pub fee_lusd : after.fee_lusd ≡ s.fee_lusd
+  pub deposits : after.deposits ≡ s.deposits
