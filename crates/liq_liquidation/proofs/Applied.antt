@@ -1,22 +1,22 @@
 -- What is known of a planned liquidation when it is made.
-use Rattle.std.proofs.Common.{◌≡◌, ℕ, ◌+◌, ◌-◌, ◌*◌, ◌≤◌, ◌<◌, Bool, true, false, cond, [], ◌∷◌, List, refl, ap, sym, ◌∙◌, subst, arith, nat_lt, Some, None, Option, length}
-use Rattle.std.specs.Prelude.{Result, Ok, Err, IsSome, is_some}
+use Rattle.std.proofs.Common.{◌≡◌, ℕ, ◌+◌, ◌*◌, ◌≤◌, false, cond, refl, ap, sym, ◌∙◌, subst, arith, nat_lt, Some, None, Option}
+use Rattle.std.specs.Prelude.{Ok}
 use Rattle.std.proofs.lemmas.Bool.Decides.{nat_tests}
-use Rattle.liq_types.specs.declared.amounts.TheConstants.{LIM, SUM_MOST, OFFSET_MOST}
+use Rattle.liq_types.specs.declared.amounts.TheConstants.{SUM_MOST, OFFSET_MOST}
 use Rattle.liq_types.specs.declared.figures.Market.{Market}
 use Rattle.liq_types.specs.declared.figures.Trove.{Trove}
 use Rattle.liq_types.specs.declared.replies.Refusal.TheVariants.{SumLimit}
 use Rattle.liq_types.specs.Rules.{first_refusal}
 use Rattle.liq_types.specs.Tables.{at, without}
 use Rattle.liq_troves.specs.declared.sums.Sums.{Sums}
-use Rattle.liq_troves.specs.Rows.{entire_by, pending, spread_rules, stakes_in, sum_after}
+use Rattle.liq_troves.specs.Rows.{pending, spread_rules, stakes_in, sum_after}
 use Rattle.liq_troves.specs.Standing.{Books, TrovesStand, lift, lifted_row}
 use Rattle.liq_troves.proofs.Standing.{trove_within, lift_stands}
 use Rattle.liq_liquidation.specs.declared.one.One.{One}
 use Rattle.liq_liquidation.specs.declared.one.Victim.{Victim}
 use Rattle.liq_liquidation.specs.Applied.{IsPlannedOn}
 use Rattle.liq_liquidation.specs.One.{one_in, one_by}
-use Rattle.liq_liquidation.proofs.Planned.{IsPlanned, planned}
+use Rattle.liq_liquidation.proofs.Planned.{planned}
 use Rattle.liq_liquidation.proofs.Struck.{Hold, stakes_left, others_stake}
 
 -- ---- a trove that leaves

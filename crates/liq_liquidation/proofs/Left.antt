@@ -1,29 +1,24 @@
 -- The parts of a state after a liquidation: what the call that makes it makes of each.
-use Rattle.std.proofs.Common.{◌≡◌, ℕ, ◌+◌, ◌-◌, ◌≤◌, Bool, true, false, cond, List, [], ◌∷◌, length, refl, ap, sym, ◌∙◌, subst, arith, Some, None, Option}
-use Rattle.std.specs.Prelude.{◌==◌, Result, Ok, Err}
-use Rattle.liq_types.specs.declared.amounts.TheConstants.{RESERVE}
+use Rattle.std.proofs.Common.{◌≡◌, ℕ, Bool, true, false, cond, length, refl, ap, ◌∙◌, Some, None, Option}
+use Rattle.std.specs.Prelude.{◌==◌, Ok}
 use Rattle.liq_types.specs.declared.figures.Trove.{Trove}
-use Rattle.liq_types.specs.declared.figures.Wallet.{Wallet}
-use Rattle.liq_types.specs.Image.{Place}
-use Rattle.liq_types.specs.Payments.{credited_in, surplus_added, surplus_added_in}
+use Rattle.liq_types.specs.Payments.{surplus_added}
 use Rattle.liq_types.specs.Product.{finished_sums}
-use Rattle.liq_types.specs.State.{State, TroveEntry, DepositEntry}
+use Rattle.liq_types.specs.State.{State, TroveEntry}
 use Rattle.liq_types.specs.Tables.{Table, at, without}
 use Rattle.liq_types.specs.WellFormed.{Ascends, AreFinished, IsPoolCovered, TrovesAreMarked}
-use Rattle.liq_types.specs.Ranked.{Ranked, without_ranked}
+use Rattle.liq_types.specs.Ranked.{without_ranked}
 use Rattle.liq_troves.specs.Own.{lifted_entry, redistributed, snapped}
-use Rattle.liq_troves.specs.Standing.{Books, books_of, lifted_row, snap, spread}
+use Rattle.liq_troves.specs.Standing.{Books, books_of, lifted_row}
 use Rattle.liq_troves.specs.StakeSums.{trove_rows, sums_words}
 use Rattle.liq_types.specs.Totals.{market_of, pool_total}
 use Rattle.liq_order.specs.Order.{trove_order, order_by}
 use Rattle.liq_stability.specs.Own.{offset}
 use Rattle.liq_stability.specs.Words.{pool_words, words_after, finished_by, finished_with}
-use Rattle.liq_stability.specs.declared.words.PoolWords.{PoolWords}
 use Rattle.liq_stability.proofs.Pool.{offset-words, offset-finishes}
-use Rattle.liq_liquidation.specs.declared.one.One.{One}
 use Rattle.liq_liquidation.specs.declared.one.Victim.{Victim}
 use Rattle.liq_liquidation.specs.Applied.{AreLeft, words_left, finished_in}
-use Rattle.liq_liquidation.specs.One.{one, one_in, struck, struck_books, rewarded, liquidated}
+use Rattle.liq_liquidation.specs.One.{one, one_in, struck_books, rewarded, liquidated}
 use Rattle.liq_liquidation.proofs.Leaving.{left_order}
 use Rattle.liq_liquidation.proofs.States.{books_struck}
 

@@ -1,11 +1,11 @@
 -- What is known of a liquidation that is not refused.
-use Rattle.std.proofs.Common.{◌≡◌, ℕ, ◌+◌, ◌-◌, ◌*◌, ◌≤◌, ◌<◌, Bool, true, false, cond, min, refl, ap, sym, ◌∙◌, subst, arith, nat_lt, nat_le, Some, None, Option, [], ◌∷◌, List}
-use Rattle.std.specs.Prelude.{◌&&◌, Result, Ok, Err}
+use Rattle.std.proofs.Common.{◌≡◌, ℕ, ◌-◌, ◌*◌, ◌≤◌, ◌<◌, Bool, true, false, cond, min, refl, subst, arith, nat_lt, nat_le, Some, None, Option, [], ◌∷◌, List}
+use Rattle.std.specs.Prelude.{◌&&◌, Ok}
 use Rattle.std.specs.List.{AllByRecursion}
-use Rattle.std.proofs.Math.Nat.{mul-le-mul_left, div-le_of_le-mul, div-mul-le_self, div-le_self, le_of_mul-le-mul_right}
+use Rattle.std.proofs.Math.Nat.{mul-le-mul_left, div-mul-le_self, le_of_mul-le-mul_right}
 use Rattle.std.proofs.lemmas.Bool.Decides.{nat_tests}
 use Rattle.liq_num.specs.Quotient.{floor_of}
-use Rattle.liq_types.specs.declared.amounts.TheConstants.{MCR, GAS_PART, CAP_WORTH, OFFSET_MOST, PRICE_LEAST, SUM_MOST}
+use Rattle.liq_types.specs.declared.amounts.TheConstants.{MCR, CAP_WORTH, OFFSET_MOST, PRICE_LEAST, SUM_MOST}
 use Rattle.liq_types.specs.declared.figures.Market.{Market}
 use Rattle.liq_types.specs.declared.figures.Trove.{Trove}
 use Rattle.liq_types.specs.declared.replies.Refusal.{Refusal}
@@ -15,7 +15,7 @@ use Rattle.liq_types.proofs.Rounding.{offset_worth}
 use Rattle.liq_troves.specs.Rows.{entire_by, sum_after}
 use Rattle.liq_troves.specs.declared.sums.Sums.{Sums}
 use Rattle.liq_liquidation.specs.declared.one.One.{One}
-use Rattle.liq_liquidation.specs.One.{Treatment, Plain, Redistributed, Capped, Kept, treatment, treated, gas_of, cap_of, plain, capped, is_capped, is_kept, without_stake, one_rules, one_by, one_total_coll, one_total_debt}
+use Rattle.liq_liquidation.specs.One.{Treatment, Plain, Redistributed, Capped, Kept, treatment, treated, gas_of, cap_of, plain, capped, is_capped, without_stake, one_rules, one_by, one_total_coll, one_total_debt}
 use Rattle.liq_liquidation.proofs.Parts.{parts_coll, parts_debt}
 
 -- ---- no rule refuses

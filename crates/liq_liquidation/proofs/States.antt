@@ -1,6 +1,6 @@
 -- The lowest troves of a state are those of its moment.
-use Rattle.std.proofs.Common.{◌≡◌, ℕ, zero, suc, ◌+◌, ◌-◌, ◌≤◌, ◌<◌, Bool, true, false, cond, List, [], ◌∷◌, length, refl, ap, sym, ◌∙◌, subst, arith, Some, None, Option}
-use Rattle.std.specs.Prelude.{◌≢◌, ◌==◌, option_map, nat_le, Result, Ok, Err}
+use Rattle.std.proofs.Common.{◌≡◌, ℕ, zero, suc, ◌+◌, ◌-◌, Bool, true, false, cond, List, [], ◌∷◌, length, refl, ap, sym, ◌∙◌, subst, arith, Some, None, Option}
+use Rattle.std.specs.Prelude.{◌==◌, nat_le, Result, Ok, Err}
 use Rattle.std.proofs.lemmas.Bool.Decides.{nat_tests}
 use Rattle.std.proofs.lemmas.List.{length-map}
 use Rattle.std.proofs.lemmas.List.Sorted.{length_permutation}
@@ -11,13 +11,13 @@ use Rattle.liq_types.specs.declared.replies.Refusal.TheVariants.{LastTrove}
 use Rattle.liq_types.specs.Payments.{surplus_added}
 use Rattle.liq_types.specs.Rules.{Rule, first_refusal, outcome, last_trove_stays}
 use Rattle.liq_types.specs.State.{State, TroveEntry}
-use Rattle.liq_types.specs.Tables.{Table, at, without}
+use Rattle.liq_types.specs.Tables.{Table, at}
 use Rattle.liq_types.specs.Totals.{market_of, pool_total, total_coll, total_debt, trove_count, stakes_of}
 use Rattle.liq_types.specs.WellFormed.{IsMoment, TrovesAreMarked}
-use Rattle.liq_types.proofs.MapRows.{at-map, map-length, all-without, all-weaken}
-use Rattle.liq_troves.specs.Own.{lifted, lifted_entry, redistributed, snapped}
+use Rattle.liq_types.proofs.MapRows.{map-length, all-without, all-weaken}
+use Rattle.liq_troves.specs.Own.{lifted_entry, redistributed, snapped}
 use Rattle.liq_troves.specs.Rows.{entire_by, key_by}
-use Rattle.liq_troves.specs.Standing.{Books, TrovesStand, books_of, lift, spread, snap}
+use Rattle.liq_troves.specs.Standing.{Books, TrovesStand, books_of, spread, snap}
 use Rattle.liq_troves.specs.StakeSums.{trove_row, trove_rows, sums_words}
 use Rattle.liq_troves.proofs.BooksOf.{lift_books, spread_books, snap_books}
 use Rattle.liq_order.specs.Order.{last_trove, last_account, order_by, ranks, Ranked}
@@ -26,9 +26,9 @@ use Rattle.liq_stability.specs.Own.{offset}
 use Rattle.liq_stability.proofs.Pool.{offset-total, moment-more, length-more}
 use Rattle.liq_liquidation.specs.declared.one.One.{One}
 use Rattle.liq_liquidation.specs.declared.one.Victim.{Victim}
-use Rattle.liq_liquidation.specs.Lowest.{lowest, lowest_plan, lowest_rules, next_victim, victim_at, victim_by, refusal_of, first_of_lowest}
+use Rattle.liq_liquidation.specs.Lowest.{lowest, lowest_plan, next_victim, victim_at, victim_by, refusal_of, first_of_lowest}
 use Rattle.liq_liquidation.specs.Moment.{Moment, moment_of, moment_after, with_account, victim_from, next_at, lowest_from, plan_from, TrovesAreSound}
-use Rattle.liq_liquidation.specs.One.{one, one_in, one_by, one_rules, treated, treatment, without_stake, struck, struck_books, offset_if_any}
+use Rattle.liq_liquidation.specs.One.{one, one_in, one_by, one_rules, treated, treatment, without_stake, struck, struck_books}
 use Rattle.liq_liquidation.proofs.Planned.{IsPlanned, planned}
 use Rattle.liq_liquidation.proofs.Struck.{Hold, moment_with, left_market, struck_hold, after_is, rows_left}
 use Rattle.liq_liquidation.proofs.Walking.{Found, found, last_has_row, no_end}

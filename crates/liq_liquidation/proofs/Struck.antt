@@ -1,32 +1,20 @@
 -- What a liquidation leaves of sound troves is sound: in their books, from moment to moment, and in a state.
-use Rattle.std.proofs.Common.{◌≡◌, ℕ, zero, suc, ◌+◌, ◌-◌, ◌*◌, ◌≤◌, ◌<◌, Bool, true, false, cond, List, [], ◌∷◌, ◌++◌, length, refl, ap, sym, ◌∙◌, subst, arith, Some, None, Option}
-use Rattle.std.specs.Prelude.{◌==◌, option_map, Result, Ok, Err}
-use Rattle.std.proofs.lemmas.Bool.Decides.{nat_tests}
+use Rattle.std.proofs.Common.{◌≡◌, ℕ, ◌+◌, ◌-◌, ◌*◌, ◌≤◌, length, refl, ap, sym, ◌∙◌, subst, arith, Some, Option}
+use Rattle.std.specs.Prelude.{Ok}
 use Rattle.liq_types.specs.declared.amounts.TheConstants.{ONE, LIM, SUM_MOST}
 use Rattle.liq_types.specs.declared.figures.Market.{Market}
 use Rattle.liq_types.specs.declared.figures.Trove.{Trove}
-use Rattle.liq_types.specs.Payments.{surplus_added}
-use Rattle.liq_types.specs.State.{State, TroveEntry, Redistribution}
-use Rattle.liq_types.specs.Tables.{Table, at, without}
-use Rattle.liq_types.specs.Totals.{market_of, pool_total, total_coll, total_debt}
-use Rattle.liq_types.specs.WellFormed.{IsMoment, TrovesAreMarked}
-use Rattle.liq_types.proofs.MapRows.{at-map, map-length, all-without, all-weaken}
-use Rattle.liq_troves.specs.Own.{lifted, lifted_entry, redistributed, snapped}
-use Rattle.liq_troves.specs.Rows.{entire_by, pending, stakes_in, sum_after, sums_spread, sums_snapped}
-use Rattle.liq_troves.specs.Standing.{Books, TrovesStand, books_of, lifted_row, lift, spread, snap, added_up, coll_due, debt_due}
-use Rattle.liq_troves.specs.StakeSums.{trove_row, trove_rows}
+use Rattle.liq_types.specs.Tables.{at, without}
+use Rattle.liq_troves.specs.Rows.{pending, stakes_in, sum_after, sums_spread, sums_snapped}
+use Rattle.liq_troves.specs.Standing.{Books, TrovesStand, lifted_row, lift, spread, snap, added_up, coll_due, debt_due}
 use Rattle.liq_troves.proofs.Added.{sum_taken}
-use Rattle.liq_troves.proofs.BooksOf.{lift_books, spread_books, snap_books}
 use Rattle.liq_troves.proofs.Kept.{count_taken}
 use Rattle.liq_troves.proofs.Standing.{trove_within, entire_within, lift_stands, spread_stands, snap_stands, some_stake}
-use Rattle.liq_stability.specs.Own.{offset}
-use Rattle.liq_stability.proofs.Pool.{offset-total, moment-more}
-use Rattle.liq_liquidation.specs.declared.figures.Figures.{Figures}
 use Rattle.liq_liquidation.specs.declared.one.One.{One}
 use Rattle.liq_liquidation.specs.declared.one.Victim.{Victim}
-use Rattle.liq_liquidation.specs.Given.{IsMarket, IsTroveOf, IsStruckOf}
-use Rattle.liq_liquidation.specs.Moment.{Moment, moment_of, moment_after, figures_after, books_at, IsSoundMoment, TrovesAreSound}
-use Rattle.liq_liquidation.specs.One.{one_by, one_total_coll, one_total_debt, struck, struck_books, offset_if_any}
+use Rattle.liq_liquidation.specs.Given.{IsMarket, IsStruckOf}
+use Rattle.liq_liquidation.specs.Moment.{Moment, moment_after, books_at, IsSoundMoment}
+use Rattle.liq_liquidation.specs.One.{one_by, struck_books}
 use Rattle.liq_liquidation.proofs.Planned.{IsPlanned, planned}
 
 -- ---- books

@@ -1,27 +1,25 @@
 -- The walk along the order from its end: after each victim the troves that are left are a beginning of the list.
-use Rattle.std.proofs.Common.{◌≡◌, ℕ, zero, suc, ◌+◌, ◌-◌, ◌≤◌, ◌<◌, Bool, true, false, cond, List, [], ◌∷◌, ◌++◌, length, map, refl, ap, sym, ◌∙◌, subst, arith, Some, None, Option, inl, inr, append_assoc, append-nil}
-use Rattle.std.specs.Prelude.{◌≢◌, ◌⊎◌, ◌==◌, not, reverse, find, option_map, is_some, Result, Ok, Err, IfSome, IsSome}
-use Rattle.std.specs.List.{AllByRecursion}
+use Rattle.std.proofs.Common.{◌≡◌, ℕ, zero, suc, ◌+◌, ◌-◌, ◌≤◌, ◌<◌, Bool, true, false, cond, List, [], ◌∷◌, ◌++◌, length, map, refl, ap, sym, ◌∙◌, subst, arith, Some, None, Option, append_assoc, append-nil}
+use Rattle.std.specs.Prelude.{◌≢◌, ◌==◌, not, find, option_map, is_some, Result, Ok, Err, IfSome, IsSome}
 use Rattle.std.proofs.lemmas.Bool.Decides.{nat_tests}
 use Rattle.std.proofs.lemmas.List.{reverse-append}
 use Rattle.std.proofs.lemmas.List.Elements.{filter-append}
-use Rattle.liq_types.specs.declared.figures.Market.{Market}
 use Rattle.liq_types.specs.declared.figures.Trove.{Trove}
 use Rattle.liq_types.specs.declared.replies.Refusal.{Refusal}
-use Rattle.liq_types.specs.Ranked.{Ranked, key_in, without_ranked, before_in, after_account, first_of, from_last, last_account}
+use Rattle.liq_types.specs.Ranked.{Ranked, key_in, without_ranked, before_in, first_of, last_account}
 use Rattle.liq_types.specs.Tables.{Table, at, without}
 use Rattle.liq_types.proofs.Lookups.{at-without_other}
 use Rattle.liq_troves.specs.Rows.{stakes_in}
 use Rattle.liq_order.specs.Listed.{IsAbsent, AreDistinct}
 use Rattle.liq_order.specs.Order.{order_by}
-use Rattle.liq_order.proofs.Found.{IsAt, before_found}
+use Rattle.liq_order.proofs.Found.{before_found}
 use Rattle.liq_liquidation.specs.declared.figures.Figures.{Figures}
 use Rattle.liq_liquidation.specs.declared.one.One.{One}
 use Rattle.liq_liquidation.specs.declared.one.Victim.{Victim}
 use Rattle.liq_liquidation.specs.Given.{IsStruckOf}
 use Rattle.liq_liquidation.specs.Moment.{Moment, moment_after, figures_after, victim_from, with_account, next_at, lowest_from, plan_from, books_at, IsSoundMoment}
 use Rattle.liq_liquidation.specs.One.{one_by, one_in}
-use Rattle.liq_liquidation.proofs.Leaving.{left_order, order_absent, order_distinct}
+use Rattle.liq_liquidation.proofs.Leaving.{left_order, order_absent}
 use Rattle.liq_liquidation.proofs.Struck.{sound_after, stakes_left, struck_of, held}
 
 -- ---- lists with each account once

@@ -1,5 +1,5 @@
 -- A planned liquidation on what is kept: on what it was planned, what must have room, and what it makes of each part.
-use Rattle.std.specs.Prelude.{◌≡◌, ℕ, ◌+◌, ◌-◌, ◌≤◌, ◌^◌, ◌==◌, Option, None, Result, Ok, length, if◌then◌else◌}
+use Rattle.std.specs.Prelude.{◌≡◌, ℕ, ◌+◌, ◌-◌, ◌≤◌, ◌^◌, ◌==◌, Option, None, Ok, length, if◌then◌else◌}
 use Rattle.liq_types.specs.declared.amounts.TheConstants.{LIM, PRICE_LEAST, RESERVE}
 use Rattle.liq_types.specs.declared.figures.Market.{Market}
 use Rattle.liq_types.specs.declared.figures.Wallet.{Wallet}

@@ -1,5 +1,5 @@
 -- What holds of what the calls are given, in every sound state.
-use Rattle.std.specs.Prelude.{ℕ, ◌≤◌, ◌<◌, ◌^◌}
+use Rattle.std.specs.Prelude.{◌≤◌, ◌<◌, ◌^◌}
 use Rattle.liq_types.specs.declared.amounts.TheConstants.{PRICE_MOST, SUM_MOST}
 use Rattle.liq_types.specs.declared.figures.Market.{Market}
 use Rattle.liq_types.specs.declared.figures.Trove.{Trove}

@@ -24,11 +24,7 @@ pub(crate) struct Figures {
 impl Figures {
     /// Liquidates the trove of an account, the last of the list, and goes on to the moment after it. Where there is no
     /// account, or the trove may not be liquidated, it says why and stays.
-    pub(crate) fn strike(
-        &mut self,
-        troves: &Troves,
-        last: Option<u32>,
-    ) -> Result<Victim, Refusal>
+    pub(crate) fn strike(&mut self, troves: &Troves, last: Option<u32>) -> Result<Victim, Refusal>
         requires market { IsMarket self.old.market }
         requires trove { (account : ℕ) → last ≡ Some account → IfSome (at troves.now.table.rows account) (IsStruckOf self.old) }
         ensures answer { result ≡ victim_from self.old troves.now.table.rows last }

@@ -18,12 +18,7 @@ use std::cmp::Ordering;
 /// What becomes of a trove, of all troves that the market counts and the sums are of, where the Stability Pool has so much
 /// LUSD (micro-LUSD). Refused, in this order: `LastTrove`; `NotLiquidatable`, by the mode and the trove's own ratio;
 /// `PoolTooSmall`, where the pool would take over all; `SumLimit`, where the other troves would take over too much.
-pub fn plan_one(
-    m: &Market,
-    sums: &Sums,
-    trove: &Trove,
-    pool_total: u64,
-) -> Result<One, Refusal>
+pub fn plan_one(m: &Market, sums: &Sums, trove: &Trove, pool_total: u64) -> Result<One, Refusal>
     requires market { IsMarket m.now }
     requires trove { IsTroveOf m.now sums.now trove.now }
     ensures { result ≡ rules.one_by m.now sums.now trove.now pool_total }

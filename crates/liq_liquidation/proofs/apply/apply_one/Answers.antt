@@ -1,5 +1,4 @@
-use Rattle.std.proofs.Common.{ℕ, ap, subst, sym, arith}
-use Rattle.liq_troves.specs.Standing.{Books, TrovesStand, lift}
+use Rattle.std.proofs.Common.{arith}
 use Rattle.liq_liquidation.specs.Applied.{books_kept}
 use Rattle.liq_liquidation.proofs.Applied.{due}
 use Rattle.liq_liquidation.proofs.apply.apply_one.Goals as goal

@@ -1,4 +1,4 @@
-use Rattle.std.proofs.Common.{sym, ap, subst, ◌∙◌, arith, ◌+◌, List, [], ◌∷◌, ◌++◌}
+use Rattle.std.proofs.Common.{sym, ap, subst, ◌∙◌, ◌+◌, List, [], ◌∷◌, ◌++◌}
 use Rattle.liq_types.specs.Ranked.{Ranked, last_account}
 use Rattle.liq_order.specs.Listed.{AreDistinct}
 use Rattle.liq_liquidation.specs.declared.one.Victim.{Victim}

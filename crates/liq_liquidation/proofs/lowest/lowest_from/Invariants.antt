@@ -1,4 +1,3 @@
-use Rattle.std.proofs.Common.{◌≡◌}
 use Rattle.liq_liquidation.proofs.Walking.{Reached}
 use Rattle.liq_liquidation.proofs.lowest.lowest_from.Given as goal
 
