@@ -17,10 +17,13 @@ use std::sync::ledger::{Blank, Ledger};
 use std::test::Fail;
 
 const FIRST: (u64, u64) = (8_440_000_000, 4_220_000_000);
+
 const SECOND: (u64, u64) = (12_660_000_000, 4_220_000_000);
 
 const OWNER: u32 = 1;
+
 const DEPOSITOR: u32 = 2;
+
 const LIQUIDATOR: u32 = 3;
 
 /// A price, and what is left by the liquidation of the first trove at it.
@@ -200,13 +203,26 @@ fn check_case<R: Abort, L: Ledger>(rt: &R, alloc: Global, case: &Case, steps: &m
 }
 
 fn check_homes<R: Abort>(rt: &R, homes: &Homes, case: &Case) {
-    assert!(rt; homes.wallets.read(LIQUIDATOR) == case.liquidator, "at {}", case.price);
+    assert!(rt;
+        homes.wallets.read(LIQUIDATOR) == case.liquidator,
+        "at {}",
+        case.price
+    );
     assert!(rt; homes.wallets.read(OWNER) == Wallet { coll: 0, lusd: 0 });
     assert!(rt; homes.pools == case.pools, "at {}", case.price);
-    assert!(rt; homes.surplus.read(OWNER) == case.pools.surplus, "at {}", case.price);
+    assert!(rt;
+        homes.surplus.read(OWNER) == case.pools.surplus,
+        "at {}",
+        case.price
+    );
     let words = homes.stability.words();
     assert!(rt; (words.total, words.coll) == case.pool, "at {}", case.price);
-    assert!(rt; homes.stability.deposit(DEPOSITOR).is_some_and(|d| d.amount == case.deposit));
+    assert!(rt;
+        homes
+            .stability
+            .deposit(DEPOSITOR)
+            .is_some_and(|d| d.amount == case.deposit)
+    );
 }
 
 fn check_world<R: Abort>(rt: &R, world: &World, case: &Case) {
@@ -218,7 +234,11 @@ fn check_world<R: Abort>(rt: &R, world: &World, case: &Case) {
     assert!(rt; (sums.coll, sums.debt) == case.sums, "at {}", case.price);
     assert!(rt; sums.stakes == SECOND.0);
     let coll = case.pools.active_coll.wrapping_add(case.pools.default_coll);
-    assert!(rt; (sums.snap_stakes, sums.snap_coll) == (SECOND.0, coll), "at {}", case.price);
+    assert!(rt;
+        (sums.snap_stakes, sums.snap_coll) == (SECOND.0, coll),
+        "at {}",
+        case.price
+    );
 }
 
 fn check_on<R: Abort, L: Ledger>(rt: &R, alloc: Global, blank: Blank)

@@ -57,7 +57,10 @@ struct Two {
 // Of two troves one stays, so at most the second of the list is taken.
 const TWO: [Two; 4] = [
     Two {
-        troves: [(8_440_000_000, 4_220_000_000), (12_660_000_000, 4_220_000_000)],
+        troves: [
+            (8_440_000_000, 4_220_000_000),
+            (12_660_000_000, 4_220_000_000),
+        ],
         price: 560_000_000,
         pool: 4_220_000_000,
         n: 5,
@@ -71,7 +74,10 @@ const TWO: [Two; 4] = [
         }),
     },
     Two {
-        troves: [(8_440_000_000, 4_220_000_000), (12_660_000_000, 4_220_000_000)],
+        troves: [
+            (8_440_000_000, 4_220_000_000),
+            (12_660_000_000, 4_220_000_000),
+        ],
         price: 500_000_000,
         pool: 4_000_000_000,
         n: 64,
@@ -85,7 +91,10 @@ const TWO: [Two; 4] = [
         }),
     },
     Two {
-        troves: [(8_440_000_000, 4_220_000_000), (12_660_000_000, 4_220_000_000)],
+        troves: [
+            (8_440_000_000, 4_220_000_000),
+            (12_660_000_000, 4_220_000_000),
+        ],
         price: 550_000_000,
         pool: 4_219_999_999,
         n: 1,
@@ -95,7 +104,10 @@ const TWO: [Two; 4] = [
         }),
     },
     Two {
-        troves: [(8_440_000_000, 4_220_000_000), (12_660_000_000, 4_220_000_000)],
+        troves: [
+            (8_440_000_000, 4_220_000_000),
+            (12_660_000_000, 4_220_000_000),
+        ],
         price: 1_000_000_000,
         pool: 4_220_000_000,
         n: 64,
@@ -115,7 +127,13 @@ fn lowest_of_two<R: Abort, L: Ledger>(
     case: &Two,
     steps: &mut Steps<L>,
 ) -> Result<Vec<Victim>, LowestFault> {
-    let Two { troves, price, pool: total, n, .. } = *case;
+    let Two {
+        troves,
+        price,
+        pool: total,
+        n,
+        ..
+    } = *case;
     let [first, second] = troves;
     assert!(rt; is_small(first), "{} {}", first.0, first.1);
     assert!(rt; is_small(second), "{} {}", second.0, second.1);
@@ -132,8 +150,16 @@ fn check_two<R: Abort, L: Ledger>(rt: &R, alloc: Global, case: &Two, steps: &mut
     match lowest_of_two(rt, alloc, case, steps) {
         Ok(victims) => {
             assert!(rt; victims.len() == 1, "{}", victims.len());
-            assert!(rt; victims.first().map(|v| v.account) == Some(1), "{}", case.price);
-            assert!(rt; victims.first().map(|v| Ok(v.one)) == Some(case.want), "{}", case.price);
+            assert!(rt;
+                victims.first().map(|v| v.account) == Some(1),
+                "{}",
+                case.price
+            );
+            assert!(rt;
+                victims.first().map(|v| Ok(v.one)) == Some(case.want),
+                "{}",
+                case.price
+            );
         }
         Err(LowestFault::No(refusal)) => assert!(rt; Err(refusal) == case.want, "{}", case.price),
         Err(LowestFault::NoMemory) => panic!(rt; "no memory"),
@@ -308,7 +334,12 @@ fn lowest_of_three<R: Abort, L: Ledger>(
     case: &Three,
     steps: &mut Steps<L>,
 ) -> Result<Vec<Victim>, LowestFault> {
-    let Three { troves, pool: total, n, .. } = *case;
+    let Three {
+        troves,
+        pool: total,
+        n,
+        ..
+    } = *case;
     let [first, second, third] = troves;
     assert!(rt; is_small(first), "{} {}", first.0, first.1);
     assert!(rt; is_small(second), "{} {}", second.0, second.1);
@@ -317,7 +348,12 @@ fn lowest_of_three<R: Abort, L: Ledger>(
     let Ok(world) = three(alloc, first, second, third, steps) else {
         return Err(LowestFault::NoMemory);
     };
-    let m = market(1_000_000_000, first.0 + second.0 + third.0, first.1 + second.1 + third.1, 3);
+    let m = market(
+        1_000_000_000,
+        first.0 + second.0 + third.0,
+        first.1 + second.1 + third.1,
+        3,
+    );
     plan_lowest(alloc, &m, &world.troves, &world.order, &pool(total), n)
 }
 

@@ -275,8 +275,15 @@ const CASES: [Case; 17] = [
 fn plan<R: Abort>(rt: &R, case: &Case, sum_coll: u128, sum_debt: u128) -> Result<One, Refusal> {
     let (coll, debt) = case.trove;
     let (total_coll, total_debt) = case.totals;
-    assert!(rt; case.price >= 1 && case.price <= 1_000_000_000_000, "{}", case.price);
-    assert!(rt; sum_coll <= SUM_MOST && sum_debt <= SUM_MOST, "{sum_coll} {sum_debt}");
+    assert!(rt;
+        case.price >= 1 && case.price <= 1_000_000_000_000,
+        "{}",
+        case.price
+    );
+    assert!(rt;
+        sum_coll <= SUM_MOST && sum_debt <= SUM_MOST,
+        "{sum_coll} {sum_debt}"
+    );
     assert!(rt; coll < u64::MAX, "{coll}");
     let m = Market {
         price: case.price,
@@ -307,7 +314,12 @@ fn plan<R: Abort>(rt: &R, case: &Case, sum_coll: u128, sum_debt: u128) -> Result
 #[test]
 fn treatments(rt: HostRuntime) -> Result<(), Fail> {
     for case in CASES {
-        assert!(rt; plan(&rt, &case, 0, 0) == case.want, "at {} {}", case.price, case.pool);
+        assert!(rt;
+            plan(&rt, &case, 0, 0) == case.want,
+            "at {} {}",
+            case.price,
+            case.pool
+        );
     }
     Ok(())
 }
@@ -334,10 +346,19 @@ fn sum_limits(rt: HostRuntime) -> Result<(), Fail> {
     let step = 1_000_000_000_000_000_000_000_000_000_000_000_000;
     assert_eq!(rt; plan(&rt, &GREAT, SUM_MOST - step, 0), GREAT.want);
     let sum = SUM_MOST + step;
-    assert_eq!(rt; plan(&rt, &GREAT, SUM_MOST, 0), Err(Refusal::SumLimit { sum }));
+    assert_eq!(rt;
+        plan(&rt, &GREAT, SUM_MOST, 0),
+        Err(Refusal::SumLimit { sum })
+    );
     // Where both sums would pass their limit, the collateral's is told.
-    assert_eq!(rt; plan(&rt, &GREAT, SUM_MOST, SUM_MOST), Err(Refusal::SumLimit { sum }));
+    assert_eq!(rt;
+        plan(&rt, &GREAT, SUM_MOST, SUM_MOST),
+        Err(Refusal::SumLimit { sum })
+    );
     let sum = SUM_MOST + step / 5;
-    assert_eq!(rt; plan(&rt, &GREAT, 0, SUM_MOST), Err(Refusal::SumLimit { sum }));
+    assert_eq!(rt;
+        plan(&rt, &GREAT, 0, SUM_MOST),
+        Err(Refusal::SumLimit { sum })
+    );
     Ok(())
 }

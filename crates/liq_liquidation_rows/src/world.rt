@@ -91,8 +91,6 @@ fn add<L: Ledger>(
         mark_coll: 0,
         mark_debt: 0,
     };
-    world
-        .order
-        .insert(key(&opened), account, &NO_HINT, steps);
+    world.order.insert(key(&opened), account, &NO_HINT, steps);
     Ok(())
 }

@@ -1,4 +1,4 @@
-use Rattle.std.proofs.Common.{rules, ℕ, ap, ◌∙◌, refl, arith}
+use Rattle.std.proofs.Common.{rules, ap, ◌∙◌, refl, arith}
 use Rattle.liq_stability.specs.Kept.{words_owned}
 use Rattle.liq_stability.specs.declared.words.PoolWords.{PoolWords}
 use Rattle.liq_liquidation_rows.proofs.applied.opened.Goals as goal
