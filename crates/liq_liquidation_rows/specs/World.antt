@@ -1,5 +1,5 @@
 -- Small worlds: two or three troves, of the accounts from 1 on, as their owners opened them.
-use Rattle.std.specs.Prelude.{◌≡◌, ℕ, ◌+◌, ◌≤◌, ◌^◌, List, [], ◌∷◌}
+use Rattle.std.specs.Prelude.{◌≡◌, ℕ, ◌≤◌, ◌^◌, []}
 use Rattle.liq_types.specs.declared.figures.Trove.{Trove}
 use Rattle.liq_types.specs.declared.figures.Wallet.{Wallet}
 use Rattle.liq_types.specs.Tables.{Table}
@@ -14,10 +14,6 @@ use Rattle.liq_order.specs.Order.{order_by}
 -- nothing is pending
 abbrev pub fresh : ℕ × ℕ → Trove
 fresh own = record { coll = own.0; debt = own.1; stake = own.0; mark_coll = 0; mark_debt = 0 }
-
-abbrev pub numbered : ℕ → List (ℕ × ℕ) → Table Trove
-numbered account [] = []
-numbered account (own ∷ more) = (account, fresh own) ∷ numbered (account + 1) more
 
 abbrev pub fresh_sums : ℕ → Sums
 fresh_sums stakes = record { coll = 0; debt = 0; stakes = stakes; snap_stakes = 0; snap_coll = 0 }

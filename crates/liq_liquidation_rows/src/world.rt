@@ -12,7 +12,6 @@ use liq_order::Order;
 use liq_troves::{Trove, Troves, key};
 use liq_types::{Hint, NoMemory, Steps};
 use std::alloc::Global;
-use std::process::Abort;
 use std::sync::ledger::Ledger;
 
 /// Troves and the list that has them in their order.
