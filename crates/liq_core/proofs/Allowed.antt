@@ -7,7 +7,7 @@ use Rattle.liq_types.specs.declared.replies.Done.{Done}
 use Rattle.liq_types.specs.declared.replies.Refusal.{Refusal}
 use Rattle.liq_types.specs.declared.replies.Refusal.TheVariants.{AmountZero, AmountLimit, ShortCollateral, ShortTokens, JournalFull}
 use Rattle.liq_types.specs.declared.requests.Call.{Call}
-use Rattle.liq_types.specs.declared.requests.Call.TheVariants.{Price, Advance, Fund, Take, Send, Open, Adjust, Close}
+use Rattle.liq_types.specs.declared.requests.Call.TheVariants.{Price, Advance, Fund, Take, Send, Open, Adjust, Close, Provide, Withdraw, GainToTrove, Claim}
 use Rattle.liq_types.specs.declared.requests.Command.{Command}
 use Rattle.liq_types.specs.Rules.{Rule, first_refusal, where_above}
 use Rattle.liq_core.specs.Image.{image}
@@ -18,6 +18,7 @@ use Rattle.liq_types.specs.Tables.{at}
 use Rattle.liq_types.specs.Totals.{market_of, or_nothing}
 use Rattle.liq_troves.specs.Own.{lifted_entry}
 use Rattle.liq_troves.specs.StakeSums.{entire_of}
+use Rattle.liq_stability.specs.Own.{owned}
 use Rattle.liq_borrow.specs.declared.change.Change.{Change}
 use Rattle.liq_borrow.specs.Borrowing.{adjusting_terms, closing_terms}
 use Rattle.liq_core.specs.Borrowing.{with_fee}
@@ -122,6 +123,10 @@ effect-records s (Close account) built =
     let terms = closing_terms (or_nothing (entire_of s account)) in
     let settled = credited (charged s account 0 terms.0) account terms.1 0 in
     lifted-records (record settled { reserve = settled.reserve - RESERVE }) account (at s.troves account)
+effect-records s (Provide account lusd) built = refl
+effect-records s (Withdraw account lusd) built = refl
+effect-records s (GainToTrove account hint) built = lifted-records (owned s account 0 0) account (at s.troves account)
+effect-records s (Claim account) built = refl
 effect-records s _ built = cc
 
 -- no built verb begins a new generation
@@ -134,4 +139,8 @@ built-rotates (Send from to lusd) built = refl
 built-rotates (Open account coll borrow bound hint) built = refl
 built-rotates (Adjust account coll_in coll_out borrow repay bound hint) built = refl
 built-rotates (Close account) built = refl
+built-rotates (Provide account lusd) built = refl
+built-rotates (Withdraw account lusd) built = refl
+built-rotates (GainToTrove account hint) built = refl
+built-rotates (Claim account) built = refl
 built-rotates _ built = cc

@@ -50,7 +50,7 @@ use Rattle.liq_core.proofs.Telling.{books_by}
 
 -- ---- images by their parts
 
-abbrev with_books : Image → Books → Image
+abbrev pub with_books : Image → Books → Image
 with_books i b =
     record i {
       sum_coll = b.sums.coll;
@@ -76,7 +76,7 @@ lifted_image s account = lifted_entry_image s account (at s.troves account) ∙ 
 placed_image : (s : State) (account coll debt : ℕ) → image (placed s account coll debt) ≡ with_books (image s) (place (books_of s) account coll debt)
 placed_image s account coll debt = ap (with_books (image s)) (place_books s account coll debt)
 
-set_image : (s : State) (account coll debt : ℕ) → image (set_trove s account coll debt) ≡ with_books (image s) (place (lift (books_of s) account) account coll debt)
+pub set_image : (s : State) (account coll debt : ℕ) → image (set_trove s account coll debt) ≡ with_books (image s) (place (lift (books_of s) account) account coll debt)
 set_image s account coll debt =
     let left = lifted s account in
     placed_image left account coll debt
@@ -84,11 +84,11 @@ set_image s account coll debt =
     ∙ ap (λ (b : Books). with_books (image s) (place b account coll debt)) (lift_books s account)
 
 -- an image with another rate, other pools and wallets beside other books
-abbrev with_parts : Image → Rate → ℕ → ℕ → ℕ → ℕ → Table Wallet → Books → Image
+abbrev pub with_parts : Image → Rate → ℕ → ℕ → ℕ → ℕ → Table Wallet → Books → Image
 with_parts i rate reserve surplus fee_coll fee_lusd wallets b =
     with_books (record i { base = rate.base; fee_minute = rate.minute; reserve = reserve; surplus = surplus; fee_coll = fee_coll; fee_lusd = fee_lusd; wallets = wallets }) b
 
-same_others : (i : Image) (rate : Rate) (old new : Pools) (wallets : Table Wallet) (b : Books) → SameOthers old new → with_parts i rate new.reserve new.surplus new.fee_coll new.fee_lusd wallets b ≡ with_parts i rate old.reserve old.surplus old.fee_coll old.fee_lusd wallets b
+pub same_others : (i : Image) (rate : Rate) (old new : Pools) (wallets : Table Wallet) (b : Books) → SameOthers old new → with_parts i rate new.reserve new.surplus new.fee_coll new.fee_lusd wallets b ≡ with_parts i rate old.reserve old.surplus old.fee_coll old.fee_lusd wallets b
 same_others i rate old new wallets b h =
     ap (λ n. with_parts i rate n new.surplus new.fee_coll new.fee_lusd wallets b) h.reserve
     ∙ ap (λ n. with_parts i rate old.reserve n new.fee_coll new.fee_lusd wallets b) h.surplus
@@ -112,13 +112,13 @@ pay_within t f wallets account coll lusd ascend is =
       omega (arith, lusds, had_lusd, lusd_is, homes.lusd, f.balanced.debt_limit),
     )
 
-charged-ascends : (wallets : Table Wallet) (account coll lusd : ℕ) → Ascends wallets → Ascends (charged_in wallets account coll lusd)
+pub charged-ascends : (wallets : Table Wallet) (account coll lusd : ℕ) → Ascends wallets → Ascends (charged_in wallets account coll lusd)
 charged-ascends wallets account coll lusd h = wallet-ascends wallets account (record { coll = (wallet_in wallets account).coll - coll; lusd = (wallet_in wallets account).lusd - lusd }) h
 
 -- ---- the books of a protocol
 
 module _ (p : Inside) (sound : IsSound p) where
-  books_are : books_of (state_of (core_of p)) ≡ kept_books p.pools p.troves
+  pub books_are : books_of (state_of (core_of p)) ≡ kept_books p.pools p.troves
   books_are = ap books_by (image_back (core_of p) sound.image)
 
   pub books_stand : TrovesStand (kept_books p.pools p.troves)
@@ -132,7 +132,7 @@ module _ (p : Inside) (sound : IsSound p) where
   pub debt_held : p.pools.active_debt + p.pools.default_debt ≤ LIM
   debt_held = (core_finds (core_of p) sound.image).balanced.debt_limit
 
-  rows_are : trove_rows (state_of (core_of p)) ≡ p.troves.table.rows
+  pub rows_are : trove_rows (state_of (core_of p)) ≡ p.troves.table.rows
   rows_are = ap (λ (i : Image). i.troves) (image_back (core_of p) sound.image)
 
   -- a protocol with a state's image is changed into it
@@ -245,12 +245,12 @@ module _ (p : Inside) (old : Core) (view : core_of p ≡ old) (sound : IsSound p
 -- ---- adjust
 
 -- a trove that is there
-there_row : (s : State) → Finds s → (account : ℕ) → entire_of s account ≡ Some (or_nothing (entire_of s account)) → IsSome (at (trove_rows s) account)
+pub there_row : (s : State) → Finds s → (account : ℕ) → entire_of s account ≡ Some (or_nothing (entire_of s account)) → IsSome (at (trove_rows s) account)
 there_row s f account e =
     let has = has_trove s account (or_nothing (entire_of s account)) f.stands e in
     subst (λ (o : Option Trove). IsSome o) (sym (at-map (trove_row s) s.troves account ∙ ap (option_map (trove_row s)) has.there)) refl
 
-no_longer_there : (b : Books) (account : ℕ) (o : Option Trove) → at b.troves account ≡ o → Ascends b.troves → at (lifted_row b account o).troves account ≡ None
+pub no_longer_there : (b : Books) (account : ℕ) (o : Option Trove) → at b.troves account ≡ o → Ascends b.troves → at (lifted_row b account o).troves account ≡ None
 no_longer_there b account None e a = e
 no_longer_there b account (Some t) e a = at-without_same b.troves account a
 
@@ -268,13 +268,13 @@ pub record MayAdjust (p : Inside) (account : ℕ) (change : Change) (plan : Plan
   pub active_debt : (lift (kept_books p.pools p.troves) account).active_debt + plan.debt ≤ LIM
 
 -- what is conserved of an image, within the limits
-record IsWithin (i : Image) : Type 0 where
-  coll : i.brought ≡ coll_homes i
-  lusd : i.active_debt + i.default_debt ≡ lusd_homes i
-  coll_limit : i.brought ≤ LIM
-  debt_limit : i.active_debt + i.default_debt ≤ LIM
+pub record IsWithin (i : Image) : Type 0 where
+  pub coll : i.brought ≡ coll_homes i
+  pub lusd : i.active_debt + i.default_debt ≡ lusd_homes i
+  pub coll_limit : i.brought ≤ LIM
+  pub debt_limit : i.active_debt + i.default_debt ≤ LIM
 
-within : (t : State) → Finds t → IsWithin (image t)
+pub within : (t : State) → Finds t → IsWithin (image t)
 within t f =
     record { coll = f.balanced.homes.coll; lusd = f.balanced.homes.lusd; coll_limit = f.balanced.coll_limit; debt_limit = f.balanced.debt_limit }
 

@@ -12,6 +12,7 @@ pub mod Begun
 pub mod Changing
 pub mod Conserving
 pub mod Counting
+pub mod Depositing
 pub mod Following
 pub mod Forecasting
 pub mod Histories
@@ -21,6 +22,7 @@ pub mod Moving
 pub mod Noting
 pub mod Opening
 pub mod Paying
+pub mod Pooling
 pub mod Ranking
 pub mod Reading
 pub mod Rows

@@ -18,8 +18,9 @@ use Rattle.liq_core.specs.Verbs.{rotates}
 use Rattle.liq_types.specs.State.{State, client_of}
 use Rattle.liq_types.specs.Totals.{market_of, or_nothing}
 use Rattle.liq_troves.specs.StakeSums.{entire_of}
+use Rattle.liq_stability.specs.Position.{gain_of}
 use Rattle.liq_borrow.specs.declared.change.Change.{Change}
-use Rattle.liq_borrow.specs.Borrowing.{opening_terms, adjusting_terms, closing_terms}
+use Rattle.liq_borrow.specs.Borrowing.{opening_terms, adjusting_terms, closing_terms, gaining_terms}
 use Rattle.liq_types.specs.Soundness.{IsSoundImage}
 use Rattle.liq_core.specs.Core.{Core, Changes, StandsFor, state_of}
 use Rattle.liq_core.specs.Queries.{next_number}
@@ -29,7 +30,7 @@ use Rattle.liq_core.specs.declared.turns.Terms.{Terms}
 use Rattle.liq_core.specs.Plan.{IsForecast, IsPlan, plan_of}
 use Rattle.liq_core.specs.Terms.{AreTerms, IsTrove, IsClosing}
 use Rattle.liq_core.proofs.AlikeFollowed.{call_events_alike, call_changes_alike}
-use Rattle.liq_core.proofs.AlikeReads.{Alike, market_alike, entire_alike}
+use Rattle.liq_core.proofs.AlikeReads.{Alike, market_alike, entire_alike, gain_alike}
 use Rattle.liq_core.proofs.AlikeReplies.{ruling_alike}
 use Rattle.liq_core.proofs.AlikeStep.{effect_alike, done_alike}
 use Rattle.liq_core.proofs.Allowed.{effect-records, none_first}
@@ -136,7 +137,10 @@ terms_alike h (Take account coll) terms are = are
 terms_alike h (Send from to lusd) terms are = are
 terms_alike h (Provide account lusd) terms are = are
 terms_alike h (Withdraw account lusd) terms are = are
-terms_alike h (GainToTrove account hint) terms are = are
+terms_alike {s} {t} h (GainToTrove account hint) terms are =
+    subst (λ (m : Market). IsTrove (gaining_terms m (or_nothing (entire_of s account)) (gain_of s account)) terms) (sym (market_alike h))
+    (subst (λ (o : Option (ℕ × ℕ)). IsTrove (gaining_terms (market_of t) (or_nothing o) (gain_of s account)) terms) (sym (entire_alike h account))
+    (subst (λ n. IsTrove (gaining_terms (market_of t) (or_nothing (entire_of t account)) n) terms) (sym (gain_alike h account)) are))
 terms_alike h (Liquidate liquidator account) terms are = are
 terms_alike h (LiquidateLowest liquidator count) terms are = are
 terms_alike h (Redeem account lusd bound hint) terms are = are

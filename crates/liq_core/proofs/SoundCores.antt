@@ -8,8 +8,9 @@ use Rattle.std.specs.Map.{values_of}
 use Rattle.std.specs.Ordering.{nat_cmp}
 use Rattle.std.proofs.lemmas.Bool.Decides.{nat_tests}
 use Rattle.std.proofs.lemmas.Map.Entries.{sum_by-remove_entry}
-use Rattle.liq_types.specs.declared.amounts.TheConstants.{LIM}
+use Rattle.liq_types.specs.declared.amounts.TheConstants.{LIM, P_OPENING}
 use Rattle.liq_types.specs.declared.figures.Client.{Client}
+use Rattle.liq_types.specs.declared.figures.Deposit.{Deposit}
 use Rattle.liq_types.specs.declared.figures.Trove.{Trove}
 use Rattle.liq_types.specs.declared.figures.Wallet.{Wallet}
 use Rattle.liq_types.specs.declared.requests.Call.{Call}
@@ -21,6 +22,7 @@ use Rattle.liq_types.specs.Tables.{Table, at}
 use Rattle.liq_types.specs.WellFormed.{IsBefore, AreFinished, stakes_in}
 use Rattle.liq_order.specs.Order.{order_by}
 use Rattle.liq_troves.specs.declared.sums.Sums.{Sums}
+use Rattle.liq_stability.specs.declared.words.PoolWords.{PoolWords}
 use Rattle.liq_core.specs.declared.engine.Protocol.TheInside.{Inside}
 use Rattle.liq_core.specs.Core.{Core, Changes, StandsFor, state_of}
 use Rattle.liq_core.specs.Image.{image}
@@ -58,14 +60,42 @@ opening_image_sound = record { rules = refl; tables = opening_tables }
 abbrev no_sums : Sums
 no_sums = record { coll = 0; debt = 0; stakes = 0; snap_stakes = 0; snap_coll = 0 }
 
+abbrev no_words : PoolWords
+no_words = record { p = P_OPENING; scale = 0; epoch = 0; sum = 0; total = 0; coll = 0 }
+
+abbrev kept_of : Table Wallet → Table Trove → Sums → PoolWords → List (Place × ℕ) → Table Deposit → Table ℕ → Table Client → Image
+kept_of wallets troves sums words finished deposits surplus clients =
+    record opening_image {
+      sum_coll = sums.coll;
+      sum_debt = sums.debt;
+      stakes = sums.stakes;
+      snap_stakes = sums.snap_stakes;
+      snap_coll = sums.snap_coll;
+      p = words.p;
+      scale = words.scale;
+      epoch = words.epoch;
+      sum = words.sum;
+      total = words.total;
+      pool_coll = words.coll;
+      wallets = wallets;
+      troves = troves;
+      surplus_rows = surplus;
+      finished = finished;
+      deposits = deposits;
+      clients = clients;
+    }
+
 -- what is kept of nothing is the opening image
-pub opened_image : (wallets : Table Wallet) (troves : Table Trove) (sums : Sums) (surplus : Table ℕ) (clients : Table Client) → wallets ≡ [] → troves ≡ [] → sums ≡ no_sums → surplus ≡ [] → clients ≡ [] → record opening_image { sum_coll = sums.coll; sum_debt = sums.debt; stakes = sums.stakes; snap_stakes = sums.snap_stakes; snap_coll = sums.snap_coll; wallets = wallets; troves = troves; surplus_rows = surplus; clients = clients } ≡ opening_image
-opened_image wallets troves sums surplus clients w t u s c =
-    ap (λ (ws : Table Wallet). record opening_image { sum_coll = sums.coll; sum_debt = sums.debt; stakes = sums.stakes; snap_stakes = sums.snap_stakes; snap_coll = sums.snap_coll; wallets = ws; troves = troves; surplus_rows = surplus; clients = clients }) w
-    ∙ ap (λ (ts : Table Trove). record opening_image { sum_coll = sums.coll; sum_debt = sums.debt; stakes = sums.stakes; snap_stakes = sums.snap_stakes; snap_coll = sums.snap_coll; troves = ts; surplus_rows = surplus; clients = clients }) t
-    ∙ ap (λ (us : Sums). record opening_image { sum_coll = us.coll; sum_debt = us.debt; stakes = us.stakes; snap_stakes = us.snap_stakes; snap_coll = us.snap_coll; surplus_rows = surplus; clients = clients }) u
-    ∙ ap (λ (ss : Table ℕ). record opening_image { surplus_rows = ss; clients = clients }) s
-    ∙ ap (λ (cs : Table Client). record opening_image { clients = cs }) c
+pub opened_image : (wallets : Table Wallet) (troves : Table Trove) (sums : Sums) (words : PoolWords) (finished : List (Place × ℕ)) (deposits : Table Deposit) (surplus : Table ℕ) (clients : Table Client) → wallets ≡ [] → troves ≡ [] → sums ≡ no_sums → words ≡ no_words → finished ≡ [] → deposits ≡ [] → surplus ≡ [] → clients ≡ [] → kept_of wallets troves sums words finished deposits surplus clients ≡ opening_image
+opened_image wallets troves sums words finished deposits surplus clients w t u p f d s c =
+    ap (λ (ws : Table Wallet). kept_of ws troves sums words finished deposits surplus clients) w
+    ∙ ap (λ (ts : Table Trove). kept_of [] ts sums words finished deposits surplus clients) t
+    ∙ ap (λ (us : Sums). kept_of [] [] us words finished deposits surplus clients) u
+    ∙ ap (λ (ps : PoolWords). kept_of [] [] no_sums ps finished deposits surplus clients) p
+    ∙ ap (λ (fs : List (Place × ℕ)). kept_of [] [] no_sums no_words fs deposits surplus clients) f
+    ∙ ap (λ (ds : Table Deposit). kept_of [] [] no_sums no_words [] ds surplus clients) d
+    ∙ ap (λ (ss : Table ℕ). kept_of [] [] no_sums no_words [] [] ss clients) s
+    ∙ ap (λ (cs : Table Client). kept_of [] [] no_sums no_words [] [] [] cs) c
 
 -- ---- the state that begins with a sound image
 

@@ -7,13 +7,16 @@ use Rattle.liq_types.specs.WellFormed.{IsWellFormed}
 use Rattle.liq_core.specs.Image.{image}
 use Rattle.liq_core.specs.Rules.{effect}
 
--- the keys of each table at which a row can be written without memory, and for how many more troves the list has room
+-- the keys of each table at which a row can be written without memory, and for how many more troves the list has room and
+-- for how many more finished sums the Stability Pool
 pub record Room : Type 0 where
   pub wallets : List ℕ
   pub troves : List ℕ
   pub surplus : List ℕ
+  pub deposits : List ℕ
   pub clients : List ℕ
   pub list : ℕ
+  pub finished : ℕ
 
 -- The image has no row that only keeps room.
 pub record Core : Type 0 where

@@ -15,7 +15,7 @@ use Rattle.liq_core.specs.Rules.{call_events, call_changes}
 use Rattle.liq_core.specs.Step.{Allowed, ruling, done_of}
 use Rattle.liq_core.specs.Terms.{AreTerms}
 use Rattle.liq_core.specs.Told.{events_in, changes_in}
-use Rattle.liq_core.specs.Verbs.{accounts, opens, built_call}
+use Rattle.liq_core.specs.Verbs.{accounts, opens, provides, built_call}
 
 -- a command that is allowed: its reply, what it makes of what it changes, and what others follow
 pub record Plan : Type 0 where
@@ -58,6 +58,7 @@ IsPlannedOn core plan = (s : State) → StandsFor core s → IsPlan s plan
 pub record HasRoom (core : Core) (plan : Plan) : Type 0 where
   pub wallets : AllByRecursion (λ account. Contains core.room.wallets account) (accounts plan.command.call)
   pub troves : AllByRecursion (λ account. Contains core.room.troves account) (opens plan.command.call)
+  pub deposits : AllByRecursion (λ account. Contains core.room.deposits account) (provides plan.command.call)
   pub list : length (opens plan.command.call) ≤ core.room.list
   pub client : Contains core.room.clients plan.command.client
 

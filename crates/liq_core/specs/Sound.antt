@@ -1,17 +1,15 @@
 -- What a protocol keeps, and what holds of every protocol.
 use Rattle.std.specs.Prelude.{◌≡◌, IsTrue}
 use Rattle.liq_types.specs.declared.figures.Client.{Client}
-use Rattle.liq_types.specs.Image.{opening_image}
 use Rattle.liq_types.specs.Soundness.{IsClientRow, IsSoundImage, is_sound_client}
 use Rattle.liq_order.specs.Order.{order_by}
 use Rattle.liq_core.specs.declared.engine.Protocol.TheInside.{Inside}
 use Rattle.liq_core.specs.Core.{Core}
 
--- what is not built yet is as at the opening
 abbrev pub core_of : Inside → Core
 core_of p =
     record {
-      image = record opening_image {
+      image = record {
         price = p.price;
         minute = p.minute;
         base = p.rate.base;
@@ -31,9 +29,17 @@ core_of p =
         stakes = p.troves.sums.stakes;
         snap_stakes = p.troves.sums.snap_stakes;
         snap_coll = p.troves.sums.snap_coll;
+        p = p.pool.words.p;
+        scale = p.pool.words.scale;
+        epoch = p.pool.words.epoch;
+        sum = p.pool.words.sum;
+        total = p.pool.words.total;
+        pool_coll = p.pool.words.coll;
         wallets = p.wallets.rows;
         troves = p.troves.table.rows;
         surplus_rows = p.surplus.rows;
+        finished = p.pool.finished;
+        deposits = p.pool.deposits.rows;
         clients = p.clients.rows;
       };
       records = p.records;
@@ -41,8 +47,10 @@ core_of p =
         wallets = p.wallets.room;
         troves = p.troves.table.room;
         surplus = p.surplus.room;
+        deposits = p.pool.deposits.room;
         clients = p.clients.room;
         list = p.order.room;
+        finished = p.pool.spare;
       };
     }
 

@@ -1,13 +1,14 @@
 -- What a planned call makes of what it changes, where its words alone do not say it.
 use Rattle.std.specs.Prelude.{◌≡◌, ℕ, Bool, true, false}
 use Rattle.liq_types.specs.declared.requests.Call.{Call}
-use Rattle.liq_types.specs.declared.requests.Call.TheVariants.{Open, Adjust, Close}
+use Rattle.liq_types.specs.declared.requests.Call.TheVariants.{Open, Adjust, Close, GainToTrove}
 use Rattle.liq_types.specs.State.{State}
 use Rattle.liq_types.specs.Totals.{market_of, or_nothing}
 use Rattle.liq_troves.specs.StakeSums.{entire_of}
+use Rattle.liq_stability.specs.Position.{gain_of}
 use Rattle.liq_borrow.specs.declared.change.Change.{Change}
 use Rattle.liq_borrow.specs.declared.change.Plan.{Plan}
-use Rattle.liq_borrow.specs.Borrowing.{opening_terms, adjusting_terms, closing_terms}
+use Rattle.liq_borrow.specs.Borrowing.{opening_terms, adjusting_terms, closing_terms, gaining_terms}
 use Rattle.liq_core.specs.declared.turns.Terms.{Terms}
 use Rattle.liq_core.specs.declared.turns.Terms.TheVariants.{Words, Trove, Closing}
 
@@ -34,5 +35,7 @@ AreTerms s (Open account coll borrow bound hint) terms = IsTrove (opening_terms 
 AreTerms s (Adjust account coll_in coll_out borrow repay bound hint) terms =
     let change : Change = record { coll_in = coll_in; coll_out = coll_out; borrow = borrow; repay = repay } in
     IsTrove (adjusting_terms (market_of s) (or_nothing (entire_of s account)) change) terms
+AreTerms s (GainToTrove account hint) terms =
+    IsTrove (gaining_terms (market_of s) (or_nothing (entire_of s account)) (gain_of s account)) terms
 AreTerms s (Close account) terms = IsClosing (closing_terms (or_nothing (entire_of s account))) terms
 AreTerms s call terms = terms ≡ Words

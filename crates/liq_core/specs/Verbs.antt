@@ -4,8 +4,6 @@ use Rattle.liq_types.specs.declared.hints.HintWords.{HintWords}
 use Rattle.liq_types.specs.declared.requests.Call.{Call}
 use Rattle.liq_types.specs.declared.requests.Call.TheVariants.{Price, Advance, Fund, Take, Send, Open, Adjust, Close, Provide, Withdraw, GainToTrove, Liquidate, LiquidateLowest, Redeem, Claim, Rotate}
 use Rattle.liq_types.specs.declared.requests.Command.{Command}
-use Rattle.liq_types.specs.declared.requests.Query.{Query}
-use Rattle.liq_types.specs.declared.requests.Query.TheVariants as query
 use Rattle.liq_types.specs.declared.requests.Request.{Request}
 use Rattle.liq_types.specs.declared.requests.Request.TheVariants.{Do, Ask}
 
@@ -20,19 +18,15 @@ built_call (Send from to lusd) = true
 built_call (Open account coll borrow bound hint) = true
 built_call (Adjust account coll_in coll_out borrow repay bound hint) = true
 built_call (Close account) = true
+built_call (Provide account lusd) = true
+built_call (Withdraw account lusd) = true
+built_call (GainToTrove account hint) = true
+built_call (Claim account) = true
 built_call _ = false
-
-abbrev pub built_query : Query → Bool
-built_query (query.Wallet account) = true
-built_query (query.Trove account) = true
-built_query query.Pools = true
-built_query query.System = true
-built_query (query.NextNumber client) = true
-built_query _ = false
 
 abbrev pub built : Request → Bool
 built (Do c) = built_call c.call
-built (Ask q) = built_query q
+built (Ask q) = true
 
 -- ---- the list of verbs
 
@@ -78,6 +72,11 @@ accounts Rotate = []
 abbrev pub opens : Call → List ℕ
 opens (Open account coll borrow bound hint) = account ∷ []
 opens _ = []
+
+-- the accounts for which a deposit may come into being
+abbrev pub provides : Call → List ℕ
+provides (Provide account lusd) = account ∷ []
+provides _ = []
 
 -- whether the verb begins a new generation of the journal
 abbrev pub rotates : Call → Bool

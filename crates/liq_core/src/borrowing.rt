@@ -29,7 +29,7 @@ use std::sync::ledger::Ledger;
 
 impl Protocol {
     /// Entire collateral (gwei) and debt (micro-LUSD) of the account's trove, if it has one.
-    fn entire(&self, account: u32) -> Option<(u64, u64)>
+    pub(crate) fn entire(&self, account: u32) -> Option<(u64, u64)>
         ensures entire { result ≡ entire_of (state_of self.now) account }
         ensures coll { (or_nothing result).0 + (wallet_of (state_of self.now) account).coll ≤ LIM }
         ensures debt { (or_nothing result).1 ≤ (market_of (state_of self.now)).total_debt }
@@ -39,7 +39,7 @@ impl Protocol {
     }
 
     /// Where a trove with these amounts will stand in the list.
-    fn standing(&self, account: u32, coll: u64, debt: u64) -> ListChange
+    pub(crate) fn standing(&self, account: u32, coll: u64, debt: u64) -> ListChange
         requires { 1 ≤ coll }
         ensures { result ≡ Put (key_by (set_row (sums_words (state_of self.now)) coll debt)) account }
     {

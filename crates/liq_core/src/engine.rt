@@ -7,10 +7,11 @@ ghost use Rattle.liq_types.specs.declared.replies.Reply.TheVariants.{Said};
 ghost use Rattle.liq_types.specs.Soundness.{IsSoundImage};
 ghost use Rattle.liq_types.specs.State.{State, opening, client_of};
 ghost use Rattle.liq_tables.specs.WithRoom.{KeepsRoom};
+ghost use Rattle.liq_stability.specs.Words.{pool_words};
 ghost use Rattle.liq_core.specs.Core.{Changes, StandsFor, SameContent, state_of};
 ghost use Rattle.liq_core.specs.Sound.{IsKeptRow};
 ghost use Rattle.liq_core.specs.Terms.{AreTerms};
-ghost use Rattle.liq_core.specs.Verbs.{opens, no_hint};
+ghost use Rattle.liq_core.specs.Verbs.{opens, provides, no_hint};
 ghost use Rattle.liq_core.specs.Step.{built, built_call, accounts, rules, first_refusal, noted, step};
 
 use crate::payments::plan_price;
@@ -19,6 +20,7 @@ use liq_borrow::Change;
 use liq_ledger::{Pools, Surplus, Wallets};
 use liq_order::Order;
 use liq_rate::Rate;
+use liq_stability::{PoolWords, Stability};
 use liq_tables::Reserved;
 use liq_troves::Troves;
 use liq_types::amounts::{ACCOUNTS, PRICE_OPENING, RECORDS_MOST};
@@ -29,7 +31,8 @@ use std::alloc::Global;
 use std::marker::Model;
 use std::sync::ledger::Ledger;
 
-/// The protocol: wallets, troves and their order, what owners may claim, pools and fees, time and price, and the clients.
+/// The protocol: wallets, troves and their order, the Stability Pool, what owners may claim, pools and fees, time and price, and
+/// the clients.
 #[derive(Drop)]
 pub struct Protocol {
     pub(crate) price: u64,
@@ -42,6 +45,7 @@ pub struct Protocol {
     pub(crate) wallets: Wallets,
     pub(crate) troves: Troves,
     pub(crate) order: Order,
+    pub(crate) pool: Stability,
     pub(crate) surplus: Surplus,
     pub(crate) clients: Reserved<Client>,
 }
@@ -98,6 +102,7 @@ impl Protocol {
             wallets: Wallets::new(alloc),
             troves: Troves::new(alloc),
             order: Order::new(alloc),
+            pool: Stability::new(alloc),
             surplus: Surplus::new(alloc),
             clients: Reserved::new(alloc),
         }
@@ -115,6 +120,13 @@ impl Protocol {
         ensures { result ≡ self.now.image.generation }
     {
         self.generation
+    }
+
+    /// The six words of the Stability Pool.
+    pub fn pool_words(&self) -> &PoolWords
+        ensures { (s : State) → StandsFor self.now s → result.now ≡ pool_words s }
+    {
+        self.pool.words()
     }
 
     pub(crate) fn client(&self, client: u32) -> Client
@@ -183,6 +195,10 @@ impl Protocol {
                 self.plan_adjust(account, &change, bound)
             }
             Call::Close(account) => self.plan_close(account),
+            Call::Provide(account, lusd) => self.plan_provide(account, lusd),
+            Call::Withdraw(account, lusd) => self.plan_withdraw(account, lusd),
+            Call::GainToTrove(account, _) => self.plan_gain_to_trove(account),
+            Call::Claim(account) => self.plan_claim(account),
             _ => unreachable!(),
         }
     }
@@ -200,9 +216,13 @@ impl Protocol {
             Call::Fund(account, _)
             | Call::Take(account, _)
             | Call::Adjust(account, ..)
-            | Call::Close(account) => self.reserve_wallet(account),
+            | Call::Close(account)
+            | Call::Withdraw(account, _)
+            | Call::GainToTrove(account, _)
+            | Call::Claim(account) => self.reserve_wallet(account),
             Call::Send(from, to, _) => self.reserve_wallets(from, to),
             Call::Open(account, ..) => self.reserve_trove(account),
+            Call::Provide(account, _) => self.reserve_deposit(account),
             _ => unreachable!(),
         }
     }
@@ -239,6 +259,17 @@ impl Protocol {
         self.order.reserve(1)
     }
 
+    /// Room for a deposit, with its owner's wallet.
+    fn reserve_deposit(&mut self, account: u32) -> Result<(), NoMemory>
+        ensures same { SameContent self.old self.new }
+        ensures room { OnOk result (Contains self.new.room.wallets account × Contains self.new.room.deposits account) }
+        ensures had { Contains self.old.room.wallets account → Contains self.old.room.deposits account → IsOk result }
+        ensures clients { self.new.room.clients ≡ self.old.room.clients }
+    {
+        self.wallets.reserve(account)?;
+        self.pool.reserve(Some(account), 0)
+    }
+
     fn reserve_client(&mut self, client: u32) -> Result<(), NoMemory>
         ensures same { SameContent self.old self.new }
         ensures room { OnOk result (Contains self.new.room.clients client) }
@@ -273,6 +304,7 @@ impl Protocol {
         requires terms { AreTerms (state_of self.old) call.now terms.now }
         requires wallets { AllByRecursion (λ account. Contains self.old.room.wallets account) (accounts call.now) }
         requires troves { AllByRecursion (λ account. Contains self.old.room.troves account) (opens call.now) }
+        requires deposits { AllByRecursion (λ account. Contains self.old.room.deposits account) (provides call.now) }
         requires list { length (opens call.now) ≤ self.old.room.list }
         ensures { Changes self.old call.now self.new }
     {
@@ -300,6 +332,13 @@ impl Protocol {
                 let (repaid, coll) = terms.closing();
                 self.close_trove(account, repaid, coll);
             }
+            Call::Provide(account, lusd) => self.provide(account, lusd),
+            Call::Withdraw(account, lusd) => self.withdraw(account, lusd),
+            Call::GainToTrove(account, words) => {
+                let hint = hint_of(&words, hint);
+                self.gain_to_trove(account, terms.trove(), &hint, steps);
+            }
+            Call::Claim(account) => self.claim(account),
             _ => unreachable!(),
         }
     }
@@ -322,7 +361,6 @@ impl Protocol {
 
     /// The answer to a query.
     pub fn query(&self, query: &Query) -> Reply
-        requires { IsTrue (built (Ask query.now)) }
         ensures { (s : State) → StandsFor self.now s → (step s (Ask query.now)).1 ≡ result }
     {
         // Where no field is used, nothing is known of the protocol.
@@ -346,8 +384,12 @@ pub fn is_built(request: &Request) -> bool
                 | Call::Open(..)
                 | Call::Adjust(..)
                 | Call::Close(..)
+                | Call::Provide(..)
+                | Call::Withdraw(..)
+                | Call::GainToTrove(..)
+                | Call::Claim(..)
         ),
-        Request::Ask(query) => !matches!(query, Query::Deposit(..)),
+        Request::Ask(_) => true,
     }
 }
 

@@ -5,6 +5,8 @@
 #![tactic(auto)]
 
 mod borrowing;
+mod claims;
+mod depositors;
 mod engine;
 pub mod examples;
 pub mod laws;

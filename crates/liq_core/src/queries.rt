@@ -1,13 +1,13 @@
 //! What the protocol tells of itself.
 
-ghost use Rattle.std.specs.Prelude.{◌≡◌, IsTrue};
+ghost use Rattle.std.specs.Prelude.{◌≡◌};
 ghost use Rattle.liq_types.specs.declared.requests.Query.TheVariants as asked;
 ghost use Rattle.liq_types.specs.declared.replies.Info.TheVariants as info;
 ghost use Rattle.liq_types.specs.Totals.{market_of};
 ghost use Rattle.liq_borrow.specs.Given.{IsMarket};
 ghost use Rattle.liq_core.specs.Core.{state_of};
-ghost use Rattle.liq_core.specs.Queries.{trove_info, pools, system};
-ghost use Rattle.liq_core.specs.Step.{built_query, answer};
+ghost use Rattle.liq_core.specs.Queries.{trove_info, deposit_info, pools, system};
+ghost use Rattle.liq_core.specs.Step.{answer};
 ghost use Rattle.liq_types.specs.Tables.{at};
 
 use crate::engine::Protocol;
@@ -18,7 +18,6 @@ use liq_types::{Info, Market, Query, Refusal, Reply};
 
 impl Protocol {
     pub(crate) fn answer(&self, query: &Query) -> Reply
-        requires { IsTrue (built_query query.now) }
         ensures { result ≡ answer (state_of self.now) query.now }
     {
         match *query {
@@ -27,7 +26,7 @@ impl Protocol {
             Query::Pools => Reply::Told(self.pools_info()),
             Query::System => Reply::Told(self.system_info()),
             Query::NextNumber(client) => self.next_number_info(client),
-            Query::Deposit(_) => unreachable!(),
+            Query::Deposit(account) => self.deposit_reply(account),
         }
     }
 
@@ -76,10 +75,30 @@ impl Protocol {
         }
     }
 
+    fn deposit_reply(&self, account: u32) -> Reply
+        ensures { result ≡ answer (state_of self.now) (asked.Deposit account) }
+    {
+        if account >= ACCOUNTS {
+            return Reply::No(Refusal::AccountRange { value: account });
+        }
+        Reply::Told(self.deposit_info(account))
+    }
+
+    fn deposit_info(&self, account: u32) -> Info
+        ensures { result ≡ deposit_info (state_of self.now) account (at (state_of self.now).deposits account) }
+    {
+        if self.no_deposit(account) {
+            return Info::NoDeposit;
+        }
+        let (balance, gain) = self.position(account);
+        Info::Deposit { balance, gain }
+    }
+
     fn pools_info(&self) -> Info
         ensures { result ≡ info.Pools (pools (state_of self.now)) }
     {
         let held = self.pools;
+        let pool = self.pool.words();
         Info::Pools {
             pools: [
                 held.active_coll,
@@ -90,8 +109,8 @@ impl Protocol {
                 held.surplus,
                 held.fee_coll,
                 held.fee_lusd,
-                0,
-                0,
+                pool.total,
+                pool.coll,
             ],
         }
     }

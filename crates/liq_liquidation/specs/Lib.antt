@@ -1,2 +1,5 @@
-pub mod One
+pub mod Applied
+pub mod Given
 pub mod Lowest
+pub mod Moment
+pub mod One

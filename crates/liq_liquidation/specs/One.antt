@@ -1,5 +1,5 @@
 -- The liquidation of one trove: how it is treated, what is refused, and what it does.
-use Rattle.std.specs.Prelude.{ℕ, ◌+◌, ◌-◌, ◌/◌, ◌==◌, ◌&&◌, Bool, true, false, nat_lt, min, Option, Some, None, Result, Err, List, ◌∷◌, if◌then◌else◌}
+use Rattle.std.specs.Prelude.{ℕ, ◌+◌, ◌-◌, ◌/◌, ◌==◌, ◌&&◌, Bool, true, false, nat_lt, min, Option, Some, None, Result, Err, List, [], ◌∷◌, ◌++◌, if◌then◌else◌}
 use Rattle.liq_num.specs.Quotient.{floor_of}
 use Rattle.liq_types.specs.declared.amounts.TheConstants.{MCR, RESERVE, GAS_PART, CAP_WORTH}
 use Rattle.liq_types.specs.declared.figures.Market.{Market}
@@ -15,6 +15,7 @@ use Rattle.liq_troves.specs.Own.{lifted, redistributed, snapped}
 use Rattle.liq_troves.specs.declared.sums.Sums.{Sums}
 use Rattle.liq_troves.specs.Rows.{entire_by, spread_rules}
 use Rattle.liq_troves.specs.StakeSums.{sums_words, trove_rows}
+use Rattle.liq_troves.specs.Standing.{Books, lift, spread, snap}
 use Rattle.liq_stability.specs.Own.{offset}
 use Rattle.liq_liquidation.specs.declared.one.One.{One}
 use Rattle.liq_liquidation.specs.declared.one.Victim.{Victim}
@@ -104,15 +105,24 @@ abbrev pub is_capped : Treatment → Bool
 is_capped Capped = true
 is_capped _ = false
 
--- of a trove with these entire amounts, by the sums beside the other troves
+-- by the table alone, of a trove with these entire amounts
+abbrev pub treated_rules : Market → ℕ → ℕ → ℕ → List Rule
+treated_rules m coll debt total =
+    let treatment = treatment m coll debt in
+    (is_kept treatment, NotLiquidatable coll debt m.price m.total_coll m.total_debt)
+    ∷ (is_capped treatment && nat_lt total debt, PoolTooSmall total debt)
+    ∷ []
+
+abbrev pub treated_of : Market → ℕ → ℕ → ℕ → Result One Refusal
+treated_of m coll debt total =
+    outcome (first_refusal (treated_rules m coll debt total))
+    (treated (treatment m coll debt) m.price coll debt total)
+
+-- and by the sums beside the other troves
 abbrev pub one_rules : Market → Sums → ℕ → ℕ → ℕ → List Rule
 one_rules m others coll debt total =
-    let treatment = treatment m coll debt in
-    let one = treated treatment m.price coll debt total in
-    last_trove_stays m
-    ∷ (is_kept treatment, NotLiquidatable coll debt m.price m.total_coll m.total_debt)
-    ∷ (is_capped treatment && nat_lt total debt, PoolTooSmall total debt)
-    ∷ spread_rules others one.spread_coll one.spread_debt
+    let one = treated (treatment m coll debt) m.price coll debt total in
+    last_trove_stays m ∷ (treated_rules m coll debt total ++ spread_rules others one.spread_coll one.spread_debt)
 
 abbrev pub one_of : Market → Sums → ℕ → ℕ → ℕ → Result One Refusal
 one_of m others coll debt total =
@@ -153,6 +163,10 @@ struck s v =
     let pooled = offset_if_any left v.one.offset_debt v.one.offset_coll in
     let shared = redistributed pooled v.one.spread_coll v.one.spread_debt in
     surplus_added (snapped shared) v.account v.one.surplus
+
+-- what it makes of the troves and of the pools that hold theirs
+abbrev pub struck_books : Books → Victim → Books
+struck_books b v = snap (spread (lift b v.account) v.one.spread_coll v.one.spread_debt)
 
 -- the liquidator gets the trove's reserve, and a part of its collateral
 abbrev pub rewarded : State → ℕ → ℕ → State

@@ -1,5 +1,5 @@
 -- Redemption: the troves that are visited, the cut of each, and what is refused.
-use Rattle.std.specs.Prelude.{ℕ, ◌+◌, ◌-◌, ◌==◌, Bool, not, nat_lt, nat_le, min, List, [], ◌∷◌, filter, filter_map, fold, sum_by, Option, Some, None, Result, option_map, unwrap_or, if◌then◌else◌}
+use Rattle.std.specs.Prelude.{ℕ, ◌+◌, ◌-◌, ◌==◌, Bool, not, nat_lt, nat_le, min, List, [], ◌∷◌, ◌++◌, filter, filter_map, fold, sum_by, Option, Some, None, Result, option_map, unwrap_or, if◌then◌else◌}
 use Rattle.liq_num.specs.Quotient.{floor_of}
 use Rattle.liq_num.specs.declared.ratio.TheConstants.{GWEI_PER_ETH}
 use Rattle.liq_types.specs.declared.amounts.TheConstants.{MCR, RESERVE, MIN_NET, FLOOR_RATE, BOOTSTRAP}
@@ -23,14 +23,14 @@ use Rattle.liq_troves.specs.Rows.{entire_in}
 use Rattle.liq_troves.specs.StakeSums.{entire_of, sums_words, trove_rows}
 use Rattle.liq_order.specs.Order.{trove_order}
 use Rattle.liq_redemption.specs.declared.cut.Cut.{Cut}
+use Rattle.liq_redemption.specs.declared.planning.RedeemPlan.{RedeemPlan}
+use Rattle.liq_redemption.specs.declared.visit.Visit.{Visit as TroveVisit}
 
 -- ---- the visited troves
 
 -- a trove on the way of a redemption, with its entire amounts
-pub record Visit : Type 0 where
-  pub account : ℕ
-  pub coll : ℕ
-  pub debt : ℕ
+abbrev pub Visit : Type 0
+Visit = TroveVisit
 
 -- the account's trove, if it has one
 abbrev pub visit : Sums → Table Trove → ℕ → Option Visit
@@ -40,6 +40,14 @@ visit sums troves account =
 -- a trove below the least ratio is left to liquidation
 abbrev pub is_visited : ℕ → Visit → Bool
 is_visited price v = not (is_below_percent v.coll v.debt price MCR)
+
+abbrev pub where_visited : ℕ → Option Visit → Option Visit
+where_visited price None = None
+where_visited price (Some v) = if is_visited price v then Some v else None
+
+-- the account's trove, if it has one that is visited
+abbrev pub visit_at : ℕ → Sums → Table Trove → ℕ → Option Visit
+visit_at price sums troves account = where_visited price (visit sums troves account)
 
 -- the visited troves, from the list's end to its front
 abbrev pub visited_by : ℕ → Sums → Table Trove → List Ranked → List Visit
@@ -95,36 +103,43 @@ rate_redeemed m amount = rate_at m (risen (rate_left m) amount m.total_debt)
 
 -- ---- what is planned
 
--- the cuts, what they come to, the fee in gwei and the base rate
-pub record RedeemTerms : Type 0 where
-  pub cuts : List Cut
-  pub redeemed : ℕ
-  pub drawn : ℕ
-  pub fee : ℕ
-  pub rate : Rate
+abbrev pub RedeemTerms : Type 0
+RedeemTerms = RedeemPlan
+
+-- what comes of these cuts: what they come to, the fee in gwei and the base rate
+abbrev pub terms_of : Market → List Cut → RedeemTerms
+terms_of m cuts =
+    let rate = rate_redeemed m (redeemed cuts) in
+    record { cuts = cuts; redeemed = redeemed cuts; drawn = drawn cuts; fee = redeem_fee rate.base (drawn cuts); rate = rate }
 
 -- the cuts along these visits, and what comes of them
 abbrev pub redeeming_terms : Market → List Visit → ℕ → RedeemTerms
-redeeming_terms m visits amount =
-    let cuts = cuts m.price m.troves amount visits in
-    let rate = rate_redeemed m (redeemed cuts) in
-    record { cuts = cuts; redeemed = redeemed cuts; drawn = drawn cuts; fee = redeem_fee rate.base (drawn cuts); rate = rate }
+redeeming_terms m visits amount = terms_of m (cuts m.price m.troves amount visits)
 
 abbrev pub first_net : List Visit → ℕ
 first_net visits = unwrap_or (option_map net_debt (first_of visits)) 0
 
-abbrev pub redeem_rules : Market → Wallet → List Visit → ℕ → ℕ → List Rule
-redeem_rules m wallet visits amount bound =
-    let terms = redeeming_terms m visits amount in
+-- what is tested before any trove is visited
+abbrev pub asking_rules : Market → Wallet → ℕ → ℕ → List Rule
+asking_rules m wallet amount bound =
     (amount == 0, AmountZero)
     ∷ fee_bound bound FLOOR_RATE
     ∷ where_below m.minute BOOTSTRAP Bootstrap
     ∷ where_below (worth m.total_coll m.price) (asked MCR m.total_debt) SystemUnder
     ∷ where_short amount wallet.lusd ShortTokens
-    ∷ (terms.redeemed == 0, NothingRedeemed amount (first_net visits))
+    ∷ []
+
+-- what is tested of the terms, with the net debt of the first trove that was visited
+abbrev pub taking_rules : RedeemTerms → ℕ → ℕ → ℕ → List Rule
+taking_rules terms net amount bound =
+    (terms.redeemed == 0, NothingRedeemed amount net)
     ∷ (nat_le terms.drawn terms.fee, FeeEatsAll terms.fee terms.drawn)
     ∷ fee_over terms.fee terms.drawn bound
     ∷ []
+
+abbrev pub redeem_rules : Market → Wallet → List Visit → ℕ → ℕ → List Rule
+redeem_rules m wallet visits amount bound =
+    asking_rules m wallet amount bound ++ taking_rules (redeeming_terms m visits amount) (first_net visits) amount bound
 
 abbrev pub redeem_plan : Market → Wallet → List Visit → ℕ → ℕ → Result RedeemTerms Refusal
 redeem_plan m wallet visits amount bound =

@@ -1,9 +1,15 @@
 pub mod Falling
+pub mod Filling
+pub mod Finishing
+pub mod Following
 pub mod Holding
+pub mod Keeping
 pub mod LawfulLists
 pub mod Pool
 pub mod PoolPart
 pub mod Promise
 pub mod Reading
+pub mod Rising
 pub mod Standing
+pub mod Tests
 pub mod Whole

@@ -1,4 +1,5 @@
 pub mod Examples
+pub mod Kept
 pub mod Lawful
 pub mod OtherRounding
 pub mod Own

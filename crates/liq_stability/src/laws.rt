@@ -1,7 +1,7 @@
 //! What holds of the definitions that the contracts cite. The functions here do nothing: each is the place where the facts
 //! of its contract are proved.
 
-ghost use Rattle.std.specs.Prelude.{◌≡◌, ℕ, ◌+◌, ◌-◌, ◌*◌, ◌/◌, ◌^◌, ◌≤◌, ◌<◌, List, ◌++◌, false, unwrap_or, Some, sum, map, fold};
+ghost use Rattle.std.specs.Prelude.{◌≡◌, ℕ, ◌+◌, ◌-◌, ◌*◌, ◌/◌, ◌^◌, ◌≤◌, ◌<◌, List, ◌++◌, false, unwrap_or, Some, sum, map, fold, length};
 ghost use Rattle.std.specs.List.{AllByRecursion};
 ghost use Rattle.std.specs.List.Sorted.{IsStrictlySortedBy};
 ghost use Rattle.std.specs.Map.{keys_of, values_of, lookup};
@@ -14,9 +14,10 @@ ghost use Rattle.liq_types.specs.Product.{IsWithinRange, is_place, place_order, 
 ghost use Rattle.liq_types.specs.State.{State, DepositEntry, PoolOffset, opening};
 ghost use Rattle.liq_types.specs.Tables.{at};
 ghost use Rattle.liq_types.specs.Totals.{pool_total, pool_coll};
-ghost use Rattle.liq_types.specs.WellFormed.{AreFinished, IsBefore, IsPoolCovered};
+ghost use Rattle.liq_types.specs.WellFormed.{AreFinished, DepositsAreMarked, IsBefore, IsPoolCovered};
+ghost use Rattle.liq_stability.specs.Kept.{Kept, IsPoolOf, position_at, words_owned, left_in};
 ghost use Rattle.liq_stability.specs.Lawful.{IsLawful, IsLawfulUpTo};
-ghost use Rattle.liq_stability.specs.Own.{offset, after_event, after_events, pool_of};
+ghost use Rattle.liq_stability.specs.Own.{owned, offset, amount_after, after_event, after_events, pool_of};
 ghost use Rattle.liq_stability.specs.Position.{balance_of, gain_of, balance_by, gain_by, mark_of, sums_from};
 ghost use Rattle.liq_stability.specs.Promise.{IsWithinAllowance, gained_of};
 ghost use Rattle.liq_stability.specs.Words.{words_of, pool_words, words_after, finished_by, finished_with};
@@ -43,6 +44,21 @@ pub fn offsets_move_the_words()
         pool_words (offset s debt coll) ≡ words_after (pool_words s) debt coll }
     ensures finished { (s : State) → (debt coll : ℕ) →
         finished_sums s.start (offset s debt coll).offsets ≡ finished_with (finished_sums s.start s.offsets) (finished_by (pool_words s) debt coll) }
+{}
+
+/// The calls follow the rules on states. A pool that has what a state says of it reads as the state, and after an own operation
+/// or an offset it has what the state then says.
+pub fn pools_follow_states()
+    ensures position { (s : State) → (pool : Kept) → AreFinished s.start → IsPoolOf s pool → (account : ℕ) →
+        position_at pool account ≡ (balance_of s account, gain_of s account) }
+    ensures owned { (s : State) → (pool next : Kept) → IsPoolCovered s → IsPoolOf s pool → (account put_in paid_out : ℕ) →
+        next.words ≡ words_owned pool.words put_in paid_out (gain_of s account) → next.finished ≡ pool.finished →
+        next.deposits.rows ≡ left_in pool.deposits.rows pool.words account (amount_after s account put_in paid_out) →
+        IsPoolOf (owned s account put_in paid_out) next }
+    ensures offset { (s : State) → (pool next : Kept) → AreFinished s.start → DepositsAreMarked (length s.offsets) s.deposits → IsPoolCovered s →
+        IsPoolOf s pool → (debt coll : ℕ) → next.words ≡ words_after pool.words debt coll →
+        next.finished ≡ finished_with pool.finished (finished_by pool.words debt coll) → next.deposits.rows ≡ pool.deposits.rows →
+        IsPoolOf (offset s debt coll) next }
 {}
 
 /// The finished sums ascend by their places, which all come before the place of now, and none is 0, where this holds of the

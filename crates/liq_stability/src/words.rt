@@ -1,3 +1,5 @@
+//! The plain data of the Stability Pool.
+
 /// The words of the Stability Pool. LUSD is in micro-LUSD, collateral in gwei.
 #[derive(Clone, Copy, Debug, PartialEq, Eq)]
 pub struct PoolWords {

@@ -49,3 +49,13 @@ adjust_trove-requires-clause-allowed g c = (
 pub returns-in-Adjust : goal.returns-in-Adjust
 returns-in-Adjust g c =
     subst (λ (call : Call). Changes c.args.self.now call c.adjust_trove.new.self) (sym c.in-Adjust.is) (c.adjust_trove.ensures c.in-Adjust.field-5 c.in-Adjust.words)
+
+pub gain_to_trove-requires-clause-allowed : goal.gain_to_trove-requires-clause-allowed
+gain_to_trove-requires-clause-allowed g c = (
+  c.in-GainToTrove.words,
+  subst (λ (call : Call). first_refusal (rules (state_of c.args.self.now) call) ≡ None) c.in-GainToTrove.is c.requires.allowed,
+)
+
+pub returns-in-GainToTrove : goal.returns-in-GainToTrove
+returns-in-GainToTrove g c =
+    subst (λ (call : Call). Changes c.args.self.now call c.gain_to_trove.new.self) (sym c.in-GainToTrove.is) (c.gain_to_trove.ensures c.in-GainToTrove.words)

@@ -15,3 +15,7 @@ returns-in-Open c =
 pub returns-in-Adjust : goal.returns-in-Adjust
 returns-in-Adjust c =
     subst (λ (call : Call). IsRuled (state_of c.args.self.now) call c.plan_adjust.result) (sym c.in-Adjust.is) (c.plan_adjust.ensures c.in-Adjust.field-6)
+
+pub returns-in-GainToTrove : goal.returns-in-GainToTrove
+returns-in-GainToTrove c =
+    subst (λ (call : Call). IsRuled (state_of c.args.self.now) call c.plan_gain_to_trove.result) (sym c.in-GainToTrove.is) (c.plan_gain_to_trove.ensures c.in-GainToTrove.field-1)

@@ -3,10 +3,10 @@ use Rattle.std.specs.Prelude.{◌⊎◌}
 use Rattle.liq_types.specs.declared.hints.HintWords.{HintWords}
 use Rattle.std.specs.List.{AllByRecursion, Contains}
 use Rattle.liq_types.specs.declared.requests.Call.{Call}
-use Rattle.liq_types.specs.declared.requests.Call.TheVariants.{Fund, Take, Adjust, Close}
+use Rattle.liq_types.specs.declared.requests.Call.TheVariants.{Fund, Take, Adjust, Close, Withdraw, GainToTrove, Claim}
 use Rattle.liq_core.specs.Core.{Room}
 use Rattle.liq_core.specs.Plan.{Plan}
-use Rattle.liq_core.specs.Verbs.{accounts, opens}
+use Rattle.liq_core.specs.Verbs.{accounts, opens, provides}
 use Rattle.liq_core.proofs.engine.Protocol.reserve.Goals as goal
 
 -- what there is room for, of a call that is known and of a protocol that differs in the room for clients alone
@@ -21,6 +21,11 @@ module _ (old new : Room) (others : new ≡ record old { clients = new.clients }
       subst (λ (keys : List ℕ). AllByRecursion (λ account. Contains keys account) (opens call)) (sym (ap (λ (r : Room). r.troves) others))
       (subst (λ (c : Call). AllByRecursion (λ account. Contains old.troves account) (opens c)) is h)
 
+  deposits : AllByRecursion (λ account. Contains old.deposits account) (provides planned) → AllByRecursion (λ account. Contains new.deposits account) (provides call)
+  deposits h =
+      subst (λ (keys : List ℕ). AllByRecursion (λ account. Contains keys account) (provides call)) (sym (ap (λ (r : Room). r.deposits) others))
+      (subst (λ (c : Call). AllByRecursion (λ account. Contains old.deposits account) (provides c)) is h)
+
   list : length (opens planned) ≤ old.list → length (opens call) ≤ new.list
   list h =
       subst (λ n. length (opens call) ≤ n) (sym (ap (λ (r : Room). r.list) others))
@@ -32,11 +37,17 @@ one_account : (call : Call) (account : ℕ)
     ⊎ ((coll : ℕ) × (call ≡ Take account coll))
     ⊎ ((coll_in : ℕ) × (coll_out : ℕ) × (borrow : ℕ) × (repay : ℕ) × (bound : ℕ) × (words : HintWords) × (call ≡ Adjust account coll_in coll_out borrow repay bound words))
     ⊎ (call ≡ Close account)
+    ⊎ ((lusd : ℕ) × (call ≡ Withdraw account lusd))
+    ⊎ ((words : HintWords) × (call ≡ GainToTrove account words))
+    ⊎ (call ≡ Claim account)
     → accounts call ≡ account ∷ []
 one_account call account (inl e) = ap accounts e.1
 one_account call account (inr (inl e)) = ap accounts e.1
 one_account call account (inr (inr (inl e))) = ap accounts e.6
-one_account call account (inr (inr (inr e))) = ap accounts e
+one_account call account (inr (inr (inr (inl e)))) = ap accounts e
+one_account call account (inr (inr (inr (inr (inl e))))) = ap accounts e.1
+one_account call account (inr (inr (inr (inr (inr (inl e)))))) = ap accounts e.1
+one_account call account (inr (inr (inr (inr (inr (inr e)))))) = ap accounts e
 
 pub returns-in-Send-clause-had : goal.returns-in-Send-clause-had
 returns-in-Send-clause-had c h =
@@ -59,3 +70,12 @@ returns-in-Fund-clause-had c h =
     let keys = ap (λ (r : Room). r.wallets) c.reserve_client.ensures.others in
     let had = subst (λ (names : List ℕ). AllByRecursion (λ account. Contains c.args.self.now.room.wallets account) names) is h.wallets in
     c.reserve_wallet.ensures.had (subst (λ (ks : List ℕ). Contains ks c.in-Fund.account) (sym keys) had.0)
+
+pub returns-in-Provide-clause-had : goal.returns-in-Provide-clause-had
+returns-in-Provide-clause-had c h =
+    let is = sym (ap (λ (p : Plan). p.command.call) c.planned.view_is) ∙ c.in-Provide.is in
+    let old = c.args.self.now.room in
+    let new = c.reserve_client.new.self.room in
+    let others = c.reserve_client.ensures.others in
+    let call = c.args.planned.now.command.call in
+    c.reserve_deposit.ensures.had (wallets old new others call _ is h.wallets).0 (deposits old new others call _ is h.deposits).0

@@ -1,0 +1,43 @@
+//! The surplus that owners of closed troves claim.
+
+ghost use Rattle.std.specs.Prelude.{◌≡◌, ◌<◌, None};
+ghost use Rattle.std.specs.List.{Contains};
+ghost use Rattle.liq_types.specs.declared.requests.Call.TheVariants as call;
+ghost use Rattle.liq_core.specs.Core.{Changes, state_of};
+ghost use Rattle.liq_core.specs.Step.{rules, first_refusal};
+ghost use Rattle.liq_core.specs.Turn.{IsRuled};
+
+use crate::engine::Protocol;
+use crate::turns::Forecast;
+use liq_types::amounts::ACCOUNTS;
+use liq_types::{Done, Refusal};
+
+impl Protocol {
+    pub(crate) fn plan_claim(&self, account: u32) -> Result<Forecast, Refusal>
+        ensures { IsRuled (state_of self.now) (call.Claim account) result }
+    {
+        if account >= ACCOUNTS {
+            return Err(Refusal::AccountRange { value: account });
+        }
+        let coll = self.surplus.read(account);
+        if coll == 0 {
+            return Err(Refusal::NoSurplus { account });
+        }
+        Ok(Forecast::plain(Done {
+            kind: 15,
+            values: [coll, 0, 0, 0, 0, 0],
+        }))
+    }
+
+    /// All that the account may claim comes into its wallet.
+    pub(crate) fn claim(&mut self, account: u32)
+        requires allowed { first_refusal (rules (state_of self.old) (call.Claim account)) ≡ None }
+        requires range { account < ACCOUNTS }
+        requires room { Contains self.old.room.wallets account }
+        ensures { Changes self.old (call.Claim account) self.new }
+    {
+        let coll = self.surplus.take(account);
+        self.pools.surplus -= coll;
+        self.wallets.pay(account, coll, 0);
+    }
+}

@@ -1,0 +1,8 @@
+pub mod Ahead
+pub mod Cutting
+pub mod Following
+pub mod Listing
+pub mod Once
+pub mod Parts
+pub mod Paying
+pub mod Taking

@@ -1,0 +1,8 @@
+use Rattle.liq_redemption.proofs.Once.{order_distinct, order_has_each}
+use Rattle.liq_redemption.proofs.laws.orders_have_each_trove_once.Goals as goal
+
+pub returns-clause-once : goal.returns-clause-once
+returns-clause-once c = order_distinct
+
+pub returns-clause-each : goal.returns-clause-each
+returns-clause-each c = order_has_each
