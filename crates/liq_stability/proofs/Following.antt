@@ -1,9 +1,9 @@
 -- A pool that has what a state says of it goes on to have it.
-use Rattle.std.proofs.Common.{◌≡◌, ℕ, ◌+◌, ◌-◌, Bool, true, false, cond, List, ◌∷◌, [], ◌++◌, refl, ap, sym, ◌∙◌, Some, None, Option, length}
+use Rattle.std.proofs.Common.{◌≡◌, ℕ, ◌+◌, ◌-◌, Bool, true, false, cond, List, refl, ap, sym, ◌∙◌, Some, None, Option, length}
 use Rattle.std.specs.Prelude.{◌==◌, option_map}
 use Rattle.liq_types.specs.declared.figures.Deposit.{Deposit}
 use Rattle.liq_types.specs.Image.{Place}
-use Rattle.liq_types.specs.Product.{sumat, finished_sums}
+use Rattle.liq_types.specs.Product.{sumat}
 use Rattle.liq_types.specs.State.{State, DepositEntry, PoolMark, After}
 use Rattle.liq_types.specs.Tables.{Table, at, put, without, map_rows}
 use Rattle.liq_types.specs.Totals.{pool_total, pool_coll}
@@ -13,7 +13,7 @@ use Rattle.liq_types.proofs.Places.{sum_shown}
 use Rattle.liq_stability.specs.declared.words.PoolWords.{PoolWords}
 use Rattle.liq_stability.specs.Kept.{Kept, IsPoolOf, sum_at, sums_for, position_of, position_at, words_owned, left_in}
 use Rattle.liq_stability.specs.Own.{owned, offset, amount_after}
-use Rattle.liq_stability.specs.Position.{position_by, deposit_now, deposit_row, deposit_rows, sums_from, mark_of, position_in, balance_in, gain_in, balance_of, gain_of}
+use Rattle.liq_stability.specs.Position.{position_by, deposit_row, deposit_rows, sums_from, mark_of, balance_in, gain_in, balance_of, gain_of}
 use Rattle.liq_stability.specs.Words.{pool_words, words_after, finished_by, finished_with}
 use Rattle.liq_stability.proofs.Pool.{owned-total, owned-coll, mark-grown, mark-full, offset-words, offset-finishes}
 

@@ -1,6 +1,6 @@
 -- What holds of the pool at all times is kept by own operations and offsets.
 use Rattle.std.proofs.Common.{◌≡◌, ℕ, ◌+◌, ◌-◌, ◌*◌, ◌≤◌, Bool, true, false, cond, List, [], ◌∷◌, ◌++◌, refl, ap, sym, ◌∙◌, subst, le_trans, arith, Some, None, Option, inr}
-use Rattle.std.specs.Prelude.{unwrap_or, not, option_copied, IfSome, IsTrue, nat_le, ◌==◌, ◌||◌, ◌&&◌}
+use Rattle.std.specs.Prelude.{unwrap_or, not, option_copied, IfSome, IsTrue, ◌==◌, ◌||◌}
 use denote.Ref.{Bor}
 use Rattle.std.specs.List.{AllByRecursion}
 use Rattle.std.specs.List.Sorted.{IsStrictlySortedBy}
@@ -11,7 +11,7 @@ use Rattle.liq_types.specs.declared.amounts.TheConstants.{LIM, OFFSET_MOST, P_OP
 use Rattle.liq_types.specs.declared.figures.Deposit.{Deposit}
 use Rattle.liq_types.specs.Image.{Place}
 use Rattle.liq_types.specs.Product.{ScaledProduct, after_offset, place_of, is_place, place_order, sum_growth}
-use Rattle.liq_types.specs.Soundness.{is_before, is_product, is_sum_beside}
+use Rattle.liq_types.specs.Soundness.{is_product, is_sum_beside}
 use Rattle.liq_types.specs.State.{PoolOffset}
 use Rattle.liq_types.specs.Tables.{Table, at, put, without}
 use Rattle.liq_types.proofs.Ascending.{none-ascends}
@@ -24,7 +24,7 @@ use Rattle.liq_tables.specs.Rows.{is_used_deposit}
 use Rattle.liq_tables.specs.WithRoom.{written}
 use Rattle.liq_stability.specs.declared.words.PoolWords.{PoolWords}
 use Rattle.liq_stability.specs.declared.words.FinishedSum.{FinishedSum}
-use Rattle.liq_stability.specs.Kept.{IsSoundPool, IsDepositOf, finished_row, finished_rows, with_last, sum_at, left_in}
+use Rattle.liq_stability.specs.Kept.{IsSoundPool, IsDepositOf, finished_row, finished_rows, is_sound_sum, with_last, sum_at, left_in}
 use Rattle.liq_stability.specs.Position.{deposit_now}
 use Rattle.liq_stability.specs.Words.{words_in, offset_in, sum_with, words_after, finished_by, finished_with}
 use Rattle.liq_stability.proofs.Finishing.{Finished, AreBefore, put_last, all_last, sorted_last, sum_in, none_in, other_last, same_last}
@@ -33,11 +33,11 @@ use Rattle.liq_stability.proofs.Tests.{IsFinished, IsMarked, IsInRange, product_
 
 -- ---- read off
 
-each_finished : (now : Place) (table : Finished) → AllByRecursion (λ (row : Place × ℕ). IsTrue (nat_le row.1 (OFFSET_MOST * P_OPENING) && is_before row.0 now)) table → AllByRecursion (IsFinished now) table
+each_finished : (now : Place) (table : Finished) → AllByRecursion (λ (row : Place × ℕ). IsTrue (is_sound_sum now row)) table → AllByRecursion (IsFinished now) table
 each_finished now [] h = tt
 each_finished now (e ∷ es) h = (finished_in now e h.0, each_finished now es h.1)
 
-finished_each : (now : Place) (table : Finished) → AllByRecursion (IsFinished now) table → AllByRecursion (λ (row : Place × ℕ). IsTrue (nat_le row.1 (OFFSET_MOST * P_OPENING) && is_before row.0 now)) table
+finished_each : (now : Place) (table : Finished) → AllByRecursion (IsFinished now) table → AllByRecursion (λ (row : Place × ℕ). IsTrue (is_sound_sum now row)) table
 finished_each now [] h = tt
 finished_each now (e ∷ es) h = (finished_tested now e h.0, finished_each now es h.1)
 

@@ -8,6 +8,7 @@ use Rattle.liq_types.specs.Image.{Place}
 use Rattle.liq_types.specs.Soundness.{is_product, is_sum_beside, is_before, is_sound_deposit}
 use Rattle.liq_types.specs.WellFormed.{IsBefore}
 use Rattle.liq_types.proofs.Places.{IsUpTo}
+use Rattle.liq_stability.specs.Kept.{is_sound_sum}
 
 both : (a b : Bool) → (a && b) ≡ true → (a ≡ true) × (b ≡ true)
 both true true h = (refl, refl)
@@ -81,12 +82,12 @@ pub record IsFinished (now : Place) (row : Place × ℕ) : Type 0 where
   pub most : row.1 ≤ OFFSET_MOST * P_OPENING
   pub before : IsBefore row.0 now
 
-pub finished_in : (now : Place) (row : Place × ℕ) → IsTrue (nat_le row.1 (OFFSET_MOST * P_OPENING) && is_before row.0 now) → IsFinished now row
+pub finished_in : (now : Place) (row : Place × ℕ) → IsTrue (is_sound_sum now row) → IsFinished now row
 finished_in now row h =
     let parts = both (nat_le row.1 (OFFSET_MOST * P_OPENING)) (is_before row.0 now) h in
     record { most = le row.1 (OFFSET_MOST * P_OPENING) parts.0; before = before_in row.0 now parts.1 }
 
-pub finished_tested : (now : Place) (row : Place × ℕ) → IsFinished now row → IsTrue (nat_le row.1 (OFFSET_MOST * P_OPENING) && is_before row.0 now)
+pub finished_tested : (now : Place) (row : Place × ℕ) → IsFinished now row → IsTrue (is_sound_sum now row)
 finished_tested now row h =
     join (nat_le row.1 (OFFSET_MOST * P_OPENING)) (is_before row.0 now) (le_true row.1 (OFFSET_MOST * P_OPENING) h.most) (before_tested row.0 now h.before)
 

@@ -1,5 +1,5 @@
 -- The Stability Pool as its calls see it, and what holds of it at all times.
-use Rattle.std.specs.Prelude.{◌≡◌, ℕ, ◌+◌, ◌-◌, ◌*◌, ◌≤◌, ◌&&◌, ◌==◌, nat_le, min, is_none, IsTrue, List, [], ◌∷◌, ◌++◌, map, Option, Some, None, Result, unwrap_or, if◌then◌else◌}
+use Rattle.std.specs.Prelude.{◌≡◌, ℕ, ◌+◌, ◌-◌, ◌*◌, ◌≤◌, ◌&&◌, ◌==◌, Bool, nat_le, min, is_none, IsTrue, List, [], ◌∷◌, ◌++◌, map, Option, Some, None, Result, unwrap_or, if◌then◌else◌}
 use Rattle.std.specs.List.{AllByRecursion}
 use Rattle.std.specs.List.Sorted.{IsStrictlySortedBy}
 use Rattle.std.specs.Map.{keys_of, lookup}
@@ -60,6 +60,10 @@ sums_for words finished d i = sum_at words finished (d.epoch, d.scale + i)
 
 -- ---- what holds at all times
 
+-- the rule on finished sums, of one of them, by the place of now
+abbrev pub is_sound_sum : Place → Place × ℕ → Bool
+is_sound_sum now row = nat_le row.1 (OFFSET_MOST * P_OPENING) && is_before row.0 now
+
 -- the rule on deposits, of one of them, by the place of now and the sum of its own place
 pub record IsSoundDeposit (now : Place) (sum : ℕ) (d : Deposit) : Type 0 where
   pub amount : d.amount ≤ LIM
@@ -73,7 +77,7 @@ IsDepositOf words finished d = IsSoundDeposit (words.epoch, words.scale) (sum_at
 pub record IsSoundPool (words : PoolWords) (finished : List (Place × ℕ)) (deposits : Table Deposit) : Type 0 where
   pub product : IsTrue (is_product words.p)
   pub sum : IsTrue (is_sum_beside words.sum words.p)
-  pub sums : AllByRecursion (λ (row : Place × ℕ). IsTrue (nat_le row.1 (OFFSET_MOST * P_OPENING) && is_before row.0 (words.epoch, words.scale))) finished
+  pub sums : AllByRecursion (λ (row : Place × ℕ). IsTrue (is_sound_sum (words.epoch, words.scale) row)) finished
   pub places : IsStrictlySortedBy place_order (keys_of finished)
   pub each : AllByRecursion (λ (row : ℕ × Deposit). IsDepositOf words finished row.1) deposits
   pub accounts : Ascends deposits
