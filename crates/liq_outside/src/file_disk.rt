@@ -1,6 +1,7 @@
 // A file as a disk. As such it tells no content, and any image may be left: only faults are told.
 ghost use Rattle.std.specs.Prelude.{◌≡◌, ◌≤◌, ◌+◌, ◌^◌, None, false, is_some, length, IfOk, IsErr};
-ghost use Rattle.liq_outside.specs.Adapters.{CountsFailure};
+ghost use Rattle.liq_outside.specs.Adapters.{AnyImage, CountsFailure};
+ghost use Rattle.liq_outside.specs.Disk.{Follows, Torn};
 ghost use Rattle.liq_outside.specs.Faults.{HasCause};
 
 use super::disk::Disk;
@@ -43,7 +44,7 @@ impl Disk for FileDisk {
 
     ghost moment = { λ _. 0 };
 
-    ghost left_at = { λ _ _ _. Unit {0} };
+    ghost left_at = { λ _ _ image. AnyImage image };
 
     ghost faults = { λ d. d.faults };
 
@@ -80,6 +81,7 @@ impl Disk for FileDisk {
         requires limit { at + length bytes.now ≤ 2 ^ 40 }
         ensures missing { self.old.is_there ≡ false → IsErr result }
         ensures there { self.new.is_there ≡ self.old.is_there }
+        ensures crash { Follows (Torn at (length bytes.now)) AnyImage AnyImage }
         ensures counted { CountsFailure result self.old.faults self.new.faults }
         ensures cause { HasCause self.old.faults self.new.faults result }
     {
