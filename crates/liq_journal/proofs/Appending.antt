@@ -1,5 +1,5 @@
 -- What each write of an append leaves.
-use Rattle.std.proofs.Common.{◌≡◌, ◌⊎◌, inl, inr, ⊎_elim, ℕ, zero, suc, ◌+◌, ◌*◌, ◌-◌, ◌<◌, ◌≤◌, min, max, List, [], ◌∷◌, ◌++◌, length, take, drop, get_or, replicate, Option, Some, option_map, IfSome, Result, Ok, Err, Bool, true, false, not, if◌then◌else◌, refl, sym, ◌∙◌, ap, subst, arith, length-take, length-drop, length-append, append_assoc, take-append-drop}
+use Rattle.std.proofs.Common.{◌≡◌, ◌⊎◌, inl, inr, ⊎_elim, ℕ, zero, suc, ◌+◌, ◌*◌, ◌-◌, ◌<◌, ◌≤◌, min, max, List, [], ◌∷◌, ◌++◌, length, take, drop, get_or, replicate, Option, Some, None, option_map, IfSome, Result, Ok, Err, Bool, true, false, not, if◌then◌else◌, refl, sym, ◌∙◌, ap, subst, arith, length-take, length-drop, length-append, append_assoc, take-append-drop}
 use Rattle.std.specs.Str.{bytes_eq}
 use Rattle.std.proofs.lemmas.Bool.Decides.{nat_tests}
 use Rattle.std.proofs.lemmas.Slice.Eq.{bytes_eq-Decides}
@@ -330,3 +330,21 @@ module _ {D : Type 0} (seen : D → Option (List ℕ)) (moment : D → ℕ) (lef
             opened_gate ∙ ap (option_map (λ (l : List ℕ). overwritten l gate (1 ∷ []))) (mid_is held w told a) ∙ ap (λ (n : ℕ). Some (overwritten staged_2 n (1 ∷ []))) (sym (gate_is w a)),
             appended (is_odd j.generation) held w stands few_2 body (record_digest j.generation (j.count + 1) body) command size (length-record_digest j.generation (j.count + 1) body) (stored w a) of,
           )
+
+      -- what is told then is settled again
+      pub settles : seen new ≡ option_map (λ held. overwritten held gate (1 ∷ [])) (seen mid) → (command : Command) → IsBodyOf body command → IfSome (seen new) (IsSettled j.generation j.start (j.count + 1))
+      settles opened_gate command of = elim (some_or_none (seen j.disk)) [
+        | inl none ↦
+            let e : seen new ≡ None = opened_gate ∙ ap (option_map (λ (l : List ℕ). overwritten l gate (1 ∷ []))) (written ∙ ap (option_map (λ (l : List ℕ). overwritten l (gate + 1) record_of)) none) in
+            subst (λ (o : Option (List ℕ)). IfSome o (IsSettled j.generation j.start (j.count + 1))) (sym e) tt
+        | inr some ↦
+            let s = subst (λ (o : Option (List ℕ)). IfSome o (IsSettled j.generation j.start j.count)) some.1 settled in
+            let a = appends opened_gate some.0 s.written command some.1 s.stands of in
+            let n = length-append s.written.commands (command ∷ []) in
+            let c = s.count_is in
+            subst (λ (o : Option (List ℕ)). IfSome o (IsSettled j.generation j.start (j.count + 1))) (sym a.1) (record { written = and_then s.written command; stands = a.2; generation_is = s.generation_is; start_is = s.start_is; count_is = omega arith })
+      ]
+        where
+          some_or_none : (o : Option (List ℕ)) → (o ≡ None) ⊎ ((held : List ℕ) × (o ≡ Some held))
+          some_or_none None = inl refl
+          some_or_none (Some held) = inr (held, refl)

@@ -6,19 +6,19 @@ use Rattle.liq_outside.specs.Disk.{LeavesOnly, LeftNow, Within, Elapses}
 use Rattle.liq_outside.proofs.Moments.{chained, weaker, call, started}
 use Rattle.liq_journal.specs.Looked.{Looked}
 
-module _ {D : Type 0} (seen : D → Option (List ℕ)) (moment : D → ℕ) (left_at : D → ℕ → List ℕ → Type 0) (faults : D → ℕ) where
-  pub looked_none : (old : D) → Looked seen moment left_at faults old old
-  looked_none old = record { same = refl; within = λ image left. left; leaves = started moment left_at old (LeftNow moment left_at old) (λ image left. left); count = omega arith }
+module _ {D : Type 0} (seen : D → Option (List ℕ)) (moment : D → ℕ) (left_at : D → ℕ → List ℕ → Type 0) where
+  pub looked_none : (old : D) → Looked seen moment left_at old old
+  looked_none old = record { same = refl; within = λ image left. left; keeps = λ image left. left; leaves = started moment left_at old (LeftNow moment left_at old) (λ image left. left) }
 
-  pub looked_once : (old new : D) → seen new ≡ seen old → Within (LeftNow moment left_at new) (LeftNow moment left_at old) → Elapses moment left_at old new → faults old ≤ faults new → Looked seen moment left_at faults old new
-  looked_once old new same within time count = record { same = same; within = within; leaves = call moment left_at old new (LeftNow moment left_at old) time (λ image left. left) within; count = count }
+  pub looked_once : (old new : D) → seen new ≡ seen old → Within (LeftNow moment left_at new) (LeftNow moment left_at old) → Within (LeftNow moment left_at old) (LeftNow moment left_at new) → Elapses moment left_at old new → Looked seen moment left_at old new
+  looked_once old new same within keeps time = record { same = same; within = within; keeps = keeps; leaves = call moment left_at old new (LeftNow moment left_at old) time (λ image left. left) within }
 
-  pub looked_on : (old mid new : D) → Looked seen moment left_at faults old mid → Looked seen moment left_at faults mid new → Looked seen moment left_at faults old new
+  pub looked_on : (old mid new : D) → Looked seen moment left_at old mid → Looked seen moment left_at mid new → Looked seen moment left_at old new
   looked_on old mid new first second = record {
     same = second.same ∙ first.same;
     within = λ image left. first.within image (second.within image left);
+    keeps = λ image left. second.keeps image (first.keeps image left);
     leaves = chained moment left_at old mid new (LeftNow moment left_at old) first.leaves (weaker moment left_at mid new (LeftNow moment left_at mid) (LeftNow moment left_at old) second.leaves first.within);
-    count = omega (arith, first.count, second.count);
   }
 
 -- one piece behind another

@@ -58,3 +58,9 @@ abbrev pub CrashOfCreate : {D : Type 0} → (D → Option (List ℕ)) → (D →
 CrashOfCreate seen moment left_at old new generation checkpoint =
     (held : List ℕ) → seen old ≡ Some held → Only held (LeftNow moment left_at old) → is_generation (is_odd generation) generation ≡ true
     → LeavesOnly moment left_at old new (CreateLeaves (is_odd generation) held (beginning generation checkpoint))
+
+-- what it reads afterwards, if nothing was pending
+abbrev pub ReadsOfCreate : {D : Type 0} → (D → Option (List ℕ)) → (D → ℕ) → (D → ℕ → List ℕ → Type 0) → D → D → ℕ → List ℕ → Type 0
+ReadsOfCreate seen moment left_at old new generation checkpoint =
+    (held after : List ℕ) → seen old ≡ Some held → Only held (LeftNow moment left_at old) → is_generation (is_odd generation) generation ≡ true → seen new ≡ Some after
+    → CreateLeaves (is_odd generation) held (beginning generation checkpoint) after

@@ -1,3 +1,4 @@
+pub mod Causes
 pub mod Counted
 pub mod Crash
 pub mod Header

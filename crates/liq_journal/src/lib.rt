@@ -7,6 +7,7 @@ mod bytes;
 mod create;
 mod damage;
 mod digests;
+mod gate;
 mod head;
 mod header;
 mod journal;

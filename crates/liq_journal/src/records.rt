@@ -2,7 +2,7 @@
 ghost use Rattle.std.specs.Prelude.{◌≡◌, ◌≤◌, ◌<◌, ◌+◌, ◌*◌, ◌^◌, ◌++◌, Some, Ok, Err, true, false, List, ℕ, length, take, drop, IfOk, IfErr, IfSome};
 ghost use Rattle.std.specs.Result.{MatchResult};
 ghost use Rattle.liq_types.specs.declared.requests.Command.{Command};
-ghost use Rattle.liq_outside.specs.Faults.{Rose};
+ghost use Rattle.liq_journal.specs.Causes.{CountsLook};
 ghost use Rattle.liq_journal.specs.Counted.{AreRecords, IsFaultIn};
 ghost use Rattle.liq_journal.specs.Looked.{Looked};
 ghost use Rattle.liq_journal.specs.Records.{begins_whole};
@@ -54,10 +54,10 @@ pub fn read_record<D: Disk>(
     place: u64,
 ) -> Result<Option<[u8; 96]>, LookFault>
     requires { place < 2 ^ 40 }
-    ensures looked { Looked D.seen D.moment D.left_at D.faults disk.old disk.new }
+    ensures looked { Looked D.seen D.moment D.left_at disk.old disk.new }
     ensures tested { IfOk result (λ body. IfSome (D.seen disk.old) (λ held. IsTested generation index place held body)) }
     ensures fault { IfErr result (λ why. IfSome (D.seen disk.old) (λ held. IsFaultOf generation index place held why)) }
-    ensures cause { result ≡ Err LookFault.DiskFault → Rose (D.faults disk.old) (D.faults disk.new) }
+    ensures cause { CountsLook result (D.faults disk.old) (D.faults disk.new) }
 {
     let mut bytes = [0; 129];
     let count = match disk.read_at(place, &mut bytes) {
@@ -81,11 +81,11 @@ pub fn read_record<D: Disk>(
 // tested; or the first fault of them.
 pub fn count_records<D: Disk>(disk: &mut D, generation: u64, start: u64) -> Result<u64, LookFault>
     requires { start ≤ 68719476793 }
-    ensures looked { Looked D.seen D.moment D.left_at D.faults disk.old disk.new }
+    ensures looked { Looked D.seen D.moment D.left_at disk.old disk.new }
     ensures most { IfOk result (λ count. count ≤ 1000001) }
     ensures counted { IfOk result (λ count. IfSome (D.seen disk.old) (λ held. AreRecords generation start held count)) }
     ensures fault { IfErr result (λ why. IfSome (D.seen disk.old) (λ held. IsFaultIn generation start held why)) }
-    ensures cause { result ≡ Err LookFault.DiskFault → Rose (D.faults disk.old) (D.faults disk.new) }
+    ensures cause { CountsLook result (D.faults disk.old) (D.faults disk.new) }
 {
     for count in 0..1_000_001 {
         match read_record(disk, generation, count + 1, start + 129 * count) {

@@ -9,16 +9,16 @@ use Rattle.liq_journal.proofs.Scanning.{told_digest, told_scan, told_record_faul
 use Rattle.liq_journal.proofs.open.scan.Goals as goal
 
 pub returns-in-Err-read_checkpoint-clause-looked : goal.returns-in-Err-read_checkpoint-clause-looked
-returns-in-Err-read_checkpoint-clause-looked g c = (looked_on g.D.Disk.seen g.D.Disk.moment g.D.Disk.left_at g.D.Disk.faults c.args.disk.now c.read_header.new.disk c.read_checkpoint.new.disk c.read_header.ensures.looked c.read_checkpoint.ensures.looked)
+returns-in-Err-read_checkpoint-clause-looked g c = (looked_on g.D.Disk.seen g.D.Disk.moment g.D.Disk.left_at c.args.disk.now c.read_header.new.disk c.read_checkpoint.new.disk c.read_header.ensures.looked c.read_checkpoint.ensures.looked)
 
 pub returns-then-ne-clause-looked : goal.returns-then-ne-clause-looked
-returns-then-ne-clause-looked g c = (looked_on g.D.Disk.seen g.D.Disk.moment g.D.Disk.left_at g.D.Disk.faults c.args.disk.now c.read_header.new.disk c.read_checkpoint.new.disk c.read_header.ensures.looked c.read_checkpoint.ensures.looked)
+returns-then-ne-clause-looked g c = (looked_on g.D.Disk.seen g.D.Disk.moment g.D.Disk.left_at c.args.disk.now c.read_header.new.disk c.read_checkpoint.new.disk c.read_header.ensures.looked c.read_checkpoint.ensures.looked)
 
 pub returns-in-Ok-count_records-clause-looked : goal.returns-in-Ok-count_records-clause-looked
-returns-in-Ok-count_records-clause-looked g c = (looked_on g.D.Disk.seen g.D.Disk.moment g.D.Disk.left_at g.D.Disk.faults c.args.disk.now c.read_checkpoint.new.disk c.count_records.new.disk (looked_on g.D.Disk.seen g.D.Disk.moment g.D.Disk.left_at g.D.Disk.faults c.args.disk.now c.read_header.new.disk c.read_checkpoint.new.disk c.read_header.ensures.looked c.read_checkpoint.ensures.looked) c.count_records.ensures.looked)
+returns-in-Ok-count_records-clause-looked g c = (looked_on g.D.Disk.seen g.D.Disk.moment g.D.Disk.left_at c.args.disk.now c.read_checkpoint.new.disk c.count_records.new.disk (looked_on g.D.Disk.seen g.D.Disk.moment g.D.Disk.left_at c.args.disk.now c.read_header.new.disk c.read_checkpoint.new.disk c.read_header.ensures.looked c.read_checkpoint.ensures.looked) c.count_records.ensures.looked)
 
 pub returns-in-Err-count_records-clause-looked : goal.returns-in-Err-count_records-clause-looked
-returns-in-Err-count_records-clause-looked g c = (looked_on g.D.Disk.seen g.D.Disk.moment g.D.Disk.left_at g.D.Disk.faults c.args.disk.now c.read_checkpoint.new.disk c.count_records.new.disk (looked_on g.D.Disk.seen g.D.Disk.moment g.D.Disk.left_at g.D.Disk.faults c.args.disk.now c.read_header.new.disk c.read_checkpoint.new.disk c.read_header.ensures.looked c.read_checkpoint.ensures.looked) c.count_records.ensures.looked)
+returns-in-Err-count_records-clause-looked g c = (looked_on g.D.Disk.seen g.D.Disk.moment g.D.Disk.left_at c.args.disk.now c.read_checkpoint.new.disk c.count_records.new.disk (looked_on g.D.Disk.seen g.D.Disk.moment g.D.Disk.left_at c.args.disk.now c.read_header.new.disk c.read_checkpoint.new.disk c.read_header.ensures.looked c.read_checkpoint.ensures.looked) c.count_records.ensures.looked)
 
 pub returns-then-ne-clause-why : goal.returns-then-ne-clause-why
 returns-then-ne-clause-why g c = told_digest c.args.odd c.in-Ok-Some.head c.in-Ok.checkpoint.items c.header_digest-computed.result (c.header_digest-computed.ensures ∙ ap (header_digest c.in-Ok-Some.head.fields) c.deref.ensures.value) (g.D.Disk.seen c.args.disk.now) (subst (λ (h : Option Head). IfSome (g.D.Disk.seen c.args.disk.now) (λ held. MaybeHeadOf c.args.odd held h)) c.in-Ok-Some.field-0-is c.in-Ok-Some.ensures.read) (subst (λ (o : Option (List ℕ)). IfSome o (λ held. 57 + c.in-Ok-Some.head.size ≤ length held → c.in-Ok.checkpoint.items ≡ piece 57 c.in-Ok-Some.head.size held)) c.read_header.ensures.looked.same c.in-Ok.ensures.read) (sym c.ne.ensures ∙ c.if-ne.true)

@@ -1,6 +1,6 @@
 use Rattle.std.proofs.Common.{◌≡◌, ℕ, ◌<◌, List, length, Option, Some, IfSome, sym, ◌∙◌, ap, subst, rules, arith}
 use Rattle.liq_journal.specs.Settled.{JournalOn, IsSettled}
-use Rattle.liq_journal.proofs.Appending.{Crashes, Appends, Reads, reads, first_crashes, second_crashes, appends}
+use Rattle.liq_journal.proofs.Appending.{Crashes, Appends, Reads, reads, first_crashes, second_crashes, appends, settles}
 use Rattle.liq_journal.proofs.journal.Journal.append.Goals as goal
 
 pub returns-in_err-write_synced-clause-crash : goal.returns-in_err-write_synced-clause-crash
@@ -23,3 +23,6 @@ returns-in_err-write_synced-2-clause-reads g c = subst (λ (j : JournalOn g.row.
 
 pub returns-clause-reads : goal.returns-clause-reads
 returns-clause-reads g c = subst (λ (j : JournalOn g.row.D.Denot). Reads g.D.Disk.seen g.D.Disk.moment g.D.Disk.left_at j c.args.body.now c.record_bytes-record.result c.write_synced-2.new.disk) c.self.view_is (reads g.D.Disk.seen g.D.Disk.moment g.D.Disk.left_at (record { disk = c.self.inside.disk; generation = c.self.inside.generation; start = c.self.inside.start; count = c.self.inside.count }) c.args.body.now c.record_bytes-record.result c.write_synced-2.new.disk (g.met.D.Disk.seen_may_stay c.write_synced-2.new.disk) (second_crashes g.D.Disk.seen g.D.Disk.moment g.D.Disk.left_at (record { disk = c.self.inside.disk; generation = c.self.inside.generation; start = c.self.inside.start; count = c.self.inside.count }) c.args.body.now c.record_bytes-record.result (subst (λ (j : JournalOn g.row.D.Denot). IfSome (g.D.Disk.seen j.disk) (IsSettled j.generation j.start j.count)) (sym c.self.view_is) c.requires.settled) (subst (λ (j : JournalOn g.row.D.Denot). j.count < 1000000) (sym c.self.view_is) c.requires.few) (search rules) c.record_bytes-record.ensures c.write_synced.new.disk c.write_synced-2.new.disk c.in_ok-write_synced.ensures.written (first_crashes g.D.Disk.seen g.D.Disk.moment g.D.Disk.left_at (record { disk = c.self.inside.disk; generation = c.self.inside.generation; start = c.self.inside.start; count = c.self.inside.count }) c.args.body.now c.record_bytes-record.result (subst (λ (j : JournalOn g.row.D.Denot). IfSome (g.D.Disk.seen j.disk) (IsSettled j.generation j.start j.count)) (sym c.self.view_is) c.requires.settled) (subst (λ (j : JournalOn g.row.D.Denot). j.count < 1000000) (sym c.self.view_is) c.requires.few) c.write_synced.new.disk c.write_synced.ensures.crash) c.in_ok-write_synced.ensures.durable c.write_synced-2.ensures.crash))
+
+pub returns-clause-settled : goal.returns-clause-settled
+returns-clause-settled g c = settles g.D.Disk.seen g.D.Disk.moment g.D.Disk.left_at (record { disk = c.self.inside.disk; generation = c.self.inside.generation; start = c.self.inside.start; count = c.self.inside.count }) c.args.body.now c.record_bytes-record.result (subst (λ (j : JournalOn g.row.D.Denot). IfSome (g.D.Disk.seen j.disk) (IsSettled j.generation j.start j.count)) (sym c.self.view_is) c.requires.settled) (subst (λ (j : JournalOn g.row.D.Denot). j.count < 1000000) (sym c.self.view_is) c.requires.few) (search rules) c.record_bytes-record.ensures c.write_synced.new.disk c.write_synced-2.new.disk c.in_ok-write_synced.ensures.written c.in_ok-write_synced-2.ensures.written
