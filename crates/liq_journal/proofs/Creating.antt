@@ -28,10 +28,6 @@ pub write_leaves_shut : {D : Type 0} (moment : D → ℕ) (left_at : D → ℕ �
 write_leaves_shut moment left_at old new at n behind time follows shut =
     call moment left_at old new IsShut time shut (λ image left. let from = follows image left in shut_stays at n from.0 image behind (shut from.0 from.1) from.2)
 
-pub header_digest_is : (fields checkpoint : List ℕ) → sha256 (fields ++ checkpoint) ≡ header_digest fields checkpoint
-unfolding header_digest
-header_digest_is fields checkpoint = refl
-
 pub length-header_digest : (fields checkpoint : List ℕ) → length (header_digest fields checkpoint) ≡ 32
 unfolding header_digest
 length-header_digest fields checkpoint = length-sha256 _

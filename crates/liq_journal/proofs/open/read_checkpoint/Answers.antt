@@ -1,5 +1,5 @@
 use Rattle.std.proofs.Common.{◌≡◌, ◌∙◌, ◌+◌, ◌-◌, ◌≤◌, length, rules, arith}
-use Rattle.liq_journal.proofs.Looking.{looked_on, looked_once, read_more, grown, sum_within}
+use Rattle.liq_journal.proofs.Looks.{looked_on, looked_once, read_more, grown, sum_within}
 use Rattle.liq_journal.proofs.open.read_checkpoint.Goals as goal
 
 pub loop-at-preserved : goal.loop-at-preserved

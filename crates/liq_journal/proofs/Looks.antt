@@ -1,7 +1,8 @@
 -- How looks at a disk go on.
-use Rattle.std.proofs.Common.{◌≡◌, ℕ, ◌+◌, ◌-◌, ◌≤◌, min, List, ◌++◌, length, take, drop, Option, Some, None, IfSome, ◌∙◌, sym, ap, subst, arith, refl, take-append-drop, length-append, length-take}
+use Rattle.std.proofs.Common.{◌≡◌, ℕ, ◌+◌, ◌-◌, ◌≤◌, min, List, ◌++◌, length, take, drop, Option, Some, None, IfSome, ◌∙◌, sym, ap, subst, arith, refl, take-append-drop, append_assoc, length-append, length-take}
 use Rattle.std.proofs.lemmas.List.{take-take, drop-take, drop-drop}
-use Rattle.liq_journal.specs.Written.{piece}
+use Rattle.sha2.specs.Sha256.{sha256}
+use Rattle.liq_journal.specs.Written.{header_digest, piece}
 use Rattle.liq_outside.specs.Disk.{LeavesOnly, LeftNow, Within, Elapses}
 use Rattle.liq_outside.proofs.Moments.{chained, weaker, call, started}
 use Rattle.liq_journal.specs.Looked.{Looked}
@@ -42,3 +43,20 @@ grown old new part n is within = ap length is ∙ length-append old (take n part
 
 pub sum_within : (at n want end : ℕ) → n ≤ want → want ≤ end - at → at ≤ end → at + n ≤ end
 sum_within at n want end fits room within = omega arith
+
+-- a piece of the checkpoint more is digested
+pub digest_more : (told now : Option (List ℕ)) → now ≡ told → (size done n : ℕ) (fields part buf : List ℕ) (Holds HoldsMore : List ℕ → Type 0) → ((m : List ℕ) → Holds m → HoldsMore (m ++ take n part)) → IfSome now (λ held. (n ≡ min (length buf) (length held - (57 + done))) × (take n part ≡ take n (drop (57 + done) held))) → IfSome told (λ held. 57 + size ≤ length held → Holds (fields ++ piece 57 done held)) → IfSome told (λ held. 57 + size ≤ length held → HoldsMore (fields ++ piece 57 (done + n) held))
+digest_more told now same size done n fields part buf Holds HoldsMore update read so_far = go told (subst (λ (o : Option (List ℕ)). IfSome o (λ held. (n ≡ min (length buf) (length held - (57 + done))) × (take n part ≡ take n (drop (57 + done) held)))) same read) so_far
+  where
+    go : (o : Option (List ℕ)) → IfSome o (λ held. (n ≡ min (length buf) (length held - (57 + done))) × (take n part ≡ take n (drop (57 + done) held))) → IfSome o (λ held. 57 + size ≤ length held → Holds (fields ++ piece 57 done held)) → IfSome o (λ held. 57 + size ≤ length held → HoldsMore (fields ++ piece 57 (done + n) held))
+    go None r s = tt
+    go (Some held) r s = λ room. subst HoldsMore (append_assoc fields (piece 57 done held) (take n part) ∙ ap (λ (l : List ℕ). fields ++ (piece 57 done held ++ l)) r.1 ∙ ap (λ (l : List ℕ). fields ++ l) (piece_more 57 done n held)) (update (fields ++ piece 57 done held) (s room))
+
+pub header_digest_is : (fields checkpoint : List ℕ) → sha256 (fields ++ checkpoint) ≡ header_digest fields checkpoint
+unfolding header_digest
+header_digest_is fields checkpoint = refl
+
+-- all of it is
+pub digest_done : (told : Option (List ℕ)) (size done : ℕ) → done ≡ size → (fields digest : List ℕ) (Holds : List ℕ → Type 0) → ((m : List ℕ) → Holds m → digest ≡ sha256 m) → IfSome told (λ held. 57 + size ≤ length held → Holds (fields ++ piece 57 done held)) → IfSome told (λ held. 57 + size ≤ length held → digest ≡ header_digest fields (piece 57 size held))
+digest_done None size done all fields digest Holds finalize so_far = tt
+digest_done (Some held) size done all fields digest Holds finalize so_far = λ room. finalize (fields ++ piece 57 done held) (so_far room) ∙ header_digest_is fields (piece 57 done held) ∙ ap (λ (n : ℕ). header_digest fields (piece 57 n held)) all
