@@ -65,6 +65,13 @@ IsKept (why.Damaged damage) = Unit {0}
 IsKept why.Absent = ⊥
 IsKept why.DiskFault = ⊥
 
+-- after it nothing is pending
+abbrev pub IsAtRest : OpenWhy → Type 0
+IsAtRest why.DiskFault = ⊥
+IsAtRest why.Absent = Unit {0}
+IsAtRest why.NoMemory = Unit {0}
+IsAtRest (why.Damaged damage) = Unit {0}
+
 -- what was found is what the journal and the bytes of the checkpoint are
 pub record IsOpened (odd : Bool) (held : List ℕ) (generation start count : ℕ) (checkpoint : List ℕ) : Type 0 where
   pub written : Written

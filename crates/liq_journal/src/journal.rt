@@ -8,7 +8,7 @@ ghost use Rattle.liq_journal.specs.Bodies.{IsAccepted, IsBodyFault, IsJournalOf,
 ghost use Rattle.liq_journal.specs.Causes.{CauseOfOpen, Counted, CountsLook};
 ghost use Rattle.liq_journal.specs.Crash.{BeforeOrAfter, CrashOfCreate, IsBodyOf, ReadsOfCreate, Stands, beginning, is_odd};
 ghost use Rattle.liq_journal.specs.Looked.{Looked};
-ghost use Rattle.liq_journal.specs.Opened.{CrashOfOpen, IsKept, IsOpened, IsWhyOf, ReadsOfOpen};
+ghost use Rattle.liq_journal.specs.Opened.{CrashOfOpen, IsAtRest, IsKept, IsOpened, IsUnshut, IsWhyOf, ReadsOfOpen};
 ghost use Rattle.liq_journal.specs.Settled.{IsSettled};
 ghost use Rattle.liq_journal.specs.Written.{Open, Written, and_then, found_on, is_generation, is_size};
 
@@ -39,7 +39,7 @@ pub struct Journal<D> {
 
 impl<D> Model for Journal<D> {
     ghost use Rattle.std.specs.Prelude.{◌≤◌};
-    ghost use Rattle.liq_journal.specs.Opened.{CrashOfOpen, IsKept, IsOpened, IsWhyOf, ReadsOfOpen};
+    ghost use Rattle.liq_journal.specs.Opened.{CrashOfOpen, IsAtRest, IsKept, IsOpened, IsUnshut, IsWhyOf, ReadsOfOpen};
     ghost use Rattle.liq_journal.specs.Settled.{JournalOn};
 
     ghost Value = { JournalOn D };
@@ -98,6 +98,8 @@ impl<D: Disk> Journal<D> {
         ensures durable { IfOk result (λ r. IfSome (D.seen r.0.disk) (λ after. Only after (LeftNow D.moment D.left_at r.0.disk))) }
         ensures why { IfErr result (λ e. IfSome (D.seen disk) (λ held. IsWhyOf odd held e.why)) }
         ensures kept { IfErr result (λ e. IsKept e.why → D.seen e.disk ≡ D.seen disk) }
+        ensures absent { IfErr result (λ e. e.why ≡ OpenWhy.Absent → IfSome (D.seen e.disk) (λ after. IsUnshut after → ⊥)) }
+        ensures at_rest { IfErr result (λ e. IsAtRest e.why → IfSome (D.seen e.disk) (λ after. Only after (LeftNow D.moment D.left_at e.disk))) }
         ensures telling { MatchResult result (λ r. IsSome (D.seen r.0.disk) ↔ IsSome (D.seen disk)) (λ e. IsSome (D.seen e.disk) ↔ IsSome (D.seen disk)) }
         ensures crash { MatchResult result (λ r. CrashOfOpen D.seen D.moment D.left_at disk r.0.disk odd) (λ e. CrashOfOpen D.seen D.moment D.left_at disk e.disk odd) }
         ensures reads { MatchResult result (λ r. ReadsOfOpen D.seen disk r.0.disk odd) (λ e. ReadsOfOpen D.seen disk e.disk odd) }

@@ -7,7 +7,7 @@ ghost use Rattle.liq_outside.specs.Faults.{HasCause};
 ghost use Rattle.liq_journal.specs.Causes.{CountsOpen};
 ghost use Rattle.liq_journal.specs.declared.damage.Damage.{Damage};
 ghost use Rattle.liq_journal.specs.Looked.{Looked};
-ghost use Rattle.liq_journal.specs.Opened.{AbsentLeaves, HasGate, IsKept, IsScanOf, IsUnshut, IsWhyOf, OpenLeaves, SettleLeaves, why_of};
+ghost use Rattle.liq_journal.specs.Opened.{AbsentLeaves, HasGate, IsAtRest, IsKept, IsScanOf, IsUnshut, IsWhyOf, OpenLeaves, SettleLeaves, why_of};
 ghost use Rattle.liq_journal.specs.Written.{Open, Written, found_on, piece};
 
 use crate::answers::{LookFault, OpenWhy};
@@ -115,6 +115,8 @@ fn is_unshut<D: Disk>(disk: &mut D) -> Result<bool, Failed>
 
 // Shuts the gate of a disk on which no journal is open, where it is there and isn't shut.
 fn settle_absent<D: Disk>(disk: &mut D) -> Result<(), Failed>
+    ensures shut { OnOk result (IfSome (D.seen disk.new) (λ after. IsUnshut after → ⊥)) }
+    ensures durable { OnOk result ((held : List ℕ) → D.seen disk.old ≡ Some held → Only held (LeftNow D.moment D.left_at disk.old) → IfSome (D.seen disk.new) (λ after. Only after (LeftNow D.moment D.left_at disk.new))) }
     ensures telling { IsSome (D.seen disk.new) ↔ IsSome (D.seen disk.old) }
     ensures crash { (held : List ℕ) → D.seen disk.old ≡ Some held → Only held (LeftNow D.moment D.left_at disk.old) → LeavesOnly D.moment D.left_at disk.old disk.new (AbsentLeaves held) }
     ensures time { GoesOn D.moment D.left_at disk.old disk.new }
@@ -138,6 +140,8 @@ fn settle_scanned<D: Disk>(
     ensures durable { IfOk result (λ _. (held : List ℕ) → D.seen disk.old ≡ Some held → Only held (LeftNow D.moment D.left_at disk.old) → IfSome (D.seen disk.new) (λ after. Only after (LeftNow D.moment D.left_at disk.new))) }
     ensures telling { IsSome (D.seen disk.new) ↔ IsSome (D.seen disk.old) }
     ensures kept { IfErr result (λ why. IsKept why → D.seen disk.new ≡ D.seen disk.old) }
+    ensures absent { result ≡ Err OpenWhy.Absent → IfSome (D.seen disk.new) (λ after. IsUnshut after → ⊥) }
+    ensures at_rest { IfErr result (λ why. IsAtRest why → (held : List ℕ) → D.seen disk.old ≡ Some held → Only held (LeftNow D.moment D.left_at disk.old) → IfSome (D.seen disk.new) (λ after. Only after (LeftNow D.moment D.left_at disk.new))) }
     ensures crash { (held : List ℕ) → D.seen disk.old ≡ Some held → Only held (LeftNow D.moment D.left_at disk.old) → LeavesOnly D.moment D.left_at disk.old disk.new (OpenLeaves odd held) }
     ensures time { GoesOn D.moment D.left_at disk.old disk.new }
     ensures cause { (found ≡ Err OpenWhy.DiskFault → ⊥) → CountsOpen result (D.faults disk.old) (D.faults disk.new) }
@@ -166,6 +170,8 @@ pub fn open_on<D: Disk>(alloc: Global, disk: &mut D, odd: bool) -> Result<Scanne
     ensures durable { IfOk result (λ _. IfSome (D.seen disk.new) (λ after. Only after (LeftNow D.moment D.left_at disk.new))) }
     ensures why { IfErr result (λ why. IfSome (D.seen disk.old) (λ held. IsWhyOf odd held why)) }
     ensures kept { IfErr result (λ why. IsKept why → D.seen disk.new ≡ D.seen disk.old) }
+    ensures absent { result ≡ Err OpenWhy.Absent → IfSome (D.seen disk.new) (λ after. IsUnshut after → ⊥) }
+    ensures at_rest { IfErr result (λ why. IsAtRest why → IfSome (D.seen disk.new) (λ after. Only after (LeftNow D.moment D.left_at disk.new))) }
     ensures telling { IsSome (D.seen disk.new) ↔ IsSome (D.seen disk.old) }
     ensures crash { (held : List ℕ) → D.seen disk.old ≡ Some held → Only held (LeftNow D.moment D.left_at disk.old) → LeavesOnly D.moment D.left_at disk.old disk.new (OpenLeaves odd held) }
     ensures reads { (held after : List ℕ) → D.seen disk.old ≡ Some held → D.seen disk.new ≡ Some after → OpenLeaves odd held after }
