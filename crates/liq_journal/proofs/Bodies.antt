@@ -1,8 +1,8 @@
 -- How the body of a record is read, and that it is the accepted one.
-use Rattle.std.proofs.Common.{◌≡◌, ◌⊎◌, inl, inr, ℕ, zero, suc, ◌+◌, ◌*◌, ◌-◌, ◌<◌, ◌≤◌, min, List, [], ◌∷◌, ◌++◌, length, take, drop, slice_get, Option, Some, None, IfSome, Result, Ok, Err, Bool, true, false, not, if◌then◌else◌, refl, sym, ◌∙◌, ap, subst, arith, length-take, length-drop, take-append-drop}
+use Rattle.std.proofs.Common.{◌≡◌, inl, inr, ℕ, zero, suc, ◌+◌, ◌*◌, ◌-◌, ◌<◌, ◌≤◌, min, List, ◌∷◌, ◌++◌, length, take, drop, slice_get, Option, Some, IfSome, Result, Ok, Err, Bool, true, false, not, if◌then◌else◌, refl, sym, ◌∙◌, ap, subst, arith, length-take, length-drop, take-append-drop}
 use Rattle.std.specs.Result.{MatchResult}
 use Rattle.std.specs.Str.{bytes_eq}
-use Rattle.std.proofs.lemmas.List.{take-take, take_at, drop_at, drop-drop, take_all}
+use Rattle.std.proofs.lemmas.List.{take-take, take_at, drop-drop, take_all}
 use Rattle.liq_types.specs.declared.requests.Command.{Command}
 use Rattle.liq_wire.specs.Fields.{command_of}
 use Rattle.liq_journal.specs.declared.damage.What.{What}
@@ -14,7 +14,7 @@ use Rattle.liq_journal.specs.Crash.{IsBodyOf, is_odd}
 use Rattle.liq_journal.specs.Records.{records, begins_whole}
 use Rattle.liq_journal.specs.Settled.{JournalOn}
 use Rattle.liq_journal.specs.Tested.{IsBodyRead, IsFaultRead}
-use Rattle.liq_journal.specs.Written.{Written, Found, Open, piece, record_on, record_digest, command_from, is_rotate, found_records, most_records}
+use Rattle.liq_journal.specs.Written.{Written, Open, piece, record_on, record_digest, command_from, is_rotate, found_records, most_records}
 use Rattle.liq_journal.proofs.Reading.{records_whole, records_none, records_zero, true_or_false, whole_long}
 use Rattle.liq_journal.proofs.Heading.{is_open, of_records, record_open}
 use Rattle.liq_journal.proofs.Testing.{if_some}

@@ -1,19 +1,17 @@
 -- What a creation writes, and what a crash leaves of it.
-use Rattle.std.proofs.Common.{◌≡◌, ◌⊎◌, inl, inr, ⊎_elim, ℕ, zero, suc, ◌+◌, ◌*◌, ◌-◌, ◌<◌, ◌≤◌, ◌^◌, List, [], ◌∷◌, ◌++◌, length, take, drop, get_or, replicate, Option, Some, None, option_map, IfSome, IsSome, Result, Ok, Err, OnOk, rules, Bool, true, false, not, ◌||◌, ◌&&◌, ◌==◌, nat_lt, if◌then◌else◌, refl, sym, ◌∙◌, ap, subst, arith, length-take, length-drop, length-append, append_assoc, take-append-drop}
+use Rattle.std.proofs.Common.{◌≡◌, inl, inr, ℕ, ◌+◌, ◌<◌, ◌≤◌, ◌^◌, List, [], ◌∷◌, ◌++◌, length, take, drop, get_or, replicate, Option, Some, None, option_map, IfSome, IsSome, Result, Ok, Err, OnOk, rules, Bool, true, false, not, nat_lt, refl, sym, ◌∙◌, ap, subst, arith, length-take, length-drop, length-append, append_assoc, take-append-drop}
 use Rattle.std.specs.Str.{bytes_eq}
 use Rattle.std.proofs.lemmas.Bool.Decides.{nat_tests}
 use Rattle.std.proofs.lemmas.Slice.Eq.{bytes_eq-Decides}
-use Rattle.std.proofs.lemmas.List.{take-take, take_at, drop_at, drop_all, get_or-append_right, get_or-drop, drop-drop, append-nil}
-use Rattle.byteorder.specs.Endian.{big_bytes}
+use Rattle.std.proofs.lemmas.List.{take-take, take_at, drop_at, get_or-drop, drop-drop, append-nil}
 use Rattle.byteorder.specs.Numbers.{big_number-reads_back}
-use Rattle.sha2.specs.Sha256.{sha256}
 use Rattle.sha2.proofs.Facts256.{length-sha256}
 use Rattle.liq_wire.specs.Fields.{number_at}
 use Rattle.liq_outside.specs.Disk.{Torn, overwritten, Only, LeftNow, LeavesOnly, Elapses, Follows}
 use Rattle.liq_outside.proofs.Moments.{chained, weaker, at_last, call}
 use Rattle.liq_journal.specs.Records.{records}
-use Rattle.liq_journal.specs.Written.{Written, Found, Open, version_1, piece, generation_on, size_on, start_on, checkpoint_on, header_digest, header_of, fields_of, header_tests, is_absent, is_generation, is_size, found_records, most_records, found_on, end_of, EndsWith, opened}
-use Rattle.liq_journal.specs.Crash.{Stands, IsClosed, HasByteAt, beginning, CrashOfCreate, CreateLeaves, IsShut, ReadsOfCreate, filled}
+use Rattle.liq_journal.specs.Written.{Written, version_1, piece, generation_on, size_on, start_on, checkpoint_on, header_digest, header_of, fields_of, header_tests, is_generation, is_size, found_records, most_records, end_of, opened}
+use Rattle.liq_journal.specs.Crash.{Stands, beginning, CrashOfCreate, CreateLeaves, IsShut, ReadsOfCreate, filled}
 use Rattle.liq_journal.specs.Crash.{is_odd}
 use Rattle.liq_journal.specs.Opened.{HasGate, SettleLeaves}
 use Rattle.liq_journal.proofs.Reading.{records_none, isnt_open}

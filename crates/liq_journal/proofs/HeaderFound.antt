@@ -1,8 +1,7 @@
 -- What is found by a header.
-use Rattle.std.proofs.Common.{◌≡◌, ◌⊎◌, inl, inr, ℕ, zero, suc, ◌+◌, ◌*◌, ◌-◌, ◌<◌, ◌≤◌, min, List, [], ◌∷◌, ◌++◌, length, take, drop, get_or, Option, Some, None, IfSome, Result, Ok, Err, Bool, true, false, not, ◌||◌, ◌&&◌, ◌==◌, nat_lt, if◌then◌else◌, cond, refl, sym, ◌∙◌, ap, subst, arith, length-take, length-drop, take-append-drop}
+use Rattle.std.proofs.Common.{◌≡◌, ◌⊎◌, inl, inr, ℕ, ◌+◌, ◌-◌, ◌<◌, ◌≤◌, min, List, [], ◌∷◌, length, take, drop, get_or, Option, Some, None, IfSome, Result, Ok, Err, Bool, true, false, not, nat_lt, if◌then◌else◌, refl, sym, ◌∙◌, ap, subst, arith}
 use Rattle.std.specs.Str.{bytes_eq}
 use Rattle.std.proofs.lemmas.Bool.Decides.{nat_tests}
-use Rattle.std.proofs.lemmas.List.{take-take, take_all}
 use Rattle.liq_wire.specs.Fields.{first_place}
 use Rattle.liq_journal.specs.declared.damage.What.{What}
 use Rattle.liq_journal.specs.declared.damage.What.TheVariants.{Digest, Form}
@@ -14,11 +13,8 @@ use Rattle.liq_journal.specs.declared.answers.Look.{Look}
 use Rattle.liq_journal.specs.declared.answers.Look.TheVariants as look
 use Rattle.liq_journal.specs.Look.{look_behind, look_on}
 use Rattle.liq_journal.specs.Header.{place_tests, HasFields, IsHeadOf, MaybeHeadOf, IsDamageOf}
-use Rattle.liq_journal.specs.Records.{records}
-use Rattle.liq_journal.specs.Counted.{AreRecords, IsFaultIn}
-use Rattle.liq_journal.specs.Written.{Written, Found, Absent, Damaged, Open, version_1, piece, generation_on, size_on, start_on, checkpoint_on, header_digest, is_generation, is_size, first_fault, header_tests, is_absent, found_records, found_behind, most_records, found_on}
+use Rattle.liq_journal.specs.Written.{Absent, Damaged, version_1, piece, generation_on, size_on, start_on, checkpoint_on, header_digest, is_generation, is_size, first_fault, header_tests, is_absent, found_behind, found_on}
 use Rattle.liq_journal.proofs.Reading.{piece_alike, byte_alike, number_alike}
-use Rattle.liq_journal.proofs.Heading.{Headed, AreFalse, are_false, no_fault, found_behind_it}
 
 early : (a b d : Bool) (rest : List (Bool × What)) (place : ℕ) → first_place ((a, 1) ∷ (b, 9) ∷ (d, 17) ∷ []) ≡ Some place → first_fault ((a, Form 1) ∷ (b, Form 9) ∷ (d, Form 17) ∷ rest) ≡ Some (Form place)
 early true b d rest place is = cc

@@ -3,7 +3,7 @@ use Rattle.std.proofs.Common.{◌≡◌, ℕ, ◌+◌, ◌-◌, ◌≤◌, min, 
 use Rattle.std.proofs.lemmas.List.{take-take, drop-take, drop-drop}
 use Rattle.sha2.specs.Sha256.{sha256}
 use Rattle.liq_journal.specs.Written.{header_digest, piece}
-use Rattle.liq_outside.specs.Disk.{LeavesOnly, LeftNow, Within, Elapses}
+use Rattle.liq_outside.specs.Disk.{LeftNow, Within, Elapses}
 use Rattle.liq_outside.proofs.Moments.{chained, weaker, call, started}
 use Rattle.liq_journal.specs.Looked.{Looked}
 

@@ -1,20 +1,17 @@
 -- What a whole disk is found to be.
-use Rattle.std.proofs.Common.{◌≡◌, ◌⊎◌, inl, inr, ℕ, ◌+◌, ◌*◌, ◌-◌, ◌<◌, ◌≤◌, List, [], ◌∷◌, ◌++◌, length, take, drop, Option, Some, None, IfSome, Result, Ok, Err, Bool, true, false, not, nat_lt, if◌then◌else◌, refl, sym, ◌∙◌, ap, subst, arith, length-take, length-drop}
+use Rattle.std.proofs.Common.{◌≡◌, ◌⊎◌, inl, ℕ, ◌+◌, ◌≤◌, List, length, drop, Option, Some, None, IfSome, Result, Ok, Err, Bool, true, false, not, nat_lt, refl, sym, ◌∙◌, ap, subst, arith, length-take, length-drop}
 use Rattle.std.specs.Str.{bytes_eq}
 use Rattle.std.proofs.lemmas.Bool.Decides.{nat_tests}
-use Rattle.liq_journal.specs.declared.damage.What.{What}
-use Rattle.liq_journal.specs.declared.damage.What.TheVariants.{Digest, Form}
-use Rattle.liq_journal.specs.declared.damage.Damage.{Damage}
+use Rattle.liq_journal.specs.declared.damage.What.TheVariants.{Digest}
 use Rattle.liq_journal.specs.declared.head.Head.{Head}
 use Rattle.liq_journal.specs.declared.scanned.Scanned.{Scanned}
 use Rattle.liq_journal.specs.declared.answers.LookFault.{LookFault}
 use Rattle.liq_journal.specs.declared.answers.LookFault.TheVariants as look
-use Rattle.liq_journal.specs.declared.answers.OpenWhy.{OpenWhy}
 use Rattle.liq_journal.specs.declared.answers.OpenWhy.TheVariants as why
 use Rattle.liq_journal.specs.Header.{IsHeadOf, MaybeHeadOf, IsDamageOf}
 use Rattle.liq_journal.specs.Opened.{IsScanOf, IsWhyOf, why_of}
 use Rattle.liq_journal.specs.Counted.{AreRecords, IsFaultIn}
-use Rattle.liq_journal.specs.Written.{Written, Found, Damaged, Open, version_1, piece, generation_on, size_on, start_on, checkpoint_on, header_digest, is_generation, is_size, first_fault, header_tests, found_on}
+use Rattle.liq_journal.specs.Written.{version_1, piece, generation_on, size_on, start_on, checkpoint_on, header_digest, is_generation, is_size, header_tests}
 use Rattle.liq_journal.proofs.Heading.{Headed, no_fault, found_behind_it}
 use Rattle.liq_journal.proofs.HeaderFound.{early_false, found_absent, found_damaged, look_damaged, look_open, fifth}
 use Rattle.liq_journal.specs.Look.{look_on}

@@ -1,9 +1,9 @@
 -- What a crash may leave of a journal.
 use Rattle.std.specs.Prelude.{◌≡◌, ◌⊎◌, ℕ, ◌+◌, ◌<◌, List, [], ◌∷◌, length, take, get_or, Bool, true, false, Option, Some, Ok, ◌%◌, ◌==◌}
-use Rattle.liq_outside.specs.Disk.{LeavesOnly, LeftNow, Only, overwritten}
+use Rattle.liq_outside.specs.Disk.{LeavesOnly, LeftNow, Only, Torn, overwritten}
 use Rattle.liq_types.specs.declared.requests.Command.{Command}
 use Rattle.liq_wire.specs.Fields.{command_of}
-use Rattle.liq_journal.specs.Written.{header_of, is_generation, Written, Found, Open, found_on, EndsWith, and_then, end_of, is_rotate, opened}
+use Rattle.liq_journal.specs.Written.{header_of, is_generation, Written, Open, found_on, EndsWith, and_then, end_of, is_rotate, opened}
 
 -- open with this, and a 0 behind the last record
 pub record Stands (odd : Bool) (bytes : List ℕ) (w : Written) : Type 0 where
@@ -64,3 +64,11 @@ abbrev pub ReadsOfCreate : {D : Type 0} → (D → Option (List ℕ)) → (D →
 ReadsOfCreate seen moment left_at old new generation checkpoint =
     (held after : List ℕ) → seen old ≡ Some held → Only held (LeftNow moment left_at old) → is_generation (is_odd generation) generation ≡ true → seen new ≡ Some after
     → CreateLeaves (is_odd generation) held (beginning generation checkpoint) after
+
+-- these bytes behind a gate, which is opened
+abbrev pub gated : ℕ → List ℕ → List ℕ → List ℕ
+gated gate bytes held = overwritten (overwritten held (gate + 1) bytes) gate (1 ∷ [])
+
+-- any part of the bytes behind the gate, or all of them and any gate
+abbrev pub GatedLeaves : ℕ → List ℕ → List ℕ → List ℕ → Type 0
+GatedLeaves gate held bytes image = Torn (gate + 1) (length bytes) held image ⊎ Torn gate 1 (overwritten held (gate + 1) bytes) image

@@ -1,5 +1,5 @@
 -- What a header is found to be, before its digest is tested.
-use Rattle.std.specs.Prelude.{◌≡◌, ℕ, ◌+◌, List, [], ◌∷◌, length, take, Bool, true, false, not, Option, Some, None, Ok, Err, nat_lt}
+use Rattle.std.specs.Prelude.{◌≡◌, ℕ, List, [], ◌∷◌, length, Bool, false, not, Option, Some, None, Ok, Err, nat_lt}
 use Rattle.std.specs.Str.{bytes_eq}
 use Rattle.liq_wire.specs.Fields.{first_place}
 use Rattle.liq_journal.specs.declared.head.Head.{Head}

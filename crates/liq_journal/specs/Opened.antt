@@ -6,7 +6,7 @@ use Rattle.liq_journal.specs.declared.answers.LookFault.TheVariants as look
 use Rattle.liq_journal.specs.declared.answers.OpenWhy.{OpenWhy}
 use Rattle.liq_journal.specs.declared.answers.OpenWhy.TheVariants as why
 use Rattle.liq_journal.specs.declared.scanned.Scanned.{Scanned}
-use Rattle.liq_journal.specs.Written.{Written, Found, Absent, Damaged, Open, found_on, end_of}
+use Rattle.liq_journal.specs.Written.{Written, Absent, Damaged, Open, found_on, end_of}
 use Rattle.liq_journal.specs.Crash.{HasByteAt}
 
 -- a shut gate is there

@@ -13,7 +13,7 @@ ghost use Rattle.liq_journal.specs.Settled.{IsSettled};
 ghost use Rattle.liq_journal.specs.Written.{Open, Written, and_then, found_on, is_generation, is_size};
 
 use crate::answers::{CreateFault, DiskFault, LookFault, OpenFault, OpenWhy};
-use crate::bytes::write_synced;
+use crate::bytes::write_gated;
 use crate::create::make;
 use crate::digests::record_bytes;
 use crate::header::HEADER;
@@ -158,8 +158,7 @@ impl<D: Disk> Journal<D> {
     {
         let gate = self.start + RECORD * self.count;
         let record = record_bytes(self.generation, self.count + 1, body);
-        write_synced(&mut self.disk, gate + 1, &record)?;
-        write_synced(&mut self.disk, gate, &[1])?;
+        write_gated(&mut self.disk, gate, &record)?;
         self.count += 1;
         Ok(())
     }

@@ -1,4 +1,4 @@
-use Rattle.std.proofs.Common.{◌≡◌, ◌∙◌, List, ℕ, ◌∷◌, [], Option, Some, IsSome, option_map, true, sym, subst, arith, rules}
+use Rattle.std.proofs.Common.{◌≡◌, List, ℕ, ◌∷◌, [], Some, option_map, true, rules}
 use Rattle.liq_outside.specs.Disk.{overwritten}
 use Rattle.liq_journal.specs.Crash.{Stands, beginning}
 use Rattle.liq_journal.specs.Crash.{is_odd}

@@ -1,4 +1,4 @@
-use Rattle.std.proofs.Common.{◌≡◌, ◌≤◌, ◌∙◌, List, ℕ, Option, IfSome, length, subst}
+use Rattle.std.proofs.Common.{◌≤◌, ◌∙◌, List, ℕ, Option, IfSome, length, subst}
 use Rattle.liq_journal.proofs.Settling.{settle_looked, settle_written}
 use Rattle.liq_journal.proofs.gate.settle.Goals as goal
 

@@ -1,4 +1,4 @@
-use Rattle.std.proofs.Common.{◌≡◌, ◌∙◌, ◌+◌, ◌-◌, ◌≤◌, List, ℕ, length, rules, arith}
+use Rattle.std.proofs.Common.{◌∙◌, ◌-◌, ◌≤◌, List, ℕ, rules, arith}
 use Rattle.sha2.specs.Hashers.{Holds256}
 use Rattle.liq_journal.proofs.Looks.{looked_on, looked_once, digest_more, digest_done}
 use Rattle.liq_journal.proofs.looking.digest_behind.Goals as goal

@@ -1,4 +1,4 @@
-use Rattle.std.proofs.Common.{◌≡◌, ◌∙◌, Option, Some, IfSome, sym, subst}
+use Rattle.std.proofs.Common.{◌∙◌, Option, IfSome, sym, subst}
 use Rattle.liq_journal.specs.declared.head.Head.{Head}
 use Rattle.liq_journal.specs.Header.{MaybeHeadOf}
 use Rattle.liq_journal.proofs.Scanning.{told_look_damaged, told_look_open}

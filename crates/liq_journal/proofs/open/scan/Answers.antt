@@ -1,4 +1,4 @@
-use Rattle.std.proofs.Common.{◌≡◌, ◌∙◌, ◌+◌, ◌≤◌, List, ℕ, Option, Some, IfSome, length, refl, sym, subst, ap, rules}
+use Rattle.std.proofs.Common.{◌≡◌, ◌∙◌, ◌+◌, ◌≤◌, List, ℕ, Option, IfSome, length, refl, sym, subst, ap}
 use Rattle.liq_journal.specs.declared.head.Head.{Head}
 use Rattle.liq_journal.specs.declared.answers.OpenWhy.{OpenWhy}
 use Rattle.liq_journal.specs.Header.{MaybeHeadOf}

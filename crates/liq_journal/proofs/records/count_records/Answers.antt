@@ -1,5 +1,5 @@
-use Rattle.std.proofs.Common.{◌≡◌, ◌∙◌, ◌+◌, ◌*◌, ◌<◌, List, ℕ, Option, None, Some, IfSome, arith, rules, subst}
-use Rattle.liq_journal.specs.Tested.{IsTested, IsFaultOf}
+use Rattle.std.proofs.Common.{◌∙◌, ◌+◌, ◌*◌, List, ℕ, Option, IfSome, arith, subst}
+use Rattle.liq_journal.specs.Tested.{IsTested}
 use Rattle.liq_journal.proofs.Looks.{looked_on}
 use Rattle.liq_journal.proofs.Counting.{told_more, told_end, told_fault, told_full}
 use Rattle.liq_journal.proofs.records.count_records.Goals as goal

@@ -1,4 +1,4 @@
-use Rattle.std.proofs.Common.{◌≡◌, ◌∙◌, take, drop, length, arith, length-drop}
+use Rattle.std.proofs.Common.{◌∙◌, drop, arith, length-drop}
 use Rattle.std.proofs.lemmas.List.{take_all}
 use Rattle.liq_journal.proofs.records.split.Goals as goal
 
