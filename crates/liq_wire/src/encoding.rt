@@ -1,7 +1,7 @@
 // A command written to its bytes.
 ghost use Rattle.std.specs.Prelude.{◌≡◌, ◌≤◌, ◌<◌, ◌^◌, ◌+◌, ◌++◌, Ok, length, take, drop};
 ghost use Rattle.byteorder.specs.Endian.{big_bytes};
-ghost use Rattle.liq_wire.specs.Fields.{HasHints, Spells96, command_of};
+ghost use Rattle.liq_wire.specs.Fields.{HasHints, Spells96, command_of, heard};
 
 use crate::fields::fields_of;
 use byteorder::{BigEndian, ByteOrder};
@@ -11,6 +11,7 @@ use liq_types::Command;
 /// is written as that word, which is read as no hint.
 pub fn encode(command: &Command) -> [u8; 96]
     ensures spelled { Spells96 result command.now }
+    ensures read { command_of result ≡ Ok (record command.now { call = heard command.now.call }) }
     ensures back { HasHints command.now.call → command_of result ≡ Ok command.now }
 {
     let fields = fields_of(command);

@@ -1,6 +1,6 @@
 use Rattle.std.proofs.Common.{◌≡◌, Ok, List, ℕ, get_or, length, refl, sym, ◌∙◌, ap, subst}
-use Rattle.liq_wire.specs.Fields.{Spells96}
-use Rattle.liq_wire.proofs.Spelling.{of_spelled, fits_spelled, command_is}
+use Rattle.liq_wire.specs.Fields.{Fields, Spells96, command_in}
+use Rattle.liq_wire.proofs.Spelling.{of_spelled, fits_spelled, command_is, heard_back}
 use Rattle.liq_wire.proofs.Writing.{put, whole, fields_whole}
 use Rattle.liq_wire.proofs.encoding.encode.Goals as goal
 
@@ -25,3 +25,6 @@ returns-clause-spelled c =
 
 pub returns-clause-back : goal.returns-clause-back
 returns-clause-back c = λ has. let spells = returns-clause-spelled c in command_is c.put_u32-5.new.bytes (fits_spelled c.put_u32-5.new.bytes c.args.command.now spells) ∙ ap Ok (of_spelled c.put_u32-5.new.bytes c.args.command.now spells has)
+
+pub returns-clause-read : goal.returns-clause-read
+returns-clause-read c = let spells = returns-clause-spelled c in command_is c.put_u32-5.new.bytes (fits_spelled c.put_u32-5.new.bytes c.args.command.now spells) ∙ ap (λ (f : Fields). Ok (command_in f)) spells.fields ∙ ap Ok (heard_back c.args.command.now.client c.args.command.now.number c.args.command.now.call)
