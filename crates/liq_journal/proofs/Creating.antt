@@ -11,9 +11,8 @@ use Rattle.liq_outside.specs.Disk.{Torn, overwritten, Only, LeftNow, LeavesOnly,
 use Rattle.liq_outside.proofs.Moments.{chained, weaker, at_last, call}
 use Rattle.liq_journal.specs.Records.{records}
 use Rattle.liq_journal.specs.Written.{Written, version_1, piece, generation_on, size_on, start_on, checkpoint_on, header_digest, header_of, fields_of, header_tests, is_generation, is_size, found_records, most_records, end_of, opened}
-use Rattle.liq_journal.specs.Crash.{Stands, beginning, CrashOfCreate, CreateLeaves, IsShut, ReadsOfCreate, filled}
+use Rattle.liq_journal.specs.Crash.{CrashOfCreate, CreateLeaves, HasGate, IsShut, ReadsOfCreate, SettleLeaves, Stands, beginning, filled}
 use Rattle.liq_journal.specs.Crash.{is_odd}
-use Rattle.liq_journal.specs.Opened.{HasGate, SettleLeaves}
 use Rattle.liq_journal.proofs.Reading.{records_none, isnt_open}
 use Rattle.liq_journal.proofs.Heading.{Headed, found_behind_it, no_fault}
 
@@ -168,8 +167,7 @@ module _ (generation : ℕ) (checkpoint : List ℕ) where
 -- what a creation leaves, part by part
 module _ (odd : Bool) (held : List ℕ) (w : Written) where
   pub of_shutting : (image : List ℕ) → SettleLeaves 0 held image → CreateLeaves odd held w image
-  of_shutting image (inl same) = inr (inl same)
-  of_shutting image (inr (open_gate, byte)) = inr (inr (inl byte))
+  of_shutting image leaves = inr (inl leaves)
 
   pub of_filling : (image : List ℕ) → IsShut image → CreateLeaves odd held w image
   of_filling image shut = inl (inr (some_byte image shut, first_zero image shut))
@@ -183,7 +181,7 @@ module _ (odd : Bool) (held : List ℕ) (w : Written) where
       first_zero (x ∷ l) is = cc
 
   pub of_opening : (before image : List ℕ) → Stands odd (opened 0 before) w → Torn 0 1 before image → CreateLeaves odd held w image
-  of_opening before image stands torn = inr (inr (inr (subst (λ (l : List ℕ). Stands odd (1 ∷ l) w) (sym torn.behind) stands)))
+  of_opening before image stands torn = inr (inr (subst (λ (l : List ℕ). Stands odd (1 ∷ l) w) (sym torn.behind) stands))
 
 -- a shut gate at place 0
 pub gate_shut : (told : Option (List ℕ)) → IfSome told (HasGate 0) → IfSome told IsShut

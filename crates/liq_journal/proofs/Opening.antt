@@ -5,10 +5,10 @@ use Rattle.liq_outside.proofs.Moments.{weaker}
 use Rattle.liq_journal.specs.Records.{records}
 use Rattle.liq_journal.specs.declared.scanned.Scanned.{Scanned}
 use Rattle.liq_journal.specs.Written.{Written, Open, Absent, most_records, found_on, end_of, header_tests, version_1}
-use Rattle.liq_journal.specs.Crash.{Stands, is_odd}
+use Rattle.liq_journal.specs.Crash.{HasGate, SettleLeaves, Stands, is_odd}
 use Rattle.liq_journal.specs.Settled.{IsSettled}
 use Rattle.std.proofs.lemmas.Bool.Decides.{nat_tests}
-use Rattle.liq_journal.specs.Opened.{IsOpened, HasGate, IsScanOf, OpenLeaves, SettleLeaves, AbsentLeaves}
+use Rattle.liq_journal.specs.Opened.{IsOpened, IsScanOf, OpenLeaves, AbsentLeaves}
 use Rattle.liq_journal.proofs.Reading.{records_long, records_few}
 use Rattle.liq_journal.proofs.Heading.{is_open, of_records, are_false}
 use Rattle.liq_journal.proofs.Appending.{held_on}

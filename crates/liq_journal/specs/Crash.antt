@@ -32,14 +32,23 @@ IsClosed bytes = (length bytes < 57) ⊎ ((0 < length bytes) × (get_or bytes 0 
 abbrev pub HasByteAt : ℕ → List ℕ → List ℕ → Type 0
 HasByteAt place held bytes = (byte : ℕ) × (bytes ≡ overwritten held place (byte ∷ []))
 
+-- a shut gate is there
+pub record HasGate (place : ℕ) (bytes : List ℕ) : Type 0 where
+  pub there : place < length bytes
+  pub shut : get_or bytes place 0 ≡ 0
+
+-- as they were, or with some byte at this place, where no shut gate is
+abbrev pub SettleLeaves : ℕ → List ℕ → List ℕ → Type 0
+SettleLeaves place held bytes = (bytes ≡ held) ⊎ ((HasGate place held → ⊥) × HasByteAt place held bytes)
+
 -- what is written by a creation
 abbrev pub beginning : ℕ → List ℕ → Written
 beginning generation checkpoint = record { generation = generation; checkpoint = checkpoint; commands = [] }
 
--- A stop within a creation leaves nothing that is open, or what was there, or what is made; of the latter two the first byte may be
--- any.
+-- A stop within a creation leaves nothing that is open, or what was there, with some byte at place 0 where no 0 is, or what is made,
+-- with any byte there.
 abbrev pub CreateLeaves : Bool → List ℕ → Written → List ℕ → Type 0
-CreateLeaves odd held w bytes = IsClosed bytes ⊎ ((bytes ≡ held) ⊎ (HasByteAt 0 held bytes ⊎ Stands odd (opened 0 bytes) w))
+CreateLeaves odd held w bytes = IsClosed bytes ⊎ (SettleLeaves 0 held bytes ⊎ Stands odd (opened 0 bytes) w)
 
 -- a closed gate stands at place 0
 abbrev pub IsShut : List ℕ → Type 0

@@ -7,12 +7,7 @@ use Rattle.liq_journal.specs.declared.answers.OpenWhy.{OpenWhy}
 use Rattle.liq_journal.specs.declared.answers.OpenWhy.TheVariants as why
 use Rattle.liq_journal.specs.declared.scanned.Scanned.{Scanned}
 use Rattle.liq_journal.specs.Written.{Written, Absent, Damaged, Open, found_on, end_of}
-use Rattle.liq_journal.specs.Crash.{HasByteAt}
-
--- a shut gate is there
-pub record HasGate (place : ℕ) (bytes : List ℕ) : Type 0 where
-  pub there : place < length bytes
-  pub shut : get_or bytes place 0 ≡ 0
+use Rattle.liq_journal.specs.Crash.{HasByteAt, HasGate}
 
 -- a look's fault as an opening's
 abbrev pub why_of : LookFault → OpenWhy
@@ -50,10 +45,6 @@ IsUnsettled odd held place =
 -- An opening leaves the bytes as they were, or with some byte where it shuts one.
 abbrev pub OpenLeaves : Bool → List ℕ → List ℕ → Type 0
 OpenLeaves odd held bytes = (bytes ≡ held) ⊎ ((place : ℕ) × IsUnsettled odd held place × HasByteAt place held bytes)
-
--- as they were, or with some byte at this place, where no shut gate is
-abbrev pub SettleLeaves : ℕ → List ℕ → List ℕ → Type 0
-SettleLeaves place held bytes = (bytes ≡ held) ⊎ ((HasGate place held → ⊥) × HasByteAt place held bytes)
 
 abbrev pub AbsentLeaves : List ℕ → List ℕ → Type 0
 AbsentLeaves held bytes = (bytes ≡ held) ⊎ (IsUnshut held × HasByteAt 0 held bytes)

@@ -3,7 +3,7 @@ ghost use Rattle.std.specs.Prelude.{◌≡◌, ◌≤◌, ◌<◌, ◌^◌, ◌�
 ghost use Rattle.liq_outside.specs.Disk.{GoesOn, LeavesOnly, LeftNow, Only};
 ghost use Rattle.liq_outside.specs.Faults.{HasCause};
 ghost use Rattle.liq_journal.specs.Looked.{Looked};
-ghost use Rattle.liq_journal.specs.Opened.{HasGate, SettleLeaves};
+ghost use Rattle.liq_journal.specs.Crash.{HasGate, SettleLeaves};
 
 use crate::bytes::write_synced;
 use liq_outside::{Disk, Failed};

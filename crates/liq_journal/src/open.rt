@@ -1,13 +1,13 @@
 // A journal opened: all of its disk tested, and the byte behind it shut.
 ghost use Rattle.std.specs.Prelude.{◌≡◌, ◌≤◌, ◌<◌, ◌+◌, ◌^◌, ◌⊎◌, ◌↔◌, Some, IsTrue, Ok, Err, List, ℕ, length, drop, take, OnOk, OnErr, IfOk, IfErr, IfSome, IsSome};
 ghost use Rattle.std.specs.Result.{MatchResult};
-ghost use Rattle.liq_journal.specs.Crash.{Stands};
+ghost use Rattle.liq_journal.specs.Crash.{HasGate, SettleLeaves, Stands};
 ghost use Rattle.liq_outside.specs.Disk.{GoesOn, LeavesOnly, LeftNow, Only};
 ghost use Rattle.liq_outside.specs.Faults.{HasCause};
 ghost use Rattle.liq_journal.specs.Causes.{CountsOpen};
 ghost use Rattle.liq_journal.specs.declared.damage.Damage.{Damage};
 ghost use Rattle.liq_journal.specs.Looked.{Looked};
-ghost use Rattle.liq_journal.specs.Opened.{AbsentLeaves, HasGate, IsAtRest, IsKept, IsScanOf, IsUnshut, IsWhyOf, OpenLeaves, SettleLeaves, why_of};
+ghost use Rattle.liq_journal.specs.Opened.{AbsentLeaves, IsAtRest, IsKept, IsScanOf, IsUnshut, IsWhyOf, OpenLeaves, why_of};
 ghost use Rattle.liq_journal.specs.Written.{Open, Written, found_on, piece};
 
 use crate::answers::{LookFault, OpenWhy};
