@@ -1,49 +1,20 @@
 //! A journal in a real file.
 
 use crate::journals::{Opened, append, create, fund, open};
-use crate::table::TWO_RECORDS;
+use crate::table::two_records;
 use liq_outside::{Disk, FileDisk};
-use std::alloc::{AllocError, Global};
 use std::fs::{self, File, Files};
 use std::io;
 use std::test::Fail;
 
 // A file of this name, empty where it is new.
-fn file<F: Files<File = File>>(files: &F, name: &str) -> io::Result<FileDisk> {
+pub fn file<F: Files<File = File>>(files: &F, name: &str) -> io::Result<FileDisk> {
     let file = File::options()
         .read(true)
         .write(true)
         .create(true)
         .open(files, name)?;
     Ok(FileDisk::new(Some(file)))
-}
-
-// The bytes that a row of hexadecimal digits spells.
-fn push_row(bytes: &mut Vec<u8>, row: &str) -> Result<(), AllocError> {
-    let mut high = None;
-    for digit in row.bytes() {
-        let value = match digit {
-            b'0'..=b'9' => digit - b'0',
-            b'a'..=b'f' => digit - b'a' + 10,
-            _ => 0,
-        };
-        match high {
-            None => high = Some(value),
-            Some(first) => {
-                bytes.push((first << 4) | value)?;
-                high = None;
-            }
-        }
-    }
-    Ok(())
-}
-
-fn table(alloc: Global) -> Result<Vec<u8>, AllocError> {
-    let mut bytes = Vec::new(alloc);
-    for row in TWO_RECORDS {
-        push_row(&mut bytes, row)?;
-    }
-    Ok(bytes)
 }
 
 #[test]
@@ -60,7 +31,7 @@ fn two_records_in_a_file(rt: HostRuntime) -> Result<(), Fail> {
     let mut bytes = [0; 400];
     assert_eq!(rt; made.length(), Ok(316));
     assert_eq!(rt; made.read_at(0, &mut bytes), Ok(316));
-    assert_eq!(rt; bytes.get(..316), Some(table(rt.alloc())?.as_slice()));
+    assert_eq!(rt; bytes.get(..316), Some(two_records(rt.alloc())?.as_slice()));
     assert_eq!(rt; made.faults(), 0);
     Ok(())
 }

@@ -1,4 +1,7 @@
 // Journals over disks in memory.
+ghost use Rattle.std.specs.Prelude.{◌≡◌};
+ghost use Rattle.liq_types.specs.declared.requests.Call.TheVariants.{Fund};
+
 use liq_journal::{Journal, OpenWhy};
 use liq_outside::{Disk, MemoryDisk};
 use liq_types::{Call, Command};
@@ -13,7 +16,9 @@ pub enum Opened {
 }
 
 // `1 NUMBER fund 1 10000000000`
-pub fn fund(number: u64) -> Command {
+pub fn fund(number: u64) -> Command
+    ensures { result ≡ record { client = 1; number = number; call = Fund 1 10000000000 } }
+{
     Command {
         client: 1,
         number,

@@ -9,7 +9,11 @@ mod cuts;
 #[cfg(test)]
 mod files;
 #[cfg(test)]
+mod in_a_row;
+#[cfg(test)]
 mod journals;
+#[cfg(test)]
+mod looks;
 #[cfg(test)]
 mod stops;
 #[cfg(test)]

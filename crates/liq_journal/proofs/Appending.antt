@@ -1,25 +1,23 @@
 -- What each write of an append leaves.
-use Rattle.std.proofs.Common.{◌≡◌, ◌⊎◌, inl, inr, ⊎_elim, ℕ, zero, suc, ◌+◌, ◌*◌, ◌-◌, ◌<◌, ◌≤◌, min, max, List, [], ◌∷◌, ◌++◌, length, take, drop, get_or, replicate, Option, Some, option_map, IfSome, Result, Ok, Err, Bool, true, false, not, if◌then◌else◌, refl, sym, ◌∙◌, ap, subst, arith, length-take, length-drop, length-append, append_assoc, take-append-drop}
+use Rattle.std.proofs.Common.{◌≡◌, ◌⊎◌, inl, inr, ⊎_elim, ℕ, zero, suc, ◌+◌, ◌*◌, ◌-◌, ◌<◌, ◌≤◌, List, [], ◌∷◌, ◌++◌, length, take, drop, get_or, replicate, Option, Some, None, option_map, IfSome, Ok, Err, Bool, false, not, if◌then◌else◌, refl, sym, ◌∙◌, ap, subst, arith, length-take, length-drop, length-append, append_assoc}
 use Rattle.std.specs.Str.{bytes_eq}
-use Rattle.std.proofs.lemmas.Bool.Decides.{nat_tests}
 use Rattle.std.proofs.lemmas.Slice.Eq.{bytes_eq-Decides}
-use Rattle.std.proofs.lemmas.List.{take-take, take_at, drop_at, get_or-take, get_or-drop, drop-drop, append-nil, take-append-le, get_or-append_right}
+use Rattle.std.proofs.lemmas.List.{take-take, take_at, drop_at, get_or-drop, drop-drop, append-nil, get_or-append_right}
 use Rattle.liq_types.specs.declared.requests.Command.{Command}
 use Rattle.liq_wire.specs.Fields.{command_of}
 use Rattle.liq_outside.specs.Disk.{Torn, overwritten, Only, LeftNow, LeavesOnly}
-use Rattle.liq_outside.proofs.Moments.{chained, weaker, at_last}
+use Rattle.liq_outside.proofs.Moments.{weaker, at_last}
 use Rattle.byteorder.specs.Endian.{big_bytes}
 use Rattle.sha2.specs.Sha256.{sha256}
 use Rattle.sha2.proofs.Facts256.{length-sha256}
 use Rattle.liq_journal.specs.Settled.{JournalOn, IsSettled}
 use Rattle.liq_outside.proofs.Steps.{torn_whole}
-use Rattle.liq_journal.specs.declared.damage.What.{What}
 use Rattle.liq_journal.specs.declared.damage.What.TheVariants.{Digest, Form}
 use Rattle.liq_journal.specs.Records.{records}
-use Rattle.liq_journal.specs.Written.{Written, Found, Open, piece, found_records, most_records, found_on, end_of, EndsWith, and_then, opened, record_on, record_digest, command_from, unless_rotate, is_rotate}
-use Rattle.liq_journal.specs.Crash.{Stands, IsPending, BeforeOrAfter, IsBodyOf, is_odd}
-use Rattle.liq_journal.proofs.Reading.{records_whole, records_none, records_alike, is_whole, isnt_open, isnt_long, front_behind, piece_alike, byte_alike, length_alike, true_or_false}
-use Rattle.liq_journal.proofs.Heading.{Headed, IsOpen, is_open, headed_alike, found_behind_it, of_records, found_more}
+use Rattle.liq_journal.specs.Written.{Written, Open, piece, found_records, most_records, found_on, end_of, EndsWith, and_then, opened, record_on, record_digest, command_from}
+use Rattle.liq_journal.specs.Crash.{Stands, BeforeOrAfter, GatedLeaves, IsBodyOf, gated, is_odd}
+use Rattle.liq_journal.proofs.Reading.{records_whole, records_none, records_alike, is_whole, isnt_open, front_behind, byte_alike}
+use Rattle.liq_journal.proofs.Heading.{is_open, headed_alike, found_behind_it, of_records, found_more}
 
 -- a body, a digest and a 0, written over zeros
 pub record_is : (body digest : List ℕ) → length body ≡ 96 → length digest ≡ 32 → take 96 (body ++ drop (0 + length body) (replicate 129 0)) ++ digest ++ drop (96 + length digest) (body ++ drop (0 + length body) (replicate 129 0)) ≡ (body ++ digest) ++ 0 ∷ []
@@ -271,9 +269,9 @@ module _ {D : Type 0} (seen : D → Option (List ℕ)) (moment : D → ℕ) (lef
   abbrev pub Appends : D → Type 0
   Appends new = (held : List ℕ) (w : Written) (command : Command) → seen j.disk ≡ Some held → Stands (is_odd j.generation) held w → IsBodyOf body command → (after : List ℕ) × (seen new ≡ Some after) × Stands (is_odd j.generation) after (and_then w command)
 
-  -- a write as it is told
-  abbrev pub Tears : D → D → ℕ → List ℕ → Type 0
-  Tears old new at bytes = (held : List ℕ) → seen old ≡ Some held → Only held (LeftNow moment left_at old) → LeavesOnly moment left_at old new (Torn at (length bytes) held)
+  -- the writes as they are told
+  abbrev pub Gated : D → Type 0
+  Gated new = (held : List ℕ) → seen j.disk ≡ Some held → Only held (LeftNow moment left_at j.disk) → LeavesOnly moment left_at j.disk new (GatedLeaves gate held record_of)
 
   abbrev pub Reads : D → Type 0
   Reads new = (held after : List ℕ) (w : Written) (command : Command) → seen j.disk ≡ Some held → Only held (LeftNow moment left_at j.disk) → Stands (is_odd j.generation) held w → IsBodyOf body command → seen new ≡ Some after → BeforeOrAfter (is_odd j.generation) w command after
@@ -288,45 +286,52 @@ module _ {D : Type 0} (seen : D → Option (List ℕ)) (moment : D → ℕ) (lef
     gate_is : (w : Written) → Agrees j.generation j.start j.count w → end_of w ≡ gate
     gate_is w a = let s = a.start_is in let c = a.count_is in omega arith
 
-    pub first_crashes : (mid : D) → Tears j.disk mid (gate + 1) record_of → Crashes mid
-    first_crashes mid tears held w command told only stands of =
-        let a = known held w told stands in
-        let few_2 : length w.commands < 1000000 = let c = a.count_is in omega arith in
-        weaker moment left_at j.disk mid (Torn (gate + 1) (length record_of) held) (BeforeOrAfter (is_odd j.generation) w command) (tears held told only)
-        (λ image torn. inl (stage_left (is_odd j.generation) held w stands few_2 (length record_of) image (subst (λ (n : ℕ). Torn (n + 1) (length record_of) held image) (sym (gate_is w a)) torn)))
-
-    module _ (size : length body ≡ 96) (is : record_of ≡ (body ++ record_digest j.generation (j.count + 1) body) ++ 0 ∷ []) (mid new : D)
-        (written : seen mid ≡ option_map (λ held. overwritten held (gate + 1) record_of) (seen j.disk)) where
+    module _ (size : length body ≡ 96) (is : record_of ≡ (body ++ record_digest j.generation (j.count + 1) body) ++ 0 ∷ []) (new : D) where
       stored : (w : Written) → Agrees j.generation j.start j.count w → record_digest j.generation (j.count + 1) body ≡ record_digest w.generation (length w.commands + 1) body
       stored w a = ap (λ (n : ℕ). record_digest n (j.count + 1) body) (sym a.generation_is) ∙ ap (λ (n : ℕ). record_digest w.generation (n + 1) body) (sym a.count_is)
 
-      digest_of : List ℕ
-      digest_of = record_digest j.generation (j.count + 1) body
+      abbrev staged_of : List ℕ → Written → List ℕ
+      staged_of held w = overwritten held (end_of w + 1) ((body ++ record_digest j.generation (j.count + 1) body) ++ 0 ∷ [])
 
-      mid_is : (held : List ℕ) (w : Written) → seen j.disk ≡ Some held → (a : Agrees j.generation j.start j.count w) → seen mid ≡ Some (overwritten held (end_of w + 1) ((body ++ record_digest j.generation (j.count + 1) body) ++ 0 ∷ []))
-      mid_is held w told a =
-          written ∙ ap (option_map (λ (l : List ℕ). overwritten l (gate + 1) record_of)) told
-          ∙ ap (λ (l : List ℕ). Some (overwritten held (gate + 1) l)) is
-          ∙ ap (λ (n : ℕ). Some (overwritten held (n + 1) ((body ++ record_digest j.generation (j.count + 1) body) ++ 0 ∷ []))) (sym (gate_is w a))
+      staged_is : (held : List ℕ) (w : Written) → Agrees j.generation j.start j.count w → overwritten held (gate + 1) record_of ≡ staged_of held w
+      staged_is held w a =
+          ap (λ (l : List ℕ). overwritten held (gate + 1) l) is
+          ∙ ap (λ (n : ℕ). overwritten held (n + 1) ((body ++ record_digest j.generation (j.count + 1) body) ++ 0 ∷ [])) (sym (gate_is w a))
 
-      pub second_crashes : Crashes mid → IfSome (seen mid) (λ held. Only held (LeftNow moment left_at mid)) → Tears mid new gate (1 ∷ []) → Crashes new
-      second_crashes first durable tears held w command told only stands of =
+      pub crashes : Gated new → Crashes new
+      crashes leaves held w command told only stands of =
           let a = known held w told stands in
           let few_2 : length w.commands < 1000000 = let c = a.count_is in omega arith in
-          let staged_2 = overwritten held (end_of w + 1) ((body ++ record_digest j.generation (j.count + 1) body) ++ 0 ∷ []) in
-          let told_mid = mid_is held w told a in
-          let only_mid = subst (λ (o : Option (List ℕ)). IfSome o (λ l. Only l (LeftNow moment left_at mid))) told_mid durable in
-          chained moment left_at j.disk mid new (BeforeOrAfter (is_odd j.generation) w command) (first held w command told only stands of)
-          (weaker moment left_at mid new (Torn gate 1 staged_2) (BeforeOrAfter (is_odd j.generation) w command) (tears staged_2 told_mid only_mid)
-          (λ image torn. gate_left (is_odd j.generation) held w stands few_2 body (record_digest j.generation (j.count + 1) body) command size (length-record_digest j.generation (j.count + 1) body) (stored w a) of image
-          (subst (λ (n : ℕ). Torn n 1 staged_2 image) (sym (gate_is w a)) torn)))
+          weaker moment left_at j.disk new (GatedLeaves gate held record_of) (BeforeOrAfter (is_odd j.generation) w command) (leaves held told only)
+          (λ image either. ⊎_elim
+          (λ torn. inl (stage_left (is_odd j.generation) held w stands few_2 (length record_of) image (subst (λ (n : ℕ). Torn (n + 1) (length record_of) held image) (sym (gate_is w a)) torn)))
+          (λ torn. gate_left (is_odd j.generation) held w stands few_2 body (record_digest j.generation (j.count + 1) body) command size (length-record_digest j.generation (j.count + 1) body) (stored w a) of image
+          (subst (λ (l : List ℕ). Torn (end_of w) 1 l image) (staged_is held w a) (subst (λ (n : ℕ). Torn n 1 (overwritten held (gate + 1) record_of) image) (sym (gate_is w a)) torn)))
+          either)
 
-      pub appends : seen new ≡ option_map (λ held. overwritten held gate (1 ∷ [])) (seen mid) → Appends new
-      appends opened_gate held w command told stands of =
+      pub appends : seen new ≡ option_map (gated gate record_of) (seen j.disk) → Appends new
+      appends written held w command told stands of =
           let a = known held w told stands in
-          let few_2 : length w.commands < 1000000 = let c = a.count_is in omega arith in
-          let staged_2 = overwritten held (end_of w + 1) ((body ++ record_digest j.generation (j.count + 1) body) ++ 0 ∷ []) in (
-            overwritten staged_2 (end_of w) (1 ∷ []),
-            opened_gate ∙ ap (option_map (λ (l : List ℕ). overwritten l gate (1 ∷ []))) (mid_is held w told a) ∙ ap (λ (n : ℕ). Some (overwritten staged_2 n (1 ∷ []))) (sym (gate_is w a)),
+          let few_2 : length w.commands < 1000000 = let c = a.count_is in omega arith in (
+            overwritten (staged_of held w) (end_of w) (1 ∷ []),
+            written ∙ ap (option_map (gated gate record_of)) told ∙ (λ i. Some (overwritten (staged_is held w a i) (sym (gate_is w a) i) (1 ∷ []))),
             appended (is_odd j.generation) held w stands few_2 body (record_digest j.generation (j.count + 1) body) command size (length-record_digest j.generation (j.count + 1) body) (stored w a) of,
           )
+
+      -- what is told then is settled again
+      pub settles : seen new ≡ option_map (gated gate record_of) (seen j.disk) → (command : Command) → IsBodyOf body command → IfSome (seen new) (IsSettled j.generation j.start (j.count + 1))
+      settles written command of = elim (some_or_none (seen j.disk)) [
+        | inl none ↦
+            let e : seen new ≡ None = written ∙ ap (option_map (gated gate record_of)) none in
+            subst (λ (o : Option (List ℕ)). IfSome o (IsSettled j.generation j.start (j.count + 1))) (sym e) tt
+        | inr some ↦
+            let s = subst (λ (o : Option (List ℕ)). IfSome o (IsSettled j.generation j.start j.count)) some.1 settled in
+            let a = appends written some.0 s.written command some.1 s.stands of in
+            let n = length-append s.written.commands (command ∷ []) in
+            let c = s.count_is in
+            subst (λ (o : Option (List ℕ)). IfSome o (IsSettled j.generation j.start (j.count + 1))) (sym a.1) (record { written = and_then s.written command; stands = a.2; generation_is = s.generation_is; start_is = s.start_is; count_is = omega arith })
+      ]
+        where
+          some_or_none : (o : Option (List ℕ)) → (o ≡ None) ⊎ ((held : List ℕ) × (o ≡ Some held))
+          some_or_none None = inl refl
+          some_or_none (Some held) = inr (held, refl)

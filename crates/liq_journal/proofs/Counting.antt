@@ -1,5 +1,5 @@
 -- How the records are gone through.
-use Rattle.std.proofs.Common.{◌≡◌, ◌⊎◌, inl, inr, ℕ, zero, suc, ◌+◌, ◌*◌, ◌-◌, ◌<◌, ◌≤◌, List, [], ◌∷◌, ◌++◌, length, take, drop, Option, Some, None, IfSome, Result, Ok, Err, Bool, true, false, refl, sym, ◌∙◌, ap, subst, arith, length-append}
+use Rattle.std.proofs.Common.{◌≡◌, ℕ, suc, ◌+◌, ◌*◌, ◌-◌, ◌<◌, List, [], ◌∷◌, ◌++◌, length, take, drop, Option, Some, None, IfSome, Result, Ok, Err, true, false, refl, sym, ◌∙◌, ap, subst, arith, length-append}
 use Rattle.std.proofs.lemmas.List.{drop-drop}
 use Rattle.liq_types.specs.declared.requests.Command.{Command}
 use Rattle.liq_journal.specs.declared.damage.Damage.{Damage}
@@ -7,7 +7,7 @@ use Rattle.liq_journal.specs.declared.damage.What.{What}
 use Rattle.liq_journal.specs.declared.answers.LookFault.{LookFault}
 use Rattle.liq_journal.specs.declared.answers.LookFault.TheVariants as fault
 use Rattle.liq_journal.specs.Records.{records, begins_whole}
-use Rattle.liq_journal.specs.Written.{Found, Absent, Open, Damaged, Written, piece, record_on, with_command, found_record, found_records, most_records}
+use Rattle.liq_journal.specs.Written.{Found, Open, Damaged, piece, record_on, with_command, found_record, found_records, most_records}
 use Rattle.liq_journal.specs.Counted.{AreRecords, IsFaultIn}
 use Rattle.liq_journal.specs.Tested.{IsTested, IsFaultOf}
 use Rattle.liq_journal.proofs.Reading.{records_whole, records_none, records_zero}

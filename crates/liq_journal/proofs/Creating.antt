@@ -1,28 +1,20 @@
 -- What a creation writes, and what a crash leaves of it.
-use Rattle.std.proofs.Common.{◌≡◌, ◌⊎◌, inl, inr, ⊎_elim, ℕ, zero, suc, ◌+◌, ◌*◌, ◌-◌, ◌<◌, ◌≤◌, ◌^◌, List, [], ◌∷◌, ◌++◌, length, take, drop, get_or, replicate, Option, Some, None, option_map, IfSome, IsSome, Result, Ok, Err, OnOk, rules, Bool, true, false, not, ◌||◌, ◌&&◌, ◌==◌, nat_lt, if◌then◌else◌, refl, sym, ◌∙◌, ap, subst, arith, length-take, length-drop, length-append, append_assoc, take-append-drop}
+use Rattle.std.proofs.Common.{◌≡◌, inl, inr, ℕ, ◌+◌, ◌<◌, ◌≤◌, ◌^◌, List, [], ◌∷◌, ◌++◌, length, take, drop, get_or, replicate, Option, Some, None, option_map, IfSome, IsSome, Result, Ok, Err, OnOk, rules, Bool, true, false, not, nat_lt, refl, sym, ◌∙◌, ap, subst, arith, length-take, length-drop, length-append, append_assoc, take-append-drop}
 use Rattle.std.specs.Str.{bytes_eq}
 use Rattle.std.proofs.lemmas.Bool.Decides.{nat_tests}
 use Rattle.std.proofs.lemmas.Slice.Eq.{bytes_eq-Decides}
-use Rattle.std.proofs.lemmas.List.{take-take, take_at, drop_at, drop_all, get_or-append_right, get_or-drop, drop-drop, append-nil}
-use Rattle.byteorder.specs.Endian.{big_bytes}
+use Rattle.std.proofs.lemmas.List.{take-take, take_at, drop_at, get_or-drop, drop-drop, append-nil}
 use Rattle.byteorder.specs.Numbers.{big_number-reads_back}
-use Rattle.sha2.specs.Sha256.{sha256}
 use Rattle.sha2.proofs.Facts256.{length-sha256}
 use Rattle.liq_wire.specs.Fields.{number_at}
 use Rattle.liq_outside.specs.Disk.{Torn, overwritten, Only, LeftNow, LeavesOnly, Elapses, Follows}
 use Rattle.liq_outside.proofs.Moments.{chained, weaker, at_last, call}
 use Rattle.liq_journal.specs.Records.{records}
-use Rattle.liq_journal.specs.Written.{Written, Found, Open, version_1, piece, generation_on, size_on, start_on, checkpoint_on, header_digest, header_of, fields_of, header_tests, is_absent, is_generation, is_size, found_records, most_records, found_on, end_of, EndsWith, opened}
-use Rattle.liq_journal.specs.Crash.{Stands, IsClosed, HasByteAt, beginning, CreateLeaves, IsShut, filled}
+use Rattle.liq_journal.specs.Written.{Written, version_1, piece, generation_on, size_on, start_on, checkpoint_on, header_digest, header_of, fields_of, header_tests, is_generation, is_size, found_records, most_records, end_of, opened}
+use Rattle.liq_journal.specs.Crash.{CrashOfCreate, CreateLeaves, HasGate, IsShut, ReadsOfCreate, SettleLeaves, Stands, beginning, filled}
 use Rattle.liq_journal.specs.Crash.{is_odd}
 use Rattle.liq_journal.proofs.Reading.{records_none, isnt_open}
 use Rattle.liq_journal.proofs.Heading.{Headed, found_behind_it, no_fault}
-
--- a write at place 0 of one byte leaves the bytes, or some byte there
-pub torn_gate : (held image : List ℕ) → Torn 0 1 held image → (image ≡ held) ⊎ HasByteAt 0 held image
-torn_gate [] [] torn = inl refl
-torn_gate (x ∷ held) [] torn = absurd (let n = torn.no_shorter in omega arith)
-torn_gate held (b ∷ image) torn = inr (b, ap (λ (l : List ℕ). b ∷ l) torn.behind)
 
 -- behind place 0 a shut gate stays
 pub shut_stays : (at n : ℕ) (held image : List ℕ) → 1 ≤ at → IsShut held → Torn at n held image → IsShut image
@@ -32,10 +24,6 @@ shut_stays at n held image behind shut torn =
 pub write_leaves_shut : {D : Type 0} (moment : D → ℕ) (left_at : D → ℕ → List ℕ → Type 0) (old new : D) (at n : ℕ) → 1 ≤ at → Elapses moment left_at old new → Follows (Torn at n) (LeftNow moment left_at old) (LeftNow moment left_at new) → ((image : List ℕ) → LeftNow moment left_at old image → IsShut image) → LeavesOnly moment left_at old new IsShut
 write_leaves_shut moment left_at old new at n behind time follows shut =
     call moment left_at old new IsShut time shut (λ image left. let from = follows image left in shut_stays at n from.0 image behind (shut from.0 from.1) from.2)
-
-pub header_digest_is : (fields checkpoint : List ℕ) → sha256 (fields ++ checkpoint) ≡ header_digest fields checkpoint
-unfolding header_digest
-header_digest_is fields checkpoint = refl
 
 pub length-header_digest : (fields checkpoint : List ℕ) → length (header_digest fields checkpoint) ≡ 32
 unfolding header_digest
@@ -178,9 +166,8 @@ module _ (generation : ℕ) (checkpoint : List ℕ) where
 
 -- what a creation leaves, part by part
 module _ (odd : Bool) (held : List ℕ) (w : Written) where
-  pub of_shutting : (image : List ℕ) → (image ≡ held) ⊎ HasByteAt 0 held image → CreateLeaves odd held w image
-  of_shutting image (inl same) = inr (inl same)
-  of_shutting image (inr byte) = inr (inr (inl byte))
+  pub of_shutting : (image : List ℕ) → SettleLeaves 0 held image → CreateLeaves odd held w image
+  of_shutting image leaves = inr (inl leaves)
 
   pub of_filling : (image : List ℕ) → IsShut image → CreateLeaves odd held w image
   of_filling image shut = inl (inr (some_byte image shut, first_zero image shut))
@@ -194,7 +181,13 @@ module _ (odd : Bool) (held : List ℕ) (w : Written) where
       first_zero (x ∷ l) is = cc
 
   pub of_opening : (before image : List ℕ) → Stands odd (opened 0 before) w → Torn 0 1 before image → CreateLeaves odd held w image
-  of_opening before image stands torn = inr (inr (inr (subst (λ (l : List ℕ). Stands odd (1 ∷ l) w) (sym torn.behind) stands)))
+  of_opening before image stands torn = inr (inr (subst (λ (l : List ℕ). Stands odd (1 ∷ l) w) (sym torn.behind) stands))
+
+-- a shut gate at place 0
+pub gate_shut : (told : Option (List ℕ)) → IfSome told (HasGate 0) → IfSome told IsShut
+gate_shut None gate = tt
+gate_shut (Some []) gate = absurd (let n = gate.there in omega arith)
+gate_shut (Some (x ∷ held)) gate = ap (λ (n : ℕ). n ∷ []) gate.shut
 
 pub one_at_least : (held : List ℕ) → IsShut held → 1 ≤ length held
 one_at_least [] is = absurd (cc (is))
@@ -241,10 +234,10 @@ module _ {D : Type 0} (moment : D → ℕ) (left_at : D → ℕ → List ℕ →
     abbrev Leaves : List ℕ → Type 0
     Leaves = CreateLeaves (is_odd generation) held (beginning generation checkpoint)
 
-    pub after_shut : LeavesOnly moment left_at old mid (λ image. (image ≡ held) ⊎ HasByteAt 0 held image) → LeavesOnly moment left_at old mid Leaves
-    after_shut first = weaker moment left_at old mid (λ image. (image ≡ held) ⊎ HasByteAt 0 held image) Leaves first (of_shutting (is_odd generation) held (beginning generation checkpoint))
+    pub after_shut : LeavesOnly moment left_at old mid (SettleLeaves 0 held) → LeavesOnly moment left_at old mid Leaves
+    after_shut first = weaker moment left_at old mid (SettleLeaves 0 held) Leaves first (of_shutting (is_odd generation) held (beginning generation checkpoint))
 
-    pub after_fill : LeavesOnly moment left_at old mid (λ image. (image ≡ held) ⊎ HasByteAt 0 held image) → LeavesOnly moment left_at mid full IsShut → LeavesOnly moment left_at old full Leaves
+    pub after_fill : LeavesOnly moment left_at old mid (SettleLeaves 0 held) → LeavesOnly moment left_at mid full IsShut → LeavesOnly moment left_at old full Leaves
     after_fill first second = chained moment left_at old mid full Leaves (after_shut first) (weaker moment left_at mid full IsShut Leaves second (of_filling (is_odd generation) held (beginning generation checkpoint)))
 
     module _ (small : generation < 2 ^ 64) (small_size : length checkpoint < 2 ^ 64) (fits : is_generation (is_odd generation) generation ≡ true) (fits_size : is_size generation (length checkpoint) ≡ true) (shut : IfSome (seen mid) IsShut) (is : IsSome (seen mid)) (written : seen full ≡ option_map (filled generation checkpoint) (seen mid)) where
@@ -266,3 +259,7 @@ module _ {D : Type 0} (moment : D → ℕ) (left_at : D → ℕ → List ℕ →
 
       pub made : seen new ≡ option_map (λ l. overwritten l 0 (1 ∷ [])) (seen full) → (after : List ℕ) × (seen new ≡ Some after) × Stands (is_odd generation) after (beginning generation checkpoint)
       made gate = let f = full_is in (opened 0 (filled generation checkpoint f.0), gate ∙ ap (option_map (λ (l : List ℕ). overwritten l 0 (1 ∷ []))) f.1.1, stands_then f.0 f.1.0)
+
+  -- what is read at the end is what a crash may leave then
+  pub reads_then : (seen : D → Option (List ℕ)) (old new : D) (generation : ℕ) (checkpoint : List ℕ) → ((held : List ℕ) → seen new ≡ Some held → LeftNow moment left_at new held) → CrashOfCreate seen moment left_at old new generation checkpoint → ReadsOfCreate seen moment left_at old new generation checkpoint
+  reads_then seen old new generation checkpoint stays crash held after told only fits told_after = at_last moment left_at old new (CreateLeaves (is_odd generation) held (beginning generation checkpoint)) (crash held told only fits) after (stays after told_after)

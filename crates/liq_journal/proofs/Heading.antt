@@ -1,13 +1,12 @@
 -- How a header decides what stands behind it, and which bytes decide a header.
-use Rattle.std.proofs.Common.{◌≡◌, ◌⊎◌, inl, inr, ℕ, zero, suc, ◌+◌, ◌*◌, ◌-◌, ◌<◌, ◌≤◌, min, List, [], ◌∷◌, ◌++◌, length, take, drop, get_or, Option, Some, None, Result, Ok, Err, Bool, true, false, not, ◌||◌, ◌&&◌, ◌==◌, nat_lt, if◌then◌else◌, refl, sym, ◌∙◌, ap, subst, arith, length-take, length-drop, length-append}
+use Rattle.std.proofs.Common.{◌≡◌, ℕ, suc, ◌+◌, ◌*◌, ◌≤◌, List, [], ◌∷◌, ◌++◌, length, take, drop, Option, Some, None, Result, Ok, Err, Bool, true, false, not, nat_lt, if◌then◌else◌, refl, sym, ◌∙◌, ap, subst, arith, length-take, length-drop}
 use Rattle.std.specs.Str.{bytes_eq}
 use Rattle.std.proofs.lemmas.Bool.Decides.{nat_tests}
-use Rattle.std.proofs.lemmas.List.{take-take}
 use Rattle.liq_types.specs.declared.requests.Command.{Command}
 use Rattle.liq_journal.specs.declared.damage.What.{What}
 use Rattle.liq_journal.specs.Records.{records}
-use Rattle.liq_journal.specs.Written.{Layout, version_1, piece, generation_on, size_on, start_on, checkpoint_on, header_digest, is_generation, is_size, first_fault, header_tests, is_absent, record_on, Written, Found, Absent, Damaged, Open, with_command, found_record, found_records, found_behind, most_records, found_on, and_then}
-use Rattle.liq_journal.proofs.Reading.{true_or_false, piece_alike, byte_alike, length_alike, number_alike}
+use Rattle.liq_journal.specs.Written.{version_1, piece, generation_on, size_on, start_on, checkpoint_on, header_digest, is_generation, is_size, first_fault, header_tests, is_absent, record_on, Written, Found, Absent, Damaged, Open, with_command, found_record, found_records, found_behind, most_records, found_on, and_then}
+use Rattle.liq_journal.proofs.Reading.{piece_alike, byte_alike, length_alike, number_alike}
 
 abbrev pub AreFalse : List (Bool × What) → Type 0
 AreFalse [] = Unit {0}

@@ -1,9 +1,10 @@
 mod Appending
+mod Bodies
 mod Counting
 mod Creating
 mod HeaderFound
 mod Heading
-mod Looking
+mod Looks
 mod Opening
 mod Reading
 mod Scanning

@@ -1,14 +1,14 @@
 -- What an opening leaves and finds afterwards.
-use Rattle.std.proofs.Common.{◌≡◌, ◌⊎◌, inl, inr, ⊎_elim, ℕ, ◌+◌, ◌*◌, ◌-◌, ◌<◌, ◌≤◌, List, length, take, drop, get_or, Option, Some, None, IfSome, IsSome, ◌↔◌, true, false, not, ◌&&◌, ◌==◌, rules, Result, Ok, Err, IfOk, Bool, refl, sym, ◌∙◌, ap, subst, arith, length-drop}
-use Rattle.liq_outside.specs.Disk.{Only, LeftNow, LeavesOnly}
-use Rattle.liq_outside.proofs.Moments.{chained, weaker}
+use Rattle.std.proofs.Common.{◌≡◌, inl, inr, ⊎_elim, ℕ, ◌+◌, ◌*◌, ◌-◌, ◌≤◌, List, length, take, drop, Option, Some, None, IfSome, IsSome, ◌↔◌, true, false, not, ◌&&◌, ◌==◌, rules, Result, Ok, Err, IfOk, Bool, refl, sym, ◌∙◌, ap, subst, arith, length-drop}
+use Rattle.liq_outside.specs.Disk.{LeavesOnly}
+use Rattle.liq_outside.proofs.Moments.{weaker}
 use Rattle.liq_journal.specs.Records.{records}
 use Rattle.liq_journal.specs.declared.scanned.Scanned.{Scanned}
-use Rattle.liq_journal.specs.Written.{Written, Found, Open, Absent, most_records, found_on, end_of, EndsWith, header_tests, version_1}
-use Rattle.liq_journal.specs.Crash.{Stands, HasByteAt, is_odd}
+use Rattle.liq_journal.specs.Written.{Written, Open, Absent, most_records, found_on, end_of, header_tests, version_1}
+use Rattle.liq_journal.specs.Crash.{HasGate, SettleLeaves, Stands, is_odd}
 use Rattle.liq_journal.specs.Settled.{IsSettled}
 use Rattle.std.proofs.lemmas.Bool.Decides.{nat_tests}
-use Rattle.liq_journal.specs.Opened.{IsOpened, HasGate, IsScanOf, IsUnshut, IsUnsettled, OpenLeaves, SettleLeaves, AbsentLeaves}
+use Rattle.liq_journal.specs.Opened.{IsOpened, IsScanOf, OpenLeaves, AbsentLeaves}
 use Rattle.liq_journal.proofs.Reading.{records_long, records_few}
 use Rattle.liq_journal.proofs.Heading.{is_open, of_records, are_false}
 use Rattle.liq_journal.proofs.Appending.{held_on}

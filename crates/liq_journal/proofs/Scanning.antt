@@ -1,22 +1,22 @@
 -- What a whole disk is found to be.
-use Rattle.std.proofs.Common.{◌≡◌, ◌⊎◌, inl, inr, ℕ, ◌+◌, ◌*◌, ◌-◌, ◌<◌, ◌≤◌, List, [], ◌∷◌, ◌++◌, length, take, drop, Option, Some, None, IfSome, Result, Ok, Err, Bool, true, false, not, nat_lt, if◌then◌else◌, refl, sym, ◌∙◌, ap, subst, arith, length-take, length-drop}
+use Rattle.std.proofs.Common.{◌≡◌, ◌⊎◌, inl, ℕ, ◌+◌, ◌≤◌, List, length, drop, Option, Some, None, IfSome, Result, Ok, Err, Bool, true, false, not, nat_lt, refl, sym, ◌∙◌, ap, subst, arith, length-take, length-drop}
 use Rattle.std.specs.Str.{bytes_eq}
 use Rattle.std.proofs.lemmas.Bool.Decides.{nat_tests}
-use Rattle.liq_journal.specs.declared.damage.What.{What}
-use Rattle.liq_journal.specs.declared.damage.What.TheVariants.{Digest, Form}
-use Rattle.liq_journal.specs.declared.damage.Damage.{Damage}
+use Rattle.liq_journal.specs.declared.damage.What.TheVariants.{Digest}
 use Rattle.liq_journal.specs.declared.head.Head.{Head}
 use Rattle.liq_journal.specs.declared.scanned.Scanned.{Scanned}
 use Rattle.liq_journal.specs.declared.answers.LookFault.{LookFault}
 use Rattle.liq_journal.specs.declared.answers.LookFault.TheVariants as look
-use Rattle.liq_journal.specs.declared.answers.OpenWhy.{OpenWhy}
 use Rattle.liq_journal.specs.declared.answers.OpenWhy.TheVariants as why
 use Rattle.liq_journal.specs.Header.{IsHeadOf, MaybeHeadOf, IsDamageOf}
 use Rattle.liq_journal.specs.Opened.{IsScanOf, IsWhyOf, why_of}
 use Rattle.liq_journal.specs.Counted.{AreRecords, IsFaultIn}
-use Rattle.liq_journal.specs.Written.{Written, Found, Damaged, Open, version_1, piece, generation_on, size_on, start_on, checkpoint_on, header_digest, is_generation, is_size, first_fault, header_tests, found_on}
+use Rattle.liq_journal.specs.Written.{version_1, piece, generation_on, size_on, start_on, checkpoint_on, header_digest, is_generation, is_size, header_tests}
 use Rattle.liq_journal.proofs.Heading.{Headed, no_fault, found_behind_it}
-use Rattle.liq_journal.proofs.HeaderFound.{early_false, found_damaged, fifth}
+use Rattle.liq_journal.proofs.HeaderFound.{early_false, found_absent, found_damaged, look_damaged, look_open, fifth}
+use Rattle.liq_journal.specs.Look.{look_on}
+use Rattle.liq_journal.specs.declared.answers.Look.{Look}
+use Rattle.liq_journal.specs.declared.answers.Look.TheVariants as answer
 
 module _ (odd : Bool) (head : Head) (checkpoint computed : List ℕ) (is : computed ≡ header_digest head.fields checkpoint) where
   module _ (held : List ℕ) (h : IsHeadOf odd held head) (read : 57 + head.size ≤ length held → checkpoint ≡ piece 57 head.size held) where
@@ -35,10 +35,10 @@ module _ (odd : Bool) (head : Head) (checkpoint computed : List ℕ) (is : compu
     test_is : not (bytes_eq (piece 25 32 held) (header_digest (piece 1 24 held) (checkpoint_on version_1 held))) ≡ not (bytes_eq head.stored computed)
     test_is = λ i. not (bytes_eq (sym h.fields.stored i) (digest_is i))
 
-    pub damaged_digest : not (bytes_eq head.stored computed) ≡ true → found_on odd held ≡ Damaged (record { index = 0; what = Digest head.stored computed })
+    pub damaged_digest : not (bytes_eq head.stored computed) ≡ true → look_on odd held ≡ Err (look.Damaged (record { index = 0; what = Digest head.stored computed }))
     damaged_digest differs =
         let e = early_false (not (bytes_eq (piece 1 8 held) version_1.name)) (not (is_generation odd (generation_on held))) (not (is_size (generation_on held) (size_on held))) h.places in
-        found_damaged odd held (Digest head.stored computed) h.gate
+        look_damaged odd held (Digest head.stored computed) h.gate
         (fifth (not (bytes_eq (piece 1 8 held) version_1.name)) (not (is_generation odd (generation_on held))) (not (is_size (generation_on held) (size_on held))) (nat_lt (length held) (start_on version_1 held)) (not (bytes_eq (piece 25 32 held) (header_digest (piece 1 24 held) (checkpoint_on version_1 held)))) (length held) (Digest (piece 25 32 held) (header_digest (piece 1 24 held) (checkpoint_on version_1 held))) e.0 e.1.0 e.1.1 h.long (test_is ∙ differs)
         ∙ (λ i. Some (Digest (sym h.fields.stored i) (digest_is i))))
 
@@ -63,7 +63,7 @@ module _ (odd : Bool) (head : Head) (checkpoint computed : List ℕ) (is : compu
       where
         go : (o : Option (List ℕ)) → IfSome o (λ held. MaybeHeadOf odd held (Some head)) → IfSome o (λ held. 57 + head.size ≤ length held → checkpoint ≡ piece 57 head.size held) → IfSome o (λ held. IsWhyOf odd held (why.Damaged (record { index = 0; what = Digest head.stored computed })))
         go None h r = tt
-        go (Some held) h r = damaged_digest held h r differs
+        go (Some held) h r = found_damaged odd held (record { index = 0; what = Digest head.stored computed }) (damaged_digest held h r differs)
 
     module _ (same : not (bytes_eq head.stored computed) ≡ false) (now : Option (List ℕ)) (still : now ≡ told) where
       pub told_scan : (s : Scanned) → s.generation ≡ head.generation → s.start ≡ 57 + head.size → s.checkpoint.items ≡ checkpoint → IfSome now (λ held. AreRecords head.generation (57 + head.size) held s.count) → IfSome told (λ held. IsScanOf odd held s)
@@ -90,3 +90,44 @@ module _ (odd : Bool) (head : Head) (checkpoint computed : List ℕ) (is : compu
           go v None h r f = tt
           go look.DiskFault (Some held) h r f = tt
           go (look.Damaged damage) (Some held) h r f = found_behind_it odd held head.generation checkpoint (57 + head.size) (headed held h r same) ∙ f checkpoint
+
+-- what a header that isn't open or is damaged is found to be
+pub told_absent_header : (odd : Bool) (told : Option (List ℕ)) → IfSome told (λ held. MaybeHeadOf odd held None) → IfSome told (λ held. IsWhyOf odd held why.Absent)
+told_absent_header odd None is = tt
+told_absent_header odd (Some held) is = found_absent odd held is
+
+pub told_header_fault : (odd : Bool) (told : Option (List ℕ)) (y : LookFault) → IfSome told (λ held. IsDamageOf odd held y) → IfSome told (λ held. IsWhyOf odd held (why_of y))
+told_header_fault odd None y is = tt
+told_header_fault odd (Some held) look.DiskFault is = tt
+told_header_fault odd (Some held) (look.Damaged damage) is = found_damaged odd held damage is
+
+-- what a look at an open disk tells
+module _ (odd : Bool) (head : Head) (computed : List ℕ) where
+  abbrev checkpoint_of : List ℕ → List ℕ
+  checkpoint_of held = piece 57 head.size held
+
+  head_long : (held : List ℕ) → IsHeadOf odd held head → 57 + head.size ≤ length held
+  head_long held h = let l = h.long in let s : start_on version_1 held ≡ 57 + head.size = ap (λ (k : ℕ). 57 + k) (sym h.fields.size) in grind (arith, nat_tests)
+
+  module _ (told now : Option (List ℕ)) (same : now ≡ told) (heads : IfSome told (λ held. MaybeHeadOf odd held (Some head))) (reads : IfSome now (λ held. 57 + head.size ≤ length held → computed ≡ header_digest head.fields (piece 57 head.size held))) where
+    reads_told : IfSome told (λ held. 57 + head.size ≤ length held → computed ≡ header_digest head.fields (piece 57 head.size held))
+    reads_told = subst (λ (o : Option (List ℕ)). IfSome o (λ held. 57 + head.size ≤ length held → computed ≡ header_digest head.fields (piece 57 head.size held))) same reads
+
+    pub told_look_damaged : not (bytes_eq head.stored computed) ≡ true → IfSome told (λ held. (Err (look.Damaged (record { index = 0; what = Digest head.stored computed })) ≡ look_on odd held) ⊎ (◌≡◌ {A = Result Look LookFault} (Err (look.Damaged (record { index = 0; what = Digest head.stored computed }))) (Err look.DiskFault)))
+    told_look_damaged differs = go told heads reads_told
+      where
+        go : (o : Option (List ℕ)) → IfSome o (λ held. MaybeHeadOf odd held (Some head)) → IfSome o (λ held. 57 + head.size ≤ length held → computed ≡ header_digest head.fields (piece 57 head.size held)) → IfSome o (λ held. (Err (look.Damaged (record { index = 0; what = Digest head.stored computed })) ≡ look_on odd held) ⊎ (◌≡◌ {A = Result Look LookFault} (Err (look.Damaged (record { index = 0; what = Digest head.stored computed }))) (Err look.DiskFault)))
+        go None h r = tt
+        go (Some held) h r = inl (sym (damaged_digest odd head (checkpoint_of held) computed (r (head_long held h)) held h (λ room. refl) differs))
+
+    pub told_look_open : not (bytes_eq head.stored computed) ≡ false → IfSome told (λ held. (Ok (answer.Open head.generation) ≡ look_on odd held) ⊎ (◌≡◌ {A = Result Look LookFault} (Ok (answer.Open head.generation)) (Err look.DiskFault)))
+    told_look_open equal = go told heads reads_told
+      where
+        open_of : (held : List ℕ) → IsHeadOf odd held head → (57 + head.size ≤ length held → computed ≡ header_digest head.fields (piece 57 head.size held)) → look_on odd held ≡ Ok (answer.Open head.generation)
+        open_of held h r =
+            let d = headed odd head (checkpoint_of held) computed (r (head_long held h)) held h (λ room. refl) equal in
+            look_open odd held d.gate d.tests ∙ ap (λ (g : ℕ). Ok (answer.Open g)) d.generation_is
+
+        go : (o : Option (List ℕ)) → IfSome o (λ held. MaybeHeadOf odd held (Some head)) → IfSome o (λ held. 57 + head.size ≤ length held → computed ≡ header_digest head.fields (piece 57 head.size held)) → IfSome o (λ held. (Ok (answer.Open head.generation) ≡ look_on odd held) ⊎ (◌≡◌ {A = Result Look LookFault} (Ok (answer.Open head.generation)) (Err look.DiskFault)))
+        go None h r = tt
+        go (Some held) h r = inl (sym (open_of held h r))

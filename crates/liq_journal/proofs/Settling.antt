@@ -1,10 +1,10 @@
 -- What a shut gate behind the records leaves.
-use Rattle.std.proofs.Common.{◌≡◌, ◌⊎◌, inl, inr, ⊎_elim, ℕ, zero, suc, ◌+◌, ◌*◌, ◌-◌, ◌<◌, ◌≤◌, min, max, List, [], ◌∷◌, ◌++◌, length, take, drop, get_or, Option, Some, None, IfSome, Bool, true, false, IsTrue, ◌↔◌, rules, refl, sym, ◌∙◌, ap, subst, arith, length-take, length-drop, length-append, append_assoc, take-append-drop}
-use Rattle.std.proofs.lemmas.List.{take_all, take_at, drop_all, drop_more, get_or-append_right, get_or-drop}
+use Rattle.std.proofs.Common.{◌≡◌, ◌⊎◌, inl, inr, ⊎_elim, ℕ, ◌+◌, ◌-◌, ◌<◌, ◌≤◌, min, List, [], ◌∷◌, ◌++◌, length, take, drop, get_or, Option, Some, IfSome, Bool, true, false, IsTrue, ◌↔◌, rules, sym, ◌∙◌, ap, subst, arith, length-take, length-drop, length-append, append_assoc, take-append-drop}
+use Rattle.std.proofs.lemmas.List.{take_all, drop_more, get_or-append_right}
 use Rattle.liq_outside.specs.Disk.{Torn, overwritten, Only, LeftNow, LeavesOnly}
 use Rattle.liq_outside.proofs.Moments.{chained, weaker}
-use Rattle.liq_journal.specs.Crash.{HasByteAt}
-use Rattle.liq_journal.specs.Opened.{HasGate, IsUnshut, AbsentLeaves, SettleLeaves}
+use Rattle.liq_journal.specs.Crash.{HasByteAt, HasGate, SettleLeaves}
+use Rattle.liq_journal.specs.Opened.{IsUnshut, AbsentLeaves}
 
 -- a write of one byte leaves the bytes, or some byte there
 pub torn_byte : (place : ℕ) (held image : List ℕ) → place ≤ length held → Torn place 1 held image → (image ≡ held) ⊎ HasByteAt place held image

@@ -1,11 +1,10 @@
 -- What the records behind a header are found to be, whatever the checkpoint.
 use Rattle.std.specs.Prelude.{◌≡◌, ℕ, List, length, drop}
 use Rattle.liq_types.specs.declared.requests.Command.{Command}
-use Rattle.liq_journal.specs.declared.damage.Damage.{Damage}
 use Rattle.liq_journal.specs.declared.answers.LookFault.{LookFault}
 use Rattle.liq_journal.specs.declared.answers.LookFault.TheVariants as fault
 use Rattle.liq_journal.specs.Records.{records}
-use Rattle.liq_journal.specs.Written.{Found, Open, Damaged, found_records, most_records}
+use Rattle.liq_journal.specs.Written.{Open, Damaged, found_records, most_records}
 
 -- whole records of commands
 pub record AreRecords (generation start : ℕ) (held : List ℕ) (count : ℕ) : Type 0 where

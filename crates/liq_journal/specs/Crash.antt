@@ -1,9 +1,9 @@
 -- What a crash may leave of a journal.
 use Rattle.std.specs.Prelude.{◌≡◌, ◌⊎◌, ℕ, ◌+◌, ◌<◌, List, [], ◌∷◌, length, take, get_or, Bool, true, false, Option, Some, Ok, ◌%◌, ◌==◌}
-use Rattle.liq_outside.specs.Disk.{LeavesOnly, LeftNow, Only, overwritten}
+use Rattle.liq_outside.specs.Disk.{LeavesOnly, LeftNow, Only, Torn, overwritten}
 use Rattle.liq_types.specs.declared.requests.Command.{Command}
 use Rattle.liq_wire.specs.Fields.{command_of}
-use Rattle.liq_journal.specs.Written.{header_of, is_generation, Written, Found, Open, found_on, EndsWith, and_then, end_of, is_rotate, opened}
+use Rattle.liq_journal.specs.Written.{header_of, is_generation, Written, Open, found_on, EndsWith, and_then, end_of, is_rotate, opened}
 
 -- open with this, and a 0 behind the last record
 pub record Stands (odd : Bool) (bytes : List ℕ) (w : Written) : Type 0 where
@@ -32,14 +32,23 @@ IsClosed bytes = (length bytes < 57) ⊎ ((0 < length bytes) × (get_or bytes 0 
 abbrev pub HasByteAt : ℕ → List ℕ → List ℕ → Type 0
 HasByteAt place held bytes = (byte : ℕ) × (bytes ≡ overwritten held place (byte ∷ []))
 
+-- a shut gate is there
+pub record HasGate (place : ℕ) (bytes : List ℕ) : Type 0 where
+  pub there : place < length bytes
+  pub shut : get_or bytes place 0 ≡ 0
+
+-- as they were, or with some byte at this place, where no shut gate is
+abbrev pub SettleLeaves : ℕ → List ℕ → List ℕ → Type 0
+SettleLeaves place held bytes = (bytes ≡ held) ⊎ ((HasGate place held → ⊥) × HasByteAt place held bytes)
+
 -- what is written by a creation
 abbrev pub beginning : ℕ → List ℕ → Written
 beginning generation checkpoint = record { generation = generation; checkpoint = checkpoint; commands = [] }
 
--- A stop within a creation leaves nothing that is open, or what was there, or what is made; of the latter two the first byte may be
--- any.
+-- A stop within a creation leaves nothing that is open, or what was there, with some byte at place 0 where no 0 is, or what is made,
+-- with any byte there.
 abbrev pub CreateLeaves : Bool → List ℕ → Written → List ℕ → Type 0
-CreateLeaves odd held w bytes = IsClosed bytes ⊎ ((bytes ≡ held) ⊎ (HasByteAt 0 held bytes ⊎ Stands odd (opened 0 bytes) w))
+CreateLeaves odd held w bytes = IsClosed bytes ⊎ (SettleLeaves 0 held bytes ⊎ Stands odd (opened 0 bytes) w)
 
 -- a closed gate stands at place 0
 abbrev pub IsShut : List ℕ → Type 0
@@ -58,3 +67,17 @@ abbrev pub CrashOfCreate : {D : Type 0} → (D → Option (List ℕ)) → (D →
 CrashOfCreate seen moment left_at old new generation checkpoint =
     (held : List ℕ) → seen old ≡ Some held → Only held (LeftNow moment left_at old) → is_generation (is_odd generation) generation ≡ true
     → LeavesOnly moment left_at old new (CreateLeaves (is_odd generation) held (beginning generation checkpoint))
+
+-- what it reads afterwards, if nothing was pending
+abbrev pub ReadsOfCreate : {D : Type 0} → (D → Option (List ℕ)) → (D → ℕ) → (D → ℕ → List ℕ → Type 0) → D → D → ℕ → List ℕ → Type 0
+ReadsOfCreate seen moment left_at old new generation checkpoint =
+    (held after : List ℕ) → seen old ≡ Some held → Only held (LeftNow moment left_at old) → is_generation (is_odd generation) generation ≡ true → seen new ≡ Some after
+    → CreateLeaves (is_odd generation) held (beginning generation checkpoint) after
+
+-- these bytes behind a gate, which is opened
+abbrev pub gated : ℕ → List ℕ → List ℕ → List ℕ
+gated gate bytes held = overwritten (overwritten held (gate + 1) bytes) gate (1 ∷ [])
+
+-- any part of the bytes behind the gate, or all of them and any gate
+abbrev pub GatedLeaves : ℕ → List ℕ → List ℕ → List ℕ → Type 0
+GatedLeaves gate held bytes image = Torn (gate + 1) (length bytes) held image ⊎ Torn gate 1 (overwritten held (gate + 1) bytes) image

@@ -1,11 +1,13 @@
 -- What a header is found to be, before its digest is tested.
-use Rattle.std.specs.Prelude.{◌≡◌, ℕ, ◌+◌, List, [], ◌∷◌, length, take, Bool, true, false, not, Option, Some, None, nat_lt}
+use Rattle.std.specs.Prelude.{◌≡◌, ℕ, List, [], ◌∷◌, length, Bool, false, not, Option, Some, None, Ok, Err, nat_lt}
 use Rattle.std.specs.Str.{bytes_eq}
 use Rattle.liq_wire.specs.Fields.{first_place}
 use Rattle.liq_journal.specs.declared.head.Head.{Head}
+use Rattle.liq_journal.specs.Look.{look_on}
+use Rattle.liq_journal.specs.declared.answers.Look.TheVariants.{Absent}
 use Rattle.liq_journal.specs.declared.answers.LookFault.{LookFault}
 use Rattle.liq_journal.specs.declared.answers.LookFault.TheVariants as fault
-use Rattle.liq_journal.specs.Written.{Found, Absent, Damaged, version_1, piece, generation_on, size_on, start_on, is_absent, is_generation, is_size, found_on}
+use Rattle.liq_journal.specs.Written.{version_1, piece, generation_on, size_on, start_on, is_absent, is_generation, is_size}
 
 -- the tests of a header's fields, with their places
 abbrev pub place_tests : Bool → List ℕ → List (Bool × ℕ)
@@ -28,10 +30,10 @@ pub record IsHeadOf (odd : Bool) (held : List ℕ) (head : Head) : Type 0 where
 
 -- a header, or none
 abbrev pub MaybeHeadOf : Bool → List ℕ → Option Head → Type 0
-MaybeHeadOf odd held None = found_on odd held ≡ Absent
+MaybeHeadOf odd held None = look_on odd held ≡ Ok Absent
 MaybeHeadOf odd held (Some head) = IsHeadOf odd held head
 
--- the damage of the disk
+-- the damage of the header
 abbrev pub IsDamageOf : Bool → List ℕ → LookFault → Type 0
 IsDamageOf odd held fault.DiskFault = Unit {0}
-IsDamageOf odd held (fault.Damaged damage) = found_on odd held ≡ Damaged damage
+IsDamageOf odd held (fault.Damaged damage) = look_on odd held ≡ Err (fault.Damaged damage)

@@ -1,6 +1,9 @@
+pub mod Bodies
+pub mod Causes
 pub mod Counted
 pub mod Crash
 pub mod Header
+pub mod Look
 pub mod Looked
 pub mod Opened
 pub mod Records

@@ -1,10 +1,10 @@
 -- A disk that was only looked at.
-use Rattle.std.specs.Prelude.{◌≡◌, ℕ, ◌≤◌, List, Option}
+use Rattle.std.specs.Prelude.{◌≡◌, ℕ, List, Option}
 use Rattle.liq_outside.specs.Disk.{LeavesOnly, LeftNow, Within}
 
--- What it tells stays, and a crash leaves what it might leave before.
-pub record Looked {D : Type 0} (seen : D → Option (List ℕ)) (moment : D → ℕ) (left_at : D → ℕ → List ℕ → Type 0) (faults : D → ℕ) (old new : D) : Type 0 where
+-- What it tells stays, and a crash leaves what it might leave before, no more and no less.
+pub record Looked {D : Type 0} (seen : D → Option (List ℕ)) (moment : D → ℕ) (left_at : D → ℕ → List ℕ → Type 0) (old new : D) : Type 0 where
   pub same : seen new ≡ seen old
   pub within : Within (LeftNow moment left_at new) (LeftNow moment left_at old)
+  pub keeps : Within (LeftNow moment left_at old) (LeftNow moment left_at new)
   pub leaves : LeavesOnly moment left_at old new (LeftNow moment left_at old)
-  pub count : faults old ≤ faults new

@@ -6,13 +6,8 @@ use Rattle.liq_journal.specs.declared.answers.LookFault.TheVariants as look
 use Rattle.liq_journal.specs.declared.answers.OpenWhy.{OpenWhy}
 use Rattle.liq_journal.specs.declared.answers.OpenWhy.TheVariants as why
 use Rattle.liq_journal.specs.declared.scanned.Scanned.{Scanned}
-use Rattle.liq_journal.specs.Written.{Written, Found, Absent, Damaged, Open, found_on, end_of}
-use Rattle.liq_journal.specs.Crash.{HasByteAt}
-
--- a shut gate is there
-pub record HasGate (place : ℕ) (bytes : List ℕ) : Type 0 where
-  pub there : place < length bytes
-  pub shut : get_or bytes place 0 ≡ 0
+use Rattle.liq_journal.specs.Written.{Written, Absent, Damaged, Open, found_on, end_of}
+use Rattle.liq_journal.specs.Crash.{HasByteAt, HasGate}
 
 -- a look's fault as an opening's
 abbrev pub why_of : LookFault → OpenWhy
@@ -51,10 +46,6 @@ IsUnsettled odd held place =
 abbrev pub OpenLeaves : Bool → List ℕ → List ℕ → Type 0
 OpenLeaves odd held bytes = (bytes ≡ held) ⊎ ((place : ℕ) × IsUnsettled odd held place × HasByteAt place held bytes)
 
--- as they were, or with some byte at this place, where no shut gate is
-abbrev pub SettleLeaves : ℕ → List ℕ → List ℕ → Type 0
-SettleLeaves place held bytes = (bytes ≡ held) ⊎ ((HasGate place held → ⊥) × HasByteAt place held bytes)
-
 abbrev pub AbsentLeaves : List ℕ → List ℕ → Type 0
 AbsentLeaves held bytes = (bytes ≡ held) ⊎ (IsUnshut held × HasByteAt 0 held bytes)
 
@@ -64,6 +55,13 @@ IsKept why.NoMemory = Unit {0}
 IsKept (why.Damaged damage) = Unit {0}
 IsKept why.Absent = ⊥
 IsKept why.DiskFault = ⊥
+
+-- after it nothing is pending
+abbrev pub IsAtRest : OpenWhy → Type 0
+IsAtRest why.DiskFault = ⊥
+IsAtRest why.Absent = Unit {0}
+IsAtRest why.NoMemory = Unit {0}
+IsAtRest (why.Damaged damage) = Unit {0}
 
 -- what was found is what the journal and the bytes of the checkpoint are
 pub record IsOpened (odd : Bool) (held : List ℕ) (generation start count : ℕ) (checkpoint : List ℕ) : Type 0 where

@@ -1,5 +1,5 @@
 -- A journal as contracts see it.
-use Rattle.std.specs.Prelude.{◌≡◌, ℕ, ◌+◌, Bool, List, length}
+use Rattle.std.specs.Prelude.{◌≡◌, ℕ, ◌+◌, List, length}
 use Rattle.liq_journal.specs.Written.{Written}
 use Rattle.liq_journal.specs.Crash.{Stands, is_odd}
 

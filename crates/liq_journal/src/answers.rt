@@ -12,6 +12,14 @@ impl From<Failed> for DiskFault {
     }
 }
 
+/// What a look at a disk tells.
+#[derive(Clone, Copy, Debug, PartialEq, Eq)]
+pub enum Look {
+    /// No journal is open on it: it has fewer bytes than a header, or its gate isn't open.
+    Absent,
+    Open { generation: u64 },
+}
+
 /// Why a disk could not be looked at, or a record not be read.
 #[derive(Clone, Copy, Debug, PartialEq, Eq)]
 pub enum LookFault {

@@ -1,7 +1,8 @@
-// A write that is on the disk when it returns.
-ghost use Rattle.std.specs.Prelude.{◌≡◌, ◌≤◌, ◌+◌, ◌^◌, ◌↔◌, Some, List, ℕ, length, option_map, OnOk, OnErr, IfSome, IsSome};
+// Writes that are on the disk when they return.
+ghost use Rattle.std.specs.Prelude.{◌≡◌, ◌≤◌, ◌+◌, ◌^◌, ◌↔◌, Some, List, ℕ, length, option_map, OnOk, IfSome, IsSome};
 ghost use Rattle.liq_outside.specs.Disk.{GoesOn, LeavesOnly, LeftNow, Only, Torn, overwritten};
-ghost use Rattle.liq_outside.specs.Faults.{Rose};
+ghost use Rattle.liq_outside.specs.Faults.{HasCause};
+ghost use Rattle.liq_journal.specs.Crash.{GatedLeaves, gated};
 
 use liq_outside::{Disk, Failed};
 
@@ -14,9 +15,24 @@ pub fn write_synced<D: Disk>(disk: &mut D, at: u64, bytes: &[u8]) -> Result<(), 
     ensures telling { IsSome (D.seen disk.new) ↔ IsSome (D.seen disk.old) }
     ensures crash { (held : List ℕ) → D.seen disk.old ≡ Some held → Only held (LeftNow D.moment D.left_at disk.old) → LeavesOnly D.moment D.left_at disk.old disk.new (Torn at (length bytes.now) held) }
     ensures time { GoesOn D.moment D.left_at disk.old disk.new }
-    ensures count { D.faults disk.old ≤ D.faults disk.new }
-    ensures cause { OnErr result (Rose (D.faults disk.old) (D.faults disk.new)) }
+    ensures cause { HasCause (D.faults disk.old) (D.faults disk.new) result }
 {
     disk.write_at(at, bytes)?;
     disk.sync()
+}
+
+// Writes bytes behind a shut gate, and opens it once they are on the disk. A crash in it leaves any part
+// of the bytes behind the gate, or all of them and some gate.
+pub fn write_gated<D: Disk>(disk: &mut D, gate: u64, bytes: &[u8]) -> Result<(), Failed>
+    requires inside { IfSome (D.seen disk.old) (λ held. gate + 1 ≤ length held) }
+    requires limit { gate + 1 + length bytes.now ≤ 2 ^ 40 }
+    ensures written { OnOk result (D.seen disk.new ≡ option_map (gated gate bytes.now) (D.seen disk.old)) }
+    ensures durable { OnOk result (IfSome (D.seen disk.new) (λ held. Only held (LeftNow D.moment D.left_at disk.new))) }
+    ensures telling { IsSome (D.seen disk.new) ↔ IsSome (D.seen disk.old) }
+    ensures crash { (held : List ℕ) → D.seen disk.old ≡ Some held → Only held (LeftNow D.moment D.left_at disk.old) → LeavesOnly D.moment D.left_at disk.old disk.new (GatedLeaves gate held bytes.now) }
+    ensures time { GoesOn D.moment D.left_at disk.old disk.new }
+    ensures cause { HasCause (D.faults disk.old) (D.faults disk.new) result }
+{
+    write_synced(disk, gate + 1, bytes)?;
+    write_synced(disk, gate, &[1])
 }

@@ -1,34 +1,15 @@
 // A new journal on a disk: the gate at place 0 is shut, all behind it is written, and then it is opened.
 ghost use Rattle.std.specs.Prelude.{◌≡◌, ◌≤◌, ◌<◌, ◌+◌, ◌^◌, ◌↔◌, ◌⊎◌, ◌++◌, ◌∷◌, [], Some, true, List, ℕ, length, take, option_map, OnOk, OnErr, IfOk, IfErr, IfSome, IsSome};
 ghost use Rattle.liq_outside.specs.Disk.{GoesOn, LeavesOnly, LeftNow, Only, overwritten};
-ghost use Rattle.liq_outside.specs.Faults.{Rose};
-ghost use Rattle.liq_journal.specs.Crash.{CreateLeaves, HasByteAt, IsShut, Stands, beginning, filled, is_odd};
+ghost use Rattle.liq_outside.specs.Faults.{HasCause};
+ghost use Rattle.liq_journal.specs.Crash.{CreateLeaves, ReadsOfCreate, HasByteAt, IsShut, Stands, beginning, filled, is_odd};
 ghost use Rattle.liq_journal.specs.Written.{is_generation, is_size};
 
 use crate::bytes::write_synced;
 use crate::digests::header_bytes;
+use crate::gate::settle;
+use crate::header::HEADER;
 use liq_outside::{Disk, Failed};
-
-/// The places of a header, which the checkpoint follows.
-pub const HEADER: u64 = 57;
-
-// Shuts the gate at place 0, unless it is there and shut.
-pub fn shut<D: Disk>(disk: &mut D) -> Result<(), Failed>
-    ensures shut { OnOk result (IfSome (D.seen disk.new) IsShut) }
-    ensures durable { OnOk result ((held : List ℕ) → D.seen disk.old ≡ Some held → Only held (LeftNow D.moment D.left_at disk.old) → IfSome (D.seen disk.new) (λ after. Only after (LeftNow D.moment D.left_at disk.new))) }
-    ensures telling { IsSome (D.seen disk.new) ↔ IsSome (D.seen disk.old) }
-    ensures crash { (held : List ℕ) → D.seen disk.old ≡ Some held → Only held (LeftNow D.moment D.left_at disk.old) → LeavesOnly D.moment D.left_at disk.old disk.new (λ image. (image ≡ held) ⊎ HasByteAt 0 held image) }
-    ensures time { GoesOn D.moment D.left_at disk.old disk.new }
-    ensures count { D.faults disk.old ≤ D.faults disk.new }
-    ensures cause { OnErr result (Rose (D.faults disk.old) (D.faults disk.new)) }
-{
-    let mut gate = [1];
-    let count = disk.read_at(0, &mut gate)?;
-    if count == 1 && gate[0] == 0 {
-        return Ok(());
-    }
-    write_synced(disk, 0, &[0])
-}
 
 // Writes bytes behind the shut gate, unless there are none. No device call is made for none.
 pub fn write_behind<D: Disk>(disk: &mut D, at: u64, bytes: &[u8]) -> Result<(), Failed>
@@ -39,8 +20,7 @@ pub fn write_behind<D: Disk>(disk: &mut D, at: u64, bytes: &[u8]) -> Result<(), 
     ensures telling { IsSome (D.seen disk.new) ↔ IsSome (D.seen disk.old) }
     ensures crash { ((image : List ℕ) → LeftNow D.moment D.left_at disk.old image → IsShut image) → LeavesOnly D.moment D.left_at disk.old disk.new IsShut }
     ensures time { GoesOn D.moment D.left_at disk.old disk.new }
-    ensures count { D.faults disk.old ≤ D.faults disk.new }
-    ensures cause { OnErr result (Rose (D.faults disk.old) (D.faults disk.new)) }
+    ensures cause { HasCause (D.faults disk.old) (D.faults disk.new) result }
 {
     if bytes.is_empty() {
         return Ok(());
@@ -57,8 +37,7 @@ pub fn fill<D: Disk>(disk: &mut D, generation: u64, checkpoint: &[u8]) -> Result
     ensures telling { IsSome (D.seen disk.new) ↔ IsSome (D.seen disk.old) }
     ensures crash { ((image : List ℕ) → LeftNow D.moment D.left_at disk.old image → IsShut image) → LeavesOnly D.moment D.left_at disk.old disk.new IsShut }
     ensures time { GoesOn D.moment D.left_at disk.old disk.new }
-    ensures count { D.faults disk.old ≤ D.faults disk.new }
-    ensures cause { OnErr result (Rose (D.faults disk.old) (D.faults disk.new)) }
+    ensures cause { HasCause (D.faults disk.old) (D.faults disk.new) result }
 {
     write_behind(disk, 1, &header_bytes(generation, checkpoint))?;
     write_behind(disk, HEADER, checkpoint)?;
@@ -76,11 +55,11 @@ pub fn make<D: Disk>(disk: &mut D, generation: u64, checkpoint: &[u8]) -> Result
     ensures telling { IsSome (D.seen disk.new) ↔ IsSome (D.seen disk.old) }
     ensures crash { (held : List ℕ) → D.seen disk.old ≡ Some held → Only held (LeftNow D.moment D.left_at disk.old) → is_generation (is_odd generation) generation ≡ true
         → LeavesOnly D.moment D.left_at disk.old disk.new (CreateLeaves (is_odd generation) held (beginning generation checkpoint.now)) }
+    ensures reads { ReadsOfCreate D.seen D.moment D.left_at disk.old disk.new generation checkpoint.now }
     ensures time { GoesOn D.moment D.left_at disk.old disk.new }
-    ensures count { D.faults disk.old ≤ D.faults disk.new }
-    ensures cause { OnErr result (Rose (D.faults disk.old) (D.faults disk.new)) }
+    ensures cause { HasCause (D.faults disk.old) (D.faults disk.new) result }
 {
-    shut(disk)?;
+    settle(disk, 0)?;
     fill(disk, generation, checkpoint)?;
     write_synced(disk, 0, &[1])
 }

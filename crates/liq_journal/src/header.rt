@@ -2,7 +2,7 @@
 ghost use Rattle.std.specs.Prelude.{◌≡◌, ◌≤◌, ◌+◌, ◌==◌, ◌&&◌, Some, None, Err, IfOk, IfErr, IfSome, length, nat_lt, if◌then◌else◌};
 ghost use Rattle.std.specs.Result.{MatchResult};
 ghost use Rattle.liq_wire.specs.Fields.{first_place, number_at};
-ghost use Rattle.liq_outside.specs.Faults.{Rose};
+ghost use Rattle.liq_journal.specs.Causes.{CountsLook};
 ghost use Rattle.liq_journal.specs.Header.{HasFields, IsDamageOf, MaybeHeadOf, place_tests};
 ghost use Rattle.liq_journal.specs.declared.damage.What.TheVariants.{Form};
 ghost use Rattle.liq_journal.specs.declared.answers.LookFault.TheVariants.{Damaged};
@@ -10,11 +10,13 @@ ghost use Rattle.liq_journal.specs.Looked.{Looked};
 ghost use Rattle.liq_journal.specs.Written.{is_generation, is_size};
 
 use crate::answers::LookFault;
-use crate::create::HEADER;
 use crate::damage::{Damage, What};
 use crate::head::Head;
 use byteorder::{BigEndian, ByteOrder};
 use liq_outside::Disk;
+
+// The places of a header, which the checkpoint follows.
+pub const HEADER: u64 = 57;
 
 // The places of a header, or the first whose field is wrong.
 fn placed(bytes: &[u8; 57], odd: bool) -> Result<Head, u64>
@@ -70,11 +72,11 @@ fn may_be_long(generation: u64, size: u64) -> bool
 
 // The header of the disk, if it is open: its fields, which are right, and whose checkpoint is there.
 pub fn read_header<D: Disk>(disk: &mut D, odd: bool) -> Result<Option<Head>, LookFault>
-    ensures looked { Looked D.seen D.moment D.left_at D.faults disk.old disk.new }
+    ensures looked { Looked D.seen D.moment D.left_at disk.old disk.new }
     ensures read { IfOk result (λ head. IfSome (D.seen disk.old) (λ held. MaybeHeadOf odd held head)) }
     ensures size { IfOk result (λ head. IfSome head (λ h. h.size ≤ 68719476736)) }
     ensures fault { IfErr result (λ why. IfSome (D.seen disk.old) (λ held. IsDamageOf odd held why)) }
-    ensures cause { result ≡ Err LookFault.DiskFault → Rose (D.faults disk.old) (D.faults disk.new) }
+    ensures cause { CountsLook result (D.faults disk.old) (D.faults disk.new) }
 {
     let mut bytes = [0; 57];
     let count = match disk.read_at(0, &mut bytes) {

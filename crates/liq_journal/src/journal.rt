@@ -3,17 +3,22 @@ ghost use Rattle.std.specs.Prelude.{◌≡◌, ◌≤◌, ◌<◌, ◌+◌, ◌*
 ghost use Rattle.std.specs.Result.{MatchResult};
 ghost use Rattle.liq_types.specs.declared.requests.Command.{Command};
 ghost use Rattle.liq_outside.specs.Disk.{GoesOn, LeavesOnly, LeftNow, Only};
-ghost use Rattle.liq_outside.specs.Faults.{Rose};
-ghost use Rattle.liq_journal.specs.Crash.{BeforeOrAfter, CrashOfCreate, IsBodyOf, Stands, beginning, is_odd};
-ghost use Rattle.liq_journal.specs.Opened.{CrashOfOpen, IsKept, IsOpened, IsWhyOf, ReadsOfOpen};
+ghost use Rattle.liq_outside.specs.Faults.{HasCause};
+ghost use Rattle.liq_journal.specs.Bodies.{IsAccepted, IsBodyFault, IsJournalOf, body_at};
+ghost use Rattle.liq_journal.specs.Causes.{CauseOfOpen, Counted, CountsLook};
+ghost use Rattle.liq_journal.specs.Crash.{BeforeOrAfter, CrashOfCreate, IsBodyOf, ReadsOfCreate, Stands, beginning, is_odd};
+ghost use Rattle.liq_journal.specs.Looked.{Looked};
+ghost use Rattle.liq_journal.specs.Opened.{CrashOfOpen, IsAtRest, IsKept, IsOpened, IsUnshut, IsWhyOf, ReadsOfOpen};
 ghost use Rattle.liq_journal.specs.Settled.{IsSettled};
 ghost use Rattle.liq_journal.specs.Written.{Open, Written, and_then, found_on, is_generation, is_size};
 
-use crate::answers::{CreateFault, DiskFault, OpenFault, OpenWhy};
-use crate::bytes::write_synced;
-use crate::create::{HEADER, make};
+use crate::answers::{CreateFault, DiskFault, LookFault, OpenFault, OpenWhy};
+use crate::bytes::write_gated;
+use crate::create::make;
 use crate::digests::record_bytes;
+use crate::header::HEADER;
 use crate::open::open_on;
+use crate::records::read_body;
 use crate::scanned::Scanned;
 use liq_outside::Disk;
 use std::alloc::Global;
@@ -34,7 +39,7 @@ pub struct Journal<D> {
 
 impl<D> Model for Journal<D> {
     ghost use Rattle.std.specs.Prelude.{◌≤◌};
-    ghost use Rattle.liq_journal.specs.Opened.{CrashOfOpen, IsKept, IsOpened, IsWhyOf, ReadsOfOpen};
+    ghost use Rattle.liq_journal.specs.Opened.{CrashOfOpen, IsAtRest, IsKept, IsOpened, IsUnshut, IsWhyOf, ReadsOfOpen};
     ghost use Rattle.liq_journal.specs.Settled.{JournalOn};
 
     ghost Value = { JournalOn D };
@@ -58,12 +63,16 @@ impl<D: Disk> Journal<D> {
         ensures known { IfOk result (λ j. (j.generation ≡ generation) × (j.start ≡ 57 + length checkpoint.now) × (j.count ≡ 0)) }
         ensures created { IfOk result (λ j. (held : List ℕ) → D.seen disk ≡ Some held → is_generation (is_odd generation) generation ≡ true
             → (after : List ℕ) × (D.seen j.disk ≡ Some after) × Stands (is_odd generation) after (beginning generation checkpoint.now)) }
+        ensures settled { IfOk result (λ j. is_generation (is_odd generation) generation ≡ true → IfSome (D.seen j.disk) (IsSettled j.generation j.start j.count)) }
         ensures durable { IfOk result (λ j. IfSome (D.seen j.disk) (λ after. Only after (LeftNow D.moment D.left_at j.disk))) }
         ensures telling { MatchResult result (λ j. IsSome (D.seen j.disk) ↔ IsSome (D.seen disk)) (λ e. IsSome (D.seen e.disk) ↔ IsSome (D.seen disk)) }
         ensures crash { MatchResult result (λ j. CrashOfCreate D.seen D.moment D.left_at disk j.disk generation checkpoint.now) (λ e. CrashOfCreate D.seen D.moment D.left_at disk e.disk generation checkpoint.now) }
+
+        // What is read afterwards, after a fault too.
+        ensures reads { MatchResult result (λ j. ReadsOfCreate D.seen D.moment D.left_at disk j.disk generation checkpoint.now) (λ e. ReadsOfCreate D.seen D.moment D.left_at disk e.disk generation checkpoint.now) }
+
         ensures time { MatchResult result (λ j. GoesOn D.moment D.left_at disk j.disk) (λ e. GoesOn D.moment D.left_at disk e.disk) }
-        ensures count { MatchResult result (λ j. D.faults disk ≤ D.faults j.disk) (λ e. D.faults disk ≤ D.faults e.disk) }
-        ensures cause { IfErr result (λ e. Rose (D.faults disk) (D.faults e.disk)) }
+        ensures cause { MatchResult result (λ j. D.faults j.disk ≡ D.faults disk) (λ e. Counted (D.faults disk) (D.faults e.disk)) }
     {
         let mut disk = disk;
         match make(&mut disk, generation, checkpoint) {
@@ -89,12 +98,13 @@ impl<D: Disk> Journal<D> {
         ensures durable { IfOk result (λ r. IfSome (D.seen r.0.disk) (λ after. Only after (LeftNow D.moment D.left_at r.0.disk))) }
         ensures why { IfErr result (λ e. IfSome (D.seen disk) (λ held. IsWhyOf odd held e.why)) }
         ensures kept { IfErr result (λ e. IsKept e.why → D.seen e.disk ≡ D.seen disk) }
+        ensures absent { IfErr result (λ e. e.why ≡ OpenWhy.Absent → IfSome (D.seen e.disk) (λ after. IsUnshut after → ⊥)) }
+        ensures at_rest { IfErr result (λ e. IsAtRest e.why → IfSome (D.seen e.disk) (λ after. Only after (LeftNow D.moment D.left_at e.disk))) }
         ensures telling { MatchResult result (λ r. IsSome (D.seen r.0.disk) ↔ IsSome (D.seen disk)) (λ e. IsSome (D.seen e.disk) ↔ IsSome (D.seen disk)) }
         ensures crash { MatchResult result (λ r. CrashOfOpen D.seen D.moment D.left_at disk r.0.disk odd) (λ e. CrashOfOpen D.seen D.moment D.left_at disk e.disk odd) }
         ensures reads { MatchResult result (λ r. ReadsOfOpen D.seen disk r.0.disk odd) (λ e. ReadsOfOpen D.seen disk e.disk odd) }
         ensures time { MatchResult result (λ r. GoesOn D.moment D.left_at disk r.0.disk) (λ e. GoesOn D.moment D.left_at disk e.disk) }
-        ensures count { MatchResult result (λ r. D.faults disk ≤ D.faults r.0.disk) (λ e. D.faults disk ≤ D.faults e.disk) }
-        ensures cause { IfErr result (λ e. e.why ≡ OpenWhy.DiskFault → Rose (D.faults disk) (D.faults e.disk)) }
+        ensures cause { MatchResult result (λ r. D.faults r.0.disk ≡ D.faults disk) (λ e. CauseOfOpen e.why (D.faults disk) (D.faults e.disk)) }
     {
         let mut disk = disk;
         match open_on(alloc, &mut disk, odd) {
@@ -134,6 +144,7 @@ impl<D: Disk> Journal<D> {
         ensures telling { IsSome (D.seen self.new.disk) ↔ IsSome (D.seen self.old.disk) }
         ensures appended { OnOk result ((held : List ℕ) (w : Written) (command : Command) → D.seen self.old.disk ≡ Some held → Stands (is_odd self.old.generation) held w → IsBodyOf body.now command
             → (after : List ℕ) × (D.seen self.new.disk ≡ Some after) × Stands (is_odd self.old.generation) after (and_then w command)) }
+        ensures settled { OnOk result ((command : Command) → IsBodyOf body.now command → IfSome (D.seen self.new.disk) (IsSettled self.new.generation self.new.start self.new.count)) }
         ensures durable { OnOk result (IfSome (D.seen self.new.disk) (λ held. Only held (LeftNow D.moment D.left_at self.new.disk))) }
         ensures crash { (held : List ℕ) (w : Written) (command : Command) → D.seen self.old.disk ≡ Some held → Only held (LeftNow D.moment D.left_at self.old.disk) → Stands (is_odd self.old.generation) held w → IsBodyOf body.now command
             → LeavesOnly D.moment D.left_at self.old.disk self.new.disk (BeforeOrAfter (is_odd self.old.generation) w command) }
@@ -143,15 +154,38 @@ impl<D: Disk> Journal<D> {
             → D.seen self.new.disk ≡ Some after → BeforeOrAfter (is_odd self.old.generation) w command after }
 
         ensures time { GoesOn D.moment D.left_at self.old.disk self.new.disk }
-        ensures count { D.faults self.old.disk ≤ D.faults self.new.disk }
-        ensures cause { OnErr result (Rose (D.faults self.old.disk) (D.faults self.new.disk)) }
+        ensures cause { HasCause (D.faults self.old.disk) (D.faults self.new.disk) result }
     {
         let gate = self.start + RECORD * self.count;
         let record = record_bytes(self.generation, self.count + 1, body);
-        write_synced(&mut self.disk, gate + 1, &record)?;
-        write_synced(&mut self.disk, gate, &[1])?;
+        write_gated(&mut self.disk, gate, &record)?;
         self.count += 1;
         Ok(())
+    }
+
+    /// The body of a record, whose number is from 1 to `records`. The journal and its disk stay as they are.
+    ///
+    /// `Damaged` comes only where the record's bytes have another digest than the one behind them, or are
+    /// no command or a rotation, and never where the disk tells its content and this is the journal.
+    pub fn body(&mut self, index: u64) -> Result<[u8; 96], LookFault>
+        requires from_one { 1 ≤ index }
+        requires there { index ≤ self.old.count }
+
+        ensures generation { self.new.generation ≡ self.old.generation }
+        ensures start { self.new.start ≡ self.old.start }
+        ensures records { self.new.count ≡ self.old.count }
+        ensures command { IfOk result (λ body. (command : Command) × IsBodyOf body command) }
+        ensures damaged { IfErr result (IsBodyFault self.old.generation index (body_at self.old.start index)) }
+
+        // Where the disk tells its content.
+        ensures accepted { (held : List ℕ) (w : Written) → D.seen self.old.disk ≡ Some held → IsJournalOf self.old.generation self.old.start held w → index ≤ length w.commands
+            → MatchResult result (IsAccepted self.old.start held w index) (λ why. why ≡ LookFault.DiskFault) }
+
+        ensures looked { Looked D.seen D.moment D.left_at self.old.disk self.new.disk }
+        ensures cause { CountsLook result (D.faults self.old.disk) (D.faults self.new.disk) }
+    {
+        let place = self.start + RECORD * (index - 1);
+        read_body(&mut self.disk, self.generation, index, place)
     }
 
     /// How many records there are.

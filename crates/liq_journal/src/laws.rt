@@ -1,8 +1,13 @@
 //! Laws of a journal's bytes.
-ghost use Rattle.std.specs.Prelude.{◌≡◌, ◌+◌, ◌*◌, ◌++◌, ◌<◌, ◌≤◌, Bool, List, ℕ, length, take, drop};
+ghost use Rattle.std.specs.Prelude.{◌≡◌, ◌+◌, ◌*◌, ◌++◌, ◌<◌, ◌≤◌, Ok, Err, Bool, List, ℕ, length, take, drop};
 ghost use Rattle.liq_journal.specs.Records.{records};
 ghost use Rattle.liq_journal.specs.Crash.{Stands};
 ghost use Rattle.liq_outside.specs.Disk.{Torn};
+ghost use Rattle.liq_journal.specs.declared.damage.Damage.{Damage};
+ghost use Rattle.liq_journal.specs.declared.answers.Look.TheVariants as Look;
+ghost use Rattle.liq_journal.specs.declared.answers.LookFault.TheVariants.{Damaged};
+ghost use Rattle.liq_journal.specs.Look.{look_on};
+ghost use Rattle.liq_journal.specs.Written as Found;
 ghost use Rattle.liq_journal.specs.Written.{Open, Written, end_of, found_on, found_records, most_records};
 
 /// A front of whole records that other bytes have too is read there too, and then what stands behind it.
@@ -18,4 +23,11 @@ pub fn a_header_is_decided()
 /// Any part of a write behind the closed gate at the end leaves what is found.
 pub fn behind_the_gate_nothing_counts()
     ensures { (odd : Bool) (held image : List ℕ) (w : Written) (n : ℕ) → Stands odd held w → length w.commands < 1000000 → Torn (end_of w + 1) n held image → Stands odd image w }
+{}
+
+/// A look agrees with an opening: the same damage of the header, none open on both, or the generation.
+pub fn a_look_tells_the_header()
+    ensures damaged { (odd : Bool) (held : List ℕ) (damage : Damage) → look_on odd held ≡ Err (Damaged damage) → found_on odd held ≡ Found.Damaged damage }
+    ensures absent { (odd : Bool) (held : List ℕ) → look_on odd held ≡ Ok Look.Absent → found_on odd held ≡ Found.Absent }
+    ensures open_on { (odd : Bool) (held : List ℕ) (w : Written) → found_on odd held ≡ Found.Open w → look_on odd held ≡ Ok (Look.Open w.generation) }
 {}

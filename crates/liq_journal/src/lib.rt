@@ -7,15 +7,18 @@ mod bytes;
 mod create;
 mod damage;
 mod digests;
+mod gate;
 mod head;
 mod header;
 mod journal;
+mod looking;
 mod open;
 mod records;
 mod scanned;
 
-pub use answers::{CreateFault, DiskFault, LookFault, OpenFault, OpenWhy};
+pub use answers::{CreateFault, DiskFault, Look, LookFault, OpenFault, OpenWhy};
 pub use damage::{Damage, What};
 pub use journal::Journal;
+pub use looking::look;
 
 pub mod laws;

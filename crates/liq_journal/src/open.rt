@@ -1,62 +1,33 @@
 // A journal opened: all of its disk tested, and the byte behind it shut.
 ghost use Rattle.std.specs.Prelude.{◌≡◌, ◌≤◌, ◌<◌, ◌+◌, ◌^◌, ◌⊎◌, ◌↔◌, Some, IsTrue, Ok, Err, List, ℕ, length, drop, take, OnOk, OnErr, IfOk, IfErr, IfSome, IsSome};
 ghost use Rattle.std.specs.Result.{MatchResult};
-ghost use Rattle.liq_journal.specs.Crash.{Stands};
+ghost use Rattle.liq_journal.specs.Crash.{HasGate, SettleLeaves, Stands};
 ghost use Rattle.liq_outside.specs.Disk.{GoesOn, LeavesOnly, LeftNow, Only};
-ghost use Rattle.liq_outside.specs.Faults.{Rose};
+ghost use Rattle.liq_outside.specs.Faults.{HasCause};
+ghost use Rattle.liq_journal.specs.Causes.{CountsOpen};
 ghost use Rattle.liq_journal.specs.declared.damage.Damage.{Damage};
 ghost use Rattle.liq_journal.specs.Looked.{Looked};
-ghost use Rattle.liq_journal.specs.Opened.{AbsentLeaves, HasGate, IsKept, IsScanOf, IsUnshut, IsWhyOf, OpenLeaves, SettleLeaves, why_of};
+ghost use Rattle.liq_journal.specs.Opened.{AbsentLeaves, IsAtRest, IsKept, IsScanOf, IsUnshut, IsWhyOf, OpenLeaves, why_of};
 ghost use Rattle.liq_journal.specs.Written.{Open, Written, found_on, piece};
 
 use crate::answers::{LookFault, OpenWhy};
 use crate::bytes::write_synced;
-use crate::create::HEADER;
 use crate::damage::{Damage, What};
 use crate::digests::header_digest;
-use crate::header::read_header;
+use crate::gate::settle;
+use crate::header::{HEADER, read_header};
 use crate::journal::RECORD;
 use crate::records::count_records;
 use crate::scanned::Scanned;
 use liq_outside::{Disk, Failed};
 use std::alloc::{AllocError, Global};
 
-// Whether a shut gate is at the place.
-fn is_shut<D: Disk>(disk: &mut D, place: u64) -> Result<bool, Failed>
-    ensures looked { Looked D.seen D.moment D.left_at D.faults disk.old disk.new }
-    ensures told { IfOk result (λ shut. IfSome (D.seen disk.old) (λ held. IsTrue shut ↔ HasGate place held)) }
-    ensures cause { OnErr result (Rose (D.faults disk.old) (D.faults disk.new)) }
-{
-    let mut gate = [1];
-    let count = disk.read_at(place, &mut gate)?;
-    Ok(count == 1 && gate[0] == 0)
-}
-
-// Shuts the gate at the place, unless it is there and shut.
-pub fn settle<D: Disk>(disk: &mut D, place: u64) -> Result<(), Failed>
-    requires inside { IfSome (D.seen disk.old) (λ held. place ≤ length held) }
-    requires limit { place < 2 ^ 40 }
-    ensures settled { OnOk result (IfSome (D.seen disk.new) (λ after. HasGate place after)) }
-    ensures front { OnOk result ((held : List ℕ) → D.seen disk.old ≡ Some held → IfSome (D.seen disk.new) (λ after. take place after ≡ take place held)) }
-    ensures durable { OnOk result ((held : List ℕ) → D.seen disk.old ≡ Some held → Only held (LeftNow D.moment D.left_at disk.old) → IfSome (D.seen disk.new) (λ after. Only after (LeftNow D.moment D.left_at disk.new))) }
-    ensures telling { IsSome (D.seen disk.new) ↔ IsSome (D.seen disk.old) }
-    ensures crash { (held : List ℕ) → D.seen disk.old ≡ Some held → Only held (LeftNow D.moment D.left_at disk.old) → LeavesOnly D.moment D.left_at disk.old disk.new (SettleLeaves place held) }
-    ensures time { GoesOn D.moment D.left_at disk.old disk.new }
-    ensures count { D.faults disk.old ≤ D.faults disk.new }
-    ensures cause { OnErr result (Rose (D.faults disk.old) (D.faults disk.new)) }
-{
-    if is_shut(disk, place)? {
-        return Ok(());
-    }
-    write_synced(disk, place, &[0])
-}
-
 // The bytes of the checkpoint behind the header. A disk whose content is told has them all.
 fn read_checkpoint<D: Disk>(alloc: Global, disk: &mut D, size: u64) -> Result<Vec<u8>, OpenWhy>
     requires { size ≤ 68719476736 }
-    ensures looked { Looked D.seen D.moment D.left_at D.faults disk.old disk.new }
+    ensures looked { Looked D.seen D.moment D.left_at disk.old disk.new }
     ensures read { IfOk result (λ bytes. IfSome (D.seen disk.old) (λ held. 57 + size ≤ length held → bytes.items ≡ piece 57 size held)) }
-    ensures cause { result ≡ Err OpenWhy.DiskFault → Rose (D.faults disk.old) (D.faults disk.new) }
+    ensures cause { CountsOpen result (D.faults disk.old) (D.faults disk.new) }
     ensures absent { result ≡ Err OpenWhy.Absent → ⊥ }
     ensures damaged { (damage : Damage) → result ≡ Err (OpenWhy.Damaged damage) → ⊥ }
 {
@@ -94,11 +65,11 @@ fn why_of(why: LookFault) -> OpenWhy
 
 // Reads and tests all of a disk, in the order of its faults.
 fn scan<D: Disk>(alloc: Global, disk: &mut D, odd: bool) -> Result<Scanned, OpenWhy>
-    ensures looked { Looked D.seen D.moment D.left_at D.faults disk.old disk.new }
+    ensures looked { Looked D.seen D.moment D.left_at disk.old disk.new }
     ensures bounds { IfOk result (λ s. (s.start ≤ 68719476793) × (s.count ≤ 1000001)) }
     ensures found { IfOk result (λ s. IfSome (D.seen disk.old) (λ held. IsScanOf odd held s)) }
     ensures why { IfErr result (λ why. IfSome (D.seen disk.old) (λ held. IsWhyOf odd held why)) }
-    ensures cause { result ≡ Err OpenWhy.DiskFault → Rose (D.faults disk.old) (D.faults disk.new) }
+    ensures cause { CountsOpen result (D.faults disk.old) (D.faults disk.new) }
 {
     let head = match read_header(disk, odd) {
         Ok(Some(head)) => head,
@@ -133,9 +104,9 @@ fn scan<D: Disk>(alloc: Global, disk: &mut D, odd: bool) -> Result<Scanned, Open
 
 // Whether a byte other than 0 is at place 0.
 fn is_unshut<D: Disk>(disk: &mut D) -> Result<bool, Failed>
-    ensures looked { Looked D.seen D.moment D.left_at D.faults disk.old disk.new }
+    ensures looked { Looked D.seen D.moment D.left_at disk.old disk.new }
     ensures told { IfOk result (λ unshut. IfSome (D.seen disk.old) (λ held. IsTrue unshut ↔ IsUnshut held)) }
-    ensures cause { OnErr result (Rose (D.faults disk.old) (D.faults disk.new)) }
+    ensures cause { HasCause (D.faults disk.old) (D.faults disk.new) result }
 {
     let mut gate = [0];
     let count = disk.read_at(0, &mut gate)?;
@@ -144,11 +115,12 @@ fn is_unshut<D: Disk>(disk: &mut D) -> Result<bool, Failed>
 
 // Shuts the gate of a disk on which no journal is open, where it is there and isn't shut.
 fn settle_absent<D: Disk>(disk: &mut D) -> Result<(), Failed>
+    ensures shut { OnOk result (IfSome (D.seen disk.new) (λ after. IsUnshut after → ⊥)) }
+    ensures durable { OnOk result ((held : List ℕ) → D.seen disk.old ≡ Some held → Only held (LeftNow D.moment D.left_at disk.old) → IfSome (D.seen disk.new) (λ after. Only after (LeftNow D.moment D.left_at disk.new))) }
     ensures telling { IsSome (D.seen disk.new) ↔ IsSome (D.seen disk.old) }
     ensures crash { (held : List ℕ) → D.seen disk.old ≡ Some held → Only held (LeftNow D.moment D.left_at disk.old) → LeavesOnly D.moment D.left_at disk.old disk.new (AbsentLeaves held) }
     ensures time { GoesOn D.moment D.left_at disk.old disk.new }
-    ensures count { D.faults disk.old ≤ D.faults disk.new }
-    ensures cause { OnErr result (Rose (D.faults disk.old) (D.faults disk.new)) }
+    ensures cause { HasCause (D.faults disk.old) (D.faults disk.new) result }
 {
     if !is_unshut(disk)? {
         return Ok(());
@@ -168,10 +140,12 @@ fn settle_scanned<D: Disk>(
     ensures durable { IfOk result (λ _. (held : List ℕ) → D.seen disk.old ≡ Some held → Only held (LeftNow D.moment D.left_at disk.old) → IfSome (D.seen disk.new) (λ after. Only after (LeftNow D.moment D.left_at disk.new))) }
     ensures telling { IsSome (D.seen disk.new) ↔ IsSome (D.seen disk.old) }
     ensures kept { IfErr result (λ why. IsKept why → D.seen disk.new ≡ D.seen disk.old) }
+    ensures absent { result ≡ Err OpenWhy.Absent → IfSome (D.seen disk.new) (λ after. IsUnshut after → ⊥) }
+    ensures at_rest { IfErr result (λ why. IsAtRest why → (held : List ℕ) → D.seen disk.old ≡ Some held → Only held (LeftNow D.moment D.left_at disk.old) → IfSome (D.seen disk.new) (λ after. Only after (LeftNow D.moment D.left_at disk.new))) }
     ensures crash { (held : List ℕ) → D.seen disk.old ≡ Some held → Only held (LeftNow D.moment D.left_at disk.old) → LeavesOnly D.moment D.left_at disk.old disk.new (OpenLeaves odd held) }
     ensures time { GoesOn D.moment D.left_at disk.old disk.new }
-    ensures count { D.faults disk.old ≤ D.faults disk.new }
-    ensures cause { (result ≡ Err OpenWhy.DiskFault) → (found ≡ Err OpenWhy.DiskFault) ⊎ Rose (D.faults disk.old) (D.faults disk.new) }
+    ensures cause { (found ≡ Err OpenWhy.DiskFault → ⊥) → CountsOpen result (D.faults disk.old) (D.faults disk.new) }
+    ensures faulted { found ≡ Err OpenWhy.DiskFault → (result ≡ found) × (D.faults disk.new ≡ D.faults disk.old) }
 {
     match found {
         Ok(scanned) => match settle(disk, scanned.start + RECORD * scanned.count) {
@@ -196,12 +170,13 @@ pub fn open_on<D: Disk>(alloc: Global, disk: &mut D, odd: bool) -> Result<Scanne
     ensures durable { IfOk result (λ _. IfSome (D.seen disk.new) (λ after. Only after (LeftNow D.moment D.left_at disk.new))) }
     ensures why { IfErr result (λ why. IfSome (D.seen disk.old) (λ held. IsWhyOf odd held why)) }
     ensures kept { IfErr result (λ why. IsKept why → D.seen disk.new ≡ D.seen disk.old) }
+    ensures absent { result ≡ Err OpenWhy.Absent → IfSome (D.seen disk.new) (λ after. IsUnshut after → ⊥) }
+    ensures at_rest { IfErr result (λ why. IsAtRest why → IfSome (D.seen disk.new) (λ after. Only after (LeftNow D.moment D.left_at disk.new))) }
     ensures telling { IsSome (D.seen disk.new) ↔ IsSome (D.seen disk.old) }
     ensures crash { (held : List ℕ) → D.seen disk.old ≡ Some held → Only held (LeftNow D.moment D.left_at disk.old) → LeavesOnly D.moment D.left_at disk.old disk.new (OpenLeaves odd held) }
     ensures reads { (held after : List ℕ) → D.seen disk.old ≡ Some held → D.seen disk.new ≡ Some after → OpenLeaves odd held after }
     ensures time { GoesOn D.moment D.left_at disk.old disk.new }
-    ensures count { D.faults disk.old ≤ D.faults disk.new }
-    ensures cause { result ≡ Err OpenWhy.DiskFault → Rose (D.faults disk.old) (D.faults disk.new) }
+    ensures cause { CountsOpen result (D.faults disk.old) (D.faults disk.new) }
 {
     match disk.sync() {
         Ok(()) => {}

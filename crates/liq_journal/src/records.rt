@@ -2,11 +2,13 @@
 ghost use Rattle.std.specs.Prelude.{◌≡◌, ◌≤◌, ◌<◌, ◌+◌, ◌*◌, ◌^◌, ◌++◌, Some, Ok, Err, true, false, List, ℕ, length, take, drop, IfOk, IfErr, IfSome};
 ghost use Rattle.std.specs.Result.{MatchResult};
 ghost use Rattle.liq_types.specs.declared.requests.Command.{Command};
-ghost use Rattle.liq_outside.specs.Faults.{Rose};
+ghost use Rattle.liq_journal.specs.Bodies.{IsBodyFault};
+ghost use Rattle.liq_journal.specs.Causes.{CountsLook};
 ghost use Rattle.liq_journal.specs.Counted.{AreRecords, IsFaultIn};
 ghost use Rattle.liq_journal.specs.Looked.{Looked};
 ghost use Rattle.liq_journal.specs.Records.{begins_whole};
-ghost use Rattle.liq_journal.specs.Tested.{IsFaultOf, IsTested};
+ghost use Rattle.liq_journal.specs.Crash.{IsBodyOf};
+ghost use Rattle.liq_journal.specs.Tested.{IsBodyRead, IsFaultOf, IsFaultRead, IsTested};
 ghost use Rattle.liq_journal.specs.Written.{piece, record_on};
 
 use crate::answers::LookFault;
@@ -54,10 +56,10 @@ pub fn read_record<D: Disk>(
     place: u64,
 ) -> Result<Option<[u8; 96]>, LookFault>
     requires { place < 2 ^ 40 }
-    ensures looked { Looked D.seen D.moment D.left_at D.faults disk.old disk.new }
+    ensures looked { Looked D.seen D.moment D.left_at disk.old disk.new }
     ensures tested { IfOk result (λ body. IfSome (D.seen disk.old) (λ held. IsTested generation index place held body)) }
     ensures fault { IfErr result (λ why. IfSome (D.seen disk.old) (λ held. IsFaultOf generation index place held why)) }
-    ensures cause { result ≡ Err LookFault.DiskFault → Rose (D.faults disk.old) (D.faults disk.new) }
+    ensures cause { CountsLook result (D.faults disk.old) (D.faults disk.new) }
 {
     let mut bytes = [0; 129];
     let count = match disk.read_at(place, &mut bytes) {
@@ -77,15 +79,53 @@ pub fn read_record<D: Disk>(
     }
 }
 
+// The body of a record, and the digest behind it.
+fn split(bytes: &[u8; 128]) -> ([u8; 96], [u8; 32])
+    ensures body { result.0 ≡ take 96 bytes.now }
+    ensures stored { result.1 ≡ drop 96 bytes.now }
+{
+    let mut body = [0; 96];
+    body.copy_from_slice(&bytes[..96]);
+    let mut stored = [0; 32];
+    stored.copy_from_slice(&bytes[96..]);
+    (body, stored)
+}
+
+// The body of the record whose gate stands at the place, once it is tested, whatever the gate is.
+pub fn read_body<D: Disk>(
+    disk: &mut D,
+    generation: u64,
+    index: u64,
+    place: u64,
+) -> Result<[u8; 96], LookFault>
+    requires { place < 2 ^ 40 }
+    ensures looked { Looked D.seen D.moment D.left_at disk.old disk.new }
+    ensures command { IfOk result (λ body. (command : Command) × IsBodyOf body command) }
+    ensures damaged { IfErr result (IsBodyFault generation index (place + 1)) }
+    ensures told { IfSome (D.seen disk.old) (λ held. place + 129 ≤ length held → MatchResult result (IsBodyRead generation index (place + 1) held) (IsFaultRead generation index (place + 1) held)) }
+    ensures cause { CountsLook result (D.faults disk.old) (D.faults disk.new) }
+{
+    let mut bytes = [0; 128];
+    match disk.read_at(place + 1, &mut bytes) {
+        Ok(_) => {}
+        Err(_) => return Err(LookFault::DiskFault),
+    }
+    let (body, stored) = split(&bytes);
+    match tested(&body, &stored, generation, index, place + 1) {
+        Ok(_) => Ok(body),
+        Err(what) => Err(LookFault::Damaged(Damage { index, what })),
+    }
+}
+
 // How many whole records there are from the place on, one more at most than a journal may have, each
 // tested; or the first fault of them.
 pub fn count_records<D: Disk>(disk: &mut D, generation: u64, start: u64) -> Result<u64, LookFault>
     requires { start ≤ 68719476793 }
-    ensures looked { Looked D.seen D.moment D.left_at D.faults disk.old disk.new }
+    ensures looked { Looked D.seen D.moment D.left_at disk.old disk.new }
     ensures most { IfOk result (λ count. count ≤ 1000001) }
     ensures counted { IfOk result (λ count. IfSome (D.seen disk.old) (λ held. AreRecords generation start held count)) }
     ensures fault { IfErr result (λ why. IfSome (D.seen disk.old) (λ held. IsFaultIn generation start held why)) }
-    ensures cause { result ≡ Err LookFault.DiskFault → Rose (D.faults disk.old) (D.faults disk.new) }
+    ensures cause { CountsLook result (D.faults disk.old) (D.faults disk.new) }
 {
     for count in 0..1_000_001 {
         match read_record(disk, generation, count + 1, start + 129 * count) {

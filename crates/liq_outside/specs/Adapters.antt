@@ -1,4 +1,4 @@
-use Rattle.std.specs.Prelude.{ℕ, ◌≡◌, Bool, Result}
+use Rattle.std.specs.Prelude.{ℕ, ◌≡◌, Bool, List, Result}
 use Rattle.std.specs.Result.{MatchResult}
 use Rattle.liq_outside.specs.Calls.{one_more}
 
@@ -15,3 +15,7 @@ CountsFailure result before after = MatchResult result (λ _. after ≡ before) 
 pub record MaybeFile : Type 0 where
   pub is_there : Bool
   pub faults : ℕ
+
+-- what a crash may leave of a file, of which nothing is told
+abbrev pub AnyImage : List ℕ → Type 0
+AnyImage image = Unit {0}

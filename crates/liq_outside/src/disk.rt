@@ -1,7 +1,7 @@
 // What keeps bytes by their places, over a stop too.
 ghost use Rattle.std.specs.Prelude.{◌≡◌, ◌↔◌, ◌≤◌, ◌+◌, ◌-◌, ◌^◌, Option, Some, List, ℕ, min, length, take, drop, option_map, IfOk, OnOk, OnErr, IfSome, IsSome};
 ghost use Rattle.liq_outside.specs.Disk.{Elapses, Follows, GoesOn, KeepsToItsTime, LeftNow, Only, Reaches, Torn, Within, overwritten};
-ghost use Rattle.liq_outside.specs.Faults.{Rose};
+ghost use Rattle.liq_outside.specs.Faults.{HasCause};
 
 use super::failed::Failed;
 
@@ -30,8 +30,7 @@ pub trait Disk {
         ensures crash { Within (LeftNow moment left_at self.new) (LeftNow moment left_at self.old) }
         ensures keeps { Within (LeftNow moment left_at self.old) (LeftNow moment left_at self.new) }
         ensures time { Elapses moment left_at self.old self.new }
-        ensures count { faults self.old ≤ faults self.new }
-        ensures cause { OnErr result (Rose (faults self.old) (faults self.new)) };
+        ensures cause { HasCause (faults self.old) (faults self.new) result };
 
     /// Reads from a place on into the front of `buf`, and says how many bytes: fewer than `buf` holds
     /// only where the disk ends.
@@ -42,8 +41,7 @@ pub trait Disk {
         ensures crash { Within (LeftNow moment left_at self.new) (LeftNow moment left_at self.old) }
         ensures keeps { Within (LeftNow moment left_at self.old) (LeftNow moment left_at self.new) }
         ensures time { Elapses moment left_at self.old self.new }
-        ensures count { faults self.old ≤ faults self.new }
-        ensures cause { OnErr result (Rose (faults self.old) (faults self.new)) };
+        ensures cause { HasCause (faults self.old) (faults self.new) result };
 
     /// Writes bytes over those from a place on, and past the end. Until a sync a crash may leave any
     /// bytes in the range. After `Failed` any part of them may have been written.
@@ -56,8 +54,7 @@ pub trait Disk {
         ensures noted { OnOk result (Reaches (Torn at (length bytes.now)) (LeftNow moment left_at self.old) (LeftNow moment left_at self.new)) }
         ensures keeps { Within (LeftNow moment left_at self.old) (LeftNow moment left_at self.new) }
         ensures time { Elapses moment left_at self.old self.new }
-        ensures count { faults self.old ≤ faults self.new }
-        ensures cause { OnErr result (Rose (faults self.old) (faults self.new)) };
+        ensures cause { HasCause (faults self.old) (faults self.new) result };
 
     /// After it, a crash leaves what a read gives. After `Failed` it may leave all that it might before.
     fn sync(&mut self) -> Result<(), Failed>
@@ -66,8 +63,7 @@ pub trait Disk {
         ensures crash { Within (LeftNow moment left_at self.new) (LeftNow moment left_at self.old) }
         ensures unsynced { OnErr result (Within (LeftNow moment left_at self.old) (LeftNow moment left_at self.new)) }
         ensures time { Elapses moment left_at self.old self.new }
-        ensures count { faults self.old ≤ faults self.new }
-        ensures cause { OnErr result (Rose (faults self.old) (faults self.new)) };
+        ensures cause { HasCause (faults self.old) (faults self.new) result };
 
     /// How many faults it has met. It is no device call.
     fn faults(&self) -> u64

@@ -1,6 +1,8 @@
-// A file as a disk. As such it tells no content and no image: only faults are told.
+// A file as a disk. As such it tells no content, and any image may be left: only faults are told.
 ghost use Rattle.std.specs.Prelude.{◌≡◌, ◌≤◌, ◌+◌, ◌^◌, None, false, is_some, length, IfOk, IsErr};
-ghost use Rattle.liq_outside.specs.Adapters.{CountsFailure};
+ghost use Rattle.liq_outside.specs.Adapters.{AnyImage, CountsFailure};
+ghost use Rattle.liq_outside.specs.Disk.{Follows, Torn};
+ghost use Rattle.liq_outside.specs.Faults.{HasCause};
 
 use super::disk::Disk;
 use super::failed::Failed;
@@ -38,23 +40,21 @@ impl FileDisk {
 }
 
 impl Disk for FileDisk {
-    ghost use Rattle.std.proofs.lemmas.Option.{none-some};
-
     ghost seen = { λ _. None };
 
     ghost moment = { λ _. 0 };
 
-    ghost left_at = { λ _ _ _. ⊥ };
+    ghost left_at = { λ _ _ image. AnyImage image };
 
     ghost faults = { λ d. d.faults };
 
-    ghost seen_may_stay = { λ disk held is. none-some held is };
+    ghost seen_may_stay = { λ disk held is. tt };
 
     fn length(&mut self) -> Result<u64, Failed>
         ensures missing { self.old.is_there ≡ false → IsErr result }
         ensures there { self.new.is_there ≡ self.old.is_there }
         ensures counted { CountsFailure result self.old.faults self.new.faults }
-        ensures count { self.old.faults ≤ self.new.faults }
+        ensures cause { HasCause self.old.faults self.new.faults result }
     {
         let answer = match &self.file {
             Some(file) => measured(file),
@@ -68,7 +68,7 @@ impl Disk for FileDisk {
         ensures missing { self.old.is_there ≡ false → IsErr result }
         ensures there { self.new.is_there ≡ self.old.is_there }
         ensures counted { CountsFailure result self.old.faults self.new.faults }
-        ensures count { self.old.faults ≤ self.new.faults }
+        ensures cause { HasCause self.old.faults self.new.faults result }
     {
         let answer = match &self.file {
             Some(file) => filled(file, at, buf),
@@ -81,8 +81,9 @@ impl Disk for FileDisk {
         requires limit { at + length bytes.now ≤ 2 ^ 40 }
         ensures missing { self.old.is_there ≡ false → IsErr result }
         ensures there { self.new.is_there ≡ self.old.is_there }
+        ensures crash { Follows (Torn at (length bytes.now)) AnyImage AnyImage }
         ensures counted { CountsFailure result self.old.faults self.new.faults }
-        ensures count { self.old.faults ≤ self.new.faults }
+        ensures cause { HasCause self.old.faults self.new.faults result }
     {
         let answer = match &self.file {
             Some(file) => written(file, at, bytes),
@@ -95,7 +96,7 @@ impl Disk for FileDisk {
         ensures missing { self.old.is_there ≡ false → IsErr result }
         ensures there { self.new.is_there ≡ self.old.is_there }
         ensures counted { CountsFailure result self.old.faults self.new.faults }
-        ensures count { self.old.faults ≤ self.new.faults }
+        ensures cause { HasCause self.old.faults self.new.faults result }
     {
         let answer = match &self.file {
             Some(file) => file.sync_data().map_err(|_| Failed),

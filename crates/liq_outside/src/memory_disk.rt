@@ -1,7 +1,7 @@
 // A disk in memory, whose calls fail where they are told to, and which a crash may tear.
 ghost use Rattle.std.specs.Prelude.{◌≡◌, ◌≤◌, ◌<◌, ◌↔◌, ◌⊎◌, ◌+◌, ◌-◌, ◌++◌, ◌^◌, [], Some, length, take, drop, min, IfOk, OnOk, OnErr, IsErr};
 ghost use Rattle.liq_outside.specs.Calls.{FailsNext};
-ghost use Rattle.liq_outside.specs.Faults.{Rose};
+ghost use Rattle.liq_outside.specs.Faults.{HasCause};
 ghost use Rattle.liq_outside.specs.Disk.{Elapses, Follows, LeftNow, Only, Reaches, Torn, Within};
 ghost use Rattle.liq_outside.specs.DiskInMemory.{IsNoted, fresh, left_by, moment_of, after_look, after_failed_look, after_disk_write, after_sync};
 
@@ -93,7 +93,7 @@ impl Disk for MemoryDisk {
         ensures told { IfOk result (λ n. n ≡ length self.old.disk.held) }
         ensures looked { OnOk result (self.new.disk ≡ after_look self.old.disk) }
         ensures not_looked { OnErr result (self.new.disk ≡ after_failed_look self.old.disk) }
-        ensures count { self.old.disk.calls.faults ≤ self.new.disk.calls.faults }
+        ensures cause { HasCause self.old.disk.calls.faults self.new.disk.calls.faults result }
     {
         if self.schedule.begin() {
             self.schedule.fault();
@@ -107,7 +107,7 @@ impl Disk for MemoryDisk {
         ensures told { IfOk result (λ n. (n ≡ min (length buf.old) (length self.old.disk.held - at)) × (buf.new ≡ take n (drop at self.old.disk.held) ++ drop n buf.old)) }
         ensures looked { OnOk result (self.new.disk ≡ after_look self.old.disk) }
         ensures not_looked { OnErr result (self.new.disk ≡ after_failed_look self.old.disk) }
-        ensures count { self.old.disk.calls.faults ≤ self.new.disk.calls.faults }
+        ensures cause { HasCause self.old.disk.calls.faults self.new.disk.calls.faults result }
     {
         if self.schedule.begin() {
             self.schedule.fault();
@@ -133,8 +133,7 @@ impl Disk for MemoryDisk {
         ensures noted { OnOk result (Reaches (Torn at (length bytes.now)) (LeftNow moment_of left_by self.old) (LeftNow moment_of left_by self.new)) }
         ensures keeps { Within (LeftNow moment_of left_by self.old) (LeftNow moment_of left_by self.new) }
         ensures time { Elapses moment_of left_by self.old self.new }
-        ensures count { self.old.disk.calls.faults ≤ self.new.disk.calls.faults }
-        ensures cause { OnErr result (Rose self.old.disk.calls.faults self.new.disk.calls.faults) }
+        ensures cause { HasCause self.old.disk.calls.faults self.new.disk.calls.faults result }
     {
         let at = at as usize;
         if self.schedule.begin() {
@@ -160,7 +159,7 @@ impl Disk for MemoryDisk {
         ensures only { OnOk result (Only self.old.disk.held (LeftNow moment_of left_by self.new)) }
         ensures crash { Within (LeftNow moment_of left_by self.new) (LeftNow moment_of left_by self.old) }
         ensures time { Elapses moment_of left_by self.old self.new }
-        ensures count { self.old.disk.calls.faults ≤ self.new.disk.calls.faults }
+        ensures cause { HasCause self.old.disk.calls.faults self.new.disk.calls.faults result }
     {
         if self.schedule.begin() {
             self.schedule.fault();

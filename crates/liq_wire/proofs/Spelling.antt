@@ -7,7 +7,7 @@ use Rattle.liq_types.specs.declared.requests.Command.{Command}
 use Rattle.liq_types.specs.declared.requests.Call.{Call}
 use Rattle.liq_types.specs.declared.requests.Call.TheVariants.{Price, Advance, Fund, Take, Send, Open, Adjust, Close, Provide, Withdraw, GainToTrove, Liquidate, LiquidateLowest, Redeem, Claim, Rotate}
 use Rattle.liq_types.specs.declared.hints.HintWords.{HintWords}
-use Rattle.liq_wire.specs.Fields.{Fields, fields_of, hint_word, hint_of, hints_of, AreHints, HasHints, shape_of, isnt_zero, first_place, tests, misfit, call_in, command_in, command_of, command_or, fields_at, Spells96}
+use Rattle.liq_wire.specs.Fields.{Fields, fields_of, hint_word, hint_of, hints_of, AreHints, HasHints, heard, shape_of, isnt_zero, first_place, tests, misfit, call_in, command_in, command_of, command_or, fields_at, Spells96}
 
 -- hints
 pub word_back : (n : ℕ) → hint_word (hint_of n) ≡ n
@@ -155,6 +155,26 @@ written_back client number (LiquidateLowest liquidator count) has = refl
 written_back client number (Redeem account lusd bound hints) has = hinted_back client number hints (λ (h : HintWords). Redeem account lusd bound h) has
 written_back client number (Claim account) has = refl
 written_back client number Rotate has = refl
+
+-- any command is read back so
+pub heard_back : (client number : ℕ) (call : Call) → command_in (fields_of (record { client = client; number = number; call = call })) ≡ record { client = client; number = number; call = heard call }
+unfolding command_in
+heard_back client number (Price price) = refl
+heard_back client number (Advance minutes) = refl
+heard_back client number (Fund account coll) = refl
+heard_back client number (Take account coll) = refl
+heard_back client number (Send from to lusd) = refl
+heard_back client number (Open account coll borrow bound hints) = refl
+heard_back client number (Adjust account coll_in coll_out borrow repay bound hints) = refl
+heard_back client number (Close account) = refl
+heard_back client number (Provide account lusd) = refl
+heard_back client number (Withdraw account lusd) = refl
+heard_back client number (GainToTrove account hints) = refl
+heard_back client number (Liquidate liquidator owner) = refl
+heard_back client number (LiquidateLowest liquidator count) = refl
+heard_back client number (Redeem account lusd bound hints) = refl
+heard_back client number (Claim account) = refl
+heard_back client number Rotate = refl
 
 -- the command of bytes that spell one
 pub of_spelled : (bytes : List ℕ) (c : Command) → Spells96 bytes c → HasHints c.call → command_in (fields_at bytes) ≡ c

@@ -120,6 +120,18 @@ HasHints (GainToTrove account hints) = AreHints hints
 HasHints (Redeem account lusd bound hints) = AreHints hints
 HasHints _ = Unit {0}
 
+-- hints as they are read back: the greatest word is none
+abbrev pub heard_hints : HintWords → HintWords
+heard_hints hints = hints_of (hint_word hints.prev) (hint_word hints.next)
+
+-- a call as it is read back
+abbrev pub heard : Call → Call
+heard (Open account coll borrow bound hints) = Open account coll borrow bound (heard_hints hints)
+heard (Adjust account coll_in coll_out borrow repay bound hints) = Adjust account coll_in coll_out borrow repay bound (heard_hints hints)
+heard (GainToTrove account hints) = GainToTrove account (heard_hints hints)
+heard (Redeem account lusd bound hints) = Redeem account lusd bound (heard_hints hints)
+heard call = call
+
 -- how many accounts, amounts and hints a kind has
 pub record Shape : Type 0 where
   pub accounts : ℕ

@@ -1,16 +1,18 @@
 // A command written to its bytes.
-ghost use Rattle.std.specs.Prelude.{◌≡◌, ◌≤◌, ◌<◌, ◌^◌, ◌+◌, ◌++◌, length, take, drop};
+ghost use Rattle.std.specs.Prelude.{◌≡◌, ◌≤◌, ◌<◌, ◌^◌, ◌+◌, ◌++◌, Ok, length, take, drop};
 ghost use Rattle.byteorder.specs.Endian.{big_bytes};
-ghost use Rattle.liq_wire.specs.Fields.{Spells96};
+ghost use Rattle.liq_wire.specs.Fields.{HasHints, Spells96, command_of, heard};
 
 use crate::fields::fields_of;
 use byteorder::{BigEndian, ByteOrder};
 use liq_types::Command;
 
-/// The 96 bytes of a command. A hint that is the greatest word is written as that word, which is read
-/// as no hint.
+/// The 96 bytes of a command, which are read back as that command. But a hint that is the greatest word
+/// is written as that word, which is read as no hint.
 pub fn encode(command: &Command) -> [u8; 96]
-    ensures { Spells96 result command.now }
+    ensures spelled { Spells96 result command.now }
+    ensures read { command_of result ≡ Ok (record command.now { call = heard command.now.call }) }
+    ensures back { HasHints command.now.call → command_of result ≡ Ok command.now }
 {
     let fields = fields_of(command);
     let mut bytes = [0; 96];

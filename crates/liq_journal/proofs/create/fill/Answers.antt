@@ -1,4 +1,4 @@
-use Rattle.std.proofs.Common.{◌≡◌, ◌+◌, ◌∙◌, [], ◌∷◌, length, option_map, arith, rules, inl, inr}
+use Rattle.std.proofs.Common.{◌≡◌, ◌+◌, ◌∙◌, length, option_map, rules}
 use Rattle.liq_journal.specs.Crash.{IsShut, filled}
 use Rattle.liq_outside.proofs.Moments.{call}
 use Rattle.liq_journal.proofs.Creating.{on_ok, long_after, filled_told, shut_on}

@@ -1,4 +1,4 @@
-use Rattle.std.proofs.Common.{◌≡◌, ◌∙◌, ap, List, ℕ, ◌+◌, ◌++◌, ◌∷◌, [], length, take, drop, rules}
+use Rattle.std.proofs.Common.{◌∙◌, ap, List, ℕ, ◌+◌, ◌++◌, ◌∷◌, [], length, take, drop, rules}
 use Rattle.liq_journal.proofs.Appending.{record_is}
 use Rattle.liq_journal.proofs.digests.record_bytes.Goals as goal
 

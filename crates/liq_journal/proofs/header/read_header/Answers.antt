@@ -1,7 +1,7 @@
 use Rattle.std.proofs.Common.{rules, arith, inl, inr, IfSome, sym, subst}
 use Rattle.liq_journal.specs.declared.answers.LookFault.{LookFault}
 use Rattle.liq_journal.specs.Header.{IsDamageOf}
-use Rattle.liq_journal.proofs.HeaderFound.{told_absent, told_misplaced, told_short, told_head}
+use Rattle.liq_journal.proofs.HeaderFound.{told_absent, told_misplaced, told_head}
 use Rattle.liq_journal.proofs.header.read_header.Goals as goal
 
 pub returns-then-count-lt57-clause-read : goal.returns-then-count-lt57-clause-read

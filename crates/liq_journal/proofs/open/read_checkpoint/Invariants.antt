@@ -5,7 +5,8 @@ use Rattle.liq_journal.proofs.open.read_checkpoint.Given as goal
 
 abbrev pub invariant-loop-at : goal.invariant-loop-at
 invariant-loop-at g l = record {
-  looked : Looked g.D.Disk.seen g.D.Disk.moment g.D.Disk.left_at g.D.Disk.faults l.fn.disk l.disk;
+  looked : Looked g.D.Disk.seen g.D.Disk.moment g.D.Disk.left_at l.fn.disk l.disk;
+  still : g.D.Disk.faults l.disk ≡ g.D.Disk.faults l.fn.disk;
   done : l.at ≡ 57 + length l.checkpoint.items;
   within : l.at ≤ l.end;
   read : IfSome (g.D.Disk.seen l.fn.disk) (λ held. 57 + l.size ≤ length held → l.checkpoint.items ≡ piece 57 (length l.checkpoint.items) held);

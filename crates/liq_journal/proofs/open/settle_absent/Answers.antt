@@ -1,4 +1,4 @@
-use Rattle.std.proofs.Common.{◌≡◌, ◌∙◌, List, ℕ, true, rules}
+use Rattle.std.proofs.Common.{◌≡◌, ◌∙◌, true}
 use Rattle.liq_journal.proofs.Settling.{absent_looked, absent_written, is_true}
 use Rattle.liq_journal.proofs.open.settle_absent.Goals as goal
 

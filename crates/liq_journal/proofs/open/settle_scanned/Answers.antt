@@ -1,4 +1,4 @@
-use Rattle.std.proofs.Common.{◌≡◌, ◌∙◌, ◌≤◌, List, ℕ, Option, Result, IfSome, subst, rules}
+use Rattle.std.proofs.Common.{◌≡◌, ◌≤◌, List, ℕ, Option, Result, IfSome, subst}
 use Rattle.std.specs.Result.{MatchResult}
 use Rattle.liq_journal.specs.declared.scanned.Scanned.{Scanned}
 use Rattle.liq_journal.specs.declared.answers.OpenWhy.{OpenWhy}

@@ -1,4 +1,4 @@
-use Rattle.std.proofs.Common.{◌≡◌, ◌∙◌, sym, ap, rules}
+use Rattle.std.proofs.Common.{◌∙◌, sym, ap, rules}
 use Rattle.liq_journal.specs.Written.{command_from}
 use Rattle.liq_journal.proofs.Testing.{differs, agrees, rotation, no_rotation}
 use Rattle.liq_journal.proofs.records.tested.Goals as goal

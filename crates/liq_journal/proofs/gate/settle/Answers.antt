@@ -1,6 +1,6 @@
-use Rattle.std.proofs.Common.{◌≡◌, ◌≤◌, ◌∙◌, List, ℕ, Option, IfSome, length, subst}
+use Rattle.std.proofs.Common.{◌≤◌, ◌∙◌, List, ℕ, Option, IfSome, length, subst}
 use Rattle.liq_journal.proofs.Settling.{settle_looked, settle_written}
-use Rattle.liq_journal.proofs.open.settle.Goals as goal
+use Rattle.liq_journal.proofs.gate.settle.Goals as goal
 
 pub returns-in_err-is_shut-clause-crash : goal.returns-in_err-is_shut-clause-crash
 returns-in_err-is_shut-clause-crash g c = λ held told only. settle_looked g.D.Disk.moment g.D.Disk.left_at c.args.disk.now c.is_shut.new.disk c.is_shut.new.disk c.args.place held only c.is_shut.ensures.looked.leaves

@@ -1,0 +1,16 @@
+-- What a look at a disk tells: its header alone, with the digest of the checkpoint.
+use Rattle.std.specs.Prelude.{ℕ, List, Bool, Option, Some, None, Result, Ok, Err, if◌then◌else◌}
+use Rattle.liq_journal.specs.declared.damage.What.{What}
+use Rattle.liq_journal.specs.declared.answers.Look.{Look}
+use Rattle.liq_journal.specs.declared.answers.Look.TheVariants.{Absent, Open}
+use Rattle.liq_journal.specs.declared.answers.LookFault.{LookFault}
+use Rattle.liq_journal.specs.declared.answers.LookFault.TheVariants.{Damaged}
+use Rattle.liq_journal.specs.Written.{version_1, generation_on, first_fault, header_tests, is_absent}
+
+-- by the first fault of the header of a disk whose gate is open
+abbrev pub look_behind : List ℕ → Option What → Result Look LookFault
+look_behind bytes None = Ok (Open (generation_on bytes))
+look_behind bytes (Some what) = Err (Damaged (record { index = 0; what = what }))
+
+unfoldable pub look_on : Bool → List ℕ → Result Look LookFault
+look_on odd bytes = if is_absent bytes then Ok Absent else look_behind bytes (first_fault (header_tests version_1 odd bytes))

@@ -1,0 +1,70 @@
+// A disk looked at: its header, and the digest over the checkpoint, without memory.
+ghost use Rattle.std.specs.Prelude.{◌≡◌, ◌≤◌, ◌+◌, ◌⊎◌, Err, length, IfOk, IfSome};
+ghost use Rattle.liq_outside.specs.Faults.{HasCause};
+ghost use Rattle.liq_journal.specs.Causes.{CountsLook};
+ghost use Rattle.liq_journal.specs.Look.{look_on};
+ghost use Rattle.liq_journal.specs.Looked.{Looked};
+ghost use Rattle.liq_journal.specs.Written.{header_digest, piece};
+
+use crate::answers::{Look, LookFault};
+use crate::damage::{Damage, What};
+use crate::header::{HEADER, read_header};
+use liq_outside::{Disk, Failed};
+use sha2::{Digest, Sha256};
+
+/// Looks at a disk: whether a journal is open on it, and of which generation. `odd` says whether this
+/// disk has the odd generations. It tests the header and the digest over the checkpoint, and none of
+/// the records. The disk stays as it is, and no memory is taken.
+///
+/// `Damaged` comes with the header's first fault, and `DiskFault` where a device call failed.
+pub fn look<D: Disk>(disk: &mut D, odd: bool) -> Result<Look, LookFault>
+    ensures told { IfSome (D.seen disk.old) (λ held. (result ≡ look_on odd held) ⊎ (result ≡ Err LookFault.DiskFault)) }
+    ensures looked { Looked D.seen D.moment D.left_at disk.old disk.new }
+    ensures cause { CountsLook result (D.faults disk.old) (D.faults disk.new) }
+{
+    let head = match read_header(disk, odd) {
+        Ok(Some(head)) => head,
+        Ok(None) => return Ok(Look::Absent),
+        Err(why) => return Err(why),
+    };
+    let computed = match digest_behind(disk, &head.fields, head.size) {
+        Ok(computed) => computed,
+        Err(_) => return Err(LookFault::DiskFault),
+    };
+    if head.stored != computed {
+        return Err(LookFault::Damaged(Damage {
+            index: 0,
+            what: What::Digest {
+                stored: head.stored,
+                computed,
+            },
+        }));
+    }
+    Ok(Look::Open {
+        generation: head.generation,
+    })
+}
+
+// The digest of a header's fields and of the checkpoint behind it, which is read piece by piece.
+fn digest_behind<D: Disk>(disk: &mut D, fields: &[u8; 24], size: u64) -> Result<[u8; 32], Failed>
+    requires { size ≤ 68719476736 }
+    ensures looked { Looked D.seen D.moment D.left_at disk.old disk.new }
+    ensures told { IfOk result (λ digest. IfSome (D.seen disk.old) (λ held. 57 + size ≤ length held → digest ≡ header_digest fields.now (piece 57 size held))) }
+    ensures cause { HasCause (D.faults disk.old) (D.faults disk.new) result }
+{
+    let mut hasher = Sha256::new();
+    hasher.update(fields);
+    let mut done = 0;
+    while done < size {
+        let mut chunk = [0; 512];
+        let want = (size - done).min(512) as usize;
+        let part = &mut chunk[..want];
+        let count = disk.read_at(HEADER + done, part)?;
+        if count == 0 {
+            return Ok(hasher.finalize());
+        }
+        hasher.update(&part[..count]);
+        done += count as u64;
+    }
+    Ok(hasher.finalize())
+}
