@@ -25,6 +25,7 @@ pub mod Paying
 pub mod Pooling
 pub mod Ranking
 pub mod Reading
+pub mod Redeeming
 pub mod Rows
 pub mod Ruled
 pub mod Runs
