@@ -12,6 +12,7 @@ pub mod Begun
 pub mod Changing
 pub mod Conserving
 pub mod Counting
+pub mod Cutting
 pub mod Depositing
 pub mod Following
 pub mod Forecasting

@@ -36,6 +36,8 @@ impl Protocol {
         if account >= ACCOUNTS {
             return Err(PlanFault::No(Refusal::AccountRange { value: account }));
         }
+        // Where no field is used, nothing is known of the protocol.
+        let _ = &self.records;
         let taken = match self.redemption(account, lusd, bound) {
             Ok(taken) => taken,
             Err(RedeemFault::No(refusal)) => return Err(PlanFault::No(refusal)),
