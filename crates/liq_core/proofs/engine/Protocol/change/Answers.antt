@@ -1,7 +1,7 @@
 use Rattle.std.proofs.Common.{◌≡◌, ℕ, sym, ap, subst, None}
 use Rattle.liq_types.specs.declared.hints.HintWords.{HintWords}
 use Rattle.liq_types.specs.declared.requests.Call.{Call}
-use Rattle.liq_types.specs.declared.requests.Call.TheVariants.{Open}
+use Rattle.liq_types.specs.declared.requests.Call.TheVariants.{Open, Redeem}
 use Rattle.liq_types.specs.Rules.{first_refusal}
 use Rattle.liq_types.specs.State.{State}
 use Rattle.liq_types.specs.Totals.{market_of}
