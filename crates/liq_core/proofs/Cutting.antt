@@ -1,21 +1,20 @@
 -- What is told of the troves that a redemption cuts.
-use Rattle.std.proofs.Common.{◌≡◌, ℕ, ◌+◌, ◌-◌, Bool, true, false, cond, List, [], ◌∷◌, length, take, refl, ap, sym, ◌∙◌, subst, Some, None, Option}
-use Rattle.std.specs.Prelude.{◌≢◌, ◌==◌, fold, map, option_map, sum_by}
+use Rattle.std.proofs.Common.{◌≡◌, ℕ, ◌+◌, ◌-◌, Bool, true, false, cond, List, [], ◌∷◌, length, take, refl, ap, sym, ◌∙◌, Some, None, Option}
+use Rattle.std.specs.Prelude.{◌==◌, fold, map, option_map, sum_by}
 use Rattle.std.specs.List.{AllByRecursion}
-use Rattle.std.specs.Ordering.{nat_cmp, is_eq}
 use Rattle.liq_types.specs.declared.events.ListChange.{ListChange}
 use Rattle.liq_types.specs.declared.events.ListChange.TheVariants.{Put, Gone}
 use Rattle.liq_types.specs.declared.figures.Trove.{Trove}
 use Rattle.liq_types.specs.Image.{Image}
 use Rattle.liq_types.specs.State.{State, TroveEntry, Redistribution}
-use Rattle.liq_types.specs.Tables.{Table, at, without}
+use Rattle.liq_types.specs.Tables.{Table, at}
 use Rattle.liq_types.specs.Totals.{market_of, or_nothing, trove_count}
 use Rattle.liq_types.specs.WellFormed.{Ascends}
-use Rattle.liq_troves.specs.Own.{lifted_entry, lifted, placed, set_trove}
-use Rattle.liq_troves.specs.Rows.{entire_by, key_by, set_row, stake_by, pending}
+use Rattle.liq_troves.specs.Own.{lifted_entry, lifted, set_trove}
+use Rattle.liq_troves.specs.Rows.{key_by, set_row, stake_by, pending}
 use Rattle.liq_troves.specs.StakeSums.{coll_growth, debt_growth, entire_of, sums_words, trove_rows}
 use Rattle.liq_redemption.specs.declared.cut.Cut.{Cut}
-use Rattle.liq_redemption.specs.Redemption.{RedeemTerms, Visit, cuts, cut_of, cuts_in, stops_before, troves_after, visited, redeeming_terms, cut_entire, cut_down, closed_by, redeemed_by}
+use Rattle.liq_redemption.specs.Redemption.{Visit, cuts, cut_of, cuts_in, stops_before, troves_after, visited, redeeming_terms, cut_entire, cut_down, closed_by, redeemed_by}
 use Rattle.liq_core.specs.ListChanges.{stands}
 use Rattle.liq_core.specs.Redemption.{cut_told}
 use Rattle.liq_core.specs.SoundState.{CutIsCovered}

@@ -1,14 +1,12 @@
 -- What a redemption makes of a protocol.
 use Rattle.std.proofs.Common.{◌≡◌, ℕ, ◌+◌, ◌-◌, ◌≤◌, ◌<◌, Bool, true, false, cond, List, [], ◌∷◌, refl, ap, sym, ◌∙◌, subst, arith, Some, None, Option}
-use Rattle.std.specs.Prelude.{◌≢◌, fold, map, option_map, sum_by, IsSome, Result, Ok, Err}
+use Rattle.std.specs.Prelude.{fold, sum_by, IsSome, Ok}
 use Rattle.std.specs.BTreeMap.{is_at}
-use Rattle.std.specs.List.{AllByRecursion}
 use Rattle.std.specs.Map.{values_of}
 use Rattle.std.specs.Ordering.{nat_cmp}
 use Rattle.std.proofs.lemmas.List.Sums.{sum_by-cons}
 use Rattle.std.proofs.lemmas.Map.Entries.{sum_by-remove_entry}
 use Rattle.liq_types.specs.declared.amounts.TheConstants.{ACCOUNTS, LIM, RESERVE}
-use Rattle.liq_types.specs.declared.figures.Market.{Market}
 use Rattle.liq_types.specs.declared.figures.Trove.{Trove}
 use Rattle.liq_types.specs.declared.figures.Wallet.{Wallet}
 use Rattle.liq_types.specs.declared.hints.HintWords.{HintWords}
@@ -18,42 +16,40 @@ use Rattle.liq_types.specs.Ranked.{Ranked, with_ranked, without_ranked, key_in}
 use Rattle.liq_types.specs.declared.replies.Refusal.{Refusal}
 use Rattle.liq_types.specs.Payments.{surplus_added}
 use Rattle.liq_types.specs.Rules.{first_refusal, outcome}
-use Rattle.liq_types.specs.State.{State, TroveEntry, wallet_of, wallet_in, surplus_in}
-use Rattle.liq_types.specs.Tables.{Table, at, put, without}
+use Rattle.liq_types.specs.State.{State, TroveEntry, wallet_of, wallet_in}
+use Rattle.liq_types.specs.Tables.{Table, at, without}
 use Rattle.liq_types.specs.Totals.{market_of}
 use Rattle.liq_types.specs.WellFormed.{Ascends}
 use Rattle.liq_types.proofs.Ascending.{put-ascends, without-ascends}
 use Rattle.liq_types.proofs.Lookups.{at-without_same}
 use Rattle.liq_tables.specs.WithRoom.{WithRoom}
 use Rattle.liq_ledger.specs.declared.pools.Pools.{Pools}
-use Rattle.liq_rate.specs.declared.rate.Rate.{Rate}
 use Rattle.liq_troves.specs.declared.sums.Sums.{Sums}
 use Rattle.liq_troves.specs.Kept.{Kept}
-use Rattle.liq_troves.specs.Own.{lifted_entry, lifted, placed, set_trove}
-use Rattle.liq_troves.specs.Rows.{pending, entire_by, entire_in, set_row, key_by}
-use Rattle.liq_troves.specs.Standing.{Books, TrovesStand, lifted_row, lift}
+use Rattle.liq_troves.specs.Own.{lifted_entry, placed}
+use Rattle.liq_troves.specs.Rows.{pending, entire_in, set_row, key_by}
+use Rattle.liq_troves.specs.Standing.{Books, lifted_row, lift}
 use Rattle.liq_troves.specs.StakeSums.{entire_of}
 use Rattle.liq_troves.proofs.Standing.{pending_covered}
 use Rattle.liq_order.specs.Listed.{Listed, AreDistinct}
-use Rattle.liq_order.specs.Order.{order_by, trove_order}
+use Rattle.liq_order.specs.Order.{order_by}
 use Rattle.liq_redemption.specs.declared.cut.Cut.{Cut}
 use Rattle.liq_redemption.specs.Given as given
 use Rattle.liq_redemption.specs.Parts.{Parts, parts_of, parts_with, books_in, lifted_parts, placed_parts, closed_parts, cut_own, cut_parts, redeemed_parts, redeemed_wallets}
-use Rattle.liq_redemption.specs.Redemption.{RedeemTerms, Visit, visited, visited_by, redeeming_terms, redeem_plan, cut_entire, cut_down, closed_by, redeemed_by}
+use Rattle.liq_redemption.specs.Redemption.{RedeemTerms, Visit, visited, visited_by, redeeming_terms, redeem_plan, cut_entire, cut_down, redeemed_by}
 use Rattle.liq_redemption.proofs.Following.{redeemed_follows, redeemed_pays}
 use Rattle.liq_redemption.proofs.Once.{order_distinct, order_has_each}
 use Rattle.liq_core.specs.declared.engine.Protocol.TheInside.{Inside}
 use Rattle.liq_core.specs.Books.{kept_books}
 use Rattle.liq_core.specs.Core.{Core, Changes, state_of}
 use Rattle.liq_core.specs.Image.{image}
-use Rattle.liq_core.specs.Rules.{rules, effect}
+use Rattle.liq_core.specs.Rules.{rules}
 use Rattle.liq_core.specs.Sound.{IsSound, core_of}
 use Rattle.liq_core.proofs.Lending.{books_stand, coll_held, debt_held}
 use Rattle.liq_core.proofs.Moving.{read_or}
 use Rattle.liq_core.proofs.Ranking.{gone_list, more_list, without-absent}
 use Rattle.liq_core.proofs.SoundBounds.{surplus_covered}
 use Rattle.liq_core.proofs.SoundCores.{core_finds, image_back, sound_after}
-use Rattle.liq_core.proofs.SoundFacts.{Finds, Leaves}
 use Rattle.liq_core.proofs.SoundRedeem.{redeem_leaves}
 use Rattle.liq_core.proofs.SoundStart.{started_with}
 
@@ -245,7 +241,7 @@ module _ (p : Inside) (sound : IsSound p) where
 -- ---- the redemption
 
 module _ (p : Inside) (old : Core) (view : core_of p ≡ old) (sound : IsSound p) (account : ℕ) (plan : RedeemTerms) (k : account < ACCOUNTS)
-  (h : (lusd : ℕ) × (bound : ℕ) × (words : HintWords) × (first_refusal (rules (state_of old) (Redeem account lusd bound words)) ≡ None) × (plan ≡ redeeming_terms (market_of (state_of old)) (visited (state_of old)) lusd)) where
+    (h : (lusd : ℕ) × (bound : ℕ) × (words : HintWords) × (first_refusal (rules (state_of old) (Redeem account lusd bound words)) ≡ None) × (plan ≡ redeeming_terms (market_of (state_of old)) (visited (state_of old)) lusd)) where
   redeem_passes : first_refusal (rules (state_of (core_of p)) (Redeem account h.0 h.1 h.2)) ≡ None
   redeem_passes = subst (λ (core : Core). first_refusal (rules (state_of core) (Redeem account h.0 h.1 h.2)) ≡ None) (sym view) h.3
 
@@ -269,8 +265,8 @@ module _ (p : Inside) (old : Core) (view : core_of p ≡ old) (sound : IsSound p
       }
 
   module _ (wallets : WithRoom Wallet) (pools : Pools) (surplus : WithRoom ℕ) (troves : Kept) (order : Listed)
-    (paid : wallets.rows ≡ redeemed_wallets p.wallets.rows account plan)
-    (made : parts_of pools surplus troves order ≡ redeemed_parts (parts_of p.pools p.surplus p.troves p.order) plan) where
+      (paid : wallets.rows ≡ redeemed_wallets p.wallets.rows account plan)
+      (made : parts_of pools surplus troves order ≡ redeemed_parts (parts_of p.pools p.surplus p.troves p.order) plan) where
     redeem_made : Changes (core_of p) (Redeem account h.0 h.1 h.2) (core_of (record p { rate = plan.rate; wallets = wallets; pools = pools; surplus = surplus; troves = troves; order = order }))
     redeem_made =
         let s = state_of (core_of p) in

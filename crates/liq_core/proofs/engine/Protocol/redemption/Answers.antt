@@ -1,5 +1,4 @@
-use Rattle.std.proofs.Common.{◌≡◌, ℕ, List, refl, ap, sym, ◌∙◌, subst}
-use Rattle.std.specs.Prelude.{Result}
+use Rattle.std.proofs.Common.{List, refl, ap, sym, ◌∙◌, subst}
 use Rattle.liq_types.specs.declared.figures.Market.{Market}
 use Rattle.liq_types.specs.declared.figures.Wallet.{Wallet}
 use Rattle.liq_types.specs.State.{wallet_of}
@@ -8,7 +7,6 @@ use Rattle.liq_redemption.specs.Answers.{Answers}
 use Rattle.liq_redemption.specs.Given.{IsMarket}
 use Rattle.liq_redemption.specs.Redemption.{Visit, visited, visited_by}
 use Rattle.liq_core.specs.Core.{Core, state_of}
-use Rattle.liq_core.specs.Sound.{core_of}
 use Rattle.liq_core.proofs.Redeeming.{redeem_market, entire_within_all, once_each, visited_is}
 use Rattle.liq_core.proofs.engine.Protocol.redemption.Goals as goal
 
