@@ -1,13 +1,13 @@
 -- What is known of a command that is allowed.
 use Rattle.std.proofs.Common.{◌≡◌, ℕ, ◌+◌, ◌-◌, ◌≤◌, Bool, true, false, nat_lt, cond, List, [], ◌∷◌, ◌++◌, Some, None, Option, refl, ap, subst, ◌<◌, nat_le, ◌∙◌, arith}
-use Rattle.std.specs.Prelude.{IsTrue, map, ◌==◌}
+use Rattle.std.specs.Prelude.{IsTrue, map, ◌==◌, fold}
 use Rattle.std.proofs.lemmas.Bool.Decides.{nat_tests}
 use Rattle.liq_types.specs.declared.amounts.TheConstants.{LIM, RESERVE, MINUTE_MOST, RECORDS_MOST, GENERATIONS_MOST, CHECKPOINT_BYTES_MOST}
 use Rattle.liq_types.specs.declared.replies.Done.{Done}
 use Rattle.liq_types.specs.declared.replies.Refusal.{Refusal}
 use Rattle.liq_types.specs.declared.replies.Refusal.TheVariants.{AmountZero, AmountLimit, ShortCollateral, ShortTokens, JournalFull}
 use Rattle.liq_types.specs.declared.requests.Call.{Call}
-use Rattle.liq_types.specs.declared.requests.Call.TheVariants.{Price, Advance, Fund, Take, Send, Open, Adjust, Close, Provide, Withdraw, GainToTrove, Claim}
+use Rattle.liq_types.specs.declared.requests.Call.TheVariants.{Price, Advance, Fund, Take, Send, Open, Adjust, Close, Provide, Withdraw, GainToTrove, Redeem, Claim}
 use Rattle.liq_types.specs.declared.requests.Command.{Command}
 use Rattle.liq_types.specs.Rules.{Rule, first_refusal, where_above}
 use Rattle.liq_core.specs.Image.{image}
@@ -16,11 +16,13 @@ use Rattle.liq_types.specs.Payments.{credited, charged}
 use Rattle.liq_types.specs.State.{State, TroveEntry, wallet_of, client_of}
 use Rattle.liq_types.specs.Tables.{at}
 use Rattle.liq_types.specs.Totals.{market_of, or_nothing}
-use Rattle.liq_troves.specs.Own.{lifted_entry}
+use Rattle.liq_troves.specs.Own.{lifted_entry, set_trove}
 use Rattle.liq_troves.specs.StakeSums.{entire_of}
 use Rattle.liq_stability.specs.Own.{owned}
 use Rattle.liq_borrow.specs.declared.change.Change.{Change}
 use Rattle.liq_borrow.specs.Borrowing.{adjusting_terms, closing_terms}
+use Rattle.liq_redemption.specs.declared.cut.Cut.{Cut}
+use Rattle.liq_redemption.specs.Redemption.{redeeming_terms, visited, closed_by, cut_entire, cut_down}
 use Rattle.liq_core.specs.Borrowing.{with_fee}
 use Rattle.liq_core.specs.Step.{Ruling, Repeated, Allowed, unless_refused, ruling, rules, accounts, in_range, in_turn, is_repeated, after, tests, room_rules, effect, built_call}
 use Rattle.liq_core.specs.Verbs.{rotates}
@@ -107,6 +109,17 @@ lifted-records : (s : State) (account : ℕ) (o : Option TroveEntry) → (lifted
 lifted-records s account None = refl
 lifted-records s account (Some t) = refl
 
+cut-records : (s : State) (cut : Cut) (o : Option (ℕ × ℕ)) → (cut_entire s cut o).records ≡ s.records
+cut-records s cut None = refl
+cut-records s cut (Some own) = by cut.full where
+  by : (b : Bool) → (cond b (closed_by s cut own) (set_trove s cut.account (own.0 - cut.draw) (own.1 - cut.lot))).records ≡ s.records
+  by true = lifted-records s cut.account (at s.troves cut.account)
+  by false = lifted-records s cut.account (at s.troves cut.account)
+
+cuts-records : (cuts : List Cut) (s : State) → (fold cut_down s cuts).records ≡ s.records
+cuts-records [] s = refl
+cuts-records (cut ∷ cuts) s = cuts-records cuts (cut_down s cut) ∙ cut-records s cut (entire_of s cut.account)
+
 -- the effect of a built call leaves the count of records
 pub effect-records : (s : State) (call : Call) → IsTrue (built_call call) → (effect s call).records ≡ s.records
 effect-records s (Price price) built = refl
@@ -126,6 +139,7 @@ effect-records s (Close account) built =
 effect-records s (Provide account lusd) built = refl
 effect-records s (Withdraw account lusd) built = refl
 effect-records s (GainToTrove account hint) built = lifted-records (owned s account 0 0) account (at s.troves account)
+effect-records s (Redeem account lusd bound hint) built = cuts-records (redeeming_terms (market_of s) (visited s) lusd).cuts s
 effect-records s (Claim account) built = refl
 effect-records s _ built = cc
 
@@ -142,5 +156,6 @@ built-rotates (Close account) built = refl
 built-rotates (Provide account lusd) built = refl
 built-rotates (Withdraw account lusd) built = refl
 built-rotates (GainToTrove account hint) built = refl
+built-rotates (Redeem account lusd bound hint) built = refl
 built-rotates (Claim account) built = refl
 built-rotates _ built = cc

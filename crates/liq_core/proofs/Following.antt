@@ -78,7 +78,7 @@ mended_view : (table : Table Trove) (v : View) (account : ℕ) (o : Option Trove
 mended_view table v account None s = ap (λ (list : List Ranked). record v { list = list }) (sym (gone_list table account s))
 mended_view table v account (Some row) s = ap (λ (list : List Ranked). record v { list = list }) (sym (put_list table account row s))
 
-abbrev IsAway : ℕ → List ℕ → Type 0
+abbrev pub IsAway : ℕ → List ℕ → Type 0
 IsAway q accounts = AllByRecursion (λ account. q ≢ account) accounts
 
 abbrev told_by : Table Trove → ℕ → ListChange
@@ -98,7 +98,7 @@ follow (account ∷ accounts) old new v s t h =
 
 -- ---- the troves of a state, as its image has them
 
-abbrev troves_in : State → Table Trove
+abbrev pub troves_in : State → Table Trove
 troves_in s = trove_rows s
 
 keys_kept : {X Y : Type 0} (f : X → Y) (table : Table X) → keys_of (map_rows f table) ≡ keys_of table
@@ -108,16 +108,16 @@ keys_kept f (e ∷ es) = ap (λ (keys : List ℕ). e.0 ∷ keys) (keys_kept f es
 abbrev strictly : List ℕ → Type 0
 strictly keys = IsStrictlySortedBy nat_cmp keys
 
-troves-ascend : (s : State) → Ascends s.troves → Ascends (troves_in s)
+pub troves-ascend : (s : State) → Ascends s.troves → Ascends (troves_in s)
 troves-ascend s h = subst strictly (sym (keys_kept (trove_row s) s.troves)) h
 
-abbrev key_words : State → ℕ × ℕ × ℕ
+abbrev pub key_words : State → ℕ × ℕ × ℕ
 key_words s = (s.snap_stakes, s.snap_coll, (sums_now s).debt)
 
 -- a state differs from another in the troves of these accounts
-record Changed (s next : State) (accounts : List ℕ) : Type 0 where
-  words : key_words next ≡ key_words s
-  others : (q : ℕ) → IsAway q accounts → at (troves_in next) q ≡ at (troves_in s) q
+pub record Changed (s next : State) (accounts : List ℕ) : Type 0 where
+  pub words : key_words next ≡ key_words s
+  pub others : (q : ℕ) → IsAway q accounts → at (troves_in next) q ≡ at (troves_in s) q
 
 abbrev with_words : View → ℕ × ℕ × ℕ → View
 with_words v words = record { list = v.list; snap_stakes = words.0; snap_coll = words.1; sum_debt = words.2 }
@@ -136,10 +136,10 @@ lifted-troves_entry s account h None is =
     sym (without-absent (troves_in s) account (troves-ascend s h) (at-map (trove_row s) s.troves account ∙ ap (option_map (trove_row s)) is))
 lifted-troves_entry s account h (Some t) is = map-without (trove_row s) s.troves account
 
-lifted-troves : (s : State) (account : ℕ) → Ascends s.troves → troves_in (lifted s account) ≡ without (troves_in s) account
+pub lifted-troves : (s : State) (account : ℕ) → Ascends s.troves → troves_in (lifted s account) ≡ without (troves_in s) account
 lifted-troves s account h = lifted-troves_entry s account h (at s.troves account) refl
 
-lifted-words_entry : (s : State) (account : ℕ) (o : Option TroveEntry) → key_words (lifted_entry s account o) ≡ key_words s
+pub lifted-words_entry : (s : State) (account : ℕ) (o : Option TroveEntry) → key_words (lifted_entry s account o) ≡ key_words s
 lifted-words_entry s account None = refl
 lifted-words_entry s account (Some t) = refl
 
@@ -171,17 +171,17 @@ set_changes s account coll debt h =
 
 -- ---- redemption
 
-cut_changes_entire : (s : State) (cut : Cut) → Ascends s.troves → (o : Option (ℕ × ℕ)) → Changed s (cut_entire s cut o) (cut.account ∷ [])
+pub cut_changes_entire : (s : State) (cut : Cut) → Ascends s.troves → (o : Option (ℕ × ℕ)) → Changed s (cut_entire s cut o) (cut.account ∷ [])
 cut_changes_entire s cut h None = record { words = refl; others = λ q away. refl }
 cut_changes_entire s cut h (Some own) = by cut.full where
   by : (b : Bool) → Changed s (cond b (closed_by s cut own) (set_trove s cut.account (own.0 - cut.draw) (own.1 - cut.lot))) (cut.account ∷ [])
   by true = let left = lifted_changes s cut.account h in record { words = left.words; others = left.others }
   by false = set_changes s cut.account (own.0 - cut.draw) (own.1 - cut.lot) h
 
-abbrev accounts_of : List Cut → List ℕ
+abbrev pub accounts_of : List Cut → List ℕ
 accounts_of cuts = map (λ (cut : Cut). cut.account) cuts
 
-all_cut_changes : (cuts : List Cut) (s : State) → Ordered s → Changed s (fold cut_down s cuts) (accounts_of cuts)
+pub all_cut_changes : (cuts : List Cut) (s : State) → Ordered s → Changed s (fold cut_down s cuts) (accounts_of cuts)
 all_cut_changes [] s h = record { words = refl; others = λ q away. refl }
 all_cut_changes (cut ∷ cuts) s h =
     let first = cut_changes_entire s cut h.tables.1 (entire_of s cut.account) in

@@ -12,6 +12,7 @@ pub mod Begun
 pub mod Changing
 pub mod Conserving
 pub mod Counting
+pub mod Cutting
 pub mod Depositing
 pub mod Following
 pub mod Forecasting
@@ -25,6 +26,7 @@ pub mod Paying
 pub mod Pooling
 pub mod Ranking
 pub mod Reading
+pub mod Redeeming
 pub mod Rows
 pub mod Ruled
 pub mod Runs

@@ -22,14 +22,17 @@ use Rattle.liq_stability.specs.Position.{gain_of}
 use Rattle.liq_borrow.specs.declared.change.Change.{Change}
 use Rattle.liq_borrow.specs.Borrowing.{opening_terms, adjusting_terms, closing_terms, gaining_terms}
 use Rattle.liq_types.specs.Soundness.{IsSoundImage}
+use Rattle.liq_redemption.specs.Redemption.{RedeemTerms, redeeming_terms, visited}
 use Rattle.liq_core.specs.Core.{Core, Changes, StandsFor, state_of}
 use Rattle.liq_core.specs.Queries.{next_number}
 use Rattle.liq_core.specs.Step.{Refused, Repeated, Allowed, unless_refused, ruling, rules, accounts, in_range, is_repeated, tests, room_rules, effect, built_call}
 use Rattle.liq_core.specs.declared.turns.Forecast.{Forecast}
 use Rattle.liq_core.specs.declared.turns.Terms.{Terms}
+use Rattle.liq_core.specs.declared.turns.Terms.TheVariants as kind
 use Rattle.liq_core.specs.Plan.{IsForecast, IsPlan, plan_of}
-use Rattle.liq_core.specs.Terms.{AreTerms, IsTrove, IsClosing}
+use Rattle.liq_core.specs.Terms.{AreTerms, IsTrove, IsClosing, IsRedeeming, is_redeeming, TermsFit}
 use Rattle.liq_core.proofs.AlikeFollowed.{call_events_alike, call_changes_alike}
+use Rattle.liq_core.proofs.AlikeRedemption.{terms_alike as redeeming_alike}
 use Rattle.liq_core.proofs.AlikeReads.{Alike, market_alike, entire_alike, gain_alike}
 use Rattle.liq_core.proofs.AlikeReplies.{ruling_alike}
 use Rattle.liq_core.proofs.AlikeStep.{effect_alike, done_alike}
@@ -143,7 +146,8 @@ terms_alike {s} {t} h (GainToTrove account hint) terms are =
     (subst (λ n. IsTrove (gaining_terms (market_of t) (or_nothing (entire_of t account)) n) terms) (sym (gain_alike h account)) are))
 terms_alike h (Liquidate liquidator account) terms are = are
 terms_alike h (LiquidateLowest liquidator count) terms are = are
-terms_alike h (Redeem account lusd bound hint) terms are = are
+terms_alike {s} {t} h (Redeem account lusd bound hint) terms are =
+    subst (λ (taken : RedeemTerms). IsRedeeming taken terms) (sym (redeeming_alike h lusd)) are
 terms_alike h (Claim account) terms are = are
 terms_alike h Rotate terms are = are
 
@@ -156,3 +160,25 @@ planned_alike h c forecast allowed f =
       events = f.events ∙ sym (call_events_alike h c.call);
       changes = f.changes ∙ sym (call_changes_alike h c.call);
     }
+
+-- the terms that a state has fit their call
+pub terms_fit : (s : State) (call : Call) (terms : Terms) → AreTerms s call terms → TermsFit call terms
+terms_fit s (Redeem account lusd bound hint) terms are = by terms are where
+  by : (all : Terms) → IsRedeeming (redeeming_terms (market_of s) (visited s) lusd) all → is_redeeming all ≡ true
+  by (kind.Redeem plan) h = refl
+  by _ h = absurd h
+terms_fit s (Price price) terms are = tt
+terms_fit s (Advance minutes) terms are = tt
+terms_fit s (Fund account coll) terms are = tt
+terms_fit s (Take account coll) terms are = tt
+terms_fit s (Send from to lusd) terms are = tt
+terms_fit s (Open account coll borrow bound hint) terms are = tt
+terms_fit s (Adjust account coll_in coll_out borrow repay bound hint) terms are = tt
+terms_fit s (Close account) terms are = tt
+terms_fit s (Provide account lusd) terms are = tt
+terms_fit s (Withdraw account lusd) terms are = tt
+terms_fit s (GainToTrove account hint) terms are = tt
+terms_fit s (Liquidate liquidator account) terms are = tt
+terms_fit s (LiquidateLowest liquidator count) terms are = tt
+terms_fit s (Claim account) terms are = tt
+terms_fit s Rotate terms are = tt

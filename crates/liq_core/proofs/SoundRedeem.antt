@@ -48,7 +48,7 @@ pub record IsVisit (t : State) (price : ℕ) (v : Visit) : Type 0 where
   pub entire_is : entire_of t v.account ≡ Some (v.coll, v.debt)
   pub above : is_below_percent v.coll v.debt price MCR ≡ false
 
-abbrev IsOther : ℕ → ℕ → Type 0
+abbrev pub IsOther : ℕ → ℕ → Type 0
 IsOther a b = is_eq (nat_cmp a b) ≡ false
 
 -- each is the trove of its account, and no account comes twice

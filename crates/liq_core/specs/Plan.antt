@@ -13,7 +13,7 @@ use Rattle.liq_core.specs.declared.turns.Terms.{Terms}
 use Rattle.liq_core.specs.Core.{Core, StandsFor}
 use Rattle.liq_core.specs.Rules.{call_events, call_changes}
 use Rattle.liq_core.specs.Step.{Allowed, ruling, done_of}
-use Rattle.liq_core.specs.Terms.{AreTerms}
+use Rattle.liq_core.specs.Terms.{AreTerms, TermsFit, HasClaimRoom}
 use Rattle.liq_core.specs.Told.{events_in, changes_in}
 use Rattle.liq_core.specs.Verbs.{accounts, opens, provides, built_call}
 
@@ -59,11 +59,14 @@ pub record HasRoom (core : Core) (plan : Plan) : Type 0 where
   pub wallets : AllByRecursion (λ account. Contains core.room.wallets account) (accounts plan.command.call)
   pub troves : AllByRecursion (λ account. Contains core.room.troves account) (opens plan.command.call)
   pub deposits : AllByRecursion (λ account. Contains core.room.deposits account) (provides plan.command.call)
+  pub claims : HasClaimRoom core.room.surplus plan.command.call plan.terms
   pub list : length (opens plan.command.call) ≤ core.room.list
   pub client : Contains core.room.clients plan.command.client
 
--- what holds of every planned command: its verb is built, and its client and its accounts are in range
+-- what holds of every planned command: its verb is built, its client and its accounts are in range, and its terms are those of
+-- its verb
 pub record IsSoundPlan (plan : Plan) : Type 0 where
   pub built : IsTrue (built_call plan.command.call)
   pub client : plan.command.client < ACCOUNTS
   pub accounts : AllByRecursion (λ account. account < ACCOUNTS) (accounts plan.command.call)
+  pub terms : TermsFit plan.command.call plan.terms

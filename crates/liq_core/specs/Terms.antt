@@ -1,7 +1,8 @@
 -- What a planned call makes of what it changes, where its words alone do not say it.
-use Rattle.std.specs.Prelude.{◌≡◌, ℕ, Bool, true, false}
+use Rattle.std.specs.Prelude.{◌≡◌, ℕ, Bool, true, false, IsTrue, List}
+use Rattle.std.specs.List.{AllByRecursion, Contains}
 use Rattle.liq_types.specs.declared.requests.Call.{Call}
-use Rattle.liq_types.specs.declared.requests.Call.TheVariants.{Open, Adjust, Close, GainToTrove}
+use Rattle.liq_types.specs.declared.requests.Call.TheVariants.{Open, Adjust, Close, GainToTrove, Redeem}
 use Rattle.liq_types.specs.State.{State}
 use Rattle.liq_types.specs.Totals.{market_of, or_nothing}
 use Rattle.liq_troves.specs.StakeSums.{entire_of}
@@ -9,8 +10,11 @@ use Rattle.liq_stability.specs.Position.{gain_of}
 use Rattle.liq_borrow.specs.declared.change.Change.{Change}
 use Rattle.liq_borrow.specs.declared.change.Plan.{Plan}
 use Rattle.liq_borrow.specs.Borrowing.{opening_terms, adjusting_terms, closing_terms, gaining_terms}
+use Rattle.liq_redemption.specs.declared.cut.Cut.{Cut}
+use Rattle.liq_redemption.specs.Redemption.{RedeemTerms, redeeming_terms, visited}
 use Rattle.liq_core.specs.declared.turns.Terms.{Terms}
 use Rattle.liq_core.specs.declared.turns.Terms.TheVariants.{Words, Trove, Closing}
+use Rattle.liq_core.specs.declared.turns.Terms.TheVariants as terms
 
 -- what becomes of the trove, and of the base rate
 abbrev pub IsTrove : Plan → Terms → Type 0
@@ -22,6 +26,11 @@ abbrev pub IsClosing : ℕ × ℕ → Terms → Type 0
 IsClosing terms (Closing repaid coll) = (repaid, coll) ≡ terms
 IsClosing terms _ = ⊥
 
+-- what is taken, and what it comes to
+abbrev pub IsRedeeming : RedeemTerms → Terms → Type 0
+IsRedeeming taken (terms.Redeem planned) = planned ≡ taken
+IsRedeeming taken _ = ⊥
+
 abbrev pub is_trove : Terms → Bool
 is_trove (Trove plan) = true
 is_trove _ = false
@@ -29,6 +38,10 @@ is_trove _ = false
 abbrev pub is_closing : Terms → Bool
 is_closing (Closing repaid coll) = true
 is_closing _ = false
+
+abbrev pub is_redeeming : Terms → Bool
+is_redeeming (terms.Redeem plan) = true
+is_redeeming _ = false
 
 abbrev pub AreTerms : State → Call → Terms → Type 0
 AreTerms s (Open account coll borrow bound hint) terms = IsTrove (opening_terms (market_of s) coll borrow) terms
@@ -38,4 +51,24 @@ AreTerms s (Adjust account coll_in coll_out borrow repay bound hint) terms =
 AreTerms s (GainToTrove account hint) terms =
     IsTrove (gaining_terms (market_of s) (or_nothing (entire_of s account)) (gain_of s account)) terms
 AreTerms s (Close account) terms = IsClosing (closing_terms (or_nothing (entire_of s account))) terms
+AreTerms s (Redeem account lusd bound hint) terms = IsRedeeming (redeeming_terms (market_of s) (visited s) lusd) terms
 AreTerms s call terms = terms ≡ Words
+
+-- the terms of a redemption are what it takes
+abbrev pub TermsFit : Call → Terms → Type 0
+TermsFit (Redeem account lusd bound hint) terms = is_redeeming terms ≡ true
+TermsFit _ terms = Unit {0}
+
+-- ---- room
+
+-- for what the owners of closed troves may claim
+abbrev pub HasRoomToClose : List ℕ → Cut → Type 0
+HasRoomToClose keys cut = IsTrue cut.full → Contains keys cut.account
+
+abbrev pub HasRoomToClaim : List ℕ → Terms → Type 0
+HasRoomToClaim keys (terms.Redeem plan) = AllByRecursion (HasRoomToClose keys) plan.cuts
+HasRoomToClaim keys _ = Unit {0}
+
+abbrev pub HasClaimRoom : List ℕ → Call → Terms → Type 0
+HasClaimRoom keys (Redeem account lusd bound hint) terms = HasRoomToClaim keys terms
+HasClaimRoom keys _ terms = Unit {0}

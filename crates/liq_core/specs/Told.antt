@@ -14,3 +14,4 @@ events_in (events.One event) = event
 abbrev pub changes_in : ListChanges → List ListChange
 changes_in changes.Nothing = []
 changes_in (changes.One change) = change
+changes_in (changes.Many list) = list.items

@@ -24,3 +24,9 @@ Plans s c (Err NoMemory) = IsTrue (plans_list c.call)
 abbrev pub IsRuled : State → Call → Result Forecast Refusal → Type 0
 IsRuled s call (Ok forecast) = (first_refusal (map in_range (accounts call) ++ rules s call) ≡ None) × IsForecast s call forecast
 IsRuled s call (Err refusal) = first_refusal (map in_range (accounts call) ++ rules s call) ≡ Some refusal
+
+-- the same of what plans a list, for which there may be no memory
+abbrev pub Forecasts : State → Call → Result Forecast PlanFault → Type 0
+Forecasts s call (Ok forecast) = IsRuled s call (Ok forecast)
+Forecasts s call (Err (No refusal)) = IsRuled s call (Err refusal)
+Forecasts s call (Err NoMemory) = IsTrue (plans_list call)

@@ -21,6 +21,7 @@ built_call (Close account) = true
 built_call (Provide account lusd) = true
 built_call (Withdraw account lusd) = true
 built_call (GainToTrove account hint) = true
+built_call (Redeem account lusd bound hint) = true
 built_call (Claim account) = true
 built_call _ = false
 

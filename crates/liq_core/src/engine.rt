@@ -1,6 +1,6 @@
 //! The protocol's state, and its steps.
 
-ghost use Rattle.std.specs.Prelude.{◌≡◌, ◌≢◌, ◌≤◌, ◌<◌, ◌+◌, ◌++◌, ℕ, length, IsOk, IsTrue, OnOk, None};
+ghost use Rattle.std.specs.Prelude.{◌≡◌, ◌≢◌, ◌≤◌, ◌<◌, ◌+◌, ◌++◌, ℕ, false, length, IsOk, IsTrue, OnOk, None};
 ghost use Rattle.std.specs.List.{AllByRecursion, Contains};
 ghost use Rattle.liq_types.specs.declared.requests.Request.TheVariants.{Do, Ask};
 ghost use Rattle.liq_types.specs.declared.replies.Reply.TheVariants.{Said};
@@ -10,8 +10,8 @@ ghost use Rattle.liq_tables.specs.WithRoom.{KeepsRoom};
 ghost use Rattle.liq_stability.specs.Words.{pool_words};
 ghost use Rattle.liq_core.specs.Core.{Changes, StandsFor, SameContent, state_of};
 ghost use Rattle.liq_core.specs.Sound.{IsKeptRow};
-ghost use Rattle.liq_core.specs.Terms.{AreTerms};
-ghost use Rattle.liq_core.specs.Verbs.{opens, provides, no_hint};
+ghost use Rattle.liq_core.specs.Terms.{AreTerms, HasRoomToClose, HasClaimRoom};
+ghost use Rattle.liq_core.specs.Verbs.{opens, provides, plans_list, no_hint};
 ghost use Rattle.liq_core.specs.Step.{built, built_call, accounts, rules, first_refusal, noted, step};
 
 use crate::payments::plan_price;
@@ -20,6 +20,7 @@ use liq_borrow::Change;
 use liq_ledger::{Pools, Surplus, Wallets};
 use liq_order::Order;
 use liq_rate::Rate;
+use liq_redemption::RedeemPlan;
 use liq_stability::{PoolWords, Stability};
 use liq_tables::Reserved;
 use liq_troves::Troves;
@@ -35,6 +36,7 @@ use std::sync::ledger::Ledger;
 /// the clients.
 #[derive(Drop)]
 pub struct Protocol {
+    pub(crate) alloc: Global,
     pub(crate) price: u64,
     pub(crate) minute: u64,
     pub(crate) rate: Rate,
@@ -85,13 +87,14 @@ const NO_POOLS: Pools = Pools {
 
 impl Protocol {
     ghost use Rattle.liq_core.specs.Plan.{HasRoom, IsPlannedOn};
-    ghost use Rattle.liq_core.specs.Turn.{Plans, IsRuled};
+    ghost use Rattle.liq_core.specs.Turn.{Plans, IsRuled, Forecasts};
 
     /// The protocol as it opens: nothing is inside.
     pub fn new(alloc: Global) -> Protocol
         ensures { StandsFor result opening }
     {
         Protocol {
+            alloc,
             price: PRICE_OPENING,
             minute: 0,
             rate: Rate { base: 0, minute: 0 },
@@ -159,7 +162,8 @@ impl Protocol {
         }
         let forecast = match self.plan_call(&command.call) {
             Ok(forecast) => forecast,
-            Err(refusal) => return Err(PlanFault::No(refusal)),
+            Err(PlanFault::No(refusal)) => return Err(PlanFault::No(refusal)),
+            Err(PlanFault::NoMemory) => return Err(PlanFault::NoMemory),
         };
         if is_full {
             let records = RECORDS_MOST;
@@ -172,8 +176,23 @@ impl Protocol {
     }
 
     /// Rules on a call, whatever its client and number.
-    fn plan_call(&self, call: &Call) -> Result<Forecast, Refusal>
+    fn plan_call(&self, call: &Call) -> Result<Forecast, PlanFault>
         requires { IsTrue (built_call call.now) }
+        ensures { Forecasts (state_of self.now) call.now result }
+    {
+        if let Call::Redeem(account, lusd, bound, _) = *call {
+            return self.plan_redeem(account, lusd, bound);
+        }
+        match self.plan_listless(call) {
+            Ok(forecast) => Ok(forecast),
+            Err(refusal) => Err(PlanFault::No(refusal)),
+        }
+    }
+
+    /// Rules on a call that plans no list.
+    fn plan_listless(&self, call: &Call) -> Result<Forecast, Refusal>
+        requires built { IsTrue (built_call call.now) }
+        requires listless { plans_list call.now ≡ false }
         ensures { IsRuled (state_of self.now) call.now result }
     {
         match *call {
@@ -223,6 +242,9 @@ impl Protocol {
             Call::Send(from, to, _) => self.reserve_wallets(from, to),
             Call::Open(account, ..) => self.reserve_trove(account),
             Call::Provide(account, _) => self.reserve_deposit(account),
+            Call::Redeem(account, ..) => {
+                self.reserve_redemption(account, planned.forecast.terms.redemption())
+            }
             _ => unreachable!(),
         }
     }
@@ -270,6 +292,16 @@ impl Protocol {
         self.pool.reserve(Some(account), 0)
     }
 
+    /// Room for what a redemption writes: its account's wallet, and what the owners of closed troves may claim.
+    fn reserve_redemption(&mut self, account: u32, plan: &RedeemPlan) -> Result<(), NoMemory>
+        ensures same { SameContent self.old self.new }
+        ensures room { OnOk result (Contains self.new.room.wallets account × AllByRecursion (HasRoomToClose self.new.room.surplus) plan.now.cuts) }
+        ensures had { Contains self.old.room.wallets account → AllByRecursion (HasRoomToClose self.old.room.surplus) plan.now.cuts → IsOk result }
+        ensures clients { self.new.room.clients ≡ self.old.room.clients }
+    {
+        liq_redemption::reserve(plan, account, &mut self.wallets, &mut self.surplus)
+    }
+
     fn reserve_client(&mut self, client: u32) -> Result<(), NoMemory>
         ensures same { SameContent self.old self.new }
         ensures room { OnOk result (Contains self.new.room.clients client) }
@@ -305,6 +337,7 @@ impl Protocol {
         requires wallets { AllByRecursion (λ account. Contains self.old.room.wallets account) (accounts call.now) }
         requires troves { AllByRecursion (λ account. Contains self.old.room.troves account) (opens call.now) }
         requires deposits { AllByRecursion (λ account. Contains self.old.room.deposits account) (provides call.now) }
+        requires claims { HasClaimRoom self.old.room.surplus call.now terms.now }
         requires list { length (opens call.now) ≤ self.old.room.list }
         ensures { Changes self.old call.now self.new }
     {
@@ -339,6 +372,10 @@ impl Protocol {
                 self.gain_to_trove(account, terms.trove(), &hint, steps);
             }
             Call::Claim(account) => self.claim(account),
+            Call::Redeem(account, _, _, words) => {
+                let hint = hint_of(&words, hint);
+                self.redeem(account, terms.redemption(), &hint, steps);
+            }
             _ => unreachable!(),
         }
     }
@@ -387,6 +424,7 @@ pub fn is_built(request: &Request) -> bool
                 | Call::Provide(..)
                 | Call::Withdraw(..)
                 | Call::GainToTrove(..)
+                | Call::Redeem(..)
                 | Call::Claim(..)
         ),
         Request::Ask(_) => true,

@@ -13,6 +13,7 @@ pub mod laws;
 mod payments;
 pub mod plans;
 mod queries;
+mod redemptions;
 pub mod shares;
 pub mod soundness;
 mod standing;

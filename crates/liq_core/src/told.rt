@@ -28,6 +28,7 @@ impl PoolEvents {
 pub(crate) enum ListChanges {
     Nothing,
     One([ListChange; 1]),
+    Many(Vec<ListChange>),
 }
 
 impl ListChanges {
@@ -37,6 +38,7 @@ impl ListChanges {
         match self {
             ListChanges::Nothing => &[],
             ListChanges::One(change) => change,
+            ListChanges::Many(changes) => changes,
         }
     }
 }

@@ -2,12 +2,13 @@
 
 ghost use Rattle.std.specs.Prelude.{◌≡◌, true};
 ghost use Rattle.liq_core.specs.declared.turns.Terms.TheVariants as terms;
-ghost use Rattle.liq_core.specs.Terms.{is_trove, is_closing};
+ghost use Rattle.liq_core.specs.Terms.{is_trove, is_closing, is_redeeming};
 ghost use Rattle.liq_core.specs.declared.told.PoolEvents.TheVariants as events;
 ghost use Rattle.liq_core.specs.declared.told.ListChanges.TheVariants as changes;
 
 use crate::told::{ListChanges, PoolEvents};
 use liq_borrow::Plan;
+use liq_redemption::RedeemPlan;
 use liq_types::{Command, Done, ListChange, PoolEvent, Refusal};
 use std::marker::Model;
 
@@ -20,6 +21,8 @@ pub(crate) enum Terms {
     Trove(Plan),
     /// LUSD that is repaid (micro-LUSD) and collateral that is returned (gwei).
     Closing { repaid: u64, coll: u64 },
+    /// What is taken of each trove, and what it comes to.
+    Redeem(RedeemPlan),
 }
 
 impl Terms {
@@ -41,6 +44,17 @@ impl Terms {
     {
         match *self {
             Terms::Closing { repaid, coll } => (repaid, coll),
+            _ => unreachable!(),
+        }
+    }
+
+    /// What a redemption takes of each trove, and what it comes to.
+    pub(crate) fn redemption(&self) -> &RedeemPlan
+        requires { is_redeeming self.now ≡ true }
+        ensures { self.now ≡ terms.Redeem result.now }
+    {
+        match self {
+            Terms::Redeem(plan) => plan,
             _ => unreachable!(),
         }
     }

@@ -1,6 +1,6 @@
 //! What owners may claim.
 
-ghost use Rattle.std.specs.Prelude.{◌≡◌, ◌≤◌, ◌+◌, [], OnOk};
+ghost use Rattle.std.specs.Prelude.{◌≡◌, ◌≤◌, ◌+◌, [], IsOk, OnOk};
 ghost use Rattle.std.specs.List.{All};
 ghost use Rattle.liq_types.specs.Payments.{surplus_added_in, surplus_taken_in};
 ghost use Rattle.liq_types.specs.State.{surplus_in};
@@ -38,11 +38,12 @@ impl Surplus {
     }
 
     /// Makes room for these accounts. What may be claimed stays, also where there is no memory, and so does all room that
-    /// there was.
+    /// there was. Where there was room for all none is wanted.
     pub fn reserve(&mut self, accounts: &[u32]) -> Result<(), NoMemory>
         ensures rows { self.new.rows ≡ self.old.rows }
         ensures room { OnOk result (All (HasRoom self.new) accounts.now) }
         ensures kept { KeepsRoom self.old self.new }
+        ensures had { All (HasRoom self.old) accounts.now → IsOk result }
     {
         for &account in accounts {
             self.table.reserve(account)?;

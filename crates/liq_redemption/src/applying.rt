@@ -1,6 +1,6 @@
 //! What a planned redemption does.
 
-ghost use Rattle.std.specs.Prelude.{◌≡◌, ℕ, ◌≤◌, ◌<◌, ◌+◌, ◌-◌, ◌^◌, Some, None, IsSome, IfSome, OnOk, count_by, if◌then◌else◌};
+ghost use Rattle.std.specs.Prelude.{◌≡◌, ℕ, ◌≤◌, ◌<◌, ◌+◌, ◌-◌, ◌^◌, Some, None, IsOk, IsSome, IfSome, OnOk, count_by, if◌then◌else◌};
 ghost use Rattle.liq_types.specs.declared.amounts.TheConstants.{LIM};
 ghost use Rattle.liq_types.specs.Ranked.{key_in};
 ghost use Rattle.liq_types.specs.State.{wallet_in, surplus_in};
@@ -23,7 +23,7 @@ use liq_types::{Hint, NoMemory, Steps};
 use std::sync::ledger::Ledger;
 
 /// Makes room for what [`apply`] writes: the account's wallet, and what the owners of closed troves may claim. Wallets and
-/// claims stay, also where there is no memory, and so does all room that there was.
+/// claims stay, also where there is no memory, and so does all room that there was. Where there was this room none is wanted.
 pub fn reserve(
     plan: &RedeemPlan,
     account: u32,
@@ -35,6 +35,7 @@ pub fn reserve(
     ensures room { OnOk result (HasRoomFor plan.now account wallets.new surplus.new) }
     ensures wallets_kept { KeepsRoom wallets.old wallets.new }
     ensures claims_kept { KeepsRoom surplus.old surplus.new }
+    ensures had { HasRoomFor plan.now account wallets.old surplus.old → IsOk result }
 {
     wallets.reserve(account)?;
     for cut in plan.cuts.as_slice() {
@@ -48,6 +49,7 @@ fn reserve_claim(cut: &Cut, surplus: &mut Surplus) -> Result<(), NoMemory>
     ensures rows { surplus.new.rows ≡ surplus.old.rows }
     ensures room { OnOk result (HasRoomToClose surplus.new cut.now) }
     ensures kept { KeepsRoom surplus.old surplus.new }
+    ensures had { HasRoomToClose surplus.old cut.now → IsOk result }
 {
     if !cut.full {
         return Ok(());

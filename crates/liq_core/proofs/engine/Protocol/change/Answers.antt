@@ -1,17 +1,19 @@
 use Rattle.std.proofs.Common.{◌≡◌, ℕ, sym, ap, subst, None}
 use Rattle.liq_types.specs.declared.hints.HintWords.{HintWords}
 use Rattle.liq_types.specs.declared.requests.Call.{Call}
-use Rattle.liq_types.specs.declared.requests.Call.TheVariants.{Open}
+use Rattle.liq_types.specs.declared.requests.Call.TheVariants.{Open, Redeem}
 use Rattle.liq_types.specs.Rules.{first_refusal}
 use Rattle.liq_types.specs.State.{State}
 use Rattle.liq_types.specs.Totals.{market_of}
 use Rattle.liq_borrow.specs.declared.change.Plan.{Plan}
 use Rattle.liq_borrow.specs.Borrowing.{opening_terms}
+use Rattle.liq_redemption.specs.Redemption.{RedeemTerms, redeeming_terms, visited}
 use Rattle.liq_core.specs.declared.turns.Terms.{Terms}
+use Rattle.liq_core.specs.declared.turns.Terms.TheVariants as kind
 use Rattle.liq_core.specs.declared.turns.Terms.TheVariants.{Trove}
 use Rattle.liq_core.specs.Core.{Changes, state_of}
 use Rattle.liq_core.specs.Step.{rules}
-use Rattle.liq_core.specs.Terms.{AreTerms, IsTrove}
+use Rattle.liq_core.specs.Terms.{AreTerms, IsTrove, IsRedeeming, HasRoomToClaim, HasClaimRoom}
 use Rattle.liq_core.proofs.engine.Protocol.change.Goals as goal
 
 -- the collateral of an opening is its word
@@ -59,3 +61,31 @@ gain_to_trove-requires-clause-allowed g c = (
 pub returns-in-GainToTrove : goal.returns-in-GainToTrove
 returns-in-GainToTrove g c =
     subst (λ (call : Call). Changes c.args.self.now call c.gain_to_trove.new.self) (sym c.in-GainToTrove.is) (c.gain_to_trove.ensures c.in-GainToTrove.words)
+
+-- a redemption's terms
+redeeming : (s : State) (call : Call) (all : Terms) (plan : RedeemTerms) (account lusd bound : ℕ) (words : HintWords) → AreTerms s call all → call ≡ Redeem account lusd bound words → all ≡ kind.Redeem plan → plan ≡ redeeming_terms (market_of s) (visited s) lusd
+redeeming s call all plan account lusd bound words terms is told =
+    subst (IsRedeeming (redeeming_terms (market_of s) (visited s) lusd)) told (subst (λ (c : Call). AreTerms s c all) is terms)
+
+pub redeem-requires-clause-planned : goal.redeem-requires-clause-planned
+redeem-requires-clause-planned g c =
+    let s = state_of c.args.self.now in (
+      c.in-Redeem.field-1,
+      c.in-Redeem.field-2,
+      c.in-Redeem.words,
+      subst (λ (call : Call). first_refusal (rules s call) ≡ None) c.in-Redeem.is c.requires.allowed,
+      redeeming s c.args.call.now c.args.terms.now c.redemption.result.now c.in-Redeem.account c.in-Redeem.field-1 c.in-Redeem.field-2 c.in-Redeem.words c.requires.terms c.in-Redeem.is c.redemption.ensures,
+    )
+
+pub redeem-requires-clause-claims : goal.redeem-requires-clause-claims
+redeem-requires-clause-claims g c =
+    let keys = c.args.self.now.room.surplus in
+    subst (HasRoomToClaim keys) c.redemption.ensures
+    (subst (λ (call : Call). HasClaimRoom keys call c.args.terms.now) c.in-Redeem.is c.requires.claims)
+
+pub returns-in-Redeem : goal.returns-in-Redeem
+returns-in-Redeem g c =
+    let s = state_of c.args.self.now in
+    subst (λ (call : Call). Changes c.args.self.now call c.redeem.new.self) (sym c.in-Redeem.is)
+    (c.redeem.ensures c.in-Redeem.field-1 c.in-Redeem.field-2 c.in-Redeem.words
+    (redeeming s c.args.call.now c.args.terms.now c.redemption.result.now c.in-Redeem.account c.in-Redeem.field-1 c.in-Redeem.field-2 c.in-Redeem.words c.requires.terms c.in-Redeem.is c.redemption.ensures))

@@ -1,4 +1,5 @@
 use Rattle.std.proofs.Common.{◌≡◌, ◌+◌, ◌<◌, ◌∙◌, ap, refl, subst, arith}
+use Rattle.std.specs.Prelude.{Result, Err}
 use Rattle.std.proofs.lemmas.Bool.Decides.{nat_tests}
 use Rattle.liq_types.specs.declared.amounts.TheConstants.{ACCOUNTS, RECORDS_MOST}
 use Rattle.liq_types.specs.declared.figures.Client.{Client}
@@ -7,13 +8,16 @@ use Rattle.liq_types.specs.State.{client_of}
 use Rattle.liq_types.specs.declared.replies.Refusal.TheVariants.{JournalFull}
 use Rattle.liq_core.specs.Core.{Core, state_of}
 use Rattle.liq_core.specs.Rules.{rules}
+use Rattle.liq_core.specs.declared.turns.Forecast.{Forecast}
+use Rattle.liq_core.specs.declared.turns.PlanFault.{PlanFault}
+use Rattle.liq_core.specs.Turn.{Forecasts}
 use Rattle.liq_core.specs.Verbs.{accounts}
 use Rattle.liq_core.proofs.Allowed.{built-rotates}
-use Rattle.liq_core.proofs.Ruled.{accounts_within, allowed_call, planned_alike, refused_call, refused_room, room_full, room_left, standing_alike, standing_ruling}
+use Rattle.liq_core.proofs.Ruled.{accounts_within, allowed_call, planned_alike, refused_call, refused_room, room_full, room_left, standing_alike, standing_ruling, terms_fit}
 use Rattle.liq_core.proofs.engine.Protocol.plan.Goals as goal
 
-pub returns-in-Err : goal.returns-in-Err
-returns-in-Err c s h =
+pub returns-in-Err-No : goal.returns-in-Err-No
+returns-in-Err-No c s h =
     let core = c.args.self.now in
     let command = c.args.command.now in
     let within : command.client < ACCOUNTS = grind (arith, nat_tests, c.if-command-ge-ACCOUNTS.false) in
@@ -21,7 +25,9 @@ returns-in-Err c s h =
     let next : command.number ≡ (client_of (state_of core) command.client).last + 1 =
     grind (arith, nat_tests, c.if-command-eq0.false, c.if-command-client-2.false, last) in
     let sound = subst (λ (view : Core). IsSoundImage view.image view.records) c.self.view_is c.self.invariant.image in
-    standing_ruling core s command sound h ∙ refused_call (state_of core) command c.in-Err.refusal within next c.in-Err.ensures
+    standing_ruling core s command sound h ∙ refused_call (state_of core) command c.in-Err-No.refusal within next
+    (subst (λ (fault : PlanFault). Forecasts (state_of core) command.call (Err fault)) c.in-Err-No.field-0-is
+    (subst (λ (r : Result Forecast PlanFault). Forecasts (state_of core) command.call r) c.in-Err-No.is c.plan_call.ensures))
 
 pub returns-then-is_full : goal.returns-then-is_full
 returns-then-is_full c s h =
@@ -43,6 +49,7 @@ invariant_of-result c =
       built = c.requires.built;
       client = grind (arith, nat_tests, c.if-command-ge-ACCOUNTS.false);
       accounts = accounts_within (accounts call) (rules (state_of c.args.self.now) call) c.in-Ok.ensures.0;
+      terms = terms_fit (state_of c.args.self.now) call c.in-Ok.forecast.terms c.in-Ok.ensures.1.terms;
     }
 
 pub returns : goal.returns

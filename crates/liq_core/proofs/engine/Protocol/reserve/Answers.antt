@@ -6,6 +6,7 @@ use Rattle.liq_types.specs.declared.requests.Call.{Call}
 use Rattle.liq_types.specs.declared.requests.Call.TheVariants.{Fund, Take, Adjust, Close, Withdraw, GainToTrove, Claim}
 use Rattle.liq_core.specs.Core.{Room}
 use Rattle.liq_core.specs.Plan.{Plan}
+use Rattle.liq_core.specs.Terms.{TermsFit, HasRoomToClose, HasRoomToClaim, HasClaimRoom}
 use Rattle.liq_core.specs.Verbs.{accounts, opens, provides}
 use Rattle.liq_core.proofs.engine.Protocol.reserve.Goals as goal
 
@@ -79,3 +80,20 @@ returns-in-Provide-clause-had c h =
     let others = c.reserve_client.ensures.others in
     let call = c.args.planned.now.command.call in
     c.reserve_deposit.ensures.had (wallets old new others call _ is h.wallets).0 (deposits old new others call _ is h.deposits).0
+
+-- a redemption's terms are there
+pub redemption-requires : goal.redemption-requires
+redemption-requires c =
+    subst (λ (call : Call). TermsFit call c.planned.inside.forecast.terms) c.in-Redeem.is c.planned.invariant.terms
+
+pub returns-in-Redeem-clause-had : goal.returns-in-Redeem-clause-had
+returns-in-Redeem-clause-had c h =
+    let is = sym (ap (λ (p : Plan). p.command.call) c.planned.view_is) ∙ c.in-Redeem.is in
+    let told = sym (ap (λ (p : Plan). p.terms) c.planned.view_is) ∙ c.redemption.ensures in
+    let old = c.args.self.now.room in
+    let new = c.reserve_client.new.self.room in
+    let others = c.reserve_client.ensures.others in
+    let call = c.args.planned.now.command.call in
+    let had = subst (HasRoomToClaim old.surplus) told (subst (λ (k : Call). HasClaimRoom old.surplus k c.args.planned.now.terms) is h.claims) in
+    c.reserve_redemption.ensures.had (wallets old new others call _ is h.wallets).0
+    (subst (λ (keys : List ℕ). AllByRecursion (HasRoomToClose keys) c.redemption.result.now.cuts) (sym (ap (λ (r : Room). r.surplus) others)) had)

@@ -1,0 +1,45 @@
+use Rattle.std.proofs.Common.{List, [], ◌∷◌, refl, ap, sym, ◌∙◌, subst}
+use Rattle.std.specs.Prelude.{map}
+use Rattle.std.specs.List.{AllByRecursion}
+use Rattle.liq_types.specs.declared.requests.Call.TheVariants.{Redeem}
+use Rattle.liq_types.specs.Soundness.{IsSoundImage}
+use Rattle.liq_types.specs.Totals.{market_of}
+use Rattle.liq_redemption.specs.declared.cut.Cut.{Cut}
+use Rattle.liq_redemption.specs.Redemption.{RedeemTerms, visited, redeeming_terms}
+use Rattle.liq_core.specs.Core.{Core, state_of}
+use Rattle.liq_core.specs.Redemption.{cut_told}
+use Rattle.liq_core.specs.SoundState.{CutIsCovered}
+use Rattle.liq_core.specs.Step.{rules}
+use Rattle.liq_core.specs.Verbs.{no_hint}
+use Rattle.liq_core.proofs.Cutting.{redeem_told}
+use Rattle.liq_core.proofs.Reading.{allowed_so}
+use Rattle.liq_core.proofs.SoundCores.{core_finds}
+use Rattle.liq_core.proofs.SoundRedeem.{cuts_covered}
+use Rattle.liq_core.proofs.engine.Protocol.plan_redeem.Goals as goal
+
+pub cut_changes-requires : goal.cut_changes-requires
+cut_changes-requires c =
+    let core = c.args.self.now in
+    let s = state_of core in
+    let sound = subst (λ (view : Core). IsSoundImage view.image view.records) c.self.view_is c.self.invariant.image in
+    let a = allowed_so (rules s (Redeem c.args.account c.args.lusd c.args.bound no_hint)) (redeeming_terms (market_of s) (visited s) c.args.lusd) c.args.account c.if-account-ge-ACCOUNTS.false c.in-Ok.taken c.in-Ok.ensures in
+    let made = c.as_slice.ensures ∙ ap (λ (t : RedeemTerms). t.cuts) a.2 in
+    subst (λ (cuts : List Cut). AllByRecursion (CutIsCovered s) cuts) (sym made) (cuts_covered s (core_finds core sound) c.args.lusd)
+
+pub returns : goal.returns
+returns c hint =
+    let core = c.args.self.now in
+    let s = state_of core in
+    let sound = subst (λ (view : Core). IsSoundImage view.image view.records) c.self.view_is c.self.invariant.image in
+    let a = allowed_so (rules s (Redeem c.args.account c.args.lusd c.args.bound hint)) (redeeming_terms (market_of s) (visited s) c.args.lusd) c.args.account c.if-account-ge-ACCOUNTS.false c.in-Ok.taken c.in-Ok.ensures in
+    let made = c.as_slice.ensures ∙ ap (λ (t : RedeemTerms). t.cuts) a.2 in (
+      a.0,
+      record {
+        done = ap (λ (t : RedeemTerms). record { kind = 14; values = t.redeemed ∷ t.drawn ∷ t.fee ∷ t.rate.base ∷ 0 ∷ 0 ∷ [] }) a.2;
+        terms = a.2;
+        events = refl;
+        changes =
+            c.in-Ok-cut_changes.ensures ∙ ap (λ (cuts : List Cut). map (cut_told s) cuts) made
+            ∙ redeem_told s (core_finds core sound) c.args.account c.args.lusd;
+      },
+    )

@@ -1,0 +1,21 @@
+use Rattle.liq_core.proofs.Redeeming.{redeem_parts, redeem_planned, wallets_ascend, redeem_changes, redeem_sound}
+use Rattle.liq_core.proofs.engine.Protocol.redeem.Goals as goal
+
+pub apply-requires-clause-sound : goal.apply-requires-clause-sound
+apply-requires-clause-sound g c = redeem_parts c.self.inside c.self.invariant c.args.account
+
+pub apply-requires-clause-planned : goal.apply-requires-clause-planned
+apply-requires-clause-planned g c = redeem_planned c.self.inside c.args.self.now c.self.view_is c.self.invariant c.args.account c.args.taken.now c.requires.range c.requires.planned
+
+pub apply-requires-clause-ascend : goal.apply-requires-clause-ascend
+apply-requires-clause-ascend g c = wallets_ascend c.self.inside c.self.invariant
+
+pub invariant_of-self : goal.invariant_of-self
+invariant_of-self g c =
+    redeem_sound c.self.inside c.args.self.now c.self.view_is c.self.invariant c.args.account c.args.taken.now c.requires.range c.requires.planned
+    c.apply.new.wallets c.apply.new.pools c.apply.new.surplus c.apply.new.troves c.apply.new.order c.apply.ensures.wallets c.apply.ensures.parts
+
+pub returns : goal.returns
+returns g c =
+    redeem_changes c.self.inside c.args.self.now c.self.view_is c.self.invariant c.args.account c.args.taken.now c.requires.range c.requires.planned
+    c.apply.new.wallets c.apply.new.pools c.apply.new.surplus c.apply.new.troves c.apply.new.order c.apply.ensures.wallets c.apply.ensures.parts
