@@ -12,7 +12,9 @@ pub exchange-requires-clause-lusd_limit : goal.exchange-requires-clause-lusd_lim
 exchange-requires-clause-lusd_limit c = let may = closes_so c.self.inside c.args.self.now c.self.view_is c.self.invariant c.args.account c.requires.range c.args.repaid c.args.coll c.requires.terms c.requires.allowed in omega (arith, may.lusd_limit)
 
 pub overflow_sub-self : goal.overflow_sub-self
-overflow_sub-self c = (closes_so c.self.inside c.args.self.now c.self.view_is c.self.invariant c.args.account c.requires.range c.args.repaid c.args.coll c.requires.terms c.requires.allowed).reserve
+overflow_sub-self c =
+    let may = closes_so c.self.inside c.args.self.now c.self.view_is c.self.invariant c.args.account c.requires.range c.args.repaid c.args.coll c.requires.terms c.requires.allowed in
+    omega (arith, may.reserve)
 
 pub lift_trove-requires-clause-there : goal.lift_trove-requires-clause-there
 lift_trove-requires-clause-there c = (closes_so c.self.inside c.args.self.now c.self.view_is c.self.invariant c.args.account c.requires.range c.args.repaid c.args.coll c.requires.terms c.requires.allowed).there

@@ -13,7 +13,8 @@ exchange-requires-clause-coll_limit g c =
 
 pub exchange-requires-clause-lusd_limit : goal.exchange-requires-clause-lusd_limit
 exchange-requires-clause-lusd_limit g c =
-    (opens_so c.self.inside c.args.self.now c.self.view_is c.self.invariant c.args.account c.args.borrow c.args.plan.now c.requires.range c.requires.terms c.requires.allowed).lusd_limit
+    let may = opens_so c.self.inside c.args.self.now c.self.view_is c.self.invariant c.args.account c.args.borrow c.args.plan.now c.requires.range c.requires.terms c.requires.allowed in
+    omega (arith, may.lusd_limit)
 
 pub overflow_add-self : goal.overflow_add-self
 overflow_add-self g c =

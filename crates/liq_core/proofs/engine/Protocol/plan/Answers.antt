@@ -62,7 +62,7 @@ returns c s h =
     grind (arith, nat_tests, c.if-command-eq0.false, c.if-command-client-2.false, last) in
     let sound = subst (λ (view : Core). IsSoundImage view.image view.records) c.self.view_is c.self.invariant.image in
     let same = ap (λ (view : Core). view.records) c.self.view_is in
-    let few : core.records < RECORDS_MOST = grind (arith, nat_tests, c.if-is_full.false, same) in
+    let few : core.records < RECORDS_MOST = omega (arith, c.if-is_full.false, same) in
     let free = room_left (state_of core) command (built-rotates command.call c.requires.built) few in
     let allowed = standing_ruling core s command sound h ∙ allowed_call (state_of core) command within next c.in-Ok.ensures.0 free in
     (refl, planned_alike (standing_alike core s sound h) command c.in-Ok.forecast allowed c.in-Ok.ensures.1)
