@@ -16,8 +16,6 @@ mod limit;
 #[cfg(test)]
 mod lines;
 #[cfg(test)]
-mod liquidating;
-#[cfg(test)]
 mod providing;
 #[cfg(test)]
 mod redeeming;

@@ -3,7 +3,7 @@
 use crate::tables::{Row, check_rows};
 use std::test::Fail;
 
-const PROVIDING: [Row; 5] = [
+const PROVIDING: [Row; 3] = [
     (
         "put in and taken out, a record of nothing is gone",
         b"1 1 fund 1 10000000000\n1 2 open 1 10000000000 4000000000 1000000000000000000 - -\n? deposit 1\n1 3 provide 1 7\n? deposit 1\n1 4 withdraw 1 1000000000000000000\n1 5 withdraw 1 1000000000000000000\n? deposit 1\n",
@@ -20,18 +20,6 @@ const PROVIDING: [Row; 5] = [
         "while the last trove is below 110 percent nothing but a gain is paid",
         b"1 1 fund 1 10000000000\n1 2 open 1 10000000000 4000000000 1000000000000000000 - -\n1 3 fund 2 100000000000\n1 4 open 2 100000000000 4000000000 1000000000000000000 - -\n1 5 provide 2 4000000000\n1 6 price 464200000\n1 7 withdraw 2 1\n1 8 price 464199999\n1 9 withdraw 2 1\n1 9 withdraw 2 0\n1 10 price 460000000\n1 11 withdraw 2 1\n? deposit 2\n",
         b"ok\nok 4220000000 20000000\nok\nok 4220000000 20000000\nok 4000000000 0\nok\nok 1 0\nok\nno 41 1 464199999000000000000 464200000000000000000\nok 0 0\nok\nno 41 1 460000000000000000000 464200000000000000000\n3999999999 0\n",
-        0,
-    ),
-    (
-        "the gain is paid whole, at the next own operation",
-        b"1 1 fund 1 10000000000\n1 2 open 1 10000000000 4000000000 1000000000000000000 - -\n1 3 fund 2 100000000000\n1 4 open 2 100000000000 8000000000 1000000000000000000 - -\n1 5 provide 2 6000000000\n1 6 price 460000000\n1 7 liquidate 3 1\n? deposit 2\n? wallet 2\n1 8 provide 2 1\n? deposit 2\n? wallet 2\n? pools\n",
-        b"ok\nok 4220000000 20000000\nok\nok 8240000000 40000000\nok 6000000000 0\nok\nok 50000000 4220000000 9950000000 0 0 0\n1779999999 9949999999\n0 2000000000\nok 1780000000 9949999999\n1780000000 0\n9949999999 1999999999\n100000000000 8240000000 0 0 200000000 0 0 60000000 1780000001 1\n",
-        0,
-    ),
-    (
-        "a pool that is taken whole begins anew",
-        b"1 1 fund 1 10000000000\n1 2 open 1 10000000000 4000000000 1000000000000000000 - -\n1 3 fund 2 100000000000\n1 4 open 2 100000000000 9000000000 1000000000000000000 - -\n1 5 provide 2 4220000000\n1 6 price 460000000\n1 7 liquidate 3 1\n? deposit 2\n1 8 provide 2 100\n? deposit 2\n1 9 withdraw 2 100\n? deposit 2\n? wallet 2\n? pools\n",
-        b"ok\nok 4220000000 20000000\nok\nok 9245000000 45000000\nok 4220000000 0\nok\nok 50000000 4220000000 9950000000 0 0 0\n0 9949999999\nok 100 9949999999\n100 0\nok 100 0\nnone\n9949999999 4780000000\n100000000000 9245000000 0 0 200000000 0 0 65000000 0 1\n",
         0,
     ),
 ];
