@@ -95,14 +95,24 @@ fn an_opening_keeps_the_records(rt: HostRuntime) -> Result<(), Fail> {
 #[test]
 fn a_crash_loses_what_is_not_synced(rt: HostRuntime) -> Result<(), Fail> {
     let alloc = rt.alloc();
-    assert_eq!(rt; torn(alloc, false, 0)?.as_slice(), [1, 9, 9, 9, 9].as_slice());
+    assert_eq!(rt;
+        torn(alloc, false, 0)?.as_slice(),
+        [1, 9, 9, 9, 9].as_slice()
+    );
     assert_eq!(rt; torn(alloc, false, 1)?.as_slice(), [1, 2, 3, 4].as_slice());
     for choice in 2..8 {
         let left = torn(alloc, false, choice)?;
-        assert!(rt; left.as_slice() != [1, 9, 9, 9, 9].as_slice(), "choice {choice}");
+        assert!(rt;
+            left.as_slice() != [1, 9, 9, 9, 9].as_slice(),
+            "choice {choice}"
+        );
     }
     for choice in 0..8 {
-        assert_eq!(rt; torn(alloc, true, choice)?.as_slice(), [1, 9, 9, 9, 9].as_slice(), "choice {choice}");
+        assert_eq!(rt;
+            torn(alloc, true, choice)?.as_slice(),
+            [1, 9, 9, 9, 9].as_slice(),
+            "choice {choice}"
+        );
     }
     Ok(())
 }
