@@ -10,10 +10,10 @@ use std::test::Fail;
 // length, the record that isn't there, and the gate.
 const OPENING: u64 = 5;
 
-// What a crash of this choice leaves of four bytes, over and behind which four others were written, synced or not.
+// What a crash of this choice leaves of four bytes, over and behind which five others were written, synced or not.
 fn torn(alloc: Global, synced: bool, choice: u64) -> Result<Vec<u8>, AllocError> {
     let mut written = disk(alloc, &[1, 2, 3, 4], &[])?;
-    if written.write_at(1, &[9, 9, 9, 9]).is_err() || (synced && written.sync().is_err()) {
+    if written.write_at(0, &[9, 9, 9, 9, 9]).is_err() || (synced && written.sync().is_err()) {
         return Ok(Vec::new(alloc));
     }
     written.crash(choice).bytes().to_vec(alloc)
@@ -97,20 +97,20 @@ fn a_crash_loses_what_is_not_synced(rt: HostRuntime) -> Result<(), Fail> {
     let alloc = rt.alloc();
     assert_eq!(rt;
         torn(alloc, false, 0)?.as_slice(),
-        [1, 9, 9, 9, 9].as_slice()
+        [9, 9, 9, 9, 9].as_slice()
     );
     assert_eq!(rt; torn(alloc, false, 1)?.as_slice(), [1, 2, 3, 4].as_slice());
     for choice in 2..8 {
         let left = torn(alloc, false, choice)?;
         assert!(rt;
-            left.as_slice() != [1, 9, 9, 9, 9].as_slice(),
+            left.as_slice() != [9, 9, 9, 9, 9].as_slice(),
             "choice {choice}"
         );
     }
     for choice in 0..8 {
         assert_eq!(rt;
             torn(alloc, true, choice)?.as_slice(),
-            [1, 9, 9, 9, 9].as_slice(),
+            [9, 9, 9, 9, 9].as_slice(),
             "choice {choice}"
         );
     }
