@@ -1,0 +1,12 @@
+use Rattle.std.proofs.Common.{refl}
+use Rattle.liq_journal.specs.Written.{found_on}
+use Rattle.liq_pairs.specs.Pair.{standing, state_on}
+use Rattle.liq_pairs.proofs.examples.empty_disks_example.Goals as goal
+
+pub returns-clause-empty : goal.returns-clause-empty
+unfolding state_on standing found_on
+returns-clause-empty c = refl
+
+pub returns-clause-short : goal.returns-clause-short
+unfolding state_on standing found_on
+returns-clause-short c = refl

@@ -1,0 +1,13 @@
+-- Commands of the worked examples.
+use Rattle.liq_types.specs.declared.requests.Call.TheVariants.{Price, Fund}
+use Rattle.liq_types.specs.declared.requests.Command.{Command}
+
+abbrev pub fund : Command
+fund = record { client = 1; number = 1; call = Fund 7 30 }
+
+-- a client's first command has the number 1
+abbrev pub early : Command
+early = record { client = 1; number = 2; call = Fund 7 30 }
+
+abbrev pub price_of_nothing : Command
+price_of_nothing = record { client = 2; number = 1; call = Price 0 }

@@ -1,0 +1,6 @@
+pub mod Examples
+pub mod Kept
+pub mod Pair
+pub mod Replay
+pub mod Sides
+pub mod Unfinished

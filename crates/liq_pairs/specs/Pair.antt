@@ -1,0 +1,51 @@
+-- What two disks stand for.
+use Rattle.std.specs.Prelude.{◌≡◌, ℕ, List, Result, Ok, Err, Bool, true, false, nat_lt, if◌then◌else◌}
+use Rattle.liq_types.specs.State.{State, opening}
+use Rattle.liq_types.specs.WellFormed.{IsWellFormed}
+use Rattle.liq_core.specs.Image.{IsSameState}
+use Rattle.liq_journal.specs.declared.damage.Damage.{Damage}
+use Rattle.liq_journal.specs.Written.{Found, Absent, Damaged, Open, found_on}
+use Rattle.liq_pairs.specs.declared.side.Side.{Side}
+use Rattle.liq_pairs.specs.declared.side.Side.TheVariants.{Left, Right}
+use Rattle.liq_pairs.specs.Replay.{outcome}
+
+-- What one disk is: it holds no journal, or a damaged one, or one of this generation that leads to this state.
+pub data Standing : Type 0 where
+  Nothing : Standing
+  Faulty : (damage : Damage) → Standing
+  Holding : (generation : ℕ) (state : State) → Standing
+
+abbrev pub standing_after : ℕ → Result State Damage → Standing
+standing_after generation (Ok s) = Holding generation s
+standing_after generation (Err damage) = Faulty damage
+
+-- what the journal's own bytes show comes before what the replay finds
+abbrev pub standing_of : Found → Standing
+standing_of Absent = Nothing
+standing_of (Damaged damage) = Faulty damage
+standing_of (Open w) = standing_after w.generation (outcome w)
+
+unfoldable pub standing : Bool → List ℕ → Standing
+standing odd bytes = standing_of (found_on odd bytes)
+
+-- All faults of the left disk come before those of the right one. Of two open disks the one of the greater generation counts,
+-- and of none the opening state.
+abbrev pub pair_state : Standing → Standing → Result State (Side × Damage)
+pair_state (Faulty damage) right = Err (Left, damage)
+pair_state Nothing (Faulty damage) = Err (Right, damage)
+pair_state Nothing Nothing = Ok opening
+pair_state Nothing (Holding generation s) = Ok s
+pair_state (Holding generation s) (Faulty damage) = Err (Right, damage)
+pair_state (Holding generation s) Nothing = Ok s
+pair_state (Holding generation s) (Holding later t) = Ok (if nat_lt generation later then t else s)
+
+-- the state for which two disks stand, or the first damage
+unfoldable pub state_on : List ℕ → List ℕ → Result State (Side × Damage)
+state_on left right = pair_state (standing true left) (standing false right)
+
+-- They stand for each state that is the same as theirs, in its image and its count of records, and that the rules can reach.
+pub record StandFor (left right : List ℕ) (s : State) : Type 0 where
+  pub state : State
+  pub is : state_on left right ≡ Ok state
+  pub same : IsSameState state s
+  pub formed : IsWellFormed s

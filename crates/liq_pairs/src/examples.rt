@@ -1,0 +1,25 @@
+//! Worked examples: what two disks stand for, and what a replay comes to. The functions here do nothing; each is the place
+//! where the facts of its contract are proved.
+
+ghost use Rattle.std.specs.Prelude.{◌≡◌, [], ◌∷◌, Ok, Err};
+ghost use Rattle.liq_types.specs.State.{opening};
+ghost use Rattle.liq_core.specs.Step.{after};
+ghost use Rattle.liq_journal.specs.declared.damage.What.TheVariants as What;
+ghost use Rattle.liq_pairs.specs.Examples.{early, fund, price_of_nothing};
+ghost use Rattle.liq_pairs.specs.Pair.{state_on};
+ghost use Rattle.liq_pairs.specs.Replay.{replay};
+
+/// Two empty disks stand for the opening state, and so do two whose bytes are fewer than a header's.
+pub fn empty_disks_example()
+    ensures empty { state_on [] [] ≡ Ok opening }
+    ensures short { state_on (1 ∷ 76 ∷ []) (1 ∷ []) ≡ Ok opening }
+{}
+
+/// An accepted command; one that comes again, as the second record; one that is out of turn, as the first; and one that is
+/// refused by its verb, as the second.
+pub fn replays_example()
+    ensures accepted { replay 1 opening (fund ∷ []) ≡ Ok (after opening fund) }
+    ensures repeated { replay 1 opening (fund ∷ fund ∷ []) ≡ Err (record { index = 2; what = What.Replay 0 }) }
+    ensures early { replay 1 opening (early ∷ []) ≡ Err (record { index = 1; what = What.Replay 70 }) }
+    ensures refused { replay 1 opening (fund ∷ price_of_nothing ∷ []) ≡ Err (record { index = 2; what = What.Replay 10 }) }
+{}
