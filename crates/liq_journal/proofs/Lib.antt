@@ -4,7 +4,7 @@ mod Counting
 mod Creating
 mod HeaderFound
 mod Heading
-mod Looks
+pub mod Looks
 mod Opening
 mod Reading
 mod Scanning

@@ -1,5 +1,5 @@
 // A header read and tested.
-ghost use Rattle.std.specs.Prelude.{◌≡◌, ◌≤◌, ◌+◌, ◌==◌, ◌&&◌, Some, None, Err, IfOk, IfErr, IfSome, length, nat_lt, if◌then◌else◌};
+ghost use Rattle.std.specs.Prelude.{◌≡◌, ◌≤◌, ◌+◌, ◌==◌, ◌&&◌, Some, None, Err, true, IfOk, IfErr, IfSome, length, nat_lt, if◌then◌else◌};
 ghost use Rattle.std.specs.Result.{MatchResult};
 ghost use Rattle.liq_wire.specs.Fields.{first_place, number_at};
 ghost use Rattle.liq_journal.specs.Causes.{CountsLook};
@@ -20,7 +20,7 @@ pub const HEADER: u64 = 57;
 
 // The places of a header, or the first whose field is wrong.
 fn placed(bytes: &[u8; 57], odd: bool) -> Result<Head, u64>
-    ensures { MatchResult result (λ head. (first_place (place_tests odd bytes.now) ≡ None) × HasFields head bytes.now × (head.size ≤ 68719476736)) (λ place. first_place (place_tests odd bytes.now) ≡ Some place) }
+    ensures { MatchResult result (λ head. (first_place (place_tests odd bytes.now) ≡ None) × HasFields head bytes.now × (head.size ≤ 68719476736) × (is_generation odd head.generation ≡ true)) (λ place. first_place (place_tests odd bytes.now) ≡ Some place) }
 {
     let generation = u64_at(bytes, 9);
     let size = u64_at(bytes, 17);
@@ -75,6 +75,7 @@ pub fn read_header<D: Disk>(disk: &mut D, odd: bool) -> Result<Option<Head>, Loo
     ensures looked { Looked D.seen D.moment D.left_at disk.old disk.new }
     ensures read { IfOk result (λ head. IfSome (D.seen disk.old) (λ held. MaybeHeadOf odd held head)) }
     ensures size { IfOk result (λ head. IfSome head (λ h. h.size ≤ 68719476736)) }
+    ensures generation { IfOk result (λ head. IfSome head (λ h. is_generation odd h.generation ≡ true)) }
     ensures fault { IfErr result (λ why. IfSome (D.seen disk.old) (λ held. IsDamageOf odd held why)) }
     ensures cause { CountsLook result (D.faults disk.old) (D.faults disk.new) }
 {

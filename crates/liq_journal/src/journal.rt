@@ -93,6 +93,8 @@ impl<D: Disk> Journal<D> {
     /// `Absent` comes where none is open, `Damaged` with the disk's first fault, `NoMemory` for want of it.
     pub fn open(alloc: Global, disk: D, odd: bool) -> Result<(Journal<D>, Vec<u8>), OpenFault<D>>
         ensures found { IfOk result (λ r. IfSome (D.seen disk) (λ held. IsOpened odd held r.0.generation r.0.start r.0.count r.1.items)) }
+        // It is one that this disk may have, also where the disk tells nothing.
+        ensures generation { IfOk result (λ r. is_generation odd r.0.generation ≡ true) }
         ensures stands { IfOk result (λ r. (held : List ℕ) (w : Written) → D.seen disk ≡ Some held → found_on odd held ≡ Open w → IfSome (D.seen r.0.disk) (λ after. Stands odd after w)) }
         ensures settled { IfOk result (λ r. IfSome (D.seen r.0.disk) (IsSettled r.0.generation r.0.start r.0.count)) }
         ensures durable { IfOk result (λ r. IfSome (D.seen r.0.disk) (λ after. Only after (LeftNow D.moment D.left_at r.0.disk))) }

@@ -1,5 +1,5 @@
 // A journal opened: all of its disk tested, and the byte behind it shut.
-ghost use Rattle.std.specs.Prelude.{◌≡◌, ◌≤◌, ◌<◌, ◌+◌, ◌^◌, ◌⊎◌, ◌↔◌, Some, IsTrue, Ok, Err, List, ℕ, length, drop, take, OnOk, OnErr, IfOk, IfErr, IfSome, IsSome};
+ghost use Rattle.std.specs.Prelude.{◌≡◌, ◌≤◌, ◌<◌, ◌+◌, ◌^◌, ◌⊎◌, ◌↔◌, Some, IsTrue, true, Ok, Err, List, ℕ, length, drop, take, OnOk, OnErr, IfOk, IfErr, IfSome, IsSome};
 ghost use Rattle.std.specs.Result.{MatchResult};
 ghost use Rattle.liq_journal.specs.Crash.{HasGate, SettleLeaves, Stands};
 ghost use Rattle.liq_outside.specs.Disk.{GoesOn, LeavesOnly, LeftNow, Only};
@@ -8,7 +8,7 @@ ghost use Rattle.liq_journal.specs.Causes.{CountsOpen};
 ghost use Rattle.liq_journal.specs.declared.damage.Damage.{Damage};
 ghost use Rattle.liq_journal.specs.Looked.{Looked};
 ghost use Rattle.liq_journal.specs.Opened.{AbsentLeaves, IsAtRest, IsKept, IsScanOf, IsUnshut, IsWhyOf, OpenLeaves, why_of};
-ghost use Rattle.liq_journal.specs.Written.{Open, Written, found_on, piece};
+ghost use Rattle.liq_journal.specs.Written.{Open, Written, found_on, is_generation, piece};
 
 use crate::answers::{LookFault, OpenWhy};
 use crate::bytes::write_synced;
@@ -67,6 +67,7 @@ fn why_of(why: LookFault) -> OpenWhy
 fn scan<D: Disk>(alloc: Global, disk: &mut D, odd: bool) -> Result<Scanned, OpenWhy>
     ensures looked { Looked D.seen D.moment D.left_at disk.old disk.new }
     ensures bounds { IfOk result (λ s. (s.start ≤ 68719476793) × (s.count ≤ 1000001)) }
+    ensures generation { IfOk result (λ s. is_generation odd s.generation ≡ true) }
     ensures found { IfOk result (λ s. IfSome (D.seen disk.old) (λ held. IsScanOf odd held s)) }
     ensures why { IfErr result (λ why. IfSome (D.seen disk.old) (λ held. IsWhyOf odd held why)) }
     ensures cause { CountsOpen result (D.faults disk.old) (D.faults disk.new) }
@@ -165,6 +166,7 @@ fn settle_scanned<D: Disk>(
 // Opens the journal of a disk: syncs it, reads and tests all of it, and shuts the byte that is to be shut.
 pub fn open_on<D: Disk>(alloc: Global, disk: &mut D, odd: bool) -> Result<Scanned, OpenWhy>
     ensures bounds { IfOk result (λ s. (s.start ≤ 68719476793) × (s.count ≤ 1000001)) }
+    ensures generation { IfOk result (λ s. is_generation odd s.generation ≡ true) }
     ensures found { IfOk result (λ s. IfSome (D.seen disk.old) (λ held. IsScanOf odd held s)) }
     ensures stands { IfOk result (λ _. (held : List ℕ) (w : Written) → D.seen disk.old ≡ Some held → found_on odd held ≡ Open w → IfSome (D.seen disk.new) (λ after. Stands odd after w)) }
     ensures durable { IfOk result (λ _. IfSome (D.seen disk.new) (λ after. Only after (LeftNow D.moment D.left_at disk.new))) }
