@@ -1,12 +1,12 @@
-mod Appending
+pub mod Appending
 mod Bodies
 mod Counting
 mod Creating
 mod HeaderFound
-mod Heading
+pub mod Heading
 pub mod Looks
 mod Opening
-mod Reading
+pub mod Reading
 mod Scanning
 mod Settling
 mod Testing

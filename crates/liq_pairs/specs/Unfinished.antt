@@ -1,11 +1,12 @@
--- A command that a stop left unfinished on one of two disks: whole, behind a byte that is neither shut nor open.
-use Rattle.std.specs.Prelude.{◌⊎◌, ℕ, List, Bool}
+-- What an opening finds of two disks that a stop left, and what a stop leaves of the opening: a command may be unfinished, that is whole
+-- behind a byte that is neither shut nor open.
+use Rattle.std.specs.Prelude.{◌≡◌, ◌⊎◌, ℕ, List, [], Bool, true, false}
 use Rattle.liq_types.specs.declared.requests.Command.{Command}
 use Rattle.liq_types.specs.State.{State}
 use Rattle.liq_core.specs.Step.{after}
-use Rattle.liq_journal.specs.Crash.{HasGate}
-use Rattle.liq_journal.specs.Opened.{IsUnshut}
-use Rattle.liq_journal.specs.Written.{Written, end_of}
+use Rattle.liq_journal.specs.Crash.{CreateLeaves, HasGate, beginning}
+use Rattle.liq_journal.specs.Opened.{IsUnshut, OpenLeaves}
+use Rattle.liq_journal.specs.Written.{Absent, Written, end_of, found_on}
 use Rattle.liq_pairs.specs.declared.side.Side.{Side}
 use Rattle.liq_pairs.specs.Kept.{HoldsRecord, HoldsRotation, IsKept}
 use Rattle.liq_pairs.specs.Sides.{has_odd, on}
@@ -29,3 +30,9 @@ HoldsUnfinished left right s c =
 -- those held unfinished.
 abbrev pub IsRecovered : List ℕ → List ℕ → State → List ℕ → List ℕ → Type 0
 IsRecovered left right s a b = IsKept a b s ⊎ ((c : Command) × HoldsUnfinished left right s c × IsKept a b (after s c))
+
+-- What a stop in an opening leaves of the left disk: what the opening of its journal leaves; or, where neither disk has one, what the
+-- creation of the first generation leaves. Of the right disk it leaves what the opening of its journal leaves.
+abbrev pub LeftLeaves : List ℕ → List ℕ → List ℕ → Type 0
+LeftLeaves left right image =
+    OpenLeaves true left image ⊎ ((found_on true left ≡ Absent) × (found_on false right ≡ Absent) × CreateLeaves true left (beginning 1 []) image)

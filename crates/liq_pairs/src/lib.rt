@@ -3,6 +3,7 @@
 #![tactic(auto)]
 
 pub mod examples;
+pub mod laws;
 mod side;
 
 pub use side::Side;

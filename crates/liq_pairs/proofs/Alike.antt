@@ -1,0 +1,54 @@
+-- A pair that stands for a state, or is kept for it, does so for each state that is the same.
+use Rattle.std.proofs.Common.{inl, inr, ⊎_elim, List, ℕ, Bool, sym, ◌∙◌}
+use Rattle.liq_types.specs.declared.requests.Command.{Command}
+use Rattle.liq_types.specs.State.{State}
+use Rattle.liq_core.specs.Core.{Core, StandsFor}
+use Rattle.liq_core.proofs.AlikeReads.{Alike}
+use Rattle.liq_core.proofs.AlikeReplies.{ruling_alike}
+use Rattle.liq_journal.specs.Written.{Written}
+use Rattle.liq_pairs.specs.declared.side.Side.{Side}
+use Rattle.liq_pairs.specs.Kept.{HoldsRecord, IsKept, IsKeptOn, IsSettledFor}
+use Rattle.liq_pairs.specs.Pair.{StandFor}
+
+-- the states for which a protocol stands
+pub core_alike : (core : Core) (s t : State) → StandsFor core s → StandsFor core t → Alike s t
+core_alike core s t first second = record {
+  image = sym first.image ∙ second.image;
+  records = sym first.records ∙ second.records;
+  left = first.formed;
+  right = second.formed;
+}
+
+module _ {s t : State} (alike : Alike s t) where
+  pub stand_alike : (l r : List ℕ) → StandFor l r s → StandFor l r t
+  stand_alike l r stands = record {
+    state = stands.state;
+    is = stands.is;
+    same = record { image = stands.same.image ∙ alike.image; records = stands.same.records ∙ alike.records };
+    formed = alike.right;
+  }
+
+  pub settled_alike : (side : Side) (l r : List ℕ) → IsSettledFor side l r s → IsSettledFor side l r t
+  settled_alike side l r settled = record {
+    stands = stand_alike l r settled.stands;
+    written = settled.written;
+    open_on = settled.open_on;
+    others = settled.others;
+  }
+
+  record_alike : (odd : Bool) (bytes : List ℕ) (w : Written) (c : Command) → HoldsRecord odd bytes w s c → HoldsRecord odd bytes w t c
+  record_alike odd bytes w c holds = record { pending = holds.pending; allowed = sym (ruling_alike alike c) ∙ holds.allowed }
+
+  kept_on_alike : (side : Side) (l r : List ℕ) → IsKeptOn side l r s → IsKeptOn side l r t
+  kept_on_alike side l r kept = record {
+    written = kept.written;
+    found = kept.found;
+    end = ⊎_elim (λ is. inl is) (λ more. inr (more.0, record_alike _ _ kept.written more.0 more.1)) kept.end;
+    others = ⊎_elim (λ closed. inl closed) (λ more. inr (⊎_elim (λ older. inl older) (λ rotated. absurd (rotated.1.1.rotation)) more)) kept.others;
+  }
+
+  pub kept_alike : (l r : List ℕ) → IsKept l r s → IsKept l r t
+  kept_alike l r kept = record {
+    stands = stand_alike l r kept.stands;
+    rests = ⊎_elim (λ taken. inl (taken.0, kept_on_alike taken.0 l r taken.1)) (λ none. inr none) kept.rests;
+  }

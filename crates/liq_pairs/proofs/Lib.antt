@@ -1,0 +1,9 @@
+pub mod Alike
+pub mod AtEnd
+pub mod Beginning
+pub mod FirstPlace
+pub mod Keeping
+pub mod OneByte
+pub mod Recovering
+pub mod Replaying
+pub mod Standings
