@@ -2,7 +2,9 @@
 use Rattle.std.proofs.Common.{inl, inr, ⊎_elim, List, ℕ, Bool, sym, ◌∙◌}
 use Rattle.liq_types.specs.declared.requests.Command.{Command}
 use Rattle.liq_types.specs.State.{State}
+use Rattle.liq_types.specs.WellFormed.{IsWellFormed}
 use Rattle.liq_core.specs.Core.{Core, StandsFor}
+use Rattle.liq_core.specs.Image.{IsSameState}
 use Rattle.liq_core.proofs.AlikeReads.{Alike}
 use Rattle.liq_core.proofs.AlikeReplies.{ruling_alike}
 use Rattle.liq_journal.specs.Written.{Written}
@@ -52,3 +54,6 @@ module _ {s t : State} (alike : Alike s t) where
     stands = stand_alike l r kept.stands;
     rests = ⊎_elim (λ taken. inl (taken.0, kept_on_alike taken.0 l r taken.1)) (λ none. inr none) kept.rests;
   }
+
+pub settled_same : (side : Side) (l r : List ℕ) (s t : State) → IsSettledFor side l r s → IsSameState s t → IsWellFormed t → IsSettledFor side l r t
+settled_same side l r s t settled same formed = settled_alike (record { image = same.image; records = same.records; left = settled.stands.formed; right = formed }) side l r settled

@@ -1,7 +1,9 @@
 pub mod Alike
+pub mod Around
 pub mod AtEnd
 pub mod Beginning
 pub mod FirstPlace
+pub mod Hints
 pub mod Keeping
 pub mod OneByte
 pub mod Recovering
