@@ -1,1 +1,3 @@
 mod Coming
+mod Places
+mod Running

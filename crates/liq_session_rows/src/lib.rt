@@ -1,0 +1,10 @@
+//! Tests of sessions, at a desk that has no protocol: what no clause says. Each call is entered, hinted, made and left, in this
+//! order, also the one at which a session ends; and sessions run at once.
+#![tactic(auto)]
+
+#[cfg(test)]
+mod desk;
+#[cfg(test)]
+mod gates;
+#[cfg(test)]
+mod rows;

@@ -1,0 +1,25 @@
+use Rattle.std.proofs.Common.{rules, arith}
+use Rattle.std.proofs.lemmas.Slice.Zip.{AllZip-long, all_zipped_more}
+use Rattle.liq_sessions.proofs.Places.{ends, none_alone}
+use Rattle.liq_sessions.proofs.at_once.+fn-run_all-join+arg3+run_all.Goals as goal
+
+pub unreachable-requires : goal.unreachable-requires
+unreachable-requires g t c = none_alone _ _ _ _ _ c.in-Some.ensures.items (omega (arith, c.in_default-pop.ensures.cases.0, c.args.replies.ok.0)) c.requires.ready
+
+pub join-one-requires-after_bounds : goal.join-one-requires-after_bounds
+join-one-requires-after_bounds g t c κs within =
+    let ready = ends _ _ _ _ _ _ _ c.in-Some.ensures.items c.in-Some-pop.ensures.items c.requires.ready in
+    let others = ready.0 in
+    let last = ready.1 in
+    let one_less = c.in-Some.ensures.len in
+    search rules
+
+pub push_reserved-requires : goal.push_reserved-requires
+push_reserved-requires g t c =
+    let others = c.join-one.ensures.second in
+    let n = AllZip-long _ _ _ others.0 in
+    omega (arith, n, others.1, c.in-Some.ensures.len, c.requires.room, c.join-one.result.1.ok.0, c.pop.new.self.ok.0)
+
+pub returns-clause-done : goal.returns-clause-done
+returns-clause-done g t c =
+    rw (c.in-Some.ensures.items, c.push_reserved.ensures.items) (all_zipped_more _ _ _ _ _ c.join-one.ensures.second.0 c.join-one.ensures.first)
