@@ -86,7 +86,11 @@ fn check_replies<H: Hinter + Drop>(
     let calls = done.replies.as_slice().iter().zip(done.seat.calls.iter());
     for (before, (reply, call)) in calls.enumerate() {
         let index = before as u64 + 1;
-        assert_eq!(rt; *reply, made_up(session, index), "reply {index} of {session}");
+        assert_eq!(rt;
+            *reply,
+            made_up(session, index),
+            "reply {index} of {session}"
+        );
         assert_eq!(rt; call.1, *reply);
         assert_eq!(rt; call.0, request_at(index), "request {index} of {session}");
     }
