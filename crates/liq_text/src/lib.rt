@@ -17,6 +17,7 @@ pub use bad_line::BadLine;
 pub use lines::{read_line, read_session_line};
 pub use replies::write_reply;
 pub use requests::write_request;
+pub use values::read_number;
 
 #[cfg(test)]
 mod tests;

@@ -1,9 +1,18 @@
 //! What one word stands for.
 
-ghost use Rattle.std.specs.Prelude.{◌≡◌};
+ghost use Rattle.std.specs.Prelude.{ℕ, ◌≡◌, ◌<◌, ◌^◌, IfSome, Some, decimal};
 ghost use Rattle.liq_text.specs.Reading.{number_of, account_of, hint_of};
 
 use itoa::Buffer;
+
+/// The number that a word stands for: none exactly where the word is not how a number below 2^64 is written, without a sign and
+/// without leading zeros.
+pub fn read_number(word: &[u8]) -> Option<u64>
+    ensures number { IfSome result (λ n. word.now ≡ decimal n) }
+    ensures only { (n : ℕ) → n < 2 ^ 64 → word.now ≡ decimal n → result ≡ Some n }
+{
+    number(word)
+}
 
 pub(crate) fn number(word: &[u8]) -> Option<u64>
     ensures { result ≡ number_of word.now }

@@ -1,0 +1,98 @@
+-- What clap reads of words that ask for something.
+use Rattle.std.proofs.Common.{◌≡◌, ℕ, ◌<◌, ◌^◌, ◌==◌, List, [], ◌∷◌, false, true, refl, sym, ap, ap₂, get_or, subst, ◌∙◌, arith, codes, length, Some, Option, Result, Ok, Err, option_map}
+use Rattle.std.specs.Prelude.{decimal, IsErrAnd}
+use Rattle.std.specs.Option.{ok_or}
+use Rattle.std.specs.Char.{digit_value}
+use Rattle.std.specs.Str.Parse.{IsNumeral, digits_value}
+use Rattle.std.proofs.lemmas.Bool.{ne_eqb}
+use Rattle.std.proofs.lemmas.Fmt.{decimal_is_IsNumeral}
+use Rattle.clap.specs.Words.{Text, first_of, subcommand_of, takes}
+use Rattle.liq_words.specs.declared.words.Word.{Word}
+use Rattle.liq_words.specs.declared.words.Word.TheVariants.{Run, Gen}
+use Rattle.liq_words.specs.declared.words.WordsFault.{WordsFault}
+use Rattle.liq_words.specs.declared.words.WordsFault.TheVariants.{Usage, NoMemory}
+use Rattle.liq_words.specs.Line.{line}
+use Rattle.liq_words.specs.Reading.{HasRead}
+use Rattle.liq_words.specs.Words.{Ask, IsInRange, words_of}
+use Rattle.liq_words.proofs.Taken.{run_is_taken, run_is_read, gen_is_taken, gen_is_read, seed_is_read, count_is_read}
+
+-- how a number begins
+record Begins (text : Text) : Type 0 where
+  first : ℕ
+  rest : Text
+  text_is : text ≡ first ∷ rest
+  no_hyphen : (first == 45) ≡ false
+
+begins : (text : Text) → IsNumeral 10 text → Begins text
+begins [] h = absurd (omega (arith, h.0))
+begins (b ∷ bs) h = record {
+  first = b;
+  rest = bs;
+  text_is = refl;
+  no_hyphen = ne_eqb b 45 (λ e. let v : digit_value b ≡ 36 = ap digit_value e in omega (arith, v, h.1.0));
+}
+
+number_begins : (n : ℕ) → n < 2 ^ 64 → Begins (decimal n)
+number_begins n small = begins (decimal n) (decimal_is_IsNumeral n small).0
+
+word_taken : (word : Word) → Ask (words_of word) word → takes line (words_of word) ≡ true
+word_taken Run h = run_is_taken
+word_taken (Gen seed count) h =
+    let s = number_begins seed h.0.0 in
+    let c = number_begins count (omega (arith, h.0.2)) in
+    subst (λ (t : Text). takes line (codes "gen" ∷ t ∷ decimal count ∷ []) ≡ true) (sym s.text_is)
+    (subst (λ (t : Text). takes line (codes "gen" ∷ (s.first ∷ s.rest) ∷ t ∷ []) ≡ true) (sym c.text_is)
+    (gen_is_taken s.first c.first s.rest c.rest s.no_hyphen c.no_hyphen))
+
+-- clap takes the words
+pub are_taken : (words : List Text) (word : Word) → Ask words word → takes line words ≡ true
+are_taken words word h = ap (takes line) h.1 ∙ word_taken word (h.0, refl)
+
+-- what clap reads of two texts behind `gen`
+abbrev AreRead : Text → Text → Type 0
+AreRead seed count =
+    let found = subcommand_of line (codes "gen" ∷ seed ∷ count ∷ []) in
+    (option_map (λ p. p.0) found ≡ Some (codes "gen"))
+    × (option_map (λ p. first_of (codes "seed") p.1) found ≡ Some (Some seed))
+    × (option_map (λ p. first_of (codes "count") p.1) found ≡ Some (Some count))
+
+are_read : (seed count : Text) → Begins seed → Begins count → AreRead seed count
+are_read seed count s c =
+    subst (λ (t : Text). AreRead t count) (sym s.text_is)
+    (subst (λ (t : Text). AreRead (s.first ∷ s.rest) t) (sym c.text_is)
+    (gen_is_read s.first c.first s.rest c.rest s.no_hyphen c.no_hyphen, seed_is_read s.first c.first s.rest c.rest s.no_hyphen c.no_hyphen, count_is_read s.first c.first s.rest c.rest s.no_hyphen c.no_hyphen))
+
+word_read : (word : Word) → Ask (words_of word) word → HasRead (subcommand_of line (words_of word)) word
+word_read Run h = run_is_read
+word_read (Gen seed count) h = are_read (decimal seed) (decimal count) (number_begins seed h.0.0) (number_begins count (omega (arith, h.0.2)))
+
+-- clap reads the word
+pub is_read : (words : List Text) (word : Word) → Ask words word → HasRead (subcommand_of line words) word
+is_read words word h = subst (λ (ws : List Text). HasRead (subcommand_of line ws) word) (sym h.1) (word_read word (h.0, refl))
+
+-- ---- what is answered then
+
+pub no_memory : (K : Type 0) (r : Result Word WordsFault) → IsErrAnd r (λ fault. K → fault ≡ NoMemory) → K → r ≡ Err NoMemory
+no_memory K (Ok word) h k = absurd h
+no_memory K (Err fault) h k = ap Err (h k)
+
+pub is_word : (read : Option Word) (word : Word) (r : Result Word WordsFault) → read ≡ Some word → r ≡ ok_or read Usage → r ≡ Ok word
+is_word read word r found is = is ∙ ap (λ o. ok_or o Usage) found
+
+-- ---- words ask for one thing
+
+same_number : (m n : ℕ) → m < 2 ^ 64 → n < 2 ^ 64 → decimal m ≡ decimal n → m ≡ n
+same_number m n small_m small_n same = sym (decimal_is_IsNumeral m small_m).1 ∙ ap (digits_value 10) same ∙ (decimal_is_IsNumeral n small_n).1
+
+same_word : (a b : Word) → IsInRange a → IsInRange b → words_of a ≡ words_of b → a ≡ b
+same_word Run Run h k same = refl
+same_word Run (Gen seed count) h k same = absurd (omega (arith, ap length same))
+same_word (Gen seed count) Run h k same = absurd (omega (arith, ap length same))
+same_word (Gen seed count) (Gen other more) h k same =
+    let at : ℕ → List Text → Text = λ n words. get_or words n [] in
+    let seeds = same_number seed other h.0 k.0 (ap (at 1) same) in
+    let counts = same_number count more (omega (arith, h.2)) (omega (arith, k.2)) (ap (at 2) same) in
+    ap₂ Gen seeds counts
+
+pub one_word : (words : List Text) (a b : Word) → Ask words a → Ask words b → a ≡ b
+one_word words a b h k = same_word a b h.0 k.0 (sym h.1 ∙ k.1)

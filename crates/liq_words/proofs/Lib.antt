@@ -1,0 +1,4 @@
+mod Asked
+mod Found
+mod Given
+mod Taken

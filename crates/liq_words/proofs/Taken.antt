@@ -1,0 +1,32 @@
+-- What clap reads of words that do not begin with a hyphen, which is 45.
+use Rattle.std.proofs.Common.{◌≡◌, ℕ, [], ◌∷◌, refl, true, false, Some, codes, option_map, ◌==◌}
+use Rattle.clap.specs.Words.{Text, is_simple, first_of, subcommand_of, takes}
+use Rattle.clap.proofs.OnLiterals.{clap_on_literals}
+use Rattle.liq_words.specs.Line.{line}
+
+pub line_is_simple : is_simple line ≡ true
+line_is_simple = refl
+
+pub run_is_taken : takes line (codes "run" ∷ []) ≡ true
+unfolding clap_on_literals
+run_is_taken = refl
+
+pub run_is_read : option_map (λ p. p.0) (subcommand_of line (codes "run" ∷ [])) ≡ Some (codes "run")
+unfolding clap_on_literals
+run_is_read = refl
+
+pub gen_is_taken : (a b : ℕ) (seed count : Text) → (a == 45) ≡ false → (b == 45) ≡ false → takes line (codes "gen" ∷ (a ∷ seed) ∷ (b ∷ count) ∷ []) ≡ true
+unfolding clap_on_literals
+gen_is_taken a b seed count not_a not_b = simp (not_a, not_b)
+
+pub gen_is_read : (a b : ℕ) (seed count : Text) → (a == 45) ≡ false → (b == 45) ≡ false → option_map (λ p. p.0) (subcommand_of line (codes "gen" ∷ (a ∷ seed) ∷ (b ∷ count) ∷ [])) ≡ Some (codes "gen")
+unfolding clap_on_literals
+gen_is_read a b seed count not_a not_b = refl
+
+pub seed_is_read : (a b : ℕ) (seed count : Text) → (a == 45) ≡ false → (b == 45) ≡ false → option_map (λ p. first_of (codes "seed") p.1) (subcommand_of line (codes "gen" ∷ (a ∷ seed) ∷ (b ∷ count) ∷ [])) ≡ Some (Some (a ∷ seed))
+unfolding clap_on_literals
+seed_is_read a b seed count not_a not_b = simp (not_a, not_b)
+
+pub count_is_read : (a b : ℕ) (seed count : Text) → (a == 45) ≡ false → (b == 45) ≡ false → option_map (λ p. first_of (codes "count") p.1) (subcommand_of line (codes "gen" ∷ (a ∷ seed) ∷ (b ∷ count) ∷ [])) ≡ Some (Some (b ∷ count))
+unfolding clap_on_literals
+count_is_read a b seed count not_a not_b = simp (not_a, not_b)

@@ -1,0 +1,33 @@
+//! The command line as clap is told of it.
+
+ghost use Rattle.std.specs.Prelude.{◌≡◌, IfOk, false};
+ghost use Rattle.clap.specs.Words.{app_of};
+ghost use Rattle.clap.specs.declared.builder.command.Command.TheViews.{out-Command};
+ghost use Rattle.liq_words.specs.Line.{line, load};
+
+use clap::{Arg, Command};
+use std::alloc::{AllocError, Global};
+
+/// One command with a subcommand for each word. The words of the command line stand behind the program's name, and nothing is
+/// added to what they may be.
+pub fn line<'a>(alloc: Global) -> Result<Command<'a>, AllocError>
+    ensures { IfOk result (λ command. app_of command ≡ line) }
+{
+    let base = Command::new(alloc, "liq")
+        .no_binary_name(true)
+        .disable_help_flag(true)
+        .disable_help_subcommand(true)
+        .subcommand_required(true);
+    base.subcommand(Command::new(alloc, "run"))?
+        .subcommand(load(alloc)?)
+}
+
+/// The word `gen`, with a seed and a count.
+fn load<'a>(alloc: Global) -> Result<Command<'a>, AllocError>
+    ensures app { IfOk result (λ command. app_of command ≡ load) }
+    ensures local { IfOk result (λ command. (out-Command command).has_globals ≡ false) }
+{
+    let seed = Arg::new(alloc, "seed").required(true);
+    let count = Arg::new(alloc, "count").required(true);
+    Command::new(alloc, "gen").arg(seed)?.arg(count)
+}
