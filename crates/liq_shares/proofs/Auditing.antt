@@ -12,7 +12,7 @@ use Rattle.liq_types.specs.Totals.{pool_total}
 use Rattle.liq_stability.specs.Lawful.{IsLawful, IsLawfulEvent, IsLawfulUpTo}
 use Rattle.liq_stability.specs.Own.{after_event, after_events}
 use Rattle.liq_stability.specs.Position.{balance_of}
-use Rattle.liq_stability.specs.Promise.{gained_of}
+use Rattle.liq_stability.specs.Promise.{IsWithinAllowance, gained_of}
 use Rattle.liq_stability.specs.Words.{words_of}
 use Rattle.liq_stability.proofs.LawfulLists.{lawful_limit, lawful_joined, lawful_first, lawful_rest}
 use Rattle.liq_stability.proofs.Promise.{whole_with, all_balances_are, one_den, within_allowance}
@@ -65,18 +65,21 @@ auditable events h gains few = record { each = auditable_along [] events (lawful
 between : (low high den : ℕ) (bal : ℕ) → 0 < den → low * den ≤ bal → bal ≤ high * den → low ≤ high
 between low high den bal pos l h = le_of_mul-le-mul_right {m = low} {n = high} {k = den} (omega arith) pos
 
-pub within_row : (events : List PoolEvent) → IsLawful opening events → offsets_coll events ≤ LIM → length events < 2 ^ 40 → (engine : EngineRow) → engine.balance ≡ balance_of (after_events events) engine.account → engine.gain ≡ gained_of (after_events events) engine.account events → IsWithinRow (row_of events engine)
-within_row events h gains few engine balance_is gain_is =
+-- what is promised of an account in a state is within its row
+pub within_with : (events : List PoolEvent) → IsLawful opening events → offsets_coll events ≤ LIM → length events < 2 ^ 40 → (s : State) (engine : EngineRow) → IsWithinAllowance s engine.account events → engine.balance ≡ balance_of s engine.account → engine.gain ≡ gained_of s engine.account events → IsWithinRow (row_of events engine)
+within_with events h gains few s engine promise balance_is gain_is =
     let account = engine.account in
     let share = exact_share account events in
-    let promise = within_allowance LIM (omega arith) events h account in
     let row = encloses_row events (auditable events h gains few) engine in
     let den = one_den LIM (omega arith) events h account in
     let pos : 0 < share.den = omega (arith, den.0, den.1) in
-    let s = after_events events in
     record {
       balance_hi = subst (λ b. b ≤ (row_of events engine).balance_hi) (sym balance_is) (between (balance_of s account) (row_of events engine).balance_hi share.den share.bal pos promise.balance_at_most row.balance_hi);
       balance_lo = subst (λ b. (row_of events engine).balance_lo ≤ b + (row_of events engine).balance_allow) (sym balance_is) (between (row_of events engine).balance_lo (balance_of s account + (row_of events engine).balance_allow) share.den share.bal pos row.balance_lo promise.balance_at_least);
       gain_hi = subst (λ g. g ≤ (row_of events engine).gain_hi) (sym gain_is) (between (gained_of s account events) (row_of events engine).gain_hi share.den share.gain pos promise.gain_at_most row.gain_hi);
       gain_lo = subst (λ g. (row_of events engine).gain_lo ≤ g + (row_of events engine).gain_allow) (sym gain_is) (between (row_of events engine).gain_lo (gained_of s account events + (row_of events engine).gain_allow) share.den share.gain pos row.gain_lo promise.gain_at_least);
     }
+
+pub within_row : (events : List PoolEvent) → IsLawful opening events → offsets_coll events ≤ LIM → length events < 2 ^ 40 → (engine : EngineRow) → engine.balance ≡ balance_of (after_events events) engine.account → engine.gain ≡ gained_of (after_events events) engine.account events → IsWithinRow (row_of events engine)
+within_row events h gains few engine balance_is gain_is =
+    within_with events h gains few (after_events events) engine (within_allowance LIM (omega arith) events h engine.account) balance_is gain_is

@@ -1,0 +1,6 @@
+pub mod Gains
+pub mod Lines
+pub mod Replays
+pub mod Residual
+pub mod Rows
+pub mod Runs

@@ -1,0 +1,137 @@
+-- A whole replay is a run: its events are lawful and few, and every depositor has what is promised.
+use Rattle.std.proofs.Common.{◌≡◌, ℕ, zero, suc, ◌+◌, ◌*◌, ◌<◌, ◌≤◌, ◌^◌, false, cond, List, [], ◌∷◌, ◌++◌, length, Ok, refl, ap, sym, subst, ◌∙◌, arith}
+use Rattle.std.specs.Prelude.{All, map, IsTrue}
+use Rattle.liq_types.specs.declared.amounts.TheConstants.{ACCOUNTS, LIM, OFFSET_MOST, RECORDS_MOST}
+use Rattle.liq_types.specs.declared.events.PoolEvent.{PoolEvent}
+use Rattle.liq_types.specs.declared.events.PoolEvent.TheVariants as event
+use Rattle.liq_types.specs.declared.requests.Command.{Command}
+use Rattle.liq_types.specs.declared.requests.Request.{Request}
+use Rattle.liq_types.specs.declared.requests.Request.TheVariants.{Do}
+use Rattle.liq_types.specs.PlainLedger.{coll_of, offsets_coll, gains_paid_to, AreOwnedBelow, over_accounts}
+use Rattle.liq_types.specs.State.{State, opening}
+use Rattle.liq_types.specs.Tables.{at}
+use Rattle.liq_types.specs.Totals.{pool_total, pool_coll}
+use Rattle.liq_types.proofs.Accounts.{over-term, owned_more}
+use Rattle.liq_stability.specs.Lawful.{IsLawful, IsLawfulEvent, IsLawfulUpTo}
+use Rattle.liq_stability.specs.Own.{after_event}
+use Rattle.liq_stability.specs.Position.{gain_of}
+use Rattle.liq_stability.specs.Promise.{IsWithinAllowance}
+use Rattle.liq_stability.proofs.Pool.{gain_within}
+use Rattle.liq_stability.proofs.Promise.{all_paid_are}
+use Rattle.liq_core.specs.Events.{events}
+use Rattle.liq_core.specs.Step.{Ruling, Refused, Repeated, Allowed, ruling, after, after_ruling, run, accepted, is_allowed, built}
+use Rattle.liq_core.specs.Rules.{effect}
+use Rattle.liq_core.specs.Verbs.{rotates}
+use Rattle.liq_core.proofs.Allowed.{allowed_few, built-rotates, effect-records}
+use Rattle.liq_core.proofs.Counting.{run_events_count}
+use Rattle.liq_core.proofs.SoundEvents.{run_follows}
+use Rattle.liq_core.proofs.SoundPromises.{reached_shares, reached_paid}
+use Rattle.liq_core.proofs.SoundStart.{opening_sound}
+use Rattle.liq_pairs.specs.Replay.{replay, replayed}
+
+-- ---- a replay is a run
+
+-- the run accepts all of the commands, and ends there
+pub record IsRun (s : State) (commands : List Command) (end : State) : Type 0 where
+  pub again : accepted s (map Do commands) ≡ commands
+  pub state : (run s (map Do commands)).0 ≡ end
+
+run_one : (s : State) (c : Command) (cs : List Command) (end : State) → ruling s c ≡ Allowed → IsRun (after s c) cs end → IsRun s (c ∷ cs) end
+run_one s c cs end is h =
+    record {
+      again = ap (λ r. cond (is_allowed r) (c ∷ []) [] ++ accepted (after_ruling s c r).0 (map Do cs)) is ∙ ap (λ (ks : List Command). c ∷ ks) h.again;
+      state = ap (λ r. (run (after_ruling s c r).0 (map Do cs)).0) is ∙ h.state;
+    }
+
+module _ (end : State) where
+  pub replay_runs : (commands : List Command) (index : ℕ) (s : State) → replay index s commands ≡ Ok end → IsRun s commands end
+  unfolding replay
+  replay_runs [] index s h = record { again = refl; state = cc }
+  replay_runs (c ∷ cs) index s h = by (ruling s c) refl h (λ k. replay_runs cs (index + 1) (after s c) k) where
+    by : (r : Ruling) → ruling s c ≡ r → replayed index r (replay (index + 1) (after s c) cs) ≡ Ok end → (replay (index + 1) (after s c) cs ≡ Ok end → IsRun (after s c) cs end) → IsRun s (c ∷ cs) end
+    by (Refused refusal) is k more = cc
+    by (Repeated kept) is k more = cc
+    by Allowed is k more = run_one s c cs end is (more k)
+
+-- ---- its commands are few
+
+abbrev AreBuilt : List Command → Type 0
+AreBuilt commands = All (λ (c : Command). IsTrue (built (Do c))) commands
+
+module _ (end : State) where
+  replay_few : (commands : List Command) (index : ℕ) (s : State) → AreBuilt commands → s.records ≤ RECORDS_MOST → replay index s commands ≡ Ok end → s.records + length commands ≤ RECORDS_MOST
+  unfolding replay
+  replay_few [] index s b few h = omega arith
+  replay_few (c ∷ cs) index s b few h = by (ruling s c) refl h (λ less k. replay_few cs (index + 1) (after s c) (λ i d lt. b (suc i) d (omega arith)) less k) where
+    stays : rotates c.call ≡ false
+    stays = built-rotates c.call (b zero c (omega arith))
+
+    counted : (after s c).records ≡ s.records + 1
+    counted = ap (λ b. cond b 0 ((effect s c.call).records + 1)) stays ∙ ap (λ n. n + 1) (effect-records s c.call (b zero c (omega arith)))
+
+    by : (r : Ruling) → ruling s c ≡ r → replayed index r (replay (index + 1) (after s c) cs) ≡ Ok end → ((after s c).records ≤ RECORDS_MOST → replay (index + 1) (after s c) cs ≡ Ok end → (after s c).records + length cs ≤ RECORDS_MOST) → s.records + length (c ∷ cs) ≤ RECORDS_MOST
+    by (Refused refusal) is k more = cc
+    by (Repeated kept) is k more = cc
+    by Allowed is k more =
+        let less = allowed_few s c is stays in
+        let rest = more (omega (arith, counted, less)) k in
+        omega (arith, counted, rest)
+
+-- ---- its events
+
+event_coll : (s : State) (e : PoolEvent) → pool_total s ≤ LIM → IsLawfulEvent s e → coll_of e ≤ OFFSET_MOST * LIM
+event_coll s (event.Own owner put_in out gain amount) most h = omega arith
+event_coll s (event.Offset debt coll total rise) most h = omega (arith, h.within, h.total_is, h.coll_is, most)
+
+lawful_colls : (es : List PoolEvent) (s : State) → IsLawfulUpTo LIM s es → All (λ e. coll_of e ≤ OFFSET_MOST * LIM) es
+lawful_colls [] s h k d lt = absurd (omega arith)
+lawful_colls (e ∷ es) s h zero d lt = event_coll s e h.0.total h.1
+lawful_colls (e ∷ es) s h (suc k) d lt = lawful_colls es (after_event s e) h.2 k d (omega arith)
+
+-- all that is known of a whole replay, its events and the state after it
+pub record IsFinished (s : State) (told : List PoolEvent) : Type 0 where
+  pub lawful : IsLawful opening told
+  pub owners : AreOwnedBelow ACCOUNTS told
+  pub few : length told < 2 ^ 40
+  pub colls : All (λ e. coll_of e ≤ OFFSET_MOST * LIM) told
+  pub paid : pool_coll s + over_accounts ACCOUNTS (λ account. gains_paid_to account told) ≡ offsets_coll told
+  pub shares : (account : ℕ) → IsWithinAllowance s account told
+
+finished_run : (requests : List Request) → length (accepted opening requests) ≤ RECORDS_MOST → IsFinished (run opening requests).0 (events opening (accepted opening requests))
+finished_run requests few =
+    let h = run_follows requests opening opening_sound in
+    let count = run_events_count requests opening in
+    record {
+      lawful = h.lawful;
+      owners = h.owners;
+      few = omega (arith, count, few);
+      colls = lawful_colls (events opening (accepted opening requests)) opening h.lawful;
+      paid = reached_paid requests;
+      shares = reached_shares requests;
+    }
+
+pub finished : (commands : List Command) → AreBuilt commands → (s : State) → replay 1 opening commands ≡ Ok s → (told : List PoolEvent) → told ≡ events opening commands → IsFinished s told
+finished commands b s h told is =
+    let made = replay_runs s commands 1 opening h in
+    let count = replay_few s commands 1 opening b (omega arith) h in
+    let short : length (accepted opening (map Do commands)) ≤ RECORDS_MOST = subst (λ (cs : List Command). length cs ≤ RECORDS_MOST) (sym made.again) (omega (arith, count)) in
+    let all = finished_run (map Do commands) short in
+    subst (λ (es : List PoolEvent). IsFinished s es) (sym is)
+    (subst (λ (cs : List Command). IsFinished s (events opening cs)) made.again
+    (subst (λ end. IsFinished end (events opening (accepted opening (map Do commands)))) made.state all))
+
+-- ---- what the accounts gained
+
+module _ (s : State) (told : List PoolEvent) (h : IsFinished s told) (gains : offsets_coll told ≤ LIM) where
+  pub paid_little : (account : ℕ) → gains_paid_to account told < 2 ^ 64
+  paid_little account =
+      let n = ACCOUNTS + account + 1 in
+      let all = all_paid_are LIM (omega arith) told h.lawful n (owned_more ACCOUNTS n (omega arith) told h.owners) in
+      let one = over-term n (λ a. gains_paid_to a told) account (omega arith) in
+      omega (arith, all, one, gains)
+
+  pub gained_little : (account : ℕ) → account < ACCOUNTS → gain_of s account + gains_paid_to account told < 2 ^ 64
+  gained_little account less =
+      let now = gain_within s (at s.deposits account) in
+      let one = over-term ACCOUNTS (λ a. gains_paid_to a told) account less in
+      omega (arith, now, one, h.paid, gains)

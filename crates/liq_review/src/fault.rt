@@ -1,0 +1,51 @@
+//! Why there is no review.
+
+ghost use Rattle.std.specs.Prelude.{◌≡◌};
+
+use liq_audit::AuditFault;
+use liq_types::NoMemory;
+use std::alloc::AllocError;
+
+/// Why a list of commands has no review.
+#[derive(Clone, Copy, Debug, PartialEq, Eq)]
+pub enum ReviewFault {
+    /// The command of this number, from 1, is refused with this code; or it is a repetition, and the code is 0.
+    Refused { index: u64, code: u8 },
+    /// A limit is passed: by the first sum of the offsets' collateral above [`liq_types::amounts::LIM`] (gwei), or else by the
+    /// count of offsets ([`liq_audit::OFFSETS_MOST`]), or else by that of accounts ([`liq_audit::ACCOUNTS_MOST`]).
+    Limit { number: u64 },
+    NoMemory,
+}
+
+impl From<NoMemory> for ReviewFault {
+    ghost use Rattle.liq_review.specs.declared.fault.ReviewFault.{ReviewFault};
+
+    ghost from_gives = { λ _ fault. fault ≡ ReviewFault.NoMemory };
+
+    fn from(_: NoMemory) -> ReviewFault {
+        ReviewFault::NoMemory
+    }
+}
+
+impl From<AllocError> for ReviewFault {
+    ghost use Rattle.liq_review.specs.declared.fault.ReviewFault.{ReviewFault};
+
+    ghost from_gives = { λ _ fault. fault ≡ ReviewFault.NoMemory };
+
+    fn from(_: AllocError) -> ReviewFault {
+        ReviewFault::NoMemory
+    }
+}
+
+impl From<AuditFault> for ReviewFault {
+    ghost use Rattle.liq_review.specs.Audited.{fault_of};
+
+    ghost from_gives = { λ audit fault. fault ≡ fault_of audit };
+
+    fn from(fault: AuditFault) -> ReviewFault {
+        match fault {
+            AuditFault::AuditLimit { count, .. } => ReviewFault::Limit { number: count },
+            AuditFault::NoMemory => ReviewFault::NoMemory,
+        }
+    }
+}

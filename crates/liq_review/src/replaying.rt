@@ -1,0 +1,92 @@
+//! The replay of a list of commands, and what they do to the Stability Pool.
+
+ghost use Rattle.std.specs.Prelude.{◌≡◌, ◌<◌, ◌^◌, All, IsTrue, IfOk, IfErr};
+ghost use Rattle.liq_types.specs.declared.requests.Command.{Command};
+ghost use Rattle.liq_types.specs.declared.requests.Request.TheVariants.{Do};
+ghost use Rattle.liq_types.specs.State.{State};
+ghost use Rattle.liq_core.specs.Core.{StandsFor};
+ghost use Rattle.liq_core.specs.Step.{built};
+ghost use Rattle.liq_review.specs.Replaying.{PlansNext, MakesNext, IsReplayed, StopsWithin};
+
+use crate::codes::code_of;
+use crate::fault::ReviewFault;
+use liq_core::{PlanFault, Planned, Protocol, Turn};
+use liq_types::{Command, Hint, PoolEvent, Steps};
+use std::alloc::Global;
+use std::sync::ledger::{Blank, Ledger};
+
+/// No place is known.
+const NO_HINT: Hint = Hint {
+    prev: None,
+    next: None,
+    version: 0,
+};
+
+/// A protocol after commands from the opening on, and what they did to the Stability Pool.
+#[derive(Drop)]
+pub(crate) struct Made {
+    pub(crate) protocol: Protocol,
+    pub(crate) events: Vec<PoolEvent>,
+}
+
+/// Makes the commands' steps, one after the other, on a ledger of its own.
+pub(crate) fn replayed<L: Ledger>(
+    alloc: Global,
+    commands: &[Command],
+    blank: Blank,
+) -> Result<Made, ReviewFault>
+    requires built { All (λ (c : Command). IsTrue (built (Do c))) commands.now }
+    requires name { blank.name ≡ L.name }
+    requires parts { blank.parts ≡ L.parts }
+    requires one { L.parts ≡ 1 }
+    ensures done { IfOk result (λ r. IsReplayed commands.now r.protocol r.events.items) }
+    ensures fault { IfErr result (StopsWithin commands.now) }
+{
+    let mut steps = Steps::<L>::new(blank);
+    let mut protocol = Protocol::new(alloc);
+    let mut events = Vec::new(alloc);
+    for (i, command) in commands.iter().enumerate() {
+        make(
+            &mut protocol,
+            &mut events,
+            command,
+            i as u64 + 1,
+            &mut steps,
+        )?;
+    }
+    Ok(Made { protocol, events })
+}
+
+/// Makes a command's step. It has this number among the commands.
+fn make<L: Ledger>(
+    protocol: &mut Protocol,
+    events: &mut Vec<PoolEvent>,
+    command: &Command,
+    index: u64,
+    steps: &mut Steps<L>,
+) -> Result<(), ReviewFault>
+    requires built { IsTrue (built (Do command.now)) }
+    ensures { (s : State) → StandsFor protocol.old s → MakesNext s command.now index protocol.new events.old.items events.new.items result }
+{
+    let planned = plan(protocol, command, index)?;
+    events.extend_from_slice(planned.events())?;
+    protocol.reserve(&planned)?;
+    protocol.apply(planned, &NO_HINT, steps);
+    Ok(())
+}
+
+/// Plans a command, which must be new and allowed.
+fn plan(protocol: &Protocol, command: &Command, index: u64) -> Result<Planned, ReviewFault>
+    requires built { IsTrue (built (Do command.now)) }
+    ensures { (s : State) → StandsFor protocol.now s → PlansNext s command.now index result }
+{
+    match protocol.plan(command) {
+        Ok(Turn::New(planned)) => Ok(planned),
+        Ok(Turn::Again(_)) => Err(ReviewFault::Refused { index, code: 0 }),
+        Err(PlanFault::No(refusal)) => {
+            let code = code_of(&refusal);
+            Err(ReviewFault::Refused { index, code })
+        }
+        Err(PlanFault::NoMemory) => Err(ReviewFault::NoMemory),
+    }
+}

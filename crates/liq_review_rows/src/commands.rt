@@ -1,0 +1,32 @@
+//! Commands, as lines.
+
+ghost use Rattle.std.specs.Prelude.{All, IsTrue, IfOk};
+ghost use Rattle.liq_types.specs.declared.requests.Command.{Command};
+ghost use Rattle.liq_types.specs.declared.requests.Request.TheVariants.{Do};
+ghost use Rattle.liq_core.specs.Step.{built};
+
+use liq_core::is_built;
+use liq_text::read_line;
+use liq_types::{Command, Request};
+use std::alloc::Global;
+use std::test::Fail;
+
+/// The commands of these lines.
+pub fn commands_of(alloc: Global, lines: &str) -> Result<Vec<Command>, Fail>
+    ensures { IfOk result (λ commands. All (λ (c : Command). IsTrue (built (Do c))) commands.items) }
+{
+    let mut commands = Vec::new(alloc);
+    for line in lines.lines() {
+        commands.push(command_of(line.as_bytes())?)?;
+    }
+    Ok(commands)
+}
+
+fn command_of(line: &[u8]) -> Result<Command, Fail>
+    ensures { IfOk result (λ c. IsTrue (built (Do c))) }
+{
+    match read_line(line)? {
+        Request::Do(command) if is_built(&Request::Do(command)) => Ok(command),
+        _ => Err(Fail::from("no command that is built")),
+    }
+}
