@@ -16,6 +16,8 @@ mod limit;
 #[cfg(test)]
 mod lines;
 #[cfg(test)]
+mod liquidating;
+#[cfg(test)]
 mod providing;
 #[cfg(test)]
 mod redeeming;
