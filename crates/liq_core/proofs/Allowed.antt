@@ -7,7 +7,7 @@ use Rattle.liq_types.specs.declared.replies.Done.{Done}
 use Rattle.liq_types.specs.declared.replies.Refusal.{Refusal}
 use Rattle.liq_types.specs.declared.replies.Refusal.TheVariants.{AmountZero, AmountLimit, ShortCollateral, ShortTokens, JournalFull}
 use Rattle.liq_types.specs.declared.requests.Call.{Call}
-use Rattle.liq_types.specs.declared.requests.Call.TheVariants.{Price, Advance, Fund, Take, Send, Open, Adjust, Close, Provide, Withdraw, GainToTrove, Redeem, Claim}
+use Rattle.liq_types.specs.declared.requests.Call.TheVariants.{Price, Advance, Fund, Take, Send, Open, Adjust, Close, Provide, Withdraw, GainToTrove, Liquidate, LiquidateLowest, Redeem, Claim}
 use Rattle.liq_types.specs.declared.requests.Command.{Command}
 use Rattle.liq_types.specs.Rules.{Rule, first_refusal, where_above}
 use Rattle.liq_core.specs.Image.{image}
@@ -18,12 +18,16 @@ use Rattle.liq_types.specs.Tables.{at}
 use Rattle.liq_types.specs.Totals.{market_of, or_nothing}
 use Rattle.liq_troves.specs.Own.{lifted_entry, set_trove}
 use Rattle.liq_troves.specs.StakeSums.{entire_of}
-use Rattle.liq_stability.specs.Own.{owned}
+use Rattle.liq_stability.specs.Own.{owned, offset}
 use Rattle.liq_borrow.specs.declared.change.Change.{Change}
 use Rattle.liq_borrow.specs.Borrowing.{adjusting_terms, closing_terms}
+use Rattle.liq_liquidation.specs.declared.one.Victim.{Victim}
+use Rattle.liq_liquidation.specs.Lowest.{lowest, victim_by}
+use Rattle.liq_liquidation.specs.One.{one, liquidated}
 use Rattle.liq_redemption.specs.declared.cut.Cut.{Cut}
 use Rattle.liq_redemption.specs.Redemption.{redeeming_terms, visited, closed_by, cut_entire, cut_down}
 use Rattle.liq_core.specs.Borrowing.{with_fee}
+use Rattle.liq_core.specs.Liquidation.{listed, all_liquidated}
 use Rattle.liq_core.specs.Step.{Ruling, Repeated, Allowed, unless_refused, ruling, rules, accounts, in_range, in_turn, is_repeated, after, tests, room_rules, effect, built_call}
 use Rattle.liq_core.specs.Verbs.{rotates}
 
@@ -120,6 +124,16 @@ cuts-records : (cuts : List Cut) (s : State) → (fold cut_down s cuts).records 
 cuts-records [] s = refl
 cuts-records (cut ∷ cuts) s = cuts-records cuts (cut_down s cut) ∙ cut-records s cut (entire_of s cut.account)
 
+liquidated-records : (s : State) (liquidator : ℕ) (v : Victim) → (liquidated s liquidator v).records ≡ s.records
+liquidated-records s liquidator v = by (at s.troves v.account) (v.one.offset_debt == 0) where
+  by : (o : Option TroveEntry) (b : Bool) → (cond b (lifted_entry s v.account o) (offset (lifted_entry s v.account o) v.one.offset_debt v.one.offset_coll)).records ≡ s.records
+  by o true = lifted-records s v.account o
+  by o false = lifted-records s v.account o
+
+pub all-records : (vs : List Victim) (s : State) (liquidator : ℕ) → (all_liquidated s liquidator vs).records ≡ s.records
+all-records [] s liquidator = refl
+all-records (v ∷ vs) s liquidator = all-records vs (liquidated s liquidator v) liquidator ∙ liquidated-records s liquidator v
+
 -- the effect of a built call leaves the count of records
 pub effect-records : (s : State) (call : Call) → IsTrue (built_call call) → (effect s call).records ≡ s.records
 effect-records s (Price price) built = refl
@@ -139,6 +153,8 @@ effect-records s (Close account) built =
 effect-records s (Provide account lusd) built = refl
 effect-records s (Withdraw account lusd) built = refl
 effect-records s (GainToTrove account hint) built = lifted-records (owned s account 0 0) account (at s.troves account)
+effect-records s (Liquidate liquidator account) built = all-records (listed (victim_by account (one s account))) s liquidator
+effect-records s (LiquidateLowest liquidator count) built = all-records (lowest s count) s liquidator
 effect-records s (Redeem account lusd bound hint) built = cuts-records (redeeming_terms (market_of s) (visited s) lusd).cuts s
 effect-records s (Claim account) built = refl
 effect-records s _ built = cc
@@ -156,6 +172,8 @@ built-rotates (Close account) built = refl
 built-rotates (Provide account lusd) built = refl
 built-rotates (Withdraw account lusd) built = refl
 built-rotates (GainToTrove account hint) built = refl
+built-rotates (Liquidate liquidator account) built = refl
+built-rotates (LiquidateLowest liquidator count) built = refl
 built-rotates (Redeem account lusd bound hint) built = refl
 built-rotates (Claim account) built = refl
 built-rotates _ built = cc

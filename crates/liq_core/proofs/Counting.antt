@@ -80,11 +80,11 @@ pub lowest_count : (n : ℕ) (s : State) → length (lowest s n) ≤ n
 lowest_count zero s = omega arith
 lowest_count (suc more) s = lowest_count_by more s (next_victim s) (λ v. lowest_count more (struck s v))
 
-listed_count : (account : ℕ) (r : Result One Refusal) → length (listed (victim_by account r)) ≤ 1
+pub listed_count : (account : ℕ) (r : Result One Refusal) → length (listed (victim_by account r)) ≤ 1
 listed_count account (Ok one) = omega arith
 listed_count account (Err refusal) = omega arith
 
-lowest_within : (s : State) (liquidator count : ℕ) → first_refusal (rules s (LiquidateLowest liquidator count)) ≡ None → count ≤ LOWEST_MOST
+pub lowest_within : (s : State) (liquidator count : ℕ) → first_refusal (rules s (LiquidateLowest liquidator count)) ≡ None → count ≤ LOWEST_MOST
 lowest_within s liquidator count h =
     let rest = lowest_rules s in
     let above : nat_lt LOWEST_MOST count ≡ false =

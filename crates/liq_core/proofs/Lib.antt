@@ -19,10 +19,12 @@ pub mod Forecasting
 pub mod Histories
 pub mod KeptReplies
 pub mod Lending
+pub mod Liquidating
 pub mod Moving
 pub mod Noting
 pub mod Opening
 pub mod Paying
+pub mod Planning
 pub mod Pooling
 pub mod Ranking
 pub mod Reading
@@ -46,4 +48,6 @@ pub mod SoundStart
 pub mod SoundStep
 pub mod SoundTests
 pub mod Started
+pub mod Striking
 pub mod Telling
+pub mod ToldVictims

@@ -19,7 +19,7 @@ use Rattle.liq_core.specs.Verbs.{rotates}
 use Rattle.liq_core.proofs.SoundRules.{noted_sound}
 use Rattle.std.proofs.Common.{false}
 
-kept_rows : (table : Table Client) (key : ℕ) (row : Client) → 0 < row.last → written is_used_client table key row ≡ put table key row
+pub kept_rows : (table : Table Client) (key : ℕ) (row : Client) → 0 < row.last → written is_used_client table key row ≡ put table key row
 kept_rows table key row h =
     let used : is_used_client row ≡ true = grind (arith, nat_tests, h) in
     ap (λ b. cond b (put table key row) (without table key)) used

@@ -1,6 +1,6 @@
 -- Rulings from what is tested, and of states that are the same.
 use Rattle.std.proofs.Common.{◌≡◌, ℕ, ◌+◌, ◌≤◌, ◌<◌, Bool, true, false, subst, cond, nat_le, List, [], ◌∷◌, ◌++◌, Some, None, Option, refl, ap, sym, ◌∙◌, arith}
-use Rattle.std.specs.Prelude.{IsTrue, map, ◌==◌, ◌&&◌, not}
+use Rattle.std.specs.Prelude.{IsTrue, Result, map, ◌==◌, ◌&&◌, not}
 use Rattle.std.specs.List.{AllByRecursion}
 use Rattle.std.proofs.lemmas.Bool.Decides.{nat_tests}
 use Rattle.liq_types.specs.declared.amounts.TheConstants.{ACCOUNTS, RECORDS_MOST, GENERATIONS_MOST, CHECKPOINT_BYTES_MOST}
@@ -10,10 +10,11 @@ use Rattle.liq_types.specs.declared.figures.Market.{Market}
 use Rattle.liq_types.specs.declared.requests.Call.{Call}
 use Rattle.liq_types.specs.declared.requests.Call.TheVariants.{Price, Advance, Fund, Take, Send, Open, Adjust, Close, Provide, Withdraw, GainToTrove, Liquidate, LiquidateLowest, Redeem, Claim, Rotate}
 use Rattle.liq_types.specs.declared.requests.Command.{Command}
+use Rattle.liq_types.specs.declared.requests.Request.TheVariants.{Do}
 use Rattle.liq_types.specs.Rules.{Rule, first_refusal, where_above}
 use Rattle.liq_core.specs.Image.{image}
 use Rattle.liq_core.specs.Length.{checkpoint_length}
-use Rattle.liq_core.specs.Step.{after}
+use Rattle.liq_core.specs.Step.{Ruling, after, after_ruling, step}
 use Rattle.liq_core.specs.Verbs.{rotates}
 use Rattle.liq_types.specs.State.{State, client_of}
 use Rattle.liq_types.specs.Totals.{market_of, or_nothing}
@@ -22,8 +23,11 @@ use Rattle.liq_stability.specs.Position.{gain_of}
 use Rattle.liq_borrow.specs.declared.change.Change.{Change}
 use Rattle.liq_borrow.specs.Borrowing.{opening_terms, adjusting_terms, closing_terms, gaining_terms}
 use Rattle.liq_types.specs.Soundness.{IsSoundImage}
+use Rattle.liq_liquidation.specs.declared.one.One.{One}
+use Rattle.liq_liquidation.specs.Lowest.{victim_by}
 use Rattle.liq_redemption.specs.Redemption.{RedeemTerms, redeeming_terms, visited}
 use Rattle.liq_core.specs.Core.{Core, Changes, StandsFor, state_of}
+use Rattle.liq_core.specs.Liquidation.{listed}
 use Rattle.liq_core.specs.Queries.{next_number}
 use Rattle.liq_core.specs.Step.{Refused, Repeated, Allowed, unless_refused, ruling, rules, accounts, in_range, is_repeated, tests, room_rules, effect, built_call}
 use Rattle.liq_core.specs.declared.turns.Forecast.{Forecast}
@@ -32,9 +36,10 @@ use Rattle.liq_core.specs.declared.turns.Terms.TheVariants as kind
 use Rattle.liq_core.specs.Plan.{IsForecast, IsPlan, plan_of}
 use Rattle.liq_core.specs.Terms.{AreTerms, IsTrove, IsClosing, IsRedeeming, is_redeeming, TermsFit}
 use Rattle.liq_core.proofs.AlikeFollowed.{call_events_alike, call_changes_alike}
+use Rattle.liq_core.proofs.AlikeLiquidation.{one_alike, lowest_alike}
 use Rattle.liq_core.proofs.AlikeRedemption.{terms_alike as redeeming_alike}
 use Rattle.liq_core.proofs.AlikeReads.{Alike, market_alike, entire_alike, gain_alike}
-use Rattle.liq_core.proofs.AlikeReplies.{ruling_alike}
+use Rattle.liq_core.proofs.AlikeReplies.{ruling_alike, step_alike}
 use Rattle.liq_core.proofs.AlikeStep.{effect_alike, done_alike}
 use Rattle.liq_core.proofs.Allowed.{effect-records, none_first}
 use Rattle.liq_core.proofs.SoundCores.{sound_stands}
@@ -123,6 +128,13 @@ changed_stands old new call sound built made s h =
     let e = effect_alike (standing_alike old s sound h) call in
     record { image = made.image ∙ sym e.image; records = made.records ∙ h.records ∙ sym (effect-records s call built); formed = e.left }
 
+-- and once the whole command is made, for the step
+pub stepped_stands : (old new : Core) (c : Command) → IsSoundImage old.image old.records → ruling (state_of old) c ≡ Allowed → StandsFor new (after (state_of old) c) → (s : State) → StandsFor old s → StandsFor new (step s (Do c)).0
+stepped_stands old new c sound allowed made s h =
+    let its = subst (λ (r : Ruling). StandsFor new (after_ruling (state_of old) c r).0) (sym allowed) made in
+    let e = step_alike (standing_alike old s sound h) (Do c) in
+    record { image = its.image ∙ sym e.image; records = its.records ∙ sym e.records; formed = e.left }
+
 -- what is planned for one state holds for each that is the same
 pub terms_alike : {s t : State} → Alike s t → (call : Call) (terms : Terms) → AreTerms t call terms → AreTerms s call terms
 terms_alike {s} {t} h (Open account coll borrow bound hint) terms are =
@@ -144,8 +156,8 @@ terms_alike {s} {t} h (GainToTrove account hint) terms are =
     subst (λ (m : Market). IsTrove (gaining_terms m (or_nothing (entire_of s account)) (gain_of s account)) terms) (sym (market_alike h))
     (subst (λ (o : Option (ℕ × ℕ)). IsTrove (gaining_terms (market_of t) (or_nothing o) (gain_of s account)) terms) (sym (entire_alike h account))
     (subst (λ n. IsTrove (gaining_terms (market_of t) (or_nothing (entire_of t account)) n) terms) (sym (gain_alike h account)) are))
-terms_alike h (Liquidate liquidator account) terms are = are
-terms_alike h (LiquidateLowest liquidator count) terms are = are
+terms_alike h (Liquidate liquidator account) terms are = are ∙ sym (ap (λ (made : Result One Refusal). listed (victim_by account made)) (one_alike h account))
+terms_alike h (LiquidateLowest liquidator count) terms are = are ∙ sym (lowest_alike count h)
 terms_alike {s} {t} h (Redeem account lusd bound hint) terms are =
     subst (λ (taken : RedeemTerms). IsRedeeming taken terms) (sym (redeeming_alike h lusd)) are
 terms_alike h (Claim account) terms are = are

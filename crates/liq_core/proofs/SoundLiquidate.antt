@@ -179,10 +179,10 @@ module _ (s : State) (f : Finds s) (liquidator : ℕ) (k : liquidator < ACCOUNTS
   gone_stands : Stands LIM gone
   gone_stands = subst (λ (o : Option TroveEntry). Stands LIM (lifted_entry s account o)) x.has.there (lifted_stands s account f.stands)
 
-  stakes_left : stakes_of gone ≡ stakes_of s - x.has.entry.stake
+  pub stakes_left : stakes_of gone ≡ stakes_of s - x.has.entry.stake
   stakes_left = let law = sum_taken (λ (t : TroveEntry). t.stake) s.troves account x.has.entry x.has.there in omega (arith, law)
 
-  some_left : 1 ≤ stakes_of gone
+  pub some_left : 1 ≤ stakes_of gone
   some_left =
       let rows = length_without s.troves account x.has.entry x.has.there in
       let count = map-length (trove_row gone) gone.troves in

@@ -216,7 +216,7 @@ deposit_grown : (s : State) (debt coll : ℕ) (d : DepositEntry) → IsMoment (l
 deposit_grown s debt coll d h =
     ap (λ (m : PoolMark). record { amount = d.amount; p = m.p; sum = m.sum; scale = m.scale; epoch = m.epoch }) (mark-grown s debt coll d.mark h)
 
-part_offset : (s : State) → IsWellFormed s → (debt coll : ℕ) → part_of (image (offset s debt coll)) ≡ offset_part (part_of (image s)) (offset_now s debt coll)
+pub part_offset : (s : State) → IsWellFormed s → (debt coll : ℕ) → part_of (image (offset s debt coll)) ≡ offset_part (part_of (image s)) (offset_now s debt coll)
 part_offset s f debt coll =
     let o = offset_now s debt coll in
     let made = part_of (image (offset s debt coll)) in

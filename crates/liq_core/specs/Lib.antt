@@ -29,4 +29,5 @@ pub mod Terms
 pub mod Told
 pub mod Turn
 pub mod Verbs
+pub mod Victims
 pub mod View

@@ -8,14 +8,15 @@ use Rattle.liq_types.specs.declared.replies.Done.{Done}
 use Rattle.liq_types.specs.declared.requests.Call.{Call}
 use Rattle.liq_types.specs.declared.requests.Command.{Command}
 use Rattle.liq_types.specs.State.{State}
+use Rattle.liq_liquidation.specs.declared.one.Victim.{Victim}
 use Rattle.liq_core.specs.declared.turns.Forecast.{Forecast}
 use Rattle.liq_core.specs.declared.turns.Terms.{Terms}
 use Rattle.liq_core.specs.Core.{Core, StandsFor}
 use Rattle.liq_core.specs.Rules.{call_events, call_changes}
 use Rattle.liq_core.specs.Step.{Allowed, ruling, done_of}
-use Rattle.liq_core.specs.Terms.{AreTerms, TermsFit, HasClaimRoom}
+use Rattle.liq_core.specs.Terms.{AreTerms, TermsFit, HasClaimRoom, struck_by}
 use Rattle.liq_core.specs.Told.{events_in, changes_in}
-use Rattle.liq_core.specs.Verbs.{accounts, opens, provides, built_call}
+use Rattle.liq_core.specs.Verbs.{accounts, pays, opens, provides, built_call}
 
 -- a command that is allowed: its reply, what it makes of what it changes, and what others follow
 pub record Plan : Type 0 where
@@ -56,11 +57,13 @@ IsPlannedOn core plan = (s : State) → StandsFor core s → IsPlan s plan
 
 -- there is a row for all that the planned command writes
 pub record HasRoom (core : Core) (plan : Plan) : Type 0 where
-  pub wallets : AllByRecursion (λ account. Contains core.room.wallets account) (accounts plan.command.call)
+  pub wallets : AllByRecursion (λ account. Contains core.room.wallets account) (pays plan.command.call)
   pub troves : AllByRecursion (λ account. Contains core.room.troves account) (opens plan.command.call)
   pub deposits : AllByRecursion (λ account. Contains core.room.deposits account) (provides plan.command.call)
   pub claims : HasClaimRoom core.room.surplus plan.command.call plan.terms
+  pub owners : AllByRecursion (λ (v : Victim). Contains core.room.surplus v.account) (struck_by plan.command.call plan.terms)
   pub list : length (opens plan.command.call) ≤ core.room.list
+  pub finished : length (struck_by plan.command.call plan.terms) ≤ core.room.finished
   pub client : Contains core.room.clients plan.command.client
 
 -- what holds of every planned command: its verb is built, its client and its accounts are in range, and its terms are those of

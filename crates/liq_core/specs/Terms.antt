@@ -1,8 +1,8 @@
 -- What a planned call makes of what it changes, where its words alone do not say it.
-use Rattle.std.specs.Prelude.{◌≡◌, ℕ, Bool, true, false, IsTrue, List}
+use Rattle.std.specs.Prelude.{◌≡◌, ℕ, Bool, true, false, IsTrue, List, []}
 use Rattle.std.specs.List.{AllByRecursion, Contains}
 use Rattle.liq_types.specs.declared.requests.Call.{Call}
-use Rattle.liq_types.specs.declared.requests.Call.TheVariants.{Open, Adjust, Close, GainToTrove, Redeem}
+use Rattle.liq_types.specs.declared.requests.Call.TheVariants.{Open, Adjust, Close, GainToTrove, Liquidate, LiquidateLowest, Redeem}
 use Rattle.liq_types.specs.State.{State}
 use Rattle.liq_types.specs.Totals.{market_of, or_nothing}
 use Rattle.liq_troves.specs.StakeSums.{entire_of}
@@ -10,8 +10,12 @@ use Rattle.liq_stability.specs.Position.{gain_of}
 use Rattle.liq_borrow.specs.declared.change.Change.{Change}
 use Rattle.liq_borrow.specs.declared.change.Plan.{Plan}
 use Rattle.liq_borrow.specs.Borrowing.{opening_terms, adjusting_terms, closing_terms, gaining_terms}
+use Rattle.liq_liquidation.specs.declared.one.Victim.{Victim}
+use Rattle.liq_liquidation.specs.Lowest.{lowest, victim_by}
+use Rattle.liq_liquidation.specs.One.{one}
 use Rattle.liq_redemption.specs.declared.cut.Cut.{Cut}
 use Rattle.liq_redemption.specs.Redemption.{RedeemTerms, redeeming_terms, visited}
+use Rattle.liq_core.specs.Liquidation.{listed}
 use Rattle.liq_core.specs.declared.turns.Terms.{Terms}
 use Rattle.liq_core.specs.declared.turns.Terms.TheVariants.{Words, Trove, Closing}
 use Rattle.liq_core.specs.declared.turns.Terms.TheVariants as terms
@@ -43,6 +47,12 @@ abbrev pub is_redeeming : Terms → Bool
 is_redeeming (terms.Redeem plan) = true
 is_redeeming _ = false
 
+-- the troves that are liquidated, in order
+abbrev pub victims_in : Terms → List Victim
+victims_in (terms.Victim victim) = victim
+victims_in (terms.Victims victims) = victims.items
+victims_in _ = []
+
 abbrev pub AreTerms : State → Call → Terms → Type 0
 AreTerms s (Open account coll borrow bound hint) terms = IsTrove (opening_terms (market_of s) coll borrow) terms
 AreTerms s (Adjust account coll_in coll_out borrow repay bound hint) terms =
@@ -51,6 +61,8 @@ AreTerms s (Adjust account coll_in coll_out borrow repay bound hint) terms =
 AreTerms s (GainToTrove account hint) terms =
     IsTrove (gaining_terms (market_of s) (or_nothing (entire_of s account)) (gain_of s account)) terms
 AreTerms s (Close account) terms = IsClosing (closing_terms (or_nothing (entire_of s account))) terms
+AreTerms s (Liquidate liquidator account) terms = victims_in terms ≡ listed (victim_by account (one s account))
+AreTerms s (LiquidateLowest liquidator count) terms = victims_in terms ≡ lowest s count
 AreTerms s (Redeem account lusd bound hint) terms = IsRedeeming (redeeming_terms (market_of s) (visited s) lusd) terms
 AreTerms s call terms = terms ≡ Words
 
@@ -72,3 +84,9 @@ HasRoomToClaim keys _ = Unit {0}
 abbrev pub HasClaimRoom : List ℕ → Call → Terms → Type 0
 HasClaimRoom keys (Redeem account lusd bound hint) terms = HasRoomToClaim keys terms
 HasClaimRoom keys _ terms = Unit {0}
+
+-- the troves whose owners may claim something, and each of which may finish a sum of the Stability Pool
+abbrev pub struck_by : Call → Terms → List Victim
+struck_by (Liquidate liquidator account) terms = victims_in terms
+struck_by (LiquidateLowest liquidator count) terms = victims_in terms
+struck_by _ terms = []

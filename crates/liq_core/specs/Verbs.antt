@@ -21,6 +21,8 @@ built_call (Close account) = true
 built_call (Provide account lusd) = true
 built_call (Withdraw account lusd) = true
 built_call (GainToTrove account hint) = true
+built_call (Liquidate liquidator account) = true
+built_call (LiquidateLowest liquidator count) = true
 built_call (Redeem account lusd bound hint) = true
 built_call (Claim account) = true
 built_call _ = false
@@ -69,6 +71,11 @@ accounts (Redeem account lusd bound hint) = account ∷ []
 accounts (Claim account) = account ∷ []
 accounts Rotate = []
 
+-- the accounts whose wallets are written: the owner of a liquidated trove gets nothing there
+abbrev pub pays : Call → List ℕ
+pays (Liquidate liquidator account) = liquidator ∷ []
+pays call = accounts call
+
 -- the accounts for which a trove comes into being
 abbrev pub opens : Call → List ℕ
 opens (Open account coll borrow bound hint) = account ∷ []
@@ -78,6 +85,12 @@ opens _ = []
 abbrev pub provides : Call → List ℕ
 provides (Provide account lusd) = account ∷ []
 provides _ = []
+
+-- whether the verb liquidates troves
+abbrev pub liquidates : Call → Bool
+liquidates (Liquidate liquidator account) = true
+liquidates (LiquidateLowest liquidator count) = true
+liquidates _ = false
 
 -- whether the verb begins a new generation of the journal
 abbrev pub rotates : Call → Bool

@@ -11,7 +11,7 @@ ghost use Rattle.liq_stability.specs.Words.{pool_words};
 ghost use Rattle.liq_core.specs.Core.{Changes, StandsFor, SameContent, state_of};
 ghost use Rattle.liq_core.specs.Sound.{IsKeptRow};
 ghost use Rattle.liq_core.specs.Terms.{AreTerms, HasRoomToClose, HasClaimRoom};
-ghost use Rattle.liq_core.specs.Verbs.{opens, provides, plans_list, no_hint};
+ghost use Rattle.liq_core.specs.Verbs.{pays, opens, provides, plans_list, liquidates, no_hint};
 ghost use Rattle.liq_core.specs.Step.{built, built_call, accounts, rules, first_refusal, noted, step};
 
 use crate::payments::plan_price;
@@ -180,12 +180,15 @@ impl Protocol {
         requires { IsTrue (built_call call.now) }
         ensures { Forecasts (state_of self.now) call.now result }
     {
-        if let Call::Redeem(account, lusd, bound, _) = *call {
-            return self.plan_redeem(account, lusd, bound);
-        }
-        match self.plan_listless(call) {
-            Ok(forecast) => Ok(forecast),
-            Err(refusal) => Err(PlanFault::No(refusal)),
+        match *call {
+            Call::Redeem(account, lusd, bound, _) => self.plan_redeem(account, lusd, bound),
+            Call::LiquidateLowest(liquidator, count) => {
+                self.plan_liquidate_lowest(liquidator, count)
+            }
+            _ => match self.plan_listless(call) {
+                Ok(forecast) => Ok(forecast),
+                Err(refusal) => Err(PlanFault::No(refusal)),
+            },
         }
     }
 
@@ -217,6 +220,7 @@ impl Protocol {
             Call::Provide(account, lusd) => self.plan_provide(account, lusd),
             Call::Withdraw(account, lusd) => self.plan_withdraw(account, lusd),
             Call::GainToTrove(account, _) => self.plan_gain_to_trove(account),
+            Call::Liquidate(liquidator, account) => self.plan_liquidate(liquidator, account),
             Call::Claim(account) => self.plan_claim(account),
             _ => unreachable!(),
         }
@@ -242,6 +246,9 @@ impl Protocol {
             Call::Send(from, to, _) => self.reserve_wallets(from, to),
             Call::Open(account, ..) => self.reserve_trove(account),
             Call::Provide(account, _) => self.reserve_deposit(account),
+            Call::Liquidate(liquidator, _) | Call::LiquidateLowest(liquidator, _) => {
+                self.reserve_liquidation(liquidator, planned.forecast.terms.victims())
+            }
             Call::Redeem(account, ..) => {
                 self.reserve_redemption(account, planned.forecast.terms.redemption())
             }
@@ -323,18 +330,26 @@ impl Protocol {
         let _ = &self.records;
         let Planned { command, forecast } = planned;
         let Forecast { done, terms, .. } = forecast;
-        self.change(&command.call, &terms, hint, steps);
-        self.note(&command, done);
+        match command.call {
+            Call::Liquidate(liquidator, _) | Call::LiquidateLowest(liquidator, _) => {
+                self.liquidate(&command, done, liquidator, terms.victims());
+            }
+            _ => {
+                self.change(&command.call, &terms, hint, steps);
+                self.note(&command, done);
+            }
+        }
         done
     }
 
-    /// The effect of a call that is allowed.
+    /// The effect of a call that is allowed and liquidates no trove.
     fn change<L: Ledger>(&mut self, call: &Call, terms: &Terms, hint: &Hint, steps: &mut Steps<L>)
         requires built { IsTrue (built_call call.now) }
+        requires strikes_none { liquidates call.now ≡ false }
         requires range { AllByRecursion (λ account. account < ACCOUNTS) (accounts call.now) }
         requires allowed { first_refusal (rules (state_of self.old) call.now) ≡ None }
         requires terms { AreTerms (state_of self.old) call.now terms.now }
-        requires wallets { AllByRecursion (λ account. Contains self.old.room.wallets account) (accounts call.now) }
+        requires wallets { AllByRecursion (λ account. Contains self.old.room.wallets account) (pays call.now) }
         requires troves { AllByRecursion (λ account. Contains self.old.room.troves account) (opens call.now) }
         requires deposits { AllByRecursion (λ account. Contains self.old.room.deposits account) (provides call.now) }
         requires claims { HasClaimRoom self.old.room.surplus call.now terms.now }
@@ -424,6 +439,8 @@ pub fn is_built(request: &Request) -> bool
                 | Call::Provide(..)
                 | Call::Withdraw(..)
                 | Call::GainToTrove(..)
+                | Call::Liquidate(..)
+                | Call::LiquidateLowest(..)
                 | Call::Redeem(..)
                 | Call::Claim(..)
         ),

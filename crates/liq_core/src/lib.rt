@@ -6,10 +6,12 @@
 
 mod borrowing;
 mod claims;
+mod course;
 mod depositors;
 mod engine;
 pub mod examples;
 pub mod laws;
+mod liquidations;
 mod payments;
 pub mod plans;
 mod queries;

@@ -2,12 +2,13 @@
 
 ghost use Rattle.std.specs.Prelude.{◌≡◌, true};
 ghost use Rattle.liq_core.specs.declared.turns.Terms.TheVariants as terms;
-ghost use Rattle.liq_core.specs.Terms.{is_trove, is_closing, is_redeeming};
+ghost use Rattle.liq_core.specs.Terms.{is_trove, is_closing, is_redeeming, victims_in};
 ghost use Rattle.liq_core.specs.declared.told.PoolEvents.TheVariants as events;
 ghost use Rattle.liq_core.specs.declared.told.ListChanges.TheVariants as changes;
 
 use crate::told::{ListChanges, PoolEvents};
 use liq_borrow::Plan;
+use liq_liquidation::Victim;
 use liq_redemption::RedeemPlan;
 use liq_types::{Command, Done, ListChange, PoolEvent, Refusal};
 use std::marker::Model;
@@ -21,6 +22,10 @@ pub(crate) enum Terms {
     Trove(Plan),
     /// LUSD that is repaid (micro-LUSD) and collateral that is returned (gwei).
     Closing { repaid: u64, coll: u64 },
+    /// The trove that is liquidated.
+    Victim([Victim; 1]),
+    /// The troves that are liquidated, in order.
+    Victims(Vec<Victim>),
     /// What is taken of each trove, and what it comes to.
     Redeem(RedeemPlan),
 }
@@ -45,6 +50,17 @@ impl Terms {
         match *self {
             Terms::Closing { repaid, coll } => (repaid, coll),
             _ => unreachable!(),
+        }
+    }
+
+    /// The troves that are liquidated, in order.
+    pub(crate) fn victims(&self) -> &[Victim]
+        ensures { result.now ≡ victims_in self.now }
+    {
+        match self {
+            Terms::Victim(victim) => victim,
+            Terms::Victims(victims) => victims,
+            _ => &[],
         }
     }
 

@@ -1,0 +1,197 @@
+-- What the plans of liquidations are told of a protocol.
+use Rattle.std.proofs.Common.{◌≡◌, ℕ, ◌+◌, ◌^◌, ◌≤◌, ◌<◌, refl, ap, sym, ◌∙◌, subst, arith, false, cond, nat_le, nat_lt, List, [], ◌∷◌, length, Some, None, Option}
+use Rattle.std.specs.Prelude.{◌==◌, IfSome, Result, Ok, sum_by}
+use Rattle.std.proofs.lemmas.Bool.Decides.{nat_tests}
+use Rattle.liq_types.specs.declared.amounts.TheConstants.{ACCOUNTS, LOWEST_MOST}
+use Rattle.liq_types.specs.declared.replies.Done.{Done}
+use Rattle.liq_types.specs.declared.replies.Refusal.{Refusal}
+use Rattle.liq_types.specs.declared.replies.Refusal.TheVariants.{AccountRange, AmountLimit, AmountZero}
+use Rattle.liq_types.specs.declared.requests.Call.TheVariants.{Liquidate, LiquidateLowest}
+use Rattle.liq_types.specs.Rules.{Rule, first_refusal, outcome, where_above}
+use Rattle.liq_types.specs.declared.figures.Market.{Market}
+use Rattle.liq_types.specs.declared.figures.Trove.{Trove}
+use Rattle.liq_types.specs.Image.{Image}
+use Rattle.liq_types.specs.State.{State}
+use Rattle.liq_types.specs.Tables.{Table, at}
+use Rattle.liq_types.specs.Totals.{market_of, pool_total}
+use Rattle.liq_types.proofs.MapRows.{map-length}
+use Rattle.liq_troves.specs.declared.sums.Sums.{Sums}
+use Rattle.liq_troves.specs.Standing.{books_of}
+use Rattle.liq_troves.specs.StakeSums.{trove_row, trove_rows, sums_words}
+use Rattle.liq_order.specs.Order.{order_by}
+use Rattle.liq_stability.specs.declared.words.PoolWords.{PoolWords}
+use Rattle.liq_stability.specs.Words.{pool_words}
+use Rattle.liq_liquidation.specs.Given.{IsTroveOf, IsStruckOf}
+use Rattle.liq_liquidation.specs.Lowest.{AreParts, lowest, lowest_plan, lowest_rules, refusal_of, victim_by}
+use Rattle.liq_liquidation.specs.declared.one.One.{One}
+use Rattle.liq_liquidation.specs.declared.one.Victim.{Victim}
+use Rattle.liq_liquidation.specs.Moment.{IsSoundMoment, TrovesAreSound, moment_of, moment_by}
+use Rattle.liq_liquidation.specs.One.{one, one_in}
+use Rattle.liq_liquidation.proofs.Struck.{sound_from}
+use Rattle.liq_liquidation.proofs.Walking.{row_struck}
+use Rattle.liq_core.specs.declared.engine.Protocol.TheInside.{Inside}
+use Rattle.liq_core.specs.Core.{state_of}
+use Rattle.liq_core.specs.Image.{image}
+use Rattle.liq_core.specs.Sound.{IsSound, core_of}
+use Rattle.liq_core.specs.declared.course.Course.{Course}
+use Rattle.liq_core.specs.declared.turns.Forecast.{Forecast}
+use Rattle.liq_core.specs.Liquidation.{listed, lowest_values, offset_events, one_values, victim_changes}
+use Rattle.liq_core.specs.Row.{not_zero}
+use Rattle.liq_core.specs.Rules.{six}
+use Rattle.liq_core.specs.Step.{in_range}
+use Rattle.liq_core.specs.Terms.{victims_in}
+use Rattle.liq_core.specs.Told.{events_in, changes_in}
+use Rattle.liq_core.specs.Turn.{IsRuled}
+use Rattle.liq_core.specs.SoundState.{IsSoundState}
+use Rattle.liq_core.specs.Victims.{AreVictims, course_of}
+use Rattle.liq_core.proofs.AlikeReads.{sums_by}
+use Rattle.liq_core.proofs.SoundCores.{core_finds, image_back}
+use Rattle.liq_core.proofs.Counting.{lowest_count}
+use Rattle.liq_core.proofs.SoundFacts.{Finds}
+use Rattle.liq_core.proofs.SoundStep.{finds}
+use Rattle.liq_core.proofs.SoundTests.{sound_facts}
+use Rattle.liq_core.proofs.ToldVictims.{lowest_victims, sums_within}
+
+-- ---- of a state
+
+pub moment_sound : (s : State) → Finds s → IsSoundMoment (moment_of s)
+moment_sound s f =
+    let r = f.ranges in
+    let coll = f.balanced.homes.coll in
+    let limit = f.balanced.coll_limit in
+    sound_from (market_of s) (books_of s) (pool_total s) (record { price_some = omega (arith, r.price_least); price_most = r.price_most }) (sym (map-length (trove_row s) s.troves))
+    (omega (arith, coll, limit)) f.balanced.debt_limit (record { stands = f.stands.troves; coll = refl; debt = refl })
+
+pub troves_sound : (s : State) → Finds s → TrovesAreSound s
+troves_sound s f = record { troves = f.stands.troves; marked = f.stands.formed.1 }
+
+-- ---- of a protocol
+
+abbrev pub words_by : Image → PoolWords
+words_by i = record { p = i.p; scale = i.scale; epoch = i.epoch; sum = i.sum; total = i.total; coll = i.pool_coll }
+
+abbrev pub course_by : Image → Course
+course_by i = record { words = words_by i; stakes = i.stakes; coll = i.active_coll + i.default_coll; sum_debt = i.sum_debt }
+
+module _ (p : Inside) (sound : IsSound p) where
+  abbrev pub its : State
+  its = state_of (core_of p)
+
+  same : (core_of p).image ≡ image its
+  same = sym (image_back (core_of p) sound.image)
+
+  pub its_rows : p.troves.table.rows ≡ trove_rows its
+  its_rows = ap (λ (i : Image). i.troves) same
+
+  pub its_sums : p.troves.sums ≡ sums_words its
+  its_sums = ap sums_by same
+
+  pub its_words : p.pool.words ≡ pool_words its
+  its_words = ap words_by same
+
+  pub its_coll : (market_of its).total_coll ≡ p.pools.active_coll + p.pools.default_coll
+  its_coll = sym (ap (λ (i : Image). i.active_coll + i.default_coll) same)
+
+  pub its_course : course_by (core_of p).image ≡ course_of its
+  its_course = ap course_by same
+
+  pub its_parts : (m : Market) → m ≡ market_of its → AreParts its m p.troves.sums p.troves.table.rows p.order.entries p.pool.words
+  its_parts m is =
+      record { market = is; sums_are = its_sums; troves_are = its_rows; order_is = sound.order ∙ ap (λ (t : Table Trove). order_by t) its_rows; words_are = its_words }
+
+  pub its_moment : (m : Market) → m ≡ market_of its → IsSoundMoment (moment_by m p.troves.sums p.troves.table.rows p.pool.words)
+  its_moment m is =
+      subst (λ (w : PoolWords). IsSoundMoment (moment_by m p.troves.sums p.troves.table.rows w)) (sym its_words)
+      (subst (λ (t : Table Trove). IsSoundMoment (moment_by m p.troves.sums t (pool_words its))) (sym its_rows)
+      (subst (λ (x : Sums). IsSoundMoment (moment_by m x (trove_rows its) (pool_words its))) (sym its_sums)
+      (subst (λ (k : Market). IsSoundMoment (moment_by k (sums_words its) (trove_rows its) (pool_words its))) (sym is)
+      (moment_sound its (core_finds (core_of p) sound.image)))))
+
+  pub its_trove : (m : Market) → m ≡ market_of its → (account : ℕ) (t : Trove) → at p.troves.table.rows account ≡ Some t → IsTroveOf m p.troves.sums t
+  its_trove m is account t there =
+      let struck = row_struck (moment_by m p.troves.sums p.troves.table.rows p.pool.words) account (its_moment m is) in
+      (subst (λ (o : Option Trove). IfSome o (IsStruckOf (moment_by m p.troves.sums p.troves.table.rows p.pool.words).figures)) there struck).trove
+
+  pub its_one : (m : Market) → m ≡ market_of its → (account : ℕ) → one_in m p.troves.sums p.pool.words.total account (at p.troves.table.rows account) ≡ one its account
+  its_one m is account =
+      ap (λ (k : Market). one_in k p.troves.sums p.pool.words.total account (at p.troves.table.rows account)) is
+      ∙ ap (λ (x : Sums). one_in (market_of its) x p.pool.words.total account (at p.troves.table.rows account)) its_sums
+      ∙ ap (λ (w : PoolWords). one_in (market_of its) (sums_words its) w.total account (at p.troves.table.rows account)) its_words
+      ∙ ap (λ (t : Table Trove). one_in (market_of its) (sums_words its) (pool_total its) account (at t account)) its_rows
+
+-- ---- what is ruled
+
+within : (account : ℕ) (rules : List Rule) → account < ACCOUNTS → first_refusal (in_range account ∷ rules) ≡ first_refusal rules
+within account rules k =
+    let near : nat_le ACCOUNTS account ≡ false = grind (arith, nat_tests, k) in
+    ap (λ b. cond b (Some (AccountRange account)) (first_refusal rules)) near
+
+-- the reply to a liquidation
+abbrev pub one_done : One → Done
+one_done made = record { kind = 12; values = made.gas ∷ made.offset_debt ∷ made.offset_coll ∷ made.spread_debt ∷ made.spread_coll ∷ made.surplus ∷ [] }
+
+pub liquidate_ruled : (s : State) (liquidator account : ℕ) (made : One) → liquidator < ACCOUNTS → account < ACCOUNTS → one s account ≡ Ok made → (forecast : Forecast)
+    → forecast.done ≡ one_done made → victims_in forecast.terms ≡ record { account = account; one = made } ∷ []
+    → events_in forecast.events ≡ offset_events s (record { account = account; one = made } ∷ []) → changes_in forecast.changes ≡ victim_changes s (record { account = account; one = made } ∷ [])
+    → IsRuled s (Liquidate liquidator account) (Ok forecast)
+liquidate_ruled s liquidator account made j k is forecast done terms events changes = (
+  within liquidator (in_range account ∷ refusal_of (one s account)) j ∙ within account (refusal_of (one s account)) k ∙ ap (λ (r : Result One Refusal). first_refusal (refusal_of r)) is,
+  record {
+    done = done ∙ sym (ap (λ (r : Result One Refusal). record { kind = 12; values = six (one_values r) }) is);
+    terms = terms ∙ sym (ap (λ (r : Result One Refusal). listed (victim_by account r)) is);
+    events = events ∙ sym (ap (λ (r : Result One Refusal). offset_events s (listed (victim_by account r))) is);
+    changes = changes ∙ sym (ap (λ (r : Result One Refusal). victim_changes s (listed (victim_by account r))) is);
+  },
+)
+
+-- the lowest troves, where the first may be liquidated
+pub lowest_made : (s : State) (count : ℕ) (vs : List Victim) → lowest_plan s count ≡ Ok vs → (first_refusal (lowest_rules s) ≡ None) × (lowest s count ≡ vs)
+lowest_made s count vs h = by (first_refusal (lowest_rules s)) h where
+  by : (o : Option Refusal) → outcome o (lowest s count) ≡ Ok vs → (o ≡ None) × (lowest s count ≡ vs)
+  by None e = (refl, cc)
+  by (Some refusal) e = cc
+
+lowest_tests : (s : State) (count : ℕ) → 1 ≤ count → count ≤ LOWEST_MOST → first_refusal (not_zero count ∷ where_above count LOWEST_MOST AmountLimit ∷ lowest_rules s) ≡ first_refusal (lowest_rules s)
+lowest_tests s count some most =
+    let not_none : (count == 0) ≡ false = grind (arith, nat_tests, some) in
+    let few : nat_lt LOWEST_MOST count ≡ false = grind (arith, nat_tests, most) in
+    ap (λ b. cond b (Some AmountZero) (cond (nat_lt LOWEST_MOST count) (Some (AmountLimit count LOWEST_MOST)) (first_refusal (lowest_rules s)))) not_none
+    ∙ ap (λ b. cond b (Some (AmountLimit count LOWEST_MOST)) (first_refusal (lowest_rules s))) few
+
+-- what the reply adds up fits, and the list is one that is told
+pub record LowestFits (s : State) (vs : List Victim) : Type 0 where
+  pub few : length vs ≤ LOWEST_MOST
+  pub victims : AreVictims s 0 vs
+  pub gas : sum_by (λ (v : Victim). v.one.gas) vs < 2 ^ 64
+  pub debt : sum_by (λ (v : Victim). v.one.offset_debt) vs < 2 ^ 64
+  pub coll : sum_by (λ (v : Victim). v.one.offset_coll) vs < 2 ^ 64
+
+pub lowest_fits : (s : State) → IsSoundState s → (count : ℕ) (vs : List Victim) → count ≤ LOWEST_MOST → lowest_plan s count ≡ Ok vs → LowestFits s vs
+lowest_fits s h count vs most plan =
+    let f = finds s (sound_facts s h) in
+    let few = lowest_count count s in
+    let sums = sums_within (lowest s count) s f (lowest_victims count s f 0 (omega arith)) in
+    let coll = f.balanced.homes.coll in
+    subst (λ (l : List Victim). LowestFits s l) (lowest_made s count vs plan).1
+    (record {
+      few = omega (arith, few, most);
+      victims = lowest_victims count s f 0 (omega arith);
+      gas = omega (arith, sums.coll, coll, f.balanced.coll_limit);
+      debt = omega (arith, sums.debt, f.balanced.debt_limit);
+      coll = omega (arith, sums.coll, coll, f.balanced.coll_limit);
+    })
+
+pub lowest_ruled : (s : State) (liquidator count : ℕ) (vs : List Victim) → liquidator < ACCOUNTS → 1 ≤ count → count ≤ LOWEST_MOST → lowest_plan s count ≡ Ok vs → (forecast : Forecast)
+    → forecast.done ≡ record { kind = 13; values = six (lowest_values vs) } → victims_in forecast.terms ≡ vs
+    → events_in forecast.events ≡ offset_events s vs → changes_in forecast.changes ≡ victim_changes s vs
+    → IsRuled s (LiquidateLowest liquidator count) (Ok forecast)
+lowest_ruled s liquidator count vs k some most h forecast done terms events changes =
+    let made = lowest_made s count vs h in (
+      within liquidator (not_zero count ∷ where_above count LOWEST_MOST AmountLimit ∷ lowest_rules s) k ∙ lowest_tests s count some most ∙ made.0,
+      record {
+        done = done ∙ sym (ap (λ (l : List Victim). record { kind = 13; values = six (lowest_values l) }) made.1);
+        terms = terms ∙ sym made.1;
+        events = events ∙ sym (ap (λ (l : List Victim). offset_events s l) made.1);
+        changes = changes ∙ sym (ap (λ (l : List Victim). victim_changes s l) made.1);
+      },
+    )
