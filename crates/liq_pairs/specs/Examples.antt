@@ -1,4 +1,5 @@
--- Commands of the worked examples.
+-- Commands and bytes of the worked examples.
+use Rattle.std.specs.Prelude.{ℕ, List, ◌∷◌, replicate}
 use Rattle.liq_types.specs.declared.requests.Call.TheVariants.{Price, Fund}
 use Rattle.liq_types.specs.declared.requests.Command.{Command}
 
@@ -11,3 +12,7 @@ early = record { client = 1; number = 2; call = Fund 7 30 }
 
 abbrev pub price_of_nothing : Command
 price_of_nothing = record { client = 2; number = 1; call = Price 0 }
+
+-- an open gate, and behind it nothing that names a journal
+abbrev pub unnamed : List ℕ
+unnamed = 1 ∷ replicate 56 0

@@ -1,18 +1,32 @@
 //! Worked examples: what two disks stand for, and what a replay comes to. The functions here do nothing; each is the place
 //! where the facts of its contract are proved.
 
-ghost use Rattle.std.specs.Prelude.{◌≡◌, [], ◌∷◌, Ok, Err};
-ghost use Rattle.liq_types.specs.State.{opening};
+ghost use Rattle.std.specs.Prelude.{◌≡◌, ℕ, [], ◌∷◌, Ok, Err};
+ghost use Rattle.liq_types.specs.State.{State, opening};
 ghost use Rattle.liq_core.specs.Step.{after};
 ghost use Rattle.liq_journal.specs.declared.damage.What.TheVariants as What;
-ghost use Rattle.liq_pairs.specs.Examples.{early, fund, price_of_nothing};
-ghost use Rattle.liq_pairs.specs.Pair.{state_on};
+ghost use Rattle.liq_pairs.specs.declared.side.Side.TheVariants as Side;
+ghost use Rattle.liq_pairs.specs.Examples.{early, fund, price_of_nothing, unnamed};
+ghost use Rattle.liq_pairs.specs.Pair.{Holding, pair_state, state_on};
 ghost use Rattle.liq_pairs.specs.Replay.{replay};
 
 /// Two empty disks stand for the opening state, and so do two whose bytes are fewer than a header's.
 pub fn empty_disks_example()
     ensures empty { state_on [] [] ≡ Ok opening }
     ensures short { state_on (1 ∷ 76 ∷ []) (1 ∷ []) ≡ Ok opening }
+{}
+
+/// A disk's first damage is told with its side, the left one's first.
+pub fn damaged_disks_example()
+    ensures left { state_on unnamed [] ≡ Err (Side.Left, record { index = 0; what = What.Form 1 }) }
+    ensures right { state_on [] unnamed ≡ Err (Side.Right, record { index = 0; what = What.Form 1 }) }
+    ensures both { state_on unnamed unnamed ≡ Err (Side.Left, record { index = 0; what = What.Form 1 }) }
+{}
+
+/// Of two open disks the one of the greater generation counts, on whichever side it is.
+pub fn generations_example()
+    ensures left { (s t : State) → pair_state (Holding 3 s) (Holding 2 t) ≡ Ok s }
+    ensures right { (s t : State) → pair_state (Holding 1 s) (Holding 2 t) ≡ Ok t }
 {}
 
 /// An accepted command; one that comes again, as the second record; one that is out of turn, as the first; and one that is

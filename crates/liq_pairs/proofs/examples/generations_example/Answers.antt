@@ -1,0 +1,8 @@
+use Rattle.std.proofs.Common.{refl}
+use Rattle.liq_pairs.proofs.examples.generations_example.Goals as goal
+
+pub returns-clause-left : goal.returns-clause-left
+returns-clause-left c s t = refl
+
+pub returns-clause-right : goal.returns-clause-right
+returns-clause-right c s t = refl
