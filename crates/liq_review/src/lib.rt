@@ -2,7 +2,6 @@
 //! depositor stands beside its exact share.
 #![tactic(auto)]
 
-mod codes;
 mod engine;
 mod fault;
 mod limits;

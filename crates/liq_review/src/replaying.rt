@@ -8,9 +8,9 @@ ghost use Rattle.liq_core.specs.Core.{StandsFor};
 ghost use Rattle.liq_core.specs.Step.{built};
 ghost use Rattle.liq_review.specs.Replaying.{PlansNext, MakesNext, IsReplayed, StopsWithin};
 
-use crate::codes::code_of;
 use crate::fault::ReviewFault;
 use liq_core::{PlanFault, Planned, Protocol, Turn};
+use liq_pairs::code_of;
 use liq_types::{Command, Hint, PoolEvent, Steps};
 use std::alloc::Global;
 use std::sync::ledger::{Blank, Ledger};

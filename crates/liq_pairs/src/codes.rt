@@ -1,13 +1,13 @@
-//! Codes of refusals.
+//! The codes of refusals.
 
 ghost use Rattle.std.specs.Prelude.{◌≡◌};
-ghost use Rattle.liq_types.specs.Codes.{code_of as code_in};
+ghost use Rattle.liq_types.specs.Codes.{code_of};
 
 use liq_types::Refusal;
 
-/// The code with which a refusal is written.
-pub(crate) fn code_of(refusal: &Refusal) -> u8
-    ensures { result ≡ code_in refusal.now }
+/// The code with which a refusal is written, and a record that is refused is told.
+pub fn code_of(refusal: &Refusal) -> u8
+    ensures { result ≡ code_of refusal.now }
 {
     match refusal {
         Refusal::PriceRange { .. } => 10,
