@@ -1,6 +1,5 @@
 -- What the words of a command line ask for.
 use Rattle.std.specs.Prelude.{ℕ, ◌≡◌, ◌≤◌, ◌<◌, ◌^◌, List, [], ◌∷◌, codes, decimal}
-use Rattle.liq_words.specs.declared.words.TheConstants.{COUNT_MOST}
 use Rattle.liq_words.specs.declared.words.Word.{Word}
 use Rattle.liq_words.specs.declared.words.Word.TheVariants.{Run, Gen}
 
@@ -12,7 +11,7 @@ words_of (Gen seed count) = codes "gen" ∷ decimal seed ∷ decimal count ∷ [
 -- its numbers are in their ranges
 abbrev pub IsInRange : Word → Type 0
 IsInRange Run = Unit {0}
-IsInRange (Gen seed count) = (seed < 2 ^ 64) × (1 ≤ count) × (count ≤ COUNT_MOST)
+IsInRange (Gen seed count) = (seed < 2 ^ 64) × (1 ≤ count) × (count ≤ 1000000)
 
 -- the words are just those that ask for it
 abbrev pub Ask : List (List ℕ) → Word → Type 0
