@@ -6,12 +6,12 @@ use Rattle.liq_types.specs.declared.amounts.TheConstants.{LINE_BYTES}
 use Rattle.liq_core.specs.Step.{built}
 use Rattle.liq_text.specs.Spelling.{Spells}
 use Rattle.liq_text.proofs.LineLengths.{request_short}
-use Rattle.liq_serve.specs.Lines.{lines_in, IsWithinLine}
+use Rattle.liq_lines.specs.Lines.{lines_in, IsWithinLine}
 use Rattle.liq_serve.specs.Progress.{ReadsBad, with_end, without_end, too_long}
-use Rattle.liq_serve.specs.Reading.{Reads, IsOver}
+use Rattle.liq_lines.specs.Reading.{Reads, IsOver}
 use Rattle.liq_serve.specs.Requests.{IsBadLine}
-use Rattle.liq_serve.proofs.Bytes.{told_reads}
-use Rattle.liq_serve.proofs.LinesRead.{lines_in-longer, lines_in-ended, lines_in-unended}
+use Rattle.liq_lines.proofs.Bytes.{told_reads}
+use Rattle.liq_lines.proofs.LinesRead.{lines_in-longer, lines_in-ended, lines_in-unended}
 
 -- the only request that a line spells is not built
 pub bad_unbuilt : {E : Type 0} (line : List ℕ) (only : Request) (read : Result Request E) → read ≡ Ok only → ((q : Request) → Spells line q → read ≡ Ok q) → built only ≡ false → IsBadLine line

@@ -10,8 +10,8 @@ use Rattle.liq_serve.specs.declared.halts.Halt.TheVariants.{WriteFault}
 use Rattle.liq_serve.specs.Output.{lines, reply_line}
 use Rattle.liq_serve.specs.Progress.{Written, Comes}
 use Rattle.liq_serve.specs.Requests.{AreRequests, BeginsWith}
-use Rattle.liq_serve.specs.Writing.{WritesPart}
-use Rattle.liq_serve.proofs.Bytes.{writes_more}
+use Rattle.liq_lines.specs.Writing.{WritesPart}
+use Rattle.liq_lines.proofs.Bytes.{writes_more}
 use Rattle.liq_serve.proofs.Progressing.{lines_from}
 
 -- one front goes on past the other, or it ends within it

@@ -8,12 +8,13 @@ use Rattle.liq_outside.specs.declared.failed.Failed.{Failed}
 use Rattle.liq_outside.specs.Faults.{Rose}
 use Rattle.liq_serve.specs.declared.halts.Halt.{Halt}
 use Rattle.liq_serve.specs.declared.halts.Halt.TheVariants.{BadLine, ReadFault, WriteFault, NoMemory, Limit}
-use Rattle.liq_serve.specs.Lines.{lines_in}
+use Rattle.liq_lines.specs.Lines.{lines_in}
 use Rattle.liq_serve.specs.Output.{lines, last}
 use Rattle.liq_serve.specs.Progress.{Ends, Comes, Written}
 use Rattle.liq_serve.specs.Stops.{Adds, EndsIn, IsFrontOf, IsCutInLastLine}
-use Rattle.liq_serve.specs.Writing.{Writes, WritesPart, WritesFront}
-use Rattle.liq_serve.proofs.Bytes.{writes_more, writes_nothing}
+use Rattle.liq_lines.specs.Writing.{Writes, WritesPart}
+use Rattle.liq_serve.specs.Writing.{WritesFront}
+use Rattle.liq_lines.proofs.Bytes.{writes_more, writes_nothing}
 use Rattle.liq_serve.proofs.Cutting.{cut_comes}
 
 -- a part of the first of two pieces, and a part of the second behind the first

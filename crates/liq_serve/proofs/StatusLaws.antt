@@ -5,7 +5,7 @@ use Rattle.liq_types.specs.declared.amounts.TheConstants.{LINES_MOST}
 use Rattle.liq_types.specs.declared.requests.Request.{Request}
 use Rattle.liq_serve.specs.declared.halts.Halt.{Halt}
 use Rattle.liq_serve.specs.declared.halts.Halt.TheVariants.{BadLine, ReadFault, WriteFault, NoMemory, Limit}
-use Rattle.liq_serve.specs.Lines.{lines_in}
+use Rattle.liq_lines.specs.Lines.{lines_in}
 use Rattle.liq_serve.specs.Requests.{IsBadLine, AreRequests}
 use Rattle.liq_serve.specs.Statuses.{status_of}
 use Rattle.liq_serve.specs.Stops.{EndsAfter}

@@ -8,16 +8,16 @@ use Rattle.liq_core.specs.Step.{step, run}
 use Rattle.liq_core.proofs.SoundPromises.{reached_shares}
 use Rattle.liq_serve.specs.declared.halts.Halt.{Halt}
 use Rattle.liq_serve.specs.declared.halts.Halt.TheVariants.{BadLine, ReadFault, WriteFault, NoMemory, Limit}
-use Rattle.liq_serve.specs.Lines.{lines_in, ended, IsWithinLine}
+use Rattle.liq_lines.specs.Lines.{lines_in, ended, IsWithinLine}
 use Rattle.liq_serve.specs.Output.{reply_line}
 use Rattle.liq_serve.specs.Progress.{ReadsRequest, ReadsBad, Written, Answered, Answers, Comes}
-use Rattle.liq_serve.specs.Reading.{unread, Reads, IsOver}
+use Rattle.liq_lines.specs.Reading.{unread, Reads, IsOver}
 use Rattle.liq_serve.specs.Requests.{IsRequest, AreRequests, BeginsWith}
 use Rattle.liq_serve.specs.Writing.{WritesFront}
 use Rattle.liq_serve.proofs.BadLines.{first_is_bad}
-use Rattle.liq_serve.proofs.Bytes.{told_reads, writes_nothing, writes_more}
+use Rattle.liq_lines.proofs.Bytes.{told_reads, writes_nothing, writes_more}
 use Rattle.liq_serve.proofs.Cutting.{cut_comes}
-use Rattle.liq_serve.proofs.LinesRead.{lines_in-ended, lines_in-unended, lines_in-ended_all, lines_in-some, ended-append, within-append}
+use Rattle.liq_lines.proofs.LinesRead.{lines_in-ended, lines_in-unended, lines_in-ended_all, lines_in-some, ended-append, within-append}
 use Rattle.liq_serve.proofs.Progressing.{after-more, lines-more, requests-more}
 
 -- what follows the answered lines

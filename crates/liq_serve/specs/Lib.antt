@@ -1,8 +1,6 @@
 pub mod Causes
-pub mod Lines
 pub mod Output
 pub mod Progress
-pub mod Reading
 pub mod Requests
 pub mod Statuses
 pub mod Stops

@@ -10,12 +10,13 @@ use Rattle.liq_serve.specs.declared.halts.Halt.{Halt}
 use Rattle.liq_serve.specs.declared.halts.Halt.TheVariants.{BadLine, ReadFault, WriteFault, NoMemory}
 use Rattle.liq_serve.specs.declared.run.Next.{Next}
 use Rattle.liq_serve.specs.declared.run.Next.TheVariants.{Line, LastLine, End}
-use Rattle.liq_serve.specs.Lines.{ended, IsWithinLine}
+use Rattle.liq_lines.specs.Lines.{ended, IsWithinLine}
 use Rattle.liq_serve.specs.Output.{lines, reply_line}
-use Rattle.liq_serve.specs.Reading.{Reads, IsOver}
+use Rattle.liq_lines.specs.Reading.{Reads, IsOver}
 use Rattle.liq_serve.specs.Requests.{IsRequest, IsBadLine, IsCommand, TakesMemory, AreRequests, BeginsWith}
 use Rattle.liq_serve.specs.Stops.{EndsAfter, EndsIn, IsCutInLastLine, none_yet}
-use Rattle.liq_serve.specs.Writing.{Writes, WritesPart, WritesFront}
+use Rattle.liq_lines.specs.Writing.{Writes, WritesPart}
+use Rattle.liq_serve.specs.Writing.{WritesFront}
 
 -- a request, or why a line has none
 abbrev pub RequestOn : List ℕ → ℕ → Result Request Halt → Type 0

@@ -6,7 +6,7 @@ use Rattle.liq_types.specs.State.{State}
 use Rattle.liq_core.specs.Step.{Allowed, built, ruling}
 use Rattle.liq_core.specs.Verbs.{plans_list}
 use Rattle.liq_text.specs.Spelling.{Spells}
-use Rattle.liq_serve.specs.Lines.{lines_in}
+use Rattle.liq_lines.specs.Lines.{lines_in}
 
 -- the line spells the request, and the protocol answers such requests
 abbrev pub IsRequest : List ℕ → Request → Type 0

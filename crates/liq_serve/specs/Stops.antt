@@ -8,10 +8,10 @@ use Rattle.liq_core.specs.Events.{events}
 use Rattle.liq_core.specs.Step.{run, accepted}
 use Rattle.liq_serve.specs.declared.halts.Halt.{Halt}
 use Rattle.liq_serve.specs.declared.halts.Halt.TheVariants.{BadLine, ReadFault, WriteFault, NoMemory, Limit}
-use Rattle.liq_serve.specs.Lines.{lines_in, ended, IsWithinLine}
+use Rattle.liq_lines.specs.Lines.{lines_in, ended, IsWithinLine}
 use Rattle.liq_serve.specs.Output.{lines}
 use Rattle.liq_serve.specs.Requests.{AreRequests, IsBadLine, BeginsWith, BeginsWithTaker}
-use Rattle.liq_serve.specs.Writing.{Writes}
+use Rattle.liq_lines.specs.Writing.{Writes}
 
 -- the text is a front of the whole
 abbrev pub IsFrontOf : List ℕ → List ℕ → Type 0

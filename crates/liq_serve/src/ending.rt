@@ -5,11 +5,11 @@ ghost use Rattle.liq_outside.specs.Faults.{Rose, HasCause};
 ghost use Rattle.liq_serve.specs.Output.{last, usage};
 ghost use Rattle.liq_serve.specs.Statuses.{status_of};
 ghost use Rattle.liq_serve.specs.Stops.{Adds};
-ghost use Rattle.liq_serve.specs.Writing.{Writes, WritesPart};
+ghost use Rattle.liq_lines.specs.Writing.{Writes, WritesPart};
 
 use crate::halts::Halt;
-use crate::writer::write_all;
 use itoa::Buffer;
+use liq_lines::write_all;
 use liq_outside::{Failed, Sink};
 use liq_types::amounts::LINES_MOST;
 

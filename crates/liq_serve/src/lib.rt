@@ -4,10 +4,8 @@
 mod calls;
 mod ending;
 mod halts;
-mod reader;
 mod run;
 mod top;
 mod waiting;
-mod writer;
 
 pub use top::{protocol, without_words};

@@ -8,13 +8,13 @@ ghost use Rattle.liq_core.specs.Step.{built};
 ghost use Rattle.liq_core.specs.Core.{StandsFor};
 ghost use Rattle.liq_serve.specs.Causes.{ReadCause, WriteCause};
 ghost use Rattle.liq_serve.specs.Progress.{RequestOn, ReadsRequest, Answered, Answers, Turns, Comes, Ends};
-ghost use Rattle.liq_serve.specs.Reading.{unread};
+ghost use Rattle.liq_lines.specs.Reading.{unread};
 
 use crate::calls::call;
 use crate::halts::Halt;
-use crate::reader::{LINE_END, LineEnd, Reader};
 use crate::waiting::{WAITING_MOST, catch_up, flush, keep, make_way};
 use liq_core::{Protocol, is_built};
+use liq_lines::{LINE_END, LineEnd, Reader};
 use liq_outside::{Failed, Sink, Source};
 use liq_text::read_line;
 use liq_types::amounts::{LINE_BYTES, LINES_MOST};

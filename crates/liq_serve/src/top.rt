@@ -5,7 +5,7 @@ ghost use Rattle.liq_outside.specs.Faults.{Rose};
 ghost use Rattle.liq_types.specs.declared.requests.Request.{Request};
 ghost use Rattle.liq_serve.specs.declared.halts.Halt.{Halt};
 ghost use Rattle.liq_serve.specs.Causes.{ReadCause, WriteCause, LastCause};
-ghost use Rattle.liq_serve.specs.Lines.{lines_in};
+ghost use Rattle.liq_lines.specs.Lines.{lines_in};
 ghost use Rattle.liq_serve.specs.Output.{last, usage};
 ghost use Rattle.liq_serve.specs.Progress.{Ends};
 ghost use Rattle.liq_serve.specs.Requests.{AreRequests};

@@ -7,8 +7,7 @@ ghost use Rattle.liq_serve.specs.Requests.{IsCommand};
 ghost use Rattle.liq_serve.specs.Writing.{WritesFront};
 
 use crate::halts::Halt;
-use crate::reader::{LINE_END, Reader};
-use crate::writer::write_all;
+use liq_lines::{LINE_END, Reader, write_all};
 use liq_outside::{Failed, Sink};
 use liq_text::write_reply;
 use liq_types::amounts::REPLY_BYTES;

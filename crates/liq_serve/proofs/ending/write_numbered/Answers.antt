@@ -1,6 +1,6 @@
 use Rattle.std.proofs.Common.{◌++◌, ◌∷◌, [], ℕ, List, subst, ◌∙◌}
 use Rattle.std.specs.Prelude.{decimal}
-use Rattle.liq_serve.specs.Writing.{Writes, WritesPart}
+use Rattle.liq_lines.specs.Writing.{Writes, WritesPart}
 use Rattle.liq_serve.proofs.EndingLines.{part_first, part_second, on_err_of, on_err_map}
 use Rattle.liq_serve.proofs.ending.write_numbered.Goals as goal
 

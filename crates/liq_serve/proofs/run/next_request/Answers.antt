@@ -3,7 +3,7 @@ use Rattle.liq_serve.specs.declared.halts.Halt.{Halt}
 use Rattle.liq_serve.specs.declared.halts.Halt.TheVariants.{BadLine}
 use Rattle.liq_serve.specs.declared.run.Next.{Next}
 use Rattle.liq_serve.specs.Progress.{ReadsRequest, ReadsBad, with_end, without_end, too_long}
-use Rattle.liq_serve.specs.Reading.{unread}
+use Rattle.liq_lines.specs.Reading.{unread}
 use Rattle.liq_serve.specs.Requests.{IsBadLine}
 use Rattle.liq_serve.proofs.Residual.{handed_on}
 use Rattle.liq_serve.proofs.run.next_request.Goals as goal

@@ -1,6 +1,6 @@
 use Rattle.std.proofs.Common.{◌≡◌, ℕ, List, Some}
 use Rattle.liq_serve.specs.Progress.{Answered}
-use Rattle.liq_serve.specs.Reading.{unread}
+use Rattle.liq_lines.specs.Reading.{unread}
 use Rattle.liq_serve.proofs.run.Run.answer_lines.Given as goal
 
 -- as many lines are answered as were counted

@@ -4,7 +4,7 @@ use Rattle.liq_core.specs.Step.{run}
 use Rattle.liq_types.specs.State.{opening}
 use Rattle.liq_serve.specs.declared.halts.Halt.{Halt}
 use Rattle.liq_serve.specs.Progress.{Answered, Turns, Comes}
-use Rattle.liq_serve.specs.Reading.{unread, Reads}
+use Rattle.liq_lines.specs.Reading.{unread, Reads}
 use Rattle.liq_serve.proofs.Residual.{handed_on}
 use Rattle.liq_serve.proofs.Turning.{answered_on, answered_cut, reading_halts, reading_ends, line_answered, last_answered, answering_halts, first_line, last_line}
 use Rattle.liq_serve.proofs.run.Run.turn.Goals as goal

@@ -1,6 +1,6 @@
 use Rattle.std.proofs.Common.{◌≡◌, ◌≤◌, ◌-◌, length, take}
-use Rattle.liq_serve.specs.Writing.{Writes}
-use Rattle.liq_serve.proofs.writer.write_all.Given as goal
+use Rattle.liq_lines.specs.Writing.{Writes}
+use Rattle.liq_lines.proofs.writer.write_all.Given as goal
 
 -- what is written so far
 abbrev pub invariant-loop-written : goal.invariant-loop-written

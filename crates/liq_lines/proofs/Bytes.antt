@@ -1,8 +1,8 @@
 -- Bytes that are read and written piece by piece.
 use Rattle.std.proofs.Common.{◌≡◌, ℕ, List, [], ◌++◌, Option, Some, None, refl, ap, sym, ◌∙◌, append_assoc, append-nil}
 use Rattle.std.specs.Prelude.{option_map, unwrap_or}
-use Rattle.liq_serve.specs.Reading.{Reads}
-use Rattle.liq_serve.specs.Writing.{Writes}
+use Rattle.liq_lines.specs.Reading.{Reads}
+use Rattle.liq_lines.specs.Writing.{Writes}
 
 pub writes_nothing : (before : Option (List ℕ)) → Writes before [] before
 writes_nothing None = refl

@@ -1,9 +1,9 @@
 use Rattle.std.proofs.Common.{arith, subst, sym, ap, ◌∙◌, ◌++◌, List, take, ℕ, length-drop, length-take}
 use Rattle.std.proofs.Math.Seq.{take-add}
 use Rattle.std.proofs.lemmas.List.{take_rest}
-use Rattle.liq_serve.specs.Writing.{Writes}
-use Rattle.liq_serve.proofs.Bytes.{writes_more}
-use Rattle.liq_serve.proofs.writer.write_all.Goals as goal
+use Rattle.liq_lines.specs.Writing.{Writes}
+use Rattle.liq_lines.proofs.Bytes.{writes_more}
+use Rattle.liq_lines.proofs.writer.write_all.Goals as goal
 
 pub loop-written-preserved : goal.loop-written-preserved
 loop-written-preserved g c =

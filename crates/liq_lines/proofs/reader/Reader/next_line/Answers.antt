@@ -1,11 +1,11 @@
 use Rattle.std.proofs.Common.{◌≡◌, ℕ, List, ◌∷◌, [], subst, sym, ◌∙◌, refl, arith}
 use Rattle.std.specs.Prelude.{Contains}
-use Rattle.liq_serve.specs.Reading.{unread, Reads}
-use Rattle.liq_serve.specs.Lines.{IsWithinLine}
-use Rattle.liq_serve.proofs.Bytes.{reads_more}
-use Rattle.liq_serve.proofs.LinesRead.{within-more}
-use Rattle.liq_serve.proofs.Taken.{given, contained_rest}
-use Rattle.liq_serve.proofs.reader.Reader.next_line.Goals as goal
+use Rattle.liq_lines.specs.Reading.{unread, Reads}
+use Rattle.liq_lines.specs.Lines.{IsWithinLine}
+use Rattle.liq_lines.proofs.Bytes.{reads_more}
+use Rattle.liq_lines.proofs.LinesRead.{within-more}
+use Rattle.liq_lines.proofs.Taken.{given, contained_rest}
+use Rattle.liq_lines.proofs.reader.Reader.next_line.Goals as goal
 
 pub returns-in_err-next_byte-clause-taken : goal.returns-in_err-next_byte-clause-taken
 returns-in_err-next_byte-clause-taken g c has =

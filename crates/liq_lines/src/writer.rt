@@ -2,7 +2,7 @@
 
 ghost use Rattle.std.specs.Prelude.{◌≡◌, ◌≤◌, OnOk, OnErr};
 ghost use Rattle.liq_outside.specs.Faults.{HasCause};
-ghost use Rattle.liq_serve.specs.Writing.{Writes, WritesPart};
+ghost use Rattle.liq_lines.specs.Writing.{Writes, WritesPart};
 
 use liq_outside::{Failed, Sink};
 

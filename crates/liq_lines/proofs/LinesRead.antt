@@ -3,7 +3,7 @@ use Rattle.std.proofs.Common.{◌≡◌, ◌≢◌, ℕ, Bool, true, false, cond
 use Rattle.std.specs.Prelude.{◌==◌}
 use Rattle.std.specs.List.{AllByRecursion}
 use Rattle.std.proofs.lemmas.Bool.Decides.{nat_tests}
-use Rattle.liq_serve.specs.Lines.{lines_in, onto_first, ended, IsWithinLine}
+use Rattle.liq_lines.specs.Lines.{lines_in, onto_first, ended, IsWithinLine}
 
 not_end : (byte : ℕ) → byte ≢ 10 → (byte == 10) ≡ false
 not_end byte h = grind (arith, nat_tests, h)

@@ -2,7 +2,7 @@
 
 ghost use Rattle.std.specs.Prelude.{◌≡◌, ◌≤◌, ◌<◌, ◌∷◌, [], Contains, ◌↔◌, IsTrue, OnOk, OnErr, IfOk, IsOk, Ok, Some, List, ℕ, MatchOption, vec_len, vec_capacity};
 ghost use Rattle.liq_outside.specs.Faults.{HasCause};
-ghost use Rattle.liq_serve.specs.Reading.{unread, Reads, ReadsLine, IsOver, IsEndOfInput};
+ghost use Rattle.liq_lines.specs.Reading.{unread, Reads, ReadsLine, IsOver, IsEndOfInput};
 
 use liq_outside::{Failed, Source};
 use liq_types::amounts::LINE_BYTES;
@@ -38,7 +38,7 @@ pub struct Reader {
 
 impl Model for Reader {
     ghost use Rattle.std.specs.Prelude.{List, ℕ, ◌≤◌, ◌≡◌, slice_range, vec_len};
-    ghost use Rattle.liq_serve.specs.declared.reader.TheConstants.{CHUNK};
+    ghost use Rattle.liq_lines.specs.declared.reader.TheConstants.{CHUNK};
 
     ghost Value = { List ℕ };
 

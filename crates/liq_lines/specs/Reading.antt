@@ -1,9 +1,9 @@
 -- What reading a line leaves.
 use Rattle.std.specs.Prelude.{ℕ, ◌≡◌, ◌≢◌, List, [], ◌∷◌, ◌++◌, length, Option, option_map, Result, Ok, Err, IfSome}
 use Rattle.liq_outside.specs.declared.failed.Failed.{Failed}
-use Rattle.liq_serve.specs.declared.reader.LineEnd.{LineEnd}
-use Rattle.liq_serve.specs.declared.reader.LineEnd.TheVariants.{Ended, Unended, Nothing, TooLong}
-use Rattle.liq_serve.specs.Lines.{IsWithinLine}
+use Rattle.liq_lines.specs.declared.reader.LineEnd.{LineEnd}
+use Rattle.liq_lines.specs.declared.reader.LineEnd.TheVariants.{Ended, Unended, Nothing, TooLong}
+use Rattle.liq_lines.specs.Lines.{IsWithinLine}
 use Rattle.liq_types.specs.declared.amounts.TheConstants.{LINE_BYTES}
 
 -- what is unread: bytes that were taken already, and those that the source has left, where it tells them

@@ -1,0 +1,8 @@
+//! Lines: read one by one from a source, and bytes written whole to a sink.
+#![tactic(auto)]
+
+mod reader;
+mod writer;
+
+pub use reader::{LINE_END, LineEnd, Reader};
+pub use writer::write_all;
