@@ -14,7 +14,7 @@ use std::alloc::{AllocError, Global};
 use std::sync::Wait;
 use std::thread::{Threads, join};
 
-/// Runs the scripts of sessions at once, one thread each: each request in its turn, with the hint that the session's hinter finds
+/// Runs the scripts of sessions at once, each in a new thread: each request in its turn, with the hint that the session's hinter finds
 /// for it, and with the gate before and behind each call. The seats are those of the desk, and a script has at most
 /// [`REQUESTS_MOST`] requests. Each work comes back at its place with the replies that it got. All memory is taken before the first
 /// call: where there is none the works come back as they were.
