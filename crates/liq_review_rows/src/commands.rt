@@ -8,8 +8,17 @@ ghost use Rattle.liq_core.specs.Step.{built};
 use liq_core::is_built;
 use liq_text::read_line;
 use liq_types::{Command, Request};
-use std::alloc::Global;
+use std::alloc::{AllocError, Global};
 use std::test::Fail;
+
+/// The lines of these calls as commands of client 1, numbered from 1.
+pub fn numbered(alloc: Global, calls: &str) -> Result<String, AllocError> {
+    let mut lines = String::new(alloc);
+    for (number, call) in calls.lines().enumerate() {
+        writeln!(lines, "1 {} {call}", number as u64 + 1)?;
+    }
+    Ok(lines)
+}
 
 /// The commands of these lines.
 pub fn commands_of(alloc: Global, lines: &str) -> Result<Vec<Command>, Fail>

@@ -1,42 +1,83 @@
-//! What is reviewed.
+//! What is reviewed, and what is refused.
 
-use crate::commands::commands_of;
+use crate::commands::{commands_of, numbered};
 use liq_review::{ReviewFault, review};
 use std::alloc::Global;
 use std::process::Abort;
 use std::test::Fail;
 
-/// One depositor, and nothing offset.
-const ONE_DEPOSITOR: &str = "\
-1 1 fund 1 10000000000
-1 2 open 1 10000000000 4000000000 1000000000000000000 - -
-1 3 provide 1 7
-";
+/// What a row shows, its calls, and the text of their review.
+type Row = (&'static str, &'static str, &'static str);
 
-/// Stops the test where the lines' commands are reviewed otherwise.
-fn check<R: Abort>(
+const ROWS: [Row; 4] = [
+    ("nothing", "", "within 0 of 0\n"),
+    (
+        "one depositor, and nothing offset",
+        "fund 1 10000000000\nopen 1 10000000000 4000000000 1000000000000000000 - -\nprovide 1 7\n",
+        "1 7 7 7 1 0 0 0 15\nwithin 1 of 1\n",
+    ),
+    (
+        "the whole pool offset, and the gain moved into the trove",
+        "fund 1 10000000000\nopen 1 10000000000 4000000000 1000000000000000000 - -\nfund 2 100000000000\nopen 2 100000000000 4000000000 1000000000000000000 - -\nprovide 2 4000000000\nprice 460000000\nliquidate 3 1\ngain_to_trove 2 - -\n",
+        "2 0 0 0 6 9431279620 9431279620 9431279620 78\nwithin 1 of 1\n",
+    ),
+    (
+        "three depositors over a rise of the scale and an epoch's end, with gains that were paid",
+        "fund 2 100000000000\nopen 2 100000000000 8000000000 1000000000000000000 - -\nfund 3 100000000000\nopen 3 100000000000 8000000000 1000000000000000000 - -\nprovide 2 3000000000\nprovide 3 5000000007\nfund 11 10000000000\nopen 11 10000000000 4000000000 1000000000000000000 - -\nprice 460000000\nliquidate 4 11\nprovide 2 500000000\nwithdraw 3 60000004\nprice 1000000000\nfund 12 10000000000\nopen 12 10000000000 4000000000 1000000000000000000 - -\nprice 460000000\nliquidate 4 12\nprovide 3 1000\nsend 3 5 300000000\nprovide 5 300000000\nprice 1000000000\nfund 13 10000000000\nopen 13 10000000000 4000000000 1000000000000000000 - -\nprice 460000000\nliquidate 4 13\nwithdraw 2 0\nprovide 2 100000000\n",
+        "2 100000000 100000000 100000000 9 8252369665 8252369672 8252369666 120\n3 0 0 0 11 11647632693 11647632700 11647632693 133\n5 0 0 0 2 707345971 707345972 707345971 19\nwithin 3 of 3\n",
+    ),
+];
+
+/// What a row shows, its lines, and the number and the code with which their replay stops.
+type StoppedRow = (&'static str, &'static str, u64, u8);
+
+const STOPPED: [StoppedRow; 4] = [
+    ("the first is out of turn", "1 2 fund 1 5\n", 1, 70),
+    (
+        "one comes again",
+        "1 1 fund 1 5\n1 2 fund 1 6\n1 2 fund 1 6\n1 3 fund 1 7\n",
+        3,
+        0,
+    ),
+    (
+        "one is refused by its verb",
+        "1 1 fund 1 5\n1 2 take 1 6\n",
+        2,
+        14,
+    ),
+    (
+        "one plans a list and is refused",
+        "1 1 fund 1 5\n2 1 liquidate_lowest 1 0\n",
+        2,
+        11,
+    ),
+];
+
+/// Stops the test where the review of these lines' commands is another.
+pub fn check<R: Abort>(
     rt: &R,
     alloc: Global,
     lines: &str,
-    text: Result<&str, ReviewFault>,
+    want: Result<&str, ReviewFault>,
+    what: &str,
 ) -> Result<(), Fail> {
-    let commands = commands_of(alloc, lines)?;
-    let told = review(alloc, &commands);
+    let told = review(alloc, &commands_of(alloc, lines)?);
     let told = told.as_ref().map(|text| text.as_slice());
-    assert!(rt;
-        told == text.as_ref().map(|text| text.as_bytes()),
-        "{lines}"
-    );
+    assert!(rt; told == want.as_ref().map(|text| text.as_bytes()), "{what}");
     Ok(())
 }
 
 #[test]
-fn reviews(rt: HostRuntime) -> Result<(), Fail> {
-    check(&rt, rt.alloc(), "", Ok("within 0 of 0\n"))?;
-    check(
-        &rt,
-        rt.alloc(),
-        ONE_DEPOSITOR,
-        Ok("1 7 7 7 1 0 0 0 15\nwithin 1 of 1\n"),
-    )
+fn rows(rt: HostRuntime) -> Result<(), Fail> {
+    let alloc = rt.alloc();
+    for (what, calls, text) in &ROWS {
+        check(&rt, alloc, &numbered(alloc, calls)?, Ok(text), what)?;
+    }
+    for (what, lines, index, code) in &STOPPED {
+        let index = *index;
+        let code = *code;
+        let stopped = ReviewFault::Refused { index, code };
+        check(&rt, alloc, lines, Err(stopped), what)?;
+    }
+    Ok(())
 }
