@@ -118,3 +118,63 @@ fn amounts_and_keys(rt: HostRuntime) -> Result<(), Fail> {
     assert_eq!(rt; key(&THIRD), 368_593_333_344_564_160);
     Ok(())
 }
+
+// Of two troves the first is liquidated: a part of it goes to the Stability Pool, and the second takes over the rest.
+const LEFT: Trove = Trove {
+    coll: 100_000_000_000,
+    debt: 4_220_000_000,
+    stake: 100_000_000_000,
+    mark_coll: 0,
+    mark_debt: 0,
+};
+
+const LEFT_SUMS: Sums = Sums {
+    coll: 5_187_203_800_000_000,
+    debt: 2_200_000_000_000_000,
+    stakes: 100_000_000_000,
+    snap_stakes: 100_000_000_000,
+    snap_coll: 100_518_720_380,
+};
+
+// The same from its start.
+fn left<R: Abort>(rt: &R, alloc: Global) -> Result<Troves, NoMemory> {
+    let mut troves = Troves::new(alloc);
+    troves.reserve(1)?;
+    troves.set(1, 10_000_000_000, 4_220_000_000);
+    troves.reserve(2)?;
+    troves.set(2, 100_000_000_000, 4_220_000_000);
+    assert_eq!(rt; troves.count(), 2);
+    let _ = troves.remove(1);
+    assert!(rt; troves.sums().stakes >= 1);
+    assert!(rt; troves.redistribute(518_720_380, 220_000_000).is_ok());
+    troves.snapshot(100_518_720_380);
+    Ok(troves)
+}
+
+fn left_anew(alloc: Global) -> Result<Troves, NoMemory> {
+    let Ok(rows) = Vec::from_slice(alloc, &[(2, LEFT)]) else {
+        return Err(NoMemory);
+    };
+    Troves::from_rows(alloc, rows, LEFT_SUMS)
+}
+
+fn check_left<R: Abort>(rt: &R, troves: &Troves) {
+    assert_eq!(rt; troves.count(), 1);
+    assert!(rt; *troves.sums() == LEFT_SUMS);
+    assert!(rt; troves.get(1).is_none());
+    assert!(rt; troves.get(2).copied() == Some(LEFT));
+    assert_eq!(rt; entire(&LEFT, &LEFT_SUMS), (100_518_720_380, 4_440_000_000));
+}
+
+#[test]
+fn left_by_a_liquidation(rt: HostRuntime) -> Result<(), Fail> {
+    let Ok(troves) = left(&rt, rt.alloc()) else {
+        panic!(rt; "no memory");
+    };
+    check_left(&rt, &troves);
+    let Ok(troves) = left_anew(rt.alloc()) else {
+        panic!(rt; "no memory");
+    };
+    check_left(&rt, &troves);
+    Ok(())
+}

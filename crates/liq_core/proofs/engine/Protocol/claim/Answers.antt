@@ -3,7 +3,7 @@ use Rattle.liq_core.proofs.Depositing.{claims_so, claim_changes, claim_sound}
 use Rattle.liq_core.proofs.engine.Protocol.claim.Goals as goal
 
 pub overflow_sub-self : goal.overflow_sub-self
-overflow_sub-self c = (claims_so c.self.inside c.args.self.now c.self.view_is c.self.invariant c.args.account c.take-coll.result c.requires.range c.requires.allowed c.take-coll.ensures.claimed).surplus
+overflow_sub-self c = let may = claims_so c.self.inside c.args.self.now c.self.view_is c.self.invariant c.args.account c.take-coll.result c.requires.range c.requires.allowed c.take-coll.ensures.claimed in omega (arith, may.surplus)
 
 pub pay-requires-clause-coll : goal.pay-requires-clause-coll
 pay-requires-clause-coll c = (claims_so c.self.inside c.args.self.now c.self.view_is c.self.invariant c.args.account c.take-coll.result c.requires.range c.requires.allowed c.take-coll.ensures.claimed).coll_limit

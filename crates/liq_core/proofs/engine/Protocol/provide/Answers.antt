@@ -13,7 +13,9 @@ provide-gain-requires-clause-limit c = (provides_so c.self.inside c.args.self.no
 
 pub pay-requires-clause-coll : goal.pay-requires-clause-coll
 pay-requires-clause-coll c =
-    subst (λ (t : Table Wallet). (wallet_in t c.args.account).coll + c.provide-gain.result ≤ LIM) (sym c.in-Ok.ensures.moved) (provides_so c.self.inside c.args.self.now c.self.view_is c.self.invariant c.args.account c.args.lusd c.requires.range c.requires.allowed c.provide-gain.result c.provide-gain.ensures.gain).coll_limit
+    let may = provides_so c.self.inside c.args.self.now c.self.view_is c.self.invariant c.args.account c.args.lusd c.requires.range c.requires.allowed c.provide-gain.result c.provide-gain.ensures.gain in
+    let fits = subst (λ (t : Table Wallet). (wallet_in t c.args.account).coll + c.provide-gain.result ≤ LIM) (sym c.in-Ok.ensures.moved) may.coll_limit in
+    omega (arith, fits)
 
 pub pay-requires-clause-lusd : goal.pay-requires-clause-lusd
 pay-requires-clause-lusd c =
