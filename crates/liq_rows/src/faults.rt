@@ -120,7 +120,7 @@ fn replies_before_reading(rt: HostRuntime) -> Result<(), Fail> {
 
 const USAGE: &[u8] = b"usage: liq run, serve, state, audit or gen SEED COUNT\n";
 
-const OTHER_WORDS: [&[&str]; 8] = [
+const OTHER_WORDS: [&[&str]; 20] = [
     &[],
     &[""],
     &["Run"],
@@ -129,6 +129,18 @@ const OTHER_WORDS: [&[&str]; 8] = [
     &["run", "run"],
     &["serve"],
     &["", "run"],
+    &["run", "x"],
+    &["-h"],
+    &["help"],
+    &["--", "run"],
+    &["gen"],
+    &["gen", "1"],
+    &["gen", "1", "1", "1"],
+    &["gen", "01", "5"],
+    &["gen", "1", "0"],
+    &["gen", "1", "1000001"],
+    &["gen", "-1", "5"],
+    &["gen", "18446744073709551616", "1"],
 ];
 
 // Nothing is read, and the usage is written if it can be.

@@ -18,6 +18,8 @@ mod lines;
 #[cfg(test)]
 mod liquidating;
 #[cfg(test)]
+mod loads;
+#[cfg(test)]
 mod providing;
 #[cfg(test)]
 mod redeeming;

@@ -4,7 +4,7 @@ use Rattle.std.specs.Prelude.{◌⊎◌}
 use Rattle.std.proofs.lemmas.List.{take-append-drop}
 use Rattle.liq_types.specs.declared.amounts.TheConstants.{LINES_MOST}
 use Rattle.liq_types.specs.declared.requests.Request.{Request}
-use Rattle.liq_types.specs.State.{State, opening}
+use Rattle.liq_types.specs.State.{State}
 use Rattle.liq_core.specs.Step.{step}
 use Rattle.liq_serve.specs.declared.halts.Halt.TheVariants.{WriteFault}
 use Rattle.liq_serve.specs.Output.{lines, reply_line}
@@ -12,7 +12,6 @@ use Rattle.liq_serve.specs.Progress.{Written, Comes}
 use Rattle.liq_serve.specs.Requests.{AreRequests, BeginsWith}
 use Rattle.liq_lines.specs.Writing.{WritesPart}
 use Rattle.liq_lines.proofs.Bytes.{writes_more}
-use Rattle.liq_serve.proofs.Progressing.{lines_from}
 
 -- one front goes on past the other, or it ends within it
 front_split : (xs ys zs ws : List ℕ) → xs ++ ys ≡ zs ++ ws → ((t : List ℕ) × (zs ≡ xs ++ t) × (ys ≡ t ++ ws)) ⊎ ((b : ℕ) × (t : List ℕ) × (xs ≡ zs ++ b ∷ t))
@@ -30,20 +29,20 @@ record CutAt (s : State) (rs : List Request) (part : List ℕ) : Type 0 where
   later : List Request
   split : rs ≡ earlier ++ request ∷ later
   tail : List ℕ
-  behind : part ≡ lines_from s earlier ++ tail
+  behind : part ≡ lines s earlier ++ tail
   missing : List ℕ
   some : missing ≢ []
-  whole : lines_from s (earlier ++ request ∷ []) ≡ part ++ missing
+  whole : lines s (earlier ++ request ∷ []) ≡ part ++ missing
 
 nothing_missing : (part missing : List ℕ) → [] ≡ part ++ missing → missing ≡ []
 nothing_missing [] missing e = sym e
 nothing_missing (x ∷ part) missing e = absurd cc
 
-cut_at : (s : State) (rs : List Request) (part missing : List ℕ) → lines_from s rs ≡ part ++ missing → missing ≢ [] → CutAt s rs part
+cut_at : (s : State) (rs : List Request) (part missing : List ℕ) → lines s rs ≡ part ++ missing → missing ≢ [] → CutAt s rs part
 cut_at s [] part missing e some = absurd (some (nothing_missing part missing e))
 cut_at s (q ∷ rs) part missing e some =
-    by (λ t e'. cut_at (step s q).0 rs t missing e' some) (front_split (reply_line (step s q).1) (lines_from (step s q).0 rs) part missing e) where
-      by : ((t : List ℕ) → lines_from (step s q).0 rs ≡ t ++ missing → CutAt (step s q).0 rs t) → ((t : List ℕ) × (part ≡ reply_line (step s q).1 ++ t) × (lines_from (step s q).0 rs ≡ t ++ missing)) ⊎ ((b : ℕ) × (t : List ℕ) × (reply_line (step s q).1 ≡ part ++ b ∷ t)) → CutAt s (q ∷ rs) part
+    by (λ t e'. cut_at (step s q).0 rs t missing e' some) (front_split (reply_line (step s q).1) (lines (step s q).0 rs) part missing e) where
+      by : ((t : List ℕ) → lines (step s q).0 rs ≡ t ++ missing → CutAt (step s q).0 rs t) → ((t : List ℕ) × (part ≡ reply_line (step s q).1 ++ t) × (lines (step s q).0 rs ≡ t ++ missing)) ⊎ ((b : ℕ) × (t : List ℕ) × (reply_line (step s q).1 ≡ part ++ b ∷ t)) → CutAt s (q ∷ rs) part
       by rec (inl h) =
           let reply = reply_line (step s q).1 in
           let c = rec h.0 h.2 in
@@ -53,7 +52,7 @@ cut_at s (q ∷ rs) part missing e some =
             later = c.later;
             split = ap (λ (l : List Request). q ∷ l) c.split;
             tail = c.tail;
-            behind = h.1 ∙ ap (λ (t : List ℕ). reply ++ t) c.behind ∙ sym (append_assoc reply (lines_from (step s q).0 c.earlier) c.tail);
+            behind = h.1 ∙ ap (λ (t : List ℕ). reply ++ t) c.behind ∙ sym (append_assoc reply (lines (step s q).0 c.earlier) c.tail);
             missing = c.missing;
             some = c.some;
             whole = ap (λ (t : List ℕ). reply ++ t) c.whole ∙ sym (append_assoc reply h.0 c.missing) ∙ ap (λ (t : List ℕ). t ++ c.missing) (sym h.1);
@@ -87,11 +86,11 @@ begins_front bytes xs ys more h =
 missing_some : (k : ℕ) (xs : List ℕ) → k < length xs → drop k xs ≢ []
 missing_some k xs lt e = omega (arith, length-drop k xs, ap length e)
 
-pub cut_comes : (bytes : List ℕ) (requests : List Request) (left : Option (List ℕ)) (waited waits : List ℕ) (more : List (List ℕ)) (before now after : Option (List ℕ)) → length requests ≤ LINES_MOST → BeginsWith bytes requests more → Written requests waited before now → WritesPart now waited after → Comes (Err WriteFault) bytes left waits before after
-cut_comes bytes requests left waited waits more before now after few begins written part =
+pub cut_comes : (start : State) (bytes : List ℕ) (requests : List Request) (left : Option (List ℕ)) (waited waits : List ℕ) (more : List (List ℕ)) (before now after : Option (List ℕ)) → length requests ≤ LINES_MOST → BeginsWith bytes requests more → Written start requests waited before now → WritesPart now waited after → Comes start (Err WriteFault) bytes left waits before after
+cut_comes start bytes requests left waited waits more before now after few begins written part =
     let k = part.0 in
     let all = written.2 ∙ ap (λ (t : List ℕ). written.0 ++ t) (sym (take-append-drop k waited)) ∙ sym (append_assoc written.0 (take k waited) (drop k waited)) in
-    let c = cut_at opening requests (written.0 ++ take k waited) (drop k waited) all (missing_some k waited part.1) in
+    let c = cut_at start requests (written.0 ++ take k waited) (drop k waited) all (missing_some k waited part.1) in
     let same = c.split ∙ sym (append_assoc c.earlier (c.request ∷ []) c.later) in
     let b = begins_front bytes (c.earlier ++ c.request ∷ []) c.later more (subst (λ (rs : List Request). BeginsWith bytes rs more) same begins) in
     record {

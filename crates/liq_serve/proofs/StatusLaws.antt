@@ -2,6 +2,7 @@
 use Rattle.std.proofs.Common.{◌≡◌, ◌≢◌, ℕ, ◌≤◌, List, [], ◌∷◌, ◌++◌, length, Option, Ok, Err, Result, refl, ap, subst, length-append, arith, inl, inr, suc, lit<}
 use Rattle.std.specs.Prelude.{◌⊎◌, Contains}
 use Rattle.liq_types.specs.declared.amounts.TheConstants.{LINES_MOST}
+use Rattle.liq_types.specs.State.{State}
 use Rattle.liq_types.specs.declared.requests.Request.{Request}
 use Rattle.liq_serve.specs.declared.halts.Halt.{Halt}
 use Rattle.liq_serve.specs.declared.halts.Halt.TheVariants.{BadLine, ReadFault, WriteFault, NoMemory, Limit}
@@ -32,15 +33,15 @@ same_length [] (r ∷ rs) h = absurd h
 same_length (l ∷ front) [] h = absurd h
 same_length (l ∷ front) (r ∷ rs) h = ap suc (same_length front rs h.1)
 
-pub complete : (bytes : List ℕ) (left : Option (List ℕ)) (all : List Request) → AreRequests (lines_in bytes) all → length all ≤ LINES_MOST → (end : Result (Unit {0}) Halt) → (status_of end ≢ 3) → (status_of end ≢ 4) → (answered : List Request) → EndsAfter end bytes left answered → (status_of end ≡ 0) ⊎ (status_of end ≡ 7)
-complete bytes left all spelled few (Ok done) r w answered e = inl refl
-complete bytes left all spelled few (Err (BadLine n)) r w answered e =
+pub complete : (start : State) (bytes : List ℕ) (left : Option (List ℕ)) (all : List Request) → AreRequests (lines_in bytes) all → length all ≤ LINES_MOST → (end : Result (Unit {0}) Halt) → (status_of end ≢ 3) → (status_of end ≢ 4) → (answered : List Request) → EndsAfter start end bytes left answered → (status_of end ≡ 0) ⊎ (status_of end ≡ 7)
+complete start bytes left all spelled few (Ok done) r w answered e = inl refl
+complete start bytes left all spelled few (Err (BadLine n)) r w answered e =
     let at = e.2 in
     absurd (bad_among at.2.1.0 at.0 at.2.0 all (subst (λ (ls : List (List ℕ)). AreRequests ls all) at.2.1.2 spelled) at.1)
-complete bytes left all spelled few (Err ReadFault) r w answered e = absurd (r refl)
-complete bytes left all spelled few (Err WriteFault) r w answered e = absurd (w refl)
-complete bytes left all spelled few (Err NoMemory) r w answered e = inr refl
-complete bytes left all spelled few (Err Limit) r w answered e =
+complete start bytes left all spelled few (Err ReadFault) r w answered e = absurd (r refl)
+complete start bytes left all spelled few (Err WriteFault) r w answered e = absurd (w refl)
+complete start bytes left all spelled few (Err NoMemory) r w answered e = inr refl
+complete start bytes left all spelled few (Err Limit) r w answered e =
     let at = e.1.1.1 in
     let whole = same_length (lines_in bytes) all spelled in
     let front = same_length at.0 answered at.1 in

@@ -4,7 +4,7 @@ use Rattle.std.specs.List.{flat_map}
 use Rattle.liq_types.specs.declared.replies.Reply.{Reply}
 use Rattle.liq_types.specs.declared.amounts.TheConstants.{LINES_MOST}
 use Rattle.liq_types.specs.declared.requests.Request.{Request}
-use Rattle.liq_types.specs.State.{opening}
+use Rattle.liq_types.specs.State.{State}
 use Rattle.liq_core.specs.Step.{run}
 use Rattle.liq_text.specs.Replies.{text}
 use Rattle.liq_serve.specs.declared.halts.Halt.{Halt}
@@ -14,9 +14,9 @@ use Rattle.liq_serve.specs.declared.halts.Halt.TheVariants.{BadLine, ReadFault, 
 abbrev pub reply_line : Reply → List ℕ
 reply_line reply = text reply ++ 10 ∷ []
 
--- the replies to a list of requests, from the opening state on, each on a line
-abbrev pub lines : List Request → List ℕ
-lines requests = flat_map reply_line (run opening requests).1
+-- the replies to a list of requests from a state on, each on a line
+abbrev pub lines : State → List Request → List ℕ
+lines start requests = flat_map reply_line (run start requests).1
 
 -- the last line of a run that stops; a sink that met a fault is told nothing more
 abbrev pub last : Halt → List ℕ

@@ -3,7 +3,7 @@ use Rattle.std.specs.Prelude.{ℕ, ◌≡◌, ◌≢◌, ◌≤◌, ◌+◌, [],
 use Rattle.std.specs.List.{AllByRecursion}
 use Rattle.liq_types.specs.declared.amounts.TheConstants.{LINE_BYTES, LINES_MOST}
 use Rattle.liq_types.specs.declared.requests.Request.{Request}
-use Rattle.liq_types.specs.State.{State, opening}
+use Rattle.liq_types.specs.State.{State}
 use Rattle.liq_core.specs.Core.{Core, StandsFor}
 use Rattle.liq_core.specs.Step.{run, step}
 use Rattle.liq_serve.specs.declared.halts.Halt.{Halt}
@@ -14,7 +14,7 @@ use Rattle.liq_lines.specs.Lines.{ended, IsWithinLine}
 use Rattle.liq_serve.specs.Output.{lines, reply_line}
 use Rattle.liq_lines.specs.Reading.{Reads, IsOver}
 use Rattle.liq_serve.specs.Requests.{IsRequest, IsBadLine, IsCommand, TakesMemory, AreRequests, BeginsWith}
-use Rattle.liq_serve.specs.Stops.{EndsAfter, EndsIn, IsCutInLastLine, none_yet}
+use Rattle.liq_serve.specs.Stops.{EndsAfter, EndsIn, IsCutInLastLine, no_more, none_yet}
 use Rattle.liq_lines.specs.Writing.{Writes, WritesPart}
 use Rattle.liq_serve.specs.Writing.{WritesFront}
 
@@ -41,11 +41,11 @@ ReadsRequest before after taken number (Err ReadFault) = (part : List ℕ) × Is
 ReadsRequest before after taken number (Err _) = ⊥
 
 -- the replies to these requests are written, but for those that wait
-abbrev pub Written : List Request → List ℕ → Option (List ℕ) → Option (List ℕ) → Type 0
-Written requests waiting before now = (front : List ℕ) × Writes before front now × (lines requests ≡ front ++ waiting)
+abbrev pub Written : State → List Request → List ℕ → Option (List ℕ) → Option (List ℕ) → Type 0
+Written start requests waiting before now = (front : List ℕ) × Writes before front now × (lines start requests ≡ front ++ waiting)
 
 -- n lines were requests, and each is answered
-pub record Answered (bytes : List ℕ) (n : ℕ) (core : Core) (unread : Option (List ℕ)) (waiting : List ℕ) (before now : Option (List ℕ)) : Type 0 where
+pub record Answered (start : State) (bytes : List ℕ) (n : ℕ) (core : Core) (unread : Option (List ℕ)) (waiting : List ℕ) (before now : Option (List ℕ)) : Type 0 where
   pub requests : List Request
   pub front : List (List ℕ)
   pub rest : List ℕ
@@ -54,8 +54,8 @@ pub record Answered (bytes : List ℕ) (n : ℕ) (core : Core) (unread : Option 
   pub count : length requests ≡ n
   pub bytes_are : bytes ≡ ended front ++ rest
   pub unread_is : unread ≡ Some rest
-  pub stands : StandsFor core (run opening requests).0
-  pub written : Written requests waiting before now
+  pub stands : StandsFor core (run start requests).0
+  pub written : Written start requests waiting before now
 
 -- The request's step was made and its reply waits behind what waited, of which a front was written first: all where the request
 -- is a command. Or the sink met a fault at what waited, or there was no memory where it may be asked for: no step was made then.
@@ -68,25 +68,25 @@ Answers s request (Err WriteFault) core waited waits before after = StandsFor co
 Answers s request (Err _) core waited waits before after = ⊥
 
 -- What is written where a run comes to its end: all replies but those that wait, or up to a cut.
-abbrev pub WrittenAt : Result (Unit {0}) Halt → List Request → List ℕ → Option (List ℕ) → Option (List ℕ) → Type 0
-WrittenAt (Err WriteFault) requests waiting before now = (part : List ℕ) × Writes before part now × IsCutInLastLine part requests
-WrittenAt _ requests waiting before now = Written requests waiting before now
+abbrev pub WrittenAt : State → Result (Unit {0}) Halt → List Request → List ℕ → Option (List ℕ) → Option (List ℕ) → Type 0
+WrittenAt start (Err WriteFault) requests waiting before now = (part : List ℕ) × Writes before part now × IsCutInLastLine start part requests
+WrittenAt start _ requests waiting before now = Written start requests waiting before now
 
 -- a run came to its end, and some replies wait
-pub record Comes (end : Result (Unit {0}) Halt) (bytes : List ℕ) (left : Option (List ℕ)) (waiting : List ℕ) (before now : Option (List ℕ)) : Type 0 where
+pub record Comes (start : State) (end : Result (Unit {0}) Halt) (bytes : List ℕ) (left : Option (List ℕ)) (waiting : List ℕ) (before now : Option (List ℕ)) : Type 0 where
   pub requests : List Request
   pub few : length requests ≤ LINES_MOST
-  pub read : EndsAfter end bytes left requests
+  pub read : EndsAfter start end bytes left requests
   pub more : List (List ℕ)
   pub begins : BeginsWith bytes requests more
-  pub written : WrittenAt end requests waiting before now
+  pub written : WrittenAt start end requests waiting before now
 
 -- a run is at its end, and its last line is not written yet
-abbrev pub Ends : Result (Unit {0}) Halt → List ℕ → Option (List ℕ) → Option (List ℕ) → Option (List ℕ) → Type 0
-Ends end bytes left before now = EndsIn none_yet end bytes left ⊥ before now
+abbrev pub Ends : State → Result (Unit {0}) Halt → List ℕ → Option (List ℕ) → Option (List ℕ) → Option (List ℕ) → Type 0
+Ends start end bytes left before now = EndsIn none_yet start end bytes left ⊥ before now no_more
 
 -- one more line was answered, or the run comes to its end
-abbrev pub Turns : List ℕ → ℕ → Core → Option (List ℕ) → Option (List ℕ) → List ℕ → Option (List ℕ) → Option (List ℕ) → Result Bool Halt → Type 0
-Turns bytes n core unread left waiting before now (Ok true) = Answered bytes (n + 1) core unread waiting before now
-Turns bytes n core unread left waiting before now (Ok false) = Comes (Ok tt) bytes left waiting before now
-Turns bytes n core unread left waiting before now (Err halt) = Comes (Err halt) bytes left waiting before now
+abbrev pub Turns : State → List ℕ → ℕ → Core → Option (List ℕ) → Option (List ℕ) → List ℕ → Option (List ℕ) → Option (List ℕ) → Result Bool Halt → Type 0
+Turns start bytes n core unread left waiting before now (Ok true) = Answered start bytes (n + 1) core unread waiting before now
+Turns start bytes n core unread left waiting before now (Ok false) = Comes start (Ok tt) bytes left waiting before now
+Turns start bytes n core unread left waiting before now (Err halt) = Comes start (Err halt) bytes left waiting before now

@@ -1,12 +1,7 @@
--- Words and statuses.
-use Rattle.std.specs.Prelude.{ℕ, ◌≡◌, ◌∷◌, [], List, map, codes, Result, Ok, Err, String}
-use Rattle.std.specs.String.{string_bytes}
+-- Exit statuses.
+use Rattle.std.specs.Prelude.{ℕ, Result, Ok, Err}
 use Rattle.liq_serve.specs.declared.halts.Halt.{Halt}
 use Rattle.liq_serve.specs.declared.halts.Halt.TheVariants.{BadLine, ReadFault, WriteFault, NoMemory, Limit}
-
--- the words are exactly `run`
-abbrev pub AreRun : {A : Type 0} → List (String A) → Type 0
-AreRun words = map string_bytes words ≡ codes "run" ∷ []
 
 abbrev pub status_of : Result (Unit {0}) Halt → ℕ
 status_of (Ok done) = 0

@@ -12,7 +12,7 @@ use liq_types::{Command, Hint, NoMemory, Reply, Request, Steps};
 use std::sync::ledger::Ledger;
 
 /// No place is known.
-const NO_HINT: Hint = Hint {
+pub const NO_HINT: Hint = Hint {
     prev: None,
     next: None,
     version: 0,

@@ -4,6 +4,7 @@
 mod calls;
 mod ending;
 mod halts;
+mod load;
 mod run;
 mod top;
 mod waiting;

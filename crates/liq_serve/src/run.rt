@@ -97,11 +97,10 @@ impl Run {
         out: &mut K,
         steps: &mut Steps<L>,
     ) -> Result<(), Halt>
-        requires opening { StandsFor self.old.protocol opening }
         requires unread { self.old.reader ≡ [] }
         requires waiting { self.old.waiting.items ≡ [] }
-        ensures run { (bytes : List ℕ) → S.left input.old ≡ Some bytes
-            → Ends result bytes (S.left input.new) (K.held out.old) (K.held out.new) }
+        ensures run { (start : State) → StandsFor self.old.protocol start → (bytes : List ℕ) → S.left input.old ≡ Some bytes
+            → Ends start result bytes (S.left input.new) (K.held out.old) (K.held out.new) }
         ensures source { ReadCause result (S.faults input.old) (S.faults input.new) }
         ensures sink { WriteCause result (K.faults out.old) (K.faults out.new) }
     {
@@ -116,11 +115,10 @@ impl Run {
         out: &mut K,
         steps: &mut Steps<L>,
     ) -> Result<(), Halt>
-        requires opening { StandsFor self.old.protocol opening }
         requires unread { self.old.reader ≡ [] }
         requires waiting { self.old.waiting.items ≡ [] }
-        ensures run { (bytes : List ℕ) → S.left input.old ≡ Some bytes
-            → Comes result bytes (S.left input.new) self.new.waiting.items (K.held out.old) (K.held out.new) }
+        ensures run { (start : State) → StandsFor self.old.protocol start → (bytes : List ℕ) → S.left input.old ≡ Some bytes
+            → Comes start result bytes (S.left input.new) self.new.waiting.items (K.held out.old) (K.held out.new) }
         ensures caught_up { result ≡ Err Halt.ReadFault → self.new.waiting.items ≡ [] }
         ensures source { ReadCause result (S.faults input.old) (S.faults input.new) }
         ensures sink { WriteCause result (K.faults out.old) (K.faults out.new) }
@@ -140,8 +138,8 @@ impl Run {
 
     /// Writes what waits at the run's end. Where the sink meets a fault at it, that is the end.
     fn close<K: Sink>(&mut self, end: Result<(), Halt>, out: &mut K) -> Result<(), Halt>
-        ensures run { (bytes : List ℕ) (left before : Option (List ℕ)) → Comes end bytes left self.old.waiting.items before (K.held out.old)
-            → Ends result bytes left before (K.held out.new) }
+        ensures run { (start : State) (bytes : List ℕ) (left before : Option (List ℕ)) → Comes start end bytes left self.old.waiting.items before (K.held out.old)
+            → Ends start result bytes left before (K.held out.new) }
         ensures source { (old new : ℕ) → (end ≡ Err Halt.ReadFault → self.old.waiting.items ≡ []) → ReadCause end old new → ReadCause result old new }
         ensures sink { (old : ℕ) → WriteCause end old (K.faults out.old) → WriteCause result old (K.faults out.new) }
     {
@@ -164,9 +162,9 @@ impl Run {
         answered: u64,
     ) -> Result<bool, Halt>
         requires few { answered < LINES_MOST }
-        ensures turn { (bytes : List ℕ) (before : Option (List ℕ))
-            → Answered bytes answered self.old.protocol (unread self.old.reader (S.left input.old)) self.old.waiting.items before (K.held out.old)
-            → Turns bytes answered self.new.protocol (unread self.new.reader (S.left input.new)) (S.left input.new) self.new.waiting.items before (K.held out.new) result }
+        ensures turn { (start : State) (bytes : List ℕ) (before : Option (List ℕ))
+            → Answered start bytes answered self.old.protocol (unread self.old.reader (S.left input.old)) self.old.waiting.items before (K.held out.old)
+            → Turns start bytes answered self.new.protocol (unread self.new.reader (S.left input.new)) (S.left input.new) self.new.waiting.items before (K.held out.new) result }
         ensures caught_up { result ≡ Err Halt.ReadFault → self.new.waiting.items ≡ [] }
         ensures source { ReadCause result (S.faults input.old) (S.faults input.new) }
         ensures sink { WriteCause result (K.faults out.old) (K.faults out.new) }

@@ -1,4 +1,6 @@
 use Rattle.std.proofs.Common.{◌≡◌, ℕ, List, Some}
+use Rattle.liq_types.specs.State.{State}
+use Rattle.liq_core.specs.Core.{StandsFor}
 use Rattle.liq_serve.specs.Progress.{Answered}
 use Rattle.liq_lines.specs.Reading.{unread}
 use Rattle.liq_serve.proofs.run.Run.answer_lines.Given as goal
@@ -9,7 +11,7 @@ invariant-loop-answered g l =
     let left = g.S.Source.left in
     let held = g.K.Sink.held in
     record {
-      answered : (bytes : List ℕ) → left l.fn.input ≡ Some bytes → Answered bytes l.answered l.self.protocol (unread l.self.reader (left l.input)) l.self.waiting.items (held l.fn.out) (held l.out);
+      answered : (start : State) → StandsFor l.fn.self.protocol start → (bytes : List ℕ) → left l.fn.input ≡ Some bytes → Answered start bytes l.answered l.self.protocol (unread l.self.reader (left l.input)) l.self.waiting.items (held l.fn.out) (held l.out);
       source_count : g.S.Source.faults l.input ≡ g.S.Source.faults l.fn.input;
       sink_count : g.K.Sink.faults l.out ≡ g.K.Sink.faults l.fn.out;
     }
