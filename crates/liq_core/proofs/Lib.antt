@@ -16,6 +16,7 @@ pub mod Cutting
 pub mod Depositing
 pub mod Following
 pub mod Forecasting
+pub mod Generations
 pub mod Histories
 pub mod KeptReplies
 pub mod Lending

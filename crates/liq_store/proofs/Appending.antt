@@ -1,0 +1,224 @@
+-- What an append leaves of a store.
+use Rattle.std.proofs.Common.{◌≡◌, ◌⊎◌, ◌↔◌, inl, inr, ⊎_elim, ℕ, ◌+◌, ◌≤◌, ◌<◌, List, [], ◌∷◌, length, Bool, false, IsTrue, Option, Some, None, Ok, IfSome, IsSome, refl, sym, ◌∙◌, ap, subst, arith, length-append}
+use Rattle.liq_outside.specs.Disk.{LeavesOnly, LeftNow, LeftSince, Only}
+use Rattle.liq_outside.proofs.Moments.{at_last, started}
+use Rattle.liq_types.specs.declared.requests.Command.{Command}
+use Rattle.liq_types.specs.declared.requests.Request.{Request}
+use Rattle.liq_types.specs.declared.requests.Request.TheVariants.{Do}
+use Rattle.liq_types.specs.State.{State}
+use Rattle.liq_wire.specs.Fields.{command_of, heard}
+use Rattle.liq_core.specs.Core.{Core, StandsFor}
+use Rattle.liq_core.specs.Plan.{Plan, IsPlan}
+use Rattle.liq_core.specs.Verbs.{built_call}
+use Rattle.liq_core.specs.Step.{Allowed, after, after_ruling, ruling, step}
+use Rattle.liq_journal.specs.Bodies.{IsJournalOf}
+use Rattle.liq_journal.specs.Crash.{BeforeOrAfter, IsBodyOf, Stands, is_odd}
+use Rattle.liq_journal.specs.Settled.{IsSettled, JournalOn}
+use Rattle.liq_journal.specs.Written.{Open, Written, and_then, found_on}
+use Rattle.liq_pairs.specs.declared.side.Side.{Side}
+use Rattle.liq_pairs.specs.Kept.{IsKept, IsSettledFor}
+use Rattle.liq_pairs.specs.Sides.{has_odd, on}
+use Rattle.liq_core.proofs.AlikeReads.{Alike}
+use Rattle.liq_pairs.proofs.Alike.{core_alike, settled_alike}
+use Rattle.liq_pairs.proofs.Around.{kept_around, settled_after}
+use Rattle.liq_pairs.proofs.Hints.{heard_after, heard_rotate, heard_ruling}
+use Rattle.liq_store.specs.Answering.{read_back}
+use Rattle.liq_store.specs.Keeping.{IsAtRest, IsKeptAround, IsKeptNear, LeavesPairs}
+use Rattle.liq_store.specs.Stored.{Stored, taken_disk}
+use Rattle.liq_store.specs.Within.{HasRecords, IsWithin, stored}
+use Rattle.liq_store.proofs.Going.{Going, going_by, pairs_by, rest_now, rest_only, taken_is, told_by}
+use Rattle.liq_store.proofs.Steps.{planned_allowed}
+use Rattle.liq_store.proofs.Built.{built_stays}
+use Rattle.liq_store.proofs.OneDisk.{some_same, told_too}
+
+pub some_isnt_none : (n : ℕ) → Some n ≡ None → ⊥
+some_isnt_none n is = cc
+
+-- the same records, by the same numbers
+pub has_same : (o : Option (List ℕ)) (generation start count generation' start' count' : ℕ) → generation' ≡ generation → start' ≡ start → count' ≡ count → IfSome o (HasRecords generation start count) → IfSome o (HasRecords generation' start' count')
+has_same o generation start count generation' start' count' a b c has =
+    subst (λ (n : ℕ). IfSome o (HasRecords n start' count')) (sym a) (subst (λ (n : ℕ). IfSome o (HasRecords generation n count')) (sym b) (subst (λ (n : ℕ). IfSome o (HasRecords generation start n)) (sym c) has))
+
+-- the state after an allowed command is the step's, also by what is read back of it
+pub step_is_after : (s : State) (c : Command) → ruling s c ≡ Allowed → (step s (Do c)).0 ≡ after s c
+step_is_after s c allowed = ap (λ r. (after_ruling s c r).0) allowed
+
+one_record : (odd : Bool) (generation start count : ℕ) (bytes : List ℕ) (w : Written) → is_odd generation ≡ odd → found_on odd bytes ≡ Open w → w.generation ≡ generation → 57 + length w.checkpoint ≡ start → count ≤ length w.commands
+    → HasRecords generation start count bytes
+one_record odd generation start count bytes w parity found generation_is start_is within = record {
+  written = w;
+  journal = record { found = subst (λ (o : Bool). found_on o bytes ≡ Open w) (sym parity) found; generation_is = generation_is; start_is = start_is };
+  within = within;
+}
+
+pub settled_has : (generation start count : ℕ) (bytes : List ℕ) → IsSettled generation start count bytes → HasRecords generation start count bytes
+settled_has generation start count bytes is = one_record (is_odd generation) generation start count bytes is.written refl is.stands.found is.generation_is is.start_is (omega (arith, is.count_is))
+
+pub all_has : (o : Option (List ℕ)) (generation start count : ℕ) → IfSome o (IsSettled generation start count) → IfSome o (HasRecords generation start count)
+all_has None generation start count is = tt
+all_has (Some bytes) generation start count is = settled_has generation start count bytes is
+
+-- whatever an append leaves, the records before it are there
+pub around_has : (generation start count : ℕ) (held image : List ℕ) (c : Command) (is : IsSettled generation start count held) → BeforeOrAfter (is_odd generation) is.written c image → HasRecords generation start count image
+around_has generation start count held image c is (inl stands) =
+    one_record (is_odd generation) generation start count image is.written refl stands.found is.generation_is is.start_is (omega (arith, is.count_is))
+around_has generation start count held image c is (inr (inl pending)) =
+    one_record (is_odd generation) generation start count image is.written refl pending.found is.generation_is is.start_is (omega (arith, is.count_is))
+around_has generation start count held image c is (inr (inr stands)) =
+    one_record (is_odd generation) generation start count image (and_then is.written c) refl stands.found is.generation_is is.start_is (let n = length-append is.written.commands (c ∷ []) in omega (arith, is.count_is, n))
+
+-- where nothing is written, what a crash leaves is as it was
+pub written_never : {D : Type 0} (seen : D → Option (List ℕ)) (moment : D → ℕ) (left_at : D → ℕ → List ℕ → Type 0) (side : Side) (taken : JournalOn D) (b : D) (core then : Core) (stopped : Option ℕ) → IsWithin seen moment left_at side taken b core stopped
+    → (old : Stored D) → stored side taken b core stopped ≡ old → old.stopped ≡ None → (held : List ℕ) (w : Written) (c : Command) → seen (taken_disk old) ≡ Some held → found_on (has_odd old.side) held ≡ Open w
+    → LeavesOnly moment left_at (taken_disk old) (taken_disk (stored side taken b then stopped)) (BeforeOrAfter (has_odd old.side) w c)
+written_never {D} seen moment left_at side taken b core then stopped within old same none held w c told found =
+    let P : Stored D → Type 0 = λ o. o.stopped ≡ None → seen (taken_disk o) ≡ Some held → found_on (has_odd o.side) held ≡ Open w
+    → LeavesOnly moment left_at (taken_disk o) (taken_disk (stored side taken b then stopped)) (BeforeOrAfter (has_odd o.side) w c) in
+    subst P same here none told found
+  where
+    here : stopped ≡ None → seen (on side (on side taken.disk b) (on side b taken.disk)) ≡ Some held → found_on (has_odd side) held ≡ Open w
+        → LeavesOnly moment left_at (on side (on side taken.disk b) (on side b taken.disk)) (on side (on side taken.disk b) (on side b taken.disk)) (BeforeOrAfter (has_odd side) w c)
+    here none t f =
+        let told_here : seen taken.disk ≡ Some held = ap seen (sym (taken_is side taken.disk b)) ∙ t in
+        let going = going_by seen moment left_at side taken b core stopped none within.order in
+        let is : IsSettled taken.generation taken.start taken.count held = subst (λ (o : Option (List ℕ)). IfSome o (IsSettled taken.generation taken.start taken.count)) told_here (within.settled none) in
+        let stands : Stands (has_odd side) held is.written = subst (λ (o : Bool). Stands o held is.written) within.parity_is is.stands in
+        let opens : Open is.written ≡ Open w = sym stands.found ∙ f in
+        let one : is.written ≡ w = cc (opens) in
+        let all = started moment left_at taken.disk (BeforeOrAfter (has_odd side) w c) (λ image left.
+        inl (subst (λ (l : List ℕ). Stands (has_odd side) l w) (sym (rest_now seen moment left_at taken.disk held told_here going.taken_rests image left)) (subst (λ (v : Written). Stands (has_odd side) held v) one stands))) in
+        subst (λ (x : D). LeavesOnly moment left_at x x (BeforeOrAfter (has_odd side) w c)) (sym (taken_is side taken.disk b)) all
+
+-- a call that appends the record of an allowed command, on a store that was not stopped
+pub record Appends {D : Type 0} (seen : D → Option (List ℕ)) (moment : D → ℕ) (left_at : D → ℕ → List ℕ → Type 0) (side : Side) (taken new : JournalOn D) (b : D) (core : Core) (c : Command) (body : List ℕ) : Type 0 where
+  pub of : IsBodyOf body (read_back c)
+  pub going : Going seen moment left_at side taken.disk b core
+  pub parity : is_odd taken.generation ≡ has_odd side
+  pub settled : IfSome (seen taken.disk) (IsSettled taken.generation taken.start taken.count)
+  pub allowed : (s : State) → StandsFor core s → ruling s c ≡ Allowed
+  pub telling : IsSome (seen new.disk) ↔ IsSome (seen taken.disk)
+  pub crash : (held : List ℕ) (w : Written) (command : Command) → seen taken.disk ≡ Some held → Only held (LeftNow moment left_at taken.disk) → Stands (is_odd taken.generation) held w → IsBodyOf body command
+      → LeavesOnly moment left_at taken.disk new.disk (BeforeOrAfter (is_odd taken.generation) w command)
+
+pub appends : {D : Type 0} (seen : D → Option (List ℕ)) (moment : D → ℕ) (left_at : D → ℕ → List ℕ → Type 0) (side : Side) (taken new : JournalOn D) (b : D) (core : Core) (stopped : Option ℕ) (c : Command) (body : List ℕ) (plan : Plan)
+    → stopped ≡ None → IsWithin seen moment left_at side taken b core stopped → IsTrue (built_call c.call) → command_of body ≡ Ok (record c { call = heard c.call })
+    → ((s : State) → StandsFor core s → (plan.command ≡ c) × IsPlan s plan)
+    → (IsSome (seen new.disk) ↔ IsSome (seen taken.disk))
+    → ((held : List ℕ) (w : Written) (command : Command) → seen taken.disk ≡ Some held → Only held (LeftNow moment left_at taken.disk) → Stands (is_odd taken.generation) held w → IsBodyOf body command
+    → LeavesOnly moment left_at taken.disk new.disk (BeforeOrAfter (is_odd taken.generation) w command))
+    → Appends seen moment left_at side taken new b core c body
+appends seen moment left_at side taken new b core stopped c body plan none within is_built read planned telling crash = record {
+  of = record { spelled = read; no_rotation = heard_rotate c ∙ built_stays c.call is_built };
+  going = going_by seen moment left_at side taken b core stopped none within.order;
+  parity = within.parity_is;
+  settled = within.settled none;
+  allowed = λ s stands. planned_allowed s c plan (planned s stands);
+  telling = telling;
+  crash = crash;
+}
+
+module _ {D : Type 0} (seen : D → Option (List ℕ)) (moment : D → ℕ) (left_at : D → ℕ → List ℕ → Type 0) (side : Side) (taken new : JournalOn D) (b : D) (core : Core) (c : Command) (body : List ℕ)
+    (app : Appends seen moment left_at side taken new b core c body) where
+  pub settled_on : (held : List ℕ) → seen taken.disk ≡ Some held → IsSettled taken.generation taken.start taken.count held
+  settled_on held told = subst (λ (o : Option (List ℕ)). IfSome o (IsSettled taken.generation taken.start taken.count)) told app.settled
+
+  -- what a crash in it may have left of the disk that is taken
+  pub leaves : (held : List ℕ) (told : seen taken.disk ≡ Some held) → LeavesOnly moment left_at taken.disk new.disk (BeforeOrAfter (is_odd taken.generation) (settled_on held told).written (read_back c))
+  leaves held told =
+      let only : Only held (LeftNow moment left_at taken.disk) = subst (λ (o : Option (List ℕ)). IfSome o (λ l. Only l (LeftNow moment left_at taken.disk))) told app.going.taken_rests in
+      app.crash held (settled_on held told).written (read_back c) told only (settled_on held told).stands app.of
+
+  around : (held other image : List ℕ) (told : seen taken.disk ≡ Some held) → seen b ≡ Some other → (s : State) → StandsFor core s
+      → BeforeOrAfter (is_odd taken.generation) (settled_on held told).written (read_back c) image → IsKept (on side image other) (on side other image) s ⊎ IsKept (on side image other) (on side other image) (after s (read_back c))
+  around held other image told to s stands left =
+      let is = settled_on held told in
+      kept_around side held other image s is.written (read_back c) (app.going.settled held other told to s stands)
+      (subst (λ (o : Bool). found_on o held ≡ Open is.written) app.parity is.stands.found)
+      (heard_ruling s c ∙ app.allowed s stands)
+      (subst (λ (o : Bool). BeforeOrAfter o is.written (read_back c) image) app.parity left)
+
+  -- every pair that a crash in it may have left
+  pub kept_pairs : (held other : List ℕ) → seen taken.disk ≡ Some held → seen b ≡ Some other → (s : State) → StandsFor core s
+      → LeavesPairs moment left_at (on side taken.disk b) (on side b taken.disk) (on side new.disk b) (on side b new.disk) (IsKeptAround s (Do c))
+  kept_pairs held other told to s stands = pairs_by seen moment left_at side taken.disk new.disk b (IsKeptAround s (Do c)) (λ x y lx ly.
+      let same : y ≡ other = rest_only seen moment left_at b other to app.going.beside_rests y ly in
+      let one : (step s (Do c)).0 ≡ after s (read_back c) = step_is_after s c (app.allowed s stands) ∙ sym (heard_after s c) in
+      let kept = around held other x told to s stands ((leaves held told).each x lx) in
+      subst (λ (z : List ℕ). IsKeptAround s (Do c) (on side x z) (on side z x)) (sym same)
+      (⊎_elim (λ before. inl before) (λ then. inr (subst (λ (t : State). IsKept (on side x other) (on side other x) t) (sym one) then)) kept))
+
+  -- every pair that a crash after it may leave
+  pub kept_near : (now other x y : List ℕ) → seen new.disk ≡ Some now → seen b ≡ Some other → LeftNow moment left_at new.disk x → LeftNow moment left_at b y
+      → (s : State) → StandsFor core s → IsKeptNear s (on side x y) (on side y x)
+  kept_near now other x y tn to lx ly s stands =
+      let before = told_too (seen new.disk) (seen taken.disk) (app.telling.1, app.telling.0) now tn in
+      let same : y ≡ other = rest_now seen moment left_at b other to app.going.beside_rests y ly in
+      let left = at_last moment left_at taken.disk new.disk _ (leaves before.0 before.1) x lx in
+      let kept = around before.0 other x before.1 to s stands left in
+      subst (λ (z : List ℕ). IsKeptNear s (on side x z) (on side z x)) (sym same)
+      (⊎_elim (λ still. inl still) (λ then. inr (read_back c, heard_ruling s c ∙ app.allowed s stands, then)) kept)
+
+  -- the records before it are there after it, whatever became of it
+  pub still_has : ((disk : D) (held : List ℕ) → seen disk ≡ Some held → LeftNow moment left_at disk held) → IfSome (seen new.disk) (HasRecords taken.generation taken.start taken.count)
+  still_has stays = by (seen new.disk) refl
+    where
+      by : (o : Option (List ℕ)) → seen new.disk ≡ o → IfSome o (HasRecords taken.generation taken.start taken.count)
+      by None none = tt
+      by (Some now) told =
+          let before = told_too (seen new.disk) (seen taken.disk) (app.telling.1, app.telling.0) now told in
+          let left = at_last moment left_at taken.disk new.disk _ (leaves before.0 before.1) now (stays new.disk now told) in
+          around_has taken.generation taken.start taken.count before.0 now (read_back c) (settled_on before.0 before.1) left
+
+  -- ---- as the call says it, of the store before it
+
+  pub kept_from : (old : Stored D) (stopped : Option ℕ) → stored side taken b core stopped ≡ old → (l r : List ℕ) (s : State) → seen old.left ≡ Some l → seen old.right ≡ Some r → StandsFor old.core s → (request : Request) → request ≡ Do c
+      → LeavesPairs moment left_at old.left old.right (on side new.disk b) (on side b new.disk) (IsKeptAround s request)
+  kept_from old stopped same l r s tl tr stands request is =
+      let P : Stored D → Type 0 = λ o. (l r : List ℕ) (s : State) → seen o.left ≡ Some l → seen o.right ≡ Some r → StandsFor o.core s
+      → LeavesPairs moment left_at o.left o.right (on side new.disk b) (on side b new.disk) (IsKeptAround s (Do c)) in
+      subst (λ (q : Request). LeavesPairs moment left_at old.left old.right (on side new.disk b) (on side b new.disk) (IsKeptAround s q)) (sym is)
+      (subst P same (λ x y t tx ty so. told_by seen side taken.disk b (λ u v. LeavesPairs moment left_at (on side taken.disk b) (on side b taken.disk) (on side new.disk b) (on side b new.disk) (IsKeptAround t (Do c))) (λ held other th to. kept_pairs held other th to t so) x y tx ty) l r s tl tr stands)
+
+  pub written_from : (old : Stored D) (stopped later : Option ℕ) (then : Core) → stored side taken b core stopped ≡ old → (held : List ℕ) (w : Written) (k : Command) (request : Request) → seen (taken_disk old) ≡ Some held → found_on (has_odd old.side) held ≡ Open w → request ≡ Do c → request ≡ Do k
+      → LeavesOnly moment left_at (taken_disk old) (taken_disk (stored side new b then later)) (BeforeOrAfter (has_odd old.side) w (read_back k))
+  written_from old stopped later then same held w k request told found is_c is_k =
+      let both : Do c ≡ Do k = sym is_c ∙ is_k in
+      let one : c ≡ k = cc (both) in
+      let P : Stored D → Type 0 = λ o. seen (taken_disk o) ≡ Some held → found_on (has_odd o.side) held ≡ Open w
+      → LeavesOnly moment left_at (taken_disk o) (taken_disk (stored side new b then later)) (BeforeOrAfter (has_odd o.side) w (read_back c)) in
+      subst (λ (d : Command). LeavesOnly moment left_at (taken_disk old) (taken_disk (stored side new b then later)) (BeforeOrAfter (has_odd old.side) w (read_back d))) one
+      (subst P same here told found)
+    where
+      here : seen (on side (on side taken.disk b) (on side b taken.disk)) ≡ Some held → found_on (has_odd side) held ≡ Open w
+          → LeavesOnly moment left_at (on side (on side taken.disk b) (on side b taken.disk)) (on side (on side new.disk b) (on side b new.disk)) (BeforeOrAfter (has_odd side) w (read_back c))
+      here t f =
+          let told_here : seen taken.disk ≡ Some held = ap seen (sym (taken_is side taken.disk b)) ∙ t in
+          let is = settled_on held told_here in
+          let found_here : found_on (is_odd taken.generation) held ≡ Open w = subst (λ (o : Bool). found_on o held ≡ Open w) (sym app.parity) f in
+          let opens : Open is.written ≡ Open w = sym is.stands.found ∙ found_here in
+          let one : is.written ≡ w = cc (opens) in
+          let all : LeavesOnly moment left_at taken.disk new.disk (BeforeOrAfter (has_odd side) w (read_back c)) =
+          subst (λ (o : Bool). LeavesOnly moment left_at taken.disk new.disk (BeforeOrAfter o w (read_back c))) app.parity
+          (subst (λ (v : Written). LeavesOnly moment left_at taken.disk new.disk (BeforeOrAfter (is_odd taken.generation) v (read_back c))) one (leaves held told_here)) in
+          subst (λ (x : D). LeavesOnly moment left_at x (on side (on side new.disk b) (on side b new.disk)) (BeforeOrAfter (has_odd side) w (read_back c))) (sym (taken_is side taken.disk b))
+          (subst (λ (y : D). LeavesOnly moment left_at taken.disk y (BeforeOrAfter (has_odd side) w (read_back c))) (sym (taken_is side new.disk b)) all)
+
+  -- ---- the record is on the disk, and the step is made
+
+  pub went_on : (then : Core) (s : State) → StandsFor core s → ((t : State) → StandsFor core t → StandsFor then (after t c)) → IsAtRest seen moment left_at new.disk
+      → ((held : List ℕ) (w : Written) (command : Command) → seen taken.disk ≡ Some held → Stands (is_odd taken.generation) held w → IsBodyOf body command → (now : List ℕ) × (seen new.disk ≡ Some now) × Stands (is_odd taken.generation) now (and_then w command))
+      → Going seen moment left_at side new.disk b then
+  went_on then s stands steps rests appended = record {
+    taken_rests = rests;
+    beside_rests = app.going.beside_rests;
+    settled = λ now other tn to t so.
+        let before = told_too (seen new.disk) (seen taken.disk) (app.telling.1, app.telling.0) now tn in
+        let is = settled_on before.0 before.1 in
+        let one = appended before.0 is.written (read_back c) before.1 is.stands app.of in
+        let same : one.0 ≡ now = some_same one.0 now (seen new.disk) one.1 tn in
+        let last : Stands (has_odd side) now (and_then is.written (read_back c)) = subst (λ (o : Bool). Stands o now (and_then is.written (read_back c))) app.parity (subst (λ (l : List ℕ). Stands (is_odd taken.generation) l (and_then is.written (read_back c))) same one.2) in
+        let settled = settled_after side before.0 other now s is.written (read_back c) (app.going.settled before.0 other before.1 to s stands)
+        (subst (λ (o : Bool). found_on o before.0 ≡ Open is.written) app.parity is.stands.found) (heard_ruling s c ∙ app.allowed s stands) last in
+        let alike : Alike (after s (read_back c)) t = subst (λ (u : State). Alike u t) (sym (heard_after s c)) (core_alike then (after s c) t (steps s stands) so) in
+        settled_alike alike side (on side now other) (on side other now) settled;
+  }

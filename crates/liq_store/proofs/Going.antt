@@ -1,0 +1,121 @@
+-- A store by its side: the disk that is taken, and the one beside it.
+use Rattle.std.proofs.Common.{◌≡◌, ◌⊎◌, inl, inr, ⊎_elim, ℕ, ◌≤◌, List, Option, Some, None, IfSome, refl, sym, ◌∙◌, ap, subst, arith}
+use Rattle.liq_outside.specs.Disk.{LeftNow, LeftSince, Only}
+use Rattle.liq_types.specs.declared.requests.Request.{Request}
+use Rattle.liq_types.specs.Image.{Image}
+use Rattle.liq_types.specs.State.{State}
+use Rattle.liq_core.specs.Core.{Core, SameContent, StandsFor}
+use Rattle.liq_journal.specs.Settled.{JournalOn}
+use Rattle.liq_pairs.specs.declared.side.Side.{Side}
+use Rattle.liq_pairs.specs.declared.side.Side.TheVariants.{Left, Right}
+use Rattle.liq_pairs.specs.Kept.{IsKept, IsSettledFor}
+use Rattle.liq_pairs.specs.Sides.{on}
+use Rattle.liq_pairs.proofs.Keeping.{settled_kept}
+use Rattle.liq_store.specs.Keeping.{IsAtRest, IsGoing, IsHalted, IsInOrder, IsInOrderWith, IsKeptAround, IsKeptNear, LeavesPairs}
+use Rattle.liq_store.specs.Stored.{Stored}
+use Rattle.liq_store.specs.Within.{IsWithin, stored}
+use Rattle.liq_store.proofs.Steps.{stands_before}
+
+pub taken_is : {D : Type 0} (side : Side) (t b : D) → on side (on side t b) (on side b t) ≡ t
+taken_is Left t b = refl
+taken_is Right t b = refl
+
+pub told_by : {D : Type 0} (seen : D → Option (List ℕ)) (side : Side) (t b : D) (P : List ℕ → List ℕ → Type 0)
+    → ((held other : List ℕ) → seen t ≡ Some held → seen b ≡ Some other → P (on side held other) (on side other held)) → (l r : List ℕ) → seen (on side t b) ≡ Some l → seen (on side b t) ≡ Some r → P l r
+told_by seen Left t b P h l r tl tr = h l r tl tr
+told_by seen Right t b P h l r tl tr = h r l tr tl
+
+module _ {D : Type 0} (seen : D → Option (List ℕ)) (moment : D → ℕ) (left_at : D → ℕ → List ℕ → Type 0) where
+  -- ---- what is told of another protocol of the same content
+
+  pub order_same : (side : Side) (taken : JournalOn D) (b : D) (old new : Core) (stopped : Option ℕ) → SameContent old new → IsInOrder seen moment left_at (stored side taken b old stopped)
+      → IsInOrder seen moment left_at (stored side taken b new stopped)
+  order_same side taken b old new None same order = record {
+    left = order.left;
+    right = order.right;
+    settled = λ l r tl tr s stands. order.settled l r tl tr s (stands_before old new s same stands);
+  }
+  order_same side taken b old new (Some sum) same order = record {
+    read = λ l r tl tr s stands. order.read l r tl tr s (stands_before old new s same stands);
+    left_so = λ l r x y tl tr lx ly s stands. order.left_so l r x y tl tr lx ly s (stands_before old new s same stands);
+  }
+
+  pub within_same : (side : Side) (taken : JournalOn D) (b : D) (old new : Core) (stopped : Option ℕ) → SameContent old new → IsWithin seen moment left_at side taken b old stopped
+      → IsWithin seen moment left_at side taken b new stopped
+  within_same side taken b old new stopped same within = record {
+    order = order_same side taken b old new stopped same within.order;
+    generation_is = within.generation_is ∙ sym (ap (λ (i : Image). i.generation) same.image);
+    parity_is = within.parity_is;
+    count_is = within.count_is ∙ sym same.records;
+    told = within.told;
+    settled = within.settled;
+  }
+
+  -- ---- what a crash leaves of a disk at rest
+
+  pub rest_only : (disk : D) (held : List ℕ) → seen disk ≡ Some held → IsAtRest seen moment left_at disk → (image : List ℕ) → LeftSince moment left_at disk (moment disk) image → image ≡ held
+  rest_only disk held told rests image left =
+      let only : Only held (LeftNow moment left_at disk) = subst (λ (o : Option (List ℕ)). IfSome o (λ l. Only l (LeftNow moment left_at disk))) told rests in
+      let here : left.0 ≡ moment disk = omega (arith, left.1, left.2) in
+      only image (subst (λ (k : ℕ). left_at disk k image) here left.3)
+
+  pub rest_now : (disk : D) (held : List ℕ) → seen disk ≡ Some held → IsAtRest seen moment left_at disk → (image : List ℕ) → LeftNow moment left_at disk image → image ≡ held
+  rest_now disk held told rests image left =
+      let only : Only held (LeftNow moment left_at disk) = subst (λ (o : Option (List ℕ)). IfSome o (λ l. Only l (LeftNow moment left_at disk))) told rests in
+      only image left
+
+  pub going_of : (store : Stored D) → store.stopped ≡ None → IsInOrder seen moment left_at store → IsGoing seen moment left_at store
+  going_of store none order = subst (λ (o : Option ℕ). IsInOrderWith seen moment left_at o store) none order
+
+  -- both disks as they were
+  pub pairs_at_rest : (store : Stored D) → IsGoing seen moment left_at store → (l r : List ℕ) → seen store.left ≡ Some l → seen store.right ≡ Some r → (s : State) → StandsFor store.core s → (request : Request)
+      → LeavesPairs moment left_at store.left store.right store.left store.right (IsKeptAround s request)
+  pairs_at_rest store going l r tl tr s stands request a b la lb =
+      let ea : a ≡ l = rest_only store.left l tl going.left a la in
+      let eb : b ≡ r = rest_only store.right r tr going.right b lb in
+      let kept : IsKept l r s = settled_kept store.side l r s (going.settled l r tl tr s stands) in
+      inl (subst (λ (x : List ℕ). IsKept x b s) (sym ea) (subst (λ (y : List ℕ). IsKept l y s) (sym eb) kept))
+
+  pub unchanged_pairs : (old store : Stored D) → store ≡ old → IsInOrder seen moment left_at store → old.stopped ≡ None → (l r : List ℕ) (s : State) → seen old.left ≡ Some l → seen old.right ≡ Some r → StandsFor old.core s → (request : Request)
+      → LeavesPairs moment left_at old.left old.right store.left store.right (IsKeptAround s request)
+  unchanged_pairs old store same order =
+      let P : Stored D → Type 0 = λ o. o.stopped ≡ None → (l r : List ℕ) (s : State) → seen o.left ≡ Some l → seen o.right ≡ Some r → StandsFor o.core s → (request : Request)
+      → LeavesPairs moment left_at o.left o.right store.left store.right (IsKeptAround s request) in
+      subst P same (λ none l r s tl tr stands request. pairs_at_rest store (going_of store none order) l r tl tr s stands request)
+
+  -- ---- by the side
+
+  pub record Going (side : Side) (t b : D) (core : Core) : Type 0 where
+    pub taken_rests : IsAtRest seen moment left_at t
+    pub beside_rests : IsAtRest seen moment left_at b
+    pub settled : (held other : List ℕ) → seen t ≡ Some held → seen b ≡ Some other → (s : State) → StandsFor core s → IsSettledFor side (on side held other) (on side other held) s
+
+  pub going_by : (side : Side) (taken : JournalOn D) (b : D) (core : Core) (stopped : Option ℕ) → stopped ≡ None → IsInOrder seen moment left_at (stored side taken b core stopped) → Going side taken.disk b core
+  going_by Left taken b core stopped none order =
+      let is = going_of (stored Left taken b core stopped) none order in
+      record { taken_rests = is.left; beside_rests = is.right; settled = is.settled }
+  going_by Right taken b core stopped none order =
+      let is = going_of (stored Right taken b core stopped) none order in
+      record { taken_rests = is.right; beside_rests = is.left; settled = λ held other th to s stands. is.settled other held to th s stands }
+
+  pub order_going : (side : Side) (taken : JournalOn D) (b : D) (core : Core) → Going side taken.disk b core → IsInOrder seen moment left_at (stored side taken b core None)
+  order_going Left taken b core going = record { left = going.taken_rests; right = going.beside_rests; settled = going.settled }
+  order_going Right taken b core going = record { left = going.beside_rests; right = going.taken_rests; settled = λ l r tl tr s stands. going.settled r l tr tl s stands }
+
+  -- what a crash now may leave of both, and so what they tell
+  pub order_halted : (side : Side) (taken : JournalOn D) (b : D) (core : Core) (sum : ℕ) → ((disk : D) (held : List ℕ) → seen disk ≡ Some held → LeftNow moment left_at disk held)
+      → ((held other x y : List ℕ) → seen taken.disk ≡ Some held → seen b ≡ Some other → LeftNow moment left_at taken.disk x → LeftNow moment left_at b y → (s : State) → StandsFor core s → IsKeptNear s (on side x y) (on side y x))
+      → IsInOrder seen moment left_at (stored side taken b core (Some sum))
+  order_halted Left taken b core sum stays near = record {
+    read = λ l r tl tr s stands. near l r l r tl tr (stays taken.disk l tl) (stays b r tr) s stands;
+    left_so = λ l r x y tl tr lx ly s stands. near l r x y tl tr lx ly s stands;
+  }
+  order_halted Right taken b core sum stays near = record {
+    read = λ l r tl tr s stands. near r l r l tr tl (stays taken.disk r tr) (stays b l tl) s stands;
+    left_so = λ l r x y tl tr lx ly s stands. near r l y x tr tl ly lx s stands;
+  }
+
+  pub pairs_by : (side : Side) (t new b : D) (P : List ℕ → List ℕ → Type 0) → ((x y : List ℕ) → LeftSince moment left_at new (moment t) x → LeftSince moment left_at b (moment b) y → P (on side x y) (on side y x))
+      → LeavesPairs moment left_at (on side t b) (on side b t) (on side new b) (on side b new) P
+  pairs_by Left t new b P h x y lx ly = h x y lx ly
+  pairs_by Right t new b P h x y lx ly = h y x ly lx

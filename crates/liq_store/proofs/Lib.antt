@@ -1,0 +1,11 @@
+pub mod Appending
+pub mod Beginning
+pub mod Built
+pub mod Generations
+pub mod Going
+pub mod Listing
+pub mod Looking
+pub mod OneDisk
+pub mod Opening
+pub mod Replaying
+pub mod Steps

@@ -1,0 +1,100 @@
+-- A store whose disk was only looked at.
+use Rattle.std.proofs.Common.{◌≡◌, ◌⊎◌, inl, inr, ℕ, ◌+◌, ◌≤◌, List, length, take, Option, Some, None, IfSome, Bool, refl, sym, ◌∙◌, ap, subst, arith}
+use Rattle.std.proofs.lemmas.List.{take_all}
+use Rattle.liq_outside.specs.Disk.{LeftNow, Only}
+use Rattle.liq_types.specs.declared.requests.Command.{Command}
+use Rattle.liq_types.specs.State.{State}
+use Rattle.liq_core.specs.Core.{Core, StandsFor}
+use Rattle.liq_journal.specs.Bodies.{IsJournalOf}
+use Rattle.liq_journal.specs.Crash.{is_odd}
+use Rattle.liq_journal.specs.Looked.{Looked}
+use Rattle.liq_journal.specs.Settled.{IsSettled, JournalOn}
+use Rattle.liq_journal.specs.Written.{Open, Written, found_on}
+use Rattle.liq_pairs.specs.declared.side.Side.{Side}
+use Rattle.liq_pairs.specs.declared.side.Side.TheVariants.{Left, Right}
+use Rattle.liq_pairs.specs.Kept.{IsKept}
+use Rattle.liq_pairs.specs.Sides.{has_odd, on}
+use Rattle.liq_pairs.proofs.Keeping.{settled_kept}
+use Rattle.liq_store.specs.Keeping.{IsAtRest, IsInOrder, IsKeptNear}
+use Rattle.liq_store.specs.Stored.{Stored, taken_disk}
+use Rattle.liq_store.specs.Within.{HasRecords, IsWithin, stored}
+use Rattle.liq_store.proofs.Appending.{has_same}
+use Rattle.liq_store.proofs.Going.{Going, going_by, order_going, order_halted, rest_now, taken_is}
+
+settled_same : (o : Option (List ℕ)) (generation start count generation' start' count' : ℕ) → generation' ≡ generation → start' ≡ start → count' ≡ count → IfSome o (IsSettled generation start count) → IfSome o (IsSettled generation' start' count')
+settled_same o generation start count generation' start' count' a b c is =
+    subst (λ (n : ℕ). IfSome o (IsSettled n start' count')) (sym a) (subst (λ (n : ℕ). IfSome o (IsSettled generation n count')) (sym b) (subst (λ (n : ℕ). IfSome o (IsSettled generation start n)) (sym c) is))
+
+module _ {D : Type 0} (seen : D → Option (List ℕ)) (moment : D → ℕ) (left_at : D → ℕ → List ℕ → Type 0) (stays : (disk : D) (held : List ℕ) → seen disk ≡ Some held → LeftNow moment left_at disk held) where
+  -- what a crash now may leave of a store is kept for its state, or for it with one command more
+  near_of : (side : Side) (taken : JournalOn D) (b : D) (core : Core) (stopped : Option ℕ) → IsInOrder seen moment left_at (stored side taken b core stopped)
+      → (held other x y : List ℕ) → seen taken.disk ≡ Some held → seen b ≡ Some other → LeftNow moment left_at taken.disk x → LeftNow moment left_at b y → (s : State) → StandsFor core s → IsKeptNear s (on side x y) (on side y x)
+  near_of side taken b core None order held other x y th to lx ly s stands =
+      let going = going_by seen moment left_at side taken b core None refl order in
+      let ex = rest_now seen moment left_at taken.disk held th going.taken_rests x lx in
+      let ey = rest_now seen moment left_at b other to going.beside_rests y ly in
+      let kept = settled_kept side (on side held other) (on side other held) s (going.settled held other th to s stands) in
+      inl (subst (λ (m : List ℕ). IsKept (on side m y) (on side y m) s) (sym ex) (subst (λ (n : List ℕ). IsKept (on side held n) (on side n held) s) (sym ey) kept))
+  near_of Left taken b core (Some sum) order held other x y th to lx ly s stands = order.left_so held other x y th to lx ly s stands
+  near_of Right taken b core (Some sum) order held other x y th to lx ly s stands = order.left_so other held y x to th ly lx s stands
+
+  module _ (side : Side) (taken new : JournalOn D) (b : D) (core : Core) (looked : Looked seen moment left_at taken.disk new.disk) where
+    pub halted_looked : (stopped : Option ℕ) → IsInOrder seen moment left_at (stored side taken b core stopped) → (sum : ℕ) → IsInOrder seen moment left_at (stored side new b core (Some sum))
+    halted_looked stopped order sum = order_halted seen moment left_at side new b core sum stays
+        (λ held other x y th to lx ly s stands. near_of side taken b core stopped order held other x y (sym looked.same ∙ th) to (looked.within x lx) ly s stands)
+
+    going_looked : Going seen moment left_at side taken.disk b core → Going seen moment left_at side new.disk b core
+    going_looked going = record {
+      taken_rests = rests (seen taken.disk) refl going.taken_rests;
+      beside_rests = going.beside_rests;
+      settled = λ held other th to s stands. going.settled held other (sym looked.same ∙ th) to s stands;
+    }
+      where
+        rests : (o : Option (List ℕ)) → seen taken.disk ≡ o → IfSome o (λ l. Only l (LeftNow moment left_at taken.disk)) → IsAtRest seen moment left_at new.disk
+        rests None none is = subst (λ (o : Option (List ℕ)). IfSome o (λ l. Only l (LeftNow moment left_at new.disk))) (sym (looked.same ∙ none)) tt
+        rests (Some held) told is = subst (λ (o : Option (List ℕ)). IfSome o (λ l. Only l (LeftNow moment left_at new.disk))) (sym (looked.same ∙ told)) (λ image left. is image (looked.within image left))
+
+    pub order_looked : (stopped : Option ℕ) → IsInOrder seen moment left_at (stored side taken b core stopped) → IsInOrder seen moment left_at (stored side new b core stopped)
+    order_looked None order = order_going seen moment left_at side new b core (going_looked (going_by seen moment left_at side taken b core None refl order))
+    order_looked (Some sum) order = halted_looked (Some sum) order sum
+
+    -- the same journal, by which a store that goes on, or one that stops, keeps what it kept
+    pub within_looked : (stopped later : Option ℕ) → new ≡ record taken { disk = new.disk } → IsWithin seen moment left_at side taken b core stopped → IsInOrder seen moment left_at (stored side new b core later) → (later ≡ None → stopped ≡ None) → IsWithin seen moment left_at side new b core later
+    within_looked stopped later same within order goes =
+        let generation : new.generation ≡ taken.generation = ap (λ (j : JournalOn D). j.generation) same in
+        let start : new.start ≡ taken.start = ap (λ (j : JournalOn D). j.start) same in
+        let count : new.count ≡ taken.count = ap (λ (j : JournalOn D). j.count) same in
+        record {
+          order = order;
+          generation_is = generation ∙ within.generation_is;
+          parity_is = ap is_odd generation ∙ within.parity_is;
+          count_is = count ∙ within.count_is;
+          told = has_same (seen new.disk) taken.generation taken.start taken.count new.generation new.start new.count generation start count
+              (subst (λ (o : Option (List ℕ)). IfSome o (HasRecords taken.generation taken.start taken.count)) (sym looked.same) within.told);
+          settled = λ none. settled_same (seen new.disk) taken.generation taken.start taken.count new.generation new.start new.count generation start count
+              (subst (λ (o : Option (List ℕ)). IfSome o (IsSettled taken.generation taken.start taken.count)) (sym looked.same) (within.settled (goes none)));
+        }
+
+-- while it is not stopped, the commands that are counted are all
+pub all_read : {D : Type 0} (seen : D → Option (List ℕ)) (moment : D → ℕ) (left_at : D → ℕ → List ℕ → Type 0) (side : Side) (taken : JournalOn D) (b : D) (core : Core) (stopped : Option ℕ) → IsWithin seen moment left_at side taken b core stopped
+    → (old : Stored D) → stored side taken b core stopped ≡ old → (items : List Command)
+    → ((held : List ℕ) (w : Written) → seen taken.disk ≡ Some held → IsJournalOf taken.generation taken.start held w → taken.count ≤ length w.commands → items ≡ take taken.count w.commands)
+    → old.stopped ≡ None → (held : List ℕ) (w : Written) → seen (taken_disk old) ≡ Some held → found_on (has_odd old.side) held ≡ Open w → items ≡ w.commands
+all_read {D} seen moment left_at side taken b core stopped within old same items read none held w told found =
+    let P : Stored D → Type 0 = λ o. o.stopped ≡ None → seen (taken_disk o) ≡ Some held → found_on (has_odd o.side) held ≡ Open w → items ≡ w.commands in
+    subst P same here none told found
+  where
+    here : stopped ≡ None → seen (on side (on side taken.disk b) (on side b taken.disk)) ≡ Some held → found_on (has_odd side) held ≡ Open w → items ≡ w.commands
+    here none t f =
+        let told_here : seen taken.disk ≡ Some held = ap seen (sym (taken_is side taken.disk b)) ∙ t in
+        let is : IsSettled taken.generation taken.start taken.count held = subst (λ (o : Option (List ℕ)). IfSome o (IsSettled taken.generation taken.start taken.count)) told_here (within.settled none) in
+        let found_here : found_on (is_odd taken.generation) held ≡ Open w = subst (λ (o : Bool). found_on o held ≡ Open w) (sym within.parity_is) f in
+        let opens : Open is.written ≡ Open w = sym is.stands.found ∙ found_here in
+        let one : is.written ≡ w = cc (opens) in
+        let counted : length w.commands ≡ taken.count = ap (λ (v : Written). length v.commands) (sym one) ∙ is.count_is in
+        let journal : IsJournalOf taken.generation taken.start held w = record {
+          found = found_here;
+          generation_is = ap (λ (v : Written). v.generation) (sym one) ∙ is.generation_is;
+          start_is = ap (λ (v : Written). 57 + length v.checkpoint) (sym one) ∙ is.start_is;
+        } in
+        read held w told_here journal (omega arith) ∙ take_all taken.count w.commands (omega arith)

@@ -1,0 +1,100 @@
+-- What one disk is found to be, by its opening and its replay.
+use Rattle.std.proofs.Common.{◌≡◌, ◌∙◌, ◌↔◌, ℕ, ◌+◌, List, length, Option, Some, None, IfSome, IsSome, Bool, true, false, ◌&&◌, ◌==◌, Result, Ok, Err, refl, sym, ap, subst, rules, arith}
+use Rattle.std.proofs.lemmas.Bool.Decides.{nat_tests}
+use Rattle.liq_types.specs.State.{State, opening}
+use Rattle.liq_core.specs.Core.{Core, StandsFor}
+use Rattle.liq_journal.specs.Bodies.{IsJournalOf}
+use Rattle.liq_journal.specs.Crash.{Stands, is_odd}
+use Rattle.liq_journal.specs.Opened.{IsOpened, IsWhyOf}
+use Rattle.liq_journal.specs.Settled.{JournalOn}
+use Rattle.liq_journal.specs.Written.{Open, Written, found_on, is_generation}
+use Rattle.liq_journal.specs.declared.answers.OpenWhy.{OpenWhy}
+use Rattle.liq_pairs.specs.Pair.{Faulty, standing}
+use Rattle.liq_pairs.specs.Replay.{outcome}
+use Rattle.liq_pairs.proofs.Standings.{standing_faulty}
+use Rattle.liq_store.specs.declared.replay.ReplayFault.{ReplayFault}
+use Rattle.liq_store.specs.declared.replay.ReplayFault.TheVariants.{DiskFault, Damaged, NoMemory}
+use Rattle.liq_store.specs.declared.standing.StandFault.{StandFault}
+use Rattle.liq_store.specs.declared.standing.Stood.{Stood}
+use Rattle.liq_store.specs.declared.standing.Stood.TheVariants.{Nothing, Holding}
+use Rattle.liq_store.specs.Replays.{Replays}
+use Rattle.liq_store.specs.Standing.{Continues, FailsTo, HoldsTo, IsFoundOn, IsWhyOn}
+
+pub fails_to : (w : Written) (core : Core) (why : ReplayFault) → Replays opening w.commands core (Err why) → FailsTo w why
+fails_to w core DiskFault h = tt
+fails_to w core (Damaged damage) h = h
+fails_to w core NoMemory h = tt
+
+-- what is told before is told after
+pub told_too : (old new : Option (List ℕ)) → (IsSome new ↔ IsSome old) → (held : List ℕ) → old ≡ Some held → (after : List ℕ) × (new ≡ Some after)
+told_too old None telling held told =
+    let some : IsSome old = subst (λ (o : Option (List ℕ)). IsSome o) (sym told) (some_is held) in
+    absurd (none_is (telling.1 some))
+  where
+    some_is : (l : List ℕ) → IsSome (Some l)
+    some_is l = refl
+
+    none_is : IsSome {T = List ℕ} None → ⊥
+    none_is is = absurd (search rules)
+told_too old (Some after) telling held told = (after, refl)
+
+pub some_same : (a b : List ℕ) (o : Option (List ℕ)) → o ≡ Some a → o ≡ Some b → a ≡ b
+some_same a b o first second = let both : Some a ≡ Some b = sym first ∙ second in cc
+
+-- the parity of a generation that a disk may have is the disk's
+pub parity_of : (odd : Bool) (generation : ℕ) → is_generation odd generation ≡ true → (generation ≡ 1) × (is_odd generation ≡ odd)
+parity_of false generation is = cc
+parity_of true generation is =
+    let one : generation ≡ 1 = grind (arith, nat_tests) in
+    (one, ap is_odd one)
+
+-- what an opening left is the journal that it found
+pub record OpenedAs (odd : Bool) (held after : List ℕ) (generation start count : ℕ) : Type 0 where
+  pub written : Written
+  pub found : found_on odd held ≡ Open written
+  pub stands : Stands odd after written
+  pub journal : IsJournalOf generation start after written
+  pub generation_is : written.generation ≡ generation
+  pub count_is : length written.commands ≡ count
+
+pub opened_as : (old new : Option (List ℕ)) (odd : Bool) (generation start count : ℕ) (checkpoint : List ℕ) → (IsSome new ↔ IsSome old) → is_generation odd generation ≡ true
+    → IfSome old (λ held. IsOpened odd held generation start count checkpoint)
+    → ((held : List ℕ) (w : Written) → old ≡ Some held → found_on odd held ≡ Open w → IfSome new (λ after. Stands odd after w))
+    → (held : List ℕ) → old ≡ Some held → (after : List ℕ) × (new ≡ Some after) × OpenedAs odd held after generation start count
+opened_as old new odd generation start count checkpoint telling may opened stands held told =
+    let here = told_too old new telling held told in
+    let is : IsOpened odd held generation start count checkpoint = subst (λ (o : Option (List ℕ)). IfSome o (λ l. IsOpened odd l generation start count checkpoint)) told opened in
+    let left : Stands odd here.0 is.written = subst (λ (o : Option (List ℕ)). IfSome o (λ l. Stands odd l is.written)) here.1 (stands held is.written told is.found) in (
+      here.0,
+      here.1,
+      record {
+        written = is.written;
+        found = is.found;
+        stands = left;
+        journal = record {
+          found = subst (λ (b : Bool). found_on b here.0 ≡ Open is.written) (sym (parity_of odd generation may).1) left.found;
+          generation_is = is.generation_is;
+          start_is = is.start_is;
+        };
+        generation_is = is.generation_is;
+        count_is = is.count_is;
+      },
+    )
+
+pub found_by : {D : Type 0} (odd : Bool) (held : List ℕ) (w : Written) (journal : JournalOn D) (result : Result (Stood D) (StandFault D)) → found_on odd held ≡ Open w → w.generation ≡ journal.generation
+    → HoldsTo w result → Continues journal result → IsFoundOn odd held result
+found_by odd held w journal (Ok (Nothing disk)) found generation holds continues = absurd holds
+found_by odd held w journal (Ok (Holding now core)) found generation holds continues = record {
+  written = w;
+  found = found;
+  generation_is = generation ∙ sym (ap (λ j. j.generation) continues.same);
+  state = holds.0;
+  came = holds.1;
+  stands = holds.2;
+}
+found_by odd held w journal (Err met) found generation holds continues = why met.why holds
+  where
+    why : (y : ReplayFault) → FailsTo w y → IsWhyOn odd held y
+    why DiskFault h = tt
+    why (Damaged damage) h = standing_faulty odd held w damage found h
+    why NoMemory h = tt

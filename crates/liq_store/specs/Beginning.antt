@@ -1,0 +1,44 @@
+-- Two disks with which nothing is wrong, and the store that begins on them.
+use Rattle.std.specs.Prelude.{◌≡◌, ◌⊎◌, ◌↔◌, ℕ, List, [], Option, IfSome, IsSome, Bool, Result, Ok, Err}
+use Rattle.liq_outside.specs.Disk.{GoesOn}
+use Rattle.liq_journal.specs.Causes.{Counted}
+use Rattle.liq_journal.specs.Crash.{CrashOfCreate, ReadsOfCreate}
+use Rattle.liq_journal.specs.Opened.{IsUnshut}
+use Rattle.liq_journal.specs.Settled.{IsSettled}
+use Rattle.liq_store.specs.Judging.{disk_of}
+use Rattle.liq_store.specs.Keeping.{IsAtRest}
+use Rattle.liq_store.specs.Standing.{IsCounted, IsHeldOn}
+use Rattle.liq_store.specs.Stored.{Stored}
+use Rattle.liq_store.specs.declared.answers.StoreFault.{StoreFault}
+use Rattle.liq_store.specs.declared.standing.Stood.{Stood}
+use Rattle.liq_store.specs.declared.standing.Stood.TheVariants.{Nothing, Holding}
+
+-- the disk holds just this
+abbrev pub IsStanding : {D : Type 0} → Bool → List ℕ → Stood D → Type 0
+IsStanding odd now (Nothing disk) = IsUnshut now → ⊥
+IsStanding odd now (Holding journal core) = IsSettled journal.generation journal.start journal.count now × IsHeldOn odd now journal.generation core
+
+-- it was opened and tested, whole
+pub record IsStoodOn {D : Type 0} (seen : D → Option (List ℕ)) (moment : D → ℕ) (left_at : D → ℕ → List ℕ → Type 0) (odd : Bool) (stood : Stood D) : Type 0 where
+  pub counted : IsCounted odd stood
+  pub rests : IsAtRest seen moment left_at (disk_of stood)
+  pub told : IfSome (seen (disk_of stood)) (λ now. IsStanding odd now stood)
+
+abbrev pub IsNothing : {D : Type 0} → Stood D → Type 0
+IsNothing (Nothing disk) = Unit {0}
+IsNothing (Holding journal core) = ⊥
+
+-- the first generation was created on the disk, or a fault was met at it
+pub record Creates {D : Type 0} (seen : D → Option (List ℕ)) (moment : D → ℕ) (left_at : D → ℕ → List ℕ → Type 0) (old new : D) : Type 0 where
+  pub crash : CrashOfCreate seen moment left_at old new 1 []
+  pub reads : ReadsOfCreate seen moment left_at old new 1 []
+  pub telling : IsSome (seen new) ↔ IsSome (seen old)
+  pub time : GoesOn moment left_at old new
+
+-- The left disk stays, or where both hold nothing the first generation is created on it.
+abbrev pub BeginsLeft : {D : Type 0} → (D → Option (List ℕ)) → (D → ℕ) → (D → ℕ → List ℕ → Type 0) → Stood D → Stood D → D → Type 0
+BeginsLeft seen moment left_at left right now = (now ≡ disk_of left) ⊎ (IsNothing left × IsNothing right × Creates seen moment left_at (disk_of left) now)
+
+abbrev pub CountsBegun : {D : Type 0} → Result (Stored D) (StoreFault D) → ℕ → ℕ → Type 0
+CountsBegun (Ok store) before after = after ≡ before
+CountsBegun (Err fault) before after = Counted before after

@@ -1,0 +1,13 @@
+pub mod Answering
+pub mod Beginning
+pub mod Causes
+pub mod Judging
+pub mod Keeping
+pub mod Memory
+pub mod Opening
+pub mod Preparing
+pub mod Reading
+pub mod Replays
+pub mod Standing
+pub mod Stored
+pub mod Within

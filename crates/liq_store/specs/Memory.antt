@@ -1,0 +1,16 @@
+-- For which requests memory may be asked.
+use Rattle.std.specs.Prelude.{◌≡◌, ◌⊎◌, IsTrue}
+use Rattle.liq_types.specs.declared.requests.Request.{Request}
+use Rattle.liq_types.specs.declared.requests.Request.TheVariants.{Do, Ask}
+use Rattle.liq_types.specs.State.{State}
+use Rattle.liq_core.specs.Step.{Allowed, ruling}
+use Rattle.liq_core.specs.Verbs.{plans_list}
+
+-- a command that makes a step: neither a query nor one that is refused or comes again
+abbrev pub IsAccepted : State → Request → Type 0
+IsAccepted s (Do command) = ruling s command ≡ Allowed
+IsAccepted s (Ask query) = ⊥
+
+abbrev pub TakesMemory : State → Request → Type 0
+TakesMemory s (Do command) = (ruling s command ≡ Allowed) ⊎ IsTrue (plans_list command.call)
+TakesMemory s (Ask query) = ⊥

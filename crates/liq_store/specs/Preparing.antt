@@ -1,0 +1,23 @@
+-- What comes of a command before anything is written.
+use Rattle.std.specs.Prelude.{◌≡◌, ◌<◌}
+use Rattle.liq_types.specs.declared.amounts.TheConstants.{RECORDS_MOST}
+use Rattle.liq_types.specs.declared.requests.Command.{Command}
+use Rattle.liq_types.specs.declared.requests.Request.TheVariants.{Do}
+use Rattle.liq_types.specs.State.{State}
+use Rattle.liq_core.specs.Core.{Core}
+use Rattle.liq_core.specs.Plan.{HasRoom, IsPlan}
+use Rattle.liq_core.specs.Step.{step}
+use Rattle.liq_store.specs.Memory.{TakesMemory}
+use Rattle.liq_store.specs.declared.preparing.Prepared.{Prepared}
+use Rattle.liq_store.specs.declared.preparing.Prepared.TheVariants.{Ready, Replied, NoMemory}
+
+-- It is planned and has its room; or its step is none, and this is its reply; or memory was asked for.
+abbrev pub IsPrepared : State → Command → Core → Prepared → Type 0
+IsPrepared s c core (Ready plan) = (plan.command ≡ c) × IsPlan s plan
+IsPrepared s c core (Replied reply) = step s (Do c) ≡ (s, reply)
+IsPrepared s c core NoMemory = TakesMemory s (Do c)
+
+-- for what is planned there is room, also in the journal
+abbrev pub IsReady : Command → Core → Prepared → Type 0
+IsReady c core (Ready plan) = (plan.command ≡ c) × HasRoom core plan × (core.records < RECORDS_MOST)
+IsReady c core _ = Unit {0}

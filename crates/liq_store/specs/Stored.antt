@@ -1,0 +1,22 @@
+-- A store as contracts see it.
+use Rattle.std.specs.Prelude.{ℕ, Option}
+use Rattle.liq_core.specs.Core.{Core}
+use Rattle.liq_pairs.specs.declared.side.Side.{Side}
+use Rattle.liq_pairs.specs.Sides.{beside, on}
+
+-- two disks, and the protocol whose state they keep
+pub record Stored (D : Type 0) : Type 0 where
+  pub left : D
+  pub right : D
+  -- the side of the disk on which the journal goes on
+  pub side : Side
+  pub core : Core
+  -- the sum of both counts of faults after the first call that met one
+  pub stopped : Option ℕ
+
+-- the disk on which the journal goes on
+abbrev pub taken_disk : {D : Type 0} → Stored D → D
+taken_disk store = on store.side store.left store.right
+
+abbrev pub disk_beside : {D : Type 0} → Stored D → D
+disk_beside store = beside store.side store.left store.right

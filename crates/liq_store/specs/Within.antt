@@ -1,0 +1,32 @@
+-- What a store keeps of its journal, beside what callers see.
+use Rattle.std.specs.Prelude.{◌≡◌, ◌≤◌, ℕ, List, length, Option, None, IfSome}
+use Rattle.liq_core.specs.Core.{Core}
+use Rattle.liq_journal.specs.Bodies.{IsJournalOf}
+use Rattle.liq_journal.specs.Crash.{is_odd}
+use Rattle.liq_journal.specs.Settled.{IsSettled, JournalOn}
+use Rattle.liq_journal.specs.Written.{Written}
+use Rattle.liq_pairs.specs.declared.side.Side.{Side}
+use Rattle.liq_pairs.specs.Sides.{has_odd, on}
+use Rattle.liq_store.specs.Keeping.{IsInOrder}
+use Rattle.liq_store.specs.Stored.{Stored}
+
+-- as a store's fields are seen
+abbrev pub stored : {D : Type 0} → Side → JournalOn D → D → Core → Option ℕ → Stored D
+stored side taken beside core stopped =
+    record { left = on side taken.disk beside; right = on side beside taken.disk; side = side; core = core; stopped = stopped }
+
+-- at least so many records
+pub record HasRecords (generation start count : ℕ) (bytes : List ℕ) : Type 0 where
+  pub written : Written
+  pub journal : IsJournalOf generation start bytes written
+  pub within : count ≤ length written.commands
+
+-- The journal has the protocol's generation, and as many records as it counts; while the store is not stopped no more, and a 0
+-- behind them.
+pub record IsWithin {D : Type 0} (seen : D → Option (List ℕ)) (moment : D → ℕ) (left_at : D → ℕ → List ℕ → Type 0) (side : Side) (taken : JournalOn D) (beside : D) (core : Core) (stopped : Option ℕ) : Type 0 where
+  pub order : IsInOrder seen moment left_at (stored side taken beside core stopped)
+  pub generation_is : taken.generation ≡ core.image.generation
+  pub parity_is : is_odd taken.generation ≡ has_odd side
+  pub count_is : taken.count ≡ core.records
+  pub told : IfSome (seen taken.disk) (HasRecords taken.generation taken.start taken.count)
+  pub settled : stopped ≡ None → IfSome (seen taken.disk) (IsSettled taken.generation taken.start taken.count)

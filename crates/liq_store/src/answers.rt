@@ -1,0 +1,29 @@
+// What the calls of a store answer where they fail.
+use liq_journal::Damage;
+use liq_pairs::Side;
+
+/// Why no store was opened.
+#[derive(Clone, Copy, Debug, PartialEq, Eq)]
+pub enum StoreWhy {
+    /// A device call failed in this call.
+    DiskFault,
+    /// The first damage of the two disks, all of the left one's coming first.
+    Damaged { side: Side, damage: Damage },
+    NoMemory,
+}
+
+/// No store was opened, and the disks are handed back.
+#[derive(Debug, Drop)]
+pub struct StoreFault<D> {
+    pub left: D,
+    pub right: D,
+    pub why: StoreWhy,
+}
+
+/// Why the accepted commands could not be read.
+#[derive(Clone, Copy, Debug, PartialEq, Eq)]
+pub enum AcceptedFault {
+    DiskFault,
+    Damaged(Damage),
+    NoMemory,
+}

@@ -1,0 +1,15 @@
+//! The protocol over two disks: each command that is accepted is on a disk before it is answered, and a stop at any moment leaves
+//! two disks from which the state before the call or after it is opened again.
+#![tactic(auto)]
+
+mod answers;
+mod judging;
+mod preparing;
+mod reading;
+mod replay;
+mod standing;
+mod store;
+
+pub use answers::{AcceptedFault, StoreFault, StoreWhy};
+pub use liq_pairs::Side;
+pub use store::Store;

@@ -1,0 +1,64 @@
+// A command, before it is written and after.
+ghost use Rattle.std.specs.Prelude.{◌≡◌, ◌+◌, false, IsTrue};
+ghost use Rattle.liq_types.specs.State.{State};
+ghost use Rattle.liq_types.specs.declared.replies.Reply.TheVariants.{Said};
+ghost use Rattle.liq_types.specs.declared.requests.Request.TheVariants.{Do};
+ghost use Rattle.liq_core.specs.Core.{SameContent, StandsFor, state_of};
+ghost use Rattle.liq_core.specs.Plan.{HasRoom, IsPlannedOn};
+ghost use Rattle.liq_core.specs.Step.{built, step};
+ghost use Rattle.liq_journal.specs.Written.{is_rotate};
+ghost use Rattle.liq_store.specs.Preparing.{IsPrepared, IsReady};
+
+use liq_core::laws::protocols_stand;
+use liq_core::{PlanFault, Planned, Protocol, Turn};
+use liq_types::{Command, Done, Hint, Reply, Steps};
+use std::sync::ledger::{Blank, Ledger};
+
+// What comes of a command before anything is written.
+#[derive(Drop)]
+pub enum Prepared {
+    // It is planned, and there is room for it.
+    Ready(Planned),
+    // It makes no step: it comes again, or is refused.
+    Replied(Reply),
+    NoMemory,
+}
+
+// Plans a command, and makes room for it. What is seen of the protocol stays.
+pub fn prepare(protocol: &mut Protocol, command: &Command) -> Prepared
+    requires { IsTrue (built (Do command.now)) }
+    ensures same { SameContent protocol.old protocol.new }
+    ensures prepared { (s : State) → StandsFor protocol.old s → IsPrepared s command.now protocol.new result }
+    ensures ready { IsReady command.now protocol.new result }
+    ensures stands { StandsFor protocol.old (state_of protocol.old) }
+{
+    protocols_stand(protocol);
+    let planned = match protocol.plan(command) {
+        Ok(Turn::New(planned)) => planned,
+        Ok(Turn::Again(done)) => return Prepared::Replied(Reply::Said(done)),
+        Err(PlanFault::No(refusal)) => return Prepared::Replied(Reply::No(refusal)),
+        Err(PlanFault::NoMemory) => return Prepared::NoMemory,
+    };
+    match protocol.reserve(&planned) {
+        Ok(()) => Prepared::Ready(planned),
+        Err(_) => Prepared::NoMemory,
+    }
+}
+
+// Makes the step of a planned command. Its steps are counted on a ledger of their own.
+pub fn make<L: Ledger>(protocol: &mut Protocol, planned: Planned, hint: &Hint, blank: Blank) -> Done
+    requires name { blank.name ≡ L.name }
+    requires parts { blank.parts ≡ L.parts }
+    requires one { L.parts ≡ 1 }
+    requires planned { IsPlannedOn protocol.old planned }
+    requires room { HasRoom protocol.old planned }
+    requires no_rotation { is_rotate planned.command.call ≡ false }
+    ensures state { (s : State) → StandsFor protocol.old s → StandsFor protocol.new (step s (Do planned.command)).0 }
+    ensures reply { (s : State) → StandsFor protocol.old s → (step s (Do planned.command)).1 ≡ Said result }
+    ensures counted { protocol.new.records ≡ protocol.old.records + 1 }
+    ensures generation { protocol.new.image.generation ≡ protocol.old.image.generation }
+{
+    protocols_stand(protocol);
+    let mut steps = Steps::<L>::new(blank);
+    protocol.apply(planned, hint, &mut steps)
+}

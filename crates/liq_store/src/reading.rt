@@ -1,0 +1,66 @@
+// The commands of a journal, read back.
+ghost use Rattle.std.specs.Prelude.{◌≡◌, ◌≤◌, ◌-◌, Some, List, ℕ, length, take, slice_get, IfOk, IfErr, IfSome, IsSome};
+ghost use Rattle.liq_journal.specs.Bodies.{IsJournalOf};
+ghost use Rattle.liq_journal.specs.Looked.{Looked};
+ghost use Rattle.liq_journal.specs.Written.{Written};
+ghost use Rattle.liq_store.specs.Answering.{IsReadable, IsUnreadable};
+ghost use Rattle.liq_store.specs.Reading.{CountsReading};
+ghost use Rattle.liq_store.specs.Within.{HasRecords};
+
+use crate::answers::AcceptedFault;
+use liq_journal::{Journal, LookFault};
+use liq_outside::Disk;
+use liq_types::Command;
+use liq_wire::decode;
+use std::alloc::Global;
+
+// The command of the record of this number.
+fn read_command<D: Disk>(journal: &mut Journal<D>, index: u64) -> Result<Command, AcceptedFault>
+    requires from_one { 1 ≤ index }
+    requires there { index ≤ journal.old.count }
+    ensures looked { Looked D.seen D.moment D.left_at journal.old.disk journal.new.disk }
+    ensures same { journal.new ≡ record journal.old { disk = journal.new.disk } }
+    ensures command { IfOk result (λ c. (held : List ℕ) (w : Written) → D.seen journal.old.disk ≡ Some held → IsJournalOf journal.old.generation journal.old.start held w → index ≤ length w.commands
+        → slice_get w.commands (index - 1) ≡ Some c) }
+    ensures damaged { IfErr result (IsUnreadable journal.old.generation journal.old.count) }
+    ensures readable { IfErr result (λ why. (held : List ℕ) (w : Written) → D.seen journal.old.disk ≡ Some held → IsJournalOf journal.old.generation journal.old.start held w → index ≤ length w.commands → IsReadable why) }
+    ensures cause { CountsReading result (D.faults journal.old.disk) (D.faults journal.new.disk) }
+{
+    let body = match journal.body(index) {
+        Ok(body) => body,
+        Err(LookFault::DiskFault) => return Err(AcceptedFault::DiskFault),
+        Err(LookFault::Damaged(damage)) => return Err(AcceptedFault::Damaged(damage)),
+    };
+    let Ok(command) = decode(&body) else {
+        unreachable!()
+    };
+    Ok(command)
+}
+
+// The commands of all of a journal's records, in order.
+pub fn read_commands<D: Disk>(
+    alloc: Global,
+    journal: &mut Journal<D>,
+) -> Result<Vec<Command>, AcceptedFault>
+    ensures looked { Looked D.seen D.moment D.left_at journal.old.disk journal.new.disk }
+    ensures same { journal.new ≡ record journal.old { disk = journal.new.disk } }
+    ensures commands { IfOk result (λ list. (held : List ℕ) (w : Written) → D.seen journal.old.disk ≡ Some held → IsJournalOf journal.old.generation journal.old.start held w → journal.old.count ≤ length w.commands
+        → list.items ≡ take journal.old.count w.commands) }
+    ensures count { IfOk result (λ list. length list.items ≡ journal.old.count) }
+    ensures damaged { IfErr result (IsUnreadable journal.old.generation journal.old.count) }
+    ensures readable { IfErr result (λ why. (held : List ℕ) → D.seen journal.old.disk ≡ Some held → HasRecords journal.old.generation journal.old.start journal.old.count held → IsReadable why) }
+    ensures cause { CountsReading result (D.faults journal.old.disk) (D.faults journal.new.disk) }
+{
+    let mut commands = Vec::new(alloc);
+    for done in 0..journal.records() {
+        let command = match read_command(journal, done + 1) {
+            Ok(command) => command,
+            Err(why) => return Err(why),
+        };
+        match commands.push(command) {
+            Ok(()) => {}
+            Err(_) => return Err(AcceptedFault::NoMemory),
+        }
+    }
+    Ok(commands)
+}

@@ -1,0 +1,86 @@
+// One disk, whole: its own bytes tested, and the commands of its journal made again.
+ghost use Rattle.std.specs.Prelude.{◌≡◌, ◌↔◌, Some, Ok, List, ℕ, true, length, IfOk, IfSome, IsSome};
+ghost use Rattle.liq_outside.specs.Disk.{GoesOn};
+ghost use Rattle.liq_journal.specs.Bodies.{IsJournalOf};
+ghost use Rattle.liq_journal.specs.Looked.{Looked};
+ghost use Rattle.liq_journal.specs.Opened.{CrashOfOpen, ReadsOfOpen};
+ghost use Rattle.liq_journal.specs.Written.{Written, found_on, is_generation};
+ghost use Rattle.liq_store.specs.Keeping.{IsAtRest};
+ghost use Rattle.liq_store.specs.Standing.{Continues, CountsStand, HoldsTo, IsCounted, IsFaultless, IsFoundOn, IsLeftOn, disk_in};
+
+use crate::replay::{ReplayFault, replay};
+use liq_core::Protocol;
+use liq_journal::{Journal, OpenFault, OpenWhy};
+use liq_outside::Disk;
+use std::alloc::Global;
+use std::marker::Brand;
+use std::sync::ledger::Blank;
+
+// What an undamaged disk is.
+#[derive(Drop)]
+pub enum Stood<D> {
+    // No journal is open on it.
+    Nothing(D),
+    // A journal, and the protocol to which its commands lead.
+    Holding(Journal<D>, Protocol),
+}
+
+// A disk that is damaged or met a fault, or for which there was no memory.
+#[derive(Drop)]
+pub struct StandFault<D> {
+    pub disk: D,
+    pub why: ReplayFault,
+}
+
+// Makes the commands of an opened journal again, from the opening state.
+fn hold<D: Disk>(alloc: Global, journal: Journal<D>) -> Result<Stood<D>, StandFault<D>>
+    ensures looked { Looked D.seen D.moment D.left_at journal.disk (disk_in result) }
+    ensures holds { (held : List ℕ) (w : Written) → D.seen journal.disk ≡ Some held → IsJournalOf journal.generation journal.start held w → length w.commands ≡ journal.count → HoldsTo w result }
+    ensures journal { Continues journal result }
+    ensures cause { CountsStand result (D.faults journal.disk) (D.faults (disk_in result)) }
+{
+    let mut journal = journal;
+    let mut protocol = Protocol::new(alloc);
+    match replay::<D, Brand>(&mut protocol, &mut journal, Blank::new(1)) {
+        Ok(()) => Ok(Stood::Holding(journal, protocol)),
+        Err(why) => Err(StandFault {
+            disk: journal.close(),
+            why,
+        }),
+    }
+}
+
+// Opens and tests a disk, whole, and settles it. It begins with a sync.
+pub fn stand<D: Disk>(alloc: Global, disk: D, odd: bool) -> Result<Stood<D>, StandFault<D>>
+    // What is found is what the disk is, and it is left so.
+    ensures found { (held : List ℕ) → D.seen disk ≡ Some held → IsFoundOn odd held result }
+    ensures left { IfSome (D.seen (disk_in result)) (λ after. IsLeftOn after result) }
+    ensures same { IsFaultless result → (held after : List ℕ) → D.seen disk ≡ Some held → D.seen (disk_in result) ≡ Some after → found_on odd after ≡ found_on odd held }
+    ensures rest { IsFaultless result → IsAtRest D.seen D.moment D.left_at (disk_in result) }
+    ensures journal { IfOk result (IsCounted odd) }
+
+    ensures crash { CrashOfOpen D.seen D.moment D.left_at disk (disk_in result) odd }
+    ensures reads { ReadsOfOpen D.seen disk (disk_in result) odd }
+    ensures telling { IsSome (D.seen (disk_in result)) ↔ IsSome (D.seen disk) }
+    ensures time { GoesOn D.moment D.left_at disk (disk_in result) }
+    ensures cause { CountsStand result (D.faults disk) (D.faults (disk_in result)) }
+{
+    match Journal::open(alloc, disk, odd) {
+        Ok((journal, _)) => hold(alloc, journal),
+        Err(OpenFault { disk, why }) => match why {
+            OpenWhy::Absent => Ok(Stood::Nothing(disk)),
+            OpenWhy::DiskFault => Err(StandFault {
+                disk,
+                why: ReplayFault::DiskFault,
+            }),
+            OpenWhy::Damaged(damage) => Err(StandFault {
+                disk,
+                why: ReplayFault::Damaged(damage),
+            }),
+            OpenWhy::NoMemory => Err(StandFault {
+                disk,
+                why: ReplayFault::NoMemory,
+            }),
+        },
+    }
+}

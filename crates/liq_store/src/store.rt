@@ -1,0 +1,323 @@
+// The protocol over two disks.
+ghost use Rattle.std.specs.Prelude.{◌≡◌, ◌↔◌, ◌+◌, min, Some, None, Ok, Err, List, ℕ, false, length, take, IfOk, IfErr, IfSome, IsSome, IsTrue, true};
+ghost use Rattle.liq_outside.specs.Disk.{GoesOn, LeavesOnly, LeftNow, Only};
+ghost use Rattle.liq_outside.specs.Faults.{count_most};
+ghost use Rattle.liq_types.specs.declared.requests.Command.{Command};
+ghost use Rattle.liq_types.specs.declared.requests.Request.TheVariants.{Do};
+ghost use Rattle.liq_types.specs.State.{State};
+ghost use Rattle.liq_core.specs.Core.{StandsFor};
+ghost use Rattle.liq_core.specs.Step.{built};
+ghost use Rattle.liq_journal.specs.declared.damage.Damage.{Damage};
+ghost use Rattle.liq_journal.specs.Crash.{BeforeOrAfter};
+ghost use Rattle.liq_journal.specs.Looked.{Looked};
+ghost use Rattle.liq_journal.specs.Opened.{IsUnshut, OpenLeaves};
+ghost use Rattle.liq_journal.specs.Written.{Absent, Open, Written, found_on};
+ghost use Rattle.liq_pairs.specs.declared.side.Side.{Side};
+ghost use Rattle.liq_pairs.specs.Kept.{IsKept};
+ghost use Rattle.liq_pairs.specs.Pair.{state_on};
+ghost use Rattle.liq_pairs.specs.Sides.{has_odd, other};
+ghost use Rattle.liq_pairs.specs.Unfinished.{IsRecovered, LeftLeaves};
+ghost use Rattle.liq_store.specs.Answering.{Answers, IsReadable, IsUnreadable, read_back};
+ghost use Rattle.liq_store.specs.Beginning.{BeginsLeft, CountsBegun, Creates, IsStoodOn};
+ghost use Rattle.liq_store.specs.Causes.{CausesAccepted, CausesAnswer, stopped_after, stopped_after_reading};
+ghost use Rattle.liq_store.specs.Judging.{disk_of};
+ghost use Rattle.liq_store.specs.Keeping.{IsAtRest, IsInOrder, IsKeptAround, LeavesPairs};
+ghost use Rattle.liq_store.specs.Memory.{IsAccepted};
+ghost use Rattle.liq_store.specs.Opening.{left_after, right_after};
+ghost use Rattle.liq_store.specs.Stored.{disk_beside, taken_disk};
+ghost use Rattle.liq_store.specs.Within.{IsWithin, stored};
+
+use crate::answers::{AcceptedFault, StoreFault, StoreWhy};
+use crate::judging::judge;
+use crate::preparing::{Prepared, make, prepare};
+use crate::reading::read_commands;
+use crate::standing::{Stood, stand};
+use liq_core::Protocol;
+use liq_journal::Journal;
+use liq_outside::Disk;
+use liq_pairs::Side;
+use liq_types::{Answer, Command, Hint, Reply, Request};
+use liq_wire::encode;
+use std::alloc::Global;
+use std::marker::{Brand, Model};
+use std::sync::ledger::Blank;
+
+// The sum of both disks' faults, as far as a count goes.
+fn sum_of_faults<D: Disk>(taken: &Journal<D>, beside: &D) -> u64
+    ensures { result ≡ min (D.faults taken.now.disk + D.faults beside.now) count_most }
+{
+    taken.faults().saturating_add(beside.faults())
+}
+
+/// The protocol over two disks. A contract sees the disks, the side on which the journal goes on, the protocol, and, once a call met a
+/// disk's fault, the sum of both counts of faults then.
+#[derive(Drop)]
+pub struct Store<D: Disk> {
+    alloc: Global,
+    taken: Journal<D>,
+    beside: D,
+    side: Side,
+    protocol: Protocol,
+    stopped: Option<u64>,
+}
+
+impl<D: Disk> Model for Store<D> {
+    ghost use Rattle.liq_store.specs.Stored.{Stored};
+    ghost use Rattle.liq_store.specs.Within.{IsWithin, stored};
+
+    ghost Value = { Stored D };
+
+    ghost view = { λ s. stored s.side s.taken s.beside s.protocol s.stopped };
+
+    ghost invariant = { λ s. IsWithin D.seen D.moment D.left_at s.side s.taken s.beside s.protocol s.stopped };
+}
+
+impl<D: Disk> Store<D> {
+    ghost use Rattle.liq_store.specs.Opening.{CausesOpening, IsWhyOf, MetNoFault, left_after, right_after};
+
+    /// Opens the store of two disks. Each begins with a sync and is tested whole, and the byte behind the records of an open one is
+    /// shut; then the records of the one that is taken are replayed. Where neither is open, generation 1 is created on the left one.
+    ///
+    /// `DiskFault` comes exactly where a disk's count rose. `Damaged` has the first damage, the left disk's coming first: nothing is
+    /// opened then, and the damage stays.
+    pub fn open(alloc: Global, left: D, right: D) -> Result<Store<D>, StoreFault<D>>
+        // The state is the one for which the disks stand; where there is none, nothing is opened.
+        ensures state { IfOk result (λ store. (l r : List ℕ) → D.seen left ≡ Some l → D.seen right ≡ Some r → (s : State) × (state_on l r ≡ Ok s) × StandsFor store.core s) }
+        ensures going { IfOk result (λ store. store.stopped ≡ None) }
+        ensures order { IfOk result (IsInOrder D.seen D.moment D.left_at) }
+        // A disk on which none is open has no other byte than 0 at place 0, if it has one.
+        ensures shut { IfOk result (λ store. IfSome (D.seen (disk_beside store)) (λ now. found_on (has_odd (other store.side)) now ≡ Absent → IsUnshut now → ⊥)) }
+        ensures why { IfErr result (λ e. (l r : List ℕ) → D.seen left ≡ Some l → D.seen right ≡ Some r → IsWhyOf l r e.why) }
+
+        // But for a disk's fault, the disks stand for what they stood for, or are damaged as they were.
+        ensures stays { MetNoFault result → (l r a b : List ℕ) → D.seen left ≡ Some l → D.seen right ≡ Some r → D.seen (left_after result) ≡ Some a → D.seen (right_after result) ≡ Some b → state_on a b ≡ state_on l r }
+
+        // Both disks are synced before either is judged.
+        ensures synced { IfErr result (λ e. (side : Side) (damage : Damage) → e.why ≡ StoreWhy.Damaged side damage → IsAtRest D.seen D.moment D.left_at e.left × IsAtRest D.seen D.moment D.left_at e.right) }
+
+        // Of two disks that are kept for a state a stop leaves two that are kept for it, or for it after the command that they held
+        // unfinished; and so does a fault, whatever was pending.
+        ensures recovers { (l r : List ℕ) (s : State) → D.seen left ≡ Some l → D.seen right ≡ Some r → Only l (LeftNow D.moment D.left_at left) → Only r (LeftNow D.moment D.left_at right) → IsKept l r s
+            → LeavesPairs D.moment D.left_at left right (left_after result) (right_after result) (IsRecovered l r s) }
+        ensures reads { (l r a b : List ℕ) (s : State) → D.seen left ≡ Some l → D.seen right ≡ Some r → IsKept l r s → D.seen (left_after result) ≡ Some a → D.seen (right_after result) ≡ Some b → IsRecovered l r s a b }
+
+        // Each disk by itself.
+        ensures left_leaves { (l r : List ℕ) → D.seen left ≡ Some l → D.seen right ≡ Some r → Only l (LeftNow D.moment D.left_at left) → LeavesOnly D.moment D.left_at left (left_after result) (LeftLeaves l r) }
+        ensures right_leaves { (r : List ℕ) → D.seen right ≡ Some r → Only r (LeftNow D.moment D.left_at right) → LeavesOnly D.moment D.left_at right (right_after result) (OpenLeaves false r) }
+        ensures left_telling { IsSome (D.seen (left_after result)) ↔ IsSome (D.seen left) }
+        ensures right_telling { IsSome (D.seen (right_after result)) ↔ IsSome (D.seen right) }
+        ensures left_time { GoesOn D.moment D.left_at left (left_after result) }
+        ensures right_time { GoesOn D.moment D.left_at right (right_after result) }
+        ensures cause { CausesOpening result (record { left = D.faults left; right = D.faults right }) (record { left = D.faults (left_after result); right = D.faults (right_after result) }) }
+    {
+        let left = stand(alloc, left, true);
+        let right = stand(alloc, right, false);
+        match judge(left, right) {
+            Ok((left, right)) => begin(alloc, left, right),
+            Err(fault) => Err(fault),
+        }
+    }
+
+    /// Answers a request: the protocol's reply, once the record of an accepted command is on the disk.
+    ///
+    /// After `DiskFault` the store is stopped: every later call is answered `Stopped`, with the sum of both counts after that one.
+    /// After `NoMemory` all is as before.
+    pub fn call(&mut self, request: &Request, hint: &Hint) -> Answer
+        requires built { IsTrue (built request.now) }
+
+        // A store that is stopped answers that, to queries too, and stays as it is.
+        ensures stopped { (sum : ℕ) → self.old.stopped ≡ Some sum → (result ≡ Answer.Stopped sum) × (self.new ≡ self.old) }
+
+        // One that isn't replies by the step. Without memory or after a fault there is no step.
+        ensures step { self.old.stopped ≡ None → (s : State) → StandsFor self.old.core s → Answers s request.now result self.new.core }
+
+        ensures stops { self.new.stopped ≡ stopped_after self.old.stopped result (record { left = D.faults self.new.left; right = D.faults self.new.right }) }
+        ensures cause { CausesAnswer result (record { left = D.faults self.old.left; right = D.faults self.old.right }) (record { left = D.faults self.new.left; right = D.faults self.new.right }) }
+
+        // Only an accepted command is written, on the disk that was taken.
+        ensures side { self.new.side ≡ self.old.side }
+        ensures beside { disk_beside self.new ≡ disk_beside self.old }
+        ensures unwritten { (s : State) → StandsFor self.old.core s → (IsAccepted s request.now → ⊥) → taken_disk self.new ≡ taken_disk self.old }
+        ensures no_memory { result ≡ Answer.NoMemory → taken_disk self.new ≡ taken_disk self.old }
+        ensures written { self.old.stopped ≡ None → (held : List ℕ) (w : Written) (c : Command) → D.seen (taken_disk self.old) ≡ Some held → found_on (has_odd self.old.side) held ≡ Open w → request.now ≡ Do c
+            → LeavesOnly D.moment D.left_at (taken_disk self.old) (taken_disk self.new) (BeforeOrAfter (has_odd self.old.side) w (read_back c)) }
+
+        // A stop leaves two disks that are kept for the state before the call or after it; after a reply, by `order`, for that after it.
+        ensures kept { self.old.stopped ≡ None → (l r : List ℕ) (s : State) → D.seen self.old.left ≡ Some l → D.seen self.old.right ≡ Some r → StandsFor self.old.core s
+            → LeavesPairs D.moment D.left_at self.old.left self.old.right self.new.left self.new.right (IsKeptAround s request.now) }
+        ensures order { IsInOrder D.seen D.moment D.left_at self.new }
+        ensures telling { IsSome (D.seen (taken_disk self.new)) ↔ IsSome (D.seen (taken_disk self.old)) }
+        ensures time { GoesOn D.moment D.left_at (taken_disk self.old) (taken_disk self.new) }
+    {
+        if let Some(faults) = self.stopped {
+            return Answer::Stopped { faults };
+        }
+        let command = match request {
+            Request::Do(command) => command,
+            Request::Ask(query) => return Answer::Reply(self.protocol.query(query)),
+        };
+        let planned = match prepare(&mut self.protocol, command) {
+            Prepared::Ready(planned) => planned,
+            Prepared::Replied(reply) => return Answer::Reply(reply),
+            Prepared::NoMemory => return Answer::NoMemory,
+        };
+        match self.taken.append(&encode(command)) {
+            Ok(()) => {}
+            Err(_) => {
+                self.stopped = Some(sum_of_faults(&self.taken, &self.beside));
+                return Answer::DiskFault;
+            }
+        }
+        let done = make::<Brand>(&mut self.protocol, planned, hint, Blank::new(1));
+        Answer::Reply(Reply::Said(done))
+    }
+
+    /// The sum of both disks' faults after the first call that met one, or none.
+    pub fn stopped(&self) -> Option<u64>
+        ensures sum { result ≡ self.now.stopped }
+        ensures order { IsInOrder D.seen D.moment D.left_at self.now }
+    {
+        self.stopped
+    }
+
+    /// The protocol, whose state the disks keep.
+    pub fn protocol(&self) -> &Protocol
+        ensures { result.now ≡ self.now.core }
+    {
+        &self.protocol
+    }
+
+    /// The commands that were accepted in this generation, in order. It reads the disk that is taken.
+    ///
+    /// After `DiskFault` the store is stopped. `Damaged` never comes where the disk tells its content.
+    pub fn accepted(&mut self) -> Result<Vec<Command>, AcceptedFault>
+        ensures commands { IfOk result (λ list. (held : List ℕ) (w : Written) → D.seen (taken_disk self.old) ≡ Some held → found_on (has_odd self.old.side) held ≡ Open w → list.items ≡ take self.old.core.records w.commands) }
+        ensures all { self.old.stopped ≡ None → IfOk result (λ list. (held : List ℕ) (w : Written) → D.seen (taken_disk self.old) ≡ Some held → found_on (has_odd self.old.side) held ≡ Open w → list.items ≡ w.commands) }
+        ensures count { IfOk result (λ list. length list.items ≡ self.old.core.records) }
+        ensures damaged { IfErr result (IsUnreadable self.old.core.image.generation self.old.core.records) }
+        ensures readable { IsSome (D.seen (taken_disk self.old)) → IfErr result IsReadable }
+        ensures looked { Looked D.seen D.moment D.left_at (taken_disk self.old) (taken_disk self.new) }
+        ensures beside { disk_beside self.new ≡ disk_beside self.old }
+        ensures side { self.new.side ≡ self.old.side }
+        ensures core { self.new.core ≡ self.old.core }
+        ensures stops { self.new.stopped ≡ stopped_after_reading self.old.stopped result (record { left = D.faults self.new.left; right = D.faults self.new.right }) }
+        ensures cause { CausesAccepted result (record { left = D.faults self.old.left; right = D.faults self.old.right }) (record { left = D.faults self.new.left; right = D.faults self.new.right }) }
+        ensures order { IsInOrder D.seen D.moment D.left_at self.new }
+    {
+        match read_commands(self.alloc, &mut self.taken) {
+            Ok(commands) => Ok(commands),
+            Err(AcceptedFault::DiskFault) => {
+                let sum = sum_of_faults(&self.taken, &self.beside);
+                self.stopped = Some(self.stopped.unwrap_or(sum));
+                Err(AcceptedFault::DiskFault)
+            }
+            Err(AcceptedFault::Damaged(damage)) => Err(AcceptedFault::Damaged(damage)),
+            Err(AcceptedFault::NoMemory) => Err(AcceptedFault::NoMemory),
+        }
+    }
+
+    /// The disks, as they are.
+    pub fn close(self) -> (D, D)
+        ensures left { result.0 ≡ self.left }
+        ensures right { result.1 ≡ self.right }
+        ensures order { IsInOrder D.seen D.moment D.left_at self }
+    {
+        let Store {
+            alloc: _,
+            taken,
+            beside,
+            side,
+            protocol: _,
+            stopped: _,
+        } = self;
+        let taken = taken.close();
+        match side {
+            Side::Left => (taken, beside),
+            Side::Right => (beside, taken),
+        }
+    }
+}
+
+// The store of two disks with which nothing is wrong. Of two journals the one of the greater generation
+// is taken; where there is none, the first is created on the left disk.
+fn begin<D: Disk>(alloc: Global, left: Stood<D>, right: Stood<D>) -> Result<Store<D>, StoreFault<D>>
+    requires left { IsStoodOn D.seen D.moment D.left_at true left }
+    requires right { IsStoodOn D.seen D.moment D.left_at false right }
+    ensures state { IfOk result (λ store. (l r : List ℕ) → D.seen (disk_of left) ≡ Some l → D.seen (disk_of right) ≡ Some r → (s : State) × (state_on l r ≡ Ok s) × StandsFor store.core s) }
+    ensures going { IfOk result (λ store. store.stopped ≡ None) }
+    ensures order { IfOk result (IsInOrder D.seen D.moment D.left_at) }
+    ensures shut { IfOk result (λ store. IfSome (D.seen (disk_beside store)) (λ now. found_on (has_odd (other store.side)) now ≡ Absent → IsUnshut now → ⊥)) }
+    ensures fault { IfErr result (λ e. e.why ≡ StoreWhy.DiskFault) }
+    ensures stays { IfOk result (λ store. (l r a b : List ℕ) → D.seen (disk_of left) ≡ Some l → D.seen (disk_of right) ≡ Some r → D.seen store.left ≡ Some a → D.seen store.right ≡ Some b → state_on a b ≡ state_on l r) }
+    ensures left { BeginsLeft D.seen D.moment D.left_at left right (left_after result) }
+    ensures right { right_after result ≡ disk_of right }
+    ensures cause { CountsBegun result (D.faults (disk_of left)) (D.faults (left_after result)) }
+{
+    match left {
+        Stood::Nothing(left) => match right {
+            Stood::Nothing(right) => begin_anew(alloc, left, right),
+            Stood::Holding(taken, protocol) => {
+                Ok(begin_on(alloc, Side::Right, taken, left, protocol))
+            }
+        },
+        Stood::Holding(taken, protocol) => match right {
+            Stood::Nothing(right) => Ok(begin_on(alloc, Side::Left, taken, right, protocol)),
+            Stood::Holding(other, later) => {
+                if protocol.generation() < later.generation() {
+                    Ok(begin_on(alloc, Side::Right, other, taken.close(), later))
+                } else {
+                    Ok(begin_on(alloc, Side::Left, taken, other.close(), protocol))
+                }
+            }
+        },
+    }
+}
+
+// The store that goes on with this journal.
+fn begin_on<D: Disk>(
+    alloc: Global,
+    side: Side,
+    taken: Journal<D>,
+    beside: D,
+    protocol: Protocol,
+) -> Store<D>
+    requires { IsWithin D.seen D.moment D.left_at side taken beside protocol None }
+    ensures { result ≡ stored side taken beside protocol None }
+{
+    Store {
+        alloc,
+        taken,
+        beside,
+        side,
+        protocol,
+        stopped: None,
+    }
+}
+
+// The store of two disks on which no journal is open.
+fn begin_anew<D: Disk>(alloc: Global, left: D, right: D) -> Result<Store<D>, StoreFault<D>>
+    requires left { IfSome (D.seen left) (λ now. IsUnshut now → ⊥) }
+    requires right { IfSome (D.seen right) (λ now. IsUnshut now → ⊥) }
+    requires rests { IsAtRest D.seen D.moment D.left_at right }
+    ensures state { IfOk result (λ store. (l r : List ℕ) → D.seen left ≡ Some l → D.seen right ≡ Some r → (s : State) × (state_on l r ≡ Ok s) × StandsFor store.core s) }
+    ensures going { IfOk result (λ store. store.stopped ≡ None) }
+    ensures order { IfOk result (IsInOrder D.seen D.moment D.left_at) }
+    ensures shut { IfOk result (λ store. IfSome (D.seen (disk_beside store)) (λ now. found_on (has_odd (other store.side)) now ≡ Absent → IsUnshut now → ⊥)) }
+    ensures fault { IfErr result (λ e. e.why ≡ StoreWhy.DiskFault) }
+    ensures stays { IfOk result (λ store. (l r a b : List ℕ) → D.seen left ≡ Some l → D.seen right ≡ Some r → D.seen store.left ≡ Some a → D.seen store.right ≡ Some b → state_on a b ≡ state_on l r) }
+    ensures left { Creates D.seen D.moment D.left_at left (left_after result) }
+    ensures right { right_after result ≡ right }
+    ensures cause { CountsBegun result (D.faults left) (D.faults (left_after result)) }
+{
+    match Journal::create(left, 1, &[]) {
+        Ok(taken) => {
+            let protocol = Protocol::new(alloc);
+            Ok(begin_on(alloc, Side::Left, taken, right, protocol))
+        }
+        Err(fault) => Err(StoreFault {
+            left: fault.disk,
+            right,
+            why: StoreWhy::DiskFault,
+        }),
+    }
+}
