@@ -1,0 +1,36 @@
+use Rattle.std.proofs.Common.{◌≡◌, [], Result, sym, subst, arith}
+use Rattle.liq_types.specs.declared.amounts.TheConstants.{LINES_MOST}
+use Rattle.liq_scripts.specs.declared.stops.Stop.{Stop}
+use Rattle.liq_scripts.specs.Progress.{Comes}
+use Rattle.liq_scripts.proofs.Ends.{came_stopped, came_done}
+use Rattle.liq_scripts.proofs.Gathered.{ended_well, ended_by_fault, ended_by_limit}
+use Rattle.liq_scripts.proofs.Residual.{handed_on}
+use Rattle.liq_scripts.proofs.input.read_lines.Goals as goal
+
+pub returns-in_err-read_next-clause-read : goal.returns-in_err-read_next-clause-read
+returns-in_err-read_next-clause-read g c =
+    let start = g.S.Source.left c.args.input.now in
+    let left = g.S.Source.left c.read_next.new.input in
+    let stop = c.in_err-read_next.field-0.0 in
+    subst (λ (end : Result (Unit {0}) Stop). Comes end start c.read_next.new.scripts.items left) (sym (handed_on c.from_residual.result stop c.from_residual.ensures.1))
+    (came_stopped stop start left c.read_next.new.scripts.items (c.in_err-read_next.ensures.goes start c.loop-read.invariant.gathered))
+
+pub returns-then-not-branch-clause-read : goal.returns-then-not-branch-clause-read
+returns-then-not-branch-clause-read g c =
+    let start = g.S.Source.left c.args.input.now in
+    came_done start (g.S.Source.left c.read_next.new.input) c.read_next.new.scripts.items ((rw c.if-not-branch.true at c.in_ok-read_next.ensures.goes) start c.loop-read.invariant.gathered)
+
+pub returns-in-Ok-None-clause-read : goal.returns-in-Ok-None-clause-read
+returns-in-Ok-None-clause-read g c =
+    let over = rw c.in-Ok-None.field-0-is at c.in-Ok-None.ensures.byte in
+    ended_well tt _ _ (g.S.Source.left c.next_byte.new.input) c.loop-read.read _ c.next_byte.new.self (omega (arith, c.loop-read.auto.read-end)) c.loop-read.invariant.gathered over.0 over.1
+
+pub returns-in-Ok-Some-clause-read : goal.returns-in-Ok-Some-clause-read
+returns-in-Ok-Some-clause-read g c =
+    let full : c.loop-read.read ≡ LINES_MOST = omega (arith, c.loop-read-test.false, c.loop-read.auto.read-end) in
+    ended_by_limit _ _ _ (g.S.Source.left c.next_byte.new.input) c.loop-read.read _ _ full c.loop-read.invariant.gathered (rw c.in-Ok-Some.field-0-is at c.in-Ok-Some.ensures.byte)
+
+pub returns-in-Err-clause-read : goal.returns-in-Err-clause-read
+returns-in-Err-clause-read g c =
+    let failed = c.in-Err.ensures.failed in
+    ended_by_fault _ _ (g.S.Source.left c.next_byte.new.input) c.loop-read.read _ [] c.next_byte.new.self (omega (arith, c.loop-read.auto.read-end)) c.loop-read.invariant.gathered tt failed.0 failed.1

@@ -1,0 +1,117 @@
+//! The scripts of the sessions, read from the lines of a source.
+
+ghost use Rattle.std.specs.Prelude.{[], ◌≡◌, ◌≤◌, ◌<◌, ◌+◌, ℕ, List, Option, Some, length, vec_len, vec_capacity, IsOkUnless, IfOk, All};
+ghost use Rattle.liq_types.specs.declared.requests.Request.{Request};
+ghost use Rattle.liq_outside.specs.Faults.{Rose};
+ghost use Rattle.liq_lines.specs.Lines.{lines_in};
+ghost use Rattle.liq_lines.specs.Reading.{unread};
+ghost use Rattle.liq_scripts.specs.declared.scripts.TheConstants.{SESSIONS};
+ghost use Rattle.liq_scripts.specs.Asked.{AreAsked, scripts_of};
+ghost use Rattle.liq_scripts.specs.Gathering.{Gathers, ReadCause};
+ghost use Rattle.liq_scripts.specs.Progress.{HasGathered, Goes, Keeps, Comes};
+
+use crate::scripts::{add, blank};
+use crate::stops::Stop;
+use liq_core::is_built;
+use liq_lines::{LineEnd, Reader};
+use liq_outside::{Failed, Source};
+use liq_sessions::Script;
+use liq_text::read_session_line;
+use liq_types::amounts::{LINE_BYTES, LINES_MOST};
+use std::alloc::Global;
+
+/// Reads the source to its end, each line a session and its request, and gives the scripts of the eight sessions, in order. It
+/// stops at the first of these:
+///
+/// - [`Stop::BadLine`]: the line of this number, counted from 1, asks nothing;
+/// - [`Stop::ReadFault`]: the source met a fault;
+/// - [`Stop::NoMemory`]: there was no memory;
+/// - [`Stop::Limit`]: a line behind the last that is answered begins.
+pub fn read_scripts<S: Source>(alloc: Global, input: &mut S) -> Result<Vec<Script>, Stop>
+    ensures read { Gathers result (S.left input.old) (S.left input.new) }
+    ensures short { IfOk result (λ scripts. All (λ script. length script.requests ≤ LINES_MOST) scripts.items) }
+    ensures source { ReadCause result (S.faults input.old) (S.faults input.new) }
+
+    // Where each line asks something, none is too many and the source meets no fault, memory alone can be missing.
+    ensures complete { (bytes : List ℕ) → S.left input.old ≡ Some bytes → (asked : List (ℕ × Request)) → AreAsked (lines_in bytes) asked
+        → length asked ≤ LINES_MOST → (Rose (S.faults input.old) (S.faults input.new) → ⊥) → IsOkUnless result Stop.NoMemory }
+{
+    let mut scripts = blank(alloc)?;
+    let mut reader = Reader::new(alloc)?;
+    let mut line = Vec::with_capacity(alloc, LINE_BYTES)?;
+    read_lines(&mut reader, &mut line, input, &mut scripts)?;
+    Ok(scripts)
+}
+
+/// Reads the lines to the source's end, each into its session's script.
+fn read_lines<S: Source>(
+    reader: &mut Reader,
+    line: &mut Vec<u8>,
+    input: &mut S,
+    scripts: &mut Vec<Script>,
+) -> Result<(), Stop>
+    requires unread { reader.old ≡ [] }
+    requires room { LINE_BYTES ≤ vec_capacity line.old }
+    requires blank { scripts.old.items ≡ scripts_of [] }
+    ensures read { Comes result (S.left input.old) scripts.new.items (S.left input.new) }
+    ensures source { ReadCause result (S.faults input.old) (S.faults input.new) }
+{
+    for read in 0..LINES_MOST {
+        if !read_next(reader, line, input, scripts, read)? {
+            return Ok(());
+        }
+    }
+    match reader.next_byte(input) {
+        Ok(None) => Ok(()),
+        Ok(Some(_)) => Err(Stop::Limit),
+        Err(Failed) => Err(Stop::ReadFault),
+    }
+}
+
+/// Reads the next line, of which there are `read` before it, into its session's script, and says whether another may follow.
+/// Behind a line that asks nothing, nothing is read.
+fn read_next<S: Source>(
+    reader: &mut Reader,
+    line: &mut Vec<u8>,
+    input: &mut S,
+    scripts: &mut Vec<Script>,
+    read: u64,
+) -> Result<bool, Stop>
+    requires few { read < LINES_MOST }
+    requires room { LINE_BYTES ≤ vec_capacity line.old }
+    requires eight { vec_len scripts.old ≡ SESSIONS }
+    ensures goes { (start : Option (List ℕ)) → HasGathered start read scripts.old.items (unread reader.old (S.left input.old))
+        → Goes start read scripts.new.items (unread reader.new (S.left input.new)) (S.left input.new) result }
+    ensures room { vec_capacity line.new ≡ vec_capacity line.old }
+    ensures eight { vec_len scripts.new ≡ SESSIONS }
+    ensures source { ReadCause result (S.faults input.old) (S.faults input.new) }
+{
+    match reader.next_line(input, line) {
+        Err(Failed) => Err(Stop::ReadFault),
+        Ok(LineEnd::Nothing) => Ok(false),
+        Ok(LineEnd::TooLong) => Err(Stop::BadLine(read + 1)),
+        Ok(LineEnd::Ended) => {
+            keep(line, read + 1, scripts)?;
+            Ok(true)
+        }
+        Ok(LineEnd::Unended) => {
+            keep(line, read + 1, scripts)?;
+            Ok(false)
+        }
+    }
+}
+
+/// Puts what the line of this number asks into its session's script.
+fn keep(line: &[u8], number: u64, scripts: &mut Vec<Script>) -> Result<(), Stop>
+    requires eight { vec_len scripts.old ≡ SESSIONS }
+    ensures keeps { Keeps line.now number scripts.old.items scripts.new.items result }
+    ensures eight { vec_len scripts.new ≡ SESSIONS }
+{
+    match read_session_line(line) {
+        Ok((session, request)) if is_built(&request) => {
+            add(scripts, session, request)?;
+            Ok(())
+        }
+        _ => Err(Stop::BadLine(number)),
+    }
+}

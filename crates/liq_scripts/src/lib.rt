@@ -1,0 +1,14 @@
+//! What sessions ask and what they are answered: the scripts of eight sessions, read from the lines of a source, and a history,
+//! written to a sink.
+#![tactic(auto)]
+
+mod input;
+mod outbox;
+mod output;
+mod scripts;
+mod stops;
+
+pub use input::read_scripts;
+pub use outbox::Outbox;
+pub use output::{Shown, write_served};
+pub use stops::Stop;

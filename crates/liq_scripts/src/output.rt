@@ -1,0 +1,124 @@
+//! A history, written.
+
+ghost use Rattle.std.specs.Prelude.{◌≡◌, ◌==◌, [], map, OnOk, OnErr, if◌then◌else◌};
+ghost use Rattle.std.specs.List.{list_any};
+ghost use Rattle.liq_outside.specs.Faults.{HasCause};
+ghost use Rattle.liq_core.specs.History.{Entry, own_entries};
+ghost use Rattle.liq_lines.specs.Writing.{Writes, WritesPart};
+ghost use Rattle.liq_scripts.specs.Output.{served, reply_line, replies_text, session_text, history_text};
+ghost use Rattle.liq_scripts.specs.Sending.{Sends};
+
+use crate::outbox::{Line, Outbox};
+use crate::scripts::SESSIONS;
+use liq_outside::{Failed, Sink};
+use liq_types::Reply;
+
+/// What the output shows of a history's entry.
+pub trait Shown {
+    /// The entry.
+    ghost entry: { Self → Entry };
+
+    /// Who asked, from 1 to 8.
+    fn session(&self) -> u8
+        ensures { result ≡ (entry self.now).session };
+
+    /// Which of the session's own calls it was, counted from 1.
+    fn index(&self) -> u32
+        ensures { result ≡ (entry self.now).index };
+
+    /// What was answered.
+    fn reply(&self) -> Reply
+        ensures { result ≡ (entry self.now).reply };
+}
+
+/// Writes a history: the replies of each session that has any, and then the entries. Where the sink meets a fault, it holds a
+/// part of it. No memory is asked for.
+pub fn write_served<E: Shown, K: Sink>(
+    entries: &[E],
+    outbox: &mut Outbox,
+    out: &mut K,
+) -> Result<(), Failed>
+    requires { outbox.old ≡ [] }
+    ensures ok { OnOk result (Writes (K.held out.old) (served (map E.entry entries.now)) (K.held out.new)) }
+    ensures err { OnErr result (WritesPart (K.held out.old) (served (map E.entry entries.now)) (K.held out.new)) }
+    ensures cause { HasCause (K.faults out.old) (K.faults out.new) result }
+{
+    send_replies(entries, outbox, out)?;
+    outbox.send(Line::History, out)?;
+    send_entries(entries, outbox, out)?;
+    outbox.flush(out)
+}
+
+/// Sends the replies of all sessions.
+fn send_replies<E: Shown, K: Sink>(
+    entries: &[E],
+    outbox: &mut Outbox,
+    out: &mut K,
+) -> Result<(), Failed>
+    ensures sends { Sends result outbox.old (replies_text (map E.entry entries.now)) outbox.new (K.held out.old) (K.held out.new) }
+    ensures cause { HasCause (K.faults out.old) (K.faults out.new) result }
+{
+    for before in 0..SESSIONS {
+        send_session(entries, before + 1, outbox, out)?;
+    }
+    Ok(())
+}
+
+/// Sends the replies of one session, if it has any.
+fn send_session<E: Shown, K: Sink>(
+    entries: &[E],
+    session: u8,
+    outbox: &mut Outbox,
+    out: &mut K,
+) -> Result<(), Failed>
+    ensures sends { Sends result outbox.old (session_text session (own_entries session (map E.entry entries.now))) outbox.new (K.held out.old) (K.held out.new) }
+    ensures cause { HasCause (K.faults out.old) (K.faults out.new) result }
+{
+    if !has_entries(entries, session) {
+        return Ok(());
+    }
+    outbox.send(Line::Session(session), out)?;
+    for entry in entries {
+        send_own(entry, session, outbox, out)?;
+    }
+    Ok(())
+}
+
+/// Sends the reply that the entry has, if it is the session's.
+fn send_own<E: Shown, K: Sink>(
+    entry: &E,
+    session: u8,
+    outbox: &mut Outbox,
+    out: &mut K,
+) -> Result<(), Failed>
+    ensures sends { Sends result outbox.old (if (E.entry entry.now).session == session then reply_line (E.entry entry.now).reply else []) outbox.new
+        (K.held out.old) (K.held out.new) }
+    ensures cause { HasCause (K.faults out.old) (K.faults out.new) result }
+{
+    if entry.session() != session {
+        return Ok(());
+    }
+    outbox.send(Line::Reply(entry.reply()), out)
+}
+
+/// Whether some entry is the session's.
+fn has_entries<E: Shown>(entries: &[E], session: u8) -> bool
+    ensures { result ≡ list_any (λ e. (E.entry e).session == session) entries.now }
+{
+    entries.iter().any(|entry| entry.session() == session)
+}
+
+/// Sends the line of each entry.
+fn send_entries<E: Shown, K: Sink>(
+    entries: &[E],
+    outbox: &mut Outbox,
+    out: &mut K,
+) -> Result<(), Failed>
+    ensures sends { Sends result outbox.old (history_text (map E.entry entries.now)) outbox.new (K.held out.old) (K.held out.new) }
+    ensures cause { HasCause (K.faults out.old) (K.faults out.new) result }
+{
+    for entry in entries {
+        outbox.send(Line::Entry(entry.session(), entry.index()), out)?;
+    }
+    Ok(())
+}
