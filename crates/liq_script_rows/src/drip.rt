@@ -1,0 +1,53 @@
+//! A sink that takes few bytes in a call.
+
+ghost use Rattle.std.specs.Prelude.{◌≡◌, ◌<◌, Some};
+
+use liq_outside::{Failed, Sink};
+use std::alloc::Global;
+
+/// Takes at most `most` bytes in a call, and fails in the call of one number, counted from 0.
+#[derive(Drop)]
+pub struct Drip {
+    bytes: Vec<u8>,
+    most: usize,
+    failing: usize,
+    calls: usize,
+    faults: u64,
+    ghost some: { 0 < most },
+}
+
+impl Drip {
+    pub fn new(alloc: Global, most: usize, failing: usize) -> Drip
+        requires { 0 < most }
+    {
+        Drip {
+            bytes: Vec::new(alloc),
+            most,
+            failing,
+            calls: 0,
+            faults: 0,
+        }
+    }
+
+    /// What was written.
+    pub fn bytes(&self) -> &[u8] {
+        &self.bytes
+    }
+}
+
+impl Sink for Drip {
+    ghost held = { λ s. Some s.bytes.items };
+
+    ghost faults = { λ s. s.faults };
+
+    fn write(&mut self, bytes: &[u8]) -> Result<usize, Failed> {
+        let count = bytes.len().min(self.most);
+        let fails = self.calls == self.failing;
+        self.calls = self.calls.saturating_add(1);
+        if fails || self.bytes.extend_from_slice(&bytes[..count]).is_err() {
+            self.faults = self.faults.saturating_add(1);
+            return Err(Failed);
+        }
+        Ok(count)
+    }
+}
