@@ -1,0 +1,209 @@
+-- What a call of the store leaves of a book.
+use Rattle.std.proofs.Common.{◌≡◌, ◌⊎◌, inl, inr, ℕ, ◌+◌, ◌≤◌, ◌<◌, List, [], ◌∷◌, ◌++◌, map, length, Option, Some, None, Bool, false, true, ◌==◌, sym, refl, ap, ◌∙◌, subst, arith, length-append}
+use Rattle.std.specs.Prelude.{◌↔◌, IsSome}
+use Rattle.std.specs.Option.{option_map}
+use Rattle.std.proofs.lemmas.List.{length-map, map-append}
+use Rattle.std.proofs.lemmas.List.Sums.{count_by-le-length, length-filter}
+use Rattle.liq_outside.specs.Disk.{GoesOn, LeftNow, LeftSince}
+use Rattle.liq_types.specs.declared.replies.Answer.{Answer}
+use Rattle.liq_types.specs.declared.replies.Answer.TheVariants as answer
+use Rattle.liq_types.specs.declared.replies.Reply.{Reply}
+use Rattle.liq_types.specs.declared.requests.Request.{Request}
+use Rattle.liq_types.specs.State.{State}
+use Rattle.liq_core.specs.Core.{StandsFor}
+use Rattle.liq_core.specs.History as history
+use Rattle.liq_core.specs.History.{IsLegal, own_entries, state_after}
+use Rattle.liq_core.specs.Step.{step}
+use Rattle.liq_core.proofs.Histories.{legal-empty, legal-snoc, state-snoc}
+use Rattle.liq_pairs.specs.declared.side.Side.{Side}
+use Rattle.liq_pairs.specs.declared.side.Side.TheVariants.{Left, Right}
+use Rattle.liq_pairs.specs.Kept.{IsKept}
+use Rattle.liq_pairs.specs.Sides.{beside, on}
+use Rattle.liq_pairs.proofs.Keeping.{settled_kept}
+use Rattle.liq_store.specs.Answering.{Answers}
+use Rattle.liq_store.specs.Causes.{CausesAnswer, Faults, stopped_after, sum_of}
+use Rattle.liq_store.specs.Keeping.{IsInOrder, IsInOrderWith, IsKeptAround, LeavesPairs}
+use Rattle.liq_store.specs.Stored.{Stored, disk_beside, taken_disk}
+use Rattle.liq_book.specs.declared.items.Entry.{Entry}
+use Rattle.liq_book.specs.declared.items.Halt.{Halt}
+use Rattle.liq_book.specs.declared.items.TheConstants.{ENTRIES_MOST}
+use Rattle.liq_book.specs.Booked.{Booked, CausesHalt, IsBook, KeepsDisks, state_of_book}
+use Rattle.liq_book.specs.Items.{recorded}
+use Rattle.liq_book.specs.Origin.{DiskAt, GoesOnFrom, IsAtOrigin, faults_at}
+
+-- a session has no more entries than there are
+pub own_few : (session : ℕ) (entries : List Entry) → length (own_entries session (map recorded entries)) ≤ length entries
+own_few session entries =
+    let p : history.Entry → Bool = λ (e : history.Entry). e.session == session in
+    omega (arith, length-filter p (map recorded entries), count_by-le-length p (map recorded entries), length-map entries recorded)
+
+-- an option that is there has a value
+pub told_so : {A : Type 0} (o : Option A) → IsSome o → (x : A) × (o ≡ Some x)
+told_so None some = absurd (let e : false ≡ true = some in cc)
+told_so (Some x) some = (x, refl)
+
+-- a store that answers otherwise was not stopped
+pub goes : (stopped : Option ℕ) → ((sum : ℕ) → stopped ≡ Some sum → ⊥) → stopped ≡ None
+goes None some = refl
+goes (Some sum) some = absurd (some sum refl)
+
+-- a book whose store goes on has no halt
+pub no_halt : (halt : Option Halt) (stopped : Option ℕ) → stopped ≡ option_map (λ h. h.faults) halt → stopped ≡ None → halt ≡ None
+no_halt None stopped is none = refl
+no_halt (Some halt) stopped is none = absurd (let e : Some halt.faults ≡ None = sym is ∙ none in cc)
+
+module _ {D : Type 0} (seen : D → Option (List ℕ)) (faults : D → ℕ) (moment : D → ℕ) (left_at : D → ℕ → List ℕ → Type 0) where
+  abbrev pub faults_in : Stored D → Faults
+  faults_in store = record { left = faults store.left; right = faults store.right }
+
+  pub stays_on : (disk : D) → GoesOn moment left_at disk disk
+  stays_on disk = record { later = omega arith; past = λ k image early there. there; kept = λ k image early there. there }
+
+  -- of two disks one went on and the other stayed, so both went on
+  pub both_go_on : (side : Side) (l r l' r' : D) → GoesOn moment left_at (on side l r) (on side l' r') → beside side l' r' ≡ beside side l r
+      → GoesOn moment left_at l l' × GoesOn moment left_at r r'
+  both_go_on Left l r l' r' time same = (time, rw same (stays_on r))
+  both_go_on Right l r l' r' time same = (rw same (stays_on l), time)
+
+  -- and what both tell afterwards both told before
+  pub both_told : (side : Side) (l r l' r' : D) → (IsSome (seen (on side l' r')) → IsSome (seen (on side l r))) → beside side l' r' ≡ beside side l r
+      → (IsSome (seen l') → IsSome (seen l)) × (IsSome (seen r') → IsSome (seen r))
+  both_told Left l r l' r' told same = (told, λ now. rw (← same) now)
+  both_told Right l r l' r' told same = (λ now. rw (← same) now, told)
+
+  pub goes_from : (origin : DiskAt) (old new : D) → GoesOnFrom origin moment left_at old → GoesOn moment left_at old new → GoesOnFrom origin moment left_at new
+  goes_from origin old new from on = record {
+    later = omega (arith, from.later, on.later);
+    past = λ k image early there. from.past k image early (on.past k image (omega (arith, from.later, early)) there);
+    kept = λ k image early there. on.kept k image (omega (arith, from.later, early)) (from.kept k image early there);
+  }
+
+  -- what the clauses of the store say of a call that a book makes
+  pub record Calls (old : Stored D) (request : Request) (a : Answer) (new : Stored D) : Type 0 where
+    pub stopped : (sum : ℕ) → old.stopped ≡ Some sum → (a ≡ answer.Stopped sum) × (new ≡ old)
+    pub step_is : old.stopped ≡ None → (s : State) → StandsFor old.core s → Answers s request a new.core
+    pub stops : new.stopped ≡ stopped_after old.stopped a (faults_in new)
+    pub cause : CausesAnswer a (faults_in old) (faults_in new)
+    pub side : new.side ≡ old.side
+    pub aside : disk_beside new ≡ disk_beside old
+    pub around : old.stopped ≡ None → (l r : List ℕ) (s : State) → seen old.left ≡ Some l → seen old.right ≡ Some r → StandsFor old.core s
+        → LeavesPairs moment left_at old.left old.right new.left new.right (IsKeptAround s request)
+    pub order : IsInOrder seen moment left_at new
+    pub telling : IsSome (seen (taken_disk new)) ↔ IsSome (seen (taken_disk old))
+    pub time : GoesOn moment left_at (taken_disk old) (taken_disk new)
+
+  pub disks_go_on : (old new : Stored D) (request : Request) (a : Answer) → Calls old request a new → GoesOn moment left_at old.left new.left × GoesOn moment left_at old.right new.right
+  disks_go_on old new request a c = both_go_on old.side old.left old.right new.left new.right (rw c.side at c.time) (rw c.side at c.aside)
+
+  -- a store that goes on keeps its disks for its state
+  pub going_keeps : (store : Stored D) (s : State) → IsInOrder seen moment left_at store → store.stopped ≡ None → StandsFor store.core s → KeepsDisks seen moment left_at None s store
+  going_keeps store s order going stands l r told_left told_right =
+    let P : Option ℕ → Type 0 = λ o. IsInOrderWith seen moment left_at o store in
+    let keeps = subst P going order in
+    settled_kept store.side l r s (keeps.settled l r told_left told_right s stands)
+
+  module _ (base : State) (left_origin right_origin : DiskAt) where
+    abbrev pub Booking : Stored D → List Entry → Option Halt → Type 0
+    Booking store entries halt = IsBook seen faults moment left_at base left_origin right_origin (record { store = store; entries = entries; halt = halt })
+
+    pub begins : (store : Stored D) → store.stopped ≡ None → IsAtOrigin seen faults moment left_at base left_origin right_origin store → IsInOrder seen moment left_at store → Booking store [] None
+    begins store going at order = record {
+      few = omega arith;
+      legal = legal-empty base;
+      state = at.state;
+      halt = going;
+      keeps = going_keeps store base order going at.state;
+      cause = rw (at.left.faults, at.right.faults) refl;
+      left = at.left.time;
+      right = at.right.time;
+    }
+
+    -- a reply is entered
+    pub enters : (old new : Stored D) (entries : List Entry) (halt : Option Halt) (request : Request) (reply : Reply) (session calls : ℕ)
+        → Booking old entries halt → length entries < ENTRIES_MOST → length (own_entries session (map recorded entries)) ≡ calls
+        → old.stopped ≡ None → Calls old request (answer.Reply reply) new
+        → Booking new (entries ++ record { session = session; index = calls + 1; request = request; reply = reply } ∷ []) halt
+    enters old new entries halt request reply session calls b few counted going c =
+      let e : Entry = record { session = session; index = calls + 1; request = request; reply = reply } in
+      let s : State = state_after base (map recorded entries) in
+      let none : halt ≡ None = no_halt halt old.stopped b.halt going in
+      let step = c.step_is going s b.state in
+      let all : map recorded (entries ++ e ∷ []) ≡ map recorded entries ++ recorded e ∷ [] = map-append recorded entries (e ∷ []) in
+      let stands : StandsFor new.core (state_after base (map recorded (entries ++ e ∷ []))) = rw (all, state-snoc base (map recorded entries) (recorded e)) step.0 in
+      let still : new.stopped ≡ None = c.stops ∙ going in
+      let disks = disks_go_on old new request (answer.Reply reply) c in
+      subst (λ (h : Option Halt). Booking new (entries ++ e ∷ []) h) (sym none) (record {
+        few = omega (arith, length-append entries (e ∷ []), few);
+        legal = rw all (legal-snoc base (map recorded entries) (recorded e) b.legal (record { reply_is = sym step.1; index_is = ap (λ n. n + 1) (sym counted) }));
+        state = stands;
+        halt = still;
+        keeps = going_keeps new (state_after base (map recorded (entries ++ e ∷ []))) c.order still stands;
+        cause = c.cause ∙ (rw none at b.cause);
+        left = goes_from left_origin old.left new.left b.left disks.0;
+        right = goes_from right_origin old.right new.right b.right disks.1;
+      })
+
+    -- without memory nothing happened
+    pub stays : (old new : Stored D) (entries : List Entry) (halt : Option Halt) (request : Request)
+        → Booking old entries halt → old.stopped ≡ None → Calls old request answer.NoMemory new → Booking new entries halt
+    stays old new entries halt request b going c =
+      let s : State = state_after base (map recorded entries) in
+      let none : halt ≡ None = no_halt halt old.stopped b.halt going in
+      let stands = (c.step_is going s b.state).0 in
+      let still : new.stopped ≡ None = c.stops ∙ going in
+      let disks = disks_go_on old new request answer.NoMemory c in
+      subst (λ (h : Option Halt). Booking new entries h) (sym none) (record {
+        few = b.few;
+        legal = b.legal;
+        state = stands;
+        halt = still;
+        keeps = going_keeps new s c.order still stands;
+        cause = c.cause ∙ (rw none at b.cause);
+        left = goes_from left_origin old.left new.left b.left disks.0;
+        right = goes_from right_origin old.right new.right b.right disks.1;
+      })
+
+    -- a fault of a disk is the halt
+    pub halts : (may_stay : (disk : D) (held : List ℕ) → seen disk ≡ Some held → LeftNow moment left_at disk held)
+        → (old new : Stored D) (entries : List Entry) (halt : Option Halt) (request : Request) (session sum : ℕ)
+        → Booking old entries halt → old.stopped ≡ None → Calls old request answer.DiskFault new → new.stopped ≡ Some sum
+        → Booking new entries (Some (record { session = session; request = request; faults = sum }))
+    halts may_stay old new entries halt request session sum b going c stopped =
+      let s : State = state_after base (map recorded entries) in
+      let none : halt ≡ None = no_halt halt old.stopped b.halt going in
+      let stands = (c.step_is going s b.state).0 in
+      let disks = disks_go_on old new request answer.DiskFault c in
+      let told = both_told old.side old.left old.right new.left new.right (rw c.side at c.telling.0) (rw c.side at c.aside) in
+      record {
+        few = b.few;
+        legal = b.legal;
+        state = stands;
+        halt = stopped;
+        keeps = λ l r told_left told_right.
+            let before_left = told_so (seen old.left) (told.0 (rw told_left refl)) in
+            let before_right = told_so (seen old.right) (told.1 (rw told_right refl)) in
+            let around = c.around going before_left.0 before_right.0 s before_left.1 before_right.1 b.state in
+            let now = λ (a b : List ℕ) (in_left : LeftNow moment left_at new.left a) (in_right : LeftNow moment left_at new.right b).
+                around a b (moment new.left, disks.0.later, omega arith, in_left) (moment new.right, disks.1.later, omega arith, in_right) in
+            (now l r (may_stay new.left l told_left) (may_stay new.right r told_right), now);
+        cause = rw (rw none at b.cause) at c.cause;
+        left = goes_from left_origin old.left new.left b.left disks.0;
+        right = goes_from right_origin old.right new.right b.right disks.1;
+      }
+
+    -- any other answer leaves the book as it was
+    pub others : (old new : Stored D) (entries : List Entry) (halt : Option Halt) (request : Request) (a : Answer)
+        → Booking old entries halt → Calls old request a new
+        → ((reply : Reply) → a ≡ answer.Reply reply → ⊥) → (a ≡ answer.DiskFault → ⊥)
+        → Booking new entries halt
+    others old new entries halt request a b c no_reply no_fault = by_stop old.stopped refl where
+      going_on : (a' : Answer) → a ≡ a' → old.stopped ≡ None → Booking new entries halt
+      going_on (answer.Reply reply) is going = absurd (no_reply reply is)
+      going_on answer.NoMemory is going = stays old new entries halt request b going (rw is at c)
+      going_on answer.DiskFault is going = absurd (no_fault is)
+      going_on (answer.Stopped faults) is going = absurd (rw is at (c.step_is going (state_after base (map recorded entries)) b.state))
+      going_on (answer.HistoryFull most) is going = absurd (rw is at (c.step_is going (state_after base (map recorded entries)) b.state))
+
+      by_stop : (o : Option ℕ) → old.stopped ≡ o → Booking new entries halt
+      by_stop None is = going_on a refl is
+      by_stop (Some sum) is = rw ((c.stopped sum is).1) b

@@ -1,0 +1,4 @@
+pub mod Calling
+pub mod Chronicles
+pub mod Gathering
+pub mod Learning

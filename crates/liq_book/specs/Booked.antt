@@ -1,0 +1,52 @@
+-- A book as contracts see it, and what holds of every book.
+use Rattle.std.specs.Prelude.{ℕ, ◌≡◌, ◌≤◌, List, map, length, Option, Some, None}
+use Rattle.std.specs.Option.{option_map}
+use Rattle.liq_outside.specs.Disk.{LeftNow}
+use Rattle.liq_types.specs.State.{State}
+use Rattle.liq_core.specs.Core.{StandsFor}
+use Rattle.liq_core.specs.History.{IsLegal, state_after}
+use Rattle.liq_pairs.specs.Kept.{IsKept}
+use Rattle.liq_store.specs.Causes.{Faults, OneRose}
+use Rattle.liq_store.specs.Keeping.{IsKeptAround}
+use Rattle.liq_store.specs.Stored.{Stored}
+use Rattle.liq_book.specs.declared.items.Entry.{Entry}
+use Rattle.liq_book.specs.declared.items.Halt.{Halt}
+use Rattle.liq_book.specs.declared.items.TheConstants.{ENTRIES_MOST}
+use Rattle.liq_book.specs.Items.{recorded}
+use Rattle.liq_book.specs.Origin.{DiskAt, GoesOnFrom, faults_at}
+
+-- the store that answers, all entries, and the halt, once there is one
+pub record Booked (D : Type 0) : Type 0 where
+  pub store : Stored D
+  pub entries : List Entry
+  pub halt : Option Halt
+
+-- the state after all entries
+abbrev pub state_of_book : {D : Type 0} → State → Booked D → State
+state_of_book base book = state_after base (map recorded book.entries)
+
+-- A count rose exactly where there is a halt, and else both are as they were.
+abbrev pub CausesHalt : Option Halt → Faults → Faults → Type 0
+CausesHalt None before after = after ≡ before
+CausesHalt (Some halt) before after = OneRose before after
+
+module _ {D : Type 0} (seen : D → Option (List ℕ)) (moment : D → ℕ) (left_at : D → ℕ → List ℕ → Type 0) where
+  -- What both disks read, where both tell it, is kept for the state; and behind a halt what they read, and all that a crash may now leave
+  -- of the one beside all of the other, is kept for the state or for the one after the halt's request.
+  abbrev pub KeepsDisks : Option Halt → State → Stored D → Type 0
+  KeepsDisks None s store = (l r : List ℕ) → seen store.left ≡ Some l → seen store.right ≡ Some r → IsKept l r s
+  KeepsDisks (Some halt) s store =
+      (l r : List ℕ) → seen store.left ≡ Some l → seen store.right ≡ Some r
+      → IsKeptAround s halt.request l r × ((a b : List ℕ) → LeftNow moment left_at store.left a → LeftNow moment left_at store.right b → IsKeptAround s halt.request a b)
+
+-- What holds of every book: the entries are a legal history from its base, and the store's protocol is in the state after them. A halt
+-- is there exactly where the store is stopped, with the faults that it then tells.
+pub record IsBook {D : Type 0} (seen : D → Option (List ℕ)) (faults : D → ℕ) (moment : D → ℕ) (left_at : D → ℕ → List ℕ → Type 0) (base : State) (left_origin right_origin : DiskAt) (book : Booked D) : Type 0 where
+  pub few : length book.entries ≤ ENTRIES_MOST
+  pub legal : IsLegal base (map recorded book.entries)
+  pub state : StandsFor book.store.core (state_of_book base book)
+  pub halt : book.store.stopped ≡ option_map (λ h. h.faults) book.halt
+  pub keeps : KeepsDisks seen moment left_at book.halt (state_of_book base book) book.store
+  pub cause : CausesHalt book.halt (faults_at left_origin right_origin) (record { left = faults book.store.left; right = faults book.store.right })
+  pub left : GoesOnFrom left_origin moment left_at book.store.left
+  pub right : GoesOnFrom right_origin moment left_at book.store.right

@@ -1,0 +1,32 @@
+//! What is written into a book.
+
+use liq_types::{Reply, Request};
+
+/// The most entries of a book.
+pub const ENTRIES_MOST: usize = 1_000_000;
+
+/// A call that got a reply.
+#[derive(Clone, Copy, Debug, PartialEq, Eq)]
+pub struct Entry {
+    pub session: u8,
+    /// The session's calls with a reply are counted, from 1.
+    pub index: u32,
+    pub request: Request,
+    pub reply: Reply,
+}
+
+/// The end of a service: the call that met a fault of a disk.
+#[derive(Clone, Copy, Debug, PartialEq, Eq)]
+pub struct Halt {
+    pub session: u8,
+    pub request: Request,
+    /// The sum of both disks' faults after that call, which every later call is told.
+    pub faults: u64,
+}
+
+/// What the chronicle of a book has: entries, and behind them the halt, once there is one.
+#[derive(Clone, Copy, Debug, PartialEq, Eq)]
+pub enum Item {
+    Entry(Entry),
+    Halt(Halt),
+}

@@ -1,0 +1,15 @@
+//! One history for all sessions: a book in which every call is entered that a store answers, under a lock at which each session has
+//! a seat.
+#![tactic(auto)]
+
+mod book;
+mod items;
+mod origin;
+mod seat;
+mod service;
+
+pub use book::{Book, History};
+pub use items::{ENTRIES_MOST, Entry, Halt, Item};
+pub use origin::Origin;
+pub use seat::BookSeat;
+pub use service::{Closed, Service, StillOut};

@@ -1,0 +1,44 @@
+//! A service: one book for all sessions.
+ghost use Rattle.std.specs.Prelude.{◌≡◌, ◌<◌};
+ghost use Rattle.liq_lock.specs.Seats.{lock_seats};
+
+mod calls;
+mod ends;
+mod made;
+
+use crate::book::{Book, History};
+use crate::items::Halt;
+use crate::origin::Origin;
+use crate::seat::BookSeat;
+use liq_lock::Lock;
+use liq_outside::Disk;
+use liq_store::Store;
+use std::marker::PhantomData;
+
+/// A book under a lock, at which each session has a seat. As a desk it answers the requests of sessions at once, each as the protocol for
+/// one thread would along the one history of all their calls.
+#[derive(Drop)]
+pub struct Service<D: Disk, O: Origin> {
+    pub(crate) lock: Lock<Book<D, O>>,
+    pub(crate) sessions: u8,
+    pub ghost seats: { lock_seats lock ≡ sessions },
+    pub ghost some: { 0 < sessions },
+}
+
+/// What a service leaves: its store, all entries, and the halt, once there was one.
+#[derive(Drop)]
+pub struct Closed<D: Disk, O: Origin> {
+    pub store: Store<D>,
+    pub history: History,
+    pub halt: Option<Halt>,
+    pub of: PhantomData<O>,
+}
+
+/// A service that was to be closed while seats were missing, with the seats that were there. All are as they were.
+#[derive(Drop)]
+pub struct StillOut<D: Disk, O: Origin> {
+    pub service: Service<D, O>,
+    pub seats: Vec<BookSeat<O>>,
+    /// How many seats are missing.
+    pub missing: u32,
+}

@@ -1,0 +1,73 @@
+//! A service is made, with its seats.
+ghost use Rattle.std.specs.Prelude.{◌≡◌, ◌≤◌, None, IfOk, IfErr, [], length, vec_capacity};
+ghost use Rattle.liq_lock.specs.Seats.{AreFresh, lock_id};
+ghost use Rattle.liq_book.specs.Origin.{IsAtOrigin};
+ghost use Rattle.liq_book.specs.Seats.{AreNewSeats, AreSeated, sessions_of};
+
+use super::Service;
+use crate::book::Book;
+use crate::items::Item;
+use crate::origin::Origin;
+use crate::seat::BookSeat;
+use liq_lock::{Lock, LockSeat};
+use liq_outside::Disk;
+use liq_store::Store;
+use std::alloc::Global;
+use std::marker::PhantomData;
+
+impl<D: Disk, O: Origin> Service<D, O> {
+    /// A service over a store that is at its origin, with a seat for each session from 1 on, in their order. `Err` gives the store
+    /// back where there was no memory.
+    pub fn new(
+        alloc: Global,
+        store: Store<D>,
+        sessions: u8,
+    ) -> Result<(Service<D, O>, Vec<BookSeat<O>>), Store<D>>
+        requires some { 1 ≤ sessions }
+        requires going { store.stopped ≡ None }
+        requires origin { IsAtOrigin D.seen D.faults D.moment D.left_at O.state O.left O.right store }
+        ensures sessions { IfOk result (λ made. sessions_of made.0 ≡ sessions) }
+        ensures count { IfOk result (λ made. length made.1.items ≡ sessions) }
+        ensures seats { IfOk result (λ made. AreNewSeats made.0 made.1.items) }
+        ensures err { IfErr result (λ back. back ≡ store) }
+    {
+        let Ok(room) = Vec::with_capacity(alloc, sessions as usize) else {
+            return Err(store);
+        };
+        match Lock::new(alloc, Book::new(alloc, store), u32::from(sessions)) {
+            Ok((lock, seats)) => {
+                let seats = seated(&lock, seats, room);
+                Ok((Service { lock, sessions }, seats))
+            }
+            Err(book) => Err(book.into_store()),
+        }
+    }
+}
+
+/// A seat of the book for each of the lock's, in their order.
+fn seated<D: Disk, O: Origin>(
+    lock: &Lock<Book<D, O>>,
+    mut seats: Vec<LockSeat<Item>>,
+    room: Vec<BookSeat<O>>,
+) -> Vec<BookSeat<O>>
+    requires fresh { AreFresh (lock_id lock.now) seats.items }
+    requires few { length seats.items ≤ 255 }
+    requires none { room.items ≡ [] }
+    requires room { length seats.items ≤ vec_capacity room }
+    ensures count { length result.items ≡ length seats.items }
+    ensures seated { AreSeated lock.now result.items }
+    ensures room { vec_capacity result ≡ vec_capacity room }
+{
+    let Some(seat) = seats.pop() else {
+        return room;
+    };
+    let session = seats.len() as u8 + 1;
+    let mut all = seated(lock, seats, room);
+    all.push_reserved(BookSeat {
+        seat,
+        session,
+        calls: 0,
+        of: PhantomData,
+    });
+    all
+}
