@@ -1,10 +1,10 @@
 -- What a call of the store leaves of a book.
-use Rattle.std.proofs.Common.{◌≡◌, ◌⊎◌, inl, inr, ℕ, ◌+◌, ◌≤◌, ◌<◌, List, [], ◌∷◌, ◌++◌, map, length, Option, Some, None, Bool, false, true, ◌==◌, sym, refl, ap, ◌∙◌, subst, arith, length-append}
+use Rattle.std.proofs.Common.{◌≡◌, ℕ, ◌+◌, ◌≤◌, ◌<◌, List, [], ◌∷◌, ◌++◌, map, length, Option, Some, None, Bool, false, true, ◌==◌, sym, refl, ap, ◌∙◌, subst, arith, length-append}
 use Rattle.std.specs.Prelude.{◌↔◌, IsSome}
 use Rattle.std.specs.Option.{option_map}
 use Rattle.std.proofs.lemmas.List.{length-map, map-append}
 use Rattle.std.proofs.lemmas.List.Sums.{count_by-le-length, length-filter}
-use Rattle.liq_outside.specs.Disk.{GoesOn, LeftNow, LeftSince}
+use Rattle.liq_outside.specs.Disk.{GoesOn, LeftNow}
 use Rattle.liq_types.specs.declared.replies.Answer.{Answer}
 use Rattle.liq_types.specs.declared.replies.Answer.TheVariants as answer
 use Rattle.liq_types.specs.declared.replies.Reply.{Reply}
@@ -13,23 +13,21 @@ use Rattle.liq_types.specs.State.{State}
 use Rattle.liq_core.specs.Core.{StandsFor}
 use Rattle.liq_core.specs.History as history
 use Rattle.liq_core.specs.History.{IsLegal, own_entries, state_after}
-use Rattle.liq_core.specs.Step.{step}
 use Rattle.liq_core.proofs.Histories.{legal-empty, legal-snoc, state-snoc}
 use Rattle.liq_pairs.specs.declared.side.Side.{Side}
 use Rattle.liq_pairs.specs.declared.side.Side.TheVariants.{Left, Right}
-use Rattle.liq_pairs.specs.Kept.{IsKept}
 use Rattle.liq_pairs.specs.Sides.{beside, on}
 use Rattle.liq_pairs.proofs.Keeping.{settled_kept}
 use Rattle.liq_store.specs.Answering.{Answers}
-use Rattle.liq_store.specs.Causes.{CausesAnswer, Faults, stopped_after, sum_of}
+use Rattle.liq_store.specs.Causes.{CausesAnswer, Faults, stopped_after}
 use Rattle.liq_store.specs.Keeping.{IsInOrder, IsInOrderWith, IsKeptAround, LeavesPairs}
 use Rattle.liq_store.specs.Stored.{Stored, disk_beside, taken_disk}
 use Rattle.liq_book.specs.declared.items.Entry.{Entry}
 use Rattle.liq_book.specs.declared.items.Halt.{Halt}
 use Rattle.liq_book.specs.declared.items.TheConstants.{ENTRIES_MOST}
-use Rattle.liq_book.specs.Booked.{Booked, CausesHalt, IsBook, KeepsDisks, state_of_book}
+use Rattle.liq_book.specs.Booked.{IsBook, KeepsDisks}
 use Rattle.liq_book.specs.Items.{recorded}
-use Rattle.liq_book.specs.Origin.{DiskAt, GoesOnFrom, IsAtOrigin, faults_at}
+use Rattle.liq_book.specs.Origin.{DiskAt, GoesOnFrom, IsAtOrigin}
 
 -- a session has no more entries than there are
 pub own_few : (session : ℕ) (entries : List Entry) → length (own_entries session (map recorded entries)) ≤ length entries
@@ -98,9 +96,9 @@ module _ {D : Type 0} (seen : D → Option (List ℕ)) (faults : D → ℕ) (mom
   -- a store that goes on keeps its disks for its state
   pub going_keeps : (store : Stored D) (s : State) → IsInOrder seen moment left_at store → store.stopped ≡ None → StandsFor store.core s → KeepsDisks seen moment left_at None s store
   going_keeps store s order going stands l r told_left told_right =
-    let P : Option ℕ → Type 0 = λ o. IsInOrderWith seen moment left_at o store in
-    let keeps = subst P going order in
-    settled_kept store.side l r s (keeps.settled l r told_left told_right s stands)
+      let P : Option ℕ → Type 0 = λ o. IsInOrderWith seen moment left_at o store in
+      let keeps = subst P going order in
+      settled_kept store.side l r s (keeps.settled l r told_left told_right s stands)
 
   module _ (base : State) (left_origin right_origin : DiskAt) where
     abbrev pub Booking : Stored D → List Entry → Option Halt → Type 0
@@ -124,44 +122,44 @@ module _ {D : Type 0} (seen : D → Option (List ℕ)) (faults : D → ℕ) (mom
         → old.stopped ≡ None → Calls old request (answer.Reply reply) new
         → Booking new (entries ++ record { session = session; index = calls + 1; request = request; reply = reply } ∷ []) halt
     enters old new entries halt request reply session calls b few counted going c =
-      let e : Entry = record { session = session; index = calls + 1; request = request; reply = reply } in
-      let s : State = state_after base (map recorded entries) in
-      let none : halt ≡ None = no_halt halt old.stopped b.halt going in
-      let step = c.step_is going s b.state in
-      let all : map recorded (entries ++ e ∷ []) ≡ map recorded entries ++ recorded e ∷ [] = map-append recorded entries (e ∷ []) in
-      let stands : StandsFor new.core (state_after base (map recorded (entries ++ e ∷ []))) = rw (all, state-snoc base (map recorded entries) (recorded e)) step.0 in
-      let still : new.stopped ≡ None = c.stops ∙ going in
-      let disks = disks_go_on old new request (answer.Reply reply) c in
-      subst (λ (h : Option Halt). Booking new (entries ++ e ∷ []) h) (sym none) (record {
-        few = omega (arith, length-append entries (e ∷ []), few);
-        legal = rw all (legal-snoc base (map recorded entries) (recorded e) b.legal (record { reply_is = sym step.1; index_is = ap (λ n. n + 1) (sym counted) }));
-        state = stands;
-        halt = still;
-        keeps = going_keeps new (state_after base (map recorded (entries ++ e ∷ []))) c.order still stands;
-        cause = c.cause ∙ (rw none at b.cause);
-        left = goes_from left_origin old.left new.left b.left disks.0;
-        right = goes_from right_origin old.right new.right b.right disks.1;
-      })
+        let e : Entry = record { session = session; index = calls + 1; request = request; reply = reply } in
+        let s : State = state_after base (map recorded entries) in
+        let none : halt ≡ None = no_halt halt old.stopped b.halt going in
+        let step = c.step_is going s b.state in
+        let all : map recorded (entries ++ e ∷ []) ≡ map recorded entries ++ recorded e ∷ [] = map-append recorded entries (e ∷ []) in
+        let stands : StandsFor new.core (state_after base (map recorded (entries ++ e ∷ []))) = rw (all, state-snoc base (map recorded entries) (recorded e)) step.0 in
+        let still : new.stopped ≡ None = c.stops ∙ going in
+        let disks = disks_go_on old new request (answer.Reply reply) c in
+        subst (λ (h : Option Halt). Booking new (entries ++ e ∷ []) h) (sym none) (record {
+          few = omega (arith, length-append entries (e ∷ []), few);
+          legal = rw all (legal-snoc base (map recorded entries) (recorded e) b.legal (record { reply_is = sym step.1; index_is = ap (λ n. n + 1) (sym counted) }));
+          state = stands;
+          halt = still;
+          keeps = going_keeps new (state_after base (map recorded (entries ++ e ∷ []))) c.order still stands;
+          cause = c.cause ∙ (rw none at b.cause);
+          left = goes_from left_origin old.left new.left b.left disks.0;
+          right = goes_from right_origin old.right new.right b.right disks.1;
+        })
 
     -- without memory nothing happened
     pub stays : (old new : Stored D) (entries : List Entry) (halt : Option Halt) (request : Request)
         → Booking old entries halt → old.stopped ≡ None → Calls old request answer.NoMemory new → Booking new entries halt
     stays old new entries halt request b going c =
-      let s : State = state_after base (map recorded entries) in
-      let none : halt ≡ None = no_halt halt old.stopped b.halt going in
-      let stands = (c.step_is going s b.state).0 in
-      let still : new.stopped ≡ None = c.stops ∙ going in
-      let disks = disks_go_on old new request answer.NoMemory c in
-      subst (λ (h : Option Halt). Booking new entries h) (sym none) (record {
-        few = b.few;
-        legal = b.legal;
-        state = stands;
-        halt = still;
-        keeps = going_keeps new s c.order still stands;
-        cause = c.cause ∙ (rw none at b.cause);
-        left = goes_from left_origin old.left new.left b.left disks.0;
-        right = goes_from right_origin old.right new.right b.right disks.1;
-      })
+        let s : State = state_after base (map recorded entries) in
+        let none : halt ≡ None = no_halt halt old.stopped b.halt going in
+        let stands = (c.step_is going s b.state).0 in
+        let still : new.stopped ≡ None = c.stops ∙ going in
+        let disks = disks_go_on old new request answer.NoMemory c in
+        subst (λ (h : Option Halt). Booking new entries h) (sym none) (record {
+          few = b.few;
+          legal = b.legal;
+          state = stands;
+          halt = still;
+          keeps = going_keeps new s c.order still stands;
+          cause = c.cause ∙ (rw none at b.cause);
+          left = goes_from left_origin old.left new.left b.left disks.0;
+          right = goes_from right_origin old.right new.right b.right disks.1;
+        })
 
     -- a fault of a disk is the halt
     pub halts : (may_stay : (disk : D) (held : List ℕ) → seen disk ≡ Some held → LeftNow moment left_at disk held)
@@ -169,27 +167,27 @@ module _ {D : Type 0} (seen : D → Option (List ℕ)) (faults : D → ℕ) (mom
         → Booking old entries halt → old.stopped ≡ None → Calls old request answer.DiskFault new → new.stopped ≡ Some sum
         → Booking new entries (Some (record { session = session; request = request; faults = sum }))
     halts may_stay old new entries halt request session sum b going c stopped =
-      let s : State = state_after base (map recorded entries) in
-      let none : halt ≡ None = no_halt halt old.stopped b.halt going in
-      let stands = (c.step_is going s b.state).0 in
-      let disks = disks_go_on old new request answer.DiskFault c in
-      let told = both_told old.side old.left old.right new.left new.right (rw c.side at c.telling.0) (rw c.side at c.aside) in
-      record {
-        few = b.few;
-        legal = b.legal;
-        state = stands;
-        halt = stopped;
-        keeps = λ l r told_left told_right.
-            let before_left = told_so (seen old.left) (told.0 (rw told_left refl)) in
-            let before_right = told_so (seen old.right) (told.1 (rw told_right refl)) in
-            let around = c.around going before_left.0 before_right.0 s before_left.1 before_right.1 b.state in
-            let now = λ (a b : List ℕ) (in_left : LeftNow moment left_at new.left a) (in_right : LeftNow moment left_at new.right b).
-                around a b (moment new.left, disks.0.later, omega arith, in_left) (moment new.right, disks.1.later, omega arith, in_right) in
-            (now l r (may_stay new.left l told_left) (may_stay new.right r told_right), now);
-        cause = rw (rw none at b.cause) at c.cause;
-        left = goes_from left_origin old.left new.left b.left disks.0;
-        right = goes_from right_origin old.right new.right b.right disks.1;
-      }
+        let s : State = state_after base (map recorded entries) in
+        let none : halt ≡ None = no_halt halt old.stopped b.halt going in
+        let stands = (c.step_is going s b.state).0 in
+        let disks = disks_go_on old new request answer.DiskFault c in
+        let told = both_told old.side old.left old.right new.left new.right (rw c.side at c.telling.0) (rw c.side at c.aside) in
+        record {
+          few = b.few;
+          legal = b.legal;
+          state = stands;
+          halt = stopped;
+          keeps = λ l r told_left told_right.
+              let before_left = told_so (seen old.left) (told.0 (rw told_left refl)) in
+              let before_right = told_so (seen old.right) (told.1 (rw told_right refl)) in
+              let around = c.around going before_left.0 before_right.0 s before_left.1 before_right.1 b.state in
+              let now = λ (a b : List ℕ) (in_left : LeftNow moment left_at new.left a) (in_right : LeftNow moment left_at new.right b).
+              around a b (moment new.left, disks.0.later, omega arith, in_left) (moment new.right, disks.1.later, omega arith, in_right) in
+              (now l r (may_stay new.left l told_left) (may_stay new.right r told_right), now);
+          cause = rw (rw none at b.cause) at c.cause;
+          left = goes_from left_origin old.left new.left b.left disks.0;
+          right = goes_from right_origin old.right new.right b.right disks.1;
+        }
 
     -- any other answer leaves the book as it was
     pub others : (old new : Stored D) (entries : List Entry) (halt : Option Halt) (request : Request) (a : Answer)

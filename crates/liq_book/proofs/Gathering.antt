@@ -1,8 +1,8 @@
 -- What a seat that was joined out of others has seen begins with what each of them had seen.
-use Rattle.std.proofs.Common.{ℕ, zero, suc, ◌≡◌, ◌<◌, List, [], ◌∷◌, ◌++◌, length, refl, sym, arith}
+use Rattle.std.proofs.Common.{ℕ, zero, suc, ◌≡◌, List, [], ◌∷◌, ◌++◌, arith}
 use Rattle.std.specs.Prelude.{All, Contains}
 use Rattle.std.proofs.lemmas.List.Elements.{All-append}
-use Rattle.liq_lock.specs.History.{Behind, NoneOf}
+use Rattle.liq_lock.specs.History.{Behind}
 use Rattle.liq_lock.proofs.Histories.{behind_on}
 use Rattle.liq_book.specs.declared.items.Item.{Item}
 use Rattle.liq_book.specs.Items.{session_of}

@@ -1,8 +1,8 @@
 -- What a session learns from a call that was made at the book.
-use Rattle.std.proofs.Common.{ℕ, ◌+◌, ◌≤◌, ◌<◌, ◌≡◌, ◌⊎◌, inl, inr, List, [], ◌∷◌, ◌++◌, map, length, Option, Some, None, refl, sym, ap, ◌∙◌, subst, arith, length-append}
+use Rattle.std.proofs.Common.{ℕ, ◌+◌, ◌≡◌, List, [], ◌∷◌, ◌++◌, map, length, Option, Some, None, refl, sym, ap, ◌∙◌, arith, length-append}
 use Rattle.std.specs.Option.{IsSomeAnd}
 use Rattle.std.proofs.lemmas.List.{append-nil, length-map, map-append}
-use Rattle.liq_types.specs.Desks.{EndsKnown, faulted_after, own_after}
+use Rattle.liq_types.specs.Desks.{faulted_after, own_after}
 use Rattle.liq_types.specs.declared.replies.Answer.{Answer}
 use Rattle.liq_types.specs.declared.replies.Answer.TheVariants as answer
 use Rattle.liq_types.specs.declared.replies.Reply.{Reply}
@@ -10,18 +10,16 @@ use Rattle.liq_types.specs.declared.requests.Request.{Request}
 use Rattle.liq_types.specs.State.{State}
 use Rattle.liq_core.specs.History as history
 use Rattle.liq_core.specs.History.{IsLegal, own_entries, state_after}
-use Rattle.liq_core.specs.Step.{step}
-use Rattle.liq_lock.specs.History.{AllBy, Behind, GoesOn, NoneOf}
+use Rattle.liq_lock.specs.History.{Behind, GoesOn, NoneOf}
 use Rattle.liq_lock.proofs.Histories.{in_one, nothing_in_nil}
 use Rattle.liq_book.specs.declared.items.Entry.{Entry}
 use Rattle.liq_book.specs.declared.items.Halt.{Halt}
 use Rattle.liq_book.specs.declared.items.Item.{Item}
 use Rattle.liq_book.specs.declared.items.Item.TheVariants as item
-use Rattle.liq_book.specs.declared.items.TheConstants.{ENTRIES_MOST}
 use Rattle.liq_book.specs.Answered.{Answered, IsLimited}
 use Rattle.liq_book.specs.Booked.{Booked}
 use Rattle.liq_book.specs.Entered.{Enters, IsTestedFirst}
-use Rattle.liq_book.specs.Items.{IsFull, ShowsEnd, calls_of, chronicle, entries_of, faulted_in, recorded, session_of}
+use Rattle.liq_book.specs.Items.{calls_of, chronicle, entries_of, faulted_in, recorded, session_of}
 use Rattle.liq_book.proofs.Chronicles.{entries_of-append, entries_of-chronicle, faulted_behind, faulted_in-append, faulted_on, own_behind, own_entries-append, own_on, same_session}
 
 abbrev pub items_in : {D : Type 0} → Booked D → List Item

@@ -134,13 +134,7 @@ impl<D: Disk, O: Origin> Book<D, O> {
 
     /// Answers a session's request, of which so many calls got a reply before, and enters it with its reply. With any other
     /// answer the entries stay. At the limit nothing is asked of the store. After a disk's fault there is a halt.
-    pub(crate) fn call(
-        &mut self,
-        session: u8,
-        calls: u32,
-        request: &Request,
-        hint: &Hint,
-    ) -> Answer
+    pub(crate) fn call(&mut self, session: u8, calls: u32, request: &Request, hint: &Hint) -> Answer
         requires calls { length (own_entries session (map recorded self.old.entries)) ≡ calls }
         ensures enters { Enters O.state session calls request.now result self.old self.new }
         ensures first { IsTestedFirst self.old.entries result }

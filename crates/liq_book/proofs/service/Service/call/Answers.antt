@@ -1,8 +1,6 @@
-use Rattle.std.proofs.Common.{◌≡◌, ◌≤◌, ◌<◌, ◌+◌, ◌++◌, ◌∷◌, [], ℕ, length, arith, refl, sym, ◌∙◌, ap}
+use Rattle.std.proofs.Common.{length, arith, refl, ◌∙◌, ap}
 use Rattle.liq_types.specs.declared.replies.Answer.TheVariants as answer
-use Rattle.liq_lock.specs.History.{Behind}
 use Rattle.liq_lock.specs.Seats.{seen_of}
-use Rattle.liq_book.specs.Items.{session_of}
 use Rattle.liq_book.proofs.Calling.{own_few}
 use Rattle.liq_book.proofs.Chronicles.{entries_of-chronicle}
 use Rattle.liq_book.proofs.Learning.{counts, counts_reply, grows, items_in, learns, limits, own_other}

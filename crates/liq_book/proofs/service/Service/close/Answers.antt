@@ -1,9 +1,8 @@
-use Rattle.std.proofs.Common.{◌≡◌, ◌++◌, ◌∷◌, [], ap, sym, ◌∙◌}
+use Rattle.std.proofs.Common.{◌≡◌, ◌∷◌, [], ap, ◌∙◌}
 use Rattle.liq_lock.specs.History.{Behind}
-use Rattle.liq_lock.specs.Seats.{seen_of, stands_of}
-use Rattle.liq_book.specs.Booked.{Booked}
-use Rattle.liq_book.specs.Closing.{booked_by, items_left}
-use Rattle.liq_book.specs.Items.{chronicle, session_of}
+use Rattle.liq_lock.specs.Seats.{seen_of}
+use Rattle.liq_book.specs.Closing.{items_left}
+use Rattle.liq_book.specs.Items.{session_of}
 use Rattle.liq_book.specs.Seats.{items_seen, session_at}
 use Rattle.liq_book.proofs.Gathering.{all_with}
 use Rattle.liq_book.proofs.Learning.{items_in}
@@ -13,4 +12,4 @@ pub returns-clause-seen : goal.returns-clause-seen
 returns-clause-seen g c =
     let left : items_left c.close-in-Ok.result ≡ seen_of c.gathered-seat.result = ap items_in c.close-in-Ok.ensures.same ∙ c.in-Ok.ensures.value in
     rw left (all_with (λ seat. Behind session_of (seen_of c.gathered-seat.result) (session_at seat ∷ []) (items_seen seat)) _ _ _ c.in-Some.ensures.items c.gathered-seat.ensures.behind_seats
-      (rw c.in-Some.first.stands at c.gathered-seat.ensures.behind))
+    (rw c.in-Some.first.stands at c.gathered-seat.ensures.behind))

@@ -1,4 +1,4 @@
-use Rattle.std.proofs.Common.{◌≡◌, ◌++◌, ◌∷◌, []}
+use Rattle.std.proofs.Common.{◌∷◌, []}
 use Rattle.std.proofs.lemmas.List.Elements.{Contains-append_left, Contains-append_right}
 use Rattle.liq_lock.specs.History.{Behind}
 use Rattle.liq_lock.specs.Seats.{seen_of, stands_of}
@@ -14,4 +14,4 @@ returns-clause-behind g t c =
 pub returns-clause-behind_seats : goal.returns-clause-behind_seats
 returns-clause-behind_seats g t c =
     all_with (λ seat. Behind session_of (seen_of c.gathered.result) (session_at seat ∷ []) (items_seen seat)) _ _ _ c.in-Some.ensures.items c.gathered.ensures.behind_seats
-      (behind_through _ _ _ _ (session_at c.in-Some.next ∷ []) (λ n there. rw (c.join_seat.ensures.stands, c.in-Some.next.stands) (Contains-append_right (stands_of c.args.joined) (session_at c.in-Some.next ∷ []) n there)) c.gathered.ensures.behind (rw c.in-Some.next.stands at c.join_seat.ensures.behind_right))
+    (behind_through _ _ _ _ (session_at c.in-Some.next ∷ []) (λ n there. rw (c.join_seat.ensures.stands, c.in-Some.next.stands) (Contains-append_right (stands_of c.args.joined) (session_at c.in-Some.next ∷ []) n there)) c.gathered.ensures.behind (rw c.in-Some.next.stands at c.join_seat.ensures.behind_right))
