@@ -1,0 +1,66 @@
+-- Serving says the same of each state for which the store's protocol stands.
+use Rattle.std.proofs.Common.{ℕ, inl, inr, ⊎_elim, List, map, Option, ◌∙◌, refl, arith}
+use Rattle.liq_types.specs.declared.requests.Request.{Request}
+use Rattle.liq_types.specs.State.{State}
+use Rattle.liq_core.specs.History as history
+use Rattle.liq_core.specs.History.{IsLegal, requests_of, state_after}
+use Rattle.liq_core.proofs.AlikeReads.{Alike}
+use Rattle.liq_core.proofs.AlikeReplies.{replies_alike, run_alike, step_alike}
+use Rattle.liq_pairs.proofs.Alike.{kept_alike, settled_alike}
+use Rattle.liq_sessions.specs.declared.script.Script.{Script}
+use Rattle.liq_store.specs.Keeping.{IsKeptAround}
+use Rattle.liq_book.specs.Items.{recorded}
+use Rattle.liq_book.specs.Origin.{DiskAt, IsDiskAt}
+use Rattle.liq_serving.specs.declared.served.End.{End}
+use Rattle.liq_serving.specs.declared.served.End.TheVariants as end
+use Rattle.liq_serving.specs.declared.served.Served.{Served}
+use Rattle.liq_serving.specs.Serves.{AreSettled, LeavesDisks, Serves, disk_at}
+
+legal_alike : {s t : State} → Alike s t → (entries : List history.Entry) → IsLegal s entries → IsLegal t entries
+legal_alike alike entries legal = record { replies = legal.replies ∙ replies_alike (requests_of entries) alike; indices = legal.indices }
+
+around_alike : {s t : State} → Alike s t → (request : Request) (l r : List ℕ) → IsKeptAround s request l r → IsKeptAround t request l r
+around_alike alike request l r kept = ⊎_elim (λ before. inl (kept_alike alike l r before)) (λ after. inr (kept_alike (step_alike alike request) l r after)) kept
+
+module _ {D : Type 0} (seen : D → Option (List ℕ)) (faults : D → ℕ) (moment : D → ℕ) (left_at : D → ℕ → List ℕ → Type 0) where
+  settles_alike : {s t : State} → Alike s t → (left right : D) → AreSettled seen moment left_at s left right → AreSettled seen moment left_at t left right
+  settles_alike alike left right settled = record {
+    left_rests = settled.left_rests;
+    right_rests = settled.right_rests;
+    side = settled.side;
+    settled = λ l r told_left told_right. settled_alike alike settled.side l r (settled.settled l r told_left told_right);
+  }
+
+  disks_alike : (scripts : List Script) (entries : List history.Entry) {s t : State} → Alike s t → (e : End) (left right : D)
+      → LeavesDisks seen moment left_at scripts entries s e left right → LeavesDisks seen moment left_at scripts entries t e left right
+  disks_alike scripts entries alike end.All left right disks = settles_alike alike left right disks
+  disks_alike scripts entries alike end.NoMemory left right disks = settles_alike alike left right disks
+  disks_alike scripts entries alike (end.DiskFault halt) left right disks = (
+    disks.0,
+    λ l r told_left told_right.
+        let around = disks.1 l r told_left told_right in
+        (around_alike alike halt.request l r around.0, λ a b in_left in_right. around_alike alike halt.request a b (around.1 a b in_left in_right)),
+  )
+
+  pub serves_alike : {s t : State} → Alike s t → (left_origin right_origin : DiskAt) (scripts : List Script) (served : Served D)
+      → Serves seen faults moment left_at s left_origin right_origin scripts served → Serves seen faults moment left_at t left_origin right_origin scripts served
+  serves_alike alike left_origin right_origin scripts served it =
+      let entries : List history.Entry = map recorded served.history in
+      record {
+        legal = legal_alike alike entries it.legal;
+        fronts = it.fronts;
+        whole = it.whole;
+        sessions = it.sessions;
+        disks = disks_alike scripts entries (run_alike (requests_of entries) alike) served.end served.left served.right it.disks;
+        cause = it.cause;
+        left_time = it.left_time;
+        right_time = it.right_time;
+      }
+
+  pub at_itself : (disk : D) → IsDiskAt (disk_at seen faults moment left_at disk) seen faults moment left_at disk
+  at_itself disk = record {
+    seen = refl;
+    faults = refl;
+    moment = refl;
+    time = record { later = omega arith; past = λ k image early there. there; kept = λ k image early there. there };
+  }

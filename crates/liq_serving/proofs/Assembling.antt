@@ -1,0 +1,267 @@
+-- What serving leaves, put together from what the closed book tells of each script.
+use Rattle.std.proofs.Common.{ℕ, suc, ◌+◌, ◌-◌, ◌≤◌, ◌<◌, ◌≡◌, List, [], ◌∷◌, ◌++◌, map, length, drop, zip, Bool, true, false, Option, Some, None, refl, sym, ap, ◌∙◌, subst, arith}
+use Rattle.std.specs.Prelude.{All, Contains, IsTrue, slice_index_or}
+use Rattle.std.specs.List.{AllByRecursion, AllZip}
+use Rattle.std.proofs.lemmas.List.{length-map}
+use Rattle.std.proofs.lemmas.List.Elements.{Contains-append_left, Contains-append_right, Contains-get_or}
+use Rattle.liq_types.specs.State.{State}
+use Rattle.liq_core.specs.History.{state_after}
+use Rattle.liq_core.proofs.Histories.{legal-empty}
+use Rattle.liq_lock.specs.declared.lock.Lock.{Lock}
+use Rattle.liq_lock.specs.History.{Behind}
+use Rattle.liq_lock.specs.Seats.{lock_id, seat_id}
+use Rattle.liq_lock.proofs.Histories.{one_in}
+use Rattle.liq_sessions.specs.declared.done.SessionDone.{SessionDone}
+use Rattle.liq_sessions.specs.declared.done.SessionEnd.TheVariants as session_end
+use Rattle.liq_sessions.specs.declared.done.Work.{Work}
+use Rattle.liq_sessions.specs.declared.script.Script.{Script}
+use Rattle.liq_sessions.specs.declared.script.TheConstants.{REQUESTS_MOST}
+use Rattle.liq_sessions.specs.Ran.{EndsAt, faulted_at}
+use Rattle.liq_sessions.specs.Sessions.{HasRun}
+use Rattle.liq_store.specs.Keeping.{IsInOrder}
+use Rattle.liq_store.specs.Stored.{Stored}
+use Rattle.liq_book.specs.declared.items.Entry.{Entry}
+use Rattle.liq_book.specs.declared.items.Halt.{Halt}
+use Rattle.liq_book.specs.declared.items.Item.{Item}
+use Rattle.liq_book.specs.declared.items.Item.TheVariants as item
+use Rattle.liq_book.specs.declared.origin.Origin.{Ghosts}
+use Rattle.liq_book.specs.declared.seat.BookSeat.{BookSeat}
+use Rattle.liq_book.specs.Items.{calls_of, chronicle, entries_of, faulted_in, recorded, session_of}
+use Rattle.liq_book.specs.Origin.{DiskAt, IsAtOrigin}
+use Rattle.liq_book.specs.Seats.{AreSeated, IsNewSeat, items_seen, session_at}
+use Rattle.liq_book.proofs.Chronicles.{entries_of-chronicle}
+use Rattle.liq_serving.specs.declared.served.End.{End}
+use Rattle.liq_serving.specs.declared.served.End.TheVariants as end
+use Rattle.liq_serving.specs.declared.served.Served.{Served}
+use Rattle.liq_serving.specs.Ends.{end_of, halt_of}
+use Rattle.liq_serving.specs.Leaves.{Leaves, chronicle_of}
+use Rattle.liq_serving.specs.Serves.{AreNumbered, IsServedFrom, IsServedWhole, LeavesDisks, Serves}
+use Rattle.liq_serving.proofs.Leaving.{settles}
+use Rattle.liq_serving.proofs.Told.{IsTold, all_from, all_mapped, all_so, all_to, all_unmap, front_told, next_told, told_by, told_none, whole_told}
+
+-- ---- works with their seats
+
+-- the seat is the script's, and has seen nothing
+pub record IsSet {T K H O : Type 0} {o : Ghosts O} (lock : Lock T Item) (work : Work K H (BookSeat O o)) : Type 0 where
+  pub own : seat_id work.seat.seat ≡ lock_id lock
+  pub session : session_at work.seat ≡ work.script.session
+  pub seen : items_seen work.seat ≡ []
+
+-- what is left begins with what the seat has seen, and has no more of its session
+abbrev pub IsBackIn : {O : Type 0} {o : Ghosts O} → List Item → BookSeat O o → Type 0
+IsBackIn left seat = Behind session_of left (session_at seat ∷ []) (items_seen seat)
+
+-- what a session at the book came to
+abbrev pub Ran : {K H O : Type 0} {o : Ghosts O} → (BookSeat O o → Type 0) → (BookSeat O o → Type 0) → Work K H (BookSeat O o) → SessionDone K H (BookSeat O o) → Type 0
+Ran Belongs KnowsEnd work done = HasRun Belongs session_at (λ seat. calls_of (session_at seat) (items_seen seat)) KnowsEnd (λ seat. faulted_in (session_at seat) (items_seen seat)) work done
+
+module _ {T K H O : Type 0} {o : Ghosts O} where
+  pub all_set : (lock : Lock T Item) (number : ℕ → ℕ) (works : List (Work K H (BookSeat O o)))
+      → ((k : ℕ) (d : BookSeat O o) → k < length (map (λ (w : Work K H (BookSeat O o)). w.seat) works) → IsNewSeat lock (number k) (slice_index_or (map (λ (w : Work K H (BookSeat O o)). w.seat) works) k d))
+      → ((k : ℕ) (d : Script) → k < length (map (λ (w : Work K H (BookSeat O o)). w.script) works) → (slice_index_or (map (λ (w : Work K H (BookSeat O o)). w.script) works) k d).session ≡ number k)
+      → AllByRecursion (IsSet lock) works
+  all_set lock number [] seats scripts = tt
+  all_set lock number (work ∷ works) seats scripts =
+      let seat = seats 0 work.seat (omega arith) in
+      let script = scripts 0 work.script (omega arith) in (
+        record { own = seat.own; session = seat.session_is ∙ sym script; seen = seat.seen },
+        all_set lock (λ k. number (suc k)) works (λ k d within. seats (suc k) d (omega arith)) (λ k d within. scripts (suc k) d (omega arith)),
+      )
+
+  module _ (left : List Item) (lock : Lock T Item) (Belongs KnowsEnd : BookSeat O o → Type 0) where
+    sessions_same : (w : Work K H (BookSeat O o)) (d : SessionDone K H (BookSeat O o)) → IsSet lock w → Ran Belongs KnowsEnd w d → session_at d.seat ≡ w.script.session
+    sessions_same w d set ran = ran.number ∙ set.session
+
+    calls_are : (w : Work K H (BookSeat O o)) (d : SessionDone K H (BookSeat O o)) → IsSet lock w → Ran Belongs KnowsEnd w d → calls_of w.script.session (items_seen d.seat) ≡ zip w.script.requests d.replies
+    calls_are w d set ran =
+        ap (λ session. calls_of session (items_seen d.seat)) (sym (sessions_same w d set ran))
+        ∙ (ran.own ∙ ap (λ (items : List Item). calls_of (session_at w.seat) items ++ zip w.script.requests d.replies) set.seen)
+
+    back_is : (w : Work K H (BookSeat O o)) (d : SessionDone K H (BookSeat O o)) → IsSet lock w → Ran Belongs KnowsEnd w d → IsBackIn left d.seat → Behind session_of left (w.script.session ∷ []) (items_seen d.seat)
+    back_is w d set ran back = subst (λ session. Behind session_of left (session ∷ []) (items_seen d.seat)) (sessions_same w d set ran) back
+
+    tells : (w : Work K H (BookSeat O o)) (d : SessionDone K H (BookSeat O o)) → IsSet lock w → Ran Belongs KnowsEnd w d → IsBackIn left d.seat → IsTold left w.script
+    tells w d set ran back =
+        told_by left (items_seen d.seat) w.script d.replies d.end (back_is w d set ran back) (calls_are w d set ran) ran.within
+        (ap (λ session. faulted_in session (items_seen d.seat)) (sym (sessions_same w d set ran))
+        ∙ (ran.faulted ∙ ap (λ (items : List Item). faulted_at (faulted_in (session_at w.seat) items) (drop (length d.replies) w.script.requests) d.end) set.seen))
+
+    pub all_told : (works : List (Work K H (BookSeat O o))) (done : List (SessionDone K H (BookSeat O o)))
+        → AllByRecursion (IsSet lock) works → AllZip (Ran Belongs KnowsEnd) works done → AllByRecursion (λ (d : SessionDone K H (BookSeat O o)). IsBackIn left d.seat) done
+        → AllByRecursion (λ (w : Work K H (BookSeat O o)). IsTold left w.script) works
+    all_told [] [] set ran back = tt
+    all_told [] (d ∷ done) set ran back = absurd ran
+    all_told (w ∷ works) [] set ran back = absurd ran
+    all_told (w ∷ works) (d ∷ done) set ran back = (tells w d set.0 ran.0 back.0, all_told works done set.1 ran.1 back.1)
+
+    pub all_whole : (works : List (Work K H (BookSeat O o))) (done : List (SessionDone K H (BookSeat O o)))
+        → AllByRecursion (IsSet lock) works → AllZip (Ran Belongs KnowsEnd) works done → AllByRecursion (λ (d : SessionDone K H (BookSeat O o)). IsBackIn left d.seat) done
+        → AllByRecursion (λ (d : SessionDone K H (BookSeat O o)). d.end ≡ session_end.All) done
+        → AllByRecursion (λ (w : Work K H (BookSeat O o)). IsServedWhole (entries_of left) w.script) works
+    all_whole [] [] set ran back ends = tt
+    all_whole [] (d ∷ done) set ran back ends = absurd ran
+    all_whole (w ∷ works) [] set ran back ends = absurd ran
+    all_whole (w ∷ works) (d ∷ done) set ran back ends = (
+      whole_told left (items_seen d.seat) w.script d.replies (back_is w d set.0 ran.0 back.0) (calls_are w d set.0 ran.0) ran.0.within
+          (subst (EndsAt (KnowsEnd d.seat) (drop (length d.replies) w.script.requests)) ends.0 ran.0.ends),
+      all_whole works done set.1 ran.1 back.1 ends.1,
+    )
+
+  -- of works that were not begun
+  pub none_told : (left : List Item) (lock : Lock T Item) (works : List (Work K H (BookSeat O o)))
+      → AllByRecursion (IsSet lock) works → AllByRecursion (λ (w : Work K H (BookSeat O o)). IsBackIn left w.seat) works
+      → AllByRecursion (λ (w : Work K H (BookSeat O o)). IsTold left w.script) works
+  none_told left lock [] set back = tt
+  none_told left lock (w ∷ works) set back = (
+    told_none left w.script
+        (subst (λ (items : List Item). Behind session_of left (w.script.session ∷ []) items) set.0.seen
+        (subst (λ session. Behind session_of left (session ∷ []) (items_seen w.seat)) set.0.session back.0)),
+    none_told left lock works set.1 back.1,
+  )
+
+-- ---- what is left
+
+-- a script of this session is there
+script_of : (scripts : List Script) → AreNumbered scripts → (session : ℕ) → 1 ≤ session → session ≤ length scripts
+    → (script : Script) × Contains scripts script × (script.session ≡ session)
+script_of [] numbered session low high = absurd (omega arith)
+script_of (first ∷ scripts) numbered session low high =
+    let k : ℕ = session - 1 in
+    let within : k < length (first ∷ scripts) = omega arith in
+    (slice_index_or (first ∷ scripts) k first, Contains-get_or (first ∷ scripts) k first within, numbered k first within ∙ omega arith)
+
+all_at : {X : Type 0} (P : X → Type 0) (xs : List X) (x : X) → All P xs → Contains xs x → P x
+all_at P xs x all there = subst P there.2 (all there.0 x there.1)
+
+whole_end : (halt : Option Halt) (all : Bool) → end_of halt all ≡ end.All → IsTrue all
+whole_end None true is = refl
+whole_end None false is = absurd (let e : end.NoMemory ≡ end.All = is in cc)
+whole_end (Some halt) all is = absurd (let e : end.DiskFault halt ≡ end.All = is in cc)
+
+entries_within : (P : ℕ → Type 0) (entries : List Entry) → ((i : Item) → Contains (map item.Entry entries) i → P (session_of i)) → AllByRecursion (λ (e : Entry). P e.session) entries
+entries_within P [] within = tt
+entries_within P (e ∷ entries) within = (within (item.Entry e) (one_in (item.Entry e) (map item.Entry entries)), entries_within P entries (λ i there. within i (suc there.0, omega (arith, there.1), there.2)))
+
+entries_there : (entries : List Entry) (halt : Option Halt) (i : Item) → Contains (map item.Entry entries) i → Contains (chronicle entries halt) i
+entries_there entries None i there = there
+entries_there entries (Some halt) i there = Contains-append_left (map item.Entry entries) (item.Halt halt ∷ []) i there
+
+module _ {D : Type 0} (seen : D → Option (List ℕ)) (faults : D → ℕ) (moment : D → ℕ) (left_at : D → ℕ → List ℕ → Type 0) (base : State) (left_origin right_origin : DiskAt) (scripts : List Script) where
+  disks_by : {O : Type 0} {o : Ghosts O} (all : Bool) (seats : List (BookSeat O o)) (served : Served D)
+      → AreNumbered scripts → Leaves seen faults moment left_at base left_origin right_origin (length scripts) all seats served
+      → All (IsTold (chronicle_of served)) scripts
+      → (e : End) → served.end ≡ e
+      → LeavesDisks seen moment left_at scripts (map recorded served.history) (state_after base (map recorded served.history)) e served.left served.right
+  disks_by all seats served numbered l told end.All is = rw is at l.disks
+  disks_by all seats served numbered l told end.NoMemory is = rw is at l.disks
+  disks_by all seats served numbered l told (end.DiskFault halt) is =
+      let left : List Item = map item.Entry served.history ++ item.Halt halt ∷ [] in
+      let items : chronicle_of served ≡ left = ap (λ e. chronicle served.history (halt_of e)) is in
+      let there : Contains left (item.Halt halt) = Contains-append_right (map item.Entry served.history) (item.Halt halt ∷ []) (item.Halt halt) (one_in (item.Halt halt) []) in
+      let range = l.within (item.Halt halt) (rw items there) in
+      let script = script_of scripts numbered halt.session range.0 range.1 in
+      let entries : entries_of left ≡ map recorded served.history = entries_of-chronicle served.history (Some halt) in
+      let next = next_told (map item.Entry served.history) halt script.0 (rw items at (all_at (IsTold (chronicle_of served)) scripts script.0 told script.1)) script.2 in
+      ((script.0, script.1, script.2, rw entries at next), rw is at l.disks)
+
+  serves : {O : Type 0} {o : Ghosts O} (all : Bool) (seats : List (BookSeat O o)) (served : Served D)
+      → AreNumbered scripts → Leaves seen faults moment left_at base left_origin right_origin (length scripts) all seats served
+      → AllByRecursion (IsTold (chronicle_of served)) scripts
+      → (IsTrue all → AllByRecursion (IsServedWhole (entries_of (chronicle_of served))) scripts)
+      → Serves seen faults moment left_at base left_origin right_origin scripts served
+  serves all seats served numbered l told whole =
+      let entries : entries_of (chronicle_of served) ≡ map recorded served.history = entries_of-chronicle served.history (halt_of served.end) in
+      record {
+        legal = l.legal;
+        fronts = rw (← entries) (all_to (IsServedFrom (entries_of (chronicle_of served))) scripts (all_so (IsTold (chronicle_of served)) (IsServedFrom (entries_of (chronicle_of served))) (front_told (chronicle_of served)) scripts told));
+        whole = λ is. rw (← entries) (all_to (IsServedWhole (entries_of (chronicle_of served))) scripts (whole (whole_end (halt_of served.end) all (sym l.end ∙ is))));
+        sessions = all_to (λ (e : Entry). (1 ≤ e.session) × (e.session ≤ length scripts)) served.history (entries_within (λ n. (1 ≤ n) × (n ≤ length scripts)) served.history (λ i there. l.within i (entries_there served.history (halt_of served.end) i there)));
+        disks = disks_by all seats served numbered l (all_to (IsTold (chronicle_of served)) scripts told) served.end refl;
+        cause = l.cause;
+        left_time = l.left_time;
+        right_time = l.right_time;
+      }
+
+  -- where there was no memory for a book
+  pub serves_none : (store : Stored D) (served : Served D) → served.left ≡ store.left → served.right ≡ store.right → served.history ≡ [] → served.end ≡ end.NoMemory
+      → store.stopped ≡ None → IsInOrder seen moment left_at store → IsAtOrigin seen faults moment left_at base left_origin right_origin store
+      → Serves seen faults moment left_at base left_origin right_origin scripts served
+  serves_none store served left_is right_is history_is end_is going order at = record {
+    legal = rw history_is (legal-empty base);
+    fronts = rw history_is (λ k d within. ((slice_index_or scripts k d).requests, refl));
+    whole = λ is. absurd (let e : end.NoMemory ≡ end.All = sym end_is ∙ is in cc);
+    sessions = rw history_is (λ k d within. absurd (omega arith));
+    disks = rw (end_is, history_is, left_is, right_is) (settles seen faults moment left_at store base order going at.state);
+    cause = rw (end_is, left_is, right_is, at.left.faults, at.right.faults) refl;
+    left_time = rw left_is at.left.time;
+    right_time = rw right_is at.right.time;
+  }
+
+-- ---- what serving owes at each step
+
+module _ {T K H O : Type 0} {o : Ghosts O} (lock : Lock T Item) (works : List (Work K H (BookSeat O o))) (new_seats : List (BookSeat O o)) (scripts : List Script) where
+  pub set_of : map (λ (w : Work K H (BookSeat O o)). w.seat) works ≡ new_seats → map (λ (w : Work K H (BookSeat O o)). w.script) works ≡ scripts
+      → AreSeated lock new_seats → AreNumbered scripts → AllByRecursion (IsSet lock) works
+  set_of seats_are scripts_are new numbered = all_set lock (λ k. k + 1) works (rw seats_are new) (rw scripts_are numbered)
+
+  pub works_belong : AllByRecursion (IsSet lock) works → All (λ (w : Work K H (BookSeat O o)). seat_id w.seat.seat ≡ lock_id lock) works
+  works_belong set = all_to (λ (w : Work K H (BookSeat O o)). seat_id w.seat.seat ≡ lock_id lock) works (all_so (IsSet lock) (λ (w : Work K H (BookSeat O o)). seat_id w.seat.seat ≡ lock_id lock) (λ w set. set.own) works set)
+
+module _ {K H O : Type 0} {o : Ghosts O} (works : List (Work K H (BookSeat O o))) (scripts : List Script) (scripts_are : map (λ (w : Work K H (BookSeat O o)). w.script) works ≡ scripts) where
+  pub works_short : All (λ (script : Script). length script.requests ≤ REQUESTS_MOST) scripts → All (λ (w : Work K H (BookSeat O o)). length w.script.requests ≤ REQUESTS_MOST) works
+  works_short short =
+      all_to (λ (w : Work K H (BookSeat O o)). length w.script.requests ≤ REQUESTS_MOST) works
+      (all_unmap (λ (script : Script). length script.requests ≤ REQUESTS_MOST) (λ (w : Work K H (BookSeat O o)). w.script) works
+      (all_from (λ (script : Script). length script.requests ≤ REQUESTS_MOST) (map (λ (w : Work K H (BookSeat O o)). w.script) works) (rw scripts_are short)))
+
+  pub works_many : length works ≡ length scripts
+  works_many = sym (length-map works (λ (w : Work K H (BookSeat O o)). w.script)) ∙ ap length scripts_are
+
+module _ {K H O : Type 0} {o : Ghosts O} (Belongs KnowsEnd : BookSeat O o → Type 0) where
+  done_back : (works : List (Work K H (BookSeat O o))) (done : List (SessionDone K H (BookSeat O o)))
+      → AllZip (Ran Belongs KnowsEnd) works done → AllByRecursion (λ (d : SessionDone K H (BookSeat O o)). Belongs d.seat) done
+  done_back [] [] ran = tt
+  done_back [] (d ∷ done) ran = absurd ran
+  done_back (w ∷ works) [] ran = absurd ran
+  done_back (w ∷ works) (d ∷ done) ran = (ran.0.belongs, done_back works done ran.1)
+
+  pub done_belong : (works : List (Work K H (BookSeat O o))) (done : List (SessionDone K H (BookSeat O o))) (seats : List (BookSeat O o))
+      → AllZip (Ran Belongs KnowsEnd) works done → seats ≡ map (λ (d : SessionDone K H (BookSeat O o)). d.seat) done → All Belongs seats
+  done_belong works done seats ran seats_are =
+      rw seats_are (all_to Belongs (map (λ (d : SessionDone K H (BookSeat O o)). d.seat) done) (all_mapped Belongs (λ (d : SessionDone K H (BookSeat O o)). d.seat) done (done_back works done ran)))
+
+module _ {D : Type 0} (seen : D → Option (List ℕ)) (faults : D → ℕ) (moment : D → ℕ) (left_at : D → ℕ → List ℕ → Type 0) (base : State) (left_origin right_origin : DiskAt) (scripts : List Script) where
+  -- all sessions have ended
+  pub serves_done : {T K H O : Type 0} {o : Ghosts O} (lock : Lock T Item) (Belongs KnowsEnd : BookSeat O o → Type 0)
+      (works : List (Work K H (BookSeat O o))) (done : List (SessionDone K H (BookSeat O o))) (seats : List (BookSeat O o)) (most : ℕ) (all : Bool) (served : Served D)
+      → map (λ (w : Work K H (BookSeat O o)). w.script) works ≡ scripts → AreNumbered scripts → AllByRecursion (IsSet lock) works
+      → AllZip (Ran Belongs KnowsEnd) works done → seats ≡ map (λ (d : SessionDone K H (BookSeat O o)). d.seat) done
+      → (IsTrue all → AllByRecursion (λ (d : SessionDone K H (BookSeat O o)). d.end ≡ session_end.All) done)
+      → most ≡ length scripts
+      → Leaves seen faults moment left_at base left_origin right_origin most all seats served
+      → Serves seen faults moment left_at base left_origin right_origin scripts served
+  serves_done {K = K} {H = H} {O = O} {o = o} lock Belongs KnowsEnd works done seats most all served scripts_are numbered set ran seats_are ends most_is l =
+      let left : List Item = chronicle_of served in
+      let back : AllByRecursion (λ (d : SessionDone K H (BookSeat O o)). IsBackIn left d.seat) done =
+      all_unmap (IsBackIn left) (λ (d : SessionDone K H (BookSeat O o)). d.seat) done (all_from (IsBackIn left) (map (λ (d : SessionDone K H (BookSeat O o)). d.seat) done) (subst (All (IsBackIn left)) seats_are l.back)) in
+      serves seen faults moment left_at base left_origin right_origin scripts all seats served numbered
+      (subst (λ n. Leaves seen faults moment left_at base left_origin right_origin n all seats served) most_is l)
+      (subst (AllByRecursion (IsTold left)) scripts_are (all_mapped (IsTold left) (λ (w : Work K H (BookSeat O o)). w.script) works (all_told left lock Belongs KnowsEnd works done set ran back)))
+      (λ whole. subst (AllByRecursion (IsServedWhole (entries_of left))) scripts_are (all_mapped (IsServedWhole (entries_of left)) (λ (w : Work K H (BookSeat O o)). w.script) works (all_whole left lock Belongs KnowsEnd works done set ran back (ends whole))))
+
+  -- no session was begun
+  pub serves_works : {T K H O : Type 0} {o : Ghosts O} (lock : Lock T Item)
+      (works : List (Work K H (BookSeat O o))) (seats : List (BookSeat O o)) (most : ℕ) (served : Served D)
+      → map (λ (w : Work K H (BookSeat O o)). w.script) works ≡ scripts → AreNumbered scripts → AllByRecursion (IsSet lock) works
+      → seats ≡ map (λ (w : Work K H (BookSeat O o)). w.seat) works
+      → most ≡ length scripts
+      → Leaves seen faults moment left_at base left_origin right_origin most false seats served
+      → Serves seen faults moment left_at base left_origin right_origin scripts served
+  serves_works {K = K} {H = H} {O = O} {o = o} lock works seats most served scripts_are numbered set seats_are most_is l =
+      let left : List Item = chronicle_of served in
+      let back : AllByRecursion (λ (w : Work K H (BookSeat O o)). IsBackIn left w.seat) works =
+      all_unmap (IsBackIn left) (λ (w : Work K H (BookSeat O o)). w.seat) works (all_from (IsBackIn left) (map (λ (w : Work K H (BookSeat O o)). w.seat) works) (subst (All (IsBackIn left)) seats_are l.back)) in
+      serves seen faults moment left_at base left_origin right_origin scripts false seats served numbered
+      (subst (λ n. Leaves seen faults moment left_at base left_origin right_origin n false seats served) most_is l)
+      (subst (AllByRecursion (IsTold left)) scripts_are (all_mapped (IsTold left) (λ (w : Work K H (BookSeat O o)). w.script) works (none_told left lock works set back)))
+      (λ whole. absurd (let e : false ≡ true = whole in cc))

@@ -1,0 +1,4 @@
+mod Alike
+mod Assembling
+mod Leaving
+mod Told

@@ -1,0 +1,116 @@
+//! All scripts are served.
+
+ghost use Rattle.std.specs.Prelude.{◌≡◌, ◌≤◌, None, All, [], length};
+ghost use Rattle.liq_types.specs.State.{State};
+ghost use Rattle.liq_core.specs.Core.{StandsFor};
+ghost use Rattle.liq_sessions.specs.declared.script.TheConstants.{REQUESTS_MOST};
+ghost use Rattle.liq_store.specs.Keeping.{IsInOrder};
+ghost use Rattle.liq_book.specs.Origin.{IsAtOrigin};
+ghost use Rattle.liq_book.specs.Seats.{IsSeatOf, sessions_of};
+ghost use Rattle.liq_serving.specs.Leaves.{Leaves};
+ghost use Rattle.liq_serving.specs.Serves.{AreNumbered, Serves, disk_at};
+
+use crate::seats::{at_seats, seats_back, seats_of};
+use crate::served::{End, Served, ended};
+use liq_book::{BookSeat, History, Origin, Service};
+use liq_core::laws::protocols_stand;
+use liq_outside::Disk;
+use liq_sessions::{Gate, Script, run_sessions};
+use liq_store::Store;
+use std::alloc::Global;
+use std::marker::Brand;
+use std::sync::Wait;
+use std::thread::Threads;
+
+/// Serves the scripts of the sessions from 1 on, all at once, over a store that is open: a book is made with a seat for each, the
+/// sessions run, all seats come back, and the book is closed.
+///
+/// The history is legal from each state for which the store's protocol stands. A disk's count rose exactly where the end
+/// is [`End::DiskFault`].
+pub fn serve_sessions<D: Disk + Send, G: Gate + Sync, R: Threads + Wait + Sync>(
+    rt: &R,
+    alloc: Global,
+    gate: &G,
+    scripts: Vec<Script>,
+    store: Store<D>,
+) -> Served<D>
+    requires some { 1 ≤ length scripts.items }
+    requires few { length scripts.items ≤ 8 }
+    requires numbered { AreNumbered scripts.items }
+    requires short { All (λ script. length script.requests ≤ REQUESTS_MOST) scripts.items }
+    requires going { store.stopped ≡ None }
+    ensures { (s : State) → StandsFor store.core s → Serves D.seen D.faults D.moment D.left_at s (disk_at D.seen D.faults D.moment D.left_at store.left) (disk_at D.seen D.faults D.moment D.left_at store.right) scripts.items result }
+{
+    protocols_stand(store.protocol());
+    serve_from::<D, Brand, G, R>(rt, alloc, gate, scripts, store)
+}
+
+/// The same, from an origin.
+fn serve_from<D: Disk + Send, O: Origin + Send + Sync, G: Gate + Sync, R: Threads + Wait + Sync>(
+    rt: &R,
+    alloc: Global,
+    gate: &G,
+    scripts: Vec<Script>,
+    store: Store<D>,
+) -> Served<D>
+    requires some { 1 ≤ length scripts.items }
+    requires few { length scripts.items ≤ 8 }
+    requires numbered { AreNumbered scripts.items }
+    requires short { All (λ script. length script.requests ≤ REQUESTS_MOST) scripts.items }
+    requires going { store.stopped ≡ None }
+    requires origin { IsAtOrigin D.seen D.faults D.moment D.left_at O.state O.left O.right store }
+    ensures { Serves D.seen D.faults D.moment D.left_at O.state O.left O.right scripts.items result }
+{
+    let count = scripts.len();
+    let Ok(room) = Vec::with_capacity(alloc, count) else {
+        return unserved(alloc, store);
+    };
+    let Ok(back) = Vec::with_capacity(alloc, count) else {
+        return unserved(alloc, store);
+    };
+    let (service, seats) = match Service::<D, O>::new(alloc, store, count as u8) {
+        Ok(made) => made,
+        Err(store) => return unserved(alloc, store),
+    };
+    let works = at_seats(scripts, seats, room);
+    match run_sessions(rt, alloc, &service, gate, works) {
+        Ok(done) => {
+            let (seats, whole) = seats_back(done, back);
+            finished(service, seats, whole)
+        }
+        Err(works) => finished(service, seats_of(works, back), false),
+    }
+}
+
+/// Closes the book with all its seats.
+fn finished<D: Disk, O: Origin>(
+    service: Service<D, O>,
+    seats: Vec<BookSeat<O>>,
+    whole: bool,
+) -> Served<D>
+    requires own { All (IsSeatOf service) seats.items }
+    requires all { sessions_of service ≤ length seats.items }
+    ensures { Leaves D.seen D.faults D.moment D.left_at O.state O.left O.right (sessions_of service) whole seats.items result }
+{
+    match service.close(seats) {
+        Ok(closed) => ended(closed, whole),
+        Err(_) => unreachable!(),
+    }
+}
+
+/// What is left where there was no memory for a service.
+fn unserved<D: Disk>(alloc: Global, store: Store<D>) -> Served<D>
+    ensures left { result.left ≡ store.left }
+    ensures right { result.right ≡ store.right }
+    ensures history { result.history ≡ [] }
+    ensures end { result.end ≡ End.NoMemory }
+    ensures order { IsInOrder D.seen D.moment D.left_at store }
+{
+    let (left, right) = store.close();
+    Served {
+        left,
+        right,
+        history: History::new(alloc),
+        end: End::NoMemory,
+    }
+}
