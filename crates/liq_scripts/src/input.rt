@@ -1,6 +1,6 @@
 //! The scripts of the sessions, read from the lines of a source.
 
-ghost use Rattle.std.specs.Prelude.{[], ◌≡◌, ◌≤◌, ◌<◌, ◌+◌, ℕ, List, Option, Some, length, vec_len, vec_capacity, IsOkUnless, IfOk, All};
+ghost use Rattle.std.specs.Prelude.{[], ◌≡◌, ◌≤◌, ◌<◌, ◌+◌, ℕ, List, Option, Some, length, vec_len, vec_capacity, IsOkUnless, IfOk, OnOk, All};
 ghost use Rattle.liq_types.specs.declared.requests.Request.{Request};
 ghost use Rattle.liq_outside.specs.Faults.{Rose};
 ghost use Rattle.liq_lines.specs.Lines.{lines_in};
@@ -54,6 +54,7 @@ fn read_lines<S: Source>(
     requires room { LINE_BYTES ≤ vec_capacity line.old }
     requires blank { scripts.old.items ≡ scripts_of [] }
     ensures read { Comes result (S.left input.old) scripts.new.items (S.left input.new) }
+    ensures short { OnOk result (All (λ script. length script.requests ≤ LINES_MOST) scripts.new.items) }
     ensures source { ReadCause result (S.faults input.old) (S.faults input.new) }
 {
     for read in 0..LINES_MOST {
