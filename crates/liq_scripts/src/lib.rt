@@ -2,6 +2,7 @@
 //! written to a sink.
 #![tactic(auto)]
 
+mod entries;
 mod input;
 mod outbox;
 mod output;
