@@ -3,44 +3,22 @@
 ghost use Rattle.std.specs.Prelude.{◌≡◌, ◌<◌, []};
 
 use crate::drip::Drip;
+use liq_book::Entry;
 use liq_scripts::{Outbox, Shown, write_served};
-use liq_types::{Done, Info, Refusal, Reply};
+use liq_types::{Done, Info, Query, Refusal, Reply, Request};
 use std::alloc::Global;
 use std::process::Abort;
 use std::test::Fail;
 
-/// An entry of a history, without its request.
-#[derive(Clone, Copy)]
-struct Told {
-    session: u8,
-    index: u32,
-    reply: Reply,
-}
-
-impl Shown for Told {
-    ghost use Rattle.liq_types.specs.declared.requests.Request.TheVariants.{Ask};
-    ghost use Rattle.liq_types.specs.declared.requests.Query.TheVariants.{Pools};
-
-    ghost entry = { λ t. record { session = t.session; index = t.index; request = Ask Pools; reply = t.reply } };
-
-    fn session(&self) -> u8 {
-        self.session
-    }
-
-    fn index(&self) -> u32 {
-        self.index
-    }
-
-    fn reply(&self) -> Reply {
-        self.reply
-    }
-}
+/// What each entry asked: it is not shown.
+const ASKED: Request = Request::Ask(Query::Pools);
 
 /// A wallet of so much.
-const fn a_wallet(session: u8, index: u32, coll: u64) -> Told {
-    Told {
+const fn a_wallet(session: u8, index: u32, coll: u64) -> Entry {
+    Entry {
         session,
         index,
+        request: ASKED,
         reply: Reply::Told(Info::Wallet { coll, lusd: 0 }),
     }
 }
@@ -54,35 +32,41 @@ const FUNDED: Reply = Reply::Said(Done {
     values: [0; 6],
 });
 
-const MIXED: [Told; 6] = [
-    Told {
+const MIXED: [Entry; 6] = [
+    Entry {
         session: 7,
         index: 1,
+        request: ASKED,
         reply: FUNDED,
     },
-    Told {
+    Entry {
         session: 2,
         index: 1,
+        request: ASKED,
         reply: NO_TROVE,
     },
-    Told {
+    Entry {
         session: 7,
         index: 2,
+        request: ASKED,
         reply: Reply::Told(Info::NoDeposit),
     },
-    Told {
+    Entry {
         session: 8,
         index: 1,
+        request: ASKED,
         reply: FUNDED,
     },
-    Told {
+    Entry {
         session: 2,
         index: 2,
+        request: ASKED,
         reply: FUNDED,
     },
-    Told {
+    Entry {
         session: 7,
         index: 3,
+        request: ASKED,
         reply: Reply::Told(Info::Next {
             number: 18_446_744_073_709_551_615,
         }),
@@ -110,7 +94,7 @@ fn write<E: Shown>(
 fn check_whole<R: Abort>(
     rt: &R,
     alloc: Global,
-    entries: &[Told],
+    entries: &[Entry],
     most: usize,
     output: &[u8],
 ) -> Result<(), Fail>
