@@ -2,10 +2,10 @@
 
 ghost use Rattle.std.specs.Prelude.{◌≤◌, ◌<◌};
 
-use crate::runs::{RUN, words_of};
+use crate::runs::{RUN, empty, words_of};
 use crate::small_sink::SmallSink;
 use liq_outside::MemorySource;
-use liq_serve::protocol;
+use liq_serve::without_threads;
 use std::alloc::{AllocError, Global};
 use std::process::Abort;
 use std::test::Fail;
@@ -35,8 +35,15 @@ fn run_on(
     let words = words_of(alloc, run.words)?;
     let failing = run.failing_reads.to_vec(alloc)?;
     let mut source = MemorySource::new(run.input.to_vec(alloc)?, chunk, failing);
-    let status = protocol(alloc, &words, &mut source, &mut sink);
-    Ok((status, sink))
+    let ended = without_threads(
+        alloc,
+        &words,
+        &mut source,
+        &mut sink,
+        empty(alloc),
+        empty(alloc),
+    );
+    Ok((ended.status, sink))
 }
 
 // Where the sink fails at the call, it holds what the calls before it took. The status is that of the run, or 4 where the

@@ -8,6 +8,8 @@ mod borrowing;
 #[cfg(test)]
 mod cut;
 #[cfg(test)]
+mod disks;
+#[cfg(test)]
 mod faults;
 #[cfg(test)]
 mod full_journal;

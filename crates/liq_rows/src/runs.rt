@@ -2,8 +2,8 @@
 
 ghost use Rattle.std.specs.Prelude.{◌≤◌};
 
-use liq_outside::{MemorySink, MemorySource};
-use liq_serve::protocol;
+use liq_outside::{MemoryDisk, MemorySink, MemorySource};
+use liq_serve::without_threads;
 use std::alloc::{AllocError, Global};
 use std::process::Abort;
 
@@ -26,6 +26,11 @@ impl Ran {
     }
 }
 
+/// A disk on which nothing stands, and which does not fail.
+pub fn empty(alloc: Global) -> MemoryDisk {
+    MemoryDisk::new(alloc, Vec::new(alloc), Vec::new(alloc))
+}
+
 /// The words of a command line.
 pub fn words_of(alloc: Global, words: &[&str]) -> Result<Vec<String>, AllocError> {
     let mut command_line = Vec::new(alloc);
@@ -35,8 +40,8 @@ pub fn words_of(alloc: Global, words: &[&str]) -> Result<Vec<String>, AllocError
     Ok(command_line)
 }
 
-/// Runs the program on these words and this input, of which a read gives at most `chunk` bytes. The reads and the writes of
-/// these numbers, counted from 0, fail.
+/// Runs the program on these words, two empty disks and this input, of which a read gives at most `chunk` bytes. The reads and
+/// the writes of these numbers, counted from 0, fail.
 pub fn run_on(
     alloc: Global,
     words: &[&str],
@@ -50,9 +55,16 @@ pub fn run_on(
     let command_line = words_of(alloc, words)?;
     let mut source = MemorySource::new(input.to_vec(alloc)?, chunk, failing_reads.to_vec(alloc)?);
     let mut sink = MemorySink::new(alloc, failing_writes.to_vec(alloc)?);
-    let status = protocol(alloc, &command_line, &mut source, &mut sink);
+    let ended = without_threads(
+        alloc,
+        &command_line,
+        &mut source,
+        &mut sink,
+        empty(alloc),
+        empty(alloc),
+    );
     Ok(Ran {
-        status,
+        status: ended.status,
         source,
         sink,
     })

@@ -2,8 +2,9 @@
 use Rattle.std.proofs.Common.{◌≡◌, ◌≢◌, ℕ, ◌≤◌, Ok, Err, Result, refl, subst, arith}
 use Rattle.liq_outside.specs.Faults.{Rose}
 use Rattle.liq_serve.specs.declared.halts.Halt.{Halt}
-use Rattle.liq_serve.specs.declared.halts.Halt.TheVariants.{BadLine, ReadFault, WriteFault, NoMemory, Limit}
-use Rattle.liq_serve.specs.Causes.{ReadCause, WriteCause, LastCause}
+use Rattle.liq_serve.specs.declared.halts.Halt.TheVariants.{BadLine, ReadFault, WriteFault, DiskFault, Damaged, NoMemory, Limit}
+use Rattle.liq_store.specs.Causes.{Faults, OneRose}
+use Rattle.liq_serve.specs.Causes.{DiskCause, ReadCause, WriteCause, LastCause}
 use Rattle.liq_serve.specs.Statuses.{status_of}
 
 -- no other halt is caused by the source
@@ -12,7 +13,19 @@ read_same (BadLine n) before after other same = same
 read_same ReadFault before after other same = absurd (other refl)
 read_same WriteFault before after other same = same
 read_same NoMemory before after other same = same
+read_same DiskFault before after other same = same
+read_same (Damaged side number) before after other same = same
 read_same Limit before after other same = same
+
+-- and none by the sink
+pub write_same : {T : Type 0} (halt : Halt) (before after : ℕ) → (let r : Result T Halt = Err halt in r ≢ Err WriteFault) → after ≡ before → WriteCause {T = T} (Err halt) before after
+write_same (BadLine n) before after other same = same
+write_same ReadFault before after other same = same
+write_same WriteFault before after other same = absurd (other refl)
+write_same NoMemory before after other same = same
+write_same DiskFault before after other same = same
+write_same (Damaged side number) before after other same = same
+write_same Limit before after other same = same
 
 -- a part of the run that went well stands before it
 pub read_later : {T : Type 0} (end : Result T Halt) (a b c : ℕ) → b ≡ a → ReadCause end b c → ReadCause end a c
@@ -27,6 +40,8 @@ write_no_fewer (Err (BadLine n)) before after c = omega (arith, c)
 write_no_fewer (Err ReadFault) before after c = omega (arith, c)
 write_no_fewer (Err WriteFault) before after c = c.0
 write_no_fewer (Err NoMemory) before after c = omega (arith, c)
+write_no_fewer (Err DiskFault) before after c = omega (arith, c)
+write_no_fewer (Err (Damaged side number)) before after c = omega (arith, c)
 write_no_fewer (Err Limit) before after c = omega (arith, c)
 
 -- ---- what a status says
@@ -37,6 +52,8 @@ source_causes (Err (BadLine n)) before after c = (λ h. absurd (omega (arith, h)
 source_causes (Err ReadFault) before after c = (λ _. c.1, λ other. absurd (other refl))
 source_causes (Err WriteFault) before after c = (λ h. absurd (omega (arith, h)), λ _. c)
 source_causes (Err NoMemory) before after c = (λ h. absurd (omega (arith, h)), λ _. c)
+source_causes (Err DiskFault) before after c = (λ h. absurd (omega (arith, h)), λ _. c)
+source_causes (Err (Damaged side number)) before after c = (λ h. absurd (omega (arith, h)), λ _. c)
 source_causes (Err Limit) before after c = (λ h. absurd (omega (arith, h)), λ _. c)
 
 pub sink_causes : (end : Result (Unit {0}) Halt) (before after : ℕ) → LastCause end before after → (status_of end ≡ 4 → Rose before after) × (status_of end ≡ 0 → after ≡ before)
@@ -45,4 +62,16 @@ sink_causes (Err (BadLine n)) before after c = (λ h. absurd (omega (arith, h)),
 sink_causes (Err ReadFault) before after c = (λ h. absurd (omega (arith, h)), λ h. absurd (omega (arith, h)))
 sink_causes (Err WriteFault) before after c = (λ _. c, λ h. absurd (omega (arith, h)))
 sink_causes (Err NoMemory) before after c = (λ h. absurd (omega (arith, h)), λ h. absurd (omega (arith, h)))
+sink_causes (Err DiskFault) before after c = (λ h. absurd (omega (arith, h)), λ h. absurd (omega (arith, h)))
+sink_causes (Err (Damaged side number)) before after c = (λ h. absurd (omega (arith, h)), λ h. absurd (omega (arith, h)))
 sink_causes (Err Limit) before after c = (λ h. absurd (omega (arith, h)), λ h. absurd (omega (arith, h)))
+
+pub disk_causes : (end : Result (Unit {0}) Halt) (before after : Faults) → DiskCause end before after → (status_of end ≡ 5 → OneRose before after) × ((status_of end ≡ 5 → ⊥) → after ≡ before)
+disk_causes (Ok done) before after c = (λ h. absurd (omega (arith, h)), λ _. c)
+disk_causes (Err (BadLine n)) before after c = (λ h. absurd (omega (arith, h)), λ _. c)
+disk_causes (Err ReadFault) before after c = (λ h. absurd (omega (arith, h)), λ _. c)
+disk_causes (Err WriteFault) before after c = (λ h. absurd (omega (arith, h)), λ _. c)
+disk_causes (Err DiskFault) before after c = (λ _. c, λ other. absurd (other refl))
+disk_causes (Err (Damaged side number)) before after c = (λ h. absurd (omega (arith, h)), λ _. c)
+disk_causes (Err NoMemory) before after c = (λ h. absurd (omega (arith, h)), λ _. c)
+disk_causes (Err Limit) before after c = (λ h. absurd (omega (arith, h)), λ _. c)

@@ -5,7 +5,8 @@ use Rattle.std.proofs.lemmas.List.{take-append-drop}
 use Rattle.liq_types.specs.declared.amounts.TheConstants.{LINES_MOST}
 use Rattle.liq_types.specs.declared.requests.Request.{Request}
 use Rattle.liq_types.specs.State.{State}
-use Rattle.liq_core.specs.Step.{step}
+use Rattle.liq_core.specs.Core.{Core, StandsFor}
+use Rattle.liq_core.specs.Step.{run, step}
 use Rattle.liq_serve.specs.declared.halts.Halt.TheVariants.{WriteFault}
 use Rattle.liq_serve.specs.Output.{lines, reply_line}
 use Rattle.liq_serve.specs.Progress.{Written, Comes}
@@ -86,11 +87,16 @@ begins_front bytes xs ys more h =
 missing_some : (k : ℕ) (xs : List ℕ) → k < length xs → drop k xs ≢ []
 missing_some k xs lt e = omega (arith, length-drop k xs, ap length e)
 
-pub cut_comes : (start : State) (bytes : List ℕ) (requests : List Request) (left : Option (List ℕ)) (waited waits : List ℕ) (more : List (List ℕ)) (before now after : Option (List ℕ)) → length requests ≤ LINES_MOST → BeginsWith bytes requests more → Written start requests waited before now → WritesPart now waited after → Comes start (Err WriteFault) bytes left waits before after
-cut_comes start bytes requests left waited waits more before now after few begins written part =
+-- what misses something behind a front is longer than it
+cut_behind : (front part missing whole : List ℕ) → missing ≢ [] → whole ≡ (front ++ part) ++ missing → length front < length whole
+cut_behind front part [] whole some is = absurd (some refl)
+cut_behind front part (x ∷ missing) whole some is = omega (arith, ap length is, length-append (front ++ part) (x ∷ missing), length-append front part)
+
+pub cut_comes : (start : State) (core : Core) (kept : State → Request → Type 0) (bytes : List ℕ) (requests : List Request) (left : Option (List ℕ)) (waited waits : List ℕ) (more : List (List ℕ)) (before now after : Option (List ℕ)) → length requests ≤ LINES_MOST → BeginsWith bytes requests more → Written start requests waited before now → StandsFor core (run start requests).0 → WritesPart now waited after → Comes start (Err WriteFault) core kept bytes left waits before after
+cut_comes start core kept bytes requests left waited waits more before now after few begins written stands part =
     let k = part.0 in
-    let all = written.2 ∙ ap (λ (t : List ℕ). written.0 ++ t) (sym (take-append-drop k waited)) ∙ sym (append_assoc written.0 (take k waited) (drop k waited)) in
-    let c = cut_at start requests (written.0 ++ take k waited) (drop k waited) all (missing_some k waited part.1) in
+    let all = written.replies ∙ ap (λ (t : List ℕ). written.front ++ t) (sym (take-append-drop k waited)) ∙ sym (append_assoc written.front (take k waited) (drop k waited)) in
+    let c = cut_at start requests (written.front ++ take k waited) (drop k waited) all (missing_some k waited part.1) in
     let same = c.split ∙ sym (append_assoc c.earlier (c.request ∷ []) c.later) in
     let b = begins_front bytes (c.earlier ++ c.request ∷ []) c.later more (subst (λ (rs : List Request). BeginsWith bytes rs more) same begins) in
     record {
@@ -100,8 +106,10 @@ cut_comes start bytes requests left waited waits more before now after few begin
       more = b.0;
       begins = b.1;
       written = (
-        written.0 ++ take k waited,
-        writes_more before now after written.0 (take k waited) written.1 part.2,
+        written.front ++ take k waited,
+        writes_more before now after written.front (take k waited) written.writes part.2,
         (c.earlier, c.request, refl, (c.tail, c.behind), (c.missing, c.some, c.whole)),
       );
+      stands = subst (StandsFor core) (sym (written.steady c.earlier c.later c.request c.split (cut_behind written.front (take k waited) c.missing _ c.some c.whole))) stands;
+      halted = tt;
     }

@@ -7,12 +7,13 @@ use Rattle.liq_types.specs.State.{State}
 use Rattle.liq_types.specs.declared.requests.Request.{Request}
 use Rattle.liq_outside.specs.declared.failed.Failed.{Failed}
 use Rattle.liq_outside.specs.Faults.{Rose}
+use Rattle.liq_core.specs.Core.{Core}
 use Rattle.liq_serve.specs.declared.halts.Halt.{Halt}
-use Rattle.liq_serve.specs.declared.halts.Halt.TheVariants.{BadLine, ReadFault, WriteFault, NoMemory, Limit}
+use Rattle.liq_serve.specs.declared.halts.Halt.TheVariants.{BadLine, ReadFault, WriteFault, DiskFault, Damaged, NoMemory, Limit}
 use Rattle.liq_lines.specs.Lines.{lines_in}
 use Rattle.liq_serve.specs.Output.{lines, last}
 use Rattle.liq_serve.specs.Progress.{Ends, Comes, Written}
-use Rattle.liq_serve.specs.Stops.{Adds, EndsIn, IsFrontOf, IsCutInLastLine, no_more}
+use Rattle.liq_serve.specs.Stops.{Adds, EndsIn, IsFrontOf, IsCutInLastLine, none_yet}
 use Rattle.liq_lines.specs.Writing.{Writes, WritesPart}
 use Rattle.liq_serve.specs.Writing.{WritesFront}
 use Rattle.liq_lines.proofs.Bytes.{writes_more, writes_nothing}
@@ -57,78 +58,90 @@ part_stays fault line before now after h adds =
     let more = writes_more before now after (take h.0 line) adds.0 h.2 adds.1 in
     (h.0, h.1, subst (λ (t : List ℕ). Writes before t after) (ap (λ (t : List ℕ). take h.0 line ++ t) (no_part fault adds.0 adds.2) ∙ append-nil (take h.0 line)) more)
 
-pub last_written : (start : State) (halt : Halt) (bytes : List ℕ) (fault : Type 0) (left before now after : Option (List ℕ)) → Ends start (Err halt) bytes left before now → Adds [] (last halt) fault now after → EndsIn last start (Err halt) bytes left fault before after no_more
-last_written start (BadLine n) bytes fault left before now after h adds =
-    record { requests = h.requests; few = h.few; read = h.read; written = line_behind fault (lines start h.requests) (last (BadLine n)) before now after h.written adds; beside = tt }
-last_written start ReadFault bytes fault left before now after h adds =
-    record { requests = h.requests; few = h.few; read = h.read; written = line_behind fault (lines start h.requests) (last ReadFault) before now after h.written adds; beside = tt }
-last_written start NoMemory bytes fault left before now after h adds =
-    record { requests = h.requests; few = h.few; read = h.read; written = line_behind fault (lines start h.requests) (last NoMemory) before now after h.written adds; beside = tt }
-last_written start Limit bytes fault left before now after h adds =
-    record { requests = h.requests; few = h.few; read = h.read; written = line_behind fault (lines start h.requests) (last Limit) before now after h.written adds; beside = tt }
-last_written start WriteFault bytes fault left before now after h adds =
-    record { requests = h.requests; few = h.few; read = h.read; written = cut_stays start fault h.requests before now after h.written adds; beside = tt }
+pub last_written : (start : State) (halt : Halt) (bytes : List ℕ) (fault : Type 0) (left before now after : Option (List ℕ)) (so : List Request → Type 0) → EndsIn none_yet start (Err halt) bytes left ⊥ before now so → Adds [] (last halt) fault now after → EndsIn last start (Err halt) bytes left fault before after so
+last_written start (BadLine n) bytes fault left before now after so h adds =
+    record { requests = h.requests; few = h.few; read = h.read; written = line_behind fault (lines start h.requests) (last (BadLine n)) before now after h.written adds; beside = h.beside }
+last_written start ReadFault bytes fault left before now after so h adds =
+    record { requests = h.requests; few = h.few; read = h.read; written = line_behind fault (lines start h.requests) (last ReadFault) before now after h.written adds; beside = h.beside }
+last_written start NoMemory bytes fault left before now after so h adds =
+    record { requests = h.requests; few = h.few; read = h.read; written = line_behind fault (lines start h.requests) (last NoMemory) before now after h.written adds; beside = h.beside }
+last_written start DiskFault bytes fault left before now after so h adds =
+    record { requests = h.requests; few = h.few; read = h.read; written = line_behind fault (lines start h.requests) (last DiskFault) before now after h.written adds; beside = h.beside }
+last_written start (Damaged side number) bytes fault left before now after so h adds =
+    record { requests = h.requests; few = h.few; read = h.read; written = line_behind fault (lines start h.requests) (last (Damaged side number)) before now after h.written adds; beside = h.beside }
+last_written start Limit bytes fault left before now after so h adds =
+    record { requests = h.requests; few = h.few; read = h.read; written = line_behind fault (lines start h.requests) (last Limit) before now after h.written adds; beside = h.beside }
+last_written start WriteFault bytes fault left before now after so h adds =
+    record { requests = h.requests; few = h.few; read = h.read; written = cut_stays start fault h.requests before now after h.written adds; beside = h.beside }
 
-pub went_well : (start : State) (end : Result (Unit {0}) Halt) (bytes : List ℕ) (fault : Type 0) (left before now : Option (List ℕ)) → ((halt : Halt) → end ≡ Err halt → ⊥) → Ends start end bytes left before now → EndsIn last start end bytes left fault before now no_more
-went_well start (Ok done) bytes fault left before now well h = record { requests = h.requests; few = h.few; read = h.read; written = h.written; beside = tt }
-went_well start (Err halt) bytes fault left before now well h = absurd (well halt refl)
+pub went_well : (start : State) (end : Result (Unit {0}) Halt) (bytes : List ℕ) (fault : Type 0) (left before now : Option (List ℕ)) (so : List Request → Type 0) → ((halt : Halt) → end ≡ Err halt → ⊥) → EndsIn none_yet start end bytes left ⊥ before now so → EndsIn last start end bytes left fault before now so
+went_well start (Ok done) bytes fault left before now so well h = record { requests = h.requests; few = h.few; read = h.read; written = h.written; beside = h.beside }
+went_well start (Err halt) bytes fault left before now so well h = absurd (well halt refl)
 
 pub nothing_added : (fault : Type 0) (before : Option (List ℕ)) → Adds [] [] fault before before
 nothing_added fault before = ([], writes_nothing before, inl refl)
 
 -- ---- what waits at a run's end cannot be written
 
-pub cut_ends : (start : State) (bytes : List ℕ) (left : Option (List ℕ)) (w : List ℕ) (before now : Option (List ℕ)) → Comes start (Err WriteFault) bytes left w before now → Ends start (Err WriteFault) bytes left before now
-cut_ends start bytes left w before now h = record { requests = h.requests; few = h.few; read = h.read; written = h.written; beside = tt }
+pub cut_ends : (start : State) (core : Core) (kept : State → Request → Type 0) (bytes : List ℕ) (left : Option (List ℕ)) (w : List ℕ) (before now : Option (List ℕ)) → Comes start (Err WriteFault) core kept bytes left w before now → Ends start (Err WriteFault) core kept bytes left before now
+cut_ends start core kept bytes left w before now h = record { requests = h.requests; few = h.few; read = h.read; written = h.written; beside = (h.stands, tt) }
 
-waited : (start : State) (end : Result (Unit {0}) Halt) (bytes : List ℕ) (left : Option (List ℕ)) (w : List ℕ) (before now : Option (List ℕ)) → (end ≡ Err WriteFault → ⊥) → (h : Comes start end bytes left w before now) → Written start h.requests w before now
-waited start (Ok done) bytes left w before now other h = h.written
-waited start (Err (BadLine n)) bytes left w before now other h = h.written
-waited start (Err ReadFault) bytes left w before now other h = h.written
-waited start (Err WriteFault) bytes left w before now other h = absurd (other refl)
-waited start (Err NoMemory) bytes left w before now other h = h.written
-waited start (Err Limit) bytes left w before now other h = h.written
+waited : (start : State) (core : Core) (kept : State → Request → Type 0) (end : Result (Unit {0}) Halt) (bytes : List ℕ) (left : Option (List ℕ)) (w : List ℕ) (before now : Option (List ℕ)) → (end ≡ Err WriteFault → ⊥) → (h : Comes start end core kept bytes left w before now) → Written start h.requests w before now
+waited start core kept (Ok done) bytes left w before now other h = h.written
+waited start core kept (Err (BadLine n)) bytes left w before now other h = h.written
+waited start core kept (Err ReadFault) bytes left w before now other h = h.written
+waited start core kept (Err WriteFault) bytes left w before now other h = absurd (other refl)
+waited start core kept (Err NoMemory) bytes left w before now other h = h.written
+waited start core kept (Err DiskFault) bytes left w before now other h = h.written
+waited start core kept (Err (Damaged side number)) bytes left w before now other h = h.written
+waited start core kept (Err Limit) bytes left w before now other h = h.written
 
-pub closing_cut : (start : State) (end : Result (Unit {0}) Halt) (halt : Halt) (bytes : List ℕ) (left : Option (List ℕ)) (w w' : List ℕ) (before now after : Option (List ℕ)) → (end ≡ Err WriteFault → ⊥) → Comes start end bytes left w before now → WritesFront (Err halt) w w' now after → Ends start (Err halt) bytes left before after
-closing_cut start end (BadLine n) bytes left w w' before now after other h f = absurd f
-closing_cut start end ReadFault bytes left w w' before now after other h f = absurd f
-closing_cut start end NoMemory bytes left w w' before now after other h f = absurd f
-closing_cut start end Limit bytes left w w' before now after other h f = absurd f
-closing_cut start end WriteFault bytes left w w' before now after other h f =
-    cut_ends start bytes left w' before after (cut_comes start bytes h.requests left w w' h.more before now after h.few h.begins (waited start end bytes left w before now other h) f)
+pub closing_cut : (start : State) (core : Core) (kept : State → Request → Type 0) (end : Result (Unit {0}) Halt) (halt : Halt) (bytes : List ℕ) (left : Option (List ℕ)) (w w' : List ℕ) (before now after : Option (List ℕ)) → (end ≡ Err WriteFault → ⊥) → Comes start end core kept bytes left w before now → WritesFront (Err halt) w w' now after → Ends start (Err halt) core kept bytes left before after
+closing_cut start core kept end (BadLine n) bytes left w w' before now after other h f = absurd f
+closing_cut start core kept end ReadFault bytes left w w' before now after other h f = absurd f
+closing_cut start core kept end NoMemory bytes left w w' before now after other h f = absurd f
+closing_cut start core kept end DiskFault bytes left w w' before now after other h f = absurd f
+closing_cut start core kept end (Damaged side number) bytes left w w' before now after other h f = absurd f
+closing_cut start core kept end Limit bytes left w w' before now after other h f = absurd f
+closing_cut start core kept end WriteFault bytes left w w' before now after other h f =
+    cut_ends start core kept bytes left w' before after (cut_comes start core kept bytes h.requests left w w' h.more before now after h.few h.begins (waited start core kept end bytes left w before now other h) h.stands f)
 
 -- ---- all that waits at a run's end is written
 
 all_written : (start : State) (requests : List Request) (w w' : List ℕ) (before now after : Option (List ℕ)) → Written start requests w before now → WritesFront (Ok tt) w w' now after → w' ≡ [] → Writes before (lines start requests) after
 all_written start requests w w' before now after h f none =
     let rest : w ≡ f.0 = f.2 ∙ ap (λ (t : List ℕ). f.0 ++ t) none ∙ append-nil f.0 in
-    subst (λ (t : List ℕ). Writes before t after) (sym (h.2 ∙ ap (λ (t : List ℕ). h.0 ++ t) rest)) (writes_more before now after h.0 f.0 h.1 f.1)
+    subst (λ (t : List ℕ). Writes before t after) (sym (h.replies ∙ ap (λ (t : List ℕ). h.front ++ t) rest)) (writes_more before now after h.front f.0 h.writes f.1)
 
 -- no line follows yet
 nothing_follows : (said : List ℕ) (before after : Option (List ℕ)) → Writes before said after → Adds said [] ⊥ before after
 nothing_follows said before after h = ([], subst (λ (t : List ℕ). Writes before t after) (sym (append-nil said)) h, inl refl)
 
-pub closing_well : (start : State) (end : Result (Unit {0}) Halt) (bytes : List ℕ) (left : Option (List ℕ)) (w w' : List ℕ) (before now after : Option (List ℕ)) → (end ≡ Err WriteFault → ⊥) → Comes start end bytes left w before now → WritesFront (Ok tt) w w' now after → w' ≡ [] → Ends start end bytes left before after
-closing_well start (Ok done) bytes left w w' before now after other h f none =
-    record { requests = h.requests; few = h.few; read = h.read; written = all_written start h.requests w w' before now after h.written f none; beside = tt }
-closing_well start (Err (BadLine n)) bytes left w w' before now after other h f none =
-    record { requests = h.requests; few = h.few; read = h.read; written = nothing_follows _ before after (all_written start h.requests w w' before now after h.written f none); beside = tt }
-closing_well start (Err ReadFault) bytes left w w' before now after other h f none =
-    record { requests = h.requests; few = h.few; read = h.read; written = nothing_follows _ before after (all_written start h.requests w w' before now after h.written f none); beside = tt }
-closing_well start (Err NoMemory) bytes left w w' before now after other h f none =
-    record { requests = h.requests; few = h.few; read = h.read; written = nothing_follows _ before after (all_written start h.requests w w' before now after h.written f none); beside = tt }
-closing_well start (Err Limit) bytes left w w' before now after other h f none =
-    record { requests = h.requests; few = h.few; read = h.read; written = nothing_follows _ before after (all_written start h.requests w w' before now after h.written f none); beside = tt }
-closing_well start (Err WriteFault) bytes left w w' before now after other h f none = absurd (other refl)
+pub closing_well : (start : State) (core : Core) (kept : State → Request → Type 0) (end : Result (Unit {0}) Halt) (bytes : List ℕ) (left : Option (List ℕ)) (w w' : List ℕ) (before now after : Option (List ℕ)) → (end ≡ Err WriteFault → ⊥) → Comes start end core kept bytes left w before now → WritesFront (Ok tt) w w' now after → w' ≡ [] → Ends start end core kept bytes left before after
+closing_well start core kept (Ok done) bytes left w w' before now after other h f none =
+    record { requests = h.requests; few = h.few; read = h.read; written = all_written start h.requests w w' before now after h.written f none; beside = (h.stands, tt) }
+closing_well start core kept (Err (BadLine n)) bytes left w w' before now after other h f none =
+    record { requests = h.requests; few = h.few; read = h.read; written = nothing_follows _ before after (all_written start h.requests w w' before now after h.written f none); beside = (h.stands, tt) }
+closing_well start core kept (Err ReadFault) bytes left w w' before now after other h f none =
+    record { requests = h.requests; few = h.few; read = h.read; written = nothing_follows _ before after (all_written start h.requests w w' before now after h.written f none); beside = (h.stands, tt) }
+closing_well start core kept (Err NoMemory) bytes left w w' before now after other h f none =
+    record { requests = h.requests; few = h.few; read = h.read; written = nothing_follows _ before after (all_written start h.requests w w' before now after h.written f none); beside = (h.stands, tt) }
+closing_well start core kept (Err DiskFault) bytes left w w' before now after other h f none =
+    record { requests = h.requests; few = h.few; read = h.read; written = nothing_follows _ before after (all_written start h.requests w w' before now after h.written f none); beside = (h.stands, (h.halted.0, h.halted.1, h.halted.2, refl, h.halted.4)) }
+closing_well start core kept (Err (Damaged side number)) bytes left w w' before now after other h f none =
+    record { requests = h.requests; few = h.few; read = h.read; written = nothing_follows _ before after (all_written start h.requests w w' before now after h.written f none); beside = (h.stands, tt) }
+closing_well start core kept (Err Limit) bytes left w w' before now after other h f none =
+    record { requests = h.requests; few = h.few; read = h.read; written = nothing_follows _ before after (all_written start h.requests w w' before now after h.written f none); beside = (h.stands, tt) }
+closing_well start core kept (Err WriteFault) bytes left w w' before now after other h f none = absurd (other refl)
 
-pub no_room : (start : State) (bytes : List ℕ) (left before : Option (List ℕ)) → Ends start (Err NoMemory) bytes left before before
-no_room start bytes left before =
+pub no_room : (start : State) (bytes : List ℕ) (left before : Option (List ℕ)) (so : List Request → Type 0) → so [] → EndsIn none_yet start (Err NoMemory) bytes left ⊥ before before so
+no_room start bytes left before so beside =
     record {
       requests = [];
       few = omega arith;
       read = (lines_in bytes, ([], tt, refl), inl refl);
       written = ([], writes_nothing before, inl refl);
-      beside = tt;
+      beside = beside;
     }
 
 -- the fault that a part of a line shows is one of the whole call

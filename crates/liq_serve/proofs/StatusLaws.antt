@@ -5,19 +5,21 @@ use Rattle.liq_types.specs.declared.amounts.TheConstants.{LINES_MOST}
 use Rattle.liq_types.specs.State.{State}
 use Rattle.liq_types.specs.declared.requests.Request.{Request}
 use Rattle.liq_serve.specs.declared.halts.Halt.{Halt}
-use Rattle.liq_serve.specs.declared.halts.Halt.TheVariants.{BadLine, ReadFault, WriteFault, NoMemory, Limit}
+use Rattle.liq_serve.specs.declared.halts.Halt.TheVariants.{BadLine, ReadFault, WriteFault, DiskFault, Damaged, NoMemory, Limit}
 use Rattle.liq_lines.specs.Lines.{lines_in}
 use Rattle.liq_serve.specs.Requests.{IsBadLine, AreRequests}
 use Rattle.liq_serve.specs.Statuses.{status_of}
 use Rattle.liq_serve.specs.Stops.{EndsAfter}
 
-pub status_known : (end : Result (Unit {0}) Halt) → Contains (0 ∷ 1 ∷ 2 ∷ 3 ∷ 4 ∷ 7 ∷ 8 ∷ []) (status_of end)
+pub status_known : (end : Result (Unit {0}) Halt) → Contains (0 ∷ 1 ∷ 2 ∷ 3 ∷ 4 ∷ 5 ∷ 6 ∷ 7 ∷ 8 ∷ []) (status_of end)
 status_known (Ok done) = (0, lit< tt, refl)
 status_known (Err (BadLine n)) = (2, lit< tt, refl)
 status_known (Err ReadFault) = (3, lit< tt, refl)
 status_known (Err WriteFault) = (4, lit< tt, refl)
-status_known (Err NoMemory) = (5, lit< tt, refl)
-status_known (Err Limit) = (6, lit< tt, refl)
+status_known (Err DiskFault) = (5, lit< tt, refl)
+status_known (Err (Damaged side number)) = (6, lit< tt, refl)
+status_known (Err NoMemory) = (7, lit< tt, refl)
+status_known (Err Limit) = (8, lit< tt, refl)
 
 -- ---- where all lines are requests
 
@@ -33,15 +35,17 @@ same_length [] (r ∷ rs) h = absurd h
 same_length (l ∷ front) [] h = absurd h
 same_length (l ∷ front) (r ∷ rs) h = ap suc (same_length front rs h.1)
 
-pub complete : (start : State) (bytes : List ℕ) (left : Option (List ℕ)) (all : List Request) → AreRequests (lines_in bytes) all → length all ≤ LINES_MOST → (end : Result (Unit {0}) Halt) → (status_of end ≢ 3) → (status_of end ≢ 4) → (answered : List Request) → EndsAfter start end bytes left answered → (status_of end ≡ 0) ⊎ (status_of end ≡ 7)
-complete start bytes left all spelled few (Ok done) r w answered e = inl refl
-complete start bytes left all spelled few (Err (BadLine n)) r w answered e =
+pub complete : (start : State) (bytes : List ℕ) (left : Option (List ℕ)) (all : List Request) → AreRequests (lines_in bytes) all → length all ≤ LINES_MOST → (end : Result (Unit {0}) Halt) → (status_of end ≢ 3) → (status_of end ≢ 4) → (status_of end ≢ 5) → (answered : List Request) → EndsAfter start end bytes left answered → (status_of end ≡ 0) ⊎ (status_of end ≡ 7)
+complete start bytes left all spelled few (Ok done) r w d answered e = inl refl
+complete start bytes left all spelled few (Err (BadLine n)) r w d answered e =
     let at = e.2 in
     absurd (bad_among at.2.1.0 at.0 at.2.0 all (subst (λ (ls : List (List ℕ)). AreRequests ls all) at.2.1.2 spelled) at.1)
-complete start bytes left all spelled few (Err ReadFault) r w answered e = absurd (r refl)
-complete start bytes left all spelled few (Err WriteFault) r w answered e = absurd (w refl)
-complete start bytes left all spelled few (Err NoMemory) r w answered e = inr refl
-complete start bytes left all spelled few (Err Limit) r w answered e =
+complete start bytes left all spelled few (Err ReadFault) r w d answered e = absurd (r refl)
+complete start bytes left all spelled few (Err WriteFault) r w d answered e = absurd (w refl)
+complete start bytes left all spelled few (Err NoMemory) r w d answered e = inr refl
+complete start bytes left all spelled few (Err DiskFault) r w d answered e = absurd (d refl)
+complete start bytes left all spelled few (Err (Damaged side number)) r w d answered e = absurd e
+complete start bytes left all spelled few (Err Limit) r w d answered e =
     let at = e.1.1.1 in
     let whole = same_length (lines_in bytes) all spelled in
     let front = same_length at.0 answered at.1 in

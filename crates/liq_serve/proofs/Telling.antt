@@ -6,7 +6,7 @@ use Rattle.liq_words.specs.declared.words.Word.TheVariants.{Gen}
 use Rattle.liq_words.specs.declared.words.WordsFault.{WordsFault}
 use Rattle.liq_words.specs.declared.words.WordsFault.TheVariants as words
 use Rattle.liq_serve.specs.declared.halts.Halt.{Halt}
-use Rattle.liq_serve.specs.declared.halts.Halt.TheVariants.{BadLine, ReadFault, WriteFault, NoMemory, Limit}
+use Rattle.liq_serve.specs.declared.halts.Halt.TheVariants.{BadLine, ReadFault, WriteFault, DiskFault, Damaged, NoMemory, Limit}
 use Rattle.liq_serve.specs.Load.{Tells, WritesLine}
 use Rattle.liq_serve.specs.Output.{last}
 use Rattle.liq_serve.specs.Statuses.{status_of}
@@ -19,6 +19,8 @@ pub told_halted : (halt : Halt) (line : List ℕ) (fault : Type 0) (before now a
 told_halted (BadLine n) line fault before now after h adds = absurd h
 told_halted ReadFault line fault before now after h adds = absurd h
 told_halted Limit line fault before now after h adds = absurd h
+told_halted DiskFault line fault before now after h adds = absurd h
+told_halted (Damaged side number) line fault before now after h adds = absurd h
 told_halted NoMemory line fault before now after h adds = subst (λ (held : Option (List ℕ)). Adds [] (last NoMemory) fault held after) h adds
 told_halted WriteFault line fault before now after h adds = part_stays fault line before now after h adds
 
@@ -35,6 +37,8 @@ load_ends line fault before now (Err ReadFault) h other = absurd h
 load_ends line fault before now (Err WriteFault) h other = absurd (other refl)
 load_ends line fault before now (Err NoMemory) h other = inr refl
 load_ends line fault before now (Err Limit) h other = absurd h
+load_ends line fault before now (Err DiskFault) h other = absurd h
+load_ends line fault before now (Err (Damaged side number)) h other = absurd h
 
 -- ---- the words
 
@@ -43,8 +47,8 @@ pub unread : (fault : WordsFault) (word : Word) → (let r : Result Word WordsFa
 unread fault word (inl is) = absurd cc
 unread fault word (inr is) = cc
 
-pub unread_known : (fault : WordsFault) (status : ℕ) (A B : Type 0) → (fault ≡ words.NoMemory → (status ≡ 7) × A) → (fault ≡ words.Usage → (status ≡ 1) × B) → Contains (0 ∷ 1 ∷ 2 ∷ 3 ∷ 4 ∷ 7 ∷ 8 ∷ []) status
-unread_known words.NoMemory status A B memory usage = (5, lit< tt, sym (memory refl).0)
+pub unread_known : (fault : WordsFault) (status : ℕ) (A B : Type 0) → (fault ≡ words.NoMemory → (status ≡ 7) × A) → (fault ≡ words.Usage → (status ≡ 1) × B) → Contains (0 ∷ 1 ∷ 2 ∷ 3 ∷ 4 ∷ 5 ∷ 6 ∷ 7 ∷ 8 ∷ []) status
+unread_known words.NoMemory status A B memory usage = (7, lit< tt, sym (memory refl).0)
 unread_known words.Usage status A B memory usage = (1, lit< tt, sym (usage refl).0)
 
 -- words ask for one load

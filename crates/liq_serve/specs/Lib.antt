@@ -1,4 +1,5 @@
 pub mod Causes
+pub mod Disks
 pub mod Load
 pub mod Output
 pub mod Progress

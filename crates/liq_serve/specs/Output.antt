@@ -7,8 +7,10 @@ use Rattle.liq_types.specs.declared.requests.Request.{Request}
 use Rattle.liq_types.specs.State.{State}
 use Rattle.liq_core.specs.Step.{run}
 use Rattle.liq_text.specs.Replies.{text}
+use Rattle.liq_pairs.specs.declared.side.Side.{Side}
+use Rattle.liq_pairs.specs.declared.side.Side.TheVariants.{Left, Right}
 use Rattle.liq_serve.specs.declared.halts.Halt.{Halt}
-use Rattle.liq_serve.specs.declared.halts.Halt.TheVariants.{BadLine, ReadFault, WriteFault, NoMemory, Limit}
+use Rattle.liq_serve.specs.declared.halts.Halt.TheVariants.{BadLine, ReadFault, WriteFault, DiskFault, Damaged, NoMemory, Limit}
 
 -- a reply's line
 abbrev pub reply_line : Reply → List ℕ
@@ -18,11 +20,17 @@ reply_line reply = text reply ++ 10 ∷ []
 abbrev pub lines : State → List Request → List ℕ
 lines start requests = flat_map reply_line (run start requests).1
 
+abbrev pub side_name : Side → List ℕ
+side_name Left = codes "left"
+side_name Right = codes "right"
+
 -- the last line of a run that stops; a sink that met a fault is told nothing more
 abbrev pub last : Halt → List ℕ
 last (BadLine number) = codes "bad line " ++ decimal number ++ 10 ∷ []
 last ReadFault = codes "read fault" ++ 10 ∷ []
 last WriteFault = []
+last DiskFault = codes "disk fault" ++ 10 ∷ []
+last (Damaged side number) = codes "damaged " ++ side_name side ++ codes " " ++ decimal number ++ 10 ∷ []
 last NoMemory = codes "no memory" ++ 10 ∷ []
 last Limit = codes "limit " ++ decimal LINES_MOST ++ 10 ∷ []
 

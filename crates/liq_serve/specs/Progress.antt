@@ -1,5 +1,5 @@
 -- How far a run has come.
-use Rattle.std.specs.Prelude.{ℕ, ◌≡◌, ◌≢◌, ◌≤◌, ◌+◌, [], ◌∷◌, ◌++◌, List, length, Option, Some, Result, Ok, Err, Bool, true, false}
+use Rattle.std.specs.Prelude.{ℕ, ◌≡◌, ◌≢◌, ◌≤◌, ◌<◌, ◌+◌, [], ◌∷◌, ◌++◌, List, length, Option, Some, Result, Ok, Err, Bool, true, false}
 use Rattle.std.specs.List.{AllByRecursion}
 use Rattle.liq_types.specs.declared.amounts.TheConstants.{LINE_BYTES, LINES_MOST}
 use Rattle.liq_types.specs.declared.requests.Request.{Request}
@@ -7,14 +7,16 @@ use Rattle.liq_types.specs.State.{State}
 use Rattle.liq_core.specs.Core.{Core, StandsFor}
 use Rattle.liq_core.specs.Step.{run, step}
 use Rattle.liq_serve.specs.declared.halts.Halt.{Halt}
-use Rattle.liq_serve.specs.declared.halts.Halt.TheVariants.{BadLine, ReadFault, WriteFault, NoMemory}
+use Rattle.liq_serve.specs.declared.halts.Halt.TheVariants.{BadLine, ReadFault, WriteFault, DiskFault, NoMemory}
 use Rattle.liq_serve.specs.declared.run.Next.{Next}
 use Rattle.liq_serve.specs.declared.run.Next.TheVariants.{Line, LastLine, End}
 use Rattle.liq_lines.specs.Lines.{ended, IsWithinLine}
 use Rattle.liq_serve.specs.Output.{lines, reply_line}
 use Rattle.liq_lines.specs.Reading.{Reads, IsOver}
-use Rattle.liq_serve.specs.Requests.{IsRequest, IsBadLine, IsCommand, TakesMemory, AreRequests, BeginsWith}
-use Rattle.liq_serve.specs.Stops.{EndsAfter, EndsIn, IsCutInLastLine, no_more, none_yet}
+use Rattle.liq_store.specs.Memory.{IsAccepted, TakesMemory}
+use Rattle.liq_serve.specs.Disks.{IsNext}
+use Rattle.liq_serve.specs.Requests.{IsRequest, IsBadLine, IsCommand, AreRequests, BeginsWith}
+use Rattle.liq_serve.specs.Stops.{EndsAfter, EndsIn, IsCutInLastLine, none_yet}
 use Rattle.liq_lines.specs.Writing.{Writes, WritesPart}
 use Rattle.liq_serve.specs.Writing.{WritesFront}
 
@@ -40,9 +42,15 @@ ReadsRequest before after taken number (Err (BadLine at)) = (at ≡ number) × R
 ReadsRequest before after taken number (Err ReadFault) = (part : List ℕ) × IsWithinLine part × Reads before part after × (taken ≡ [])
 ReadsRequest before after taken number (Err _) = ⊥
 
--- the replies to these requests are written, but for those that wait
-abbrev pub Written : State → List Request → List ℕ → Option (List ℕ) → Option (List ℕ) → Type 0
-Written start requests waiting before now = (front : List ℕ) × Writes before front now × (lines start requests ≡ front ++ waiting)
+-- The replies to these requests are written, but for those that wait. Of the requests whose replies wait none but the first is a
+-- command: wherever the replies are cut behind what is written, the state is the one after them all.
+pub record Written (start : State) (requests : List Request) (waiting : List ℕ) (before now : Option (List ℕ)) : Type 0 where
+  pub front : List ℕ
+  pub writes : Writes before front now
+  pub replies : lines start requests ≡ front ++ waiting
+  pub steady :
+      (earlier later : List Request) (request : Request) → requests ≡ earlier ++ request ∷ later
+      → length front < length (lines start (earlier ++ request ∷ [])) → (run start (earlier ++ request ∷ [])).0 ≡ (run start requests).0
 
 -- n lines were requests, and each is answered
 pub record Answered (start : State) (bytes : List ℕ) (n : ℕ) (core : Core) (unread : Option (List ℕ)) (waiting : List ℕ) (before now : Option (List ℕ)) : Type 0 where
@@ -65,6 +73,7 @@ Answers s request (Ok done) core waited waits before after =
     × ((rest : List ℕ) × WritesFront (Ok tt) waited rest before after × (waits ≡ rest ++ reply_line (step s request).1) × (IsCommand request → rest ≡ []))
 Answers s request (Err NoMemory) core waited waits before after = StandsFor core s × TakesMemory s request × WritesFront (Ok tt) waited waits before after
 Answers s request (Err WriteFault) core waited waits before after = StandsFor core s × WritesPart before waited after
+Answers s request (Err DiskFault) core waited waits before after = StandsFor core s × IsAccepted s request × WritesFront (Ok tt) waited waits before after × (waits ≡ [])
 Answers s request (Err _) core waited waits before after = ⊥
 
 -- What is written where a run comes to its end: all replies but those that wait, or up to a cut.
@@ -72,21 +81,28 @@ abbrev pub WrittenAt : State → Result (Unit {0}) Halt → List Request → Lis
 WrittenAt start (Err WriteFault) requests waiting before now = (part : List ℕ) × Writes before part now × IsCutInLastLine start part requests
 WrittenAt start _ requests waiting before now = Written start requests waiting before now
 
--- a run came to its end, and some replies wait
-pub record Comes (start : State) (end : Result (Unit {0}) Halt) (bytes : List ℕ) (left : Option (List ℕ)) (waiting : List ℕ) (before now : Option (List ℕ)) : Type 0 where
+-- where a disk met a fault, the next line's command was on its way, nothing waits, and this holds of it
+abbrev pub HaltsAt : Result (Unit {0}) Halt → List ℕ → List Request → List ℕ → State → (State → Request → Type 0) → Type 0
+HaltsAt (Err DiskFault) bytes requests waiting s kept = (request : Request) × IsNext bytes requests request × IsAccepted s request × (waiting ≡ []) × kept s request
+HaltsAt _ bytes requests waiting s kept = Unit {0}
+
+-- a run came to its end, some replies wait, and the protocol stands for the state after the requests
+pub record Comes (start : State) (end : Result (Unit {0}) Halt) (core : Core) (kept : State → Request → Type 0) (bytes : List ℕ) (left : Option (List ℕ)) (waiting : List ℕ) (before now : Option (List ℕ)) : Type 0 where
   pub requests : List Request
   pub few : length requests ≤ LINES_MOST
   pub read : EndsAfter start end bytes left requests
   pub more : List (List ℕ)
   pub begins : BeginsWith bytes requests more
   pub written : WrittenAt start end requests waiting before now
+  pub stands : StandsFor core (run start requests).0
+  pub halted : HaltsAt end bytes requests waiting (run start requests).0 kept
 
--- a run is at its end, and its last line is not written yet
-abbrev pub Ends : State → Result (Unit {0}) Halt → List ℕ → Option (List ℕ) → Option (List ℕ) → Option (List ℕ) → Type 0
-Ends start end bytes left before now = EndsIn none_yet start end bytes left ⊥ before now no_more
+-- a run is at its end, its last line is not written yet, and the protocol stands for the state after the requests
+abbrev pub Ends : State → Result (Unit {0}) Halt → Core → (State → Request → Type 0) → List ℕ → Option (List ℕ) → Option (List ℕ) → Option (List ℕ) → Type 0
+Ends start end core kept bytes left before now = EndsIn none_yet start end bytes left ⊥ before now (λ requests. StandsFor core (run start requests).0 × HaltsAt end bytes requests [] (run start requests).0 kept)
 
 -- one more line was answered, or the run comes to its end
-abbrev pub Turns : State → List ℕ → ℕ → Core → Option (List ℕ) → Option (List ℕ) → List ℕ → Option (List ℕ) → Option (List ℕ) → Result Bool Halt → Type 0
-Turns start bytes n core unread left waiting before now (Ok true) = Answered start bytes (n + 1) core unread waiting before now
-Turns start bytes n core unread left waiting before now (Ok false) = Comes start (Ok tt) bytes left waiting before now
-Turns start bytes n core unread left waiting before now (Err halt) = Comes start (Err halt) bytes left waiting before now
+abbrev pub Turns : State → (State → Request → Type 0) → List ℕ → ℕ → Core → Option (List ℕ) → Option (List ℕ) → List ℕ → Option (List ℕ) → Option (List ℕ) → Result Bool Halt → Type 0
+Turns start kept bytes n core unread left waiting before now (Ok true) = Answered start bytes (n + 1) core unread waiting before now
+Turns start kept bytes n core unread left waiting before now (Ok false) = Comes start (Ok tt) core kept bytes left waiting before now
+Turns start kept bytes n core unread left waiting before now (Err halt) = Comes start (Err halt) core kept bytes left waiting before now

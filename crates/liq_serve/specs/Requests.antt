@@ -3,8 +3,8 @@ use Rattle.std.specs.Prelude.{ℕ, ◌≡◌, ◌∷◌, [], ◌++◌, ◌⊎◌
 use Rattle.liq_types.specs.declared.requests.Request.{Request}
 use Rattle.liq_types.specs.declared.requests.Request.TheVariants.{Do, Ask}
 use Rattle.liq_types.specs.State.{State}
-use Rattle.liq_core.specs.Step.{Allowed, built, ruling}
-use Rattle.liq_core.specs.Verbs.{plans_list}
+use Rattle.liq_core.specs.Step.{built}
+use Rattle.liq_store.specs.Memory.{TakesMemory}
 use Rattle.liq_text.specs.Spelling.{Spells}
 use Rattle.liq_lines.specs.Lines.{lines_in}
 
@@ -25,11 +25,6 @@ AreRequests (line ∷ lines) [] = ⊥
 abbrev pub IsCommand : Request → Type 0
 IsCommand (Do command) = Unit {0}
 IsCommand (Ask query) = ⊥
-
--- memory may be asked for: where a command is allowed, and where its verb plans a list
-abbrev pub TakesMemory : State → Request → Type 0
-TakesMemory s (Do command) = (ruling s command ≡ Allowed) ⊎ IsTrue (plans_list command.call)
-TakesMemory s (Ask query) = ⊥
 
 -- the first of these lines is that of a request for which memory may be asked
 abbrev pub BeginsWithTaker : State → List (List ℕ) → Type 0

@@ -1,12 +1,14 @@
 -- Exit statuses.
 use Rattle.std.specs.Prelude.{ℕ, Result, Ok, Err}
 use Rattle.liq_serve.specs.declared.halts.Halt.{Halt}
-use Rattle.liq_serve.specs.declared.halts.Halt.TheVariants.{BadLine, ReadFault, WriteFault, NoMemory, Limit}
+use Rattle.liq_serve.specs.declared.halts.Halt.TheVariants.{BadLine, ReadFault, WriteFault, DiskFault, Damaged, NoMemory, Limit}
 
 abbrev pub status_of : Result (Unit {0}) Halt → ℕ
 status_of (Ok done) = 0
 status_of (Err (BadLine number)) = 2
 status_of (Err ReadFault) = 3
 status_of (Err WriteFault) = 4
+status_of (Err DiskFault) = 5
+status_of (Err (Damaged side number)) = 6
 status_of (Err NoMemory) = 7
 status_of (Err Limit) = 8

@@ -7,7 +7,7 @@ use Rattle.liq_stability.specs.Promise.{IsWithinAllowance}
 use Rattle.liq_core.specs.Events.{events}
 use Rattle.liq_core.specs.Step.{run, accepted}
 use Rattle.liq_serve.specs.declared.halts.Halt.{Halt}
-use Rattle.liq_serve.specs.declared.halts.Halt.TheVariants.{BadLine, ReadFault, WriteFault, NoMemory, Limit}
+use Rattle.liq_serve.specs.declared.halts.Halt.TheVariants.{BadLine, ReadFault, WriteFault, DiskFault, Damaged, NoMemory, Limit}
 use Rattle.liq_lines.specs.Lines.{lines_in, ended, IsWithinLine}
 use Rattle.liq_serve.specs.Output.{lines}
 use Rattle.liq_serve.specs.Requests.{AreRequests, IsBadLine, BeginsWith, BeginsWithTaker}
@@ -51,6 +51,9 @@ EndsAfter start (Err (BadLine number)) bytes left requests =
 EndsAfter start (Err ReadFault) bytes left requests =
     (front : List (List ℕ)) × AreRequests front requests × ((part : List ℕ) × IsWithinLine part × ((rest : List ℕ) × (left ≡ Some rest) × (bytes ≡ ended front ++ part ++ rest)))
 EndsAfter start (Err WriteFault) bytes left requests = (more : List (List ℕ)) × BeginsWith bytes requests more
+EndsAfter start (Err DiskFault) bytes left requests = (more : List (List ℕ)) × BeginsWith bytes requests more
+-- a run over damaged disks begins nowhere
+EndsAfter start (Err (Damaged side number)) bytes left requests = ⊥
 -- memory is asked for before the first line, and then only for a command that is allowed or plans a list
 EndsAfter start (Err NoMemory) bytes left requests =
     (more : List (List ℕ)) × BeginsWith bytes requests more × ((requests ≡ []) ⊎ BeginsWithTaker (run start requests).0 more)
@@ -78,10 +81,6 @@ pub record EndsIn (closing : Halt → List ℕ) (start : State) (end : Result (U
   pub read : EndsAfter start end bytes left requests
   pub written : WritesUpTo closing start end fault requests before now
   pub beside : so requests
-
--- nothing more holds
-abbrev pub no_more : List Request → Type 0
-no_more requests = Unit {0}
 
 -- no closing line is written yet
 abbrev pub none_yet : Halt → List ℕ

@@ -1,15 +1,18 @@
-//! One request after another, as the protocol answers them.
+//! One request after another, as the store answers them.
 
-ghost use Rattle.std.specs.Prelude.{◌≡◌, ◌≤◌, ◌<◌, ◌+◌, IfOk, OnErr, IsTrue};
+ghost use Rattle.std.specs.Prelude.{◌≡◌, ◌≢◌, Some, None, Err, List, ℕ, IsTrue};
 ghost use Rattle.liq_types.specs.State.{State};
-ghost use Rattle.liq_types.specs.declared.requests.Request.TheVariants.{Do};
 ghost use Rattle.liq_core.specs.Core.{StandsFor};
-ghost use Rattle.liq_core.specs.Step.{built, step};
-ghost use Rattle.liq_serve.specs.Requests.{TakesMemory};
+ghost use Rattle.liq_core.specs.Step.{built};
+ghost use Rattle.liq_serve.specs.Causes.{DiskCause};
+ghost use Rattle.liq_serve.specs.Disks.{Calls, IsStopped, KeepsAround};
+ghost use Rattle.liq_serve.specs.Requests.{IsCommand};
 
-use liq_core::{PlanFault, Protocol, Turn};
-use liq_types::{Command, Hint, NoMemory, Reply, Request, Steps};
-use std::sync::ledger::Ledger;
+use crate::halts::Halt;
+use liq_core::laws::protocols_stand;
+use liq_outside::Disk;
+use liq_store::Store;
+use liq_types::{Answer, Hint, Reply, Request};
 
 /// No place is known.
 pub const NO_HINT: Hint = Hint {
@@ -19,41 +22,23 @@ pub const NO_HINT: Hint = Hint {
 };
 
 /// Makes the request's step, and gives its reply.
-pub fn call<L: Ledger>(
-    protocol: &mut Protocol,
-    request: &Request,
-    steps: &mut Steps<L>,
-) -> Result<Reply, NoMemory>
+pub fn call<D: Disk>(store: &mut Store<D>, request: &Request) -> Result<Reply, Halt>
     requires built { IsTrue (built request.now) }
-    ensures ok { IfOk result (λ reply. (s : State) → StandsFor protocol.old s
-        → StandsFor protocol.new (step s request.now).0 × ((step s request.now).1 ≡ reply)) }
-    ensures err { OnErr result ((s : State) → StandsFor protocol.old s → StandsFor protocol.new s) }
-    // No query, no repeated command and no refusal of a verb that plans no list asks for memory.
-    ensures takes { OnErr result ((s : State) → StandsFor protocol.old s → TakesMemory s request.now) }
+    requires going { store.old.stopped ≡ None }
+    ensures call { (s : State) → StandsFor store.old.core s → Calls s request.now result store.new.core }
+    ensures no_source { result ≢ Err Halt.ReadFault }
+    ensures no_sink { result ≢ Err Halt.WriteFault }
+    ensures command { result ≡ Err Halt.DiskFault → IsCommand request.now }
+    ensures stopped { IsStopped result store.new.stopped }
+    // Where a disk met a fault, both keep the state before the request or after it.
+    ensures kept { result ≡ Err Halt.DiskFault → (s : State) → StandsFor store.old.core s → KeepsAround D.seen store.new.left store.new.right s request.now }
+    ensures cause { DiskCause result (record { left = D.faults store.old.left; right = D.faults store.old.right }) (record { left = D.faults store.new.left; right = D.faults store.new.right }) }
 {
-    match request {
-        Request::Ask(query) => Ok(protocol.query(query)),
-        Request::Do(command) => obey(protocol, command, steps),
+    protocols_stand(store.protocol());
+    match store.call(request, &NO_HINT) {
+        Answer::Reply(reply) => Ok(reply),
+        Answer::NoMemory => Err(Halt::NoMemory),
+        Answer::DiskFault => Err(Halt::DiskFault),
+        _ => unreachable!(),
     }
-}
-
-fn obey<L: Ledger>(
-    protocol: &mut Protocol,
-    command: &Command,
-    steps: &mut Steps<L>,
-) -> Result<Reply, NoMemory>
-    requires built { IsTrue (built (Do command.now)) }
-    ensures ok { IfOk result (λ reply. (s : State) → StandsFor protocol.old s
-        → StandsFor protocol.new (step s (Do command.now)).0 × ((step s (Do command.now)).1 ≡ reply)) }
-    ensures err { OnErr result ((s : State) → StandsFor protocol.old s → StandsFor protocol.new s) }
-    ensures takes { OnErr result ((s : State) → StandsFor protocol.old s → TakesMemory s (Do command.now)) }
-{
-    let planned = match protocol.plan(command) {
-        Ok(Turn::New(planned)) => planned,
-        Ok(Turn::Again(done)) => return Ok(Reply::Said(done)),
-        Err(PlanFault::No(refusal)) => return Ok(Reply::No(refusal)),
-        Err(PlanFault::NoMemory) => return Err(NoMemory),
-    };
-    protocol.reserve(&planned)?;
-    Ok(Reply::Said(protocol.apply(planned, &NO_HINT, steps)))
 }

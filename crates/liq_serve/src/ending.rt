@@ -11,10 +11,19 @@ use crate::halts::Halt;
 use itoa::Buffer;
 use liq_lines::write_all;
 use liq_outside::{Failed, Sink};
+use liq_pairs::Side;
 use liq_types::amounts::LINES_MOST;
 
 /// What is written where the words are not understood.
 const USAGE: &[u8] = b"usage: liq run, serve, state, audit or gen SEED COUNT\n";
+
+/// How a word ends, and the disks as it leaves them.
+#[derive(Drop)]
+pub struct Ending<D> {
+    pub end: Result<(), Halt>,
+    pub left: D,
+    pub right: D,
+}
 
 /// The exit status of a run.
 pub fn status(end: &Result<(), Halt>) -> u8
@@ -25,6 +34,8 @@ pub fn status(end: &Result<(), Halt>) -> u8
         Err(Halt::BadLine(_)) => 2,
         Err(Halt::ReadFault) => 3,
         Err(Halt::WriteFault) => 4,
+        Err(Halt::DiskFault) => 5,
+        Err(Halt::Damaged(..)) => 6,
         Err(Halt::NoMemory) => 7,
         Err(Halt::Limit) => 8,
     }
@@ -39,9 +50,23 @@ pub fn write_last<K: Sink>(out: &mut K, halt: Halt)
         Halt::BadLine(number) => write_numbered(out, b"bad line ", number),
         Halt::ReadFault => write_all(out, b"read fault\n"),
         Halt::WriteFault => Ok(()),
+        Halt::DiskFault => write_all(out, b"disk fault\n"),
+        Halt::Damaged(side, number) => write_damaged(out, side, number),
         Halt::NoMemory => write_all(out, b"no memory\n"),
         Halt::Limit => write_numbered(out, b"limit ", LINES_MOST),
     };
+}
+
+/// Writes which disk is damaged, and at which record.
+fn write_damaged<K: Sink>(out: &mut K, side: Side, number: u64) -> Result<(), Failed>
+    ensures ok { OnOk result (Writes (K.held out.old) (last (Halt.Damaged side number)) (K.held out.new)) }
+    ensures err { OnErr result (WritesPart (K.held out.old) (last (Halt.Damaged side number)) (K.held out.new)) }
+    ensures cause { HasCause (K.faults out.old) (K.faults out.new) result }
+{
+    match side {
+        Side::Left => write_numbered(out, b"damaged left ", number),
+        Side::Right => write_numbered(out, b"damaged right ", number),
+    }
 }
 
 /// Writes a line of a text and a number.

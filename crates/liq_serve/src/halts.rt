@@ -2,10 +2,12 @@
 
 ghost use Rattle.std.specs.Prelude.{◌≡◌};
 
+use liq_pairs::Side;
+use liq_store::StoreWhy;
 use liq_types::NoMemory;
 use std::alloc::AllocError;
 
-/// Why a run stops before its input's end.
+/// Why a run stops before its end.
 #[derive(Clone, Copy)]
 pub enum Halt {
     /// The line of this number is no request.
@@ -14,6 +16,10 @@ pub enum Halt {
     ReadFault,
     /// The sink met a fault.
     WriteFault,
+    /// A disk met a fault.
+    DiskFault,
+    /// The disk of this side is damaged at the record of this number; 0 is its header.
+    Damaged(Side, u64),
     /// There was no memory.
     NoMemory,
     /// There are more lines than one run answers.
@@ -37,5 +43,20 @@ impl From<AllocError> for Halt {
 
     fn from(_: AllocError) -> Halt {
         Halt::NoMemory
+    }
+}
+
+impl From<StoreWhy> for Halt {
+    ghost use Rattle.liq_serve.specs.declared.halts.Halt.{Halt};
+    ghost use Rattle.liq_serve.specs.Disks.{halt_of};
+
+    ghost from_gives = { λ why halt. halt ≡ halt_of why };
+
+    fn from(why: StoreWhy) -> Halt {
+        match why {
+            StoreWhy::DiskFault => Halt::DiskFault,
+            StoreWhy::Damaged { side, damage } => Halt::Damaged(side, damage.index),
+            StoreWhy::NoMemory => Halt::NoMemory,
+        }
     }
 }

@@ -9,4 +9,4 @@ mod run;
 mod top;
 mod waiting;
 
-pub use top::{protocol, without_words};
+pub use top::{Ended, without_threads, without_words};

@@ -1,28 +1,32 @@
 //! The top call.
 
-ghost use Rattle.std.specs.Prelude.{◌≡◌, ◌≢◌, ◌≤◌, ◌↔◌, Contains, ◌⊎◌, List, ℕ, Some, Result, length, map, ◌∷◌, []};
+ghost use Rattle.std.specs.Prelude.{◌≡◌, ◌≢◌, ◌≤◌, ◌↔◌, Contains, ◌⊎◌, List, ℕ, Some, Result, Ok, Err, length, map, ◌∷◌, []};
 ghost use Rattle.std.specs.String.{string_bytes};
 ghost use Rattle.liq_outside.specs.Faults.{Rose};
-ghost use Rattle.liq_types.specs.State.{opening};
+ghost use Rattle.liq_types.specs.State.{State};
 ghost use Rattle.liq_types.specs.declared.requests.Request.{Request};
 ghost use Rattle.liq_words.specs.declared.words.Word.{Word};
 ghost use Rattle.liq_words.specs.Words.{Ask};
 ghost use Rattle.liq_serve.specs.declared.halts.Halt.{Halt};
-ghost use Rattle.liq_serve.specs.Causes.{ReadCause, WriteCause, LastCause};
+ghost use Rattle.liq_journal.specs.declared.damage.Damage.{Damage};
+ghost use Rattle.liq_pairs.specs.declared.side.Side.{Side};
+ghost use Rattle.liq_pairs.specs.Pair.{state_on};
+ghost use Rattle.liq_store.specs.Causes.{OneRose};
+ghost use Rattle.liq_serve.specs.Causes.{ReadCause, WriteCause, LastCause, DiskCause, counts_of};
+ghost use Rattle.liq_serve.specs.Disks.{DisksHold, EndsDamaged};
 ghost use Rattle.liq_lines.specs.Lines.{lines_in};
 ghost use Rattle.liq_serve.specs.Load.{Tells, WritesLine, load, summary};
 ghost use Rattle.liq_serve.specs.Output.{last, usage};
-ghost use Rattle.liq_serve.specs.Progress.{Ends};
 ghost use Rattle.liq_serve.specs.Requests.{AreRequests};
 ghost use Rattle.liq_serve.specs.Statuses.{status_of};
-ghost use Rattle.liq_serve.specs.Stops.{Adds, EndsIn, no_more};
+ghost use Rattle.liq_serve.specs.Stops.{Adds, EndsIn};
 
-use crate::ending::{status, write_last, write_usage};
+use crate::ending::{Ending, status, write_last, write_usage};
 use crate::halts::Halt;
 use crate::load::Load;
-use crate::run::Run;
+use crate::run::answer_input;
 use liq_lines::write_all;
-use liq_outside::{Failed, Sink, Source};
+use liq_outside::{Disk, Failed, Sink, Source};
 use liq_types::Steps;
 use liq_types::amounts::LINES_MOST;
 use liq_words::{COUNT_MOST, Word, WordsFault, read_words};
@@ -31,64 +35,107 @@ use std::io::ErrorKind;
 use std::marker::Brand;
 use std::sync::ledger::{Blank, Ledger};
 
-/// Does what the words ask for. The result is the exit status:
+/// What the top call answers: the exit status, and the disks as it leaves them.
+#[derive(Drop)]
+pub struct Ended<D> {
+    pub status: u8,
+    pub left: D,
+    pub right: D,
+}
+
+/// Does what the words ask for. The exit status is:
 ///
 /// - 0: all is done and written;
 /// - 1: the words are not understood; nothing was read;
 /// - 2: a line is no request;
 /// - 3: the source met a fault;
 /// - 4: the sink met a fault at a reply, or at the line of a load;
+/// - 5: a disk met a fault;
+/// - 6: a disk is damaged;
 /// - 7: there was no memory;
 /// - 8: there are more than 1,000,000 lines.
 ///
-/// For `run` each line of the input is a request, and its reply is written once its call has answered. For `gen` a seed's calls
-/// are carried out on a protocol of their own, and a line tells where they lead; nothing is read.
+/// For `run` each line of the input is a request, and its reply is written once its call has answered; what is accepted is on
+/// the disks by then. For `gen` a seed's calls are carried out on a protocol of their own, and a line tells where they lead;
+/// nothing is read, and the disks stay.
 ///
 /// At a status other than 0 and 4 a last line says so behind what was written.
-pub fn protocol<S: Source, K: Sink>(
+pub fn without_threads<S: Source, K: Sink, D: Disk>(
     alloc: Global,
     words: &[String],
     input: &mut S,
     out: &mut K,
-) -> u8
-    // Usage comes exactly where the words ask for nothing, and reads nothing.
-    ensures usage { (result ≡ 1) ↔ ((word : Word) → Ask (map string_bytes words.now) word → ⊥) }
-    ensures usage_reads { result ≡ 1 → input.new ≡ input.old }
-    ensures usage_writes { result ≡ 1 → Adds [] usage (Rose (K.faults out.old) (K.faults out.new)) (K.held out.old) (K.held out.new) }
+    left: D,
+    right: D,
+) -> Ended<D>
+    // Usage comes exactly where the words ask for nothing; it reads nothing, and the disks stay.
+    ensures usage { (result.status ≡ 1) ↔ ((word : Word) → Ask (map string_bytes words.now) word → ⊥) }
+    ensures usage_leaves { result.status ≡ 1 → (input.new ≡ input.old) × (result.left ≡ left) × (result.right ≡ right) }
+    ensures usage_writes { result.status ≡ 1 → Adds [] usage (Rose (K.faults out.old) (K.faults out.new)) (K.held out.old) (K.held out.new) }
 
-    // A run ends in one of its ways, which says what came in and what went out, wherever the source tells its bytes.
-    ensures run { Ask (map string_bytes words.now) Word.Run → (bytes : List ℕ) → S.left input.old ≡ Some bytes
-        → (end : Result (Unit {0}) Halt) × (result ≡ status_of end)
-        × EndsIn last opening end bytes (S.left input.new) (Rose (K.faults out.old) (K.faults out.new)) (K.held out.old) (K.held out.new) no_more }
+    // A run from the state for which the disks stand ends in one of its ways, which says what came in, what went out, and what the
+    // disks hold, wherever the source and the disks tell their bytes.
+    ensures run { Ask (map string_bytes words.now) Word.Run → (bytes l r : List ℕ) → S.left input.old ≡ Some bytes → D.seen left ≡ Some l → D.seen right ≡ Some r
+        → (start : State) → state_on l r ≡ Ok start → (end : Result (Unit {0}) Halt) × (result.status ≡ status_of end)
+        × EndsIn last start end bytes (S.left input.new) (Rose (K.faults out.old) (K.faults out.new)) (K.held out.old) (K.held out.new) (DisksHold D.seen end bytes l r start result.left result.right) }
+
+    // Over damaged disks nothing is read.
+    ensures damaged { Ask (map string_bytes words.now) Word.Run → (l r : List ℕ) → D.seen left ≡ Some l → D.seen right ≡ Some r
+        → (side : Side) (damage : Damage) → state_on l r ≡ Err (side, damage) → (input.new ≡ input.old) × ((halt : Halt) × (result.status ≡ status_of (Err halt))
+        × EndsDamaged D.seen side damage l r (Err halt) result.left result.right
+        × Adds [] (last halt) (Rose (K.faults out.old) (K.faults out.new)) (K.held out.old) (K.held out.new)) }
 
     // A load is told by the rules' steps along its requests from the opening.
     ensures generated { (seed count : ℕ) → Ask (map string_bytes words.now) (Word.Gen seed count)
-        → (end : Result (Unit {0}) Halt) × (result ≡ status_of end)
+        → (end : Result (Unit {0}) Halt) × (result.status ≡ status_of end)
         × Tells (summary (load seed count)) end (Rose (K.faults out.old) (K.faults out.new)) (K.held out.old) (K.held out.new) }
-    ensures generated_reads { (seed count : ℕ) → Ask (map string_bytes words.now) (Word.Gen seed count) → input.new ≡ input.old }
+    ensures generated_leaves { (seed count : ℕ) → Ask (map string_bytes words.now) (Word.Gen seed count) → (input.new ≡ input.old) × (result.left ≡ left) × (result.right ≡ right) }
 
-    ensures statuses { Contains (0 ∷ 1 ∷ 2 ∷ 3 ∷ 4 ∷ 7 ∷ 8 ∷ []) result }
+    ensures statuses { Contains (0 ∷ 1 ∷ 2 ∷ 3 ∷ 4 ∷ 5 ∷ 6 ∷ 7 ∷ 8 ∷ []) result.status }
 
     // A fault has its cause, and none is passed over.
-    ensures source_fault { result ≡ 3 → Rose (S.faults input.old) (S.faults input.new) }
-    ensures source_same { result ≢ 3 → S.faults input.new ≡ S.faults input.old }
-    ensures sink_fault { result ≡ 4 → Rose (K.faults out.old) (K.faults out.new) }
-    ensures sink_same { result ≡ 0 → K.faults out.new ≡ K.faults out.old }
+    ensures source_fault { result.status ≡ 3 → Rose (S.faults input.old) (S.faults input.new) }
+    ensures source_same { result.status ≢ 3 → S.faults input.new ≡ S.faults input.old }
+    ensures sink_fault { result.status ≡ 4 → Rose (K.faults out.old) (K.faults out.new) }
+    ensures sink_same { result.status ≡ 0 → K.faults out.new ≡ K.faults out.old }
+    ensures disk_fault { result.status ≡ 5 → OneRose (counts_of D.faults left right) (counts_of D.faults result.left result.right) }
+    ensures disk_same { result.status ≢ 5 → counts_of D.faults result.left result.right ≡ counts_of D.faults left right }
 
-    // Where nothing is wrong with words, lines and streams, all is answered, or there was no memory.
-    ensures complete { Ask (map string_bytes words.now) Word.Run → (bytes : List ℕ) → S.left input.old ≡ Some bytes
-        → (requests : List Request) → AreRequests (lines_in bytes) requests → length requests ≤ LINES_MOST
+    // Where nothing is wrong with words, lines, streams and disks, all is answered, or there was no memory.
+    ensures complete { Ask (map string_bytes words.now) Word.Run → (bytes l r : List ℕ) → S.left input.old ≡ Some bytes → D.seen left ≡ Some l → D.seen right ≡ Some r
+        → (start : State) → state_on l r ≡ Ok start → (requests : List Request) → AreRequests (lines_in bytes) requests → length requests ≤ LINES_MOST
         → (Rose (S.faults input.old) (S.faults input.new) → ⊥) → (Rose (K.faults out.old) (K.faults out.new) → ⊥)
-        → (result ≡ 0) ⊎ (result ≡ 7) }
+        → (OneRose (counts_of D.faults left right) (counts_of D.faults result.left result.right) → ⊥)
+        → (result.status ≡ 0) ⊎ (result.status ≡ 7) }
     ensures generated_complete { (seed count : ℕ) → Ask (map string_bytes words.now) (Word.Gen seed count)
-        → (Rose (K.faults out.old) (K.faults out.new) → ⊥) → (result ≡ 0) ⊎ (result ≡ 7) }
+        → (Rose (K.faults out.old) (K.faults out.new) → ⊥) → (result.status ≡ 0) ⊎ (result.status ≡ 7) }
 {
     match read_words(alloc, words) {
-        Ok(Word::Run) => status(&run_on::<Brand, S, K>(alloc, input, out, Blank::new(1))),
-        Ok(Word::Gen { seed, count }) => {
-            status(&tell_on::<Brand, K>(alloc, seed, count, out, Blank::new(1)))
+        Ok(Word::Run) => {
+            let Ending { end, left, right } = run_on(alloc, input, out, left, right);
+            let status = status(&end);
+            Ended {
+                status,
+                left,
+                right,
+            }
         }
-        Err(fault) => end_unread(fault, out),
+        Ok(Word::Gen { seed, count }) => {
+            let status = status(&tell_on::<Brand, K>(alloc, seed, count, out, Blank::new(1)));
+            Ended {
+                status,
+                left,
+                right,
+            }
+        }
+        Err(fault) => {
+            let status = end_unread(fault, out);
+            Ended {
+                status,
+                left,
+                right,
+            }
+        }
     }
 }
 
@@ -168,41 +215,28 @@ fn write_load<K: Sink, L: Ledger>(
     }
 }
 
-/// Runs on a ledger of its own, on which the steps are counted.
-fn run_on<L: Ledger, S: Source, K: Sink>(
+/// Answers the input's lines, and writes the last line of a run that stops.
+fn run_on<S: Source, K: Sink, D: Disk>(
     alloc: Global,
     input: &mut S,
     out: &mut K,
-    blank: Blank,
-) -> Result<(), Halt>
-    requires name { blank.name ≡ L.name }
-    requires parts { blank.parts ≡ L.parts }
-    requires one { L.parts ≡ 1 }
-    ensures run { (bytes : List ℕ) → S.left input.old ≡ Some bytes
-        → EndsIn last opening result bytes (S.left input.new) (Rose (K.faults out.old) (K.faults out.new)) (K.held out.old) (K.held out.new) no_more }
-    ensures source { ReadCause result (S.faults input.old) (S.faults input.new) }
-    ensures sink { LastCause result (K.faults out.old) (K.faults out.new) }
+    left: D,
+    right: D,
+) -> Ending<D>
+    ensures run { (bytes l r : List ℕ) → S.left input.old ≡ Some bytes → D.seen left ≡ Some l → D.seen right ≡ Some r
+        → (start : State) → state_on l r ≡ Ok start
+        → EndsIn last start result.end bytes (S.left input.new) (Rose (K.faults out.old) (K.faults out.new)) (K.held out.old) (K.held out.new) (DisksHold D.seen result.end bytes l r start result.left result.right) }
+    ensures damaged { (l r : List ℕ) → D.seen left ≡ Some l → D.seen right ≡ Some r → (side : Side) (damage : Damage) → state_on l r ≡ Err (side, damage)
+        → (input.new ≡ input.old) × ((halt : Halt) × (result.end ≡ Err halt)
+        × EndsDamaged D.seen side damage l r (Err halt) result.left result.right
+        × Adds [] (last halt) (Rose (K.faults out.old) (K.faults out.new)) (K.held out.old) (K.held out.new)) }
+    ensures source { ReadCause result.end (S.faults input.old) (S.faults input.new) }
+    ensures sink { LastCause result.end (K.faults out.old) (K.faults out.new) }
+    ensures disks { DiskCause result.end (counts_of D.faults left right) (counts_of D.faults result.left result.right) }
 {
-    let mut steps = Steps::<L>::new(blank);
-    let end = answer_lines(alloc, input, out, &mut steps);
-    if let Err(halt) = end {
+    let ending = answer_input(alloc, input, out, left, right);
+    if let Err(halt) = ending.end {
         write_last(out, halt);
     }
-    end
-}
-
-/// Answers the input's lines from the opening of a protocol.
-fn answer_lines<S: Source, K: Sink, L: Ledger>(
-    alloc: Global,
-    input: &mut S,
-    out: &mut K,
-    steps: &mut Steps<L>,
-) -> Result<(), Halt>
-    ensures run { (bytes : List ℕ) → S.left input.old ≡ Some bytes
-        → Ends opening result bytes (S.left input.new) (K.held out.old) (K.held out.new) }
-    ensures source { ReadCause result (S.faults input.old) (S.faults input.new) }
-    ensures sink { WriteCause result (K.faults out.old) (K.faults out.new) }
-{
-    let mut run = Run::new(alloc)?;
-    run.answer_all(input, out, steps)
+    ending
 }

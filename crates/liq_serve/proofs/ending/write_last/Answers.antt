@@ -33,3 +33,15 @@ returns-in-Limit-clause-written g c =
     let e = c.write_numbered-in-Limit.ensures in
     subst (λ halt. Adds [] (last halt) (Rose (g.K.Sink.faults c.args.out.now) (g.K.Sink.faults c.write_numbered-in-Limit.new.out)) (g.K.Sink.held c.args.out.now) (g.K.Sink.held c.write_numbered-in-Limit.new.out)) (sym c.in-Limit.is)
     (adds_line _ c.write_numbered-in-Limit.result _ _ _ e.ok e.err e.cause.failed)
+
+pub returns-in-DiskFault-clause-written : goal.returns-in-DiskFault-clause-written
+returns-in-DiskFault-clause-written g c =
+    let e = c.write_all-in-DiskFault.ensures in
+    subst (λ halt. Adds [] (last halt) (Rose (g.K.Sink.faults c.args.out.now) (g.K.Sink.faults c.write_all-in-DiskFault.new.out)) (g.K.Sink.held c.args.out.now) (g.K.Sink.held c.write_all-in-DiskFault.new.out)) (sym c.in-DiskFault.is)
+    (adds_line _ c.write_all-in-DiskFault.result _ _ _ e.ok e.err e.cause.failed)
+
+pub returns-in-Damaged-clause-written : goal.returns-in-Damaged-clause-written
+returns-in-Damaged-clause-written g c =
+    let e = c.write_damaged.ensures in
+    subst (λ halt. Adds [] (last halt) (Rose (g.K.Sink.faults c.args.out.now) (g.K.Sink.faults c.write_damaged.new.out)) (g.K.Sink.held c.args.out.now) (g.K.Sink.held c.write_damaged.new.out)) (sym c.in-Damaged.is)
+    (adds_line _ c.write_damaged.result _ _ _ e.ok e.err e.cause.failed)

@@ -1,0 +1,64 @@
+use Rattle.std.proofs.Common.{◌≡◌, sym, subst, ◌∙◌, ◌∷◌, [], inr, ℕ, Err, Ok, Result, refl}
+use Rattle.std.specs.Prelude.{◌⊎◌}
+use Rattle.liq_words.specs.declared.words.Word.TheVariants.{Run, Gen}
+use Rattle.liq_outside.specs.Faults.{Rose}
+use Rattle.liq_serve.specs.declared.halts.Halt.{Halt}
+use Rattle.liq_serve.specs.declared.halts.Halt.TheVariants.{NoMemory}
+use Rattle.liq_serve.specs.Disks.{DisksHold}
+use Rattle.liq_serve.specs.Load.{Tells, load, summary}
+use Rattle.liq_serve.proofs.Causes.{source_causes, sink_causes, disk_causes}
+use Rattle.liq_serve.proofs.EndingLines.{last_written, no_room}
+use Rattle.liq_serve.proofs.Opened.{untouched}
+use Rattle.liq_serve.proofs.StatusLaws.{complete}
+use Rattle.liq_serve.proofs.Telling.{one_load, unread}
+use Rattle.liq_serve.proofs.top.without_threads.Goals as goal
+
+-- ---- `run`
+
+pub returns-in-Ok-Run-clause-run : goal.returns-in-Ok-Run-clause-run
+returns-in-Ok-Run-clause-run g c asked bytes l r told told_l told_r start is = (c.run_on-end.result.end, c.status-status.ensures, c.run_on-end.ensures.run bytes l r told told_l told_r start is)
+
+pub returns-in-Ok-Run-clause-complete : goal.returns-in-Ok-Run-clause-complete
+returns-in-Ok-Run-clause-complete g c asked bytes l r told told_l told_r start is requests all few source sink disk =
+    let run = c.run_on-end.ensures.run bytes l r told told_l told_r start is in
+    subst (λ n. (n ≡ 0) ⊎ (n ≡ 7)) (sym c.status-status.ensures)
+    (complete start bytes _ requests all few c.run_on-end.result.end
+    (λ e. source ((source_causes c.run_on-end.result.end _ _ c.run_on-end.ensures.source).0 e))
+    (λ e. sink ((sink_causes c.run_on-end.result.end _ _ c.run_on-end.ensures.sink).0 e))
+    (λ e. disk ((disk_causes c.run_on-end.result.end _ _ c.run_on-end.ensures.disks).0 e))
+    run.requests run.read)
+
+-- ---- `gen`
+
+pub returns-in-Ok-Gen-clause-generated : goal.returns-in-Ok-Gen-clause-generated
+returns-in-Ok-Gen-clause-generated g c seed count asked =
+    let faults = g.K.Sink.faults in
+    let held = g.K.Sink.held in
+    let told : ℕ → ℕ → Type 0 = λ s n. Tells (summary (load s n)) c.tell_on.result (Rose (faults c.args.out.now) (faults c.tell_on.new.out)) (held c.args.out.now) (held c.tell_on.new.out) in
+    (c.tell_on.result, c.status-status-in-Ok-Gen.ensures, one_load _ c.in-Ok-Gen.seed c.in-Ok-Gen.count seed count told c.in-Ok-Gen.field-0-is (c.in-Ok-Gen.ensures.only (Gen seed count) asked) c.tell_on.ensures.told)
+
+-- ---- words that were not read
+
+pub returns-in-Err-clause-run : goal.returns-in-Err-clause-run
+returns-in-Err-clause-run g c asked bytes l r told told_l told_r start is =
+    let ended = c.end_unread-status.ensures.no_memory (unread c.in-Err.fault Run (c.in-Err.ensures.only Run asked)) in
+    let failed : Result (Unit {0}) Halt = Err NoMemory in
+    (Err NoMemory, ended.0, last_written start NoMemory bytes _ _ _ _ _ (DisksHold g.D.Disk.seen failed bytes l r start c.args.left c.args.right) (no_room start bytes _ _ _ (untouched g.D.Disk.seen c.args.left c.args.right l r start told_l told_r is)) ended.1)
+
+pub returns-in-Err-clause-damaged : goal.returns-in-Err-clause-damaged
+returns-in-Err-clause-damaged g c asked l r told_l told_r side damage is =
+    let ended = c.end_unread-status.ensures.no_memory (unread c.in-Err.fault Run (c.in-Err.ensures.only Run asked)) in
+    (refl, (NoMemory, ended.0, tt, ended.1))
+
+pub returns-in-Err-clause-generated : goal.returns-in-Err-clause-generated
+returns-in-Err-clause-generated g c seed count asked =
+    let ended = c.end_unread-status.ensures.no_memory (unread c.in-Err.fault (Gen seed count) (c.in-Err.ensures.only (Gen seed count) asked)) in
+    (Err NoMemory, ended.0, ended.1)
+
+pub returns-in-Err-clause-complete : goal.returns-in-Err-clause-complete
+returns-in-Err-clause-complete g c asked bytes l r told told_l told_r start is requests all few source sink disk =
+    inr (c.end_unread-status.ensures.no_memory (unread c.in-Err.fault Run (c.in-Err.ensures.only Run asked))).0
+
+pub returns-in-Err-clause-generated_complete : goal.returns-in-Err-clause-generated_complete
+returns-in-Err-clause-generated_complete g c seed count asked sink =
+    inr (c.end_unread-status.ensures.no_memory (unread c.in-Err.fault (Gen seed count) (c.in-Err.ensures.only (Gen seed count) asked))).0
