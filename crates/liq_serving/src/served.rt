@@ -15,7 +15,7 @@ pub enum End {
     /// There was no memory for some call, or for the service. The end of a book that is full is told so too, which needs more than
     /// [`liq_book::ENTRIES_MOST`] requests in all.
     NoMemory,
-    /// A call met a fault of a disk, and no later one was made.
+    /// A call met a fault of a disk, and no later one got a reply.
     DiskFault(Halt),
 }
 
@@ -24,6 +24,7 @@ pub enum End {
 pub struct Served<D> {
     pub left: D,
     pub right: D,
+    /// All entries, in the order of the one history.
     pub history: History,
     pub end: End,
 }
