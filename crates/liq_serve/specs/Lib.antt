@@ -4,6 +4,7 @@ pub mod Load
 pub mod Output
 pub mod Progress
 pub mod Requests
+pub mod State
 pub mod Statuses
 pub mod Stops
 pub mod Writing

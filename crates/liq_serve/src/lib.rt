@@ -6,6 +6,7 @@ mod ending;
 mod halts;
 mod load;
 mod run;
+mod state;
 mod top;
 mod waiting;
 

@@ -19,12 +19,14 @@ ghost use Rattle.liq_serve.specs.Load.{Tells, WritesLine, load, summary};
 ghost use Rattle.liq_serve.specs.Output.{last, usage};
 ghost use Rattle.liq_serve.specs.Requests.{AreRequests};
 ghost use Rattle.liq_serve.specs.Statuses.{status_of};
+ghost use Rattle.liq_serve.specs.State.{TellsText, standing};
 ghost use Rattle.liq_serve.specs.Stops.{Adds, EndsIn};
 
 use crate::ending::{Ending, status, write_last, write_usage};
 use crate::halts::Halt;
 use crate::load::Load;
 use crate::run::answer_input;
+use crate::state::tell_state;
 use liq_lines::write_all;
 use liq_outside::{Disk, Failed, Sink, Source};
 use liq_types::Steps;
@@ -49,7 +51,7 @@ pub struct Ended<D> {
 /// - 1: the words are not understood; nothing was read;
 /// - 2: a line is no request;
 /// - 3: the source met a fault;
-/// - 4: the sink met a fault at a reply, or at the line of a load;
+/// - 4: the sink met a fault at a reply, or at what a load or `state` tells;
 /// - 5: a disk met a fault;
 /// - 6: a disk is damaged;
 /// - 7: there was no memory;
@@ -57,7 +59,7 @@ pub struct Ended<D> {
 ///
 /// For `run` each line of the input is a request, and its reply is written once its call has answered; what is accepted is on
 /// the disks by then. For `gen` a seed's calls are carried out on a protocol of their own, and a line tells where they lead;
-/// nothing is read, and the disks stay.
+/// nothing is read, and the disks stay. For `state` what stands on the disks is told; nothing is read.
 ///
 /// At a status other than 0 and 4 a last line says so behind what was written.
 pub fn without_threads<S: Source, K: Sink, D: Disk>(
@@ -84,6 +86,17 @@ pub fn without_threads<S: Source, K: Sink, D: Disk>(
         → (side : Side) (damage : Damage) → state_on l r ≡ Err (side, damage) → (input.new ≡ input.old) × ((halt : Halt) × (result.status ≡ status_of (Err halt))
         × EndsDamaged D.seen side damage l r (Err halt) result.left result.right
         × Adds [] (last halt) (Rose (K.faults out.old) (K.faults out.new)) (K.held out.old) (K.held out.new)) }
+
+    // Of the state for which the disks stand it is told what stands, and they stand for it then.
+    ensures told { Ask (map string_bytes words.now) Word.State → (l r : List ℕ) → D.seen left ≡ Some l → D.seen right ≡ Some r
+        → (start : State) → state_on l r ≡ Ok start → (end : Result (Unit {0}) Halt) × (result.status ≡ status_of end)
+        × TellsText (standing start) end (Rose (K.faults out.old) (K.faults out.new)) (K.held out.old) (K.held out.new)
+        × DisksHold D.seen end [] l r start result.left result.right [] }
+    ensures told_damaged { Ask (map string_bytes words.now) Word.State → (l r : List ℕ) → D.seen left ≡ Some l → D.seen right ≡ Some r
+        → (side : Side) (damage : Damage) → state_on l r ≡ Err (side, damage) → (halt : Halt) × (result.status ≡ status_of (Err halt))
+        × EndsDamaged D.seen side damage l r (Err halt) result.left result.right
+        × Adds [] (last halt) (Rose (K.faults out.old) (K.faults out.new)) (K.held out.old) (K.held out.new) }
+    ensures told_reads { Ask (map string_bytes words.now) Word.State → input.new ≡ input.old }
 
     // A load is told by the rules' steps along its requests from the opening.
     ensures generated { (seed count : ℕ) → Ask (map string_bytes words.now) (Word.Gen seed count)
@@ -113,6 +126,15 @@ pub fn without_threads<S: Source, K: Sink, D: Disk>(
     match read_words(alloc, words) {
         Ok(Word::Run) => {
             let Ending { end, left, right } = run_on(alloc, input, out, left, right);
+            let status = status(&end);
+            Ended {
+                status,
+                left,
+                right,
+            }
+        }
+        Ok(Word::State) => {
+            let Ending { end, left, right } = stand_on(alloc, out, left, right);
             let status = status(&end);
             Ended {
                 status,
@@ -235,6 +257,26 @@ fn run_on<S: Source, K: Sink, D: Disk>(
     ensures disks { DiskCause result.end (counts_of D.faults left right) (counts_of D.faults result.left result.right) }
 {
     let ending = answer_input(alloc, input, out, left, right);
+    if let Err(halt) = ending.end {
+        write_last(out, halt);
+    }
+    ending
+}
+
+/// Tells what stands on the disks, and writes the last line where that stops.
+fn stand_on<K: Sink, D: Disk>(alloc: Global, out: &mut K, left: D, right: D) -> Ending<D>
+    ensures told { (l r : List ℕ) → D.seen left ≡ Some l → D.seen right ≡ Some r → (start : State) → state_on l r ≡ Ok start
+        → TellsText (standing start) result.end (Rose (K.faults out.old) (K.faults out.new)) (K.held out.old) (K.held out.new)
+        × DisksHold D.seen result.end [] l r start result.left result.right [] }
+    ensures damaged { (l r : List ℕ) → D.seen left ≡ Some l → D.seen right ≡ Some r → (side : Side) (damage : Damage) → state_on l r ≡ Err (side, damage)
+        → (halt : Halt) × (result.end ≡ Err halt)
+        × EndsDamaged D.seen side damage l r (Err halt) result.left result.right
+        × Adds [] (last halt) (Rose (K.faults out.old) (K.faults out.new)) (K.held out.old) (K.held out.new) }
+    ensures no_source { result.end ≢ Err Halt.ReadFault }
+    ensures sink { LastCause result.end (K.faults out.old) (K.faults out.new) }
+    ensures disks { DiskCause result.end (counts_of D.faults left right) (counts_of D.faults result.left result.right) }
+{
+    let ending = tell_state(alloc, out, left, right);
     if let Err(halt) = ending.end {
         write_last(out, halt);
     }

@@ -1,6 +1,7 @@
 -- What clap reads of words that ask for something.
 use Rattle.std.proofs.Common.{◌≡◌, ℕ, ◌<◌, ◌^◌, ◌==◌, List, [], ◌∷◌, false, true, refl, sym, ap, ap₂, get_or, subst, ◌∙◌, arith, codes, length, Some, Option, Result, Ok, Err, option_map}
-use Rattle.std.specs.Prelude.{decimal, IsErrAnd}
+use Rattle.std.specs.Prelude.{decimal, IsErrAnd, if◌then◌else◌}
+use Rattle.std.specs.Str.{bytes_eq}
 use Rattle.std.specs.Option.{ok_or}
 use Rattle.std.specs.Char.{digit_value}
 use Rattle.std.specs.Str.Parse.{IsNumeral, digits_value}
@@ -8,13 +9,13 @@ use Rattle.std.proofs.lemmas.Bool.{ne_eqb}
 use Rattle.std.proofs.lemmas.Fmt.{decimal_is_IsNumeral}
 use Rattle.clap.specs.Words.{Text, first_of, subcommand_of, takes}
 use Rattle.liq_words.specs.declared.words.Word.{Word}
-use Rattle.liq_words.specs.declared.words.Word.TheVariants.{Run, Gen}
+use Rattle.liq_words.specs.declared.words.Word.TheVariants.{Run, State, Gen}
 use Rattle.liq_words.specs.declared.words.WordsFault.{WordsFault}
 use Rattle.liq_words.specs.declared.words.WordsFault.TheVariants.{Usage, NoMemory}
 use Rattle.liq_words.specs.Line.{line}
 use Rattle.liq_words.specs.Reading.{HasRead}
 use Rattle.liq_words.specs.Words.{Ask, IsInRange, words_of}
-use Rattle.liq_words.proofs.Taken.{run_is_taken, run_is_read, gen_is_taken, gen_is_read, seed_is_read, count_is_read}
+use Rattle.liq_words.proofs.Taken.{run_is_taken, run_is_read, state_is_taken, state_is_read, gen_is_taken, gen_is_read, seed_is_read, count_is_read}
 
 -- how a number begins
 record Begins (text : Text) : Type 0 where
@@ -37,6 +38,7 @@ number_begins n small = begins (decimal n) (decimal_is_IsNumeral n small).0
 
 word_taken : (word : Word) → Ask (words_of word) word → takes line (words_of word) ≡ true
 word_taken Run h = run_is_taken
+word_taken State h = state_is_taken
 word_taken (Gen seed count) h =
     let s = number_begins seed h.0.0 in
     let c = number_begins count (omega (arith, h.0.2)) in
@@ -64,6 +66,7 @@ are_read seed count s c =
 
 word_read : (word : Word) → Ask (words_of word) word → HasRead (subcommand_of line (words_of word)) word
 word_read Run h = run_is_read
+word_read State h = state_is_read
 word_read (Gen seed count) h = are_read (decimal seed) (decimal count) (number_begins seed h.0.0) (number_begins count (omega (arith, h.0.2)))
 
 -- clap reads the word
@@ -84,15 +87,20 @@ is_word read word r found is = is ∙ ap (λ o. ok_or o Usage) found
 same_number : (m n : ℕ) → m < 2 ^ 64 → n < 2 ^ 64 → decimal m ≡ decimal n → m ≡ n
 same_number m n small_m small_n same = sym (decimal_is_IsNumeral m small_m).1 ∙ ap (digits_value 10) same ∙ (decimal_is_IsNumeral n small_n).1
 
+-- the word that stands alone under this name
+abbrev alone_of : Text → Word
+alone_of name =
+    if bytes_eq name (codes "run") then Run else State
+
 same_word : (a b : Word) → IsInRange a → IsInRange b → words_of a ≡ words_of b → a ≡ b
-same_word Run Run h k same = refl
-same_word Run (Gen seed count) h k same = absurd (omega (arith, ap length same))
-same_word (Gen seed count) Run h k same = absurd (omega (arith, ap length same))
 same_word (Gen seed count) (Gen other more) h k same =
     let at : ℕ → List Text → Text = λ n words. get_or words n [] in
     let seeds = same_number seed other h.0 k.0 (ap (at 1) same) in
     let counts = same_number count more (omega (arith, h.2)) (omega (arith, k.2)) (ap (at 2) same) in
     ap₂ Gen seeds counts
+same_word (Gen seed count) b h k same = absurd (omega (arith, ap length same))
+same_word a (Gen other more) h k same = absurd (omega (arith, ap length same))
+same_word a b h k same = ap (λ words. alone_of (get_or words 0 [])) same
 
 pub one_word : (words : List Text) (a b : Word) → Ask words a → Ask words b → a ≡ b
 one_word words a b h k = same_word a b h.0 k.0 (sym h.1 ∙ k.1)

@@ -5,7 +5,7 @@ use Rattle.clap.specs.declared.parser.matches.Found.{Found}
 use Rattle.clap.specs.Words.{Text, Row, first_of, first_value, rows_of}
 use Rattle.clap.proofs.WalkLemmas.{first_value-rows}
 use Rattle.liq_words.specs.declared.words.Word.{Word}
-use Rattle.liq_words.specs.declared.words.Word.TheVariants.{Run, Gen}
+use Rattle.liq_words.specs.declared.words.Word.TheVariants.{Run, State, Gen}
 use Rattle.liq_words.specs.Reading.{HasRead}
 use Rattle.liq_words.specs.Words.{Ask, IsInRange}
 
@@ -24,13 +24,13 @@ pub record Values (f : Found) (word : Word) : Type 0 where
   pub count_is : first_value f (codes "count") ≡ Some count
   pub ask : Ask (codes "gen" ∷ seed ∷ count ∷ []) word
 
-run_is_no_gen : (name : Text) (found : Option (Text × List Row)) → name ≡ codes "gen" → Some name ≡ option_map (λ p. p.0) found → option_map (λ p. p.0) found ≡ Some (codes "run") → ⊥
-run_is_no_gen name found is name_is read =
-    let first : 103 ≡ 114 = ap (λ o. get_or (unwrap_or o []) 0 0) (sym (ap Some is) ∙ name_is ∙ read) in
-    omega (arith, first)
+-- another word is no `gen`, whose first letter is 103
+no_gen : (name other : Text) (found : Option (Text × List Row)) → (get_or other 0 0 ≡ 103 → ⊥) → name ≡ codes "gen" → Some name ≡ option_map (λ p. p.0) found → option_map (λ p. p.0) found ≡ Some other → ⊥
+no_gen name other found apart is name_is read = apart (sym (ap (λ o. get_or (unwrap_or o []) 0 0) (sym (ap Some is) ∙ name_is ∙ read)))
 
 pub values_found : (name : Text) (f : Found) (found : Option (Text × List Row)) (word : Word) → name ≡ codes "gen" → Some name ≡ option_map (λ p. p.0) found → Some (rows_of f) ≡ option_map (λ p. p.1) found → IsInRange word → HasRead found word → Values f word
-values_found name f found Run is name_is rows_are within read = absurd (run_is_no_gen name found is name_is read)
+values_found name f found Run is name_is rows_are within read = absurd (no_gen name (codes "run") found (λ e. omega (arith, e)) is name_is read)
+values_found name f found State is name_is rows_are within read = absurd (no_gen name (codes "state") found (λ e. omega (arith, e)) is name_is read)
 values_found name f found (Gen seed count) is name_is rows_are within read = record {
   seed = decimal seed;
   count = decimal count;
@@ -45,3 +45,9 @@ asks f word v seed count seed_is count_is =
     let same_seed : v.seed ≡ seed = cc (v.seed_is, seed_is) in
     let same_count : v.count ≡ count = cc (v.count_is, count_is) in
     subst (λ (t : Text). Ask (codes "gen" ∷ t ∷ count ∷ []) word) same_seed (subst (λ (t : Text). Ask (codes "gen" ∷ v.seed ∷ t ∷ []) word) same_count v.ask)
+
+-- a word that is read under another name than `gen` stands alone
+pub stands_alone : (name : Text) (found : Option (Text × List Row)) (word : Word) → (name ≡ codes "gen" → ⊥) → Some name ≡ option_map (λ p. p.0) found → HasRead found word → Ask (name ∷ []) word
+stands_alone name found Run apart name_is read = (tt, ap (λ o. unwrap_or o [] ∷ []) (name_is ∙ read))
+stands_alone name found State apart name_is read = (tt, ap (λ o. unwrap_or o [] ∷ []) (name_is ∙ read))
+stands_alone name found (Gen seed count) apart name_is read = absurd (apart (ap (λ o. unwrap_or o []) (name_is ∙ read.0)))

@@ -15,6 +15,14 @@ pub run_is_read : option_map (λ p. p.0) (subcommand_of line (codes "run" ∷ []
 unfolding clap_on_literals
 run_is_read = refl
 
+pub state_is_taken : takes line (codes "state" ∷ []) ≡ true
+unfolding clap_on_literals
+state_is_taken = refl
+
+pub state_is_read : option_map (λ p. p.0) (subcommand_of line (codes "state" ∷ [])) ≡ Some (codes "state")
+unfolding clap_on_literals
+state_is_read = refl
+
 pub gen_is_taken : (a b : ℕ) (seed count : Text) → (a == 45) ≡ false → (b == 45) ≡ false → takes line (codes "gen" ∷ (a ∷ seed) ∷ (b ∷ count) ∷ []) ≡ true
 unfolding clap_on_literals
 gen_is_taken a b seed count not_a not_b = simp (not_a, not_b)

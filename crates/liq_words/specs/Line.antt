@@ -23,4 +23,6 @@ base =
     }
 
 abbrev pub line : App
-line = with_subcommand (with_subcommand base (new_app (codes "run")).top) load.top
+line =
+    let alone : Text → App → App = λ name app. with_subcommand app (new_app name).top in
+    with_subcommand (alone (codes "state") (alone (codes "run") base)) load.top

@@ -1,7 +1,7 @@
 //! The command line as clap is told of it.
 
 ghost use Rattle.std.specs.Prelude.{◌≡◌, IfOk, false};
-ghost use Rattle.clap.specs.Words.{app_of};
+ghost use Rattle.clap.specs.Words.{app_of, new_app, with_subcommand};
 ghost use Rattle.clap.specs.declared.builder.command.Command.TheViews.{out-Command};
 ghost use Rattle.liq_words.specs.Line.{line, load};
 
@@ -18,8 +18,20 @@ pub fn line<'a>(alloc: Global) -> Result<Command<'a>, AllocError>
         .disable_help_flag(true)
         .disable_help_subcommand(true)
         .subcommand_required(true);
-    base.subcommand(Command::new(alloc, "run"))?
-        .subcommand(load(alloc)?)
+    let line = with_alone(alloc, base, "run")?;
+    let line = with_alone(alloc, line, "state")?;
+    line.subcommand(load(alloc)?)
+}
+
+/// One more word, which stands alone.
+fn with_alone<'a>(
+    alloc: Global,
+    line: Command<'a>,
+    name: &'a str,
+) -> Result<Command<'a>, AllocError>
+    ensures { IfOk result (λ command. app_of command ≡ with_subcommand (app_of line.entry) (new_app name.entry.now).top) }
+{
+    line.subcommand(Command::new(alloc, name))
 }
 
 /// The word `gen`, with a seed and a count.

@@ -17,6 +17,7 @@ fn read(alloc: Global, line: &str) -> Result<Result<Word, WordsFault>, Fail> {
 fn words_ask(rt: HostRuntime) -> Result<(), Fail> {
     let alloc = rt.alloc();
     assert!(rt; matches!(read(alloc, "run")?, Ok(Word::Run)));
+    assert!(rt; matches!(read(alloc, "state")?, Ok(Word::State)));
     assert!(rt;
         matches!(
             read(alloc, "gen 7 20000")?,
@@ -78,8 +79,14 @@ fn words_ask_for_nothing(rt: HostRuntime) -> Result<(), Fail> {
         "gen  1 5",
         "gen x 5",
         "serve",
-        "state",
         "audit",
+        "serve 1",
+        "state run",
+        "audit -h",
+        "Serve",
+        "stat",
+        "auditor",
+        "serve serve",
     ] {
         assert!(rt;
             matches!(read(rt.alloc(), line)?, Err(WordsFault::Usage)),

@@ -21,6 +21,8 @@ pub const COUNT_MOST: u64 = 1_000_000;
 pub enum Word {
     /// Answer the requests of the input.
     Run,
+    /// Tell what stands.
+    State,
     /// Carry out a seed's calls, so many of them drawn, and tell where they lead.
     Gen { seed: u64, count: u64 },
 }
@@ -55,7 +57,7 @@ fn are_understood(words: &[String]) -> bool
     ensures all { (word : Word) → Ask (map string_bytes words.now) word → IsTrue result }
 {
     match words {
-        [word] => word.as_str() == "run",
+        [word] => alone(word).is_some(),
         [word, seed, count] => word.as_str() == "gen" && gen_of(seed, count).is_some(),
         _ => false,
     }
@@ -66,8 +68,19 @@ fn word_of(matches: &ArgMatches) -> Option<Word>
     ensures { (word : Word) → IsInRange word → HasRead (subcommand_rows_of matches.now) word → result ≡ Some word }
 {
     match matches.subcommand()? {
-        ("run", _) => Some(Word::Run),
         ("gen", values) => gen_of(values.get_str("seed")?, values.get_str("count")?),
+        (name, _) => alone(name),
+    }
+}
+
+/// The word that stands alone.
+fn alone(name: &str) -> Option<Word>
+    ensures word { IfSome result (Ask (name.now ∷ [])) }
+    ensures only { (word : Word) → Ask (name.now ∷ []) word → result ≡ Some word }
+{
+    match name {
+        "run" => Some(Word::Run),
+        "state" => Some(Word::State),
         _ => None,
     }
 }

@@ -1,6 +1,6 @@
 use Rattle.std.proofs.Common.{◌≡◌, sym, subst, ◌∙◌, ◌∷◌, [], inr, ℕ, Err, Ok, Result, refl}
 use Rattle.std.specs.Prelude.{◌⊎◌}
-use Rattle.liq_words.specs.declared.words.Word.TheVariants.{Run, Gen}
+use Rattle.liq_words.specs.declared.words.Word.TheVariants.{Run, State, Gen}
 use Rattle.liq_outside.specs.Faults.{Rose}
 use Rattle.liq_serve.specs.declared.halts.Halt.{Halt}
 use Rattle.liq_serve.specs.declared.halts.Halt.TheVariants.{NoMemory}
@@ -28,6 +28,13 @@ returns-in-Ok-Run-clause-complete g c asked bytes l r told told_l told_r start i
     (λ e. disk ((disk_causes c.run_on-end.result.end _ _ c.run_on-end.ensures.disks).0 e))
     run.requests run.read)
 
+-- ---- `state`
+
+pub returns-in-Ok-State-clause-told : goal.returns-in-Ok-State-clause-told
+returns-in-Ok-State-clause-told g c asked l r told_l told_r start is =
+    let found = c.stand_on-end.ensures.told l r told_l told_r start is in
+    (c.stand_on-end.result.end, c.status-status-in-Ok-State.ensures, found.0, found.1)
+
 -- ---- `gen`
 
 pub returns-in-Ok-Gen-clause-generated : goal.returns-in-Ok-Gen-clause-generated
@@ -49,6 +56,16 @@ pub returns-in-Err-clause-damaged : goal.returns-in-Err-clause-damaged
 returns-in-Err-clause-damaged g c asked l r told_l told_r side damage is =
     let ended = c.end_unread-status.ensures.no_memory (unread c.in-Err.fault Run (c.in-Err.ensures.only Run asked)) in
     (refl, (NoMemory, ended.0, tt, ended.1))
+
+pub returns-in-Err-clause-told : goal.returns-in-Err-clause-told
+returns-in-Err-clause-told g c asked l r told_l told_r start is =
+    let ended = c.end_unread-status.ensures.no_memory (unread c.in-Err.fault State (c.in-Err.ensures.only State asked)) in
+    (Err NoMemory, ended.0, ended.1, untouched g.D.Disk.seen c.args.left c.args.right l r start told_l told_r is)
+
+pub returns-in-Err-clause-told_damaged : goal.returns-in-Err-clause-told_damaged
+returns-in-Err-clause-told_damaged g c asked l r told_l told_r side damage is =
+    let ended = c.end_unread-status.ensures.no_memory (unread c.in-Err.fault State (c.in-Err.ensures.only State asked)) in
+    (NoMemory, ended.0, tt, ended.1)
 
 pub returns-in-Err-clause-generated : goal.returns-in-Err-clause-generated
 returns-in-Err-clause-generated g c seed count asked =

@@ -1,0 +1,109 @@
+//! The word `state`: what stands on two disks, told.
+
+ghost use Rattle.std.specs.Prelude.{◌≡◌, ◌≢◌, ◌++◌, [], List, ℕ, Some, Ok, Err, OnOk, IfOk, IfErr, IsOkUnless};
+ghost use Rattle.std.specs.String.{string_bytes};
+ghost use Rattle.liq_types.specs.State.{State};
+ghost use Rattle.liq_core.specs.Core.{StandsFor};
+ghost use Rattle.liq_journal.specs.declared.damage.Damage.{Damage};
+ghost use Rattle.liq_pairs.specs.declared.side.Side.{Side};
+ghost use Rattle.liq_pairs.specs.Pair.{state_on};
+ghost use Rattle.liq_serve.specs.Causes.{DiskCause, WriteCause, counts_of};
+ghost use Rattle.liq_serve.specs.Disks.{DisksHold, EndsDamaged, IsNotOpened, OpensOn};
+ghost use Rattle.liq_serve.specs.Output.{reply_line};
+ghost use Rattle.liq_serve.specs.State.{WritesText, pool_and_journal, standing};
+
+use crate::ending::Ending;
+use crate::halts::Halt;
+use liq_core::Protocol;
+use liq_lines::{LINE_END, write_all};
+use liq_outside::{Disk, Failed, Sink};
+use liq_store::{Store, StoreFault};
+use liq_text::write_reply;
+use liq_types::{Query, Reply};
+use std::alloc::{AllocError, Global};
+
+/// Tells what stands on two disks: the replies to `system` and `pools`, the words of the Stability Pool, and the journal's
+/// generation with its records. All of the text is made before it is written.
+pub fn tell_state<K: Sink, D: Disk>(alloc: Global, out: &mut K, left: D, right: D) -> Ending<D>
+    // Of the state for which the disks stand the text is told, and they stand for it then.
+    ensures told { (l r : List ℕ) → D.seen left ≡ Some l → D.seen right ≡ Some r → (start : State) → state_on l r ≡ Ok start
+        → WritesText (standing start) result.end (K.held out.old) (K.held out.new) × DisksHold D.seen result.end [] l r start result.left result.right [] }
+    // Of damaged disks nothing is told.
+    ensures damaged { (l r : List ℕ) → D.seen left ≡ Some l → D.seen right ≡ Some r → (side : Side) (damage : Damage) → state_on l r ≡ Err (side, damage)
+        → (out.new ≡ out.old) × EndsDamaged D.seen side damage l r result.end result.left result.right }
+    ensures no_source { result.end ≢ Err Halt.ReadFault }
+    ensures sink { WriteCause result.end (K.faults out.old) (K.faults out.new) }
+    ensures disks { DiskCause result.end (counts_of D.faults left right) (counts_of D.faults result.left result.right) }
+{
+    let store = match open(alloc, left, right) {
+        Ok(store) => store,
+        Err(fault) => {
+            let StoreFault { left, right, why } = fault;
+            let end = Err(Halt::from(why));
+            return Ending { end, left, right };
+        }
+    };
+    let end = write_standing(alloc, store.protocol(), out);
+    let (left, right) = store.close();
+    Ending { end, left, right }
+}
+
+/// The store of two disks.
+fn open<D: Disk>(alloc: Global, left: D, right: D) -> Result<Store<D>, StoreFault<D>>
+    ensures opened { IfOk result (OpensOn D.seen D.faults left right) }
+    ensures not_opened { IfErr result (IsNotOpened D.seen D.faults left right) }
+{
+    match Store::open(alloc, left, right) {
+        Ok(store) => Ok(store),
+        Err(fault) => Err(fault),
+    }
+}
+
+/// Writes the text of what stands.
+fn write_standing<K: Sink>(alloc: Global, protocol: &Protocol, out: &mut K) -> Result<(), Halt>
+    ensures written { (s : State) → StandsFor protocol.now s → WritesText (standing s) result (K.held out.old) (K.held out.new) }
+    ensures other { result ≢ Err Halt.DiskFault }
+    ensures no_source { result ≢ Err Halt.ReadFault }
+    ensures sink { WriteCause result (K.faults out.old) (K.faults out.new) }
+{
+    let text = text_of(alloc, protocol)?;
+    match write_all(out, &text) {
+        Ok(()) => Ok(()),
+        Err(Failed) => Err(Halt::WriteFault),
+    }
+}
+
+/// The text of what stands.
+#[tactic(auto, unfolding(crate::specs::State::standing))]
+fn text_of(alloc: Global, protocol: &Protocol) -> Result<Vec<u8>, AllocError>
+    ensures { IfOk result (λ text. (s : State) → StandsFor protocol.now s → text.items ≡ standing s) }
+{
+    let mut text = Vec::new(alloc);
+    put_reply(&protocol.query(&Query::System), &mut text)?;
+    put_reply(&protocol.query(&Query::Pools), &mut text)?;
+    let lines = pool_and_journal(alloc, protocol)?;
+    text.extend_from_slice(lines.as_bytes())?;
+    Ok(text)
+}
+
+/// The lines of the Stability Pool's words and of the journal.
+fn pool_and_journal(alloc: Global, protocol: &Protocol) -> Result<String, AllocError>
+    ensures { IfOk result (λ lines. (s : State) → StandsFor protocol.now s → string_bytes lines ≡ pool_and_journal s) }
+{
+    let words = protocol.pool_words();
+    let (p, scale, epoch, sum) = (words.p, words.scale, words.epoch, words.sum);
+    let generation = protocol.generation();
+    let records = protocol.records();
+    format!(in alloc; "pool {p} {scale} {epoch} {sum}\njournal {generation} {records}\n")
+}
+
+/// Appends a reply's line.
+fn put_reply(reply: &Reply, text: &mut Vec<u8>) -> Result<(), AllocError>
+    ensures { OnOk result (text.new.items ≡ text.old.items ++ reply_line reply.now) }
+{
+    if write_reply(reply, text).is_err() {
+        return Err(AllocError);
+    }
+    text.push(LINE_END)?;
+    Ok(())
+}
