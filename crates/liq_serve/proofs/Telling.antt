@@ -8,6 +8,7 @@ use Rattle.liq_words.specs.declared.words.WordsFault.TheVariants as words
 use Rattle.liq_serve.specs.declared.halts.Halt.{Halt}
 use Rattle.liq_serve.specs.declared.halts.Halt.TheVariants.{BadLine, ReadFault, WriteFault, DiskFault, Damaged, NoMemory, Limit}
 use Rattle.liq_serve.specs.Load.{Tells, WritesLine}
+use Rattle.liq_serve.specs.State.{TellsText}
 use Rattle.liq_serve.specs.Output.{last}
 use Rattle.liq_serve.specs.Statuses.{status_of}
 use Rattle.liq_serve.specs.Stops.{Adds}
@@ -39,6 +40,17 @@ load_ends line fault before now (Err NoMemory) h other = inr refl
 load_ends line fault before now (Err Limit) h other = absurd h
 load_ends line fault before now (Err DiskFault) h other = absurd h
 load_ends line fault before now (Err (Damaged side number)) h other = absurd h
+
+-- what the status of `state` says
+pub text_ends : (text : List ℕ) (fault : Type 0) (before now : Option (List ℕ)) (end : Result (Unit {0}) Halt) → TellsText text end fault before now → status_of end ≢ 4 → status_of end ≢ 5 → (status_of end ≡ 0) ⊎ (status_of end ≡ 7)
+text_ends text fault before now (Ok done) h sink disk = inl refl
+text_ends text fault before now (Err (BadLine n)) h sink disk = absurd h
+text_ends text fault before now (Err ReadFault) h sink disk = absurd h
+text_ends text fault before now (Err WriteFault) h sink disk = absurd (sink refl)
+text_ends text fault before now (Err DiskFault) h sink disk = absurd (disk refl)
+text_ends text fault before now (Err (Damaged side number)) h sink disk = absurd h
+text_ends text fault before now (Err NoMemory) h sink disk = inr refl
+text_ends text fault before now (Err Limit) h sink disk = absurd h
 
 -- ---- the words
 

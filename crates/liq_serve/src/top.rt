@@ -120,6 +120,10 @@ pub fn without_threads<S: Source, K: Sink, D: Disk>(
         → (Rose (S.faults input.old) (S.faults input.new) → ⊥) → (Rose (K.faults out.old) (K.faults out.new) → ⊥)
         → (OneRose (counts_of D.faults left right) (counts_of D.faults result.left result.right) → ⊥)
         → (result.status ≡ 0) ⊎ (result.status ≡ 7) }
+    ensures told_complete { Ask (map string_bytes words.now) Word.State → (l r : List ℕ) → D.seen left ≡ Some l → D.seen right ≡ Some r
+        → (start : State) → state_on l r ≡ Ok start → (Rose (K.faults out.old) (K.faults out.new) → ⊥)
+        → (OneRose (counts_of D.faults left right) (counts_of D.faults result.left result.right) → ⊥)
+        → (result.status ≡ 0) ⊎ (result.status ≡ 7) }
     ensures generated_complete { (seed count : ℕ) → Ask (map string_bytes words.now) (Word.Gen seed count)
         → (Rose (K.faults out.old) (K.faults out.new) → ⊥) → (result.status ≡ 0) ⊎ (result.status ≡ 7) }
 {

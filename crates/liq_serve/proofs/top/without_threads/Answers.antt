@@ -10,7 +10,7 @@ use Rattle.liq_serve.proofs.Causes.{source_causes, sink_causes, disk_causes}
 use Rattle.liq_serve.proofs.EndingLines.{last_written, no_room}
 use Rattle.liq_serve.proofs.Opened.{untouched}
 use Rattle.liq_serve.proofs.StatusLaws.{complete}
-use Rattle.liq_serve.proofs.Telling.{one_load, unread}
+use Rattle.liq_serve.proofs.Telling.{text_ends, one_load, unread}
 use Rattle.liq_serve.proofs.top.without_threads.Goals as goal
 
 -- ---- `run`
@@ -34,6 +34,14 @@ pub returns-in-Ok-State-clause-told : goal.returns-in-Ok-State-clause-told
 returns-in-Ok-State-clause-told g c asked l r told_l told_r start is =
     let found = c.stand_on-end.ensures.told l r told_l told_r start is in
     (c.stand_on-end.result.end, c.status-status-in-Ok-State.ensures, found.0, found.1)
+
+pub returns-in-Ok-State-clause-told_complete : goal.returns-in-Ok-State-clause-told_complete
+returns-in-Ok-State-clause-told_complete g c asked l r told_l told_r start is sink disk =
+    let told = c.stand_on-end.ensures.told l r told_l told_r start is in
+    subst (λ n. (n ≡ 0) ⊎ (n ≡ 7)) (sym c.status-status-in-Ok-State.ensures)
+    (text_ends _ _ _ _ c.stand_on-end.result.end told.0
+    (λ e. sink ((sink_causes c.stand_on-end.result.end _ _ c.stand_on-end.ensures.sink).0 e))
+    (λ e. disk ((disk_causes c.stand_on-end.result.end _ _ c.stand_on-end.ensures.disks).0 e)))
 
 -- ---- `gen`
 
@@ -79,3 +87,7 @@ returns-in-Err-clause-complete g c asked bytes l r told told_l told_r start is r
 pub returns-in-Err-clause-generated_complete : goal.returns-in-Err-clause-generated_complete
 returns-in-Err-clause-generated_complete g c seed count asked sink =
     inr (c.end_unread-status.ensures.no_memory (unread c.in-Err.fault (Gen seed count) (c.in-Err.ensures.only (Gen seed count) asked))).0
+
+pub returns-in-Err-clause-told_complete : goal.returns-in-Err-clause-told_complete
+returns-in-Err-clause-told_complete g c asked l r told_l told_r start is sink disk =
+    inr (c.end_unread-status.ensures.no_memory (unread c.in-Err.fault State (c.in-Err.ensures.only State asked))).0
