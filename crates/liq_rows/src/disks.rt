@@ -62,6 +62,33 @@ fn a_second_run(rt: HostRuntime) -> Result<(), Fail> {
     Ok(())
 }
 
+// What stands on new disks is the opening; on later ones, what the commands led to. Nothing is read for it.
+#[test]
+fn what_stands(rt: HostRuntime) -> Result<(), Fail> {
+    let alloc = rt.alloc();
+    let ran = run_over(alloc, &["state"], b"", empty(alloc), empty(alloc))?;
+    assert_eq!(rt; ran.ended.status, 0);
+    let opening: &[u8] =
+        b"1000000000 0 0 0 0 0 0 0 0 0\n0 0 0 0 0 0 0 0 0 0\npool 1000000000000000000 0 0 0\njournal 1 0\n";
+    assert_eq!(rt; ran.sink.bytes(), opening);
+    let Ended { left, right, .. } = ran.ended;
+    let ran = run_over(
+        alloc,
+        &["run"],
+        b"1 1 advance 5\n1 2 price 7\n1 2 fund 1 7\n",
+        left,
+        right,
+    )?;
+    assert_eq!(rt; ran.sink.bytes(), b"ok 5\nno 10 7\nok\n".as_slice());
+    let Ended { left, right, .. } = ran.ended;
+    let ran = run_over(alloc, &["state"], b"1 3 fund 1 7\n", left, right)?;
+    assert_eq!(rt; ran.ended.status, 0);
+    let later: &[u8] =
+        b"1000000000 5 0 0 0 0 0 0 0 2\n0 0 0 0 0 0 0 0 0 0\npool 1000000000000000000 0 0 0\njournal 1 2\n";
+    assert_eq!(rt; ran.sink.bytes(), later);
+    Ok(())
+}
+
 // A disk on which the first call fails ends the run before a line is read.
 #[test]
 fn a_disk_fault(rt: HostRuntime) -> Result<(), Fail> {
