@@ -1,6 +1,6 @@
 //! The wallets of all accounts.
 
-ghost use Rattle.std.specs.Prelude.{◌≡◌, ◌≤◌, ◌+◌, [], IsOk, OnOk, OnErr, IsTrue};
+ghost use Rattle.std.specs.Prelude.{◌≡◌, ◌≤◌, ◌+◌, [], true, IsOk, OnOk, OnErr, IsTrue};
 ghost use Rattle.liq_types.specs.Payments.{credited_in, charged_in};
 ghost use Rattle.liq_types.specs.State.{is_used_wallet, wallet_in, with_wallet};
 ghost use Rattle.liq_tables.specs.WithRoom.{HasRoom, KeepsRoom};
@@ -49,9 +49,10 @@ impl Wallets {
         self.table.reserve(account)
     }
 
-    /// What an account has: collateral in gwei, LUSD in micro-LUSD.
+    /// What an account has: collateral in gwei, LUSD in micro-LUSD. Where it has anything there is room for its wallet.
     pub fn read(&self, account: u32) -> Wallet
-        ensures { result ≡ wallet_in self.now.rows account }
+        ensures wallet { result ≡ wallet_in self.now.rows account }
+        ensures room { is_used_wallet result ≡ true → HasRoom self.now account }
     {
         match self.table.get(account) {
             Some(wallet) => *wallet,
@@ -131,7 +132,7 @@ impl Wallets {
             coll: had.coll - coll,
             lusd: had.lusd - lusd,
         };
-        self.put(account, left);
+        self.table.write(account, left);
         Ok(())
     }
 
@@ -149,19 +150,5 @@ impl Wallets {
             lusd: had.lusd + lusd,
         };
         self.table.write(account, sum);
-    }
-
-    /// Writes a wallet that has no more than the account had: one that is used had a row, and so room.
-    fn put(&mut self, account: u32, wallet: Wallet)
-        requires coll { wallet.coll ≤ (wallet_in self.old.rows account).coll }
-        requires lusd { wallet.lusd ≤ (wallet_in self.old.rows account).lusd }
-        ensures written { self.new.rows ≡ with_wallet self.old.rows account wallet }
-        ensures room { self.new.room ≡ self.old.room }
-    {
-        if self.table.get(account).is_some() {
-            self.table.write(account, wallet);
-        } else {
-            self.table.clear(account);
-        }
     }
 }

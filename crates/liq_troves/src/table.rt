@@ -147,14 +147,12 @@ impl Troves {
         ensures had { HasRoom self.old.table account }
         ensures sums { self.new.sums ≡ beside self.old.sums self.new.table.rows }
     {
-        let trove = match self.table.get(account) {
-            Some(trove) => *trove,
+        let trove = match self.table.take(account) {
+            Some(trove) => trove,
             None => unreachable!(),
         };
-        let (count, stakes) = self.others(account);
-        self.count = count;
-        self.sums.stakes = stakes;
-        self.table.clear(account);
+        self.count -= 1;
+        self.sums.stakes -= trove.stake;
         trove
     }
 

@@ -1,6 +1,7 @@
 -- Tables of which only the used rows are seen, and what writing a row does to what is seen.
 use Rattle.std.proofs.Common.{◌≡◌, ℕ, Bool, true, false, cond, [], ◌∷◌, refl, ap, sym, subst, ◌∙◌, Some, None, Option, arith, inl, inr}
-use Rattle.std.specs.Prelude.{unwrap_or, sum_by, ◌+◌}
+use Rattle.std.specs.BTreeMap.{is_at}
+use Rattle.std.specs.Prelude.{unwrap_or, sum_by, ◌+◌, IsSome}
 use Rattle.std.specs.Option.{option_map}
 use Rattle.std.specs.List.{AllByRecursion}
 use Rattle.std.specs.List.Sorted.{IsStrictlySortedBy}
@@ -8,7 +9,7 @@ use Rattle.std.specs.declared.cmp.Ordering.{Ordering}
 use Rattle.std.specs.declared.cmp.Ordering.TheVariants.{Less, Equal, Greater}
 use Rattle.std.specs.Ordering.{nat_cmp, is_eq, match_ordering}
 use Rattle.std.specs.Cmp.{nat_cmp_total, eq_by_cmp_equiv}
-use Rattle.std.specs.Map.{keys_of, values_of}
+use Rattle.std.specs.Map.{keys_of, values_of, set_value}
 use Rattle.std.proofs.lemmas.Map.Keys.{sorted_head, sorted_tail, IsDistinct-from_sorted}
 use Rattle.std.proofs.lemmas.Map.Entries.{option_filter, lookup-filter-values, sum_by-insert_entry}
 use Rattle.std.proofs.lemmas.Map.Lookups.{exact_unsigned}
@@ -77,6 +78,22 @@ module _ {X : Type 0} where
   rows-put test [] key x s = refl
   rows-put test (e ∷ es) key x s =
       rows-put_cons test e es key x (sorted_head nat_cmp e.0 (keys_of es) s) (rows-put test es key x (sorted_tail nat_cmp e.0 (keys_of es) s)) (nat_cmp key e.0) refl
+
+  at_below : (key : ℕ) (table : Table X) → Below key table → at table key ≡ None
+  at_below key [] h = refl
+  at_below key (e ∷ es) h = ap (λ o. cond (is_eq o) (Some e.1) (at es key)) h.0 ∙ at_below key es h.1
+
+  -- to write over the row that is there is to put it
+  put_again : (table : Table X) (key : ℕ) (x : X) → IsStrictlySortedBy nat_cmp (keys_of table) → IsSome (at table key) → set_value (is_at (nat_cmp key)) table x ≡ put table key x
+  put_again [] key x s h = cc
+  put_again (e ∷ es) key x s h = by (sorted_head nat_cmp e.0 (keys_of es) s) (put_again es key x (sorted_tail nat_cmp e.0 (keys_of es) s)) (nat_cmp key e.0) refl h where
+    by : Below e.0 es → (IsSome (at es key) → set_value (is_at (nat_cmp key)) es x ≡ put es key x) → (o : Ordering) → nat_cmp key e.0 ≡ o → IsSome (cond (is_eq o) (Some e.1) (at es key)) → cond (is_eq o) ((e.0, x) ∷ es) (e ∷ set_value (is_at (nat_cmp key)) es x) ≡ match_ordering o ((key, x) ∷ e ∷ es) ((e.0, x) ∷ es) (e ∷ put es key x)
+    by head later Less l i = let none = subst (λ (o : Option X). IsSome o) (at_below key es (below_tail key e.0 es l head)) i in cc
+    by head later Equal q i = refl
+    by head later Greater g i = ap (λ (t : Table X). e ∷ t) (later i)
+
+  pub rows-put_again : (test : X → Bool) (table : Table X) (key : ℕ) (x : X) → IsStrictlySortedBy nat_cmp (keys_of table) → IsSome (at table key) → rows test (set_value (is_at (nat_cmp key)) table x) ≡ written test (rows test table) key x
+  rows-put_again test table key x s h = ap (λ (t : Table X). rows test t) (put_again table key x s h) ∙ rows-put test table key x s
 
   -- a row that is not used is not seen
   pub rows-put_unused : (test : X → Bool) (table : Table X) (key : ℕ) (x : X) → test x ≡ false → at table key ≡ None → rows test (put table key x) ≡ rows test table
