@@ -2,7 +2,8 @@
 
 ghost use Rattle.std.specs.Prelude.{◌≡◌, ◌≤◌, ◌+◌, [], true, IsOk, OnOk, OnErr, IsTrue};
 ghost use Rattle.liq_types.specs.Payments.{credited_in, charged_in};
-ghost use Rattle.liq_types.specs.State.{is_used_wallet, wallet_in, with_wallet};
+ghost use Rattle.liq_types.specs.State.{is_used_wallet, wallet_in};
+ghost use Rattle.liq_types.specs.WellFormed.{Ascends};
 ghost use Rattle.liq_tables.specs.WithRoom.{HasRoom, KeepsRoom};
 ghost use Rattle.liq_ledger.specs.Refusals.{funding, charging, ruled};
 
@@ -53,6 +54,7 @@ impl Wallets {
     pub fn read(&self, account: u32) -> Wallet
         ensures wallet { result ≡ wallet_in self.now.rows account }
         ensures room { is_used_wallet result ≡ true → HasRoom self.now account }
+        ensures ascend { Ascends self.now.rows }
     {
         match self.table.get(account) {
             Some(wallet) => *wallet,
@@ -150,5 +152,23 @@ impl Wallets {
             lusd: had.lusd + lusd,
         };
         self.table.write(account, sum);
+    }
+
+    /// What an owner gives leaves the wallet, and then what the owner gets comes into it. The other wallets stay.
+    pub fn exchange(&mut self, account: u32, given: &Wallet, got: &Wallet)
+        requires room { HasRoom self.old account }
+        requires coll { given.now.coll ≤ (wallet_in self.old.rows account).coll }
+        requires lusd { given.now.lusd ≤ (wallet_in self.old.rows account).lusd }
+        requires coll_limit { (wallet_in (charged_in self.old.rows account given.now.coll given.now.lusd) account).coll + got.now.coll ≤ LIM }
+        requires lusd_limit { (wallet_in (charged_in self.old.rows account given.now.coll given.now.lusd) account).lusd + got.now.lusd ≤ LIM }
+        ensures rows { self.new.rows ≡ credited_in (charged_in self.old.rows account given.now.coll given.now.lusd) account got.now.coll got.now.lusd }
+        ensures room { self.new.room ≡ self.old.room }
+    {
+        let had = self.read(account);
+        let left = Wallet {
+            coll: had.coll - given.coll + got.coll,
+            lusd: had.lusd - given.lusd + got.lusd,
+        };
+        self.table.write(account, left);
     }
 }

@@ -2,6 +2,7 @@
 
 ghost use Rattle.std.specs.Prelude.{◌≡◌, [], true, IsOk, OnOk, OnErr, OnSome, option_copied};
 ghost use Rattle.liq_types.specs.Tables.{at, without};
+ghost use Rattle.liq_types.specs.WellFormed.{Ascends};
 ghost use Rattle.liq_tables.specs.WithRoom.{HasRoom, KeepsRoom, written};
 
 use crate::row::Row;
@@ -44,6 +45,7 @@ impl<X: Row> Reserved<X> {
     pub fn get(&self, key: u32) -> Option<&X>
         ensures row { option_copied result ≡ at self.now.rows key }
         ensures room { OnSome result (HasRoom self.now key) }
+        ensures ascend { Ascends self.now.rows }
     {
         let row = self.map.get(&key)?;
         if row.is_used() { Some(row) } else { None }
