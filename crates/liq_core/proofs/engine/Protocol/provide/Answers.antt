@@ -7,7 +7,9 @@ pub provide-gain-requires-clause-limit : goal.provide-gain-requires-clause-limit
 provide-gain-requires-clause-limit c = (provides_so c.self.inside c.args.self.now c.self.view_is c.self.invariant c.args.account c.args.lusd c.requires.range c.requires.allowed (position_at c.self.inside.pool c.args.account).1 refl).total
 
 pub exchange-requires-clause-coll_limit : goal.exchange-requires-clause-coll_limit
-exchange-requires-clause-coll_limit c = (provides_so c.self.inside c.args.self.now c.self.view_is c.self.invariant c.args.account c.args.lusd c.requires.range c.requires.allowed c.provide-gain.result c.provide-gain.ensures.gain).coll_limit
+exchange-requires-clause-coll_limit c =
+    let may = provides_so c.self.inside c.args.self.now c.self.view_is c.self.invariant c.args.account c.args.lusd c.requires.range c.requires.allowed c.provide-gain.result c.provide-gain.ensures.gain in
+    omega (arith, may.coll_limit)
 
 pub exchange-requires-clause-lusd_limit : goal.exchange-requires-clause-lusd_limit
 exchange-requires-clause-lusd_limit c =
