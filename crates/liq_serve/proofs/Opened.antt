@@ -23,11 +23,12 @@ use Rattle.liq_store.specs.declared.answers.StoreWhy.{StoreWhy}
 use Rattle.liq_store.specs.declared.answers.StoreWhy.TheVariants as why
 use Rattle.liq_store.specs.Keeping.{IsInOrder, IsInOrderWith, IsKeptAround}
 use Rattle.liq_store.specs.Memory.{IsAccepted}
+use Rattle.liq_store.specs.Opening.{IsNotOpened}
 use Rattle.liq_store.specs.Stored.{Stored}
 use Rattle.liq_serve.specs.declared.halts.Halt.{Halt}
 use Rattle.liq_serve.specs.declared.halts.Halt.TheVariants.{BadLine, ReadFault, WriteFault, DiskFault, NoMemory, Limit}
 use Rattle.liq_serve.specs.declared.halts.Halt.TheVariants as halts
-use Rattle.liq_serve.specs.Disks.{IsFurther, IsNext, DisksHold, DisksStand, EndsDamaged, IsNotOpened, IsStopped, KeepsAround, halt_of}
+use Rattle.liq_serve.specs.Disks.{IsFurther, IsNext, DisksHold, DisksStand, EndsDamaged, IsStopped, KeepsAround, halt_of}
 use Rattle.liq_serve.specs.Progress.{Ends, HaltsAt}
 use Rattle.liq_serve.specs.Stops.{EndsIn, none_yet}
 
@@ -133,7 +134,7 @@ module _ {D : Type 0} (seen : D → Option (List ℕ)) (faults : D → ℕ) wher
     left_by store (Err WriteFault) bytes l r start requests stopped order stands halted = settled store (run start requests).0 stopped order stands
     left_by store (Err (halts.Damaged side number)) bytes l r start requests stopped order stands halted = settled store (run start requests).0 stopped order stands
     left_by store (Err NoMemory) bytes l r start requests stopped order stands halted = settled store (run start requests).0 stopped order stands
-    left_by store (Err Limit) bytes l r start requests stopped order stands halted = settled store (run start requests).0 stopped order stands
+    left_by store (Err (Limit number)) bytes l r start requests stopped order stands halted = settled store (run start requests).0 stopped order stands
 
 -- a run is at its end, and this holds beside
 pub ends_with : (start : State) (end : Result (Unit {0}) Halt) (bytes : List ℕ) (unread before now : Option (List ℕ)) (P Q : List Request → Type 0) → EndsIn none_yet start end bytes unread ⊥ before now P → ((requests : List Request) → P requests → Q requests) → EndsIn none_yet start end bytes unread ⊥ before now Q

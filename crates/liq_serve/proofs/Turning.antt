@@ -70,7 +70,7 @@ answered_cut start kept ReadFault bytes m core u left w w' before now now' few a
 answered_cut start kept NoMemory bytes m core u left w w' before now now' few a f = absurd f
 answered_cut start kept DiskFault bytes m core u left w w' before now now' few a f = absurd f
 answered_cut start kept (Damaged side number) bytes m core u left w w' before now now' few a f = absurd f
-answered_cut start kept Limit bytes m core u left w w' before now now' few a f = absurd f
+answered_cut start kept (Limit number) bytes m core u left w w' before now now' few a f = absurd f
 answered_cut start kept WriteFault bytes m core u left w w' before now now' few a f =
     cut_comes start core kept bytes a.requests left w w' (lines_in a.rest) before now now' (omega (arith, few, a.count)) (begins_with start bytes m core u w before now a) a.written a.stands f
 
@@ -124,7 +124,7 @@ reading_halts start kept WriteFault bytes taken n core u left w before now few r
 reading_halts start kept NoMemory bytes taken n core u left w before now few r a = absurd r
 reading_halts start kept DiskFault bytes taken n core u left w before now few r a = absurd r
 reading_halts start kept (Damaged side number) bytes taken n core u left w before now few r a = absurd r
-reading_halts start kept Limit bytes taken n core u left w before now few r a = absurd r
+reading_halts start kept (Limit number) bytes taken n core u left w before now few r a = absurd r
 
 -- ---- the input is over
 
@@ -255,7 +255,7 @@ last_answered start kept bytes line taken r n core core' u left w w' before now 
 pub answering_halts : (start : State) (kept : State → Request → Type 0) (halt : Halt) (bytes line : List ℕ) (more : List (List ℕ)) (r : Request) (n : ℕ) (core core' : Core) (u left : Option (List ℕ)) (w w' : List ℕ) (before now now' : Option (List ℕ)) → n < LINES_MOST → IsRequest line r → (a : Answered start bytes n core u w before now) → lines_in a.rest ≡ line ∷ more → Answers (run start a.requests).0 r (Err halt) core' w w' now now' → (halt ≡ DiskFault → kept (run start a.requests).0 r) → Comes start (Err halt) core' kept bytes left w' before now'
 answering_halts start kept (BadLine at) bytes line more r n core core' u left w w' before now now' few is a first failed kept_so = absurd failed
 answering_halts start kept ReadFault bytes line more r n core core' u left w w' before now now' few is a first failed kept_so = absurd failed
-answering_halts start kept Limit bytes line more r n core core' u left w w' before now now' few is a first failed kept_so = absurd failed
+answering_halts start kept (Limit number) bytes line more r n core core' u left w w' before now now' few is a first failed kept_so = absurd failed
 answering_halts start kept (Damaged side number) bytes line more r n core core' u left w w' before now now' few is a first failed kept_so = absurd failed
 answering_halts start kept DiskFault bytes line more r n core core' u left w w' before now now' few is a first failed kept_so =
     record {
@@ -318,7 +318,7 @@ opened start bytes reader waiting core left before stands fresh none told =
       };
     }
 
-pub limit_halts : (start : State) (kept : State → Request → Type 0) (bytes : List ℕ) (n byte : ℕ) (core : Core) (u u' left : Option (List ℕ)) (w : List ℕ) (before now : Option (List ℕ)) → n ≡ LINES_MOST → Reads u (byte ∷ []) u' → Answered start bytes n core u w before now → Comes start (Err Limit) core kept bytes left w before now
+pub limit_halts : (start : State) (kept : State → Request → Type 0) (bytes : List ℕ) (n byte : ℕ) (core : Core) (u u' left : Option (List ℕ)) (w : List ℕ) (before now : Option (List ℕ)) → n ≡ LINES_MOST → Reads u (byte ∷ []) u' → Answered start bytes n core u w before now → Comes start (Err (Limit LINES_MOST)) core kept bytes left w before now
 limit_halts start kept bytes n byte core u None left w before now full reads a = absurd (cc (reads, a.unread_is))
 limit_halts start kept bytes n byte core u (Some rest) left w before now full reads a =
     let got = told_reads a.rest (byte ∷ []) rest (subst (λ (v : Option (List ℕ)). Reads v (byte ∷ []) (Some rest)) a.unread_is reads) in
@@ -327,7 +327,7 @@ limit_halts start kept bytes n byte core u (Some rest) left w before now full re
     record {
       requests = a.requests;
       few = omega (arith, full, a.count);
-      read = (a.count ∙ full, (first.0, (first.1, (a.front, a.spelled, whole))));
+      read = (refl, a.count ∙ full, (first.0, (first.1, (a.front, a.spelled, whole))));
       more = lines_in a.rest;
       begins = begins_with start bytes n core u w before now a;
       written = a.written;

@@ -1,5 +1,5 @@
 -- What a run leaves on the disks.
-use Rattle.std.specs.Prelude.{ℕ, ◌≡◌, ◌≢◌, ◌⊎◌, ◌∷◌, [], List, Option, Some, None, Result, Ok, Err}
+use Rattle.std.specs.Prelude.{ℕ, ◌≡◌, ◌⊎◌, ◌∷◌, [], List, Option, Some, None, Result, Ok, Err}
 use Rattle.liq_types.specs.declared.replies.Reply.{Reply}
 use Rattle.liq_types.specs.declared.requests.Command.{Command}
 use Rattle.liq_types.specs.declared.requests.Request.{Request}
@@ -11,16 +11,11 @@ use Rattle.liq_journal.specs.declared.damage.Damage.{Damage}
 use Rattle.liq_pairs.specs.declared.side.Side.{Side}
 use Rattle.liq_pairs.specs.Kept.{IsKept}
 use Rattle.liq_pairs.specs.Pair.{StandFor, state_on}
-use Rattle.liq_pairs.specs.Unfinished.{HoldsUnfinished, IsRecovered}
-use Rattle.liq_store.specs.declared.answers.StoreFault.{StoreFault}
+use Rattle.liq_pairs.specs.Unfinished.{HoldsUnfinished}
 use Rattle.liq_store.specs.declared.answers.StoreWhy.{StoreWhy}
 use Rattle.liq_store.specs.declared.answers.StoreWhy.TheVariants as why
-use Rattle.liq_store.specs.Causes.{CausesWhy}
 use Rattle.liq_store.specs.Keeping.{IsKeptAround}
 use Rattle.liq_store.specs.Memory.{IsAccepted, TakesMemory}
-use Rattle.liq_store.specs.Opening.{IsWhyOf}
-use Rattle.liq_store.specs.Stored.{Stored}
-use Rattle.liq_serve.specs.Causes.{counts_of}
 use Rattle.liq_serve.specs.declared.halts.Halt.{Halt}
 use Rattle.liq_serve.specs.declared.halts.Halt.TheVariants.{DiskFault, Damaged, NoMemory}
 use Rattle.liq_serve.specs.Requests.{BeginsWith, IsRequest}
@@ -57,26 +52,6 @@ module _ {D : Type 0} (seen : D → Option (List ℕ)) where
 -- the next line is that of this request
 abbrev pub IsNext : List ℕ → List Request → Request → Type 0
 IsNext bytes requests request = (line : List ℕ) × (more : List (List ℕ)) × IsRequest line request × BeginsWith bytes requests (line ∷ more)
-
--- ---- a store is opened, or not
-
--- the state for which the disks stand is the store's, nothing met a fault, and the store goes on
-pub record OpensOn {D : Type 0} (seen : D → Option (List ℕ)) (faults : D → ℕ) (left right : D) (store : Stored D) : Type 0 where
-  pub state : (l r : List ℕ) → seen left ≡ Some l → seen right ≡ Some r → (s : State) × (state_on l r ≡ Ok s) × StandsFor store.core s
-  pub going : store.stopped ≡ None
-  pub counts : counts_of faults store.left store.right ≡ counts_of faults left right
-
--- Why it was not: a damage is the first of the disks. But for a disk's fault they stand for what they stood for; after one they
--- are kept for that, or for it after the command that they held unfinished.
-pub record IsNotOpened {D : Type 0} (seen : D → Option (List ℕ)) (faults : D → ℕ) (left right : D) (fault : StoreFault D) : Type 0 where
-  pub cause : CausesWhy fault.why (counts_of faults left right) (counts_of faults fault.left fault.right)
-  pub is_why : (l r : List ℕ) → seen left ≡ Some l → seen right ≡ Some r → IsWhyOf l r fault.why
-  pub stays :
-      (fault.why ≢ why.DiskFault) → (l r a b : List ℕ) → seen left ≡ Some l → seen right ≡ Some r → seen fault.left ≡ Some a → seen fault.right ≡ Some b
-      → state_on a b ≡ state_on l r
-  pub reads :
-      (l r a b : List ℕ) (s : State) → seen left ≡ Some l → seen right ≡ Some r → IsKept l r s → seen fault.left ≡ Some a → seen fault.right ≡ Some b
-      → IsRecovered l r s a b
 
 -- ---- the disks at a run's end
 

@@ -1,3 +1,4 @@
+pub mod Audit
 pub mod Causes
 pub mod Disks
 pub mod Load
@@ -7,4 +8,5 @@ pub mod Requests
 pub mod State
 pub mod Statuses
 pub mod Stops
+pub mod Telling
 pub mod Writing

@@ -11,4 +11,4 @@ status_of (Err WriteFault) = 4
 status_of (Err DiskFault) = 5
 status_of (Err (Damaged side number)) = 6
 status_of (Err NoMemory) = 7
-status_of (Err Limit) = 8
+status_of (Err (Limit number)) = 8

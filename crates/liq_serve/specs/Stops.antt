@@ -58,8 +58,8 @@ EndsAfter start (Err (Damaged side number)) bytes left requests = ⊥
 EndsAfter start (Err NoMemory) bytes left requests =
     (more : List (List ℕ)) × BeginsWith bytes requests more × ((requests ≡ []) ⊎ BeginsWithTaker (run start requests).0 more)
 -- as many lines as one run answers, and a further one begins
-EndsAfter start (Err Limit) bytes left requests =
-    (length requests ≡ LINES_MOST) × ((line : List ℕ) × ((more : List (List ℕ)) × BeginsWith bytes requests (line ∷ more)))
+EndsAfter start (Err (Limit number)) bytes left requests =
+    (number ≡ LINES_MOST) × (length requests ≡ LINES_MOST) × ((line : List ℕ) × ((more : List (List ℕ)) × BeginsWith bytes requests (line ∷ more)))
 
 -- Behind what was said the line was written, or a front of it where the sink met a fault.
 abbrev pub Adds : List ℕ → List ℕ → Type 0 → Option (List ℕ) → Option (List ℕ) → Type 0

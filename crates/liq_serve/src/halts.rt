@@ -22,8 +22,8 @@ pub enum Halt {
     Damaged(Side, u64),
     /// There was no memory.
     NoMemory,
-    /// There are more lines than one run answers.
-    Limit,
+    /// This number of lines is all that one run answers, and there are more; or a number above a limit of the audit.
+    Limit(u64),
 }
 
 impl From<NoMemory> for Halt {

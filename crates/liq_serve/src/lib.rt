@@ -1,12 +1,14 @@
 //! The top call: from the bytes that come in to the bytes that go out.
 #![tactic(auto)]
 
+mod audit;
 mod calls;
 mod ending;
 mod halts;
 mod load;
 mod run;
 mod state;
+mod texts;
 mod top;
 mod waiting;
 
