@@ -180,6 +180,13 @@ impl<D: Disk> Store<D> {
         self.stopped
     }
 
+    /// The side of the disk that is taken, on which the journal goes on.
+    pub fn side(&self) -> Side
+        ensures { result ≡ self.now.side }
+    {
+        self.side
+    }
+
     /// The protocol, whose state the disks keep.
     pub fn protocol(&self) -> &Protocol
         ensures { result.now ≡ self.now.core }
