@@ -1,5 +1,6 @@
 // The protocol over two disks.
 ghost use Rattle.std.specs.Prelude.{◌≡◌, ◌↔◌, ◌+◌, min, Some, None, Ok, Err, List, ℕ, false, length, take, IfOk, IfErr, IfSome, IsSome, IsTrue, true};
+ghost use Rattle.std.specs.List.{All};
 ghost use Rattle.liq_outside.specs.Disk.{GoesOn, LeavesOnly, LeftNow, Only};
 ghost use Rattle.liq_outside.specs.Faults.{count_most};
 ghost use Rattle.liq_types.specs.declared.requests.Command.{Command};
@@ -201,6 +202,8 @@ impl<D: Disk> Store<D> {
         ensures commands { IfOk result (λ list. (held : List ℕ) (w : Written) → D.seen (taken_disk self.old) ≡ Some held → found_on (has_odd self.old.side) held ≡ Open w → list.items ≡ take self.old.core.records w.commands) }
         ensures all { self.old.stopped ≡ None → IfOk result (λ list. (held : List ℕ) (w : Written) → D.seen (taken_disk self.old) ≡ Some held → found_on (has_odd self.old.side) held ≡ Open w → list.items ≡ w.commands) }
         ensures count { IfOk result (λ list. length list.items ≡ self.old.core.records) }
+        // No record holds a rotation.
+        ensures built { IfOk result (λ list. All (λ (c : Command). IsTrue (built (Do c))) list.items) }
         ensures damaged { IfErr result (IsUnreadable self.old.core.image.generation self.old.core.records) }
         ensures readable { IsSome (D.seen (taken_disk self.old)) → IfErr result IsReadable }
         ensures looked { Looked D.seen D.moment D.left_at (taken_disk self.old) (taken_disk self.new) }
