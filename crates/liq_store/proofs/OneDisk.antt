@@ -1,16 +1,13 @@
 -- What one disk is found to be, by its opening and its replay.
-use Rattle.std.proofs.Common.{◌≡◌, ◌∙◌, ◌↔◌, ℕ, ◌+◌, List, length, Option, Some, None, IfSome, IsSome, Bool, true, false, ◌&&◌, ◌==◌, Result, Ok, Err, refl, sym, ap, subst, rules, arith}
+use Rattle.std.proofs.Common.{◌≡◌, ◌∙◌, ◌↔◌, ℕ, List, length, Option, Some, None, IfSome, IsSome, Bool, true, false, Result, Ok, Err, refl, sym, ap, subst, rules, arith}
 use Rattle.std.proofs.lemmas.Bool.Decides.{nat_tests}
-use Rattle.liq_types.specs.State.{State, opening}
-use Rattle.liq_core.specs.Core.{Core, StandsFor}
+use Rattle.liq_types.specs.State.{opening}
+use Rattle.liq_core.specs.Core.{Core}
 use Rattle.liq_journal.specs.Bodies.{IsJournalOf}
 use Rattle.liq_journal.specs.Crash.{Stands, is_odd}
-use Rattle.liq_journal.specs.Opened.{IsOpened, IsWhyOf}
+use Rattle.liq_journal.specs.Opened.{IsOpened}
 use Rattle.liq_journal.specs.Settled.{JournalOn}
 use Rattle.liq_journal.specs.Written.{Open, Written, found_on, is_generation}
-use Rattle.liq_journal.specs.declared.answers.OpenWhy.{OpenWhy}
-use Rattle.liq_pairs.specs.Pair.{Faulty, standing}
-use Rattle.liq_pairs.specs.Replay.{outcome}
 use Rattle.liq_pairs.proofs.Standings.{standing_faulty}
 use Rattle.liq_store.specs.declared.replay.ReplayFault.{ReplayFault}
 use Rattle.liq_store.specs.declared.replay.ReplayFault.TheVariants.{DiskFault, Damaged, NoMemory}

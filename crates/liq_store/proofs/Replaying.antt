@@ -1,5 +1,5 @@
 -- How a replay goes on from record to record.
-use Rattle.std.proofs.Common.{◌≡◌, ℕ, suc, ◌+◌, ◌-◌, ◌<◌, ◌≤◌, List, [], ◌∷◌, length, drop, slice_get, slice_index_or, Some, Result, Ok, Err, sym, ◌∙◌, ap, subst, arith, refl}
+use Rattle.std.proofs.Common.{◌≡◌, ℕ, ◌+◌, ◌-◌, ◌<◌, ◌≤◌, List, [], ◌∷◌, length, drop, slice_get, slice_index_or, Some, Ok, Err, sym, ◌∙◌, ap, subst, arith, refl}
 use Rattle.std.proofs.lemmas.List.{drop_more, drop_all}
 use Rattle.std.proofs.lemmas.Option.{slice_get-get_or}
 use Rattle.liq_types.specs.declared.requests.Command.{Command}
@@ -9,7 +9,6 @@ use Rattle.liq_core.specs.Core.{Core, StandsFor}
 use Rattle.liq_core.specs.Step.{Allowed, ruling, after}
 use Rattle.liq_journal.specs.Bodies.{IsAccepted, IsJournalOf}
 use Rattle.liq_journal.specs.Written.{Written}
-use Rattle.liq_journal.specs.declared.answers.LookFault.{LookFault}
 use Rattle.liq_journal.specs.declared.answers.LookFault.TheVariants as look
 use Rattle.liq_journal.specs.declared.damage.Damage.{Damage}
 use Rattle.liq_pairs.specs.Replay.{replay, replayed}

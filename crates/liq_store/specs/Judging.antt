@@ -1,6 +1,5 @@
 -- Which of two disks' faults is told.
 use Rattle.std.specs.Prelude.{◌≡◌, ◌⊎◌, Result, Ok, Err}
-use Rattle.liq_core.specs.Core.{Core}
 use Rattle.liq_journal.specs.declared.damage.Damage.{Damage}
 use Rattle.liq_pairs.specs.declared.side.Side.{Side}
 use Rattle.liq_pairs.specs.declared.side.Side.TheVariants.{Left, Right}

@@ -1,8 +1,7 @@
 -- What one disk is found to be, and what is left of it.
-use Rattle.std.specs.Prelude.{◌≡◌, ℕ, List, length, Bool, true, Result, Ok, Err}
+use Rattle.std.specs.Prelude.{◌≡◌, ℕ, List, Bool, true, Result, Ok, Err}
 use Rattle.liq_types.specs.State.{State}
 use Rattle.liq_core.specs.Core.{Core, StandsFor}
-use Rattle.liq_journal.specs.Causes.{Counted}
 use Rattle.liq_journal.specs.Opened.{IsUnshut}
 use Rattle.liq_journal.specs.Settled.{IsSettled, JournalOn}
 use Rattle.liq_journal.specs.Written.{Absent, Open, Written, found_on, is_generation}

@@ -1,12 +1,7 @@
-use Rattle.std.proofs.Common.{◌≡◌, ℕ, ◌-◌, List, ◌≤◌, length, slice_get, Some, Result, Ok, Err, MatchResult, subst, sym, arith}
+use Rattle.std.proofs.Common.{◌-◌, ◌≤◌, length, Ok, subst, arith}
 use Rattle.std.proofs.lemmas.Option.{slice_get_within}
 use Rattle.liq_types.specs.declared.requests.Command.{Command}
-use Rattle.liq_types.specs.State.{State}
-use Rattle.liq_core.specs.Core.{Core}
-use Rattle.liq_journal.specs.Bodies.{IsJournalOf}
 use Rattle.liq_journal.specs.declared.damage.What.TheVariants as what
-use Rattle.liq_journal.specs.Written.{Written}
-use Rattle.liq_store.specs.declared.replay.ReplayFault.{ReplayFault}
 use Rattle.liq_store.specs.Replays.{IsOutcome, IsDamageBy}
 use Rattle.liq_store.proofs.Replaying.{the_command, none_damaged}
 use Rattle.liq_store.proofs.replay.redo_record.Goals as goal

@@ -1,5 +1,4 @@
-use Rattle.std.proofs.Common.{◌≡◌, ◌∙◌, ℕ, Option, Some, None, sym, ap, subst, arith}
-use Rattle.liq_types.specs.declared.requests.Request.TheVariants.{Do}
+use Rattle.std.proofs.Common.{◌∙◌, ℕ, Option, Some, sym, ap, subst, arith}
 use Rattle.liq_store.specs.Within.{stored}
 use Rattle.liq_types.specs.Image.{Image}
 use Rattle.liq_core.specs.Core.{state_of}
