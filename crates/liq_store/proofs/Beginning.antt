@@ -1,5 +1,5 @@
 -- The store that begins on two disks.
-use Rattle.std.proofs.Common.{◌≡◌, inl, ◌↔◌, ℕ, List, [], Option, Some, None, IfSome, IsSome, Bool, true, false, Ok, refl, sym, ◌∙◌, ap, ap₂, subst}
+use Rattle.std.proofs.Common.{◌+◌, length, ◌≡◌, inl, ◌↔◌, ℕ, List, [], Option, Some, None, IfSome, IsSome, Bool, true, false, Ok, refl, sym, ◌∙◌, ap, ap₂, subst}
 use Rattle.liq_types.specs.Image.{Image}
 use Rattle.liq_types.specs.State.{State, opening}
 use Rattle.liq_core.specs.Core.{Core, StandsFor}
@@ -42,13 +42,17 @@ within_of seen moment left_at side taken b core going parity counts settled = re
   settled = λ none. settled;
 }
 
--- what is found on it stands there, with a 0 behind it
-stood : (odd : Bool) (held : List ℕ) (generation start count : ℕ) (core : Core) → is_odd generation ≡ odd → IsSettled generation start count held → (holds : IsHeldOn odd held generation core) → Stands odd held holds.written
-stood odd held generation start count core parity is holds =
+-- what is found on it is what it is known to hold
+one_journal : (odd : Bool) (held : List ℕ) (generation start count : ℕ) (core : Core) → is_odd generation ≡ odd → (is : IsSettled generation start count held) → (holds : IsHeldOn odd held generation core) → is.written ≡ holds.written
+one_journal odd held generation start count core parity is holds =
     let found : found_on odd held ≡ Open is.written = subst (λ (o : Bool). found_on o held ≡ Open is.written) parity is.stands.found in
     let both : Open is.written ≡ Open holds.written = sym found ∙ holds.found in
-    let one : is.written ≡ holds.written = cc (both) in
-    subst (λ (o : Bool). Stands o held holds.written) parity (subst (λ (w : Written). Stands (is_odd generation) held w) one is.stands)
+    cc (both)
+
+-- it stands there, with a 0 behind it
+stood : (odd : Bool) (held : List ℕ) (generation start count : ℕ) (core : Core) → is_odd generation ≡ odd → IsSettled generation start count held → (holds : IsHeldOn odd held generation core) → Stands odd held holds.written
+stood odd held generation start count core parity is holds =
+    subst (λ (o : Bool). Stands o held holds.written) parity (subst (λ (w : Written). Stands (is_odd generation) held w) (one_journal odd held generation start count core parity is holds) is.stands)
 
 module _ {D : Type 0} (seen : D → Option (List ℕ)) (moment : D → ℕ) (left_at : D → ℕ → List ℕ → Type 0) where
   told_on : (odd : Bool) (stood : Stood D) → IsStoodOn seen moment left_at odd stood → (now : List ℕ) → seen (disk_of stood) ≡ Some now → IsStanding odd now stood
@@ -98,6 +102,7 @@ module _ {D : Type 0} (seen : D → Option (List ℕ)) (moment : D → ℕ) (lef
           record {
             written = here.1.written;
             found = ap (found_on true) (some_same now l (seen taken.disk) tn tl) ∙ here.1.found;
+            begins = ap (λ (w : Written). 57 + length w.checkpoint) (sym (one_journal true l taken.generation taken.start taken.count core parity here.0 here.1)) ∙ here.0.start_is;
             are = sym (commands_by l r (Open here.1.written) Absent here.1.found (closed_absent false r closed));
           };
       going = refl;
@@ -148,17 +153,18 @@ module _ {D : Type 0} (seen : D → Option (List ℕ)) (moment : D → ℕ) (lef
   shut_so disk held told shut = closed_where held (subst (λ (o : Option (List ℕ)). IfSome o (λ now. IsUnshut now → ⊥)) told shut)
 
   -- the store that goes on with it
-  pub anew_opened : (faults : D → ℕ) (old b : D) (taken : JournalOn D) (core : Core) → StandsFor core opening → faults taken.disk ≡ faults old
+  pub anew_opened : (faults : D → ℕ) (old b : D) (taken : JournalOn D) (core : Core) → StandsFor core opening → faults taken.disk ≡ faults old → taken.start ≡ 57 + 0
       → ((held : List ℕ) → seen old ≡ Some held → (now : List ℕ) × (seen taken.disk ≡ Some now) × Stands true now (beginning 1 []))
       → IfSome (seen old) (λ now. IsUnshut now → ⊥) → IfSome (seen b) (λ now. IsUnshut now → ⊥)
       → OpensOn seen faults old b (stored Left taken b core None)
-  anew_opened faults old b taken core stands count created shut shut_beside = record {
+  anew_opened faults old b taken core stands count start created shut shut_beside = record {
     state = λ l r tl tr. none_for l r core (shut_so old l tl shut) (shut_so b r tr shut_beside) stands;
     commands = λ l r now tl tr tn.
         let made = created l tl in
         record {
           written = beginning 1 [];
           found = ap (found_on true) (some_same now made.0 (seen taken.disk) tn made.1) ∙ made.2.found;
+          begins = sym start;
           are = sym (commands_by l r Absent Absent (closed_absent true l (shut_so old l tl shut)) (closed_absent false r (shut_so b r tr shut_beside)));
         };
     going = refl;

@@ -21,15 +21,15 @@ use Rattle.liq_pairs.proofs.Standings.{standing_absent, standing_open, state_ali
 use Rattle.liq_store.specs.declared.answers.StoreFault.{StoreFault}
 use Rattle.liq_store.specs.declared.answers.StoreWhy.{StoreWhy}
 use Rattle.liq_store.specs.declared.answers.StoreWhy.TheVariants as why
-use Rattle.liq_store.specs.declared.replay.ReplayFault.{ReplayFault}
-use Rattle.liq_store.specs.declared.replay.ReplayFault.TheVariants as fault
+use Rattle.liq_store.specs.declared.answers.AcceptedFault.{AcceptedFault}
+use Rattle.liq_store.specs.declared.answers.AcceptedFault.TheVariants as fault
 use Rattle.liq_store.specs.declared.standing.StandFault.{StandFault}
 use Rattle.liq_store.specs.declared.standing.Stood.{Stood}
 use Rattle.liq_store.specs.declared.standing.Stood.TheVariants.{Nothing, Holding}
 use Rattle.liq_store.specs.Beginning.{BeginsLeft, Creates, IsStanding, IsStoodOn}
 use Rattle.liq_store.specs.Causes.{CausesWhy, Faults, OneRose, counts_of}
 use Rattle.liq_store.specs.Judging.{IsDamagedBy, IsFine, IsJudged, MetFault, disk_of}
-use Rattle.liq_store.specs.Replays.{CountsFault}
+use Rattle.liq_store.specs.Reading.{CountsFault}
 use Rattle.liq_store.specs.Keeping.{IsAtRest}
 use Rattle.liq_store.specs.Opening.{IsNotOpened, IsWhyOf, OpensOn, left_after, right_after}
 use Rattle.liq_store.specs.Standing.{CountsStand, IsCounted, IsFaultless, IsFoundOn, IsLeftOn, IsWhyOn, disk_in}
@@ -194,6 +194,7 @@ module _ {D : Type 0} (seen : D → Option (List ℕ)) (moment : D → ℕ) (lef
               record {
                 written = holds.written;
                 found = holds.found;
+                begins = holds.begins;
                 are = holds.are ∙ commands_alike l r m.0 n.0 (sl.same tt l m.0 tl m.1) (sr.same tt r n.0 tr n.1);
               };
           going = is.going;
@@ -231,7 +232,7 @@ judged_faultless lr rr why.NoMemory judged other = judged
 
 damaged_so : {D : Type 0} (odd : Bool) (held : List ℕ) (damage : Damage) (result : Result (Stood D) (StandFault D)) → IsDamagedBy damage result → IsFoundOn odd held result → standing odd held ≡ Faulty damage
 damaged_so odd held damage (Ok stood) is found = absurd is
-damaged_so odd held damage (Err met) is found = subst (λ (y : ReplayFault). IsWhyOn odd held y) is found
+damaged_so odd held damage (Err met) is found = subst (λ (y : AcceptedFault). IsWhyOn odd held y) is found
 
 fine_so : {D : Type 0} (l r : List ℕ) (damage : Damage) (lr : Result (Stood D) (StandFault D)) → IsFine lr → IsFoundOn true l lr → standing false r ≡ Faulty damage → state_on l r ≡ Err (Right, damage)
 fine_so l r damage (Ok (Nothing disk)) fine found is = right_faulty l r damage (standing_absent true l found) is
@@ -250,7 +251,7 @@ no_fewer : {D : Type 0} (result : Result (Stood D) (StandFault D)) (before after
 no_fewer (Ok stood) before after counts = omega (arith, counts)
 no_fewer (Err met) before after counts = by met.why counts
   where
-    by : (y : ReplayFault) → CountsFault y before after → before ≤ after
+    by : (y : AcceptedFault) → CountsFault y before after → before ≤ after
     by fault.DiskFault c = c.later
     by (fault.Damaged damage) c = omega (arith, c)
     by fault.NoMemory c = omega (arith, c)
@@ -258,14 +259,14 @@ no_fewer (Err met) before after counts = by met.why counts
 rose_there : {D : Type 0} (result : Result (Stood D) (StandFault D)) (before after : ℕ) → MetFault result → CountsStand result before after → Rose before after
 rose_there (Ok stood) before after met counts = absurd met
 rose_there (Err e) before after met counts =
-    let counted : Counted before after = subst (λ (y : ReplayFault). CountsFault y before after) met counts in
+    let counted : Counted before after = subst (λ (y : AcceptedFault). CountsFault y before after) met counts in
     counted.rose
 
 still_there : {D : Type 0} (result : Result (Stood D) (StandFault D)) (before after : ℕ) → IsFaultless result → CountsStand result before after → after ≡ before
 still_there (Ok stood) before after faultless counts = counts
 still_there (Err e) before after faultless counts = by e.why faultless counts
   where
-    by : (y : ReplayFault) → (y ≡ fault.DiskFault → ⊥) → CountsFault y before after → after ≡ before
+    by : (y : AcceptedFault) → (y ≡ fault.DiskFault → ⊥) → CountsFault y before after → after ≡ before
     by fault.DiskFault f c = absurd (f refl)
     by (fault.Damaged damage) f c = c
     by fault.NoMemory f c = c

@@ -1,5 +1,5 @@
 -- What an opening finds, and what it leaves.
-use Rattle.std.specs.Prelude.{◌≡◌, ◌≢◌, ℕ, List, Option, Some, None, Result, Ok, Err, Bool}
+use Rattle.std.specs.Prelude.{◌≡◌, ◌≢◌, ℕ, ◌+◌, List, length, Option, Some, None, Result, Ok, Err, Bool}
 use Rattle.liq_types.specs.declared.requests.Command.{Command}
 use Rattle.liq_types.specs.State.{State}
 use Rattle.liq_core.specs.Core.{StandsFor}
@@ -23,17 +23,18 @@ abbrev pub right_after : {D : Type 0} → Result (Stored D) (StoreFault D) → D
 right_after (Ok store) = store.right
 right_after (Err fault) = fault.right
 
--- a journal is open on the disk, and has these commands
-pub record HoldsCommands (odd : Bool) (bytes : List ℕ) (commands : List Command) : Type 0 where
+-- A journal is open on the disk, whose records begin at this place, and has these commands.
+pub record HoldsCommands (odd : Bool) (bytes : List ℕ) (start : ℕ) (commands : List Command) : Type 0 where
   pub written : Written
   pub found : found_on odd bytes ≡ Open written
+  pub begins : 57 + length written.checkpoint ≡ start
   pub are : written.commands ≡ commands
 
 -- The state for which the disks stand is the store's, and the disk that is taken holds the commands that lead there. Nothing met a
 -- fault, and the store goes on. The disks stand for what they stood for.
 pub record OpensOn {D : Type 0} (seen : D → Option (List ℕ)) (faults : D → ℕ) (left right : D) (store : Stored D) : Type 0 where
   pub state : (l r : List ℕ) → seen left ≡ Some l → seen right ≡ Some r → (s : State) × (state_on l r ≡ Ok s) × StandsFor store.core s
-  pub commands : (l r now : List ℕ) → seen left ≡ Some l → seen right ≡ Some r → seen (taken_disk store) ≡ Some now → HoldsCommands (has_odd store.side) now (commands_on l r)
+  pub commands : (l r now : List ℕ) → seen left ≡ Some l → seen right ≡ Some r → seen (taken_disk store) ≡ Some now → HoldsCommands (has_odd store.side) now store.start (commands_on l r)
   pub going : store.stopped ≡ None
   pub counts : counts_of faults store.left store.right ≡ counts_of faults left right
   pub stays : (l r a b : List ℕ) → seen left ≡ Some l → seen right ≡ Some r → seen store.left ≡ Some a → seen store.right ≡ Some b → state_on a b ≡ state_on l r

@@ -30,7 +30,7 @@ ghost use Rattle.liq_store.specs.Stored.{disk_beside, taken_disk};
 ghost use Rattle.liq_store.specs.Within.{IsWithin, stored};
 
 use crate::answers::{AcceptedFault, StoreFault, StoreWhy};
-use crate::judging::judge;
+use crate::judging::{judge, later_side};
 use crate::preparing::{Prepared, make, prepare};
 use crate::reading::read_commands;
 use crate::standing::{Stood, stand};
@@ -51,8 +51,8 @@ fn sum_of_faults<D: Disk>(taken: &Journal<D>, beside: &D) -> u64
     taken.faults().saturating_add(beside.faults())
 }
 
-/// The protocol over two disks. A contract sees the disks, the side on which the journal goes on, the protocol, and, once a call met a
-/// disk's fault, the sum of both counts of faults then.
+/// The protocol over two disks. A contract sees the disks, the side on which the journal goes on and where its records begin, the
+/// protocol, and, once a call met a disk's fault, the sum of both counts of faults then.
 #[derive(Drop)]
 pub struct Store<D: Disk> {
     alloc: Global,
@@ -133,6 +133,7 @@ impl<D: Disk> Store<D> {
 
         // Only an accepted command is written, on the disk that was taken.
         ensures side { self.new.side ≡ self.old.side }
+        ensures start { self.new.start ≡ self.old.start }
         ensures beside { disk_beside self.new ≡ disk_beside self.old }
         ensures unwritten { (s : State) → StandsFor self.old.core s → (IsAccepted s request.now → ⊥) → taken_disk self.new ≡ taken_disk self.old }
         ensures no_memory { result ≡ Answer.NoMemory → taken_disk self.new ≡ taken_disk self.old }
@@ -155,7 +156,8 @@ impl<D: Disk> Store<D> {
         };
         let planned = match prepare(&mut self.protocol, command) {
             Prepared::Ready(planned) => planned,
-            Prepared::Replied(reply) => return Answer::Reply(reply),
+            Prepared::Again(done) => return Answer::Reply(Reply::Said(done)),
+            Prepared::No(refusal) => return Answer::Reply(Reply::No(refusal)),
             Prepared::NoMemory => return Answer::NoMemory,
         };
         match self.taken.append(&encode(command)) {
@@ -200,11 +202,12 @@ impl<D: Disk> Store<D> {
         ensures count { IfOk result (λ list. length list.items ≡ self.old.core.records) }
         // No record holds a rotation.
         ensures built { IfOk result (λ list. All (λ (c : Command). IsTrue (built (Do c))) list.items) }
-        ensures damaged { IfErr result (IsUnreadable self.old.core.image.generation self.old.core.records) }
+        ensures damaged { IfErr result (IsUnreadable self.old.core.image.generation self.old.start self.old.core.records) }
         ensures readable { IsSome (D.seen (taken_disk self.old)) → IfErr result IsReadable }
         ensures looked { Looked D.seen D.moment D.left_at (taken_disk self.old) (taken_disk self.new) }
         ensures beside { disk_beside self.new ≡ disk_beside self.old }
         ensures side { self.new.side ≡ self.old.side }
+        ensures start { self.new.start ≡ self.old.start }
         ensures core { self.new.core ≡ self.old.core }
         ensures stops { self.new.stopped ≡ stopped_after_reading self.old.stopped result (record { left = D.faults self.new.left; right = D.faults self.new.right }) }
         ensures cause { CausesAccepted result (record { left = D.faults self.old.left; right = D.faults self.old.right }) (record { left = D.faults self.new.left; right = D.faults self.new.right }) }
@@ -266,13 +269,10 @@ fn begin<D: Disk>(alloc: Global, left: Stood<D>, right: Stood<D>) -> Result<Stor
         },
         Stood::Holding(taken, protocol) => match right {
             Stood::Nothing(right) => Ok(begin_on(alloc, Side::Left, taken, right, protocol)),
-            Stood::Holding(other, later) => {
-                if protocol.generation() < later.generation() {
-                    Ok(begin_on(alloc, Side::Right, other, taken.close(), later))
-                } else {
-                    Ok(begin_on(alloc, Side::Left, taken, other.close(), protocol))
-                }
-            }
+            Stood::Holding(other, later) => match later_side(&protocol, &later) {
+                Side::Right => Ok(begin_on(alloc, Side::Right, other, taken.close(), later)),
+                Side::Left => Ok(begin_on(alloc, Side::Left, taken, other.close(), protocol)),
+            },
         },
     }
 }

@@ -9,7 +9,7 @@ begin_on-requires g c = begins_anew g.D.Disk.seen g.D.Disk.moment g.D.Disk.left_
 
 pub returns-in-Ok-clause-opened : goal.returns-in-Ok-clause-opened
 returns-in-Ok-clause-opened g c =
-    rw c.begin_on.ensures (anew_opened g.D.Disk.seen g.D.Disk.moment g.D.Disk.left_at g.D.Disk.faults c.args.left c.args.right c.in-Ok.taken c.new-protocol.result c.new-protocol.ensures c.in-Ok.ensures.cause (λ held told. c.in-Ok.ensures.created held told refl) c.requires.left c.requires.right)
+    rw c.begin_on.ensures (anew_opened g.D.Disk.seen g.D.Disk.moment g.D.Disk.left_at g.D.Disk.faults c.args.left c.args.right c.in-Ok.taken c.new-protocol.result c.new-protocol.ensures c.in-Ok.ensures.cause c.in-Ok.ensures.known.1 (λ held told. c.in-Ok.ensures.created held told refl) c.requires.left c.requires.right)
 
 pub returns-in-Ok-clause-left : goal.returns-in-Ok-clause-left
 returns-in-Ok-clause-left g c =
