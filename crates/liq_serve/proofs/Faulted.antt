@@ -1,5 +1,5 @@
 -- A request that is answered by a disk's fault.
-use Rattle.std.proofs.Common.{◌≡◌, ℕ, ◌≤◌, List, Option, Some, None, refl, sym, subst, ◌∙◌, arith}
+use Rattle.std.proofs.Common.{◌≡◌, ℕ, ◌≤◌, List, Option, Some, None, refl, sym, subst, arith}
 use Rattle.std.specs.Prelude.{◌↔◌, IsSome}
 use Rattle.liq_outside.specs.Disk.{GoesOn, LeftNow, LeftSince}
 use Rattle.liq_types.specs.declared.replies.Answer.{Answer}

@@ -1,5 +1,5 @@
 -- The disks of a run: as it finds them, and as it leaves them.
-use Rattle.std.proofs.Common.{◌≡◌, ◌≢◌, ℕ, Bool, true, false, List, [], ◌∷◌, Option, Some, None, Result, Ok, Err, refl, sym, ap, ap₂, subst, ◌∙◌, arith, inl, inr}
+use Rattle.std.proofs.Common.{◌≡◌, ℕ, Bool, true, false, List, [], Option, Some, None, Result, Ok, Err, refl, ap₂, subst, ◌∙◌, arith, inl, inr}
 use Rattle.std.specs.Prelude.{◌⊎◌, cond, nat_lt}
 use Rattle.liq_types.specs.declared.requests.Command.{Command}
 use Rattle.liq_types.specs.declared.requests.Request.{Request}
@@ -13,12 +13,10 @@ use Rattle.liq_journal.specs.Written.{Found, Written, Absent, Damaged, Open, fou
 use Rattle.liq_lines.specs.Lines.{lines_in}
 use Rattle.liq_lines.proofs.Bytes.{writes_nothing}
 use Rattle.liq_pairs.specs.declared.side.Side.{Side}
-use Rattle.liq_pairs.specs.Kept.{IsKept}
 use Rattle.liq_pairs.specs.Pair.{Standing, Nothing, Faulty, Holding, StandFor, pair_state, standing, standing_after, standing_of, state_on}
 use Rattle.liq_pairs.specs.Replay.{outcome}
 use Rattle.liq_pairs.specs.Unfinished.{IsRecovered}
 use Rattle.liq_pairs.proofs.Replaying.{opening_formed, outcome_formed}
-use Rattle.liq_store.specs.declared.answers.StoreFault.{StoreFault}
 use Rattle.liq_store.specs.declared.answers.StoreWhy.{StoreWhy}
 use Rattle.liq_store.specs.declared.answers.StoreWhy.TheVariants as why
 use Rattle.liq_store.specs.Keeping.{IsInOrder, IsInOrderWith, IsKeptAround}
@@ -29,7 +27,7 @@ use Rattle.liq_serve.specs.declared.halts.Halt.{Halt}
 use Rattle.liq_serve.specs.declared.halts.Halt.TheVariants.{BadLine, ReadFault, WriteFault, DiskFault, NoMemory, Limit}
 use Rattle.liq_serve.specs.declared.halts.Halt.TheVariants as halts
 use Rattle.liq_serve.specs.Disks.{IsFurther, IsNext, DisksHold, DisksStand, EndsDamaged, IsStopped, KeepsAround, halt_of}
-use Rattle.liq_serve.specs.Progress.{Ends, HaltsAt}
+use Rattle.liq_serve.specs.Progress.{HaltsAt}
 use Rattle.liq_serve.specs.Stops.{EndsIn, none_yet}
 
 -- ---- the state for which disks stand is well formed

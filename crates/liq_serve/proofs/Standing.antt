@@ -7,7 +7,6 @@ use Rattle.liq_core.specs.Core.{StandsFor}
 use Rattle.liq_core.specs.Step.{after}
 use Rattle.liq_journal.specs.declared.damage.Damage.{Damage}
 use Rattle.liq_pairs.specs.declared.side.Side.{Side}
-use Rattle.liq_pairs.specs.Kept.{IsKept}
 use Rattle.liq_pairs.specs.Pair.{StandFor, state_on}
 use Rattle.liq_pairs.specs.Unfinished.{IsRecovered}
 use Rattle.liq_store.specs.declared.answers.StoreWhy.{StoreWhy}

@@ -1,5 +1,5 @@
 -- What the word `audit` tells.
-use Rattle.std.specs.Prelude.{ℕ, ◌≡◌, List, Result, Ok, Err, All, count_by, length}
+use Rattle.std.specs.Prelude.{◌≡◌, List, Result, Ok, Err, All, count_by, length}
 use Rattle.liq_types.specs.declared.requests.Command.{Command}
 use Rattle.liq_types.specs.State.{State, opening}
 use Rattle.liq_audit.specs.Auditable.{EnclosesShare}

@@ -1,4 +1,4 @@
-use Rattle.std.proofs.Common.{◌≡◌, refl, Ok, Err, Result, List, ℕ, [], sym, subst, ap, ◌∙◌}
+use Rattle.std.proofs.Common.{◌≡◌, refl, Ok, Err, List, [], sym, subst, ap, ◌∙◌}
 use Rattle.liq_types.specs.declared.requests.Command.{Command}
 use Rattle.liq_types.specs.State.{opening}
 use Rattle.liq_pairs.specs.Pair.{commands_on}

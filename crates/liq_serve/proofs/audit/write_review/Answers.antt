@@ -1,8 +1,8 @@
-use Rattle.std.proofs.Common.{◌≡◌, ℕ, List, Ok, Err, Option, Result, ap, refl, sym, subst, ◌∙◌}
+use Rattle.std.proofs.Common.{Ok, Err, Result, ap, sym, subst, ◌∙◌}
 use Rattle.liq_review.specs.Reviewed.{reviewed}
 use Rattle.liq_serve.specs.declared.halts.Halt.{Halt}
 use Rattle.liq_serve.specs.declared.halts.Halt.TheVariants.{DiskFault, ReadFault}
-use Rattle.liq_serve.specs.Audit.{AuditHolds, halt_on}
+use Rattle.liq_serve.specs.Audit.{AuditHolds}
 use Rattle.liq_serve.specs.Causes.{WriteCause}
 use Rattle.liq_serve.specs.Telling.{WritesText}
 use Rattle.liq_serve.proofs.Audited.{audit_holds, no_cause, no_fault, not_reviewed}

@@ -1,5 +1,4 @@
-use Rattle.std.proofs.Common.{Err, Result, sym, subst}
-use Rattle.std.specs.Prelude.{IfErr}
+use Rattle.std.proofs.Common.{Result, sym, subst}
 use Rattle.liq_outside.specs.Faults.{Rose}
 use Rattle.liq_serve.specs.declared.halts.Halt.{Halt}
 use Rattle.liq_serve.specs.Output.{last}

@@ -1,4 +1,4 @@
-use Rattle.std.proofs.Common.{◌≡◌, refl, Ok, Err, Option, Some, List, ℕ, [], sym, subst}
+use Rattle.std.proofs.Common.{refl, Ok, Err, [], sym, subst}
 use Rattle.liq_core.specs.Core.{Core, StandsFor}
 use Rattle.liq_serve.specs.declared.halts.Halt.{Halt}
 use Rattle.liq_serve.specs.Disks.{DisksHold, EndsDamaged}

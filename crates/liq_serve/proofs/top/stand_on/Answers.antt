@@ -1,7 +1,4 @@
-use Rattle.std.proofs.Common.{◌≡◌, Ok, Result, subst}
-use Rattle.liq_outside.specs.Faults.{Rose}
-use Rattle.liq_serve.specs.declared.halts.Halt.{Halt}
-use Rattle.liq_serve.specs.Disks.{EndsDamaged}
+use Rattle.std.proofs.Common.{Ok}
 use Rattle.liq_serve.specs.State.{standing}
 use Rattle.liq_serve.proofs.Causes.{write_no_fewer}
 use Rattle.liq_serve.proofs.DamagedTold.{damaged_told}

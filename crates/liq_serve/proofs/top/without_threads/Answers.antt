@@ -1,4 +1,4 @@
-use Rattle.std.proofs.Common.{◌≡◌, sym, subst, ◌∙◌, ◌∷◌, [], inr, ℕ, Err, Ok, Result, refl}
+use Rattle.std.proofs.Common.{◌≡◌, sym, subst, inr, ℕ, Err, Ok, Result, refl}
 use Rattle.std.specs.Prelude.{◌⊎◌}
 use Rattle.liq_words.specs.declared.words.Word.TheVariants.{Run, State, Audit, Gen}
 use Rattle.liq_outside.specs.Faults.{Rose}
