@@ -1,7 +1,7 @@
 //! A store that is closed and opened again.
 
 use crate::stores::{NO_HINT, disk, fund, funding, make_calls};
-use liq_store::Store;
+use liq_store::{Side, Store};
 use liq_types::{Answer, Info, Query, Reply, Request};
 use std::alloc::Global;
 use std::test::Fail;
@@ -25,7 +25,8 @@ fn asked(alloc: Global, again: bool) -> Result<(Vec<Answer>, u64), Fail> {
         }
         answers.push(store.call(&funding(3), &NO_HINT))?;
         if let Ok(commands) = store.accepted() {
-            if commands.as_slice() == [fund(1), fund(2), fund(3)].as_slice() {
+            let in_order = commands.as_slice() == [fund(1), fund(2), fund(3)].as_slice();
+            if in_order && store.side() == Side::Left {
                 accepted = store.protocol().records();
             }
         }
