@@ -1,5 +1,5 @@
 -- The commands of two disks, and the state to which they lead.
-use Rattle.std.proofs.Common.{◌≡◌, ℕ, List, [], Result, Ok, Err, Bool, true, false, nat_lt, refl, sym, ◌∙◌, ap, if◌then◌else◌}
+use Rattle.std.proofs.Common.{◌≡◌, ℕ, List, [], Result, Ok, Err, Bool, true, false, nat_lt, refl, ◌∙◌, ap, if◌then◌else◌}
 use Rattle.liq_types.specs.declared.requests.Command.{Command}
 use Rattle.liq_types.specs.State.{State, opening}
 use Rattle.liq_journal.specs.declared.damage.Damage.{Damage}
