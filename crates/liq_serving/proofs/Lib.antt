@@ -1,4 +1,5 @@
 mod Alike
 mod Assembling
+mod Counting
 mod Leaving
 mod Told
