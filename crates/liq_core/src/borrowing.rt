@@ -5,10 +5,8 @@ ghost use Rattle.std.specs.List.{Contains};
 ghost use Rattle.liq_types.specs.declared.events.ListChange.TheVariants.{Put};
 ghost use Rattle.liq_types.specs.declared.hints.HintWords.{HintWords};
 ghost use Rattle.liq_types.specs.declared.requests.Call.TheVariants as call;
-ghost use Rattle.liq_types.specs.Payments.{credited_in, charged_in};
-ghost use Rattle.liq_types.specs.State.{wallet_in, wallet_of};
+ghost use Rattle.liq_types.specs.State.{wallet_of};
 ghost use Rattle.liq_types.specs.Totals.{market_of, or_nothing};
-ghost use Rattle.liq_tables.specs.WithRoom.{HasRoom};
 ghost use Rattle.liq_troves.specs.Rows.{key_by, set_row};
 ghost use Rattle.liq_troves.specs.StakeSums.{entire_of, sums_words};
 ghost use Rattle.liq_borrow.specs.Borrowing.{opening_terms, adjusting_terms, closing_terms};
@@ -21,7 +19,6 @@ use crate::standing::{lift_trove, place_trove};
 use crate::told::{ListChanges, PoolEvents};
 use crate::turns::{Forecast, Terms};
 use liq_borrow::{Change, Plan, plan_adjust, plan_close, plan_open};
-use liq_ledger::Wallets;
 use liq_troves::{entire, key};
 use liq_types::amounts::{ACCOUNTS, LIM, RESERVE};
 use liq_types::{Done, Hint, ListChange, Refusal, Steps, Wallet};
@@ -149,8 +146,7 @@ impl Protocol {
         ensures { (bound : ℕ) → (words : HintWords) → Changes self.old (call.Open account plan.now.coll borrow bound words) self.new }
     {
         let coll = plan.coll;
-        exchange(
-            &mut self.wallets,
+        self.wallets.exchange(
             account,
             &Wallet { coll, lusd: 0 },
             &Wallet {
@@ -188,8 +184,7 @@ impl Protocol {
         requires room { Contains self.old.room.wallets account }
         ensures { (bound : ℕ) → (words : HintWords) → Changes self.old (call.Adjust account change.now.coll_in change.now.coll_out change.now.borrow change.now.repay bound words) self.new }
     {
-        exchange(
-            &mut self.wallets,
+        self.wallets.exchange(
             account,
             &Wallet {
                 coll: change.coll_in,
@@ -223,8 +218,7 @@ impl Protocol {
         requires room { Contains self.old.room.wallets account }
         ensures { Changes self.old (call.Close account) self.new }
     {
-        exchange(
-            &mut self.wallets,
+        self.wallets.exchange(
             account,
             &Wallet {
                 coll: 0,
@@ -235,21 +229,4 @@ impl Protocol {
         self.pools.reserve -= RESERVE;
         lift_trove(&mut self.pools, &mut self.troves, &mut self.order, account);
     }
-}
-
-/// What an owner gives leaves the wallet, and then what the owner gets comes into it. The other wallets stay.
-fn exchange(wallets: &mut Wallets, account: u32, given: &Wallet, got: &Wallet)
-    requires room { HasRoom wallets.old account }
-    requires coll { given.now.coll ≤ (wallet_in wallets.old.rows account).coll }
-    requires lusd { given.now.lusd ≤ (wallet_in wallets.old.rows account).lusd }
-    requires coll_limit { (wallet_in (charged_in wallets.old.rows account given.now.coll given.now.lusd) account).coll + got.now.coll ≤ LIM }
-    requires lusd_limit { (wallet_in (charged_in wallets.old.rows account given.now.coll given.now.lusd) account).lusd + got.now.lusd ≤ LIM }
-    ensures rows { wallets.new.rows ≡ credited_in (charged_in wallets.old.rows account given.now.coll given.now.lusd) account got.now.coll got.now.lusd }
-    ensures room { wallets.new.room ≡ wallets.old.room }
-{
-    match wallets.charge(account, given.coll, given.lusd) {
-        Ok(()) => {}
-        Err(_) => unreachable!(),
-    }
-    wallets.pay(account, got.coll, got.lusd);
 }

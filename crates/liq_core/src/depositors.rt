@@ -24,7 +24,7 @@ use crate::turns::{Forecast, Terms};
 use liq_borrow::{Plan, plan_gain};
 use liq_num::GWEI_PER_ETH;
 use liq_types::amounts::{ACCOUNTS, LIM, MCR};
-use liq_types::{Done, Hint, PoolEvent, Refusal, Steps};
+use liq_types::{Done, Hint, PoolEvent, Refusal, Steps, Wallet};
 use std::sync::ledger::Ledger;
 
 impl Protocol {
@@ -164,12 +164,15 @@ impl Protocol {
         requires deposit { Contains self.old.room.deposits account }
         ensures { Changes self.old (call.Provide account lusd) self.new }
     {
-        match self.wallets.charge(account, 0, lusd) {
-            Ok(()) => {}
-            Err(_) => unreachable!(),
-        }
         let gain = self.pool.provide(account, lusd);
-        self.wallets.pay(account, gain, 0);
+        self.wallets.exchange(
+            account,
+            &Wallet { coll: 0, lusd },
+            &Wallet {
+                coll: gain,
+                lusd: 0,
+            },
+        );
     }
 
     /// LUSD, no more than there is, and the gain from the account's deposit into its wallet.

@@ -63,9 +63,8 @@ pub(crate) fn place_trove<L: Ledger>(
     ensures others { SameOthers pools.old pools.new }
     ensures list { order.new.entries ≡ order_by troves.new.table.rows }
 {
-    let row = troves.row_for(coll, debt);
     pools.active_coll += coll;
     pools.active_debt += debt;
-    troves.set(account, coll, debt);
+    let row = troves.set(account, coll, debt);
     order.insert(key(&row), account, hint, steps);
 }

@@ -68,9 +68,7 @@ impl Surplus {
         ensures taken { self.new.rows ≡ surplus_taken_in self.old.rows account }
         ensures room { self.new.room ≡ self.old.room }
     {
-        let claimed = self.read(account);
-        self.table.clear(account);
-        claimed
+        self.table.take(account).unwrap_or(0)
     }
 
     /// What an account may claim, 0 where there is nothing.

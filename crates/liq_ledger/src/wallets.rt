@@ -1,8 +1,9 @@
 //! The wallets of all accounts.
 
-ghost use Rattle.std.specs.Prelude.{◌≡◌, ◌≤◌, ◌+◌, [], IsOk, OnOk, OnErr, IsTrue};
+ghost use Rattle.std.specs.Prelude.{◌≡◌, ◌≤◌, ◌+◌, [], true, IsOk, OnOk, OnErr, IsTrue};
 ghost use Rattle.liq_types.specs.Payments.{credited_in, charged_in};
-ghost use Rattle.liq_types.specs.State.{is_used_wallet, wallet_in, with_wallet};
+ghost use Rattle.liq_types.specs.State.{is_used_wallet, wallet_in};
+ghost use Rattle.liq_types.specs.WellFormed.{Ascends};
 ghost use Rattle.liq_tables.specs.WithRoom.{HasRoom, KeepsRoom};
 ghost use Rattle.liq_ledger.specs.Refusals.{funding, charging, ruled};
 
@@ -49,9 +50,11 @@ impl Wallets {
         self.table.reserve(account)
     }
 
-    /// What an account has: collateral in gwei, LUSD in micro-LUSD.
+    /// What an account has: collateral in gwei, LUSD in micro-LUSD. Where it has anything there is room for its wallet.
     pub fn read(&self, account: u32) -> Wallet
-        ensures { result ≡ wallet_in self.now.rows account }
+        ensures wallet { result ≡ wallet_in self.now.rows account }
+        ensures room { is_used_wallet result ≡ true → HasRoom self.now account }
+        ensures ascend { Ascends self.now.rows }
     {
         match self.table.get(account) {
             Some(wallet) => *wallet,
@@ -131,7 +134,7 @@ impl Wallets {
             coll: had.coll - coll,
             lusd: had.lusd - lusd,
         };
-        self.put(account, left);
+        self.table.write(account, left);
         Ok(())
     }
 
@@ -151,17 +154,21 @@ impl Wallets {
         self.table.write(account, sum);
     }
 
-    /// Writes a wallet that has no more than the account had: one that is used had a row, and so room.
-    fn put(&mut self, account: u32, wallet: Wallet)
-        requires coll { wallet.coll ≤ (wallet_in self.old.rows account).coll }
-        requires lusd { wallet.lusd ≤ (wallet_in self.old.rows account).lusd }
-        ensures written { self.new.rows ≡ with_wallet self.old.rows account wallet }
+    /// What an owner gives leaves the wallet, and then what the owner gets comes into it. The other wallets stay.
+    pub fn exchange(&mut self, account: u32, given: &Wallet, got: &Wallet)
+        requires room { HasRoom self.old account }
+        requires coll { given.now.coll ≤ (wallet_in self.old.rows account).coll }
+        requires lusd { given.now.lusd ≤ (wallet_in self.old.rows account).lusd }
+        requires coll_limit { (wallet_in (charged_in self.old.rows account given.now.coll given.now.lusd) account).coll + got.now.coll ≤ LIM }
+        requires lusd_limit { (wallet_in (charged_in self.old.rows account given.now.coll given.now.lusd) account).lusd + got.now.lusd ≤ LIM }
+        ensures rows { self.new.rows ≡ credited_in (charged_in self.old.rows account given.now.coll given.now.lusd) account got.now.coll got.now.lusd }
         ensures room { self.new.room ≡ self.old.room }
     {
-        if self.table.get(account).is_some() {
-            self.table.write(account, wallet);
-        } else {
-            self.table.clear(account);
-        }
+        let had = self.read(account);
+        let left = Wallet {
+            coll: had.coll - given.coll + got.coll,
+            lusd: had.lusd - given.lusd + got.lusd,
+        };
+        self.table.write(account, left);
     }
 }

@@ -1,6 +1,7 @@
 -- The lines of a text.
-use Rattle.std.specs.Prelude.{ℕ, ◌≢◌, ◌==◌, List, [], ◌∷◌, ◌++◌, if◌then◌else◌}
+use Rattle.std.specs.Prelude.{ℕ, ◌≡◌, ◌≢◌, ◌≤◌, ◌==◌, List, [], ◌∷◌, ◌++◌, length, if◌then◌else◌}
 use Rattle.std.specs.List.{flat_map, AllByRecursion}
+use Rattle.liq_types.specs.declared.amounts.TheConstants.{LINE_BYTES, LINES_MOST}
 
 abbrev pub onto_first : ℕ → List (List ℕ) → List (List ℕ)
 onto_first byte [] = (byte ∷ []) ∷ []
@@ -18,3 +19,10 @@ ended lines = flat_map (λ line. line ++ 10 ∷ []) lines
 -- no line end stands in it
 abbrev pub IsWithinLine : List ℕ → Type 0
 IsWithinLine bytes = AllByRecursion (λ byte. byte ≢ 10) bytes
+
+-- What was given of the line behind so many others: it has no line end, and is no longer than a line may be. Behind the last line that
+-- is answered there is none of it.
+pub record IsPartOfLine (before : ℕ) (part : List ℕ) : Type 0 where
+  pub within : IsWithinLine part
+  pub short : length part ≤ LINE_BYTES
+  pub none_behind : before ≡ LINES_MOST → part ≡ []

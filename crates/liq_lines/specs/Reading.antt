@@ -1,5 +1,5 @@
 -- What reading a line leaves.
-use Rattle.std.specs.Prelude.{ℕ, ◌≡◌, ◌≢◌, List, [], ◌∷◌, ◌++◌, length, Option, option_map, Result, Ok, Err, IfSome}
+use Rattle.std.specs.Prelude.{ℕ, ◌≡◌, ◌≢◌, ◌≤◌, List, [], ◌∷◌, ◌++◌, length, Option, option_map, Result, Ok, Err, IfSome}
 use Rattle.liq_outside.specs.declared.failed.Failed.{Failed}
 use Rattle.liq_lines.specs.declared.reader.LineEnd.{LineEnd}
 use Rattle.liq_lines.specs.declared.reader.LineEnd.TheVariants.{Ended, Unended, Nothing, TooLong}
@@ -24,8 +24,8 @@ ReadsLine before line after taken (Ok Ended) = Reads before (line ++ 10 ∷ []) 
 ReadsLine before line after taken (Ok Unended) = Reads before line after × IsWithinLine line × (line ≢ []) × IsOver after
 ReadsLine before line after taken (Ok Nothing) = Reads before [] after × IsOver after
 ReadsLine before line after taken (Ok TooLong) = (byte : ℕ) × Reads before (line ++ byte ∷ []) after × IsWithinLine line × (byte ≢ 10) × (length line ≡ LINE_BYTES)
--- all that the source had given was read, and no line end stands in it
-ReadsLine before line after taken (Err fault) = Reads before line after × IsWithinLine line × (taken ≡ [])
+-- all that the source had given was read, no line end stands in it, and it is not too long
+ReadsLine before line after taken (Err fault) = Reads before line after × IsWithinLine line × (taken ≡ []) × (length line ≤ LINE_BYTES)
 
 -- at the source's end there is a line where some of it came
 abbrev pub IsEndOfInput : List ℕ → LineEnd → Type 0

@@ -21,12 +21,6 @@ pub struct World {
     pub order: Order,
 }
 
-const NO_HINT: Hint = Hint {
-    prev: None,
-    next: None,
-    version: 0,
-};
-
 /// The troves of accounts 1, 2 and 3, with these amounts.
 pub fn three<L: Ledger>(
     alloc: Global,
@@ -90,6 +84,8 @@ fn add<L: Ledger>(
         mark_coll: 0,
         mark_debt: 0,
     };
-    world.order.insert(key(&opened), account, &NO_HINT, steps);
+    world
+        .order
+        .insert(key(&opened), account, &Hint::NONE, steps);
     Ok(())
 }

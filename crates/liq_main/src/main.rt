@@ -2,7 +2,7 @@
 #![tactic(auto)]
 
 use liq_outside::{FileDisk, StdSink, StdSource};
-use liq_serve::{without_threads, without_words};
+use liq_serve::{OpenGate, protocol, without_words};
 use std::fs::{File, Files};
 use std::process::ExitCode;
 use std::rt::Env;
@@ -30,7 +30,17 @@ fn main(rt: HostRuntime) -> ExitCode {
             let mut input = StdSource::new(rt.reader());
             let left = disk(&rt, "left.liq");
             let right = disk(&rt, "right.liq");
-            without_threads(rt.alloc(), &words, &mut input, &mut out, left, right).status
+            protocol(
+                &rt,
+                rt.alloc(),
+                &OpenGate,
+                &words,
+                &mut input,
+                &mut out,
+                left,
+                right,
+            )
+            .status
         }
         Err(fault) => without_words(fault.kind(), &mut out),
     };

@@ -1,6 +1,8 @@
 ghost use Rattle.std.specs.Prelude.{◌≡◌, ◌≤◌};
 ghost use Rattle.liq_num.specs.Power.{rounded_product, power_of};
 
+use crate::quotient::in_ones;
+
 /// The whole: a decimal fraction is a number of 10^18ths.
 pub const ONE: u64 = 1_000_000_000_000_000_000;
 
@@ -17,7 +19,7 @@ pub fn dec_mul(x: u64, y: u64) -> u64
     ensures product { result ≡ rounded_product x y }
     ensures within { result ≤ ONE }
 {
-    ((u128::from(x) * u128::from(y) + u128::from(HALF)) / u128::from(ONE)) as u64
+    in_ones(u128::from(x) * u128::from(y) + u128::from(HALF)) as u64
 }
 
 /// The fraction `x`, over `ONE`, to the power of `n` minutes, by repeated squaring from the lowest binary digit of `n`.

@@ -1,5 +1,10 @@
-ghost use Rattle.std.specs.Prelude.{◌≡◌, ◌*◌, ◌^◌, ◌<◌};
+ghost use Rattle.std.specs.Prelude.{◌≡◌, ◌*◌, ◌/◌, ◌^◌, ◌<◌};
 ghost use Rattle.liq_num.specs.Quotient.{floor_of, ceiling_of};
+
+use crate::power::ONE;
+
+/// 2^123 over `ONE`, rounded down.
+const ONE_INVERSE: u64 = 10_633_823_966_279_326_983;
 
 /// `a * b / c`, rounded down.
 pub fn mul_div(a: u128, b: u128, c: u128) -> u128
@@ -7,7 +12,18 @@ pub fn mul_div(a: u128, b: u128, c: u128) -> u128
     requires product_fits { a * b < 2 ^ 128 }
     ensures { result ≡ floor_of a b c }
 {
-    a * b / c
+    // A division takes many times as long as these tests, which answer the commonest quotients: of a whole, and of nothing.
+    if b == c {
+        return a;
+    }
+    let product = a * b;
+    if product < c {
+        return 0;
+    }
+    if c == u128::from(ONE) {
+        return in_ones(product);
+    }
+    product / c
 }
 
 /// `a * b / c`, rounded up.
@@ -17,4 +33,27 @@ pub fn mul_div_up(a: u128, b: u128, c: u128) -> u128
     ensures { result ≡ ceiling_of a b c }
 {
     (a * b).div_ceil(c)
+}
+
+/// How often `ONE` is in a number: `x / ONE`, for which a processor takes several times as long. Of a number below 2^123 the
+/// guess by one product, over 2^59 and 2^64, is right or one or two too low.
+pub(crate) fn in_ones(x: u128) -> u128
+    ensures { result ≡ x / ONE }
+{
+    let whole = u128::from(ONE);
+    let Ok(head) = u64::try_from(x >> 59) else {
+        return x / whole;
+    };
+    let guess = (u128::from(head) * u128::from(ONE_INVERSE)) >> 64;
+    let counted = guess * whole;
+    if counted <= x {
+        let rest = x - counted;
+        if rest < whole {
+            return guess;
+        }
+        if rest < 2 * whole {
+            return guess + 1;
+        }
+    }
+    x / whole
 }

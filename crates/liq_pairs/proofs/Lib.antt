@@ -2,6 +2,7 @@ pub mod Alike
 pub mod Around
 pub mod AtEnd
 pub mod Beginning
+pub mod Commands
 pub mod FirstPlace
 pub mod Hints
 pub mod Keeping

@@ -1,5 +1,6 @@
 -- What two disks stand for.
-use Rattle.std.specs.Prelude.{◌≡◌, ℕ, List, Result, Ok, Err, Bool, true, false, nat_lt, if◌then◌else◌}
+use Rattle.std.specs.Prelude.{◌≡◌, ℕ, List, [], Result, Ok, Err, Bool, true, false, nat_lt, if◌then◌else◌}
+use Rattle.liq_types.specs.declared.requests.Command.{Command}
 use Rattle.liq_types.specs.State.{State, opening}
 use Rattle.liq_types.specs.WellFormed.{IsWellFormed}
 use Rattle.liq_core.specs.Image.{IsSameState}
@@ -42,6 +43,21 @@ pair_state (Holding generation s) (Holding later t) = Ok (if nat_lt generation l
 -- the state for which two disks stand, or the first damage
 unfoldable pub state_on : List ℕ → List ℕ → Result State (Side × Damage)
 state_on left right = pair_state (standing true left) (standing false right)
+
+-- The commands of the disk that counts: of two open ones those of the greater generation; none where neither is open, or where the
+-- bytes of one are damaged.
+abbrev pub pair_commands : Found → Found → List Command
+pair_commands (Damaged damage) right = []
+pair_commands Absent (Damaged damage) = []
+pair_commands Absent Absent = []
+pair_commands Absent (Open w) = w.commands
+pair_commands (Open w) (Damaged damage) = []
+pair_commands (Open w) Absent = w.commands
+pair_commands (Open w) (Open later) = if nat_lt w.generation later.generation then later.commands else w.commands
+
+-- the commands that lead to the state for which two disks stand
+unfoldable pub commands_on : List ℕ → List ℕ → List Command
+commands_on left right = pair_commands (found_on true left) (found_on false right)
 
 -- They stand for each state that is the same as theirs, in its image and its count of records, and that the rules can reach.
 pub record StandFor (left right : List ℕ) (s : State) : Type 0 where

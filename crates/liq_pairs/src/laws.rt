@@ -3,7 +3,7 @@
 
 ghost use Rattle.std.specs.Prelude.{◌≡◌, ◌⊎◌, List, ◌∷◌, [], ◌++◌, ℕ, Ok, true, false};
 ghost use Rattle.liq_types.specs.declared.requests.Command.{Command};
-ghost use Rattle.liq_types.specs.State.{State};
+ghost use Rattle.liq_types.specs.State.{State, opening};
 ghost use Rattle.liq_types.specs.WellFormed.{IsWellFormed};
 ghost use Rattle.liq_core.specs.Image.{IsSameState};
 ghost use Rattle.liq_core.specs.Step.{Allowed, after, ruling};
@@ -12,14 +12,21 @@ ghost use Rattle.liq_journal.specs.Opened.{OpenLeaves};
 ghost use Rattle.liq_journal.specs.Written.{and_then, found_on};
 ghost use Rattle.liq_pairs.specs.declared.side.Side.{Side};
 ghost use Rattle.liq_pairs.specs.Kept.{IsKept, IsSettledFor};
-ghost use Rattle.liq_pairs.specs.Pair.{state_on};
+ghost use Rattle.liq_pairs.specs.Pair.{commands_on, state_on};
 ghost use Rattle.liq_pairs.specs.Replay.{replay};
 ghost use Rattle.liq_pairs.specs.Sides.{beside, has_odd, on};
 ghost use Rattle.liq_pairs.specs.Unfinished.{IsRecovered, LeftLeaves};
 
-/// What is found on two disks decides the state for which they stand, and their first damage.
+/// What is found on two disks decides the state for which they stand, or their first damage, and the commands.
 pub fn what_is_found_decides()
-    ensures { (l r a b : List ℕ) → found_on true a ≡ found_on true l → found_on false b ≡ found_on false r → state_on a b ≡ state_on l r }
+    ensures state { (l r a b : List ℕ) → found_on true a ≡ found_on true l → found_on false b ≡ found_on false r → state_on a b ≡ state_on l r }
+    ensures commands { (l r a b : List ℕ) → found_on true a ≡ found_on true l → found_on false b ≡ found_on false r → commands_on a b ≡ commands_on l r }
+{}
+
+/// The commands of two disks lead from the opening, with which every journal begins until there is rotation, to the state for which
+/// they stand.
+pub fn commands_lead_to_the_state()
+    ensures { (l r : List ℕ) → (s : State) → state_on l r ≡ Ok s → replay 1 opening (commands_on l r) ≡ Ok s }
 {}
 
 /// A replay that ends in a state goes on to the next command that this state accepts.

@@ -4,12 +4,12 @@ ghost use Rattle.std.specs.Prelude.{◌≡◌, IfOk};
 ghost use Rattle.liq_types.specs.WellFormed.{Ascends};
 ghost use Rattle.liq_types.specs.State.{wallet_in};
 
-use crate::troves::{NO_HINT, two};
+use crate::troves::two;
 use liq_ledger::{Pools, Surplus, Wallets};
 use liq_redemption::{apply, plan, reserve};
 use liq_troves::Trove;
 use liq_types::amounts::ONE;
-use liq_types::{Market, NoMemory, Steps, Wallet};
+use liq_types::{Hint, Market, NoMemory, Steps, Wallet};
 use std::alloc::Global;
 use std::marker::Brand;
 use std::process::Abort;
@@ -87,7 +87,7 @@ fn check_redeemed<R: Abort, L: Ledger>(rt: &R, alloc: Global, account: u32, step
     apply(
         &plan,
         account,
-        &NO_HINT,
+        &Hint::NONE,
         &mut wallets,
         &mut pools,
         &mut surplus,

@@ -11,12 +11,6 @@ use liq_types::{Hint, NoMemory, Steps};
 use std::alloc::Global;
 use std::sync::ledger::Ledger;
 
-pub const NO_HINT: Hint = Hint {
-    prev: None,
-    next: None,
-    version: 0,
-};
-
 // The first has 200 percent at the opening price, the second 300, and each owes 4,220 LUSD.
 pub fn two<L: Ledger>(alloc: Global, steps: &mut Steps<L>) -> Result<(Troves, Order), NoMemory>
     ensures rows { IfOk result (λ r. r.0.table.rows ≡ two_rows) }
@@ -32,8 +26,8 @@ pub fn two<L: Ledger>(alloc: Global, steps: &mut Steps<L>) -> Result<(Troves, Or
     troves.set(2, 12_660_000_000, 4_220_000_000);
     let mut order = Order::new(alloc);
     order.reserve(2)?;
-    order.insert(500_000_000_000_000_000, 1, &NO_HINT, steps);
-    order.insert(333_333_333_333_333_333, 2, &NO_HINT, steps);
+    order.insert(500_000_000_000_000_000, 1, &Hint::NONE, steps);
+    order.insert(333_333_333_333_333_333, 2, &Hint::NONE, steps);
     Ok((troves, order))
 }
 
@@ -47,6 +41,6 @@ pub fn one<L: Ledger>(alloc: Global, steps: &mut Steps<L>) -> Result<(Troves, Or
     troves.set(1, 8_440_000_000, 4_220_000_000);
     let mut order = Order::new(alloc);
     order.reserve(1)?;
-    order.insert(500_000_000_000_000_000, 1, &NO_HINT, steps);
+    order.insert(500_000_000_000_000_000, 1, &Hint::NONE, steps);
     Ok((troves, order))
 }

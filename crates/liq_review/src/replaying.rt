@@ -15,13 +15,6 @@ use liq_types::{Command, Hint, PoolEvent, Steps};
 use std::alloc::Global;
 use std::sync::ledger::{Blank, Ledger};
 
-/// No place is known.
-const NO_HINT: Hint = Hint {
-    prev: None,
-    next: None,
-    version: 0,
-};
-
 /// A protocol after commands from the opening on, and what they did to the Stability Pool.
 #[derive(Drop)]
 pub(crate) struct Made {
@@ -71,7 +64,7 @@ fn make<L: Ledger>(
     let planned = plan(protocol, command, index)?;
     events.extend_from_slice(planned.events())?;
     protocol.reserve(&planned)?;
-    protocol.apply(planned, &NO_HINT, steps);
+    protocol.apply(planned, &Hint::NONE, steps);
     Ok(())
 }
 

@@ -14,12 +14,6 @@ use std::test::Fail;
 
 const RECORDS: u64 = 1_000_000;
 
-const NO_HINT: Hint = Hint {
-    prev: None,
-    next: None,
-    version: 0,
-};
-
 /// A price under client 1's number.
 fn price(number: u64, price: u64) -> Command
     ensures { IsTrue (built (Do result)) }
@@ -45,7 +39,7 @@ fn accept<L: Ledger>(
         Err(fault) => return Err(fault),
     };
     match protocol.reserve(&planned) {
-        Ok(()) => Ok(protocol.apply(planned, &NO_HINT, steps)),
+        Ok(()) => Ok(protocol.apply(planned, &Hint::NONE, steps)),
         Err(NoMemory) => Err(PlanFault::NoMemory),
     }
 }

@@ -1,9 +1,5 @@
 -- Where reading the scripts ends.
-use Rattle.std.proofs.Common.{◌≡◌, ℕ, ◌≤◌, List, [], ◌∷◌, ◌++◌, length, get_or, Option, Bool, false, Ok, Err, refl, ap, sym, subst, length-append, arith, suc}
-use Rattle.std.specs.Prelude.{All, ◌==◌, filter, not}
-use Rattle.std.proofs.lemmas.List.{length-map}
-use Rattle.std.proofs.lemmas.List.Elements.{All-map}
-use Rattle.std.proofs.lemmas.List.Filters.{length-filter_both}
+use Rattle.std.proofs.Common.{◌≡◌, ℕ, ◌≤◌, List, [], ◌∷◌, ◌++◌, length, Option, Bool, false, Ok, Err, refl, ap, subst, length-append, arith, suc}
 use Rattle.liq_types.specs.declared.amounts.TheConstants.{LINES_MOST}
 use Rattle.liq_types.specs.declared.requests.Request.{Request}
 use Rattle.liq_outside.specs.Faults.{Rose}
@@ -11,10 +7,9 @@ use Rattle.liq_lines.specs.Lines.{lines_in}
 use Rattle.liq_sessions.specs.declared.script.Script.{Script}
 use Rattle.liq_scripts.specs.declared.stops.Stop.{Stop}
 use Rattle.liq_scripts.specs.declared.stops.Stop.TheVariants.{BadLine, ReadFault, NoMemory, Limit}
-use Rattle.liq_scripts.specs.Asked.{AreAsked, IsBadLine, requests_of, script_of, scripts_of}
+use Rattle.liq_scripts.specs.Asked.{AreAsked, IsBadLine}
 use Rattle.liq_scripts.specs.Gathering.{StopsAfter, Gathers, ReadCause}
 use Rattle.liq_scripts.specs.Progress.{Comes}
-use Rattle.liq_scripts.specs.Sessions.{sessions}
 
 -- nothing was read
 pub gathers_nothing : (before left : Option (List ℕ)) → Gathers (Err NoMemory) before left
@@ -34,19 +29,6 @@ came_done before left scripts c = record { asked = c.asked; few = c.few; scripts
 
 pub gathers_stopped : (stop : Stop) (before left : Option (List ℕ)) (scripts : List Script) → Comes {T = Unit {0}} (Err stop) before scripts left → Gathers (Err stop) before left
 gathers_stopped stop before left scripts c = record { asked = c.asked; few = c.few; scripts = tt; read = c.read }
-
--- ---- a script has no more requests than there are lines
-
-own_few : (session : ℕ) (asked : List (ℕ × Request)) → length (requests_of asked session) ≤ length asked
-own_few session asked =
-    let test : ℕ × Request → Bool = λ (a : ℕ × Request). a.0 == session in
-    omega (arith, length-map (filter test asked) (λ (a : ℕ × Request). a.1), length-filter_both test (λ a. not (test a)) (λ a. refl) asked)
-
-pub short_scripts : (asked : List (ℕ × Request)) (scripts : List Script) → scripts ≡ scripts_of asked → length asked ≤ LINES_MOST → All (λ (script : Script). length script.requests ≤ LINES_MOST) scripts
-short_scripts asked scripts is few =
-    subst (All (λ (script : Script). length script.requests ≤ LINES_MOST)) (sym is)
-    (All-map (λ (script : Script). length script.requests ≤ LINES_MOST) (script_of asked) sessions
-    (λ k d lt. omega (arith, few, own_few (get_or sessions k d) asked)))
 
 -- ---- where each line asks something
 

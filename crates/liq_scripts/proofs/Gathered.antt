@@ -2,7 +2,7 @@
 use Rattle.std.proofs.Common.{◌≡◌, ◌≢◌, ℕ, ◌+◌, ◌<◌, ◌≤◌, List, [], ◌∷◌, ◌++◌, length, Option, Some, Ok, Err, refl, ap, sym, subst, ◌∙◌, append_assoc, append-nil, length-append, arith}
 use Rattle.liq_types.specs.declared.amounts.TheConstants.{LINE_BYTES, LINES_MOST}
 use Rattle.liq_types.specs.declared.requests.Request.{Request}
-use Rattle.liq_lines.specs.Lines.{lines_in, ended, IsWithinLine}
+use Rattle.liq_lines.specs.Lines.{lines_in, ended, IsPartOfLine, IsWithinLine}
 use Rattle.liq_lines.specs.Reading.{unread, Reads, IsOver}
 use Rattle.liq_lines.proofs.LinesRead.{lines_in-unended, lines_in-ended_all, within-append}
 use Rattle.liq_lines.proofs.Told.{told, told_rest, told_left, over_left, first-begun, first-longer, ended-more}
@@ -99,7 +99,7 @@ ended_well x start u left n scripts taken few h reads over =
           (subst (λ (ls : List (List ℕ)). AreAsked ls h.asked) (sym whole) r.spelled, done.0);
     }
 
-pub ended_by_fault : {T : Type 0} (start u left : Option (List ℕ)) (n : ℕ) (scripts : List Script) (part taken : List ℕ) → n ≤ LINES_MOST → HasGathered start n scripts u → IsWithinLine part → Reads u part (unread taken left) → taken ≡ [] → Comes {T = T} (Err ReadFault) start scripts left
+pub ended_by_fault : {T : Type 0} (start u left : Option (List ℕ)) (n : ℕ) (scripts : List Script) (part taken : List ℕ) → n ≤ LINES_MOST → HasGathered start n scripts u → IsPartOfLine n part → Reads u part (unread taken left) → taken ≡ [] → Comes {T = T} (Err ReadFault) start scripts left
 ended_by_fault start u left n scripts part taken few h within reads fresh =
     record {
       asked = h.asked;
@@ -108,7 +108,7 @@ ended_by_fault start u left n scripts part taken few h within reads fresh =
       read = λ bytes is.
           let r = h.read bytes is in
           let t = told_left r.rest part taken left (told part u (unread taken left) r.rest r.unread_is reads) in
-          (r.front, r.spelled, (part, within, (t.0, t.1, r.bytes_are ∙ ap (λ (t : List ℕ). ended r.front ++ t) (t.2 ∙ ap (λ (l : List ℕ). part ++ (l ++ t.0)) fresh) ∙ sym (append_assoc (ended r.front) part t.0))));
+          (r.front, r.spelled, (part, subst (λ (m : ℕ). IsPartOfLine m part) (sym h.count) within, (t.0, t.1, r.bytes_are ∙ ap (λ (t : List ℕ). ended r.front ++ t) (t.2 ∙ ap (λ (l : List ℕ). part ++ (l ++ t.0)) fresh) ∙ sym (append_assoc (ended r.front) part t.0))));
     }
 
 -- what is unread begins with a bad line

@@ -1,5 +1,6 @@
 pub mod Bad
 pub mod Ends
+pub mod Few
 pub mod Gathered
 pub mod Own
 pub mod Residual

@@ -4,7 +4,7 @@ use Rattle.std.specs.Global.{Global}
 use Rattle.liq_types.specs.declared.amounts.TheConstants.{LINES_MOST}
 use Rattle.liq_types.specs.declared.requests.Request.{Request}
 use Rattle.liq_outside.specs.Faults.{Rose}
-use Rattle.liq_lines.specs.Lines.{lines_in, ended, IsWithinLine}
+use Rattle.liq_lines.specs.Lines.{lines_in, ended, IsPartOfLine}
 use Rattle.liq_sessions.specs.declared.script.Script.{Script}
 use Rattle.liq_scripts.specs.declared.stops.Stop.{Stop}
 use Rattle.liq_scripts.specs.declared.stops.Stop.TheVariants.{BadLine, ReadFault, NoMemory, Limit}
@@ -22,7 +22,7 @@ StopsAfter (BadLine number) bytes left asked =
     × ((line : List ℕ) × IsBadLine line × ((more : List (List ℕ)) × BeginsWith bytes asked (line ∷ more)))
 -- they are all whose line ends the source gave
 StopsAfter ReadFault bytes left asked =
-    (front : List (List ℕ)) × AreAsked front asked × ((part : List ℕ) × IsWithinLine part × ((rest : List ℕ) × (left ≡ Some rest) × (bytes ≡ ended front ++ part ++ rest)))
+    (front : List (List ℕ)) × AreAsked front asked × ((part : List ℕ) × IsPartOfLine (length asked) part × ((rest : List ℕ) × (left ≡ Some rest) × (bytes ≡ ended front ++ part ++ rest)))
 StopsAfter NoMemory bytes left asked = (more : List (List ℕ)) × BeginsWith bytes asked more
 -- as many lines as are answered, and a further one begins
 StopsAfter Limit bytes left asked =

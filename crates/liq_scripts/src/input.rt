@@ -1,6 +1,6 @@
 //! The scripts of the sessions, read from the lines of a source.
 
-ghost use Rattle.std.specs.Prelude.{[], ◌≡◌, ◌≤◌, ◌<◌, ◌+◌, ℕ, List, Option, Some, length, vec_len, vec_capacity, IsOkUnless, IfOk, OnOk, All};
+ghost use Rattle.std.specs.Prelude.{[], ◌≡◌, ◌≤◌, ◌<◌, ◌+◌, ℕ, List, Option, Some, length, vec_len, vec_capacity, IsOkUnless, IfOk, OnOk, sum_by};
 ghost use Rattle.liq_types.specs.declared.requests.Request.{Request};
 ghost use Rattle.liq_outside.specs.Faults.{Rose};
 ghost use Rattle.liq_lines.specs.Lines.{lines_in};
@@ -29,7 +29,8 @@ use std::alloc::Global;
 /// - [`Stop::Limit`]: a line behind the last that is answered begins.
 pub fn read_scripts<S: Source>(alloc: Global, input: &mut S) -> Result<Vec<Script>, Stop>
     ensures read { Gathers result (S.left input.old) (S.left input.new) }
-    ensures short { IfOk result (λ scripts. All (λ script. length script.requests ≤ LINES_MOST) scripts.items) }
+    // All scripts together have no more requests than there are lines.
+    ensures few { IfOk result (λ scripts. sum_by (λ script. length script.requests) scripts.items ≤ LINES_MOST) }
     ensures source { ReadCause result (S.faults input.old) (S.faults input.new) }
 
     // Where each line asks something, none is too many and the source meets no fault, memory alone can be missing.
@@ -54,7 +55,7 @@ fn read_lines<S: Source>(
     requires room { LINE_BYTES ≤ vec_capacity line.old }
     requires blank { scripts.old.items ≡ scripts_of [] }
     ensures read { Comes result (S.left input.old) scripts.new.items (S.left input.new) }
-    ensures short { OnOk result (All (λ script. length script.requests ≤ LINES_MOST) scripts.new.items) }
+    ensures few { OnOk result (sum_by (λ script. length script.requests) scripts.new.items ≤ LINES_MOST) }
     ensures source { ReadCause result (S.faults input.old) (S.faults input.new) }
 {
     for read in 0..LINES_MOST {

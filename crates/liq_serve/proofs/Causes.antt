@@ -15,7 +15,12 @@ read_same WriteFault before after other same = same
 read_same NoMemory before after other same = same
 read_same DiskFault before after other same = same
 read_same (Damaged side number) before after other same = same
-read_same Limit before after other same = same
+read_same (Limit number) before after other same = same
+
+-- where the source is not read its count stays
+pub unread_causes : (end : Result (Unit {0}) Halt) (count : ℕ) → end ≢ Err ReadFault → ReadCause end count count
+unread_causes (Ok done) count other = refl
+unread_causes (Err halt) count other = read_same halt count count other refl
 
 -- and none by the sink
 pub write_same : {T : Type 0} (halt : Halt) (before after : ℕ) → (let r : Result T Halt = Err halt in r ≢ Err WriteFault) → after ≡ before → WriteCause {T = T} (Err halt) before after
@@ -25,7 +30,7 @@ write_same WriteFault before after other same = absurd (other refl)
 write_same NoMemory before after other same = same
 write_same DiskFault before after other same = same
 write_same (Damaged side number) before after other same = same
-write_same Limit before after other same = same
+write_same (Limit number) before after other same = same
 
 -- a part of the run that went well stands before it
 pub read_later : {T : Type 0} (end : Result T Halt) (a b c : ℕ) → b ≡ a → ReadCause end b c → ReadCause end a c
@@ -42,7 +47,7 @@ write_no_fewer (Err WriteFault) before after c = c.0
 write_no_fewer (Err NoMemory) before after c = omega (arith, c)
 write_no_fewer (Err DiskFault) before after c = omega (arith, c)
 write_no_fewer (Err (Damaged side number)) before after c = omega (arith, c)
-write_no_fewer (Err Limit) before after c = omega (arith, c)
+write_no_fewer (Err (Limit number)) before after c = omega (arith, c)
 
 -- ---- what a status says
 
@@ -54,7 +59,7 @@ source_causes (Err WriteFault) before after c = (λ h. absurd (omega (arith, h))
 source_causes (Err NoMemory) before after c = (λ h. absurd (omega (arith, h)), λ _. c)
 source_causes (Err DiskFault) before after c = (λ h. absurd (omega (arith, h)), λ _. c)
 source_causes (Err (Damaged side number)) before after c = (λ h. absurd (omega (arith, h)), λ _. c)
-source_causes (Err Limit) before after c = (λ h. absurd (omega (arith, h)), λ _. c)
+source_causes (Err (Limit number)) before after c = (λ h. absurd (omega (arith, h)), λ _. c)
 
 pub sink_causes : (end : Result (Unit {0}) Halt) (before after : ℕ) → LastCause end before after → (status_of end ≡ 4 → Rose before after) × (status_of end ≡ 0 → after ≡ before)
 sink_causes (Ok done) before after c = (λ h. absurd (omega (arith, h)), λ _. c)
@@ -64,7 +69,7 @@ sink_causes (Err WriteFault) before after c = (λ _. c, λ h. absurd (omega (ari
 sink_causes (Err NoMemory) before after c = (λ h. absurd (omega (arith, h)), λ h. absurd (omega (arith, h)))
 sink_causes (Err DiskFault) before after c = (λ h. absurd (omega (arith, h)), λ h. absurd (omega (arith, h)))
 sink_causes (Err (Damaged side number)) before after c = (λ h. absurd (omega (arith, h)), λ h. absurd (omega (arith, h)))
-sink_causes (Err Limit) before after c = (λ h. absurd (omega (arith, h)), λ h. absurd (omega (arith, h)))
+sink_causes (Err (Limit number)) before after c = (λ h. absurd (omega (arith, h)), λ h. absurd (omega (arith, h)))
 
 pub disk_causes : (end : Result (Unit {0}) Halt) (before after : Faults) → DiskCause end before after → (status_of end ≡ 5 → OneRose before after) × ((status_of end ≡ 5 → ⊥) → after ≡ before)
 disk_causes (Ok done) before after c = (λ h. absurd (omega (arith, h)), λ _. c)
@@ -74,4 +79,4 @@ disk_causes (Err WriteFault) before after c = (λ h. absurd (omega (arith, h)), 
 disk_causes (Err DiskFault) before after c = (λ _. c, λ other. absurd (other refl))
 disk_causes (Err (Damaged side number)) before after c = (λ h. absurd (omega (arith, h)), λ _. c)
 disk_causes (Err NoMemory) before after c = (λ h. absurd (omega (arith, h)), λ _. c)
-disk_causes (Err Limit) before after c = (λ h. absurd (omega (arith, h)), λ _. c)
+disk_causes (Err (Limit number)) before after c = (λ h. absurd (omega (arith, h)), λ _. c)

@@ -69,8 +69,8 @@ last_written start DiskFault bytes fault left before now after so h adds =
     record { requests = h.requests; few = h.few; read = h.read; written = line_behind fault (lines start h.requests) (last DiskFault) before now after h.written adds; beside = h.beside }
 last_written start (Damaged side number) bytes fault left before now after so h adds =
     record { requests = h.requests; few = h.few; read = h.read; written = line_behind fault (lines start h.requests) (last (Damaged side number)) before now after h.written adds; beside = h.beside }
-last_written start Limit bytes fault left before now after so h adds =
-    record { requests = h.requests; few = h.few; read = h.read; written = line_behind fault (lines start h.requests) (last Limit) before now after h.written adds; beside = h.beside }
+last_written start (Limit number) bytes fault left before now after so h adds =
+    record { requests = h.requests; few = h.few; read = h.read; written = line_behind fault (lines start h.requests) (last (Limit number)) before now after h.written adds; beside = h.beside }
 last_written start WriteFault bytes fault left before now after so h adds =
     record { requests = h.requests; few = h.few; read = h.read; written = cut_stays start fault h.requests before now after h.written adds; beside = h.beside }
 
@@ -94,7 +94,7 @@ waited start core kept (Err WriteFault) bytes left w before now other h = absurd
 waited start core kept (Err NoMemory) bytes left w before now other h = h.written
 waited start core kept (Err DiskFault) bytes left w before now other h = h.written
 waited start core kept (Err (Damaged side number)) bytes left w before now other h = h.written
-waited start core kept (Err Limit) bytes left w before now other h = h.written
+waited start core kept (Err (Limit number)) bytes left w before now other h = h.written
 
 pub closing_cut : (start : State) (core : Core) (kept : State → Request → Type 0) (end : Result (Unit {0}) Halt) (halt : Halt) (bytes : List ℕ) (left : Option (List ℕ)) (w w' : List ℕ) (before now after : Option (List ℕ)) → (end ≡ Err WriteFault → ⊥) → Comes start end core kept bytes left w before now → WritesFront (Err halt) w w' now after → Ends start (Err halt) core kept bytes left before after
 closing_cut start core kept end (BadLine n) bytes left w w' before now after other h f = absurd f
@@ -102,7 +102,7 @@ closing_cut start core kept end ReadFault bytes left w w' before now after other
 closing_cut start core kept end NoMemory bytes left w w' before now after other h f = absurd f
 closing_cut start core kept end DiskFault bytes left w w' before now after other h f = absurd f
 closing_cut start core kept end (Damaged side number) bytes left w w' before now after other h f = absurd f
-closing_cut start core kept end Limit bytes left w w' before now after other h f = absurd f
+closing_cut start core kept end (Limit number) bytes left w w' before now after other h f = absurd f
 closing_cut start core kept end WriteFault bytes left w w' before now after other h f =
     cut_ends start core kept bytes left w' before after (cut_comes start core kept bytes h.requests left w w' h.more before now after h.few h.begins (waited start core kept end bytes left w before now other h) h.stands f)
 
@@ -130,7 +130,7 @@ closing_well start core kept (Err DiskFault) bytes left w w' before now after ot
     record { requests = h.requests; few = h.few; read = h.read; written = nothing_follows _ before after (all_written start h.requests w w' before now after h.written f none); beside = (h.stands, (h.halted.0, h.halted.1, h.halted.2, refl, h.halted.4)) }
 closing_well start core kept (Err (Damaged side number)) bytes left w w' before now after other h f none =
     record { requests = h.requests; few = h.few; read = h.read; written = nothing_follows _ before after (all_written start h.requests w w' before now after h.written f none); beside = (h.stands, tt) }
-closing_well start core kept (Err Limit) bytes left w w' before now after other h f none =
+closing_well start core kept (Err (Limit number)) bytes left w w' before now after other h f none =
     record { requests = h.requests; few = h.few; read = h.read; written = nothing_follows _ before after (all_written start h.requests w w' before now after h.written f none); beside = (h.stands, tt) }
 closing_well start core kept (Err WriteFault) bytes left w w' before now after other h f none = absurd (other refl)
 
@@ -148,6 +148,11 @@ no_room start bytes left before so beside =
 pub rose_later : (a b c : ℕ) → a ≤ b → Rose b c → Rose a c
 rose_later a b c le (inl lt) = inl (omega (arith, le, lt))
 rose_later a b c le (inr most) = inr most
+
+-- and a fault of a part of a call is one of the whole
+pub rose_earlier : (a b c : ℕ) → b ≤ c → Rose a b → Rose a c
+rose_earlier a b c le (inl lt) = inl (omega (arith, le, lt))
+rose_earlier a b c le (inr most) = inr (omega (arith, le, most))
 
 pub adds_weaker : (line : List ℕ) (F G : Type 0) (before now : Option (List ℕ)) → (F → G) → Adds [] line F before now → Adds [] line G before now
 adds_weaker line F G before now f a = (a.0, a.1, by a.2) where

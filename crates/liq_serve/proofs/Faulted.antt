@@ -1,5 +1,5 @@
 -- A request that is answered by a disk's fault.
-use Rattle.std.proofs.Common.{◌≡◌, ℕ, ◌≤◌, List, Option, Some, None, refl, sym, subst, ◌∙◌, arith}
+use Rattle.std.proofs.Common.{◌≡◌, ℕ, ◌≤◌, List, Option, Some, None, refl, sym, subst, arith}
 use Rattle.std.specs.Prelude.{◌↔◌, IsSome}
 use Rattle.liq_outside.specs.Disk.{GoesOn, LeftNow, LeftSince}
 use Rattle.liq_types.specs.declared.replies.Answer.{Answer}
@@ -30,11 +30,11 @@ pub accepted_command : (s : State) (request : Request) → IsAccepted s request 
 accepted_command s (Do command) h = tt
 accepted_command s (Ask query) h = h
 
-some_of : {A : Type 0} (o : Option A) → IsSome o → (x : A) × (o ≡ Some x)
+pub some_of : {A : Type 0} (o : Option A) → IsSome o → (x : A) × (o ≡ Some x)
 some_of None h = absurd cc
 some_of (Some x) h = (x, refl)
 
-is_some_of : {A : Type 0} (o : Option A) (x : A) → o ≡ Some x → IsSome o
+pub is_some_of : {A : Type 0} (o : Option A) (x : A) → o ≡ Some x → IsSome o
 is_some_of None x is = absurd cc
 is_some_of (Some y) x is = refl
 

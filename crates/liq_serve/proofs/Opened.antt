@@ -1,5 +1,5 @@
 -- The disks of a run: as it finds them, and as it leaves them.
-use Rattle.std.proofs.Common.{◌≡◌, ◌≢◌, ℕ, Bool, true, false, List, [], ◌∷◌, Option, Some, None, Result, Ok, Err, refl, sym, ap, ap₂, subst, ◌∙◌, arith, inl, inr}
+use Rattle.std.proofs.Common.{◌≡◌, ℕ, Bool, true, false, List, [], Option, Some, None, Result, Ok, Err, refl, ap₂, subst, ◌∙◌, arith, inl, inr}
 use Rattle.std.specs.Prelude.{◌⊎◌, cond, nat_lt}
 use Rattle.liq_types.specs.declared.requests.Command.{Command}
 use Rattle.liq_types.specs.declared.requests.Request.{Request}
@@ -7,28 +7,27 @@ use Rattle.liq_types.specs.declared.requests.Request.TheVariants.{Do, Ask}
 use Rattle.liq_types.specs.State.{State, opening}
 use Rattle.liq_types.specs.WellFormed.{IsWellFormed}
 use Rattle.liq_core.specs.Core.{Core, StandsFor}
-use Rattle.liq_core.specs.Step.{Ruling, after, after_ruling, run}
+use Rattle.liq_core.specs.Step.{Allowed, Ruling, after, after_ruling, ruling, run}
 use Rattle.liq_journal.specs.declared.damage.Damage.{Damage}
 use Rattle.liq_journal.specs.Written.{Found, Written, Absent, Damaged, Open, found_on}
 use Rattle.liq_lines.specs.Lines.{lines_in}
 use Rattle.liq_lines.proofs.Bytes.{writes_nothing}
 use Rattle.liq_pairs.specs.declared.side.Side.{Side}
-use Rattle.liq_pairs.specs.Kept.{IsKept}
 use Rattle.liq_pairs.specs.Pair.{Standing, Nothing, Faulty, Holding, StandFor, pair_state, standing, standing_after, standing_of, state_on}
 use Rattle.liq_pairs.specs.Replay.{outcome}
-use Rattle.liq_pairs.specs.Unfinished.{IsRecovered}
+use Rattle.liq_pairs.specs.Unfinished.{HoldsUnfinished, IsRecovered}
 use Rattle.liq_pairs.proofs.Replaying.{opening_formed, outcome_formed}
-use Rattle.liq_store.specs.declared.answers.StoreFault.{StoreFault}
 use Rattle.liq_store.specs.declared.answers.StoreWhy.{StoreWhy}
 use Rattle.liq_store.specs.declared.answers.StoreWhy.TheVariants as why
 use Rattle.liq_store.specs.Keeping.{IsInOrder, IsInOrderWith, IsKeptAround}
 use Rattle.liq_store.specs.Memory.{IsAccepted}
+use Rattle.liq_store.specs.Opening.{IsNotOpened}
 use Rattle.liq_store.specs.Stored.{Stored}
 use Rattle.liq_serve.specs.declared.halts.Halt.{Halt}
 use Rattle.liq_serve.specs.declared.halts.Halt.TheVariants.{BadLine, ReadFault, WriteFault, DiskFault, NoMemory, Limit}
 use Rattle.liq_serve.specs.declared.halts.Halt.TheVariants as halts
-use Rattle.liq_serve.specs.Disks.{IsFurther, IsNext, DisksHold, DisksStand, EndsDamaged, IsNotOpened, IsStopped, KeepsAround, halt_of}
-use Rattle.liq_serve.specs.Progress.{Ends, HaltsAt}
+use Rattle.liq_serve.specs.Disks.{IsFurther, IsNext, DisksHold, DisksStand, EndsDamaged, IsStopped, KeepsAround, halt_of}
+use Rattle.liq_serve.specs.Progress.{HaltsAt}
 use Rattle.liq_serve.specs.Stops.{EndsIn, none_yet}
 
 -- ---- the state for which disks stand is well formed
@@ -82,6 +81,11 @@ state_formed l r s is = pair_formed (standing true l) (standing false r) s (stan
 pub still_stand : (l r a b : List ℕ) (s : State) → state_on a b ≡ state_on l r → state_on l r ≡ Ok s → StandFor a b s
 still_stand l r a b s stays is = record { state = s; is = stays ∙ is; same = record { image = refl; records = refl }; formed = state_formed l r s is }
 
+-- what was unfinished is accepted
+pub unfinished_is_allowed : (l r : List ℕ) (s : State) (c : Command) → HoldsUnfinished l r s c → ruling s c ≡ Allowed
+unfinished_is_allowed l r s c (side, inl unfinished) = unfinished.record_is.allowed
+unfinished_is_allowed l r s c (side, inr rotated) = absurd rotated.rotation.rotation
+
 module _ {D : Type 0} (seen : D → Option (List ℕ)) (faults : D → ℕ) where
   -- ---- no store was opened
 
@@ -95,9 +99,9 @@ module _ {D : Type 0} (seen : D → Option (List ℕ)) (faults : D → ℕ) wher
         written = ([], writes_nothing before, inl refl);
         beside = λ kept a b told_a told_b. by a b (h.reads l r a b start told_l told_r kept told_a told_b);
       } where
-        by : (a b : List ℕ) → IsRecovered l r start a b → StandFor a b start ⊎ ((c : Command) × IsFurther bytes [] l r start c × StandFor a b (after start c))
+        by : (a b : List ℕ) → IsRecovered l r start a b → StandFor a b start ⊎ ((c : Command) × IsFurther bytes [] l r start c × (ruling start c ≡ Allowed) × StandFor a b (after start c))
         by a b (inl stays) = inl stays.stands
-        by a b (inr more) = inr (more.0, inr (refl, more.1), more.2.stands)
+        by a b (inr more) = inr (more.0, inr (refl, more.1), unfinished_is_allowed l r start more.0 more.1, more.2.stands)
   unopened_by (why.Damaged side damage) fl fr left right h bytes l r unread before told_l told_r start is = absurd (cc (h.is_why l r told_l told_r, is))
   unopened_by why.NoMemory fl fr left right h bytes l r unread before told_l told_r start is =
       record {
@@ -111,11 +115,11 @@ module _ {D : Type 0} (seen : D → Option (List ℕ)) (faults : D → ℕ) wher
   -- ---- a store was opened
 
   -- a command that is accepted makes its step
-  around : (s : State) (request : Request) (bytes l r : List ℕ) (start : State) (requests : List Request) (a b : List ℕ) → IsNext bytes requests request → IsAccepted s request → IsKeptAround s request a b → StandFor a b s ⊎ ((c : Command) × IsFurther bytes requests l r start c × StandFor a b (after s c))
+  around : (s : State) (request : Request) (bytes l r : List ℕ) (start : State) (requests : List Request) (a b : List ℕ) → IsNext bytes requests request → IsAccepted s request → IsKeptAround s request a b → StandFor a b s ⊎ ((c : Command) × IsFurther bytes requests l r start c × (ruling s c ≡ Allowed) × StandFor a b (after s c))
   around s (Ask query) bytes l r start requests a b next accepted kept = absurd accepted
   around s (Do c) bytes l r start requests a b next accepted (inl kept) = inl kept.stands
   around s (Do c) bytes l r start requests a b next accepted (inr kept) =
-      inr (c, inl next, subst (λ (q : Ruling). StandFor a b (after_ruling s c q).0) accepted kept.stands)
+      inr (c, inl next, accepted, subst (λ (q : Ruling). StandFor a b (after_ruling s c q).0) accepted kept.stands)
 
   module _ (moment : D → ℕ) (left_at : D → ℕ → List ℕ → Type 0) where
     settled : (store : Stored D) (s : State) → store.stopped ≡ None → IsInOrder seen moment left_at store → StandsFor store.core s → DisksStand seen store.left store.right s
@@ -133,7 +137,7 @@ module _ {D : Type 0} (seen : D → Option (List ℕ)) (faults : D → ℕ) wher
     left_by store (Err WriteFault) bytes l r start requests stopped order stands halted = settled store (run start requests).0 stopped order stands
     left_by store (Err (halts.Damaged side number)) bytes l r start requests stopped order stands halted = settled store (run start requests).0 stopped order stands
     left_by store (Err NoMemory) bytes l r start requests stopped order stands halted = settled store (run start requests).0 stopped order stands
-    left_by store (Err Limit) bytes l r start requests stopped order stands halted = settled store (run start requests).0 stopped order stands
+    left_by store (Err (Limit number)) bytes l r start requests stopped order stands halted = settled store (run start requests).0 stopped order stands
 
 -- a run is at its end, and this holds beside
 pub ends_with : (start : State) (end : Result (Unit {0}) Halt) (bytes : List ℕ) (unread before now : Option (List ℕ)) (P Q : List Request → Type 0) → EndsIn none_yet start end bytes unread ⊥ before now P → ((requests : List Request) → P requests → Q requests) → EndsIn none_yet start end bytes unread ⊥ before now Q

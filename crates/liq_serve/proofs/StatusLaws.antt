@@ -19,7 +19,7 @@ status_known (Err WriteFault) = (4, lit< tt, refl)
 status_known (Err DiskFault) = (5, lit< tt, refl)
 status_known (Err (Damaged side number)) = (6, lit< tt, refl)
 status_known (Err NoMemory) = (7, lit< tt, refl)
-status_known (Err Limit) = (8, lit< tt, refl)
+status_known (Err (Limit number)) = (8, lit< tt, refl)
 
 -- ---- where all lines are requests
 
@@ -45,8 +45,8 @@ complete start bytes left all spelled few (Err WriteFault) r w d answered e = ab
 complete start bytes left all spelled few (Err NoMemory) r w d answered e = inr refl
 complete start bytes left all spelled few (Err DiskFault) r w d answered e = absurd (d refl)
 complete start bytes left all spelled few (Err (Damaged side number)) r w d answered e = absurd e
-complete start bytes left all spelled few (Err Limit) r w d answered e =
-    let at = e.1.1.1 in
+complete start bytes left all spelled few (Err (Limit number)) r w d answered e =
+    let at = e.2.1.1 in
     let whole = same_length (lines_in bytes) all spelled in
     let front = same_length at.0 answered at.1 in
-    absurd (omega (arith, few, e.0, whole, front, ap length at.2, length-append at.0 (e.1.0 ∷ e.1.1.0)))
+    absurd (omega (arith, few, e.1, whole, front, ap length at.2, length-append at.0 (e.2.0 ∷ e.2.1.0)))

@@ -70,14 +70,14 @@ answered_cut start kept ReadFault bytes m core u left w w' before now now' few a
 answered_cut start kept NoMemory bytes m core u left w w' before now now' few a f = absurd f
 answered_cut start kept DiskFault bytes m core u left w w' before now now' few a f = absurd f
 answered_cut start kept (Damaged side number) bytes m core u left w w' before now now' few a f = absurd f
-answered_cut start kept Limit bytes m core u left w w' before now now' few a f = absurd f
+answered_cut start kept (Limit number) bytes m core u left w w' before now now' few a f = absurd f
 answered_cut start kept WriteFault bytes m core u left w w' before now now' few a f =
     cut_comes start core kept bytes a.requests left w w' (lines_in a.rest) before now now' (omega (arith, few, a.count)) (begins_with start bytes m core u w before now a) a.written a.stands f
 
 -- ---- the run stops at the next line
 
-pub reading_fails : (start : State) (kept : State → Request → Type 0) (bytes taken : List ℕ) (n : ℕ) (core : Core) (u left : Option (List ℕ)) (w : List ℕ) (before now : Option (List ℕ)) → n ≤ LINES_MOST → ReadsRequest u (unread taken left) taken (n + 1) (Err ReadFault) → Answered start bytes n core u w before now → Comes start (Err ReadFault) core kept bytes left w before now
-reading_fails start kept bytes taken n core u left w before now few r a =
+pub reading_fails : (start : State) (kept : State → Request → Type 0) (bytes taken : List ℕ) (n : ℕ) (core : Core) (u left : Option (List ℕ)) (w : List ℕ) (before now : Option (List ℕ)) → n ≤ LINES_MOST → (r : ReadsRequest u (unread taken left) taken (n + 1) (Err ReadFault)) → (n ≡ LINES_MOST → r.0 ≡ []) → Answered start bytes n core u w before now → Comes start (Err ReadFault) core kept bytes left w before now
+reading_fails start kept bytes taken n core u left w before now few r none a =
     let got = told_left a.rest r.0 taken left (subst (λ (v : Option (List ℕ)). Reads v r.0 (unread taken left)) a.unread_is r.2) in
     record {
       requests = a.requests;
@@ -87,7 +87,7 @@ reading_fails start kept bytes taken n core u left w before now few r a =
         a.spelled,
         (
           r.0,
-          r.1,
+          record { within = r.1; short = r.4; none_behind = λ e. none (omega (arith, e, a.count)) },
           (
             got.0,
             got.1,
@@ -119,16 +119,16 @@ reading_halts start kept (BadLine at) bytes taken n core u left w before now few
       stands = a.stands;
       halted = tt;
     }
-reading_halts start kept ReadFault bytes taken n core u left w before now few r a = reading_fails start kept bytes taken n core u left w before now (omega (arith, few)) r a
+reading_halts start kept ReadFault bytes taken n core u left w before now few r a = reading_fails start kept bytes taken n core u left w before now (omega (arith, few)) r (λ e. absurd (omega (arith, e, few))) a
 reading_halts start kept WriteFault bytes taken n core u left w before now few r a = absurd r
 reading_halts start kept NoMemory bytes taken n core u left w before now few r a = absurd r
 reading_halts start kept DiskFault bytes taken n core u left w before now few r a = absurd r
 reading_halts start kept (Damaged side number) bytes taken n core u left w before now few r a = absurd r
-reading_halts start kept Limit bytes taken n core u left w before now few r a = absurd r
+reading_halts start kept (Limit number) bytes taken n core u left w before now few r a = absurd r
 
 -- ---- the input is over
 
-all_shares : (start : State) (requests : List Request) → HaveTheirShares start requests
+pub all_shares : (start : State) (requests : List Request) → HaveTheirShares start requests
 all_shares start requests earlier is account =
     let all = after-append opening earlier requests ∙ ap (λ (s : State). (run s requests).0) is in
     subst (λ (s : State). IsWithinAllowance s account (events opening (accepted opening (earlier ++ requests)))) all (reached_shares (earlier ++ requests) account)
@@ -255,7 +255,7 @@ last_answered start kept bytes line taken r n core core' u left w w' before now 
 pub answering_halts : (start : State) (kept : State → Request → Type 0) (halt : Halt) (bytes line : List ℕ) (more : List (List ℕ)) (r : Request) (n : ℕ) (core core' : Core) (u left : Option (List ℕ)) (w w' : List ℕ) (before now now' : Option (List ℕ)) → n < LINES_MOST → IsRequest line r → (a : Answered start bytes n core u w before now) → lines_in a.rest ≡ line ∷ more → Answers (run start a.requests).0 r (Err halt) core' w w' now now' → (halt ≡ DiskFault → kept (run start a.requests).0 r) → Comes start (Err halt) core' kept bytes left w' before now'
 answering_halts start kept (BadLine at) bytes line more r n core core' u left w w' before now now' few is a first failed kept_so = absurd failed
 answering_halts start kept ReadFault bytes line more r n core core' u left w w' before now now' few is a first failed kept_so = absurd failed
-answering_halts start kept Limit bytes line more r n core core' u left w w' before now now' few is a first failed kept_so = absurd failed
+answering_halts start kept (Limit number) bytes line more r n core core' u left w w' before now now' few is a first failed kept_so = absurd failed
 answering_halts start kept (Damaged side number) bytes line more r n core core' u left w w' before now now' few is a first failed kept_so = absurd failed
 answering_halts start kept DiskFault bytes line more r n core core' u left w w' before now now' few is a first failed kept_so =
     record {
@@ -318,7 +318,7 @@ opened start bytes reader waiting core left before stands fresh none told =
       };
     }
 
-pub limit_halts : (start : State) (kept : State → Request → Type 0) (bytes : List ℕ) (n byte : ℕ) (core : Core) (u u' left : Option (List ℕ)) (w : List ℕ) (before now : Option (List ℕ)) → n ≡ LINES_MOST → Reads u (byte ∷ []) u' → Answered start bytes n core u w before now → Comes start (Err Limit) core kept bytes left w before now
+pub limit_halts : (start : State) (kept : State → Request → Type 0) (bytes : List ℕ) (n byte : ℕ) (core : Core) (u u' left : Option (List ℕ)) (w : List ℕ) (before now : Option (List ℕ)) → n ≡ LINES_MOST → Reads u (byte ∷ []) u' → Answered start bytes n core u w before now → Comes start (Err (Limit LINES_MOST)) core kept bytes left w before now
 limit_halts start kept bytes n byte core u None left w before now full reads a = absurd (cc (reads, a.unread_is))
 limit_halts start kept bytes n byte core u (Some rest) left w before now full reads a =
     let got = told_reads a.rest (byte ∷ []) rest (subst (λ (v : Option (List ℕ)). Reads v (byte ∷ []) (Some rest)) a.unread_is reads) in
@@ -327,7 +327,7 @@ limit_halts start kept bytes n byte core u (Some rest) left w before now full re
     record {
       requests = a.requests;
       few = omega (arith, full, a.count);
-      read = (a.count ∙ full, (first.0, (first.1, (a.front, a.spelled, whole))));
+      read = (refl, a.count ∙ full, (first.0, (first.1, (a.front, a.spelled, whole))));
       more = lines_in a.rest;
       begins = begins_with start bytes n core u w before now a;
       written = a.written;

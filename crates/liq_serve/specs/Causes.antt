@@ -15,10 +15,6 @@ abbrev pub WriteCause : {T : Type 0} → Result T Halt → ℕ → ℕ → Type 
 WriteCause (Err WriteFault) before after = (before ≤ after) × Rose before after
 WriteCause _ before after = after ≡ before
 
--- the counts of two disks
-abbrev pub counts_of : {D : Type 0} → (D → ℕ) → D → D → Faults
-counts_of faults left right = record { left = faults left; right = faults right }
-
 -- The counts of both disks, likewise: one of them rose.
 abbrev pub DiskCause : {T : Type 0} → Result T Halt → Faults → Faults → Type 0
 DiskCause (Err DiskFault) before after = OneRose before after

@@ -1,26 +1,21 @@
 -- What a run leaves on the disks.
-use Rattle.std.specs.Prelude.{ℕ, ◌≡◌, ◌≢◌, ◌⊎◌, ◌∷◌, [], List, Option, Some, None, Result, Ok, Err}
+use Rattle.std.specs.Prelude.{ℕ, ◌≡◌, ◌⊎◌, ◌∷◌, [], List, Option, Some, None, Result, Ok, Err}
 use Rattle.liq_types.specs.declared.replies.Reply.{Reply}
 use Rattle.liq_types.specs.declared.requests.Command.{Command}
 use Rattle.liq_types.specs.declared.requests.Request.{Request}
 use Rattle.liq_types.specs.declared.requests.Request.TheVariants.{Do}
 use Rattle.liq_types.specs.State.{State}
 use Rattle.liq_core.specs.Core.{Core, StandsFor}
-use Rattle.liq_core.specs.Step.{after, run, step}
+use Rattle.liq_core.specs.Step.{Allowed, after, ruling, run, step}
 use Rattle.liq_journal.specs.declared.damage.Damage.{Damage}
 use Rattle.liq_pairs.specs.declared.side.Side.{Side}
 use Rattle.liq_pairs.specs.Kept.{IsKept}
 use Rattle.liq_pairs.specs.Pair.{StandFor, state_on}
-use Rattle.liq_pairs.specs.Unfinished.{HoldsUnfinished, IsRecovered}
-use Rattle.liq_store.specs.declared.answers.StoreFault.{StoreFault}
+use Rattle.liq_pairs.specs.Unfinished.{HoldsUnfinished}
 use Rattle.liq_store.specs.declared.answers.StoreWhy.{StoreWhy}
 use Rattle.liq_store.specs.declared.answers.StoreWhy.TheVariants as why
-use Rattle.liq_store.specs.Causes.{CausesWhy}
 use Rattle.liq_store.specs.Keeping.{IsKeptAround}
 use Rattle.liq_store.specs.Memory.{IsAccepted, TakesMemory}
-use Rattle.liq_store.specs.Opening.{IsWhyOf}
-use Rattle.liq_store.specs.Stored.{Stored}
-use Rattle.liq_serve.specs.Causes.{counts_of}
 use Rattle.liq_serve.specs.declared.halts.Halt.{Halt}
 use Rattle.liq_serve.specs.declared.halts.Halt.TheVariants.{DiskFault, Damaged, NoMemory}
 use Rattle.liq_serve.specs.Requests.{BeginsWith, IsRequest}
@@ -58,26 +53,6 @@ module _ {D : Type 0} (seen : D → Option (List ℕ)) where
 abbrev pub IsNext : List ℕ → List Request → Request → Type 0
 IsNext bytes requests request = (line : List ℕ) × (more : List (List ℕ)) × IsRequest line request × BeginsWith bytes requests (line ∷ more)
 
--- ---- a store is opened, or not
-
--- the state for which the disks stand is the store's, nothing met a fault, and the store goes on
-pub record OpensOn {D : Type 0} (seen : D → Option (List ℕ)) (faults : D → ℕ) (left right : D) (store : Stored D) : Type 0 where
-  pub state : (l r : List ℕ) → seen left ≡ Some l → seen right ≡ Some r → (s : State) × (state_on l r ≡ Ok s) × StandsFor store.core s
-  pub going : store.stopped ≡ None
-  pub counts : counts_of faults store.left store.right ≡ counts_of faults left right
-
--- Why it was not: a damage is the first of the disks. But for a disk's fault they stand for what they stood for; after one they
--- are kept for that, or for it after the command that they held unfinished.
-pub record IsNotOpened {D : Type 0} (seen : D → Option (List ℕ)) (faults : D → ℕ) (left right : D) (fault : StoreFault D) : Type 0 where
-  pub cause : CausesWhy fault.why (counts_of faults left right) (counts_of faults fault.left fault.right)
-  pub is_why : (l r : List ℕ) → seen left ≡ Some l → seen right ≡ Some r → IsWhyOf l r fault.why
-  pub stays :
-      (fault.why ≢ why.DiskFault) → (l r a b : List ℕ) → seen left ≡ Some l → seen right ≡ Some r → seen fault.left ≡ Some a → seen fault.right ≡ Some b
-      → state_on a b ≡ state_on l r
-  pub reads :
-      (l r a b : List ℕ) (s : State) → seen left ≡ Some l → seen right ≡ Some r → IsKept l r s → seen fault.left ≡ Some a → seen fault.right ≡ Some b
-      → IsRecovered l r s a b
-
 -- ---- the disks at a run's end
 
 -- the next line's command, or one that the disks held unfinished where no request was answered
@@ -85,18 +60,21 @@ abbrev pub IsFurther : List ℕ → List Request → List ℕ → List ℕ → S
 IsFurther bytes requests l r start c = IsNext bytes requests (Do c) ⊎ ((requests ≡ []) × HoldsUnfinished l r start c)
 
 -- The disks of a run that began with l and r on them, for which they stood for this state: they stand for the state after the requests.
--- After a disk's fault they may hold one command more, where they were kept for the state at the beginning.
+-- After a disk's fault they may hold one command more that is accepted there, where they were kept for the state at the beginning.
 abbrev pub DisksHold : {D : Type 0} → (D → Option (List ℕ)) → Result (Unit {0}) Halt → List ℕ → List ℕ → List ℕ → State → D → D → List Request → Type 0
 DisksHold seen (Err DiskFault) bytes l r start left right requests =
     IsKept l r start → (a b : List ℕ) → seen left ≡ Some a → seen right ≡ Some b
-    → StandFor a b (run start requests).0 ⊎ ((c : Command) × IsFurther bytes requests l r start c × StandFor a b (after (run start requests).0 c))
+    → StandFor a b (run start requests).0 ⊎ ((c : Command) × IsFurther bytes requests l r start c × (ruling (run start requests).0 c ≡ Allowed) × StandFor a b (after (run start requests).0 c))
 DisksHold seen _ bytes l r start left right requests = DisksStand seen left right (run start requests).0
 
--- A word over damaged disks: the first damage is told, and stays; or a disk met a fault, or there was no memory, before it was found.
+-- where both disks tell their bytes, this is their first damage
+abbrev pub StayDamaged : {D : Type 0} → (D → Option (List ℕ)) → Side → Damage → D → D → Type 0
+StayDamaged seen side damage left right = (a b : List ℕ) → seen left ≡ Some a → seen right ≡ Some b → state_on a b ≡ Err (side, damage)
+
+-- A word over damaged disks: the first damage is told; or a disk met a fault, or there was no memory, before it was found. It stays, but
+-- where a disk met a fault.
 abbrev pub EndsDamaged : {D : Type 0} → (D → Option (List ℕ)) → Side → Damage → List ℕ → List ℕ → Result (Unit {0}) Halt → D → D → Type 0
 EndsDamaged seen side damage l r (Err DiskFault) left right = Unit {0}
-EndsDamaged seen side damage l r (Err NoMemory) left right = Unit {0}
-EndsDamaged seen side damage l r (Err (Damaged which number)) left right =
-    (which ≡ side) × (number ≡ damage.index)
-    × ((a b : List ℕ) → seen left ≡ Some a → seen right ≡ Some b → state_on a b ≡ Err (side, damage))
+EndsDamaged seen side damage l r (Err NoMemory) left right = StayDamaged seen side damage left right
+EndsDamaged seen side damage l r (Err (Damaged which number)) left right = (which ≡ side) × (number ≡ damage.index) × StayDamaged seen side damage left right
 EndsDamaged seen side damage l r _ left right = ⊥

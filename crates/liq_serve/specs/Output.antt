@@ -2,7 +2,6 @@
 use Rattle.std.specs.Prelude.{ℕ, List, [], ◌∷◌, ◌++◌, codes, decimal}
 use Rattle.std.specs.List.{flat_map}
 use Rattle.liq_types.specs.declared.replies.Reply.{Reply}
-use Rattle.liq_types.specs.declared.amounts.TheConstants.{LINES_MOST}
 use Rattle.liq_types.specs.declared.requests.Request.{Request}
 use Rattle.liq_types.specs.State.{State}
 use Rattle.liq_core.specs.Step.{run}
@@ -32,7 +31,7 @@ last WriteFault = []
 last DiskFault = codes "disk fault" ++ 10 ∷ []
 last (Damaged side number) = codes "damaged " ++ side_name side ++ codes " " ++ decimal number ++ 10 ∷ []
 last NoMemory = codes "no memory" ++ 10 ∷ []
-last Limit = codes "limit " ++ decimal LINES_MOST ++ 10 ∷ []
+last (Limit number) = codes "limit " ++ decimal number ++ 10 ∷ []
 
 -- what is written where the words are not understood
 abbrev pub usage : List ℕ

@@ -39,7 +39,7 @@ ReadsRequest before after taken number (Ok (LastLine request)) =
     (line : List ℕ) × IsRequest line request × IsWithinLine line × (line ≢ []) × Reads before line after × IsOver after
 ReadsRequest before after taken number (Ok End) = Reads before [] after × IsOver after
 ReadsRequest before after taken number (Err (BadLine at)) = (at ≡ number) × ReadsBad before after
-ReadsRequest before after taken number (Err ReadFault) = (part : List ℕ) × IsWithinLine part × Reads before part after × (taken ≡ [])
+ReadsRequest before after taken number (Err ReadFault) = (part : List ℕ) × IsWithinLine part × Reads before part after × (taken ≡ []) × (length part ≤ LINE_BYTES)
 ReadsRequest before after taken number (Err _) = ⊥
 
 -- The replies to these requests are written, but for those that wait. Of the requests whose replies wait none but the first is a

@@ -1,5 +1,5 @@
 -- Exit statuses.
-use Rattle.std.specs.Prelude.{ℕ, Result, Ok, Err}
+use Rattle.std.specs.Prelude.{ℕ, ◌≡◌, ◌⊎◌, Result, Ok, Err}
 use Rattle.liq_serve.specs.declared.halts.Halt.{Halt}
 use Rattle.liq_serve.specs.declared.halts.Halt.TheVariants.{BadLine, ReadFault, WriteFault, DiskFault, Damaged, NoMemory, Limit}
 
@@ -11,4 +11,8 @@ status_of (Err WriteFault) = 4
 status_of (Err DiskFault) = 5
 status_of (Err (Damaged side number)) = 6
 status_of (Err NoMemory) = 7
-status_of (Err Limit) = 8
+status_of (Err (Limit number)) = 8
+
+-- all is done, or there was no memory
+abbrev pub IsDone : ℕ → Type 0
+IsDone status = (status ≡ 0) ⊎ (status ≡ 7)

@@ -8,7 +8,7 @@ use Rattle.liq_core.specs.Events.{events}
 use Rattle.liq_core.specs.Step.{run, accepted}
 use Rattle.liq_serve.specs.declared.halts.Halt.{Halt}
 use Rattle.liq_serve.specs.declared.halts.Halt.TheVariants.{BadLine, ReadFault, WriteFault, DiskFault, Damaged, NoMemory, Limit}
-use Rattle.liq_lines.specs.Lines.{lines_in, ended, IsWithinLine}
+use Rattle.liq_lines.specs.Lines.{lines_in, ended, IsPartOfLine}
 use Rattle.liq_serve.specs.Output.{lines}
 use Rattle.liq_serve.specs.Requests.{AreRequests, IsBadLine, BeginsWith, BeginsWithTaker}
 use Rattle.liq_lines.specs.Writing.{Writes}
@@ -49,7 +49,7 @@ EndsAfter start (Err (BadLine number)) bytes left requests =
     × ((line : List ℕ) × IsBadLine line × ((more : List (List ℕ)) × BeginsWith bytes requests (line ∷ more)))
 -- they are all whose line ends the source gave
 EndsAfter start (Err ReadFault) bytes left requests =
-    (front : List (List ℕ)) × AreRequests front requests × ((part : List ℕ) × IsWithinLine part × ((rest : List ℕ) × (left ≡ Some rest) × (bytes ≡ ended front ++ part ++ rest)))
+    (front : List (List ℕ)) × AreRequests front requests × ((part : List ℕ) × IsPartOfLine (length requests) part × ((rest : List ℕ) × (left ≡ Some rest) × (bytes ≡ ended front ++ part ++ rest)))
 EndsAfter start (Err WriteFault) bytes left requests = (more : List (List ℕ)) × BeginsWith bytes requests more
 EndsAfter start (Err DiskFault) bytes left requests = (more : List (List ℕ)) × BeginsWith bytes requests more
 -- a run over damaged disks begins nowhere
@@ -58,8 +58,8 @@ EndsAfter start (Err (Damaged side number)) bytes left requests = ⊥
 EndsAfter start (Err NoMemory) bytes left requests =
     (more : List (List ℕ)) × BeginsWith bytes requests more × ((requests ≡ []) ⊎ BeginsWithTaker (run start requests).0 more)
 -- as many lines as one run answers, and a further one begins
-EndsAfter start (Err Limit) bytes left requests =
-    (length requests ≡ LINES_MOST) × ((line : List ℕ) × ((more : List (List ℕ)) × BeginsWith bytes requests (line ∷ more)))
+EndsAfter start (Err (Limit number)) bytes left requests =
+    (number ≡ LINES_MOST) × (length requests ≡ LINES_MOST) × ((line : List ℕ) × ((more : List (List ℕ)) × BeginsWith bytes requests (line ∷ more)))
 
 -- Behind what was said the line was written, or a front of it where the sink met a fault.
 abbrev pub Adds : List ℕ → List ℕ → Type 0 → Option (List ℕ) → Option (List ℕ) → Type 0

@@ -14,13 +14,6 @@ use liq_outside::Disk;
 use liq_store::Store;
 use liq_types::{Answer, Hint, Reply, Request};
 
-/// No place is known.
-pub const NO_HINT: Hint = Hint {
-    prev: None,
-    next: None,
-    version: 0,
-};
-
 /// Makes the request's step, and gives its reply.
 pub fn call<D: Disk>(store: &mut Store<D>, request: &Request) -> Result<Reply, Halt>
     requires built { IsTrue (built request.now) }
@@ -35,7 +28,7 @@ pub fn call<D: Disk>(store: &mut Store<D>, request: &Request) -> Result<Reply, H
     ensures cause { DiskCause result (record { left = D.faults store.old.left; right = D.faults store.old.right }) (record { left = D.faults store.new.left; right = D.faults store.new.right }) }
 {
     protocols_stand(store.protocol());
-    match store.call(request, &NO_HINT) {
+    match store.call(request, &Hint::NONE) {
         Answer::Reply(reply) => Ok(reply),
         Answer::NoMemory => Err(Halt::NoMemory),
         Answer::DiskFault => Err(Halt::DiskFault),

@@ -1,10 +1,13 @@
 //! How a run ends: its last line and its status.
 
-ghost use Rattle.std.specs.Prelude.{[], ◌∷◌, ◌++◌, ◌≡◌, ◌≤◌, decimal, OnOk, OnErr};
+ghost use Rattle.std.specs.Prelude.{[], ◌∷◌, ◌++◌, ◌≡◌, ◌≤◌, ℕ, List, Option, Result, decimal, OnOk, OnErr, IfErr};
 ghost use Rattle.liq_outside.specs.Faults.{Rose, HasCause};
+ghost use Rattle.liq_review.specs.declared.fault.ReviewFault.{ReviewFault};
+ghost use Rattle.liq_serve.specs.Causes.{LastCause, WriteCause};
 ghost use Rattle.liq_serve.specs.Output.{last, usage};
 ghost use Rattle.liq_serve.specs.Statuses.{status_of};
 ghost use Rattle.liq_serve.specs.Stops.{Adds};
+ghost use Rattle.liq_serve.specs.Telling.{TellsText, WritesText};
 ghost use Rattle.liq_lines.specs.Writing.{Writes, WritesPart};
 
 use crate::halts::Halt;
@@ -12,7 +15,6 @@ use itoa::Buffer;
 use liq_lines::write_all;
 use liq_outside::{Failed, Sink};
 use liq_pairs::Side;
-use liq_types::amounts::LINES_MOST;
 
 /// What is written where the words are not understood.
 const USAGE: &[u8] = b"usage: liq run, serve, state, audit or gen SEED COUNT\n";
@@ -37,7 +39,7 @@ pub fn status(end: &Result<(), Halt>) -> u8
         Err(Halt::DiskFault) => 5,
         Err(Halt::Damaged(..)) => 6,
         Err(Halt::NoMemory) => 7,
-        Err(Halt::Limit) => 8,
+        Err(Halt::Limit(_)) => 8,
     }
 }
 
@@ -53,8 +55,22 @@ pub fn write_last<K: Sink>(out: &mut K, halt: Halt)
         Halt::DiskFault => write_all(out, b"disk fault\n"),
         Halt::Damaged(side, number) => write_damaged(out, side, number),
         Halt::NoMemory => write_all(out, b"no memory\n"),
-        Halt::Limit => write_numbered(out, b"limit ", LINES_MOST),
+        Halt::Limit(number) => write_numbered(out, b"limit ", number),
     };
+}
+
+/// Writes the last line of a word where it stopped.
+pub fn tell_last<K: Sink>(out: &mut K, end: Result<(), Halt>)
+    ensures told { (told : Result (List ℕ) ReviewFault) (before : Option (List ℕ)) (count : ℕ) → count ≤ K.faults out.old → WritesText told end before (K.held out.old)
+        → TellsText told end (Rose count (K.faults out.new)) before (K.held out.new) }
+    ensures last { IfErr end (λ halt. Adds [] (last halt) (Rose (K.faults out.old) (K.faults out.new)) (K.held out.old) (K.held out.new)) }
+    ensures same { OnOk end (out.new ≡ out.old) }
+    ensures count { K.faults out.old ≤ K.faults out.new }
+    ensures sink { (count : ℕ) → WriteCause end count (K.faults out.old) → LastCause end count (K.faults out.new) }
+{
+    if let Err(halt) = end {
+        write_last(out, halt);
+    }
 }
 
 /// Writes which disk is damaged, and at which record.

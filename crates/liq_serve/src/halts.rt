@@ -3,8 +3,10 @@
 ghost use Rattle.std.specs.Prelude.{◌≡◌};
 
 use liq_pairs::Side;
+use liq_scripts::Stop;
 use liq_store::StoreWhy;
 use liq_types::NoMemory;
+use liq_types::amounts::LINES_MOST;
 use std::alloc::AllocError;
 
 /// Why a run stops before its end.
@@ -22,8 +24,8 @@ pub enum Halt {
     Damaged(Side, u64),
     /// There was no memory.
     NoMemory,
-    /// There are more lines than one run answers.
-    Limit,
+    /// This number of lines is all that one run answers, and there are more; or a number above a limit of the audit.
+    Limit(u64),
 }
 
 impl From<NoMemory> for Halt {
@@ -57,6 +59,22 @@ impl From<StoreWhy> for Halt {
             StoreWhy::DiskFault => Halt::DiskFault,
             StoreWhy::Damaged { side, damage } => Halt::Damaged(side, damage.index),
             StoreWhy::NoMemory => Halt::NoMemory,
+        }
+    }
+}
+
+impl From<Stop> for Halt {
+    ghost use Rattle.liq_serve.specs.declared.halts.Halt.{Halt};
+    ghost use Rattle.liq_serve.specs.Serve.{halt_at};
+
+    ghost from_gives = { λ stop halt. halt ≡ halt_at stop };
+
+    fn from(stop: Stop) -> Halt {
+        match stop {
+            Stop::BadLine(number) => Halt::BadLine(number),
+            Stop::ReadFault => Halt::ReadFault,
+            Stop::NoMemory => Halt::NoMemory,
+            Stop::Limit => Halt::Limit(LINES_MOST),
         }
     }
 }

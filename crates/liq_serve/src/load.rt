@@ -10,11 +10,10 @@ ghost use Rattle.liq_core.specs.Step.{built_call, run, step, next_number};
 ghost use Rattle.liq_words.specs.declared.words.TheConstants.{COUNT_MOST};
 ghost use Rattle.liq_serve.specs.Load.{AreWithin, counts, is_offset, load, next_command, plus, told};
 
-use crate::calls::NO_HINT;
 use liq_core::laws::{commands_make_few_events, protocols_stand};
 use liq_core::{PlanFault, Protocol, Turn};
 use liq_sessions::generate;
-use liq_types::{Call, Command, Info, NoMemory, PoolEvent, Query, Reply, Steps};
+use liq_types::{Call, Command, Hint, Info, NoMemory, PoolEvent, Query, Reply, Steps};
 use std::alloc::{AllocError, Global};
 use std::sync::ledger::Ledger;
 
@@ -84,7 +83,7 @@ impl Load {
                 self.protocol.reserve(&planned)?;
                 self.counts.accepted += 1;
                 self.counts.offsets += offsets(planned.events());
-                self.protocol.apply(planned, &NO_HINT, steps);
+                self.protocol.apply(planned, &Hint::NONE, steps);
                 Ok(())
             }
             Ok(Turn::Again(_)) => Ok(()),

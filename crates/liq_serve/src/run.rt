@@ -9,11 +9,12 @@ ghost use Rattle.liq_core.specs.Core.{StandsFor};
 ghost use Rattle.liq_journal.specs.declared.damage.Damage.{Damage};
 ghost use Rattle.liq_pairs.specs.declared.side.Side.{Side};
 ghost use Rattle.liq_pairs.specs.Pair.{state_on};
-ghost use Rattle.liq_store.specs.Causes.{Faults};
+ghost use Rattle.liq_store.specs.Causes.{Faults, counts_of};
+ghost use Rattle.liq_store.specs.Opening.{IsNotOpened, OpensOn};
 ghost use Rattle.liq_store.specs.Keeping.{IsInOrder};
 ghost use Rattle.liq_lines.specs.Reading.{unread};
-ghost use Rattle.liq_serve.specs.Causes.{DiskCause, ReadCause, WriteCause, counts_of};
-ghost use Rattle.liq_serve.specs.Disks.{DisksHold, EndsDamaged, IsStopped, KeepsAround, IsNotOpened, OpensOn};
+ghost use Rattle.liq_serve.specs.Causes.{DiskCause, ReadCause, WriteCause};
+ghost use Rattle.liq_serve.specs.Disks.{DisksHold, EndsDamaged, IsStopped, KeepsAround};
 ghost use Rattle.liq_serve.specs.Progress.{RequestOn, ReadsRequest, Answered, Answers, Turns, Comes, Ends};
 ghost use Rattle.liq_serve.specs.Stops.{EndsIn, none_yet};
 
@@ -219,7 +220,7 @@ impl<D: Disk> Run<D> {
         flush(&mut self.waiting, out)?;
         match self.reader.next_byte(input) {
             Ok(None) => Ok(()),
-            Ok(Some(_)) => Err(Halt::Limit),
+            Ok(Some(_)) => Err(Halt::Limit(LINES_MOST)),
             Err(Failed) => Err(Halt::ReadFault),
         }
     }

@@ -1,22 +1,25 @@
 //! The word `state`: what stands on two disks, told.
 
-ghost use Rattle.std.specs.Prelude.{◌≡◌, ◌≢◌, ◌++◌, [], List, ℕ, Some, Ok, Err, OnOk, IfOk, IfErr, IsOkUnless};
+ghost use Rattle.std.specs.Prelude.{◌≡◌, ◌≢◌, ◌++◌, [], List, ℕ, Some, Ok, Err, OnOk, IfOk};
 ghost use Rattle.std.specs.String.{string_bytes};
 ghost use Rattle.liq_types.specs.State.{State};
 ghost use Rattle.liq_core.specs.Core.{StandsFor};
 ghost use Rattle.liq_journal.specs.declared.damage.Damage.{Damage};
 ghost use Rattle.liq_pairs.specs.declared.side.Side.{Side};
 ghost use Rattle.liq_pairs.specs.Pair.{state_on};
-ghost use Rattle.liq_serve.specs.Causes.{DiskCause, WriteCause, counts_of};
-ghost use Rattle.liq_serve.specs.Disks.{DisksHold, EndsDamaged, IsNotOpened, OpensOn};
+ghost use Rattle.liq_store.specs.Causes.{counts_of};
+ghost use Rattle.liq_serve.specs.Causes.{DiskCause, WriteCause};
+ghost use Rattle.liq_serve.specs.Disks.{DisksHold, EndsDamaged};
 ghost use Rattle.liq_serve.specs.Output.{reply_line};
-ghost use Rattle.liq_serve.specs.State.{WritesText, pool_and_journal, standing};
+ghost use Rattle.liq_serve.specs.State.{pool_and_journal, standing};
+ghost use Rattle.liq_serve.specs.Telling.{WritesText};
 
 use crate::ending::Ending;
 use crate::halts::Halt;
+use crate::texts::write_text;
 use liq_core::Protocol;
-use liq_lines::{LINE_END, write_all};
-use liq_outside::{Disk, Failed, Sink};
+use liq_lines::LINE_END;
+use liq_outside::{Disk, Sink};
 use liq_store::{Store, StoreFault};
 use liq_text::write_reply;
 use liq_types::{Query, Reply};
@@ -27,7 +30,7 @@ use std::alloc::{AllocError, Global};
 pub fn tell_state<K: Sink, D: Disk>(alloc: Global, out: &mut K, left: D, right: D) -> Ending<D>
     // Of the state for which the disks stand the text is told, and they stand for it then.
     ensures told { (l r : List ℕ) → D.seen left ≡ Some l → D.seen right ≡ Some r → (start : State) → state_on l r ≡ Ok start
-        → WritesText (standing start) result.end (K.held out.old) (K.held out.new) × DisksHold D.seen result.end [] l r start result.left result.right [] }
+        → WritesText (Ok (standing start)) result.end (K.held out.old) (K.held out.new) × DisksHold D.seen result.end [] l r start result.left result.right [] }
     // Of damaged disks nothing is told.
     ensures damaged { (l r : List ℕ) → D.seen left ≡ Some l → D.seen right ≡ Some r → (side : Side) (damage : Damage) → state_on l r ≡ Err (side, damage)
         → (out.new ≡ out.old) × EndsDamaged D.seen side damage l r result.end result.left result.right }
@@ -35,7 +38,7 @@ pub fn tell_state<K: Sink, D: Disk>(alloc: Global, out: &mut K, left: D, right: 
     ensures sink { WriteCause result.end (K.faults out.old) (K.faults out.new) }
     ensures disks { DiskCause result.end (counts_of D.faults left right) (counts_of D.faults result.left result.right) }
 {
-    let store = match open(alloc, left, right) {
+    let store = match Store::open(alloc, left, right) {
         Ok(store) => store,
         Err(fault) => {
             let StoreFault { left, right, why } = fault;
@@ -48,29 +51,15 @@ pub fn tell_state<K: Sink, D: Disk>(alloc: Global, out: &mut K, left: D, right: 
     Ending { end, left, right }
 }
 
-/// The store of two disks.
-fn open<D: Disk>(alloc: Global, left: D, right: D) -> Result<Store<D>, StoreFault<D>>
-    ensures opened { IfOk result (OpensOn D.seen D.faults left right) }
-    ensures not_opened { IfErr result (IsNotOpened D.seen D.faults left right) }
-{
-    match Store::open(alloc, left, right) {
-        Ok(store) => Ok(store),
-        Err(fault) => Err(fault),
-    }
-}
-
 /// Writes the text of what stands.
 fn write_standing<K: Sink>(alloc: Global, protocol: &Protocol, out: &mut K) -> Result<(), Halt>
-    ensures written { (s : State) → StandsFor protocol.now s → WritesText (standing s) result (K.held out.old) (K.held out.new) }
-    ensures other { result ≢ Err Halt.DiskFault }
+    ensures written { (s : State) → StandsFor protocol.now s → WritesText (Ok (standing s)) result (K.held out.old) (K.held out.new) }
+    ensures no_disk { result ≢ Err Halt.DiskFault }
     ensures no_source { result ≢ Err Halt.ReadFault }
     ensures sink { WriteCause result (K.faults out.old) (K.faults out.new) }
 {
     let text = text_of(alloc, protocol)?;
-    match write_all(out, &text) {
-        Ok(()) => Ok(()),
-        Err(Failed) => Err(Halt::WriteFault),
-    }
+    write_text(out, &text)
 }
 
 /// The text of what stands.

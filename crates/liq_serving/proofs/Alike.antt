@@ -50,6 +50,7 @@ module _ {D : Type 0} (seen : D → Option (List ℕ)) (faults : D → ℕ) (mom
         legal = legal_alike alike entries it.legal;
         fronts = it.fronts;
         whole = it.whole;
+        memory = it.memory;
         sessions = it.sessions;
         disks = disks_alike scripts entries (run_alike (requests_of entries) alike) served.end served.left served.right it.disks;
         cause = it.cause;

@@ -1,10 +1,11 @@
 -- What serving leaves, put together from what the closed book tells of each script.
-use Rattle.std.proofs.Common.{ℕ, suc, ◌+◌, ◌-◌, ◌≤◌, ◌<◌, ◌≡◌, List, [], ◌∷◌, ◌++◌, map, length, drop, zip, Bool, true, false, Option, Some, None, refl, sym, ap, ◌∙◌, subst, arith}
-use Rattle.std.specs.Prelude.{All, Contains, IsTrue, slice_index_or}
+use Rattle.std.proofs.Common.{ℕ, suc, ◌+◌, ◌≤◌, ◌<◌, ◌≡◌, List, [], ◌∷◌, ◌++◌, ◌⊎◌, inl, inr, map, length, drop, zip, Bool, true, false, Option, Some, None, refl, sym, ap, ◌∙◌, subst, arith}
+use Rattle.std.specs.Prelude.{◌↔◌, All, Contains, IsTrue, slice_index_or, sum_by}
 use Rattle.std.specs.List.{AllByRecursion, AllZip}
 use Rattle.std.proofs.lemmas.List.{length-map}
-use Rattle.std.proofs.lemmas.List.Elements.{Contains-append_left, Contains-append_right, Contains-get_or}
+use Rattle.std.proofs.lemmas.List.Elements.{Contains-append_left, Contains-append_right}
 use Rattle.liq_types.specs.State.{State}
+use Rattle.liq_core.specs.History as history
 use Rattle.liq_core.specs.History.{state_after}
 use Rattle.liq_core.proofs.Histories.{legal-empty}
 use Rattle.liq_lock.specs.declared.lock.Lock.{Lock}
@@ -12,6 +13,7 @@ use Rattle.liq_lock.specs.History.{Behind}
 use Rattle.liq_lock.specs.Seats.{lock_id, seat_id}
 use Rattle.liq_lock.proofs.Histories.{one_in}
 use Rattle.liq_sessions.specs.declared.done.SessionDone.{SessionDone}
+use Rattle.liq_sessions.specs.declared.done.SessionEnd.{SessionEnd}
 use Rattle.liq_sessions.specs.declared.done.SessionEnd.TheVariants as session_end
 use Rattle.liq_sessions.specs.declared.done.Work.{Work}
 use Rattle.liq_sessions.specs.declared.script.Script.{Script}
@@ -26,6 +28,7 @@ use Rattle.liq_book.specs.declared.items.Item.{Item}
 use Rattle.liq_book.specs.declared.items.Item.TheVariants as item
 use Rattle.liq_book.specs.declared.origin.Origin.{Ghosts}
 use Rattle.liq_book.specs.declared.seat.BookSeat.{BookSeat}
+use Rattle.liq_book.specs.declared.items.TheConstants.{ENTRIES_MOST}
 use Rattle.liq_book.specs.Items.{calls_of, chronicle, entries_of, faulted_in, recorded, session_of}
 use Rattle.liq_book.specs.Origin.{DiskAt, IsAtOrigin}
 use Rattle.liq_book.specs.Seats.{AreSeated, IsNewSeat, items_seen, session_at}
@@ -35,9 +38,10 @@ use Rattle.liq_serving.specs.declared.served.End.TheVariants as end
 use Rattle.liq_serving.specs.declared.served.Served.{Served}
 use Rattle.liq_serving.specs.Ends.{end_of, halt_of}
 use Rattle.liq_serving.specs.Leaves.{Leaves, chronicle_of}
-use Rattle.liq_serving.specs.Serves.{AreNumbered, IsServedFrom, IsServedWhole, LeavesDisks, Serves}
+use Rattle.liq_serving.specs.Serves.{AreNumbered, IsServedFrom, IsServedWhole, LacksMemory, LeavesDisks, Serves, answered_of}
+use Rattle.liq_serving.proofs.Counting.{each_short, has_room, none_left}
 use Rattle.liq_serving.proofs.Leaving.{settles}
-use Rattle.liq_serving.proofs.Told.{IsTold, all_from, all_mapped, all_so, all_to, all_unmap, front_told, next_told, told_by, told_none, whole_told}
+use Rattle.liq_serving.proofs.Told.{IsTold, all_from, all_mapped, all_so, all_to, all_unmap, answered_none, front_told, next_told, script_of, short_told, told_by, told_none, whole_told}
 
 -- ---- works with their seats
 
@@ -107,7 +111,40 @@ module _ {T K H O : Type 0} {o : Ghosts O} where
       all_whole works done set.1 ran.1 back.1 ends.1,
     )
 
+    -- a session that did not end with all lacks a reply
+    pub some_short : (works : List (Work K H (BookSeat O o))) (done : List (SessionDone K H (BookSeat O o)))
+        → AllByRecursion (IsSet lock) works → AllZip (Ran Belongs KnowsEnd) works done → AllByRecursion (λ (d : SessionDone K H (BookSeat O o)). IsBackIn left d.seat) done
+        → (AllByRecursion (λ (d : SessionDone K H (BookSeat O o)). d.end ≡ session_end.All) done → ⊥)
+        → (script : Script) × Contains (map (λ (w : Work K H (BookSeat O o)). w.script) works) script × (IsServedWhole (entries_of left) script → ⊥)
+    some_short [] [] set ran back short = absurd (short tt)
+    some_short [] (d ∷ done) set ran back short = absurd ran
+    some_short (w ∷ works) [] set ran back short = absurd ran
+    some_short (w ∷ works) (d ∷ done) set ran back short = by d.end refl (λ others. some_short works done set.1 ran.1 back.1 others) where
+      by : (e : SessionEnd) → d.end ≡ e
+          → ((AllByRecursion (λ (d : SessionDone K H (BookSeat O o)). d.end ≡ session_end.All) done → ⊥) → (script : Script) × Contains (map (λ (w : Work K H (BookSeat O o)). w.script) works) script × (IsServedWhole (entries_of left) script → ⊥))
+          → (script : Script) × Contains (map (λ (w : Work K H (BookSeat O o)). w.script) (w ∷ works)) script × (IsServedWhole (entries_of left) script → ⊥)
+      by session_end.All is later_so =
+          let later = later_so (λ others. short (is, others)) in
+          (later.0, (suc later.1.0, omega (arith, later.1.1), later.1.2), later.2)
+      by (session_end.Fault answer) is later_so = (
+        w.script,
+        (0, omega arith, refl),
+        short_told left (items_seen d.seat) w.script d.replies (back_is w d set.0 ran.0 back.0) (calls_are w d set.0 ran.0) ran.0.within
+            (subst (EndsAt (KnowsEnd d.seat) (drop (length d.replies) w.script.requests)) is ran.0.ends).0,
+      )
+
   -- of works that were not begun
+  pub none_answered : (left : List Item) (lock : Lock T Item) (works : List (Work K H (BookSeat O o)))
+      → AllByRecursion (IsSet lock) works → AllByRecursion (λ (w : Work K H (BookSeat O o)). IsBackIn left w.seat) works
+      → AllByRecursion (λ (w : Work K H (BookSeat O o)). answered_of w.script.session (entries_of left) ≡ []) works
+  none_answered left lock [] set back = tt
+  none_answered left lock (w ∷ works) set back = (
+    answered_none left w.script
+        (subst (λ (items : List Item). Behind session_of left (w.script.session ∷ []) items) set.0.seen
+        (subst (λ session. Behind session_of left (session ∷ []) (items_seen w.seat)) set.0.session back.0)),
+    none_answered left lock works set.1 back.1,
+  )
+
   pub none_told : (left : List Item) (lock : Lock T Item) (works : List (Work K H (BookSeat O o)))
       → AllByRecursion (IsSet lock) works → AllByRecursion (λ (w : Work K H (BookSeat O o)). IsBackIn left w.seat) works
       → AllByRecursion (λ (w : Work K H (BookSeat O o)). IsTold left w.script) works
@@ -121,15 +158,6 @@ module _ {T K H O : Type 0} {o : Ghosts O} where
 
 -- ---- what is left
 
--- a script of this session is there
-script_of : (scripts : List Script) → AreNumbered scripts → (session : ℕ) → 1 ≤ session → session ≤ length scripts
-    → (script : Script) × Contains scripts script × (script.session ≡ session)
-script_of [] numbered session low high = absurd (omega arith)
-script_of (first ∷ scripts) numbered session low high =
-    let k : ℕ = session - 1 in
-    let within : k < length (first ∷ scripts) = omega arith in
-    (slice_index_or (first ∷ scripts) k first, Contains-get_or (first ∷ scripts) k first within, numbered k first within ∙ omega arith)
-
 all_at : {X : Type 0} (P : X → Type 0) (xs : List X) (x : X) → All P xs → Contains xs x → P x
 all_at P xs x all there = subst P there.2 (all there.0 x there.1)
 
@@ -138,6 +166,11 @@ whole_end None true is = refl
 whole_end None false is = absurd (let e : end.NoMemory ≡ end.All = is in cc)
 whole_end (Some halt) all is = absurd (let e : end.DiskFault halt ≡ end.All = is in cc)
 
+lacking_end : (halt : Option Halt) (all : Bool) → end_of halt all ≡ end.NoMemory → IsTrue all → ⊥
+lacking_end None true is whole = let e : end.All ≡ end.NoMemory = is in cc
+lacking_end None false is whole = let e : false ≡ true = whole in cc
+lacking_end (Some halt) all is whole = let e : end.DiskFault halt ≡ end.NoMemory = is in cc
+
 entries_within : (P : ℕ → Type 0) (entries : List Entry) → ((i : Item) → Contains (map item.Entry entries) i → P (session_of i)) → AllByRecursion (λ (e : Entry). P e.session) entries
 entries_within P [] within = tt
 entries_within P (e ∷ entries) within = (within (item.Entry e) (one_in (item.Entry e) (map item.Entry entries)), entries_within P entries (λ i there. within i (suc there.0, omega (arith, there.1), there.2)))
@@ -145,6 +178,19 @@ entries_within P (e ∷ entries) within = (within (item.Entry e) (one_in (item.E
 entries_there : (entries : List Entry) (halt : Option Halt) (i : Item) → Contains (map item.Entry entries) i → Contains (chronicle entries halt) i
 entries_there entries None i there = there
 entries_there entries (Some halt) i there = Contains-append_left (map item.Entry entries) (item.Halt halt ∷ []) i there
+
+-- no script has a reply, or one lacks one
+abbrev LacksReply : List Script → List history.Entry → Type 0
+LacksReply scripts entries =
+    AllByRecursion (λ (script : Script). answered_of script.session entries ≡ []) scripts ⊎ ((script : Script) × Contains scripts script × (IsServedWhole entries script → ⊥))
+
+lacks : (scripts : List Script) → AreNumbered scripts → sum_by (λ (script : Script). length script.requests) scripts ≤ ENTRIES_MOST
+    → (entries : List Entry) → AllByRecursion (λ (e : Entry). (1 ≤ e.session) × (e.session ≤ length scripts)) entries → AllByRecursion (IsServedFrom (map recorded entries)) scripts
+    → LacksReply scripts (map recorded entries) → LacksMemory scripts (map recorded entries)
+lacks scripts numbered total entries within fronts (inl none) = inl (none_left scripts numbered entries within none)
+lacks scripts numbered total entries within fronts (inr one) =
+    let front = all_at (IsServedFrom (map recorded entries)) scripts one.0 (all_to (IsServedFrom (map recorded entries)) scripts fronts) one.1 in
+    inr (has_room scripts numbered total entries within fronts one.0 one.1 front one.2, one)
 
 module _ {D : Type 0} (seen : D → Option (List ℕ)) (faults : D → ℕ) (moment : D → ℕ) (left_at : D → ℕ → List ℕ → Type 0) (base : State) (left_origin right_origin : DiskAt) (scripts : List Script) where
   disks_by : {O : Type 0} {o : Ghosts O} (all : Bool) (seats : List (BookSeat O o)) (served : Served D)
@@ -168,14 +214,20 @@ module _ {D : Type 0} (seen : D → Option (List ℕ)) (faults : D → ℕ) (mom
       → AreNumbered scripts → Leaves seen faults moment left_at base left_origin right_origin (length scripts) all seats served
       → AllByRecursion (IsTold (chronicle_of served)) scripts
       → (IsTrue all → AllByRecursion (IsServedWhole (entries_of (chronicle_of served))) scripts)
+      → sum_by (λ (script : Script). length script.requests) scripts ≤ ENTRIES_MOST
+      → ((IsTrue all → ⊥) → LacksReply scripts (entries_of (chronicle_of served)))
       → Serves seen faults moment left_at base left_origin right_origin scripts served
-  serves all seats served numbered l told whole =
-      let entries : entries_of (chronicle_of served) ≡ map recorded served.history = entries_of-chronicle served.history (halt_of served.end) in
+  serves all seats served numbered l told whole total short =
+      let items : List Item = chronicle_of served in
+      let entries : entries_of items ≡ map recorded served.history = entries_of-chronicle served.history (halt_of served.end) in
+      let fronts : AllByRecursion (IsServedFrom (map recorded served.history)) scripts = subst (λ es. AllByRecursion (IsServedFrom es) scripts) entries (all_so (IsTold items) (IsServedFrom (entries_of items)) (front_told items) scripts told) in
+      let within = entries_within (λ n. (1 ≤ n) × (n ≤ length scripts)) served.history (λ i there. l.within i (entries_there served.history (halt_of served.end) i there)) in
       record {
         legal = l.legal;
-        fronts = rw (← entries) (all_to (IsServedFrom (entries_of (chronicle_of served))) scripts (all_so (IsTold (chronicle_of served)) (IsServedFrom (entries_of (chronicle_of served))) (front_told (chronicle_of served)) scripts told));
-        whole = λ is. rw (← entries) (all_to (IsServedWhole (entries_of (chronicle_of served))) scripts (whole (whole_end (halt_of served.end) all (sym l.end ∙ is))));
-        sessions = all_to (λ (e : Entry). (1 ≤ e.session) × (e.session ≤ length scripts)) served.history (entries_within (λ n. (1 ≤ n) × (n ≤ length scripts)) served.history (λ i there. l.within i (entries_there served.history (halt_of served.end) i there)));
+        fronts = all_to (IsServedFrom (map recorded served.history)) scripts fronts;
+        whole = λ is. rw (← entries) (all_to (IsServedWhole (entries_of items)) scripts (whole (whole_end (halt_of served.end) all (sym l.end ∙ is))));
+        memory = λ is. lacks scripts numbered total served.history within fronts (subst (LacksReply scripts) entries (short (lacking_end (halt_of served.end) all (sym l.end ∙ is))));
+        sessions = all_to (λ (e : Entry). (1 ≤ e.session) × (e.session ≤ length scripts)) served.history within;
         disks = disks_by all seats served numbered l (all_to (IsTold (chronicle_of served)) scripts told) served.end refl;
         cause = l.cause;
         left_time = l.left_time;
@@ -190,6 +242,7 @@ module _ {D : Type 0} (seen : D → Option (List ℕ)) (faults : D → ℕ) (mom
     legal = rw history_is (legal-empty base);
     fronts = rw history_is (λ k d within. ((slice_index_or scripts k d).requests, refl));
     whole = λ is. absurd (let e : end.NoMemory ≡ end.All = sym end_is ∙ is in cc);
+    memory = λ is. inl (ap (map recorded) history_is);
     sessions = rw history_is (λ k d within. absurd (omega arith));
     disks = rw (end_is, history_is, left_is, right_is) (settles seen faults moment left_at store base order going at.state);
     cause = rw (end_is, left_is, right_is, at.left.faults, at.right.faults) refl;
@@ -208,11 +261,11 @@ module _ {T K H O : Type 0} {o : Ghosts O} (lock : Lock T Item) (works : List (W
   works_belong set = all_to (λ (w : Work K H (BookSeat O o)). seat_id w.seat.seat ≡ lock_id lock) works (all_so (IsSet lock) (λ (w : Work K H (BookSeat O o)). seat_id w.seat.seat ≡ lock_id lock) (λ w set. set.own) works set)
 
 module _ {K H O : Type 0} {o : Ghosts O} (works : List (Work K H (BookSeat O o))) (scripts : List Script) (scripts_are : map (λ (w : Work K H (BookSeat O o)). w.script) works ≡ scripts) where
-  pub works_short : All (λ (script : Script). length script.requests ≤ REQUESTS_MOST) scripts → All (λ (w : Work K H (BookSeat O o)). length w.script.requests ≤ REQUESTS_MOST) works
-  works_short short =
+  pub works_short : sum_by (λ (script : Script). length script.requests) scripts ≤ ENTRIES_MOST → All (λ (w : Work K H (BookSeat O o)). length w.script.requests ≤ REQUESTS_MOST) works
+  works_short total =
       all_to (λ (w : Work K H (BookSeat O o)). length w.script.requests ≤ REQUESTS_MOST) works
       (all_unmap (λ (script : Script). length script.requests ≤ REQUESTS_MOST) (λ (w : Work K H (BookSeat O o)). w.script) works
-      (all_from (λ (script : Script). length script.requests ≤ REQUESTS_MOST) (map (λ (w : Work K H (BookSeat O o)). w.script) works) (rw scripts_are short)))
+      (all_from (λ (script : Script). length script.requests ≤ REQUESTS_MOST) (map (λ (w : Work K H (BookSeat O o)). w.script) works) (rw scripts_are (each_short scripts total))))
 
   pub works_many : length works ≡ length scripts
   works_many = sym (length-map works (λ (w : Work K H (BookSeat O o)). w.script)) ∙ ap length scripts_are
@@ -236,28 +289,32 @@ module _ {D : Type 0} (seen : D → Option (List ℕ)) (faults : D → ℕ) (mom
       (works : List (Work K H (BookSeat O o))) (done : List (SessionDone K H (BookSeat O o))) (seats : List (BookSeat O o)) (most : ℕ) (all : Bool) (served : Served D)
       → map (λ (w : Work K H (BookSeat O o)). w.script) works ≡ scripts → AreNumbered scripts → AllByRecursion (IsSet lock) works
       → AllZip (Ran Belongs KnowsEnd) works done → seats ≡ map (λ (d : SessionDone K H (BookSeat O o)). d.seat) done
-      → (IsTrue all → AllByRecursion (λ (d : SessionDone K H (BookSeat O o)). d.end ≡ session_end.All) done)
+      → (IsTrue all ↔ AllByRecursion (λ (d : SessionDone K H (BookSeat O o)). d.end ≡ session_end.All) done)
+      → sum_by (λ (script : Script). length script.requests) scripts ≤ ENTRIES_MOST
       → most ≡ length scripts
       → Leaves seen faults moment left_at base left_origin right_origin most all seats served
       → Serves seen faults moment left_at base left_origin right_origin scripts served
-  serves_done {K = K} {H = H} {O = O} {o = o} lock Belongs KnowsEnd works done seats most all served scripts_are numbered set ran seats_are ends most_is l =
+  serves_done {K = K} {H = H} {O = O} {o = o} lock Belongs KnowsEnd works done seats most all served scripts_are numbered set ran seats_are ends total most_is l =
       let left : List Item = chronicle_of served in
       let back : AllByRecursion (λ (d : SessionDone K H (BookSeat O o)). IsBackIn left d.seat) done =
       all_unmap (IsBackIn left) (λ (d : SessionDone K H (BookSeat O o)). d.seat) done (all_from (IsBackIn left) (map (λ (d : SessionDone K H (BookSeat O o)). d.seat) done) (subst (All (IsBackIn left)) seats_are l.back)) in
       serves seen faults moment left_at base left_origin right_origin scripts all seats served numbered
       (subst (λ n. Leaves seen faults moment left_at base left_origin right_origin n all seats served) most_is l)
       (subst (AllByRecursion (IsTold left)) scripts_are (all_mapped (IsTold left) (λ (w : Work K H (BookSeat O o)). w.script) works (all_told left lock Belongs KnowsEnd works done set ran back)))
-      (λ whole. subst (AllByRecursion (IsServedWhole (entries_of left))) scripts_are (all_mapped (IsServedWhole (entries_of left)) (λ (w : Work K H (BookSeat O o)). w.script) works (all_whole left lock Belongs KnowsEnd works done set ran back (ends whole))))
+      (λ whole. subst (AllByRecursion (IsServedWhole (entries_of left))) scripts_are (all_mapped (IsServedWhole (entries_of left)) (λ (w : Work K H (BookSeat O o)). w.script) works (all_whole left lock Belongs KnowsEnd works done set ran back (ends.0 whole))))
+      total
+      (λ not_all. inr (subst (λ (list : List Script). (script : Script) × Contains list script × (IsServedWhole (entries_of left) script → ⊥)) scripts_are (some_short left lock Belongs KnowsEnd works done set ran back (λ all_ended. not_all (ends.1 all_ended)))))
 
   -- no session was begun
   pub serves_works : {T K H O : Type 0} {o : Ghosts O} (lock : Lock T Item)
       (works : List (Work K H (BookSeat O o))) (seats : List (BookSeat O o)) (most : ℕ) (served : Served D)
       → map (λ (w : Work K H (BookSeat O o)). w.script) works ≡ scripts → AreNumbered scripts → AllByRecursion (IsSet lock) works
       → seats ≡ map (λ (w : Work K H (BookSeat O o)). w.seat) works
+      → sum_by (λ (script : Script). length script.requests) scripts ≤ ENTRIES_MOST
       → most ≡ length scripts
       → Leaves seen faults moment left_at base left_origin right_origin most false seats served
       → Serves seen faults moment left_at base left_origin right_origin scripts served
-  serves_works {K = K} {H = H} {O = O} {o = o} lock works seats most served scripts_are numbered set seats_are most_is l =
+  serves_works {K = K} {H = H} {O = O} {o = o} lock works seats most served scripts_are numbered set seats_are total most_is l =
       let left : List Item = chronicle_of served in
       let back : AllByRecursion (λ (w : Work K H (BookSeat O o)). IsBackIn left w.seat) works =
       all_unmap (IsBackIn left) (λ (w : Work K H (BookSeat O o)). w.seat) works (all_from (IsBackIn left) (map (λ (w : Work K H (BookSeat O o)). w.seat) works) (subst (All (IsBackIn left)) seats_are l.back)) in
@@ -265,3 +322,6 @@ module _ {D : Type 0} (seen : D → Option (List ℕ)) (faults : D → ℕ) (mom
       (subst (λ n. Leaves seen faults moment left_at base left_origin right_origin n false seats served) most_is l)
       (subst (AllByRecursion (IsTold left)) scripts_are (all_mapped (IsTold left) (λ (w : Work K H (BookSeat O o)). w.script) works (none_told left lock works set back)))
       (λ whole. absurd (let e : false ≡ true = whole in cc))
+      total
+      (λ not_all. inl (subst (AllByRecursion (λ (script : Script). answered_of script.session (entries_of left) ≡ [])) scripts_are
+      (all_mapped (λ (script : Script). answered_of script.session (entries_of left) ≡ []) (λ (w : Work K H (BookSeat O o)). w.script) works (none_answered left lock works set back))))

@@ -1,4 +1,6 @@
 mod Alike
 mod Assembling
+mod Counting
+mod Inputs
 mod Leaving
 mod Told

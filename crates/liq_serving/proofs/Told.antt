@@ -1,8 +1,9 @@
 -- What a seat tells of its session's script, when the book is closed.
-use Rattle.std.proofs.Common.{ℕ, zero, suc, ◌≤◌, ◌≡◌, List, [], ◌∷◌, ◌++◌, map, length, take, drop, zip, Some, None, refl, sym, ap, ◌∙◌, arith}
-use Rattle.std.specs.Prelude.{All}
+use Rattle.std.proofs.Common.{ℕ, zero, suc, ◌-◌, ◌<◌, ◌≤◌, ◌≡◌, ◌≢◌, List, [], ◌∷◌, ◌++◌, map, length, take, drop, zip, Bool, true, false, Some, None, refl, sym, ap, subst, ◌∙◌, length-drop, length-take, arith}
+use Rattle.std.specs.Prelude.{◌↔◌, All, Contains, IsTrue, slice_index_or}
 use Rattle.std.specs.List.{AllByRecursion}
 use Rattle.std.proofs.lemmas.List.{append-nil, take-append-drop}
+use Rattle.std.proofs.lemmas.List.Elements.{Contains-get_or}
 use Rattle.liq_types.specs.declared.replies.Answer.TheVariants as answer
 use Rattle.liq_types.specs.declared.replies.Reply.{Reply}
 use Rattle.liq_types.specs.declared.requests.Request.{Request}
@@ -18,7 +19,7 @@ use Rattle.liq_book.specs.declared.items.Item.{Item}
 use Rattle.liq_book.specs.declared.items.Item.TheVariants as item
 use Rattle.liq_book.specs.Items.{calls_of, entries_of, faulted_in, session_of}
 use Rattle.liq_book.proofs.Chronicles.{faulted_behind, faulted_in-append, own_behind, same_session}
-use Rattle.liq_serving.specs.Serves.{IsNextOf, IsServedFrom, IsServedWhole, answered_of}
+use Rattle.liq_serving.specs.Serves.{AreNumbered, IsNextOf, IsServedFrom, IsServedWhole, answered_of}
 
 -- ---- lists
 
@@ -43,6 +44,28 @@ pub all_so : {X : Type 0} (P Q : X → Type 0) → ((x : X) → P x → Q x) →
 all_so P Q so [] all = tt
 all_so P Q so (x ∷ xs) all = (so x all.0, all_so P Q so xs all.1)
 
+all_apart : {X : Type 0} (P : X → Type 0) (front : List X) (last : X) → AllByRecursion P (front ++ last ∷ []) → AllByRecursion P front × P last
+all_apart P [] last all = (tt, all.0)
+all_apart P (x ∷ front) last all = let rest = all_apart P front last all.1 in ((all.0, rest.0), rest.1)
+
+all_joined : {X : Type 0} (P : X → Type 0) (front : List X) (last : X) → AllByRecursion P front → P last → AllByRecursion P (front ++ last ∷ [])
+all_joined P [] last all here = (here, tt)
+all_joined P (x ∷ front) last all here = (all.0, all_joined P front last all.1 here)
+
+-- a test of all, by one of all but the last and one of that
+module _ {X : Type 0} (P : X → Type 0) (front items : List X) (last : X) (others here all : Bool) (are : items ≡ front ++ last ∷ []) (front_so : IsTrue others ↔ AllByRecursion P front) (last_so : IsTrue here ↔ P last) where
+  pub all_tested : others ≡ true → all ≡ here → IsTrue all ↔ AllByRecursion P items
+  all_tested is_so all_is = (
+    λ so. subst (AllByRecursion P) (sym are) (all_joined P front last (front_so.0 is_so) (last_so.0 (sym all_is ∙ so))),
+    λ so. all_is ∙ last_so.1 (all_apart P front last (subst (AllByRecursion P) are so)).1,
+  )
+
+  pub not_all_tested : others ≡ false → all ≡ false → IsTrue all ↔ AllByRecursion P items
+  not_all_tested is_not all_is = (
+    λ so. absurd (cc (so, all_is)),
+    λ so. absurd (cc (is_not, front_so.1 (all_apart P front last (subst (AllByRecursion P) are so)).0)),
+  )
+
 firsts-zip : (xs : List Request) (ys : List Reply) → length ys ≤ length xs → map (λ (p : Request × Reply). p.0) (zip xs ys) ≡ take (length ys) xs
 firsts-zip [] [] few = refl
 firsts-zip [] (y ∷ ys) few = absurd (omega arith)
@@ -52,6 +75,17 @@ firsts-zip (x ∷ xs) (y ∷ ys) few = ap (λ rest. x ∷ rest) (firsts-zip xs y
 requests_shown : (entries : List history.Entry) → map (λ (p : Request × Reply). p.0) (map (λ (e : history.Entry). (e.request, e.reply)) entries) ≡ history.requests_of entries
 requests_shown [] = refl
 requests_shown (e ∷ entries) = ap (λ rest. e.request ∷ rest) (requests_shown entries)
+
+-- ---- scripts
+
+-- a script of this session is there
+pub script_of : (scripts : List Script) → AreNumbered scripts → (session : ℕ) → 1 ≤ session → session ≤ length scripts
+    → (script : Script) × Contains scripts script × (script.session ≡ session)
+script_of [] numbered session low high = absurd (omega arith)
+script_of (first ∷ scripts) numbered session low high =
+    let k : ℕ = session - 1 in
+    let within : k < length (first ∷ scripts) = omega arith in
+    (slice_index_or (first ∷ scripts) k first, Contains-get_or (first ∷ scripts) k first within, numbered k first within ∙ omega arith)
 
 -- ---- one session
 
@@ -63,6 +97,15 @@ pub record IsTold (left : List Item) (script : Script) : Type 0 where
   pub end : SessionEnd
   pub faulted : faulted_in script.session left ≡ faulted_at None (drop count script.requests) end
 
+-- the requests that got replies
+answered_by : (left seen : List Item) (script : Script) (replies : List Reply) → Behind session_of left (script.session ∷ []) seen
+    → calls_of script.session seen ≡ zip script.requests replies → length replies ≤ length script.requests
+    → answered_of script.session (entries_of left) ≡ take (length replies) script.requests
+answered_by left seen script replies behind calls few =
+    ap (map (λ (e : history.Entry). e.request)) (own_behind script.session left seen behind)
+    ∙ (sym (requests_shown (own_entries script.session (entries_of seen)))
+    ∙ (ap (map (λ (p : Request × Reply). p.0)) calls ∙ firsts-zip script.requests replies few))
+
 -- by what a seat has seen that was given back
 pub told_by : (left seen : List Item) (script : Script) (replies : List Reply) (end : SessionEnd)
     → Behind session_of left (script.session ∷ []) seen
@@ -72,20 +115,20 @@ pub told_by : (left seen : List Item) (script : Script) (replies : List Reply) (
 told_by left seen script replies end behind calls few faulted = record {
   count = length replies;
   within = few;
-  answered =
-      ap (map (λ (e : history.Entry). e.request)) (own_behind script.session left seen behind)
-      ∙ (sym (requests_shown (own_entries script.session (entries_of seen)))
-      ∙ (ap (map (λ (p : Request × Reply). p.0)) calls ∙ firsts-zip script.requests replies few));
+  answered = answered_by left seen script replies behind calls few;
   end = end;
   faulted = faulted_behind script.session left seen behind ∙ faulted;
 }
 
 -- a seat that saw nothing
+pub answered_none : (left : List Item) (script : Script) → Behind session_of left (script.session ∷ []) [] → answered_of script.session (entries_of left) ≡ []
+answered_none left script behind = ap (map (λ (e : history.Entry). e.request)) (own_behind script.session left [] behind)
+
 pub told_none : (left : List Item) (script : Script) → Behind session_of left (script.session ∷ []) [] → IsTold left script
 told_none left script behind = record {
   count = 0;
   within = omega arith;
-  answered = ap (map (λ (e : history.Entry). e.request)) (own_behind script.session left [] behind);
+  answered = answered_none left script behind;
   end = session_end.All;
   faulted = faulted_behind script.session left [] behind ∙ sym (nothing (drop 0 script.requests));
 } where
@@ -123,8 +166,16 @@ pub whole_told : (left seen : List Item) (script : Script) (replies : List Reply
     → Behind session_of left (script.session ∷ []) seen → calls_of script.session seen ≡ zip script.requests replies → length replies ≤ length script.requests
     → drop (length replies) script.requests ≡ [] → IsServedWhole (entries_of left) script
 whole_told left seen script replies behind calls few none =
-    let answered : answered_of script.session (entries_of left) ≡ take (length replies) script.requests =
-    ap (map (λ (e : history.Entry). e.request)) (own_behind script.session left seen behind)
-    ∙ (sym (requests_shown (own_entries script.session (entries_of seen)))
-    ∙ (ap (map (λ (p : Request × Reply). p.0)) calls ∙ firsts-zip script.requests replies few)) in
-    rw answered (sym (take-append-drop (length replies) script.requests) ∙ (ap (λ rest. take (length replies) script.requests ++ rest) none ∙ append-nil (take (length replies) script.requests)))
+    rw (answered_by left seen script replies behind calls few) (sym (take-append-drop (length replies) script.requests) ∙ (ap (λ rest. take (length replies) script.requests ++ rest) none ∙ append-nil (take (length replies) script.requests)))
+
+-- and only then
+pub short_told : (left seen : List Item) (script : Script) (replies : List Reply)
+    → Behind session_of left (script.session ∷ []) seen → calls_of script.session seen ≡ zip script.requests replies → length replies ≤ length script.requests
+    → drop (length replies) script.requests ≢ [] → IsServedWhole (entries_of left) script → ⊥
+short_told left seen script replies behind calls few some whole =
+    let requests : List Request = script.requests in
+    let all : length requests ≡ length (take (length replies) requests) = ap length (whole ∙ answered_by left seen script replies behind calls few) in
+    some (none_left (drop (length replies) requests) (omega (arith, all, length-take (length replies) requests, length-drop (length replies) requests))) where
+      none_left : (rest : List Request) → length rest ≤ 0 → rest ≡ []
+      none_left [] none = refl
+      none_left (request ∷ rest) none = absurd (omega arith)

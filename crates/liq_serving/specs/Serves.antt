@@ -1,5 +1,5 @@
 -- What serving scripts leaves.
-use Rattle.std.specs.Prelude.{ℕ, ◌≡◌, ◌≤◌, ◌++◌, List, ◌∷◌, map, length, slice_index_or, All, Contains, ◌<◌, ◌+◌, Option, Some}
+use Rattle.std.specs.Prelude.{ℕ, ◌≡◌, ◌≤◌, ◌⊎◌, ◌++◌, List, [], ◌∷◌, map, length, slice_index_or, All, Contains, ◌<◌, ◌+◌, Option, Some}
 use Rattle.liq_outside.specs.Disk.{LeftNow}
 use Rattle.liq_types.specs.declared.requests.Request.{Request}
 use Rattle.liq_types.specs.State.{State}
@@ -9,6 +9,7 @@ use Rattle.liq_pairs.specs.declared.side.Side.{Side}
 use Rattle.liq_pairs.specs.Kept.{IsSettledFor}
 use Rattle.liq_store.specs.Keeping.{IsAtRest, IsKeptAround}
 use Rattle.liq_sessions.specs.declared.script.Script.{Script}
+use Rattle.liq_book.specs.declared.items.TheConstants.{ENTRIES_MOST}
 use Rattle.liq_book.specs.Booked.{CausesHalt}
 use Rattle.liq_book.specs.Items.{recorded}
 use Rattle.liq_book.specs.Origin.{DiskAt, GoesOnFrom, faults_at}
@@ -34,6 +35,11 @@ IsServedWhole entries script = script.requests ≡ answered_of script.session en
 -- this one is the next
 abbrev pub IsNextOf : List history.Entry → Request → Script → Type 0
 IsNextOf entries request script = (later : List Request) × (script.requests ≡ answered_of script.session entries ++ request ∷ later)
+
+-- Memory is wanted where nothing was answered at all, or where a script has a request without a reply, and the book had room for it.
+abbrev pub LacksMemory : List Script → List history.Entry → Type 0
+LacksMemory scripts entries =
+    (entries ≡ []) ⊎ ((length entries < ENTRIES_MOST) × ((script : Script) × Contains scripts script × (IsServedWhole entries script → ⊥)))
 
 -- scripts of the sessions from 1 on
 abbrev pub AreNumbered : List Script → Type 0
@@ -65,11 +71,13 @@ module _ {D : Type 0} (seen : D → Option (List ℕ)) (moment : D → ℕ) (lef
       × AreKeptAround s halt.request left right
 
 -- The history is legal from the state with which the service began. Each session's entries in it are the first requests of its script,
--- in order, and all of them where the service ended with all; no other session is in it.
+-- in order, and all of them where the service ended with all; no other session is in it. It ended so, or by a fault, unless memory was
+-- wanted.
 pub record Serves {D : Type 0} (seen : D → Option (List ℕ)) (faults : D → ℕ) (moment : D → ℕ) (left_at : D → ℕ → List ℕ → Type 0) (base : State) (left_origin right_origin : DiskAt) (scripts : List Script) (served : Served D) : Type 0 where
   pub legal : IsLegal base (map recorded served.history)
   pub fronts : All (IsServedFrom (map recorded served.history)) scripts
   pub whole : served.end ≡ end.All → All (IsServedWhole (map recorded served.history)) scripts
+  pub memory : served.end ≡ end.NoMemory → LacksMemory scripts (map recorded served.history)
   pub sessions : All (λ e. (1 ≤ e.session) × (e.session ≤ length scripts)) served.history
   pub disks : LeavesDisks seen moment left_at scripts (map recorded served.history) (state_after base (map recorded served.history)) served.end served.left served.right
   pub cause : CausesHalt (halt_of served.end) (faults_at left_origin right_origin) (record { left = faults served.left; right = faults served.right })

@@ -1,6 +1,6 @@
 //! Scripts go to their seats, and seats come back.
 
-ghost use Rattle.std.specs.Prelude.{◌≡◌, ◌≤◌, [], map, IsTrue, length, vec_capacity};
+ghost use Rattle.std.specs.Prelude.{◌≡◌, ◌≤◌, ◌↔◌, [], map, IsTrue, length, vec_capacity};
 ghost use Rattle.std.specs.List.{AllByRecursion};
 ghost use Rattle.liq_sessions.specs.declared.done.SessionEnd.TheVariants.{All as Whole};
 
@@ -62,14 +62,21 @@ pub(crate) fn seats_back<D: Disk, O: Origin>(
     requires none { room.items ≡ [] }
     requires room { length done.items ≤ vec_capacity room }
     ensures seats { result.0.items ≡ map (λ d. d.seat) done.items }
-    ensures whole { IsTrue result.1 → AllByRecursion (λ d. d.end ≡ Whole) done.items }
+    ensures whole { IsTrue result.1 ↔ AllByRecursion (λ d. d.end ≡ Whole) done.items }
     ensures room { vec_capacity result.0 ≡ vec_capacity room }
 {
     let Some(last) = done.pop() else {
         return (room, true);
     };
-    let is_whole = last.end == SessionEnd::All;
+    let is_whole = got_all(&last.end);
     let (mut seats, others) = seats_back(done, room);
     seats.push_reserved(last.seat);
     (seats, others && is_whole)
+}
+
+/// Whether a session that ended so got replies to its whole script.
+fn got_all(end: &SessionEnd) -> bool
+    ensures { IsTrue result ↔ (end.now ≡ Whole) }
+{
+    matches!(end, SessionEnd::All)
 }

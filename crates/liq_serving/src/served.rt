@@ -12,8 +12,7 @@ use liq_outside::Disk;
 pub enum End {
     /// Each request of each script got a reply.
     All,
-    /// There was no memory for some call, or for the service. The end of a book that is full is told so too, which needs more than
-    /// [`liq_book::ENTRIES_MOST`] requests in all.
+    /// There was no memory for some call, whose script lacks its reply; or for the service, and nothing was answered at all.
     NoMemory,
     /// A call met a fault of a disk, and no later one got a reply.
     DiskFault(Halt),

@@ -1,10 +1,10 @@
 //! All scripts are served.
 
-ghost use Rattle.std.specs.Prelude.{◌≡◌, ◌≤◌, None, All, [], length};
+ghost use Rattle.std.specs.Prelude.{◌≡◌, ◌≤◌, None, All, [], length, sum_by};
 ghost use Rattle.liq_types.specs.State.{State};
 ghost use Rattle.liq_core.specs.Core.{StandsFor};
-ghost use Rattle.liq_sessions.specs.declared.script.TheConstants.{REQUESTS_MOST};
 ghost use Rattle.liq_store.specs.Keeping.{IsInOrder};
+ghost use Rattle.liq_book.specs.declared.items.TheConstants.{ENTRIES_MOST};
 ghost use Rattle.liq_book.specs.Origin.{IsAtOrigin};
 ghost use Rattle.liq_book.specs.Seats.{IsSeatOf, sessions_of};
 ghost use Rattle.liq_serving.specs.Leaves.{Leaves};
@@ -23,7 +23,8 @@ use std::sync::Wait;
 use std::thread::Threads;
 
 /// Serves the scripts of the sessions from 1 on, all at once, over a store that is open: a book is made with a seat for each, the
-/// sessions run, all seats come back, and the book is closed.
+/// sessions run, all seats come back, and the book is closed. All scripts together have at most [`liq_book::ENTRIES_MOST`]
+/// requests, so that the book is never full.
 ///
 /// The history is legal from each state for which the store's protocol stands. A disk's count rose exactly where the end
 /// is [`End::DiskFault`].
@@ -37,7 +38,7 @@ pub fn serve_sessions<D: Disk + Send, G: Gate + Sync, R: Threads + Wait + Sync>(
     requires some { 1 ≤ length scripts.items }
     requires few { length scripts.items ≤ 8 }
     requires numbered { AreNumbered scripts.items }
-    requires short { All (λ script. length script.requests ≤ REQUESTS_MOST) scripts.items }
+    requires total { sum_by (λ script. length script.requests) scripts.items ≤ ENTRIES_MOST }
     requires going { store.stopped ≡ None }
     ensures { (s : State) → StandsFor store.core s → Serves D.seen D.faults D.moment D.left_at s (disk_at D.seen D.faults D.moment D.left_at store.left) (disk_at D.seen D.faults D.moment D.left_at store.right) scripts.items result }
 {
@@ -56,7 +57,7 @@ fn serve_from<D: Disk + Send, O: Origin + Send + Sync, G: Gate + Sync, R: Thread
     requires some { 1 ≤ length scripts.items }
     requires few { length scripts.items ≤ 8 }
     requires numbered { AreNumbered scripts.items }
-    requires short { All (λ script. length script.requests ≤ REQUESTS_MOST) scripts.items }
+    requires total { sum_by (λ script. length script.requests) scripts.items ≤ ENTRIES_MOST }
     requires going { store.stopped ≡ None }
     requires origin { IsAtOrigin D.seen D.faults D.moment D.left_at O.state O.left O.right store }
     ensures { Serves D.seen D.faults D.moment D.left_at O.state O.left O.right scripts.items result }

@@ -16,12 +16,6 @@ use std::process::Abort;
 use std::sync::Wait;
 use std::test::Fail;
 
-const NO_HINT: Hint = Hint {
-    prev: None,
-    next: None,
-    version: 0,
-};
-
 /// The last seat makes a call.
 fn call_by_last<D: Disk, O: Origin, R: Wait + Abort>(
     rt: &R,
@@ -36,7 +30,7 @@ fn call_by_last<D: Disk, O: Origin, R: Wait + Abort>(
     };
     let before = seat.seen();
     let session = seat.session();
-    let (seat, answer) = service.call(rt, seat, &asked_at(session, 1), &NO_HINT);
+    let (seat, answer) = service.call(rt, seat, &asked_at(session, 1), &Hint::NONE);
     assert!(rt; matches!(answer, Answer::Reply(_)));
     assert_eq!(rt; seat.calls(), 1);
     assert_eq!(rt; seat.seen(), before.wrapping_add(1));

@@ -1,6 +1,6 @@
 //! Scripts served at once.
-ghost use Rattle.std.specs.Prelude.{◌≤◌};
-ghost use Rattle.liq_sessions.specs.declared.script.TheConstants.{REQUESTS_MOST};
+ghost use Rattle.std.specs.Prelude.{◌≤◌, ◌*◌};
+ghost use Rattle.liq_book.specs.declared.items.TheConstants.{ENTRIES_MOST};
 
 use crate::stores::{asked_at, disk, replayed, scripts, store};
 use liq_book::Entry;
@@ -20,7 +20,7 @@ fn served<R: Threads + Wait + Sync>(
     failing: &[u64],
     requests: usize,
 ) -> Result<Served<MemoryDisk>, Fail>
-    requires { requests ≤ REQUESTS_MOST }
+    requires { 8 * requests ≤ ENTRIES_MOST }
 {
     let store = store(alloc, disk(alloc, failing)?, disk(alloc, &[])?)?;
     Ok(serve_sessions(rt, alloc, &OpenGate, scripts(alloc, requests)?, store))

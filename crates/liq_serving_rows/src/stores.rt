@@ -1,6 +1,6 @@
 //! Stores over disks in memory, and what sessions ask of them.
-ghost use Rattle.std.specs.Prelude.{◌≡◌, ◌≤◌, None, All, IfOk, length};
-ghost use Rattle.liq_sessions.specs.declared.script.TheConstants.{REQUESTS_MOST};
+ghost use Rattle.std.specs.Prelude.{◌≡◌, ◌≤◌, ◌*◌, None, IfOk, length, sum_by};
+ghost use Rattle.liq_book.specs.declared.items.TheConstants.{ENTRIES_MOST};
 ghost use Rattle.liq_serving.specs.Serves.{AreNumbered};
 
 use liq_core::is_built;
@@ -10,12 +10,6 @@ use liq_store::Store;
 use liq_types::{Answer, Call, Command, Hint, Query, Reply, Request};
 use std::alloc::Global;
 use std::test::Fail;
-
-const NO_HINT: Hint = Hint {
-    prev: None,
-    next: None,
-    version: 0,
-};
 
 /// An empty disk of which the device calls with these numbers fail.
 pub fn disk(alloc: Global, failing: &[u64]) -> Result<MemoryDisk, Fail> {
@@ -50,9 +44,8 @@ pub fn asked_at(session: u8, index: u64) -> Request {
 
 /// The script of a session.
 fn script(alloc: Global, session: u8, requests: usize) -> Result<Script, Fail>
-    requires { requests ≤ REQUESTS_MOST }
     ensures session { IfOk result (λ script. script.session ≡ session) }
-    ensures short { IfOk result (λ script. length script.requests ≤ REQUESTS_MOST) }
+    ensures short { IfOk result (λ script. length script.requests ≤ requests) }
 {
     let mut list = Requests::new(alloc);
     for before in 0..requests {
@@ -65,11 +58,12 @@ fn script(alloc: Global, session: u8, requests: usize) -> Result<Script, Fail>
 }
 
 /// The scripts of eight sessions.
+#[tactic(auto, using(std::proofs::lemmas::List::Sums::sum_by_push))]
 pub fn scripts(alloc: Global, requests: usize) -> Result<Vec<Script>, Fail>
-    requires { requests ≤ REQUESTS_MOST }
+    requires { 8 * requests ≤ ENTRIES_MOST }
     ensures eight { IfOk result (λ scripts. length scripts.items ≡ 8) }
     ensures numbered { IfOk result (λ scripts. AreNumbered scripts.items) }
-    ensures short { IfOk result (λ scripts. All (λ script. length script.requests ≤ REQUESTS_MOST) scripts.items) }
+    ensures total { IfOk result (λ scripts. sum_by (λ script. length script.requests) scripts.items ≤ ENTRIES_MOST) }
 {
     let mut scripts = Vec::new(alloc);
     for before in 0..8u8 {
@@ -83,7 +77,7 @@ pub fn replayed(store: &mut Store<MemoryDisk>, request: &Request) -> Option<Repl
     if !is_built(request) {
         return None;
     }
-    match store.call(request, &NO_HINT) {
+    match store.call(request, &Hint::NONE) {
         Answer::Reply(reply) => Some(reply),
         _ => None,
     }

@@ -1,10 +1,9 @@
-//! Gates that watch sessions, and one that holds a session back.
+//! A gate that watches sessions.
 
 use crate::desk::hint_of;
 use liq_sessions::Gate;
 use liq_types::Hint;
 use std::sync::atomic::{AtomicBool, AtomicU64, Ordering};
-use std::thread;
 
 /// The four steps of a call.
 pub const ENTER: u64 = 0;
@@ -14,9 +13,6 @@ pub const HINT: u64 = 1;
 pub const CALL: u64 = 2;
 
 pub const LEAVE: u64 = 3;
-
-/// How often a held session looks whether it may go on.
-const TURNS: u32 = 10_000_000;
 
 /// Counts the steps of each session, and notes a miss where one comes out of its order.
 #[derive(Drop)]
@@ -88,53 +84,6 @@ impl Gate for Watch {
         self.compare(before, index);
         if *hint != hint_of(session, u64::from(index)) {
             self.missed.store(true, Ordering::SeqCst);
-        }
-    }
-}
-
-/// Holds the first call of one session until the first call of another has left. After many turns it lets the call through and
-/// notes a miss.
-#[derive(Drop)]
-pub struct Holding {
-    held: u8,
-    awaited: u8,
-    left: AtomicBool,
-    missed: AtomicBool,
-}
-
-impl Holding {
-    pub fn new(held: u8, awaited: u8) -> Holding {
-        Holding {
-            held,
-            awaited,
-            left: AtomicBool::new(false),
-            missed: AtomicBool::new(false),
-        }
-    }
-
-    /// Whether the held call was let through before the awaited one had left.
-    pub fn has_missed(&self) -> bool {
-        self.missed.load(Ordering::SeqCst)
-    }
-}
-
-impl Gate for Holding {
-    fn enter(&self, session: u8, index: u32) {
-        if session != self.held || index != 1 {
-            return;
-        }
-        for _ in 0..TURNS {
-            if self.left.load(Ordering::SeqCst) {
-                return;
-            }
-            thread::yield_now();
-        }
-        self.missed.store(true, Ordering::SeqCst);
-    }
-
-    fn leave(&self, session: u8, index: u32, _hint: &Hint) {
-        if session == self.awaited && index == 1 {
-            self.left.store(true, Ordering::SeqCst);
         }
     }
 }

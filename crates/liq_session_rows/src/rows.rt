@@ -3,7 +3,8 @@ ghost use Rattle.std.specs.Prelude.{◌≡◌, ◌≤◌, All, IfOk, length};
 ghost use Rattle.liq_sessions.specs.declared.script.TheConstants.{REQUESTS_MOST};
 
 use crate::desk::{CountedHints, MadeUpDesk, MadeUpSeat, Trouble, made_up};
-use crate::gates::{Holding, Watch};
+use crate::gates::Watch;
+use crate::holding::Holding;
 use liq_sessions::{
     Gate, NoHints, OpenGate, Requests, Script, SessionDone, SessionEnd, Work, run_sessions,
 };

@@ -17,11 +17,6 @@ const PREAMBLE: u64 = 3 * OWNERS;
 /// Who liquidates.
 const LIQUIDATOR: u32 = 1000;
 
-const NO_HINT: HintWords = HintWords {
-    prev: None,
-    next: None,
-};
-
 /// Calls that a seed determines, one after the other. Contracts see the list of those that are still to come.
 #[derive(Clone, Debug, Drop)]
 pub struct Generator {
@@ -83,7 +78,13 @@ fn opening_call(before: u64) -> Call
     let account = 1 + (before / 3) as u32;
     match before % 3 {
         0 => Call::Fund(account, 1_000_000_000_000),
-        1 => Call::Open(account, 100_000_000_000, 20_000_000_000, ONE, NO_HINT),
+        1 => Call::Open(
+            account,
+            100_000_000_000,
+            20_000_000_000,
+            ONE,
+            HintWords::NONE,
+        ),
         _ => Call::Provide(account, 10_000_000_000),
     }
 }
@@ -125,19 +126,19 @@ fn call_by(kind: u64, account: u32, number: u64) -> Call
             100_000_000_000,
             2_000_000_000 + number,
             ONE,
-            NO_HINT,
+            HintWords::NONE,
         ),
-        3 => Call::Adjust(account, 0, 0, number, 0, ONE, NO_HINT),
-        4 => Call::Adjust(account, 0, 0, 0, number, 0, NO_HINT),
-        5 => Call::Adjust(account, number, 0, 0, 0, 0, NO_HINT),
-        6 => Call::Adjust(account, 0, number, 0, 0, 0, NO_HINT),
+        3 => Call::Adjust(account, 0, 0, number, 0, ONE, HintWords::NONE),
+        4 => Call::Adjust(account, 0, 0, 0, number, 0, HintWords::NONE),
+        5 => Call::Adjust(account, number, 0, 0, 0, 0, HintWords::NONE),
+        6 => Call::Adjust(account, 0, number, 0, 0, 0, HintWords::NONE),
         7 => Call::Close(account),
         8 => Call::Provide(account, 1 + number),
         9 => Call::Withdraw(account, number),
-        10 => Call::GainToTrove(account, NO_HINT),
+        10 => Call::GainToTrove(account, HintWords::NONE),
         11 => Call::Liquidate(LIQUIDATOR, account),
         12 => Call::LiquidateLowest(LIQUIDATOR, 1 + number % 64),
-        13 => Call::Redeem(account, 1 + number, ONE, NO_HINT),
+        13 => Call::Redeem(account, 1 + number, ONE, HintWords::NONE),
         14 => Call::Claim(account),
         _ => Call::Send(account, 1 + (number % OWNERS) as u32, 1 + number),
     }

@@ -12,10 +12,6 @@ impl Hinter for NoHints {
     fn hint_for(&mut self, _request: &Request) -> Hint
         ensures { result ≡ record { prev = None; next = None; version = 0 } }
     {
-        Hint {
-            prev: None,
-            next: None,
-            version: 0,
-        }
+        Hint::NONE
     }
 }

@@ -68,5 +68,8 @@ fn part_of(deposit: &Deposit, number: u128, scales: u64) -> u128
     ensures within { result ≤ LIM * (OFFSET_MOST * P_OPENING) }
 {
     let part = mul_div(u128::from(deposit.amount), number, deposit.p);
+    if part == 0 || scales == 0 {
+        return part;
+    }
     part / 10_u128.pow(9 * scales as u32)
 }

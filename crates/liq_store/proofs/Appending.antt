@@ -1,6 +1,6 @@
 -- What an append leaves of a store.
-use Rattle.std.proofs.Common.{◌≡◌, ◌⊎◌, ◌↔◌, inl, inr, ⊎_elim, ℕ, ◌+◌, ◌≤◌, ◌<◌, List, [], ◌∷◌, length, Bool, false, IsTrue, Option, Some, None, Ok, IfSome, IsSome, refl, sym, ◌∙◌, ap, subst, arith, length-append}
-use Rattle.liq_outside.specs.Disk.{LeavesOnly, LeftNow, LeftSince, Only}
+use Rattle.std.proofs.Common.{◌≡◌, ◌⊎◌, ◌↔◌, inl, inr, ⊎_elim, ℕ, ◌+◌, ◌≤◌, List, [], ◌∷◌, length, Bool, IsTrue, Option, Some, None, Ok, IfSome, IsSome, refl, sym, ◌∙◌, ap, subst, arith, length-append}
+use Rattle.liq_outside.specs.Disk.{LeavesOnly, LeftNow, Only}
 use Rattle.liq_outside.proofs.Moments.{at_last, started}
 use Rattle.liq_types.specs.declared.requests.Command.{Command}
 use Rattle.liq_types.specs.declared.requests.Request.{Request}
@@ -11,12 +11,11 @@ use Rattle.liq_core.specs.Core.{Core, StandsFor}
 use Rattle.liq_core.specs.Plan.{Plan, IsPlan}
 use Rattle.liq_core.specs.Verbs.{built_call}
 use Rattle.liq_core.specs.Step.{Allowed, after, after_ruling, ruling, step}
-use Rattle.liq_journal.specs.Bodies.{IsJournalOf}
 use Rattle.liq_journal.specs.Crash.{BeforeOrAfter, IsBodyOf, Stands, is_odd}
 use Rattle.liq_journal.specs.Settled.{IsSettled, JournalOn}
 use Rattle.liq_journal.specs.Written.{Open, Written, and_then, found_on}
 use Rattle.liq_pairs.specs.declared.side.Side.{Side}
-use Rattle.liq_pairs.specs.Kept.{IsKept, IsSettledFor}
+use Rattle.liq_pairs.specs.Kept.{IsKept}
 use Rattle.liq_pairs.specs.Sides.{has_odd, on}
 use Rattle.liq_core.proofs.AlikeReads.{Alike}
 use Rattle.liq_pairs.proofs.Alike.{core_alike, settled_alike}

@@ -1,8 +1,12 @@
 -- Each verb but the rotation is built.
-use Rattle.std.proofs.Common.{◌≡◌, Bool, true, false, IsTrue, refl}
+use Rattle.std.proofs.Common.{◌≡◌, ℕ, List, false, IsTrue, Ok, refl, subst}
 use Rattle.liq_types.specs.declared.requests.Call.{Call}
 use Rattle.liq_types.specs.declared.requests.Call.TheVariants.{Price, Advance, Fund, Take, Send, Open, Adjust, Close, Provide, Withdraw, GainToTrove, Liquidate, LiquidateLowest, Redeem, Claim, Rotate}
-use Rattle.liq_core.specs.Verbs.{built_call}
+use Rattle.liq_types.specs.declared.requests.Command.{Command}
+use Rattle.liq_types.specs.declared.requests.Request.TheVariants.{Do}
+use Rattle.liq_wire.specs.Fields.{command_of}
+use Rattle.liq_core.specs.Verbs.{built, built_call}
+use Rattle.liq_journal.specs.Crash.{IsBodyOf}
 use Rattle.liq_journal.specs.Written.{is_rotate}
 
 pub all_built : (call : Call) → is_rotate call ≡ false → IsTrue (built_call call)
@@ -41,3 +45,9 @@ built_stays (LiquidateLowest liquidator count) h = refl
 built_stays (Redeem account lusd bound hint) h = refl
 built_stays (Claim account) h = refl
 built_stays Rotate h = cc
+
+-- a body's command is built, since it is no rotation
+pub body_built : (body : List ℕ) (of read : Command) → IsBodyOf body of → command_of body ≡ Ok read → IsTrue (built (Do read))
+body_built body of read is came =
+    let same : of ≡ read = (let spelled = is.spelled in cc (spelled, came)) in
+    all_built read.call (subst (λ (c : Command). is_rotate c.call ≡ false) same is.no_rotation)

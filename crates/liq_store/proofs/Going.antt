@@ -1,5 +1,5 @@
 -- A store by its side: the disk that is taken, and the one beside it.
-use Rattle.std.proofs.Common.{◌≡◌, ◌⊎◌, inl, inr, ⊎_elim, ℕ, ◌≤◌, List, Option, Some, None, IfSome, refl, sym, ◌∙◌, ap, subst, arith}
+use Rattle.std.proofs.Common.{◌≡◌, inl, ℕ, List, Option, Some, None, IfSome, refl, sym, ◌∙◌, ap, subst, arith}
 use Rattle.liq_outside.specs.Disk.{LeftNow, LeftSince, Only}
 use Rattle.liq_types.specs.declared.requests.Request.{Request}
 use Rattle.liq_types.specs.Image.{Image}
@@ -11,7 +11,7 @@ use Rattle.liq_pairs.specs.declared.side.Side.TheVariants.{Left, Right}
 use Rattle.liq_pairs.specs.Kept.{IsKept, IsSettledFor}
 use Rattle.liq_pairs.specs.Sides.{on}
 use Rattle.liq_pairs.proofs.Keeping.{settled_kept}
-use Rattle.liq_store.specs.Keeping.{IsAtRest, IsGoing, IsHalted, IsInOrder, IsInOrderWith, IsKeptAround, IsKeptNear, LeavesPairs}
+use Rattle.liq_store.specs.Keeping.{IsAtRest, IsGoing, IsInOrder, IsInOrderWith, IsKeptAround, IsKeptNear, LeavesPairs}
 use Rattle.liq_store.specs.Stored.{Stored}
 use Rattle.liq_store.specs.Within.{IsWithin, stored}
 use Rattle.liq_store.proofs.Steps.{stands_before}

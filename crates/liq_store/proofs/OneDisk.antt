@@ -1,26 +1,23 @@
 -- What one disk is found to be, by its opening and its replay.
-use Rattle.std.proofs.Common.{◌≡◌, ◌∙◌, ◌↔◌, ℕ, ◌+◌, List, length, Option, Some, None, IfSome, IsSome, Bool, true, false, ◌&&◌, ◌==◌, Result, Ok, Err, refl, sym, ap, subst, rules, arith}
+use Rattle.std.proofs.Common.{◌≡◌, ◌∙◌, ◌↔◌, ℕ, List, length, Option, Some, None, IfSome, IsSome, Bool, true, false, Result, Ok, Err, refl, sym, ap, subst, rules, arith}
 use Rattle.std.proofs.lemmas.Bool.Decides.{nat_tests}
-use Rattle.liq_types.specs.State.{State, opening}
-use Rattle.liq_core.specs.Core.{Core, StandsFor}
+use Rattle.liq_types.specs.State.{opening}
+use Rattle.liq_core.specs.Core.{Core}
 use Rattle.liq_journal.specs.Bodies.{IsJournalOf}
 use Rattle.liq_journal.specs.Crash.{Stands, is_odd}
-use Rattle.liq_journal.specs.Opened.{IsOpened, IsWhyOf}
+use Rattle.liq_journal.specs.Opened.{IsOpened}
 use Rattle.liq_journal.specs.Settled.{JournalOn}
 use Rattle.liq_journal.specs.Written.{Open, Written, found_on, is_generation}
-use Rattle.liq_journal.specs.declared.answers.OpenWhy.{OpenWhy}
-use Rattle.liq_pairs.specs.Pair.{Faulty, standing}
-use Rattle.liq_pairs.specs.Replay.{outcome}
 use Rattle.liq_pairs.proofs.Standings.{standing_faulty}
-use Rattle.liq_store.specs.declared.replay.ReplayFault.{ReplayFault}
-use Rattle.liq_store.specs.declared.replay.ReplayFault.TheVariants.{DiskFault, Damaged, NoMemory}
+use Rattle.liq_store.specs.declared.answers.AcceptedFault.{AcceptedFault}
+use Rattle.liq_store.specs.declared.answers.AcceptedFault.TheVariants.{DiskFault, Damaged, NoMemory}
 use Rattle.liq_store.specs.declared.standing.StandFault.{StandFault}
 use Rattle.liq_store.specs.declared.standing.Stood.{Stood}
 use Rattle.liq_store.specs.declared.standing.Stood.TheVariants.{Nothing, Holding}
 use Rattle.liq_store.specs.Replays.{Replays}
 use Rattle.liq_store.specs.Standing.{Continues, FailsTo, HoldsTo, IsFoundOn, IsWhyOn}
 
-pub fails_to : (w : Written) (core : Core) (why : ReplayFault) → Replays opening w.commands core (Err why) → FailsTo w why
+pub fails_to : (w : Written) (core : Core) (why : AcceptedFault) → Replays opening w.commands core (Err why) → FailsTo w why
 fails_to w core DiskFault h = tt
 fails_to w core (Damaged damage) h = h
 fails_to w core NoMemory h = tt
@@ -94,7 +91,7 @@ found_by odd held w journal (Ok (Holding now core)) found generation holds conti
 }
 found_by odd held w journal (Err met) found generation holds continues = why met.why holds
   where
-    why : (y : ReplayFault) → FailsTo w y → IsWhyOn odd held y
+    why : (y : AcceptedFault) → FailsTo w y → IsWhyOn odd held y
     why DiskFault h = tt
     why (Damaged damage) h = standing_faulty odd held w damage found h
     why NoMemory h = tt

@@ -1,34 +1,40 @@
 -- What an opening of two disks finds and leaves, by what it finds and leaves of each.
-use Rattle.std.proofs.Common.{◌≡◌, ◌⊎◌, inl, inr, ◌↔◌, ℕ, List, [], Option, Some, None, IfSome, IsSome, Bool, true, false, Result, Ok, Err, IfOk, IfErr, refl, sym, ◌∙◌, ap, subst}
-use Rattle.liq_outside.specs.Disk.{GoesOn, LeavesOnly, LeftNow, Only}
+use Rattle.std.proofs.Common.{◌≡◌, ◌⊎◌, inl, inr, ◌↔◌, ℕ, List, [], Option, Some, None, IfSome, IsSome, Bool, true, false, Result, Ok, Err, IfOk, IfErr, refl, sym, ◌∙◌, ap, ap₂, subst, arith, ◌≤◌, ⊎_elim}
+use Rattle.liq_outside.specs.Disk.{LeavesOnly, LeftNow, Only}
+use Rattle.liq_outside.specs.Faults.{Rose}
 use Rattle.liq_outside.proofs.Moments.{chained, weaker}
 use Rattle.liq_types.specs.State.{State}
 use Rattle.liq_core.specs.Core.{Core, StandsFor}
+use Rattle.liq_journal.specs.Causes.{Counted}
 use Rattle.liq_journal.specs.Crash.{CreateLeaves, beginning}
 use Rattle.liq_journal.specs.Opened.{CrashOfOpen, IsUnshut, OpenLeaves, ReadsOfOpen}
-use Rattle.liq_journal.specs.Written.{Absent, found_on}
+use Rattle.liq_journal.specs.Written.{found_on}
 use Rattle.liq_journal.specs.declared.damage.Damage.{Damage}
-use Rattle.liq_pairs.specs.declared.side.Side.{Side}
 use Rattle.liq_pairs.specs.declared.side.Side.TheVariants.{Left, Right}
 use Rattle.liq_pairs.specs.Pair.{Faulty, standing, state_on}
-use Rattle.liq_pairs.specs.Unfinished.{LeftLeaves}
+use Rattle.liq_pairs.specs.Kept.{IsKept}
+use Rattle.liq_pairs.specs.Unfinished.{IsRecovered, LeftLeaves}
 use Rattle.liq_pairs.proofs.Beginning.{created_from, left_faulty, right_faulty, right_faulty_beside}
+use Rattle.liq_pairs.proofs.Commands.{commands_alike}
+use Rattle.liq_pairs.proofs.Recovering.{recovered}
 use Rattle.liq_pairs.proofs.Standings.{standing_absent, standing_open, state_alike}
 use Rattle.liq_store.specs.declared.answers.StoreFault.{StoreFault}
 use Rattle.liq_store.specs.declared.answers.StoreWhy.{StoreWhy}
 use Rattle.liq_store.specs.declared.answers.StoreWhy.TheVariants as why
-use Rattle.liq_store.specs.declared.replay.ReplayFault.{ReplayFault}
-use Rattle.liq_store.specs.declared.replay.ReplayFault.TheVariants as fault
+use Rattle.liq_store.specs.declared.answers.AcceptedFault.{AcceptedFault}
+use Rattle.liq_store.specs.declared.answers.AcceptedFault.TheVariants as fault
 use Rattle.liq_store.specs.declared.standing.StandFault.{StandFault}
 use Rattle.liq_store.specs.declared.standing.Stood.{Stood}
 use Rattle.liq_store.specs.declared.standing.Stood.TheVariants.{Nothing, Holding}
 use Rattle.liq_store.specs.Beginning.{BeginsLeft, Creates, IsStanding, IsStoodOn}
-use Rattle.liq_store.specs.Judging.{IsDamagedBy, IsFine, IsJudged, disk_of}
+use Rattle.liq_store.specs.Causes.{CausesWhy, Faults, OneRose, counts_of}
+use Rattle.liq_store.specs.Judging.{IsDamagedBy, IsFine, IsJudged, MetFault, disk_of}
+use Rattle.liq_store.specs.Reading.{CountsFault}
 use Rattle.liq_store.specs.Keeping.{IsAtRest}
-use Rattle.liq_store.specs.Opening.{IsWhyOf, MetNoFault, left_after, right_after}
-use Rattle.liq_store.specs.Standing.{IsCounted, IsFaultless, IsFoundOn, IsLeftOn, IsWhyOn, disk_in}
+use Rattle.liq_store.specs.Opening.{IsNotOpened, IsWhyOf, OpensOn, left_after, right_after}
+use Rattle.liq_store.specs.Standing.{CountsStand, IsCounted, IsFaultless, IsFoundOn, IsLeftOn, IsWhyOn, disk_in}
 use Rattle.liq_store.specs.Stored.{Stored}
-use Rattle.liq_store.proofs.OneDisk.{some_same, told_too}
+use Rattle.liq_store.proofs.OneDisk.{told_too}
 
 -- all that is said of one disk that was opened and tested, whole
 pub record StandsAs {D : Type 0} (seen : D → Option (List ℕ)) (moment : D → ℕ) (left_at : D → ℕ → List ℕ → Type 0) (odd : Bool) (old : D) (result : Result (Stood D) (StandFault D)) : Type 0 where
@@ -77,7 +83,7 @@ module _ {D : Type 0} (seen : D → Option (List ℕ)) (moment : D → ℕ) (lef
     right_told : (r : List ℕ) → seen right ≡ Some r → (y : List ℕ) × (seen (disk_in rr) ≡ Some y)
     right_told r tr = told_too (seen right) (seen (disk_in rr)) sr.telling r tr
 
-    pub state_before : IsFaultless lr → IsFaultless rr → (core : Core)
+    state_before : IsFaultless lr → IsFaultless rr → (core : Core)
         → ((x y : List ℕ) → seen (disk_in lr) ≡ Some x → seen (disk_in rr) ≡ Some y → (s : State) × (state_on x y ≡ Ok s) × StandsFor core s)
         → (l r : List ℕ) → seen left ≡ Some l → seen right ≡ Some r → (s : State) × (state_on l r ≡ Ok s) × StandsFor core s
     state_before fl fr core states l r tl tr =
@@ -86,7 +92,7 @@ module _ {D : Type 0} (seen : D → Option (List ℕ)) (moment : D → ℕ) (lef
         let is = states x.0 y.0 x.1 y.1 in
         (is.0, sym (stands_still fl fr l r x.0 y.0 tl tr x.1 y.1) ∙ is.1, is.2)
 
-    pub still_before : IsFaultless lr → IsFaultless rr → (x y : List ℕ) → ((l r : List ℕ) → seen (disk_in lr) ≡ Some l → seen (disk_in rr) ≡ Some r → state_on x y ≡ state_on l r)
+    still_before : IsFaultless lr → IsFaultless rr → (x y : List ℕ) → ((l r : List ℕ) → seen (disk_in lr) ≡ Some l → seen (disk_in rr) ≡ Some r → state_on x y ≡ state_on l r)
         → (l r : List ℕ) → seen left ≡ Some l → seen right ≡ Some r → state_on x y ≡ state_on l r
     still_before fl fr x y still l r tl tr =
         let m = left_told l tl in
@@ -150,23 +156,75 @@ module _ {D : Type 0} (seen : D → Option (List ℕ)) (moment : D → ℕ) (lef
   pub same_disk : (stood : Stood D) (now : D) → now ≡ disk_of stood → now ≡ disk_in (Ok stood)
   same_disk stood now is = is ∙ sym (disk_same stood)
 
-  pub begun_state : (left right : D) (stood_left stood_right : Stood D) → StandsAs seen moment left_at true left (Ok stood_left) → StandsAs seen moment left_at false right (Ok stood_right) → (result : Result (Stored D) (StoreFault D))
-      → IfOk result (λ store. (l r : List ℕ) → seen (disk_of stood_left) ≡ Some l → seen (disk_of stood_right) ≡ Some r → (s : State) × (state_on l r ≡ Ok s) × StandsFor store.core s)
-      → IfOk result (λ store. (l r : List ℕ) → seen left ≡ Some l → seen right ≡ Some r → (s : State) × (state_on l r ≡ Ok s) × StandsFor store.core s)
-  begun_state left right stood_left stood_right sl sr (Ok store) states = state_before left right (Ok stood_left) (Ok stood_right) sl sr tt tt store.core (λ x y tx ty. states x y (ap seen (sym (disk_same stood_left)) ∙ tx) (ap seen (sym (disk_same stood_right)) ∙ ty))
-  begun_state left right stood_left stood_right sl sr (Err e) states = tt
+  -- what both read then, of two that were kept
+  begun_recovered : (left right : D) (stood_left stood_right : Stood D) (a b : D) → StandsAs seen moment left_at true left (Ok stood_left) → StandsAs seen moment left_at false right (Ok stood_right)
+      → BeginsLeft seen moment left_at stood_left stood_right a → b ≡ disk_of stood_right
+      → (l r x y : List ℕ) (s : State) → seen left ≡ Some l → seen right ≡ Some r → IsKept l r s → seen a ≡ Some x → seen b ≡ Some y → IsRecovered l r s x y
+  begun_recovered left right stood_left stood_right a b sl sr begins same l r x y s tl tr kept tx ty =
+      recovered l r x y s kept (begun_reads left right stood_left stood_right a sl sr begins l r x tl tr tx)
+      (right_reads left right (Ok stood_left) (Ok stood_right) sl sr r y tr b (same_disk stood_right b same) ty)
 
-  pub begun_stays : (left right : D) (stood_left stood_right : Stood D) → StandsAs seen moment left_at true left (Ok stood_left) → StandsAs seen moment left_at false right (Ok stood_right) → (result : Result (Stored D) (StoreFault D))
-      → IfErr result (λ e. e.why ≡ why.DiskFault)
-      → IfOk result (λ store. (l r x y : List ℕ) → seen (disk_of stood_left) ≡ Some l → seen (disk_of stood_right) ≡ Some r → seen store.left ≡ Some x → seen store.right ≡ Some y → state_on x y ≡ state_on l r)
-      → MetNoFault result → (l r x y : List ℕ) → seen left ≡ Some l → seen right ≡ Some r → seen (left_after result) ≡ Some x → seen (right_after result) ≡ Some y → state_on x y ≡ state_on l r
-  begun_stays left right stood_left stood_right sl sr (Ok store) fault stays none l r x y tl tr tx ty =
-      still_before left right (Ok stood_left) (Ok stood_right) sl sr tt tt x y (λ m n tm tn. stays m n x y (ap seen (sym (disk_same stood_left)) ∙ tm) (ap seen (sym (disk_same stood_right)) ∙ tn) tx ty) l r tl tr
-  begun_stays left right stood_left stood_right sl sr (Err e) fault stays none l r x y tl tr tx ty = absurd (none fault)
+  pub begun_reads_kept : (left right : D) (stood_left stood_right : Stood D) → StandsAs seen moment left_at true left (Ok stood_left) → StandsAs seen moment left_at false right (Ok stood_right) → (result : Result (Stored D) (StoreFault D))
+      → BeginsLeft seen moment left_at stood_left stood_right (left_after result) → right_after result ≡ disk_of stood_right
+      → IfOk result (λ store. (l r x y : List ℕ) (s : State) → seen left ≡ Some l → seen right ≡ Some r → IsKept l r s → seen store.left ≡ Some x → seen store.right ≡ Some y → IsRecovered l r s x y)
+  begun_reads_kept left right stood_left stood_right sl sr (Ok store) begins same = begun_recovered left right stood_left stood_right store.left store.right sl sr begins same
+  begun_reads_kept left right stood_left stood_right sl sr (Err e) begins same = tt
+
+  module _ (faults : D → ℕ) where
+    -- ---- a store was opened
+
+    same_counts : (left right : D) (stood_left stood_right : Stood D) → CountsStand (Ok stood_left) (faults left) (faults (disk_in (Ok stood_left))) → CountsStand (Ok stood_right) (faults right) (faults (disk_in (Ok stood_right)))
+        → counts_of faults (disk_of stood_left) (disk_of stood_right) ≡ counts_of faults left right
+    same_counts left right stood_left stood_right cl cr =
+        let both : ℕ → ℕ → Faults = λ m n. record { left = m; right = n } in
+        ap₂ both (ap faults (sym (disk_same stood_left)) ∙ cl) (ap faults (sym (disk_same stood_right)) ∙ cr)
+
+    pub begun_opened : (left right : D) (stood_left stood_right : Stood D) → StandsAs seen moment left_at true left (Ok stood_left) → StandsAs seen moment left_at false right (Ok stood_right)
+        → CountsStand (Ok stood_left) (faults left) (faults (disk_in (Ok stood_left))) → CountsStand (Ok stood_right) (faults right) (faults (disk_in (Ok stood_right)))
+        → (result : Result (Stored D) (StoreFault D)) → IfOk result (OpensOn seen faults (disk_of stood_left) (disk_of stood_right)) → IfOk result (OpensOn seen faults left right)
+    begun_opened left right stood_left stood_right sl sr cl cr (Ok store) is =
+        let on_left : (m : List ℕ) → seen (disk_in (Ok stood_left)) ≡ Some m → seen (disk_of stood_left) ≡ Some m = λ m told. ap seen (sym (disk_same stood_left)) ∙ told in
+        let on_right : (n : List ℕ) → seen (disk_in (Ok stood_right)) ≡ Some n → seen (disk_of stood_right) ≡ Some n = λ n told. ap seen (sym (disk_same stood_right)) ∙ told in
+        record {
+          state = state_before left right (Ok stood_left) (Ok stood_right) sl sr tt tt store.core (λ m n tm tn. is.state m n (on_left m tm) (on_right n tn));
+          commands = λ l r now tl tr tn.
+              let m = left_told left right (Ok stood_left) (Ok stood_right) sl sr l tl in
+              let n = right_told left right (Ok stood_left) (Ok stood_right) sl sr r tr in
+              let holds = is.commands m.0 n.0 now (on_left m.0 m.1) (on_right n.0 n.1) tn in
+              record {
+                written = holds.written;
+                found = holds.found;
+                begins = holds.begins;
+                are = holds.are ∙ commands_alike l r m.0 n.0 (sl.same tt l m.0 tl m.1) (sr.same tt r n.0 tr n.1);
+              };
+          going = is.going;
+          counts = is.counts ∙ same_counts left right stood_left stood_right cl cr;
+          stays = λ l r x y tl tr tx ty. still_before left right (Ok stood_left) (Ok stood_right) sl sr tt tt x y (λ m n tm tn. is.stays m n x y (on_left m tm) (on_right n tn) tx ty) l r tl tr;
+        }
+    begun_opened left right stood_left stood_right sl sr cl cr (Err e) is = tt
+
+    -- ---- none was opened: the first generation was not created
+
+    pub begun_not : (left right : D) (stood_left stood_right : Stood D) → StandsAs seen moment left_at true left (Ok stood_left) → StandsAs seen moment left_at false right (Ok stood_right)
+        → CountsStand (Ok stood_left) (faults left) (faults (disk_in (Ok stood_left))) → CountsStand (Ok stood_right) (faults right) (faults (disk_in (Ok stood_right)))
+        → (result : Result (Stored D) (StoreFault D)) → BeginsLeft seen moment left_at stood_left stood_right (left_after result) → right_after result ≡ disk_of stood_right
+        → IfErr result (λ e. e.why ≡ why.DiskFault) → IfErr result (λ e. Counted (faults (disk_of stood_left)) (faults e.left)) → IfErr result (IsNotOpened seen faults left right)
+    begun_not left right stood_left stood_right sl sr cl cr (Ok store) begins same fault counted = tt
+    begun_not left right stood_left stood_right sl sr cl cr (Err e) begins same fault counted =
+        let left_is : faults (disk_of stood_left) ≡ faults left = ap faults (sym (disk_same stood_left)) ∙ cl in
+        let right_is : faults e.right ≡ faults right = ap faults (same ∙ sym (disk_same stood_right)) ∙ cr in
+        let rose : Counted (faults left) (faults e.left) = subst (λ (n : ℕ). Counted n (faults e.left)) left_is counted in
+        let one : OneRose (counts_of faults left right) (counts_of faults e.left e.right) = record { left = rose.later; right = omega arith; rose = inl rose.rose } in
+        record {
+          cause = subst (λ (y : StoreWhy). CausesWhy y (counts_of faults left right) (counts_of faults e.left e.right)) (sym fault) one;
+          is_why = λ l r tl tr. subst (λ (y : StoreWhy). IsWhyOf l r y) (sym fault) tt;
+          stays = λ other. absurd (other fault);
+          reads = λ l r x y s tl tr kept tx ty. begun_recovered left right stood_left stood_right e.left e.right sl sr begins same l r x y s tl tr kept tx ty;
+        }
 
 -- ---- why nothing is opened
 
-pub judged_faultless : {D : Type 0} (lr rr : Result (Stood D) (StandFault D)) (y : StoreWhy) → IsJudged lr rr y → (y ≡ why.DiskFault → ⊥) → IsFaultless lr × IsFaultless rr
+judged_faultless : {D : Type 0} (lr rr : Result (Stood D) (StandFault D)) (y : StoreWhy) → IsJudged lr rr y → (y ≡ why.DiskFault → ⊥) → IsFaultless lr × IsFaultless rr
 judged_faultless lr rr why.DiskFault judged other = absurd (other refl)
 judged_faultless lr rr (why.Damaged Left damage) judged other = (judged.1, judged.2)
 judged_faultless lr rr (why.Damaged Right damage) judged other = (judged.2, judged.3)
@@ -174,15 +232,71 @@ judged_faultless lr rr why.NoMemory judged other = judged
 
 damaged_so : {D : Type 0} (odd : Bool) (held : List ℕ) (damage : Damage) (result : Result (Stood D) (StandFault D)) → IsDamagedBy damage result → IsFoundOn odd held result → standing odd held ≡ Faulty damage
 damaged_so odd held damage (Ok stood) is found = absurd is
-damaged_so odd held damage (Err met) is found = subst (λ (y : ReplayFault). IsWhyOn odd held y) is found
+damaged_so odd held damage (Err met) is found = subst (λ (y : AcceptedFault). IsWhyOn odd held y) is found
 
 fine_so : {D : Type 0} (l r : List ℕ) (damage : Damage) (lr : Result (Stood D) (StandFault D)) → IsFine lr → IsFoundOn true l lr → standing false r ≡ Faulty damage → state_on l r ≡ Err (Right, damage)
 fine_so l r damage (Ok (Nothing disk)) fine found is = right_faulty l r damage (standing_absent true l found) is
 fine_so l r damage (Ok (Holding journal core)) fine found is = right_faulty_beside l r found.written.generation found.state damage (standing_open true l found.written found.state found.found found.came) is
 fine_so l r damage (Err met) fine found is = absurd fine
 
-pub judged_why : {D : Type 0} (l r : List ℕ) (lr rr : Result (Stood D) (StandFault D)) (y : StoreWhy) → IsJudged lr rr y → IsFoundOn true l lr → IsFoundOn false r rr → IsWhyOf l r y
+judged_why : {D : Type 0} (l r : List ℕ) (lr rr : Result (Stood D) (StandFault D)) (y : StoreWhy) → IsJudged lr rr y → IsFoundOn true l lr → IsFoundOn false r rr → IsWhyOf l r y
 judged_why l r lr rr why.DiskFault judged fl fr = tt
 judged_why l r lr rr (why.Damaged Left damage) judged fl fr = left_faulty l r damage (damaged_so true l damage lr judged.0 fl)
 judged_why l r lr rr (why.Damaged Right damage) judged fl fr = fine_so l r damage lr judged.0 fl (damaged_so false r damage rr judged.1 fr)
 judged_why l r lr rr why.NoMemory judged fl fr = tt
+
+-- ---- the counts
+
+no_fewer : {D : Type 0} (result : Result (Stood D) (StandFault D)) (before after : ℕ) → CountsStand result before after → before ≤ after
+no_fewer (Ok stood) before after counts = omega (arith, counts)
+no_fewer (Err met) before after counts = by met.why counts
+  where
+    by : (y : AcceptedFault) → CountsFault y before after → before ≤ after
+    by fault.DiskFault c = c.later
+    by (fault.Damaged damage) c = omega (arith, c)
+    by fault.NoMemory c = omega (arith, c)
+
+rose_there : {D : Type 0} (result : Result (Stood D) (StandFault D)) (before after : ℕ) → MetFault result → CountsStand result before after → Rose before after
+rose_there (Ok stood) before after met counts = absurd met
+rose_there (Err e) before after met counts =
+    let counted : Counted before after = subst (λ (y : AcceptedFault). CountsFault y before after) met counts in
+    counted.rose
+
+still_there : {D : Type 0} (result : Result (Stood D) (StandFault D)) (before after : ℕ) → IsFaultless result → CountsStand result before after → after ≡ before
+still_there (Ok stood) before after faultless counts = counts
+still_there (Err e) before after faultless counts = by e.why faultless counts
+  where
+    by : (y : AcceptedFault) → (y ≡ fault.DiskFault → ⊥) → CountsFault y before after → after ≡ before
+    by fault.DiskFault f c = absurd (f refl)
+    by (fault.Damaged damage) f c = c
+    by fault.NoMemory f c = c
+
+module _ {D : Type 0} (lr rr : Result (Stood D) (StandFault D)) (before after : Faults) (cl : CountsStand lr before.left after.left) (cr : CountsStand rr before.right after.right) where
+  one_rose : Rose before.left after.left ⊎ Rose before.right after.right → OneRose before after
+  one_rose rose = record { left = no_fewer lr before.left after.left cl; right = no_fewer rr before.right after.right cr; rose = rose }
+
+  none_rose : IsFaultless lr → IsFaultless rr → after ≡ before
+  none_rose fl fr = λ i. record { left = still_there lr before.left after.left fl cl i; right = still_there rr before.right after.right fr cr i }
+
+  judged_cause : (y : StoreWhy) → IsJudged lr rr y → CausesWhy y before after
+  judged_cause why.DiskFault judged = one_rose (⊎_elim (λ met. inl (rose_there lr before.left after.left met cl)) (λ met. inr (rose_there rr before.right after.right met cr)) judged)
+  judged_cause (why.Damaged Left damage) judged = none_rose judged.1 judged.2
+  judged_cause (why.Damaged Right damage) judged = none_rose judged.2 judged.3
+  judged_cause why.NoMemory judged = none_rose judged.0 judged.1
+
+-- ---- none was opened: something was wrong with one of the disks
+
+module _ {D : Type 0} (seen : D → Option (List ℕ)) (moment : D → ℕ) (left_at : D → ℕ → List ℕ → Type 0) (faults : D → ℕ) where
+  pub judged_not : (left right : D) (lr rr : Result (Stood D) (StandFault D)) → StandsAs seen moment left_at true left lr → StandsAs seen moment left_at false right rr
+      → CountsStand lr (faults left) (faults (disk_in lr)) → CountsStand rr (faults right) (faults (disk_in rr))
+      → (e : StoreFault D) → e.left ≡ disk_in lr → e.right ≡ disk_in rr → IsJudged lr rr e.why → IsNotOpened seen faults left right e
+  judged_not left right lr rr sl sr cl cr e is_left is_right judged = record {
+    cause = judged_cause lr rr (counts_of faults left right) (counts_of faults e.left e.right)
+        (subst (λ (n : ℕ). CountsStand lr (faults left) n) (ap faults (sym is_left)) cl) (subst (λ (n : ℕ). CountsStand rr (faults right) n) (ap faults (sym is_right)) cr) e.why judged;
+    is_why = λ l r tl tr. judged_why l r lr rr e.why judged (sl.found l tl) (sr.found r tr);
+    stays = λ other l r x y tl tr tx ty.
+        let faultless = judged_faultless lr rr e.why judged other in
+        stands_still seen moment left_at left right lr rr sl sr faultless.0 faultless.1 l r x y tl tr (ap seen (sym is_left) ∙ tx) (ap seen (sym is_right) ∙ ty);
+    reads = λ l r x y s tl tr kept tx ty.
+        recovered l r x y s kept (left_reads seen moment left_at left right lr rr sl sr l r x tl e.left is_left tx) (right_reads seen moment left_at left right lr rr sl sr r y tr e.right is_right ty);
+  }

@@ -1,28 +1,29 @@
 -- How a replay goes on from record to record.
-use Rattle.std.proofs.Common.{◌≡◌, ℕ, suc, ◌+◌, ◌-◌, ◌<◌, ◌≤◌, List, [], ◌∷◌, length, drop, slice_get, slice_index_or, Some, Result, Ok, Err, sym, ◌∙◌, ap, subst, arith, refl}
+use Rattle.std.proofs.Common.{◌≡◌, ℕ, ◌+◌, ◌-◌, ◌<◌, ◌≤◌, List, [], ◌∷◌, length, drop, slice_get, slice_index_or, Some, Ok, Err, sym, ◌∙◌, ap, subst, arith, refl}
 use Rattle.std.proofs.lemmas.List.{drop_more, drop_all}
 use Rattle.std.proofs.lemmas.Option.{slice_get-get_or}
 use Rattle.liq_types.specs.declared.requests.Command.{Command}
 use Rattle.liq_types.specs.State.{State}
-use Rattle.liq_wire.specs.Fields.{command_of}
 use Rattle.liq_core.specs.Core.{Core, StandsFor}
 use Rattle.liq_core.specs.Step.{Allowed, ruling, after}
-use Rattle.liq_journal.specs.Bodies.{IsAccepted, IsJournalOf}
+use Rattle.liq_journal.specs.Bodies.{IsJournalOf}
 use Rattle.liq_journal.specs.Written.{Written}
-use Rattle.liq_journal.specs.declared.answers.LookFault.{LookFault}
-use Rattle.liq_journal.specs.declared.answers.LookFault.TheVariants as look
 use Rattle.liq_journal.specs.declared.damage.Damage.{Damage}
 use Rattle.liq_pairs.specs.Replay.{replay, replayed}
-use Rattle.liq_store.specs.declared.replay.ReplayFault.{ReplayFault}
-use Rattle.liq_store.specs.declared.replay.ReplayFault.TheVariants.{DiskFault, Damaged, NoMemory}
+use Rattle.liq_store.specs.declared.answers.AcceptedFault.{AcceptedFault}
+use Rattle.liq_store.specs.declared.answers.AcceptedFault.TheVariants.{DiskFault, Damaged, NoMemory}
+use Rattle.liq_store.specs.Answering.{IsReadable}
 use Rattle.liq_store.specs.Replays.{IsDamageBy, IsOutcome, Replays}
 
--- the command that was read is the record's
-pub the_command : (start index : ℕ) (held body : List ℕ) (w : Written) (c d : Command) → IsAccepted start held w index body → slice_get w.commands (index - 1) ≡ Some c → command_of body ≡ Ok d → d ≡ c
-the_command start index held body w c d accepted recorded read =
-    let here : slice_get w.commands (index - 1) ≡ Some accepted.command = accepted.recorded in
-    let spelled : command_of body ≡ Ok accepted.command = accepted.spelled.spelled in
-    cc
+-- one command is the record's
+pub same_record : (commands : List Command) (place : ℕ) (c d : Command) → slice_get commands place ≡ Some c → slice_get commands place ≡ Some d → c ≡ d
+same_record commands place c d one other = let both : Some c ≡ Some d = sym one ∙ other in cc (both)
+
+-- a record that is no more than unread damages nothing
+pub unread : (s : State) (c : Command) (index : ℕ) (core : Core) (why : AcceptedFault) → IsReadable why → IsOutcome s c index core (Err why)
+unread s c index core DiskFault readable = tt
+unread s c index core (Damaged damage) readable = absurd readable
+unread s c index core NoMemory readable = tt
 
 -- after so many records the protocol stands for a state from which the rest is replayed
 pub record Reached (s : State) (commands : List Command) (done : ℕ) (core : Core) : Type 0 where
@@ -70,7 +71,7 @@ reached_all s commands done core all r =
     (r.state, r.rest ∙ ap (replay (done + 1) r.state) (drop_all done commands all) ∙ replay_none (done + 1) r.state, r.stands)
 
 -- what the next record's outcome says of the whole replay
-pub stops_there : (s : State) (commands : List Command) (done : ℕ) (core next : Core) (why : ReplayFault) → done < length commands → (before : Reached s commands done core) → ((c : Command) → slice_get commands (done + 1 - 1) ≡ Some c → IsOutcome before.state c (done + 1) next (Err why)) → Replays s commands next (Err why)
+pub stops_there : (s : State) (commands : List Command) (done : ℕ) (core next : Core) (why : AcceptedFault) → done < length commands → (before : Reached s commands done core) → ((c : Command) → slice_get commands (done + 1 - 1) ≡ Some c → IsOutcome before.state c (done + 1) next (Err why)) → Replays s commands next (Err why)
 stops_there s commands done core next DiskFault h before outcome = tt
 stops_there s commands done core next (Damaged damage) h before outcome =
     let n = next_recorded commands done h in
@@ -85,7 +86,3 @@ goes_on s commands done core next h before outcome =
 pub journal_still : (old_generation new_generation old_start new_start : ℕ) (held : List ℕ) (w : Written) → new_generation ≡ old_generation → new_start ≡ old_start → IsJournalOf old_generation old_start held w → IsJournalOf new_generation new_start held w
 journal_still old_generation new_generation old_start new_start held w generation start h =
     subst (λ (n : ℕ). IsJournalOf n new_start held w) (sym generation) (subst (λ (n : ℕ). IsJournalOf old_generation n held w) (sym start) h)
-
--- a body that is told is never damaged
-pub none_damaged : (damage : Damage) → look.Damaged damage ≡ look.DiskFault → ⊥
-none_damaged damage h = cc

@@ -26,14 +26,13 @@ Answers s request _ core = ⊥
 abbrev pub read_back : Command → Command
 read_back c = record c { call = heard c.call }
 
--- A record that was read is no record: its number is among those of the accepted commands, and its bytes have another digest than
--- the one behind them, or are no command.
-abbrev pub IsUnreadable : (generation count : ℕ) → AcceptedFault → Type 0
-IsUnreadable generation count accepted.DiskFault = Unit {0}
-IsUnreadable generation count (accepted.Damaged damage) =
-    (1 ≤ damage.index) × (damage.index ≤ count)
-    × ((start : ℕ) × IsBodyFault generation damage.index (body_at start damage.index) (look.Damaged damage))
-IsUnreadable generation count accepted.NoMemory = Unit {0}
+-- A record that was read is no record: its number is among those of the accepted commands, and its bytes, where the journal has it, have
+-- another digest than the one behind them, or are no command.
+abbrev pub IsUnreadable : (generation start count : ℕ) → AcceptedFault → Type 0
+IsUnreadable generation start count accepted.DiskFault = Unit {0}
+IsUnreadable generation start count (accepted.Damaged damage) =
+    (1 ≤ damage.index) × (damage.index ≤ count) × IsBodyFault generation damage.index (body_at start damage.index) (look.Damaged damage)
+IsUnreadable generation start count accepted.NoMemory = Unit {0}
 
 -- never damaged
 abbrev pub IsReadable : AcceptedFault → Type 0

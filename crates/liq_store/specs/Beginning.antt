@@ -1,15 +1,12 @@
 -- Two disks with which nothing is wrong, and the store that begins on them.
-use Rattle.std.specs.Prelude.{◌≡◌, ◌⊎◌, ◌↔◌, ℕ, List, [], Option, IfSome, IsSome, Bool, Result, Ok, Err}
+use Rattle.std.specs.Prelude.{◌≡◌, ◌⊎◌, ◌↔◌, ℕ, List, [], Option, IfSome, IsSome, Bool}
 use Rattle.liq_outside.specs.Disk.{GoesOn}
-use Rattle.liq_journal.specs.Causes.{Counted}
 use Rattle.liq_journal.specs.Crash.{CrashOfCreate, ReadsOfCreate}
 use Rattle.liq_journal.specs.Opened.{IsUnshut}
 use Rattle.liq_journal.specs.Settled.{IsSettled}
 use Rattle.liq_store.specs.Judging.{disk_of}
 use Rattle.liq_store.specs.Keeping.{IsAtRest}
 use Rattle.liq_store.specs.Standing.{IsCounted, IsHeldOn}
-use Rattle.liq_store.specs.Stored.{Stored}
-use Rattle.liq_store.specs.declared.answers.StoreFault.{StoreFault}
 use Rattle.liq_store.specs.declared.standing.Stood.{Stood}
 use Rattle.liq_store.specs.declared.standing.Stood.TheVariants.{Nothing, Holding}
 
@@ -38,7 +35,3 @@ pub record Creates {D : Type 0} (seen : D → Option (List ℕ)) (moment : D →
 -- The left disk stays, or where both hold nothing the first generation is created on it.
 abbrev pub BeginsLeft : {D : Type 0} → (D → Option (List ℕ)) → (D → ℕ) → (D → ℕ → List ℕ → Type 0) → Stood D → Stood D → D → Type 0
 BeginsLeft seen moment left_at left right now = (now ≡ disk_of left) ⊎ (IsNothing left × IsNothing right × Creates seen moment left_at (disk_of left) now)
-
-abbrev pub CountsBegun : {D : Type 0} → Result (Stored D) (StoreFault D) → ℕ → ℕ → Type 0
-CountsBegun (Ok store) before after = after ≡ before
-CountsBegun (Err fault) before after = Counted before after

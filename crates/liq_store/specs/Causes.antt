@@ -13,6 +13,9 @@ pub record Faults : Type 0 where
   pub left : ℕ
   pub right : ℕ
 
+abbrev pub counts_of : {D : Type 0} → (D → ℕ) → D → D → Faults
+counts_of faults left right = record { left = faults left; right = faults right }
+
 -- one of them rose
 pub record OneRose (before after : Faults) : Type 0 where
   pub left : before.left ≤ after.left

@@ -1,13 +1,12 @@
 -- Which of two disks' faults is told.
-use Rattle.std.specs.Prelude.{◌≡◌, ◌⊎◌, Result, Ok, Err}
-use Rattle.liq_core.specs.Core.{Core}
+use Rattle.std.specs.Prelude.{◌≡◌, ◌⊎◌, ℕ, Result, Ok, Err, nat_lt, if◌then◌else◌}
 use Rattle.liq_journal.specs.declared.damage.Damage.{Damage}
 use Rattle.liq_pairs.specs.declared.side.Side.{Side}
 use Rattle.liq_pairs.specs.declared.side.Side.TheVariants.{Left, Right}
 use Rattle.liq_store.specs.declared.answers.StoreWhy.{StoreWhy}
 use Rattle.liq_store.specs.declared.answers.StoreWhy.TheVariants as why
-use Rattle.liq_store.specs.declared.replay.ReplayFault.{ReplayFault}
-use Rattle.liq_store.specs.declared.replay.ReplayFault.TheVariants as fault
+use Rattle.liq_store.specs.declared.answers.AcceptedFault.{AcceptedFault}
+use Rattle.liq_store.specs.declared.answers.AcceptedFault.TheVariants as fault
 use Rattle.liq_store.specs.declared.standing.StandFault.{StandFault}
 use Rattle.liq_store.specs.declared.standing.Stood.{Stood}
 use Rattle.liq_store.specs.declared.standing.Stood.TheVariants.{Nothing, Holding}
@@ -17,12 +16,12 @@ abbrev pub disk_of : {D : Type 0} → Stood D → D
 disk_of (Nothing disk) = disk
 disk_of (Holding journal core) = journal.disk
 
-abbrev pub on_side : Side → ReplayFault → StoreWhy
+abbrev pub on_side : Side → AcceptedFault → StoreWhy
 on_side side fault.DiskFault = why.DiskFault
 on_side side (fault.Damaged damage) = why.Damaged side damage
 on_side side fault.NoMemory = why.NoMemory
 
-abbrev pub first_of : ReplayFault → ReplayFault → StoreWhy
+abbrev pub first_of : AcceptedFault → AcceptedFault → StoreWhy
 first_of left fault.DiskFault = why.DiskFault
 first_of left _ = on_side Left left
 
@@ -45,3 +44,7 @@ IsJudged left right why.DiskFault = MetFault left ⊎ MetFault right
 IsJudged left right (why.Damaged Left damage) = IsDamagedBy damage left × IsFaultless left × IsFaultless right
 IsJudged left right (why.Damaged Right damage) = IsFine left × IsDamagedBy damage right × IsFaultless left × IsFaultless right
 IsJudged left right why.NoMemory = IsFaultless left × IsFaultless right
+
+-- Of two journals that of the greater generation is taken.
+abbrev pub later_side : (left right : ℕ) → Side
+later_side left right = if nat_lt left right then Right else Left

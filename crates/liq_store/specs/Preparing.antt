@@ -6,16 +6,17 @@ use Rattle.liq_types.specs.declared.requests.Request.TheVariants.{Do}
 use Rattle.liq_types.specs.State.{State}
 use Rattle.liq_core.specs.Core.{Core}
 use Rattle.liq_core.specs.Plan.{HasRoom, IsPlan}
-use Rattle.liq_core.specs.Step.{step}
+use Rattle.liq_core.specs.Step.{Refused, Repeated, ruling}
 use Rattle.liq_store.specs.Memory.{TakesMemory}
 use Rattle.liq_store.specs.declared.preparing.Prepared.{Prepared}
-use Rattle.liq_store.specs.declared.preparing.Prepared.TheVariants.{Ready, Replied, NoMemory}
+use Rattle.liq_store.specs.declared.preparing.Prepared.TheVariants.{Ready, Again, No, NoMemory}
 
--- It is planned and has its room; or its step is none, and this is its reply; or memory was asked for.
-abbrev pub IsPrepared : State → Command → Core → Prepared → Type 0
-IsPrepared s c core (Ready plan) = (plan.command ≡ c) × IsPlan s plan
-IsPrepared s c core (Replied reply) = step s (Do c) ≡ (s, reply)
-IsPrepared s c core NoMemory = TakesMemory s (Do c)
+-- It is planned; or it comes again, or is refused; or memory was asked for.
+abbrev pub IsPrepared : State → Command → Prepared → Type 0
+IsPrepared s c (Ready plan) = (plan.command ≡ c) × IsPlan s plan
+IsPrepared s c (Again kept) = ruling s c ≡ Repeated kept
+IsPrepared s c (No refusal) = ruling s c ≡ Refused refusal
+IsPrepared s c NoMemory = TakesMemory s (Do c)
 
 -- for what is planned there is room, also in the journal
 abbrev pub IsReady : Command → Core → Prepared → Type 0

@@ -4,43 +4,25 @@ use Rattle.liq_types.specs.declared.requests.Command.{Command}
 use Rattle.liq_types.specs.State.{State}
 use Rattle.liq_core.specs.Core.{Core, StandsFor}
 use Rattle.liq_core.specs.Step.{Allowed, ruling, after}
-use Rattle.liq_journal.specs.Causes.{Counted}
 use Rattle.liq_journal.specs.declared.damage.Damage.{Damage}
-use Rattle.liq_journal.specs.declared.damage.What.TheVariants as what
 use Rattle.liq_pairs.specs.Replay.{replay, replayed}
-use Rattle.liq_store.specs.declared.replay.RedoFault.{RedoFault}
-use Rattle.liq_store.specs.declared.replay.RedoFault.TheVariants as redo
-use Rattle.liq_store.specs.declared.replay.ReplayFault.{ReplayFault}
-use Rattle.liq_store.specs.declared.replay.ReplayFault.TheVariants as fault
+use Rattle.liq_store.specs.declared.answers.AcceptedFault.{AcceptedFault}
+use Rattle.liq_store.specs.declared.answers.AcceptedFault.TheVariants as fault
 
 -- a command that is not accepted damages its record, whichever it is and whatever follows it
 abbrev pub IsDamageBy : State → Command → ℕ → Damage → Type 0
 IsDamageBy s c index damage = (rest : Result State Damage) → replayed index (ruling s c) rest ≡ Err damage
 
-abbrev pub IsRedoFault : State → Command → RedoFault → Type 0
-IsRedoFault s c (redo.Unaccepted code) = (index : ℕ) → IsDamageBy s c index (record { index = index; what = what.Replay code })
-IsRedoFault s c redo.NoMemory = Unit {0}
-
 -- What becomes of the record of this number in the state before it: its command is accepted there, or damages it.
-abbrev pub IsOutcome : State → Command → ℕ → Core → Result (Unit {0}) ReplayFault → Type 0
+abbrev pub IsOutcome : State → Command → ℕ → Core → Result (Unit {0}) AcceptedFault → Type 0
 IsOutcome s c index core (Ok done) = (ruling s c ≡ Allowed) × StandsFor core (after s c)
 IsOutcome s c index core (Err fault.DiskFault) = Unit {0}
 IsOutcome s c index core (Err (fault.Damaged damage)) = IsDamageBy s c index damage
 IsOutcome s c index core (Err fault.NoMemory) = Unit {0}
 
 -- all of them, from the first record on
-abbrev pub Replays : State → List Command → Core → Result (Unit {0}) ReplayFault → Type 0
+abbrev pub Replays : State → List Command → Core → Result (Unit {0}) AcceptedFault → Type 0
 Replays s commands core (Ok done) = (t : State) × (replay 1 s commands ≡ Ok t) × StandsFor core t
 Replays s commands core (Err fault.DiskFault) = Unit {0}
 Replays s commands core (Err (fault.Damaged damage)) = replay 1 s commands ≡ Err damage
 Replays s commands core (Err fault.NoMemory) = Unit {0}
-
--- the count of faults over a replay: it rose exactly where that is the answer
-abbrev pub CountsFault : ReplayFault → ℕ → ℕ → Type 0
-CountsFault fault.DiskFault before after = Counted before after
-CountsFault (fault.Damaged damage) before after = after ≡ before
-CountsFault fault.NoMemory before after = after ≡ before
-
-abbrev pub CountsReplay : Result (Unit {0}) ReplayFault → ℕ → ℕ → Type 0
-CountsReplay (Ok done) before after = after ≡ before
-CountsReplay (Err why) before after = CountsFault why before after

@@ -1,16 +1,15 @@
 -- What one disk is found to be, and what is left of it.
-use Rattle.std.specs.Prelude.{◌≡◌, ℕ, List, length, Bool, true, Result, Ok, Err}
+use Rattle.std.specs.Prelude.{◌≡◌, ℕ, List, Bool, true, Result, Ok, Err}
 use Rattle.liq_types.specs.State.{State}
 use Rattle.liq_core.specs.Core.{Core, StandsFor}
-use Rattle.liq_journal.specs.Causes.{Counted}
 use Rattle.liq_journal.specs.Opened.{IsUnshut}
 use Rattle.liq_journal.specs.Settled.{IsSettled, JournalOn}
 use Rattle.liq_journal.specs.Written.{Absent, Open, Written, found_on, is_generation}
 use Rattle.liq_pairs.specs.Pair.{Faulty, standing}
 use Rattle.liq_pairs.specs.Replay.{outcome}
-use Rattle.liq_store.specs.Replays.{CountsFault}
-use Rattle.liq_store.specs.declared.replay.ReplayFault.{ReplayFault}
-use Rattle.liq_store.specs.declared.replay.ReplayFault.TheVariants as fault
+use Rattle.liq_store.specs.Reading.{CountsFault}
+use Rattle.liq_store.specs.declared.answers.AcceptedFault.{AcceptedFault}
+use Rattle.liq_store.specs.declared.answers.AcceptedFault.TheVariants as fault
 use Rattle.liq_store.specs.declared.standing.StandFault.{StandFault}
 use Rattle.liq_store.specs.declared.standing.Stood.{Stood}
 use Rattle.liq_store.specs.declared.standing.Stood.TheVariants.{Nothing, Holding}
@@ -28,7 +27,7 @@ IsFaultless (Err met) = met.why ≡ fault.DiskFault → ⊥
 
 -- ---- what is found
 
-abbrev pub IsWhyOn : Bool → List ℕ → ReplayFault → Type 0
+abbrev pub IsWhyOn : Bool → List ℕ → AcceptedFault → Type 0
 IsWhyOn odd held fault.DiskFault = Unit {0}
 IsWhyOn odd held (fault.Damaged damage) = standing odd held ≡ Faulty damage
 IsWhyOn odd held fault.NoMemory = Unit {0}
@@ -48,7 +47,7 @@ IsFoundOn odd held (Ok (Holding journal core)) = IsHeldOn odd held journal.gener
 IsFoundOn odd held (Err met) = IsWhyOn odd held met.why
 
 -- the commands of what is written lead to the protocol, or to the damage
-abbrev pub FailsTo : Written → ReplayFault → Type 0
+abbrev pub FailsTo : Written → AcceptedFault → Type 0
 FailsTo w fault.DiskFault = Unit {0}
 FailsTo w (fault.Damaged damage) = outcome w ≡ Err damage
 FailsTo w fault.NoMemory = Unit {0}

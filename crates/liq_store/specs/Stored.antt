@@ -10,6 +10,8 @@ pub record Stored (D : Type 0) : Type 0 where
   pub right : D
   -- the side of the disk on which the journal goes on
   pub side : Side
+  -- where its records begin
+  pub start : ℕ
   pub core : Core
   -- the sum of both counts of faults after the first call that met one
   pub stopped : Option ℕ

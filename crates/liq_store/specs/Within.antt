@@ -13,7 +13,7 @@ use Rattle.liq_store.specs.Stored.{Stored}
 -- as a store's fields are seen
 abbrev pub stored : {D : Type 0} → Side → JournalOn D → D → Core → Option ℕ → Stored D
 stored side taken beside core stopped =
-    record { left = on side taken.disk beside; right = on side beside taken.disk; side = side; core = core; stopped = stopped }
+    record { left = on side taken.disk beside; right = on side beside taken.disk; side = side; start = taken.start; core = core; stopped = stopped }
 
 -- at least so many records
 pub record HasRecords (generation start count : ℕ) (bytes : List ℕ) : Type 0 where

@@ -20,7 +20,7 @@ pub struct StoreFault<D> {
     pub why: StoreWhy,
 }
 
-/// Why the accepted commands could not be read.
+/// Why the accepted commands could not be read, or not be made again.
 #[derive(Clone, Copy, Debug, PartialEq, Eq)]
 pub enum AcceptedFault {
     DiskFault,

@@ -1,11 +1,11 @@
 // Two disks, once each of them was tested whole.
 ghost use Rattle.std.specs.Prelude.{◌≡◌, Ok, IfOk, IfErr};
-ghost use Rattle.liq_store.specs.Judging.{IsJudged, disk_of, first_of, on_side};
+ghost use Rattle.liq_store.specs.Judging.{IsJudged, disk_of, first_of, later_side, on_side};
 ghost use Rattle.liq_store.specs.Standing.{disk_in};
 
-use crate::answers::{StoreFault, StoreWhy};
-use crate::replay::ReplayFault;
+use crate::answers::{AcceptedFault, StoreFault, StoreWhy};
 use crate::standing::{StandFault, Stood};
+use liq_core::Protocol;
 use liq_outside::Disk;
 use liq_pairs::Side;
 
@@ -19,13 +19,13 @@ fn disk_of<D: Disk>(stood: Stood<D>) -> D
 }
 
 // Why no store is opened, by what one of the disks is.
-fn on_side(side: Side, why: ReplayFault) -> StoreWhy
+fn on_side(side: Side, why: AcceptedFault) -> StoreWhy
     ensures { result ≡ on_side side why }
 {
     match why {
-        ReplayFault::DiskFault => StoreWhy::DiskFault,
-        ReplayFault::Damaged(damage) => StoreWhy::Damaged { side, damage },
-        ReplayFault::NoMemory => StoreWhy::NoMemory,
+        AcceptedFault::DiskFault => StoreWhy::DiskFault,
+        AcceptedFault::Damaged(damage) => StoreWhy::Damaged { side, damage },
+        AcceptedFault::NoMemory => StoreWhy::NoMemory,
     }
 }
 
@@ -65,11 +65,22 @@ pub fn judge<D: Disk>(
 }
 
 // Of two faults the left disk's, but a device's before all others.
-fn first_of(left: ReplayFault, right: ReplayFault) -> StoreWhy
+fn first_of(left: AcceptedFault, right: AcceptedFault) -> StoreWhy
     ensures { result ≡ first_of left right }
 {
     match right {
-        ReplayFault::DiskFault => StoreWhy::DiskFault,
+        AcceptedFault::DiskFault => StoreWhy::DiskFault,
         _ => on_side(Side::Left, left),
+    }
+}
+
+// Of two journals the one that is taken: that of the greater generation.
+pub fn later_side(left: &Protocol, right: &Protocol) -> Side
+    ensures { result ≡ later_side left.now.image.generation right.now.image.generation }
+{
+    if left.generation() < right.generation() {
+        Side::Right
+    } else {
+        Side::Left
     }
 }

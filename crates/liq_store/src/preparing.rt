@@ -11,7 +11,7 @@ ghost use Rattle.liq_store.specs.Preparing.{IsPrepared, IsReady};
 
 use liq_core::laws::protocols_stand;
 use liq_core::{PlanFault, Planned, Protocol, Turn};
-use liq_types::{Command, Done, Hint, Reply, Steps};
+use liq_types::{Command, Done, Hint, Refusal, Steps};
 use std::sync::ledger::{Blank, Ledger};
 
 // What comes of a command before anything is written.
@@ -19,8 +19,10 @@ use std::sync::ledger::{Blank, Ledger};
 pub enum Prepared {
     // It is planned, and there is room for it.
     Ready(Planned),
-    // It makes no step: it comes again, or is refused.
-    Replied(Reply),
+    // It comes again, and makes no step.
+    Again(Done),
+    // It is refused, and makes none.
+    No(Refusal),
     NoMemory,
 }
 
@@ -28,15 +30,15 @@ pub enum Prepared {
 pub fn prepare(protocol: &mut Protocol, command: &Command) -> Prepared
     requires { IsTrue (built (Do command.now)) }
     ensures same { SameContent protocol.old protocol.new }
-    ensures prepared { (s : State) → StandsFor protocol.old s → IsPrepared s command.now protocol.new result }
+    ensures prepared { (s : State) → StandsFor protocol.old s → IsPrepared s command.now result }
     ensures ready { IsReady command.now protocol.new result }
     ensures stands { StandsFor protocol.old (state_of protocol.old) }
 {
     protocols_stand(protocol);
     let planned = match protocol.plan(command) {
         Ok(Turn::New(planned)) => planned,
-        Ok(Turn::Again(done)) => return Prepared::Replied(Reply::Said(done)),
-        Err(PlanFault::No(refusal)) => return Prepared::Replied(Reply::No(refusal)),
+        Ok(Turn::Again(done)) => return Prepared::Again(done),
+        Err(PlanFault::No(refusal)) => return Prepared::No(refusal),
         Err(PlanFault::NoMemory) => return Prepared::NoMemory,
     };
     match protocol.reserve(&planned) {

@@ -1,5 +1,9 @@
 // The commands of a journal, read back.
-ghost use Rattle.std.specs.Prelude.{◌≡◌, ◌≤◌, ◌-◌, Some, List, ℕ, length, take, slice_get, IfOk, IfErr, IfSome, IsSome};
+ghost use Rattle.std.specs.Prelude.{◌≡◌, ◌≤◌, ◌-◌, Some, List, ℕ, length, take, slice_get, IfOk, IfErr, IfSome, IsSome, IsTrue};
+ghost use Rattle.std.specs.List.{All};
+ghost use Rattle.liq_types.specs.declared.requests.Command.{Command};
+ghost use Rattle.liq_types.specs.declared.requests.Request.TheVariants.{Do};
+ghost use Rattle.liq_core.specs.Step.{built};
 ghost use Rattle.liq_journal.specs.Bodies.{IsJournalOf};
 ghost use Rattle.liq_journal.specs.Looked.{Looked};
 ghost use Rattle.liq_journal.specs.Written.{Written};
@@ -15,14 +19,15 @@ use liq_wire::decode;
 use std::alloc::Global;
 
 // The command of the record of this number.
-fn read_command<D: Disk>(journal: &mut Journal<D>, index: u64) -> Result<Command, AcceptedFault>
+pub fn read_command<D: Disk>(journal: &mut Journal<D>, index: u64) -> Result<Command, AcceptedFault>
     requires from_one { 1 ≤ index }
     requires there { index ≤ journal.old.count }
     ensures looked { Looked D.seen D.moment D.left_at journal.old.disk journal.new.disk }
     ensures same { journal.new ≡ record journal.old { disk = journal.new.disk } }
     ensures command { IfOk result (λ c. (held : List ℕ) (w : Written) → D.seen journal.old.disk ≡ Some held → IsJournalOf journal.old.generation journal.old.start held w → index ≤ length w.commands
         → slice_get w.commands (index - 1) ≡ Some c) }
-    ensures damaged { IfErr result (IsUnreadable journal.old.generation journal.old.count) }
+    ensures built { IfOk result (λ c. IsTrue (built (Do c))) }
+    ensures damaged { IfErr result (IsUnreadable journal.old.generation journal.old.start journal.old.count) }
     ensures readable { IfErr result (λ why. (held : List ℕ) (w : Written) → D.seen journal.old.disk ≡ Some held → IsJournalOf journal.old.generation journal.old.start held w → index ≤ length w.commands → IsReadable why) }
     ensures cause { CountsReading result (D.faults journal.old.disk) (D.faults journal.new.disk) }
 {
@@ -47,7 +52,8 @@ pub fn read_commands<D: Disk>(
     ensures commands { IfOk result (λ list. (held : List ℕ) (w : Written) → D.seen journal.old.disk ≡ Some held → IsJournalOf journal.old.generation journal.old.start held w → journal.old.count ≤ length w.commands
         → list.items ≡ take journal.old.count w.commands) }
     ensures count { IfOk result (λ list. length list.items ≡ journal.old.count) }
-    ensures damaged { IfErr result (IsUnreadable journal.old.generation journal.old.count) }
+    ensures built { IfOk result (λ list. All (λ (c : Command). IsTrue (built (Do c))) list.items) }
+    ensures damaged { IfErr result (IsUnreadable journal.old.generation journal.old.start journal.old.count) }
     ensures readable { IfErr result (λ why. (held : List ℕ) → D.seen journal.old.disk ≡ Some held → HasRecords journal.old.generation journal.old.start journal.old.count held → IsReadable why) }
     ensures cause { CountsReading result (D.faults journal.old.disk) (D.faults journal.new.disk) }
 {

@@ -1,72 +1,57 @@
 // A journal's commands, made again one after the other.
-ghost use Rattle.std.specs.Prelude.{◌≡◌, ◌≤◌, ◌<◌, ◌+◌, ◌-◌, Some, Ok, false, List, ℕ, length, slice_get, drop, OnOk, IfErr};
+ghost use Rattle.std.specs.Prelude.{◌≡◌, ◌≢◌, ◌≤◌, ◌<◌, ◌+◌, ◌-◌, Some, Ok, Err, false, List, ℕ, length, slice_get, drop, OnOk, IsTrue};
 ghost use Rattle.std.specs.Result.{MatchResult};
 ghost use Rattle.liq_types.specs.declared.requests.Command.{Command};
+ghost use Rattle.liq_types.specs.declared.requests.Request.TheVariants.{Do};
 ghost use Rattle.liq_types.specs.State.{State};
 ghost use Rattle.liq_core.specs.Core.{StandsFor};
-ghost use Rattle.liq_core.specs.Step.{Allowed, ruling, after};
+ghost use Rattle.liq_core.specs.Step.{built};
 ghost use Rattle.liq_journal.specs.Bodies.{IsJournalOf};
 ghost use Rattle.liq_journal.specs.Looked.{Looked};
-ghost use Rattle.liq_journal.specs.Written.{Written, is_rotate};
-ghost use Rattle.liq_store.specs.Replays.{CountsReplay, IsOutcome, IsRedoFault, Replays};
+ghost use Rattle.liq_journal.specs.Written.{Written};
+ghost use Rattle.liq_store.specs.Reading.{CountsReading};
+ghost use Rattle.liq_store.specs.Replays.{IsOutcome, Replays};
 
-use liq_core::laws::protocols_stand;
-use liq_core::{PlanFault, Protocol, Turn};
-use liq_journal::{Damage, Journal, LookFault, What};
+use crate::answers::AcceptedFault;
+use crate::preparing::{Prepared, prepare};
+use crate::reading::read_command;
+use liq_core::Protocol;
+use liq_journal::{Damage, Journal, What};
 use liq_outside::Disk;
 use liq_pairs::code_of;
 use liq_types::{Command, Hint, Steps};
-use liq_wire::decode;
 use std::sync::ledger::{Blank, Ledger};
 
-// No place is known.
-const NO_HINT: Hint = Hint {
-    prev: None,
-    next: None,
-    version: 0,
-};
-
-// Why a command is not made again.
-#[derive(Clone, Copy)]
-pub enum RedoFault {
-    // The rules refuse it, with this code; or it is a repetition, and the code is 0.
-    Unaccepted(u8),
-    NoMemory,
+// The record of this number is damaged: the rules refuse its command, with this code; or it is a repetition, and the code is 0.
+fn unaccepted(index: u64, code: u8) -> AcceptedFault
+    ensures { result ≡ AcceptedFault.Damaged (record { index = index; what = What.Replay code }) }
+{
+    let what = What::Replay { code };
+    AcceptedFault::Damaged(Damage { index, what })
 }
 
-// Why a journal is not replayed.
-#[derive(Clone, Copy)]
-pub enum ReplayFault {
-    DiskFault,
-    Damaged(Damage),
-    NoMemory,
-}
-
-// Makes the step of a command that was accepted once.
-pub fn redo<L: Ledger>(
+// Makes the step of the command of the record of this number.
+fn redo<L: Ledger>(
     protocol: &mut Protocol,
     command: &Command,
+    index: u64,
     steps: &mut Steps<L>,
-) -> Result<(), RedoFault>
-    requires { is_rotate command.now.call ≡ false }
-    ensures redone { OnOk result ((s : State) → StandsFor protocol.old s → (ruling s command.now ≡ Allowed) × StandsFor protocol.new (after s command.now)) }
-    ensures fault { IfErr result (λ fault. (s : State) → StandsFor protocol.old s → IsRedoFault s command.now fault) }
+) -> Result<(), AcceptedFault>
+    requires { IsTrue (built (Do command.now)) }
+    ensures outcome { (s : State) → StandsFor protocol.old s → IsOutcome s command.now index protocol.new result }
     ensures counted { OnOk result (protocol.new.records ≡ protocol.old.records + 1) }
     ensures generation { OnOk result (protocol.new.image.generation ≡ protocol.old.image.generation) }
+    ensures no_device { result ≢ Err AcceptedFault.DiskFault }
 {
-    protocols_stand(protocol);
-    let planned = match protocol.plan(command) {
-        Ok(Turn::New(planned)) => planned,
-        Ok(Turn::Again(_)) => return Err(RedoFault::Unaccepted(0)),
-        Err(PlanFault::No(refusal)) => return Err(RedoFault::Unaccepted(code_of(&refusal))),
-        Err(PlanFault::NoMemory) => return Err(RedoFault::NoMemory),
-    };
-    match protocol.reserve(&planned) {
-        Ok(()) => {}
-        Err(_) => return Err(RedoFault::NoMemory),
+    match prepare(protocol, command) {
+        Prepared::Ready(planned) => {
+            let _ = protocol.apply(planned, &Hint::NONE, steps);
+            Ok(())
+        }
+        Prepared::Again(_) => Err(unaccepted(index, 0)),
+        Prepared::No(refusal) => Err(unaccepted(index, code_of(&refusal))),
+        Prepared::NoMemory => Err(AcceptedFault::NoMemory),
     }
-    let _ = protocol.apply(planned, &NO_HINT, steps);
-    Ok(())
 }
 
 // Makes the step of the record of this number.
@@ -75,7 +60,7 @@ fn redo_record<D: Disk, L: Ledger>(
     journal: &mut Journal<D>,
     index: u64,
     steps: &mut Steps<L>,
-) -> Result<(), ReplayFault>
+) -> Result<(), AcceptedFault>
     requires from_one { 1 ≤ index }
     requires there { index ≤ journal.old.count }
     ensures looked { Looked D.seen D.moment D.left_at journal.old.disk journal.new.disk }
@@ -84,24 +69,13 @@ fn redo_record<D: Disk, L: Ledger>(
         → StandsFor protocol.old s → IsOutcome s c index protocol.new result }
     ensures counted { OnOk result (protocol.new.records ≡ protocol.old.records + 1) }
     ensures generation { OnOk result (protocol.new.image.generation ≡ protocol.old.image.generation) }
-    ensures cause { CountsReplay result (D.faults journal.old.disk) (D.faults journal.new.disk) }
+    ensures cause { CountsReading result (D.faults journal.old.disk) (D.faults journal.new.disk) }
 {
-    let body = match journal.body(index) {
-        Ok(body) => body,
-        Err(LookFault::DiskFault) => return Err(ReplayFault::DiskFault),
-        Err(LookFault::Damaged(damage)) => return Err(ReplayFault::Damaged(damage)),
+    let command = match read_command(journal, index) {
+        Ok(command) => command,
+        Err(why) => return Err(why),
     };
-    let Ok(command) = decode(&body) else {
-        unreachable!()
-    };
-    match redo(protocol, &command, steps) {
-        Ok(()) => Ok(()),
-        Err(RedoFault::Unaccepted(code)) => Err(ReplayFault::Damaged(Damage {
-            index,
-            what: What::Replay { code },
-        })),
-        Err(RedoFault::NoMemory) => Err(ReplayFault::NoMemory),
-    }
+    redo(protocol, &command, index, steps)
 }
 
 // Makes the steps of all of a journal's records, on the protocol with which it begins.
@@ -109,7 +83,7 @@ pub fn replay<D: Disk, L: Ledger>(
     protocol: &mut Protocol,
     journal: &mut Journal<D>,
     blank: Blank,
-) -> Result<(), ReplayFault>
+) -> Result<(), AcceptedFault>
     requires name { blank.name ≡ L.name }
     requires parts { blank.parts ≡ L.parts }
     requires one { L.parts ≡ 1 }
@@ -119,7 +93,7 @@ pub fn replay<D: Disk, L: Ledger>(
         → StandsFor protocol.old s → Replays s w.commands protocol.new result }
     ensures counted { OnOk result (protocol.new.records ≡ protocol.old.records + journal.old.count) }
     ensures generation { OnOk result (protocol.new.image.generation ≡ protocol.old.image.generation) }
-    ensures cause { CountsReplay result (D.faults journal.old.disk) (D.faults journal.new.disk) }
+    ensures cause { CountsReading result (D.faults journal.old.disk) (D.faults journal.new.disk) }
 {
     let mut steps = Steps::<L>::new(blank);
     for done in 0..journal.records() {

@@ -8,7 +8,8 @@ ghost use Rattle.liq_journal.specs.Written.{Written, found_on, is_generation};
 ghost use Rattle.liq_store.specs.Keeping.{IsAtRest};
 ghost use Rattle.liq_store.specs.Standing.{Continues, CountsStand, HoldsTo, IsCounted, IsFaultless, IsFoundOn, IsLeftOn, disk_in};
 
-use crate::replay::{ReplayFault, replay};
+use crate::answers::AcceptedFault;
+use crate::replay::replay;
 use liq_core::Protocol;
 use liq_journal::{Journal, OpenFault, OpenWhy};
 use liq_outside::Disk;
@@ -29,7 +30,7 @@ pub enum Stood<D> {
 #[derive(Drop)]
 pub struct StandFault<D> {
     pub disk: D,
-    pub why: ReplayFault,
+    pub why: AcceptedFault,
 }
 
 // Makes the commands of an opened journal again, from the opening state.
@@ -71,15 +72,15 @@ pub fn stand<D: Disk>(alloc: Global, disk: D, odd: bool) -> Result<Stood<D>, Sta
             OpenWhy::Absent => Ok(Stood::Nothing(disk)),
             OpenWhy::DiskFault => Err(StandFault {
                 disk,
-                why: ReplayFault::DiskFault,
+                why: AcceptedFault::DiskFault,
             }),
             OpenWhy::Damaged(damage) => Err(StandFault {
                 disk,
-                why: ReplayFault::Damaged(damage),
+                why: AcceptedFault::Damaged(damage),
             }),
             OpenWhy::NoMemory => Err(StandFault {
                 disk,
-                why: ReplayFault::NoMemory,
+                why: AcceptedFault::NoMemory,
             }),
         },
     }

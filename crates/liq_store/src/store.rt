@@ -1,5 +1,6 @@
 // The protocol over two disks.
 ghost use Rattle.std.specs.Prelude.{◌≡◌, ◌↔◌, ◌+◌, min, Some, None, Ok, Err, List, ℕ, false, length, take, IfOk, IfErr, IfSome, IsSome, IsTrue, true};
+ghost use Rattle.std.specs.List.{All};
 ghost use Rattle.liq_outside.specs.Disk.{GoesOn, LeavesOnly, LeftNow, Only};
 ghost use Rattle.liq_outside.specs.Faults.{count_most};
 ghost use Rattle.liq_types.specs.declared.requests.Command.{Command};
@@ -8,6 +9,7 @@ ghost use Rattle.liq_types.specs.State.{State};
 ghost use Rattle.liq_core.specs.Core.{StandsFor};
 ghost use Rattle.liq_core.specs.Step.{built};
 ghost use Rattle.liq_journal.specs.declared.damage.Damage.{Damage};
+ghost use Rattle.liq_journal.specs.Causes.{Counted};
 ghost use Rattle.liq_journal.specs.Crash.{BeforeOrAfter};
 ghost use Rattle.liq_journal.specs.Looked.{Looked};
 ghost use Rattle.liq_journal.specs.Opened.{IsUnshut, OpenLeaves};
@@ -18,17 +20,17 @@ ghost use Rattle.liq_pairs.specs.Pair.{state_on};
 ghost use Rattle.liq_pairs.specs.Sides.{has_odd, other};
 ghost use Rattle.liq_pairs.specs.Unfinished.{IsRecovered, LeftLeaves};
 ghost use Rattle.liq_store.specs.Answering.{Answers, IsReadable, IsUnreadable, read_back};
-ghost use Rattle.liq_store.specs.Beginning.{BeginsLeft, CountsBegun, Creates, IsStoodOn};
+ghost use Rattle.liq_store.specs.Beginning.{BeginsLeft, Creates, IsStoodOn};
 ghost use Rattle.liq_store.specs.Causes.{CausesAccepted, CausesAnswer, stopped_after, stopped_after_reading};
 ghost use Rattle.liq_store.specs.Judging.{disk_of};
 ghost use Rattle.liq_store.specs.Keeping.{IsAtRest, IsInOrder, IsKeptAround, LeavesPairs};
 ghost use Rattle.liq_store.specs.Memory.{IsAccepted};
-ghost use Rattle.liq_store.specs.Opening.{left_after, right_after};
+ghost use Rattle.liq_store.specs.Opening.{OpensOn, left_after, right_after};
 ghost use Rattle.liq_store.specs.Stored.{disk_beside, taken_disk};
 ghost use Rattle.liq_store.specs.Within.{IsWithin, stored};
 
 use crate::answers::{AcceptedFault, StoreFault, StoreWhy};
-use crate::judging::judge;
+use crate::judging::{judge, later_side};
 use crate::preparing::{Prepared, make, prepare};
 use crate::reading::read_commands;
 use crate::standing::{Stood, stand};
@@ -49,8 +51,8 @@ fn sum_of_faults<D: Disk>(taken: &Journal<D>, beside: &D) -> u64
     taken.faults().saturating_add(beside.faults())
 }
 
-/// The protocol over two disks. A contract sees the disks, the side on which the journal goes on, the protocol, and, once a call met a
-/// disk's fault, the sum of both counts of faults then.
+/// The protocol over two disks. A contract sees the disks, the side on which the journal goes on and where its records begin, the
+/// protocol, and, once a call met a disk's fault, the sum of both counts of faults then.
 #[derive(Drop)]
 pub struct Store<D: Disk> {
     alloc: Global,
@@ -73,7 +75,7 @@ impl<D: Disk> Model for Store<D> {
 }
 
 impl<D: Disk> Store<D> {
-    ghost use Rattle.liq_store.specs.Opening.{CausesOpening, IsWhyOf, MetNoFault, left_after, right_after};
+    ghost use Rattle.liq_store.specs.Opening.{IsNotOpened, OpensOn, left_after, right_after};
 
     /// Opens the store of two disks. Each begins with a sync and is tested whole, and the byte behind the records of an open one is
     /// shut; then the records of the one that is taken are replayed. Where neither is open, generation 1 is created on the left one.
@@ -81,16 +83,12 @@ impl<D: Disk> Store<D> {
     /// `DiskFault` comes exactly where a disk's count rose. `Damaged` has the first damage, the left disk's coming first: nothing is
     /// opened then, and the damage stays.
     pub fn open(alloc: Global, left: D, right: D) -> Result<Store<D>, StoreFault<D>>
-        // The state is the one for which the disks stand; where there is none, nothing is opened.
-        ensures state { IfOk result (λ store. (l r : List ℕ) → D.seen left ≡ Some l → D.seen right ≡ Some r → (s : State) × (state_on l r ≡ Ok s) × StandsFor store.core s) }
-        ensures going { IfOk result (λ store. store.stopped ≡ None) }
+        // The state is the one for which the disks stand; where there is none, nothing is opened. Either way the counts tell the cause.
+        ensures opened { IfOk result (OpensOn D.seen D.faults left right) }
+        ensures not_opened { IfErr result (IsNotOpened D.seen D.faults left right) }
         ensures order { IfOk result (IsInOrder D.seen D.moment D.left_at) }
         // A disk on which none is open has no other byte than 0 at place 0, if it has one.
         ensures shut { IfOk result (λ store. IfSome (D.seen (disk_beside store)) (λ now. found_on (has_odd (other store.side)) now ≡ Absent → IsUnshut now → ⊥)) }
-        ensures why { IfErr result (λ e. (l r : List ℕ) → D.seen left ≡ Some l → D.seen right ≡ Some r → IsWhyOf l r e.why) }
-
-        // But for a disk's fault, the disks stand for what they stood for, or are damaged as they were.
-        ensures stays { MetNoFault result → (l r a b : List ℕ) → D.seen left ≡ Some l → D.seen right ≡ Some r → D.seen (left_after result) ≡ Some a → D.seen (right_after result) ≡ Some b → state_on a b ≡ state_on l r }
 
         // Both disks are synced before either is judged.
         ensures synced { IfErr result (λ e. (side : Side) (damage : Damage) → e.why ≡ StoreWhy.Damaged side damage → IsAtRest D.seen D.moment D.left_at e.left × IsAtRest D.seen D.moment D.left_at e.right) }
@@ -99,7 +97,7 @@ impl<D: Disk> Store<D> {
         // unfinished; and so does a fault, whatever was pending.
         ensures recovers { (l r : List ℕ) (s : State) → D.seen left ≡ Some l → D.seen right ≡ Some r → Only l (LeftNow D.moment D.left_at left) → Only r (LeftNow D.moment D.left_at right) → IsKept l r s
             → LeavesPairs D.moment D.left_at left right (left_after result) (right_after result) (IsRecovered l r s) }
-        ensures reads { (l r a b : List ℕ) (s : State) → D.seen left ≡ Some l → D.seen right ≡ Some r → IsKept l r s → D.seen (left_after result) ≡ Some a → D.seen (right_after result) ≡ Some b → IsRecovered l r s a b }
+        ensures reads { IfOk result (λ store. (l r a b : List ℕ) (s : State) → D.seen left ≡ Some l → D.seen right ≡ Some r → IsKept l r s → D.seen store.left ≡ Some a → D.seen store.right ≡ Some b → IsRecovered l r s a b) }
 
         // Each disk by itself.
         ensures left_leaves { (l r : List ℕ) → D.seen left ≡ Some l → D.seen right ≡ Some r → Only l (LeftNow D.moment D.left_at left) → LeavesOnly D.moment D.left_at left (left_after result) (LeftLeaves l r) }
@@ -108,7 +106,6 @@ impl<D: Disk> Store<D> {
         ensures right_telling { IsSome (D.seen (right_after result)) ↔ IsSome (D.seen right) }
         ensures left_time { GoesOn D.moment D.left_at left (left_after result) }
         ensures right_time { GoesOn D.moment D.left_at right (right_after result) }
-        ensures cause { CausesOpening result (record { left = D.faults left; right = D.faults right }) (record { left = D.faults (left_after result); right = D.faults (right_after result) }) }
     {
         let left = stand(alloc, left, true);
         let right = stand(alloc, right, false);
@@ -136,6 +133,7 @@ impl<D: Disk> Store<D> {
 
         // Only an accepted command is written, on the disk that was taken.
         ensures side { self.new.side ≡ self.old.side }
+        ensures start { self.new.start ≡ self.old.start }
         ensures beside { disk_beside self.new ≡ disk_beside self.old }
         ensures unwritten { (s : State) → StandsFor self.old.core s → (IsAccepted s request.now → ⊥) → taken_disk self.new ≡ taken_disk self.old }
         ensures no_memory { result ≡ Answer.NoMemory → taken_disk self.new ≡ taken_disk self.old }
@@ -158,7 +156,8 @@ impl<D: Disk> Store<D> {
         };
         let planned = match prepare(&mut self.protocol, command) {
             Prepared::Ready(planned) => planned,
-            Prepared::Replied(reply) => return Answer::Reply(reply),
+            Prepared::Again(done) => return Answer::Reply(Reply::Said(done)),
+            Prepared::No(refusal) => return Answer::Reply(Reply::No(refusal)),
             Prepared::NoMemory => return Answer::NoMemory,
         };
         match self.taken.append(&encode(command)) {
@@ -180,6 +179,13 @@ impl<D: Disk> Store<D> {
         self.stopped
     }
 
+    /// The side of the disk that is taken, on which the journal goes on.
+    pub fn side(&self) -> Side
+        ensures { result ≡ self.now.side }
+    {
+        self.side
+    }
+
     /// The protocol, whose state the disks keep.
     pub fn protocol(&self) -> &Protocol
         ensures { result.now ≡ self.now.core }
@@ -194,11 +200,14 @@ impl<D: Disk> Store<D> {
         ensures commands { IfOk result (λ list. (held : List ℕ) (w : Written) → D.seen (taken_disk self.old) ≡ Some held → found_on (has_odd self.old.side) held ≡ Open w → list.items ≡ take self.old.core.records w.commands) }
         ensures all { self.old.stopped ≡ None → IfOk result (λ list. (held : List ℕ) (w : Written) → D.seen (taken_disk self.old) ≡ Some held → found_on (has_odd self.old.side) held ≡ Open w → list.items ≡ w.commands) }
         ensures count { IfOk result (λ list. length list.items ≡ self.old.core.records) }
-        ensures damaged { IfErr result (IsUnreadable self.old.core.image.generation self.old.core.records) }
+        // No record holds a rotation.
+        ensures built { IfOk result (λ list. All (λ (c : Command). IsTrue (built (Do c))) list.items) }
+        ensures damaged { IfErr result (IsUnreadable self.old.core.image.generation self.old.start self.old.core.records) }
         ensures readable { IsSome (D.seen (taken_disk self.old)) → IfErr result IsReadable }
         ensures looked { Looked D.seen D.moment D.left_at (taken_disk self.old) (taken_disk self.new) }
         ensures beside { disk_beside self.new ≡ disk_beside self.old }
         ensures side { self.new.side ≡ self.old.side }
+        ensures start { self.new.start ≡ self.old.start }
         ensures core { self.new.core ≡ self.old.core }
         ensures stops { self.new.stopped ≡ stopped_after_reading self.old.stopped result (record { left = D.faults self.new.left; right = D.faults self.new.right }) }
         ensures cause { CausesAccepted result (record { left = D.faults self.old.left; right = D.faults self.old.right }) (record { left = D.faults self.new.left; right = D.faults self.new.right }) }
@@ -243,15 +252,13 @@ impl<D: Disk> Store<D> {
 fn begin<D: Disk>(alloc: Global, left: Stood<D>, right: Stood<D>) -> Result<Store<D>, StoreFault<D>>
     requires left { IsStoodOn D.seen D.moment D.left_at true left }
     requires right { IsStoodOn D.seen D.moment D.left_at false right }
-    ensures state { IfOk result (λ store. (l r : List ℕ) → D.seen (disk_of left) ≡ Some l → D.seen (disk_of right) ≡ Some r → (s : State) × (state_on l r ≡ Ok s) × StandsFor store.core s) }
-    ensures going { IfOk result (λ store. store.stopped ≡ None) }
+    ensures opened { IfOk result (OpensOn D.seen D.faults (disk_of left) (disk_of right)) }
     ensures order { IfOk result (IsInOrder D.seen D.moment D.left_at) }
     ensures shut { IfOk result (λ store. IfSome (D.seen (disk_beside store)) (λ now. found_on (has_odd (other store.side)) now ≡ Absent → IsUnshut now → ⊥)) }
     ensures fault { IfErr result (λ e. e.why ≡ StoreWhy.DiskFault) }
-    ensures stays { IfOk result (λ store. (l r a b : List ℕ) → D.seen (disk_of left) ≡ Some l → D.seen (disk_of right) ≡ Some r → D.seen store.left ≡ Some a → D.seen store.right ≡ Some b → state_on a b ≡ state_on l r) }
     ensures left { BeginsLeft D.seen D.moment D.left_at left right (left_after result) }
     ensures right { right_after result ≡ disk_of right }
-    ensures cause { CountsBegun result (D.faults (disk_of left)) (D.faults (left_after result)) }
+    ensures cause { IfErr result (λ e. Counted (D.faults (disk_of left)) (D.faults e.left)) }
 {
     match left {
         Stood::Nothing(left) => match right {
@@ -262,13 +269,10 @@ fn begin<D: Disk>(alloc: Global, left: Stood<D>, right: Stood<D>) -> Result<Stor
         },
         Stood::Holding(taken, protocol) => match right {
             Stood::Nothing(right) => Ok(begin_on(alloc, Side::Left, taken, right, protocol)),
-            Stood::Holding(other, later) => {
-                if protocol.generation() < later.generation() {
-                    Ok(begin_on(alloc, Side::Right, other, taken.close(), later))
-                } else {
-                    Ok(begin_on(alloc, Side::Left, taken, other.close(), protocol))
-                }
-            }
+            Stood::Holding(other, later) => match later_side(&protocol, &later) {
+                Side::Right => Ok(begin_on(alloc, Side::Right, other, taken.close(), later)),
+                Side::Left => Ok(begin_on(alloc, Side::Left, taken, other.close(), protocol)),
+            },
         },
     }
 }
@@ -299,15 +303,13 @@ fn begin_anew<D: Disk>(alloc: Global, left: D, right: D) -> Result<Store<D>, Sto
     requires left { IfSome (D.seen left) (λ now. IsUnshut now → ⊥) }
     requires right { IfSome (D.seen right) (λ now. IsUnshut now → ⊥) }
     requires rests { IsAtRest D.seen D.moment D.left_at right }
-    ensures state { IfOk result (λ store. (l r : List ℕ) → D.seen left ≡ Some l → D.seen right ≡ Some r → (s : State) × (state_on l r ≡ Ok s) × StandsFor store.core s) }
-    ensures going { IfOk result (λ store. store.stopped ≡ None) }
+    ensures opened { IfOk result (OpensOn D.seen D.faults left right) }
     ensures order { IfOk result (IsInOrder D.seen D.moment D.left_at) }
     ensures shut { IfOk result (λ store. IfSome (D.seen (disk_beside store)) (λ now. found_on (has_odd (other store.side)) now ≡ Absent → IsUnshut now → ⊥)) }
     ensures fault { IfErr result (λ e. e.why ≡ StoreWhy.DiskFault) }
-    ensures stays { IfOk result (λ store. (l r a b : List ℕ) → D.seen left ≡ Some l → D.seen right ≡ Some r → D.seen store.left ≡ Some a → D.seen store.right ≡ Some b → state_on a b ≡ state_on l r) }
     ensures left { Creates D.seen D.moment D.left_at left (left_after result) }
     ensures right { right_after result ≡ right }
-    ensures cause { CountsBegun result (D.faults left) (D.faults (left_after result)) }
+    ensures cause { IfErr result (λ e. Counted (D.faults left) (D.faults e.left)) }
 {
     match Journal::create(left, 1, &[]) {
         Ok(taken) => {

@@ -1,8 +1,8 @@
 //! A store that is closed and opened again.
 
-use crate::stores::{NO_HINT, disk, fund, funding, make_calls};
-use liq_store::Store;
-use liq_types::{Answer, Info, Query, Reply, Request};
+use crate::stores::{disk, fund, funding, make_calls};
+use liq_store::{Side, Store};
+use liq_types::{Answer, Hint, Info, Query, Reply, Request};
 use std::alloc::Global;
 use std::test::Fail;
 
@@ -21,11 +21,12 @@ fn asked(alloc: Global, again: bool) -> Result<(Vec<Answer>, u64), Fail> {
             Query::Pools,
             Query::NextNumber(1),
         ] {
-            answers.push(store.call(&Request::Ask(query), &NO_HINT))?;
+            answers.push(store.call(&Request::Ask(query), &Hint::NONE))?;
         }
-        answers.push(store.call(&funding(3), &NO_HINT))?;
+        answers.push(store.call(&funding(3), &Hint::NONE))?;
         if let Ok(commands) = store.accepted() {
-            if commands.as_slice() == [fund(1), fund(2), fund(3)].as_slice() {
+            let in_order = commands.as_slice() == [fund(1), fund(2), fund(3)].as_slice();
+            if in_order && store.side() == Side::Left {
                 accepted = store.protocol().records();
             }
         }

@@ -8,12 +8,6 @@ use liq_store::{Store, StoreWhy};
 use liq_types::{Answer, Call, Command, Hint, Request};
 use std::alloc::{AllocError, Global};
 
-pub const NO_HINT: Hint = Hint {
-    prev: None,
-    next: None,
-    version: 0,
-};
-
 // What an opening came to: how many commands were accepted, or why there is no store.
 #[derive(Clone, Copy, Debug, PartialEq, Eq)]
 pub enum Opened {
@@ -79,7 +73,7 @@ pub fn make_calls(
         Ok(store) => {
             let mut store = store;
             for number in 0..calls {
-                answers.push(store.call(&funding(number.saturating_add(1)), &NO_HINT))?;
+                answers.push(store.call(&funding(number.saturating_add(1)), &Hint::NONE))?;
             }
             let stopped = store.stopped();
             let (left, right) = store.close();

@@ -14,6 +14,7 @@ use Rattle.liq_types.proofs.Lookups.{at-put_same, at-put_other}
 use Rattle.liq_types.proofs.Places.{nat_cmp-eq}
 use Rattle.liq_types.proofs.UsedRows.{at-rows}
 use Rattle.liq_types.specs.Tables.{Table, at, put, without, rows}
+use Rattle.liq_tables.specs.WithRoom.{written}
 
 same_key : (j k : ℕ) → is_eq (nat_cmp j k) ≡ true → j ≡ k
 same_key j k h = let e : (j == k) ≡ true = sym (nat_cmp-eq j k) ∙ h in grind (arith, nat_tests, e)
@@ -55,10 +56,12 @@ module _ {X : Type 0} where
     by true g more = cc
     by false g more = ap (λ (t : Table X). e ∷ t) (more g)
 
-  -- nor has one whose row only keeps room
-  pub without-unused : (used : X → Bool) (table : Table X) (key : ℕ) → IsStrictlySortedBy nat_cmp (keys_of table) → at table key ≡ None → without (rows used table) key ≡ rows used table
-  without-unused used table key s none =
-      without_none (rows used table) key (at-rows used table key s ∙ ap (option_filter used) none)
+  -- at a key without room only a row that is not used may be written, which changes nothing
+  pub unwritten : (used : X → Bool) (table : Table X) (key : ℕ) (x : X) → IsStrictlySortedBy nat_cmp (keys_of table) → at table key ≡ None → (used x ≡ true → Contains (keys_of table) key) → written used (rows used table) key x ≡ rows used table
+  unwritten used table key x s none room = by (used x) refl where
+    by : (b : Bool) → used x ≡ b → cond b (put (rows used table) key x) (without (rows used table) key) ≡ rows used table
+    by true h = let there = subst (λ (o : Option X). IsSome o) none (row_from_room table key (room h)) in cc
+    by false h = without_none (rows used table) key (at-rows used table key s ∙ ap (option_filter used) none)
 
   -- what a look-up finds is read where it is used
   pub read : (used : X → Bool) (table : Table X) (key : ℕ) (o : Option X) → IsStrictlySortedBy nat_cmp (keys_of table) → at table key ≡ o → at (rows used table) key ≡ option_filter used o

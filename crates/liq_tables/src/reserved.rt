@@ -1,7 +1,8 @@
 //! A table over a map.
 
-ghost use Rattle.std.specs.Prelude.{◌≡◌, [], IsOk, OnOk, OnErr, OnSome, option_copied};
+ghost use Rattle.std.specs.Prelude.{◌≡◌, [], true, IsOk, OnOk, OnErr, OnSome, option_copied};
 ghost use Rattle.liq_types.specs.Tables.{at, without};
+ghost use Rattle.liq_types.specs.WellFormed.{Ascends};
 ghost use Rattle.liq_tables.specs.WithRoom.{HasRoom, KeepsRoom, written};
 
 use crate::row::Row;
@@ -44,6 +45,7 @@ impl<X: Row> Reserved<X> {
     pub fn get(&self, key: u32) -> Option<&X>
         ensures row { option_copied result ≡ at self.now.rows key }
         ensures room { OnSome result (HasRoom self.now key) }
+        ensures ascend { Ascends self.now.rows }
     {
         let row = self.map.get(&key)?;
         if row.is_used() { Some(row) } else { None }
@@ -67,25 +69,33 @@ impl<X: Row> Reserved<X> {
         Ok(())
     }
 
-    /// Writes a row at a key that has room. A row that is not used takes the key's row out. The room stays.
-    pub fn write(&mut self, key: u32, row: X)
-        requires { HasRoom self.old key }
+    /// Writes a row at a key, and gives the row that was there. One that is used needs room, and one that is not used takes the
+    /// key's row out. The room stays.
+    pub fn write(&mut self, key: u32, row: X) -> Option<X>
+        requires { X.used row ≡ true → HasRoom self.old key }
+        ensures before { result ≡ at self.old.rows key }
         ensures rows { self.new.rows ≡ written X.used self.old.rows key row }
         ensures room { self.new.room ≡ self.old.room }
+        ensures had { OnSome result (HasRoom self.old key) }
     {
-        match self.map.insert(key, row) {
-            Ok(_) => {}
-            Err(_) => unreachable!(),
+        let Some(place) = self.map.get_mut(&key) else {
+            return None;
+        };
+        let before = *place;
+        *place = row;
+        if before.is_used() {
+            return Some(before);
         }
+        None
     }
 
-    /// Takes the row at a key out, if there is one. The room stays.
-    pub fn clear(&mut self, key: u32)
+    /// Takes out the row at a key, if there is one. The room stays.
+    pub fn take(&mut self, key: u32) -> Option<X>
+        ensures row { result ≡ at self.old.rows key }
         ensures rows { self.new.rows ≡ without self.old.rows key }
         ensures room { self.new.room ≡ self.old.room }
+        ensures had { OnSome result (HasRoom self.old key) }
     {
-        if self.map.contains_key(&key) {
-            self.write(key, X::nothing());
-        }
+        self.write(key, X::nothing())
     }
 }

@@ -10,12 +10,6 @@ use std::process::Abort;
 use std::sync::ledger::{Blank, Ledger};
 use std::test::Fail;
 
-const NO_HINT: Hint = Hint {
-    prev: None,
-    next: None,
-    version: 0,
-};
-
 const FOUR: [(i128, u32); 4] = [(10, 1), (20, 2), (30, 3), (40, 4)];
 
 // The list has just these accounts, from its end to its front.
@@ -56,7 +50,7 @@ fn check_hints<R: Abort, L: Ledger>(rt: &R, alloc: Global, steps: &mut Steps<L>)
     let mut order = Order::new(alloc);
     assert_eq!(rt; order.last(), None);
     for entry in FOUR {
-        put(rt, &mut order, entry, &NO_HINT, steps);
+        put(rt, &mut order, entry, &Hint::NONE, steps);
     }
     for (prev, next) in [(2, 3), (3, 2), (7, 8), (4, 1), (1, 2)] {
         let hint = Hint {
@@ -69,13 +63,13 @@ fn check_hints<R: Abort, L: Ledger>(rt: &R, alloc: Global, steps: &mut Steps<L>)
         take_out(rt, &mut order, 9);
     }
     // At an equal key the greater account stands behind.
-    put(rt, &mut order, (20, 5), &NO_HINT, steps);
+    put(rt, &mut order, (20, 5), &Hint::NONE, steps);
     check_list(rt, &order, &[4, 3, 5, 2, 1]);
-    put(rt, &mut order, (20, 0), &NO_HINT, steps);
+    put(rt, &mut order, (20, 0), &Hint::NONE, steps);
     check_list(rt, &order, &[4, 3, 5, 2, 0, 1]);
     take_out(rt, &mut order, 1);
     take_out(rt, &mut order, 4);
-    put(rt, &mut order, (-7, 4), &NO_HINT, steps);
+    put(rt, &mut order, (-7, 4), &Hint::NONE, steps);
     check_list(rt, &order, &[3, 5, 2, 0, 4]);
 }
 

@@ -56,6 +56,11 @@ count_taken {X} table key x h =
     let law = sum_taken (λ (y : X). 1) table key x h in
     omega (arith, law, counted table, counted (without table key))
 
+pub stakes_taken : (troves : Table Trove) (sums : Sums) (count account : ℕ) (t : Trove) → AreKept troves sums count → at troves account ≡ Some t → stakes_in (without troves account) + t.stake ≡ sums.stakes
+stakes_taken troves sums count account t h there =
+    let law = sum_taken (λ (x : Trove). x.stake) troves account t there in
+    omega (arith, law, h.stakes)
+
 -- an account without a trove has none to take out
 pub sum_none : {X : Type 0} (f : X → ℕ) (table : Table X) (key : ℕ) → at table key ≡ None → sum_by f (values_of (without table key)) ≡ sum_by f (values_of table)
 sum_none {X} f table key h =

@@ -95,11 +95,14 @@ impl Troves {
     }
 
     /// An operation of the account's owner: the trove has these amounts, in gwei and micro-LUSD, with nothing pending. Where
-    /// there was none there is one now.
-    pub fn set(&mut self, account: u32, coll: u64, debt: u64)
+    /// there was none there is one now. Answers its row.
+    pub fn set(&mut self, account: u32, coll: u64, debt: u64) -> Trove
         requires room { HasRoom self.old.table account }
         requires some { 1 ≤ coll }
         requires limit { coll_in (set_in self.old.sums self.old.table.rows account coll debt) ≤ LIM }
+        ensures row { result ≡ set_row self.old.sums coll debt }
+        ensures stake { 1 ≤ result.stake }
+        ensures mark { result.mark_debt ≤ SUM_MOST }
         ensures rows { self.new.table.rows ≡ set_in self.old.sums self.old.table.rows account coll debt }
         ensures room { self.new.table.room ≡ self.old.table.room }
         ensures sums { self.new.sums ≡ beside self.old.sums self.new.table.rows }
@@ -109,6 +112,7 @@ impl Troves {
         self.count = count + 1;
         self.sums.stakes = stakes + row.stake;
         self.table.write(account, row);
+        row
     }
 
     /// The row that an operation of its owner writes, with these amounts in gwei and micro-LUSD.
@@ -147,14 +151,12 @@ impl Troves {
         ensures had { HasRoom self.old.table account }
         ensures sums { self.new.sums ≡ beside self.old.sums self.new.table.rows }
     {
-        let trove = match self.table.get(account) {
-            Some(trove) => *trove,
+        let trove = match self.table.take(account) {
+            Some(trove) => trove,
             None => unreachable!(),
         };
-        let (count, stakes) = self.others(account);
-        self.count = count;
-        self.sums.stakes = stakes;
-        self.table.clear(account);
+        self.count -= 1;
+        self.sums.stakes -= trove.stake;
         trove
     }
 

@@ -1,6 +1,7 @@
 -- Tables of which only the used rows are seen, and what writing a row does to what is seen.
 use Rattle.std.proofs.Common.{◌≡◌, ℕ, Bool, true, false, cond, [], ◌∷◌, refl, ap, sym, subst, ◌∙◌, Some, None, Option, arith, inl, inr}
-use Rattle.std.specs.Prelude.{unwrap_or, sum_by, ◌+◌}
+use Rattle.std.specs.BTreeMap.{is_at}
+use Rattle.std.specs.Prelude.{unwrap_or, sum_by, ◌+◌, IsSome}
 use Rattle.std.specs.Option.{option_map}
 use Rattle.std.specs.List.{AllByRecursion}
 use Rattle.std.specs.List.Sorted.{IsStrictlySortedBy}
@@ -8,12 +9,20 @@ use Rattle.std.specs.declared.cmp.Ordering.{Ordering}
 use Rattle.std.specs.declared.cmp.Ordering.TheVariants.{Less, Equal, Greater}
 use Rattle.std.specs.Ordering.{nat_cmp, is_eq, match_ordering}
 use Rattle.std.specs.Cmp.{nat_cmp_total, eq_by_cmp_equiv}
-use Rattle.std.specs.Map.{keys_of, values_of}
+use Rattle.std.specs.Map.{keys_of, values_of, set_value}
 use Rattle.std.proofs.lemmas.Map.Keys.{sorted_head, sorted_tail, IsDistinct-from_sorted}
 use Rattle.std.proofs.lemmas.Map.Entries.{option_filter, lookup-filter-values, sum_by-insert_entry}
 use Rattle.std.proofs.lemmas.Map.Lookups.{exact_unsigned}
 use Rattle.liq_types.specs.Rows.{Reserves}
+use Rattle.liq_types.proofs.Lookups.{is_eq-same}
 use Rattle.liq_types.specs.Tables.{Table, at, put, without, rows}
+
+itself : (key : ℕ) → nat_cmp key key ≡ Equal
+itself key = by (nat_cmp key key) (is_eq-same key) where
+  by : (o : Ordering) → is_eq o ≡ true → o ≡ Equal
+  by Less h = cc
+  by Equal h = refl
+  by Greater h = cc
 
 module _ {X : Type 0} where
   -- the key stands before all of the table
@@ -78,6 +87,69 @@ module _ {X : Type 0} where
   rows-put test (e ∷ es) key x s =
       rows-put_cons test e es key x (sorted_head nat_cmp e.0 (keys_of es) s) (rows-put test es key x (sorted_tail nat_cmp e.0 (keys_of es) s)) (nat_cmp key e.0) refl
 
+  at_below : (key : ℕ) (table : Table X) → Below key table → at table key ≡ None
+  at_below key [] h = refl
+  at_below key (e ∷ es) h = ap (λ o. cond (is_eq o) (Some e.1) (at es key)) h.0 ∙ at_below key es h.1
+
+  -- to write over the row that is there is to put it
+  put_again : (table : Table X) (key : ℕ) (x : X) → IsStrictlySortedBy nat_cmp (keys_of table) → IsSome (at table key) → set_value (is_at (nat_cmp key)) table x ≡ put table key x
+  put_again [] key x s h = cc
+  put_again (e ∷ es) key x s h = by (sorted_head nat_cmp e.0 (keys_of es) s) (put_again es key x (sorted_tail nat_cmp e.0 (keys_of es) s)) (nat_cmp key e.0) refl h where
+    by : Below e.0 es → (IsSome (at es key) → set_value (is_at (nat_cmp key)) es x ≡ put es key x) → (o : Ordering) → nat_cmp key e.0 ≡ o → IsSome (cond (is_eq o) (Some e.1) (at es key)) → cond (is_eq o) ((e.0, x) ∷ es) (e ∷ set_value (is_at (nat_cmp key)) es x) ≡ match_ordering o ((key, x) ∷ e ∷ es) ((e.0, x) ∷ es) (e ∷ put es key x)
+    by head later Less l i = let none = subst (λ (o : Option X). IsSome o) (at_below key es (below_tail key e.0 es l head)) i in cc
+    by head later Equal q i = refl
+    by head later Greater g i = ap (λ (t : Table X). e ∷ t) (later i)
+
+  pub rows-put_again : (test : X → Bool) (table : Table X) (key : ℕ) (x : X) → IsStrictlySortedBy nat_cmp (keys_of table) → IsSome (at table key) → rows test (set_value (is_at (nat_cmp key)) table x) ≡ written test (rows test table) key x
+  rows-put_again test table key x s h = ap (λ (t : Table X). rows test t) (put_again table key x s h) ∙ rows-put test table key x s
+
+  put_twice : (table : Table X) (key : ℕ) (x y : X) → put (put table key x) key y ≡ put table key y
+  put_twice [] key x y = ap (λ o. match_ordering o ((key, y) ∷ (key, x) ∷ []) ((key, y) ∷ []) ((key, x) ∷ (key, y) ∷ [])) (itself key)
+  put_twice (e ∷ es) key x y = by (put_twice es key x y) (nat_cmp key e.0) refl where
+    by : put (put es key x) key y ≡ put es key y → (o : Ordering) → nat_cmp key e.0 ≡ o → put (match_ordering o ((key, x) ∷ e ∷ es) ((e.0, x) ∷ es) (e ∷ put es key x)) key y ≡ match_ordering o ((key, y) ∷ e ∷ es) ((e.0, y) ∷ es) (e ∷ put es key y)
+    by later Less l = ap (λ o. match_ordering o ((key, y) ∷ (key, x) ∷ e ∷ es) ((key, y) ∷ e ∷ es) ((key, x) ∷ put (e ∷ es) key y)) (itself key)
+    by later Equal q = ap (λ o. match_ordering o ((key, y) ∷ (e.0, x) ∷ es) ((e.0, y) ∷ es) ((e.0, x) ∷ put es key y)) q
+    by later Greater g = ap (λ o. match_ordering o ((key, y) ∷ e ∷ put es key x) ((e.0, y) ∷ put es key x) (e ∷ put (put es key x) key y)) g ∙ ap (λ (t : Table X). e ∷ t) later
+
+  without_put : (table : Table X) (key : ℕ) (x : X) → IsStrictlySortedBy nat_cmp (keys_of table) → without (put table key x) key ≡ without table key
+  without_put [] key x s = ap (λ o. cond (is_eq o) [] ((key, x) ∷ [])) (itself key)
+  without_put (e ∷ es) key x s = by (sorted_head nat_cmp e.0 (keys_of es) s) (without_put es key x (sorted_tail nat_cmp e.0 (keys_of es) s)) (nat_cmp key e.0) refl where
+    by : Below e.0 es → without (put es key x) key ≡ without es key → (o : Ordering) → nat_cmp key e.0 ≡ o → without (match_ordering o ((key, x) ∷ e ∷ es) ((e.0, x) ∷ es) (e ∷ put es key x)) key ≡ cond (is_eq o) es (e ∷ without es key)
+    by head later Less l = ap (λ o. cond (is_eq o) (e ∷ es) ((key, x) ∷ without (e ∷ es) key)) (itself key) ∙ ap (λ (t : Table X). e ∷ t) (sym (without_below key es (below_tail key e.0 es l head)))
+    by head later Equal q = ap (λ o. cond (is_eq o) es ((e.0, x) ∷ without es key)) q
+    by head later Greater g = ap (λ o. cond (is_eq o) (put es key x) (e ∷ without (put es key x) key)) g ∙ ap (λ (t : Table X). e ∷ t) later
+
+  put_without : (table : Table X) (key : ℕ) (y : X) → IsStrictlySortedBy nat_cmp (keys_of table) → put (without table key) key y ≡ put table key y
+  put_without [] key y s = refl
+  put_without (e ∷ es) key y s = by (sorted_head nat_cmp e.0 (keys_of es) s) (put_without es key y (sorted_tail nat_cmp e.0 (keys_of es) s)) (nat_cmp key e.0) refl where
+    by : Below e.0 es → put (without es key) key y ≡ put es key y → (o : Ordering) → nat_cmp key e.0 ≡ o → put (cond (is_eq o) es (e ∷ without es key)) key y ≡ match_ordering o ((key, y) ∷ e ∷ es) ((e.0, y) ∷ es) (e ∷ put es key y)
+    by head later Less l =
+        ap (λ o. match_ordering o ((key, y) ∷ e ∷ without es key) ((e.0, y) ∷ without es key) (e ∷ put (without es key) key y)) l
+        ∙ ap (λ (t : Table X). (key, y) ∷ e ∷ t) (without_below key es (below_tail key e.0 es l head))
+    by head later Equal q =
+        let same : key ≡ e.0 = exact_unsigned key e.0 q in
+        subst (λ k. put es k y ≡ (e.0, y) ∷ es) (sym same) (put_below e.0 y es head)
+    by head later Greater g = ap (λ o. match_ordering o ((key, y) ∷ e ∷ without es key) ((e.0, y) ∷ without es key) (e ∷ put (without es key) key y)) g ∙ ap (λ (t : Table X). e ∷ t) later
+
+  without_twice : (table : Table X) (key : ℕ) → IsStrictlySortedBy nat_cmp (keys_of table) → without (without table key) key ≡ without table key
+  without_twice [] key s = refl
+  without_twice (e ∷ es) key s = by (sorted_head nat_cmp e.0 (keys_of es) s) (without_twice es key (sorted_tail nat_cmp e.0 (keys_of es) s)) (nat_cmp key e.0) refl where
+    by : Below e.0 es → without (without es key) key ≡ without es key → (o : Ordering) → nat_cmp key e.0 ≡ o → without (cond (is_eq o) es (e ∷ without es key)) key ≡ cond (is_eq o) es (e ∷ without es key)
+    by head later Less l = ap (λ o. cond (is_eq o) (without es key) (e ∷ without (without es key) key)) l ∙ ap (λ (t : Table X). e ∷ t) later
+    by head later Equal q =
+        let same : key ≡ e.0 = exact_unsigned key e.0 q in
+        subst (λ k. without es k ≡ es) (sym same) (without_below e.0 es head)
+    by head later Greater g = ap (λ o. cond (is_eq o) (without es key) (e ∷ without (without es key) key)) g ∙ ap (λ (t : Table X). e ∷ t) later
+
+  -- of two rows that are written at a key the later one stays
+  pub written_twice : (test : X → Bool) (table : Table X) (key : ℕ) (x y : X) → IsStrictlySortedBy nat_cmp (keys_of table) → written test (written test table key x) key y ≡ written test table key y
+  written_twice test table key x y s = by (test x) (test y) where
+    by : (a b : Bool) → cond b (put (cond a (put table key x) (without table key)) key y) (without (cond a (put table key x) (without table key)) key) ≡ cond b (put table key y) (without table key)
+    by true true = put_twice table key x y
+    by true false = without_put table key x s
+    by false true = put_without table key y s
+    by false false = without_twice table key s
+
   -- a row that is not used is not seen
   pub rows-put_unused : (test : X → Bool) (table : Table X) (key : ℕ) (x : X) → test x ≡ false → at table key ≡ None → rows test (put table key x) ≡ rows test table
   rows-put_unused test [] key x u n = ap (λ b. cond b ((key, x) ∷ []) []) u
@@ -86,6 +158,15 @@ module _ {X : Type 0} where
     by later Less m = ap (λ b. cond b ((key, x) ∷ rows test (e ∷ es)) (rows test (e ∷ es))) u
     by later Equal m = cc
     by later Greater m = ap (λ (t : Table X). cond (test e.1) (e ∷ t) t) (later m)
+
+  -- what is seen ascends too
+  pub rows-ascends : (test : X → Bool) (table : Table X) → IsStrictlySortedBy nat_cmp (keys_of table) → IsStrictlySortedBy nat_cmp (keys_of (rows test table))
+  unfolding IsStrictlySortedBy
+  rows-ascends test [] s = tt
+  rows-ascends test (e ∷ es) s =
+      let more = rows-ascends test es s.1 in
+      elim (test e.1) as (λ b. IsStrictlySortedBy nat_cmp (keys_of (cond b (e ∷ rows test es) (rows test es))))
+      [ true ↦ (below_rows test e.0 es s.0, more) | false ↦ more ]
 
   -- what is seen at a key
   pub at-rows : (test : X → Bool) (table : Table X) (key : ℕ) → IsStrictlySortedBy nat_cmp (keys_of table) → at (rows test table) key ≡ option_filter test (at table key)

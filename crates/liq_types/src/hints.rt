@@ -9,6 +9,14 @@ pub struct HintWords {
     pub next: Option<u32>,
 }
 
+impl HintWords {
+    /// No word is there.
+    pub const NONE: HintWords = HintWords {
+        prev: None,
+        next: None,
+    };
+}
+
 /// A place that was found in some version of the ordered list.
 #[derive(Clone, Copy, Debug, PartialEq, Eq)]
 pub struct Hint {
@@ -18,4 +26,13 @@ pub struct Hint {
     pub next: Option<u32>,
     /// The number of the version.
     pub version: u64,
+}
+
+impl Hint {
+    /// A hint of nothing: with no account on either side, it is for an empty list.
+    pub const NONE: Hint = Hint {
+        prev: None,
+        next: None,
+        version: 0,
+    };
 }

@@ -9,13 +9,13 @@ use Rattle.std.proofs.lemmas.Bool.{ne_eqb}
 use Rattle.std.proofs.lemmas.Fmt.{decimal_is_IsNumeral}
 use Rattle.clap.specs.Words.{Text, first_of, subcommand_of, takes}
 use Rattle.liq_words.specs.declared.words.Word.{Word}
-use Rattle.liq_words.specs.declared.words.Word.TheVariants.{Run, State, Gen}
+use Rattle.liq_words.specs.declared.words.Word.TheVariants.{Run, Serve, State, Audit, Gen}
 use Rattle.liq_words.specs.declared.words.WordsFault.{WordsFault}
 use Rattle.liq_words.specs.declared.words.WordsFault.TheVariants.{Usage, NoMemory}
 use Rattle.liq_words.specs.Line.{line}
 use Rattle.liq_words.specs.Reading.{HasRead}
 use Rattle.liq_words.specs.Words.{Ask, IsInRange, words_of}
-use Rattle.liq_words.proofs.Taken.{run_is_taken, run_is_read, state_is_taken, state_is_read, gen_is_taken, gen_is_read, seed_is_read, count_is_read}
+use Rattle.liq_words.proofs.Taken.{run_is_taken, run_is_read, serve_is_taken, serve_is_read, state_is_taken, state_is_read, audit_is_taken, audit_is_read, gen_is_taken, gen_is_read, seed_is_read, count_is_read}
 
 -- how a number begins
 record Begins (text : Text) : Type 0 where
@@ -38,7 +38,9 @@ number_begins n small = begins (decimal n) (decimal_is_IsNumeral n small).0
 
 word_taken : (word : Word) → Ask (words_of word) word → takes line (words_of word) ≡ true
 word_taken Run h = run_is_taken
+word_taken Serve h = serve_is_taken
 word_taken State h = state_is_taken
+word_taken Audit h = audit_is_taken
 word_taken (Gen seed count) h =
     let s = number_begins seed h.0.0 in
     let c = number_begins count (omega (arith, h.0.2)) in
@@ -66,7 +68,9 @@ are_read seed count s c =
 
 word_read : (word : Word) → Ask (words_of word) word → HasRead (subcommand_of line (words_of word)) word
 word_read Run h = run_is_read
+word_read Serve h = serve_is_read
 word_read State h = state_is_read
+word_read Audit h = audit_is_read
 word_read (Gen seed count) h = are_read (decimal seed) (decimal count) (number_begins seed h.0.0) (number_begins count (omega (arith, h.0.2)))
 
 -- clap reads the word
@@ -90,7 +94,10 @@ same_number m n small_m small_n same = sym (decimal_is_IsNumeral m small_m).1 �
 -- the word that stands alone under this name
 abbrev alone_of : Text → Word
 alone_of name =
-    if bytes_eq name (codes "run") then Run else State
+    if bytes_eq name (codes "run") then Run
+    else if bytes_eq name (codes "serve") then Serve
+    else if bytes_eq name (codes "state") then State
+    else Audit
 
 same_word : (a b : Word) → IsInRange a → IsInRange b → words_of a ≡ words_of b → a ≡ b
 same_word (Gen seed count) (Gen other more) h k same =

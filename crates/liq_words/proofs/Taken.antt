@@ -23,6 +23,22 @@ pub state_is_read : option_map (λ p. p.0) (subcommand_of line (codes "state" �
 unfolding clap_on_literals
 state_is_read = refl
 
+pub serve_is_taken : takes line (codes "serve" ∷ []) ≡ true
+unfolding clap_on_literals
+serve_is_taken = refl
+
+pub serve_is_read : option_map (λ p. p.0) (subcommand_of line (codes "serve" ∷ [])) ≡ Some (codes "serve")
+unfolding clap_on_literals
+serve_is_read = refl
+
+pub audit_is_taken : takes line (codes "audit" ∷ []) ≡ true
+unfolding clap_on_literals
+audit_is_taken = refl
+
+pub audit_is_read : option_map (λ p. p.0) (subcommand_of line (codes "audit" ∷ [])) ≡ Some (codes "audit")
+unfolding clap_on_literals
+audit_is_read = refl
+
 pub gen_is_taken : (a b : ℕ) (seed count : Text) → (a == 45) ≡ false → (b == 45) ≡ false → takes line (codes "gen" ∷ (a ∷ seed) ∷ (b ∷ count) ∷ []) ≡ true
 unfolding clap_on_literals
 gen_is_taken a b seed count not_a not_b = simp (not_a, not_b)

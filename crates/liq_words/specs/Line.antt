@@ -25,4 +25,5 @@ base =
 abbrev pub line : App
 line =
     let alone : Text → App → App = λ name app. with_subcommand app (new_app name).top in
-    with_subcommand (alone (codes "state") (alone (codes "run") base)) load.top
+    let words = alone (codes "audit") (alone (codes "state") (alone (codes "serve") (alone (codes "run") base))) in
+    with_subcommand words load.top

@@ -1,12 +1,14 @@
 -- What the words of a command line ask for.
 use Rattle.std.specs.Prelude.{ℕ, ◌≡◌, ◌≤◌, ◌<◌, ◌^◌, List, [], ◌∷◌, codes, decimal}
 use Rattle.liq_words.specs.declared.words.Word.{Word}
-use Rattle.liq_words.specs.declared.words.Word.TheVariants.{Run, State, Gen}
+use Rattle.liq_words.specs.declared.words.Word.TheVariants.{Run, Serve, State, Audit, Gen}
 
 -- how it is written; a number has no sign and no leading zero
 abbrev pub words_of : Word → List (List ℕ)
 words_of Run = codes "run" ∷ []
+words_of Serve = codes "serve" ∷ []
 words_of State = codes "state" ∷ []
+words_of Audit = codes "audit" ∷ []
 words_of (Gen seed count) = codes "gen" ∷ decimal seed ∷ decimal count ∷ []
 
 -- its numbers are in their ranges

@@ -19,7 +19,9 @@ pub fn line<'a>(alloc: Global) -> Result<Command<'a>, AllocError>
         .disable_help_subcommand(true)
         .subcommand_required(true);
     let line = with_alone(alloc, base, "run")?;
+    let line = with_alone(alloc, line, "serve")?;
     let line = with_alone(alloc, line, "state")?;
+    let line = with_alone(alloc, line, "audit")?;
     line.subcommand(load(alloc)?)
 }
 

@@ -17,7 +17,9 @@ fn read(alloc: Global, line: &str) -> Result<Result<Word, WordsFault>, Fail> {
 fn words_ask(rt: HostRuntime) -> Result<(), Fail> {
     let alloc = rt.alloc();
     assert!(rt; matches!(read(alloc, "run")?, Ok(Word::Run)));
+    assert!(rt; matches!(read(alloc, "serve")?, Ok(Word::Serve)));
     assert!(rt; matches!(read(alloc, "state")?, Ok(Word::State)));
+    assert!(rt; matches!(read(alloc, "audit")?, Ok(Word::Audit)));
     assert!(rt;
         matches!(
             read(alloc, "gen 7 20000")?,
@@ -78,8 +80,6 @@ fn words_ask_for_nothing(rt: HostRuntime) -> Result<(), Fail> {
         "gen 1 5 -h",
         "gen  1 5",
         "gen x 5",
-        "serve",
-        "audit",
         "serve 1",
         "state run",
         "audit -h",

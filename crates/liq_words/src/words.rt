@@ -21,8 +21,12 @@ pub const COUNT_MOST: u64 = 1_000_000;
 pub enum Word {
     /// Answer the requests of the input.
     Run,
+    /// Answer the scripts of the input, each in a session of its own.
+    Serve,
     /// Tell what stands.
     State,
+    /// Tell what each depositor has beside its exact share.
+    Audit,
     /// Carry out a seed's calls, so many of them drawn, and tell where they lead.
     Gen { seed: u64, count: u64 },
 }
@@ -80,7 +84,9 @@ fn alone(name: &str) -> Option<Word>
 {
     match name {
         "run" => Some(Word::Run),
+        "serve" => Some(Word::Serve),
         "state" => Some(Word::State),
+        "audit" => Some(Word::Audit),
         _ => None,
     }
 }

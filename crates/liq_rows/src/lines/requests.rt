@@ -7,11 +7,6 @@ const HINT: HintWords = HintWords {
     next: Some(9),
 };
 
-const NO_HINT: HintWords = HintWords {
-    prev: None,
-    next: None,
-};
-
 /// Calls of client 21 under number 22.
 pub const CALLS: [(Call, &[u8]); 18] = [
     (Call::Price(1), b"21 22 price 1"),
@@ -20,7 +15,10 @@ pub const CALLS: [(Call, &[u8]); 18] = [
     (Call::Take(1, 2), b"21 22 take 1 2"),
     (Call::Send(1, 2, 3), b"21 22 send 1 2 3"),
     (Call::Open(1, 2, 3, 4, HINT), b"21 22 open 1 2 3 4 8 9"),
-    (Call::Open(1, 2, 3, 4, NO_HINT), b"21 22 open 1 2 3 4 - -"),
+    (
+        Call::Open(1, 2, 3, 4, HintWords::NONE),
+        b"21 22 open 1 2 3 4 - -",
+    ),
     (
         Call::Adjust(1, 2, 3, 4, 5, 6, HINT),
         b"21 22 adjust 1 2 3 4 5 6 8 9",
@@ -32,7 +30,10 @@ pub const CALLS: [(Call, &[u8]); 18] = [
     (Call::Liquidate(1, 2), b"21 22 liquidate 1 2"),
     (Call::LiquidateLowest(1, 2), b"21 22 liquidate_lowest 1 2"),
     (Call::Redeem(1, 2, 3, HINT), b"21 22 redeem 1 2 3 8 9"),
-    (Call::Redeem(1, 2, 3, NO_HINT), b"21 22 redeem 1 2 3 - -"),
+    (
+        Call::Redeem(1, 2, 3, HintWords::NONE),
+        b"21 22 redeem 1 2 3 - -",
+    ),
     (Call::Claim(1), b"21 22 claim 1"),
     (Call::Rotate, b"21 22 rotate"),
 ];

@@ -12,8 +12,8 @@ use Rattle.liq_core.proofs.standing.place_trove.Goals as goal
 use mir.Syntax.{w128}
 use mir.Val.{SFits}
 
-pub set-requires-clause-limit : goal.set-requires-clause-limit
-set-requires-clause-limit g c =
+pub set-row-requires-clause-limit : goal.set-row-requires-clause-limit
+set-row-requires-clause-limit g c =
     let next = place_stands (kept_books c.args.pools.now c.args.troves.now) c.args.account c.args.coll c.args.debt c.requires.absent c.requires.some c.requires.least c.requires.stand in
     omega (arith, next.active_coll, c.requires.coll)
 
@@ -28,7 +28,7 @@ returns-clause-list g c =
     let fits : SFits w128 c.key.result = search rules in
     let put_in = simp to_z-of_z at c.insert.ensures.list in
     put_in
-    ∙ ap (λ k. with_ranked c.args.order.now.entries (k, c.args.account)) (c.key.ensures ∙ ap key_by c.row_for-row.ensures.row)
+    ∙ ap (λ k. with_ranked c.args.order.now.entries (k, c.args.account)) (c.key.ensures ∙ ap key_by c.set-row.ensures.row)
     ∙ ap (λ (l : List Ranked). with_ranked l (key_by row, c.args.account)) c.requires.list
     ∙ sym (more_list rows c.args.account row c.requires.absent)
-    ∙ ap (λ (t : Table Trove). order_by t) (sym c.set.ensures.rows)
+    ∙ ap (λ (t : Table Trove). order_by t) (sym c.set-row.ensures.rows)

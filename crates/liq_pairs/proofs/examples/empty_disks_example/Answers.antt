@@ -1,6 +1,6 @@
 use Rattle.std.proofs.Common.{refl}
 use Rattle.liq_journal.specs.Written.{found_on}
-use Rattle.liq_pairs.specs.Pair.{standing, state_on}
+use Rattle.liq_pairs.specs.Pair.{commands_on, standing, state_on}
 use Rattle.liq_pairs.proofs.examples.empty_disks_example.Goals as goal
 
 pub returns-clause-empty : goal.returns-clause-empty
@@ -10,3 +10,7 @@ returns-clause-empty c = refl
 pub returns-clause-short : goal.returns-clause-short
 unfolding state_on standing found_on
 returns-clause-short c = refl
+
+pub returns-clause-none : goal.returns-clause-none
+unfolding commands_on found_on
+returns-clause-none c = refl

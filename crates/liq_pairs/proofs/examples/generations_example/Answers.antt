@@ -6,3 +6,9 @@ returns-clause-left c s t = refl
 
 pub returns-clause-right : goal.returns-clause-right
 returns-clause-right c s t = refl
+
+pub returns-clause-left_commands : goal.returns-clause-left_commands
+returns-clause-left_commands c cs ds = refl
+
+pub returns-clause-right_commands : goal.returns-clause-right_commands
+returns-clause-right_commands c cs ds = refl

@@ -1,5 +1,9 @@
+use Rattle.liq_pairs.proofs.Commands.{commands_alike}
 use Rattle.liq_pairs.proofs.Standings.{state_alike}
 use Rattle.liq_pairs.proofs.laws.what_is_found_decides.Goals as goal
 
-pub returns : goal.returns
-returns c = state_alike
+pub returns-clause-state : goal.returns-clause-state
+returns-clause-state c = state_alike
+
+pub returns-clause-commands : goal.returns-clause-commands
+returns-clause-commands c = commands_alike

@@ -1,8 +1,9 @@
-use Rattle.std.proofs.Common.{◌≡◌, [], Result, sym, subst, arith}
+use Rattle.std.proofs.Common.{◌≡◌, [], Result, refl, sym, subst, arith}
 use Rattle.liq_types.specs.declared.amounts.TheConstants.{LINES_MOST}
 use Rattle.liq_scripts.specs.declared.stops.Stop.{Stop}
 use Rattle.liq_scripts.specs.Progress.{Comes}
-use Rattle.liq_scripts.proofs.Ends.{came_stopped, came_done, short_scripts}
+use Rattle.liq_scripts.proofs.Ends.{came_stopped, came_done}
+use Rattle.liq_scripts.proofs.Few.{few_requests}
 use Rattle.liq_scripts.proofs.Gathered.{ended_well, ended_by_fault, ended_by_limit}
 use Rattle.liq_scripts.proofs.Residual.{handed_on}
 use Rattle.liq_scripts.proofs.input.read_lines.Goals as goal
@@ -20,15 +21,15 @@ returns-then-not-branch-clause-read g c =
     let start = g.S.Source.left c.args.input.now in
     came_done start (g.S.Source.left c.read_next.new.input) c.read_next.new.scripts.items ((rw c.if-not-branch.true at c.in_ok-read_next.ensures.goes) start c.loop-read.invariant.gathered)
 
-pub returns-then-not-branch-clause-short : goal.returns-then-not-branch-clause-short
-returns-then-not-branch-clause-short g c =
+pub returns-then-not-branch-clause-few : goal.returns-then-not-branch-clause-few
+returns-then-not-branch-clause-few g c =
     let came = (rw c.if-not-branch.true at c.in_ok-read_next.ensures.goes) (g.S.Source.left c.args.input.now) c.loop-read.invariant.gathered in
-    short_scripts came.asked c.read_next.new.scripts.items came.scripts_are came.few
+    few_requests came.asked c.read_next.new.scripts.items came.scripts_are came.few
 
-pub returns-in-Ok-None-clause-short : goal.returns-in-Ok-None-clause-short
-returns-in-Ok-None-clause-short g c =
+pub returns-in-Ok-None-clause-few : goal.returns-in-Ok-None-clause-few
+returns-in-Ok-None-clause-few g c =
     let gathered = c.loop-read.invariant.gathered in
-    short_scripts gathered.asked c.loop-read.scripts.items gathered.scripts_are (omega (arith, c.loop-read.auto.read-end, gathered.count))
+    few_requests gathered.asked c.loop-read.scripts.items gathered.scripts_are (omega (arith, c.loop-read.auto.read-end, gathered.count))
 
 pub returns-in-Ok-None-clause-read : goal.returns-in-Ok-None-clause-read
 returns-in-Ok-None-clause-read g c =
@@ -43,4 +44,4 @@ returns-in-Ok-Some-clause-read g c =
 pub returns-in-Err-clause-read : goal.returns-in-Err-clause-read
 returns-in-Err-clause-read g c =
     let failed = c.in-Err.ensures.failed in
-    ended_by_fault _ _ (g.S.Source.left c.next_byte.new.input) c.loop-read.read _ [] c.next_byte.new.self (omega (arith, c.loop-read.auto.read-end)) c.loop-read.invariant.gathered tt failed.0 failed.1
+    ended_by_fault _ _ (g.S.Source.left c.next_byte.new.input) c.loop-read.read _ [] c.next_byte.new.self (omega (arith, c.loop-read.auto.read-end)) c.loop-read.invariant.gathered (record { within = tt; short = omega arith; none_behind = λ e. refl }) failed.0 failed.1

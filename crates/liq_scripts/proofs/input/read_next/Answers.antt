@@ -10,7 +10,7 @@ use Rattle.liq_scripts.proofs.input.read_next.Goals as goal
 pub returns-in-Err-clause-goes : goal.returns-in-Err-clause-goes
 returns-in-Err-clause-goes g c start h =
     let line = c.in-Err.ensures.line in
-    ended_by_fault start _ (g.S.Source.left c.next_line.new.input) c.args.read _ c.next_line.new.line.items c.next_line.new.self (omega arith) h line.1 line.0 line.2
+    ended_by_fault start _ (g.S.Source.left c.next_line.new.input) c.args.read _ c.next_line.new.line.items c.next_line.new.self (omega arith) h (record { within = line.1; short = line.3; none_behind = λ e. absurd (omega (arith, e, c.requires.few)) }) line.0 line.2
 
 pub returns-in-Ok-Nothing-clause-goes : goal.returns-in-Ok-Nothing-clause-goes
 returns-in-Ok-Nothing-clause-goes g c start h =

@@ -1,7 +1,4 @@
-use Rattle.std.proofs.Common.{◌≡◌, Ok, Err, Option, Some, List, ℕ, Result, ap, sym, subst, ◌∙◌}
-use Rattle.liq_types.specs.declared.requests.Request.{Request}
-use Rattle.liq_types.specs.State.{State}
-use Rattle.liq_core.specs.Core.{StandsFor}
+use Rattle.std.proofs.Common.{Err, sym, subst}
 use Rattle.liq_serve.specs.declared.halts.Halt.{Halt}
 use Rattle.liq_serve.specs.Disks.{DisksHold}
 use Rattle.liq_serve.specs.Stops.{EndsIn, none_yet}

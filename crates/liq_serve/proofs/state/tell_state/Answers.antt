@@ -1,10 +1,11 @@
-use Rattle.std.proofs.Common.{◌≡◌, Ok, Err, Option, Some, List, ℕ, [], sym, subst}
+use Rattle.std.proofs.Common.{refl, Ok, Err, [], sym, subst}
 use Rattle.liq_core.specs.Core.{Core, StandsFor}
 use Rattle.liq_serve.specs.declared.halts.Halt.{Halt}
-use Rattle.liq_serve.specs.Disks.{DisksHold}
-use Rattle.liq_serve.specs.State.{WritesText, standing}
+use Rattle.liq_serve.specs.Disks.{DisksHold, EndsDamaged}
+use Rattle.liq_serve.specs.State.{standing}
+use Rattle.liq_serve.specs.Telling.{WritesText}
 use Rattle.liq_serve.proofs.Opened.{opened_at}
-use Rattle.liq_serve.proofs.Standing.{not_told, left_standing, disks_hold}
+use Rattle.liq_serve.proofs.Standing.{not_told, left_standing, disks_hold, unopened_damaged}
 use Rattle.liq_serve.proofs.state.tell_state.Goals as goal
 
 pub returns-in-Err-clause-told : goal.returns-in-Err-clause-told
@@ -12,9 +13,9 @@ returns-in-Err-clause-told g c l r told_l told_r start is =
     let held = g.K.Sink.held c.args.out.now in
     let seen = g.D.Disk.seen in
     let fault = c.in-Err.fault in
-    subst (λ (halt : Halt). WritesText (standing start) (Err halt) held held × DisksHold seen (Err halt) [] l r start fault.left fault.right [])
+    subst (λ (halt : Halt). WritesText (Ok (standing start)) (Err halt) held held × DisksHold seen (Err halt) [] l r start fault.left fault.right [])
     (sym c.from.ensures)
-    (not_told seen g.D.Disk.faults (standing start) fault.why fault.left fault.right c.args.left c.args.right c.in-Err.ensures.not_opened l r held told_l told_r start is)
+    (not_told seen g.D.Disk.faults (Ok (standing start)) fault.why fault.left fault.right c.args.left c.args.right c.in-Err.ensures.not_opened l r held told_l told_r start is)
 
 pub returns-clause-told : goal.returns-clause-told
 returns-clause-told g c l r told_l told_r start is =
@@ -24,7 +25,7 @@ returns-clause-told g c l r told_l told_r start is =
     let found = opened.state l r told_l told_r in
     let stands = opened_at found.0 start _ _ found.1 is found.2 in
     let end = c.write_standing-end.result in
-    let hold = disks_hold seen end l r start store.left store.right c.write_standing-end.ensures.other (left_standing seen g.D.Disk.faults g.D.Disk.moment g.D.Disk.left_at store start opened.going c.close-left.ensures.order stands) in (
+    let hold = disks_hold seen end l r start store.left store.right (left_standing seen g.D.Disk.faults g.D.Disk.moment g.D.Disk.left_at store start opened.going c.close-left.ensures.order stands) in (
       c.write_standing-end.ensures.written start (subst (λ (core : Core). StandsFor core start) (sym c.protocol.ensures) stands),
       subst (λ (left : g.row.D.Denot). DisksHold seen end [] l r start left c.close-left.result.1 []) (sym c.close-left.ensures.left)
           (subst (λ (right : g.row.D.Denot). DisksHold seen end [] l r start store.left right []) (sym c.close-left.ensures.right) hold),
@@ -34,3 +35,10 @@ pub returns-clause-damaged : goal.returns-clause-damaged
 returns-clause-damaged g c l r told_l told_r side damage is =
     let found = c.in-Ok.ensures.opened.state l r told_l told_r in
     absurd (cc (found.1, is))
+
+pub returns-in-Err-clause-damaged : goal.returns-in-Err-clause-damaged
+returns-in-Err-clause-damaged g c l r told_l told_r side damage is =
+    let seen = g.D.Disk.seen in
+    let fault = c.in-Err.fault in
+    let found = unopened_damaged seen g.D.Disk.faults fault.why fault.left fault.right c.args.left c.args.right c.in-Err.ensures.not_opened l r told_l told_r side damage is in
+    (refl, subst (λ (halt : Halt). EndsDamaged seen side damage l r (Err halt) fault.left fault.right) (sym c.from.ensures) found)

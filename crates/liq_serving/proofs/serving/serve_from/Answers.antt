@@ -26,7 +26,7 @@ run_sessions-requires-clause-belong g c κs within =
     (set_of c.in-Ok-new.made.0.lock c.at_seats-works.result.items c.in-Ok-new.made.1.items c.args.scripts.items at.seats at.scripts c.in-Ok-new.ensures.seats c.requires.numbered)
 
 pub run_sessions-requires-clause-short : goal.run_sessions-requires-clause-short
-run_sessions-requires-clause-short g c κs within = works_short c.at_seats-works.result.items c.args.scripts.items c.at_seats-works.ensures.scripts c.requires.short
+run_sessions-requires-clause-short g c κs within = works_short c.at_seats-works.result.items c.args.scripts.items c.at_seats-works.ensures.scripts c.requires.total
 
 pub seats_back-seats-requires-clause-room : goal.seats_back-seats-requires-clause-room
 seats_back-seats-requires-clause-room g c =
@@ -49,7 +49,7 @@ returns-in-Ok-run_sessions g c =
     let at = c.at_seats-works.ensures in
     let set = set_of c.in-Ok-new.made.0.lock c.at_seats-works.result.items c.in-Ok-new.made.1.items c.args.scripts.items at.seats at.scripts c.in-Ok-new.ensures.seats c.requires.numbered in
     serves_done _ _ _ _ _ _ _ c.args.scripts.items c.in-Ok-new.made.0.lock _ _ c.at_seats-works.result.items c.in-Ok-run_sessions.done.items c.seats_back-seats.result.0.items _ c.seats_back-seats.result.1 c.finished.result
-    at.scripts c.requires.numbered set c.in-Ok-run_sessions.ensures.done c.seats_back-seats.ensures.seats c.seats_back-seats.ensures.whole
+    at.scripts c.requires.numbered set c.in-Ok-run_sessions.ensures.done c.seats_back-seats.ensures.seats c.seats_back-seats.ensures.whole c.requires.total
     (c.in-Ok-new.ensures.sessions ∙ (c.len-count.ensures ∙ c.args.scripts.ok.0)) c.finished.ensures
 
 pub returns-in-Err-run_sessions : goal.returns-in-Err-run_sessions
@@ -58,5 +58,5 @@ returns-in-Err-run_sessions g c =
     let back = c.in-Err-run_sessions.ensures.back in
     let set = set_of c.in-Ok-new.made.0.lock c.at_seats-works.result.items c.in-Ok-new.made.1.items c.args.scripts.items at.seats at.scripts c.in-Ok-new.ensures.seats c.requires.numbered in
     serves_works _ _ _ _ _ _ _ c.args.scripts.items c.in-Ok-new.made.0.lock c.at_seats-works.result.items c.seats_of.result.items _ c.finished-in-Err-run_sessions.result
-    at.scripts c.requires.numbered set (rw back at c.seats_of.ensures.seats)
+    at.scripts c.requires.numbered set (rw back at c.seats_of.ensures.seats) c.requires.total
     (c.in-Ok-new.ensures.sessions ∙ (c.len-count.ensures ∙ c.args.scripts.ok.0)) c.finished-in-Err-run_sessions.ensures

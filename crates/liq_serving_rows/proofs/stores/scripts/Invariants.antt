@@ -1,6 +1,5 @@
-use Rattle.std.proofs.Common.{◌≡◌, ◌≤◌, ◌+◌, length}
-use Rattle.std.specs.Prelude.{All}
-use Rattle.liq_sessions.specs.declared.script.TheConstants.{REQUESTS_MOST}
+use Rattle.std.proofs.Common.{◌≡◌, ◌≤◌, ◌+◌, ◌*◌, length}
+use Rattle.std.specs.Prelude.{sum_by}
 use Rattle.liq_serving.specs.Serves.{AreNumbered}
 use Rattle.liq_serving_rows.proofs.stores.scripts.Given as goal
 
@@ -8,4 +7,4 @@ abbrev pub invariant-loop-before : goal.invariant-loop-before
 invariant-loop-before l =
     (length l.scripts.items ≡ l.before)
     × AreNumbered l.scripts.items
-    × All (λ script. length script.requests ≤ REQUESTS_MOST) l.scripts.items
+    × (sum_by (λ script. length script.requests) l.scripts.items ≤ l.before * l.requests)

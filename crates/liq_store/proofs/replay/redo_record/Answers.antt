@@ -1,30 +1,17 @@
-use Rattle.std.proofs.Common.{◌≡◌, ℕ, ◌-◌, List, ◌≤◌, length, slice_get, Some, Result, Ok, Err, MatchResult, subst, sym, arith}
+use Rattle.std.proofs.Common.{◌-◌, ◌≤◌, length, subst, arith}
 use Rattle.std.proofs.lemmas.Option.{slice_get_within}
 use Rattle.liq_types.specs.declared.requests.Command.{Command}
-use Rattle.liq_types.specs.State.{State}
-use Rattle.liq_core.specs.Core.{Core}
-use Rattle.liq_journal.specs.Bodies.{IsJournalOf}
-use Rattle.liq_journal.specs.declared.damage.What.TheVariants as what
-use Rattle.liq_journal.specs.Written.{Written}
-use Rattle.liq_store.specs.declared.replay.ReplayFault.{ReplayFault}
-use Rattle.liq_store.specs.Replays.{IsOutcome, IsDamageBy}
-use Rattle.liq_store.proofs.Replaying.{the_command, none_damaged}
+use Rattle.liq_store.specs.Replays.{IsOutcome}
+use Rattle.liq_store.proofs.Replaying.{same_record, unread}
 use Rattle.liq_store.proofs.replay.redo_record.Goals as goal
 
-pub returns-in-Err-Damaged-clause-replayed : goal.returns-in-Err-Damaged-clause-replayed
-returns-in-Err-Damaged-clause-replayed g c held w s k told journal recorded stands =
+pub returns-in-Err-clause-replayed : goal.returns-in-Err-clause-replayed
+returns-in-Err-clause-replayed g c held w s k told journal recorded stands =
     let room : c.args.index ≤ length w.commands = (let h = slice_get_within w.commands (c.args.index - 1) k recorded in omega arith) in
-    absurd (none_damaged c.in-Err-Damaged.damage ((rw c.in-Err-Damaged.field-0-is at c.in-Err-Damaged.ensures.accepted) held w told journal room))
+    unread s k c.args.index c.args.protocol.now c.in-Err.why (c.in-Err.ensures.readable held w told journal room)
 
-pub returns-in-Ok-redo-clause-replayed : goal.returns-in-Ok-redo-clause-replayed
-returns-in-Ok-redo-clause-replayed g c held w s k told journal recorded stands =
+pub returns-clause-replayed : goal.returns-clause-replayed
+returns-clause-replayed g c held w s k told journal recorded stands =
     let room : c.args.index ≤ length w.commands = (let h = slice_get_within w.commands (c.args.index - 1) k recorded in omega arith) in
-    let same = the_command c.args.journal.now.start c.args.index held c.in-Ok.body w k c.in-Ok-decode.command (c.in-Ok.ensures.accepted held w told journal room) recorded c.in-Ok-decode.ensures.exact in
-    subst (λ (d : Command). IsOutcome s d c.args.index c.redo.new.protocol (Ok tt)) same (c.in-Ok-redo.ensures.redone s stands)
-
-pub returns-in-Err-Unaccepted-clause-replayed : goal.returns-in-Err-Unaccepted-clause-replayed
-returns-in-Err-Unaccepted-clause-replayed g c held w s k told journal recorded stands =
-    let room : c.args.index ≤ length w.commands = (let h = slice_get_within w.commands (c.args.index - 1) k recorded in omega arith) in
-    let same = the_command c.args.journal.now.start c.args.index held c.in-Ok.body w k c.in-Ok-decode.command (c.in-Ok.ensures.accepted held w told journal room) recorded c.in-Ok-decode.ensures.exact in
-    let damage : IsDamageBy s c.in-Ok-decode.command c.args.index (record { index = c.args.index; what = what.Replay c.in-Err-Unaccepted.code }) = (rw c.in-Err-Unaccepted.field-0-is at c.in-Err-Unaccepted.ensures.fault) s stands c.args.index in
-    subst (λ (d : Command). IsDamageBy s d c.args.index (record { index = c.args.index; what = what.Replay c.in-Err-Unaccepted.code })) same damage
+    let same = same_record w.commands (c.args.index - 1) c.in-Ok.command k (c.in-Ok.ensures.command held w told journal room) recorded in
+    subst (λ (d : Command). IsOutcome s d c.args.index c.redo.new.protocol c.redo.result) same (c.redo.ensures.outcome s stands)

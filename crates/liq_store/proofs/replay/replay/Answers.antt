@@ -1,7 +1,7 @@
-use Rattle.std.proofs.Common.{◌≡◌, ◌∙◌, ℕ, ◌+◌, ◌<◌, ap, List, length, Some, Ok, Err, subst, sym, arith}
+use Rattle.std.proofs.Common.{◌∙◌, ◌<◌, ap, length, arith}
 use Rattle.liq_journal.specs.Settled.{JournalOn}
 use Rattle.liq_journal.proofs.Looks.{looked_on}
-use Rattle.liq_store.proofs.Replaying.{Reached, goes_on, stops_there, reached_all, reached_none, journal_still}
+use Rattle.liq_store.proofs.Replaying.{goes_on, stops_there, reached_all, journal_still}
 use Rattle.liq_store.proofs.replay.replay.Goals as goal
 
 pub returns-in-Err-clause-looked : goal.returns-in-Err-clause-looked

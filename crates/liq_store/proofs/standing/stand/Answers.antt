@@ -1,8 +1,7 @@
-use Rattle.std.proofs.Common.{◌≡◌, ◌∙◌, List, ℕ, Option, IfSome, sym, ap, subst}
+use Rattle.std.proofs.Common.{◌∙◌, List, ℕ, Option, IfSome, sym, ap, subst}
 use Rattle.liq_outside.proofs.Moments.{at_last, chained, weaker}
 use Rattle.liq_outside.specs.Disk.{LeftNow}
 use Rattle.liq_journal.specs.declared.answers.OpenWhy.{OpenWhy}
-use Rattle.liq_journal.specs.declared.answers.OpenWhy.TheVariants.{Absent, Damaged}
 use Rattle.liq_journal.specs.Opened.{IsUnshut, IsWhyOf, OpenLeaves}
 use Rattle.liq_journal.specs.Written.{found_on}
 use Rattle.liq_pairs.proofs.Beginning.{still_absent}

@@ -15,5 +15,7 @@ pub returns : goal.returns
 returns c =
     let base_is : app_of c.subcommand_required-base.result ≡ base = search rules in
     let one = c.in_ok-line.ensures ∙ ap (λ (a : App). with_subcommand a (new_app (codes "run")).top) base_is in
-    let two = c.in_ok-line-2.ensures ∙ ap (λ (a : App). with_subcommand a (new_app (codes "state")).top) one in
-    added c.subcommand.result c.in_ok-line-2.line c.in_ok-load.field-0 _ load c.subcommand.ensures c.in_ok-load.ensures.local two c.in_ok-load.ensures.app
+    let two = c.in_ok-line-2.ensures ∙ ap (λ (a : App). with_subcommand a (new_app (codes "serve")).top) one in
+    let three = c.in_ok-line-3.ensures ∙ ap (λ (a : App). with_subcommand a (new_app (codes "state")).top) two in
+    let four = c.in_ok-line-4.ensures ∙ ap (λ (a : App). with_subcommand a (new_app (codes "audit")).top) three in
+    added c.subcommand.result c.in_ok-line-4.line c.in_ok-load.field-0 _ load c.subcommand.ensures c.in_ok-load.ensures.local four c.in_ok-load.ensures.app

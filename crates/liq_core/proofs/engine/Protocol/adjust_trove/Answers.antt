@@ -55,9 +55,9 @@ place_trove-requires-clause-debt g c = let may = adjusts_so c.self.inside c.args
 pub invariant_of-self : goal.invariant_of-self
 invariant_of-self g c =
     adjust_sound c.self.inside c.args.self.now c.self.view_is c.self.invariant c.args.account c.requires.range c.args.change.now c.args.plan.now c.requires.terms c.requires.allowed
-    c.exchange.new.wallets c.place_trove.new.pools c.lift_trove.new.pools c.place_trove.new.troves c.lift_trove.new.troves c.place_trove.new.order c.exchange.ensures.rows c.lift_trove.ensures.books c.place_trove.ensures.books c.lift_trove.ensures.others c.place_trove.ensures.others c.place_trove.ensures.list
+    c.exchange.new.self c.place_trove.new.pools c.lift_trove.new.pools c.place_trove.new.troves c.lift_trove.new.troves c.place_trove.new.order c.exchange.ensures.rows c.lift_trove.ensures.books c.place_trove.ensures.books c.lift_trove.ensures.others c.place_trove.ensures.others c.place_trove.ensures.list
 
 pub returns : goal.returns
 returns g c =
     adjust_changes c.self.inside c.args.self.now c.self.view_is c.self.invariant c.args.account c.requires.range c.args.change.now c.args.plan.now c.requires.terms c.requires.allowed
-    c.exchange.new.wallets c.place_trove.new.pools c.lift_trove.new.pools c.place_trove.new.troves c.lift_trove.new.troves c.place_trove.new.order c.exchange.ensures.rows c.lift_trove.ensures.books c.place_trove.ensures.books c.lift_trove.ensures.others c.place_trove.ensures.others
+    c.exchange.new.self c.place_trove.new.pools c.lift_trove.new.pools c.place_trove.new.troves c.lift_trove.new.troves c.place_trove.new.order c.exchange.ensures.rows c.lift_trove.ensures.books c.place_trove.ensures.books c.lift_trove.ensures.others c.place_trove.ensures.others

@@ -31,9 +31,9 @@ lift_trove-requires-clause-debt c = debt_held c.self.inside c.self.invariant
 pub invariant_of-self : goal.invariant_of-self
 invariant_of-self c =
     close_sound c.self.inside c.args.self.now c.self.view_is c.self.invariant c.args.account c.requires.range c.args.repaid c.args.coll c.requires.terms c.requires.allowed
-    c.exchange.new.wallets c.lift_trove.new.pools c.lift_trove.new.troves c.lift_trove.new.order c.exchange.ensures.rows c.lift_trove.ensures.books c.lift_trove.ensures.others c.lift_trove.ensures.list
+    c.exchange.new.self c.lift_trove.new.pools c.lift_trove.new.troves c.lift_trove.new.order c.exchange.ensures.rows c.lift_trove.ensures.books c.lift_trove.ensures.others c.lift_trove.ensures.list
 
 pub returns : goal.returns
 returns c =
     close_changes c.self.inside c.args.self.now c.self.view_is c.self.invariant c.args.account c.requires.range c.args.repaid c.args.coll c.requires.terms c.requires.allowed
-    c.exchange.new.wallets c.lift_trove.new.pools c.lift_trove.new.troves c.lift_trove.new.order c.exchange.ensures.rows c.lift_trove.ensures.books c.lift_trove.ensures.others
+    c.exchange.new.self c.lift_trove.new.pools c.lift_trove.new.troves c.lift_trove.new.order c.exchange.ensures.rows c.lift_trove.ensures.books c.lift_trove.ensures.others

@@ -52,9 +52,9 @@ place_trove-requires-clause-debt g c =
 pub invariant_of-self : goal.invariant_of-self
 invariant_of-self g c =
     open_sound c.self.inside c.args.self.now c.self.view_is c.self.invariant c.args.account c.args.borrow c.args.plan.now c.requires.range c.requires.terms c.requires.allowed
-    c.exchange.new.wallets c.place_trove.new.pools c.place_trove.new.troves c.place_trove.new.order c.exchange.ensures.rows c.place_trove.ensures.books c.place_trove.ensures.others c.place_trove.ensures.list
+    c.exchange.new.self c.place_trove.new.pools c.place_trove.new.troves c.place_trove.new.order c.exchange.ensures.rows c.place_trove.ensures.books c.place_trove.ensures.others c.place_trove.ensures.list
 
 pub returns : goal.returns
 returns g c =
     open_changes c.self.inside c.args.self.now c.self.view_is c.self.invariant c.args.account c.args.borrow c.args.plan.now c.requires.range c.requires.terms c.requires.allowed
-    c.exchange.new.wallets c.place_trove.new.pools c.place_trove.new.troves c.place_trove.new.order c.exchange.ensures.rows c.place_trove.ensures.books c.place_trove.ensures.others
+    c.exchange.new.self c.place_trove.new.pools c.place_trove.new.troves c.place_trove.new.order c.exchange.ensures.rows c.place_trove.ensures.books c.place_trove.ensures.others

@@ -1,5 +1,4 @@
-use Rattle.std.proofs.Common.{◌≡◌, Err, Result, ap, sym, subst, refl}
-use Rattle.liq_types.specs.declared.replies.Reply.{Reply}
+use Rattle.std.proofs.Common.{Err, Result, ap, sym, subst, refl}
 use Rattle.liq_serve.specs.declared.halts.Halt.{Halt}
 use Rattle.liq_serve.specs.declared.halts.Halt.TheVariants.{ReadFault, WriteFault, DiskFault}
 use Rattle.liq_serve.specs.Causes.{WriteCause}

@@ -54,4 +54,4 @@ pub returns-in-Err-clause-run : goal.returns-in-Err-clause-run
 returns-in-Err-clause-run g c start stands bytes told =
     let a = answered_on start bytes c.loop-answered.answered _ _ _ c.flush.new.waiting.items (g.K.Sink.held c.args.out.now) _ (g.K.Sink.held c.flush.new.out) (c.loop-answered.invariant.answered start stands bytes told) c.in_ok-flush.ensures.written in
     let failed = c.in-Err.ensures.failed in
-    reading_fails start _ bytes c.next_byte.new.self c.loop-answered.answered _ _ (g.S.Source.left c.next_byte.new.input) _ _ _ (omega (arith, c.loop-answered.auto.answered-end)) ([], tt, failed.0, failed.1) a
+    reading_fails start _ bytes c.next_byte.new.self c.loop-answered.answered _ _ (g.S.Source.left c.next_byte.new.input) _ _ _ (omega (arith, c.loop-answered.auto.answered-end)) ([], tt, failed.0, failed.1, omega arith) (λ e. refl) a

@@ -1,7 +1,7 @@
 use Rattle.std.proofs.Common.{◌≡◌, ℕ, List, Some, None}
 use Rattle.liq_types.specs.State.{State}
 use Rattle.liq_core.specs.Core.{StandsFor}
-use Rattle.liq_serve.specs.Causes.{counts_of}
+use Rattle.liq_store.specs.Causes.{counts_of}
 use Rattle.liq_serve.specs.Progress.{Answered}
 use Rattle.liq_lines.specs.Reading.{unread}
 use Rattle.liq_serve.proofs.run.Run.answer_lines.Given as goal

@@ -1,4 +1,4 @@
-use Rattle.std.proofs.Common.{◌≡◌, ◌∙◌, ℕ, Some, None, sym, ap, subst}
+use Rattle.std.proofs.Common.{Some}
 use Rattle.liq_store.proofs.Appending.{some_isnt_none}
 use Rattle.liq_store.proofs.Looking.{all_read, halted_looked, order_looked, within_looked}
 use Rattle.liq_store.proofs.store.Store.accepted.Goals as goal

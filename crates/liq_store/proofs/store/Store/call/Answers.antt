@@ -1,5 +1,4 @@
-use Rattle.std.proofs.Common.{◌≡◌, ◌∙◌, ℕ, Option, Some, None, sym, ap, subst, arith}
-use Rattle.liq_types.specs.declared.requests.Request.TheVariants.{Do}
+use Rattle.std.proofs.Common.{◌∙◌, ℕ, Option, Some, sym, ap, subst, arith}
 use Rattle.liq_store.specs.Within.{stored}
 use Rattle.liq_types.specs.Image.{Image}
 use Rattle.liq_core.specs.Core.{state_of}
@@ -19,17 +18,27 @@ returns-in-Ask-clause-kept g c none l r s tl tr stands =
 pub invariant_of-self : goal.invariant_of-self
 invariant_of-self g c = within_same g.D.Disk.seen g.D.Disk.moment g.D.Disk.left_at c.self.inside.side c.self.inside.taken c.self.inside.beside c.self.inside.protocol c.prepare.new.protocol c.self.inside.stopped c.prepare.ensures.same c.self.invariant
 
+pub invariant_of-self-in-No : goal.invariant_of-self-in-No
+invariant_of-self-in-No g c = within_same g.D.Disk.seen g.D.Disk.moment g.D.Disk.left_at c.self.inside.side c.self.inside.taken c.self.inside.beside c.self.inside.protocol c.prepare.new.protocol c.self.inside.stopped c.prepare.ensures.same c.self.invariant
+
 pub invariant_of-self-in-NoMemory : goal.invariant_of-self-in-NoMemory
 invariant_of-self-in-NoMemory g c = within_same g.D.Disk.seen g.D.Disk.moment g.D.Disk.left_at c.self.inside.side c.self.inside.taken c.self.inside.beside c.self.inside.protocol c.prepare.new.protocol c.self.inside.stopped c.prepare.ensures.same c.self.invariant
 
-pub returns-in-Replied-clause-order : goal.returns-in-Replied-clause-order
-returns-in-Replied-clause-order g c = order_same g.D.Disk.seen g.D.Disk.moment g.D.Disk.left_at c.self.inside.side c.self.inside.taken c.self.inside.beside c.self.inside.protocol c.prepare.new.protocol c.self.inside.stopped c.prepare.ensures.same c.self.invariant.order
+pub returns-in-Again-clause-order : goal.returns-in-Again-clause-order
+returns-in-Again-clause-order g c = order_same g.D.Disk.seen g.D.Disk.moment g.D.Disk.left_at c.self.inside.side c.self.inside.taken c.self.inside.beside c.self.inside.protocol c.prepare.new.protocol c.self.inside.stopped c.prepare.ensures.same c.self.invariant.order
+
+pub returns-in-No-clause-order : goal.returns-in-No-clause-order
+returns-in-No-clause-order g c = order_same g.D.Disk.seen g.D.Disk.moment g.D.Disk.left_at c.self.inside.side c.self.inside.taken c.self.inside.beside c.self.inside.protocol c.prepare.new.protocol c.self.inside.stopped c.prepare.ensures.same c.self.invariant.order
 
 pub returns-in-NoMemory-clause-order : goal.returns-in-NoMemory-clause-order
 returns-in-NoMemory-clause-order g c = order_same g.D.Disk.seen g.D.Disk.moment g.D.Disk.left_at c.self.inside.side c.self.inside.taken c.self.inside.beside c.self.inside.protocol c.prepare.new.protocol c.self.inside.stopped c.prepare.ensures.same c.self.invariant.order
 
-pub returns-in-Replied-clause-kept : goal.returns-in-Replied-clause-kept
-returns-in-Replied-clause-kept g c none l r s tl tr stands =
+pub returns-in-Again-clause-kept : goal.returns-in-Again-clause-kept
+returns-in-Again-clause-kept g c none l r s tl tr stands =
+    unchanged_pairs g.D.Disk.seen g.D.Disk.moment g.D.Disk.left_at c.args.self.now (stored c.self.inside.side c.self.inside.taken c.self.inside.beside c.self.inside.protocol c.self.inside.stopped) c.self.view_is c.self.invariant.order none l r s tl tr stands c.args.request.now
+
+pub returns-in-No-clause-kept : goal.returns-in-No-clause-kept
+returns-in-No-clause-kept g c none l r s tl tr stands =
     unchanged_pairs g.D.Disk.seen g.D.Disk.moment g.D.Disk.left_at c.args.self.now (stored c.self.inside.side c.self.inside.taken c.self.inside.beside c.self.inside.protocol c.self.inside.stopped) c.self.view_is c.self.invariant.order none l r s tl tr stands c.args.request.now
 
 pub returns-in-NoMemory-clause-kept : goal.returns-in-NoMemory-clause-kept
@@ -99,8 +108,12 @@ returns-clause-order g c =
     let a = appends g.D.Disk.seen g.D.Disk.moment g.D.Disk.left_at c.self.inside.side c.self.inside.taken c.append.new.self c.self.inside.beside c.self.inside.protocol c.self.inside.stopped c.in-Do.command c.encode.result c.in-Ready.planned c.in_default.is c.self.invariant (rw c.in-Do.is at c.requires.built) c.encode.ensures.read c.in-Ready.ensures.prepared c.append.ensures.telling c.append.ensures.crash in
     subst (λ (o : Option ℕ). IsInOrder g.D.Disk.seen g.D.Disk.moment g.D.Disk.left_at (stored c.self.inside.side c.append.new.self c.self.inside.beside c.make-done.new.protocol o)) (sym c.in_default.is) (order_going g.D.Disk.seen g.D.Disk.moment g.D.Disk.left_at c.self.inside.side c.append.new.self c.self.inside.beside c.make-done.new.protocol (went_on g.D.Disk.seen g.D.Disk.moment g.D.Disk.left_at c.self.inside.side c.self.inside.taken c.append.new.self c.self.inside.beside c.self.inside.protocol c.in-Do.command c.encode.result a c.make-done.new.protocol (state_of c.self.inside.protocol) c.prepare.ensures.stands (λ t so. let is = c.in-Ready.ensures.prepared t so in stepped c.make-done.new.protocol t c.in-Do.command c.in-Ready.planned is (c.make-done.ensures.state t (stands_after c.self.inside.protocol c.prepare.new.protocol t c.prepare.ensures.same so))) c.in-Ok.ensures.durable c.in-Ok.ensures.appended))
 
-pub returns-in-Replied-clause-written : goal.returns-in-Replied-clause-written
-returns-in-Replied-clause-written g c none held w k told found is =
+pub returns-in-Again-clause-written : goal.returns-in-Again-clause-written
+returns-in-Again-clause-written g c none held w k told found is =
+    written_never g.D.Disk.seen g.D.Disk.moment g.D.Disk.left_at c.self.inside.side c.self.inside.taken c.self.inside.beside c.self.inside.protocol c.prepare.new.protocol c.self.inside.stopped c.self.invariant c.args.self.now c.self.view_is none held w (read_back k) told found
+
+pub returns-in-No-clause-written : goal.returns-in-No-clause-written
+returns-in-No-clause-written g c none held w k told found is =
     written_never g.D.Disk.seen g.D.Disk.moment g.D.Disk.left_at c.self.inside.side c.self.inside.taken c.self.inside.beside c.self.inside.protocol c.prepare.new.protocol c.self.inside.stopped c.self.invariant c.args.self.now c.self.view_is none held w (read_back k) told found
 
 pub returns-in-NoMemory-clause-written : goal.returns-in-NoMemory-clause-written

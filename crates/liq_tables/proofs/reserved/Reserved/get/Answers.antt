@@ -1,6 +1,8 @@
 use Rattle.std.proofs.Common.{subst, ap, sym, ◌∙◌, cond, Some, None}
 use Rattle.std.specs.Option.{option_copied}
 use Rattle.liq_types.specs.Tables.{at}
+use Rattle.liq_types.specs.WellFormed.{Ascends}
+use Rattle.liq_types.proofs.UsedRows.{rows-ascends}
 use Rattle.liq_tables.specs.WithRoom.{WithRoom, HasRoom}
 use Rattle.liq_tables.proofs.Room.{read, some, room_from_row}
 use Rattle.liq_tables.proofs.reserved.Reserved.get.Goals as goal
@@ -28,3 +30,15 @@ returns-then-is_used-clause-room g c =
     subst (λ (t : WithRoom g.row.X.Denot). HasRoom t c.args.key) c.self.view_is
     (room_from_row c.self.inside.map.entries c.args.key
     (some (at c.self.inside.map.entries c.args.key) c.in_ok-row.row.now (sym c.in_ok-row.ensures.value)))
+
+pub returns-in_err-row-clause-ascend : goal.returns-in_err-row-clause-ascend
+returns-in_err-row-clause-ascend g c =
+    subst (λ (t : WithRoom g.row.X.Denot). Ascends t.rows) c.self.view_is (rows-ascends g.X.Row.used c.self.inside.map.entries c.self.invariant)
+
+pub returns-then-is_used-clause-ascend : goal.returns-then-is_used-clause-ascend
+returns-then-is_used-clause-ascend g c =
+    subst (λ (t : WithRoom g.row.X.Denot). Ascends t.rows) c.self.view_is (rows-ascends g.X.Row.used c.self.inside.map.entries c.self.invariant)
+
+pub returns-else-is_used-clause-ascend : goal.returns-else-is_used-clause-ascend
+returns-else-is_used-clause-ascend g c =
+    subst (λ (t : WithRoom g.row.X.Denot). Ascends t.rows) c.self.view_is (rows-ascends g.X.Row.used c.self.inside.map.entries c.self.invariant)

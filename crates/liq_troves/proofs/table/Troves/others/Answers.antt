@@ -2,17 +2,14 @@ use Rattle.std.proofs.Common.{◌≡◌, ◌+◌, Some, sym, ap, arith, length}
 use Rattle.liq_types.specs.declared.figures.Trove.{Trove}
 use Rattle.liq_types.specs.Tables.{at, without}
 use Rattle.liq_troves.specs.Rows.{stakes_in}
-use Rattle.liq_troves.proofs.Added.{sum_taken}
-use Rattle.liq_troves.proofs.Kept.{sum_none, count_none, count_taken}
+use Rattle.liq_troves.proofs.Kept.{sum_none, count_none, count_taken, stakes_taken}
 use Rattle.liq_troves.proofs.table.Troves.others.Goals as goal
 
 there : (c : goal.In-Some) → at c.self.inside.table.rows c.args.account ≡ Some c.in-Some.trove.now
 there c = sym c.in-Some.ensures.row
 
 stakes : (c : goal.In-Some) → stakes_in (without c.self.inside.table.rows c.args.account) + c.in-Some.trove.now.stake ≡ c.self.inside.sums.stakes
-stakes c =
-    let law = sum_taken (λ (t : Trove). t.stake) c.self.inside.table.rows c.args.account c.in-Some.trove.now (there c) in
-    omega (arith, law, c.self.invariant.stakes)
+stakes c = stakes_taken c.self.inside.table.rows c.self.inside.sums c.self.inside.count c.args.account c.in-Some.trove.now c.self.invariant (there c)
 
 pub overflow_sub-result-in-Some : goal.overflow_sub-result-in-Some
 overflow_sub-result-in-Some c = omega (arith, stakes c)

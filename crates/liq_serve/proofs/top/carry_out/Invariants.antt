@@ -1,4 +1,4 @@
-use Rattle.liq_serve.proofs.top.without_threads.Given as goal
+use Rattle.liq_serve.proofs.top.carry_out.Given as goal
 
 abbrev pub ghosts-tell_on : goal.ghosts-tell_on
 ghosts-tell_on g a = record { name = a.blank.name; parts = a.blank.parts }

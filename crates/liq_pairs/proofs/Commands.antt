@@ -1,0 +1,69 @@
+-- The commands of two disks, and the state to which they lead.
+use Rattle.std.proofs.Common.{◌≡◌, ℕ, List, [], Result, Ok, Err, Bool, true, false, nat_lt, refl, ◌∙◌, ap, if◌then◌else◌}
+use Rattle.liq_types.specs.declared.requests.Command.{Command}
+use Rattle.liq_types.specs.State.{State, opening}
+use Rattle.liq_journal.specs.declared.damage.Damage.{Damage}
+use Rattle.liq_journal.specs.Written.{Found, Absent, Damaged, Open, Written, found_on}
+use Rattle.liq_pairs.specs.declared.side.Side.{Side}
+use Rattle.liq_pairs.specs.Pair.{Nothing, commands_on, pair_commands, pair_state, standing, standing_after, standing_of, state_on}
+use Rattle.liq_pairs.specs.Replay.{outcome, replay}
+use Rattle.liq_pairs.proofs.Replaying.{replay_none}
+use Rattle.liq_pairs.proofs.Standings.{pair_ends}
+
+-- ---- what is found decides them
+
+pub commands_alike : (l r a b : List ℕ) → found_on true a ≡ found_on true l → found_on false b ≡ found_on false r → commands_on a b ≡ commands_on l r
+unfolding commands_on
+commands_alike l r a b left right = λ i. pair_commands (left i) (right i)
+
+pub commands_by : (l r : List ℕ) (left right : Found) → found_on true l ≡ left → found_on false r ≡ right → commands_on l r ≡ pair_commands left right
+unfolding commands_on
+commands_by l r left right is_left is_right = λ i. pair_commands (is_left i) (is_right i)
+
+-- ---- they lead to the state
+
+abbrev ends_in : State → Result State Damage
+ends_in s = Ok s
+
+same_end : (s t : State) → pair_ends s ≡ Ok t → ends_in s ≡ Ok t
+same_end s t is = let same : s ≡ t = cc (is) in ap ends_in same
+
+-- one open disk, beside which none is
+alone_left : (generation : ℕ) (r : Result State Damage) (s : State) → pair_state (standing_after generation r) Nothing ≡ Ok s → r ≡ Ok s
+alone_left generation (Ok t) s is = same_end t s is
+alone_left generation (Err damage) s is = absurd (cc (is))
+
+alone_right : (generation : ℕ) (r : Result State Damage) (s : State) → pair_state Nothing (standing_after generation r) ≡ Ok s → r ≡ Ok s
+alone_right generation (Ok t) s is = same_end t s is
+alone_right generation (Err damage) s is = absurd (cc (is))
+
+-- two open disks
+abbrev chosen : Bool → State → State → Result State (Side × Damage)
+chosen b s t = Ok (if b then t else s)
+
+of_two : (b : Bool) (earlier later : List Command) (s t end : State) → replay 1 opening earlier ≡ Ok s → replay 1 opening later ≡ Ok t → chosen b s t ≡ Ok end → replay 1 opening (if b then later else earlier) ≡ Ok end
+of_two true earlier later s t end came came_later is = came_later ∙ same_end t end is
+of_two false earlier later s t end came came_later is = came ∙ same_end s end is
+
+both : (w later : Written) (r t : Result State Damage) (end : State) → outcome w ≡ r → outcome later ≡ t → pair_state (standing_after w.generation r) (standing_after later.generation t) ≡ Ok end
+    → replay 1 opening (pair_commands (Open w) (Open later)) ≡ Ok end
+both w later (Ok s) (Ok t) end came came_later is = of_two (nat_lt w.generation later.generation) w.commands later.commands s t end came came_later is
+both w later (Ok s) (Err damage) end came came_later is = absurd (cc (is))
+both w later (Err damage) t end came came_later is = absurd (cc (is))
+
+found_lead : (left right : Found) (s : State) → pair_state (standing_of left) (standing_of right) ≡ Ok s → replay 1 opening (pair_commands left right) ≡ Ok s
+found_lead (Damaged damage) right s is = absurd (cc (is))
+found_lead Absent (Damaged damage) s is = absurd (cc (is))
+found_lead Absent Absent s is = replay_none 1 opening ∙ same_end opening s is
+found_lead Absent (Open w) s is = alone_right w.generation (outcome w) s is
+found_lead (Open w) Absent s is = alone_left w.generation (outcome w) s is
+found_lead (Open w) (Damaged damage) s is = damaged_beside w.generation (outcome w) is
+  where
+    damaged_beside : (generation : ℕ) (r : Result State Damage) → pair_state (standing_after generation r) (standing_of (Damaged damage)) ≡ Ok s → replay 1 opening [] ≡ Ok s
+    damaged_beside generation (Ok t) is = absurd (cc (is))
+    damaged_beside generation (Err first) is = absurd (cc (is))
+found_lead (Open w) (Open later) s is = both w later (outcome w) (outcome later) s refl refl is
+
+pub commands_lead : (l r : List ℕ) (s : State) → state_on l r ≡ Ok s → replay 1 opening (commands_on l r) ≡ Ok s
+unfolding state_on standing commands_on
+commands_lead l r s is = found_lead (found_on true l) (found_on false r) s is

@@ -1,0 +1,50 @@
+use Rattle.liq_core.specs.History.{requests_of}
+use Rattle.liq_outside.specs.Faults.{Rose}
+use Rattle.liq_serve.specs.Serve.{end_of}
+use Rattle.liq_serve.proofs.Causes.{write_no_fewer}
+use Rattle.liq_serve.proofs.EndingLines.{rose_earlier, rose_later}
+use Rattle.liq_serve.proofs.Served.{disk_cause, is_done, sink_cause, source_cause, told_served, unread_so}
+use Rattle.liq_serve.proofs.Turning.{all_shares}
+use Rattle.liq_serve.proofs.serve.serve_on.Goals as goal
+
+pub returns-clause-served : goal.returns-clause-served
+returns-clause-served g c =
+    let faults = g.K.Sink.faults in
+    let held = g.K.Sink.held in
+    let ran = c.serve_input-left in
+    let how = ran.result.finish in
+    let is = c.end_of-end.ensures in
+    let served = ran.ensures.served in
+    let start = c.args.out.now in
+    let middle = ran.new.out in
+    let after = c.tell_last.new.out in
+    let fewer = write_no_fewer (end_of how) (faults start) (faults middle) (sink_cause how (faults start) (faults middle) ran.ensures.sink) in
+    record {
+      finish = how;
+      end_is = is;
+      asked = served.asked;
+      history = served.history;
+      answered = served.answered;
+      written = rw is (told_served held served.history (Rose (faults middle) (faults after)) (Rose (faults start) (faults after)) (rose_later (faults start) (faults middle) (faults after) fewer) start middle after how served.written
+          (rw is at c.tell_last.ensures.last) (rw is at c.tell_last.ensures.same));
+      shares = λ l r s told_l told_r stands. all_shares s (requests_of served.history);
+    }
+
+pub returns-clause-unread : goal.returns-clause-unread
+returns-clause-unread g c is =
+    let ran = c.serve_input-left in
+    unread_so ran.result.finish _ (λ stop so. ran.ensures.unread stop so) (rw c.end_of-end.ensures at is)
+
+pub returns-clause-source : goal.returns-clause-source
+returns-clause-source g c = rw c.end_of-end.ensures (source_cause c.serve_input-left.result.finish _ _ c.serve_input-left.ensures.source)
+
+pub returns-clause-sink : goal.returns-clause-sink
+returns-clause-sink g c =
+    c.tell_last.ensures.sink (g.K.Sink.faults c.args.out.now) (rw c.end_of-end.ensures (sink_cause c.serve_input-left.result.finish _ _ c.serve_input-left.ensures.sink))
+
+pub returns-clause-disks : goal.returns-clause-disks
+returns-clause-disks g c = rw c.end_of-end.ensures (disk_cause c.serve_input-left.result.finish _ _ c.serve_input-left.ensures.disks)
+
+pub returns-clause-complete : goal.returns-clause-complete
+returns-clause-complete g c bytes l r told told_l told_r start is asked all few source sink disk =
+    rw c.end_of-end.ensures (is_done c.serve_input-left.result.finish (c.serve_input-left.ensures.complete bytes l r told told_l told_r start is asked all few source (λ rose. sink (rose_earlier _ _ _ c.tell_last.ensures.count rose)) disk))

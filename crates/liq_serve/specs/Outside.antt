@@ -1,0 +1,45 @@
+-- What the outside is at a moment: the source, the sink and the two disks.
+use Rattle.std.specs.Prelude.{ℕ, ◌≡◌, List, Option}
+use Rattle.liq_outside.specs.Faults.{Rose}
+use Rattle.liq_store.specs.Causes.{Faults, OneRose, counts_of}
+
+pub record Outside (S D : Type 0) : Type 0 where
+  -- the source, what it has left, where it tells that, and its count of faults
+  pub source : S
+  pub unread : Option (List ℕ)
+  pub source_faults : ℕ
+  -- what the sink holds, where it tells that, and its count
+  pub held : Option (List ℕ)
+  pub sink_faults : ℕ
+  -- the disks, and their counts
+  pub left : D
+  pub right : D
+  pub disk_faults : Faults
+
+abbrev pub outside : {S K D : Type 0} → (S → Option (List ℕ)) → (S → ℕ) → (K → Option (List ℕ)) → (K → ℕ) → (D → ℕ) → S → K → D → D → Outside S D
+outside unread source_faults held sink_faults disk_faults source sink left right = record {
+  source = source;
+  unread = unread source;
+  source_faults = source_faults source;
+  held = held sink;
+  sink_faults = sink_faults sink;
+  left = left;
+  right = right;
+  disk_faults = counts_of disk_faults left right;
+}
+
+module _ {S D : Type 0} (before after : Outside S D) where
+  abbrev pub SourceRose : Type 0
+  SourceRose = Rose before.source_faults after.source_faults
+
+  abbrev pub SinkRose : Type 0
+  SinkRose = Rose before.sink_faults after.sink_faults
+
+  abbrev pub DiskRose : Type 0
+  DiskRose = OneRose before.disk_faults after.disk_faults
+
+  -- nothing was read, and the disks are as they were
+  pub record IsUntouched : Type 0 where
+    pub source : after.source ≡ before.source
+    pub left : after.left ≡ before.left
+    pub right : after.right ≡ before.right

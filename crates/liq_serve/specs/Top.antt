@@ -1,0 +1,135 @@
+-- What the top call leaves, word by word, and which counts rise.
+use Rattle.std.specs.Prelude.{ℕ, ◌≡◌, ◌≢◌, ◌≤◌, ◌⊎◌, ◌↔◌, ◌∷◌, [], Contains, List, length, Option, Some, None, Result, Ok, Err}
+use Rattle.liq_types.specs.declared.amounts.TheConstants.{LINES_MOST}
+use Rattle.liq_types.specs.declared.requests.Request.{Request}
+use Rattle.liq_types.specs.State.{State, opening}
+use Rattle.liq_core.specs.Events.{events}
+use Rattle.liq_journal.specs.declared.damage.Damage.{Damage}
+use Rattle.liq_lines.specs.Lines.{lines_in}
+use Rattle.liq_pairs.specs.declared.side.Side.{Side}
+use Rattle.liq_pairs.specs.Pair.{commands_on, state_on}
+use Rattle.liq_review.specs.Limits.{number_above}
+use Rattle.liq_review.specs.Reviewed.{reviewed}
+use Rattle.liq_scripts.specs.Asked.{AreAsked}
+use Rattle.liq_words.specs.declared.words.Word.{Word}
+use Rattle.liq_words.specs.declared.words.Word.TheVariants as word
+use Rattle.liq_words.specs.Words.{Ask}
+use Rattle.liq_serve.specs.declared.halts.Halt.{Halt}
+use Rattle.liq_serve.specs.Audit.{AuditHolds}
+use Rattle.liq_serve.specs.Disks.{DisksHold, EndsDamaged}
+use Rattle.liq_serve.specs.Load.{Tells, load, summary}
+use Rattle.liq_serve.specs.Output.{last, usage}
+use Rattle.liq_serve.specs.Outside.{Outside, DiskRose, IsUntouched, SinkRose, SourceRose}
+use Rattle.liq_serve.specs.Requests.{AreRequests}
+use Rattle.liq_serve.specs.Serve.{ServesTo}
+use Rattle.liq_serve.specs.State.{standing}
+use Rattle.liq_serve.specs.Statuses.{IsDone, status_of}
+use Rattle.liq_serve.specs.Stops.{Adds, EndsIn}
+use Rattle.liq_serve.specs.Telling.{TellsText}
+
+module _ {S D : Type 0} (seen : D → Option (List ℕ)) (before after : Outside S D) (status : ℕ) where
+  -- the bytes that both disks tell
+  abbrev pub AreOnDisks : List ℕ → List ℕ → Type 0
+  AreOnDisks l r = (seen before.left ≡ Some l) × (seen before.right ≡ Some r)
+
+  -- over disks with this first damage a last line alone is written
+  abbrev pub EndsOverDamage : Side → Damage → List ℕ → List ℕ → Type 0
+  EndsOverDamage side damage l r =
+      (halt : Halt) × (status ≡ status_of (Err halt))
+      × EndsDamaged seen side damage l r (Err halt) after.left after.right
+      × Adds [] (last halt) (SinkRose before after) before.held after.held
+
+  -- `run`: wherever the source and the disks tell their bytes
+  pub record Runs : Type 0 where
+    -- From the state for which the disks stand it ends in one of its ways, which says what came in, what went out, and what the
+    -- disks hold.
+    pub ends :
+        (bytes l r : List ℕ) → before.unread ≡ Some bytes → AreOnDisks l r → (start : State) → state_on l r ≡ Ok start
+        → (end : Result (Unit {0}) Halt) × (status ≡ status_of end)
+        × EndsIn last start end bytes after.unread (SinkRose before after) before.held after.held (DisksHold seen end bytes l r start after.left after.right)
+    -- over damaged disks nothing is read
+    pub damaged :
+        (l r : List ℕ) → AreOnDisks l r → (side : Side) (damage : Damage) → state_on l r ≡ Err (side, damage)
+        → (after.source ≡ before.source) × EndsOverDamage side damage l r
+    -- where nothing is wrong with lines, streams and disks, all is answered
+    pub complete :
+        (bytes l r : List ℕ) → before.unread ≡ Some bytes → AreOnDisks l r → (start : State) → state_on l r ≡ Ok start
+        → (requests : List Request) → AreRequests (lines_in bytes) requests → length requests ≤ LINES_MOST
+        → (SourceRose before after → ⊥) → (SinkRose before after → ⊥) → (DiskRose before after → ⊥) → IsDone status
+
+  -- `serve`: each session's lines are answered in order, all sessions' at once
+  pub record Serves : Type 0 where
+    -- one history holds what was answered, and says what came in, what went out, and what the disks hold
+    pub ends :
+        (end : Result (Unit {0}) Halt) × (status ≡ status_of end)
+        × ServesTo seen before.unread after.unread before.left before.right end after.left after.right (SinkRose before after) before.held after.held
+    -- where the input was not read to its end the disks are as they were
+    pub unread : (status ≡ 2) ⊎ (status ≡ 3) ⊎ (status ≡ 8) → (after.left ≡ before.left) × (after.right ≡ before.right)
+    pub complete :
+        (bytes l r : List ℕ) → before.unread ≡ Some bytes → AreOnDisks l r → (start : State) → state_on l r ≡ Ok start
+        → (asked : List (ℕ × Request)) → AreAsked (lines_in bytes) asked → length asked ≤ LINES_MOST
+        → (SourceRose before after → ⊥) → (SinkRose before after → ⊥) → (DiskRose before after → ⊥) → IsDone status
+
+  -- `state`: nothing is read
+  pub record States : Type 0 where
+    pub reads : after.source ≡ before.source
+    -- of the state for which the disks stand it is told what stands, and they stand for it then
+    pub ends :
+        (l r : List ℕ) → AreOnDisks l r → (start : State) → state_on l r ≡ Ok start
+        → (end : Result (Unit {0}) Halt) × (status ≡ status_of end)
+        × TellsText (Ok (standing start)) end (SinkRose before after) before.held after.held
+        × DisksHold seen end [] l r start after.left after.right []
+    pub damaged : (l r : List ℕ) → AreOnDisks l r → (side : Side) (damage : Damage) → state_on l r ≡ Err (side, damage) → EndsOverDamage side damage l r
+    pub complete :
+        (l r : List ℕ) → AreOnDisks l r → (start : State) → state_on l r ≡ Ok start → (SinkRose before after → ⊥) → (DiskRose before after → ⊥) → IsDone status
+
+  -- `audit`: nothing is read
+  pub record Audits : Type 0 where
+    pub reads : after.source ≡ before.source
+    -- Of the commands that lead to that state the review is told, and the disks stand for it then. At 0 each row of the review
+    -- encloses the exact share of its account, and what the protocol gives it in that state is within the row.
+    pub ends :
+        (l r : List ℕ) → AreOnDisks l r → (start : State) → state_on l r ≡ Ok start
+        → (end : Result (Unit {0}) Halt) × (status ≡ status_of end)
+        × TellsText (reviewed (commands_on l r)) end (SinkRose before after) before.held after.held
+        × AuditHolds end start (commands_on l r)
+        × DisksHold seen end [] l r start after.left after.right []
+    pub damaged : (l r : List ℕ) → AreOnDisks l r → (side : Side) (damage : Damage) → state_on l r ≡ Err (side, damage) → EndsOverDamage side damage l r
+    pub complete :
+        (l r : List ℕ) → AreOnDisks l r → (start : State) → state_on l r ≡ Ok start → number_above (events opening (commands_on l r)) ≡ None
+        → (SinkRose before after → ⊥) → (DiskRose before after → ⊥) → IsDone status
+
+  -- `gen`: nothing is read, and the disks stay
+  pub record Loads (seed count : ℕ) : Type 0 where
+    pub untouched : IsUntouched before after
+    -- the load is told by the rules' steps along its requests from the opening
+    pub ends :
+        (end : Result (Unit {0}) Halt) × (status ≡ status_of end)
+        × Tells (summary (load seed count)) end (SinkRose before after) before.held after.held
+    pub complete : (SinkRose before after → ⊥) → IsDone status
+
+  -- words that ask for nothing
+  pub record Misuses : Type 0 where
+    pub untouched : IsUntouched before after
+    pub written : Adds [] usage (SinkRose before after) before.held after.held
+
+  -- A fault has its cause, and none is passed over.
+  pub record HasCauses : Type 0 where
+    pub known : Contains (0 ∷ 1 ∷ 2 ∷ 3 ∷ 4 ∷ 5 ∷ 6 ∷ 7 ∷ 8 ∷ []) status
+    pub source_fault : status ≡ 3 → SourceRose before after
+    pub source_same : status ≢ 3 → after.source_faults ≡ before.source_faults
+    pub sink_fault : status ≡ 4 → SinkRose before after
+    pub sink_same : status ≡ 0 → after.sink_faults ≡ before.sink_faults
+    pub disk_fault : status ≡ 5 → DiskRose before after
+    pub disk_same : status ≢ 5 → after.disk_faults ≡ before.disk_faults
+
+  -- the clause of the top call, for each list of words
+  pub record Ends (words : List (List ℕ)) : Type 0 where
+    pub understood : (status ≡ 1) ↔ ((word : Word) → Ask words word → ⊥)
+    pub usage : status ≡ 1 → Misuses
+    pub run : Ask words word.Run → Runs
+    pub serve : Ask words word.Serve → Serves
+    pub state : Ask words word.State → States
+    pub audit : Ask words word.Audit → Audits
+    pub gen : (seed count : ℕ) → Ask words (word.Gen seed count) → Loads seed count
+    pub causes : HasCauses

@@ -1,0 +1,69 @@
+//! The word `serve`: what the lines of all sessions ask is answered at once.
+
+ghost use Rattle.std.specs.Prelude.{◌≡◌, ◌≤◌, List, ℕ, Some, Ok, length};
+ghost use Rattle.liq_outside.specs.Faults.{Rose};
+ghost use Rattle.liq_types.specs.declared.amounts.TheConstants.{LINES_MOST};
+ghost use Rattle.liq_types.specs.declared.requests.Request.{Request};
+ghost use Rattle.liq_types.specs.State.{State};
+ghost use Rattle.liq_lines.specs.Lines.{lines_in};
+ghost use Rattle.liq_pairs.specs.Pair.{state_on};
+ghost use Rattle.liq_scripts.specs.Asked.{AreAsked};
+ghost use Rattle.liq_store.specs.Causes.{OneRose, counts_of};
+ghost use Rattle.liq_serve.specs.Causes.{DiskCause, LastCause, ReadCause};
+ghost use Rattle.liq_serve.specs.Serve.{IsUnread, ServesTo, end_of};
+ghost use Rattle.liq_serve.specs.Statuses.{IsDone, status_of};
+
+use crate::ending::{Ending, tell_last};
+use crate::halts::Halt;
+use liq_outside::{Disk, Sink, Source};
+use liq_serving::{Finish, Finished, serve_input};
+use liq_sessions::Gate;
+use std::alloc::Global;
+use std::sync::Wait;
+use std::thread::Threads;
+
+/// Serves the input over two disks, and writes the last line where that stops.
+pub fn serve_on<S: Source, K: Sink, D: Disk + Send, G: Gate + Sync, R: Threads + Wait + Sync>(
+    rt: &R,
+    alloc: Global,
+    gate: &G,
+    input: &mut S,
+    out: &mut K,
+    left: D,
+    right: D,
+) -> Ending<D>
+    ensures served { ServesTo D.seen (S.left input.old) (S.left input.new) left right result.end result.left result.right (Rose (K.faults out.old) (K.faults out.new)) (K.held out.old) (K.held out.new) }
+    // Where the input was not read to its end the disks are as they were.
+    ensures unread { IsUnread result.end → (result.left ≡ left) × (result.right ≡ right) }
+    ensures source { ReadCause result.end (S.faults input.old) (S.faults input.new) }
+    ensures sink { LastCause result.end (K.faults out.old) (K.faults out.new) }
+    ensures disks { DiskCause result.end (counts_of D.faults left right) (counts_of D.faults result.left result.right) }
+    ensures complete { (bytes l r : List ℕ) → S.left input.old ≡ Some bytes → D.seen left ≡ Some l → D.seen right ≡ Some r
+        → (start : State) → state_on l r ≡ Ok start → (asked : List (ℕ × Request)) → AreAsked (lines_in bytes) asked → length asked ≤ LINES_MOST
+        → (Rose (S.faults input.old) (S.faults input.new) → ⊥) → (Rose (K.faults out.old) (K.faults out.new) → ⊥)
+        → (OneRose (counts_of D.faults left right) (counts_of D.faults result.left result.right) → ⊥)
+        → IsDone (status_of result.end) }
+{
+    let Finished {
+        left,
+        right,
+        finish,
+    } = serve_input(rt, alloc, gate, input, out, left, right);
+    let end = end_of(finish);
+    tell_last(out, end);
+    Ending { end, left, right }
+}
+
+/// How the program ends that served an input.
+fn end_of(finish: Finish) -> Result<(), Halt>
+    ensures { result ≡ end_of finish }
+{
+    match finish {
+        Finish::All => Ok(()),
+        Finish::NotRead(stop) => Err(Halt::from(stop)),
+        Finish::NotOpened(why) => Err(Halt::from(why)),
+        Finish::NoMemory => Err(Halt::NoMemory),
+        Finish::DiskFault => Err(Halt::DiskFault),
+        Finish::WriteFault => Err(Halt::WriteFault),
+    }
+}

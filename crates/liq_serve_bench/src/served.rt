@@ -1,0 +1,68 @@
+//! What is served.
+
+use liq_outside::{MemoryDisk, MemorySink, MemorySource};
+use liq_serve::protocol;
+use liq_sessions::OpenGate;
+use std::alloc::{AllocError, Global};
+use std::sync::Wait;
+use std::thread::Threads;
+
+/// How many bytes a read gives at the most.
+const CHUNK: usize = 16_384;
+
+/// What a bench asks.
+#[derive(Clone, Copy)]
+pub enum Asked {
+    /// Payments into a wallet of the session's own.
+    Commands,
+    /// Looks at that wallet.
+    Queries,
+}
+
+/// The lines of the sessions from 1 on, so many each, in turn.
+pub fn lines(alloc: Global, sessions: u8, each: u64, asked: Asked) -> Result<Vec<u8>, AllocError> {
+    let mut input = Vec::new(alloc);
+    for before in 0..each {
+        for session in 0..sessions {
+            let line = line(alloc, session, before, asked)?;
+            input.extend_from_slice(line.as_bytes())?;
+        }
+    }
+    Ok(input)
+}
+
+/// The line of a session at a place, both counted from 0.
+fn line(alloc: Global, session: u8, before: u64, asked: Asked) -> Result<String, AllocError> {
+    let session = session.saturating_add(1);
+    let number = before.saturating_add(1);
+    match asked {
+        Asked::Commands => format!(in alloc; "{session} {session} {number} fund {session} 1\n"),
+        Asked::Queries => format!(in alloc; "{session} ? wallet {session}\n"),
+    }
+}
+
+/// Serves the lines over new disks.
+pub fn status_of<R: Threads + Wait + Sync>(rt: &R, alloc: Global, input: Vec<u8>) -> u8 {
+    let mut source = MemorySource::new(input, CHUNK, Vec::new(alloc));
+    let mut sink = MemorySink::new(alloc, Vec::new(alloc));
+    let mut words = Vec::new(alloc);
+    let Ok(word) = String::from_str(alloc, "serve") else {
+        return 7;
+    };
+    if words.push(word).is_err() {
+        return 7;
+    }
+    let left = MemoryDisk::new(alloc, Vec::new(alloc), Vec::new(alloc));
+    let right = MemoryDisk::new(alloc, Vec::new(alloc), Vec::new(alloc));
+    protocol(
+        rt,
+        alloc,
+        &OpenGate,
+        &words,
+        &mut source,
+        &mut sink,
+        left,
+        right,
+    )
+    .status
+}

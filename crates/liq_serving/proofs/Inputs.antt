@@ -1,0 +1,277 @@
+-- What serving an input comes to, by what was read, opened and served.
+use Rattle.std.proofs.Common.{ℕ, zero, suc, ◌+◌, ◌<◌, ◌≤◌, ◌≡◌, ◌⊎◌, inl, inr, List, [], ◌∷◌, map, length, Option, Some, Result, Ok, Err, refl, sym, ap, ap₂, ◌∙◌, subst, arith}
+use Rattle.std.specs.Prelude.{All, Contains, Vec, slice_index_or}
+use Rattle.std.specs.List.{AllByRecursion}
+use Rattle.std.proofs.lemmas.List.Elements.{All-map}
+use Rattle.std.specs.Global.{Global}
+use Rattle.liq_outside.specs.Faults.{Rose}
+use Rattle.liq_types.specs.declared.amounts.TheConstants.{LINES_MOST}
+use Rattle.liq_types.specs.declared.requests.Command.{Command}
+use Rattle.liq_types.specs.declared.requests.Request.{Request}
+use Rattle.liq_types.specs.declared.requests.Request.TheVariants.{Do, Ask}
+use Rattle.liq_types.specs.State.{State}
+use Rattle.liq_core.specs.Core.{StandsFor}
+use Rattle.liq_core.specs.History as history
+use Rattle.liq_core.specs.History.{IsLegal, state_after}
+use Rattle.liq_core.specs.Step.{Ruling, Refused, Repeated, Allowed, after, after_ruling, ruling}
+use Rattle.liq_core.proofs.Histories.{legal-empty}
+use Rattle.liq_journal.specs.declared.damage.Damage.{Damage}
+use Rattle.liq_pairs.specs.declared.side.Side.{Side}
+use Rattle.liq_pairs.specs.Kept.{IsKept}
+use Rattle.liq_pairs.specs.Pair.{StandFor, state_on}
+use Rattle.liq_store.specs.declared.answers.StoreWhy.{StoreWhy}
+use Rattle.liq_store.specs.declared.answers.StoreWhy.TheVariants as why
+use Rattle.liq_store.specs.Causes.{Faults, OneRose, counts_of}
+use Rattle.liq_store.specs.Keeping.{IsKeptAround}
+use Rattle.liq_store.specs.Opening.{IsNotOpened, OpensOn}
+use Rattle.liq_store.specs.Stored.{Stored}
+use Rattle.liq_sessions.specs.declared.script.Script.{Script}
+use Rattle.liq_lines.specs.Lines.{lines_in}
+use Rattle.liq_scripts.specs.declared.scripts.TheConstants.{SESSIONS}
+use Rattle.liq_scripts.specs.declared.stops.Stop.{Stop}
+use Rattle.liq_scripts.specs.declared.stops.Stop.TheVariants as stop
+use Rattle.liq_scripts.specs.Asked.{requests_of, script_of, scripts_of}
+use Rattle.liq_scripts.specs.Gathering.{EndsAfter, Gathers}
+use Rattle.liq_scripts.specs.Sessions.{sessions}
+use Rattle.liq_book.specs.declared.items.Halt.{Halt}
+use Rattle.liq_book.specs.Booked.{CausesHalt}
+use Rattle.liq_book.specs.Items.{recorded}
+use Rattle.liq_serving.specs.declared.input.Finish.{Finish}
+use Rattle.liq_serving.specs.declared.input.Finish.TheVariants as finish
+use Rattle.liq_serving.specs.declared.served.End.{End}
+use Rattle.liq_serving.specs.declared.served.End.TheVariants as end
+use Rattle.liq_serving.specs.declared.served.Served.{Served}
+use Rattle.liq_serving.specs.Ends.{halt_of}
+use Rattle.liq_serving.specs.Input.{Answers, AreServedFrom, DiskCause, EndsDamaged, HoldsAfter, IsAllButForMemory, IsFinishOf, IsNextAsked, ServesInput, WriteCause, Written, reading_of}
+use Rattle.liq_serving.specs.Serves.{AreNumbered, AreSettled, IsNextOf, IsServedFrom, IsServedWhole, LacksMemory, LeavesDisks, Serves, disk_at}
+use Rattle.liq_serving.proofs.Told.{all_from, all_to, all_unmap}
+
+-- ---- the scripts of what was asked
+
+by_session : (P : Script → Type 0) (asked : List (ℕ × Request)) (scripts : List Script) → scripts ≡ scripts_of asked → All P scripts → All (λ session. P (script_of asked session)) sessions
+by_session P asked scripts are all =
+    all_to (λ session. P (script_of asked session)) sessions (all_unmap P (script_of asked) sessions (all_from P (scripts_of asked) (subst (All P) are all)))
+
+mapped : {X Y : Type 0} (f : X → Y) (xs : List X) (k : ℕ) (y : Y) → k < length (map f xs) → slice_index_or (map f xs) k y ≡ y → (x : X) × (y ≡ f x)
+mapped f [] k y within is = absurd (omega arith)
+mapped f (x ∷ xs) zero y within is = (x, sym is)
+mapped f (x ∷ xs) (suc k) y within is = mapped f xs k y (omega arith) is
+
+next_asked : (asked : List (ℕ × Request)) (scripts : List Script) (entries : List history.Entry) (request : Request) (script : Script) → scripts ≡ scripts_of asked
+    → Contains scripts script → IsNextOf entries request script → IsNextAsked asked entries request
+next_asked asked scripts entries request script are there next =
+    let found : Contains (scripts_of asked) script = subst (λ (list : List Script). Contains list script) are there in
+    let whose = mapped (script_of asked) sessions found.0 script found.1 found.2 in
+    (whose.0, subst (IsNextOf entries request) whose.1 next)
+
+-- numbers that go up one by one
+abbrev GoUp : ℕ → List ℕ → Type 0
+GoUp first [] = Unit {0}
+GoUp first (n ∷ list) = (n ≡ first) × GoUp (suc first) list
+
+numbered_at : (asked : List (ℕ × Request)) (list : List ℕ) (first : ℕ) → GoUp first list → (k : ℕ) (d : Script) → k < length (map (script_of asked) list)
+    → (slice_index_or (map (script_of asked) list) k d).session ≡ k + first
+numbered_at asked [] first up k d within = absurd (omega arith)
+numbered_at asked (n ∷ list) first up zero d within = omega (arith, up.0)
+numbered_at asked (n ∷ list) first up (suc k) d within = omega (arith, numbered_at asked list (suc first) up.1 k d (omega arith))
+
+pub are_numbered : (asked : List (ℕ × Request)) (scripts : List Script) → scripts ≡ scripts_of asked → AreNumbered scripts
+are_numbered asked scripts are = subst AreNumbered (sym are) (numbered_at asked sessions 1 (refl, (refl, (refl, (refl, (refl, (refl, (refl, (refl, tt)))))))))
+
+pub are_eight : (asked : List (ℕ × Request)) (scripts : List Script) → scripts ≡ scripts_of asked → length scripts ≡ 8
+are_eight asked scripts are = ap length are
+
+-- ---- a call that met a fault
+
+-- its step was not made, or it was an accepted command's
+around : (asked : List (ℕ × Request)) (entries : List history.Entry) (s : State) (request : Request) (a b : List ℕ) → IsNextAsked asked entries request → IsKeptAround s request a b
+    → IsKept a b s ⊎ ((c : Command) × IsNextAsked asked entries (Do c) × (ruling s c ≡ Allowed) × IsKept a b (after s c))
+around asked entries s request a b next (inl kept) = inl kept
+around asked entries s (Ask query) a b next (inr kept) = inl kept
+around asked entries s (Do c) a b next (inr kept) = by (ruling s c) refl where
+  by : (r : Ruling) → ruling s c ≡ r → IsKept a b s ⊎ ((d : Command) × IsNextAsked asked entries (Do d) × (ruling s d ≡ Allowed) × IsKept a b (after s d))
+  by (Refused refusal) is = inl (subst (λ (r : Ruling). IsKept a b (after_ruling s c r).0) is kept)
+  by (Repeated done) is = inl (subst (λ (r : Ruling). IsKept a b (after_ruling s c r).0) is kept)
+  by Allowed is = inr (c, next, is, subst (λ (r : Ruling). IsKept a b (after_ruling s c r).0) is kept)
+
+-- ---- by the finish
+
+by_finish : (P : Finish → Type 0) (e : End) (how : Finish) → IsFinishOf e how
+    → (e ≡ end.All → P finish.All × P finish.WriteFault) → (e ≡ end.NoMemory → P finish.NoMemory) → ((halt : Halt) → e ≡ end.DiskFault halt → P finish.DiskFault) → P how
+by_finish P end.All how (inl is) all memory fault = subst P (sym is) (all refl).0
+by_finish P end.All how (inr is) all memory fault = subst P (sym is) (all refl).1
+by_finish P end.NoMemory how is all memory fault = subst P (sym is) (memory refl)
+by_finish P (end.DiskFault halt) how is all memory fault = subst P (sym is) (fault halt refl)
+
+-- all was read
+reads_whole : (e : End) (how : Finish) → IsFinishOf e how → reading_of how ≡ Ok tt
+reads_whole e how how_is = by_finish (λ (h : Finish). reading_of h ≡ Ok tt) e how how_is (λ is. (refl, refl)) (λ is. refl) (λ halt is. refl)
+
+-- where no count rose
+pub completes : (e : End) (how : Finish) (sink_before sink_after : ℕ) (before after : Faults) → IsFinishOf e how → WriteCause how sink_before sink_after → DiskCause how before after
+    → (Rose sink_before sink_after → ⊥) → (OneRose before after → ⊥) → IsAllButForMemory how
+completes e how sink_before sink_after before after how_is written disks calm_sink calm_disks =
+    by_finish (λ (h : Finish). WriteCause h sink_before sink_after → DiskCause h before after → IsAllButForMemory h) e how how_is
+    (λ is. (λ w d. tt, λ w d. calm_sink w.1)) (λ is w d. tt) (λ halt is w d. calm_disks d) written disks
+
+-- where reading stopped for want of memory
+pub completes_unread : (why_not : Stop) → why_not ≡ stop.NoMemory → IsAllButForMemory (finish.NotRead why_not)
+completes_unread why_not is = subst (λ (s : Stop). IsAllButForMemory (finish.NotRead s)) (sym is) tt
+
+-- ---- nothing was answered
+
+nothing_front : (asked : List (ℕ × Request)) → AreServedFrom asked []
+nothing_front asked = all_to (λ session. IsServedFrom [] (script_of asked session)) sessions (each sessions) where
+  each : (list : List ℕ) → AllByRecursion (λ session. IsServedFrom [] (script_of asked session)) list
+  each [] = tt
+  each (session ∷ list) = ((requests_of asked session, refl), each list)
+
+module _ {D : Type 0} (seen : D → Option (List ℕ)) (left right : D) where
+  same_state : (l r a b : List ℕ) → seen left ≡ Some l → seen right ≡ Some r → seen left ≡ Some a → seen right ≡ Some b → state_on a b ≡ state_on l r
+  same_state l r a b told_l told_r told_a told_b =
+      let left_is : a ≡ l = cc in
+      let right_is : b ≡ r = cc in
+      ap₂ state_on left_is right_is
+
+module _ {K D : Type 0} (held : K → Option (List ℕ)) (seen : D → Option (List ℕ)) where
+  -- the input was not read to its end
+  pub serves_unread : (before unread : Option (List ℕ)) (out : K) (left right : D) (why_not : Stop) → Gathers (Err why_not) before unread
+      → ServesInput held seen before unread out out left right (record { left = left; right = right; finish = finish.NotRead why_not })
+  serves_unread before unread out left right why_not gathers = record {
+    asked = gathers.asked;
+    history = [];
+    answered = record {
+      few = gathers.few;
+      read = gathers.read;
+      fronts = nothing_front gathers.asked;
+      sessions = λ k d within. absurd (omega arith);
+      answers = refl;
+      legal = λ l r start told_l told_r is. legal-empty start;
+      disks = λ l r start told_l told_r is a b told_a told_b. same_state seen left right l r a b told_l told_r told_a told_b ∙ is;
+      damaged = λ l r side damage told_l told_r is a b told_a told_b. same_state seen left right l r a b told_l told_r told_a told_b ∙ is;
+    };
+    written = refl;
+  }
+
+  -- there was no memory for the output, and nothing was read
+  pub serves_nothing : (before : Option (List ℕ)) (out : K) (left right : D) → ServesInput held seen before before out out left right (record { left = left; right = right; finish = finish.NotRead stop.NoMemory })
+  serves_nothing before out left right = serves_unread before before out left right stop.NoMemory (record {
+    asked = [];
+    few = omega arith;
+    scripts = tt;
+    read = λ bytes told. (lines_in bytes, ([], tt, refl));
+  })
+
+module _ {D : Type 0} (seen : D → Option (List ℕ)) (faults : D → ℕ) (left right : D) where
+  unopened_holds : (asked : List (ℕ × Request)) (why_not : StoreWhy) (now_left now_right : D) → IsNotOpened seen faults left right (record { left = now_left; right = now_right; why = why_not })
+      → (l r : List ℕ) (start : State) → seen left ≡ Some l → seen right ≡ Some r → state_on l r ≡ Ok start
+      → HoldsAfter seen (finish.NotOpened why_not) asked [] l r start now_left now_right
+  unopened_holds asked why.DiskFault now_left now_right unopened l r start told_l told_r is = λ kept a b told_a told_b. unopened.reads l r a b start told_l told_r kept told_a told_b
+  unopened_holds asked (why.Damaged side damage) now_left now_right unopened l r start told_l told_r is = cc (unopened.is_why l r told_l told_r, is)
+  unopened_holds asked why.NoMemory now_left now_right unopened l r start told_l told_r is = λ a b told_a told_b. unopened.stays (λ e. cc) l r a b told_l told_r told_a told_b ∙ is
+
+  unopened_damaged : (why_not : StoreWhy) (now_left now_right : D) → IsNotOpened seen faults left right (record { left = now_left; right = now_right; why = why_not })
+      → (l r : List ℕ) (side : Side) (damage : Damage) → seen left ≡ Some l → seen right ≡ Some r → state_on l r ≡ Err (side, damage)
+      → EndsDamaged seen (finish.NotOpened why_not) side damage now_left now_right
+  unopened_damaged why.DiskFault now_left now_right unopened l r side damage told_l told_r is = tt
+  unopened_damaged (why.Damaged which found) now_left now_right unopened l r side damage told_l told_r is =
+      let told = unopened.is_why l r told_l told_r in
+      let same : ◌≡◌ {A = Side × Damage} (which, found) (side, damage) = cc (told, is) in
+      (ap (λ (p : Side × Damage). p.0) same, ap (λ (p : Side × Damage). p.1) same, λ a b told_a told_b. unopened.stays (λ e. cc) l r a b told_l told_r told_a told_b ∙ is)
+  unopened_damaged why.NoMemory now_left now_right unopened l r side damage told_l told_r is = λ a b told_a told_b. unopened.stays (λ e. cc) l r a b told_l told_r told_a told_b ∙ is
+
+  -- where no count rose, no store was opened for want of memory
+  pub completes_unopened : (why_not : StoreWhy) (now_left now_right : D) → IsNotOpened seen faults left right (record { left = now_left; right = now_right; why = why_not })
+      → (l r : List ℕ) (start : State) → seen left ≡ Some l → seen right ≡ Some r → state_on l r ≡ Ok start
+      → (OneRose (counts_of faults left right) (counts_of faults now_left now_right) → ⊥) → IsAllButForMemory (finish.NotOpened why_not)
+  completes_unopened why.DiskFault now_left now_right unopened l r start told_l told_r is calm = calm unopened.cause
+  completes_unopened (why.Damaged side damage) now_left now_right unopened l r start told_l told_r is calm = cc (unopened.is_why l r told_l told_r, is)
+  completes_unopened why.NoMemory now_left now_right unopened l r start told_l told_r is calm = tt
+
+module _ {K D : Type 0} (held : K → Option (List ℕ)) (seen : D → Option (List ℕ)) (faults : D → ℕ) (before unread : Option (List ℕ)) (out : K) (left right : D) where
+  -- all was read, and no store was opened
+  pub serves_unopened : (scripts : Vec Script Global) (why_not : StoreWhy) (now_left now_right : D) → Gathers (Ok scripts) before unread
+      → IsNotOpened seen faults left right (record { left = now_left; right = now_right; why = why_not })
+      → ServesInput held seen before unread out out left right (record { left = now_left; right = now_right; finish = finish.NotOpened why_not })
+  serves_unopened scripts why_not now_left now_right gathers unopened = record {
+    asked = gathers.asked;
+    history = [];
+    answered = record {
+      few = gathers.few;
+      read = gathers.read;
+      fronts = nothing_front gathers.asked;
+      sessions = λ k d within. absurd (omega arith);
+      answers = refl;
+      legal = λ l r start told_l told_r is. legal-empty start;
+      disks = unopened_holds seen faults left right gathers.asked why_not now_left now_right unopened;
+      damaged = unopened_damaged seen faults left right why_not now_left now_right unopened;
+    };
+    written = refl;
+  }
+
+-- ---- the sessions were served
+
+module _ {D : Type 0} (seen : D → Option (List ℕ)) (faults : D → ℕ) (moment : D → ℕ) (left_at : D → ℕ → List ℕ → Type 0) (store : Stored D) (scripts : List Script) (served : Served D) (asked : List (ℕ × Request)) (are : scripts ≡ scripts_of asked) where
+  abbrev ServesAt : State → Type 0
+  ServesAt s = Serves seen faults moment left_at s (disk_at seen faults moment left_at store.left) (disk_at seen faults moment left_at store.right) scripts served
+
+  abbrev entries : List history.Entry
+  entries = map recorded served.history
+
+  answers_by : (s : State) → ServesAt s → (how : Finish) → IsFinishOf served.end how → Answers how asked entries
+  answers_by s serves how how_is =
+      by_finish (λ (h : Finish). Answers h asked entries) served.end how how_is
+      (λ is. let whole = by_session (IsServedWhole entries) asked scripts are (serves.whole is) in (whole, whole))
+      (λ is. subst (λ (list : List Script). LacksMemory list entries) are (serves.memory is))
+      (λ halt is. let next = (rw is at serves.disks).0 in (halt.request, next_asked asked scripts entries halt.request next.0 are next.1 next.3))
+
+  disks_by : (start : State) → ServesAt start → (how : Finish) → IsFinishOf served.end how → (l r : List ℕ) → HoldsAfter seen how asked entries l r start served.left served.right
+  disks_by start serves how how_is l r =
+      by_finish (λ (h : Finish). HoldsAfter seen h asked entries l r start served.left served.right) served.end how how_is
+      (λ is. let stands = settled (rw is at serves.disks) in (stands, stands))
+      (λ is. settled (rw is at serves.disks))
+      (λ halt is. fault halt (rw is at serves.disks)) where
+        settled : AreSettled seen moment left_at (state_after start entries) served.left served.right → (a b : List ℕ) → seen served.left ≡ Some a → seen served.right ≡ Some b → StandFor a b (state_after start entries)
+        settled both a b told_a told_b = (both.settled a b told_a told_b).stands
+
+        fault : (halt : Halt) → LeavesDisks seen moment left_at scripts entries (state_after start entries) (end.DiskFault halt) served.left served.right
+            → HoldsAfter seen finish.DiskFault asked entries l r start served.left served.right
+        fault halt kept a b told_a told_b =
+            around asked entries (state_after start entries) halt.request a b (next_asked asked scripts entries halt.request kept.0.0 are kept.0.1 kept.0.3) (kept.1 a b told_a told_b).0
+
+  -- a count rose exactly where a call met a fault
+  pub cause_by : (left right : D) (s : State) → ServesAt s → OpensOn seen faults left right store → (how : Finish) → IsFinishOf served.end how
+      → DiskCause how (counts_of faults left right) (counts_of faults served.left served.right)
+  cause_by left right s serves opened how how_is =
+      by_finish (λ (h : Finish). DiskCause h (counts_of faults left right) (counts_of faults served.left served.right)) served.end how how_is
+      (λ is. let calm = rw is at cause in (calm, calm)) (λ is. rw is at cause) (λ halt is. rw is at cause) where
+        cause : CausesHalt (halt_of served.end) (counts_of faults left right) (counts_of faults served.left served.right)
+        cause = subst (λ (counts : Faults). CausesHalt (halt_of served.end) counts (counts_of faults served.left served.right)) opened.counts serves.cause
+
+  module _ {K : Type 0} (held : K → Option (List ℕ)) (before unread : Option (List ℕ)) (out out_now : K) (left right : D) where
+    pub serves_input : length asked ≤ LINES_MOST → ((bytes : List ℕ) → before ≡ Some bytes → EndsAfter {T = Unit {0}} (Ok tt) bytes unread asked)
+        → OpensOn seen faults left right store → (base : State) → ServesAt base → ((s : State) → StandsFor store.core s → ServesAt s)
+        → (how : Finish) → IsFinishOf served.end how → Written held how (map recorded served.history) out out_now
+        → ServesInput held seen before unread out out_now left right (record { left = served.left; right = served.right; finish = how })
+    serves_input few read opened base serves serves_at how how_is written = record {
+      asked = asked;
+      history = map recorded served.history;
+      answered = record {
+        few = few;
+        read = λ bytes told. subst (λ (r : Result (Unit {0}) Stop). EndsAfter r bytes unread asked) (sym (reads_whole served.end how how_is)) (read bytes told);
+        fronts = by_session (IsServedFrom (map recorded served.history)) asked scripts are serves.fronts;
+        sessions =
+            All-map (λ (e : history.Entry). (1 ≤ e.session) × (e.session ≤ SESSIONS)) recorded served.history
+            (λ k d within. let range = serves.sessions k d within in (range.0, omega (arith, range.1, ap length are)));
+        answers = answers_by base serves how how_is;
+        legal = λ l r start told_l told_r is. (serves_at start (stands_at l r start told_l told_r is)).legal;
+        disks = λ l r start told_l told_r is. disks_by start (serves_at start (stands_at l r start told_l told_r is)) how how_is l r;
+        damaged = λ l r side damage told_l told_r is. absurd (cc ((opened.state l r told_l told_r).1, is));
+      };
+      written = written;
+    } where
+      stands_at : (l r : List ℕ) (start : State) → seen left ≡ Some l → seen right ≡ Some r → state_on l r ≡ Ok start → StandsFor store.core start
+      stands_at l r start told_l told_r is =
+          let found = opened.state l r told_l told_r in
+          let same : found.0 ≡ start = cc (found.1, is) in
+          subst (λ (s : State). StandsFor store.core s) same found.2

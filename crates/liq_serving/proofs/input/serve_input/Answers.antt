@@ -1,0 +1,42 @@
+use Rattle.std.proofs.Common.{map, List, subst}
+use Rattle.liq_core.specs.Core.{state_of}
+use Rattle.liq_book.specs.declared.items.Entry.{Entry}
+use Rattle.liq_book.specs.Items.{recorded}
+use Rattle.liq_serving.specs.Input.{Written}
+use Rattle.liq_serving.proofs.Inputs.{cause_by, completes, serves_input, serves_nothing, serves_unopened}
+use Rattle.liq_serving.proofs.input.serve_input.Goals as goal
+
+pub returns-in_default-clause-served : goal.returns-in_default-clause-served
+returns-in_default-clause-served g c = serves_nothing g.K.Sink.held g.D.Disk.seen (g.S.Source.left c.args.input.now) c.args.out.now c.args.left c.args.right
+
+pub returns-in-Err-open-clause-served : goal.returns-in-Err-open-clause-served
+returns-in-Err-open-clause-served g c =
+    let fault = c.in-Err-open.fault in
+    serves_unopened g.K.Sink.held g.D.Disk.seen g.D.Disk.faults (g.S.Source.left c.args.input.now) (g.S.Source.left c.read_scripts.new.input) c.args.out.now c.args.left c.args.right
+    c.in-Ok-read_scripts.scripts fault.why fault.left fault.right c.in-Ok-read_scripts.ensures.read c.in-Err-open.ensures.not_opened
+
+pub returns-clause-served : goal.returns-clause-served
+returns-clause-served g c =
+    let store = c.in-Ok-open.store in
+    let served = c.serve_sessions-left.result in
+    let gathers = c.in-Ok-read_scripts.ensures.read in
+    let stands = rw c.protocol.ensures at c.protocols_stand.ensures in
+    let how = c.write_end-finish.result in
+    serves_input g.D.Disk.seen g.D.Disk.faults g.D.Disk.moment g.D.Disk.left_at store c.in-Ok-read_scripts.scripts.items served gathers.asked gathers.scripts
+    g.K.Sink.held (g.S.Source.left c.args.input.now) (g.S.Source.left c.read_scripts.new.input) c.args.out.now c.write_end-finish.new.out c.args.left c.args.right
+    gathers.few gathers.read c.in-Ok-open.ensures.opened (state_of store.core) (c.serve_sessions-left.ensures (state_of store.core) stands) c.serve_sessions-left.ensures
+    how c.write_end-finish.ensures.finish
+    (subst (λ (entries : List Entry). Written g.K.Sink.held how (map recorded entries) c.args.out.now c.write_end-finish.new.out) c.as_slice.ensures c.write_end-finish.ensures.written)
+
+pub returns-clause-disks : goal.returns-clause-disks
+returns-clause-disks g c =
+    let store = c.in-Ok-open.store in
+    let served = c.serve_sessions-left.result in
+    let gathers = c.in-Ok-read_scripts.ensures.read in
+    let stands = rw c.protocol.ensures at c.protocols_stand.ensures in
+    cause_by g.D.Disk.seen g.D.Disk.faults g.D.Disk.moment g.D.Disk.left_at store c.in-Ok-read_scripts.scripts.items served gathers.asked gathers.scripts
+    c.args.left c.args.right (state_of store.core) (c.serve_sessions-left.ensures (state_of store.core) stands) c.in-Ok-open.ensures.opened c.write_end-finish.result c.write_end-finish.ensures.finish
+
+pub returns-clause-complete : goal.returns-clause-complete
+returns-clause-complete g c bytes l r told told_l told_r start is asked spelled few calm_source calm_sink calm_disks =
+    completes c.serve_sessions-left.result.end c.write_end-finish.result _ _ _ _ c.write_end-finish.ensures.finish c.write_end-finish.ensures.cause (returns-clause-disks g c) calm_sink calm_disks

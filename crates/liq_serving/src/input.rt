@@ -1,0 +1,144 @@
+//! The word `serve`: what the lines of all sessions ask is answered at once over two disks, and the history is written.
+
+ghost use Rattle.std.specs.Prelude.{◌≡◌, ◌≤◌, [], map, length, List, ℕ, Some, Ok};
+ghost use Rattle.liq_outside.specs.Faults.{Rose};
+ghost use Rattle.liq_types.specs.declared.amounts.TheConstants.{LINES_MOST};
+ghost use Rattle.liq_types.specs.declared.requests.Request.{Request};
+ghost use Rattle.liq_types.specs.State.{State};
+ghost use Rattle.liq_pairs.specs.Pair.{state_on};
+ghost use Rattle.liq_store.specs.Causes.{OneRose, counts_of};
+ghost use Rattle.liq_lines.specs.Lines.{lines_in};
+ghost use Rattle.liq_scripts.specs.declared.stops.Stop.{Stop};
+ghost use Rattle.liq_scripts.specs.Asked.{AreAsked};
+ghost use Rattle.liq_scripts.specs.Gathering.{ReadCause};
+ghost use Rattle.liq_book.specs.Items.{recorded};
+ghost use Rattle.liq_serving.specs.Input.{DiskCause, IsAllButForMemory, IsFinishOf, ServesInput, WriteCause, Written, reading_of};
+
+use crate::served::{End, Served};
+use crate::serving::serve_sessions;
+use liq_book::Entry;
+use liq_core::laws::protocols_stand;
+use liq_outside::{Disk, Failed, Sink, Source};
+use liq_scripts::{Outbox, Stop, read_scripts, write_served};
+use liq_sessions::Gate;
+use liq_store::{Store, StoreFault, StoreWhy};
+use std::alloc::Global;
+use std::sync::Wait;
+use std::thread::Threads;
+
+/// How serving an input came to its end.
+#[derive(Clone, Copy, Debug, PartialEq, Eq)]
+pub enum Finish {
+    /// Each line was answered, and all is written.
+    All,
+    /// The input was not read to its end, or there was no memory for the output. Nothing was opened.
+    NotRead(Stop),
+    /// No store was opened.
+    NotOpened(StoreWhy),
+    /// There was no memory for the sessions, or for a call. Nothing is written.
+    NoMemory,
+    /// A call met a fault of a disk. Nothing is written.
+    DiskFault,
+    /// Each line was answered. The sink met a fault, and a part is written.
+    WriteFault,
+}
+
+/// The disks as serving leaves them, and how it came to its end.
+#[derive(Drop)]
+pub struct Finished<D> {
+    pub left: D,
+    pub right: D,
+    pub finish: Finish,
+}
+
+/// Reads the input to its end, each line a session from 1 to 8 and its request; opens the store of two disks; answers the lines of
+/// all sessions at once, each session's in order; and writes the one history of what was answered.
+///
+/// Where the input was not read to its end the disks are as they were. Some call met a fault of a disk exactly where the finish is
+/// [`Finish::DiskFault`], whatever other calls were told; want of memory is told only where none did.
+pub fn serve_input<S: Source, K: Sink, D: Disk + Send, G: Gate + Sync, R: Threads + Wait + Sync>(
+    rt: &R,
+    alloc: Global,
+    gate: &G,
+    input: &mut S,
+    out: &mut K,
+    left: D,
+    right: D,
+) -> Finished<D>
+    ensures served { ServesInput K.held D.seen (S.left input.old) (S.left input.new) out.old out.new left right result }
+    ensures unread { (stop : Stop) → result.finish ≡ Finish.NotRead stop → (result.left ≡ left) × (result.right ≡ right) }
+
+    // A fault has its cause, and none is passed over.
+    ensures source { ReadCause (reading_of result.finish) (S.faults input.old) (S.faults input.new) }
+    ensures sink { WriteCause result.finish (K.faults out.old) (K.faults out.new) }
+    ensures disks { DiskCause result.finish (counts_of D.faults left right) (counts_of D.faults result.left result.right) }
+
+    // Where nothing is wrong with lines, streams and disks, all is answered and written, or there was no memory.
+    ensures complete { (bytes l r : List ℕ) → S.left input.old ≡ Some bytes → D.seen left ≡ Some l → D.seen right ≡ Some r
+        → (start : State) → state_on l r ≡ Ok start → (asked : List (ℕ × Request)) → AreAsked (lines_in bytes) asked → length asked ≤ LINES_MOST
+        → (Rose (S.faults input.old) (S.faults input.new) → ⊥) → (Rose (K.faults out.old) (K.faults out.new) → ⊥)
+        → (OneRose (counts_of D.faults left right) (counts_of D.faults result.left result.right) → ⊥)
+        → IsAllButForMemory result.finish }
+{
+    let Ok(mut outbox) = Outbox::new(alloc) else {
+        let finish = Finish::NotRead(Stop::NoMemory);
+        return Finished {
+            left,
+            right,
+            finish,
+        };
+    };
+    let scripts = match read_scripts(alloc, input) {
+        Ok(scripts) => scripts,
+        Err(stop) => {
+            let finish = Finish::NotRead(stop);
+            return Finished {
+                left,
+                right,
+                finish,
+            };
+        }
+    };
+    let store = match Store::open(alloc, left, right) {
+        Ok(store) => store,
+        Err(fault) => {
+            let StoreFault { left, right, why } = fault;
+            let finish = Finish::NotOpened(why);
+            return Finished {
+                left,
+                right,
+                finish,
+            };
+        }
+    };
+    protocols_stand(store.protocol());
+    let Served {
+        left,
+        right,
+        history,
+        end,
+    } = serve_sessions(rt, alloc, gate, scripts, store);
+    let finish = write_end(end, history.as_slice(), &mut outbox, out);
+    Finished {
+        left,
+        right,
+        finish,
+    }
+}
+
+/// Writes the history of sessions of which each was answered to its end.
+fn write_end<K: Sink>(end: End, history: &[Entry], outbox: &mut Outbox, out: &mut K) -> Finish
+    requires { outbox.old ≡ [] }
+    ensures finish { IsFinishOf end result }
+    ensures written { Written K.held result (map recorded history.now) out.old out.new }
+    ensures cause { WriteCause result (K.faults out.old) (K.faults out.new) }
+{
+    match end {
+        End::All => match write_served(history, outbox, out) {
+            Ok(()) => Finish::All,
+            Err(Failed) => Finish::WriteFault,
+        },
+        End::NoMemory => Finish::NoMemory,
+        End::DiskFault(_) => Finish::DiskFault,
+    }
+}
