@@ -7,6 +7,10 @@ mod at_once;
 #[cfg(test)]
 mod auditing;
 #[cfg(test)]
+mod output;
+#[cfg(test)]
 mod runs;
+#[cfg(test)]
+mod serving;
 #[cfg(test)]
 mod statuses;
