@@ -2,10 +2,9 @@
 
 ghost use Rattle.std.specs.Prelude.{◌≤◌, ◌<◌};
 
-use crate::runs::{RUN, empty, words_of};
+use crate::runs::{RUN, empty, run_words};
 use crate::small_sink::SmallSink;
 use liq_outside::MemorySource;
-use liq_serve::without_threads;
 use std::alloc::{AllocError, Global};
 use std::process::Abort;
 use std::test::Fail;
@@ -32,17 +31,16 @@ fn run_on(
 ) -> Result<(u8, SmallSink), AllocError>
     requires { 1 ≤ chunk }
 {
-    let words = words_of(alloc, run.words)?;
     let failing = run.failing_reads.to_vec(alloc)?;
     let mut source = MemorySource::new(run.input.to_vec(alloc)?, chunk, failing);
-    let ended = without_threads(
+    let ended = run_words(
         alloc,
-        &words,
+        run.words,
         &mut source,
         &mut sink,
         empty(alloc),
         empty(alloc),
-    );
+    )?;
     Ok((ended.status, sink))
 }
 

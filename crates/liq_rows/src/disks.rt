@@ -1,8 +1,8 @@
 //! Runs over two disks: what they leave there, what a later run finds, and the statuses of disks.
 
-use crate::runs::{empty, words_of};
+use crate::runs::{empty, run_words};
 use liq_outside::{MemoryDisk, MemorySink, MemorySource};
-use liq_serve::{Ended, without_threads};
+use liq_serve::Ended;
 use std::alloc::{AllocError, Global};
 use std::test::Fail;
 
@@ -25,10 +25,9 @@ fn run_over(
     left: MemoryDisk,
     right: MemoryDisk,
 ) -> Result<Ran, AllocError> {
-    let command_line = words_of(alloc, words)?;
     let mut source = MemorySource::new(input.to_vec(alloc)?, 16, Vec::new(alloc));
     let mut sink = MemorySink::new(alloc, Vec::new(alloc));
-    let ended = without_threads(alloc, &command_line, &mut source, &mut sink, left, right);
+    let ended = run_words(alloc, words, &mut source, &mut sink, left, right)?;
     Ok(Ran { ended, sink })
 }
 

@@ -120,14 +120,15 @@ fn replies_before_reading(rt: HostRuntime) -> Result<(), Fail> {
 
 const USAGE: &[u8] = b"usage: liq run, serve, state, audit or gen SEED COUNT\n";
 
-const OTHER_WORDS: [&[&str]; 20] = [
+const OTHER_WORDS: [&[&str]; 21] = [
     &[],
     &[""],
     &["Run"],
     &["runs"],
     &["ru"],
     &["run", "run"],
-    &["serve"],
+    &["serve", "serve"],
+    &["audit", "1"],
     &["", "run"],
     &["run", "x"],
     &["-h"],
