@@ -35,3 +35,5 @@ mod small_sink;
 mod tables;
 #[cfg(test)]
 mod texts;
+#[cfg(test)]
+mod words;

@@ -4,6 +4,8 @@
 #[cfg(test)]
 mod drip;
 #[cfg(test)]
+mod lines;
+#[cfg(test)]
 mod reading;
 #[cfg(test)]
 mod writing;

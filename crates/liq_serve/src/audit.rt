@@ -19,13 +19,13 @@ ghost use Rattle.liq_serve.specs.Causes.{DiskCause, WriteCause};
 ghost use Rattle.liq_serve.specs.Disks.{DisksHold, EndsDamaged};
 ghost use Rattle.liq_serve.specs.Telling.{WritesText};
 
-use crate::ending::Ending;
+use crate::ending::{Ending, unopened};
 use crate::halts::Halt;
 use crate::texts::write_text;
 use liq_outside::{Disk, Sink};
 use liq_pairs::laws::commands_lead_to_the_state;
 use liq_review::{ReviewFault, review};
-use liq_store::{AcceptedFault, Side, Store, StoreFault};
+use liq_store::{AcceptedFault, Side, Store};
 use liq_types::Command;
 use std::alloc::Global;
 
@@ -46,11 +46,7 @@ pub fn tell_audit<K: Sink, D: Disk>(alloc: Global, out: &mut K, left: D, right: 
     commands_lead_to_the_state();
     let mut store = match Store::open(alloc, left, right) {
         Ok(store) => store,
-        Err(fault) => {
-            let StoreFault { left, right, why } = fault;
-            let end = Err(Halt::from(why));
-            return Ending { end, left, right };
-        }
+        Err(fault) => return unopened(fault),
     };
     let end = write_audit(alloc, &mut store, out);
     let (left, right) = store.close();

@@ -1,9 +1,10 @@
 //! How a run ends: its last line and its status.
 
-ghost use Rattle.std.specs.Prelude.{[], ◌∷◌, ◌++◌, ◌≡◌, ◌≤◌, ℕ, List, Option, Result, decimal, OnOk, OnErr, IfErr};
+ghost use Rattle.std.specs.Prelude.{[], ◌∷◌, ◌++◌, ◌≡◌, ◌≤◌, ℕ, List, Option, Result, Err, decimal, OnOk, OnErr, IfErr};
 ghost use Rattle.liq_outside.specs.Faults.{Rose, HasCause};
 ghost use Rattle.liq_review.specs.declared.fault.ReviewFault.{ReviewFault};
 ghost use Rattle.liq_serve.specs.Causes.{LastCause, WriteCause};
+ghost use Rattle.liq_serve.specs.Disks.{halt_of};
 ghost use Rattle.liq_serve.specs.Output.{last, usage};
 ghost use Rattle.liq_serve.specs.Statuses.{status_of};
 ghost use Rattle.liq_serve.specs.Stops.{Adds};
@@ -15,6 +16,7 @@ use itoa::Buffer;
 use liq_lines::write_all;
 use liq_outside::{Failed, Sink};
 use liq_pairs::Side;
+use liq_store::StoreFault;
 
 /// What is written where the words are not understood.
 const USAGE: &[u8] = b"usage: liq run, serve, state, audit or gen SEED COUNT\n";
@@ -25,6 +27,15 @@ pub struct Ending<D> {
     pub end: Result<(), Halt>,
     pub left: D,
     pub right: D,
+}
+
+/// How a word ends whose store was not opened: with the disks as they are then.
+pub fn unopened<D>(fault: StoreFault<D>) -> Ending<D>
+    ensures { result ≡ record { end = Err (halt_of fault.why); left = fault.left; right = fault.right } }
+{
+    let StoreFault { left, right, why } = fault;
+    let end = Err(Halt::from(why));
+    Ending { end, left, right }
 }
 
 /// The exit status of a run.

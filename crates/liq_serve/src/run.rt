@@ -19,7 +19,7 @@ ghost use Rattle.liq_serve.specs.Progress.{RequestOn, ReadsRequest, Answered, An
 ghost use Rattle.liq_serve.specs.Stops.{EndsIn, none_yet};
 
 use crate::calls::call;
-use crate::ending::Ending;
+use crate::ending::{Ending, unopened};
 use crate::halts::Halt;
 use crate::waiting::{WAITING_MOST, catch_up, flush, keep, make_way};
 use liq_core::is_built;
@@ -95,11 +95,7 @@ pub fn answer_input<S: Source, K: Sink, D: Disk>(
 {
     let mut run = match Run::open(alloc, left, right) {
         Ok(run) => run,
-        Err(fault) => {
-            let StoreFault { left, right, why } = fault;
-            let end = Err(Halt::from(why));
-            return Ending { end, left, right };
-        }
+        Err(fault) => return unopened(fault),
     };
     let end = run.answer_all(input, out);
     let (left, right) = run.close();

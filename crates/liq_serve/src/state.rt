@@ -14,13 +14,13 @@ ghost use Rattle.liq_serve.specs.Output.{reply_line};
 ghost use Rattle.liq_serve.specs.State.{pool_and_journal, standing};
 ghost use Rattle.liq_serve.specs.Telling.{WritesText};
 
-use crate::ending::Ending;
+use crate::ending::{Ending, unopened};
 use crate::halts::Halt;
 use crate::texts::write_text;
 use liq_core::Protocol;
 use liq_lines::LINE_END;
 use liq_outside::{Disk, Sink};
-use liq_store::{Store, StoreFault};
+use liq_store::Store;
 use liq_text::write_reply;
 use liq_types::{Query, Reply};
 use std::alloc::{AllocError, Global};
@@ -40,11 +40,7 @@ pub fn tell_state<K: Sink, D: Disk>(alloc: Global, out: &mut K, left: D, right: 
 {
     let store = match Store::open(alloc, left, right) {
         Ok(store) => store,
-        Err(fault) => {
-            let StoreFault { left, right, why } = fault;
-            let end = Err(Halt::from(why));
-            return Ending { end, left, right };
-        }
+        Err(fault) => return unopened(fault),
     };
     let end = write_standing(alloc, store.protocol(), out);
     let (left, right) = store.close();

@@ -31,8 +31,8 @@ use crate::load::Load;
 use crate::run::answer_input;
 use crate::serve::serve_on;
 use crate::state::tell_state;
-use liq_lines::write_all;
-use liq_outside::{Disk, Failed, Sink, Source};
+use crate::texts::write_text;
+use liq_outside::{Disk, Sink, Source};
 use liq_pairs::laws::commands_lead_to_the_state;
 use liq_sessions::Gate;
 use liq_types::Steps;
@@ -269,10 +269,7 @@ fn write_load<K: Sink, L: Ledger>(
     ensures sink { WriteCause result (K.faults out.old) (K.faults out.new) }
 {
     let line = Load::carried_out(alloc, seed, count, steps)?.line(alloc)?;
-    match write_all(out, line.as_bytes()) {
-        Ok(()) => Ok(()),
-        Err(Failed) => Err(Halt::WriteFault),
-    }
+    write_text(out, line.as_bytes())
 }
 
 /// Answers the input's lines, and writes the last line of a run that stops.

@@ -18,6 +18,3 @@ pub use lines::{read_line, read_session_line};
 pub use replies::write_reply;
 pub use requests::write_request;
 pub use values::read_number;
-
-#[cfg(test)]
-mod tests;

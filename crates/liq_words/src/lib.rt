@@ -5,6 +5,3 @@ mod line;
 mod words;
 
 pub use words::{COUNT_MOST, Word, WordsFault, read_words};
-
-#[cfg(test)]
-mod tests;

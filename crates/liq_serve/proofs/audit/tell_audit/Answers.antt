@@ -1,10 +1,10 @@
-use Rattle.std.proofs.Common.{◌≡◌, refl, Ok, Err, List, [], sym, subst, ap, ◌∙◌}
+use Rattle.std.proofs.Common.{◌≡◌, refl, Ok, List, [], sym, subst, ap, ◌∙◌}
 use Rattle.liq_types.specs.declared.requests.Command.{Command}
 use Rattle.liq_types.specs.State.{opening}
 use Rattle.liq_pairs.specs.Pair.{commands_on}
 use Rattle.liq_pairs.specs.Replay.{replay}
 use Rattle.liq_review.specs.Reviewed.{reviewed}
-use Rattle.liq_serve.specs.declared.halts.Halt.{Halt}
+use Rattle.liq_serve.specs.declared.ending.Ending.{Ending}
 use Rattle.liq_serve.specs.Audit.{AuditHolds}
 use Rattle.liq_serve.specs.Disks.{DisksHold, EndsDamaged}
 use Rattle.liq_serve.specs.Telling.{WritesText}
@@ -20,8 +20,8 @@ returns-in-Err-clause-told g c l r told_l told_r start is =
     let fault = c.in-Err.fault in
     let told = reviewed (commands_on l r) in
     let found = not_told seen g.D.Disk.faults told fault.why fault.left fault.right c.args.left c.args.right c.in-Err.ensures.not_opened l r held told_l told_r start is in
-    subst (λ (halt : Halt). WritesText told (Err halt) held held × AuditHolds (Err halt) start (commands_on l r) × DisksHold seen (Err halt) [] l r start fault.left fault.right [])
-    (sym c.from.ensures) (found.0, tt, found.1)
+    subst (λ (e : Ending g.row.D.Denot). WritesText told e.end held held × AuditHolds e.end start (commands_on l r) × DisksHold seen e.end [] l r start e.left e.right [])
+    (sym c.unopened.ensures) (found.0, tt, found.1)
 
 pub returns-clause-told : goal.returns-clause-told
 returns-clause-told g c l r told_l told_r start is =
@@ -57,4 +57,4 @@ returns-in-Err-clause-damaged g c l r told_l told_r side damage is =
     let seen = g.D.Disk.seen in
     let fault = c.in-Err.fault in
     let found = unopened_damaged seen g.D.Disk.faults fault.why fault.left fault.right c.args.left c.args.right c.in-Err.ensures.not_opened l r told_l told_r side damage is in
-    (refl, subst (λ (halt : Halt). EndsDamaged seen side damage l r (Err halt) fault.left fault.right) (sym c.from.ensures) found)
+    (refl, subst (λ (e : Ending g.row.D.Denot). EndsDamaged seen side damage l r e.end e.left e.right) (sym c.unopened.ensures) found)

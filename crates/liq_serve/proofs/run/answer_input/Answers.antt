@@ -1,5 +1,5 @@
-use Rattle.std.proofs.Common.{Err, sym, subst}
-use Rattle.liq_serve.specs.declared.halts.Halt.{Halt}
+use Rattle.std.proofs.Common.{sym, subst}
+use Rattle.liq_serve.specs.declared.ending.Ending.{Ending}
 use Rattle.liq_serve.specs.Disks.{DisksHold}
 use Rattle.liq_serve.specs.Stops.{EndsIn, none_yet}
 use Rattle.liq_serve.proofs.Opened.{ends_with, left_by, opened_at, unopened_by}
@@ -9,8 +9,8 @@ pub returns-in-Err-clause-run : goal.returns-in-Err-clause-run
 returns-in-Err-clause-run g c bytes l r told told_l told_r start is =
     let held = g.K.Sink.held in
     let fault = c.in-Err.fault in
-    subst (λ (halt : Halt). EndsIn none_yet start (Err halt) bytes (g.S.Source.left c.args.input.now) ⊥ (held c.args.out.now) (held c.args.out.now) (DisksHold g.D.Disk.seen (Err halt) bytes l r start fault.left fault.right))
-    (sym c.from.ensures)
+    subst (λ (e : Ending g.row.D.Denot). EndsIn none_yet start e.end bytes (g.S.Source.left c.args.input.now) ⊥ (held c.args.out.now) (held c.args.out.now) (DisksHold g.D.Disk.seen e.end bytes l r start e.left e.right))
+    (sym c.unopened.ensures)
     (unopened_by g.D.Disk.seen g.D.Disk.faults fault.why fault.left fault.right c.args.left c.args.right c.in-Err.ensures.not_opened bytes l r (g.S.Source.left c.args.input.now) (held c.args.out.now) told_l told_r start is)
 
 pub returns-clause-run : goal.returns-clause-run

@@ -1,6 +1,6 @@
-use Rattle.std.proofs.Common.{refl, Ok, Err, [], sym, subst}
+use Rattle.std.proofs.Common.{refl, Ok, [], sym, subst}
 use Rattle.liq_core.specs.Core.{Core, StandsFor}
-use Rattle.liq_serve.specs.declared.halts.Halt.{Halt}
+use Rattle.liq_serve.specs.declared.ending.Ending.{Ending}
 use Rattle.liq_serve.specs.Disks.{DisksHold, EndsDamaged}
 use Rattle.liq_serve.specs.State.{standing}
 use Rattle.liq_serve.specs.Telling.{WritesText}
@@ -13,8 +13,8 @@ returns-in-Err-clause-told g c l r told_l told_r start is =
     let held = g.K.Sink.held c.args.out.now in
     let seen = g.D.Disk.seen in
     let fault = c.in-Err.fault in
-    subst (λ (halt : Halt). WritesText (Ok (standing start)) (Err halt) held held × DisksHold seen (Err halt) [] l r start fault.left fault.right [])
-    (sym c.from.ensures)
+    subst (λ (e : Ending g.row.D.Denot). WritesText (Ok (standing start)) e.end held held × DisksHold seen e.end [] l r start e.left e.right [])
+    (sym c.unopened.ensures)
     (not_told seen g.D.Disk.faults (Ok (standing start)) fault.why fault.left fault.right c.args.left c.args.right c.in-Err.ensures.not_opened l r held told_l told_r start is)
 
 pub returns-clause-told : goal.returns-clause-told
@@ -41,4 +41,4 @@ returns-in-Err-clause-damaged g c l r told_l told_r side damage is =
     let seen = g.D.Disk.seen in
     let fault = c.in-Err.fault in
     let found = unopened_damaged seen g.D.Disk.faults fault.why fault.left fault.right c.args.left c.args.right c.in-Err.ensures.not_opened l r told_l told_r side damage is in
-    (refl, subst (λ (halt : Halt). EndsDamaged seen side damage l r (Err halt) fault.left fault.right) (sym c.from.ensures) found)
+    (refl, subst (λ (e : Ending g.row.D.Denot). EndsDamaged seen side damage l r e.end e.left e.right) (sym c.unopened.ensures) found)

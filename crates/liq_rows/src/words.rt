@@ -1,6 +1,6 @@
 //! Command lines, read.
 
-use super::*;
+use liq_words::{Word, WordsFault, read_words};
 use std::alloc::Global;
 use std::test::Fail;
 

@@ -1,4 +1,6 @@
-use super::*;
+//! Lines and the texts of replies: one of each kind, at its bounds.
+
+use liq_text::{BadLine, read_line, read_session_line, write_reply, write_request};
 use liq_types::{Call, Command, Done, HintWords, Info, Query, Refusal, Reply, Request};
 use std::test::*;
 
