@@ -19,26 +19,12 @@ use Rattle.liq_order.specs.Listed.{IsAbsent, AreDistinct}
 use Rattle.liq_order.specs.Order.{ranks, order_by}
 use Rattle.liq_order.proofs.Placed.{with_distinct}
 use Rattle.liq_order.proofs.Sorting.{rank_total, with_absent, with_strict}
+use Rattle.std.proofs.lemmas.Bool.{ne_eqb, eqb-false, eqb-true, eq-eqb}
 
 -- ---- accounts
 
-other : (a b : ℕ) → a ≢ b → (a == b) ≡ false
-other a b ne = by (a == b) refl where
-  by : (t : Bool) → (a == b) ≡ t → t ≡ false
-  by true is = let same : a ≡ b = grind (arith, nat_tests, is) in absurd (ne same)
-  by false is = refl
-
-apart : (a b : ℕ) → (a == b) ≡ false → a ≢ b
-apart a b test same = grind (arith, nat_tests)
-
-equal : (a b : ℕ) → (a == b) ≡ true → a ≡ b
-equal a b test = grind (arith, nat_tests)
-
-itself : (a : ℕ) → (a == a) ≡ true
-itself a = grind (arith, nat_tests)
-
 turned : (a b : ℕ) → is_eq (nat_cmp a b) ≡ false → b ≢ a
-turned a b test same = apart a b (sym (nat_cmp-eq a b) ∙ test) (sym same)
+turned a b test same = eqb-false a b (sym (nat_cmp-eq a b) ∙ test) (sym same)
 
 -- no two entries of the second list share an account, nor one with an entry of the first
 abbrev AreApart : List Ranked → List Ranked → Type 0
@@ -107,7 +93,7 @@ filtered q account (e ∷ es) h = by (e.1 == account) (filtered q account es h.1
   by false more = (h.0, more)
 
 kept : (account : ℕ) (e : Ranked) (list : List Ranked) → e.1 ≢ account → without_ranked (e ∷ list) account ≡ e ∷ without_ranked list account
-kept account e list n = ap (λ b. cond (not b) (e ∷ without_ranked list account) (without_ranked list account)) (other e.1 account n)
+kept account e list n = ap (λ b. cond (not b) (e ∷ without_ranked list account) (without_ranked list account)) (ne_eqb e.1 account n)
 
 -- an entry of another account is put into the list with the account as into the one without it
 put_alike : (account : ℕ) (list : List Ranked) (e : Ranked) → e.1 ≢ account → IsAscending list → without_ranked (with_ranked list e) account ≡ with_ranked (without_ranked list account) e
@@ -142,7 +128,7 @@ put_alike account (f ∷ fs) e n h = by (rank_order e f) refl (f.1 == account) (
 put_own : (list : List Ranked) (e : Ranked) → without_ranked (with_ranked list e) e.1 ≡ without_ranked list e.1
 put_own list e = along list where
   dropped : (more : List Ranked) → without_ranked (e ∷ more) e.1 ≡ without_ranked more e.1
-  dropped more = ap (λ b. cond (not b) (e ∷ without_ranked more e.1) (without_ranked more e.1)) (itself e.1)
+  dropped more = ap (λ b. cond (not b) (e ∷ without_ranked more e.1) (without_ranked more e.1)) (eq-eqb e.1 e.1 refl)
 
   along : (l : List Ranked) → without_ranked (with_ranked l e) e.1 ≡ without_ranked l e.1
   along [] = dropped []
@@ -167,7 +153,7 @@ left_along account (row ∷ rows) list s a h = by (is_eq (nat_cmp account row.0)
 
   by : (b : Bool) → is_eq (nat_cmp account row.0) ≡ b → without_ranked (fold with_ranked (with_ranked list (key_by row.1, row.0)) (ranks rows)) account ≡ fold with_ranked (without_ranked (with_ranked list (key_by row.1, row.0)) account) (ranks (without rows account)) → without_ranked (fold with_ranked (with_ranked list (key_by row.1, row.0)) (ranks rows)) account ≡ fold with_ranked (without_ranked list account) (ranks (cond b rows (row ∷ without rows account)))
   by true is more =
-      let same : account ≡ row.0 = equal account row.0 (sym (nat_cmp-eq account row.0) ∙ is) in
+      let same : account ≡ row.0 = eqb-true account row.0 (sym (nat_cmp-eq account row.0) ∙ is) in
       let own = all_alike row.0 (with_ranked list (key_by row.1, row.0)) (ranks rows) a.1 (with_apart list (key_by row.1, row.0) (ranks rows) a.1 a.2) (with_strict list (key_by row.1, row.0) a.0 h) in
       subst (λ k. without_ranked (fold with_ranked (with_ranked list (key_by row.1, row.0)) (ranks rows)) k ≡ fold with_ranked (without_ranked list k) (ranks rows)) (sym same)
       (own ∙ ap (λ (l : List Ranked). fold with_ranked l (ranks rows)) (put_own list (key_by row.1, row.0)))

@@ -17,32 +17,17 @@ use Rattle.liq_troves.specs.declared.sums.Sums.{Sums}
 use Rattle.liq_liquidation.specs.declared.one.One.{One}
 use Rattle.liq_liquidation.specs.One.{Treatment, Plain, Redistributed, Capped, Kept, treatment, treated, gas_of, cap_of, plain, capped, is_capped, without_stake, one_rules, one_by, one_total_coll, one_total_debt}
 use Rattle.liq_liquidation.proofs.Parts.{parts_coll, parts_debt}
+use Rattle.liq_types.proofs.Tests.{all_false, made_by}
+use Rattle.std.proofs.lemmas.Bool.{ltb-false, leb-false}
 
 -- ---- no rule refuses
-
-all_false : (rules : List Rule) → first_refusal rules ≡ None → AllByRecursion (λ (rule : Rule). rule.0 ≡ false) rules
-all_false [] h = tt
-all_false (rule ∷ rules) h = by rule.0 h (all_false rules) where
-  by : (b : Bool) → cond b (Some rule.1) (first_refusal rules) ≡ None → (first_refusal rules ≡ None → AllByRecursion (λ (rule : Rule). rule.0 ≡ false) rules) → (b ≡ false) × AllByRecursion (λ (rule : Rule). rule.0 ≡ false) rules
-  by true k later = cc
-  by false k later = (refl, later k)
-
-lt_false : (a b : ℕ) → nat_lt a b ≡ false → b ≤ a
-lt_false a b h = grind (arith, nat_tests)
-
-le_false : (a b : ℕ) → nat_le a b ≡ false → b < a
-le_false a b h = grind (arith, nat_tests)
-
-made_by : {X : Type 0} (o : Option Refusal) (x y : X) → outcome o x ≡ Ok y → (o ≡ None) × (x ≡ y)
-made_by None x y h = (refl, cc)
-made_by (Some refusal) x y h = cc
 
 -- ---- what the pool takes over
 
 served : (kind : Treatment) (price coll debt total : ℕ) → (is_capped kind && nat_lt total debt) ≡ false → (treated kind price coll debt total).offset_debt ≤ total
 served Plain price coll debt total h = omega arith
 served Redistributed price coll debt total h = omega arith
-served Capped price coll debt total h = lt_false total debt h
+served Capped price coll debt total h = ltb-false total debt h
 served Kept price coll debt total h = omega arith
 
 -- collateral below 110 percent is at most 11 gwei for each micro-LUSD
@@ -111,11 +96,11 @@ planned m sums t total made h =
     let rules = all_false (one_rules m others own.0 own.1 total) ok.0 in
     let same = ok.1 in
     record {
-      several = omega (arith, le_false m.troves 1 rules.0);
+      several = omega (arith, leb-false m.troves 1 rules.0);
       coll = subst (λ (x : One). one_total_coll x ≡ own.0) same (parts_coll m own.0 own.1 total rules.1.0);
       debt = subst (λ (x : One). one_total_debt x ≡ own.1) same (parts_debt m own.0 own.1 total rules.1.0);
       served = subst (λ (x : One). x.offset_debt ≤ total) same (served kind m.price own.0 own.1 total rules.1.1.0);
       worth = λ least. subst (λ (x : One). x.offset_coll ≤ OFFSET_MOST * x.offset_debt) same (worth_within m own.0 own.1 total kind refl least);
-      coll_fits = lt_false SUM_MOST _ (subst (λ (x : One). nat_lt SUM_MOST (sum_after sums.coll x.spread_coll (sums.stakes - t.stake)) ≡ false) same rules.1.1.1.0);
-      debt_fits = lt_false SUM_MOST _ (subst (λ (x : One). nat_lt SUM_MOST (sum_after sums.debt x.spread_debt (sums.stakes - t.stake)) ≡ false) same rules.1.1.1.1.0);
+      coll_fits = ltb-false SUM_MOST _ (subst (λ (x : One). nat_lt SUM_MOST (sum_after sums.coll x.spread_coll (sums.stakes - t.stake)) ≡ false) same rules.1.1.1.0);
+      debt_fits = ltb-false SUM_MOST _ (subst (λ (x : One). nat_lt SUM_MOST (sum_after sums.debt x.spread_debt (sums.stakes - t.stake)) ≡ false) same rules.1.1.1.1.0);
     }

@@ -6,6 +6,7 @@ use Rattle.std.proofs.lemmas.List.{reverse-append}
 use Rattle.liq_types.specs.Ranked.{Ranked, first_of, from_last, key_in, after_account, before_in}
 use Rattle.liq_order.specs.Listed.{IsAbsent, AreDistinct}
 use Rattle.liq_order.proofs.Found.{absent_from_key}
+use Rattle.std.proofs.lemmas.Bool.{eqb-true, ne_eqb, eq-eqb}
 
 -- the accounts of a list from one on
 abbrev pub from_account : List ℕ → ℕ → List ℕ
@@ -19,23 +20,11 @@ ahead_of accounts (Some account) = from_account accounts account
 abbrev accounts : List Ranked → List ℕ
 accounts list = map (λ (e : Ranked). e.1) list
 
-itself : (a : ℕ) → (a == a) ≡ true
-itself a = grind (arith, nat_tests)
-
-equal : (a b : ℕ) → (a == b) ≡ true → a ≡ b
-equal a b test = grind (arith, nat_tests)
-
-other : (a b : ℕ) → b ≢ a → (a == b) ≡ false
-other a b ne = grind (arith, nat_tests)
-
-other_turned : (a b : ℕ) → a ≢ b → (a == b) ≡ false
-other_turned a b ne = grind (arith, nat_tests)
-
 -- ---- the first account
 
 pub all_ahead : (list : List ℕ) → ahead_of list (first_of list) ≡ list
 all_ahead [] = refl
-all_ahead (a ∷ more) = ap (λ b. cond b (a ∷ more) (from_account more a)) (itself a)
+all_ahead (a ∷ more) = ap (λ b. cond b (a ∷ more) (from_account more a)) (eq-eqb a a refl)
 
 -- ---- what is next is the first of what is ahead
 
@@ -43,7 +32,7 @@ first_after : (a : ℕ) (more : List ℕ) (o : Option ℕ) → first_of (ahead_o
 first_after a more None h = refl
 first_after a more (Some x) h = by (a == x) refl where
   by : (b : Bool) → (a == x) ≡ b → first_of (cond b (a ∷ more) (from_account more x)) ≡ Some x
-  by true e = ap (λ n. Some n) (equal a x e)
+  by true e = ap (λ n. Some n) (eqb-true a x e)
   by false e = h
 
 pub next_first : (list : List ℕ) (account : ℕ) → first_of (ahead_of list (after_account list account)) ≡ after_account list account
@@ -62,7 +51,7 @@ passed b list account h (Some x) e = ap (λ t. cond t (b ∷ accounts list) (fro
   at_first [] n f = absurd (nothing f) where
     nothing : None ≡ Some x → ⊥
     nothing g = cc
-  at_first (g ∷ gs) n f = subst (λ y. (b == y) ≡ false) (the f) (other b g.1 n.0) where
+  at_first (g ∷ gs) n f = subst (λ y. (b == y) ≡ false) (the f) (ne_eqb b g.1 (λ same. n.0 (sym same))) where
     the : Some g.1 ≡ Some x → g.1 ≡ x
     the k = cc
 
@@ -78,7 +67,7 @@ passed b list account h (Some x) e = ap (λ t. cond t (b ∷ accounts list) (fro
 first_passed : (b : ℕ) (list : List Ranked) → IsAbsent b list → ahead_of (b ∷ accounts list) (first_of (accounts list)) ≡ accounts list
 first_passed b [] h = refl
 first_passed b (e ∷ es) h =
-    ap (λ t. cond t (b ∷ accounts (e ∷ es)) (from_account (accounts (e ∷ es)) e.1)) (other b e.1 h.0)
+    ap (λ t. cond t (b ∷ accounts (e ∷ es)) (from_account (accounts (e ∷ es)) e.1)) (ne_eqb b e.1 (λ same. h.0 (sym same)))
     ∙ all_ahead (accounts (e ∷ es))
 
 stepped : (list : List Ranked) (account : ℕ) → AreDistinct list → first_of (from_account (accounts list) account) ≡ Some account → from_account (accounts list) account ≡ account ∷ ahead_of (accounts list) (after_account (accounts list) account)
@@ -88,7 +77,7 @@ stepped [] account h f = absurd (nothing f) where
 stepped (e ∷ es) account h f = by (e.1 == account) refl f (stepped es account h.1) where
   by : (t : Bool) → (e.1 == account) ≡ t → first_of (cond t (e.1 ∷ accounts es) (from_account (accounts es) account)) ≡ Some account → (first_of (from_account (accounts es) account) ≡ Some account → from_account (accounts es) account ≡ account ∷ ahead_of (accounts es) (after_account (accounts es) account)) → cond t (e.1 ∷ accounts es) (from_account (accounts es) account) ≡ account ∷ ahead_of (e.1 ∷ accounts es) (cond t (first_of (accounts es)) (after_account (accounts es) account))
   by true is g later =
-      ap (λ n. n ∷ accounts es) (equal e.1 account is)
+      ap (λ n. n ∷ accounts es) (eqb-true e.1 account is)
       ∙ ap (λ (l : List ℕ). account ∷ l) (sym (first_passed e.1 es h.0))
   by false is g later =
       later g ∙ ap (λ (l : List ℕ). account ∷ l) (sym (passed e.1 es account h.0 (after_account (accounts es) account) refl))
@@ -130,7 +119,7 @@ step_on entries next account h is n =
 
 nowhere : (list : List Ranked) (account : ℕ) → IsAbsent account list → from_account (accounts list) account ≡ []
 nowhere [] account h = refl
-nowhere (e ∷ es) account h = ap (λ t. cond t (accounts (e ∷ es)) (from_account (accounts es) account)) (other_turned e.1 account h.0) ∙ nowhere es account h.1
+nowhere (e ∷ es) account h = ap (λ t. cond t (accounts (e ∷ es)) (from_account (accounts es) account)) (ne_eqb e.1 account h.0) ∙ nowhere es account h.1
 
 -- it is in the list
 pub is_listed : (entries : List Ranked) (next : Option ℕ) (account : ℕ) → next ≡ Some account → IsNext entries next → IsSome (key_in entries account)

@@ -3,7 +3,7 @@ use Rattle.std.proofs.Common.{◌≡◌, ℕ, ℤ, ◌+◌, ◌-◌, ◌*◌, �
 use Rattle.std.specs.Prelude.{◌≢◌, ◌==◌, not, option_map, filter, filter_map, reverse, IsSome, is_some, unwrap_or, Ok}
 use Rattle.std.specs.List.{AllByRecursion, cons_option}
 use Rattle.std.proofs.Math.Nat.{mul-le-mul_right, div-mul-le_self}
-use Rattle.std.proofs.lemmas.Bool.{cases_lt}
+use Rattle.std.proofs.lemmas.Bool.{cases_lt, ltb-false, leb-false}
 use Rattle.std.proofs.lemmas.Bool.Decides.{nat_tests}
 use Rattle.std.proofs.lemmas.List.Sums.{sum_by-cons}
 use Rattle.liq_types.specs.declared.amounts.TheConstants.{LIM, RESERVE, MIN_NET, MCR}
@@ -58,12 +58,6 @@ pub record Stands (p : Parts) : Type 0 where
 
 -- ---- a trove that is visited
 
-lt_false : (a b : ℕ) → nat_lt a b ≡ false → b ≤ a
-lt_false a b e = grind (arith, nat_tests, e)
-
-le_false : (a b : ℕ) → nat_le a b ≡ false → b < a
-le_false a b e = grind (arith, nat_tests, e)
-
 -- what is drawn for a lot is less than the trove has
 draw_less : (coll debt price lot : ℕ) → 1 ≤ price → RESERVE ≤ debt → lot ≤ debt - RESERVE → is_below_percent coll debt price MCR ≡ false → draw_of price lot < coll
 draw_less coll debt price lot some least part above =
@@ -71,7 +65,7 @@ draw_less coll debt price lot some least part above =
   where
     clash : coll ≤ draw_of price lot → ⊥
     clash more =
-        let enough : asked MCR debt ≤ worth coll price = lt_false (worth coll price) (asked MCR debt) above in
+        let enough : asked MCR debt ≤ worth coll price = ltb-false (worth coll price) (asked MCR debt) above in
         let low : draw_of price lot * price ≤ lot * 1000000000 = div-mul-le_self (lot * 1000000000) price in
         let high : coll * price ≤ draw_of price lot * price = mul-le-mul_right price more in
         omega (arith, enough, low, high, part, least)
@@ -209,7 +203,7 @@ module _ (p : Parts) (stands : Stands p) (price : ℕ) (price_some : 1 ≤ price
     by true e g =
         subst (λ (q : Parts). After p q cut) (sym (cut_closed p cut (v.coll, v.debt) (sym is.entire_is) e ∙ ap (λ (q : Parts). closed_parts q v.account (v.coll - cut.draw)) gone_is)) closed
     by false e g =
-        subst (λ (q : Parts). After p q cut) (sym (cut_placed p cut (v.coll, v.debt) (sym is.entire_is) e ∙ ap (λ (q : Parts). placed_parts q v.account (v.coll - cut.draw) (v.debt - cut.lot)) gone_is)) (left_with (lt_false (net_debt v - cut.lot) MIN_NET g))
+        subst (λ (q : Parts). After p q cut) (sym (cut_placed p cut (v.coll, v.debt) (sym is.entire_is) e ∙ ap (λ (q : Parts). placed_parts q v.account (v.coll - cut.draw) (v.debt - cut.lot)) gone_is)) (left_with (ltb-false (net_debt v - cut.lot) MIN_NET g))
 
   -- so it fits
   fits : After p (cut_parts p cut) cut → CutFits p cut
@@ -377,8 +371,8 @@ planned_covered p wallet plan s h =
     let terms = redeeming_terms m vs h.amount in
     let told = planned_is (first_refusal (redeem_rules m wallet vs h.amount h.bound)) terms plan h.planned in
     let rules = all_false (redeem_rules m wallet vs h.amount h.bound) told.0 in
-    let enough : h.amount ≤ wallet.lusd = lt_false wallet.lusd h.amount rules.1.1.1.1.0 in
-    let fee : terms.fee < terms.drawn = le_false terms.drawn terms.fee rules.1.1.1.1.1.1.0 in
+    let enough : h.amount ≤ wallet.lusd = ltb-false wallet.lusd h.amount rules.1.1.1.1.0 in
+    let fee : terms.fee < terms.drawn = leb-false terms.drawn terms.fee rules.1.1.1.1.1.1.0 in
     let least = h.sound.price_least in
     let total = s.coll in
     let stands : Stands p = record { troves = s.troves; coll = omega (arith, total); debt = s.debt } in

@@ -51,11 +51,6 @@ count_beside {X} table key x s =
     let law = sum_beside (λ (y : X). 1) table key x s in
     omega (arith, law, counted (put table key x), counted (without table key))
 
-pub count_taken : {X : Type 0} (table : Table X) (key : ℕ) (x : X) → at table key ≡ Some x → length (without table key) + 1 ≡ length table
-count_taken {X} table key x h =
-    let law = sum_taken (λ (y : X). 1) table key x h in
-    omega (arith, law, counted table, counted (without table key))
-
 pub stakes_taken : (troves : Table Trove) (sums : Sums) (count account : ℕ) (t : Trove) → AreKept troves sums count → at troves account ≡ Some t → stakes_in (without troves account) + t.stake ≡ sums.stakes
 stakes_taken troves sums count account t h there =
     let law = sum_taken (λ (x : Trove). x.stake) troves account t there in
