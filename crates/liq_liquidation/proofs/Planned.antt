@@ -31,7 +31,7 @@ served Capped price coll debt total h = ltb-false total debt h
 served Kept price coll debt total h = omega arith
 
 -- collateral below 110 percent is at most 11 gwei for each micro-LUSD
-below_worth : (coll debt price : ℕ) → PRICE_LEAST ≤ price → is_below_percent coll debt price MCR ≡ true → coll ≤ OFFSET_MOST * debt
+pub below_worth : (coll debt price : ℕ) → PRICE_LEAST ≤ price → is_below_percent coll debt price MCR ≡ true → coll ≤ OFFSET_MOST * debt
 below_worth coll debt price least below =
     let under : worth coll price < asked MCR debt = grind (arith, nat_tests, below) in
     let more : coll * PRICE_LEAST ≤ coll * price = mul-le-mul_left coll least in
@@ -60,7 +60,7 @@ capped_worth coll debt price least =
     omega (arith, low, more)
 
 -- plain is below 110 percent
-plain_below : (n w b r : Bool) → cond n (cond b Plain Kept) (cond w Redistributed (cond b Plain (cond r Capped Kept))) ≡ Plain → b ≡ true
+pub plain_below : (n w b r : Bool) → cond n (cond b Plain Kept) (cond w Redistributed (cond b Plain (cond r Capped Kept))) ≡ Plain → b ≡ true
 plain_below true w true r h = refl
 plain_below true w false r h = cc
 plain_below false true b r h = cc

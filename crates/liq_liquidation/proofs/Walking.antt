@@ -12,16 +12,16 @@ use Rattle.liq_types.proofs.Lookups.{at-without_other}
 use Rattle.liq_troves.specs.Rows.{stakes_in}
 use Rattle.liq_order.specs.Listed.{IsAbsent, AreDistinct}
 use Rattle.liq_order.specs.Order.{order_by}
-use Rattle.liq_order.proofs.Found.{before_found}
+use Rattle.liq_order.proofs.Found.{before_found, distinct_back, without_absent}
 use Rattle.liq_liquidation.specs.declared.figures.Figures.{Figures}
 use Rattle.liq_liquidation.specs.declared.one.One.{One}
 use Rattle.liq_liquidation.specs.declared.one.Victim.{Victim}
 use Rattle.liq_liquidation.specs.Given.{IsStruckOf}
 use Rattle.liq_liquidation.specs.Moment.{Moment, moment_after, figures_after, victim_from, with_account, next_at, lowest_from, plan_from, books_at, IsSoundMoment}
 use Rattle.liq_liquidation.specs.One.{one_by, one_in}
-use Rattle.liq_liquidation.proofs.Leaving.{left_order, order_absent}
 use Rattle.liq_liquidation.proofs.Struck.{sound_after, stakes_left, struck_of, held}
 use Rattle.std.proofs.lemmas.Bool.{ne_eqb, eq-eqb}
+use Rattle.liq_order.proofs.Ranking.{left_order, order_absent}
 
 -- ---- lists with each account once
 
@@ -37,15 +37,6 @@ absent_back account (f ∷ fs) back h = absent_back account fs back h.1
 distinct_front : (front back : List Ranked) (e : Ranked) → AreDistinct (front ++ e ∷ back) → IsAbsent e.1 front
 distinct_front [] back e h = tt
 distinct_front (f ∷ fs) back e h = ((λ same. absent_middle f.1 fs back e h.0 (sym same)), distinct_front fs back e h.1)
-
-distinct_back : (front back : List Ranked) (e : Ranked) → AreDistinct (front ++ e ∷ back) → IsAbsent e.1 back
-distinct_back [] back e h = h.0
-distinct_back (f ∷ fs) back e h = distinct_back fs back e h.1
-
-without_absent : (list : List Ranked) (account : ℕ) → IsAbsent account list → without_ranked list account ≡ list
-without_absent [] account h = refl
-without_absent (e ∷ es) account h =
-    ap (λ b. cond (not b) (e ∷ without_ranked es account) (without_ranked es account)) (ne_eqb e.1 account h.0) ∙ ap (λ (l : List Ranked). e ∷ l) (without_absent es account h.1)
 
 -- without its last account
 without_last : (front : List Ranked) (e : Ranked) → IsAbsent e.1 front → without_ranked (front ++ e ∷ []) e.1 ≡ front

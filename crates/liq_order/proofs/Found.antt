@@ -123,7 +123,7 @@ not_found list account h some = elim (split list account) [
 
 -- ---- without an account
 
-distinct_back : (front back : List Ranked) (e : Ranked) → AreDistinct (front ++ e ∷ back) → IsAbsent e.1 back
+pub distinct_back : (front back : List Ranked) (e : Ranked) → AreDistinct (front ++ e ∷ back) → IsAbsent e.1 back
 distinct_back [] back e h = h.0
 distinct_back (f ∷ fs) back e h = distinct_back fs back e h.1
 
@@ -131,7 +131,7 @@ pub absent_back : (list : List Ranked) (account index : ℕ) (s : IsAt list acco
 absent_back list account index s h =
     subst (λ a. IsAbsent a s.back) (eqb-true s.entry.1 account s.same) (distinct_back s.front s.back s.entry (subst AreDistinct s.whole h))
 
-without_absent : (list : List Ranked) (account : ℕ) → IsAbsent account list → without_ranked list account ≡ list
+pub without_absent : (list : List Ranked) (account : ℕ) → IsAbsent account list → without_ranked list account ≡ list
 without_absent [] account h = refl
 without_absent (e ∷ es) account h =
     ap (λ b. cond (not b) (e ∷ without_ranked es account) (without_ranked es account)) (ne_eqb e.1 account h.0) ∙ ap (λ l. e ∷ l) (without_absent es account h.1)
@@ -176,14 +176,14 @@ distinct_kept q (e ∷ es) h = by (q e) (distinct_kept q es h.1) where
 abbrev accounts : List Ranked → List ℕ
 accounts list = map (λ (e : Ranked). e.1) list
 
-reverse_first : (e : Ranked) (es : List Ranked) → reverse (e ∷ es) ≡ reverse es ++ e ∷ []
+pub reverse_first : (e : Ranked) (es : List Ranked) → reverse (e ∷ es) ≡ reverse es ++ e ∷ []
 reverse_first e es = reverse-append (e ∷ []) es
 
-absent_push : (list : List Ranked) (e : Ranked) (account : ℕ) → IsAbsent account list → e.1 ≢ account → IsAbsent account (list ++ e ∷ [])
+pub absent_push : (list : List Ranked) (e : Ranked) (account : ℕ) → IsAbsent account list → e.1 ≢ account → IsAbsent account (list ++ e ∷ [])
 absent_push [] e account h n = (n, tt)
 absent_push (f ∷ fs) e account h n = (h.0, absent_push fs e account h.1 n)
 
-absent_reverse : (list : List Ranked) (account : ℕ) → IsAbsent account list → IsAbsent account (reverse list)
+pub absent_reverse : (list : List Ranked) (account : ℕ) → IsAbsent account list → IsAbsent account (reverse list)
 absent_reverse [] account h = tt
 absent_reverse (e ∷ es) account h = subst (IsAbsent account) (sym (reverse_first e es)) (absent_push (reverse es) e account (absent_reverse es account h.1) h.0)
 

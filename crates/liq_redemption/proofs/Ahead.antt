@@ -5,7 +5,7 @@ use Rattle.std.proofs.lemmas.Bool.Decides.{nat_tests}
 use Rattle.std.proofs.lemmas.List.{reverse-append}
 use Rattle.liq_types.specs.Ranked.{Ranked, first_of, from_last, key_in, after_account, before_in}
 use Rattle.liq_order.specs.Listed.{IsAbsent, AreDistinct}
-use Rattle.liq_order.proofs.Found.{absent_from_key}
+use Rattle.liq_order.proofs.Found.{absent_from_key, absent_push, reverse_first, absent_reverse}
 use Rattle.std.proofs.lemmas.Bool.{eqb-true, ne_eqb, eq-eqb}
 
 -- the accounts of a list from one on
@@ -84,24 +84,13 @@ stepped (e ∷ es) account h f = by (e.1 == account) refl f (stepped es account 
 
 -- ---- the list turned round
 
-absent_push : (list : List Ranked) (e : Ranked) (account : ℕ) → IsAbsent account list → e.1 ≢ account → IsAbsent account (list ++ e ∷ [])
-absent_push [] e account h n = (n, tt)
-absent_push (f ∷ fs) e account h n = (h.0, absent_push fs e account h.1 n)
-
-turned_first : (e : Ranked) (es : List Ranked) → reverse (e ∷ es) ≡ reverse es ++ e ∷ []
-turned_first e es = reverse-append (e ∷ []) es
-
-absent_turned : (list : List Ranked) (account : ℕ) → IsAbsent account list → IsAbsent account (reverse list)
-absent_turned [] account h = tt
-absent_turned (e ∷ es) account h = subst (IsAbsent account) (sym (turned_first e es)) (absent_push (reverse es) e account (absent_turned es account h.1) h.0)
-
 distinct_push : (list : List Ranked) (e : Ranked) → IsAbsent e.1 list → AreDistinct list → AreDistinct (list ++ e ∷ [])
 distinct_push [] e n h = (tt, tt)
 distinct_push (f ∷ fs) e n h = (absent_push fs e f.1 h.0 (λ same. n.0 (sym same)), distinct_push fs e n.1 h.1)
 
 pub distinct_turned : (list : List Ranked) → AreDistinct list → AreDistinct (reverse list)
 distinct_turned [] h = tt
-distinct_turned (e ∷ es) h = subst AreDistinct (sym (turned_first e es)) (distinct_push (reverse es) e (absent_turned es e.1 h.0) (distinct_turned es h.1))
+distinct_turned (e ∷ es) h = subst AreDistinct (sym (reverse_first e es)) (distinct_push (reverse es) e (absent_reverse es e.1 h.0) (distinct_turned es h.1))
 
 -- ---- along the order
 
@@ -127,7 +116,7 @@ is_listed entries next account is n = by (key_in entries account) refl where
   by : (o : Option ℤ) → key_in entries account ≡ o → is_some o ≡ true
   by (Some key) e = refl
   by None e =
-      absurd (none (sym (ap (λ (l : List ℕ). first_of l) (nowhere (reverse entries) account (absent_turned entries account (absent_from_key entries account e)))) ∙ first_is entries next account is n))
+      absurd (none (sym (ap (λ (l : List ℕ). first_of l) (nowhere (reverse entries) account (absent_reverse entries account (absent_from_key entries account e)))) ∙ first_is entries next account is n))
     where
       none : None ≡ Some account → ⊥
       none g = cc

@@ -59,7 +59,7 @@ pub record Stands (p : Parts) : Type 0 where
 -- ---- a trove that is visited
 
 -- what is drawn for a lot is less than the trove has
-draw_less : (coll debt price lot : ℕ) → 1 ≤ price → RESERVE ≤ debt → lot ≤ debt - RESERVE → is_below_percent coll debt price MCR ≡ false → draw_of price lot < coll
+pub draw_less : (coll debt price lot : ℕ) → 1 ≤ price → RESERVE ≤ debt → lot ≤ debt - RESERVE → is_below_percent coll debt price MCR ≡ false → draw_of price lot < coll
 draw_less coll debt price lot some least part above =
     elim (cases_lt (draw_of price lot) coll) [ inl less ↦ less | inr more ↦ absurd (clash more) ]
   where
