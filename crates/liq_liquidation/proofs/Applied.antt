@@ -8,8 +8,7 @@ use Rattle.liq_types.specs.declared.figures.Trove.{Trove}
 use Rattle.liq_types.specs.declared.replies.Refusal.TheVariants.{SumLimit}
 use Rattle.liq_types.specs.Rules.{first_refusal}
 use Rattle.liq_types.specs.Tables.{at, without}
-use Rattle.liq_troves.specs.declared.sums.Sums.{Sums}
-use Rattle.liq_troves.specs.Rows.{pending, spread_rules, stakes_in, sum_after}
+use Rattle.liq_troves.specs.Rows.{spread_rules, stakes_in, sum_after}
 use Rattle.liq_troves.specs.Standing.{Books, TrovesStand, lift, lifted_row}
 use Rattle.liq_troves.proofs.Standing.{trove_within, lift_stands}
 use Rattle.liq_liquidation.specs.declared.one.One.{One}

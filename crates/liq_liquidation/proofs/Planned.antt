@@ -1,15 +1,13 @@
 -- What is known of a liquidation that is not refused.
-use Rattle.std.proofs.Common.{◌≡◌, ℕ, ◌-◌, ◌*◌, ◌≤◌, ◌<◌, Bool, true, false, cond, min, refl, subst, arith, nat_lt, nat_le, Some, None, Option, [], ◌∷◌, List}
+use Rattle.std.proofs.Common.{◌≡◌, ℕ, ◌-◌, ◌*◌, ◌≤◌, ◌<◌, Bool, true, false, cond, min, refl, subst, arith, nat_lt}
 use Rattle.std.specs.Prelude.{◌&&◌, Ok}
-use Rattle.std.specs.List.{AllByRecursion}
 use Rattle.std.proofs.Math.Nat.{mul-le-mul_left, div-mul-le_self, le_of_mul-le-mul_right}
 use Rattle.std.proofs.lemmas.Bool.Decides.{nat_tests}
 use Rattle.liq_num.specs.Quotient.{floor_of}
 use Rattle.liq_types.specs.declared.amounts.TheConstants.{MCR, CAP_WORTH, OFFSET_MOST, PRICE_LEAST, SUM_MOST}
 use Rattle.liq_types.specs.declared.figures.Market.{Market}
 use Rattle.liq_types.specs.declared.figures.Trove.{Trove}
-use Rattle.liq_types.specs.declared.replies.Refusal.{Refusal}
-use Rattle.liq_types.specs.Rules.{Rule, first_refusal, outcome}
+use Rattle.liq_types.specs.Rules.{first_refusal}
 use Rattle.liq_types.specs.Totals.{is_below_percent, is_at_most_whole, is_ratio_below, is_normal, worth, asked}
 use Rattle.liq_types.proofs.Rounding.{offset_worth}
 use Rattle.liq_troves.specs.Rows.{entire_by, sum_after}

@@ -1,7 +1,6 @@
 -- The walk along the order from its end: after each victim the troves that are left are a beginning of the list.
 use Rattle.std.proofs.Common.{◌≡◌, ℕ, zero, suc, ◌+◌, ◌-◌, ◌≤◌, ◌<◌, Bool, true, false, cond, List, [], ◌∷◌, ◌++◌, length, map, refl, ap, sym, ◌∙◌, subst, arith, Some, None, Option, append_assoc, append-nil}
 use Rattle.std.specs.Prelude.{◌≢◌, ◌==◌, not, find, option_map, is_some, Result, Ok, Err, IfSome, IsSome}
-use Rattle.std.proofs.lemmas.Bool.Decides.{nat_tests}
 use Rattle.std.proofs.lemmas.List.{reverse-append}
 use Rattle.std.proofs.lemmas.List.Elements.{filter-append}
 use Rattle.liq_types.specs.declared.figures.Trove.{Trove}

@@ -1,8 +1,6 @@
 -- The accounts of the list from one on: what is still ahead of a walk from the list's end to its front.
-use Rattle.std.proofs.Common.{◌≡◌, ℕ, ℤ, Bool, true, false, cond, List, [], ◌∷◌, ◌++◌, map, refl, sym, ap, ◌∙◌, subst, Some, None, Option, arith}
-use Rattle.std.specs.Prelude.{◌==◌, ◌≢◌, reverse, IsSome, is_some}
-use Rattle.std.proofs.lemmas.Bool.Decides.{nat_tests}
-use Rattle.std.proofs.lemmas.List.{reverse-append}
+use Rattle.std.proofs.Common.{◌≡◌, ℕ, ℤ, Bool, true, false, cond, List, [], ◌∷◌, ◌++◌, map, refl, sym, ap, ◌∙◌, subst, Some, None, Option}
+use Rattle.std.specs.Prelude.{◌==◌, reverse, IsSome, is_some}
 use Rattle.liq_types.specs.Ranked.{Ranked, first_of, from_last, key_in, after_account, before_in}
 use Rattle.liq_order.specs.Listed.{IsAbsent, AreDistinct}
 use Rattle.liq_order.proofs.Found.{absent_from_key, absent_push, reverse_first, absent_reverse}

@@ -26,7 +26,7 @@ use Rattle.liq_redemption.specs.declared.planning.RedeemPlan.{RedeemPlan}
 use Rattle.liq_redemption.specs.Parts.{Parts, books_in, with_books, lifted_parts, placed_parts, closed_parts, cut_parts}
 use Rattle.liq_redemption.specs.Redemption.{Visit, visit, is_visited, net_debt, cut_of, draw_of, stops_before, troves_after, cuts, drawn, redeem_rules, redeeming_terms}
 use Rattle.liq_redemption.proofs.Ahead.{distinct_turned}
-use Rattle.liq_redemption.proofs.Listing.{key_without_other, key_with_other}
+use Rattle.liq_order.proofs.Listing.{key_without_other, key_with_other}
 use Rattle.liq_redemption.proofs.Parts.{cut_closed, cut_placed}
 use Rattle.liq_redemption.proofs.Taking.{visits, redeemed_within}
 
@@ -205,25 +205,31 @@ module _ (p : Parts) (stands : Stands p) (price : ℕ) (price_some : 1 ≤ price
     by false e g =
         subst (λ (q : Parts). After p q cut) (sym (cut_placed p cut (v.coll, v.debt) (sym is.entire_is) e ∙ ap (λ (q : Parts). placed_parts q v.account (v.coll - cut.draw) (v.debt - cut.lot)) gone_is)) (left_with (ltb-false (net_debt v - cut.lot) MIN_NET g))
 
+  -- what a trove that stays keeps
+  still_owed : (troves : ℕ) → stops_before v cut troves ≡ false → cut.full ≡ false → RESERVE + MIN_NET ≤ v.debt - cut.lot
+  still_owed troves goes part =
+      let enough = ltb-false (net_debt v - cut.lot) MIN_NET (sym (ap (λ t. cond t (nat_le troves 1) (nat_lt (net_debt v - cut.lot) MIN_NET)) part) ∙ goes) in
+      let least = own.least in
+      omega (arith, enough, least)
+
   -- so it fits
-  fits : After p (cut_parts p cut) cut → CutFits p cut
-  fits after =
+  fits : (troves : ℕ) → stops_before v cut troves ≡ false → CutFits p cut
+  fits troves goes =
       let o = own in
       let total = stands.coll in
       let debts = stands.debt in
       let claim = is.claim in
-      let made = after.stands.coll in
       record {
         own = (v.coll, v.debt);
         entire_is = is.entire_is;
-        within = record { coll = omega (arith, o.coll, total); debt = omega (arith, o.debt, debts) };
+        stands = stands.troves;
+        coll = omega (arith, total);
+        debt = debts;
         draw = draw_part;
         listed = is.listed;
-        active_coll = omega (arith, total);
-        active_debt = omega (arith, debts);
         surplus = omega (arith, total);
         claim = omega (arith, claim, o.coll, total);
-        limit = omega (arith, after.stands.troves.active_coll, made);
+        left = still_owed troves goes;
       }
 
 -- ---- the cuts along the visits
@@ -273,7 +279,7 @@ module _ (price : ℕ) (price_some : 1 ≤ price) where
     by false true e later = none_fit p
     by false false e later =
         let after = after_cut p stands price price_some v h.0 wanted troves e in
-        one_more p (cut_of price v wanted) (cuts price (troves_after (cut_of price v wanted) troves) (wanted - (cut_of price v wanted).lot) vs) (fits p stands price price_some v h.0 wanted after) after
+        one_more p (cut_of price v wanted) (cuts price (troves_after (cut_of price v wanted) troves) (wanted - (cut_of price v wanted).lot) vs) (fits p stands price price_some v h.0 wanted troves e) after
         (later (cut_parts p (cut_of price v wanted)) after.stands (visits_kept p (cut_parts p (cut_of price v wanted)) price (cut_of price v wanted) after vs h.1 h.2))
 
 -- ---- the visits of sound parts

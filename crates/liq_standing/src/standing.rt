@@ -26,8 +26,12 @@ pub fn lift(pools: &mut Pools, troves: &mut Troves, order: &mut Order, account: 
     requires debt { pools.old.active_debt + pools.old.default_debt ≤ LIM }
     ensures own { Some result ≡ entire_in troves.old.sums troves.old.table.rows account }
     ensures books { books_kept troves.new pools.new ≡ lifted (books_kept troves.old pools.old) account }
+    ensures coll { pools.new.active_coll + pools.new.default_coll + result.0 ≡ pools.old.active_coll + pools.old.default_coll }
+    ensures debt { pools.new.active_debt + pools.new.default_debt + result.1 ≡ pools.old.active_debt + pools.old.default_debt }
     ensures rest { pools.new ≡ pools_with pools.old (books_kept troves.new pools.new) }
+    ensures gone { at troves.new.table.rows account ≡ None }
     ensures list { order.new.entries ≡ without_ranked order.old.entries account }
+    ensures unlisted { key_in order.new.entries account ≡ None }
     ensures room { troves.new.table.room ≡ troves.old.table.room }
     ensures had { HasRoom troves.new.table account }
     ensures spare { order.new.room ≡ order.old.room + 1 }
