@@ -224,6 +224,12 @@ listed table account row s h =
     (sym (ap (λ (t : Table Trove). order_by t) (put-back table account row s h) ∙ put_absent left account row [] (at-without_same table account s)))
     (found_here (order_by left) (key_by row, account))
 
+pub listed_where : (table : Table Trove) (account : ℕ) → Ascends table → IsSome (at table account) → IsSome (key_in (order_by table) account)
+listed_where table account s there = by (at table account) refl there where
+  by : (o : Option Trove) → at table account ≡ o → IsSome o → IsSome (key_in (order_by table) account)
+  by None is h = cc
+  by (Some row) is h = listed table account row s is
+
 -- the ordered list of a table with a row more
 pub more_list : (table : Table Trove) (account : ℕ) (row : Trove) → at table account ≡ None → order_by (put table account row) ≡ with_ranked (order_by table) (key_by row, account)
 more_list table account row n = put_absent table account row [] n

@@ -3,7 +3,7 @@
 ghost use Rattle.std.specs.Prelude.{◌≡◌, ◌≤◌, ◌+◌, IsSome, Some, None};
 ghost use Rattle.liq_types.specs.declared.amounts.TheConstants.{MIN_NET};
 ghost use Rattle.liq_types.specs.Ranked.{key_in, with_ranked, without_ranked};
-ghost use Rattle.liq_types.specs.Tables.{at};
+ghost use Rattle.liq_types.specs.Tables.{at, without};
 ghost use Rattle.liq_tables.specs.WithRoom.{HasRoom};
 ghost use Rattle.liq_troves.specs.Rows.{entire_in, key_by, set_row};
 ghost use Rattle.liq_troves.specs.Standing.{TrovesStand, lift as lifted, place as placed};
@@ -29,6 +29,7 @@ pub fn lift(pools: &mut Pools, troves: &mut Troves, order: &mut Order, account: 
     ensures coll { pools.new.active_coll + pools.new.default_coll + result.0 ≡ pools.old.active_coll + pools.old.default_coll }
     ensures debt { pools.new.active_debt + pools.new.default_debt + result.1 ≡ pools.old.active_debt + pools.old.default_debt }
     ensures rest { pools.new ≡ pools_with pools.old (books_kept troves.new pools.new) }
+    ensures rows { troves.new.table.rows ≡ without troves.old.table.rows account }
     ensures gone { at troves.new.table.rows account ≡ None }
     ensures list { order.new.entries ≡ without_ranked order.old.entries account }
     ensures unlisted { key_in order.new.entries account ≡ None }
