@@ -29,6 +29,7 @@ use Rattle.liq_redemption.proofs.Ahead.{distinct_turned}
 use Rattle.liq_order.proofs.Listing.{key_without_other, key_with_other}
 use Rattle.liq_redemption.proofs.Parts.{cut_closed, cut_placed}
 use Rattle.liq_redemption.proofs.Taking.{visits, redeemed_within}
+use Rattle.liq_types.proofs.Tests.{all_false, made_by}
 
 -- ---- the visited troves
 
@@ -345,37 +346,13 @@ pub record IsCovered (p : Parts) (wallet : Wallet) (plan : RedeemPlan) : Type 0 
   pub fee : plan.fee ≤ plan.drawn
   pub redeemed : plan.redeemed ≤ wallet.lusd
 
-same_plan : (x y : RedeemPlan) → outcome None x ≡ Ok y → x ≡ y
-same_plan x y h = cc
-
-planned_is : (o : Option Refusal) (x y : RedeemPlan) → outcome o x ≡ Ok y → (o ≡ None) × (x ≡ y)
-planned_is None x y h = (refl, same_plan x y h)
-planned_is (Some refusal) x y h = absurd (none h) where
-  none : outcome (Some refusal) x ≡ Ok y → ⊥
-  none g = cc
-
--- a list of rules of which none comes
-abbrev AllFalse : List Rule → Type 0
-AllFalse [] = Unit {0}
-AllFalse (rule ∷ rules) = (rule.0 ≡ false) × AllFalse rules
-
-all_false : (rules : List Rule) → first_refusal rules ≡ None → AllFalse rules
-all_false [] h = tt
-all_false (rule ∷ rules) h = by rule.0 refl h (all_false rules) where
-  some : first_refusal ((true, rule.1) ∷ rules) ≡ None → ⊥
-  some k = cc
-
-  by : (b : Bool) → rule.0 ≡ b → cond b (Some rule.1) (first_refusal rules) ≡ None → (first_refusal rules ≡ None → AllFalse rules) → (rule.0 ≡ false) × AllFalse rules
-  by true e g later = absurd (some g)
-  by false e g later = (e, later g)
-
 pub planned_covered : (p : Parts) (wallet : Wallet) (plan : RedeemPlan) → AreSoundParts p wallet → IsPlannedOn p wallet plan → IsCovered p wallet plan
 planned_covered p wallet plan s h =
     let m = h.market in
     let list = reverse p.order in
     let vs = visits_in p m.price list in
     let terms = redeeming_terms m vs h.amount in
-    let told = planned_is (first_refusal (redeem_rules m wallet vs h.amount h.bound)) terms plan h.planned in
+    let told = made_by (first_refusal (redeem_rules m wallet vs h.amount h.bound)) terms plan h.planned in
     let rules = all_false (redeem_rules m wallet vs h.amount h.bound) told.0 in
     let enough : h.amount ≤ wallet.lusd = ltb-false wallet.lusd h.amount rules.1.1.1.1.0 in
     let fee : terms.fee < terms.drawn = leb-false terms.drawn terms.fee rules.1.1.1.1.1.1.0 in
