@@ -10,7 +10,7 @@ use Rattle.liq_types.specs.WellFormed.{Ascends}
 use Rattle.liq_types.proofs.Lookups.{at-put_same, at-without_same}
 use Rattle.liq_types.proofs.UsedRows.{written_twice}
 
-unused : (w : Wallet) → is_used_wallet w ≡ false → w ≡ no_wallet
+pub unused : (w : Wallet) → is_used_wallet w ≡ false → w ≡ no_wallet
 unused w h =
     let coll : w.coll ≡ 0 = grind (arith, nat_tests, h) in
     let lusd : w.lusd ≡ 0 = grind (arith, nat_tests, h) in

@@ -8,8 +8,7 @@ use Rattle.liq_types.specs.declared.figures.Trove.{Trove}
 use Rattle.liq_types.specs.declared.replies.Refusal.TheVariants.{SumLimit}
 use Rattle.liq_types.specs.Rules.{first_refusal}
 use Rattle.liq_types.specs.Tables.{at, without}
-use Rattle.liq_troves.specs.declared.sums.Sums.{Sums}
-use Rattle.liq_troves.specs.Rows.{pending, spread_rules, stakes_in, sum_after}
+use Rattle.liq_troves.specs.Rows.{spread_rules, stakes_in, sum_after}
 use Rattle.liq_troves.specs.Standing.{Books, TrovesStand, lift, lifted_row}
 use Rattle.liq_troves.proofs.Standing.{trove_within, lift_stands}
 use Rattle.liq_liquidation.specs.declared.one.One.{One}
@@ -18,29 +17,6 @@ use Rattle.liq_liquidation.specs.Applied.{IsPlannedOn}
 use Rattle.liq_liquidation.specs.One.{one_in, one_by}
 use Rattle.liq_liquidation.proofs.Planned.{planned}
 use Rattle.liq_liquidation.proofs.Struck.{Hold, stakes_left, others_stake}
-
--- ---- a trove that leaves
-
-pub record IsTaken (b : Books) (sums : Sums) (t : Trove) : Type 0 where
-  pub mark_coll : t.mark_coll ≤ sums.coll
-  pub mark_debt : t.mark_debt ≤ sums.debt
-  pub coll : t.coll ≤ b.active_coll
-  pub debt : t.debt ≤ b.active_debt
-  pub pending_coll : pending t.stake sums.coll t.mark_coll ≤ b.default_coll
-  pub pending_debt : pending t.stake sums.debt t.mark_debt ≤ b.default_debt
-
-pub taken : (b : Books) (sums : Sums) (account : ℕ) (t : Trove) → sums ≡ b.sums → Some t ≡ at b.troves account → TrovesStand b → IsTaken b sums t
-taken b sums account t same there h =
-    subst (λ (s : Sums). IsTaken b s t) (sym same)
-    (let w = trove_within b account t (sym there) h in
-    record {
-      mark_coll = w.stands.mark_coll;
-      mark_debt = w.stands.mark_debt;
-      coll = w.coll;
-      debt = w.debt;
-      pending_coll = w.pending_coll;
-      pending_debt = w.pending_debt;
-    })
 
 -- ---- a victim that was planned
 

@@ -19,8 +19,8 @@ use Rattle.liq_stability.proofs.Pool.{offset-words, offset-finishes}
 use Rattle.liq_liquidation.specs.declared.one.Victim.{Victim}
 use Rattle.liq_liquidation.specs.Applied.{AreLeft, words_left, finished_in}
 use Rattle.liq_liquidation.specs.One.{one, one_in, struck_books, rewarded, liquidated}
-use Rattle.liq_liquidation.proofs.Leaving.{left_order}
 use Rattle.liq_liquidation.proofs.States.{books_struck}
+use Rattle.liq_order.proofs.Ranking.{left_order}
 
 module _ (s : State) (v : Victim) (liquidator : ℕ) where
   abbrev left : Option TroveEntry → State

@@ -31,7 +31,7 @@ cap_fits m coll debt h =
 
 -- ---- the sums
 
-gas_within : (coll : ℕ) → gas_of coll ≤ coll
+pub gas_within : (coll : ℕ) → gas_of coll ≤ coll
 gas_within coll = div-le_self coll 200
 
 part_within : (amount part whole : ℕ) → part ≤ whole → floor_of amount part whole ≤ amount

@@ -1,15 +1,13 @@
 -- What is known of a liquidation that is not refused.
-use Rattle.std.proofs.Common.{◌≡◌, ℕ, ◌-◌, ◌*◌, ◌≤◌, ◌<◌, Bool, true, false, cond, min, refl, subst, arith, nat_lt, nat_le, Some, None, Option, [], ◌∷◌, List}
+use Rattle.std.proofs.Common.{◌≡◌, ℕ, ◌-◌, ◌*◌, ◌≤◌, ◌<◌, Bool, true, false, cond, min, refl, subst, arith, nat_lt}
 use Rattle.std.specs.Prelude.{◌&&◌, Ok}
-use Rattle.std.specs.List.{AllByRecursion}
 use Rattle.std.proofs.Math.Nat.{mul-le-mul_left, div-mul-le_self, le_of_mul-le-mul_right}
 use Rattle.std.proofs.lemmas.Bool.Decides.{nat_tests}
 use Rattle.liq_num.specs.Quotient.{floor_of}
 use Rattle.liq_types.specs.declared.amounts.TheConstants.{MCR, CAP_WORTH, OFFSET_MOST, PRICE_LEAST, SUM_MOST}
 use Rattle.liq_types.specs.declared.figures.Market.{Market}
 use Rattle.liq_types.specs.declared.figures.Trove.{Trove}
-use Rattle.liq_types.specs.declared.replies.Refusal.{Refusal}
-use Rattle.liq_types.specs.Rules.{Rule, first_refusal, outcome}
+use Rattle.liq_types.specs.Rules.{first_refusal}
 use Rattle.liq_types.specs.Totals.{is_below_percent, is_at_most_whole, is_ratio_below, is_normal, worth, asked}
 use Rattle.liq_types.proofs.Rounding.{offset_worth}
 use Rattle.liq_troves.specs.Rows.{entire_by, sum_after}
@@ -17,36 +15,21 @@ use Rattle.liq_troves.specs.declared.sums.Sums.{Sums}
 use Rattle.liq_liquidation.specs.declared.one.One.{One}
 use Rattle.liq_liquidation.specs.One.{Treatment, Plain, Redistributed, Capped, Kept, treatment, treated, gas_of, cap_of, plain, capped, is_capped, without_stake, one_rules, one_by, one_total_coll, one_total_debt}
 use Rattle.liq_liquidation.proofs.Parts.{parts_coll, parts_debt}
+use Rattle.liq_types.proofs.Tests.{all_false, made_by}
+use Rattle.std.proofs.lemmas.Bool.{ltb-false, leb-false}
 
 -- ---- no rule refuses
-
-all_false : (rules : List Rule) → first_refusal rules ≡ None → AllByRecursion (λ (rule : Rule). rule.0 ≡ false) rules
-all_false [] h = tt
-all_false (rule ∷ rules) h = by rule.0 h (all_false rules) where
-  by : (b : Bool) → cond b (Some rule.1) (first_refusal rules) ≡ None → (first_refusal rules ≡ None → AllByRecursion (λ (rule : Rule). rule.0 ≡ false) rules) → (b ≡ false) × AllByRecursion (λ (rule : Rule). rule.0 ≡ false) rules
-  by true k later = cc
-  by false k later = (refl, later k)
-
-lt_false : (a b : ℕ) → nat_lt a b ≡ false → b ≤ a
-lt_false a b h = grind (arith, nat_tests)
-
-le_false : (a b : ℕ) → nat_le a b ≡ false → b < a
-le_false a b h = grind (arith, nat_tests)
-
-made_by : {X : Type 0} (o : Option Refusal) (x y : X) → outcome o x ≡ Ok y → (o ≡ None) × (x ≡ y)
-made_by None x y h = (refl, cc)
-made_by (Some refusal) x y h = cc
 
 -- ---- what the pool takes over
 
 served : (kind : Treatment) (price coll debt total : ℕ) → (is_capped kind && nat_lt total debt) ≡ false → (treated kind price coll debt total).offset_debt ≤ total
 served Plain price coll debt total h = omega arith
 served Redistributed price coll debt total h = omega arith
-served Capped price coll debt total h = lt_false total debt h
+served Capped price coll debt total h = ltb-false total debt h
 served Kept price coll debt total h = omega arith
 
 -- collateral below 110 percent is at most 11 gwei for each micro-LUSD
-below_worth : (coll debt price : ℕ) → PRICE_LEAST ≤ price → is_below_percent coll debt price MCR ≡ true → coll ≤ OFFSET_MOST * debt
+pub below_worth : (coll debt price : ℕ) → PRICE_LEAST ≤ price → is_below_percent coll debt price MCR ≡ true → coll ≤ OFFSET_MOST * debt
 below_worth coll debt price least below =
     let under : worth coll price < asked MCR debt = grind (arith, nat_tests, below) in
     let more : coll * PRICE_LEAST ≤ coll * price = mul-le-mul_left coll least in
@@ -75,7 +58,7 @@ capped_worth coll debt price least =
     omega (arith, low, more)
 
 -- plain is below 110 percent
-plain_below : (n w b r : Bool) → cond n (cond b Plain Kept) (cond w Redistributed (cond b Plain (cond r Capped Kept))) ≡ Plain → b ≡ true
+pub plain_below : (n w b r : Bool) → cond n (cond b Plain Kept) (cond w Redistributed (cond b Plain (cond r Capped Kept))) ≡ Plain → b ≡ true
 plain_below true w true r h = refl
 plain_below true w false r h = cc
 plain_below false true b r h = cc
@@ -111,11 +94,11 @@ planned m sums t total made h =
     let rules = all_false (one_rules m others own.0 own.1 total) ok.0 in
     let same = ok.1 in
     record {
-      several = omega (arith, le_false m.troves 1 rules.0);
+      several = omega (arith, leb-false m.troves 1 rules.0);
       coll = subst (λ (x : One). one_total_coll x ≡ own.0) same (parts_coll m own.0 own.1 total rules.1.0);
       debt = subst (λ (x : One). one_total_debt x ≡ own.1) same (parts_debt m own.0 own.1 total rules.1.0);
       served = subst (λ (x : One). x.offset_debt ≤ total) same (served kind m.price own.0 own.1 total rules.1.1.0);
       worth = λ least. subst (λ (x : One). x.offset_coll ≤ OFFSET_MOST * x.offset_debt) same (worth_within m own.0 own.1 total kind refl least);
-      coll_fits = lt_false SUM_MOST _ (subst (λ (x : One). nat_lt SUM_MOST (sum_after sums.coll x.spread_coll (sums.stakes - t.stake)) ≡ false) same rules.1.1.1.0);
-      debt_fits = lt_false SUM_MOST _ (subst (λ (x : One). nat_lt SUM_MOST (sum_after sums.debt x.spread_debt (sums.stakes - t.stake)) ≡ false) same rules.1.1.1.1.0);
+      coll_fits = ltb-false SUM_MOST _ (subst (λ (x : One). nat_lt SUM_MOST (sum_after sums.coll x.spread_coll (sums.stakes - t.stake)) ≡ false) same rules.1.1.1.0);
+      debt_fits = ltb-false SUM_MOST _ (subst (λ (x : One). nat_lt SUM_MOST (sum_after sums.debt x.spread_debt (sums.stakes - t.stake)) ≡ false) same rules.1.1.1.1.0);
     }

@@ -8,7 +8,6 @@ use Rattle.liq_types.specs.Tables.{at, without}
 use Rattle.liq_troves.specs.Rows.{pending, stakes_in, sum_after, sums_spread, sums_snapped}
 use Rattle.liq_troves.specs.Standing.{Books, TrovesStand, lifted_row, lift, spread, snap, added_up, coll_due, debt_due}
 use Rattle.liq_troves.proofs.Added.{sum_taken}
-use Rattle.liq_troves.proofs.Kept.{count_taken}
 use Rattle.liq_troves.proofs.Standing.{trove_within, entire_within, lift_stands, spread_stands, snap_stands, some_stake}
 use Rattle.liq_liquidation.specs.declared.one.One.{One}
 use Rattle.liq_liquidation.specs.declared.one.Victim.{Victim}
@@ -16,6 +15,7 @@ use Rattle.liq_liquidation.specs.Given.{IsMarket, IsStruckOf}
 use Rattle.liq_liquidation.specs.Moment.{Moment, moment_after, books_at, IsSoundMoment}
 use Rattle.liq_liquidation.specs.One.{one_by, struck_books}
 use Rattle.liq_liquidation.proofs.Planned.{IsPlanned, planned}
+use Rattle.liq_types.proofs.Lookups.{length-without}
 
 -- ---- books
 
@@ -56,7 +56,7 @@ module _ (m : Market) (b : Books) (total : ℕ) (account : ℕ) (t : Trove) (the
   -- where there are other troves they have a stake
   pub others_stake : 2 ≤ length b.troves → 1 ≤ stakes_in (without b.troves account)
   others_stake several =
-      let rows = count_taken b.troves account t there in
+      let rows = length-without b.troves account t there in
       some_stake (lifted_row b account (Some t)) (omega (arith, rows, several)) gone_stands
 
   pub struck_of : m.troves ≡ length b.troves → m.total_coll ≤ LIM → m.total_debt ≤ LIM → IsStruckOf (record { market = m; sums = b.sums; pool_total = total }) t
@@ -116,7 +116,7 @@ module _ (m : Market) (b : Books) (total : ℕ) (account : ℕ) (t : Trove) (the
 
     pub rows_left : length (struck_books b (victim account made)).troves ≡ m.troves - 1
     rows_left =
-        let rows = count_taken b.troves account t there in
+        let rows = length-without b.troves account t there in
         ap (λ (x : Books). length x.troves) row_is ∙ omega (arith, rows, counted)
 
 -- ---- moments

@@ -1,7 +1,6 @@
 -- The walk along the order from its end: after each victim the troves that are left are a beginning of the list.
 use Rattle.std.proofs.Common.{◌≡◌, ℕ, zero, suc, ◌+◌, ◌-◌, ◌≤◌, ◌<◌, Bool, true, false, cond, List, [], ◌∷◌, ◌++◌, length, map, refl, ap, sym, ◌∙◌, subst, arith, Some, None, Option, append_assoc, append-nil}
 use Rattle.std.specs.Prelude.{◌≢◌, ◌==◌, not, find, option_map, is_some, Result, Ok, Err, IfSome, IsSome}
-use Rattle.std.proofs.lemmas.Bool.Decides.{nat_tests}
 use Rattle.std.proofs.lemmas.List.{reverse-append}
 use Rattle.std.proofs.lemmas.List.Elements.{filter-append}
 use Rattle.liq_types.specs.declared.figures.Trove.{Trove}
@@ -12,26 +11,18 @@ use Rattle.liq_types.proofs.Lookups.{at-without_other}
 use Rattle.liq_troves.specs.Rows.{stakes_in}
 use Rattle.liq_order.specs.Listed.{IsAbsent, AreDistinct}
 use Rattle.liq_order.specs.Order.{order_by}
-use Rattle.liq_order.proofs.Found.{before_found}
+use Rattle.liq_order.proofs.Found.{before_found, distinct_back, without_absent}
 use Rattle.liq_liquidation.specs.declared.figures.Figures.{Figures}
 use Rattle.liq_liquidation.specs.declared.one.One.{One}
 use Rattle.liq_liquidation.specs.declared.one.Victim.{Victim}
 use Rattle.liq_liquidation.specs.Given.{IsStruckOf}
 use Rattle.liq_liquidation.specs.Moment.{Moment, moment_after, figures_after, victim_from, with_account, next_at, lowest_from, plan_from, books_at, IsSoundMoment}
 use Rattle.liq_liquidation.specs.One.{one_by, one_in}
-use Rattle.liq_liquidation.proofs.Leaving.{left_order, order_absent}
 use Rattle.liq_liquidation.proofs.Struck.{sound_after, stakes_left, struck_of, held}
+use Rattle.std.proofs.lemmas.Bool.{ne_eqb, eq-eqb}
+use Rattle.liq_order.proofs.Ranking.{left_order, order_absent}
 
 -- ---- lists with each account once
-
-unequal : (a b : ℕ) → a ≢ b → (a == b) ≡ false
-unequal a b ne = by (a == b) refl where
-  by : (t : Bool) → (a == b) ≡ t → t ≡ false
-  by true is = let same : a ≡ b = grind (arith, nat_tests, is) in absurd (ne same)
-  by false is = refl
-
-itself : (a : ℕ) → (a == a) ≡ true
-itself a = grind (arith, nat_tests)
 
 absent_middle : (account : ℕ) (front back : List Ranked) (e : Ranked) → IsAbsent account (front ++ e ∷ back) → e.1 ≢ account
 absent_middle account [] back e h = h.0
@@ -46,19 +37,10 @@ distinct_front : (front back : List Ranked) (e : Ranked) → AreDistinct (front 
 distinct_front [] back e h = tt
 distinct_front (f ∷ fs) back e h = ((λ same. absent_middle f.1 fs back e h.0 (sym same)), distinct_front fs back e h.1)
 
-distinct_back : (front back : List Ranked) (e : Ranked) → AreDistinct (front ++ e ∷ back) → IsAbsent e.1 back
-distinct_back [] back e h = h.0
-distinct_back (f ∷ fs) back e h = distinct_back fs back e h.1
-
-without_absent : (list : List Ranked) (account : ℕ) → IsAbsent account list → without_ranked list account ≡ list
-without_absent [] account h = refl
-without_absent (e ∷ es) account h =
-    ap (λ b. cond (not b) (e ∷ without_ranked es account) (without_ranked es account)) (unequal e.1 account h.0) ∙ ap (λ (l : List Ranked). e ∷ l) (without_absent es account h.1)
-
 -- without its last account
 without_last : (front : List Ranked) (e : Ranked) → IsAbsent e.1 front → without_ranked (front ++ e ∷ []) e.1 ≡ front
 without_last front e h =
-    let own : without_ranked (e ∷ []) e.1 ≡ [] = ap (λ b. cond (not b) (e ∷ []) []) (itself e.1) in
+    let own : without_ranked (e ∷ []) e.1 ≡ [] = ap (λ b. cond (not b) (e ∷ []) []) (eq-eqb e.1 e.1 refl) in
     filter-append (λ (f : Ranked). not (f.1 == e.1)) front (e ∷ [])
     ∙ ap (λ (l : List Ranked). l ++ without_ranked (e ∷ []) e.1) (without_absent front e.1 h)
     ∙ ap (λ (l : List Ranked). front ++ l) own
@@ -211,7 +193,7 @@ module _ (start : Moment) (list : List Ranked) (count taken : ℕ) (figures : Fi
   pub before_is : (last : ℕ) (e : Ranked) (es : List Ranked) → w.back ≡ e ∷ es → e.1 ≡ last → before_in list last ≡ last_account w.front
   before_is last e es back same =
       let whole : list ≡ w.front ++ e ∷ es = w.whole ∙ ap (λ (l : List Ranked). w.front ++ l) back in
-      let test : (e.1 == last) ≡ true = subst (λ a. (e.1 == a) ≡ true) same (itself e.1) in
+      let test : (e.1 == last) ≡ true = subst (λ a. (e.1 == a) ≡ true) same (eq-eqb e.1 e.1 refl) in
       let first = subst (λ a. IsAbsent a w.front) same (distinct_front w.front es e (subst AreDistinct whole d)) in
       before_found list last (length w.front) (record { front = w.front; entry = e; back = es; whole = whole; place = refl; same = test; first = first }) d
 
@@ -260,7 +242,7 @@ module _ (start : Moment) (list : List Ranked) (count taken : ℕ) (figures afte
           back = e.entry ∷ w.back;
           whole = whole;
           ordered = left;
-          same = λ account absent. at-without_other w.troves v.account account (unequal v.account account (λ same. absent.0 (e.same ∙ same))) ∙ w.same account absent.1;
+          same = λ account absent. at-without_other w.troves v.account account (ne_eqb v.account account (λ same. absent.0 (e.same ∙ same))) ∙ w.same account absent.1;
           planned =
               w.planned
               ∙ ap (λ k. victims ++ lowest_from now k) sum
@@ -283,7 +265,7 @@ module _ (start : Moment) (list : List Ranked) (count taken : ℕ) (figures : Fi
   pub reached_listed : IsSome (key_in list last)
   reached_listed =
       let whole : list ≡ r.walk.front ++ r.entry ∷ r.rest = r.walk.whole ∙ ap (λ (l : List Ranked). r.walk.front ++ l) r.back_is in
-      subst (λ (l : List Ranked). IsSome (key_in l last)) (sym whole) (listed r.walk.front r.rest r.entry last (subst (λ a. (r.entry.1 == a) ≡ true) r.same (itself r.entry.1)))
+      subst (λ (l : List Ranked). IsSome (key_in l last)) (sym whole) (listed r.walk.front r.rest r.entry last (subst (λ a. (r.entry.1 == a) ≡ true) r.same (eq-eqb r.entry.1 r.entry.1 refl)))
 
   pub reached_before : before_in list last ≡ last_account r.walk.front
   reached_before = before_is start list count taken figures victims r.walk d last r.entry r.rest r.back_is r.same

@@ -8,26 +8,14 @@ use Rattle.liq_types.specs.State.{State}
 use Rattle.liq_types.specs.Tables.{at}
 use Rattle.liq_tables.specs.WithRoom.{WithRoom, HasRoom}
 use Rattle.liq_ledger.specs.declared.pools.Pools.{Pools}
-use Rattle.liq_troves.specs.Kept as troves
 use Rattle.liq_troves.specs.Standing.{Books, TrovesStand}
+pub use Rattle.liq_standing.specs.Books.{books_kept}
 use Rattle.liq_stability.specs.Words.{words_after, finished_by}
 use Rattle.liq_stability.specs.declared.words.FinishedSum.{FinishedSum}
 use Rattle.liq_stability.specs.declared.words.PoolWords.{PoolWords}
 use Rattle.liq_liquidation.specs.declared.one.One.{One}
 use Rattle.liq_liquidation.specs.declared.one.Victim.{Victim}
 use Rattle.liq_liquidation.specs.One.{one_in}
-
--- the books of the troves and the pools as they are kept
-abbrev pub books_kept : troves.Kept → Pools → Books
-books_kept kept pools =
-    record {
-      sums = kept.sums;
-      troves = kept.table.rows;
-      active_coll = pools.active_coll;
-      active_debt = pools.active_debt;
-      default_coll = pools.default_coll;
-      default_debt = pools.default_debt;
-    }
 
 -- ---- on what it is made
 

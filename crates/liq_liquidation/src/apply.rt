@@ -7,17 +7,19 @@ ghost use Rattle.liq_types.specs.Rules.{first_refusal};
 ghost use Rattle.liq_types.specs.State.{surplus_in, wallet_in};
 ghost use Rattle.liq_types.specs.Tables.{at};
 ghost use Rattle.liq_troves.specs.Rows.{spread_rules};
-ghost use Rattle.liq_troves.specs.Standing.{TrovesStand, lift, snap, spread};
+ghost use Rattle.liq_troves.specs.Standing.{TrovesStand, snap, spread};
+ghost use Rattle.liq_standing.specs.Books.{books_kept};
 ghost use Rattle.liq_stability.specs.Kept.{room_for};
 ghost use Rattle.liq_stability.specs.Words.{finished_with};
-ghost use Rattle.liq_liquidation.specs.Applied.{HasRoomFor, IsPlannedOn, StayWithin, books_kept, finished_in, pools_left, words_left};
+ghost use Rattle.liq_liquidation.specs.Applied.{HasRoomFor, IsPlannedOn, StayWithin, finished_in, pools_left, words_left};
 ghost use Rattle.liq_liquidation.specs.One.{struck_books};
 
 use crate::one::{One, Victim};
 use liq_ledger::{Pools, Surplus, Wallets};
 use liq_order::Order;
 use liq_stability::Stability;
-use liq_troves::{Troves, entire};
+use liq_standing::lift;
+use liq_troves::Troves;
 use liq_types::amounts::{LIM, RESERVE};
 
 /// Makes a planned liquidation: the trove leaves, and its place in the list; the liquidator is paid the trove's reserve and its
@@ -53,8 +55,7 @@ pub fn apply_one(
     ensures spare { stability.new.spare + room_for (finished_in stability.old.words victim.now.one) ≡ stability.old.spare }
 {
     let one = &victim.one;
-    take_out(victim.account, pools, troves);
-    order.remove(victim.account);
+    lift(pools, troves, order, victim.account);
     wallets.pay(liquidator, one.gas, RESERVE);
     pools.reserve -= RESERVE;
     if one.offset_debt > 0 {
@@ -63,25 +64,6 @@ pub fn apply_one(
     hand_on(one, pools, troves);
     surplus.add(victim.account, one.surplus);
     pools.surplus += one.surplus;
-}
-
-/// An account's trove leaves: what is recorded of it leaves the active pool, and what is pending the default pool.
-fn take_out(account: u32, pools: &mut Pools, troves: &mut Troves)
-    requires stands { TrovesStand (books_kept troves.old pools.old) }
-    requires there { IsSome (at troves.old.table.rows account) }
-    requires coll { pools.old.active_coll + pools.old.default_coll ≤ LIM }
-    requires debt { pools.old.active_debt + pools.old.default_debt ≤ LIM }
-    ensures books { books_kept troves.new pools.new ≡ lift (books_kept troves.old pools.old) account }
-    ensures room { troves.new.table.room ≡ troves.old.table.room }
-    ensures rest { pools.new ≡ record pools.old { active_coll = pools.new.active_coll; active_debt = pools.new.active_debt; default_coll = pools.new.default_coll; default_debt = pools.new.default_debt } }
-{
-    let sums = *troves.sums();
-    let trove = troves.remove(account);
-    let (coll, debt) = entire(&trove, &sums);
-    pools.active_coll -= trove.coll;
-    pools.active_debt -= trove.debt;
-    pools.default_coll -= coll - trove.coll;
-    pools.default_debt -= debt - trove.debt;
 }
 
 /// The troves that are left take over the rest, and stakes are made by them from then on.

@@ -7,8 +7,8 @@ ghost use Rattle.liq_liquidation.specs.Given.{IsMarket, IsStruckOf};
 ghost use Rattle.liq_liquidation.specs.Moment.{figures_after, victim_from};
 
 use crate::one::{One, Victim};
-use crate::plan::{grown, plan_one};
-use liq_troves::{Sums, Troves};
+use crate::plan::plan_one;
+use liq_troves::{Sums, Troves, grown};
 use liq_types::amounts::SUM_MOST;
 use liq_types::{Market, Refusal};
 

@@ -4,14 +4,13 @@ ghost use Rattle.std.specs.Prelude.{◌≡◌, ◌≤◌, ◌<◌, ◌^◌, ◌�
 ghost use Rattle.liq_types.specs.declared.replies.Refusal.TheVariants as refused;
 ghost use Rattle.liq_types.specs.Rules.{first_refusal, outcome};
 ghost use Rattle.liq_types.specs.Totals as totals;
-ghost use Rattle.liq_troves.specs.Rows.{sum_after, sum_limit};
 ghost use Rattle.liq_liquidation.specs.Given.{IsMarket, IsTroveOf};
 ghost use Rattle.liq_liquidation.specs.One as rules;
 
 use crate::one::One;
 use liq_num::{GWEI_PER_ETH, mul_div, ratio_below, ratio_cmp};
-use liq_troves::{Sums, entire};
-use liq_types::amounts::{CAP_WORTH, CCR, GAS_PART, MCR, ONE, SUM_MOST};
+use liq_troves::{Sums, entire, raised};
+use liq_types::amounts::{CAP_WORTH, CCR, GAS_PART, MCR};
 use liq_types::{Market, Refusal, Trove};
 use std::cmp::Ordering;
 
@@ -29,8 +28,8 @@ pub fn plan_one(m: &Market, sums: &Sums, trove: &Trove, pool_total: u64) -> Resu
     let (coll, debt) = entire(trove, sums);
     let one = treated(m, coll, debt, pool_total)?;
     let stakes = sums.stakes - trove.stake;
-    within_limit(sums.coll, one.spread_coll, stakes)?;
-    within_limit(sums.debt, one.spread_debt, stakes)?;
+    raised(sums.coll, one.spread_coll, stakes)?;
+    raised(sums.debt, one.spread_debt, stakes)?;
     Ok(one)
 }
 
@@ -144,26 +143,4 @@ fn is_at_most_whole(coll: u64, debt: u64, price: u64) -> bool
     ensures { result ≡ totals.is_at_most_whole coll debt price }
 {
     u128::from(coll) * u128::from(price) <= u128::from(debt) * u128::from(GWEI_PER_ETH)
-}
-
-/// `SumLimit`: the sum would pass its limit after an amount for so many units of stake.
-fn within_limit(sum: u128, amount: u64, stakes: u64) -> Result<(), Refusal>
-    requires stakes { 1 ≤ stakes }
-    requires sum { sum ≤ SUM_MOST }
-    ensures { result ≡ outcome (first_refusal (sum_limit (sum_after sum amount stakes) ∷ [])) tt }
-{
-    let sum = grown(sum, amount, stakes);
-    if sum > SUM_MOST {
-        return Err(Refusal::SumLimit { sum });
-    }
-    Ok(())
-}
-
-/// The sum after an amount for so many units of stake.
-pub(crate) fn grown(sum: u128, amount: u64, stakes: u64) -> u128
-    requires stakes { 1 ≤ stakes }
-    requires sum { sum ≤ SUM_MOST }
-    ensures { result ≡ sum_after sum amount stakes }
-{
-    sum + mul_div(u128::from(amount), u128::from(ONE), u128::from(stakes))
 }

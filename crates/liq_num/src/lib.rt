@@ -9,7 +9,7 @@ mod ratio;
 
 pub use power::{HALF, MOST_MINUTES, ONE, dec_mul, dec_pow};
 pub use quotient::{mul_div, mul_div_up};
-pub use ratio::{GWEI_PER_ETH, ratio_below, ratio_cmp};
+pub use ratio::{GWEI_PER_ETH, ratio_below, ratio_cmp, ratio_sides};
 
 #[cfg(test)]
 mod tests {

@@ -1,10 +1,23 @@
-ghost use Rattle.std.specs.Prelude.{◌≡◌, ◌≤◌, ◌^◌, ◌↔◌, IsTrue};
+ghost use Rattle.std.specs.Prelude.{◌≡◌, ◌≤◌, ◌*◌, ◌^◌, ◌↔◌, IsTrue};
 ghost use Rattle.liq_num.specs.Ratio.{ratio_order, IsBelowPercent};
 
 use std::cmp::Ordering;
 
 /// Collateral is counted in gwei, and a price is in micro-LUSD for a whole ETH: so many gwei make one.
 pub const GWEI_PER_ETH: u64 = 1_000_000_000;
+
+/// Collateral (gwei) at a price (micro-LUSD per ETH) beside `percent` hundredths of a debt (micro-LUSD): what it is worth, and
+/// what they ask for, over the same denominator.
+pub fn ratio_sides(coll: u64, debt: u64, price: u64, percent: u64) -> (u128, u128)
+    requires price_limit { price ≤ 10 ^ 12 }
+    requires percent_limit { percent ≤ 150 }
+    ensures worth { result.0 ≡ coll * price * 100 }
+    ensures asked { result.1 ≡ percent * debt * GWEI_PER_ETH }
+{
+    let worth = u128::from(coll) * u128::from(price) * 100;
+    let asked = u128::from(percent) * u128::from(debt) * u128::from(GWEI_PER_ETH);
+    (worth, asked)
+}
 
 /// Whether collateral (gwei) at a price (micro-LUSD per ETH) is worth less than `percent` hundredths of a debt
 /// (micro-LUSD).
@@ -13,8 +26,7 @@ pub fn ratio_below(coll: u64, debt: u64, price: u64, percent: u64) -> bool
     requires percent_limit { percent ≤ 150 }
     ensures { IsTrue result ↔ IsBelowPercent coll debt price percent }
 {
-    let worth = u128::from(coll) * u128::from(price) * 100;
-    let needed = u128::from(percent) * u128::from(debt) * u128::from(GWEI_PER_ETH);
+    let (worth, needed) = ratio_sides(coll, debt, price, percent);
     worth < needed
 }
 

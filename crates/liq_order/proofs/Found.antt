@@ -8,6 +8,7 @@ use Rattle.std.proofs.lemmas.List.Elements.{filter-append}
 use Rattle.liq_types.specs.Ranked.{Ranked, IsAscending, key_in, without_ranked, before_in, after_account, first_of, rank_order}
 use Rattle.std.specs.declared.cmp.Ordering.TheVariants.{Less}
 use Rattle.liq_order.specs.Listed.{IsAbsent, AreDistinct}
+use Rattle.std.proofs.lemmas.Bool.{eqb-false, ne_eqb, eqb-true}
 
 abbrev has : ℕ → Ranked → Bool
 has account = λ (e : Ranked). e.1 == account
@@ -24,20 +25,11 @@ pub record IsAt (list : List Ranked) (account index : ℕ) : Type 0 where
 
 -- ---- tests of accounts
 
-apart : (a b : ℕ) → (a == b) ≡ false → a ≢ b
-apart a b test same = grind (arith, nat_tests)
-
-other : (a b : ℕ) → a ≢ b → (a == b) ≡ false
-other a b ne = grind (arith, nat_tests)
-
-equal : (a b : ℕ) → (a == b) ≡ true → a ≡ b
-equal a b test = grind (arith, nat_tests)
-
 -- ---- an account is absent, or at some index
 
 split_first : (e : Ranked) (es : List Ranked) (account : ℕ) (b : Bool) → (e.1 == account) ≡ b → IsAbsent account es ⊎ ((i : ℕ) × IsAt es account i) → IsAbsent account (e ∷ es) ⊎ ((i : ℕ) × IsAt (e ∷ es) account i)
 split_first e es account true test more = inr (0, record { front = []; entry = e; back = es; whole = refl; place = refl; same = test; first = tt })
-split_first e es account false test (inl absent) = inl (apart e.1 account test, absent)
+split_first e es account false test (inl absent) = inl (eqb-false e.1 account test, absent)
 split_first e es account false test (inr (i, s)) =
     inr (
       suc i,
@@ -48,7 +40,7 @@ split_first e es account false test (inr (i, s)) =
         whole = ap (λ l. e ∷ l) s.whole;
         place = ap (λ k. suc k) s.place;
         same = s.same;
-        first = (apart e.1 account test, s.first);
+        first = (eqb-false e.1 account test, s.first);
       },
     )
 
@@ -61,7 +53,7 @@ split (e ∷ es) account = split_first e es account (e.1 == account) refl (split
 skipped : (account : ℕ) (front rest : List Ranked) → IsAbsent account front → position_or_len (has account) (front ++ rest) ≡ length front + position_or_len (has account) rest
 skipped account [] rest h = omega arith
 skipped account (e ∷ es) rest h =
-    ap (λ b. cond (not b) (1 + position_or_len (has account) (es ++ rest)) 0) (other e.1 account h.0)
+    ap (λ b. cond (not b) (1 + position_or_len (has account) (es ++ rest)) 0) (ne_eqb e.1 account h.0)
     ∙ omega (arith, skipped account es rest h.1)
 
 within : (n len : ℕ) → n < len → cond (nat_lt n len) (Some n) None ≡ Some n
@@ -87,12 +79,12 @@ position_at list account index s =
 key_absent : (list : List Ranked) (account : ℕ) → IsAbsent account list → key_in list account ≡ None
 key_absent [] account h = refl
 key_absent (e ∷ es) account h =
-    ap (λ b. option_map (λ (f : Ranked). f.0) (cond b (Some e) (find (has account) es))) (other e.1 account h.0) ∙ key_absent es account h.1
+    ap (λ b. option_map (λ (f : Ranked). f.0) (cond b (Some e) (find (has account) es))) (ne_eqb e.1 account h.0) ∙ key_absent es account h.1
 
 key_front : (account : ℕ) (front back : List Ranked) (entry : Ranked) → IsAbsent account front → (entry.1 == account) ≡ true → key_in (front ++ entry ∷ back) account ≡ Some entry.0
 key_front account [] back entry h same = ap (λ b. option_map (λ (f : Ranked). f.0) (cond b (Some entry) (find (has account) back))) same
 key_front account (e ∷ es) back entry h same =
-    ap (λ b. option_map (λ (f : Ranked). f.0) (cond b (Some e) (find (has account) (es ++ entry ∷ back)))) (other e.1 account h.0) ∙ key_front account es back entry h.1 same
+    ap (λ b. option_map (λ (f : Ranked). f.0) (cond b (Some e) (find (has account) (es ++ entry ∷ back)))) (ne_eqb e.1 account h.0) ∙ key_front account es back entry h.1 same
 
 key_at : (list : List Ranked) (account index : ℕ) (s : IsAt list account index) → key_in list account ≡ Some s.entry.0
 key_at list account index s = ap (λ l. key_in l account) s.whole ∙ key_front account s.front s.back s.entry s.first s.same
@@ -131,18 +123,18 @@ not_found list account h some = elim (split list account) [
 
 -- ---- without an account
 
-distinct_back : (front back : List Ranked) (e : Ranked) → AreDistinct (front ++ e ∷ back) → IsAbsent e.1 back
+pub distinct_back : (front back : List Ranked) (e : Ranked) → AreDistinct (front ++ e ∷ back) → IsAbsent e.1 back
 distinct_back [] back e h = h.0
 distinct_back (f ∷ fs) back e h = distinct_back fs back e h.1
 
 pub absent_back : (list : List Ranked) (account index : ℕ) (s : IsAt list account index) → AreDistinct list → IsAbsent account s.back
 absent_back list account index s h =
-    subst (λ a. IsAbsent a s.back) (equal s.entry.1 account s.same) (distinct_back s.front s.back s.entry (subst AreDistinct s.whole h))
+    subst (λ a. IsAbsent a s.back) (eqb-true s.entry.1 account s.same) (distinct_back s.front s.back s.entry (subst AreDistinct s.whole h))
 
-without_absent : (list : List Ranked) (account : ℕ) → IsAbsent account list → without_ranked list account ≡ list
+pub without_absent : (list : List Ranked) (account : ℕ) → IsAbsent account list → without_ranked list account ≡ list
 without_absent [] account h = refl
 without_absent (e ∷ es) account h =
-    ap (λ b. cond (not b) (e ∷ without_ranked es account) (without_ranked es account)) (other e.1 account h.0) ∙ ap (λ l. e ∷ l) (without_absent es account h.1)
+    ap (λ b. cond (not b) (e ∷ without_ranked es account) (without_ranked es account)) (ne_eqb e.1 account h.0) ∙ ap (λ l. e ∷ l) (without_absent es account h.1)
 
 removed_middle : (front back : List Ranked) (e : Ranked) → remove (front ++ e ∷ back) (length front) ≡ front ++ back
 removed_middle [] back e = refl
@@ -184,21 +176,21 @@ distinct_kept q (e ∷ es) h = by (q e) (distinct_kept q es h.1) where
 abbrev accounts : List Ranked → List ℕ
 accounts list = map (λ (e : Ranked). e.1) list
 
-reverse_first : (e : Ranked) (es : List Ranked) → reverse (e ∷ es) ≡ reverse es ++ e ∷ []
+pub reverse_first : (e : Ranked) (es : List Ranked) → reverse (e ∷ es) ≡ reverse es ++ e ∷ []
 reverse_first e es = reverse-append (e ∷ []) es
 
-absent_push : (list : List Ranked) (e : Ranked) (account : ℕ) → IsAbsent account list → e.1 ≢ account → IsAbsent account (list ++ e ∷ [])
+pub absent_push : (list : List Ranked) (e : Ranked) (account : ℕ) → IsAbsent account list → e.1 ≢ account → IsAbsent account (list ++ e ∷ [])
 absent_push [] e account h n = (n, tt)
 absent_push (f ∷ fs) e account h n = (h.0, absent_push fs e account h.1 n)
 
-absent_reverse : (list : List Ranked) (account : ℕ) → IsAbsent account list → IsAbsent account (reverse list)
+pub absent_reverse : (list : List Ranked) (account : ℕ) → IsAbsent account list → IsAbsent account (reverse list)
 absent_reverse [] account h = tt
 absent_reverse (e ∷ es) account h = subst (IsAbsent account) (sym (reverse_first e es)) (absent_push (reverse es) e account (absent_reverse es account h.1) h.0)
 
 after_passed : (list rest : List Ranked) (e : Ranked) (account : ℕ) → IsAbsent account list → (e.1 == account) ≡ true → after_account (accounts (list ++ e ∷ rest)) account ≡ first_of (accounts rest)
 after_passed [] rest e account h same = ap (λ b. cond b (first_of (accounts rest)) (after_account (accounts rest) account)) same
 after_passed (f ∷ fs) rest e account h same =
-    ap (λ b. cond b (first_of (accounts (fs ++ e ∷ rest))) (after_account (accounts (fs ++ e ∷ rest)) account)) (other f.1 account h.0)
+    ap (λ b. cond b (first_of (accounts (fs ++ e ∷ rest))) (after_account (accounts (fs ++ e ∷ rest)) account)) (ne_eqb f.1 account h.0)
     ∙ after_passed fs rest e account h.1 same
 
 pub before_found : (list : List Ranked) (account index : ℕ) (s : IsAt list account index) → AreDistinct list → before_in list account ≡ first_of (accounts (reverse s.front))

@@ -1,3 +1,5 @@
 pub mod Found
+pub mod Listing
 pub mod Placed
+pub mod Ranking
 pub mod Sorting

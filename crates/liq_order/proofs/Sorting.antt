@@ -97,7 +97,7 @@ sorted_in_order entries = all_ascending [] entries tt
 -- ---- strictly, where no account stands twice
 
 -- no two entries of the second list share an account, nor one with an entry of the first
-abbrev AreApart : List Ranked → List Ranked → Type 0
+abbrev pub AreApart : List Ranked → List Ranked → Type 0
 AreApart list [] = Unit {0}
 AreApart list (e ∷ es) = IsAbsent e.1 list × IsAbsent e.1 es × AreApart list es
 
@@ -109,7 +109,7 @@ with_absent (f ∷ fs) e account n h = by (rank_order e f) (with_absent fs e acc
   by Equal more = (n, h)
   by Greater more = (h.0, more)
 
-with_apart : (list : List Ranked) (e : Ranked) (es : List Ranked) → IsAbsent e.1 es → AreApart list es → AreApart (with_ranked list e) es
+pub with_apart : (list : List Ranked) (e : Ranked) (es : List Ranked) → IsAbsent e.1 es → AreApart list es → AreApart (with_ranked list e) es
 with_apart list e [] n h = tt
 with_apart list e (f ∷ fs) n h = (with_absent list e f.1 (λ same. n.0 (sym same)) h.0, h.1, with_apart list e fs n.1 h.2)
 
@@ -147,7 +147,7 @@ all_strict list [] a h = h
 all_strict list (e ∷ es) a h = all_strict (with_ranked list e) es (with_apart list e es a.1 a.2) (with_strict list e a.0 h)
 
 -- a table's keys, ranked
-ranks_absent : (key : ℕ) (table : Table Trove) → AllByRecursion (λ y. nat_cmp key y ≡ Less) (keys_of table) → IsAbsent key (ranks table)
+pub ranks_absent : (key : ℕ) (table : Table Trove) → AllByRecursion (λ y. nat_cmp key y ≡ Less) (keys_of table) → IsAbsent key (ranks table)
 ranks_absent key [] h = tt
 ranks_absent key (row ∷ rows) h = (λ same. clash (subst (λ y. nat_cmp key y ≡ Less) same h.0), ranks_absent key rows h.1) where
   clash : nat_cmp key key ≡ Less → ⊥
@@ -155,7 +155,7 @@ ranks_absent key (row ∷ rows) h = (λ same. clash (subst (λ y. nat_cmp key y 
     turned : Less ≡ Greater → ⊥
     turned x = cc
 
-ranks_apart : (table : Table Trove) → Ascends table → AreApart [] (ranks table)
+pub ranks_apart : (table : Table Trove) → Ascends table → AreApart [] (ranks table)
 unfolding IsStrictlySortedBy
 ranks_apart [] h = tt
 ranks_apart (row ∷ rows) h = (tt, ranks_absent row.0 rows h.0, ranks_apart rows h.1)

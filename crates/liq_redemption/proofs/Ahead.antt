@@ -1,11 +1,10 @@
 -- The accounts of the list from one on: what is still ahead of a walk from the list's end to its front.
-use Rattle.std.proofs.Common.{◌≡◌, ℕ, ℤ, Bool, true, false, cond, List, [], ◌∷◌, ◌++◌, map, refl, sym, ap, ◌∙◌, subst, Some, None, Option, arith}
-use Rattle.std.specs.Prelude.{◌==◌, ◌≢◌, reverse, IsSome, is_some}
-use Rattle.std.proofs.lemmas.Bool.Decides.{nat_tests}
-use Rattle.std.proofs.lemmas.List.{reverse-append}
+use Rattle.std.proofs.Common.{◌≡◌, ℕ, ℤ, Bool, true, false, cond, List, [], ◌∷◌, ◌++◌, map, refl, sym, ap, ◌∙◌, subst, Some, None, Option}
+use Rattle.std.specs.Prelude.{◌==◌, reverse, IsSome, is_some}
 use Rattle.liq_types.specs.Ranked.{Ranked, first_of, from_last, key_in, after_account, before_in}
 use Rattle.liq_order.specs.Listed.{IsAbsent, AreDistinct}
-use Rattle.liq_order.proofs.Found.{absent_from_key}
+use Rattle.liq_order.proofs.Found.{absent_from_key, absent_push, reverse_first, absent_reverse}
+use Rattle.std.proofs.lemmas.Bool.{eqb-true, ne_eqb, eq-eqb}
 
 -- the accounts of a list from one on
 abbrev pub from_account : List ℕ → ℕ → List ℕ
@@ -19,23 +18,11 @@ ahead_of accounts (Some account) = from_account accounts account
 abbrev accounts : List Ranked → List ℕ
 accounts list = map (λ (e : Ranked). e.1) list
 
-itself : (a : ℕ) → (a == a) ≡ true
-itself a = grind (arith, nat_tests)
-
-equal : (a b : ℕ) → (a == b) ≡ true → a ≡ b
-equal a b test = grind (arith, nat_tests)
-
-other : (a b : ℕ) → b ≢ a → (a == b) ≡ false
-other a b ne = grind (arith, nat_tests)
-
-other_turned : (a b : ℕ) → a ≢ b → (a == b) ≡ false
-other_turned a b ne = grind (arith, nat_tests)
-
 -- ---- the first account
 
 pub all_ahead : (list : List ℕ) → ahead_of list (first_of list) ≡ list
 all_ahead [] = refl
-all_ahead (a ∷ more) = ap (λ b. cond b (a ∷ more) (from_account more a)) (itself a)
+all_ahead (a ∷ more) = ap (λ b. cond b (a ∷ more) (from_account more a)) (eq-eqb a a refl)
 
 -- ---- what is next is the first of what is ahead
 
@@ -43,7 +30,7 @@ first_after : (a : ℕ) (more : List ℕ) (o : Option ℕ) → first_of (ahead_o
 first_after a more None h = refl
 first_after a more (Some x) h = by (a == x) refl where
   by : (b : Bool) → (a == x) ≡ b → first_of (cond b (a ∷ more) (from_account more x)) ≡ Some x
-  by true e = ap (λ n. Some n) (equal a x e)
+  by true e = ap (λ n. Some n) (eqb-true a x e)
   by false e = h
 
 pub next_first : (list : List ℕ) (account : ℕ) → first_of (ahead_of list (after_account list account)) ≡ after_account list account
@@ -62,7 +49,7 @@ passed b list account h (Some x) e = ap (λ t. cond t (b ∷ accounts list) (fro
   at_first [] n f = absurd (nothing f) where
     nothing : None ≡ Some x → ⊥
     nothing g = cc
-  at_first (g ∷ gs) n f = subst (λ y. (b == y) ≡ false) (the f) (other b g.1 n.0) where
+  at_first (g ∷ gs) n f = subst (λ y. (b == y) ≡ false) (the f) (ne_eqb b g.1 (λ same. n.0 (sym same))) where
     the : Some g.1 ≡ Some x → g.1 ≡ x
     the k = cc
 
@@ -78,7 +65,7 @@ passed b list account h (Some x) e = ap (λ t. cond t (b ∷ accounts list) (fro
 first_passed : (b : ℕ) (list : List Ranked) → IsAbsent b list → ahead_of (b ∷ accounts list) (first_of (accounts list)) ≡ accounts list
 first_passed b [] h = refl
 first_passed b (e ∷ es) h =
-    ap (λ t. cond t (b ∷ accounts (e ∷ es)) (from_account (accounts (e ∷ es)) e.1)) (other b e.1 h.0)
+    ap (λ t. cond t (b ∷ accounts (e ∷ es)) (from_account (accounts (e ∷ es)) e.1)) (ne_eqb b e.1 (λ same. h.0 (sym same)))
     ∙ all_ahead (accounts (e ∷ es))
 
 stepped : (list : List Ranked) (account : ℕ) → AreDistinct list → first_of (from_account (accounts list) account) ≡ Some account → from_account (accounts list) account ≡ account ∷ ahead_of (accounts list) (after_account (accounts list) account)
@@ -88,23 +75,12 @@ stepped [] account h f = absurd (nothing f) where
 stepped (e ∷ es) account h f = by (e.1 == account) refl f (stepped es account h.1) where
   by : (t : Bool) → (e.1 == account) ≡ t → first_of (cond t (e.1 ∷ accounts es) (from_account (accounts es) account)) ≡ Some account → (first_of (from_account (accounts es) account) ≡ Some account → from_account (accounts es) account ≡ account ∷ ahead_of (accounts es) (after_account (accounts es) account)) → cond t (e.1 ∷ accounts es) (from_account (accounts es) account) ≡ account ∷ ahead_of (e.1 ∷ accounts es) (cond t (first_of (accounts es)) (after_account (accounts es) account))
   by true is g later =
-      ap (λ n. n ∷ accounts es) (equal e.1 account is)
+      ap (λ n. n ∷ accounts es) (eqb-true e.1 account is)
       ∙ ap (λ (l : List ℕ). account ∷ l) (sym (first_passed e.1 es h.0))
   by false is g later =
       later g ∙ ap (λ (l : List ℕ). account ∷ l) (sym (passed e.1 es account h.0 (after_account (accounts es) account) refl))
 
 -- ---- the list turned round
-
-absent_push : (list : List Ranked) (e : Ranked) (account : ℕ) → IsAbsent account list → e.1 ≢ account → IsAbsent account (list ++ e ∷ [])
-absent_push [] e account h n = (n, tt)
-absent_push (f ∷ fs) e account h n = (h.0, absent_push fs e account h.1 n)
-
-turned_first : (e : Ranked) (es : List Ranked) → reverse (e ∷ es) ≡ reverse es ++ e ∷ []
-turned_first e es = reverse-append (e ∷ []) es
-
-absent_turned : (list : List Ranked) (account : ℕ) → IsAbsent account list → IsAbsent account (reverse list)
-absent_turned [] account h = tt
-absent_turned (e ∷ es) account h = subst (IsAbsent account) (sym (turned_first e es)) (absent_push (reverse es) e account (absent_turned es account h.1) h.0)
 
 distinct_push : (list : List Ranked) (e : Ranked) → IsAbsent e.1 list → AreDistinct list → AreDistinct (list ++ e ∷ [])
 distinct_push [] e n h = (tt, tt)
@@ -112,7 +88,7 @@ distinct_push (f ∷ fs) e n h = (absent_push fs e f.1 h.0 (λ same. n.0 (sym sa
 
 pub distinct_turned : (list : List Ranked) → AreDistinct list → AreDistinct (reverse list)
 distinct_turned [] h = tt
-distinct_turned (e ∷ es) h = subst AreDistinct (sym (turned_first e es)) (distinct_push (reverse es) e (absent_turned es e.1 h.0) (distinct_turned es h.1))
+distinct_turned (e ∷ es) h = subst AreDistinct (sym (reverse_first e es)) (distinct_push (reverse es) e (absent_reverse es e.1 h.0) (distinct_turned es h.1))
 
 -- ---- along the order
 
@@ -130,7 +106,7 @@ step_on entries next account h is n =
 
 nowhere : (list : List Ranked) (account : ℕ) → IsAbsent account list → from_account (accounts list) account ≡ []
 nowhere [] account h = refl
-nowhere (e ∷ es) account h = ap (λ t. cond t (accounts (e ∷ es)) (from_account (accounts es) account)) (other_turned e.1 account h.0) ∙ nowhere es account h.1
+nowhere (e ∷ es) account h = ap (λ t. cond t (accounts (e ∷ es)) (from_account (accounts es) account)) (ne_eqb e.1 account h.0) ∙ nowhere es account h.1
 
 -- it is in the list
 pub is_listed : (entries : List Ranked) (next : Option ℕ) (account : ℕ) → next ≡ Some account → IsNext entries next → IsSome (key_in entries account)
@@ -138,7 +114,7 @@ is_listed entries next account is n = by (key_in entries account) refl where
   by : (o : Option ℤ) → key_in entries account ≡ o → is_some o ≡ true
   by (Some key) e = refl
   by None e =
-      absurd (none (sym (ap (λ (l : List ℕ). first_of l) (nowhere (reverse entries) account (absent_turned entries account (absent_from_key entries account e)))) ∙ first_is entries next account is n))
+      absurd (none (sym (ap (λ (l : List ℕ). first_of l) (nowhere (reverse entries) account (absent_reverse entries account (absent_from_key entries account e)))) ∙ first_is entries next account is n))
     where
       none : None ≡ Some account → ⊥
       none g = cc

@@ -3,7 +3,7 @@ use Rattle.std.proofs.Common.{◌≡◌, ℕ, ℤ, ◌+◌, ◌-◌, ◌*◌, �
 use Rattle.std.specs.Prelude.{◌≢◌, ◌==◌, not, option_map, filter, filter_map, reverse, IsSome, is_some, unwrap_or, Ok}
 use Rattle.std.specs.List.{AllByRecursion, cons_option}
 use Rattle.std.proofs.Math.Nat.{mul-le-mul_right, div-mul-le_self}
-use Rattle.std.proofs.lemmas.Bool.{cases_lt}
+use Rattle.std.proofs.lemmas.Bool.{cases_lt, ltb-false, leb-false}
 use Rattle.std.proofs.lemmas.Bool.Decides.{nat_tests}
 use Rattle.std.proofs.lemmas.List.Sums.{sum_by-cons}
 use Rattle.liq_types.specs.declared.amounts.TheConstants.{LIM, RESERVE, MIN_NET, MCR}
@@ -26,9 +26,10 @@ use Rattle.liq_redemption.specs.declared.planning.RedeemPlan.{RedeemPlan}
 use Rattle.liq_redemption.specs.Parts.{Parts, books_in, with_books, lifted_parts, placed_parts, closed_parts, cut_parts}
 use Rattle.liq_redemption.specs.Redemption.{Visit, visit, is_visited, net_debt, cut_of, draw_of, stops_before, troves_after, cuts, drawn, redeem_rules, redeeming_terms}
 use Rattle.liq_redemption.proofs.Ahead.{distinct_turned}
-use Rattle.liq_redemption.proofs.Listing.{key_without_other, key_with_other}
+use Rattle.liq_order.proofs.Listing.{key_without_other, key_with_other}
 use Rattle.liq_redemption.proofs.Parts.{cut_closed, cut_placed}
 use Rattle.liq_redemption.proofs.Taking.{visits, redeemed_within}
+use Rattle.liq_types.proofs.Tests.{all_false, made_by}
 
 -- ---- the visited troves
 
@@ -58,20 +59,14 @@ pub record Stands (p : Parts) : Type 0 where
 
 -- ---- a trove that is visited
 
-lt_false : (a b : ℕ) → nat_lt a b ≡ false → b ≤ a
-lt_false a b e = grind (arith, nat_tests, e)
-
-le_false : (a b : ℕ) → nat_le a b ≡ false → b < a
-le_false a b e = grind (arith, nat_tests, e)
-
 -- what is drawn for a lot is less than the trove has
-draw_less : (coll debt price lot : ℕ) → 1 ≤ price → RESERVE ≤ debt → lot ≤ debt - RESERVE → is_below_percent coll debt price MCR ≡ false → draw_of price lot < coll
+pub draw_less : (coll debt price lot : ℕ) → 1 ≤ price → RESERVE ≤ debt → lot ≤ debt - RESERVE → is_below_percent coll debt price MCR ≡ false → draw_of price lot < coll
 draw_less coll debt price lot some least part above =
     elim (cases_lt (draw_of price lot) coll) [ inl less ↦ less | inr more ↦ absurd (clash more) ]
   where
     clash : coll ≤ draw_of price lot → ⊥
     clash more =
-        let enough : asked MCR debt ≤ worth coll price = lt_false (worth coll price) (asked MCR debt) above in
+        let enough : asked MCR debt ≤ worth coll price = ltb-false (worth coll price) (asked MCR debt) above in
         let low : draw_of price lot * price ≤ lot * 1000000000 = div-mul-le_self (lot * 1000000000) price in
         let high : coll * price ≤ draw_of price lot * price = mul-le-mul_right price more in
         omega (arith, enough, low, high, part, least)
@@ -209,27 +204,33 @@ module _ (p : Parts) (stands : Stands p) (price : ℕ) (price_some : 1 ≤ price
     by true e g =
         subst (λ (q : Parts). After p q cut) (sym (cut_closed p cut (v.coll, v.debt) (sym is.entire_is) e ∙ ap (λ (q : Parts). closed_parts q v.account (v.coll - cut.draw)) gone_is)) closed
     by false e g =
-        subst (λ (q : Parts). After p q cut) (sym (cut_placed p cut (v.coll, v.debt) (sym is.entire_is) e ∙ ap (λ (q : Parts). placed_parts q v.account (v.coll - cut.draw) (v.debt - cut.lot)) gone_is)) (left_with (lt_false (net_debt v - cut.lot) MIN_NET g))
+        subst (λ (q : Parts). After p q cut) (sym (cut_placed p cut (v.coll, v.debt) (sym is.entire_is) e ∙ ap (λ (q : Parts). placed_parts q v.account (v.coll - cut.draw) (v.debt - cut.lot)) gone_is)) (left_with (ltb-false (net_debt v - cut.lot) MIN_NET g))
+
+  -- what a trove that stays keeps
+  still_owed : (troves : ℕ) → stops_before v cut troves ≡ false → cut.full ≡ false → RESERVE + MIN_NET ≤ v.debt - cut.lot
+  still_owed troves goes part =
+      let enough = ltb-false (net_debt v - cut.lot) MIN_NET (sym (ap (λ t. cond t (nat_le troves 1) (nat_lt (net_debt v - cut.lot) MIN_NET)) part) ∙ goes) in
+      let least = own.least in
+      omega (arith, enough, least)
 
   -- so it fits
-  fits : After p (cut_parts p cut) cut → CutFits p cut
-  fits after =
+  fits : (troves : ℕ) → stops_before v cut troves ≡ false → CutFits p cut
+  fits troves goes =
       let o = own in
       let total = stands.coll in
       let debts = stands.debt in
       let claim = is.claim in
-      let made = after.stands.coll in
       record {
         own = (v.coll, v.debt);
         entire_is = is.entire_is;
-        within = record { coll = omega (arith, o.coll, total); debt = omega (arith, o.debt, debts) };
+        stands = stands.troves;
+        coll = omega (arith, total);
+        debt = debts;
         draw = draw_part;
         listed = is.listed;
-        active_coll = omega (arith, total);
-        active_debt = omega (arith, debts);
         surplus = omega (arith, total);
         claim = omega (arith, claim, o.coll, total);
-        limit = omega (arith, after.stands.troves.active_coll, made);
+        left = still_owed troves goes;
       }
 
 -- ---- the cuts along the visits
@@ -279,7 +280,7 @@ module _ (price : ℕ) (price_some : 1 ≤ price) where
     by false true e later = none_fit p
     by false false e later =
         let after = after_cut p stands price price_some v h.0 wanted troves e in
-        one_more p (cut_of price v wanted) (cuts price (troves_after (cut_of price v wanted) troves) (wanted - (cut_of price v wanted).lot) vs) (fits p stands price price_some v h.0 wanted after) after
+        one_more p (cut_of price v wanted) (cuts price (troves_after (cut_of price v wanted) troves) (wanted - (cut_of price v wanted).lot) vs) (fits p stands price price_some v h.0 wanted troves e) after
         (later (cut_parts p (cut_of price v wanted)) after.stands (visits_kept p (cut_parts p (cut_of price v wanted)) price (cut_of price v wanted) after vs h.1 h.2))
 
 -- ---- the visits of sound parts
@@ -345,40 +346,16 @@ pub record IsCovered (p : Parts) (wallet : Wallet) (plan : RedeemPlan) : Type 0 
   pub fee : plan.fee ≤ plan.drawn
   pub redeemed : plan.redeemed ≤ wallet.lusd
 
-same_plan : (x y : RedeemPlan) → outcome None x ≡ Ok y → x ≡ y
-same_plan x y h = cc
-
-planned_is : (o : Option Refusal) (x y : RedeemPlan) → outcome o x ≡ Ok y → (o ≡ None) × (x ≡ y)
-planned_is None x y h = (refl, same_plan x y h)
-planned_is (Some refusal) x y h = absurd (none h) where
-  none : outcome (Some refusal) x ≡ Ok y → ⊥
-  none g = cc
-
--- a list of rules of which none comes
-abbrev AllFalse : List Rule → Type 0
-AllFalse [] = Unit {0}
-AllFalse (rule ∷ rules) = (rule.0 ≡ false) × AllFalse rules
-
-all_false : (rules : List Rule) → first_refusal rules ≡ None → AllFalse rules
-all_false [] h = tt
-all_false (rule ∷ rules) h = by rule.0 refl h (all_false rules) where
-  some : first_refusal ((true, rule.1) ∷ rules) ≡ None → ⊥
-  some k = cc
-
-  by : (b : Bool) → rule.0 ≡ b → cond b (Some rule.1) (first_refusal rules) ≡ None → (first_refusal rules ≡ None → AllFalse rules) → (rule.0 ≡ false) × AllFalse rules
-  by true e g later = absurd (some g)
-  by false e g later = (e, later g)
-
 pub planned_covered : (p : Parts) (wallet : Wallet) (plan : RedeemPlan) → AreSoundParts p wallet → IsPlannedOn p wallet plan → IsCovered p wallet plan
 planned_covered p wallet plan s h =
     let m = h.market in
     let list = reverse p.order in
     let vs = visits_in p m.price list in
     let terms = redeeming_terms m vs h.amount in
-    let told = planned_is (first_refusal (redeem_rules m wallet vs h.amount h.bound)) terms plan h.planned in
+    let told = made_by (first_refusal (redeem_rules m wallet vs h.amount h.bound)) terms plan h.planned in
     let rules = all_false (redeem_rules m wallet vs h.amount h.bound) told.0 in
-    let enough : h.amount ≤ wallet.lusd = lt_false wallet.lusd h.amount rules.1.1.1.1.0 in
-    let fee : terms.fee < terms.drawn = le_false terms.drawn terms.fee rules.1.1.1.1.1.1.0 in
+    let enough : h.amount ≤ wallet.lusd = ltb-false wallet.lusd h.amount rules.1.1.1.1.0 in
+    let fee : terms.fee < terms.drawn = leb-false terms.drawn terms.fee rules.1.1.1.1.1.1.0 in
     let least = h.sound.price_least in
     let total = s.coll in
     let stands : Stands p = record { troves = s.troves; coll = omega (arith, total); debt = s.debt } in

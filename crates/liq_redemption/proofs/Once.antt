@@ -18,7 +18,7 @@ use Rattle.liq_order.specs.Listed.{IsAbsent, AreDistinct}
 use Rattle.liq_order.specs.Order.{ranks, order_by}
 use Rattle.liq_order.proofs.Placed.{with_distinct}
 use Rattle.liq_order.proofs.Sorting.{with_absent}
-use Rattle.liq_redemption.proofs.Listing.{key_with_other}
+use Rattle.liq_order.proofs.Listing.{key_with_other}
 
 -- ---- none twice
 

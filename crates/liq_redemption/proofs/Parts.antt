@@ -1,14 +1,19 @@
 -- The parts of a state, and what a single cut makes of them.
-use Rattle.std.proofs.Common.{◌≡◌, ℕ, ◌-◌, ◌≤◌, true, false, cond, List, sym, ap, ◌∙◌, Some, None, Option, arith}
+use Rattle.std.proofs.Common.{◌≡◌, ℕ, ◌-◌, true, false, cond, List, sym, ap, ◌∙◌, Some, None, Option, refl}
 use Rattle.liq_types.specs.declared.figures.Trove.{Trove}
-use Rattle.liq_types.specs.Ranked.{Ranked}
+use Rattle.liq_types.specs.Ranked.{Ranked, with_ranked, without_ranked}
 use Rattle.liq_types.specs.Tables.{Table, at}
 use Rattle.liq_ledger.specs.declared.pools.Pools.{Pools}
 use Rattle.liq_troves.specs.declared.sums.Sums.{Sums}
-use Rattle.liq_troves.specs.Rows.{entire_in}
-use Rattle.liq_troves.specs.Standing.{Books, lifted_row, lift}
+use Rattle.liq_troves.specs.Rows.{entire_in, entire_by, key_by, set_row}
+use Rattle.liq_troves.specs.Standing.{Books, lift, place}
 use Rattle.liq_redemption.specs.declared.cut.Cut.{Cut}
-use Rattle.liq_redemption.specs.Parts.{Parts, lifted_parts, placed_parts, closed_parts, cut_own, cut_parts}
+use Rattle.liq_redemption.specs.Parts.{Parts, parts_of, lifted_parts, placed_parts, closed_parts, cut_own, cut_parts}
+use Rattle.std.specs.Prelude.{option_map, IsSome}
+use Rattle.liq_tables.specs.WithRoom.{WithRoom}
+use Rattle.liq_troves.specs.Kept.{Kept}
+use Rattle.liq_order.specs.Listed.{Listed}
+use Rattle.liq_standing.specs.Books.{books_kept, pools_with}
 
 -- parts are the same where each of them is
 pub same_parts : (p q : Parts) → p.sums ≡ q.sums → p.troves ≡ q.troves → p.pools ≡ q.pools → p.surplus ≡ q.surplus → p.order ≡ q.order → p ≡ q
@@ -31,16 +36,22 @@ cut_placed p cut own is full =
     ap (λ (o : Option (ℕ × ℕ)). cut_own p cut o) (sym is)
     ∙ ap (λ b. cond b (closed_parts (lifted_parts p cut.account) cut.account (own.0 - cut.draw)) (placed_parts (lifted_parts p cut.account) cut.account (own.0 - cut.draw) (own.1 - cut.lot))) full
 
--- ---- what is left of the active pool
+-- ---- a trove leaves, or comes
 
-pub less_coll : (b : Books) (account : ℕ) → (lift b account).active_coll ≤ b.active_coll
-less_coll b account = by (at b.troves account) where
-  by : (o : Option Trove) → (lifted_row b account o).active_coll ≤ b.active_coll
-  by None = omega arith
-  by (Some t) = omega arith
+module _ (old new : Pools) (before after : Kept) (list next : Listed) (surplus : WithRoom ℕ) (account : ℕ) where
+  pub lifted_is : books_kept after new ≡ lift (books_kept before old) account → new ≡ pools_with old (books_kept after new) → next.entries ≡ without_ranked list.entries account → parts_of new surplus after next ≡ lifted_parts (parts_of old surplus before list) account
+  lifted_is books rest order =
+      same_parts (parts_of new surplus after next) (lifted_parts (parts_of old surplus before list) account)
+      (ap (λ (b : Books). b.sums) books) (ap (λ (b : Books). b.troves) books) (rest ∙ ap (λ (b : Books). pools_with old b) books) refl order
 
-pub less_debt : (b : Books) (account : ℕ) → (lift b account).active_debt ≤ b.active_debt
-less_debt b account = by (at b.troves account) where
-  by : (o : Option Trove) → (lifted_row b account o).active_debt ≤ b.active_debt
-  by None = omega arith
-  by (Some t) = omega arith
+  pub placed_is : (coll debt : ℕ) → books_kept after new ≡ place (books_kept before old) account coll debt → new ≡ pools_with old (books_kept after new) → next.entries ≡ with_ranked list.entries (key_by (set_row before.sums coll debt), account) → parts_of new surplus after next ≡ placed_parts (parts_of old surplus before list) account coll debt
+  placed_is coll debt books rest order =
+      same_parts (parts_of new surplus after next) (placed_parts (parts_of old surplus before list) account coll debt)
+      (ap (λ (b : Books). b.sums) books) (ap (λ (b : Books). b.troves) books) (rest ∙ ap (λ (b : Books). pools_with old b) books) refl order
+
+-- an account that has entire amounts has a trove
+pub trove_there : (p : Parts) (account : ℕ) (own : ℕ × ℕ) → entire_in p.sums p.troves account ≡ Some own → IsSome (at p.troves account)
+trove_there p account own h = by (at p.troves account) h where
+  by : (o : Option Trove) → option_map (entire_by p.sums) o ≡ Some own → IsSome o
+  by None e = cc
+  by (Some t) e = refl

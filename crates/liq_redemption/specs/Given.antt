@@ -1,7 +1,7 @@
 -- What the parts of every sound state are, as far as a redemption reads them.
-use Rattle.std.specs.Prelude.{◌≡◌, ℕ, ◌+◌, ◌-◌, ◌≤◌, ◌<◌, Some, IsSome, IsTrue, Ok}
+use Rattle.std.specs.Prelude.{◌≡◌, ℕ, false, ◌+◌, ◌-◌, ◌≤◌, ◌<◌, Some, IsSome, IsTrue, Ok}
 use Rattle.std.specs.List.{AllByRecursion}
-use Rattle.liq_types.specs.declared.amounts.TheConstants.{ONE, LIM, PRICE_LEAST, PRICE_MOST}
+use Rattle.liq_types.specs.declared.amounts.TheConstants.{ONE, LIM, PRICE_LEAST, PRICE_MOST, RESERVE, MIN_NET}
 use Rattle.liq_types.specs.declared.figures.Market.{Market}
 use Rattle.liq_types.specs.declared.figures.Trove.{Trove}
 use Rattle.liq_types.specs.declared.figures.Wallet.{Wallet}
@@ -10,13 +10,12 @@ use Rattle.liq_types.specs.State.{surplus_in}
 use Rattle.liq_types.specs.Tables.{Table, at}
 use Rattle.liq_tables.specs.WithRoom.{WithRoom, HasRoom}
 use Rattle.liq_troves.specs.declared.sums.Sums.{Sums}
-use Rattle.liq_troves.specs.Kept.{coll_in}
 use Rattle.liq_troves.specs.Rows.{entire_by, entire_in}
 use Rattle.liq_troves.specs.Standing.{TrovesStand}
 use Rattle.liq_order.specs.Listed.{AreDistinct}
 use Rattle.liq_redemption.specs.declared.cut.Cut.{Cut}
 use Rattle.liq_redemption.specs.declared.planning.RedeemPlan.{RedeemPlan}
-use Rattle.liq_redemption.specs.Parts.{Parts, books_in, cut_parts}
+use Rattle.liq_redemption.specs.Parts.{Parts, books_in}
 use Rattle.liq_redemption.specs.Redemption.{redeem_plan, visited_by}
 
 -- ---- what is planned
@@ -74,11 +73,12 @@ HasRoomFor plan account wallets surplus = HasRoom wallets account × AllByRecurs
 pub record CutFits (p : Parts) (cut : Cut) : Type 0 where
   pub own : ℕ × ℕ
   pub entire_is : entire_in p.sums p.troves cut.account ≡ Some own
-  pub within : IsEntireWithin own
+  pub stands : TrovesStand (books_in p)
+  pub coll : p.pools.active_coll + p.pools.default_coll ≤ LIM
+  pub debt : p.pools.active_debt + p.pools.default_debt ≤ LIM
   pub draw : cut.draw < own.0
   pub listed : IsSome (key_in p.order cut.account)
-  pub active_coll : p.pools.active_coll ≤ LIM
-  pub active_debt : p.pools.active_debt ≤ LIM
   pub surplus : p.pools.surplus ≤ LIM
   pub claim : surplus_in p.surplus cut.account + (own.0 - cut.draw) ≤ LIM
-  pub limit : coll_in (cut_parts p cut).troves ≤ LIM
+  -- a trove that stays keeps the least debt
+  pub left : cut.full ≡ false → RESERVE + MIN_NET ≤ own.1 - cut.lot

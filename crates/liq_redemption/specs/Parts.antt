@@ -17,6 +17,7 @@ use Rattle.liq_troves.specs.Standing.{Books, lift, place}
 use Rattle.liq_order.specs.Listed.{Listed}
 use Rattle.liq_redemption.specs.declared.cut.Cut.{Cut}
 use Rattle.liq_redemption.specs.Redemption.{RedeemTerms}
+use Rattle.liq_standing.specs.Books.{books_with, pools_with, pools_of}
 
 -- the sums and the troves, the pools, what owners may claim, and the ordered list
 pub record Parts : Type 0 where
@@ -34,29 +35,10 @@ parts_of pools surplus troves order =
 -- ---- the books
 
 abbrev pub books_in : Parts → Books
-books_in p =
-    record {
-      sums = p.sums;
-      troves = p.troves;
-      active_coll = p.pools.active_coll;
-      active_debt = p.pools.active_debt;
-      default_coll = p.pools.default_coll;
-      default_debt = p.pools.default_debt;
-    }
+books_in p = books_with p.sums p.troves p.pools
 
 abbrev pub with_books : Parts → Books → Parts
-with_books p b =
-    record p {
-      sums = b.sums;
-      troves = b.troves;
-      pools =
-          record p.pools {
-            active_coll = b.active_coll;
-            active_debt = b.active_debt;
-            default_coll = b.default_coll;
-            default_debt = b.default_debt;
-          };
-    }
+with_books p b = record p { sums = b.sums; troves = b.troves; pools = pools_with p.pools b }
 
 -- ---- what a cut does
 
@@ -106,20 +88,7 @@ redeemed_wallets wallets account terms =
 
 -- ---- in a state
 
-abbrev pub pools_in : State → Pools
-pools_in s =
-    record {
-      active_coll = s.active_coll;
-      active_debt = s.active_debt;
-      default_coll = s.default_coll;
-      default_debt = s.default_debt;
-      reserve = s.reserve;
-      surplus = s.surplus;
-      fee_coll = s.fee_coll;
-      fee_lusd = s.fee_lusd;
-    }
-
 -- the parts of a state, with some list
 abbrev pub parts_with : State → List Ranked → Parts
 parts_with s order =
-    record { sums = sums_words s; troves = trove_rows s; pools = pools_in s; surplus = s.surplus_rows; order = order }
+    record { sums = sums_words s; troves = trove_rows s; pools = pools_of s; surplus = s.surplus_rows; order = order }

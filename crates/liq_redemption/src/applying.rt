@@ -1,23 +1,21 @@
 //! What a planned redemption does.
 
-ghost use Rattle.std.specs.Prelude.{◌≡◌, ℕ, ◌≤◌, ◌<◌, ◌+◌, ◌-◌, ◌^◌, Some, None, IsOk, IsSome, IfSome, OnOk, count_by, if◌then◌else◌};
+ghost use Rattle.std.specs.Prelude.{◌≡◌, ◌≤◌, ◌+◌, IsOk, OnOk, count_by, if◌then◌else◌};
 ghost use Rattle.liq_types.specs.declared.amounts.TheConstants.{LIM};
-ghost use Rattle.liq_types.specs.Ranked.{key_in};
 ghost use Rattle.liq_types.specs.State.{wallet_in, surplus_in};
-ghost use Rattle.liq_types.specs.Tables.{at};
 ghost use Rattle.liq_types.specs.WellFormed.{Ascends};
-ghost use Rattle.liq_tables.specs.WithRoom.{WithRoom, HasRoom, KeepsRoom};
-ghost use Rattle.liq_troves.specs.Kept.{Kept, coll_in};
-ghost use Rattle.liq_troves.specs.Rows.{entire_in, set_in, key_by};
+ghost use Rattle.liq_tables.specs.WithRoom.{HasRoom, KeepsRoom};
+ghost use Rattle.liq_troves.specs.Kept.{Kept};
 ghost use Rattle.liq_order.specs.Listed.{Listed};
-ghost use Rattle.liq_redemption.specs.Given.{AreSoundParts, IsPlannedOn, HasRoomFor, HasRoomToClose, CutFits, IsEntireWithin};
-ghost use Rattle.liq_redemption.specs.Parts.{parts_of, lifted_parts, placed_parts, closed_parts, cut_parts, redeemed_parts, redeemed_wallets};
+ghost use Rattle.liq_redemption.specs.Given.{AreSoundParts, IsPlannedOn, HasRoomFor, HasRoomToClose, CutFits};
+ghost use Rattle.liq_redemption.specs.Parts.{parts_of, closed_parts, cut_parts, redeemed_parts, redeemed_wallets};
 
 use crate::cut::Cut;
 use crate::planning::RedeemPlan;
 use liq_ledger::{Pools, Surplus, Wallets};
 use liq_order::Order;
-use liq_troves::{Troves, entire, key};
+use liq_standing::{lift, place};
+use liq_troves::Troves;
 use liq_types::amounts::RESERVE;
 use liq_types::{Hint, NoMemory, Steps};
 use std::sync::ledger::Ledger;
@@ -114,40 +112,14 @@ fn take_down<L: Ledger>(
     ensures order_room { order.new.room ≡ order.old.room + (if cut.now.full then 1 else 0) }
     ensures steps { steps.new ≡ steps.old }
 {
-    let (coll, debt) = lift(cut.account, pools, troves, order);
+    let (coll, debt) = lift(pools, troves, order, cut.account);
     let coll = coll - cut.draw;
     if cut.full {
         close(cut.account, coll, pools, surplus);
     } else {
-        let debt = debt.saturating_sub(cut.lot);
-        place(cut.account, (coll, debt), hint, pools, troves, order, steps);
+        let debt = debt - cut.lot;
+        place(pools, troves, order, cut.account, coll, debt, hint, steps);
     }
-}
-
-/// Takes an account's trove out of the troves, the pools and the list. Answers what it had.
-fn lift(account: u32, pools: &mut Pools, troves: &mut Troves, order: &mut Order) -> (u64, u64)
-    requires there { IsSome (at troves.old.table.rows account) }
-    requires within { IfSome (entire_in troves.old.sums troves.old.table.rows account) IsEntireWithin }
-    requires listed { IsSome (key_in order.old.entries account) }
-    ensures own { Some result ≡ entire_in troves.old.sums troves.old.table.rows account }
-    ensures parts { (surplus : WithRoom ℕ) → parts_of pools.new surplus troves.new order.new ≡ lifted_parts (parts_of pools.old surplus troves.old order.old) account }
-    ensures trove_room { troves.new.table.room ≡ troves.old.table.room }
-    ensures room { HasRoom troves.new.table account }
-    ensures order_room { order.new.room ≡ order.old.room + 1 }
-    ensures absent { key_in order.new.entries account ≡ None }
-{
-    let trove = match troves.get(account) {
-        Some(trove) => *trove,
-        None => unreachable!(),
-    };
-    let own = entire(&trove, troves.sums());
-    let _ = troves.remove(account);
-    order.remove(account);
-    pools.active_coll = pools.active_coll.saturating_sub(trove.coll);
-    pools.active_debt = pools.active_debt.saturating_sub(trove.debt);
-    pools.default_coll = pools.default_coll.saturating_sub(own.0 - trove.coll);
-    pools.default_debt = pools.default_debt.saturating_sub(own.1 - trove.debt);
-    own
 }
 
 /// Burns the reserve of a trove that has left; its owner may claim what is left of its collateral (gwei).
@@ -161,46 +133,4 @@ fn close(account: u32, coll: u64, pools: &mut Pools, surplus: &mut Surplus)
     pools.reserve = pools.reserve.saturating_sub(RESERVE);
     pools.surplus += coll;
     surplus.add(account, coll);
-}
-
-/// Puts a trove with these amounts (gwei, micro-LUSD) into the troves, the pools and the list.
-fn place<L: Ledger>(
-    account: u32,
-    own: (u64, u64),
-    hint: &Hint,
-    pools: &mut Pools,
-    troves: &mut Troves,
-    order: &mut Order,
-    steps: &mut Steps<L>,
-)
-    requires room { HasRoom troves.old.table account }
-    requires some { 1 ≤ own.0 }
-    requires limit { coll_in (set_in troves.old.sums troves.old.table.rows account own.0 own.1) ≤ LIM }
-    requires coll { pools.old.active_coll + own.0 < 2 ^ 64 }
-    requires debt { pools.old.active_debt + own.1 < 2 ^ 64 }
-    requires absent { key_in order.old.entries account ≡ None }
-    requires order_room { 1 ≤ order.old.room }
-    ensures parts { (surplus : WithRoom ℕ) → parts_of pools.new surplus troves.new order.new ≡ placed_parts (parts_of pools.old surplus troves.old order.old) account own.0 own.1 }
-    ensures trove_room { troves.new.table.room ≡ troves.old.table.room }
-    ensures order_room { order.new.room + 1 ≡ order.old.room }
-    ensures steps { steps.new ≡ steps.old }
-{
-    troves.set(account, own.0, own.1);
-    pools.active_coll += own.0;
-    pools.active_debt += own.1;
-    let key = key_of(troves, account);
-    order.insert(key, account, hint, steps);
-}
-
-/// The key of an account's trove.
-fn key_of(troves: &Troves, account: u32) -> i128
-    requires { IsSome (at troves.now.table.rows account) }
-    ensures { IfSome (at troves.now.table.rows account) (λ t. result ≡ key_by t) }
-{
-    // A mark is within its sum, and the sums are within their limit.
-    let _ = troves.sums();
-    match troves.get(account) {
-        Some(trove) => key(trove),
-        None => unreachable!(),
-    }
 }

@@ -10,7 +10,7 @@ ghost use Rattle.liq_redemption.specs.Redemption as rules;
 use crate::cuts::Cuts;
 use crate::fault::RedeemFault;
 use crate::walk::{Walk, along};
-use liq_num::GWEI_PER_ETH;
+use liq_num::ratio_sides;
 use liq_order::Order;
 use liq_rate::{Rate, redeem_fee};
 use liq_troves::Troves;
@@ -75,8 +75,7 @@ fn check_asked(m: &Market, wallet: &Wallet, amount: u64, bound: u64) -> Result<(
             limit: BOOTSTRAP,
         });
     }
-    let left = u128::from(m.total_coll) * u128::from(m.price) * 100;
-    let right = u128::from(MCR) * u128::from(m.total_debt) * u128::from(GWEI_PER_ETH);
+    let (left, right) = ratio_sides(m.total_coll, m.total_debt, m.price, MCR);
     if left < right {
         return Err(Refusal::SystemUnder { left, right });
     }

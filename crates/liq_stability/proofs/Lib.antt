@@ -1,5 +1,4 @@
 pub mod Falling
-pub mod Filling
 pub mod Finishing
 pub mod Following
 pub mod Holding

@@ -16,7 +16,7 @@ use Rattle.liq_types.proofs.MapRows.{all-put, all-without, all-weaken}
 use Rattle.liq_types.proofs.Places.{sum-snoc, finished-snoc, sum_after, finished_after}
 use Rattle.liq_stability.specs.declared.words.PoolWords.{PoolWords}
 use Rattle.liq_stability.specs.Own.{owned, offset, with_deposit}
-use Rattle.liq_stability.specs.Position.{mark_of, balance_in, gain_in, balance_of, gain_of}
+use Rattle.liq_stability.specs.Position.{mark_of, balance_in, gain_in, balance_of, gain_of, deposit_row}
 use Rattle.liq_stability.specs.Words.{words_of, pool_words, words_after, sum_with, finished_by, finished_with}
 
 -- ---- caps
@@ -31,10 +31,10 @@ gain_within s (Some d) = omega arith
 
 -- ---- totals
 
-own_total : (start_total provided withdrawn debts put_in out : ℕ) → withdrawn + debts ≤ start_total + provided → start_total + (provided + put_in) - (withdrawn + out) - debts ≡ start_total + provided - withdrawn - debts + put_in - out
+pub own_total : (start_total provided withdrawn debts put_in out : ℕ) → withdrawn + debts ≤ start_total + provided → start_total + (provided + put_in) - (withdrawn + out) - debts ≡ start_total + provided - withdrawn - debts + put_in - out
 own_total start_total provided withdrawn debts put_in out h = omega arith
 
-own_coll : (had paid_before gain : ℕ) → had - (paid_before + gain) ≡ had - paid_before - gain
+pub own_coll : (had paid_before gain : ℕ) → had - (paid_before + gain) ≡ had - paid_before - gain
 own_coll had paid_before gain = omega arith
 
 pub owned-total : (s : State) → IsPoolCovered s → (account put_in out : ℕ) → pool_total (owned s account put_in out) ≡ pool_total s + put_in - out
@@ -43,10 +43,10 @@ owned-total s h account put_in out = own_total s.start.total s.provided s.withdr
 pub owned-coll : (s : State) (account put_in out : ℕ) → pool_coll (owned s account put_in out) ≡ pool_coll s - gain_of s account
 owned-coll s account put_in out = own_coll (s.start.pool_coll + sum_by (λ (o : PoolOffset). o.coll) s.offsets) s.gains_paid (gain_of s account)
 
-less_debt : (start_total provided withdrawn debts more debt : ℕ) → more ≡ debts + debt → start_total + provided - withdrawn - more ≡ start_total + provided - withdrawn - debts - debt
+pub less_debt : (start_total provided withdrawn debts more debt : ℕ) → more ≡ debts + debt → start_total + provided - withdrawn - more ≡ start_total + provided - withdrawn - debts - debt
 less_debt start_total provided withdrawn debts more debt e = omega (arith, e)
 
-more_coll : (had gains colls more coll : ℕ) → more ≡ colls + coll → gains ≤ had + colls → had + more - gains ≡ had + colls - gains + coll
+pub more_coll : (had gains colls more coll : ℕ) → more ≡ colls + coll → gains ≤ had + colls → had + more - gains ≡ had + colls - gains + coll
 more_coll had gains colls more coll e h = omega (arith, e)
 
 -- the offset that a state adds to its list
@@ -71,10 +71,10 @@ offset-coll s h debt coll =
 
 -- ---- what is covered stays so
 
-still_covered : (withdrawn debts total provided put_in out : ℕ) → withdrawn + debts ≤ total + provided → out ≤ total + provided - withdrawn - debts → withdrawn + out + debts ≤ total + (provided + put_in)
+pub still_covered : (withdrawn debts total provided put_in out : ℕ) → withdrawn + debts ≤ total + provided → out ≤ total + provided - withdrawn - debts → withdrawn + out + debts ≤ total + (provided + put_in)
 still_covered withdrawn debts total provided put_in out h k = omega arith
 
-gains_covered : (gains had gain : ℕ) → gains ≤ had → gain ≤ had - gains → gains + gain ≤ had
+pub gains_covered : (gains had gain : ℕ) → gains ≤ had → gain ≤ had - gains → gains + gain ≤ had
 gains_covered gains had gain h k = omega arith
 
 pub owned-covered : (s : State) (account put_in out : ℕ) → out ≤ balance_of s account → IsPoolCovered s → IsPoolCovered (owned s account put_in out)
@@ -84,7 +84,7 @@ owned-covered s account put_in out within h =
       gains_covered s.gains_paid (s.start.pool_coll + sum_by (λ (o : PoolOffset). o.coll) s.offsets) (gain_of s account) h.1 (gain_within s (at s.deposits account)),
     )
 
-taken_covered : (withdrawn debts more total provided debt : ℕ) → more ≡ debts + debt → withdrawn + debts ≤ total + provided → debt ≤ total + provided - withdrawn - debts → withdrawn + more ≤ total + provided
+pub taken_covered : (withdrawn debts more total provided debt : ℕ) → more ≡ debts + debt → withdrawn + debts ≤ total + provided → debt ≤ total + provided - withdrawn - debts → withdrawn + more ≤ total + provided
 taken_covered withdrawn debts more total provided debt e h k = omega (arith, e)
 
 more_gains : (gains had colls more c : ℕ) → more ≡ colls + c → gains ≤ had + colls → gains ≤ had + more
@@ -122,6 +122,10 @@ with_deposit-ascends table account d h = none-ascends (d.amount == 0) table acco
 pub mark-grown : (s : State) (debt coll : ℕ) (mark : Mark PoolMark) → IsMoment (length s.offsets) mark → mark_of (offset s debt coll) mark ≡ mark_of s mark
 mark-grown s debt coll (AtStart fields) h = refl
 mark-grown s debt coll (After n) h = ap (mark_after s.start) (take-append-le n s.offsets (offset_now s debt coll ∷ []) h)
+
+pub deposit-grown : (s : State) (debt coll : ℕ) (d : DepositEntry) → IsMoment (length s.offsets) d.mark → deposit_row (offset s debt coll) d ≡ deposit_row s d
+deposit-grown s debt coll d h =
+    ap (λ (m : PoolMark). record { amount = d.amount; p = m.p; sum = m.sum; scale = m.scale; epoch = m.epoch }) (mark-grown s debt coll d.mark h)
 
 -- the mark of now
 pub mark-full : (s : State) → mark_of s (After (length s.offsets)) ≡ mark_after s.start s.offsets

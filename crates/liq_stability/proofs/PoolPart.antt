@@ -11,11 +11,11 @@ pub pool-event : (s : State) (e : PoolEvent) → pool_of (after_event s e) ≡ a
 pool-event s (event.Own account put_in out gain amount) = refl
 pool-event s (event.Offset debt coll total rise) = refl
 
-event_to_pool : (s : State) (e : PoolEvent) → IsLawfulEvent s e → IsLawfulEvent (pool_of s) e
+pub event_to_pool : (s : State) (e : PoolEvent) → IsLawfulEvent s e → IsLawfulEvent (pool_of s) e
 event_to_pool s (event.Own account put_in out gain amount) h = record { gain_is = h.gain_is; paid_is = h.paid_is; amount_is = h.amount_is }
 event_to_pool s (event.Offset debt coll total rise) h = record { some = h.some; within = h.within; total_is = h.total_is; coll_is = h.coll_is; rise_is = h.rise_is }
 
-event_from_pool : (s : State) (e : PoolEvent) → IsLawfulEvent (pool_of s) e → IsLawfulEvent s e
+pub event_from_pool : (s : State) (e : PoolEvent) → IsLawfulEvent (pool_of s) e → IsLawfulEvent s e
 event_from_pool s (event.Own account put_in out gain amount) h = record { gain_is = h.gain_is; paid_is = h.paid_is; amount_is = h.amount_is }
 event_from_pool s (event.Offset debt coll total rise) h = record { some = h.some; within = h.within; total_is = h.total_is; coll_is = h.coll_is; rise_is = h.rise_is }
 

@@ -9,22 +9,7 @@ use Rattle.liq_types.specs.Soundness.{is_product, is_sum_beside, is_before, is_s
 use Rattle.liq_types.specs.WellFormed.{IsBefore}
 use Rattle.liq_types.proofs.Places.{IsUpTo}
 use Rattle.liq_stability.specs.Kept.{is_sound_sum}
-
-both : (a b : Bool) → (a && b) ≡ true → (a ≡ true) × (b ≡ true)
-both true true h = (refl, refl)
-both true false h = cc
-both false b h = cc
-
-join : (a b : Bool) → a ≡ true → b ≡ true → (a && b) ≡ true
-join true true h k = refl
-join true false h k = k
-join false b h k = h
-
-le : (m n : ℕ) → nat_le m n ≡ true → m ≤ n
-le m n e = grind (arith, nat_tests)
-
-le_true : (m n : ℕ) → m ≤ n → nat_le m n ≡ true
-le_true m n h = grind (arith, nat_tests)
+use Rattle.std.proofs.lemmas.Bool.{and_parts, and_from, leb-true, le-leb}
 
 -- ---- the product and its sum
 
@@ -34,17 +19,17 @@ pub record IsInRange (p : ℕ) : Type 0 where
 
 pub product_in : (p : ℕ) → IsTrue (is_product p) → IsInRange p
 product_in p h =
-    let parts = both (nat_le P_LEAST p) (nat_le p P_OPENING) h in
-    record { least = le P_LEAST p parts.0; most = le p P_OPENING parts.1 }
+    let parts = and_parts (nat_le P_LEAST p) (nat_le p P_OPENING) h in
+    record { least = leb-true P_LEAST p parts.0; most = leb-true p P_OPENING parts.1 }
 
 pub product_tested : (p : ℕ) → IsInRange p → IsTrue (is_product p)
-product_tested p h = join (nat_le P_LEAST p) (nat_le p P_OPENING) (le_true P_LEAST p h.least) (le_true p P_OPENING h.most)
+product_tested p h = and_from (nat_le P_LEAST p) (nat_le p P_OPENING) (le-leb P_LEAST p h.least) (le-leb p P_OPENING h.most)
 
 pub sum_beside : (sum p : ℕ) → IsTrue (is_sum_beside sum p) → sum ≤ OFFSET_MOST * (P_OPENING - p)
-sum_beside sum p h = le sum (OFFSET_MOST * (P_OPENING - p)) h
+sum_beside sum p h = leb-true sum (OFFSET_MOST * (P_OPENING - p)) h
 
 pub beside_tested : (sum p : ℕ) → sum ≤ OFFSET_MOST * (P_OPENING - p) → IsTrue (is_sum_beside sum p)
-beside_tested sum p h = le_true sum (OFFSET_MOST * (P_OPENING - p)) h
+beside_tested sum p h = le-leb sum (OFFSET_MOST * (P_OPENING - p)) h
 
 -- ---- places
 
@@ -53,7 +38,7 @@ before_in a b h = by (nat_lt a.0 b.0) refl h where
   by : (c : Bool) → nat_lt a.0 b.0 ≡ c → (c || (a.0 == b.0 && nat_lt a.1 b.1)) ≡ true → IsBefore a b
   by true e k = inl (grind (arith, nat_tests, e))
   by false e k =
-      let parts = both (a.0 == b.0) (nat_lt a.1 b.1) k in
+      let parts = and_parts (a.0 == b.0) (nat_lt a.1 b.1) k in
       inr (grind (arith, nat_tests, parts.0), grind (arith, nat_tests, parts.1))
 
 pub before_tested : (a b : Place) → IsBefore a b → is_before a b ≡ true
@@ -84,12 +69,12 @@ pub record IsFinished (now : Place) (row : Place × ℕ) : Type 0 where
 
 pub finished_in : (now : Place) (row : Place × ℕ) → IsTrue (is_sound_sum now row) → IsFinished now row
 finished_in now row h =
-    let parts = both (nat_le row.1 (OFFSET_MOST * P_OPENING)) (is_before row.0 now) h in
-    record { most = le row.1 (OFFSET_MOST * P_OPENING) parts.0; before = before_in row.0 now parts.1 }
+    let parts = and_parts (nat_le row.1 (OFFSET_MOST * P_OPENING)) (is_before row.0 now) h in
+    record { most = leb-true row.1 (OFFSET_MOST * P_OPENING) parts.0; before = before_in row.0 now parts.1 }
 
 pub finished_tested : (now : Place) (row : Place × ℕ) → IsFinished now row → IsTrue (is_sound_sum now row)
 finished_tested now row h =
-    join (nat_le row.1 (OFFSET_MOST * P_OPENING)) (is_before row.0 now) (le_true row.1 (OFFSET_MOST * P_OPENING) h.most) (before_tested row.0 now h.before)
+    and_from (nat_le row.1 (OFFSET_MOST * P_OPENING)) (is_before row.0 now) (le-leb row.1 (OFFSET_MOST * P_OPENING) h.most) (before_tested row.0 now h.before)
 
 pub record IsMarked (now : Place) (sum : ℕ) (d : Deposit) : Type 0 where
   pub product : IsInRange d.p
@@ -98,16 +83,16 @@ pub record IsMarked (now : Place) (sum : ℕ) (d : Deposit) : Type 0 where
 
 pub deposit_in : (now : Place) (sum : ℕ) (d : Deposit) → IsTrue (is_sound_deposit now sum d) → IsMarked now sum d
 deposit_in now sum d h =
-    let first = both (is_product d.p && not (is_before now (d.epoch, d.scale))) (nat_le d.sum sum) h in
-    let parts = both (is_product d.p) (not (is_before now (d.epoch, d.scale))) first.0 in
+    let first = and_parts (is_product d.p && not (is_before now (d.epoch, d.scale))) (nat_le d.sum sum) h in
+    let parts = and_parts (is_product d.p) (not (is_before now (d.epoch, d.scale))) first.0 in
     record {
       product = product_in d.p parts.0;
       place = up_to_in now (d.epoch, d.scale) parts.1;
-      within = le d.sum sum first.1;
+      within = leb-true d.sum sum first.1;
     }
 
 pub deposit_tested : (now : Place) (sum : ℕ) (d : Deposit) → IsMarked now sum d → IsTrue (is_sound_deposit now sum d)
 deposit_tested now sum d h =
-    join (is_product d.p && not (is_before now (d.epoch, d.scale))) (nat_le d.sum sum)
-    (join (is_product d.p) (not (is_before now (d.epoch, d.scale))) (product_tested d.p h.product) (up_to_tested now (d.epoch, d.scale) h.place))
-    (le_true d.sum sum h.within)
+    and_from (is_product d.p && not (is_before now (d.epoch, d.scale))) (nat_le d.sum sum)
+    (and_from (is_product d.p) (not (is_before now (d.epoch, d.scale))) (product_tested d.p h.product) (up_to_tested now (d.epoch, d.scale) h.place))
+    (le-leb d.sum sum h.within)

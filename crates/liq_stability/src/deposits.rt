@@ -213,7 +213,7 @@ impl Stability {
         ensures finished { IfOk result (λ s. s.finished ≡ finished_rows finished.items) }
         ensures deposits { IfOk result (λ s. s.deposits.rows ≡ rows is_used_deposit deposits.items) }
     {
-        let deposits = filled(alloc, &deposits)?;
+        let deposits = Reserved::filled(alloc, &deposits)?;
         Ok(Stability {
             words,
             finished,
@@ -283,17 +283,4 @@ fn keep(sums: &mut Vec<FinishedSum>, finished: Option<FinishedSum>)
     if let Some(sum) = finished {
         sums.push_reserved(sum);
     }
-}
-
-/// A table of just these deposits.
-fn filled(alloc: Global, entries: &[(u32, Deposit)]) -> Result<Reserved<Deposit>, NoMemory>
-    requires { Ascends entries.now }
-    ensures { IfOk result (λ table. table.rows ≡ rows is_used_deposit entries.now) }
-{
-    let mut table = Reserved::new(alloc);
-    for row in entries {
-        table.reserve(row.0)?;
-        table.write(row.0, row.1);
-    }
-    Ok(table)
 }

@@ -10,24 +10,14 @@ use Rattle.std.specs.Cmp.{nat_cmp_total, eq_by_cmp_equiv}
 use Rattle.std.proofs.lemmas.Bool.Decides.{nat_tests}
 use Rattle.std.proofs.lemmas.Map.Entries.{option_filter}
 use Rattle.std.proofs.lemmas.Map.Views.{Contains-keys_from_lookup, IsSome-lookup_from_Contains}
-use Rattle.liq_types.proofs.Lookups.{at-put_same, at-put_other}
+use Rattle.liq_types.proofs.Lookups.{at-put_same, at-put_other, same_key}
 use Rattle.liq_types.proofs.Places.{nat_cmp-eq}
 use Rattle.liq_types.proofs.UsedRows.{at-rows}
 use Rattle.liq_types.specs.Tables.{Table, at, put, without, rows}
 use Rattle.liq_tables.specs.WithRoom.{written}
-
-same_key : (j k : ℕ) → is_eq (nat_cmp j k) ≡ true → j ≡ k
-same_key j k h = let e : (j == k) ≡ true = sym (nat_cmp-eq j k) ∙ h in grind (arith, nat_tests, e)
+use Rattle.liq_types.proofs.Tests.{some, missing}
 
 module _ {X : Type 0} where
-  pub some : (o : Option X) (x : X) → o ≡ Some x → IsSome o
-  some None x h = cc
-  some (Some y) x h = refl
-
-  pub missing : (o : Option X) → is_some o ≡ false → o ≡ None
-  missing None h = refl
-  missing (Some x) h = cc
-
   pub room_from_row : (table : Table X) (key : ℕ) → IsSome (at table key) → Contains (keys_of table) key
   room_from_row table key h = Contains-keys_from_lookup same_key key table h
 

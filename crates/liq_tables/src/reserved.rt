@@ -1,7 +1,7 @@
 //! A table over a map.
 
-ghost use Rattle.std.specs.Prelude.{◌≡◌, [], true, IsOk, OnOk, OnErr, OnSome, option_copied};
-ghost use Rattle.liq_types.specs.Tables.{at, without};
+ghost use Rattle.std.specs.Prelude.{◌≡◌, [], true, IsOk, IfOk, OnOk, OnErr, OnSome, option_copied};
+ghost use Rattle.liq_types.specs.Tables.{at, rows, without};
 ghost use Rattle.liq_types.specs.WellFormed.{Ascends};
 ghost use Rattle.liq_tables.specs.WithRoom.{HasRoom, KeepsRoom, written};
 
@@ -39,6 +39,19 @@ impl<X: Row> Reserved<X> {
         Reserved {
             map: BTreeMap::new(alloc),
         }
+    }
+
+    /// A table of just these rows, of which the used ones are seen.
+    pub fn filled(alloc: Global, entries: &[(u32, X)]) -> Result<Reserved<X>, NoMemory>
+        requires { Ascends entries.now }
+        ensures { IfOk result (λ table. table.rows ≡ rows X.used entries.now) }
+    {
+        let mut table = Reserved::new(alloc);
+        for row in entries {
+            table.reserve(row.0)?;
+            table.write(row.0, row.1);
+        }
+        Ok(table)
     }
 
     /// The row at a key, if there is one. Where it is, there is room.

@@ -45,20 +45,20 @@ place_books s account coll debt =
 
 -- ---- a redistribution
 
-sums_grown : (s : State) (coll debt : ℕ) (mark : Mark StakeSums) → IsMoment (length s.redistributions) mark → sums_at (redistributed s coll debt) mark ≡ sums_at s mark
+pub sums_grown : (s : State) (coll debt : ℕ) (mark : Mark StakeSums) → IsMoment (length s.redistributions) mark → sums_at (redistributed s coll debt) mark ≡ sums_at s mark
 sums_grown s coll debt (AtStart fields) h = refl
 sums_grown s coll debt (After n) h =
     ap (λ (rs : List Redistribution). record { coll = s.start.sum_coll + sum_by coll_growth rs; debt = s.start.sum_debt + sum_by debt_growth rs })
     (take-append-le n s.redistributions (record { coll = coll; debt = debt; stakes = stakes_of s } ∷ []) h)
 
-row_grown : (s : State) (coll debt : ℕ) (t : TroveEntry) → IsMoment (length s.redistributions) t.mark → trove_row (redistributed s coll debt) t ≡ trove_row s t
+pub row_grown : (s : State) (coll debt : ℕ) (t : TroveEntry) → IsMoment (length s.redistributions) t.mark → trove_row (redistributed s coll debt) t ≡ trove_row s t
 row_grown s coll debt t h =
     ap (λ (m : StakeSums). record { coll = t.coll; debt = t.debt; stake = t.stake; mark_coll = m.coll; mark_debt = m.debt }) (sums_grown s coll debt t.mark h)
 
-sum_all : (f : Redistribution → ℕ) (list : List Redistribution) → sum_by f (take (length list) list) ≡ sum_by f list
+pub sum_all : (f : Redistribution → ℕ) (list : List Redistribution) → sum_by f (take (length list) list) ≡ sum_by f list
 sum_all f list = ap (sum_by f) (take-length list)
 
-sum_more : (f : Redistribution → ℕ) (base : ℕ) (list : List Redistribution) (r : Redistribution) → base + sum_by f (take (length (list ++ r ∷ [])) (list ++ r ∷ [])) ≡ base + sum_by f (take (length list) list) + f r
+pub sum_more : (f : Redistribution → ℕ) (base : ℕ) (list : List Redistribution) (r : Redistribution) → base + sum_by f (take (length (list ++ r ∷ [])) (list ++ r ∷ [])) ≡ base + sum_by f (take (length list) list) + f r
 sum_more f base list r =
     let long = sum_all f (list ++ r ∷ []) in
     let short = sum_all f list in

@@ -17,7 +17,7 @@ use Rattle.std.proofs.lemmas.Map.Entries.{sum_by-remove_entry, sum_by-insert_ent
 use Rattle.liq_types.specs.declared.amounts.TheConstants.{LIM, SUM_MOST, RESERVE, MIN_NET}
 use Rattle.liq_types.specs.declared.figures.Trove.{Trove}
 use Rattle.liq_types.specs.Soundness.{is_sound_trove}
-use Rattle.liq_types.specs.Tables.{Table, at, put, without}
+use Rattle.liq_types.specs.Tables.{Table, at, put, without, rows}
 use Rattle.liq_types.specs.WellFormed.{Ascends}
 use Rattle.liq_types.proofs.Ascending.{put-ascends, without-ascends}
 use Rattle.liq_types.proofs.Lookups.{all-at}
@@ -29,6 +29,7 @@ use Rattle.liq_troves.specs.Kept.{IsKept, AreKept, AreSoundRows, coll_in}
 use Rattle.liq_troves.specs.Rows.{stakes_in, set_row, set_in, beside, sums_spread, sums_snapped, sum_after}
 use Rattle.liq_troves.proofs.Added.{sum_taken, sums_within}
 use Rattle.liq_troves.proofs.Standing.{stake_within}
+use Rattle.liq_tables.proofs.Filling.{rows_all}
 
 -- ---- counts and sums
 
@@ -50,11 +51,6 @@ pub count_beside : {X : Type 0} (table : Table X) (key : ℕ) (x : X) → Ascend
 count_beside {X} table key x s =
     let law = sum_beside (λ (y : X). 1) table key x s in
     omega (arith, law, counted (put table key x), counted (without table key))
-
-pub count_taken : {X : Type 0} (table : Table X) (key : ℕ) (x : X) → at table key ≡ Some x → length (without table key) + 1 ≡ length table
-count_taken {X} table key x h =
-    let law = sum_taken (λ (y : X). 1) table key x h in
-    omega (arith, law, counted table, counted (without table key))
 
 pub stakes_taken : (troves : Table Trove) (sums : Sums) (count account : ℕ) (t : Trove) → AreKept troves sums count → at troves account ≡ Some t → stakes_in (without troves account) + t.stake ≡ sums.stakes
 stakes_taken troves sums count account t h there =
@@ -219,28 +215,10 @@ kept_from_rows troves sums count counts h = record {
   counted = counts;
 }
 
--- ---- rows one after the other
+-- each of them is used
+rows_used : (troves : Table Trove) (coll debt : ℕ) → AllByRecursion (λ (row : ℕ × Trove). IsKept coll debt row.1) troves → AllByRecursion (λ (row : ℕ × Trove). is_used_trove row.1 ≡ true) troves
+rows_used [] coll debt h = tt
+rows_used (e ∷ es) coll debt h = (used_row e.1 h.0.some, rows_used es coll debt h.1)
 
-module _ {X : Type 0} where
-  later : (front : Table X) (e : ℕ × X) (back : Table X) (key : ℕ) → AllByRecursion (λ y. nat_cmp key y ≡ Less) (keys_of (front ++ e ∷ back)) → nat_cmp key e.0 ≡ Less
-  later [] e back key h = h.0
-  later (f ∷ fs) e back key h = later fs e back key h.1
-
-  -- a row behind all others is put at the end
-  pub put_end : (front : Table X) (e : ℕ × X) (back : Table X) → Ascends (front ++ e ∷ back) → put front e.0 e.1 ≡ front ++ e ∷ []
-  unfolding IsStrictlySortedBy
-  put_end [] e back h = refl
-  put_end (f ∷ fs) e back h =
-      let greater = nat_cmp_total.antisymm e.0 f.0 ∙ ap ordering_reverse (later fs e back f.0 h.0) in
-      ap (λ o. match_ordering o ((e.0, e.1) ∷ f ∷ fs) ((f.0, e.1) ∷ fs) (f ∷ put fs e.0 e.1)) greater ∙ ap (λ (t : Table X). f ∷ t) (put_end fs e back h.1)
-
-  -- the next row of a table goes behind those before it
-  pub put_next : (table : Table X) (i : ℕ) (d : ℕ × X) → i < length table → Ascends table → put (take i table) (get_or table i d).0 (get_or table i d).1 ≡ take (i + 1) table
-  put_next table i d less h =
-      let whole : table ≡ take i table ++ get_or table i d ∷ drop (i + 1) table = sym (take-append-drop i table) ∙ ap (λ l. take i table ++ l) (drop_more table i d less) in
-      put_end (take i table) (get_or table i d) (drop (i + 1) table) (subst Ascends whole h) ∙ sym (take_more table i d less)
-
-  pub row_at : (P : X → Type 0) (table : Table X) (i : ℕ) (d : ℕ × X) → AllByRecursion (λ (row : ℕ × X). P row.1) table → i < length table → P (get_or table i d).1
-  row_at P [] i d h less = absurd (omega (arith, less))
-  row_at P (e ∷ es) zero d h less = h.0
-  row_at P (e ∷ es) (suc i) d h less = row_at P es i d h.1 (omega (arith, less))
+pub rows_seen : (troves : Table Trove) (sums : Sums) → AreSoundRows troves sums → rows is_used_trove troves ≡ troves
+rows_seen troves sums h = rows_all is_used_trove troves (rows_used troves sums.coll sums.debt (each_from_sound troves sums h))

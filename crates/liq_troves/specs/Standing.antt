@@ -5,6 +5,7 @@ use Rattle.std.specs.List.{AllByRecursion}
 use Rattle.std.specs.Map.{values_of}
 use Rattle.liq_types.specs.declared.amounts.TheConstants.{ONE, SUM_MOST, RESERVE, MIN_NET}
 use Rattle.liq_types.specs.declared.figures.Trove.{Trove}
+pub use Rattle.liq_types.specs.Soundness.{coll_due, debt_due}
 use Rattle.liq_types.specs.State.{State, Redistribution}
 use Rattle.liq_types.specs.Tables.{Table, at, without}
 use Rattle.liq_types.specs.WellFormed.{Ascends}
@@ -42,14 +43,7 @@ pub record TroveStands (sum_coll sum_debt : ℕ) (t : Trove) : Type 0 where
   pub mark_coll : t.mark_coll ≤ sum_coll
   pub mark_debt : t.mark_debt ≤ sum_debt
 
--- what is due to a trove before any rounding, over ONE
-abbrev pub coll_due : ℕ → Trove → ℕ
-coll_due sum t = t.stake * (sum - t.mark_coll)
-
-abbrev pub debt_due : ℕ → Trove → ℕ
-debt_due sum t = t.stake * (sum - t.mark_debt)
-
--- the same added up over troves
+-- a part of each, added up over troves
 abbrev pub added_up : (Trove → ℕ) → Table Trove → ℕ
 added_up f troves = sum_by f (values_of troves)
 

@@ -1,13 +1,14 @@
 //! What a trove has by the sums per unit of stake.
 
-ghost use Rattle.std.specs.Prelude.{◌≡◌, ◌≤◌, ◌<◌, ◌-◌, ◌*◌, ◌^◌};
-ghost use Rattle.liq_types.specs.declared.amounts.TheConstants.{ONE as one, SUM_MOST};
-ghost use Rattle.liq_troves.specs.Rows.{pending, entire_by, key_by, stake_by};
+ghost use Rattle.std.specs.Prelude.{◌≡◌, ◌≤◌, ◌<◌, ◌-◌, ◌*◌, ◌^◌, [], ◌∷◌};
+ghost use Rattle.liq_types.specs.declared.amounts.TheConstants.{ONE as one};
+ghost use Rattle.liq_types.specs.Rules.{first_refusal, outcome};
+ghost use Rattle.liq_troves.specs.Rows.{pending, entire_by, key_by, stake_by, sum_after, sum_limit};
 
 use crate::sums::Sums;
 use liq_num::mul_div;
-use liq_types::Trove;
-use liq_types::amounts::ONE;
+use liq_types::amounts::{ONE, SUM_MOST};
+use liq_types::{Refusal, Trove};
 
 /// The entire collateral (gwei) and the entire debt (micro-LUSD) of a trove: what is recorded and what is pending by the
 /// sums.
@@ -58,4 +59,26 @@ pub(crate) fn stake_for(sums: &Sums, coll: u64) -> u64
     let stakes = u128::from(sums.snap_stakes);
     let part = mul_div(u128::from(coll), stakes, u128::from(sums.snap_coll));
     (part as u64).max(1)
+}
+
+/// The sum per unit of stake after an amount (gwei or micro-LUSD) for so many units of stake.
+pub fn grown(sum: u128, amount: u64, stakes: u64) -> u128
+    requires stakes { 1 ≤ stakes }
+    requires sum { sum ≤ SUM_MOST }
+    ensures { result ≡ sum_after sum amount stakes }
+{
+    sum + mul_div(u128::from(amount), u128::from(ONE), u128::from(stakes))
+}
+
+/// The same sum. Refused with `SumLimit` exactly where it would pass its limit.
+pub fn raised(sum: u128, amount: u64, stakes: u64) -> Result<u128, Refusal>
+    requires stakes { 1 ≤ stakes }
+    requires sum { sum ≤ SUM_MOST }
+    ensures { result ≡ outcome (first_refusal (sum_limit (sum_after sum amount stakes) ∷ [])) (sum_after sum amount stakes) }
+{
+    let sum = grown(sum, amount, stakes);
+    if sum > SUM_MOST {
+        return Err(Refusal::SumLimit { sum });
+    }
+    Ok(sum)
 }

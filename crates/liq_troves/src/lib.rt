@@ -7,7 +7,7 @@ pub mod laws;
 mod sums;
 mod table;
 
-pub use amounts::{entire, key};
+pub use amounts::{entire, grown, key, raised};
 pub use liq_types::Trove;
 pub use sums::Sums;
 pub use table::Troves;

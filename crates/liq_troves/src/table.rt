@@ -1,19 +1,17 @@
 //! The troves of all accounts, and the sums beside them.
 
 ghost use Rattle.std.specs.Prelude.{◌≡◌, ℕ, ◌+◌, ◌≤◌, [], None, Some, IsOk, IsSome, IfSome, IfOk, OnOk, OnSome, MatchResult, length, ◌∷◌, option_copied, is_ok, if◌then◌else◌};
-ghost use Rattle.std.specs.List.{AllByRecursion};
-ghost use Rattle.liq_types.specs.Rules.{first_refusal, outcome};
+ghost use Rattle.liq_types.specs.Rules.{first_refusal};
 ghost use Rattle.liq_types.specs.Tables.{Table, at, without};
 ghost use Rattle.liq_types.specs.WellFormed.{Ascends};
 ghost use Rattle.liq_tables.specs.WithRoom.{HasRoom, KeepsRoom};
 ghost use Rattle.liq_troves.specs.Kept.{IsKept, AreSoundRows, coll_in};
-ghost use Rattle.liq_troves.specs.Rows.{beside, set_in, set_row, stakes_in, spread_rules, sum_after, sum_limit, sums_spread, sums_snapped};
+ghost use Rattle.liq_troves.specs.Rows.{beside, set_in, set_row, stakes_in, spread_rules, sums_spread, sums_snapped};
 
-use crate::amounts::stake_for;
+use crate::amounts::{raised, stake_for};
 use crate::sums::Sums;
-use liq_num::mul_div;
 use liq_tables::Reserved;
-use liq_types::amounts::{LIM, ONE, SUM_MOST};
+use liq_types::amounts::{LIM, SUM_MOST};
 use liq_types::{NoMemory, Refusal, Trove};
 use std::alloc::Global;
 use std::marker::Model;
@@ -196,36 +194,8 @@ impl Troves {
         ensures rows { IfOk result (λ t. t.table.rows ≡ rows.items) }
         ensures sums { IfOk result (λ t. t.sums ≡ sums) }
     {
-        let table = filled(alloc, &rows)?;
+        let table = Reserved::filled(alloc, &rows)?;
         let count = rows.len() as u64;
         Ok(Troves { table, sums, count })
     }
-}
-
-/// The sum after an amount for so many units of stake.
-fn raised(sum: u128, amount: u64, stakes: u64) -> Result<u128, Refusal>
-    requires stakes { 1 ≤ stakes }
-    requires sum { sum ≤ SUM_MOST }
-    requires amount { amount ≤ LIM }
-    ensures { result ≡ outcome (first_refusal (sum_limit (sum_after sum amount stakes) ∷ [])) (sum_after sum amount stakes) }
-{
-    let sum = sum + mul_div(u128::from(amount), u128::from(ONE), u128::from(stakes));
-    if sum > SUM_MOST {
-        return Err(Refusal::SumLimit { sum });
-    }
-    Ok(sum)
-}
-
-/// A table of just these rows.
-fn filled(alloc: Global, rows: &[(u32, Trove)]) -> Result<Reserved<Trove>, NoMemory>
-    requires ascend { Ascends rows.now }
-    requires some { AllByRecursion (λ row. 1 ≤ row.1.stake) rows.now }
-    ensures { IfOk result (λ table. table.rows ≡ rows.now) }
-{
-    let mut table = Reserved::new(alloc);
-    for row in rows {
-        table.reserve(row.0)?;
-        table.write(row.0, row.1);
-    }
-    Ok(table)
 }

@@ -14,7 +14,9 @@ use Rattle.liq_types.specs.Image.{Image, Place}
 use Rattle.liq_types.specs.Product.{place_of, place_order, prod, start_words, sumat, places_left, with_finished, finished_sums}
 use Rattle.liq_types.specs.State.{PoolOffset}
 use Rattle.liq_types.specs.WellFormed.{IsBefore, AreFinished}
+use Rattle.liq_types.proofs.Ascending.{insert-ascends}
 use Rattle.liq_types.proofs.Places.{before_up_to, list_reaches, left_before}
+use Rattle.liq_types.proofs.Tests.{not_zero}
 
 place_order_total : IsTotalOrder place_order
 place_order_total = then_total (on_total (λ (p : Place). p.0) nat_cmp_total) (on_total (λ (p : Place). p.1) nat_cmp_total)
@@ -22,35 +24,11 @@ place_order_total = then_total (on_total (λ (p : Place). p.0) nat_cmp_total) (o
 abbrev Finished : Type 0
 Finished = List (Place × ℕ)
 
-abbrev Below : Place → Finished → Type 0
-Below place table = AllByRecursion (λ q. place_order place q ≡ Less) (keys_of table)
-
-below_more : (a b : Place) (table : Finished) → place_order a b ≡ Less → Below b table → Below a table
-below_more a b [] l h = tt
-below_more a b (e ∷ es) l h = (place_order_total.trans a b e.0 l h.0, below_more a b es l h.1)
-
-below-insert : (b : Place) (table : Finished) (place : Place) (sum : ℕ) → place_order b place ≡ Less → Below b table → Below b (insert_entry place_order table place sum)
-below-insert b [] place sum l h = (l, tt)
-below-insert b (e ∷ es) place sum l h = by (place_order place e.0) (below-insert b es place sum l h.1) where
-  by : (o : Ordering) → Below b (insert_entry place_order es place sum) → Below b (match_ordering o ((place, sum) ∷ e ∷ es) ((e.0, sum) ∷ es) (e ∷ insert_entry place_order es place sum))
-  by Less more = (l, h)
-  by Equal more = h
-  by Greater more = (h.0, more)
-
-insert-ascends : (table : Finished) (place : Place) (sum : ℕ) → IsStrictlySortedBy place_order (keys_of table) → IsStrictlySortedBy place_order (keys_of (insert_entry place_order table place sum))
-unfolding IsStrictlySortedBy
-insert-ascends [] place sum h = (tt, tt)
-insert-ascends (e ∷ es) place sum h = by (place_order place e.0) refl (insert-ascends es place sum h.1) where
-  by : (o : Ordering) → place_order place e.0 ≡ o → IsStrictlySortedBy place_order (keys_of (insert_entry place_order es place sum)) → IsStrictlySortedBy place_order (keys_of (match_ordering o ((place, sum) ∷ e ∷ es) ((e.0, sum) ∷ es) (e ∷ insert_entry place_order es place sum)))
-  by Less is more = ((is, below_more place e.0 es is h.0), h)
-  by Equal is more = h
-  by Greater is more = (below-insert e.0 es place sum (place_order_total.antisymm e.0 place ∙ ap ordering_reverse is) h.0, more)
-
 with-ascends : (table : Finished) (place : Place) (sum : ℕ) → IsStrictlySortedBy place_order (keys_of table) → IsStrictlySortedBy place_order (keys_of (with_finished table place sum))
 with-ascends table place sum h = by (sum == 0) where
   by : (b : Bool) → IsStrictlySortedBy place_order (keys_of (cond b table (insert_entry place_order table place sum)))
   by true = h
-  by false = insert-ascends table place sum h
+  by false = insert-ascends place_order_total table place sum h
 
 finish-ascends : (v : Place → ℕ) (table : Finished) (places : List Place) → IsStrictlySortedBy place_order (keys_of table) → IsStrictlySortedBy place_order (keys_of (fold (λ t p. with_finished t p (v p)) table places))
 finish-ascends v table [] h = h
@@ -89,9 +67,6 @@ finished-before i os f =
       first [] h = tt
       first (e ∷ es) h = (before_up_to e.0 (i.epoch, i.scale) (place_of (prod i os)) h.0 (list_reaches (start_words i) os), first es h.1)
 
-some_sum : (n : ℕ) → (n == 0) ≡ false → 1 ≤ n
-some_sum n e = grind (arith, nat_tests, e)
-
 all_places : (ps : List Place) → AllByRecursion (λ (p : Place). Unit {0}) ps
 all_places [] = tt
 all_places (p ∷ ps) = (tt, all_places ps)
@@ -107,5 +82,5 @@ to_values (e ∷ es) h = (h.0, to_values es h.1)
 pub finished-some : (i : Image) (os : List PoolOffset) → AllByRecursion (λ sum. 1 ≤ sum) (values_of i.finished) → AllByRecursion (λ sum. 1 ≤ sum) (values_of (finished_sums i os))
 finished-some i os h =
     to_values (finished_sums i os)
-    (rows-finish (λ place sum. 1 ≤ sum) (λ a b n m e p q. p) (sumat i os) (λ p. Unit {0}) (λ p q e. some_sum (sumat i os p) e) i.finished (places_left (start_words i) os)
+    (rows-finish (λ place sum. 1 ≤ sum) (λ a b n m e p q. p) (sumat i os) (λ p. Unit {0}) (λ p q e. not_zero (sumat i os p) e) i.finished (places_left (start_words i) os)
     (all_places (places_left (start_words i) os)) (of_values i.finished h))

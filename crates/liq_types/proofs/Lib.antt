@@ -7,6 +7,8 @@ pub mod MapRows
 pub mod Places
 pub mod Ranges
 pub mod Rounding
+pub mod SameRows
 pub mod Sums
+pub mod Tests
 pub mod UsedRows
 pub mod Watching

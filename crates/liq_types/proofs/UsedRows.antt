@@ -9,29 +9,19 @@ use Rattle.std.specs.declared.cmp.Ordering.{Ordering}
 use Rattle.std.specs.declared.cmp.Ordering.TheVariants.{Less, Equal, Greater}
 use Rattle.std.specs.Ordering.{nat_cmp, is_eq, match_ordering}
 use Rattle.std.specs.Cmp.{nat_cmp_total, eq_by_cmp_equiv}
+use Rattle.std.proofs.lemmas.Cmp.{tied_itself}
 use Rattle.std.specs.Map.{keys_of, values_of, set_value}
 use Rattle.std.proofs.lemmas.Map.Keys.{sorted_head, sorted_tail, IsDistinct-from_sorted}
 use Rattle.std.proofs.lemmas.Map.Entries.{option_filter, lookup-filter-values, sum_by-insert_entry}
 use Rattle.std.proofs.lemmas.Map.Lookups.{exact_unsigned}
 use Rattle.liq_types.specs.Rows.{Reserves}
-use Rattle.liq_types.proofs.Lookups.{is_eq-same}
+use Rattle.liq_types.proofs.Ascending.{below_more}
 use Rattle.liq_types.specs.Tables.{Table, at, put, without, rows}
-
-itself : (key : ℕ) → nat_cmp key key ≡ Equal
-itself key = by (nat_cmp key key) (is_eq-same key) where
-  by : (o : Ordering) → is_eq o ≡ true → o ≡ Equal
-  by Less h = cc
-  by Equal h = refl
-  by Greater h = cc
 
 module _ {X : Type 0} where
   -- the key stands before all of the table
   abbrev pub Below : ℕ → Table X → Type 0
   Below key table = AllByRecursion (λ y. nat_cmp key y ≡ Less) (keys_of table)
-
-  below_tail : (a b : ℕ) (table : Table X) → nat_cmp a b ≡ Less → Below b table → Below a table
-  below_tail a b [] l h = tt
-  below_tail a b (e ∷ es) l h = (nat_cmp_total.trans a b e.0 l h.0, below_tail a b es l h.1)
 
   below_rows : (test : X → Bool) (key : ℕ) (table : Table X) → Below key table → Below key (rows test table)
   below_rows test key [] h = tt
@@ -68,7 +58,7 @@ module _ {X : Type 0} where
       ∙ elim (test x) as (λ b. cond b (e ∷ put seen key x) (e ∷ without seen key) ≡ e ∷ cond b (put seen key x) (without seen key)) [ true ↦ refl | false ↦ refl ]
 
   rows-put_cons : (test : X → Bool) (e : ℕ × X) (es : Table X) (key : ℕ) (x : X) → Below e.0 es → rows test (put es key x) ≡ written test (rows test es) key x → (o : Ordering) → nat_cmp key e.0 ≡ o → rows test (match_ordering o ((key, x) ∷ e ∷ es) ((e.0, x) ∷ es) (e ∷ put es key x)) ≡ written test (rows test (e ∷ es)) key x
-  rows-put_cons test e es key x head later Less l = sym (written_below test key x (rows test (e ∷ es)) (below_rows test key (e ∷ es) (l, below_tail key e.0 es l head)))
+  rows-put_cons test e es key x head later Less l = sym (written_below test key x (rows test (e ∷ es)) (below_rows test key (e ∷ es) (l, below_more nat_cmp_total key e.0 es l head)))
   rows-put_cons test e es key x head later Equal q =
       let same : key ≡ e.0 = exact_unsigned key e.0 q in
       let front : Below e.0 (rows test es) = below_rows test e.0 es head in
@@ -96,7 +86,7 @@ module _ {X : Type 0} where
   put_again [] key x s h = cc
   put_again (e ∷ es) key x s h = by (sorted_head nat_cmp e.0 (keys_of es) s) (put_again es key x (sorted_tail nat_cmp e.0 (keys_of es) s)) (nat_cmp key e.0) refl h where
     by : Below e.0 es → (IsSome (at es key) → set_value (is_at (nat_cmp key)) es x ≡ put es key x) → (o : Ordering) → nat_cmp key e.0 ≡ o → IsSome (cond (is_eq o) (Some e.1) (at es key)) → cond (is_eq o) ((e.0, x) ∷ es) (e ∷ set_value (is_at (nat_cmp key)) es x) ≡ match_ordering o ((key, x) ∷ e ∷ es) ((e.0, x) ∷ es) (e ∷ put es key x)
-    by head later Less l i = let none = subst (λ (o : Option X). IsSome o) (at_below key es (below_tail key e.0 es l head)) i in cc
+    by head later Less l i = let none = subst (λ (o : Option X). IsSome o) (at_below key es (below_more nat_cmp_total key e.0 es l head)) i in cc
     by head later Equal q i = refl
     by head later Greater g i = ap (λ (t : Table X). e ∷ t) (later i)
 
@@ -104,18 +94,18 @@ module _ {X : Type 0} where
   rows-put_again test table key x s h = ap (λ (t : Table X). rows test t) (put_again table key x s h) ∙ rows-put test table key x s
 
   put_twice : (table : Table X) (key : ℕ) (x y : X) → put (put table key x) key y ≡ put table key y
-  put_twice [] key x y = ap (λ o. match_ordering o ((key, y) ∷ (key, x) ∷ []) ((key, y) ∷ []) ((key, x) ∷ (key, y) ∷ [])) (itself key)
+  put_twice [] key x y = ap (λ o. match_ordering o ((key, y) ∷ (key, x) ∷ []) ((key, y) ∷ []) ((key, x) ∷ (key, y) ∷ [])) (tied_itself nat_cmp_total key)
   put_twice (e ∷ es) key x y = by (put_twice es key x y) (nat_cmp key e.0) refl where
     by : put (put es key x) key y ≡ put es key y → (o : Ordering) → nat_cmp key e.0 ≡ o → put (match_ordering o ((key, x) ∷ e ∷ es) ((e.0, x) ∷ es) (e ∷ put es key x)) key y ≡ match_ordering o ((key, y) ∷ e ∷ es) ((e.0, y) ∷ es) (e ∷ put es key y)
-    by later Less l = ap (λ o. match_ordering o ((key, y) ∷ (key, x) ∷ e ∷ es) ((key, y) ∷ e ∷ es) ((key, x) ∷ put (e ∷ es) key y)) (itself key)
+    by later Less l = ap (λ o. match_ordering o ((key, y) ∷ (key, x) ∷ e ∷ es) ((key, y) ∷ e ∷ es) ((key, x) ∷ put (e ∷ es) key y)) (tied_itself nat_cmp_total key)
     by later Equal q = ap (λ o. match_ordering o ((key, y) ∷ (e.0, x) ∷ es) ((e.0, y) ∷ es) ((e.0, x) ∷ put es key y)) q
     by later Greater g = ap (λ o. match_ordering o ((key, y) ∷ e ∷ put es key x) ((e.0, y) ∷ put es key x) (e ∷ put (put es key x) key y)) g ∙ ap (λ (t : Table X). e ∷ t) later
 
   without_put : (table : Table X) (key : ℕ) (x : X) → IsStrictlySortedBy nat_cmp (keys_of table) → without (put table key x) key ≡ without table key
-  without_put [] key x s = ap (λ o. cond (is_eq o) [] ((key, x) ∷ [])) (itself key)
+  without_put [] key x s = ap (λ o. cond (is_eq o) [] ((key, x) ∷ [])) (tied_itself nat_cmp_total key)
   without_put (e ∷ es) key x s = by (sorted_head nat_cmp e.0 (keys_of es) s) (without_put es key x (sorted_tail nat_cmp e.0 (keys_of es) s)) (nat_cmp key e.0) refl where
     by : Below e.0 es → without (put es key x) key ≡ without es key → (o : Ordering) → nat_cmp key e.0 ≡ o → without (match_ordering o ((key, x) ∷ e ∷ es) ((e.0, x) ∷ es) (e ∷ put es key x)) key ≡ cond (is_eq o) es (e ∷ without es key)
-    by head later Less l = ap (λ o. cond (is_eq o) (e ∷ es) ((key, x) ∷ without (e ∷ es) key)) (itself key) ∙ ap (λ (t : Table X). e ∷ t) (sym (without_below key es (below_tail key e.0 es l head)))
+    by head later Less l = ap (λ o. cond (is_eq o) (e ∷ es) ((key, x) ∷ without (e ∷ es) key)) (tied_itself nat_cmp_total key) ∙ ap (λ (t : Table X). e ∷ t) (sym (without_below key es (below_more nat_cmp_total key e.0 es l head)))
     by head later Equal q = ap (λ o. cond (is_eq o) es ((e.0, x) ∷ without es key)) q
     by head later Greater g = ap (λ o. cond (is_eq o) (put es key x) (e ∷ without (put es key x) key)) g ∙ ap (λ (t : Table X). e ∷ t) later
 
@@ -125,7 +115,7 @@ module _ {X : Type 0} where
     by : Below e.0 es → put (without es key) key y ≡ put es key y → (o : Ordering) → nat_cmp key e.0 ≡ o → put (cond (is_eq o) es (e ∷ without es key)) key y ≡ match_ordering o ((key, y) ∷ e ∷ es) ((e.0, y) ∷ es) (e ∷ put es key y)
     by head later Less l =
         ap (λ o. match_ordering o ((key, y) ∷ e ∷ without es key) ((e.0, y) ∷ without es key) (e ∷ put (without es key) key y)) l
-        ∙ ap (λ (t : Table X). (key, y) ∷ e ∷ t) (without_below key es (below_tail key e.0 es l head))
+        ∙ ap (λ (t : Table X). (key, y) ∷ e ∷ t) (without_below key es (below_more nat_cmp_total key e.0 es l head))
     by head later Equal q =
         let same : key ≡ e.0 = exact_unsigned key e.0 q in
         subst (λ k. put es k y ≡ (e.0, y) ∷ es) (sym same) (put_below e.0 y es head)

@@ -88,12 +88,19 @@ has_troves_added_up i =
     && nat_le i.snap_stakes i.snap_coll
     && (i.snap_stakes == 0 && i.snap_coll == 0 || nat_lt 0 i.snap_stakes && nat_lt 0 i.snap_coll)
 
--- what is pending for all troves before any rounding, over ONE
+-- what is due to a trove before any rounding, over ONE
+abbrev pub coll_due : ℕ → Trove → ℕ
+coll_due sum t = t.stake * (sum - t.mark_coll)
+
+abbrev pub debt_due : ℕ → Trove → ℕ
+debt_due sum t = t.stake * (sum - t.mark_debt)
+
+-- and to all of them
 abbrev pub due_coll : Image → ℕ
-due_coll i = sum_by (λ (t : Trove). t.stake * (i.sum_coll - t.mark_coll)) (values_of i.troves)
+due_coll i = sum_by (coll_due i.sum_coll) (values_of i.troves)
 
 abbrev pub due_debt : Image → ℕ
-due_debt i = sum_by (λ (t : Trove). t.stake * (i.sum_debt - t.mark_debt)) (values_of i.troves)
+due_debt i = sum_by (debt_due i.sum_debt) (values_of i.troves)
 
 -- what is pending is in the default pool
 abbrev pub is_backed : Image → Bool

@@ -3,10 +3,10 @@ use Rattle.liq_types.specs.Ranked.{Ranked, last_account}
 use Rattle.liq_order.specs.Listed.{AreDistinct}
 use Rattle.liq_liquidation.specs.declared.one.Victim.{Victim}
 use Rattle.liq_liquidation.specs.Moment.{Moment, victim_from}
-use Rattle.liq_liquidation.proofs.Leaving.{order_distinct}
 use Rattle.liq_liquidation.proofs.Walking.{Reached, row_struck, walk_first, walk_on, walk_struck, reached_listed, reached_before, reached_next, plan_made, walk_ends, walk_stops}
 use Rattle.liq_liquidation.proofs.lowest.lowest_from.Goals as goal
 use Rattle.liq_liquidation.proofs.lowest.lowest_from.Goals.{else-loop-test, then-loop-test+in-Err-strike}
+use Rattle.liq_order.proofs.Ranking.{order_distinct}
 
 pub strike-requires-clause-trove : goal.strike-requires-clause-trove
 strike-requires-clause-trove c = λ account is. row_struck (record { figures = c.args.figures; troves = c.args.troves.now.table.rows }) account c.requires.sound

@@ -3,7 +3,7 @@ use Rattle.liq_types.specs.declared.figures.Deposit.{Deposit}
 use Rattle.liq_types.specs.Tables.{Table, rows}
 use Rattle.liq_tables.specs.Rows.{is_used_deposit}
 use Rattle.liq_stability.specs.Kept.{IsSoundPool, finished_rows}
-use Rattle.liq_stability.proofs.Filling.{all_used, used_ascend}
+use Rattle.liq_tables.proofs.Filling.{all_used, used_ascend}
 use Rattle.liq_stability.proofs.deposits.Stability.from_parts.Goals as goal
 
 pub invariant_of-result : goal.invariant_of-result

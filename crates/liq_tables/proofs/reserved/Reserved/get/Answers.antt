@@ -4,8 +4,9 @@ use Rattle.liq_types.specs.Tables.{at}
 use Rattle.liq_types.specs.WellFormed.{Ascends}
 use Rattle.liq_types.proofs.UsedRows.{rows-ascends}
 use Rattle.liq_tables.specs.WithRoom.{WithRoom, HasRoom}
-use Rattle.liq_tables.proofs.Room.{read, some, room_from_row}
+use Rattle.liq_tables.proofs.Room.{read, room_from_row}
 use Rattle.liq_tables.proofs.reserved.Reserved.get.Goals as goal
+use Rattle.liq_types.proofs.Tests.{some}
 
 pub returns-in_err-row-clause-row : goal.returns-in_err-row-clause-row
 returns-in_err-row-clause-row g c =

@@ -4,8 +4,9 @@ use Rattle.std.specs.Map.{keys_of}
 use Rattle.liq_types.specs.Tables.{Table, at, rows}
 use Rattle.liq_types.proofs.UsedRows.{rows-put_unused}
 use Rattle.liq_tables.specs.WithRoom.{WithRoom, HasRoom}
-use Rattle.liq_tables.proofs.Room.{room_from_row, missing, row_from_room, room-put, room-put_same}
+use Rattle.liq_tables.proofs.Room.{room_from_row, row_from_room, room-put, room-put_same}
 use Rattle.liq_tables.proofs.reserved.Reserved.reserve.Goals as goal
+use Rattle.liq_types.proofs.Tests.{missing}
 
 pub returns-then-contains_key-clause-room : goal.returns-then-contains_key-clause-room
 returns-then-contains_key-clause-room g c =

@@ -3,8 +3,9 @@ use Rattle.std.specs.Option.{option_copied_mut}
 use Rattle.liq_types.specs.Tables.{Table, at, rows}
 use Rattle.liq_types.proofs.UsedRows.{rows-put_again}
 use Rattle.liq_tables.specs.WithRoom.{WithRoom, HasRoom, written}
-use Rattle.liq_tables.proofs.Room.{some, read, unwritten, room_from_row}
+use Rattle.liq_tables.proofs.Room.{read, unwritten, room_from_row}
 use Rattle.liq_tables.proofs.reserved.Reserved.write.Goals as goal
+use Rattle.liq_types.proofs.Tests.{some}
 
 pub returns-in_default-clause-before : goal.returns-in_default-clause-before
 returns-in_default-clause-before g c =

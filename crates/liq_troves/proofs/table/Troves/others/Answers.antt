@@ -2,8 +2,9 @@ use Rattle.std.proofs.Common.{◌≡◌, ◌+◌, Some, sym, ap, arith, length}
 use Rattle.liq_types.specs.declared.figures.Trove.{Trove}
 use Rattle.liq_types.specs.Tables.{at, without}
 use Rattle.liq_troves.specs.Rows.{stakes_in}
-use Rattle.liq_troves.proofs.Kept.{sum_none, count_none, count_taken, stakes_taken}
+use Rattle.liq_troves.proofs.Kept.{sum_none, count_none, stakes_taken}
 use Rattle.liq_troves.proofs.table.Troves.others.Goals as goal
+use Rattle.liq_types.proofs.Lookups.{length-without}
 
 there : (c : goal.In-Some) → at c.self.inside.table.rows c.args.account ≡ Some c.in-Some.trove.now
 there c = sym c.in-Some.ensures.row
@@ -16,7 +17,7 @@ overflow_sub-result-in-Some c = omega (arith, stakes c)
 
 pub returns-in-Some-clause-count : goal.returns-in-Some-clause-count
 returns-in-Some-clause-count c =
-    let law = count_taken c.self.inside.table.rows c.args.account c.in-Some.trove.now (there c) in
+    let law = length-without c.self.inside.table.rows c.args.account c.in-Some.trove.now (there c) in
     let same = ap (λ v. length (without v.table.rows c.args.account)) c.self.view_is in
     omega (arith, law, same, c.self.invariant.counted)
 

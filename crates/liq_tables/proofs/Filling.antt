@@ -63,3 +63,8 @@ module _ {X : Type 0} where
   used_ascend used [] h = tt
   used_ascend used (e ∷ es) h =
       elim (used e.1) as (λ b. Ascends (cond b (e ∷ rows used es) (rows used es))) [ true ↦ (used_below e.0 used es h.0, used_ascend used es h.1) | false ↦ used_ascend used es h.1 ]
+
+  -- where all are used all are seen
+  pub rows_all : (used : X → Bool) (table : Table X) → AllByRecursion (λ (row : ℕ × X). used row.1 ≡ true) table → rows used table ≡ table
+  rows_all used [] h = refl
+  rows_all used (e ∷ es) h = ap (λ b. cond b (e ∷ rows used es) (rows used es)) h.0 ∙ ap (λ (t : Table X). e ∷ t) (rows_all used es h.1)
