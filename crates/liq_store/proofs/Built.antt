@@ -5,7 +5,7 @@ use Rattle.liq_types.specs.declared.requests.Call.TheVariants.{Price, Advance, F
 use Rattle.liq_types.specs.declared.requests.Command.{Command}
 use Rattle.liq_types.specs.declared.requests.Request.TheVariants.{Do}
 use Rattle.liq_wire.specs.Fields.{command_of}
-use Rattle.liq_core.specs.Verbs.{built, built_call}
+use Rattle.liq_rules.specs.Verbs.{built, built_call}
 use Rattle.liq_journal.specs.Crash.{IsBodyOf}
 use Rattle.liq_journal.specs.Written.{is_rotate}
 

@@ -6,10 +6,10 @@ use Rattle.liq_types.specs.declared.requests.Command.{Command}
 use Rattle.liq_types.specs.Image.{Image}
 use Rattle.liq_types.specs.State.{State}
 use Rattle.liq_core.specs.Core.{Core, StandsFor}
-use Rattle.liq_core.specs.Step.{after, effect}
-use Rattle.liq_core.specs.Verbs.{rotates}
-use Rattle.liq_core.proofs.Allowed.{effect-records}
-use Rattle.liq_core.proofs.Generations.{effect-generation}
+use Rattle.liq_rules.specs.Step.{after, effect}
+use Rattle.liq_rules.specs.Verbs.{rotates}
+use Rattle.liq_rules.proofs.Allowed.{effect-records}
+use Rattle.liq_rules.proofs.Generations.{effect-generation}
 use Rattle.liq_journal.specs.Written.{is_rotate}
 use Rattle.liq_store.proofs.Built.{all_built}
 
