@@ -7,7 +7,7 @@ use Rattle.liq_types.specs.declared.replies.Done.{Done}
 use Rattle.liq_types.specs.declared.replies.Refusal.{Refusal}
 use Rattle.liq_types.specs.declared.replies.Refusal.TheVariants.{AmountZero, AmountLimit, ShortCollateral, ShortTokens, JournalFull}
 use Rattle.liq_types.specs.declared.requests.Call.{Call}
-use Rattle.liq_types.specs.declared.requests.Call.TheVariants.{Price, Advance, Fund, Take, Send, Open, Adjust, Close, Provide, Withdraw, GainToTrove, Liquidate, LiquidateLowest, Redeem, Claim}
+use Rattle.liq_types.specs.declared.requests.Call.TheVariants.{Price, Advance, Fund, Take, Send, Open, Adjust, Close, Provide, Withdraw, GainToTrove, Liquidate, LiquidateLowest, Redeem, Claim, Rotate}
 use Rattle.liq_types.specs.declared.requests.Command.{Command}
 use Rattle.liq_types.specs.Rules.{Rule, first_refusal, where_above}
 use Rattle.liq_rules.specs.Image.{image}
@@ -177,3 +177,22 @@ built-rotates (LiquidateLowest liquidator count) built = refl
 built-rotates (Redeem account lusd bound hint) built = refl
 built-rotates (Claim account) built = refl
 built-rotates _ built = cc
+
+-- and each other verb is built
+pub all_built : (call : Call) → rotates call ≡ false → IsTrue (built_call call)
+all_built (Price price) stays = refl
+all_built (Advance minutes) stays = refl
+all_built (Fund account coll) stays = refl
+all_built (Take account coll) stays = refl
+all_built (Send from to lusd) stays = refl
+all_built (Open account coll borrow bound hint) stays = refl
+all_built (Adjust account coll_in coll_out borrow repay bound hint) stays = refl
+all_built (Close account) stays = refl
+all_built (Provide account lusd) stays = refl
+all_built (Withdraw account lusd) stays = refl
+all_built (GainToTrove account hint) stays = refl
+all_built (Liquidate liquidator account) stays = refl
+all_built (LiquidateLowest liquidator count) stays = refl
+all_built (Redeem account lusd bound hint) stays = refl
+all_built (Claim account) stays = refl
+all_built Rotate stays = cc
