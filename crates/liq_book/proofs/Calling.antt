@@ -11,9 +11,9 @@ use Rattle.liq_types.specs.declared.replies.Reply.{Reply}
 use Rattle.liq_types.specs.declared.requests.Request.{Request}
 use Rattle.liq_types.specs.State.{State}
 use Rattle.liq_core.specs.Core.{StandsFor}
-use Rattle.liq_core.specs.History as history
-use Rattle.liq_core.specs.History.{IsLegal, own_entries, state_after}
-use Rattle.liq_core.proofs.Histories.{legal-empty, legal-snoc, state-snoc}
+use Rattle.liq_rules.specs.History as history
+use Rattle.liq_rules.specs.History.{IsLegal, own_entries, state_after}
+use Rattle.liq_rules.proofs.Histories.{legal-empty, legal-snoc, state-snoc}
 use Rattle.liq_pairs.specs.declared.side.Side.{Side}
 use Rattle.liq_pairs.specs.declared.side.Side.TheVariants.{Left, Right}
 use Rattle.liq_pairs.specs.Sides.{beside, on}

@@ -5,8 +5,8 @@ use Rattle.std.proofs.lemmas.List.{append-nil}
 use Rattle.std.proofs.lemmas.List.Elements.{filter-append}
 use Rattle.std.proofs.lemmas.Bool.Decides.{nat_tests}
 use Rattle.liq_types.specs.declared.requests.Request.{Request}
-use Rattle.liq_core.specs.History as history
-use Rattle.liq_core.specs.History.{own_entries}
+use Rattle.liq_rules.specs.History as history
+use Rattle.liq_rules.specs.History.{own_entries}
 use Rattle.liq_lock.specs.History.{Behind, NoneOf}
 use Rattle.liq_lock.proofs.Histories.{one_in}
 use Rattle.liq_book.specs.declared.items.Entry.{Entry}

@@ -4,7 +4,7 @@ use Rattle.std.specs.Option.{option_map}
 use Rattle.liq_outside.specs.Disk.{LeftNow}
 use Rattle.liq_types.specs.State.{State}
 use Rattle.liq_core.specs.Core.{StandsFor}
-use Rattle.liq_core.specs.History.{IsLegal, state_after}
+use Rattle.liq_rules.specs.History.{IsLegal, state_after}
 use Rattle.liq_pairs.specs.Kept.{IsKept}
 use Rattle.liq_store.specs.Causes.{Faults, OneRose}
 use Rattle.liq_store.specs.Keeping.{IsKeptAround}

@@ -2,7 +2,7 @@
 use Rattle.std.specs.Prelude.{ℕ, ◌≡◌, ◌++◌, List, [], ◌∷◌, map, length, Option, Some, None, ◌==◌, if◌then◌else◌, ◌⊎◌}
 use Rattle.liq_types.specs.declared.replies.Reply.{Reply}
 use Rattle.liq_types.specs.declared.requests.Request.{Request}
-use Rattle.liq_core.specs.History as history
+use Rattle.liq_rules.specs.History as history
 use Rattle.liq_book.specs.declared.items.Entry.{Entry}
 use Rattle.liq_book.specs.declared.items.Halt.{Halt}
 use Rattle.liq_book.specs.declared.items.Item.{Item}

@@ -2,7 +2,7 @@
 
 ghost use Rattle.std.specs.Prelude.{◌≡◌, ◌≤◌, map, length, [], None};
 ghost use Rattle.std.specs.Option.{option_map};
-ghost use Rattle.liq_core.specs.History.{IsLegal, own_entries};
+ghost use Rattle.liq_rules.specs.History.{IsLegal, own_entries};
 ghost use Rattle.liq_book.specs.Items.{chronicle, recorded, session_of};
 
 use crate::items::{ENTRIES_MOST, Entry, Halt, Item};

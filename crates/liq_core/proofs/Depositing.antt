@@ -36,17 +36,17 @@ use Rattle.liq_stability.proofs.Following.{position_follows, owned_follows}
 use Rattle.liq_core.specs.declared.engine.Protocol.TheInside.{Inside}
 use Rattle.liq_core.specs.Books.{kept_books, SameOthers}
 use Rattle.liq_core.specs.Core.{Core, Changes, state_of}
-use Rattle.liq_core.specs.Image.{image}
-use Rattle.liq_core.specs.Rules.{rules, effect}
+use Rattle.liq_rules.specs.Image.{image}
+use Rattle.liq_rules.specs.Rules.{rules, effect}
 use Rattle.liq_core.specs.Sound.{IsSound, core_of}
-use Rattle.liq_core.proofs.AlikeReads.{none-map}
+use Rattle.liq_rules.proofs.AlikeReads.{none-map}
 use Rattle.liq_core.proofs.Lending.{IsWithin, within, with_books, same_others, set_image, books_are, rows_are, there_row, pay_within, charged-ascends}
-use Rattle.liq_core.proofs.SoundBorrow.{gain_leaves, has_trove, told}
-use Rattle.liq_core.proofs.SoundBounds.{surplus_covered}
-use Rattle.liq_core.proofs.SoundCalls.{pool_and_wallet, provide_leaves, withdraw_leaves, claim_leaves}
+use Rattle.liq_soundness.proofs.SoundBorrow.{gain_leaves, has_trove, told}
+use Rattle.liq_soundness.proofs.SoundBounds.{surplus_covered}
+use Rattle.liq_soundness.proofs.SoundCalls.{pool_and_wallet, provide_leaves, withdraw_leaves, claim_leaves}
 use Rattle.liq_core.proofs.SoundCores.{core_finds, image_back, sound_after}
-use Rattle.liq_core.proofs.SoundFacts.{Finds, Leaves, finds_after, all_false, lt_false, eq_false}
-use Rattle.liq_core.proofs.SoundStart.{started_with}
+use Rattle.liq_soundness.proofs.SoundFacts.{Finds, Leaves, finds_after, all_false, lt_false, eq_false}
+use Rattle.liq_soundness.proofs.SoundStart.{started_with}
 
 -- ---- a protocol's pool
 

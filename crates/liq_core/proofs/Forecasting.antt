@@ -23,10 +23,10 @@ use Rattle.liq_core.specs.declared.told.ListChanges.TheVariants as changes
 use Rattle.liq_core.specs.declared.told.PoolEvents.TheVariants as events
 use Rattle.liq_core.specs.declared.turns.Forecast.{Forecast}
 use Rattle.liq_core.specs.declared.turns.Terms.TheVariants as terms
-use Rattle.liq_core.specs.Borrowing.{with_fee}
+use Rattle.liq_rules.specs.Borrowing.{with_fee}
 use Rattle.liq_core.specs.Plan.{IsForecast}
-use Rattle.liq_core.specs.Rules.{rules}
-use Rattle.liq_core.specs.Step.{in_range}
+use Rattle.liq_rules.specs.Rules.{rules}
+use Rattle.liq_rules.specs.Step.{in_range}
 use Rattle.liq_core.specs.Turn.{IsRuled}
 use Rattle.liq_core.proofs.Reading.{refused_so, allowed_so, placed_told, set_told}
 

@@ -39,24 +39,24 @@ use Rattle.liq_liquidation.specs.One.{liquidated, one, rewarded}
 use Rattle.liq_core.specs.declared.turns.Terms.{Terms}
 use Rattle.liq_core.specs.declared.engine.Protocol.TheInside.{Inside}
 use Rattle.liq_core.specs.Core.{Core, StandsFor, state_of}
-use Rattle.liq_core.specs.Image.{image}
-use Rattle.liq_core.specs.Liquidation.{all_liquidated, listed}
+use Rattle.liq_rules.specs.Image.{image}
+use Rattle.liq_rules.specs.Liquidation.{all_liquidated, listed}
 use Rattle.liq_core.specs.Plan.{Plan, IsPlannedOn, IsSoundPlan, HasRoom}
-use Rattle.liq_core.specs.Rules.{effect, done_of, rules}
+use Rattle.liq_rules.specs.Rules.{effect, done_of, rules}
 use Rattle.liq_core.specs.Sound.{IsSound, core_of}
-use Rattle.liq_core.specs.SoundState.{IsSoundState}
-use Rattle.liq_core.specs.Step.{Allowed, after, ruling}
+use Rattle.liq_soundness.specs.SoundState.{IsSoundState}
+use Rattle.liq_rules.specs.Step.{Allowed, after, ruling}
 use Rattle.liq_core.specs.Terms.{AreTerms, struck_by, victims_in}
-use Rattle.liq_core.specs.Verbs.{accounts, pays, rotates}
+use Rattle.liq_rules.specs.Verbs.{accounts, pays, rotates}
 use Rattle.liq_core.specs.Victims.{AreKept, AreVictims, pools_of}
-use Rattle.liq_core.proofs.Allowed.{all-records, allowed_rules}
-use Rattle.liq_core.proofs.Counting.{listed_count, lowest_count, lowest_within}
+use Rattle.liq_rules.proofs.Allowed.{all-records, allowed_rules}
+use Rattle.liq_rules.proofs.Counting.{listed_count, lowest_count, lowest_within}
 use Rattle.liq_core.proofs.Noting.{kept_rows}
 use Rattle.liq_core.proofs.Planning.{its_rows, its_sums, its_words}
 use Rattle.liq_core.proofs.SoundCores.{image_back, sound_stands}
-use Rattle.liq_core.proofs.SoundStart.{started_with}
-use Rattle.liq_core.proofs.SoundStep.{after_sound, allowed_has, finds}
-use Rattle.liq_core.proofs.SoundTests.{sound_facts}
+use Rattle.liq_soundness.proofs.SoundStart.{started_with}
+use Rattle.liq_soundness.proofs.SoundStep.{after_sound, allowed_has, finds}
+use Rattle.liq_soundness.proofs.SoundTests.{sound_facts}
 use Rattle.liq_core.proofs.ToldVictims.{lowest_victims}
 
 -- ---- what is liquidated

@@ -14,9 +14,9 @@ use Rattle.liq_tables.specs.WithRoom.{WithRoom, written}
 use Rattle.liq_core.specs.declared.engine.Protocol.TheInside.{Inside}
 use Rattle.liq_core.specs.Core.{Core, StandsFor}
 use Rattle.liq_core.specs.Sound.{IsSound, IsKeptRow, core_of}
-use Rattle.liq_core.specs.Step.{noted}
-use Rattle.liq_core.specs.Verbs.{rotates}
-use Rattle.liq_core.proofs.SoundRules.{noted_sound}
+use Rattle.liq_rules.specs.Step.{noted}
+use Rattle.liq_rules.specs.Verbs.{rotates}
+use Rattle.liq_rules.proofs.SoundRules.{noted_sound}
 use Rattle.std.proofs.Common.{false}
 
 pub kept_rows : (table : Table Client) (key : ℕ) (row : Client) → 0 < row.last → written is_used_client table key row ≡ put table key row

@@ -31,25 +31,25 @@ use Rattle.liq_liquidation.proofs.Struck.{sound_from}
 use Rattle.liq_liquidation.proofs.Walking.{row_struck}
 use Rattle.liq_core.specs.declared.engine.Protocol.TheInside.{Inside}
 use Rattle.liq_core.specs.Core.{state_of}
-use Rattle.liq_core.specs.Image.{image}
+use Rattle.liq_rules.specs.Image.{image}
 use Rattle.liq_core.specs.Sound.{IsSound, core_of}
 use Rattle.liq_core.specs.declared.course.Course.{Course}
 use Rattle.liq_core.specs.declared.turns.Forecast.{Forecast}
-use Rattle.liq_core.specs.Liquidation.{listed, lowest_values, offset_events, one_values, victim_changes}
-use Rattle.liq_core.specs.Row.{not_zero}
-use Rattle.liq_core.specs.Rules.{six}
-use Rattle.liq_core.specs.Step.{in_range}
+use Rattle.liq_rules.specs.Liquidation.{listed, lowest_values, offset_events, one_values, victim_changes}
+use Rattle.liq_rules.specs.Row.{not_zero}
+use Rattle.liq_rules.specs.Rules.{six}
+use Rattle.liq_rules.specs.Step.{in_range}
 use Rattle.liq_core.specs.Terms.{victims_in}
 use Rattle.liq_core.specs.Told.{events_in, changes_in}
 use Rattle.liq_core.specs.Turn.{IsRuled}
-use Rattle.liq_core.specs.SoundState.{IsSoundState}
+use Rattle.liq_soundness.specs.SoundState.{IsSoundState}
 use Rattle.liq_core.specs.Victims.{AreVictims, course_of}
-use Rattle.liq_core.proofs.AlikeReads.{sums_by}
+use Rattle.liq_rules.proofs.AlikeReads.{sums_by}
 use Rattle.liq_core.proofs.SoundCores.{core_finds, image_back}
-use Rattle.liq_core.proofs.Counting.{lowest_count}
-use Rattle.liq_core.proofs.SoundFacts.{Finds}
-use Rattle.liq_core.proofs.SoundStep.{finds}
-use Rattle.liq_core.proofs.SoundTests.{sound_facts}
+use Rattle.liq_rules.proofs.Counting.{lowest_count}
+use Rattle.liq_soundness.proofs.SoundFacts.{Finds}
+use Rattle.liq_soundness.proofs.SoundStep.{finds}
+use Rattle.liq_soundness.proofs.SoundTests.{sound_facts}
 use Rattle.liq_core.proofs.ToldVictims.{lowest_victims, sums_within}
 
 -- ---- of a state

@@ -42,16 +42,16 @@ use Rattle.liq_redemption.proofs.Once.{order_distinct, order_has_each}
 use Rattle.liq_core.specs.declared.engine.Protocol.TheInside.{Inside}
 use Rattle.liq_core.specs.Books.{kept_books}
 use Rattle.liq_core.specs.Core.{Core, Changes, state_of}
-use Rattle.liq_core.specs.Image.{image}
-use Rattle.liq_core.specs.Rules.{rules}
+use Rattle.liq_rules.specs.Image.{image}
+use Rattle.liq_rules.specs.Rules.{rules}
 use Rattle.liq_core.specs.Sound.{IsSound, core_of}
 use Rattle.liq_core.proofs.Lending.{books_stand, coll_held, debt_held}
-use Rattle.liq_core.proofs.Moving.{read_or}
-use Rattle.liq_core.proofs.Ranking.{gone_list, more_list, without-absent}
-use Rattle.liq_core.proofs.SoundBounds.{surplus_covered}
+use Rattle.liq_rules.proofs.Moving.{read_or}
+use Rattle.liq_rules.proofs.Ranking.{gone_list, more_list, without-absent}
+use Rattle.liq_soundness.proofs.SoundBounds.{surplus_covered}
 use Rattle.liq_core.proofs.SoundCores.{core_finds, image_back, sound_after}
-use Rattle.liq_core.proofs.SoundRedeem.{redeem_leaves}
-use Rattle.liq_core.proofs.SoundStart.{started_with}
+use Rattle.liq_soundness.proofs.SoundRedeem.{redeem_leaves}
+use Rattle.liq_soundness.proofs.SoundStart.{started_with}
 
 -- ---- images by their parts
 

@@ -25,15 +25,15 @@ use Rattle.liq_troves.specs.declared.sums.Sums.{Sums}
 use Rattle.liq_stability.specs.declared.words.PoolWords.{PoolWords}
 use Rattle.liq_core.specs.declared.engine.Protocol.TheInside.{Inside}
 use Rattle.liq_core.specs.Core.{Core, Changes, StandsFor, state_of}
-use Rattle.liq_core.specs.Image.{image}
-use Rattle.liq_core.specs.Rules.{effect}
+use Rattle.liq_rules.specs.Image.{image}
+use Rattle.liq_rules.specs.Rules.{effect}
 use Rattle.liq_core.specs.Sound.{IsSound, core_of}
-use Rattle.liq_core.proofs.Moving.{read_or, charged_lusd}
-use Rattle.liq_core.proofs.SoundFacts.{Finds, Leaves}
-use Rattle.liq_core.proofs.SoundRules.{meets, both_first, both_second}
-use Rattle.liq_core.proofs.SoundStart.{started_with}
-use Rattle.liq_core.proofs.SoundTests.{SoundFacts, sound_facts, facts_sound}
-use Rattle.liq_core.proofs.Started.{started_image, started_formed}
+use Rattle.liq_rules.proofs.Moving.{read_or, charged_lusd}
+use Rattle.liq_soundness.proofs.SoundFacts.{Finds, Leaves}
+use Rattle.liq_rules.proofs.SoundRules.{meets, both_first, both_second}
+use Rattle.liq_soundness.proofs.SoundStart.{started_with}
+use Rattle.liq_soundness.proofs.SoundTests.{SoundFacts, sound_facts, facts_sound}
+use Rattle.liq_rules.proofs.Started.{started_image, started_formed}
 
 -- ---- the opening
 

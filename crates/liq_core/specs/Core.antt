@@ -4,8 +4,8 @@ use Rattle.liq_types.specs.declared.requests.Call.{Call}
 use Rattle.liq_types.specs.Image.{Image}
 use Rattle.liq_types.specs.State.{State, started}
 use Rattle.liq_types.specs.WellFormed.{IsWellFormed}
-use Rattle.liq_core.specs.Image.{image}
-use Rattle.liq_core.specs.Rules.{effect}
+use Rattle.liq_rules.specs.Image.{image}
+use Rattle.liq_rules.specs.Rules.{effect}
 
 -- the keys of each table at which a row can be written without memory, and for how many more troves the list has room and
 -- for how many more finished sums the Stability Pool

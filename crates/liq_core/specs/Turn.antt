@@ -10,8 +10,8 @@ use Rattle.liq_core.specs.declared.turns.PlanFault.{PlanFault}
 use Rattle.liq_core.specs.declared.turns.PlanFault.TheVariants.{No, NoMemory}
 use Rattle.liq_core.specs.declared.turns.Forecast.{Forecast}
 use Rattle.liq_core.specs.Plan.{IsPlan, IsForecast}
-use Rattle.liq_core.specs.Step.{Refused, Repeated, ruling, first_refusal, in_range, accounts, rules}
-use Rattle.liq_core.specs.Verbs.{plans_list}
+use Rattle.liq_rules.specs.Step.{Refused, Repeated, ruling, first_refusal, in_range, accounts, rules}
+use Rattle.liq_rules.specs.Verbs.{plans_list}
 
 -- Planning gives the ruling. Only where a list is planned may there be no memory for it, which says nothing of the ruling.
 abbrev pub Plans : State → Command → Result Turn PlanFault → Type 0

@@ -11,7 +11,7 @@ ghost use Rattle.liq_troves.specs.Rows.{key_by, set_row};
 ghost use Rattle.liq_troves.specs.StakeSums.{entire_of, sums_words};
 ghost use Rattle.liq_borrow.specs.Borrowing.{opening_terms, adjusting_terms, closing_terms};
 ghost use Rattle.liq_core.specs.Core.{Changes, state_of};
-ghost use Rattle.liq_core.specs.Step.{rules, first_refusal};
+ghost use Rattle.liq_rules.specs.Step.{rules, first_refusal};
 ghost use Rattle.liq_core.specs.Turn.{IsRuled};
 
 use crate::engine::Protocol;

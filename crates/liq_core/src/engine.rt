@@ -4,15 +4,14 @@ ghost use Rattle.std.specs.Prelude.{◌≡◌, ◌≢◌, ◌≤◌, ◌<◌, �
 ghost use Rattle.std.specs.List.{AllByRecursion, Contains};
 ghost use Rattle.liq_types.specs.declared.requests.Request.TheVariants.{Do, Ask};
 ghost use Rattle.liq_types.specs.declared.replies.Reply.TheVariants.{Said};
-ghost use Rattle.liq_types.specs.Soundness.{IsSoundImage};
 ghost use Rattle.liq_types.specs.State.{State, opening, client_of};
 ghost use Rattle.liq_tables.specs.WithRoom.{KeepsRoom};
 ghost use Rattle.liq_stability.specs.Words.{pool_words};
 ghost use Rattle.liq_core.specs.Core.{Changes, StandsFor, SameContent, state_of};
 ghost use Rattle.liq_core.specs.Sound.{IsKeptRow};
 ghost use Rattle.liq_core.specs.Terms.{AreTerms, HasRoomToClose, HasClaimRoom};
-ghost use Rattle.liq_core.specs.Verbs.{pays, opens, provides, plans_list, liquidates, no_hint};
-ghost use Rattle.liq_core.specs.Step.{built, built_call, accounts, rules, first_refusal, noted, step};
+ghost use Rattle.liq_rules.specs.Verbs.{pays, opens, provides, plans_list, liquidates, no_hint};
+ghost use Rattle.liq_rules.specs.Step.{built, built_call, accounts, rules, first_refusal, noted, step};
 
 use crate::payments::plan_price;
 use crate::turns::{Forecast, PlanFault, Planned, Terms, Turn};
@@ -461,19 +460,4 @@ fn hint_of(words: &HintWords, given: &Hint) -> Hint
         next: words.next,
         version: given.version,
     }
-}
-
-/// Every protocol is sound: its image meets all rules of an image, beside the records, and its tables are in form.
-pub fn protocols_are_sound(protocol: &Protocol)
-    ensures { IsSoundImage protocol.now.image protocol.now.records }
-{
-    let _ = &protocol.records;
-}
-
-/// Every protocol stands for the state that begins with its image and has its records. So what its calls say of each state
-/// for which it stands is said of one at least.
-pub fn protocols_stand(protocol: &Protocol)
-    ensures { StandsFor protocol.now (state_of protocol.now) }
-{
-    let _ = &protocol.records;
 }

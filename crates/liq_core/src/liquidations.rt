@@ -13,13 +13,13 @@ ghost use Rattle.liq_liquidation.specs.Lowest.{lowest_plan};
 ghost use Rattle.liq_liquidation.specs.Moment.{IsFaultOf};
 ghost use Rattle.liq_liquidation.specs.One as rules;
 ghost use Rattle.liq_core.specs.Core.{SameContent, StandsFor, state_of};
-ghost use Rattle.liq_core.specs.Liquidation.{all_liquidated, lowest_values, offset_events, victim_changes};
-ghost use Rattle.liq_core.specs.Rules.{done_of, effect, six};
-ghost use Rattle.liq_core.specs.SoundState.{IsSoundState};
-ghost use Rattle.liq_core.specs.Step.{Allowed, after, ruling};
+ghost use Rattle.liq_rules.specs.Liquidation.{all_liquidated, lowest_values, offset_events, victim_changes};
+ghost use Rattle.liq_rules.specs.Rules.{done_of, effect, six};
+ghost use Rattle.liq_soundness.specs.SoundState.{IsSoundState};
+ghost use Rattle.liq_rules.specs.Step.{Allowed, after, ruling};
 ghost use Rattle.liq_core.specs.Told.{told_of};
 ghost use Rattle.liq_core.specs.Turn.{Forecasts, IsRuled};
-ghost use Rattle.liq_core.specs.Verbs.{rotates};
+ghost use Rattle.liq_rules.specs.Verbs.{rotates};
 ghost use Rattle.liq_core.specs.Victims.{AreKept, AreVictims, course_of};
 
 use crate::course::Course;

@@ -9,9 +9,9 @@ ghost use Rattle.liq_types.specs.Totals.{market_of};
 ghost use Rattle.liq_redemption.specs.Answers.{Answers};
 ghost use Rattle.liq_redemption.specs.Redemption.{redeeming_terms, visited};
 ghost use Rattle.liq_core.specs.Core.{Changes, state_of};
-ghost use Rattle.liq_core.specs.Redemption.{cut_told};
-ghost use Rattle.liq_core.specs.SoundState.{CutIsCovered};
-ghost use Rattle.liq_core.specs.Step.{rules, first_refusal};
+ghost use Rattle.liq_rules.specs.Redemption.{cut_told};
+ghost use Rattle.liq_soundness.specs.SoundState.{CutIsCovered};
+ghost use Rattle.liq_rules.specs.Step.{rules, first_refusal};
 ghost use Rattle.liq_core.specs.Terms.{HasRoomToClose};
 ghost use Rattle.liq_core.specs.Turn.{Forecasts};
 

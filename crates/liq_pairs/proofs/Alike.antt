@@ -4,9 +4,9 @@ use Rattle.liq_types.specs.declared.requests.Command.{Command}
 use Rattle.liq_types.specs.State.{State}
 use Rattle.liq_types.specs.WellFormed.{IsWellFormed}
 use Rattle.liq_core.specs.Core.{Core, StandsFor}
-use Rattle.liq_core.specs.Image.{IsSameState}
-use Rattle.liq_core.proofs.AlikeReads.{Alike}
-use Rattle.liq_core.proofs.AlikeReplies.{ruling_alike}
+use Rattle.liq_rules.specs.Image.{IsSameState}
+use Rattle.liq_rules.proofs.AlikeReads.{Alike}
+use Rattle.liq_rules.proofs.AlikeReplies.{ruling_alike}
 use Rattle.liq_journal.specs.Written.{Written}
 use Rattle.liq_pairs.specs.declared.side.Side.{Side}
 use Rattle.liq_pairs.specs.Kept.{HoldsRecord, IsKept, IsKeptOn, IsSettledFor}

@@ -2,7 +2,7 @@
 use Rattle.std.proofs.Common.{◌≡◌, ◌⊎◌, List, ℕ, refl, sym, ◌∙◌, subst}
 use Rattle.liq_types.specs.declared.requests.Command.{Command}
 use Rattle.liq_types.specs.State.{State}
-use Rattle.liq_core.specs.Step.{Allowed, after, ruling}
+use Rattle.liq_rules.specs.Step.{Allowed, after, ruling}
 use Rattle.liq_journal.specs.Crash.{BeforeOrAfter, Stands}
 use Rattle.liq_journal.specs.Written.{Open, Written, and_then, found_on}
 use Rattle.liq_pairs.specs.declared.side.Side.{Side}

@@ -2,7 +2,7 @@
 use Rattle.std.proofs.Common.{◌≡◌, ◌⊎◌, inl, inr, ⊎_elim, ℕ, zero, suc, ◌+◌, ◌-◌, ◌<◌, ◌≤◌, List, [], ◌∷◌, length, drop, Bool, refl, sym, ◌∙◌, ap, subst, arith, length-append}
 use Rattle.liq_types.specs.declared.requests.Command.{Command}
 use Rattle.liq_types.specs.State.{State}
-use Rattle.liq_core.specs.Step.{Allowed, ruling}
+use Rattle.liq_rules.specs.Step.{Allowed, ruling}
 use Rattle.liq_outside.specs.Disk.{overwritten}
 use Rattle.liq_journal.specs.Crash.{HasGate, IsPending, Stands}
 use Rattle.liq_journal.specs.Opened.{OpenLeaves}

@@ -4,7 +4,7 @@ use Rattle.liq_types.specs.declared.requests.Call.{Call}
 use Rattle.liq_types.specs.declared.requests.Call.TheVariants.{Open, Adjust, GainToTrove, Redeem}
 use Rattle.liq_types.specs.declared.requests.Command.{Command}
 use Rattle.liq_types.specs.State.{State}
-use Rattle.liq_core.specs.Step.{after, ruling}
+use Rattle.liq_rules.specs.Step.{after, ruling}
 use Rattle.liq_wire.specs.Fields.{heard}
 use Rattle.liq_journal.specs.Written.{is_rotate}
 

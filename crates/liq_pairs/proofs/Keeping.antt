@@ -3,9 +3,9 @@ use Rattle.std.proofs.Common.{◌≡◌, ◌⊎◌, inl, inr, ⊎_elim, ℕ, Lis
 use Rattle.liq_types.specs.declared.requests.Command.{Command}
 use Rattle.liq_types.specs.State.{State, opening}
 use Rattle.liq_types.specs.WellFormed.{IsWellFormed}
-use Rattle.liq_core.specs.Step.{Allowed, after, ruling}
-use Rattle.liq_core.proofs.AlikeReads.{Alike}
-use Rattle.liq_core.proofs.AlikeReplies.{after_alike, ruling_alike}
+use Rattle.liq_rules.specs.Step.{Allowed, after, ruling}
+use Rattle.liq_rules.proofs.AlikeReads.{Alike}
+use Rattle.liq_rules.proofs.AlikeReplies.{after_alike, ruling_alike}
 use Rattle.liq_journal.specs.Crash.{BeforeOrAfter, IsClosed, Stands}
 use Rattle.liq_journal.specs.Written.{Absent, Open, Written, and_then, found_on}
 use Rattle.liq_pairs.specs.declared.side.Side.{Side}

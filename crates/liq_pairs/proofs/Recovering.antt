@@ -1,7 +1,7 @@
 -- What an opening leaves of a kept pair.
 use Rattle.std.proofs.Common.{◌≡◌, ◌⊎◌, inl, inr, ⊎_elim, ℕ, List, [], ◌∷◌, Bool, true, false, refl, sym, ◌∙◌, ap, subst}
 use Rattle.liq_types.specs.State.{State}
-use Rattle.liq_core.specs.Step.{after}
+use Rattle.liq_rules.specs.Step.{after}
 use Rattle.liq_outside.specs.Disk.{overwritten}
 use Rattle.liq_journal.specs.Crash.{CreateLeaves, IsClosed, SettleLeaves, beginning}
 use Rattle.liq_journal.specs.Opened.{OpenLeaves}

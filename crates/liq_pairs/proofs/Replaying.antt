@@ -3,8 +3,8 @@ use Rattle.std.proofs.Common.{◌≡◌, ℕ, ◌+◌, List, [], ◌∷◌, ◌+
 use Rattle.liq_types.specs.declared.requests.Command.{Command}
 use Rattle.liq_types.specs.State.{State, opening}
 use Rattle.liq_types.specs.WellFormed.{IsWellFormed}
-use Rattle.liq_core.specs.Step.{Ruling, Refused, Repeated, Allowed, after, ruling}
-use Rattle.liq_core.proofs.AlikeReplies.{alike_itself, after_alike}
+use Rattle.liq_rules.specs.Step.{Ruling, Refused, Repeated, Allowed, after, ruling}
+use Rattle.liq_rules.proofs.AlikeReplies.{alike_itself, after_alike}
 use Rattle.liq_journal.specs.declared.damage.Damage.{Damage}
 use Rattle.liq_journal.specs.Written.{Written, and_then}
 use Rattle.liq_pairs.specs.Replay.{outcome, replay, replayed}

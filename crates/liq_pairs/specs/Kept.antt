@@ -2,7 +2,7 @@
 use Rattle.std.specs.Prelude.{◌≡◌, ◌⊎◌, ℕ, ◌<◌, List, [], Ok, Bool, true, false}
 use Rattle.liq_types.specs.declared.requests.Command.{Command}
 use Rattle.liq_types.specs.State.{State}
-use Rattle.liq_core.specs.Step.{Allowed, ruling}
+use Rattle.liq_rules.specs.Step.{Allowed, ruling}
 use Rattle.liq_journal.specs.Crash.{IsClosed, IsPending, Stands}
 use Rattle.liq_journal.specs.Written.{Written, Absent, Open, EndsWith, found_on, opened}
 use Rattle.liq_pairs.specs.declared.side.Side.{Side}

@@ -3,7 +3,7 @@ use Rattle.std.specs.Prelude.{◌≡◌, ℕ, List, [], Result, Ok, Err, Bool, t
 use Rattle.liq_types.specs.declared.requests.Command.{Command}
 use Rattle.liq_types.specs.State.{State, opening}
 use Rattle.liq_types.specs.WellFormed.{IsWellFormed}
-use Rattle.liq_core.specs.Image.{IsSameState}
+use Rattle.liq_rules.specs.Image.{IsSameState}
 use Rattle.liq_journal.specs.declared.damage.Damage.{Damage}
 use Rattle.liq_journal.specs.Written.{Found, Absent, Damaged, Open, found_on}
 use Rattle.liq_pairs.specs.declared.side.Side.{Side}

@@ -3,7 +3,7 @@ use Rattle.std.specs.Prelude.{ℕ, ◌+◌, List, [], ◌∷◌, Result, Ok, Err
 use Rattle.liq_types.specs.declared.requests.Command.{Command}
 use Rattle.liq_types.specs.Codes.{code_of}
 use Rattle.liq_types.specs.State.{State, opening}
-use Rattle.liq_core.specs.Step.{Ruling, Refused, Repeated, Allowed, ruling, after}
+use Rattle.liq_rules.specs.Step.{Ruling, Refused, Repeated, Allowed, ruling, after}
 use Rattle.liq_journal.specs.declared.damage.Damage.{Damage}
 use Rattle.liq_journal.specs.declared.damage.What.TheVariants as what
 use Rattle.liq_journal.specs.Written.{Written}

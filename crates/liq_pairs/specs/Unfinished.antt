@@ -3,7 +3,7 @@
 use Rattle.std.specs.Prelude.{◌≡◌, ◌⊎◌, ℕ, List, [], Bool, true, false}
 use Rattle.liq_types.specs.declared.requests.Command.{Command}
 use Rattle.liq_types.specs.State.{State}
-use Rattle.liq_core.specs.Step.{after}
+use Rattle.liq_rules.specs.Step.{after}
 use Rattle.liq_journal.specs.Crash.{CreateLeaves, HasGate, beginning}
 use Rattle.liq_journal.specs.Opened.{IsUnshut, OpenLeaves}
 use Rattle.liq_journal.specs.Written.{Absent, Written, end_of, found_on}

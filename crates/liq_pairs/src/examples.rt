@@ -4,7 +4,7 @@
 ghost use Rattle.std.specs.Prelude.{◌≡◌, ℕ, List, [], ◌∷◌, Ok, Err};
 ghost use Rattle.liq_types.specs.declared.requests.Command.{Command};
 ghost use Rattle.liq_types.specs.State.{State, opening};
-ghost use Rattle.liq_core.specs.Step.{after};
+ghost use Rattle.liq_rules.specs.Step.{after};
 ghost use Rattle.liq_journal.specs.declared.damage.What.TheVariants as What;
 ghost use Rattle.liq_pairs.specs.declared.side.Side.TheVariants as Side;
 ghost use Rattle.liq_pairs.specs.Examples.{early, fund, open_with, price_of_nothing, unnamed};

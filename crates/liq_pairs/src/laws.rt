@@ -5,8 +5,8 @@ ghost use Rattle.std.specs.Prelude.{◌≡◌, ◌⊎◌, List, ◌∷◌, [], �
 ghost use Rattle.liq_types.specs.declared.requests.Command.{Command};
 ghost use Rattle.liq_types.specs.State.{State, opening};
 ghost use Rattle.liq_types.specs.WellFormed.{IsWellFormed};
-ghost use Rattle.liq_core.specs.Image.{IsSameState};
-ghost use Rattle.liq_core.specs.Step.{Allowed, after, ruling};
+ghost use Rattle.liq_rules.specs.Image.{IsSameState};
+ghost use Rattle.liq_rules.specs.Step.{Allowed, after, ruling};
 ghost use Rattle.liq_journal.specs.Crash.{BeforeOrAfter, Stands};
 ghost use Rattle.liq_journal.specs.Opened.{OpenLeaves};
 ghost use Rattle.liq_journal.specs.Written.{and_then, found_on};

@@ -7,9 +7,9 @@ use Rattle.liq_types.specs.declared.replies.Refusal.{Refusal}
 use Rattle.liq_types.specs.declared.requests.Command.{Command}
 use Rattle.liq_types.specs.State.{State, opening}
 use Rattle.liq_core.specs.Core.{Core, StandsFor}
-use Rattle.liq_core.specs.Events.{events}
-use Rattle.liq_core.specs.Rules.{call_events}
-use Rattle.liq_core.specs.Step.{Refused, Repeated, ruling, after}
+use Rattle.liq_rules.specs.Events.{events}
+use Rattle.liq_rules.specs.Rules.{call_events}
+use Rattle.liq_rules.specs.Step.{Refused, Repeated, ruling, after}
 use Rattle.liq_types.specs.Codes.{code_of}
 use Rattle.liq_journal.specs.declared.damage.What.TheVariants as what
 use Rattle.liq_pairs.specs.Replay.{replay, replayed}

@@ -18,15 +18,15 @@ use Rattle.liq_stability.specs.Position.{gain_of}
 use Rattle.liq_stability.specs.Promise.{IsWithinAllowance}
 use Rattle.liq_stability.proofs.Pool.{gain_within}
 use Rattle.liq_stability.proofs.Promise.{all_paid_are}
-use Rattle.liq_core.specs.Events.{events}
-use Rattle.liq_core.specs.Step.{Ruling, Refused, Repeated, Allowed, ruling, after, after_ruling, run, accepted, is_allowed, built}
-use Rattle.liq_core.specs.Rules.{effect}
-use Rattle.liq_core.specs.Verbs.{rotates}
-use Rattle.liq_core.proofs.Allowed.{allowed_few, built-rotates, effect-records}
-use Rattle.liq_core.proofs.Counting.{run_events_count}
-use Rattle.liq_core.proofs.SoundEvents.{run_follows}
-use Rattle.liq_core.proofs.SoundPromises.{reached_shares, reached_paid}
-use Rattle.liq_core.proofs.SoundStart.{opening_sound}
+use Rattle.liq_rules.specs.Events.{events}
+use Rattle.liq_rules.specs.Step.{Ruling, Refused, Repeated, Allowed, ruling, after, after_ruling, run, accepted, is_allowed, built}
+use Rattle.liq_rules.specs.Rules.{effect}
+use Rattle.liq_rules.specs.Verbs.{rotates}
+use Rattle.liq_rules.proofs.Allowed.{allowed_few, built-rotates, effect-records}
+use Rattle.liq_rules.proofs.Counting.{run_events_count}
+use Rattle.liq_soundness.proofs.SoundEvents.{run_follows}
+use Rattle.liq_soundness.proofs.SoundPromises.{reached_shares, reached_paid}
+use Rattle.liq_soundness.proofs.SoundStart.{opening_sound}
 use Rattle.liq_pairs.specs.Replay.{replay, replayed}
 
 -- ---- a replay is a run

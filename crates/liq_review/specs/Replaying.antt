@@ -4,10 +4,10 @@ use Rattle.liq_types.specs.declared.events.PoolEvent.{PoolEvent}
 use Rattle.liq_types.specs.declared.requests.Command.{Command}
 use Rattle.liq_types.specs.State.{State, opening}
 use Rattle.liq_core.specs.Core.{Core, StandsFor}
-use Rattle.liq_core.specs.Events.{events}
+use Rattle.liq_rules.specs.Events.{events}
 use Rattle.liq_core.specs.Plan.{Plan, IsPlan}
-use Rattle.liq_core.specs.Rules.{call_events}
-use Rattle.liq_core.specs.Step.{Allowed, ruling, after}
+use Rattle.liq_rules.specs.Rules.{call_events}
+use Rattle.liq_rules.specs.Step.{Allowed, ruling, after}
 use Rattle.liq_journal.specs.declared.damage.Damage.{Damage}
 use Rattle.liq_pairs.specs.Replay.{replay, replayed}
 use Rattle.liq_review.specs.declared.fault.ReviewFault.{ReviewFault}

@@ -4,7 +4,7 @@ use Rattle.std.specs.Prelude.{IsTrue}
 use Rattle.std.specs.Result.{result_unwrap_or}
 use Rattle.liq_types.specs.declared.amounts.TheConstants.{LINE_BYTES}
 use Rattle.liq_types.specs.declared.requests.Request.{Request}
-use Rattle.liq_core.specs.Step.{built}
+use Rattle.liq_rules.specs.Step.{built}
 use Rattle.liq_text.specs.Spelling.{SpellsInSession}
 use Rattle.liq_text.proofs.LineLengths.{session_request_short}
 use Rattle.liq_scripts.specs.Asked.{IsBadLine}

@@ -3,7 +3,7 @@ use Rattle.std.proofs.Common.{◌≡◌, ℕ, ◌+◌, ◌<◌, Bool, true, fals
 use Rattle.std.specs.Prelude.{◌==◌, ◌||◌, map, decimal}
 use Rattle.std.specs.List.{flat_map, list_any}
 use Rattle.std.proofs.lemmas.List.FromFn.{get_or-map-range_with_len}
-use Rattle.liq_core.specs.History.{Entry, own_entries}
+use Rattle.liq_rules.specs.History.{Entry, own_entries}
 use Rattle.liq_scripts.specs.Output.{heading, reply_line, entry_line, session_text}
 use Rattle.liq_scripts.specs.Sending.{line_text}
 use Rattle.liq_scripts.specs.Sessions.{sessions}

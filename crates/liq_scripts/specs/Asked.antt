@@ -2,7 +2,7 @@
 use Rattle.std.specs.Prelude.{ℕ, ◌==◌, List, map, filter, IsTrue}
 use Rattle.std.specs.List.{AllZip}
 use Rattle.liq_types.specs.declared.requests.Request.{Request}
-use Rattle.liq_core.specs.Step.{built}
+use Rattle.liq_rules.specs.Step.{built}
 use Rattle.liq_sessions.specs.declared.script.Script.{Script}
 use Rattle.liq_text.specs.Spelling.{SpellsInSession}
 use Rattle.liq_scripts.specs.Sessions.{sessions}

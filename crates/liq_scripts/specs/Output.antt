@@ -2,7 +2,7 @@
 use Rattle.std.specs.Prelude.{ℕ, List, [], ◌∷◌, ◌++◌, codes, decimal}
 use Rattle.std.specs.List.{flat_map}
 use Rattle.liq_types.specs.declared.replies.Reply.{Reply}
-use Rattle.liq_core.specs.History.{Entry, own_entries}
+use Rattle.liq_rules.specs.History.{Entry, own_entries}
 use Rattle.liq_text.specs.Replies.{text}
 use Rattle.liq_scripts.specs.Sessions.{sessions}
 

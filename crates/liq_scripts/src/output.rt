@@ -3,7 +3,7 @@
 ghost use Rattle.std.specs.Prelude.{◌≡◌, ◌==◌, [], map, OnOk, OnErr, if◌then◌else◌};
 ghost use Rattle.std.specs.List.{list_any};
 ghost use Rattle.liq_outside.specs.Faults.{HasCause};
-ghost use Rattle.liq_core.specs.History.{Entry, own_entries};
+ghost use Rattle.liq_rules.specs.History.{Entry, own_entries};
 ghost use Rattle.liq_lines.specs.Writing.{Writes, WritesPart};
 ghost use Rattle.liq_scripts.specs.Output.{served, reply_line, replies_text, session_text, history_text};
 ghost use Rattle.liq_scripts.specs.Sending.{Sends};

@@ -3,7 +3,7 @@ use Rattle.std.proofs.Common.{◌≡◌, ℕ, ◌≤◌, List, ◌∷◌, ◌++�
 use Rattle.std.specs.Prelude.{IsTrue}
 use Rattle.liq_types.specs.declared.requests.Request.{Request}
 use Rattle.liq_types.specs.declared.amounts.TheConstants.{LINE_BYTES}
-use Rattle.liq_core.specs.Step.{built}
+use Rattle.liq_rules.specs.Step.{built}
 use Rattle.liq_text.specs.Spelling.{Spells}
 use Rattle.liq_text.proofs.LineLengths.{request_short}
 use Rattle.liq_lines.specs.Lines.{lines_in, IsWithinLine}

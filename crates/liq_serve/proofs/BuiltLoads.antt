@@ -4,7 +4,7 @@ use Rattle.std.specs.Prelude.{IsTrue, map, cond, ◌==◌}
 use Rattle.std.specs.List.{AllByRecursion, range_with_len}
 use Rattle.liq_types.specs.declared.requests.Call.{Call}
 use Rattle.liq_types.specs.declared.requests.Call.TheVariants.{Rotate}
-use Rattle.liq_core.specs.Step.{built_call}
+use Rattle.liq_rules.specs.Step.{built_call}
 use Rattle.liq_sessions.specs.Generated.{after_call, after_draw, calls_by, drawn, generated, opening_call, preamble_from, shown, OWNERS, PREAMBLE}
 
 abbrev pub AreBuilt : List Call → Type 0

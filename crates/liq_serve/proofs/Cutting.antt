@@ -6,7 +6,7 @@ use Rattle.liq_types.specs.declared.amounts.TheConstants.{LINES_MOST}
 use Rattle.liq_types.specs.declared.requests.Request.{Request}
 use Rattle.liq_types.specs.State.{State}
 use Rattle.liq_core.specs.Core.{Core, StandsFor}
-use Rattle.liq_core.specs.Step.{run, step}
+use Rattle.liq_rules.specs.Step.{run, step}
 use Rattle.liq_serve.specs.declared.halts.Halt.TheVariants.{WriteFault}
 use Rattle.liq_serve.specs.Output.{lines, reply_line}
 use Rattle.liq_serve.specs.Progress.{Written, Comes}

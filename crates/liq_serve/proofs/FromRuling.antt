@@ -8,7 +8,7 @@ use Rattle.liq_types.specs.declared.requests.Command.{Command}
 use Rattle.liq_types.specs.declared.requests.Request.TheVariants.{Do}
 use Rattle.liq_types.specs.State.{State}
 use Rattle.liq_core.specs.Core.{Core, StandsFor, SameContent}
-use Rattle.liq_core.specs.Step.{Refused, Repeated, ruling, after_ruling, step}
+use Rattle.liq_rules.specs.Step.{Refused, Repeated, ruling, after_ruling, step}
 
 -- the core stands for the state after the step, and the step gives this reply
 abbrev pub Steps : Core → State → Command → Reply → Type 0

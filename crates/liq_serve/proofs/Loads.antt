@@ -14,9 +14,9 @@ use Rattle.liq_types.specs.Ranked.{first_of}
 use Rattle.liq_types.specs.State.{State, opening}
 use Rattle.liq_stability.specs.declared.words.PoolWords.{PoolWords}
 use Rattle.liq_core.specs.Core.{Core, StandsFor}
-use Rattle.liq_core.specs.Events.{events}
-use Rattle.liq_core.specs.Rules.{call_events}
-use Rattle.liq_core.specs.Step.{Ruling, Refused, Repeated, Allowed, accepted, after, after_ruling, is_allowed, next_number, run, ruling, step}
+use Rattle.liq_rules.specs.Events.{events}
+use Rattle.liq_rules.specs.Rules.{call_events}
+use Rattle.liq_rules.specs.Step.{Ruling, Refused, Repeated, Allowed, accepted, after, after_ruling, is_allowed, next_number, run, ruling, step}
 use Rattle.liq_serve.specs.declared.load.Counts.{Counts}
 use Rattle.liq_serve.specs.Load.{AreWithin, counts, is_offset, is_refusal, next_command, none_yet, plus, requests_of, told}
 

@@ -7,7 +7,7 @@ use Rattle.liq_types.specs.declared.requests.Request.TheVariants.{Do, Ask}
 use Rattle.liq_types.specs.State.{State, opening}
 use Rattle.liq_types.specs.WellFormed.{IsWellFormed}
 use Rattle.liq_core.specs.Core.{Core, StandsFor}
-use Rattle.liq_core.specs.Step.{Allowed, Ruling, after, after_ruling, ruling, run}
+use Rattle.liq_rules.specs.Step.{Allowed, Ruling, after, after_ruling, ruling, run}
 use Rattle.liq_journal.specs.declared.damage.Damage.{Damage}
 use Rattle.liq_journal.specs.Written.{Found, Written, Absent, Damaged, Open, found_on}
 use Rattle.liq_lines.specs.Lines.{lines_in}

@@ -2,7 +2,7 @@
 use Rattle.std.proofs.Common.{◌≡◌, ℕ, List, [], ◌∷◌, ◌++◌, refl, ap, sym, ◌∙◌, append_assoc, append-nil}
 use Rattle.liq_types.specs.declared.requests.Request.{Request}
 use Rattle.liq_types.specs.State.{State}
-use Rattle.liq_core.specs.Step.{step, run}
+use Rattle.liq_rules.specs.Step.{step, run}
 use Rattle.liq_serve.specs.Output.{lines, reply_line}
 use Rattle.liq_serve.specs.Requests.{IsRequest, AreRequests}
 

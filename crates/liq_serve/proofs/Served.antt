@@ -4,7 +4,7 @@ use Rattle.std.specs.Prelude.{◌⊎◌, IfErr, OnOk}
 use Rattle.std.proofs.lemmas.List.Elements.{All-nil}
 use Rattle.liq_types.specs.State.{State}
 use Rattle.liq_types.specs.declared.amounts.TheConstants.{LINES_MOST}
-use Rattle.liq_core.specs.History.{Entry}
+use Rattle.liq_rules.specs.History.{Entry}
 use Rattle.liq_lines.specs.Lines.{lines_in}
 use Rattle.liq_lines.specs.Writing.{Writes}
 use Rattle.liq_pairs.specs.Pair.{state_on}

@@ -3,7 +3,7 @@ use Rattle.std.specs.Prelude.{◌≡◌, List, Result, Ok, Err, All, count_by, l
 use Rattle.liq_types.specs.declared.requests.Command.{Command}
 use Rattle.liq_types.specs.State.{State, opening}
 use Rattle.liq_audit.specs.Auditable.{EnclosesShare}
-use Rattle.liq_core.specs.Events.{events}
+use Rattle.liq_rules.specs.Events.{events}
 use Rattle.liq_review.specs.Engine.{rows_of}
 use Rattle.liq_review.specs.Shown.{is_within}
 use Rattle.liq_pairs.specs.declared.side.Side.{Side}

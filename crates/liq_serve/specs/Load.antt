@@ -12,8 +12,8 @@ use Rattle.liq_types.specs.State.{State, opening}
 use Rattle.liq_types.specs.Totals.{total_debt}
 use Rattle.liq_stability.specs.declared.words.PoolWords.{PoolWords}
 use Rattle.liq_stability.specs.Words.{pool_words}
-use Rattle.liq_core.specs.Events.{events}
-use Rattle.liq_core.specs.Step.{step, run, accepted, next_number}
+use Rattle.liq_rules.specs.Events.{events}
+use Rattle.liq_rules.specs.Step.{step, run, accepted, next_number}
 use Rattle.liq_sessions.specs.Generated.{generated}
 use Rattle.liq_serve.specs.declared.halts.Halt.{Halt}
 use Rattle.liq_serve.specs.declared.halts.Halt.TheVariants.{WriteFault, NoMemory}

@@ -4,7 +4,7 @@ use Rattle.std.specs.List.{flat_map}
 use Rattle.liq_types.specs.declared.replies.Reply.{Reply}
 use Rattle.liq_types.specs.declared.requests.Request.{Request}
 use Rattle.liq_types.specs.State.{State}
-use Rattle.liq_core.specs.Step.{run}
+use Rattle.liq_rules.specs.Step.{run}
 use Rattle.liq_text.specs.Replies.{text}
 use Rattle.liq_pairs.specs.declared.side.Side.{Side}
 use Rattle.liq_pairs.specs.declared.side.Side.TheVariants.{Left, Right}

@@ -5,7 +5,7 @@ use Rattle.liq_types.specs.declared.amounts.TheConstants.{LINE_BYTES, LINES_MOST
 use Rattle.liq_types.specs.declared.requests.Request.{Request}
 use Rattle.liq_types.specs.State.{State}
 use Rattle.liq_core.specs.Core.{Core, StandsFor}
-use Rattle.liq_core.specs.Step.{run, step}
+use Rattle.liq_rules.specs.Step.{run, step}
 use Rattle.liq_serve.specs.declared.halts.Halt.{Halt}
 use Rattle.liq_serve.specs.declared.halts.Halt.TheVariants.{BadLine, ReadFault, WriteFault, DiskFault, NoMemory}
 use Rattle.liq_serve.specs.declared.run.Next.{Next}

@@ -3,7 +3,7 @@ use Rattle.std.specs.Prelude.{ℕ, ◌≡◌, ◌∷◌, [], ◌++◌, List, IsT
 use Rattle.liq_types.specs.declared.requests.Request.{Request}
 use Rattle.liq_types.specs.declared.requests.Request.TheVariants.{Do, Ask}
 use Rattle.liq_types.specs.State.{State}
-use Rattle.liq_core.specs.Step.{built}
+use Rattle.liq_rules.specs.Step.{built}
 use Rattle.liq_store.specs.Memory.{TakesMemory}
 use Rattle.liq_text.specs.Spelling.{Spells}
 use Rattle.liq_lines.specs.Lines.{lines_in}

@@ -3,7 +3,7 @@ use Rattle.std.specs.Prelude.{ℕ, ◌≡◌, [], List, Option, Some, Result, Ok
 use Rattle.liq_types.specs.declared.amounts.TheConstants.{LINES_MOST}
 use Rattle.liq_types.specs.declared.requests.Request.{Request}
 use Rattle.liq_types.specs.State.{State}
-use Rattle.liq_core.specs.History.{Entry, requests_of}
+use Rattle.liq_rules.specs.History.{Entry, requests_of}
 use Rattle.liq_lines.specs.Writing.{Writes, WritesPart}
 use Rattle.liq_pairs.specs.Pair.{state_on}
 use Rattle.liq_scripts.specs.declared.stops.Stop.{Stop}

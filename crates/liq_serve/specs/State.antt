@@ -6,7 +6,7 @@ use Rattle.liq_types.specs.declared.requests.Request.TheVariants.{Ask}
 use Rattle.liq_types.specs.State.{State}
 use Rattle.liq_stability.specs.declared.words.PoolWords.{PoolWords}
 use Rattle.liq_stability.specs.Words.{pool_words}
-use Rattle.liq_core.specs.Step.{step}
+use Rattle.liq_rules.specs.Step.{step}
 use Rattle.liq_serve.specs.Output.{reply_line}
 
 -- the line of the reply to a query

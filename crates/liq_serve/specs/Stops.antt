@@ -4,8 +4,8 @@ use Rattle.liq_types.specs.declared.amounts.TheConstants.{LINES_MOST}
 use Rattle.liq_types.specs.declared.requests.Request.{Request}
 use Rattle.liq_types.specs.State.{State, opening}
 use Rattle.liq_stability.specs.Promise.{IsWithinAllowance}
-use Rattle.liq_core.specs.Events.{events}
-use Rattle.liq_core.specs.Step.{run, accepted}
+use Rattle.liq_rules.specs.Events.{events}
+use Rattle.liq_rules.specs.Step.{run, accepted}
 use Rattle.liq_serve.specs.declared.halts.Halt.{Halt}
 use Rattle.liq_serve.specs.declared.halts.Halt.TheVariants.{BadLine, ReadFault, WriteFault, DiskFault, Damaged, NoMemory, Limit}
 use Rattle.liq_lines.specs.Lines.{lines_in, ended, IsPartOfLine}

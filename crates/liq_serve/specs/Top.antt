@@ -3,7 +3,7 @@ use Rattle.std.specs.Prelude.{ℕ, ◌≡◌, ◌≢◌, ◌≤◌, ◌⊎◌, �
 use Rattle.liq_types.specs.declared.amounts.TheConstants.{LINES_MOST}
 use Rattle.liq_types.specs.declared.requests.Request.{Request}
 use Rattle.liq_types.specs.State.{State, opening}
-use Rattle.liq_core.specs.Events.{events}
+use Rattle.liq_rules.specs.Events.{events}
 use Rattle.liq_journal.specs.declared.damage.Damage.{Damage}
 use Rattle.liq_lines.specs.Lines.{lines_in}
 use Rattle.liq_pairs.specs.declared.side.Side.{Side}

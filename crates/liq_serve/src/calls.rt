@@ -3,7 +3,7 @@
 ghost use Rattle.std.specs.Prelude.{◌≡◌, ◌≢◌, Some, None, Err, List, ℕ, IsTrue};
 ghost use Rattle.liq_types.specs.State.{State};
 ghost use Rattle.liq_core.specs.Core.{StandsFor};
-ghost use Rattle.liq_core.specs.Step.{built};
+ghost use Rattle.liq_rules.specs.Step.{built};
 ghost use Rattle.liq_serve.specs.Causes.{DiskCause};
 ghost use Rattle.liq_serve.specs.Disks.{Calls, IsStopped, KeepsAround};
 ghost use Rattle.liq_serve.specs.Requests.{IsCommand};

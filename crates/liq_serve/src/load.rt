@@ -6,12 +6,13 @@ ghost use Rattle.liq_types.specs.State.{State, opening};
 ghost use Rattle.liq_types.specs.Totals.{total_debt};
 ghost use Rattle.liq_stability.specs.Words.{pool_words};
 ghost use Rattle.liq_core.specs.Core.{StandsFor};
-ghost use Rattle.liq_core.specs.Step.{built_call, run, step, next_number};
+ghost use Rattle.liq_rules.specs.Step.{built_call, run, step, next_number};
 ghost use Rattle.liq_words.specs.declared.words.TheConstants.{COUNT_MOST};
 ghost use Rattle.liq_serve.specs.Load.{AreWithin, counts, is_offset, load, next_command, plus, told};
 
-use liq_core::laws::{commands_make_few_events, protocols_stand};
+use liq_core::laws::protocols_stand;
 use liq_core::{PlanFault, Protocol, Turn};
+use liq_rules::laws::commands_make_few_events;
 use liq_sessions::generate;
 use liq_types::{Call, Command, Hint, Info, NoMemory, PoolEvent, Query, Reply, Steps};
 use std::alloc::{AllocError, Global};

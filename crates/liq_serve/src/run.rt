@@ -4,7 +4,7 @@ ghost use Rattle.std.specs.Prelude.{Contains, Err, Option, Some, None, ◌≡◌
 ghost use Rattle.liq_types.specs.State.{State};
 ghost use Rattle.liq_types.specs.declared.amounts.TheConstants.{LINE_BYTES};
 ghost use Rattle.liq_serve.specs.declared.waiting.TheConstants.{WAITING_MOST};
-ghost use Rattle.liq_core.specs.Step.{built};
+ghost use Rattle.liq_rules.specs.Step.{built};
 ghost use Rattle.liq_core.specs.Core.{StandsFor};
 ghost use Rattle.liq_journal.specs.declared.damage.Damage.{Damage};
 ghost use Rattle.liq_pairs.specs.declared.side.Side.{Side};

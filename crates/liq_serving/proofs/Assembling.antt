@@ -5,9 +5,9 @@ use Rattle.std.specs.List.{AllByRecursion, AllZip}
 use Rattle.std.proofs.lemmas.List.{length-map}
 use Rattle.std.proofs.lemmas.List.Elements.{Contains-append_left, Contains-append_right}
 use Rattle.liq_types.specs.State.{State}
-use Rattle.liq_core.specs.History as history
-use Rattle.liq_core.specs.History.{state_after}
-use Rattle.liq_core.proofs.Histories.{legal-empty}
+use Rattle.liq_rules.specs.History as history
+use Rattle.liq_rules.specs.History.{state_after}
+use Rattle.liq_rules.proofs.Histories.{legal-empty}
 use Rattle.liq_lock.specs.declared.lock.Lock.{Lock}
 use Rattle.liq_lock.specs.History.{Behind}
 use Rattle.liq_lock.specs.Seats.{lock_id, seat_id}

@@ -4,8 +4,8 @@ use Rattle.std.specs.Prelude.{◌==◌, All, Contains, slice_index_or, sum_by}
 use Rattle.std.specs.List.{AllByRecursion}
 use Rattle.std.proofs.lemmas.List.{append-nil, length-map}
 use Rattle.std.proofs.lemmas.List.Sums.{get_or-le-sum_by, sum_by-cons}
-use Rattle.liq_core.specs.History as history
-use Rattle.liq_core.specs.History.{own_entries}
+use Rattle.liq_rules.specs.History as history
+use Rattle.liq_rules.specs.History.{own_entries}
 use Rattle.liq_sessions.specs.declared.script.Script.{Script}
 use Rattle.liq_sessions.specs.declared.script.TheConstants.{REQUESTS_MOST}
 use Rattle.liq_book.specs.declared.items.Entry.{Entry}

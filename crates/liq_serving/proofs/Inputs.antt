@@ -11,10 +11,10 @@ use Rattle.liq_types.specs.declared.requests.Request.{Request}
 use Rattle.liq_types.specs.declared.requests.Request.TheVariants.{Do, Ask}
 use Rattle.liq_types.specs.State.{State}
 use Rattle.liq_core.specs.Core.{StandsFor}
-use Rattle.liq_core.specs.History as history
-use Rattle.liq_core.specs.History.{IsLegal, state_after}
-use Rattle.liq_core.specs.Step.{Ruling, Refused, Repeated, Allowed, after, after_ruling, ruling}
-use Rattle.liq_core.proofs.Histories.{legal-empty}
+use Rattle.liq_rules.specs.History as history
+use Rattle.liq_rules.specs.History.{IsLegal, state_after}
+use Rattle.liq_rules.specs.Step.{Ruling, Refused, Repeated, Allowed, after, after_ruling, ruling}
+use Rattle.liq_rules.proofs.Histories.{legal-empty}
 use Rattle.liq_journal.specs.declared.damage.Damage.{Damage}
 use Rattle.liq_pairs.specs.declared.side.Side.{Side}
 use Rattle.liq_pairs.specs.Kept.{IsKept}

@@ -2,7 +2,7 @@
 use Rattle.std.proofs.Common.{ℕ, ◌≡◌, List, [], ◌∷◌, map, Bool, true, false, Option, Some, None, refl, sym, ap, ◌∙◌, subst}
 use Rattle.std.specs.Prelude.{All}
 use Rattle.liq_types.specs.State.{State}
-use Rattle.liq_core.specs.History.{state_after}
+use Rattle.liq_rules.specs.History.{state_after}
 use Rattle.liq_lock.specs.History.{Behind, Within}
 use Rattle.liq_store.specs.Keeping.{IsInOrder, IsInOrderWith}
 use Rattle.liq_store.specs.Stored.{Stored}

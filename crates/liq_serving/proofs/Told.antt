@@ -7,8 +7,8 @@ use Rattle.std.proofs.lemmas.List.Elements.{Contains-get_or}
 use Rattle.liq_types.specs.declared.replies.Answer.TheVariants as answer
 use Rattle.liq_types.specs.declared.replies.Reply.{Reply}
 use Rattle.liq_types.specs.declared.requests.Request.{Request}
-use Rattle.liq_core.specs.History as history
-use Rattle.liq_core.specs.History.{own_entries}
+use Rattle.liq_rules.specs.History as history
+use Rattle.liq_rules.specs.History.{own_entries}
 use Rattle.liq_lock.specs.History.{Behind}
 use Rattle.liq_sessions.specs.declared.done.SessionEnd.{SessionEnd}
 use Rattle.liq_sessions.specs.declared.done.SessionEnd.TheVariants as session_end

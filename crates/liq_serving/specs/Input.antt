@@ -6,8 +6,8 @@ use Rattle.liq_types.specs.declared.requests.Command.{Command}
 use Rattle.liq_types.specs.declared.requests.Request.{Request}
 use Rattle.liq_types.specs.declared.requests.Request.TheVariants.{Do}
 use Rattle.liq_types.specs.State.{State}
-use Rattle.liq_core.specs.History.{Entry, IsLegal, state_after}
-use Rattle.liq_core.specs.Step.{Allowed, after, ruling}
+use Rattle.liq_rules.specs.History.{Entry, IsLegal, state_after}
+use Rattle.liq_rules.specs.Step.{Allowed, after, ruling}
 use Rattle.liq_journal.specs.declared.damage.Damage.{Damage}
 use Rattle.liq_pairs.specs.declared.side.Side.{Side}
 use Rattle.liq_pairs.specs.Kept.{IsKept}

@@ -1,7 +1,7 @@
 -- What a book leaves that is closed when its sessions have ended.
 use Rattle.std.specs.Prelude.{ℕ, ◌≡◌, List, [], ◌∷◌, map, All, Bool, Option, Some, None}
 use Rattle.liq_types.specs.State.{State}
-use Rattle.liq_core.specs.History.{IsLegal, state_after}
+use Rattle.liq_rules.specs.History.{IsLegal, state_after}
 use Rattle.liq_lock.specs.History.{Behind, Within}
 use Rattle.liq_book.specs.declared.items.Halt.{Halt}
 use Rattle.liq_book.specs.declared.items.Item.{Item}

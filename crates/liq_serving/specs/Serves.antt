@@ -3,8 +3,8 @@ use Rattle.std.specs.Prelude.{ℕ, ◌≡◌, ◌≤◌, ◌⊎◌, ◌++◌, Li
 use Rattle.liq_outside.specs.Disk.{LeftNow}
 use Rattle.liq_types.specs.declared.requests.Request.{Request}
 use Rattle.liq_types.specs.State.{State}
-use Rattle.liq_core.specs.History as history
-use Rattle.liq_core.specs.History.{IsLegal, own_entries, requests_of, state_after}
+use Rattle.liq_rules.specs.History as history
+use Rattle.liq_rules.specs.History.{IsLegal, own_entries, requests_of, state_after}
 use Rattle.liq_pairs.specs.declared.side.Side.{Side}
 use Rattle.liq_pairs.specs.Kept.{IsSettledFor}
 use Rattle.liq_store.specs.Keeping.{IsAtRest, IsKeptAround}

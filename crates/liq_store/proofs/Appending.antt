@@ -9,15 +9,15 @@ use Rattle.liq_types.specs.State.{State}
 use Rattle.liq_wire.specs.Fields.{command_of, heard}
 use Rattle.liq_core.specs.Core.{Core, StandsFor}
 use Rattle.liq_core.specs.Plan.{Plan, IsPlan}
-use Rattle.liq_core.specs.Verbs.{built_call}
-use Rattle.liq_core.specs.Step.{Allowed, after, after_ruling, ruling, step}
+use Rattle.liq_rules.specs.Verbs.{built_call}
+use Rattle.liq_rules.specs.Step.{Allowed, after, after_ruling, ruling, step}
 use Rattle.liq_journal.specs.Crash.{BeforeOrAfter, IsBodyOf, Stands, is_odd}
 use Rattle.liq_journal.specs.Settled.{IsSettled, JournalOn}
 use Rattle.liq_journal.specs.Written.{Open, Written, and_then, found_on}
 use Rattle.liq_pairs.specs.declared.side.Side.{Side}
 use Rattle.liq_pairs.specs.Kept.{IsKept}
 use Rattle.liq_pairs.specs.Sides.{has_odd, on}
-use Rattle.liq_core.proofs.AlikeReads.{Alike}
+use Rattle.liq_rules.proofs.AlikeReads.{Alike}
 use Rattle.liq_pairs.proofs.Alike.{core_alike, settled_alike}
 use Rattle.liq_pairs.proofs.Around.{kept_around, settled_after}
 use Rattle.liq_pairs.proofs.Hints.{heard_after, heard_rotate, heard_ruling}

@@ -1,40 +1,19 @@
 -- What an accepted command that is no rotation leaves of the counters: its generation, and one record more.
 use Rattle.std.proofs.Common.{◌≡◌, ◌+◌, Bool, false, cond, refl, sym, ◌∙◌, ap}
-use Rattle.liq_types.specs.declared.requests.Call.{Call}
-use Rattle.liq_types.specs.declared.requests.Call.TheVariants.{Price, Advance, Fund, Take, Send, Open, Adjust, Close, Provide, Withdraw, GainToTrove, Liquidate, LiquidateLowest, Redeem, Claim, Rotate}
 use Rattle.liq_types.specs.declared.requests.Command.{Command}
 use Rattle.liq_types.specs.Image.{Image}
 use Rattle.liq_types.specs.State.{State}
 use Rattle.liq_core.specs.Core.{Core, StandsFor}
-use Rattle.liq_core.specs.Step.{after, effect}
-use Rattle.liq_core.specs.Verbs.{rotates}
-use Rattle.liq_core.proofs.Allowed.{effect-records}
-use Rattle.liq_core.proofs.Generations.{effect-generation}
+use Rattle.liq_rules.specs.Step.{after, effect}
+use Rattle.liq_rules.proofs.Allowed.{all_built, effect-records}
+use Rattle.liq_rules.proofs.Generations.{effect-generation}
 use Rattle.liq_journal.specs.Written.{is_rotate}
-use Rattle.liq_store.proofs.Built.{all_built}
-
-pub never_rotates : (call : Call) → is_rotate call ≡ false → rotates call ≡ false
-never_rotates (Price price) h = refl
-never_rotates (Advance minutes) h = refl
-never_rotates (Fund account coll) h = refl
-never_rotates (Take account coll) h = refl
-never_rotates (Send from to lusd) h = refl
-never_rotates (Open account coll borrow bound hint) h = refl
-never_rotates (Adjust account coll_in coll_out borrow repay bound hint) h = refl
-never_rotates (Close account) h = refl
-never_rotates (Provide account lusd) h = refl
-never_rotates (Withdraw account lusd) h = refl
-never_rotates (GainToTrove account hint) h = refl
-never_rotates (Liquidate liquidator account) h = refl
-never_rotates (LiquidateLowest liquidator count) h = refl
-never_rotates (Redeem account lusd bound hint) h = refl
-never_rotates (Claim account) h = refl
-never_rotates Rotate h = cc
+use Rattle.liq_store.proofs.Built.{never_rotates}
 
 pub after-records : (s : State) (c : Command) → is_rotate c.call ≡ false → (after s c).records ≡ s.records + 1
 after-records s c h =
     ap (λ (b : Bool). cond b 0 ((effect s c.call).records + 1)) (never_rotates c.call h)
-    ∙ ap (λ n. n + 1) (effect-records s c.call (all_built c.call h))
+    ∙ ap (λ n. n + 1) (effect-records s c.call (all_built c.call (never_rotates c.call h)))
 
 pub after-generation : (s : State) (c : Command) → is_rotate c.call ≡ false → (after s c).generation ≡ s.generation
 after-generation s c h = effect-generation s c.call (never_rotates c.call h)

@@ -5,7 +5,7 @@ use Rattle.liq_types.specs.declared.requests.Request.TheVariants.{Do}
 use Rattle.liq_types.specs.State.{State}
 use Rattle.liq_core.specs.Core.{Core, StandsFor, SameContent}
 use Rattle.liq_core.specs.Plan.{Plan, IsPlan}
-use Rattle.liq_core.specs.Step.{Allowed, after, after_ruling, ruling, step}
+use Rattle.liq_rules.specs.Step.{Allowed, after, after_ruling, ruling, step}
 
 pub stands_before : (old new : Core) (s : State) → SameContent old new → StandsFor new s → StandsFor old s
 stands_before old new s same h = record { image = sym same.image ∙ h.image; records = sym same.records ∙ h.records; formed = h.formed }

@@ -7,7 +7,7 @@ use Rattle.liq_types.specs.declared.replies.Answer.TheVariants as answer
 use Rattle.liq_types.specs.State.{State}
 use Rattle.liq_wire.specs.Fields.{heard}
 use Rattle.liq_core.specs.Core.{Core, StandsFor}
-use Rattle.liq_core.specs.Step.{step}
+use Rattle.liq_rules.specs.Step.{step}
 use Rattle.liq_journal.specs.declared.answers.LookFault.TheVariants as look
 use Rattle.liq_journal.specs.Bodies.{IsBodyFault, body_at}
 use Rattle.liq_store.specs.declared.answers.AcceptedFault.{AcceptedFault}

@@ -3,8 +3,8 @@ use Rattle.std.specs.Prelude.{◌≡◌, ◌⊎◌, IsTrue}
 use Rattle.liq_types.specs.declared.requests.Request.{Request}
 use Rattle.liq_types.specs.declared.requests.Request.TheVariants.{Do, Ask}
 use Rattle.liq_types.specs.State.{State}
-use Rattle.liq_core.specs.Step.{Allowed, ruling}
-use Rattle.liq_core.specs.Verbs.{plans_list}
+use Rattle.liq_rules.specs.Step.{Allowed, ruling}
+use Rattle.liq_rules.specs.Verbs.{plans_list}
 
 -- a command that makes a step: neither a query nor one that is refused or comes again
 abbrev pub IsAccepted : State → Request → Type 0

@@ -6,7 +6,7 @@ use Rattle.liq_types.specs.declared.requests.Request.TheVariants.{Do}
 use Rattle.liq_types.specs.State.{State}
 use Rattle.liq_core.specs.Core.{Core}
 use Rattle.liq_core.specs.Plan.{HasRoom, IsPlan}
-use Rattle.liq_core.specs.Step.{Refused, Repeated, ruling}
+use Rattle.liq_rules.specs.Step.{Refused, Repeated, ruling}
 use Rattle.liq_store.specs.Memory.{TakesMemory}
 use Rattle.liq_store.specs.declared.preparing.Prepared.{Prepared}
 use Rattle.liq_store.specs.declared.preparing.Prepared.TheVariants.{Ready, Again, No, NoMemory}

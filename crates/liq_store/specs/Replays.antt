@@ -3,7 +3,7 @@ use Rattle.std.specs.Prelude.{◌≡◌, ℕ, List, Result, Ok, Err}
 use Rattle.liq_types.specs.declared.requests.Command.{Command}
 use Rattle.liq_types.specs.State.{State}
 use Rattle.liq_core.specs.Core.{Core, StandsFor}
-use Rattle.liq_core.specs.Step.{Allowed, ruling, after}
+use Rattle.liq_rules.specs.Step.{Allowed, ruling, after}
 use Rattle.liq_journal.specs.declared.damage.Damage.{Damage}
 use Rattle.liq_pairs.specs.Replay.{replay, replayed}
 use Rattle.liq_store.specs.declared.answers.AcceptedFault.{AcceptedFault}

@@ -5,7 +5,7 @@ ghost use Rattle.liq_types.specs.declared.replies.Reply.TheVariants.{Said};
 ghost use Rattle.liq_types.specs.declared.requests.Request.TheVariants.{Do};
 ghost use Rattle.liq_core.specs.Core.{SameContent, StandsFor, state_of};
 ghost use Rattle.liq_core.specs.Plan.{HasRoom, IsPlannedOn};
-ghost use Rattle.liq_core.specs.Step.{built, step};
+ghost use Rattle.liq_rules.specs.Step.{built, step};
 ghost use Rattle.liq_journal.specs.Written.{is_rotate};
 ghost use Rattle.liq_store.specs.Preparing.{IsPrepared, IsReady};
 

@@ -3,7 +3,7 @@ ghost use Rattle.std.specs.Prelude.{◌≡◌, ◌≤◌, ◌-◌, Some, List, �
 ghost use Rattle.std.specs.List.{All};
 ghost use Rattle.liq_types.specs.declared.requests.Command.{Command};
 ghost use Rattle.liq_types.specs.declared.requests.Request.TheVariants.{Do};
-ghost use Rattle.liq_core.specs.Step.{built};
+ghost use Rattle.liq_rules.specs.Step.{built};
 ghost use Rattle.liq_journal.specs.Bodies.{IsJournalOf};
 ghost use Rattle.liq_journal.specs.Looked.{Looked};
 ghost use Rattle.liq_journal.specs.Written.{Written};

@@ -7,7 +7,7 @@ ghost use Rattle.liq_types.specs.declared.requests.Command.{Command};
 ghost use Rattle.liq_types.specs.declared.requests.Request.TheVariants.{Do};
 ghost use Rattle.liq_types.specs.State.{State};
 ghost use Rattle.liq_core.specs.Core.{StandsFor};
-ghost use Rattle.liq_core.specs.Step.{built};
+ghost use Rattle.liq_rules.specs.Step.{built};
 ghost use Rattle.liq_journal.specs.declared.damage.Damage.{Damage};
 ghost use Rattle.liq_journal.specs.Causes.{Counted};
 ghost use Rattle.liq_journal.specs.Crash.{BeforeOrAfter};

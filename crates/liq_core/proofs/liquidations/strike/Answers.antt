@@ -5,12 +5,12 @@ use Rattle.liq_types.specs.declared.amounts.TheConstants.{ACCOUNTS}
 use Rattle.liq_types.specs.State.{State}
 use Rattle.liq_liquidation.specs.declared.one.Victim.{Victim}
 use Rattle.liq_liquidation.specs.Applied.{finished_in}
-use Rattle.liq_core.specs.Liquidation.{all_liquidated}
-use Rattle.liq_core.specs.SoundState.{IsSoundState}
+use Rattle.liq_rules.specs.Liquidation.{all_liquidated}
+use Rattle.liq_soundness.specs.SoundState.{IsSoundState}
 use Rattle.liq_core.specs.Victims.{AreKept, AreVictims}
-use Rattle.liq_core.proofs.SoundFacts.{Finds, finds_after}
-use Rattle.liq_core.proofs.SoundStep.{finds}
-use Rattle.liq_core.proofs.SoundTests.{sound_facts}
+use Rattle.liq_soundness.proofs.SoundFacts.{Finds, finds_after}
+use Rattle.liq_soundness.proofs.SoundStep.{finds}
+use Rattle.liq_soundness.proofs.SoundTests.{sound_facts}
 use Rattle.liq_core.proofs.Striking.{no_victim, all_at, walked, victim_there, one_more, room_few, places_fit, planned_kept, within_kept, listed_kept, kept_next}
 use Rattle.liq_core.proofs.liquidations.strike.Goals as goal
 

@@ -11,7 +11,7 @@ use Rattle.liq_troves.specs.Rows.{entire_by, pending, beside}
 use Rattle.liq_troves.proofs.Standing.{IsWithinBooks, IsEntire, entire_within, trove_within}
 use Rattle.liq_order.specs.Order.{order_by}
 use Rattle.liq_core.specs.Books.{kept_books}
-use Rattle.liq_core.proofs.Ranking.{listed, gone_list}
+use Rattle.liq_rules.proofs.Ranking.{listed, gone_list}
 use Rattle.liq_core.proofs.standing.lift_trove.Goals as goal
 
 -- what the trove is beside the books

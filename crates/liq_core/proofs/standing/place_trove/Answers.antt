@@ -7,7 +7,7 @@ use Rattle.liq_troves.proofs.Standing.{place_stands}
 use Rattle.liq_troves.specs.Rows.{set_row, key_by}
 use Rattle.liq_order.specs.Order.{order_by}
 use Rattle.liq_core.specs.Books.{kept_books}
-use Rattle.liq_core.proofs.Ranking.{unlisted, more_list}
+use Rattle.liq_rules.proofs.Ranking.{unlisted, more_list}
 use Rattle.liq_core.proofs.standing.place_trove.Goals as goal
 use mir.Syntax.{w128}
 use mir.Val.{SFits}

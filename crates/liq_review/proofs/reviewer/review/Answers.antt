@@ -4,7 +4,7 @@ use Rattle.liq_types.specs.declared.events.PoolEvent.{PoolEvent}
 use Rattle.liq_types.specs.PlainLedger.{offsets_coll}
 use Rattle.liq_types.specs.State.{opening}
 use Rattle.liq_shares.proofs.Auditing.{auditable}
-use Rattle.liq_core.specs.Events.{events}
+use Rattle.liq_rules.specs.Events.{events}
 use Rattle.liq_review.proofs.Gains.{all_pay}
 use Rattle.liq_review.proofs.Rows.{all_enclose, all_within}
 use Rattle.liq_review.proofs.Runs.{finished, gained_little, paid_little}

@@ -1,6 +1,6 @@
 use Rattle.std.proofs.Common.{◌<◌, ◌≤◌, ℕ, List, Ok, Err, length, ap, sym, subst, ◌∙◌, arith}
 use Rattle.std.specs.List.{flat_map}
-use Rattle.liq_core.specs.History as history
+use Rattle.liq_rules.specs.History as history
 use Rattle.liq_scripts.specs.Output.{heading, session_text}
 use Rattle.liq_scripts.specs.Sending.{Sends}
 use Rattle.liq_scripts.proofs.Own.{own_line, own-none, own-text, session_part}

@@ -1,6 +1,6 @@
 use Rattle.std.proofs.Common.{◌≡◌, ◌++◌, ◌∷◌, [], ℕ, List, Ok, Err, Option, Result, sym, subst, ◌∙◌, append_assoc, append-nil}
 use Rattle.std.specs.Prelude.{map, codes}
-use Rattle.liq_core.specs.History.{Entry}
+use Rattle.liq_rules.specs.History.{Entry}
 use Rattle.liq_outside.specs.declared.failed.Failed.{Failed}
 use Rattle.liq_scripts.specs.Output.{replies_text, history_text, served}
 use Rattle.liq_scripts.specs.Sending.{Sends}

@@ -1,4 +1,4 @@
-use Rattle.liq_core.specs.History.{requests_of}
+use Rattle.liq_rules.specs.History.{requests_of}
 use Rattle.liq_outside.specs.Faults.{Rose}
 use Rattle.liq_serve.specs.Serve.{end_of}
 use Rattle.liq_serve.proofs.Causes.{write_no_fewer}

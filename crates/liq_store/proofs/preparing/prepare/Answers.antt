@@ -1,6 +1,6 @@
 use Rattle.std.proofs.Common.{arith}
 use Rattle.liq_core.specs.Core.{state_of}
-use Rattle.liq_core.proofs.Allowed.{allowed_few, built-rotates}
+use Rattle.liq_rules.proofs.Allowed.{allowed_few, built-rotates}
 use Rattle.liq_store.proofs.Steps.{planned_allowed}
 use Rattle.liq_store.proofs.preparing.prepare.Goals as goal
 

@@ -3,7 +3,7 @@ use Rattle.std.proofs.lemmas.List.Elements.{All-push}
 use Rattle.std.specs.List.{All}
 use Rattle.liq_types.specs.declared.requests.Command.{Command}
 use Rattle.liq_types.specs.declared.requests.Request.TheVariants.{Do}
-use Rattle.liq_core.specs.Step.{built}
+use Rattle.liq_rules.specs.Step.{built}
 use Rattle.liq_journal.specs.Settled.{JournalOn}
 use Rattle.liq_journal.proofs.Looks.{looked_on}
 use Rattle.liq_store.proofs.Listing.{one_more}

@@ -2,7 +2,7 @@ use Rattle.std.proofs.Common.{◌≡◌, ◌≤◌, ℕ, List, length, take, Som
 use Rattle.std.specs.List.{All}
 use Rattle.liq_types.specs.declared.requests.Command.{Command}
 use Rattle.liq_types.specs.declared.requests.Request.TheVariants.{Do}
-use Rattle.liq_core.specs.Step.{built}
+use Rattle.liq_rules.specs.Step.{built}
 use Rattle.liq_journal.specs.Bodies.{IsJournalOf}
 use Rattle.liq_journal.specs.Looked.{Looked}
 use Rattle.liq_journal.specs.Written.{Written}

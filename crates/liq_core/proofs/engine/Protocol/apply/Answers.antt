@@ -8,11 +8,11 @@ use Rattle.liq_core.specs.Core.{Core, StandsFor, state_of}
 use Rattle.liq_core.specs.Plan.{Plan, IsPlannedOn, IsSoundPlan, HasRoom, plan_of}
 use Rattle.liq_core.specs.Sound.{IsKeptRow}
 use Rattle.liq_core.specs.Terms.{AreTerms, victims_in}
-use Rattle.liq_core.specs.Step.{after, built_call, rules, effect, noted, after_ruling, ruling}
-use Rattle.liq_core.proofs.Allowed.{allowed_number, allowed_rules, allowed_few, built-rotates}
+use Rattle.liq_rules.specs.Step.{after, built_call, rules, effect, noted, after_ruling, ruling}
+use Rattle.liq_rules.proofs.Allowed.{allowed_number, allowed_rules, allowed_few, built-rotates}
 use Rattle.liq_core.proofs.KeptReplies.{kept_reply}
 use Rattle.liq_core.proofs.Liquidating.{IsLiquidation, LiquidatesBy, liquidation_planned}
-use Rattle.liq_core.proofs.Ruled.{changed_stands, stepped_stands}
+use Rattle.liq_core.proofs.Stands.{changed_stands, stepped_stands}
 use Rattle.liq_core.proofs.SoundCores.{sound_stands}
 use Rattle.liq_core.proofs.engine.Protocol.apply.Goals as goal
 use Rattle.liq_core.proofs.engine.Protocol.apply.Goals.{in_default, in-Liquidate2}

@@ -12,7 +12,7 @@ use Rattle.liq_core.specs.declared.turns.Terms.{Terms}
 use Rattle.liq_core.specs.declared.turns.Terms.TheVariants as kind
 use Rattle.liq_core.specs.declared.turns.Terms.TheVariants.{Trove}
 use Rattle.liq_core.specs.Core.{Changes, state_of}
-use Rattle.liq_core.specs.Step.{rules}
+use Rattle.liq_rules.specs.Step.{rules}
 use Rattle.liq_core.specs.Terms.{AreTerms, IsTrove, IsRedeeming, HasRoomToClaim, HasClaimRoom}
 use Rattle.liq_core.proofs.engine.Protocol.change.Goals as goal
 

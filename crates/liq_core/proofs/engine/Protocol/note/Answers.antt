@@ -1,7 +1,7 @@
 use Rattle.std.proofs.Common.{subst, sym, ◌<◌}
 use Rattle.liq_types.specs.declared.amounts.TheConstants.{RECORDS_MOST}
 use Rattle.liq_core.specs.Core.{Core}
-use Rattle.liq_core.proofs.Allowed.{built-rotates}
+use Rattle.liq_rules.proofs.Allowed.{built-rotates}
 use Rattle.liq_core.proofs.Noting.{noted_keeps, noted_stands}
 use Rattle.liq_core.proofs.engine.Protocol.note.Goals as goal
 

@@ -7,13 +7,14 @@ use Rattle.liq_types.specs.Soundness.{IsSoundImage}
 use Rattle.liq_types.specs.State.{client_of}
 use Rattle.liq_types.specs.declared.replies.Refusal.TheVariants.{JournalFull}
 use Rattle.liq_core.specs.Core.{Core, state_of}
-use Rattle.liq_core.specs.Rules.{rules}
+use Rattle.liq_rules.specs.Rules.{rules}
 use Rattle.liq_core.specs.declared.turns.Forecast.{Forecast}
 use Rattle.liq_core.specs.declared.turns.PlanFault.{PlanFault}
 use Rattle.liq_core.specs.Turn.{Forecasts}
-use Rattle.liq_core.specs.Verbs.{accounts}
-use Rattle.liq_core.proofs.Allowed.{built-rotates}
-use Rattle.liq_core.proofs.Ruled.{accounts_within, allowed_call, planned_alike, refused_call, refused_room, room_full, room_left, standing_alike, standing_ruling, terms_fit}
+use Rattle.liq_rules.specs.Verbs.{accounts}
+use Rattle.liq_rules.proofs.Allowed.{built-rotates}
+use Rattle.liq_rules.proofs.Ruled.{accounts_within, allowed_call, refused_call, refused_room, room_full, room_left}
+use Rattle.liq_core.proofs.Stands.{planned_alike, standing_alike, standing_ruling, terms_fit}
 use Rattle.liq_core.proofs.engine.Protocol.plan.Goals as goal
 
 pub returns-in-Err-No : goal.returns-in-Err-No

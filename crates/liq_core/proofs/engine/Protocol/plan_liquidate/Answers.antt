@@ -2,9 +2,9 @@ use Rattle.std.proofs.Common.{◌<◌, [], ◌∷◌, refl, sym, ◌∙◌, subs
 use Rattle.liq_types.specs.declared.amounts.TheConstants.{ACCOUNTS}
 use Rattle.liq_liquidation.specs.declared.one.Victim.{Victim}
 use Rattle.liq_core.specs.Core.{Core, state_of}
-use Rattle.liq_core.specs.SoundState.{IsSoundState}
+use Rattle.liq_soundness.specs.SoundState.{IsSoundState}
 use Rattle.liq_core.proofs.Planning.{liquidate_ruled}
-use Rattle.liq_core.proofs.SoundStart.{started_with}
+use Rattle.liq_soundness.proofs.SoundStart.{started_with}
 use Rattle.liq_core.proofs.ToldVictims.{next_at, others_at, course_at, events_at, changes_at}
 use Rattle.liq_core.proofs.engine.Protocol.plan_liquidate.Goals as goal
 

@@ -7,14 +7,14 @@ use Rattle.liq_types.specs.Totals.{market_of}
 use Rattle.liq_redemption.specs.declared.cut.Cut.{Cut}
 use Rattle.liq_redemption.specs.Redemption.{RedeemTerms, visited, redeeming_terms}
 use Rattle.liq_core.specs.Core.{Core, state_of}
-use Rattle.liq_core.specs.Redemption.{cut_told}
-use Rattle.liq_core.specs.SoundState.{CutIsCovered}
-use Rattle.liq_core.specs.Step.{rules}
-use Rattle.liq_core.specs.Verbs.{no_hint}
+use Rattle.liq_rules.specs.Redemption.{cut_told}
+use Rattle.liq_soundness.specs.SoundState.{CutIsCovered}
+use Rattle.liq_rules.specs.Step.{rules}
+use Rattle.liq_rules.specs.Verbs.{no_hint}
 use Rattle.liq_core.proofs.Cutting.{redeem_told}
 use Rattle.liq_core.proofs.Reading.{allowed_so}
 use Rattle.liq_core.proofs.SoundCores.{core_finds}
-use Rattle.liq_core.proofs.SoundRedeem.{cuts_covered}
+use Rattle.liq_soundness.proofs.SoundRedeem.{cuts_covered}
 use Rattle.liq_core.proofs.engine.Protocol.plan_redeem.Goals as goal
 
 pub cut_changes-requires : goal.cut_changes-requires

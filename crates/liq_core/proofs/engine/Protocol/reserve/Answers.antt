@@ -8,7 +8,7 @@ use Rattle.liq_liquidation.specs.declared.one.Victim.{Victim}
 use Rattle.liq_core.specs.Core.{Core, Room}
 use Rattle.liq_core.specs.Plan.{Plan, HasRoom}
 use Rattle.liq_core.specs.Terms.{TermsFit, HasRoomToClose, HasRoomToClaim, HasClaimRoom, struck_by}
-use Rattle.liq_core.specs.Verbs.{pays, opens, provides}
+use Rattle.liq_rules.specs.Verbs.{pays, opens, provides}
 use Rattle.liq_core.proofs.Liquidating.{LiquidatesBy, liquidator_paid, all_struck}
 use Rattle.liq_core.proofs.engine.Protocol.reserve.Goals as goal
 

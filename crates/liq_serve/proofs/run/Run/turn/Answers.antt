@@ -1,6 +1,6 @@
 use Rattle.std.proofs.Common.{◌≡◌, ℕ, ◌+◌, ◌++◌, ◌∷◌, [], List, Option, Err, Bool, Result, ap, subst, sym, arith}
 use Rattle.liq_core.specs.Core.{Core}
-use Rattle.liq_core.specs.Step.{run}
+use Rattle.liq_rules.specs.Step.{run}
 use Rattle.liq_types.specs.State.{State}
 use Rattle.liq_types.specs.declared.requests.Request.{Request}
 use Rattle.liq_serve.specs.declared.halts.Halt.{Halt}

@@ -1,0 +1,21 @@
+use Rattle.std.proofs.Common.{arith}
+use Rattle.liq_types.specs.State.{opening}
+use Rattle.liq_types.specs.WellFormed.{IsWellFormed}
+use Rattle.liq_rules.proofs.AlikeReplies.{step_alike, run_alike, alike_itself}
+use Rattle.liq_rules.proofs.AlikeStep.{effect_alike}
+use Rattle.liq_rules.proofs.laws.states_are_well_formed.Goals as goal
+
+opening_formed : IsWellFormed opening
+opening_formed = (tt, tt, tt, (omega arith, omega arith))
+
+pub returns-clause-opening : goal.returns-clause-opening
+returns-clause-opening c = opening_formed
+
+pub returns-clause-step : goal.returns-clause-step
+returns-clause-step c s h request = (step_alike (alike_itself s h) request).left
+
+pub returns-clause-effect : goal.returns-clause-effect
+returns-clause-effect c s h call = (effect_alike (alike_itself s h) call).left
+
+pub returns-clause-run : goal.returns-clause-run
+returns-clause-run c s h requests = (run_alike requests (alike_itself s h)).left

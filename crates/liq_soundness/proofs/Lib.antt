@@ -1,0 +1,13 @@
+pub mod SoundBorrow
+pub mod SoundBounds
+pub mod SoundCalls
+pub mod SoundEvents
+pub mod SoundFacts
+pub mod SoundLiquidate
+pub mod SoundPool
+pub mod SoundProducts
+pub mod SoundPromises
+pub mod SoundRedeem
+pub mod SoundStart
+pub mod SoundStep
+pub mod SoundTests

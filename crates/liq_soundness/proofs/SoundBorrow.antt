@@ -1,0 +1,423 @@
+-- The verbs of a trove's owner leave what stands.
+use Rattle.std.proofs.Common.{◌≡◌, ℕ, zero, suc, ◌+◌, ◌-◌, ◌*◌, ◌≤◌, ◌<◌, Bool, true, false, cond, refl, ap, sym, ◌∙◌, subst, arith, length, nat_lt, Some, None, Option}
+use Rattle.std.specs.Prelude.{◌&&◌, ◌||◌, is_none, is_some, not, option_map}
+use Rattle.std.proofs.Math.Nat.{mul-le-mul_left, div-le_of_le-mul}
+use Rattle.std.proofs.lemmas.Bool.Decides.{nat_tests}
+use Rattle.liq_num.specs.Power.{power_of}
+use Rattle.liq_num.proofs.Digits.{power_of-le}
+use Rattle.liq_types.specs.declared.amounts.TheConstants.{ACCOUNTS, LIM, ONE, RESERVE, MIN_NET, DECAY, MCR, CCR}
+use Rattle.liq_types.specs.declared.figures.Market.{Market}
+use Rattle.liq_types.specs.declared.figures.Trove.{Trove}
+use Rattle.liq_types.specs.declared.hints.HintWords.{HintWords}
+use Rattle.liq_types.specs.declared.requests.Call.TheVariants.{Open}
+use Rattle.liq_types.specs.Payments.{credited, charged}
+use Rattle.liq_types.specs.Rules.{first_refusal}
+use Rattle.liq_types.specs.State.{State, TroveEntry, After, wallet_of}
+use Rattle.liq_types.specs.Tables.{at, without}
+use Rattle.liq_types.specs.Totals.{market_of, or_nothing, is_recovery, is_normal, worth, asked}
+use Rattle.liq_types.specs.WellFormed.{Ascends}
+use Rattle.liq_types.proofs.Ascending.{wallet-ascends}
+use Rattle.liq_types.proofs.Lookups.{at-without_same}
+use Rattle.liq_types.proofs.MapRows.{at-map, all-put, all-without}
+use Rattle.liq_rate.specs.Rate.{decayed, rate_left}
+use Rattle.liq_rate.specs.declared.rate.Rate.{Rate}
+use Rattle.liq_troves.specs.Own.{lifted_entry, lifted, placed, set_trove, stake_for}
+use Rattle.liq_troves.specs.Rows.{entire_by}
+use Rattle.liq_troves.specs.Standing.{books_of}
+use Rattle.liq_troves.specs.StakeSums.{trove_row, trove_rows, sums_words, entire_of, pending_coll, pending_debt}
+use Rattle.liq_troves.proofs.Standing.{IsWithinBooks, trove_within}
+use Rattle.liq_stability.specs.Own.{owned}
+use Rattle.liq_stability.specs.Position.{gain_of}
+use Rattle.liq_stability.proofs.Pool.{owned-total, owned-coll}
+use Rattle.liq_borrow.specs.declared.change.Change.{Change}
+use Rattle.liq_borrow.specs.declared.change.Plan.{Plan}
+use Rattle.liq_borrow.specs.Borrowing.{rate_borrowed, least_ratio, opening_terms, open_rules, adjusting_terms, adjust_rules, closing_terms, close_rules}
+use Rattle.liq_rules.specs.Borrowing.{with_fee, opened, adjusted, closed}
+use Rattle.liq_soundness.specs.SoundState.{IsSetSince, ChangeIsCovered}
+use Rattle.liq_rules.specs.Rules.{rules, effect}
+use Rattle.liq_rules.proofs.AlikeChanges.{balance_within, gain_within}
+use Rattle.liq_rules.proofs.Moving.{paid_coll, paid_lusd, charged_coll, charged_lusd}
+use Rattle.liq_rules.proofs.Opening.{opening_conserves}
+use Rattle.liq_soundness.proofs.SoundCalls.{pool_and_wallet}
+use Rattle.liq_soundness.proofs.SoundFacts.{conserved_by, Finds, Stands, InRange, Rest, Leaves, homes_of, in_order, trove_table, all_false, lt_false, paid_stands, charged_stands, lifted_stands, placed_stands, owned_keeps, fees_stand, reserve_stands, length_without, length_put}
+
+-- ---- the base rate
+
+pub decayed_within : (base fee_minute minute : ℕ) → decayed base fee_minute minute ≤ base
+decayed_within base fee_minute minute =
+    let part : base * power_of DECAY (minute - fee_minute) ≤ base * ONE = mul-le-mul_left base (power_of-le DECAY (minute - fee_minute) (omega arith)) in
+    div-le_of_le-mul ONE (omega (arith, part))
+
+pub record RateInRange (s : State) (r : Rate) : Type 0 where
+  pub base : r.base ≤ ONE
+  pub minute : r.minute ≤ s.minute
+
+pub borrowed_in_range : (s : State) → InRange s → (borrow : ℕ) → RateInRange s (rate_borrowed (market_of s) borrow)
+borrowed_in_range s h borrow = by (is_normal (market_of s) && nat_lt 0 borrow) where
+  by : (b : Bool) → RateInRange s (cond b (record { base = rate_left (market_of s); minute = s.minute }) (record { base = s.base; minute = s.fee_minute }))
+  by true = let less = decayed_within s.base s.fee_minute s.minute in record { base = omega (arith, less, h.base); minute = omega arith }
+  by false = record { base = h.base; minute = h.fee_minute }
+
+pub ranges_with : (s t : State) → InRange s → (r : Rate) → RateInRange s r → t.price ≡ s.price → t.minute ≡ s.minute → t.fee_minute ≡ r.minute → t.base ≡ r.base → t.generation ≡ s.generation → InRange t
+ranges_with s t h r k price minute fee_minute base generation =
+    record {
+      price_least = omega (arith, price, h.price_least);
+      price_most = omega (arith, price, h.price_most);
+      minute = omega (arith, minute, h.minute);
+      fee_minute = omega (arith, minute, fee_minute, k.minute);
+      base = omega (arith, base, k.base);
+      first_generation = omega (arith, generation, h.first_generation);
+      last_generation = omega (arith, generation, h.last_generation);
+    }
+
+-- ---- a trove that is there
+
+-- the entry of an account whose entire amounts are told
+pub record HasTrove (s : State) (account coll debt : ℕ) : Type 0 where
+  pub entry : TroveEntry
+  pub there : at s.troves account ≡ Some entry
+  pub coll_is : coll ≡ entry.coll + pending_coll s entry
+  pub debt_is : debt ≡ entry.debt + pending_debt s entry
+  pub within : IsWithinBooks (books_of s) (trove_row s entry)
+  pub some : 1 ≤ coll
+  pub least : RESERVE + MIN_NET ≤ debt
+
+has_by : (s : State) (account : ℕ) (own : ℕ × ℕ) → Stands LIM s → (o : Option TroveEntry) → at s.troves account ≡ o → option_map (entire_by (sums_words s)) (option_map (trove_row s) o) ≡ Some own → HasTrove s account own.0 own.1
+has_by s account own h None e k = cc
+has_by s account own h (Some t) e k =
+    let same : entire_by (sums_words s) (trove_row s t) ≡ own = the k in
+    let row : at (trove_rows s) account ≡ Some (trove_row s t) = at-map (trove_row s) s.troves account ∙ ap (λ (o : Option TroveEntry). option_map (trove_row s) o) e in
+    let w = trove_within (books_of s) account (trove_row s t) row h.troves in
+    let coll : own.0 ≡ t.coll + pending_coll s t = sym (ap (λ (p : ℕ × ℕ). p.0) same) in
+    let debt : own.1 ≡ t.debt + pending_debt s t = sym (ap (λ (p : ℕ × ℕ). p.1) same) in
+    record { entry = t; there = e; coll_is = coll; debt_is = debt; within = w; some = omega (arith, coll, w.stands.some, w.stands.within); least = omega (arith, debt, w.stands.debt) }
+  where
+    the : (Some (entire_by (sums_words s) (trove_row s t))) ≡ Some own → entire_by (sums_words s) (trove_row s t) ≡ own
+    the q = cc
+
+pub has_trove : (s : State) (account : ℕ) (own : ℕ × ℕ) → Stands LIM s → entire_of s account ≡ Some own → HasTrove s account own.0 own.1
+has_trove s account own h e =
+    has_by s account own h (at s.troves account) refl
+    (ap (λ (o : Option Trove). option_map (entire_by (sums_words s)) o) (sym (at-map (trove_row s) s.troves account)) ∙ e)
+
+-- the entire amounts, where the account has a trove
+pub told : (o : Option (ℕ × ℕ)) → is_none o ≡ false → o ≡ Some (or_nothing o)
+told None h = cc
+told (Some own) h = refl
+
+-- no row is left where a trove was lifted
+pub lifted_none : (s : State) (account : ℕ) (o : Option TroveEntry) → at s.troves account ≡ o → Ascends s.troves → at (lifted_entry s account o).troves account ≡ None
+lifted_none s account None e a = e
+lifted_none s account (Some t) e a = at-without_same s.troves account a
+
+pub set_stands : (s : State) (account coll debt : ℕ) → account < ACCOUNTS → 1 ≤ coll → RESERVE + MIN_NET ≤ debt → Stands LIM s → Stands LIM (set_trove s account coll debt)
+set_stands s account coll debt k some enough h =
+    placed_stands (lifted s account) account coll debt k (lifted_none s account (at s.troves account) refl (trove_table s h.troves.ascend)) some enough (lifted_stands s account h)
+
+-- ---- open
+
+ratio_some : (coll price percent debt : ℕ) → nat_lt (worth coll price) (asked percent debt) ≡ false → 1 ≤ percent * debt → 1 ≤ coll
+ratio_some zero price percent debt h some =
+    let low = lt_false (worth 0 price) (asked percent debt) h in
+    let none : 0 * price * 100 ≡ 0 = omega arith in
+    absurd (omega (arith, low, none, some))
+ratio_some (suc n) price percent debt h some = omega arith
+
+some_percent : (m : Market) (debt : ℕ) → 1 ≤ debt → 1 ≤ least_ratio m * debt
+some_percent m debt h = by (is_recovery m) where
+  by : (b : Bool) → 1 ≤ cond b CCR MCR * debt
+  by true = omega (arith, h)
+  by false = omega (arith, h)
+
+-- what an allowed opening is
+pub record OpenAllows (s : State) (account coll borrow : ℕ) : Type 0 where
+  pub absent : at s.troves account ≡ None
+  pub enough : coll ≤ (wallet_of s account).coll
+  pub limit : s.active_debt + s.default_debt + (opening_terms (market_of s) coll borrow).debt ≤ LIM
+  pub some : 1 ≤ coll
+  pub least : RESERVE + MIN_NET ≤ (opening_terms (market_of s) coll borrow).debt
+
+pub open_allows : (s : State) (account coll borrow bound : ℕ) → first_refusal (open_rules (market_of s) (wallet_of s account) (is_some (at s.troves account)) account coll borrow bound) ≡ None → OpenAllows s account coll borrow
+open_allows s account coll borrow bound h =
+    let m = market_of s in
+    let plan = opening_terms m coll borrow in
+    let rules = all_false (open_rules m (wallet_of s account) (is_some (at s.troves account)) account coll borrow bound) h in
+    let net = lt_false (borrow + plan.fee) MIN_NET rules.1.1.1.0 in
+    record {
+      absent = absent (at s.troves account) rules.0;
+      enough = lt_false (wallet_of s account).coll coll rules.1.1.1.1.1.0;
+      limit = lt_false LIM (m.total_debt + plan.debt) rules.1.1.1.1.0;
+      some = ratio_some coll s.price (least_ratio m) plan.debt rules.1.1.1.1.1.1.0 (some_percent m plan.debt (omega (arith, net)));
+      least = omega (arith, net);
+    }
+  where
+    absent : (o : Option TroveEntry) → is_some o ≡ false → o ≡ None
+    absent None e = refl
+    absent (Some t) e = cc
+
+pub open_leaves : (s : State) → Finds s → (account coll borrow bound : ℕ) (hint : HintWords) → account < ACCOUNTS → first_refusal (rules s (Open account coll borrow bound hint)) ≡ None → Leaves 0 s (effect s (Open account coll borrow bound hint))
+open_leaves s f account coll borrow bound hint k h =
+    let m = market_of s in
+    let plan = opening_terms m coll borrow in
+    let a = open_allows s account coll borrow bound h in
+    let feed = with_fee s plan in
+    let lent = credited (charged feed account coll 0) account 0 borrow in
+    let fed : Stands LIM feed = fees_stand s plan.rate.base plan.rate.minute s.fee_coll (s.fee_lusd + plan.fee) f.stands in
+    let moved : Stands LIM lent = paid_stands (charged feed account coll 0) account k (charged_stands feed account k fed coll 0) 0 borrow in
+    let conserved = opening_conserves s account coll borrow bound (in_order s f.stands) h (conserved_by s f.stands f.balanced.homes) in
+    record {
+      stands = placed_stands (record lent { reserve = lent.reserve + RESERVE }) account coll plan.debt k a.absent a.some a.least (reserve_stands lent (lent.reserve + RESERVE) moved);
+      rest = record {
+        homes = homes_of _ conserved;
+        coll_limit = f.balanced.coll_limit;
+        debt_limit = omega (arith, a.limit);
+        ranges = ranges_with s (opened s account borrow plan) f.ranges plan.rate (borrowed_in_range s f.ranges borrow) refl refl refl refl refl;
+        scale = omega arith;
+        epoch = omega arith;
+        generation = refl;
+        records = refl;
+        clients = refl;
+        snap = λ n. n;
+        marks = λ h. all-put (λ (x : TroveEntry). IsSetSince x.mark) s.troves account (record { coll = coll; debt = plan.debt; stake = stake_for (record lent { reserve = lent.reserve + RESERVE }) coll; mark = After (length s.redistributions) }) tt h;
+      };
+    }
+
+-- ---- adjust
+
+-- what an allowed change is
+pub record Allows (s : State) (account coll debt : ℕ) (change : Change) (plan : Plan) : Type 0 where
+  pub coll_in : change.coll_in ≤ (wallet_of s account).coll
+  pub coll_out : change.coll_out ≤ coll
+  pub repay : change.repay ≤ (wallet_of s account).lusd
+  pub repays_part : change.repay ≤ debt
+  pub limit : s.active_debt + s.default_debt + change.borrow + plan.fee ≤ LIM
+  pub coll_is : plan.coll ≡ coll + change.coll_in - change.coll_out
+  pub debt_is : plan.debt ≡ debt + change.borrow + plan.fee - change.repay
+  pub some : 1 ≤ plan.coll
+  pub least : RESERVE + MIN_NET ≤ plan.debt
+
+module _ (s : State) (f : Finds s) (account coll debt : ℕ) (change : Change) (bound : ℕ) (there : entire_of s account ≡ Some (coll, debt)) (h : first_refusal (adjust_rules (market_of s) (wallet_of s account) (entire_of s account) account change bound) ≡ None) where
+  pub adjust_allows : Allows s account coll debt change (adjusting_terms (market_of s) (coll, debt) change)
+  adjust_allows =
+      let m = market_of s in
+      let plan = adjusting_terms m (coll, debt) change in
+      let has = has_trove s account (coll, debt) f.stands there in
+      let rules = all_false (adjust_rules m (wallet_of s account) (Some (coll, debt)) account change bound)
+      (subst (λ (o : Option (ℕ × ℕ)). first_refusal (adjust_rules m (wallet_of s account) o account change bound) ≡ None) there h) in
+      let forbids = rules.1.1.1.1.1.0 in
+      let ci = lt_false (wallet_of s account).coll change.coll_in rules.1.1.1.1.1.1.1.0 in
+      let co = lt_false coll change.coll_out rules.1.1.1.1.1.1.1.1.0 in
+      let repay = lt_false (wallet_of s account).lusd change.repay rules.1.1.1.1.1.1.1.1.1.0 in
+      let net = rules.1.1.1.1.1.1.1.1.1.1.0 in
+      let limit = lt_false LIM (m.total_debt + change.borrow + plan.fee) rules.1.1.1.1.1.1.1.1.1.1.1.0 in
+      let ratio = rules.1.1.1.1.1.1.1.1.1.1.1.1.0 in
+      let kept = keeps_net (nat_lt 0 change.repay) refl net has.least in
+      let least : RESERVE + MIN_NET ≤ plan.debt = omega (arith, kept) in
+      record {
+        coll_in = ci;
+        coll_out = co;
+        repay = repay;
+        repays_part = omega (arith, kept);
+        limit = limit;
+        coll_is = refl;
+        debt_is = refl;
+        some = keeps_some (is_recovery m) (nat_lt 0 change.borrow) refl refl forbids ratio co has.some (omega (arith, least));
+        least = least;
+      }
+    where
+      keeps_net : (b : Bool) → nat_lt 0 change.repay ≡ b → (b && nat_lt (debt - RESERVE - change.repay) MIN_NET) ≡ false → RESERVE + MIN_NET ≤ debt → RESERVE + MIN_NET + change.repay ≤ debt
+      keeps_net true e refused least =
+          let enough = lt_false (debt - RESERVE - change.repay) MIN_NET refused in
+          omega (arith, enough)
+      keeps_net false e refused least = let none = lt_false 0 change.repay e in omega (arith, none, least)
+
+      keeps_some : (r b : Bool) → is_recovery (market_of s) ≡ r → nat_lt 0 change.borrow ≡ b → (nat_lt 0 change.coll_out && r) ≡ false → ((not r || b) && nat_lt (worth (coll + change.coll_in - change.coll_out) s.price) (asked (least_ratio (market_of s)) (adjusting_terms (market_of s) (coll, debt) change).debt)) ≡ false → change.coll_out ≤ coll → 1 ≤ coll → 1 ≤ (adjusting_terms (market_of s) (coll, debt) change).debt → 1 ≤ coll + change.coll_in - change.coll_out
+      keeps_some true true e g refused low out some debt_some = ratio_some (coll + change.coll_in - change.coll_out) s.price (least_ratio (market_of s)) _ low (some_percent (market_of s) _ debt_some)
+      keeps_some false b e g refused low out some debt_some = ratio_some (coll + change.coll_in - change.coll_out) s.price (least_ratio (market_of s)) _ low (some_percent (market_of s) _ debt_some)
+      keeps_some true false e g refused low out some debt_some = let none : change.coll_out ≡ 0 = grind (arith, nat_tests, refused) in omega (arith, none, some)
+
+  adjust_stands : account < ACCOUNTS → Stands LIM (adjusted s account change (adjusting_terms (market_of s) (coll, debt) change))
+  adjust_stands k =
+      let plan = adjusting_terms (market_of s) (coll, debt) change in
+      let a = adjust_allows in
+      let feed = with_fee s plan in
+      let fed : Stands LIM feed = fees_stand s plan.rate.base plan.rate.minute s.fee_coll (s.fee_lusd + plan.fee) f.stands in
+      let moved = paid_stands (charged feed account change.coll_in change.repay) account k (charged_stands feed account k fed change.coll_in change.repay) change.coll_out change.borrow in
+      set_stands (credited (charged feed account change.coll_in change.repay) account change.coll_out change.borrow) account plan.coll plan.debt k a.some a.least moved
+
+  adjust_rest : Rest 0 s (adjusted s account change (adjusting_terms (market_of s) (coll, debt) change))
+  adjust_rest =
+      let plan = adjusting_terms (market_of s) (coll, debt) change in
+      let a = adjust_allows in
+      let has = has_trove s account (coll, debt) f.stands there in
+      let e = has.entry in
+      let w = has.within in
+      let c = f.balanced.homes in
+      let feed = with_fee s plan in
+      let mid = charged feed account change.coll_in change.repay in
+      let moved = credited mid account change.coll_out change.borrow in
+      let ordered = wallet-ascends s.wallets account (record { coll = (wallet_of s account).coll - change.coll_in; lusd = (wallet_of s account).lusd - change.repay }) f.stands.wallets.ascend in
+      let c1 = charged_coll feed account change.coll_in change.repay f.stands.wallets.ascend a.coll_in in
+      let l1 = charged_lusd feed account change.coll_in change.repay f.stands.wallets.ascend a.repay in
+      let c2 = paid_coll mid account change.coll_out change.borrow ordered in
+      let l2 = paid_lusd mid account change.coll_out change.borrow ordered in
+      let gone = length_without s.troves account e has.there in
+      let back = length_put (without s.troves account) account (record { coll = plan.coll; debt = plan.debt; stake = stake_for moved plan.coll; mark = After (length s.redistributions) }) (at-without_same s.troves account (trove_table s f.stands.troves.ascend)) in
+      subst (λ (o : Option TroveEntry). Rest 0 s (placed (lifted_entry moved account o) account plan.coll plan.debt)) (sym has.there)
+      (record {
+        homes = record {
+          coll = omega (arith, c1, c2, c.coll, a.coll_out, has.coll_is, w.coll, w.pending_coll);
+          lusd = omega (arith, l1, l2, c.lusd, a.repays_part, has.debt_is, w.debt, w.pending_debt);
+          reserve = omega (arith, gone, back, c.reserve);
+          surplus = c.surplus;
+        };
+        coll_limit = f.balanced.coll_limit;
+        debt_limit = omega (arith, a.limit, has.debt_is, w.debt, w.pending_debt);
+        ranges = ranges_with s (placed (lifted_entry moved account (Some e)) account plan.coll plan.debt) f.ranges plan.rate (borrowed_in_range s f.ranges change.borrow) refl refl refl refl refl;
+        scale = omega arith;
+        epoch = omega arith;
+        generation = refl;
+        records = refl;
+        clients = refl;
+        snap = λ n. n;
+        marks = λ n. all-put (λ (x : TroveEntry). IsSetSince x.mark) (without s.troves account) account (record { coll = plan.coll; debt = plan.debt; stake = stake_for moved plan.coll; mark = After (length s.redistributions) }) tt (all-without (λ (x : TroveEntry). IsSetSince x.mark) s.troves account n);
+      })
+
+-- the same, of the account's entire amounts
+pub adjust_allows_own : (s : State) → Finds s → (account bound : ℕ) (change : Change) → first_refusal (adjust_rules (market_of s) (wallet_of s account) (entire_of s account) account change bound) ≡ None → Allows s account (or_nothing (entire_of s account)).0 (or_nothing (entire_of s account)).1 change (adjusting_terms (market_of s) (or_nothing (entire_of s account)) change)
+adjust_allows_own s f account bound change h =
+    let own = or_nothing (entire_of s account) in
+    let first = (all_false (adjust_rules (market_of s) (wallet_of s account) (entire_of s account) account change bound) h).0 in
+    adjust_allows s f account own.0 own.1 change bound (told (entire_of s account) first) h
+
+pub adjust_leaves : (s : State) → Finds s → (account bound : ℕ) (change : Change) → account < ACCOUNTS → first_refusal (adjust_rules (market_of s) (wallet_of s account) (entire_of s account) account change bound) ≡ None → Leaves 0 s (adjusted s account change (adjusting_terms (market_of s) (or_nothing (entire_of s account)) change))
+adjust_leaves s f account bound change k h =
+    let own = or_nothing (entire_of s account) in
+    let first = (all_false (adjust_rules (market_of s) (wallet_of s account) (entire_of s account) account change bound) h).0 in
+    let there = told (entire_of s account) first in
+    record {
+      stands = adjust_stands s f account own.0 own.1 change bound there h k;
+      rest = adjust_rest s f account own.0 own.1 change bound there h;
+    }
+
+-- ---- close
+
+module _ (s : State) (f : Finds s) (account coll debt : ℕ) (there : entire_of s account ≡ Some (coll, debt)) (enough : debt - RESERVE ≤ (wallet_of s account).lusd) where
+  close_stands : account < ACCOUNTS → Stands LIM (closed s account (debt - RESERVE) coll)
+  close_stands k =
+      let repaid = debt - RESERVE in
+      let settled = credited (charged s account 0 repaid) account coll 0 in
+      let moved = paid_stands (charged s account 0 repaid) account k (charged_stands s account k f.stands 0 repaid) coll 0 in
+      lifted_stands (record settled { reserve = settled.reserve - RESERVE }) account (reserve_stands settled (settled.reserve - RESERVE) moved)
+
+  close_rest : Rest 0 s (closed s account (debt - RESERVE) coll)
+  close_rest =
+      let repaid = debt - RESERVE in
+      let has = has_trove s account (coll, debt) f.stands there in
+      let e = has.entry in
+      let w = has.within in
+      let c = f.balanced.homes in
+      let r = f.ranges in
+      let limit = f.balanced.debt_limit in
+      let mid = charged s account 0 repaid in
+      let settled = credited mid account coll 0 in
+      let burned = record settled { reserve = settled.reserve - RESERVE } in
+      let ordered = wallet-ascends s.wallets account (record { coll = (wallet_of s account).coll - 0; lusd = (wallet_of s account).lusd - repaid }) f.stands.wallets.ascend in
+      let c1 = charged_coll s account 0 repaid f.stands.wallets.ascend (omega arith) in
+      let l1 = charged_lusd s account 0 repaid f.stands.wallets.ascend enough in
+      let c2 = paid_coll mid account coll 0 ordered in
+      let l2 = paid_lusd mid account coll 0 ordered in
+      let gone = length_without s.troves account e has.there in
+      subst (λ (o : Option TroveEntry). Rest 0 s (lifted_entry burned account o)) (sym has.there)
+      (record {
+        homes = record {
+          coll = omega (arith, c1, c2, c.coll, has.coll_is, w.coll, w.pending_coll);
+          lusd = omega (arith, l1, l2, c.lusd, has.debt_is, has.least, w.debt, w.pending_debt, c.reserve, gone);
+          reserve = omega (arith, gone, c.reserve);
+          surplus = c.surplus;
+        };
+        coll_limit = f.balanced.coll_limit;
+        debt_limit = omega (arith, limit);
+        ranges = record { price_least = r.price_least; price_most = r.price_most; minute = r.minute; fee_minute = r.fee_minute; base = r.base; first_generation = r.first_generation; last_generation = r.last_generation };
+        scale = omega arith;
+        epoch = omega arith;
+        generation = refl;
+        records = refl;
+        clients = refl;
+        snap = λ n. n;
+        marks = λ n. all-without (λ (x : TroveEntry). IsSetSince x.mark) s.troves account n;
+      })
+
+pub close_leaves : (s : State) → Finds s → (account : ℕ) → account < ACCOUNTS → first_refusal (close_rules (market_of s) (wallet_of s account) (entire_of s account) account) ≡ None → Leaves 0 s (closed s account (closing_terms (or_nothing (entire_of s account))).0 (closing_terms (or_nothing (entire_of s account))).1)
+close_leaves s f account k h =
+    let own = or_nothing (entire_of s account) in
+    let rules = all_false (close_rules (market_of s) (wallet_of s account) (entire_of s account) account) h in
+    let there = told (entire_of s account) rules.0 in
+    let enough = lt_false (wallet_of s account).lusd (own.1 - RESERVE) rules.1.1.1.0 in
+    record { stands = close_stands s f account own.0 own.1 there enough k; rest = close_rest s f account own.0 own.1 there enough }
+
+-- ---- a gain that moves into the trove
+
+module _ (s : State) (f : Finds s) (account coll debt : ℕ) (there : entire_of s account ≡ Some (coll, debt)) where
+  gain_stands : account < ACCOUNTS → Stands LIM (set_trove (owned s account 0 0) account (coll + gain_of s account) debt)
+  gain_stands k =
+      let has = has_trove s account (coll, debt) f.stands there in
+      let fits = pool_and_wallet s f account 0 (omega arith) in
+      let balance = balance_within s (at s.deposits account) in
+      let own = owned_keeps s account 0 0 k (omega arith) (omega (arith, fits, balance)) f.stands in
+      set_stands (owned s account 0 0) account (coll + gain_of s account) debt k (omega (arith, has.some)) has.least own
+
+  gain_rest : Rest 0 s (set_trove (owned s account 0 0) account (coll + gain_of s account) debt)
+  gain_rest =
+      let has = has_trove s account (coll, debt) f.stands there in
+      let e = has.entry in
+      let w = has.within in
+      let c = f.balanced.homes in
+      let r = f.ranges in
+      let limit = f.balanced.debt_limit in
+      let pooled = owned s account 0 0 in
+      let gain = gain_of s account in
+      let total = owned-total s f.stands.formed.3 account 0 0 in
+      let left = owned-coll s account 0 0 in
+      let within = gain_within s (at s.deposits account) in
+      let gone = length_without s.troves account e has.there in
+      let back = length_put (without s.troves account) account (record { coll = coll + gain; debt = debt; stake = stake_for pooled (coll + gain); mark = After (length s.redistributions) }) (at-without_same s.troves account (trove_table s f.stands.troves.ascend)) in
+      subst (λ (o : Option TroveEntry). Rest 0 s (placed (lifted_entry pooled account o) account (coll + gain) debt)) (sym has.there)
+      (record {
+        homes = record {
+          coll = omega (arith, c.coll, left, within, has.coll_is, w.coll, w.pending_coll);
+          lusd = omega (arith, c.lusd, total, has.debt_is, w.debt, w.pending_debt);
+          reserve = omega (arith, gone, back, c.reserve);
+          surplus = c.surplus;
+        };
+        coll_limit = f.balanced.coll_limit;
+        debt_limit = omega (arith, limit, has.debt_is, w.debt, w.pending_debt);
+        ranges = record { price_least = r.price_least; price_most = r.price_most; minute = r.minute; fee_minute = r.fee_minute; base = r.base; first_generation = r.first_generation; last_generation = r.last_generation };
+        scale = omega arith;
+        epoch = omega arith;
+        generation = refl;
+        records = refl;
+        clients = refl;
+        snap = λ n. n;
+        marks = λ n. all-put (λ (x : TroveEntry). IsSetSince x.mark) (without s.troves account) account (record { coll = coll + gain; debt = debt; stake = stake_for pooled (coll + gain); mark = After (length s.redistributions) }) tt (all-without (λ (x : TroveEntry). IsSetSince x.mark) s.troves account n);
+      })
+
+pub gain_leaves : (s : State) → Finds s → (account : ℕ) → account < ACCOUNTS → is_none (entire_of s account) ≡ false → Leaves 0 s (set_trove (owned s account 0 0) account ((or_nothing (entire_of s account)).0 + gain_of s account) (or_nothing (entire_of s account)).1)
+gain_leaves s f account k h =
+    let own = or_nothing (entire_of s account) in
+    let there = told (entire_of s account) h in
+    record { stands = gain_stands s f account own.0 own.1 there k; rest = gain_rest s f account own.0 own.1 there }
+
+-- ---- what is changed
+
+pub change_covered : (s : State) → Finds s → (account bound : ℕ) (change : Change) (own : ℕ × ℕ) → entire_of s account ≡ Some own → first_refusal (adjust_rules (market_of s) (wallet_of s account) (entire_of s account) account change bound) ≡ None → ChangeIsCovered own change (adjusting_terms (market_of s) own change)
+change_covered s f account bound change own there h =
+    let a = adjust_allows s f account own.0 own.1 change bound there h in
+    record {
+      coll_out = a.coll_out;
+      repay = a.repays_part;
+      coll = omega (arith, a.coll_is, a.coll_out);
+      debt = omega (arith, a.debt_is, a.repays_part);
+      some = a.some;
+      least = a.least;
+    }

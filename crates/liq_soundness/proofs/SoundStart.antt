@@ -1,0 +1,47 @@
+-- The opening is sound, and so is a state that begins with a sound image.
+use Rattle.std.proofs.Common.{ℕ, List, [], ◌∷◌, refl, subst, sym}
+use Rattle.std.specs.List.{AllByRecursion}
+use Rattle.liq_types.specs.Image.{Image, Place, opening_image}
+use Rattle.liq_types.specs.Soundness.{IsSoundImage}
+use Rattle.liq_types.specs.State.{opening, started}
+use Rattle.liq_types.specs.WellFormed.{AreFinished, IsBefore}
+use Rattle.std.proofs.lemmas.Map.Made.{keys_of-map_values}
+use Rattle.std.specs.List.Sorted.{IsStrictlySortedBy}
+use Rattle.std.specs.Ordering.{nat_cmp}
+use Rattle.liq_soundness.specs.SoundState.{IsSoundState}
+use Rattle.liq_soundness.proofs.SoundPool.{FinishedStands}
+use Rattle.liq_soundness.proofs.SoundTests.{finished_rows, stakes_added}
+use Rattle.liq_rules.proofs.Started.{started_formed, started_image}
+use Rattle.liq_types.specs.State.{started_trove, started_deposit}
+
+before_rows : (now : Place) (table : List (Place × ℕ)) → AllByRecursion (FinishedStands now) table → AllByRecursion (λ (row : Place × ℕ). IsBefore row.0 now) table
+before_rows now [] h = tt
+before_rows now (e ∷ es) h = (h.0.before, before_rows now es h.1)
+
+finished_before : (i : Image) (records : ℕ) → IsSoundImage i records → AreFinished i
+finished_before i records h = before_rows (i.epoch, i.scale) i.finished (finished_rows i records h)
+
+pub started_with : (i : Image) (records : ℕ) → IsSoundImage i records → IsSoundState (record (started i) { records = records })
+started_with i records h =
+    record {
+      formed = started_formed i (finished_before i records h);
+      ordered = (
+        h.tables.wallets,
+        subst (λ (keys : List ℕ). IsStrictlySortedBy nat_cmp keys) (sym (keys_of-map_values started_trove i.troves)) h.tables.troves,
+        h.tables.surplus,
+        subst (λ (keys : List ℕ). IsStrictlySortedBy nat_cmp keys) (sym (keys_of-map_values started_deposit i.deposits)) h.tables.deposits,
+        h.tables.clients,
+      );
+      sound = subst (λ (j : Image). IsSoundImage j records) (sym (started_image i (stakes_added i records h))) h;
+      spread = tt;
+    }
+
+pub started_sound : (i : Image) → IsSoundImage i 0 → IsSoundState (started i)
+started_sound i h = started_with i 0 h
+
+pub opening_sound : IsSoundState opening
+unfolding IsStrictlySortedBy
+opening_sound = started_sound opening_image (record {
+  rules = refl;
+  tables = record { wallets = tt; used_wallets = tt; troves = tt; surplus = tt; some_surplus = tt; finished = tt; some_finished = tt; deposits = tt; some_deposits = tt; clients = tt; client_rows = tt };
+})

@@ -1,0 +1,443 @@
+-- The tests of an image's rules say just what stands of the state: in both directions.
+use Rattle.std.proofs.Common.{◌≡◌, ℕ, ◌+◌, ◌-◌, ◌*◌, ◌≤◌, ◌<◌, Bool, true, false, cond, List, [], ◌∷◌, refl, ap, sym, ◌∙◌, subst, inl, inr, arith, nat_lt, nat_le, Some, None, length}
+use Rattle.std.specs.Prelude.{◌==◌, ◌&&◌, ◌||◌, not, sum, sum_by}
+use Rattle.std.specs.List.{AllByRecursion, list_all}
+use Rattle.std.specs.Map.{keys_of, values_of}
+use Rattle.std.proofs.lemmas.Bool.Decides.{nat_tests}
+use Rattle.liq_types.specs.declared.amounts.TheConstants.{LIM, ACCOUNTS, RECORDS_MOST, ONE, OFFSET_MOST, P_OPENING, P_LEAST, PRICE_LEAST, PRICE_MOST, MINUTE_MOST, GENERATIONS_MOST, RESERVE, MIN_NET, SUM_MOST}
+use Rattle.liq_types.specs.declared.figures.Wallet.{Wallet}
+use Rattle.liq_types.specs.declared.figures.Client.{Client}
+use Rattle.liq_types.specs.declared.figures.Trove.{Trove}
+use Rattle.liq_types.specs.declared.figures.Deposit.{Deposit}
+use Rattle.liq_types.specs.Image.{Image, Place}
+use Rattle.liq_types.specs.Soundness.{has_ranges, has_accounts, has_keys_in_range, has_coll_at_home, has_lusd_at_home, has_surplus_at_home, has_sound_troves, is_sound_trove, has_troves_added_up, is_backed, has_sound_words, has_sound_deposits, is_sound_deposit, has_sound_clients, is_sound_client, is_before, places_most, soundness, first_failing, first_unsound, HasTables, IsSoundImage, IsClientRow}
+use Rattle.liq_types.specs.State.{State, is_used_wallet}
+use Rattle.liq_types.specs.Tables.{Table}
+use Rattle.liq_types.specs.WellFormed.{IsBefore, stakes_in}
+use Rattle.liq_types.proofs.MapRows.{map-length}
+use Rattle.liq_types.proofs.Places.{IsUpTo}
+use Rattle.std.proofs.lemmas.Map.Made.{keys_of-map_values}
+use Rattle.liq_troves.specs.Standing.{TroveStands, TrovesStand, books_of}
+use Rattle.liq_troves.specs.StakeSums.{trove_row}
+use Rattle.liq_stability.specs.Position.{words_of, deposit_row}
+use Rattle.liq_rules.specs.Image.{image}
+use Rattle.liq_soundness.specs.SoundState.{IsSoundState}
+use Rattle.liq_soundness.proofs.SoundFacts.{KeysBelow, ClientStands, Stands, Balanced, InRange, Homes, in_order}
+use Rattle.liq_soundness.proofs.SoundPool.{PoolStands, DepositStands, FinishedStands, part_of, sum_in}
+
+-- ---- what a sound state has, as facts
+
+pub record SoundFacts (s : State) : Type 0 where
+  pub stands : Stands LIM s
+  pub balanced : Balanced LIM s
+  pub ranges : InRange s
+  pub records : s.records ≤ RECORDS_MOST
+  pub scale : (words_of s).scale ≤ places_most s.generation s.records
+  pub epoch : (words_of s).epoch ≤ places_most s.generation s.records
+
+-- ---- tests
+
+pub both_true : (a b : Bool) → (a && b) ≡ true → (a ≡ true) × (b ≡ true)
+both_true true b h = (refl, h)
+both_true false b h = cc
+
+pub true_both : (a b : Bool) → a ≡ true → b ≡ true → (a && b) ≡ true
+true_both true b h k = k
+true_both false b h k = cc
+
+pub le_true : (a b : ℕ) → nat_le a b ≡ true → a ≤ b
+le_true a b h = grind (arith, nat_tests, h)
+
+pub true_le : (a b : ℕ) → a ≤ b → nat_le a b ≡ true
+true_le a b h = grind (arith, nat_tests, h)
+
+pub lt_true : (a b : ℕ) → nat_lt a b ≡ true → a < b
+lt_true a b h = grind (arith, nat_tests, h)
+
+pub true_lt : (a b : ℕ) → a < b → nat_lt a b ≡ true
+true_lt a b h = grind (arith, nat_tests, h)
+
+pub eq_true : (a b : ℕ) → (a == b) ≡ true → a ≡ b
+eq_true a b h = grind (arith, nat_tests, h)
+
+pub true_eq : (a b : ℕ) → a ≡ b → (a == b) ≡ true
+true_eq a b h = grind (arith, nat_tests, h)
+
+module _ {K X : Type 0} where
+  -- from a test of each value to the rows, and back
+  rows_pass : (test : X → Bool) (P : X → Type 0) → ((x : X) → test x ≡ true → P x) → (table : List (K × X)) → list_all test (values_of table) ≡ true → AllByRecursion (λ (row : K × X). P row.1) table
+  rows_pass test P read [] h = tt
+  rows_pass test P read (e ∷ es) h =
+      let parts = both_true (test e.1) (list_all test (values_of es)) h in
+      (read e.1 parts.0, rows_pass test P read es parts.1)
+
+  pass_rows : (test : X → Bool) (P : X → Type 0) → ((x : X) → P x → test x ≡ true) → (table : List (K × X)) → AllByRecursion (λ (row : K × X). P row.1) table → list_all test (values_of table) ≡ true
+  pass_rows test P made [] h = refl
+  pass_rows test P made (e ∷ es) h = true_both (test e.1) (list_all test (values_of es)) (made e.1 h.0) (pass_rows test P made es h.1)
+
+  -- the same of facts
+  rows_have : (P : X → Type 0) (table : List (K × X)) → AllByRecursion P (values_of table) → AllByRecursion (λ (row : K × X). P row.1) table
+  rows_have P [] h = tt
+  rows_have P (e ∷ es) h = (h.0, rows_have P es h.1)
+
+  have_rows : (P : X → Type 0) (table : List (K × X)) → AllByRecursion (λ (row : K × X). P row.1) table → AllByRecursion P (values_of table)
+  have_rows P [] h = tt
+  have_rows P (e ∷ es) h = (h.0, have_rows P es h.1)
+
+  rows_both : (P Q : X → Type 0) (table : List (K × X)) → AllByRecursion (λ (row : K × X). P row.1) table → AllByRecursion (λ (row : K × X). Q row.1) table → AllByRecursion (λ (row : K × X). P row.1 × Q row.1) table
+  rows_both P Q [] h k = tt
+  rows_both P Q (e ∷ es) h k = ((h.0, k.0), rows_both P Q es h.1 k.1)
+
+  rows_to : (P Q : X → Type 0) → ((x : X) → P x → Q x) → (table : List (K × X)) → AllByRecursion (λ (row : K × X). P row.1) table → AllByRecursion (λ (row : K × X). Q row.1) table
+  rows_to P Q more [] h = tt
+  rows_to P Q more (e ∷ es) h = (more e.1 h.0, rows_to P Q more es h.1)
+
+list_pass : {X : Type 0} (test : X → Bool) (P : X → Type 0) → ((x : X) → test x ≡ true → P x) → (xs : List X) → list_all test xs ≡ true → AllByRecursion P xs
+list_pass test P read [] h = tt
+list_pass test P read (x ∷ xs) h =
+    let parts = both_true (test x) (list_all test xs) h in
+    (read x parts.0, list_pass test P read xs parts.1)
+
+pass_list : {X : Type 0} (test : X → Bool) (P : X → Type 0) → ((x : X) → P x → test x ≡ true) → (xs : List X) → AllByRecursion P xs → list_all test xs ≡ true
+pass_list test P made [] h = refl
+pass_list test P made (x ∷ xs) h = true_both (test x) (list_all test xs) (made x h.0) (pass_list test P made xs h.1)
+
+keys_pass : {X : Type 0} (table : Table X) → has_keys_in_range table ≡ true → KeysBelow table
+keys_pass table h = list_pass (λ key. nat_lt key ACCOUNTS) (λ key. key < ACCOUNTS) (λ key. lt_true key ACCOUNTS) (keys_of table) h
+
+pass_keys : {X : Type 0} (table : Table X) → KeysBelow table → has_keys_in_range table ≡ true
+pass_keys table h = pass_list (λ key. nat_lt key ACCOUNTS) (λ key. key < ACCOUNTS) (λ key. true_lt key ACCOUNTS) (keys_of table) h
+
+-- ---- places
+
+before_true : (a b : Place) → is_before a b ≡ true → IsBefore a b
+before_true a b h = by (nat_lt a.0 b.0) refl where
+  by : (c : Bool) → nat_lt a.0 b.0 ≡ c → IsBefore a b
+  by true e = inl (lt_true a.0 b.0 e)
+  by false e = inr (grind (arith, nat_tests, h, e), grind (arith, nat_tests, h, e))
+
+true_before : (a b : Place) → IsBefore a b → is_before a b ≡ true
+true_before a b (inl less) = grind (arith, nat_tests, less)
+true_before a b (inr same) = grind (arith, nat_tests, same.0, same.1)
+
+up_to_true : (now place : Place) → not (is_before now place) ≡ true → IsUpTo place now
+up_to_true now place h = by (nat_lt place.0 now.0) refl where
+  by : (c : Bool) → nat_lt place.0 now.0 ≡ c → IsUpTo place now
+  by true e = inl (lt_true place.0 now.0 e)
+  by false e = inr (grind (arith, nat_tests, h, e), grind (arith, nat_tests, h, e))
+
+true_up_to : (now place : Place) → IsUpTo place now → not (is_before now place) ≡ true
+true_up_to now place (inl less) = grind (arith, nat_tests, less)
+true_up_to now place (inr same) = grind (arith, nat_tests, same.0, same.1)
+
+-- ---- the rules
+
+passing : (rules : List (ℕ × Bool)) → first_failing rules ≡ None → AllByRecursion (λ (rule : ℕ × Bool). rule.1 ≡ true) rules
+passing [] h = tt
+passing (rule ∷ rules) h = by rule.1 h (passing rules) where
+  by : (b : Bool) → cond b (first_failing rules) (Some rule.0) ≡ None → (first_failing rules ≡ None → AllByRecursion (λ (rule : ℕ × Bool). rule.1 ≡ true) rules) → (b ≡ true) × AllByRecursion (λ (rule : ℕ × Bool). rule.1 ≡ true) rules
+  by true k later = (refl, later k)
+  by false k later = cc
+
+all_passing : (rules : List (ℕ × Bool)) → AllByRecursion (λ (rule : ℕ × Bool). rule.1 ≡ true) rules → first_failing rules ≡ None
+all_passing [] h = refl
+all_passing (rule ∷ rules) h = ap (λ b. cond b (first_failing rules) (Some rule.0)) h.0 ∙ all_passing rules h.1
+
+pub record Passes (i : Image) (records : ℕ) : Type 0 where
+  pub ranges : has_ranges i records ≡ true
+  pub accounts : has_accounts i ≡ true
+  pub coll : has_coll_at_home i ≡ true
+  pub lusd : has_lusd_at_home i ≡ true
+  pub surplus : has_surplus_at_home i ≡ true
+  pub troves : has_sound_troves i ≡ true
+  pub added_up : has_troves_added_up i ≡ true
+  pub backed : is_backed i ≡ true
+  pub words : has_sound_words i records ≡ true
+  pub deposits : has_sound_deposits i ≡ true
+  pub clients : has_sound_clients i ≡ true
+
+pub passes_all : (i : Image) (records : ℕ) → first_unsound i records ≡ None → Passes i records
+passes_all i records h =
+    let r = passing (soundness i records) h in
+    record {
+      ranges = r.0;
+      accounts = r.1.0;
+      coll = r.1.1.0;
+      lusd = r.1.1.1.0;
+      surplus = r.1.1.1.1.0;
+      troves = r.1.1.1.1.1.0;
+      added_up = r.1.1.1.1.1.1.0;
+      backed = r.1.1.1.1.1.1.1.0;
+      words = r.1.1.1.1.1.1.1.1.0;
+      deposits = r.1.1.1.1.1.1.1.1.1.0;
+      clients = r.1.1.1.1.1.1.1.1.1.1.0;
+    }
+
+pub all_pass : (i : Image) (records : ℕ) → Passes i records → first_unsound i records ≡ None
+all_pass i records p =
+    all_passing (soundness i records) (p.ranges, (p.accounts, (p.coll, (p.lusd, (p.surplus, (p.troves, (p.added_up, (p.backed, (p.words, (p.deposits, (p.clients, tt)))))))))))
+
+-- ---- from the tests to the facts
+
+trove_true : (coll debt : ℕ) (t : Trove) → is_sound_trove coll debt t ≡ true → TroveStands coll debt t
+trove_true coll debt t h =
+    record { some = grind (arith, nat_tests, h); within = grind (arith, nat_tests, h); debt = grind (arith, nat_tests, h); mark_coll = grind (arith, nat_tests, h); mark_debt = grind (arith, nat_tests, h) }
+
+true_trove : (coll debt : ℕ) (t : Trove) → TroveStands coll debt t → is_sound_trove coll debt t ≡ true
+true_trove coll debt t h =
+    let a = true_le 1 t.stake h.some in
+    let b = true_le t.stake t.coll h.within in
+    let c = true_le (RESERVE + MIN_NET) t.debt h.debt in
+    let d = true_le t.mark_coll coll h.mark_coll in
+    let e = true_le t.mark_debt debt h.mark_debt in
+    true_both _ _ (true_both _ _ (true_both _ _ (true_both _ _ a b) c) d) e
+
+deposit_true : (now : Place) (sum : ℕ) (finished : List (Place × ℕ)) (d : Deposit) → 1 ≤ d.amount → (nat_le d.amount LIM && is_sound_deposit now (sum_in now sum finished (d.epoch, d.scale)) d) ≡ true → DepositStands LIM now sum finished d
+deposit_true now sum finished d some h =
+    let amount = both_true (nat_le d.amount LIM) _ h in
+    let within = both_true _ (nat_le d.sum (sum_in now sum finished (d.epoch, d.scale))) amount.1 in
+    let place = both_true _ (not (is_before now (d.epoch, d.scale))) within.0 in
+    let product = both_true (nat_le P_LEAST d.p) (nat_le d.p P_OPENING) place.0 in
+    record {
+      some = some;
+      amount = le_true d.amount LIM amount.0;
+      least_p = le_true P_LEAST d.p product.0;
+      most_p = le_true d.p P_OPENING product.1;
+      place = up_to_true now (d.epoch, d.scale) place.1;
+      within = le_true d.sum (sum_in now sum finished (d.epoch, d.scale)) within.1;
+    }
+
+true_deposit : (now : Place) (sum : ℕ) (finished : List (Place × ℕ)) (d : Deposit) → DepositStands LIM now sum finished d → (nat_le d.amount LIM && is_sound_deposit now (sum_in now sum finished (d.epoch, d.scale)) d) ≡ true
+true_deposit now sum finished d h =
+    true_both (nat_le d.amount LIM) _ (true_le d.amount LIM h.amount)
+    (true_both _ (nat_le d.sum (sum_in now sum finished (d.epoch, d.scale)))
+    (true_both _ (not (is_before now (d.epoch, d.scale))) (true_both (nat_le P_LEAST d.p) (nat_le d.p P_OPENING) (true_le P_LEAST d.p h.least_p) (true_le d.p P_OPENING h.most_p)) (true_up_to now (d.epoch, d.scale) h.place))
+    (true_le d.sum (sum_in now sum finished (d.epoch, d.scale)) h.within))
+
+deposits_true : (now : Place) (sum : ℕ) (finished : List (Place × ℕ)) (table : Table Deposit) → AllByRecursion (λ (d : Deposit). 1 ≤ d.amount) (values_of table) → list_all (λ (d : Deposit). nat_le d.amount LIM && is_sound_deposit now (sum_in now sum finished (d.epoch, d.scale)) d) (values_of table) ≡ true → AllByRecursion (λ (row : ℕ × Deposit). DepositStands LIM now sum finished row.1) table
+deposits_true now sum finished [] some h = tt
+deposits_true now sum finished (e ∷ es) some h =
+    let parts = both_true (nat_le e.1.amount LIM && is_sound_deposit now (sum_in now sum finished (e.1.epoch, e.1.scale)) e.1) _ h in
+    (deposit_true now sum finished e.1 some.0 parts.0, deposits_true now sum finished es some.1 parts.1)
+
+finished_true : (now : Place) (table : List (Place × ℕ)) → AllByRecursion (λ n. 1 ≤ n) (values_of table) → list_all (λ (row : Place × ℕ). nat_le row.1 (OFFSET_MOST * P_OPENING) && is_before row.0 now) table ≡ true → AllByRecursion (FinishedStands now) table
+finished_true now [] some h = tt
+finished_true now (e ∷ es) some h =
+    let parts = both_true (nat_le e.1 (OFFSET_MOST * P_OPENING) && is_before e.0 now) _ h in
+    let here = both_true (nat_le e.1 (OFFSET_MOST * P_OPENING)) (is_before e.0 now) parts.0 in
+    (record { some = some.0; most = le_true e.1 (OFFSET_MOST * P_OPENING) here.0; before = before_true e.0 now here.1 }, finished_true now es some.1 parts.1)
+
+true_finished : (now : Place) (table : List (Place × ℕ)) → AllByRecursion (FinishedStands now) table → list_all (λ (row : Place × ℕ). nat_le row.1 (OFFSET_MOST * P_OPENING) && is_before row.0 now) table ≡ true
+true_finished now [] h = refl
+true_finished now (e ∷ es) h =
+    true_both (nat_le e.1 (OFFSET_MOST * P_OPENING) && is_before e.0 now) _
+    (true_both (nat_le e.1 (OFFSET_MOST * P_OPENING)) (is_before e.0 now) (true_le e.1 (OFFSET_MOST * P_OPENING) h.0.most) (true_before e.0 now h.0.before))
+    (true_finished now es h.1)
+
+finished_some : (now : Place) (table : List (Place × ℕ)) → AllByRecursion (FinishedStands now) table → AllByRecursion (λ n. 1 ≤ n) (values_of table)
+finished_some now [] h = tt
+finished_some now (e ∷ es) h = (h.0.some, finished_some now es h.1)
+
+clients_true : (table : Table Client) → AllByRecursion IsClientRow (values_of table) → list_all is_sound_client (values_of table) ≡ true → AllByRecursion (λ (row : ℕ × Client). ClientStands row.1) table
+clients_true [] h k = tt
+clients_true (e ∷ es) h k =
+    let parts = both_true (is_sound_client e.1) (list_all is_sound_client (values_of es)) k in
+    (record { row = h.0; kept = parts.0 }, clients_true es h.1 parts.1)
+
+module _ (s : State) (f : IsSoundState s) where
+  p : Passes (image s) s.records
+  p = passes_all (image s) s.records f.sound.rules
+
+  range_facts : has_ranges (image s) s.records ≡ true → InRange s × (s.records ≤ RECORDS_MOST) × (s.brought ≤ LIM)
+  range_facts h = (
+    record {
+      price_least = grind (arith, nat_tests, h);
+      price_most = grind (arith, nat_tests, h);
+      minute = grind (arith, nat_tests, h);
+      fee_minute = grind (arith, nat_tests, h);
+      base = grind (arith, nat_tests, h);
+      first_generation = grind (arith, nat_tests, h);
+      last_generation = grind (arith, nat_tests, h);
+    },
+    grind (arith, nat_tests, h),
+    grind (arith, nat_tests, h),
+  )
+
+  troves_facts : TrovesStand (books_of s)
+  troves_facts =
+      let debt_sum = both_true _ (nat_le (image s).sum_debt SUM_MOST) p.troves in
+      let coll_sum = both_true (list_all (is_sound_trove (image s).sum_coll (image s).sum_debt) (values_of (image s).troves)) (nat_le (image s).sum_coll SUM_MOST) debt_sum.0 in
+      let both = both_true _ _ p.added_up in
+      let snap = both_true _ (nat_le (image s).snap_stakes (image s).snap_coll) both.0 in
+      let debts = both_true _ ((image s).active_debt == sum_by (λ (t : Trove). t.debt) (values_of (image s).troves)) snap.0 in
+      let colls = both_true ((image s).stakes == sum_by (λ (t : Trove). t.stake) (values_of (image s).troves)) ((image s).active_coll == sum_by (λ (t : Trove). t.coll) (values_of (image s).troves)) debts.0 in
+      let backed = both_true _ _ p.backed in
+      let words = both.1 in
+      record {
+        ascend = f.sound.tables.troves;
+        each = rows_pass (is_sound_trove (image s).sum_coll (image s).sum_debt) (TroveStands (image s).sum_coll (image s).sum_debt) (trove_true (image s).sum_coll (image s).sum_debt) (image s).troves coll_sum.0;
+        sum_coll = le_true _ _ coll_sum.1;
+        sum_debt = le_true _ _ debt_sum.1;
+        stakes = eq_true _ _ colls.0;
+        active_coll = eq_true _ _ colls.1;
+        active_debt = eq_true _ _ debts.1;
+        snap = le_true _ _ snap.1;
+        snap_none = λ none. grind (arith, nat_tests, words, none);
+        due_coll = le_true _ _ backed.0;
+        due_debt = le_true _ _ backed.1;
+      }
+
+  words_parts : has_sound_words (image s) s.records ≡ true → PoolStands LIM (part_of (image s)) × ((words_of s).scale ≤ places_most s.generation s.records) × ((words_of s).epoch ≤ places_most s.generation s.records)
+  words_parts h =
+      let i = image s in
+      let rows = both_true _ (list_all (λ (row : Place × ℕ). nat_le row.1 (OFFSET_MOST * P_OPENING) && is_before row.0 (i.epoch, i.scale)) i.finished) h in
+      let epoch = both_true _ (nat_le i.epoch (places_most i.generation s.records)) rows.0 in
+      let scale = both_true _ (nat_le i.scale (places_most i.generation s.records)) epoch.0 in
+      let sum = both_true _ (nat_le i.sum (OFFSET_MOST * (P_OPENING - i.p))) scale.0 in
+      let product = both_true (nat_le P_LEAST i.p) (nat_le i.p P_OPENING) sum.0 in
+      let highest = le_true i.p P_OPENING product.1 in
+      let beside = le_true i.sum (OFFSET_MOST * (P_OPENING - i.p)) sum.1 in (
+        record {
+          least = le_true P_LEAST i.p product.0;
+          highest = highest;
+          sum = omega (arith, beside, highest);
+          finished = finished_true (i.epoch, i.scale) i.finished f.sound.tables.some_finished rows.1;
+          ordered = f.sound.tables.finished;
+          ascend = f.sound.tables.deposits;
+          deposits = deposits_true (i.epoch, i.scale) i.sum i.finished i.deposits f.sound.tables.some_deposits p.deposits;
+        },
+        le_true i.scale (places_most i.generation s.records) scale.1,
+        le_true i.epoch (places_most i.generation s.records) epoch.1,
+      )
+
+  stands_facts : Stands LIM s
+  stands_facts =
+      let clients = both_true _ (has_keys_in_range (image s).clients) p.accounts in
+      let deposits = both_true _ (has_keys_in_range (image s).deposits) clients.0 in
+      let surplus = both_true _ (has_keys_in_range (image s).surplus_rows) deposits.0 in
+      let first = both_true (has_keys_in_range (image s).wallets) (has_keys_in_range (image s).troves) surplus.0 in
+      record {
+        formed = f.formed;
+        troves = troves_facts;
+        pool = (words_parts p.words).0;
+        spread = f.spread;
+        wallets = record { ascend = f.sound.tables.wallets; keys = keys_pass s.wallets first.0; used = rows_have (λ (w : Wallet). is_used_wallet w ≡ true) s.wallets f.sound.tables.used_wallets };
+        surplus = record { ascend = f.sound.tables.surplus; keys = keys_pass s.surplus_rows surplus.1; some = rows_have (λ n. 1 ≤ n) s.surplus_rows f.sound.tables.some_surplus };
+        trove_keys = subst (λ (keys : List ℕ). AllByRecursion (λ key. key < ACCOUNTS) keys) (keys_of-map_values (trove_row s) s.troves) (keys_pass (image s).troves first.1);
+        deposit_keys = subst (λ (keys : List ℕ). AllByRecursion (λ key. key < ACCOUNTS) keys) (keys_of-map_values (deposit_row s) s.deposits) (keys_pass (image s).deposits deposits.1);
+        clients = record { ascend = f.sound.tables.clients; keys = keys_pass s.clients clients.1; stand = clients_true s.clients f.sound.tables.client_rows p.clients };
+      }
+
+  homes_facts : Homes s × (s.active_debt + s.default_debt ≤ LIM)
+  homes_facts =
+      let reserve = both_true _ (s.reserve == RESERVE * length (image s).troves) p.lusd in
+      let lusd = both_true (nat_le (s.active_debt + s.default_debt) LIM) _ reserve.0 in
+      let count = map-length (trove_row s) s.troves in
+      let kept : s.reserve ≡ RESERVE * length (image s).troves = eq_true _ _ reserve.1 in
+      (record { coll = eq_true _ _ p.coll; lusd = eq_true _ _ lusd.1; reserve = omega (arith, kept, count); surplus = eq_true _ _ p.surplus }, le_true _ LIM lusd.0)
+
+  pub sound_facts : SoundFacts s
+  sound_facts =
+      let ranges = range_facts p.ranges in
+      let words = words_parts p.words in
+      record {
+        stands = stands_facts;
+        balanced = record { homes = homes_facts.0; coll_limit = ranges.2; debt_limit = homes_facts.1 };
+        ranges = ranges.0;
+        records = ranges.1;
+        scale = words.1;
+        epoch = words.2;
+      }
+
+-- ---- and back
+
+module _ (s : State) (f : SoundFacts s) where
+  t : TrovesStand (books_of s)
+  t = f.stands.troves
+
+  passes : Passes (image s) s.records
+  passes =
+      let i = image s in
+      let h = f.stands in
+      let c = f.balanced.homes in
+      let r = f.ranges in
+      let count = map-length (trove_row s) s.troves in
+      let places = places_most s.generation s.records in
+      record {
+        ranges =
+            true_both _ _ (true_both _ _ (true_both _ _ (true_both _ _ (true_both _ _ (true_both _ _ (true_both _ _ (true_both _ _
+            (true_le PRICE_LEAST s.price r.price_least) (true_le s.price PRICE_MOST r.price_most)) (true_le s.minute MINUTE_MOST r.minute)) (true_le s.fee_minute s.minute r.fee_minute)) (true_le s.base ONE r.base))
+            (true_le 1 s.generation r.first_generation)) (true_le s.generation GENERATIONS_MOST r.last_generation)) (true_le s.records RECORDS_MOST f.records)) (true_le s.brought LIM f.balanced.coll_limit);
+        accounts =
+            true_both _ _ (true_both _ _ (true_both _ _ (true_both _ _ (pass_keys s.wallets h.wallets.keys)
+            (pass_keys i.troves (subst (λ (keys : List ℕ). AllByRecursion (λ key. key < ACCOUNTS) keys) (sym (keys_of-map_values (trove_row s) s.troves)) h.trove_keys)))
+            (pass_keys s.surplus_rows h.surplus.keys))
+            (pass_keys i.deposits (subst (λ (keys : List ℕ). AllByRecursion (λ key. key < ACCOUNTS) keys) (sym (keys_of-map_values (deposit_row s) s.deposits)) h.deposit_keys)))
+            (pass_keys s.clients h.clients.keys);
+        coll = true_eq _ _ c.coll;
+        lusd = true_both _ _ (true_both _ _ (true_le _ LIM f.balanced.debt_limit) (true_eq _ _ c.lusd)) (true_eq s.reserve (RESERVE * length i.troves) (omega (arith, c.reserve, count)));
+        surplus = true_eq _ _ c.surplus;
+        troves = true_both _ _ (true_both _ _ (pass_rows (is_sound_trove i.sum_coll i.sum_debt) (TroveStands i.sum_coll i.sum_debt) (true_trove i.sum_coll i.sum_debt) i.troves t.each) (true_le i.sum_coll SUM_MOST t.sum_coll)) (true_le i.sum_debt SUM_MOST t.sum_debt);
+        added_up =
+            true_both _ _ (true_both _ _ (true_both _ _ (true_both _ _ (true_eq _ _ t.stakes) (true_eq _ _ t.active_coll)) (true_eq _ _ t.active_debt)) (true_le i.snap_stakes i.snap_coll t.snap))
+            (snap_words (i.snap_stakes == 0) refl);
+        backed = true_both _ _ (true_le _ _ t.due_coll) (true_le _ _ t.due_debt);
+        words =
+            true_both _ _ (true_both _ _ (true_both _ _ (true_both _ _ (true_both _ _ (true_le P_LEAST i.p h.pool.least) (true_le i.p P_OPENING h.pool.highest))
+            (true_le i.sum (OFFSET_MOST * (P_OPENING - i.p)) (omega (arith, h.pool.sum, h.pool.highest)))) (true_le i.scale places f.scale)) (true_le i.epoch places f.epoch))
+            (true_finished (i.epoch, i.scale) i.finished h.pool.finished);
+        deposits = pass_rows (λ (d : Deposit). nat_le d.amount LIM && is_sound_deposit (i.epoch, i.scale) (sum_in (i.epoch, i.scale) i.sum i.finished (d.epoch, d.scale)) d) (DepositStands LIM (i.epoch, i.scale) i.sum i.finished) (true_deposit (i.epoch, i.scale) i.sum i.finished) i.deposits h.pool.deposits;
+        clients = pass_rows is_sound_client ClientStands (λ c k. k.kept) s.clients h.clients.stand;
+      }
+    where
+      snap_words : (b : Bool) → (s.snap_stakes == 0) ≡ b → (s.snap_stakes == 0 && s.snap_coll == 0 || nat_lt 0 s.snap_stakes && nat_lt 0 s.snap_coll) ≡ true
+      snap_words true e =
+          let none : s.snap_stakes ≡ 0 = eq_true s.snap_stakes 0 e in
+          let other : s.snap_coll ≡ 0 = t.snap_none none in
+          grind (arith, nat_tests, none, other)
+      snap_words false e =
+          let less = t.snap in
+          grind (arith, nat_tests, e, less)
+
+  tables : HasTables (image s)
+  tables =
+      let i = image s in
+      let h = f.stands in
+      record {
+        wallets = h.wallets.ascend;
+        used_wallets = have_rows (λ (w : Wallet). is_used_wallet w ≡ true) s.wallets h.wallets.used;
+        troves = t.ascend;
+        surplus = h.surplus.ascend;
+        some_surplus = have_rows (λ n. 1 ≤ n) s.surplus_rows h.surplus.some;
+        finished = h.pool.ordered;
+        some_finished = finished_some (i.epoch, i.scale) i.finished h.pool.finished;
+        deposits = h.pool.ascend;
+        some_deposits = have_rows (λ (d : Deposit). 1 ≤ d.amount) i.deposits (rows_to (DepositStands LIM (i.epoch, i.scale) i.sum i.finished) (λ d. 1 ≤ d.amount) (λ d k. k.some) i.deposits h.pool.deposits);
+        clients = h.clients.ascend;
+        client_rows = have_rows IsClientRow s.clients (rows_to ClientStands IsClientRow (λ c k. k.row) s.clients h.clients.stand);
+      }
+
+  pub facts_sound : IsSoundState s
+  facts_sound =
+      record {
+        formed = f.stands.formed;
+        ordered = in_order s f.stands;
+        sound = record { rules = all_pass (image s) s.records passes; tables = tables };
+        spread = f.stands.spread;
+      }
+
+-- ---- read off an image
+
+pub finished_rows : (i : Image) (records : ℕ) → IsSoundImage i records → AllByRecursion (FinishedStands (i.epoch, i.scale)) i.finished
+finished_rows i records h =
+    let words = (passes_all i records h.rules).words in
+    let rows = both_true _ (list_all (λ (row : Place × ℕ). nat_le row.1 (OFFSET_MOST * P_OPENING) && is_before row.0 (i.epoch, i.scale)) i.finished) words in
+    finished_true (i.epoch, i.scale) i.finished h.tables.some_finished rows.1
+
+pub stakes_added : (i : Image) (records : ℕ) → IsSoundImage i records → i.stakes ≡ stakes_in i
+stakes_added i records h =
+    let both = both_true _ _ (passes_all i records h.rules).added_up in
+    let snap = both_true _ (nat_le i.snap_stakes i.snap_coll) both.0 in
+    let debts = both_true _ (i.active_debt == sum_by (λ (t : Trove). t.debt) (values_of i.troves)) snap.0 in
+    let colls = both_true (i.stakes == stakes_in i) (i.active_coll == sum_by (λ (t : Trove). t.coll) (values_of i.troves)) debts.0 in
+    eq_true i.stakes (stakes_in i) colls.0

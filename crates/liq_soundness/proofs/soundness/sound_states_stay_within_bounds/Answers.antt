@@ -1,0 +1,11 @@
+use Rattle.liq_soundness.proofs.SoundBounds.{words_within, amounts_within, reached_snapshot}
+use Rattle.liq_soundness.proofs.soundness.sound_states_stay_within_bounds.Goals as goal
+
+pub returns-clause-words : goal.returns-clause-words
+returns-clause-words c = words_within
+
+pub returns-clause-amounts : goal.returns-clause-amounts
+returns-clause-amounts c = amounts_within
+
+pub returns-clause-snapshot : goal.returns-clause-snapshot
+returns-clause-snapshot c = reached_snapshot
