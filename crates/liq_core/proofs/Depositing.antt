@@ -34,7 +34,7 @@ use Rattle.liq_stability.specs.Position.{balance_of, gain_of, deposit_row}
 use Rattle.liq_stability.specs.Words.{pool_words}
 use Rattle.liq_stability.proofs.Following.{position_follows, owned_follows}
 use Rattle.liq_core.specs.declared.engine.Protocol.TheInside.{Inside}
-use Rattle.liq_core.specs.Books.{kept_books, SameOthers}
+use Rattle.liq_standing.specs.Books.{books_kept, SameOthers}
 use Rattle.liq_core.specs.Core.{Core, Changes, state_of}
 use Rattle.liq_rules.specs.Image.{image}
 use Rattle.liq_rules.specs.Rules.{rules, effect}
@@ -45,8 +45,10 @@ use Rattle.liq_soundness.proofs.SoundBorrow.{gain_leaves, has_trove, told}
 use Rattle.liq_soundness.proofs.SoundBounds.{surplus_covered}
 use Rattle.liq_soundness.proofs.SoundCalls.{pool_and_wallet, provide_leaves, withdraw_leaves, claim_leaves}
 use Rattle.liq_core.proofs.SoundCores.{core_finds, image_back, sound_after}
-use Rattle.liq_soundness.proofs.SoundFacts.{Finds, Leaves, finds_after, all_false, lt_false, eq_false}
+use Rattle.liq_soundness.proofs.SoundFacts.{Finds, Leaves, finds_after}
 use Rattle.liq_soundness.proofs.SoundStart.{started_with}
+use Rattle.liq_types.proofs.Tests.{all_false, not_zero}
+use Rattle.std.proofs.lemmas.Bool.{ltb-false}
 
 -- ---- a protocol's pool
 
@@ -133,7 +135,7 @@ module _ (p : Inside) (sound : IsSound p) (account lusd gain : ℕ) (k : account
       let s = state_of (core_of p) in
       let f = core_finds (core_of p) sound.image in
       let rules_hold = all_false (rules s (Provide account lusd)) h in
-      let enough = lt_false (wallet_of s account).lusd lusd rules_hold.1.0 in
+      let enough = ltb-false (wallet_of s account).lusd lusd rules_hold.1.0 in
       let fits = pool_and_wallet s f account lusd enough in
       let total = ap (λ (w : PoolWords). w.total) (pool_is p sound).words in
       let n = finds_after s (effect s (Provide account lusd)) provide_left in
@@ -141,7 +143,7 @@ module _ (p : Inside) (sound : IsSound p) (account lusd gain : ℕ) (k : account
       (ap (λ g. credited_in (charged_in p.wallets.rows account 0 lusd) account g 0) (sym provide_gain)) in
       record {
         enough = enough;
-        some = eq_false lusd rules_hold.0;
+        some = not_zero lusd rules_hold.0;
         total = omega (arith, fits, total);
         coll_limit = paid.0;
         lusd_limit = omega (arith, paid.1);
@@ -276,8 +278,8 @@ pub record MayMove (p : Inside) (account : ℕ) (plan : Plan) : Type 0 where
   pub there : IsSome (at p.troves.table.rows account)
   pub some : 1 ≤ plan.coll
   pub least : RESERVE + MIN_NET ≤ plan.debt
-  pub active_coll : (lift (kept_books p.pools p.troves) account).active_coll + plan.coll ≤ LIM
-  pub active_debt : (lift (kept_books p.pools p.troves) account).active_debt + plan.debt ≤ LIM
+  pub active_coll : (lift (books_kept p.troves p.pools) account).active_coll + plan.coll ≤ LIM
+  pub active_debt : (lift (books_kept p.troves p.pools) account).active_debt + plan.debt ≤ LIM
 
 module _ (p : Inside) (sound : IsSound p) (account : ℕ) (plan : Plan) (words : HintWords) (k : account < ACCOUNTS) (is : plan ≡ gaining_terms (market_of (state_of (core_of p))) (or_nothing (entire_of (state_of (core_of p)) account)) (gain_of (state_of (core_of p)) account)) (h : first_refusal (rules (state_of (core_of p)) (GainToTrove account words)) ≡ None) where
   gain_told : entire_of (state_of (core_of p)) account ≡ Some (or_nothing (entire_of (state_of (core_of p)) account))
@@ -290,7 +292,7 @@ module _ (p : Inside) (sound : IsSound p) (account : ℕ) (plan : Plan) (words :
   gain_left =
       gain_leaves (state_of (core_of p)) (core_finds (core_of p) sound.image) account k (all_false (rules (state_of (core_of p)) (GainToTrove account words)) h).1.0
 
-  gain_image : image (set_trove (owned (state_of (core_of p)) account 0 0) account plan.coll plan.debt) ≡ with_books (image (owned (state_of (core_of p)) account 0 0)) (place (lift (kept_books p.pools p.troves) account) account plan.coll plan.debt)
+  gain_image : image (set_trove (owned (state_of (core_of p)) account 0 0) account plan.coll plan.debt) ≡ with_books (image (owned (state_of (core_of p)) account 0 0)) (place (lift (books_kept p.troves p.pools) account) account plan.coll plan.debt)
   gain_image =
       let t = owned (state_of (core_of p)) account 0 0 in
       set_image t account plan.coll plan.debt
@@ -313,16 +315,16 @@ module _ (p : Inside) (sound : IsSound p) (account : ℕ) (plan : Plan) (words :
 
   moved_changes : (pool : Kept) (pools : Pools) (troves : Troves) (order : Listed)
       → IsPoolOf (owned (state_of (core_of p)) account 0 0) pool
-      → kept_books pools troves ≡ place (lift (kept_books p.pools p.troves) account) account plan.coll plan.debt
+      → books_kept troves pools ≡ place (lift (books_kept p.troves p.pools) account) account plan.coll plan.debt
       → SameOthers p.pools pools
       → Changes (core_of p) (GainToTrove account words) (core_of (record p { pool = pool; pools = pools; troves = troves; order = order }))
   moved_changes pool pools troves order of kept others =
       let s = state_of (core_of p) in
       let i = (core_of p).image in
-      let b = place (lift (kept_books p.pools p.troves) account) account plan.coll plan.debt in
+      let b = place (lift (books_kept p.troves p.pools) account) account plan.coll plan.debt in
       record {
         image =
-            same_others (with_pool i pool.words pool.finished pool.deposits.rows) p.rate p.pools pools p.wallets.rows (kept_books pools troves) others
+            same_others (with_pool i pool.words pool.finished pool.deposits.rows) p.rate p.pools pools p.wallets.rows (books_kept troves pools) others
             ∙ ap (with_books (with_pool i pool.words pool.finished pool.deposits.rows)) kept
             ∙ ap (λ (x : Image). with_books (with_pool x pool.words pool.finished pool.deposits.rows) b) (sym (image_back (core_of p) sound.image))
             ∙ sym (ap image gain_effect ∙ gain_image ∙ ap (λ (x : Image). with_books x b) (pool_image (owned s account 0 0) pool of));
@@ -347,8 +349,8 @@ module _ (p : Inside) (old : Core) (view : core_of p ≡ old) (sound : IsSound p
   module _ (paid : ℕ × ℕ) (answered : withdrawing p.pool account 0 ≡ Ok paid) (pool : Kept) (pools left_pools : Pools) (troves left_troves : Troves) (order : Listed)
       (pool_words : pool.words ≡ words_owned p.pool.words 0 paid.0 paid.1) (finished : pool.finished ≡ p.pool.finished)
       (rows : pool.deposits.rows ≡ left_in p.pool.deposits.rows p.pool.words account ((position_at p.pool account).0 - paid.0))
-      (left : kept_books left_pools left_troves ≡ lift (kept_books p.pools p.troves) account)
-      (kept : kept_books pools troves ≡ place (kept_books left_pools left_troves) account plan.coll plan.debt)
+      (left : books_kept left_troves left_pools ≡ lift (books_kept p.troves p.pools) account)
+      (kept : books_kept troves pools ≡ place (books_kept left_troves left_pools) account plan.coll plan.debt)
       (first : SameOthers p.pools left_pools) (second : SameOthers left_pools pools) where
     move_made : Changes (core_of p) (GainToTrove account h.0) (core_of (record p { pool = pool; pools = pools; troves = troves; order = order }))
     move_made =

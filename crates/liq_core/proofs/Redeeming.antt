@@ -40,18 +40,19 @@ use Rattle.liq_redemption.specs.Redemption.{RedeemTerms, Visit, visited, visited
 use Rattle.liq_redemption.proofs.Following.{redeemed_follows, redeemed_pays}
 use Rattle.liq_redemption.proofs.Once.{order_distinct, order_has_each}
 use Rattle.liq_core.specs.declared.engine.Protocol.TheInside.{Inside}
-use Rattle.liq_core.specs.Books.{kept_books}
+use Rattle.liq_standing.specs.Books.{books_kept}
 use Rattle.liq_core.specs.Core.{Core, Changes, state_of}
 use Rattle.liq_rules.specs.Image.{image}
 use Rattle.liq_rules.specs.Rules.{rules}
 use Rattle.liq_core.specs.Sound.{IsSound, core_of}
 use Rattle.liq_core.proofs.Lending.{books_stand, coll_held, debt_held}
 use Rattle.liq_rules.proofs.Moving.{read_or}
-use Rattle.liq_rules.proofs.Ranking.{gone_list, more_list, without-absent}
 use Rattle.liq_soundness.proofs.SoundBounds.{surplus_covered}
 use Rattle.liq_core.proofs.SoundCores.{core_finds, image_back, sound_after}
 use Rattle.liq_soundness.proofs.SoundRedeem.{redeem_leaves}
 use Rattle.liq_soundness.proofs.SoundStart.{started_with}
+use Rattle.liq_order.proofs.Ranking.{left_order, more_list}
+use Rattle.liq_types.proofs.SameRows.{without-absent}
 
 -- ---- images by their parts
 
@@ -123,7 +124,7 @@ module _ (p : Parts) (h : IsListed p) (account : ℕ) where
         ascend = subst (λ (t : Table Trove). Ascends t) (sym left_troves) (without-ascends p.troves account h.ascend);
         listed =
             ap (λ (l : List Ranked). without_ranked l account) h.listed
-            ∙ sym (gone_list p.troves account h.ascend)
+            ∙ sym (left_order p.troves account h.ascend)
             ∙ ap (λ (t : Table Trove). order_by t) (sym left_troves);
       }
 
@@ -187,7 +188,7 @@ module _ (p : Inside) (sound : IsSound p) where
 
   pub entire_within_all : given.AreEntireWithin p.troves.sums p.troves.table.rows
   entire_within_all =
-      let b = kept_books p.pools p.troves in
+      let b = books_kept p.troves p.pools in
       let stand = books_stand p sound in
       let dues = pending_covered b stand in
       let colls = stand.active_coll in

@@ -34,6 +34,7 @@ use Rattle.liq_rules.proofs.SoundRules.{meets, both_first, both_second}
 use Rattle.liq_soundness.proofs.SoundStart.{started_with}
 use Rattle.liq_soundness.proofs.SoundTests.{SoundFacts, sound_facts, facts_sound}
 use Rattle.liq_rules.proofs.Started.{started_image, started_formed}
+use Rattle.liq_stability.proofs.Tests.{before_in}
 
 -- ---- the opening
 
@@ -99,16 +100,10 @@ opened_image wallets troves sums words finished deposits surplus clients w t u p
 
 -- ---- the state that begins with a sound image
 
-earlier : (a b : Place) → is_before a b ≡ true → IsBefore a b
-earlier a b h = by (nat_lt a.0 b.0) refl where
-  by : (c : Bool) → nat_lt a.0 b.0 ≡ c → IsBefore a b
-  by true e = inl (grind (arith, nat_tests, e))
-  by false e = inr (grind (arith, nat_tests, e, h), grind (arith, nat_tests, e, h))
-
 all_earlier : (most : ℕ) (place : Place) (table : List (Place × ℕ)) → list_all (λ (row : Place × ℕ). nat_le row.1 most && is_before row.0 place) table ≡ true → AllByRecursion (λ (row : Place × ℕ). IsBefore row.0 place) table
 all_earlier most place [] h = tt
 all_earlier most place (row ∷ table) h = (
-  earlier row.0 place (both_second (nat_le row.1 most) _ (both_first _ _ h)),
+  before_in row.0 place (both_second (nat_le row.1 most) _ (both_first _ _ h)),
   all_earlier most place table (both_second (nat_le row.1 most && is_before row.0 place) _ h),
 )
 

@@ -37,17 +37,18 @@ use Rattle.liq_stability.specs.Position.{words_of, deposit_rows}
 use Rattle.liq_stability.specs.Words.{pool_words, finished_with}
 use Rattle.liq_liquidation.specs.declared.one.One.{One}
 use Rattle.liq_liquidation.specs.declared.one.Victim.{Victim}
-use Rattle.liq_liquidation.specs.Applied.{IsPlannedOn, StayWithin, books_kept, finished_in, pools_left, words_left}
+use Rattle.liq_liquidation.specs.Applied.{IsPlannedOn, StayWithin, finished_in, pools_left, words_left}
 use Rattle.liq_liquidation.specs.One.{one, liquidated, struck_books}
 use Rattle.liq_liquidation.proofs.Left.{left_beside, left_books, left_words, left_sums, left_list}
 use Rattle.liq_rules.specs.Liquidation.{all_liquidated}
-use Rattle.liq_core.specs.Victims.{AreVictims, AreKept, pools_of}
+use Rattle.liq_core.specs.Victims.{AreVictims, AreKept}
 use Rattle.liq_rules.proofs.AlikeChanges.{formed-lifted}
 use Rattle.liq_rules.proofs.Moving.{read_or}
 use Rattle.liq_soundness.proofs.SoundFacts.{Finds, Leaves, finds_after, leaves_itself, leaves_more, leaves_then}
 use Rattle.liq_soundness.proofs.SoundLiquidate.{Strikes, strikes, victim_leaves}
 use Rattle.liq_soundness.proofs.SoundPool.{PoolPart, part_offset}
 use Rattle.liq_soundness.proofs.SoundTests.{SoundFacts}
+use Rattle.liq_standing.specs.Books.{pools_of, books_kept}
 
 abbrev pub no_one : One
 no_one = record { gas = 0; offset_debt = 0; offset_coll = 0; spread_debt = 0; spread_coll = 0; surplus = 0 }

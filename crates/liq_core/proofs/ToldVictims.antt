@@ -41,8 +41,9 @@ use Rattle.liq_soundness.proofs.SoundFacts.{Finds, finds_after}
 use Rattle.liq_soundness.proofs.SoundLiquidate.{Strikes, strikes, victim_leaves, found, lowest_by, lowest_paid, some_left, stakes_left, with_pay, struck_paid}
 use Rattle.liq_soundness.specs.SoundState.{IsSoundState}
 use Rattle.liq_soundness.proofs.SoundStep.{finds}
-use Rattle.liq_soundness.proofs.SoundTests.{sound_facts, true_both, true_le}
+use Rattle.liq_soundness.proofs.SoundTests.{sound_facts}
 use Rattle.liq_core.proofs.Striking.{no_victim, walked, victim_there, one_more, places_fit}
+use Rattle.std.proofs.lemmas.Bool.{and_from, le-leb}
 
 -- ---- one trove
 
@@ -62,8 +63,8 @@ module _ (t : State) (f : Finds t) (v : Victim) (made : one t v.account ≡ Ok v
       let limit = f.balanced.coll_limit in
       let sums = f.stands.troves.sum_debt in
       record {
-        product = true_both _ _ (true_le _ _ s.least) (true_le _ _ s.highest);
-        sum = true_le _ _ (omega (arith, s.sum));
+        product = and_from _ _ (le-leb _ _ s.least) (le-leb _ _ s.highest);
+        sum = le-leb _ _ (omega (arith, s.sum));
         total = omega (arith, c.lusd, f.balanced.debt_limit);
         scale = scale;
         epoch = epoch;

@@ -1,4 +1,3 @@
-pub mod Books
 pub mod Core
 pub mod Plan
 pub mod Sound

@@ -26,6 +26,7 @@ use Rattle.liq_liquidation.specs.declared.one.Victim.{Victim}
 use Rattle.liq_liquidation.specs.Applied.{words_left}
 use Rattle.liq_liquidation.specs.One.{one, liquidated}
 use Rattle.liq_core.specs.declared.course.Course.{Course}
+use Rattle.liq_standing.specs.Books.{pools_of}
 
 -- each may be liquidated after those before it
 abbrev pub AreVictims : State → ℕ → List Victim → Type 0
@@ -33,19 +34,6 @@ AreVictims s liquidator [] = Unit {0}
 AreVictims s liquidator (v ∷ vs) = (one s v.account ≡ Ok v.one) × AreVictims (liquidated s liquidator v) liquidator vs
 
 -- ---- what is kept of a state
-
-abbrev pub pools_of : State → Pools
-pools_of s =
-    record {
-      active_coll = s.active_coll;
-      active_debt = s.active_debt;
-      default_coll = s.default_coll;
-      default_debt = s.default_debt;
-      reserve = s.reserve;
-      surplus = s.surplus;
-      fee_coll = s.fee_coll;
-      fee_lusd = s.fee_lusd;
-    }
 
 -- the parts that liquidations change are a state's
 pub record AreKept (s : State) (wallets : WithRoom Wallet) (pools : Pools) (surplus : WithRoom ℕ) (troves : troves.Kept) (order : Listed) (pool : stability.Kept) : Type 0 where

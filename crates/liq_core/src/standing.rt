@@ -4,13 +4,14 @@ ghost use Rattle.std.specs.Prelude.{◌≡◌, ◌≤◌, ◌+◌, IsSome, None}
 ghost use Rattle.liq_types.specs.declared.amounts.TheConstants.{MIN_NET};
 ghost use Rattle.liq_types.specs.Tables.{at};
 ghost use Rattle.liq_tables.specs.WithRoom.{HasRoom};
-ghost use Rattle.liq_troves.specs.Standing.{TrovesStand, lift, place};
+ghost use Rattle.liq_troves.specs.Standing.{TrovesStand, lift as lifted, place as placed};
 ghost use Rattle.liq_order.specs.Order.{order_by};
-ghost use Rattle.liq_core.specs.Books.{kept_books, SameOthers};
+ghost use Rattle.liq_standing.specs.Books.{books_kept, SameOthers};
 
 use liq_ledger::Pools;
 use liq_order::Order;
-use liq_troves::{Troves, entire, key};
+use liq_standing::{lift, place};
+use liq_troves::Troves;
 use liq_types::amounts::{LIM, RESERVE};
 use liq_types::{Hint, Steps};
 use std::sync::ledger::Ledger;
@@ -19,23 +20,17 @@ use std::sync::ledger::Ledger;
 /// its room does in table and list.
 pub(crate) fn lift_trove(pools: &mut Pools, troves: &mut Troves, order: &mut Order, account: u32)
     requires there { IsSome (at troves.old.table.rows account) }
-    requires stand { TrovesStand (kept_books pools.old troves.old) }
+    requires stand { TrovesStand (books_kept troves.old pools.old) }
     requires list { order.old.entries ≡ order_by troves.old.table.rows }
     requires coll { pools.old.active_coll + pools.old.default_coll ≤ LIM }
     requires debt { pools.old.active_debt + pools.old.default_debt ≤ LIM }
-    ensures books { kept_books pools.new troves.new ≡ lift (kept_books pools.old troves.old) account }
+    ensures books { books_kept troves.new pools.new ≡ lifted (books_kept troves.old pools.old) account }
     ensures others { SameOthers pools.old pools.new }
     ensures list { order.new.entries ≡ order_by troves.new.table.rows }
     ensures room { HasRoom troves.new.table account }
     ensures spare { order.new.room ≡ order.old.room + 1 }
 {
-    let trove = troves.remove(account);
-    let (coll, debt) = entire(&trove, troves.sums());
-    pools.active_coll -= trove.coll;
-    pools.active_debt -= trove.debt;
-    pools.default_coll -= coll - trove.coll;
-    pools.default_debt -= debt - trove.debt;
-    order.remove(account);
+    lift(pools, troves, order, account);
 }
 
 /// A trove of the account comes into the table, the active pool and the list, with these amounts in gwei and micro-LUSD and
@@ -51,7 +46,7 @@ pub(crate) fn place_trove<L: Ledger>(
     steps: &mut Steps<L>,
 )
     requires absent { at troves.old.table.rows account ≡ None }
-    requires stand { TrovesStand (kept_books pools.old troves.old) }
+    requires stand { TrovesStand (books_kept troves.old pools.old) }
     requires list { order.old.entries ≡ order_by troves.old.table.rows }
     requires some { 1 ≤ coll }
     requires least { RESERVE + MIN_NET ≤ debt }
@@ -59,12 +54,9 @@ pub(crate) fn place_trove<L: Ledger>(
     requires debt { pools.old.active_debt + debt ≤ LIM }
     requires room { HasRoom troves.old.table account }
     requires spare { 1 ≤ order.old.room }
-    ensures books { kept_books pools.new troves.new ≡ place (kept_books pools.old troves.old) account coll debt }
+    ensures books { books_kept troves.new pools.new ≡ placed (books_kept troves.old pools.old) account coll debt }
     ensures others { SameOthers pools.old pools.new }
     ensures list { order.new.entries ≡ order_by troves.new.table.rows }
 {
-    pools.active_coll += coll;
-    pools.active_debt += debt;
-    let row = troves.set(account, coll, debt);
-    order.insert(key(&row), account, hint, steps);
+    place(pools, troves, order, account, coll, debt, hint, steps);
 }

@@ -22,6 +22,8 @@ use Rattle.liq_rules.specs.Image.{image}
 use Rattle.liq_types.specs.WellFormed.{IsMoment, IsWellFormed}
 use Rattle.liq_types.proofs.MapRows.{at-map, map-put, map-without, map-sum, map-cong}
 use Rattle.liq_types.proofs.Places.{sum_shown, sum-snoc, finished-snoc, sum_after, finished_after}
+use Rattle.liq_troves.proofs.BooksOf.{sum_all, sum_more, sums_grown, row_grown}
+use Rattle.liq_stability.proofs.Pool.{own_total, own_coll, mark-grown, deposit-grown, less_debt, more_coll}
 
 -- ---- troves, by the image
 
@@ -86,35 +88,14 @@ redistribute i coll debt =
       sum_debt = i.sum_debt + floor_of debt ONE i.stakes;
     }
 
--- a moment's sums stay when the list grows
-sums-grown : (s : State) (coll debt : ℕ) (mark : Mark StakeSums) → IsMoment (length s.redistributions) mark → sums_at (redistributed s coll debt) mark ≡ sums_at s mark
-sums-grown s coll debt (AtStart fields) h = refl
-sums-grown s coll debt (After n) h =
-    ap (λ (rs : List Redistribution). record { coll = s.start.sum_coll + sum_by coll_growth rs; debt = s.start.sum_debt + sum_by debt_growth rs })
-    (take-append-le n s.redistributions (record { coll = coll; debt = debt; stakes = stakes_of s } ∷ []) h)
-
-pub row-grown : (s : State) (coll debt : ℕ) (t : TroveEntry) → IsMoment (length s.redistributions) t.mark → trove_row (redistributed s coll debt) t ≡ trove_row s t
-row-grown s coll debt t h =
-    ap (λ (m : StakeSums). record { coll = t.coll; debt = t.debt; stake = t.stake; mark_coll = m.coll; mark_debt = m.debt }) (sums-grown s coll debt t.mark h)
-
-sum_all : (f : Redistribution → ℕ) (list : List Redistribution) → sum_by f (take (length list) list) ≡ sum_by f list
-sum_all f list = ap (sum_by f) (take-length list)
-
-sum-grown : (f : Redistribution → ℕ) (base : ℕ) (list : List Redistribution) (r : Redistribution) → base + sum_by f (take (length (list ++ r ∷ [])) (list ++ r ∷ [])) ≡ base + sum_by f (take (length list) list) + f r
-sum-grown f base list r =
-    let long = sum_all f (list ++ r ∷ []) in
-    let short = sum_all f list in
-    let parts = sum_by-append f list (r ∷ []) in
-    omega (arith, long, short, parts)
-
 pub redistribute-image : (s : State) (coll debt : ℕ) → IsWellFormed s → image (redistributed s coll debt) ≡ redistribute (image s) coll debt
 unfolding redistribute
 redistribute-image s coll debt h =
     let more : Redistribution = record { coll = coll; debt = debt; stakes = stakes_of s } in
     let left = image (redistributed s coll debt) in
-    ap (λ (rows : Table Trove). record left { troves = rows }) (map-cong (trove_row (redistributed s coll debt)) (trove_row s) (λ t. IsMoment (length s.redistributions) t.mark) (row-grown s coll debt) s.troves h.1)
-    ∙ ap (λ n. record (image s) { default_coll = s.default_coll + coll; default_debt = s.default_debt + debt; sum_coll = n; sum_debt = left.sum_debt }) (sum-grown coll_growth s.start.sum_coll s.redistributions more)
-    ∙ ap (λ n. record (image s) { default_coll = s.default_coll + coll; default_debt = s.default_debt + debt; sum_coll = (image s).sum_coll + coll_growth more; sum_debt = n }) (sum-grown debt_growth s.start.sum_debt s.redistributions more)
+    ap (λ (rows : Table Trove). record left { troves = rows }) (map-cong (trove_row (redistributed s coll debt)) (trove_row s) (λ t. IsMoment (length s.redistributions) t.mark) (row_grown s coll debt) s.troves h.1)
+    ∙ ap (λ n. record (image s) { default_coll = s.default_coll + coll; default_debt = s.default_debt + debt; sum_coll = n; sum_debt = left.sum_debt }) (sum_more coll_growth s.start.sum_coll s.redistributions more)
+    ∙ ap (λ n. record (image s) { default_coll = s.default_coll + coll; default_debt = s.default_debt + debt; sum_coll = (image s).sum_coll + coll_growth more; sum_debt = n }) (sum_more debt_growth s.start.sum_debt s.redistributions more)
 
 -- ---- the Stability Pool, by the image
 
@@ -174,12 +155,6 @@ deposit-map f table account d e =
 mark-full : (s : State) → mark_after s.start (take (length s.offsets) s.offsets) ≡ mark_after s.start s.offsets
 mark-full s = ap (mark_after s.start) (take-length s.offsets)
 
-own_total : (start_total provided withdrawn debts put_in out : ℕ) → withdrawn + debts ≤ start_total + provided → start_total + (provided + put_in) - (withdrawn + out) - debts ≡ start_total + provided - withdrawn - debts + put_in - out
-own_total start_total provided withdrawn debts put_in out h = omega arith
-
-own_coll : (had paid_before gain : ℕ) → had - (paid_before + gain) ≡ had - paid_before - gain
-own_coll had paid_before gain = omega arith
-
 pub own-image : (s : State) → IsWellFormed s → (account put_in out : ℕ) → image (owned s account put_in out) ≡ own (image s) account put_in out (gain_of s account) (amount_after s account put_in out)
 unfolding own
 own-image s h account put_in out =
@@ -222,21 +197,6 @@ offset_by i debt coll =
 fold-snoc : {A B : Type 0} (f : B → A → B) (a : B) (xs : List A) (x : A) → fold f a (xs ++ x ∷ []) ≡ f (fold f a xs) x
 fold-snoc f a xs x = fold-append f a xs (x ∷ [])
 
-mark-grown : (s : State) (debt coll : ℕ) (mark : Mark PoolMark) → IsMoment (length s.offsets) mark → mark_of (offset s debt coll) mark ≡ mark_of s mark
-mark-grown s debt coll (AtStart fields) h = refl
-mark-grown s debt coll (After n) h =
-    ap (mark_after s.start) (take-append-le n s.offsets (record { debt = debt; coll = coll; total = pool_total s } ∷ []) h)
-
-deposit-grown : (s : State) (debt coll : ℕ) (d : DepositEntry) → IsMoment (length s.offsets) d.mark → deposit_row (offset s debt coll) d ≡ deposit_row s d
-deposit-grown s debt coll d h =
-    ap (λ (m : PoolMark). record { amount = d.amount; p = m.p; sum = m.sum; scale = m.scale; epoch = m.epoch }) (mark-grown s debt coll d.mark h)
-
-offset_total : (start_total provided withdrawn debts more debt : ℕ) → more ≡ debts + debt → start_total + provided - withdrawn - more ≡ start_total + provided - withdrawn - debts - debt
-offset_total start_total provided withdrawn debts more debt e = omega (arith, e)
-
-offset_coll : (had gains colls more coll : ℕ) → more ≡ colls + coll → gains ≤ had + colls → had + more - gains ≡ had + colls - gains + coll
-offset_coll had gains colls more coll e h = omega (arith, e)
-
 pub offset-image : (s : State) → IsWellFormed s → (debt coll : ℕ) → image (offset s debt coll) ≡ offset_by (image s) debt coll
 unfolding offset_by words_by
 offset-image s h debt coll =
@@ -249,6 +209,6 @@ offset-image s h debt coll =
     ∙ ap (λ n. record target { sum = n; finished = made.finished; total = made.total; pool_coll = made.pool_coll }) (sum-snoc s.start s.offsets o h.0)
     ∙ ap (λ (f : List (Place × ℕ)). record target { finished = f; total = made.total; pool_coll = made.pool_coll }) (finished-snoc s.start s.offsets o)
     ∙ ap (λ n. record target { total = n; pool_coll = made.pool_coll })
-    (offset_total s.start.total s.provided s.withdrawn (sum_by (λ (x : PoolOffset). x.debt) s.offsets) (sum_by (λ (x : PoolOffset). x.debt) (s.offsets ++ o ∷ [])) debt (sum_by-append (λ (x : PoolOffset). x.debt) s.offsets (o ∷ []) ∙ omega arith))
+    (less_debt s.start.total s.provided s.withdrawn (sum_by (λ (x : PoolOffset). x.debt) s.offsets) (sum_by (λ (x : PoolOffset). x.debt) (s.offsets ++ o ∷ [])) debt (sum_by-append (λ (x : PoolOffset). x.debt) s.offsets (o ∷ []) ∙ omega arith))
     ∙ ap (λ n. record target { pool_coll = n })
-    (offset_coll s.start.pool_coll s.gains_paid (sum_by (λ (x : PoolOffset). x.coll) s.offsets) (sum_by (λ (x : PoolOffset). x.coll) (s.offsets ++ o ∷ [])) coll (sum_by-append (λ (x : PoolOffset). x.coll) s.offsets (o ∷ []) ∙ omega arith) h.3.1)
+    (more_coll s.start.pool_coll s.gains_paid (sum_by (λ (x : PoolOffset). x.coll) s.offsets) (sum_by (λ (x : PoolOffset). x.coll) (s.offsets ++ o ∷ [])) coll (sum_by-append (λ (x : PoolOffset). x.coll) s.offsets (o ∷ []) ∙ omega arith) h.3.1)

@@ -15,21 +15,12 @@ use Rattle.liq_types.specs.WellFormed.{IsMoment, IsWellFormed, TrovesAreMarked, 
 use Rattle.liq_types.proofs.MapRows.{all-put, all-without, all-weaken}
 use Rattle.liq_rules.proofs.Alike.{lift, lift-image, place, place-image, redistribute, redistribute-image, own, own-image, offset_by, offset-image}
 use Rattle.liq_rules.proofs.AlikeReads.{Alike, gain_alike, amount_alike}
+use Rattle.liq_stability.proofs.Pool.{moment-more, deposits-more, length-more, with_deposit-marked, balance_within, gain_within, still_covered, gains_covered, taken_covered}
 
 -- ---- what is well formed stays so
 
-moment-more : {F : Type 0} (n m : ℕ) → n ≤ m → (mark : Mark F) → IsMoment n mark → IsMoment m mark
-moment-more n m h (AtStart fields) k = tt
-moment-more n m h (After items) k = omega (arith, h, k)
-
 troves-more : (n m : ℕ) → n ≤ m → (table : Table TroveEntry) → TrovesAreMarked n table → TrovesAreMarked m table
 troves-more n m h table = all-weaken (λ (t : TroveEntry). IsMoment n t.mark) (λ t. IsMoment m t.mark) (λ t k. moment-more n m h t.mark k) table
-
-deposits-more : (n m : ℕ) → n ≤ m → (table : Table DepositEntry) → DepositsAreMarked n table → DepositsAreMarked m table
-deposits-more n m h table = all-weaken (λ (d : DepositEntry). IsMoment n d.mark) (λ d. IsMoment m d.mark) (λ d k. moment-more n m h d.mark k) table
-
-length-more : {X : Type 0} (xs : List X) (x : X) → length xs ≤ length (xs ++ x ∷ [])
-length-more xs x = let long = length-append xs (x ∷ []) in omega (arith, long)
 
 formed-lifted_entry : (s : State) (account : ℕ) (o : Option TroveEntry) → IsWellFormed s → IsWellFormed (lifted_entry s account o)
 formed-lifted_entry s account None h = h
@@ -46,26 +37,6 @@ formed-redistributed s coll debt h =
     let r : Redistribution = record { coll = coll; debt = debt; stakes = stakes_of s } in
     (h.0, troves-more (length s.redistributions) (length (s.redistributions ++ r ∷ [])) (length-more s.redistributions r) s.troves h.1, h.2, h.3)
 
-with_deposit-marked : (n : ℕ) (table : Table DepositEntry) (account : ℕ) (d : DepositEntry) → IsMoment n d.mark → DepositsAreMarked n table → DepositsAreMarked n (with_deposit table account d)
-with_deposit-marked n table account d k h = by (d.amount == 0) where
-  by : (b : Bool) → DepositsAreMarked n (cond b (without table account) (put table account d))
-  by true = all-without (λ (x : DepositEntry). IsMoment n x.mark) table account h
-  by false = all-put (λ (x : DepositEntry). IsMoment n x.mark) table account d k h
-
-pub balance_within : (s : State) (o : Option DepositEntry) → balance_in s o ≤ pool_total s
-balance_within s None = omega arith
-balance_within s (Some d) = omega arith
-
-pub gain_within : (s : State) (o : Option DepositEntry) → gain_in s o ≤ pool_coll s
-gain_within s None = omega arith
-gain_within s (Some d) = omega arith
-
-still_covered : (withdrawn debts total provided put_in out : ℕ) → withdrawn + debts ≤ total + provided → out ≤ total + provided - withdrawn - debts → withdrawn + out + debts ≤ total + (provided + put_in)
-still_covered withdrawn debts total provided put_in out h k = omega arith
-
-gains_covered : (gains had gain : ℕ) → gains ≤ had → gain ≤ had - gains → gains + gain ≤ had
-gains_covered gains had gain h k = omega arith
-
 pub formed-owned : (s : State) (account put_in out : ℕ) → out ≤ balance_of s account → IsWellFormed s → IsWellFormed (owned s account put_in out)
 formed-owned s account put_in out within h =
     let some = balance_within s (at s.deposits account) in (
@@ -77,9 +48,6 @@ formed-owned s account put_in out within h =
         gains_covered s.gains_paid (s.start.pool_coll + sum_by (λ (o : PoolOffset). o.coll) s.offsets) (gain_of s account) h.3.1 (gain_within s (at s.deposits account)),
       ),
     )
-
-taken_covered : (withdrawn debts more total provided debt : ℕ) → more ≡ debts + debt → withdrawn + debts ≤ total + provided → debt ≤ total + provided - withdrawn - debts → withdrawn + more ≤ total + provided
-taken_covered withdrawn debts more total provided debt e h k = omega (arith, e)
 
 pub formed-offset : (s : State) (debt coll : ℕ) → debt ≤ pool_total s → IsWellFormed s → IsWellFormed (offset s debt coll)
 formed-offset s debt coll within h =

@@ -27,6 +27,8 @@ use Rattle.liq_rules.specs.Liquidation.{listed, all_liquidated}
 use Rattle.liq_rules.proofs.Allowed.{none_first}
 use Rattle.liq_rules.proofs.AlikeReads.{Alike, sums_by, market_alike, pool_total_alike, last_alike}
 use Rattle.liq_rules.proofs.AlikeChanges.{alike_by, lifted_alike, offset_alike, redistributed_alike, snapped_alike, surplus_added_alike, paid_alike}
+use Rattle.liq_types.proofs.Tests.{made_by}
+use Rattle.liq_stability.proofs.Pool.{offset-total}
 
 -- ---- what becomes of a trove
 
@@ -43,16 +45,12 @@ pool_serves Redistributed price coll debt total h = omega arith
 pool_serves Capped price coll debt total h = grind (arith, nat_tests, h)
 pool_serves Kept price coll debt total h = omega arith
 
-outcome_ok : {X : Type 0} (o : Option Refusal) (x y : X) → outcome o x ≡ Ok y → (o ≡ None) × (x ≡ y)
-outcome_ok None x y h = (refl, cc)
-outcome_ok (Some refusal) x y h = cc
-
 third : (a b c : Rule) (more : List Rule) → first_refusal (a ∷ b ∷ c ∷ more) ≡ None → c.0 ≡ false
 third a b c more h = (none_first c more (none_first b (c ∷ more) (none_first a (b ∷ c ∷ more) h).1).1).0
 
 one_of_serves : (m : Market) (others : Sums) (coll debt total : ℕ) (made : One) → one_of m others coll debt total ≡ Ok made → made.offset_debt ≤ total
 one_of_serves m others coll debt total made h =
-    let ok = outcome_ok (first_refusal (one_rules m others coll debt total)) (treated (treatment m coll debt) m.price coll debt total) made h in
+    let ok = made_by (first_refusal (one_rules m others coll debt total)) (treated (treatment m coll debt) m.price coll debt total) made h in
     let kind = treatment m coll debt in
     let made_by = treated kind m.price coll debt total in
     let room : (is_capped (treatment m coll debt) && nat_lt total debt) ≡ false =
@@ -77,14 +75,6 @@ lifted_entry-total s account (Some t) = refl
 
 lifted-total : (s : State) (account : ℕ) → pool_total (lifted s account) ≡ pool_total s
 lifted-total s account = lifted_entry-total s account (at s.troves account)
-
-offset-total : (s : State) (debt coll : ℕ) → pool_total (offset s debt coll) ≡ pool_total s - debt
-offset-total s debt coll =
-    let o : PoolOffset = record { debt = debt; coll = coll; total = pool_total s } in
-    let debts = sum_by-append (λ (x : PoolOffset). x.debt) s.offsets (o ∷ []) in
-    minus (s.start.total + s.provided - s.withdrawn) (sum_by (λ (x : PoolOffset). x.debt) s.offsets) debt (sum_by (λ (x : PoolOffset). x.debt) (s.offsets ++ o ∷ [])) (debts ∙ omega arith) where
-      minus : (all before d after : ℕ) → after ≡ before + d → all - after ≡ all - before - d
-      minus all before d after e = omega (arith, e)
 
 if_any-total : (s : State) (debt coll : ℕ) → pool_total (offset_if_any s debt coll) ≡ pool_total s - debt
 if_any-total s debt coll = by (debt == 0) refl where

@@ -30,6 +30,7 @@ use Rattle.liq_rules.specs.ListChanges.{stands}
 use Rattle.liq_rules.specs.View.{changes_list}
 use Rattle.liq_rules.proofs.AlikeLiquidation.{lowest_by}
 use Rattle.liq_rules.proofs.Allowed.{none_first}
+use Rattle.liq_types.proofs.Tests.{all_false}
 
 pub unchanged : (s : State) (call : Call) → changes_list call ≡ false → call_changes s call ≡ []
 unchanged s (Price price) h = refl
@@ -94,10 +95,6 @@ lowest_struck s (suc more) n h =
 some_cut : (next : State) (cuts : List Cut) → (sum_by (λ (cut : Cut). cut.lot) cuts == 0) ≡ false → map (λ (cut : Cut). stands next cut.account) cuts ≢ []
 some_cut next [] h = cc
 some_cut next (cut ∷ cuts) h = λ e. cc
-
-all_false : (rules : List Rule) → first_refusal rules ≡ None → AllByRecursion (λ (rule : Rule). rule.0 ≡ false) rules
-all_false [] h = tt
-all_false (rule ∷ rules) h = let here = none_first rule rules h in (here.0, all_false rules here.1)
 
 pub changed : (s : State) (call : Call) → first_refusal (rules s call) ≡ None → changes_list call ≡ true → call_changes s call ≢ []
 changed s (Open account coll borrow bound hint) h k = λ e. cc

@@ -18,10 +18,10 @@ use Rattle.liq_rules.specs.Rules.{effect, rules}
 use Rattle.liq_rules.specs.Identities.{IsConserved, touches_no_trove}
 use Rattle.liq_types.specs.WellFormed.{IsWellFormed, TablesAscend}
 use Rattle.liq_rules.proofs.Alike.{owned_total, owned_coll}
-use Rattle.liq_rules.proofs.AlikeChanges.{balance_within, gain_within}
 use Rattle.liq_rules.proofs.Allowed.{second_false, take_enough}
 use Rattle.liq_types.proofs.Ascending.{wallet-ascends}
 use Rattle.liq_rules.proofs.Moving.{paid_coll, paid_lusd, charged_coll, charged_lusd}
+use Rattle.liq_stability.proofs.Pool.{balance_within, gain_within}
 
 fund_conserves : (s : State) (account coll : ℕ) → TablesAscend s → IsConserved s → IsConserved (effect s (Fund account coll))
 fund_conserves s account coll t h =

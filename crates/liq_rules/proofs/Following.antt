@@ -42,15 +42,17 @@ use Rattle.liq_rules.specs.ListChanges.{stands, words_in}
 use Rattle.liq_rules.specs.Rules.{effect, call_changes, done_of}
 use Rattle.liq_rules.specs.Step.{Ruling, Refused, Repeated, Allowed, after, after_ruling, ruling, run, accepted, is_allowed}
 use Rattle.liq_rules.specs.View.{View, view_of, followed, all_followed, changes}
-use Rattle.liq_rules.proofs.Alike.{row-grown}
 use Rattle.liq_rules.proofs.AlikeChanges.{formed-lifted}
 use Rattle.liq_rules.proofs.AlikeFollowed.{told, stands-image}
 use Rattle.liq_rules.proofs.AlikeLiquidation.{Serves, single_serves, lowest_serves, struck_alike, struck-total}
 use Rattle.liq_rules.proofs.AlikeReplies.{alike_itself}
 use Rattle.liq_rules.proofs.Ascending.{Ordered, cut_entire-ascends, effect-ascends, liquidated-ascends, noted-ascends}
 use Rattle.liq_rules.proofs.AlikeStep.{effect_alike}
-use Rattle.liq_rules.proofs.Ranking.{same_rows, without-absent, gone_list, put_list}
-use Rattle.liq_rules.proofs.Rows.{equal_keys, differ, at-put_same, at-put_other, at-without_same, at-without_other}
+use Rattle.liq_rules.proofs.Rows.{differ, at-put_same, at-put_other, at-without_same, at-without_other}
+use Rattle.liq_troves.proofs.BooksOf.{row_grown}
+use Rattle.liq_types.proofs.Lookups.{same_key}
+use Rattle.liq_order.proofs.Ranking.{left_order, put_list}
+use Rattle.liq_types.proofs.SameRows.{same_rows, without-absent}
 
 -- ---- a table that is mended row by row
 
@@ -75,7 +77,7 @@ abbrev view_by : Table Trove → View → View
 view_by table v = record v { list = order_by table }
 
 mended_view : (table : Table Trove) (v : View) (account : ℕ) (o : Option Trove) → Ascends table → followed (view_by table v) (told account o) ≡ view_by (mended table account o) v
-mended_view table v account None s = ap (λ (list : List Ranked). record v { list = list }) (sym (gone_list table account s))
+mended_view table v account None s = ap (λ (list : List Ranked). record v { list = list }) (sym (left_order table account s))
 mended_view table v account (Some row) s = ap (λ (list : List Ranked). record v { list = list }) (sym (put_list table account row s))
 
 abbrev pub IsAway : ℕ → List ℕ → Type 0
@@ -93,7 +95,7 @@ follow (account ∷ accounts) old new v s t h =
       rest : (q : ℕ) → IsAway q accounts → at new q ≡ at (mended old account (at new account)) q
       rest q away = by (is_eq (nat_cmp q account)) refl where
         by : (b : Bool) → is_eq (nat_cmp q account) ≡ b → at new q ≡ at (mended old account (at new account)) q
-        by true is = subst (λ k. at new k ≡ at (mended old account (at new account)) k) (sym (equal_keys q account is)) (sym (mended_here old account (at new account) s))
+        by true is = subst (λ k. at new k ≡ at (mended old account (at new account)) k) (sym (same_key q account is)) (sym (mended_here old account (at new account) s))
         by false is = h q (differ q account is, away) ∙ sym (mended_other old account q (at new account) (differ q account is))
 
 -- ---- the troves of a state, as its image has them
@@ -216,7 +218,7 @@ struck-troves s v w h =
     let left = lifted s v.account in
     let pooled = offset_if_any left v.one.offset_debt v.one.offset_coll in
     map-cong (trove_row (redistributed pooled v.one.spread_coll v.one.spread_debt)) (trove_row pooled) (λ (t : TroveEntry). IsMoment (length pooled.redistributions) t.mark)
-    (row-grown pooled v.one.spread_coll v.one.spread_debt) pooled.troves
+    (row_grown pooled v.one.spread_coll v.one.spread_debt) pooled.troves
     (if_any-marked left v.one.offset_debt v.one.offset_coll (formed-lifted s v.account w).1)
     ∙ if_any-troves left v.one.offset_debt v.one.offset_coll
     ∙ lifted-troves s v.account h
@@ -224,7 +226,7 @@ struck-troves s v w h =
 struck_view : (s : State) (v : Victim) → IsWellFormed s → Ascends s.troves → followed (followed (view_of s) (Gone v.account)) (words_in (struck s v)) ≡ view_of (struck s v)
 struck_view s v w h =
     ap (λ (list : List Ranked). record (view_of (struck s v)) { list = list })
-    (sym (gone_list (troves_in s) v.account (troves-ascend s h)) ∙ sym (ap (λ (t : Table Trove). order_by t) (struck-troves s v w h)))
+    (sym (left_order (troves_in s) v.account (troves-ascend s h)) ∙ sym (ap (λ (t : Table Trove). order_by t) (struck-troves s v w h)))
 
 -- the same but for the reserve and the wallets
 abbrev with_purse : State → ℕ → Table Wallet → State

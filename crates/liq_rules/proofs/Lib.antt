@@ -17,7 +17,6 @@ pub mod Generations
 pub mod Histories
 pub mod Moving
 pub mod Opening
-pub mod Ranking
 pub mod Rows
 pub mod Ruled
 pub mod Runs

@@ -14,6 +14,7 @@ use Rattle.liq_types.specs.Tables.{Table, at, put, without}
 use Rattle.liq_rules.specs.Identities.{wallets_coll, wallets_lusd, WalletsAscend}
 use Rattle.liq_types.proofs.UsedRows.{sum_by-put}
 use Rattle.liq_rules.proofs.Rows.{at-put_same, at-put_other, at-without_same, at-without_other}
+use Rattle.liq_ledger.proofs.Exchanging.{unused}
 
 pub read_or : (f : Wallet → ℕ) → f no_wallet ≡ 0 → (o : Option Wallet) → unwrap_or (option_map f o) 0 ≡ f (unwrap_or o no_wallet)
 read_or f z None = sym z
@@ -59,14 +60,11 @@ module _ (s : State) (account coll lusd : ℕ) (ascend : WalletsAscend s) where
 
 -- ---- whose wallet it is
 
-pub unused_none : (w : Wallet) → is_used_wallet w ≡ false → w ≡ no_wallet
-unused_none w h = ap (λ n. record { coll = n; lusd = w.lusd }) (unused_coll w h) ∙ ap (λ n. record { coll = 0; lusd = n }) (unused_lusd w h)
-
 pub wallet_here : (table : Table Wallet) (account : ℕ) (w : Wallet) → IsStrictlySortedBy nat_cmp (keys_of table) → unwrap_or (at (with_wallet table account w) account) no_wallet ≡ w
 wallet_here table account w s = by (is_used_wallet w) refl where
   by : (b : Bool) → is_used_wallet w ≡ b → unwrap_or (at (cond b (put table account w) (without table account)) account) no_wallet ≡ w
   by true e = ap (λ (o : Option Wallet). unwrap_or o no_wallet) (at-put_same table account w)
-  by false e = ap (λ (o : Option Wallet). unwrap_or o no_wallet) (at-without_same table account s) ∙ sym (unused_none w e)
+  by false e = ap (λ (o : Option Wallet). unwrap_or o no_wallet) (at-without_same table account s) ∙ sym (unused w e)
 
 pub wallet_other : (table : Table Wallet) (account q : ℕ) (w : Wallet) → q ≢ account → unwrap_or (at (with_wallet table account w) q) no_wallet ≡ unwrap_or (at table q) no_wallet
 wallet_other table account q w n = by (is_used_wallet w) where

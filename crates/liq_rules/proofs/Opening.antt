@@ -26,18 +26,8 @@ use Rattle.liq_types.specs.declared.figures.Trove.{Trove}
 use Rattle.liq_types.proofs.MapRows.{map-length, map-sum}
 use Rattle.liq_troves.specs.StakeSums.{trove_row}
 use Rattle.liq_types.proofs.UsedRows.{sum_by-put}
-
-absent : {X : Type 0} (o : Option X) → is_some o ≡ false → o ≡ None
-absent None h = refl
-absent (Some x) h = cc
-
-length-put : {X : Type 0} (table : Table X) (key : ℕ) (x : X) → at table key ≡ None → length (put table key x) ≡ length table + 1
-length-put [] key x n = refl
-length-put {X} (e ∷ es) key x n = by (nat_cmp key e.0) n (length-put es key x) where
-  by : (o : Ordering) → cond (is_eq o) (Some e.1) (at es key) ≡ None → (at es key ≡ None → length (put es key x) ≡ length es + 1) → length (match_ordering o ((key, x) ∷ e ∷ es) ((e.0, x) ∷ es) (e ∷ put es key x)) ≡ length (e ∷ es) + 1
-  by Less m more = omega arith
-  by Equal m more = cc
-  by Greater m more = let long = more m in omega (arith, long)
+use Rattle.liq_types.proofs.Tests.{missing}
+use Rattle.liq_types.proofs.Lookups.{length-put}
 
 no_entry : TroveEntry
 no_entry = record { coll = 0; debt = 0; stake = 0; mark = After 0 }
@@ -96,7 +86,7 @@ opens s account coll borrow bound r =
     let found = sixth (is_some (at s.troves account), TroveExists account) (fee_bound bound (least_bound m)) (fee_over terms.fee borrow bound) (where_below (borrow + terms.fee) MIN_NET NetDebtLow) (where_above (m.total_debt + terms.debt) LIM AmountLimit) (where_short coll have ShortCollateral)
     (ratio_low m (least_ratio m) coll terms.debt ∷ system_ratio_low m (m.total_coll + coll) (m.total_debt + terms.debt) ∷ []) r in
     let enough : nat_lt have coll ≡ false = found.1 in
-    (absent (at s.troves account) found.0, grind (arith, nat_tests, enough))
+    (missing (at s.troves account) found.0, grind (arith, nat_tests, enough))
 
 pub opening_conserves : (s : State) (account coll borrow bound : ℕ) → TablesAscend s → first_refusal (open_rules (market_of s) (wallet_of s account) (is_some (at s.troves account)) account coll borrow bound) ≡ None → IsConserved s → IsConserved (opened s account borrow (opening_terms (market_of s) coll borrow))
 opening_conserves s account coll borrow bound t r h =

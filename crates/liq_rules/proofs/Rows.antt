@@ -8,15 +8,8 @@ use Rattle.std.proofs.lemmas.Bool.Decides.{nat_tests}
 use Rattle.std.proofs.lemmas.Map.Lookups.{exact_unsigned}
 use Rattle.liq_types.specs.Tables.{Table, at, put, without}
 use Rattle.liq_types.proofs.Lookups as lookups
+use Rattle.liq_types.proofs.Lookups.{same_key}
 pub use Rattle.liq_types.proofs.Lookups.{is_eq-same, at-put_same, at-without_same}
-
--- a key is equal to another where their comparison says so
-pub equal_keys : (a b : ℕ) → is_eq (nat_cmp a b) ≡ true → a ≡ b
-equal_keys a b h = by (nat_cmp a b) refl h where
-  by : (o : Ordering) → nat_cmp a b ≡ o → is_eq o ≡ true → a ≡ b
-  by Less is e = cc
-  by Equal is e = exact_unsigned a b is
-  by Greater is e = cc
 
 pub differ : (a b : ℕ) → is_eq (nat_cmp a b) ≡ false → a ≢ b
 differ a b h e = clash (sym (subst (λ n. is_eq (nat_cmp a n) ≡ true) e (is_eq-same a)) ∙ h) where

@@ -15,6 +15,7 @@ use Rattle.liq_types.specs.Tables.{Table, put}
 use Rattle.liq_types.proofs.Ascending.{put-ascends}
 use Rattle.liq_types.specs.declared.figures.Trove.{Trove}
 use Rattle.liq_rules.specs.Identities.{IsAtHome}
+use Rattle.std.proofs.lemmas.Bool.{and_from}
 
 -- ---- all rules
 
@@ -70,7 +71,7 @@ sound_of i records h tables =
       tables = tables;
     }
 
--- ---- both of two
+-- ---- and_from of two
 
 pub both_first : (a b : Bool) → (a && b) ≡ true → a ≡ true
 both_first true b h = refl
@@ -80,12 +81,9 @@ pub both_second : (a b : Bool) → (a && b) ≡ true → b ≡ true
 both_second true b h = h
 both_second false b h = cc
 
-both : (a b : Bool) → a ≡ true → b ≡ true → (a && b) ≡ true
-both a b h k = ap (λ c. c && b) h ∙ k
-
 -- the second is exchanged
 other_second : (a b c : Bool) → (a && b) ≡ true → c ≡ true → (a && c) ≡ true
-other_second a b c h k = both a c (both_first a b h) k
+other_second a b c h k = and_from a c (both_first a b h) k
 
 -- what is conserved
 pub sound_at_home : (i : Image) (records : ℕ) → IsSoundImage i records → IsAtHome i
@@ -116,7 +114,7 @@ list_of test (x ∷ xs) h = (both_first (test x) (list_all test xs) h, list_of t
 
 list_from : {X : Type 0} (test : X → Bool) (xs : List X) → AllByRecursion (λ x. test x ≡ true) xs → list_all test xs ≡ true
 list_from test [] h = refl
-list_from test (x ∷ xs) h = both (test x) (list_all test xs) h.0 (list_from test xs h.1)
+list_from test (x ∷ xs) h = and_from (test x) (list_all test xs) h.0 (list_from test xs h.1)
 
 module _ {X : Type 0} where
   keys-put : (P : ℕ → Type 0) (table : Table X) (key : ℕ) (x : X) → P key → AllByRecursion P (keys_of table) → AllByRecursion P (keys_of (put table key x))
@@ -176,7 +174,7 @@ module _ (i : Image) (records client : ℕ) (row : Client) (sound : IsSoundImage
       let two = both_first (a && nat_le i.scale (places_most i.generation records)) (nat_le i.epoch (places_most i.generation records)) three in
       let scale = still i.scale (both_second a (nat_le i.scale (places_most i.generation records)) two) in
       let epoch = still i.epoch (both_second (a && nat_le i.scale (places_most i.generation records)) (nat_le i.epoch (places_most i.generation records)) three) in
-      both _ e (both _ _ (both a _ (both_first a _ two) scale) epoch) (both_second _ e h)
+      and_from _ e (and_from _ _ (and_from a _ (both_first a _ two) scale) epoch) (both_second _ e h)
 
   counted_rules : Meets noted (records + 1)
   unfolding noted

@@ -17,7 +17,7 @@ use Rattle.liq_types.specs.Tables.{at, without}
 use Rattle.liq_types.specs.Totals.{market_of, or_nothing, is_recovery, is_normal, worth, asked}
 use Rattle.liq_types.specs.WellFormed.{Ascends}
 use Rattle.liq_types.proofs.Ascending.{wallet-ascends}
-use Rattle.liq_types.proofs.Lookups.{at-without_same}
+use Rattle.liq_types.proofs.Lookups.{at-without_same, length-put, length-without}
 use Rattle.liq_types.proofs.MapRows.{at-map, all-put, all-without}
 use Rattle.liq_rate.specs.Rate.{decayed, rate_left}
 use Rattle.liq_rate.specs.declared.rate.Rate.{Rate}
@@ -28,18 +28,19 @@ use Rattle.liq_troves.specs.StakeSums.{trove_row, trove_rows, sums_words, entire
 use Rattle.liq_troves.proofs.Standing.{IsWithinBooks, trove_within}
 use Rattle.liq_stability.specs.Own.{owned}
 use Rattle.liq_stability.specs.Position.{gain_of}
-use Rattle.liq_stability.proofs.Pool.{owned-total, owned-coll}
+use Rattle.liq_stability.proofs.Pool.{owned-total, owned-coll, balance_within, gain_within}
 use Rattle.liq_borrow.specs.declared.change.Change.{Change}
 use Rattle.liq_borrow.specs.declared.change.Plan.{Plan}
 use Rattle.liq_borrow.specs.Borrowing.{rate_borrowed, least_ratio, opening_terms, open_rules, adjusting_terms, adjust_rules, closing_terms, close_rules}
 use Rattle.liq_rules.specs.Borrowing.{with_fee, opened, adjusted, closed}
 use Rattle.liq_soundness.specs.SoundState.{IsSetSince, ChangeIsCovered}
 use Rattle.liq_rules.specs.Rules.{rules, effect}
-use Rattle.liq_rules.proofs.AlikeChanges.{balance_within, gain_within}
 use Rattle.liq_rules.proofs.Moving.{paid_coll, paid_lusd, charged_coll, charged_lusd}
 use Rattle.liq_rules.proofs.Opening.{opening_conserves}
 use Rattle.liq_soundness.proofs.SoundCalls.{pool_and_wallet}
-use Rattle.liq_soundness.proofs.SoundFacts.{conserved_by, Finds, Stands, InRange, Rest, Leaves, homes_of, in_order, trove_table, all_false, lt_false, paid_stands, charged_stands, lifted_stands, placed_stands, owned_keeps, fees_stand, reserve_stands, length_without, length_put}
+use Rattle.liq_soundness.proofs.SoundFacts.{conserved_by, Finds, Stands, InRange, Rest, Leaves, homes_of, in_order, trove_table, paid_stands, charged_stands, lifted_stands, placed_stands, owned_keeps, fees_stand, reserve_stands}
+use Rattle.liq_types.proofs.Tests.{all_false}
+use Rattle.std.proofs.lemmas.Bool.{ltb-false}
 
 -- ---- the base rate
 
@@ -118,7 +119,7 @@ set_stands s account coll debt k some enough h =
 
 ratio_some : (coll price percent debt : ℕ) → nat_lt (worth coll price) (asked percent debt) ≡ false → 1 ≤ percent * debt → 1 ≤ coll
 ratio_some zero price percent debt h some =
-    let low = lt_false (worth 0 price) (asked percent debt) h in
+    let low = ltb-false (worth 0 price) (asked percent debt) h in
     let none : 0 * price * 100 ≡ 0 = omega arith in
     absurd (omega (arith, low, none, some))
 ratio_some (suc n) price percent debt h some = omega arith
@@ -142,11 +143,11 @@ open_allows s account coll borrow bound h =
     let m = market_of s in
     let plan = opening_terms m coll borrow in
     let rules = all_false (open_rules m (wallet_of s account) (is_some (at s.troves account)) account coll borrow bound) h in
-    let net = lt_false (borrow + plan.fee) MIN_NET rules.1.1.1.0 in
+    let net = ltb-false (borrow + plan.fee) MIN_NET rules.1.1.1.0 in
     record {
       absent = absent (at s.troves account) rules.0;
-      enough = lt_false (wallet_of s account).coll coll rules.1.1.1.1.1.0;
-      limit = lt_false LIM (m.total_debt + plan.debt) rules.1.1.1.1.0;
+      enough = ltb-false (wallet_of s account).coll coll rules.1.1.1.1.1.0;
+      limit = ltb-false LIM (m.total_debt + plan.debt) rules.1.1.1.1.0;
       some = ratio_some coll s.price (least_ratio m) plan.debt rules.1.1.1.1.1.1.0 (some_percent m plan.debt (omega (arith, net)));
       least = omega (arith, net);
     }
@@ -205,11 +206,11 @@ module _ (s : State) (f : Finds s) (account coll debt : ℕ) (change : Change) (
       let rules = all_false (adjust_rules m (wallet_of s account) (Some (coll, debt)) account change bound)
       (subst (λ (o : Option (ℕ × ℕ)). first_refusal (adjust_rules m (wallet_of s account) o account change bound) ≡ None) there h) in
       let forbids = rules.1.1.1.1.1.0 in
-      let ci = lt_false (wallet_of s account).coll change.coll_in rules.1.1.1.1.1.1.1.0 in
-      let co = lt_false coll change.coll_out rules.1.1.1.1.1.1.1.1.0 in
-      let repay = lt_false (wallet_of s account).lusd change.repay rules.1.1.1.1.1.1.1.1.1.0 in
+      let ci = ltb-false (wallet_of s account).coll change.coll_in rules.1.1.1.1.1.1.1.0 in
+      let co = ltb-false coll change.coll_out rules.1.1.1.1.1.1.1.1.0 in
+      let repay = ltb-false (wallet_of s account).lusd change.repay rules.1.1.1.1.1.1.1.1.1.0 in
       let net = rules.1.1.1.1.1.1.1.1.1.1.0 in
-      let limit = lt_false LIM (m.total_debt + change.borrow + plan.fee) rules.1.1.1.1.1.1.1.1.1.1.1.0 in
+      let limit = ltb-false LIM (m.total_debt + change.borrow + plan.fee) rules.1.1.1.1.1.1.1.1.1.1.1.0 in
       let ratio = rules.1.1.1.1.1.1.1.1.1.1.1.1.0 in
       let kept = keeps_net (nat_lt 0 change.repay) refl net has.least in
       let least : RESERVE + MIN_NET ≤ plan.debt = omega (arith, kept) in
@@ -227,9 +228,9 @@ module _ (s : State) (f : Finds s) (account coll debt : ℕ) (change : Change) (
     where
       keeps_net : (b : Bool) → nat_lt 0 change.repay ≡ b → (b && nat_lt (debt - RESERVE - change.repay) MIN_NET) ≡ false → RESERVE + MIN_NET ≤ debt → RESERVE + MIN_NET + change.repay ≤ debt
       keeps_net true e refused least =
-          let enough = lt_false (debt - RESERVE - change.repay) MIN_NET refused in
+          let enough = ltb-false (debt - RESERVE - change.repay) MIN_NET refused in
           omega (arith, enough)
-      keeps_net false e refused least = let none = lt_false 0 change.repay e in omega (arith, none, least)
+      keeps_net false e refused least = let none = ltb-false 0 change.repay e in omega (arith, none, least)
 
       keeps_some : (r b : Bool) → is_recovery (market_of s) ≡ r → nat_lt 0 change.borrow ≡ b → (nat_lt 0 change.coll_out && r) ≡ false → ((not r || b) && nat_lt (worth (coll + change.coll_in - change.coll_out) s.price) (asked (least_ratio (market_of s)) (adjusting_terms (market_of s) (coll, debt) change).debt)) ≡ false → change.coll_out ≤ coll → 1 ≤ coll → 1 ≤ (adjusting_terms (market_of s) (coll, debt) change).debt → 1 ≤ coll + change.coll_in - change.coll_out
       keeps_some true true e g refused low out some debt_some = ratio_some (coll + change.coll_in - change.coll_out) s.price (least_ratio (market_of s)) _ low (some_percent (market_of s) _ debt_some)
@@ -261,8 +262,8 @@ module _ (s : State) (f : Finds s) (account coll debt : ℕ) (change : Change) (
       let l1 = charged_lusd feed account change.coll_in change.repay f.stands.wallets.ascend a.repay in
       let c2 = paid_coll mid account change.coll_out change.borrow ordered in
       let l2 = paid_lusd mid account change.coll_out change.borrow ordered in
-      let gone = length_without s.troves account e has.there in
-      let back = length_put (without s.troves account) account (record { coll = plan.coll; debt = plan.debt; stake = stake_for moved plan.coll; mark = After (length s.redistributions) }) (at-without_same s.troves account (trove_table s f.stands.troves.ascend)) in
+      let gone = length-without s.troves account e has.there in
+      let back = length-put (without s.troves account) account (record { coll = plan.coll; debt = plan.debt; stake = stake_for moved plan.coll; mark = After (length s.redistributions) }) (at-without_same s.troves account (trove_table s f.stands.troves.ascend)) in
       subst (λ (o : Option TroveEntry). Rest 0 s (placed (lifted_entry moved account o) account plan.coll plan.debt)) (sym has.there)
       (record {
         homes = record {
@@ -327,7 +328,7 @@ module _ (s : State) (f : Finds s) (account coll debt : ℕ) (there : entire_of 
       let l1 = charged_lusd s account 0 repaid f.stands.wallets.ascend enough in
       let c2 = paid_coll mid account coll 0 ordered in
       let l2 = paid_lusd mid account coll 0 ordered in
-      let gone = length_without s.troves account e has.there in
+      let gone = length-without s.troves account e has.there in
       subst (λ (o : Option TroveEntry). Rest 0 s (lifted_entry burned account o)) (sym has.there)
       (record {
         homes = record {
@@ -353,7 +354,7 @@ close_leaves s f account k h =
     let own = or_nothing (entire_of s account) in
     let rules = all_false (close_rules (market_of s) (wallet_of s account) (entire_of s account) account) h in
     let there = told (entire_of s account) rules.0 in
-    let enough = lt_false (wallet_of s account).lusd (own.1 - RESERVE) rules.1.1.1.0 in
+    let enough = ltb-false (wallet_of s account).lusd (own.1 - RESERVE) rules.1.1.1.0 in
     record { stands = close_stands s f account own.0 own.1 there enough k; rest = close_rest s f account own.0 own.1 there enough }
 
 -- ---- a gain that moves into the trove
@@ -380,8 +381,8 @@ module _ (s : State) (f : Finds s) (account coll debt : ℕ) (there : entire_of 
       let total = owned-total s f.stands.formed.3 account 0 0 in
       let left = owned-coll s account 0 0 in
       let within = gain_within s (at s.deposits account) in
-      let gone = length_without s.troves account e has.there in
-      let back = length_put (without s.troves account) account (record { coll = coll + gain; debt = debt; stake = stake_for pooled (coll + gain); mark = After (length s.redistributions) }) (at-without_same s.troves account (trove_table s f.stands.troves.ascend)) in
+      let gone = length-without s.troves account e has.there in
+      let back = length-put (without s.troves account) account (record { coll = coll + gain; debt = debt; stake = stake_for pooled (coll + gain); mark = After (length s.redistributions) }) (at-without_same s.troves account (trove_table s f.stands.troves.ascend)) in
       subst (λ (o : Option TroveEntry). Rest 0 s (placed (lifted_entry pooled account o) account (coll + gain) debt)) (sym has.there)
       (record {
         homes = record {

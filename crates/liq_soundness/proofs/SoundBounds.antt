@@ -22,7 +22,7 @@ use Rattle.liq_types.specs.State.{State, Mark, AtStart, After, StakeSums, TroveE
 use Rattle.liq_types.specs.Tables.{Table, at, map_rows}
 use Rattle.liq_types.specs.Totals.{pool_total}
 use Rattle.liq_types.specs.WellFormed.{IsWellFormed}
-use Rattle.liq_types.proofs.Lookups.{all-at}
+use Rattle.liq_types.proofs.Lookups.{all-at, length-without}
 use Rattle.liq_types.proofs.MapRows.{at-map, map-sum}
 use Rattle.liq_types.proofs.Ranges.{offset_within, rise_no_more}
 use Rattle.liq_types.proofs.Sums.{leaves_part}
@@ -40,7 +40,7 @@ use Rattle.liq_rules.specs.Rules.{rules, effect}
 use Rattle.liq_soundness.specs.SoundState.{IsSoundState, IsSetSince, AreSetSince, AmountsWithin, SnapshotWithin, WordsWithin, TroveIsCovered, DepositIsCovered, PoolIsWhole}
 use Rattle.liq_rules.specs.Step.{Ruling, Refused, Repeated, Allowed, ruling, after_ruling, accounts, after, run}
 use Rattle.liq_rules.specs.Verbs.{rotates}
-use Rattle.liq_soundness.proofs.SoundFacts.{Finds, length_without}
+use Rattle.liq_soundness.proofs.SoundFacts.{Finds}
 use Rattle.liq_soundness.proofs.SoundLiquidate.{served_limit}
 use Rattle.liq_soundness.proofs.SoundPool.{FinishedStands, DepositStands, sum_in}
 use Rattle.liq_soundness.proofs.SoundStart.{opening_sound}
@@ -124,7 +124,7 @@ words_within s h =
 -- ---- beside the pools
 
 some_row : {X : Type 0} (table : Table X) (key : ℕ) (x : X) → at table key ≡ Some x → 1 ≤ length table
-some_row table key x e = let rows = length_without table key x e in omega (arith, rows)
+some_row table key x e = let rows = length-without table key x e in omega (arith, rows)
 
 pub trove_covered : (s : State) → IsSoundState s → (account : ℕ) (t : TroveEntry) → at s.troves account ≡ Some t → TroveIsCovered s t
 trove_covered s h account t there =

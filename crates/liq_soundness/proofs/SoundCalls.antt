@@ -16,11 +16,13 @@ use Rattle.liq_stability.specs.Position.{balance_of, gain_of, words_of}
 use Rattle.liq_rules.specs.Identities.{IsConserved}
 use Rattle.liq_soundness.specs.SoundState.{AreSetSince}
 use Rattle.liq_rules.specs.Rules.{rules, effect}
-use Rattle.liq_rules.proofs.AlikeChanges.{balance_within}
 use Rattle.liq_rules.proofs.Allowed.{fund_within}
 use Rattle.liq_rules.proofs.Conserving.{call_conserves}
 use Rattle.liq_rules.proofs.Moving.{charged_lusd}
-use Rattle.liq_soundness.proofs.SoundFacts.{conserved_by, Finds, InRange, Rest, Leaves, homes_of, in_order, all_false, lt_false, paid_stands, charged_stands, taken_stands, owned_keeps, words_stand}
+use Rattle.liq_soundness.proofs.SoundFacts.{conserved_by, Finds, InRange, Rest, Leaves, homes_of, in_order, paid_stands, charged_stands, taken_stands, owned_keeps, words_stand}
+use Rattle.liq_stability.proofs.Pool.{balance_within}
+use Rattle.liq_types.proofs.Tests.{all_false}
+use Rattle.std.proofs.lemmas.Bool.{ltb-false}
 
 module _ (s : State) (f : Finds s) where
   -- what a verb that keeps the words of the pool and the ranges leaves, where no limit is passed
@@ -74,7 +76,7 @@ module _ (s : State) (f : Finds s) where
   pub advance_leaves : (minutes : ℕ) → first_refusal (rules s (Advance minutes)) ≡ None → Leaves 0 s (effect s (Advance minutes))
   advance_leaves minutes h =
       let no : nat_lt MINUTE_MOST (s.minute + minutes) ≡ false = (all_false (rules s (Advance minutes)) h).1.0 in
-      let within = lt_false MINUTE_MOST (s.minute + minutes) no in
+      let within = ltb-false MINUTE_MOST (s.minute + minutes) no in
       let r = f.ranges in
       record {
         stands = words_stand s s.price (s.minute + minutes) s.brought f.stands;
@@ -126,7 +128,7 @@ module _ (s : State) (f : Finds s) where
   pub provide_leaves : (account lusd : ℕ) → account < ACCOUNTS → first_refusal (rules s (Provide account lusd)) ≡ None → Leaves 0 s (effect s (Provide account lusd))
   provide_leaves account lusd k h =
       let no : nat_lt (wallet_of s account).lusd lusd ≡ false = (all_false (rules s (Provide account lusd)) h).1.0 in
-      let fits = pool_and_wallet account lusd (lt_false (wallet_of s account).lusd lusd no) in
+      let fits = pool_and_wallet account lusd (ltb-false (wallet_of s account).lusd lusd no) in
       let balance = balance_within s (at s.deposits account) in
       let own = owned_keeps s account lusd 0 k (omega arith) (omega (arith, fits, balance)) f.stands in
       record {

@@ -43,35 +43,26 @@ use Rattle.liq_rules.specs.Rules.{rules, effect, call_events}
 use Rattle.liq_soundness.specs.SoundState.{IsSoundState}
 use Rattle.liq_rules.specs.Step.{Ruling, Refused, Repeated, Allowed, ruling, after_ruling, is_allowed, accepted, accounts, after, run}
 use Rattle.liq_soundness.proofs.SoundCalls.{pool_and_wallet}
-use Rattle.liq_soundness.proofs.SoundFacts.{Finds, all_false, lt_false, finds_after}
+use Rattle.liq_soundness.proofs.SoundFacts.{Finds, finds_after}
 use Rattle.liq_soundness.proofs.SoundLiquidate.{Strikes, strikes, victim_leaves, found, with_pay, struck_paid, lowest_paid, lowest_by}
 use Rattle.liq_soundness.proofs.SoundStep.{allowed_has, finds, after_sound}
 use Rattle.liq_soundness.proofs.SoundTests.{sound_facts}
+use Rattle.liq_stability.proofs.PoolPart.{event_to_pool, event_from_pool, pool-event}
+use Rattle.liq_types.proofs.Tests.{all_false}
+use Rattle.std.proofs.lemmas.Bool.{ltb-false}
 
 -- ---- lawful lists rest on that part alone
-
-event_to : (s : State) (e : PoolEvent) → IsLawfulEvent s e → IsLawfulEvent (pool_of s) e
-event_to s (event.Own account put_in paid_out gain amount) h = record { gain_is = h.gain_is; paid_is = h.paid_is; amount_is = h.amount_is }
-event_to s (event.Offset debt coll total rise) h = record { some = h.some; within = h.within; total_is = h.total_is; coll_is = h.coll_is; rise_is = h.rise_is }
-
-event_from : (s : State) (e : PoolEvent) → IsLawfulEvent (pool_of s) e → IsLawfulEvent s e
-event_from s (event.Own account put_in paid_out gain amount) h = record { gain_is = h.gain_is; paid_is = h.paid_is; amount_is = h.amount_is }
-event_from s (event.Offset debt coll total rise) h = record { some = h.some; within = h.within; total_is = h.total_is; coll_is = h.coll_is; rise_is = h.rise_is }
-
-pub pool_after : (s : State) (e : PoolEvent) → pool_of (after_event s e) ≡ after_event (pool_of s) e
-pool_after s (event.Own account put_in paid_out gain amount) = refl
-pool_after s (event.Offset debt coll total rise) = refl
 
 module _ (most : ℕ) where
   lawful_to : (es : List PoolEvent) (s : State) → IsLawfulUpTo most s es → IsLawfulUpTo most (pool_of s) es
   lawful_to [] s h = record { total = h.total; coll = h.coll }
   lawful_to (e ∷ es) s h =
-      (record { total = h.0.total; coll = h.0.coll }, event_to s e h.1, subst (λ (t : State). IsLawfulUpTo most t es) (pool_after s e) (lawful_to es (after_event s e) h.2))
+      (record { total = h.0.total; coll = h.0.coll }, event_to_pool s e h.1, subst (λ (t : State). IsLawfulUpTo most t es) (pool-event s e) (lawful_to es (after_event s e) h.2))
 
   lawful_from : (es : List PoolEvent) (s : State) → IsLawfulUpTo most (pool_of s) es → IsLawfulUpTo most s es
   lawful_from [] s h = record { total = h.total; coll = h.coll }
   lawful_from (e ∷ es) s h =
-      (record { total = h.0.total; coll = h.0.coll }, event_from s e h.1, lawful_from es (after_event s e) (subst (λ (t : State). IsLawfulUpTo most t es) (sym (pool_after s e)) h.2))
+      (record { total = h.0.total; coll = h.0.coll }, event_from_pool s e h.1, lawful_from es (after_event s e) (subst (λ (t : State). IsLawfulUpTo most t es) (sym (pool-event s e)) h.2))
 
   pub lawful_same : (es : List PoolEvent) (s t : State) → pool_of s ≡ pool_of t → IsLawfulUpTo most s es → IsLawfulUpTo most t es
   lawful_same es s t e h = lawful_from es t (subst (λ (q : State). IsLawfulUpTo most q es) e (lawful_to es s h))
@@ -82,7 +73,7 @@ module _ (most : ℕ) where
 
 pub pool_along : (es : List PoolEvent) (s t : State) → pool_of s ≡ pool_of t → pool_of (fold after_event s es) ≡ pool_of (fold after_event t es)
 pool_along [] s t e = e
-pool_along (x ∷ xs) s t e = pool_along xs (after_event s x) (after_event t x) (pool_after s x ∙ ap (λ (q : State). after_event q x) e ∙ sym (pool_after t x))
+pool_along (x ∷ xs) s t e = pool_along xs (after_event s x) (after_event t x) (pool-event s x ∙ ap (λ (q : State). after_event q x) e ∙ sym (pool-event t x))
 
 -- ---- what an allowed call does to the pool
 
@@ -238,7 +229,7 @@ call_follows s f (Close account) k h =
     let settled = credited (charged s account 0 terms.0) account terms.1 0 in
     nothing s (effect s (Close account)) f (lifted_pool (record settled { reserve = settled.reserve - RESERVE }) account (at s.troves account))
 call_follows s f (Provide account lusd) k h =
-    let enough = lt_false (wallet_of s account).lusd lusd (all_false (rules s (Provide account lusd)) h).1.0 in
+    let enough = ltb-false (wallet_of s account).lusd lusd (all_false (rules s (Provide account lusd)) h).1.0 in
     own_follows s (effect s (Provide account lusd)) f account lusd 0 k.0 (omega arith) (pool_and_wallet s f account lusd enough) refl
 call_follows s f (Withdraw account lusd) k h =
     let out = min lusd (balance_of s account) in

@@ -37,8 +37,10 @@ use Rattle.liq_rules.specs.Image.{image}
 use Rattle.liq_soundness.specs.SoundState.{AreSetSince}
 use Rattle.liq_rules.specs.Identities.{IsConserved}
 use Rattle.liq_rules.proofs.AlikeChanges.{formed-lifted, formed-placed, formed-redistributed, formed-owned, formed-offset}
-use Rattle.liq_rules.proofs.Rows.{equal_keys}
 use Rattle.liq_soundness.proofs.SoundPool.{PoolStands, part_of, owned_stands, offset_stands}
+use Rattle.liq_types.proofs.Lookups.{same_key, length-put, length-without}
+use Rattle.liq_types.proofs.Tests.{all_false, not_zero}
+use Rattle.std.proofs.lemmas.Bool.{ltb-false}
 
 -- ---- keys
 
@@ -359,21 +361,6 @@ words_stand s price minute brought h =
 
 -- ---- how many rows
 
-pub length_without : {X : Type 0} (table : Table X) (key : ℕ) (x : X) → at table key ≡ Some x → length (without table key) + 1 ≡ length table
-length_without [] key x h = cc
-length_without (e ∷ es) key x h = by (is_eq (nat_cmp key e.0)) h (length_without es key x) where
-  by : (b : Bool) → cond b (Some e.1) (at es key) ≡ Some x → (at es key ≡ Some x → length (without es key) + 1 ≡ length es) → length (cond b es (e ∷ without es key)) + 1 ≡ length (e ∷ es)
-  by true g more = omega arith
-  by false g more = let k = more g in omega (arith, k)
-
-pub length_put : {X : Type 0} (table : Table X) (key : ℕ) (x : X) → at table key ≡ None → length (put table key x) ≡ length table + 1
-length_put [] key x n = refl
-length_put {X} (e ∷ es) key x n = by (nat_cmp key e.0) n (length_put es key x) where
-  by : (o : Ordering) → cond (is_eq o) (Some e.1) (at es key) ≡ None → (at es key ≡ None → length (put es key x) ≡ length es + 1) → length (match_ordering o ((key, x) ∷ e ∷ es) ((e.0, x) ∷ es) (e ∷ put es key x)) ≡ length (e ∷ es) + 1
-  by Less m more = omega arith
-  by Equal m more = cc
-  by Greater m more = let long = more m in omega (arith, long)
-
 -- ---- what a verb leaves
 
 -- all but what stands of tables; the pool's place moves by so many steps at most
@@ -403,24 +390,11 @@ homes_of s h =
 
 -- ---- rules that refuse nothing
 
-pub all_false : (rules : List Rule) → first_refusal rules ≡ None → AllByRecursion (λ (rule : Rule). rule.0 ≡ false) rules
-all_false [] h = tt
-all_false (rule ∷ rules) h = by rule.0 h (all_false rules) where
-  by : (b : Bool) → cond b (Some rule.1) (first_refusal rules) ≡ None → (first_refusal rules ≡ None → AllByRecursion (λ (rule : Rule). rule.0 ≡ false) rules) → (b ≡ false) × AllByRecursion (λ (rule : Rule). rule.0 ≡ false) rules
-  by true k later = cc
-  by false k later = (refl, later k)
-
-pub lt_false : (a b : ℕ) → nat_lt a b ≡ false → b ≤ a
-lt_false a b h = grind (arith, nat_tests, h)
-
-pub eq_false : (a : ℕ) → (a == 0) ≡ false → 1 ≤ a
-eq_false a h = grind (arith, nat_tests, h)
-
 pub key_below : {X : Type 0} (table : Table X) (key : ℕ) (x : X) → at table key ≡ Some x → KeysBelow table → key < ACCOUNTS
 key_below [] key x h k = cc
 key_below (e ∷ es) key x h k = by (is_eq (nat_cmp key e.0)) refl h (key_below es key x) where
   by : (b : Bool) → is_eq (nat_cmp key e.0) ≡ b → cond b (Some e.1) (at es key) ≡ Some x → (at es key ≡ Some x → KeysBelow es → key < ACCOUNTS) → key < ACCOUNTS
-  by true is g more = let same = equal_keys key e.0 is in omega (arith, same, k.0)
+  by true is g more = let same = same_key key e.0 is in omega (arith, same, k.0)
   by false is g more = more g k.1
 
 -- collateral that is added to an owner's surplus

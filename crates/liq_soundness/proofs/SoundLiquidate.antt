@@ -35,8 +35,13 @@ use Rattle.liq_soundness.specs.SoundState.{IsSetSince, StruckStand, OneIsCovered
 use Rattle.liq_rules.specs.Liquidation.{listed, all_liquidated}
 use Rattle.liq_rules.proofs.Moving.{paid_coll, paid_lusd}
 use Rattle.liq_soundness.proofs.SoundBorrow.{HasTrove, has_trove}
-use Rattle.liq_soundness.proofs.SoundFacts.{Finds, Stands, InRange, Rest, Leaves, all_false, lt_false, paid_stands, added_stands, lifted_stands, redistributed_stands, snapped_stands, offset_keeps, reserve_stands, length_without, key_below, surplus_sum, finds_after, leaves_itself, leaves_more, leaves_then}
+use Rattle.liq_soundness.proofs.SoundFacts.{Finds, Stands, InRange, Rest, Leaves, paid_stands, added_stands, lifted_stands, redistributed_stands, snapped_stands, offset_keeps, reserve_stands, key_below, surplus_sum, finds_after, leaves_itself, leaves_more, leaves_then}
 use Rattle.liq_soundness.proofs.SoundPool.{MovesFew, offset_moves}
+use Rattle.liq_types.proofs.Tests.{all_false, made_by}
+use Rattle.liq_types.proofs.Lookups.{length-without}
+use Rattle.std.proofs.lemmas.Bool.{ltb-false}
+use Rattle.liq_liquidation.proofs.Parts.{gas_within}
+use Rattle.liq_liquidation.proofs.Planned.{below_worth, plain_below}
 
 -- ---- what becomes of a trove
 
@@ -45,16 +50,6 @@ pub record Parts (coll debt total : ℕ) (one : One) : Type 0 where
   pub debt_is : one.offset_debt + one.spread_debt ≡ debt
   pub served : one.offset_debt ≤ total
   pub worth_less : one.offset_coll ≤ OFFSET_MOST * one.offset_debt
-
-gas_within : (coll : ℕ) → gas_of coll ≤ coll
-gas_within coll = div-le_self coll GAS_PART
-
--- collateral below 110 percent is at most 11 gwei for each micro-LUSD
-below_worth : (coll debt price : ℕ) → PRICE_LEAST ≤ price → is_below_percent coll debt price MCR ≡ true → coll ≤ OFFSET_MOST * debt
-below_worth coll debt price least below =
-    let under : worth coll price < asked MCR debt = grind (arith, nat_tests, below) in
-    let more : coll * PRICE_LEAST ≤ coll * price = mul-le-mul_left coll least in
-    omega (arith, under, more)
 
 plain_parts : (coll debt total price : ℕ) → 1 ≤ debt → PRICE_LEAST ≤ price → is_below_percent coll debt price MCR ≡ true → Parts coll debt total (plain coll debt total)
 plain_parts coll debt total price some least below =
@@ -76,18 +71,9 @@ capped_parts coll debt total price some least above serves =
     let gas = gas_within cap in
     let low : cap * price ≤ debt * CAP_WORTH = div-mul-le_self (debt * CAP_WORTH) price in
     let more : cap * PRICE_LEAST ≤ cap * price = mul-le-mul_left cap least in
-    let enough : asked MCR debt ≤ worth coll price = lt_false (worth coll price) (asked MCR debt) above in
+    let enough : asked MCR debt ≤ worth coll price = ltb-false (worth coll price) (asked MCR debt) above in
     let fits : cap ≤ coll = le_of_mul-le-mul_right {m = cap} {n = coll} {k = price} (omega (arith, low, enough)) (omega (arith, least)) in
     record { coll_is = omega (arith, gas, fits); debt_is = omega arith; served = serves; worth_less = omega (arith, low, more) }
-
--- the lines of the table of treatments
-plain_below : (n w b r : Bool) → cond n (cond b Plain Kept) (cond w Redistributed (cond b Plain (cond r Capped Kept))) ≡ Plain → b ≡ true
-plain_below true w true r h = refl
-plain_below true w false r h = cc
-plain_below false true b r h = cc
-plain_below false false true r h = refl
-plain_below false false false true h = cc
-plain_below false false false false h = cc
 
 capped_above : (n w b r : Bool) → cond n (cond b Plain Kept) (cond w Redistributed (cond b Plain (cond r Capped Kept))) ≡ Capped → b ≡ false
 capped_above true w true r h = cc
@@ -105,14 +91,10 @@ treated_parts m coll debt total Redistributed is kept room some least =
     record { coll_is = omega (arith, gas); debt_is = omega arith; served = omega arith; worth_less = omega arith }
 treated_parts m coll debt total Capped is kept room some least =
     capped_parts coll debt total m.price some least (capped_above (is_normal m) (is_at_most_whole coll debt m.price) (is_below_percent coll debt m.price MCR) (is_ratio_below coll debt m.total_coll m.total_debt) is)
-    (lt_false total debt room)
+    (ltb-false total debt room)
 treated_parts m coll debt total Kept is kept room some least = cc
 
 -- ---- what an allowed liquidation finds
-
-made_by : {X : Type 0} (o : Option Refusal) (x y : X) → outcome o x ≡ Ok y → (o ≡ None) × (x ≡ y)
-made_by None x y h = (refl, cc)
-made_by (Some refusal) x y h = cc
 
 pub record Strikes (s : State) (account : ℕ) (made : One) : Type 0 where
   pub coll : ℕ
@@ -145,8 +127,8 @@ strikes_by s f account made (Some e) there h =
       has = has;
       several = several;
       parts = subst (λ (x : One). Parts own.0 own.1 total x) same parts;
-      coll_fits = lt_false SUM_MOST _ (subst (λ (x : One). nat_lt SUM_MOST (sum_after (sums_now s).coll x.spread_coll (stakes_of s - e.stake)) ≡ false) same rules.1.1.1.0);
-      debt_fits = lt_false SUM_MOST _ (subst (λ (x : One). nat_lt SUM_MOST (sum_after (sums_now s).debt x.spread_debt (stakes_of s - e.stake)) ≡ false) same rules.1.1.1.1.0);
+      coll_fits = ltb-false SUM_MOST _ (subst (λ (x : One). nat_lt SUM_MOST (sum_after (sums_now s).coll x.spread_coll (stakes_of s - e.stake)) ≡ false) same rules.1.1.1.0);
+      debt_fits = ltb-false SUM_MOST _ (subst (λ (x : One). nat_lt SUM_MOST (sum_after (sums_now s).debt x.spread_debt (stakes_of s - e.stake)) ≡ false) same rules.1.1.1.1.0);
     }
   where
     many : (n : ℕ) → nat_le n 1 ≡ false → 2 ≤ n
@@ -184,7 +166,7 @@ module _ (s : State) (f : Finds s) (liquidator : ℕ) (k : liquidator < ACCOUNTS
 
   pub some_left : 1 ≤ stakes_of gone
   some_left =
-      let rows = length_without s.troves account x.has.entry x.has.there in
+      let rows = length-without s.troves account x.has.entry x.has.there in
       let count = map-length (trove_row gone) gone.troves in
       let some = some_stake (books_of gone) (omega (arith, rows, count, x.several)) gone_stands.troves in
       some
@@ -240,7 +222,7 @@ module _ (s : State) (f : Finds s) (liquidator : ℕ) (k : liquidator < ACCOUNTS
       let burned = record before { reserve = before.reserve - RESERVE } in
       let c1 = paid_coll burned liquidator made.gas RESERVE f.stands.wallets.ascend in
       let l1 = paid_lusd burned liquidator made.gas RESERVE f.stands.wallets.ascend in
-      let rows = length_without s.troves account x.has.entry x.has.there in
+      let rows = length-without s.troves account x.has.entry x.has.there in
       let surplus = surplus_sum s.surplus_rows account made.surplus f.stands.surplus.ascend in
       record {
         homes = record {
@@ -270,7 +252,7 @@ module _ (s : State) (f : Finds s) (liquidator : ℕ) (k : liquidator < ACCOUNTS
       let burned = record before { reserve = before.reserve - RESERVE } in
       let c1 = paid_coll burned liquidator made.gas RESERVE f.stands.wallets.ascend in
       let l1 = paid_lusd burned liquidator made.gas RESERVE f.stands.wallets.ascend in
-      let rows = length_without s.troves account x.has.entry x.has.there in
+      let rows = length-without s.troves account x.has.entry x.has.there in
       let surplus = surplus_sum s.surplus_rows account made.surplus f.stands.surplus.ascend in
       let total : pool_total left ≡ pool_total s - made.offset_debt = offset-total gone made.offset_debt made.offset_coll in
       let coll : pool_coll left ≡ pool_coll s + made.offset_coll = offset-coll gone gone_stands.formed.3 made.offset_debt made.offset_coll in

@@ -25,8 +25,9 @@ use Rattle.liq_types.proofs.Ranges.{offset_within, rise_few}
 use Rattle.liq_types.proofs.Sums.{leaves_part, takes_all, stays_within, finishes_within}
 use Rattle.liq_stability.specs.Own.{owned, offset, amount_after}
 use Rattle.liq_stability.specs.Position.{words_of, deposit_row}
-use Rattle.liq_stability.proofs.Pool.{mark-grown, mark-full, offset_now, words-snoc}
+use Rattle.liq_stability.proofs.Pool.{mark-grown, mark-full, offset_now, words-snoc, deposit-grown}
 use Rattle.liq_rules.specs.Image.{image}
+use Rattle.liq_types.proofs.Tests.{not_zero}
 
 -- the words, the finished sums and the deposits
 pub record PoolPart : Type 0 where
@@ -133,9 +134,6 @@ later_rows now next up [] h = tt
 later_rows now next up (e ∷ es) h =
     (record { some = h.0.some; most = h.0.most; before = before_up_to e.0 now next h.0.before up }, later_rows now next up es h.1)
 
-some_sum : (n : ℕ) → (n == 0) ≡ false → 1 ≤ n
-some_sum n e = grind (arith, nat_tests, e)
-
 -- an image that has just this part: the laws on lists of offsets speak of images
 abbrev image_with : PoolPart → Image
 image_with w = record opening_image { p = w.p; scale = w.scale; epoch = w.epoch; sum = w.sum; finished = w.finished }
@@ -172,7 +170,7 @@ module _ (most : ℕ) (served : most ≤ 10 ^ (9 * RISES_MOST)) (w : PoolPart) (
   rows_next h rows false false e f =
       let made : FinishedStands (place_of next) (place_of (words_with w), w.sum + sum_growth (words_with w) o) =
       record {
-        some = some_sum (w.sum + sum_growth (words_with w) o) f;
+        some = not_zero (w.sum + sum_growth (words_with w) o) f;
         most = finishes_within most (words_with w) o w.sum takes less h;
         before = up_to_other (place_of (words_with w)) (place_of next) reaches e;
       } in
@@ -212,16 +210,12 @@ module _ (most : ℕ) (served : most ≤ 10 ^ (9 * RISES_MOST)) (w : PoolPart) (
             }) w.deposits h.deposits;
       }
 
-deposit_grown : (s : State) (debt coll : ℕ) (d : DepositEntry) → IsMoment (length s.offsets) d.mark → deposit_row (offset s debt coll) d ≡ deposit_row s d
-deposit_grown s debt coll d h =
-    ap (λ (m : PoolMark). record { amount = d.amount; p = m.p; sum = m.sum; scale = m.scale; epoch = m.epoch }) (mark-grown s debt coll d.mark h)
-
 pub part_offset : (s : State) → IsWellFormed s → (debt coll : ℕ) → part_of (image (offset s debt coll)) ≡ offset_part (part_of (image s)) (offset_now s debt coll)
 part_offset s f debt coll =
     let o = offset_now s debt coll in
     let made = part_of (image (offset s debt coll)) in
     let target = offset_part (part_of (image s)) o in
-    ap (λ (rows : Table Deposit). record made { deposits = rows }) (map-cong (deposit_row (offset s debt coll)) (deposit_row s) (λ d. IsMoment (length s.offsets) d.mark) (deposit_grown s debt coll) s.deposits f.2)
+    ap (λ (rows : Table Deposit). record made { deposits = rows }) (map-cong (deposit_row (offset s debt coll)) (deposit_row s) (λ d. IsMoment (length s.offsets) d.mark) (deposit-grown s debt coll) s.deposits f.2)
     ∙ ap (λ (v : ScaledProduct). record made { deposits = target.deposits; p = v.p; scale = v.scale; epoch = v.epoch; sum = sumat s.start (s.offsets ++ o ∷ []) (place_of v) }) (words-snoc s debt coll)
     ∙ ap (λ n. record target { sum = n; finished = made.finished }) (sum-snoc s.start s.offsets o f.0)
     ∙ ap (λ (t : List (Place × ℕ)). record target { finished = t }) (finished-snoc s.start s.offsets o)

@@ -5,7 +5,7 @@ use Rattle.std.specs.List.{AllByRecursion, IsDistinct, cons_option}
 use Rattle.std.specs.Map.{keys_of, values_of}
 use Rattle.std.specs.Ordering.{nat_cmp, is_eq, eq_by_cmp}
 use Rattle.std.proofs.Math.Nat.{mul-le-mul_right, div-mul-le_self}
-use Rattle.std.proofs.lemmas.Bool.{cases_lt}
+use Rattle.std.proofs.lemmas.Bool.{cases_lt, ltb-false}
 use Rattle.std.proofs.lemmas.Bool.Decides.{nat_tests}
 use Rattle.std.proofs.lemmas.List.Sorted.{IsPermutation-map, IsPermutation-reverse}
 use Rattle.std.proofs.lemmas.List.Sums.{sum_by-cons}
@@ -24,7 +24,7 @@ use Rattle.liq_types.specs.Tables.{Table, at, without}
 use Rattle.liq_types.specs.Totals.{is_below_percent, market_of, trove_count, worth, asked}
 use Rattle.liq_types.specs.WellFormed.{Ascends}
 use Rattle.liq_types.proofs.Ascending.{wallet-ascends}
-use Rattle.liq_types.proofs.Lookups.{at-without_same, at-without_other, at-put_other}
+use Rattle.liq_types.proofs.Lookups.{at-without_same, at-without_other, at-put_other, length-put, length-without}
 use Rattle.liq_types.proofs.MapRows.{at-map, all-put, all-without}
 use Rattle.liq_types.proofs.Places.{nat_cmp-eq}
 use Rattle.liq_troves.specs.Own.{lifted_entry, lifted, placed, set_trove, stake_for}
@@ -40,7 +40,10 @@ use Rattle.liq_rules.specs.Image.{image}
 use Rattle.liq_soundness.specs.SoundState.{IsSetSince, AreSetSince, CutIsCovered}
 use Rattle.liq_rules.proofs.Moving.{paid_coll, paid_lusd, charged_coll, charged_lusd}
 use Rattle.liq_soundness.proofs.SoundBorrow.{HasTrove, has_trove, set_stands, RateInRange, ranges_with}
-use Rattle.liq_soundness.proofs.SoundFacts.{Finds, Stands, Leaves, trove_table, all_false, lt_false, paid_stands, charged_stands, added_stands, lifted_stands, reserve_stands, fees_stand, length_without, length_put, key_below, surplus_sum}
+use Rattle.liq_soundness.proofs.SoundFacts.{Finds, Stands, Leaves, trove_table, paid_stands, charged_stands, added_stands, lifted_stands, reserve_stands, fees_stand, key_below, surplus_sum}
+use Rattle.liq_types.proofs.Tests.{all_false}
+use Rattle.liq_redemption.proofs.Cutting.{draw_less}
+use Rattle.liq_redemption.proofs.Taking.{redeemed_within}
 
 -- ---- the visited troves
 
@@ -130,18 +133,6 @@ pub record Cutting (s t : State) (coll lusd : ℕ) : Type 0 where
   pub snap : t.snap_coll ≡ s.snap_coll
   pub marks : AreSetSince s.troves → AreSetSince t.troves
 
--- what is drawn for a lot is less than the trove has
-draw_less : (coll debt price lot : ℕ) → 1 ≤ price → RESERVE ≤ debt → lot ≤ debt - RESERVE → is_below_percent coll debt price MCR ≡ false → draw_of price lot < coll
-draw_less coll debt price lot some least part above =
-    elim (cases_lt (draw_of price lot) coll) [ inl less ↦ less | inr more ↦ absurd (clash more) ]
-  where
-    clash : coll ≤ draw_of price lot → ⊥
-    clash more =
-        let enough : asked MCR debt ≤ worth coll price = lt_false (worth coll price) (asked MCR debt) above in
-        let low : draw_of price lot * price ≤ lot * 1000000000 = div-mul-le_self (lot * 1000000000) price in
-        let high : coll * price ≤ draw_of price lot * price = mul-le-mul_right price more in
-        omega (arith, enough, low, high, part, least)
-
 -- what the entire amounts of another account are is not touched
 own_in : State → Option TroveEntry → Option (ℕ × ℕ)
 own_in t o = option_map (entire_by (sums_words t)) (option_map (trove_row t) o)
@@ -186,7 +177,7 @@ module _ (s t : State) (coll lusd : ℕ) (c : Cutting s t coll lusd) (v : Visit)
       let e = has.entry in
       let w = has.within in
       let draw = draw_part in
-      let rows = length_without t.troves v.account e has.there in
+      let rows = length-without t.troves v.account e has.there in
       let surplus = surplus_sum t.surplus_rows v.account (v.coll - cut.draw) c.stands.surplus.ascend in
       let left = lifted t v.account in
       let stands : Stands LIM (surplus_added (record left { reserve = left.reserve - RESERVE }) v.account (v.coll - cut.draw)) =
@@ -219,9 +210,9 @@ module _ (s t : State) (coll lusd : ℕ) (c : Cutting s t coll lusd) (v : Visit)
       let w = has.within in
       let draw = draw_part in
       let part = lot_part in
-      let rows = length_without t.troves v.account e has.there in
+      let rows = length-without t.troves v.account e has.there in
       let entry : State → TroveEntry = λ (x : State). record { coll = v.coll - cut.draw; debt = v.debt - cut.lot; stake = stake_for x (v.coll - cut.draw); mark = marks.After (length x.redistributions) } in
-      let back = length_put (without t.troves v.account) v.account (entry t) (at-without_same t.troves v.account (trove_table t c.stands.troves.ascend)) in
+      let back = length-put (without t.troves v.account) v.account (entry t) (at-without_same t.troves v.account (trove_table t c.stands.troves.ascend)) in
       let stands = set_stands t v.account (v.coll - cut.draw) (v.debt - cut.lot) own_key (omega (arith, draw)) (omega (arith, enough, has.least)) c.stands in
       subst (λ (o : Option TroveEntry). Stands LIM (placed (lifted_entry t v.account o) v.account (v.coll - cut.draw) (v.debt - cut.lot)) → Cutting s (placed (lifted_entry t v.account o) v.account (v.coll - cut.draw) (v.debt - cut.lot)) (coll + cut.draw) (lusd + cut.lot)) (sym has.there)
       (λ k. record {
@@ -247,7 +238,7 @@ module _ (s t : State) (coll lusd : ℕ) (c : Cutting s t coll lusd) (v : Visit)
   closed_after : cut.full ≡ true → After t (closed_by t cut (v.coll, v.debt)) cut
   closed_after full =
       let e = has.entry in
-      let rows = length_without t.troves v.account e has.there in
+      let rows = length-without t.troves v.account e has.there in
       let fewer : troves_after cut (trove_count t) ≡ trove_count t - 1 = ap (λ b. cond b (trove_count t - 1) (trove_count t)) full in
       subst (λ (o : Option TroveEntry). After t (surplus_added (record (lifted_entry t v.account o) { reserve = (lifted_entry t v.account o).reserve - RESERVE }) v.account (v.coll - cut.draw)) cut) (sym has.there)
       (record {
@@ -262,8 +253,8 @@ module _ (s t : State) (coll lusd : ℕ) (c : Cutting s t coll lusd) (v : Visit)
       let e = has.entry in
       let gone = lifted_entry t v.account (Some e) in
       let entry : TroveEntry = record { coll = v.coll - cut.draw; debt = v.debt - cut.lot; stake = stake_for gone (v.coll - cut.draw); mark = marks.After (length t.redistributions) } in
-      let rows = length_without t.troves v.account e has.there in
-      let back = length_put (without t.troves v.account) v.account entry (at-without_same t.troves v.account (trove_table t c.stands.troves.ascend)) in
+      let rows = length-without t.troves v.account e has.there in
+      let back = length-put (without t.troves v.account) v.account entry (at-without_same t.troves v.account (trove_table t c.stands.troves.ascend)) in
       let same : troves_after cut (trove_count t) ≡ trove_count t = ap (λ b. cond b (trove_count t - 1) (trove_count t)) full in
       subst (λ (o : Option TroveEntry). After t (placed (lifted_entry t v.account o) v.account (v.coll - cut.draw) (v.debt - cut.lot)) cut) (sym has.there)
       (record {
@@ -286,7 +277,7 @@ module _ (s t : State) (coll lusd : ℕ) (c : Cutting s t coll lusd) (v : Visit)
 
       by : (b : Bool) → cut.full ≡ b → cond b (nat_le (trove_count t) 1) (nat_lt (net_debt v - cut.lot) MIN_NET) ≡ false → Cutting s (cond b (closed_by t cut (v.coll, v.debt)) (set_trove t v.account (v.coll - cut.draw) (v.debt - cut.lot))) (coll + cut.draw) (lusd + cut.lot) × After t (cond b (closed_by t cut (v.coll, v.debt)) (set_trove t v.account (v.coll - cut.draw) (v.debt - cut.lot))) cut
       by true e g = (closed_cut (several g) (whole e), closed_after e)
-      by false e g = (left_cut (lt_false (net_debt v - cut.lot) MIN_NET g), left_after e)
+      by false e g = (left_cut (ltb-false (net_debt v - cut.lot) MIN_NET g), left_after e)
 
 -- ---- the cuts along the visits
 
@@ -324,18 +315,6 @@ module _ (s : State) (price : ℕ) (price_some : 1 ≤ price) where
         let lots = sum_by-cons (λ (x : Cut). x.lot) (cut_of price v wanted) list in
         let told = subst (λ n. Cutting s (fold cut_down made (cuts price n (wanted - (cut_of price v wanted).lot) vs)) (coll + (cut_of price v wanted).draw + drawn (cuts price n (wanted - (cut_of price v wanted).lot) vs)) (lusd + (cut_of price v wanted).lot + redeemed (cuts price n (wanted - (cut_of price v wanted).lot) vs))) one.1.count rest in
         cutting_as s (fold cut_down made list) (coll + (cut_of price v wanted).draw + drawn list) (lusd + (cut_of price v wanted).lot + redeemed list) (coll + drawn (cut_of price v wanted ∷ list)) (lusd + redeemed (cut_of price v wanted ∷ list)) (omega (arith, draws)) (omega (arith, lots)) told
-
--- no more is redeemed than is wanted
-redeemed_within : (price : ℕ) (vs : List Visit) (troves wanted : ℕ) → redeemed (cuts price troves wanted vs) ≤ wanted
-redeemed_within price [] troves wanted = omega arith
-redeemed_within price (v ∷ vs) troves wanted = by (wanted == 0) (stops_before v (cut_of price v wanted) troves) (redeemed_within price vs (troves_after (cut_of price v wanted) troves) (wanted - (cut_of price v wanted).lot)) where
-  by : (done stops : Bool) → redeemed (cuts price (troves_after (cut_of price v wanted) troves) (wanted - (cut_of price v wanted).lot) vs) ≤ wanted - (cut_of price v wanted).lot → redeemed (cond done [] (cond stops [] (cut_of price v wanted ∷ cuts price (troves_after (cut_of price v wanted) troves) (wanted - (cut_of price v wanted).lot) vs))) ≤ wanted
-  by true stops later = omega arith
-  by false true later = omega arith
-  by false false later =
-      let lots = sum_by-cons (λ (x : Cut). x.lot) (cut_of price v wanted) (cuts price (troves_after (cut_of price v wanted) troves) (wanted - (cut_of price v wanted).lot) vs) in
-      let part : (cut_of price v wanted).lot ≤ wanted = omega arith in
-      omega (arith, lots, later, part)
 
 -- ---- the whole redemption
 
@@ -381,7 +360,7 @@ module _ (s : State) (f : Finds s) (account amount bound : ℕ) (h : first_refus
       let t = cut_state in
       let r = f.ranges in
       let rules = all_false (redeem_rules (market_of s) (wallet_of s account) (visited s) amount bound) h in
-      let tokens = lt_false (wallet_of s account).lusd amount rules.1.1.1.1.0 in
+      let tokens = ltb-false (wallet_of s account).lusd amount rules.1.1.1.1.0 in
       let eats : nat_le terms.drawn terms.fee ≡ false = rules.1.1.1.1.1.1.0 in
       let fee_less = fee_below terms.drawn terms.fee eats in
       let within = redeemed_within s.price (visited s) (trove_count s) amount in

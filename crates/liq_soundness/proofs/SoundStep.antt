@@ -32,10 +32,12 @@ use Rattle.liq_rules.specs.Verbs.{kind, rotates}
 use Rattle.liq_rules.proofs.Allowed.{allowed_number, allowed_rules}
 use Rattle.liq_soundness.proofs.SoundBorrow.{open_leaves, adjust_leaves, close_leaves, gain_leaves}
 use Rattle.liq_soundness.proofs.SoundCalls.{price_leaves, advance_leaves, fund_leaves, take_leaves, send_leaves, claim_leaves, provide_leaves, withdraw_leaves}
-use Rattle.liq_soundness.proofs.SoundFacts.{Finds, Leaves, ClientStands, all_false, lt_false, keys_put, leaves_more, finds_after}
+use Rattle.liq_soundness.proofs.SoundFacts.{Finds, Leaves, ClientStands, keys_put, leaves_more, finds_after}
 use Rattle.liq_soundness.proofs.SoundLiquidate.{liquidate_leaves, lowest_leaves}
 use Rattle.liq_soundness.proofs.SoundRedeem.{redeem_leaves}
 use Rattle.liq_soundness.proofs.SoundTests.{SoundFacts, sound_facts, facts_sound}
+use Rattle.liq_types.proofs.Tests.{all_false}
+use Rattle.std.proofs.lemmas.Bool.{ltb-false}
 
 -- ---- the effect of an allowed call
 
@@ -57,7 +59,7 @@ effect_leaves s f (Withdraw account lusd) r k h = wide 0 s _ (omega arith) (with
 effect_leaves s f (GainToTrove account hint) r k h = wide 0 s _ (omega arith) (gain_leaves s f account k.0 (all_false (rules s (GainToTrove account hint)) h).1.0)
 effect_leaves s f (Liquidate liquidator account) r k h = wide 3 s _ (omega arith) (liquidate_leaves s f liquidator account k.0)
 effect_leaves s f (LiquidateLowest liquidator count) r k h =
-    let few = lt_false LOWEST_MOST count (all_false (rules s (LiquidateLowest liquidator count)) h).1.0 in
+    let few = ltb-false LOWEST_MOST count (all_false (rules s (LiquidateLowest liquidator count)) h).1.0 in
     wide (3 * count) s _ (omega (arith, few)) (lowest_leaves count s f liquidator k.0)
 effect_leaves s f (Redeem account lusd bound hint) r k h = wide 0 s _ (omega arith) (redeem_leaves s f account lusd bound h k.0)
 effect_leaves s f (Claim account) r k h = wide 0 s _ (omega arith) (claim_leaves s f account k.0 h)
@@ -228,7 +230,7 @@ room_as s c b = cond b (where_above (s.generation + 1) GENERATIONS_MOST AmountLi
 
 after_by : (s : State) → SoundFacts s → (c : Command) → IsAllowed s c → (b : Bool) → rotates c.call ≡ b → AllByRecursion (λ (rule : Rule). rule.0 ≡ false) (room_as s c b) → SoundFacts (noted_as s c b c.call)
 after_by s h c a true e room =
-    let generation = lt_false GENERATIONS_MOST (s.generation + 1) room.0 in
+    let generation = ltb-false GENERATIONS_MOST (s.generation + 1) room.0 in
     let first = h.ranges.first_generation in
     let next : State = record s { generation = s.generation + 1 } in
     subst (λ (call : Call). SoundFacts (noted_as s c true call)) (sym (is_rotate c.call e))

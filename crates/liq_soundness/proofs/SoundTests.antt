@@ -24,6 +24,8 @@ use Rattle.liq_rules.specs.Image.{image}
 use Rattle.liq_soundness.specs.SoundState.{IsSoundState}
 use Rattle.liq_soundness.proofs.SoundFacts.{KeysBelow, ClientStands, Stands, Balanced, InRange, Homes, in_order}
 use Rattle.liq_soundness.proofs.SoundPool.{PoolStands, DepositStands, FinishedStands, part_of, sum_in}
+use Rattle.std.proofs.lemmas.Bool.{and_parts, and_from, leb-true, le-leb, ltb-true, lt-ltb, eqb-true, eq-eqb}
+use Rattle.liq_stability.proofs.Tests.{before_in, before_tested, up_to_in, up_to_tested}
 
 -- ---- what a sound state has, as facts
 
@@ -37,43 +39,17 @@ pub record SoundFacts (s : State) : Type 0 where
 
 -- ---- tests
 
-pub both_true : (a b : Bool) → (a && b) ≡ true → (a ≡ true) × (b ≡ true)
-both_true true b h = (refl, h)
-both_true false b h = cc
-
-pub true_both : (a b : Bool) → a ≡ true → b ≡ true → (a && b) ≡ true
-true_both true b h k = k
-true_both false b h k = cc
-
-pub le_true : (a b : ℕ) → nat_le a b ≡ true → a ≤ b
-le_true a b h = grind (arith, nat_tests, h)
-
-pub true_le : (a b : ℕ) → a ≤ b → nat_le a b ≡ true
-true_le a b h = grind (arith, nat_tests, h)
-
-pub lt_true : (a b : ℕ) → nat_lt a b ≡ true → a < b
-lt_true a b h = grind (arith, nat_tests, h)
-
-pub true_lt : (a b : ℕ) → a < b → nat_lt a b ≡ true
-true_lt a b h = grind (arith, nat_tests, h)
-
-pub eq_true : (a b : ℕ) → (a == b) ≡ true → a ≡ b
-eq_true a b h = grind (arith, nat_tests, h)
-
-pub true_eq : (a b : ℕ) → a ≡ b → (a == b) ≡ true
-true_eq a b h = grind (arith, nat_tests, h)
-
 module _ {K X : Type 0} where
   -- from a test of each value to the rows, and back
   rows_pass : (test : X → Bool) (P : X → Type 0) → ((x : X) → test x ≡ true → P x) → (table : List (K × X)) → list_all test (values_of table) ≡ true → AllByRecursion (λ (row : K × X). P row.1) table
   rows_pass test P read [] h = tt
   rows_pass test P read (e ∷ es) h =
-      let parts = both_true (test e.1) (list_all test (values_of es)) h in
+      let parts = and_parts (test e.1) (list_all test (values_of es)) h in
       (read e.1 parts.0, rows_pass test P read es parts.1)
 
   pass_rows : (test : X → Bool) (P : X → Type 0) → ((x : X) → P x → test x ≡ true) → (table : List (K × X)) → AllByRecursion (λ (row : K × X). P row.1) table → list_all test (values_of table) ≡ true
   pass_rows test P made [] h = refl
-  pass_rows test P made (e ∷ es) h = true_both (test e.1) (list_all test (values_of es)) (made e.1 h.0) (pass_rows test P made es h.1)
+  pass_rows test P made (e ∷ es) h = and_from (test e.1) (list_all test (values_of es)) (made e.1 h.0) (pass_rows test P made es h.1)
 
   -- the same of facts
   rows_have : (P : X → Type 0) (table : List (K × X)) → AllByRecursion P (values_of table) → AllByRecursion (λ (row : K × X). P row.1) table
@@ -95,40 +71,20 @@ module _ {K X : Type 0} where
 list_pass : {X : Type 0} (test : X → Bool) (P : X → Type 0) → ((x : X) → test x ≡ true → P x) → (xs : List X) → list_all test xs ≡ true → AllByRecursion P xs
 list_pass test P read [] h = tt
 list_pass test P read (x ∷ xs) h =
-    let parts = both_true (test x) (list_all test xs) h in
+    let parts = and_parts (test x) (list_all test xs) h in
     (read x parts.0, list_pass test P read xs parts.1)
 
 pass_list : {X : Type 0} (test : X → Bool) (P : X → Type 0) → ((x : X) → P x → test x ≡ true) → (xs : List X) → AllByRecursion P xs → list_all test xs ≡ true
 pass_list test P made [] h = refl
-pass_list test P made (x ∷ xs) h = true_both (test x) (list_all test xs) (made x h.0) (pass_list test P made xs h.1)
+pass_list test P made (x ∷ xs) h = and_from (test x) (list_all test xs) (made x h.0) (pass_list test P made xs h.1)
 
 keys_pass : {X : Type 0} (table : Table X) → has_keys_in_range table ≡ true → KeysBelow table
-keys_pass table h = list_pass (λ key. nat_lt key ACCOUNTS) (λ key. key < ACCOUNTS) (λ key. lt_true key ACCOUNTS) (keys_of table) h
+keys_pass table h = list_pass (λ key. nat_lt key ACCOUNTS) (λ key. key < ACCOUNTS) (λ key. ltb-true key ACCOUNTS) (keys_of table) h
 
 pass_keys : {X : Type 0} (table : Table X) → KeysBelow table → has_keys_in_range table ≡ true
-pass_keys table h = pass_list (λ key. nat_lt key ACCOUNTS) (λ key. key < ACCOUNTS) (λ key. true_lt key ACCOUNTS) (keys_of table) h
+pass_keys table h = pass_list (λ key. nat_lt key ACCOUNTS) (λ key. key < ACCOUNTS) (λ key. lt-ltb key ACCOUNTS) (keys_of table) h
 
 -- ---- places
-
-before_true : (a b : Place) → is_before a b ≡ true → IsBefore a b
-before_true a b h = by (nat_lt a.0 b.0) refl where
-  by : (c : Bool) → nat_lt a.0 b.0 ≡ c → IsBefore a b
-  by true e = inl (lt_true a.0 b.0 e)
-  by false e = inr (grind (arith, nat_tests, h, e), grind (arith, nat_tests, h, e))
-
-true_before : (a b : Place) → IsBefore a b → is_before a b ≡ true
-true_before a b (inl less) = grind (arith, nat_tests, less)
-true_before a b (inr same) = grind (arith, nat_tests, same.0, same.1)
-
-up_to_true : (now place : Place) → not (is_before now place) ≡ true → IsUpTo place now
-up_to_true now place h = by (nat_lt place.0 now.0) refl where
-  by : (c : Bool) → nat_lt place.0 now.0 ≡ c → IsUpTo place now
-  by true e = inl (lt_true place.0 now.0 e)
-  by false e = inr (grind (arith, nat_tests, h, e), grind (arith, nat_tests, h, e))
-
-true_up_to : (now place : Place) → IsUpTo place now → not (is_before now place) ≡ true
-true_up_to now place (inl less) = grind (arith, nat_tests, less)
-true_up_to now place (inr same) = grind (arith, nat_tests, same.0, same.1)
 
 -- ---- the rules
 
@@ -185,53 +141,53 @@ trove_true coll debt t h =
 
 true_trove : (coll debt : ℕ) (t : Trove) → TroveStands coll debt t → is_sound_trove coll debt t ≡ true
 true_trove coll debt t h =
-    let a = true_le 1 t.stake h.some in
-    let b = true_le t.stake t.coll h.within in
-    let c = true_le (RESERVE + MIN_NET) t.debt h.debt in
-    let d = true_le t.mark_coll coll h.mark_coll in
-    let e = true_le t.mark_debt debt h.mark_debt in
-    true_both _ _ (true_both _ _ (true_both _ _ (true_both _ _ a b) c) d) e
+    let a = le-leb 1 t.stake h.some in
+    let b = le-leb t.stake t.coll h.within in
+    let c = le-leb (RESERVE + MIN_NET) t.debt h.debt in
+    let d = le-leb t.mark_coll coll h.mark_coll in
+    let e = le-leb t.mark_debt debt h.mark_debt in
+    and_from _ _ (and_from _ _ (and_from _ _ (and_from _ _ a b) c) d) e
 
 deposit_true : (now : Place) (sum : ℕ) (finished : List (Place × ℕ)) (d : Deposit) → 1 ≤ d.amount → (nat_le d.amount LIM && is_sound_deposit now (sum_in now sum finished (d.epoch, d.scale)) d) ≡ true → DepositStands LIM now sum finished d
 deposit_true now sum finished d some h =
-    let amount = both_true (nat_le d.amount LIM) _ h in
-    let within = both_true _ (nat_le d.sum (sum_in now sum finished (d.epoch, d.scale))) amount.1 in
-    let place = both_true _ (not (is_before now (d.epoch, d.scale))) within.0 in
-    let product = both_true (nat_le P_LEAST d.p) (nat_le d.p P_OPENING) place.0 in
+    let amount = and_parts (nat_le d.amount LIM) _ h in
+    let within = and_parts _ (nat_le d.sum (sum_in now sum finished (d.epoch, d.scale))) amount.1 in
+    let place = and_parts _ (not (is_before now (d.epoch, d.scale))) within.0 in
+    let product = and_parts (nat_le P_LEAST d.p) (nat_le d.p P_OPENING) place.0 in
     record {
       some = some;
-      amount = le_true d.amount LIM amount.0;
-      least_p = le_true P_LEAST d.p product.0;
-      most_p = le_true d.p P_OPENING product.1;
-      place = up_to_true now (d.epoch, d.scale) place.1;
-      within = le_true d.sum (sum_in now sum finished (d.epoch, d.scale)) within.1;
+      amount = leb-true d.amount LIM amount.0;
+      least_p = leb-true P_LEAST d.p product.0;
+      most_p = leb-true d.p P_OPENING product.1;
+      place = up_to_in now (d.epoch, d.scale) place.1;
+      within = leb-true d.sum (sum_in now sum finished (d.epoch, d.scale)) within.1;
     }
 
 true_deposit : (now : Place) (sum : ℕ) (finished : List (Place × ℕ)) (d : Deposit) → DepositStands LIM now sum finished d → (nat_le d.amount LIM && is_sound_deposit now (sum_in now sum finished (d.epoch, d.scale)) d) ≡ true
 true_deposit now sum finished d h =
-    true_both (nat_le d.amount LIM) _ (true_le d.amount LIM h.amount)
-    (true_both _ (nat_le d.sum (sum_in now sum finished (d.epoch, d.scale)))
-    (true_both _ (not (is_before now (d.epoch, d.scale))) (true_both (nat_le P_LEAST d.p) (nat_le d.p P_OPENING) (true_le P_LEAST d.p h.least_p) (true_le d.p P_OPENING h.most_p)) (true_up_to now (d.epoch, d.scale) h.place))
-    (true_le d.sum (sum_in now sum finished (d.epoch, d.scale)) h.within))
+    and_from (nat_le d.amount LIM) _ (le-leb d.amount LIM h.amount)
+    (and_from _ (nat_le d.sum (sum_in now sum finished (d.epoch, d.scale)))
+    (and_from _ (not (is_before now (d.epoch, d.scale))) (and_from (nat_le P_LEAST d.p) (nat_le d.p P_OPENING) (le-leb P_LEAST d.p h.least_p) (le-leb d.p P_OPENING h.most_p)) (up_to_tested now (d.epoch, d.scale) h.place))
+    (le-leb d.sum (sum_in now sum finished (d.epoch, d.scale)) h.within))
 
 deposits_true : (now : Place) (sum : ℕ) (finished : List (Place × ℕ)) (table : Table Deposit) → AllByRecursion (λ (d : Deposit). 1 ≤ d.amount) (values_of table) → list_all (λ (d : Deposit). nat_le d.amount LIM && is_sound_deposit now (sum_in now sum finished (d.epoch, d.scale)) d) (values_of table) ≡ true → AllByRecursion (λ (row : ℕ × Deposit). DepositStands LIM now sum finished row.1) table
 deposits_true now sum finished [] some h = tt
 deposits_true now sum finished (e ∷ es) some h =
-    let parts = both_true (nat_le e.1.amount LIM && is_sound_deposit now (sum_in now sum finished (e.1.epoch, e.1.scale)) e.1) _ h in
+    let parts = and_parts (nat_le e.1.amount LIM && is_sound_deposit now (sum_in now sum finished (e.1.epoch, e.1.scale)) e.1) _ h in
     (deposit_true now sum finished e.1 some.0 parts.0, deposits_true now sum finished es some.1 parts.1)
 
 finished_true : (now : Place) (table : List (Place × ℕ)) → AllByRecursion (λ n. 1 ≤ n) (values_of table) → list_all (λ (row : Place × ℕ). nat_le row.1 (OFFSET_MOST * P_OPENING) && is_before row.0 now) table ≡ true → AllByRecursion (FinishedStands now) table
 finished_true now [] some h = tt
 finished_true now (e ∷ es) some h =
-    let parts = both_true (nat_le e.1 (OFFSET_MOST * P_OPENING) && is_before e.0 now) _ h in
-    let here = both_true (nat_le e.1 (OFFSET_MOST * P_OPENING)) (is_before e.0 now) parts.0 in
-    (record { some = some.0; most = le_true e.1 (OFFSET_MOST * P_OPENING) here.0; before = before_true e.0 now here.1 }, finished_true now es some.1 parts.1)
+    let parts = and_parts (nat_le e.1 (OFFSET_MOST * P_OPENING) && is_before e.0 now) _ h in
+    let here = and_parts (nat_le e.1 (OFFSET_MOST * P_OPENING)) (is_before e.0 now) parts.0 in
+    (record { some = some.0; most = leb-true e.1 (OFFSET_MOST * P_OPENING) here.0; before = before_in e.0 now here.1 }, finished_true now es some.1 parts.1)
 
 true_finished : (now : Place) (table : List (Place × ℕ)) → AllByRecursion (FinishedStands now) table → list_all (λ (row : Place × ℕ). nat_le row.1 (OFFSET_MOST * P_OPENING) && is_before row.0 now) table ≡ true
 true_finished now [] h = refl
 true_finished now (e ∷ es) h =
-    true_both (nat_le e.1 (OFFSET_MOST * P_OPENING) && is_before e.0 now) _
-    (true_both (nat_le e.1 (OFFSET_MOST * P_OPENING)) (is_before e.0 now) (true_le e.1 (OFFSET_MOST * P_OPENING) h.0.most) (true_before e.0 now h.0.before))
+    and_from (nat_le e.1 (OFFSET_MOST * P_OPENING) && is_before e.0 now) _
+    (and_from (nat_le e.1 (OFFSET_MOST * P_OPENING)) (is_before e.0 now) (le-leb e.1 (OFFSET_MOST * P_OPENING) h.0.most) (before_tested e.0 now h.0.before))
     (true_finished now es h.1)
 
 finished_some : (now : Place) (table : List (Place × ℕ)) → AllByRecursion (FinishedStands now) table → AllByRecursion (λ n. 1 ≤ n) (values_of table)
@@ -241,7 +197,7 @@ finished_some now (e ∷ es) h = (h.0.some, finished_some now es h.1)
 clients_true : (table : Table Client) → AllByRecursion IsClientRow (values_of table) → list_all is_sound_client (values_of table) ≡ true → AllByRecursion (λ (row : ℕ × Client). ClientStands row.1) table
 clients_true [] h k = tt
 clients_true (e ∷ es) h k =
-    let parts = both_true (is_sound_client e.1) (list_all is_sound_client (values_of es)) k in
+    let parts = and_parts (is_sound_client e.1) (list_all is_sound_client (values_of es)) k in
     (record { row = h.0; kept = parts.0 }, clients_true es h.1 parts.1)
 
 module _ (s : State) (f : IsSoundState s) where
@@ -265,40 +221,40 @@ module _ (s : State) (f : IsSoundState s) where
 
   troves_facts : TrovesStand (books_of s)
   troves_facts =
-      let debt_sum = both_true _ (nat_le (image s).sum_debt SUM_MOST) p.troves in
-      let coll_sum = both_true (list_all (is_sound_trove (image s).sum_coll (image s).sum_debt) (values_of (image s).troves)) (nat_le (image s).sum_coll SUM_MOST) debt_sum.0 in
-      let both = both_true _ _ p.added_up in
-      let snap = both_true _ (nat_le (image s).snap_stakes (image s).snap_coll) both.0 in
-      let debts = both_true _ ((image s).active_debt == sum_by (λ (t : Trove). t.debt) (values_of (image s).troves)) snap.0 in
-      let colls = both_true ((image s).stakes == sum_by (λ (t : Trove). t.stake) (values_of (image s).troves)) ((image s).active_coll == sum_by (λ (t : Trove). t.coll) (values_of (image s).troves)) debts.0 in
-      let backed = both_true _ _ p.backed in
+      let debt_sum = and_parts _ (nat_le (image s).sum_debt SUM_MOST) p.troves in
+      let coll_sum = and_parts (list_all (is_sound_trove (image s).sum_coll (image s).sum_debt) (values_of (image s).troves)) (nat_le (image s).sum_coll SUM_MOST) debt_sum.0 in
+      let both = and_parts _ _ p.added_up in
+      let snap = and_parts _ (nat_le (image s).snap_stakes (image s).snap_coll) both.0 in
+      let debts = and_parts _ ((image s).active_debt == sum_by (λ (t : Trove). t.debt) (values_of (image s).troves)) snap.0 in
+      let colls = and_parts ((image s).stakes == sum_by (λ (t : Trove). t.stake) (values_of (image s).troves)) ((image s).active_coll == sum_by (λ (t : Trove). t.coll) (values_of (image s).troves)) debts.0 in
+      let backed = and_parts _ _ p.backed in
       let words = both.1 in
       record {
         ascend = f.sound.tables.troves;
         each = rows_pass (is_sound_trove (image s).sum_coll (image s).sum_debt) (TroveStands (image s).sum_coll (image s).sum_debt) (trove_true (image s).sum_coll (image s).sum_debt) (image s).troves coll_sum.0;
-        sum_coll = le_true _ _ coll_sum.1;
-        sum_debt = le_true _ _ debt_sum.1;
-        stakes = eq_true _ _ colls.0;
-        active_coll = eq_true _ _ colls.1;
-        active_debt = eq_true _ _ debts.1;
-        snap = le_true _ _ snap.1;
+        sum_coll = leb-true _ _ coll_sum.1;
+        sum_debt = leb-true _ _ debt_sum.1;
+        stakes = eqb-true _ _ colls.0;
+        active_coll = eqb-true _ _ colls.1;
+        active_debt = eqb-true _ _ debts.1;
+        snap = leb-true _ _ snap.1;
         snap_none = λ none. grind (arith, nat_tests, words, none);
-        due_coll = le_true _ _ backed.0;
-        due_debt = le_true _ _ backed.1;
+        due_coll = leb-true _ _ backed.0;
+        due_debt = leb-true _ _ backed.1;
       }
 
   words_parts : has_sound_words (image s) s.records ≡ true → PoolStands LIM (part_of (image s)) × ((words_of s).scale ≤ places_most s.generation s.records) × ((words_of s).epoch ≤ places_most s.generation s.records)
   words_parts h =
       let i = image s in
-      let rows = both_true _ (list_all (λ (row : Place × ℕ). nat_le row.1 (OFFSET_MOST * P_OPENING) && is_before row.0 (i.epoch, i.scale)) i.finished) h in
-      let epoch = both_true _ (nat_le i.epoch (places_most i.generation s.records)) rows.0 in
-      let scale = both_true _ (nat_le i.scale (places_most i.generation s.records)) epoch.0 in
-      let sum = both_true _ (nat_le i.sum (OFFSET_MOST * (P_OPENING - i.p))) scale.0 in
-      let product = both_true (nat_le P_LEAST i.p) (nat_le i.p P_OPENING) sum.0 in
-      let highest = le_true i.p P_OPENING product.1 in
-      let beside = le_true i.sum (OFFSET_MOST * (P_OPENING - i.p)) sum.1 in (
+      let rows = and_parts _ (list_all (λ (row : Place × ℕ). nat_le row.1 (OFFSET_MOST * P_OPENING) && is_before row.0 (i.epoch, i.scale)) i.finished) h in
+      let epoch = and_parts _ (nat_le i.epoch (places_most i.generation s.records)) rows.0 in
+      let scale = and_parts _ (nat_le i.scale (places_most i.generation s.records)) epoch.0 in
+      let sum = and_parts _ (nat_le i.sum (OFFSET_MOST * (P_OPENING - i.p))) scale.0 in
+      let product = and_parts (nat_le P_LEAST i.p) (nat_le i.p P_OPENING) sum.0 in
+      let highest = leb-true i.p P_OPENING product.1 in
+      let beside = leb-true i.sum (OFFSET_MOST * (P_OPENING - i.p)) sum.1 in (
         record {
-          least = le_true P_LEAST i.p product.0;
+          least = leb-true P_LEAST i.p product.0;
           highest = highest;
           sum = omega (arith, beside, highest);
           finished = finished_true (i.epoch, i.scale) i.finished f.sound.tables.some_finished rows.1;
@@ -306,16 +262,16 @@ module _ (s : State) (f : IsSoundState s) where
           ascend = f.sound.tables.deposits;
           deposits = deposits_true (i.epoch, i.scale) i.sum i.finished i.deposits f.sound.tables.some_deposits p.deposits;
         },
-        le_true i.scale (places_most i.generation s.records) scale.1,
-        le_true i.epoch (places_most i.generation s.records) epoch.1,
+        leb-true i.scale (places_most i.generation s.records) scale.1,
+        leb-true i.epoch (places_most i.generation s.records) epoch.1,
       )
 
   stands_facts : Stands LIM s
   stands_facts =
-      let clients = both_true _ (has_keys_in_range (image s).clients) p.accounts in
-      let deposits = both_true _ (has_keys_in_range (image s).deposits) clients.0 in
-      let surplus = both_true _ (has_keys_in_range (image s).surplus_rows) deposits.0 in
-      let first = both_true (has_keys_in_range (image s).wallets) (has_keys_in_range (image s).troves) surplus.0 in
+      let clients = and_parts _ (has_keys_in_range (image s).clients) p.accounts in
+      let deposits = and_parts _ (has_keys_in_range (image s).deposits) clients.0 in
+      let surplus = and_parts _ (has_keys_in_range (image s).surplus_rows) deposits.0 in
+      let first = and_parts (has_keys_in_range (image s).wallets) (has_keys_in_range (image s).troves) surplus.0 in
       record {
         formed = f.formed;
         troves = troves_facts;
@@ -330,11 +286,11 @@ module _ (s : State) (f : IsSoundState s) where
 
   homes_facts : Homes s × (s.active_debt + s.default_debt ≤ LIM)
   homes_facts =
-      let reserve = both_true _ (s.reserve == RESERVE * length (image s).troves) p.lusd in
-      let lusd = both_true (nat_le (s.active_debt + s.default_debt) LIM) _ reserve.0 in
+      let reserve = and_parts _ (s.reserve == RESERVE * length (image s).troves) p.lusd in
+      let lusd = and_parts (nat_le (s.active_debt + s.default_debt) LIM) _ reserve.0 in
       let count = map-length (trove_row s) s.troves in
-      let kept : s.reserve ≡ RESERVE * length (image s).troves = eq_true _ _ reserve.1 in
-      (record { coll = eq_true _ _ p.coll; lusd = eq_true _ _ lusd.1; reserve = omega (arith, kept, count); surplus = eq_true _ _ p.surplus }, le_true _ LIM lusd.0)
+      let kept : s.reserve ≡ RESERVE * length (image s).troves = eqb-true _ _ reserve.1 in
+      (record { coll = eqb-true _ _ p.coll; lusd = eqb-true _ _ lusd.1; reserve = omega (arith, kept, count); surplus = eqb-true _ _ p.surplus }, leb-true _ LIM lusd.0)
 
   pub sound_facts : SoundFacts s
   sound_facts =
@@ -365,26 +321,26 @@ module _ (s : State) (f : SoundFacts s) where
       let places = places_most s.generation s.records in
       record {
         ranges =
-            true_both _ _ (true_both _ _ (true_both _ _ (true_both _ _ (true_both _ _ (true_both _ _ (true_both _ _ (true_both _ _
-            (true_le PRICE_LEAST s.price r.price_least) (true_le s.price PRICE_MOST r.price_most)) (true_le s.minute MINUTE_MOST r.minute)) (true_le s.fee_minute s.minute r.fee_minute)) (true_le s.base ONE r.base))
-            (true_le 1 s.generation r.first_generation)) (true_le s.generation GENERATIONS_MOST r.last_generation)) (true_le s.records RECORDS_MOST f.records)) (true_le s.brought LIM f.balanced.coll_limit);
+            and_from _ _ (and_from _ _ (and_from _ _ (and_from _ _ (and_from _ _ (and_from _ _ (and_from _ _ (and_from _ _
+            (le-leb PRICE_LEAST s.price r.price_least) (le-leb s.price PRICE_MOST r.price_most)) (le-leb s.minute MINUTE_MOST r.minute)) (le-leb s.fee_minute s.minute r.fee_minute)) (le-leb s.base ONE r.base))
+            (le-leb 1 s.generation r.first_generation)) (le-leb s.generation GENERATIONS_MOST r.last_generation)) (le-leb s.records RECORDS_MOST f.records)) (le-leb s.brought LIM f.balanced.coll_limit);
         accounts =
-            true_both _ _ (true_both _ _ (true_both _ _ (true_both _ _ (pass_keys s.wallets h.wallets.keys)
+            and_from _ _ (and_from _ _ (and_from _ _ (and_from _ _ (pass_keys s.wallets h.wallets.keys)
             (pass_keys i.troves (subst (λ (keys : List ℕ). AllByRecursion (λ key. key < ACCOUNTS) keys) (sym (keys_of-map_values (trove_row s) s.troves)) h.trove_keys)))
             (pass_keys s.surplus_rows h.surplus.keys))
             (pass_keys i.deposits (subst (λ (keys : List ℕ). AllByRecursion (λ key. key < ACCOUNTS) keys) (sym (keys_of-map_values (deposit_row s) s.deposits)) h.deposit_keys)))
             (pass_keys s.clients h.clients.keys);
-        coll = true_eq _ _ c.coll;
-        lusd = true_both _ _ (true_both _ _ (true_le _ LIM f.balanced.debt_limit) (true_eq _ _ c.lusd)) (true_eq s.reserve (RESERVE * length i.troves) (omega (arith, c.reserve, count)));
-        surplus = true_eq _ _ c.surplus;
-        troves = true_both _ _ (true_both _ _ (pass_rows (is_sound_trove i.sum_coll i.sum_debt) (TroveStands i.sum_coll i.sum_debt) (true_trove i.sum_coll i.sum_debt) i.troves t.each) (true_le i.sum_coll SUM_MOST t.sum_coll)) (true_le i.sum_debt SUM_MOST t.sum_debt);
+        coll = eq-eqb _ _ c.coll;
+        lusd = and_from _ _ (and_from _ _ (le-leb _ LIM f.balanced.debt_limit) (eq-eqb _ _ c.lusd)) (eq-eqb s.reserve (RESERVE * length i.troves) (omega (arith, c.reserve, count)));
+        surplus = eq-eqb _ _ c.surplus;
+        troves = and_from _ _ (and_from _ _ (pass_rows (is_sound_trove i.sum_coll i.sum_debt) (TroveStands i.sum_coll i.sum_debt) (true_trove i.sum_coll i.sum_debt) i.troves t.each) (le-leb i.sum_coll SUM_MOST t.sum_coll)) (le-leb i.sum_debt SUM_MOST t.sum_debt);
         added_up =
-            true_both _ _ (true_both _ _ (true_both _ _ (true_both _ _ (true_eq _ _ t.stakes) (true_eq _ _ t.active_coll)) (true_eq _ _ t.active_debt)) (true_le i.snap_stakes i.snap_coll t.snap))
+            and_from _ _ (and_from _ _ (and_from _ _ (and_from _ _ (eq-eqb _ _ t.stakes) (eq-eqb _ _ t.active_coll)) (eq-eqb _ _ t.active_debt)) (le-leb i.snap_stakes i.snap_coll t.snap))
             (snap_words (i.snap_stakes == 0) refl);
-        backed = true_both _ _ (true_le _ _ t.due_coll) (true_le _ _ t.due_debt);
+        backed = and_from _ _ (le-leb _ _ t.due_coll) (le-leb _ _ t.due_debt);
         words =
-            true_both _ _ (true_both _ _ (true_both _ _ (true_both _ _ (true_both _ _ (true_le P_LEAST i.p h.pool.least) (true_le i.p P_OPENING h.pool.highest))
-            (true_le i.sum (OFFSET_MOST * (P_OPENING - i.p)) (omega (arith, h.pool.sum, h.pool.highest)))) (true_le i.scale places f.scale)) (true_le i.epoch places f.epoch))
+            and_from _ _ (and_from _ _ (and_from _ _ (and_from _ _ (and_from _ _ (le-leb P_LEAST i.p h.pool.least) (le-leb i.p P_OPENING h.pool.highest))
+            (le-leb i.sum (OFFSET_MOST * (P_OPENING - i.p)) (omega (arith, h.pool.sum, h.pool.highest)))) (le-leb i.scale places f.scale)) (le-leb i.epoch places f.epoch))
             (true_finished (i.epoch, i.scale) i.finished h.pool.finished);
         deposits = pass_rows (λ (d : Deposit). nat_le d.amount LIM && is_sound_deposit (i.epoch, i.scale) (sum_in (i.epoch, i.scale) i.sum i.finished (d.epoch, d.scale)) d) (DepositStands LIM (i.epoch, i.scale) i.sum i.finished) (true_deposit (i.epoch, i.scale) i.sum i.finished) i.deposits h.pool.deposits;
         clients = pass_rows is_sound_client ClientStands (λ c k. k.kept) s.clients h.clients.stand;
@@ -392,7 +348,7 @@ module _ (s : State) (f : SoundFacts s) where
     where
       snap_words : (b : Bool) → (s.snap_stakes == 0) ≡ b → (s.snap_stakes == 0 && s.snap_coll == 0 || nat_lt 0 s.snap_stakes && nat_lt 0 s.snap_coll) ≡ true
       snap_words true e =
-          let none : s.snap_stakes ≡ 0 = eq_true s.snap_stakes 0 e in
+          let none : s.snap_stakes ≡ 0 = eqb-true s.snap_stakes 0 e in
           let other : s.snap_coll ≡ 0 = t.snap_none none in
           grind (arith, nat_tests, none, other)
       snap_words false e =
@@ -431,13 +387,13 @@ module _ (s : State) (f : SoundFacts s) where
 pub finished_rows : (i : Image) (records : ℕ) → IsSoundImage i records → AllByRecursion (FinishedStands (i.epoch, i.scale)) i.finished
 finished_rows i records h =
     let words = (passes_all i records h.rules).words in
-    let rows = both_true _ (list_all (λ (row : Place × ℕ). nat_le row.1 (OFFSET_MOST * P_OPENING) && is_before row.0 (i.epoch, i.scale)) i.finished) words in
+    let rows = and_parts _ (list_all (λ (row : Place × ℕ). nat_le row.1 (OFFSET_MOST * P_OPENING) && is_before row.0 (i.epoch, i.scale)) i.finished) words in
     finished_true (i.epoch, i.scale) i.finished h.tables.some_finished rows.1
 
 pub stakes_added : (i : Image) (records : ℕ) → IsSoundImage i records → i.stakes ≡ stakes_in i
 stakes_added i records h =
-    let both = both_true _ _ (passes_all i records h.rules).added_up in
-    let snap = both_true _ (nat_le i.snap_stakes i.snap_coll) both.0 in
-    let debts = both_true _ (i.active_debt == sum_by (λ (t : Trove). t.debt) (values_of i.troves)) snap.0 in
-    let colls = both_true (i.stakes == stakes_in i) (i.active_coll == sum_by (λ (t : Trove). t.coll) (values_of i.troves)) debts.0 in
-    eq_true i.stakes (stakes_in i) colls.0
+    let both = and_parts _ _ (passes_all i records h.rules).added_up in
+    let snap = and_parts _ (nat_le i.snap_stakes i.snap_coll) both.0 in
+    let debts = and_parts _ (i.active_debt == sum_by (λ (t : Trove). t.debt) (values_of i.troves)) snap.0 in
+    let colls = and_parts (i.stakes == stakes_in i) (i.active_coll == sum_by (λ (t : Trove). t.coll) (values_of i.troves)) debts.0 in
+    eqb-true i.stakes (stakes_in i) colls.0

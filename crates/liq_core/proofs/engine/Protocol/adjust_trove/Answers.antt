@@ -1,5 +1,5 @@
 use Rattle.std.proofs.Common.{arith}
-use Rattle.liq_core.specs.Books.{kept_books}
+use Rattle.liq_standing.specs.Books.{books_kept}
 use Rattle.liq_core.proofs.Lending.{books_stand, coll_held, debt_held, adjusts_so, adjust_changes, adjust_sound, left_absent, left_stand, left_coll, left_debt}
 use Rattle.liq_core.proofs.engine.Protocol.adjust_trove.Goals as goal
 
@@ -31,10 +31,10 @@ pub lift_trove-requires-clause-debt : goal.lift_trove-requires-clause-debt
 lift_trove-requires-clause-debt g c = debt_held c.self.inside c.self.invariant
 
 pub place_trove-requires-clause-absent : goal.place_trove-requires-clause-absent
-place_trove-requires-clause-absent g c = left_absent (kept_books c.self.inside.pools c.self.inside.troves) (books_stand c.self.inside c.self.invariant) c.args.account c.lift_trove.new.pools c.lift_trove.new.troves c.lift_trove.ensures.books
+place_trove-requires-clause-absent g c = left_absent (books_kept c.self.inside.troves c.self.inside.pools) (books_stand c.self.inside c.self.invariant) c.args.account c.lift_trove.new.pools c.lift_trove.new.troves c.lift_trove.ensures.books
 
 pub place_trove-requires-clause-stand : goal.place_trove-requires-clause-stand
-place_trove-requires-clause-stand g c = left_stand (kept_books c.self.inside.pools c.self.inside.troves) (books_stand c.self.inside c.self.invariant) c.args.account c.lift_trove.new.pools c.lift_trove.new.troves c.lift_trove.ensures.books
+place_trove-requires-clause-stand g c = left_stand (books_kept c.self.inside.troves c.self.inside.pools) (books_stand c.self.inside c.self.invariant) c.args.account c.lift_trove.new.pools c.lift_trove.new.troves c.lift_trove.ensures.books
 
 pub place_trove-requires-clause-some : goal.place_trove-requires-clause-some
 place_trove-requires-clause-some g c = (adjusts_so c.self.inside c.args.self.now c.self.view_is c.self.invariant c.args.account c.requires.range c.args.change.now c.args.plan.now c.requires.terms c.requires.allowed).some
@@ -44,12 +44,12 @@ place_trove-requires-clause-least g c = (adjusts_so c.self.inside c.args.self.no
 
 pub place_trove-requires-clause-coll : goal.place_trove-requires-clause-coll
 place_trove-requires-clause-coll g c = let may = adjusts_so c.self.inside c.args.self.now c.self.view_is c.self.invariant c.args.account c.requires.range c.args.change.now c.args.plan.now c.requires.terms c.requires.allowed in
-    let same = left_coll (kept_books c.self.inside.pools c.self.inside.troves) (books_stand c.self.inside c.self.invariant) c.args.account c.lift_trove.new.pools c.lift_trove.new.troves c.lift_trove.ensures.books in
+    let same = left_coll (books_kept c.self.inside.troves c.self.inside.pools) (books_stand c.self.inside c.self.invariant) c.args.account c.lift_trove.new.pools c.lift_trove.new.troves c.lift_trove.ensures.books in
     omega (arith, may.active_coll, same)
 
 pub place_trove-requires-clause-debt : goal.place_trove-requires-clause-debt
 place_trove-requires-clause-debt g c = let may = adjusts_so c.self.inside c.args.self.now c.self.view_is c.self.invariant c.args.account c.requires.range c.args.change.now c.args.plan.now c.requires.terms c.requires.allowed in
-    let same = left_debt (kept_books c.self.inside.pools c.self.inside.troves) (books_stand c.self.inside c.self.invariant) c.args.account c.lift_trove.new.pools c.lift_trove.new.troves c.lift_trove.ensures.books in
+    let same = left_debt (books_kept c.self.inside.troves c.self.inside.pools) (books_stand c.self.inside c.self.invariant) c.args.account c.lift_trove.new.pools c.lift_trove.new.troves c.lift_trove.ensures.books in
     omega (arith, may.active_debt, same)
 
 pub invariant_of-self : goal.invariant_of-self
