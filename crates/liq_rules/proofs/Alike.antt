@@ -1,9 +1,8 @@
 -- States with the same image: what is read of them is the same, and what each change makes of them has the same image.
-use Rattle.std.proofs.Common.{◌≡◌, ℕ, ◌+◌, ◌-◌, ◌≤◌, Bool, true, false, cond, List, [], ◌∷◌, ◌++◌, refl, ap, sym, ◌∙◌, arith, Some, None, Option, length, take}
+use Rattle.std.proofs.Common.{◌≡◌, ℕ, ◌+◌, ◌-◌, Bool, true, false, cond, List, [], ◌∷◌, ◌++◌, refl, ap, sym, ◌∙◌, arith, Some, None, Option, length, take}
 use Rattle.std.specs.Prelude.{option_map, fold, sum_by, min, max, ◌==◌, if◌then◌else◌}
 use Rattle.std.specs.Map.{values_of}
 use Rattle.std.proofs.Math.Seq.{take-length}
-use Rattle.std.proofs.lemmas.List.{take-append-le}
 use Rattle.std.proofs.lemmas.List.Sums.{sum_by-append, fold-append}
 use Rattle.liq_num.specs.Quotient.{floor_of}
 use Rattle.liq_types.specs.declared.amounts.TheConstants.{ONE}
@@ -11,10 +10,10 @@ use Rattle.liq_types.specs.declared.figures.Trove.{Trove}
 use Rattle.liq_types.specs.declared.figures.Deposit.{Deposit}
 use Rattle.liq_types.specs.Image.{Image, Place}
 use Rattle.liq_types.specs.Product.{ScaledProduct, after_offset, prod, sumat, start_sum, sum_growth, place_of, mark_after}
-use Rattle.liq_types.specs.State.{State, StakeSums, PoolMark, Mark, AtStart, After, TroveEntry, DepositEntry, PoolOffset, Redistribution}
+use Rattle.liq_types.specs.State.{State, PoolMark, After, TroveEntry, DepositEntry, PoolOffset, Redistribution}
 use Rattle.liq_types.specs.Tables.{Table, at, put, without, map_rows}
 use Rattle.liq_types.specs.Totals.{stakes_of, pool_total, pool_coll}
-use Rattle.liq_troves.specs.StakeSums.{sums_at, trove_row, pending, coll_growth, debt_growth}
+use Rattle.liq_troves.specs.StakeSums.{trove_row, pending, coll_growth, debt_growth}
 use Rattle.liq_troves.specs.Own.{lifted_entry, lifted, placed, stake_for, redistributed}
 use Rattle.liq_stability.specs.Position.{words_of, mark_of, deposit_row, balance_by, gain_by, balance_in, gain_in, balance_of, gain_of, sums_from}
 use Rattle.liq_stability.specs.Own.{owned, offset, with_deposit, amount_after}
@@ -22,8 +21,8 @@ use Rattle.liq_rules.specs.Image.{image}
 use Rattle.liq_types.specs.WellFormed.{IsMoment, IsWellFormed}
 use Rattle.liq_types.proofs.MapRows.{at-map, map-put, map-without, map-sum, map-cong}
 use Rattle.liq_types.proofs.Places.{sum_shown, sum-snoc, finished-snoc, sum_after, finished_after}
-use Rattle.liq_troves.proofs.BooksOf.{sum_all, sum_more, sums_grown, row_grown}
-use Rattle.liq_stability.proofs.Pool.{own_total, own_coll, mark-grown, deposit-grown, less_debt, more_coll}
+use Rattle.liq_troves.proofs.BooksOf.{sum_more, row_grown}
+use Rattle.liq_stability.proofs.Pool.{own_total, own_coll, deposit-grown, less_debt, more_coll}
 
 -- ---- troves, by the image
 

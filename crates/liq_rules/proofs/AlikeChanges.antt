@@ -1,17 +1,17 @@
 -- States with the same image have the same image after each change.
-use Rattle.std.proofs.Common.{◌≡◌, ℕ, ◌+◌, ◌-◌, ◌≤◌, Bool, true, false, cond, List, [], ◌∷◌, ◌++◌, refl, ap, sym, ◌∙◌, arith, Some, None, Option, length, length-append}
-use Rattle.std.specs.Prelude.{unwrap_or, sum_by, ◌==◌}
+use Rattle.std.proofs.Common.{◌≡◌, ℕ, ◌+◌, ◌-◌, ◌≤◌, [], ◌∷◌, ◌++◌, refl, ap, sym, ◌∙◌, arith, Some, None, Option, length}
+use Rattle.std.specs.Prelude.{unwrap_or, sum_by}
 use Rattle.std.proofs.lemmas.List.Sums.{sum_by-append}
 use Rattle.liq_types.specs.Image.{Image}
 use Rattle.liq_types.specs.Payments.{credited, charged, surplus_added, surplus_taken}
-use Rattle.liq_types.specs.State.{State, Mark, AtStart, After, TroveEntry, DepositEntry, PoolOffset, Redistribution, no_wallet, with_wallet, with_surplus}
-use Rattle.liq_types.specs.Tables.{Table, at, put, without}
-use Rattle.liq_types.specs.Totals.{stakes_of, pool_total, pool_coll}
+use Rattle.liq_types.specs.State.{State, TroveEntry, PoolOffset, Redistribution, no_wallet, with_wallet, with_surplus}
+use Rattle.liq_types.specs.Tables.{Table, at}
+use Rattle.liq_types.specs.Totals.{stakes_of, pool_total}
 use Rattle.liq_troves.specs.Own.{lifted_entry, lifted, placed, redistributed, snapped, set_trove}
-use Rattle.liq_stability.specs.Position.{balance_in, balance_of, gain_in, gain_of}
-use Rattle.liq_stability.specs.Own.{owned, offset, with_deposit, amount_after}
+use Rattle.liq_stability.specs.Position.{balance_of, gain_of}
+use Rattle.liq_stability.specs.Own.{owned, offset, amount_after}
 use Rattle.liq_rules.specs.Image.{image}
-use Rattle.liq_types.specs.WellFormed.{IsMoment, IsWellFormed, TrovesAreMarked, DepositsAreMarked}
+use Rattle.liq_types.specs.WellFormed.{IsMoment, IsWellFormed, TrovesAreMarked}
 use Rattle.liq_types.proofs.MapRows.{all-put, all-without, all-weaken}
 use Rattle.liq_rules.proofs.Alike.{lift, lift-image, place, place-image, redistribute, redistribute-image, own, own-image, offset_by, offset-image}
 use Rattle.liq_rules.proofs.AlikeReads.{Alike, gain_alike, amount_alike}

@@ -1,16 +1,15 @@
 -- States with the same image liquidate alike.
-use Rattle.std.proofs.Common.{◌≡◌, ℕ, zero, suc, ◌+◌, ◌-◌, ◌≤◌, Bool, true, false, cond, List, [], ◌∷◌, ◌++◌, refl, ap, sym, ◌∙◌, subst, arith, Some, None, Option, nat_lt}
-use Rattle.std.specs.Prelude.{sum_by, Result, Ok, Err, ◌==◌, ◌&&◌}
+use Rattle.std.proofs.Common.{◌≡◌, ℕ, zero, suc, ◌-◌, ◌≤◌, Bool, true, false, cond, List, [], ◌∷◌, refl, ap, sym, ◌∙◌, subst, arith, Some, None, Option, nat_lt}
+use Rattle.std.specs.Prelude.{Result, Ok, Err, ◌==◌, ◌&&◌}
 use Rattle.std.proofs.lemmas.Bool.Decides.{nat_tests}
-use Rattle.std.proofs.lemmas.List.Sums.{sum_by-append}
 use Rattle.liq_types.specs.declared.amounts.TheConstants.{RESERVE}
 use Rattle.liq_types.specs.declared.figures.Market.{Market}
 use Rattle.liq_types.specs.declared.figures.Trove.{Trove}
 use Rattle.liq_types.specs.Image.{Image}
 use Rattle.liq_types.specs.declared.replies.Refusal.{Refusal}
 use Rattle.liq_types.specs.declared.replies.Refusal.TheVariants.{NotLiquidatable, PoolTooSmall}
-use Rattle.liq_types.specs.Rules.{Rule, first_refusal, outcome, last_trove_stays}
-use Rattle.liq_types.specs.State.{State, TroveEntry, PoolOffset}
+use Rattle.liq_types.specs.Rules.{Rule, first_refusal, last_trove_stays}
+use Rattle.liq_types.specs.State.{State, TroveEntry}
 use Rattle.liq_types.specs.Tables.{at}
 use Rattle.liq_types.specs.Totals.{market_of, pool_total}
 use Rattle.liq_troves.specs.Own.{lifted_entry, lifted}

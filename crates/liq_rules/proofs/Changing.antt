@@ -1,7 +1,6 @@
 -- Which commands change the ordered list.
 use Rattle.std.proofs.Common.{◌≡◌, ℕ, zero, suc, ◌<◌, true, false, nat_le, nat_lt, List, [], ◌∷◌, Some, None, Option, length, refl, ap, sym, ◌∙◌, arith}
 use Rattle.std.specs.Prelude.{◌≢◌, ◌==◌, Result, Ok, Err, map, reverse, sum_by}
-use Rattle.std.specs.List.{AllByRecursion}
 use Rattle.std.proofs.lemmas.Bool.Decides.{nat_tests}
 use Rattle.std.proofs.lemmas.List.{length-reverse}
 use Rattle.std.proofs.lemmas.List.Sorted.{length_permutation}
@@ -11,7 +10,7 @@ use Rattle.liq_types.specs.declared.replies.Refusal.TheVariants.{AmountZero, Amo
 use Rattle.liq_types.specs.declared.requests.Call.{Call}
 use Rattle.liq_types.specs.declared.requests.Call.TheVariants.{Price, Advance, Fund, Take, Send, Open, Adjust, Close, Provide, Withdraw, GainToTrove, Liquidate, LiquidateLowest, Redeem, Claim, Rotate}
 use Rattle.liq_types.specs.Ranked.{Ranked, first_of, last_account}
-use Rattle.liq_types.specs.Rules.{Rule, first_refusal, last_trove_stays}
+use Rattle.liq_types.specs.Rules.{first_refusal, last_trove_stays}
 use Rattle.liq_types.specs.State.{State, TroveEntry}
 use Rattle.liq_types.specs.Tables.{Table, map_rows}
 use Rattle.liq_types.specs.Totals.{market_of, trove_count}

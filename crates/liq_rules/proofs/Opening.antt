@@ -1,10 +1,7 @@
 -- What is conserved when a trove opens.
-use Rattle.std.proofs.Common.{◌≡◌, ℕ, ◌+◌, ◌-◌, ◌≤◌, false, cond, List, [], ◌∷◌, refl, ap, ◌∙◌, arith, Some, None, Option, nat_lt}
+use Rattle.std.proofs.Common.{◌≡◌, ℕ, ◌+◌, ◌-◌, ◌≤◌, false, List, [], ◌∷◌, refl, ap, ◌∙◌, arith, None, Option, nat_lt}
 use Rattle.std.specs.Prelude.{length, is_some, unwrap_or, sum_by}
 use Rattle.std.specs.Map.{values_of}
-use Rattle.std.specs.Ordering.{nat_cmp, is_eq, match_ordering}
-use Rattle.std.specs.declared.cmp.Ordering.{Ordering}
-use Rattle.std.specs.declared.cmp.Ordering.TheVariants.{Less, Equal, Greater}
 use Rattle.std.proofs.lemmas.Bool.Decides.{nat_tests}
 use Rattle.liq_types.specs.declared.amounts.TheConstants.{LIM, MIN_NET}
 use Rattle.liq_types.specs.declared.replies.Refusal.TheVariants.{TroveExists, NetDebtLow, AmountLimit, ShortCollateral}

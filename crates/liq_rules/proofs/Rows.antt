@@ -1,11 +1,8 @@
 -- Keys that differ, and what a table has at them after a row was written or taken out.
 use Rattle.std.proofs.Common.{◌≡◌, ℕ, Bool, true, false, refl, sym, subst, ◌∙◌, arith}
 use Rattle.std.specs.Prelude.{◌≢◌, ◌==◌}
-use Rattle.std.specs.declared.cmp.Ordering.{Ordering}
-use Rattle.std.specs.declared.cmp.Ordering.TheVariants.{Less, Equal, Greater}
 use Rattle.std.specs.Ordering.{nat_cmp, is_eq}
 use Rattle.std.proofs.lemmas.Bool.Decides.{nat_tests}
-use Rattle.std.proofs.lemmas.Map.Lookups.{exact_unsigned}
 use Rattle.liq_types.specs.Tables.{Table, at, put, without}
 use Rattle.liq_types.proofs.Lookups as lookups
 use Rattle.liq_types.proofs.Lookups.{same_key}
