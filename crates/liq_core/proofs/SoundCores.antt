@@ -1,5 +1,5 @@
 -- A sound core: what is read of it, and what a change leaves of it.
-use Rattle.std.proofs.Common.{◌≡◌, ℕ, ◌+◌, ◌≤◌, true, false, nat_le, nat_lt, List, [], ◌∷◌, Bool, refl, ap, sym, subst, ◌∙◌, arith, inl, inr}
+use Rattle.std.proofs.Common.{◌≡◌, ℕ, ◌+◌, ◌≤◌, true, nat_le, List, [], ◌∷◌, refl, ap, sym, subst, ◌∙◌, arith}
 use Rattle.std.specs.Prelude.{◌&&◌, ◌==◌, sum_by}
 use Rattle.std.specs.BTreeMap.{is_at}
 use Rattle.std.specs.List.{AllByRecursion, list_all}

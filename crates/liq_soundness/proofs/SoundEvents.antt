@@ -23,7 +23,7 @@ use Rattle.liq_types.specs.Tables.{Table, at}
 use Rattle.liq_types.specs.Totals.{pool_total, pool_coll, market_of, or_nothing}
 use Rattle.liq_troves.specs.Own.{lifted_entry, set_trove, redistributed, snapped}
 use Rattle.liq_troves.specs.StakeSums.{entire_of}
-use Rattle.liq_stability.specs.Lawful.{IsLawfulEvent, IsWithinLimit, IsLawfulUpTo, IsLawful}
+use Rattle.liq_stability.specs.Lawful.{IsWithinLimit, IsLawfulUpTo, IsLawful}
 use Rattle.liq_stability.specs.Own.{owned, offset, after_event, amount_after, pool_of}
 use Rattle.liq_stability.specs.Position.{balance_of, gain_of, words_of}
 use Rattle.liq_stability.proofs.Pool.{owned-total, owned-coll, offset-total, offset-coll}

@@ -1,6 +1,6 @@
 -- What stands of a sound state, topic by topic, and that each change of a state keeps it, also in the middle of a verb. What
 -- is conserved holds after a whole verb only, and is told beside it.
-use Rattle.std.proofs.Common.{◌≡◌, ℕ, ◌+◌, ◌-◌, ◌*◌, ◌^◌, ◌≤◌, ◌<◌, Bool, true, false, cond, List, [], ◌∷◌, ◌++◌, refl, ap, sym, ◌∙◌, subst, arith, length, nat_lt, Some, None, Option}
+use Rattle.std.proofs.Common.{◌≡◌, ℕ, ◌+◌, ◌-◌, ◌*◌, ◌^◌, ◌≤◌, ◌<◌, Bool, true, false, cond, List, [], ◌∷◌, ◌++◌, refl, ap, sym, ◌∙◌, subst, arith, Some, None, Option}
 use Rattle.std.specs.Prelude.{◌==◌, unwrap_or, option_map, sum}
 use Rattle.std.specs.BTreeMap.{is_at}
 use Rattle.std.specs.Cmp.{nat_cmp_total}
@@ -17,7 +17,6 @@ use Rattle.liq_types.specs.declared.amounts.TheConstants.{ACCOUNTS, OFFSET_MOST,
 use Rattle.liq_types.specs.declared.figures.Wallet.{Wallet}
 use Rattle.liq_types.specs.declared.figures.Client.{Client}
 use Rattle.liq_types.specs.Payments.{credited, charged, surplus_added, surplus_taken}
-use Rattle.liq_types.specs.Rules.{Rule, first_refusal}
 use Rattle.liq_types.specs.Soundness.{IsClientRow, is_sound_client, coll_homes, lusd_homes}
 use Rattle.liq_types.specs.State.{State, TroveEntry, DepositEntry, Redistribution, is_used_wallet, wallet_of, surplus_in, with_wallet, with_surplus}
 use Rattle.liq_types.specs.Tables.{Table, at, put, without}
@@ -38,9 +37,7 @@ use Rattle.liq_soundness.specs.SoundState.{AreSetSince}
 use Rattle.liq_rules.specs.Identities.{IsConserved}
 use Rattle.liq_rules.proofs.AlikeChanges.{formed-lifted, formed-placed, formed-redistributed, formed-owned, formed-offset}
 use Rattle.liq_soundness.proofs.SoundPool.{PoolStands, part_of, owned_stands, offset_stands}
-use Rattle.liq_types.proofs.Lookups.{same_key, length-put, length-without}
-use Rattle.liq_types.proofs.Tests.{all_false, not_zero}
-use Rattle.std.proofs.lemmas.Bool.{ltb-false}
+use Rattle.liq_types.proofs.Lookups.{same_key}
 
 -- ---- keys
 

@@ -1,17 +1,17 @@
 -- Liquidations leave what stands: of one trove, and of the lowest ones, one after the other.
 use Rattle.std.proofs.Common.{◌≡◌, ℕ, zero, suc, ◌+◌, ◌-◌, ◌*◌, ◌^◌, ◌≤◌, ◌<◌, Bool, true, false, cond, List, [], ◌∷◌, refl, ap, sym, ◌∙◌, subst, arith, nat_lt, nat_le, min, Some, None, Option}
 use Rattle.std.specs.Prelude.{◌==◌, ◌&&◌, option_map, Result, Ok, Err}
-use Rattle.std.proofs.Math.Nat.{mul-le-mul_left, div-le_of_le-mul, div-mul-le_self, div-le_self, le_of_mul-le-mul_right}
+use Rattle.std.proofs.Math.Nat.{mul-le-mul_left, div-le_of_le-mul, div-mul-le_self, le_of_mul-le-mul_right}
 use Rattle.std.proofs.lemmas.Bool.Decides.{nat_tests}
 use Rattle.liq_num.specs.Quotient.{floor_of}
-use Rattle.liq_types.specs.declared.amounts.TheConstants.{ACCOUNTS, LIM, RESERVE, MCR, GAS_PART, CAP_WORTH, OFFSET_MOST, PRICE_LEAST, SUM_MOST, RISES_MOST}
+use Rattle.liq_types.specs.declared.amounts.TheConstants.{ACCOUNTS, LIM, RESERVE, MCR, CAP_WORTH, OFFSET_MOST, PRICE_LEAST, SUM_MOST, RISES_MOST}
 use Rattle.liq_types.specs.declared.figures.Market.{Market}
 use Rattle.liq_types.specs.declared.figures.Trove.{Trove}
 use Rattle.liq_types.specs.declared.figures.Wallet.{Wallet}
 use Rattle.liq_types.specs.declared.replies.Refusal.{Refusal}
 use Rattle.liq_types.specs.Payments.{surplus_added}
 use Rattle.liq_types.specs.Product.{IsWithinRange, place_of}
-use Rattle.liq_types.specs.Rules.{first_refusal, outcome}
+use Rattle.liq_types.specs.Rules.{first_refusal}
 use Rattle.liq_types.specs.State.{State, TroveEntry}
 use Rattle.liq_types.specs.Tables.{Table, at}
 use Rattle.liq_types.specs.Totals.{is_below_percent, is_at_most_whole, is_ratio_below, is_normal, market_of, pool_total, pool_coll, stakes_of, trove_count, worth, asked}

@@ -25,7 +25,7 @@ use Rattle.liq_types.proofs.Ranges.{offset_within, rise_few}
 use Rattle.liq_types.proofs.Sums.{leaves_part, takes_all, stays_within, finishes_within}
 use Rattle.liq_stability.specs.Own.{owned, offset, amount_after}
 use Rattle.liq_stability.specs.Position.{words_of, deposit_row}
-use Rattle.liq_stability.proofs.Pool.{mark-grown, mark-full, offset_now, words-snoc, deposit-grown}
+use Rattle.liq_stability.proofs.Pool.{mark-full, offset_now, words-snoc, deposit-grown}
 use Rattle.liq_rules.specs.Image.{image}
 use Rattle.liq_types.proofs.Tests.{not_zero}
 

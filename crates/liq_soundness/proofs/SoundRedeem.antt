@@ -1,11 +1,10 @@
 -- Redemptions leave what stands.
-use Rattle.std.proofs.Common.{◌≡◌, ℕ, ◌+◌, ◌-◌, ◌*◌, ◌≤◌, ◌<◌, Bool, true, false, cond, List, [], ◌∷◌, refl, ap, sym, ◌∙◌, subst, inl, inr, arith, length, nat_lt, nat_le, Some, None, Option}
+use Rattle.std.proofs.Common.{◌≡◌, ℕ, ◌+◌, ◌-◌, ◌*◌, ◌≤◌, ◌<◌, Bool, true, false, cond, List, [], ◌∷◌, refl, ap, sym, ◌∙◌, subst, arith, length, nat_lt, nat_le, Some, None, Option}
 use Rattle.std.specs.Prelude.{◌==◌, not, option_map, sum, map, reverse, filter, filter_map, fold}
 use Rattle.std.specs.List.{AllByRecursion, IsDistinct, cons_option}
 use Rattle.std.specs.Map.{keys_of, values_of}
 use Rattle.std.specs.Ordering.{nat_cmp, is_eq, eq_by_cmp}
-use Rattle.std.proofs.Math.Nat.{mul-le-mul_right, div-mul-le_self}
-use Rattle.std.proofs.lemmas.Bool.{cases_lt, ltb-false}
+use Rattle.std.proofs.lemmas.Bool.{ltb-false}
 use Rattle.std.proofs.lemmas.Bool.Decides.{nat_tests}
 use Rattle.std.proofs.lemmas.List.Sorted.{IsPermutation-map, IsPermutation-reverse}
 use Rattle.std.proofs.lemmas.List.Sums.{sum_by-cons}
@@ -21,7 +20,7 @@ use Rattle.liq_types.specs.Rules.{first_refusal}
 use Rattle.liq_types.specs.State.{State, TroveEntry, Redistribution, wallet_of, wallet_in}
 use Rattle.liq_types.specs.State as marks
 use Rattle.liq_types.specs.Tables.{Table, at, without}
-use Rattle.liq_types.specs.Totals.{is_below_percent, market_of, trove_count, worth, asked}
+use Rattle.liq_types.specs.Totals.{is_below_percent, market_of, trove_count}
 use Rattle.liq_types.specs.WellFormed.{Ascends}
 use Rattle.liq_types.proofs.Ascending.{wallet-ascends}
 use Rattle.liq_types.proofs.Lookups.{at-without_same, at-without_other, at-put_other, length-put, length-without}
@@ -34,7 +33,7 @@ use Rattle.liq_order.specs.Order.{ranks, trove_order}
 use Rattle.liq_order.proofs.Sorting.{sorted_same}
 use Rattle.liq_stability.specs.Position.{words_of}
 use Rattle.liq_redemption.specs.declared.cut.Cut.{Cut}
-use Rattle.liq_redemption.specs.Redemption.{Visit, visit, is_visited, visited, net_debt, cut_of, draw_of, stops_before, troves_after, cuts, redeemed, drawn, RedeemTerms, redeeming_terms, redeem_rules, closed_by, cut_entire, cut_down, redeemed_by, cuts_in}
+use Rattle.liq_redemption.specs.Redemption.{Visit, visit, is_visited, visited, net_debt, cut_of, stops_before, troves_after, cuts, redeemed, drawn, RedeemTerms, redeeming_terms, redeem_rules, closed_by, cut_entire, cut_down, redeemed_by, cuts_in}
 use Rattle.liq_types.specs.Soundness.{coll_homes, lusd_homes}
 use Rattle.liq_rules.specs.Image.{image}
 use Rattle.liq_soundness.specs.SoundState.{IsSetSince, AreSetSince, CutIsCovered}

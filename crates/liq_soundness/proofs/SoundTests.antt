@@ -1,5 +1,5 @@
 -- The tests of an image's rules say just what stands of the state: in both directions.
-use Rattle.std.proofs.Common.{◌≡◌, ℕ, ◌+◌, ◌-◌, ◌*◌, ◌≤◌, ◌<◌, Bool, true, false, cond, List, [], ◌∷◌, refl, ap, sym, ◌∙◌, subst, inl, inr, arith, nat_lt, nat_le, Some, None, length}
+use Rattle.std.proofs.Common.{◌≡◌, ℕ, ◌+◌, ◌-◌, ◌*◌, ◌≤◌, ◌<◌, Bool, true, false, cond, List, [], ◌∷◌, refl, ap, sym, ◌∙◌, subst, arith, nat_lt, nat_le, Some, None, length}
 use Rattle.std.specs.Prelude.{◌==◌, ◌&&◌, ◌||◌, not, sum, sum_by}
 use Rattle.std.specs.List.{AllByRecursion, list_all}
 use Rattle.std.specs.Map.{keys_of, values_of}
@@ -13,9 +13,8 @@ use Rattle.liq_types.specs.Image.{Image, Place}
 use Rattle.liq_types.specs.Soundness.{has_ranges, has_accounts, has_keys_in_range, has_coll_at_home, has_lusd_at_home, has_surplus_at_home, has_sound_troves, is_sound_trove, has_troves_added_up, is_backed, has_sound_words, has_sound_deposits, is_sound_deposit, has_sound_clients, is_sound_client, is_before, places_most, soundness, first_failing, first_unsound, HasTables, IsSoundImage, IsClientRow}
 use Rattle.liq_types.specs.State.{State, is_used_wallet}
 use Rattle.liq_types.specs.Tables.{Table}
-use Rattle.liq_types.specs.WellFormed.{IsBefore, stakes_in}
+use Rattle.liq_types.specs.WellFormed.{stakes_in}
 use Rattle.liq_types.proofs.MapRows.{map-length}
-use Rattle.liq_types.proofs.Places.{IsUpTo}
 use Rattle.std.proofs.lemmas.Map.Made.{keys_of-map_values}
 use Rattle.liq_troves.specs.Standing.{TroveStands, TrovesStand, books_of}
 use Rattle.liq_troves.specs.StakeSums.{trove_row}
