@@ -17,6 +17,10 @@ module _ {X : Type 0} where
   some None x h = cc
   some (Some y) x h = refl
 
+  pub value_of : (o : Option X) → IsSome o → (x : X) × (o ≡ Some x)
+  value_of None h = absurd (let e : false ≡ true = h in cc)
+  value_of (Some x) h = (x, refl)
+
   pub missing : (o : Option X) → is_some o ≡ false → o ≡ None
   missing None h = refl
   missing (Some x) h = cc
