@@ -1,7 +1,6 @@
 -- What is given and got in one step, as if one came after the other.
-use Rattle.std.proofs.Common.{◌≡◌, ℕ, ◌+◌, ◌-◌, Bool, true, false, cond, sym, ap, ◌∙◌, Option, arith, refl}
+use Rattle.std.proofs.Common.{◌≡◌, ℕ, ◌+◌, ◌-◌, Bool, true, false, cond, sym, ap, ◌∙◌, Option, refl}
 use Rattle.std.specs.Prelude.{unwrap_or}
-use Rattle.std.proofs.lemmas.Bool.Decides.{nat_tests}
 use Rattle.liq_types.specs.declared.figures.Wallet.{Wallet}
 use Rattle.liq_types.specs.Payments.{credited_in, charged_in}
 use Rattle.liq_types.specs.State.{no_wallet, is_used_wallet, wallet_in, with_wallet}
@@ -9,12 +8,7 @@ use Rattle.liq_types.specs.Tables.{Table, put, without}
 use Rattle.liq_types.specs.WellFormed.{Ascends}
 use Rattle.liq_types.proofs.Lookups.{at-put_same, at-without_same}
 use Rattle.liq_types.proofs.UsedRows.{written_twice}
-
-pub unused : (w : Wallet) → is_used_wallet w ≡ false → w ≡ no_wallet
-unused w h =
-    let coll : w.coll ≡ 0 = grind (arith, nat_tests, h) in
-    let lusd : w.lusd ≡ 0 = grind (arith, nat_tests, h) in
-    ap (λ n. record { coll = n; lusd = w.lusd }) coll ∙ ap (λ n. record { coll = 0; lusd = n }) lusd
+use Rattle.liq_types.proofs.Tests.{unused}
 
 -- the wallet that was written is there
 here : (table : Table Wallet) (account : ℕ) (w : Wallet) → Ascends table → wallet_in (with_wallet table account w) account ≡ w
