@@ -34,6 +34,7 @@ use Rattle.liq_order.specs.Listed.{Listed}
 use Rattle.liq_order.specs.Order.{order_by}
 use Rattle.liq_borrow.specs.declared.change.Change.{Change}
 use Rattle.liq_borrow.specs.declared.change.Plan.{Plan}
+use Rattle.liq_borrow.proofs.Allowed.{change_passes, close_passes as closing_passes}
 use Rattle.liq_borrow.specs.Borrowing.{opening_terms, adjusting_terms, adjust_rules, closing_terms, close_rules}
 use Rattle.liq_core.specs.declared.engine.Protocol.TheInside.{Inside}
 use Rattle.liq_core.specs.Books.{kept_books, SameOthers}
@@ -45,7 +46,7 @@ use Rattle.liq_core.specs.Sound.{IsSound, core_of}
 use Rattle.liq_rules.proofs.Moving.{read_or, wallet_here}
 use Rattle.liq_soundness.proofs.SoundBorrow.{open_allows, open_leaves, adjust_allows_own, adjust_leaves, close_leaves, has_trove, told}
 use Rattle.liq_core.proofs.SoundCores.{core_finds, image_back, sound_after}
-use Rattle.liq_soundness.proofs.SoundFacts.{Finds, Leaves, finds_after, all_false, lt_false, length_without}
+use Rattle.liq_soundness.proofs.SoundFacts.{Finds, Leaves, finds_after, length_without}
 use Rattle.liq_core.proofs.Telling.{books_by}
 
 -- ---- images by their parts
@@ -298,7 +299,7 @@ module _ (p : Inside) (sound : IsSound p) (account : ℕ) (change : Change) (bou
       let f = core_finds (core_of p) sound.image in
       let own = or_nothing (entire_of s account) in
       let a = adjust_allows_own s f account bound change h in
-      let there = told (entire_of s account) (all_false (adjust_rules (market_of s) (wallet_of s account) (entire_of s account) account change bound) h).0 in
+      let there = told (entire_of s account) (change_passes (market_of s) (wallet_of s account) (entire_of s account) change account bound h).there in
       let w = subst IsWithin adjust_image (within (adjusted s account change plan) adjust_finds) in
       let paid = pay_within (adjusted s account change plan) adjust_finds (charged_in p.wallets.rows account change.coll_in change.repay) account change.coll_out change.borrow (charged-ascends p.wallets.rows account change.coll_in change.repay f.stands.wallets.ascend) (ap (λ (i : Image). i.wallets) adjust_image) in
       record {
@@ -355,9 +356,9 @@ module _ (p : Inside) (sound : IsSound p) (account repaid coll : ℕ) (k : accou
       let s = state_of (core_of p) in
       let f = core_finds (core_of p) sound.image in
       let own = or_nothing (entire_of s account) in
-      let rules = all_false (close_rules (market_of s) (wallet_of s account) (entire_of s account) account) h in
-      let there = told (entire_of s account) rules.0 in
-      let enough = lt_false (wallet_of s account).lusd (own.1 - RESERVE) rules.1.1.1.0 in
+      let passes = closing_passes (market_of s) (wallet_of s account) (entire_of s account) account h in
+      let there = told (entire_of s account) passes.there in
+      let enough = passes.repaid in
       let repaid_is = ap (λ (t : ℕ × ℕ). t.0) is in
       let has = has_trove s account own f.stands there in
       let rows = length_without s.troves account has.entry has.there in
