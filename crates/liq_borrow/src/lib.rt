@@ -6,6 +6,7 @@ mod change;
 mod checks;
 mod close;
 mod gain;
+pub mod laws;
 mod open;
 mod terms;
 

@@ -41,7 +41,7 @@ use Rattle.liq_rules.specs.Rules.{rules, effect}
 use Rattle.liq_core.specs.Sound.{IsSound, core_of}
 use Rattle.liq_rules.proofs.AlikeReads.{none-map}
 use Rattle.liq_core.proofs.Lending.{IsWithin, within, with_books, same_others, set_image, books_are, rows_are, there_row, pay_within, charged-ascends}
-use Rattle.liq_soundness.proofs.SoundBorrow.{gain_leaves, has_trove, told}
+use Rattle.liq_soundness.proofs.SoundBorrow.{gain_allows, gain_leaves, has_trove, told}
 use Rattle.liq_soundness.proofs.SoundBounds.{surplus_covered}
 use Rattle.liq_soundness.proofs.SoundCalls.{pool_and_wallet, provide_leaves, withdraw_leaves, claim_leaves}
 use Rattle.liq_core.proofs.SoundCores.{core_finds, image_back, sound_after}
@@ -283,14 +283,14 @@ pub record MayMove (p : Inside) (account : ℕ) (plan : Plan) : Type 0 where
 
 module _ (p : Inside) (sound : IsSound p) (account : ℕ) (plan : Plan) (words : HintWords) (k : account < ACCOUNTS) (is : plan ≡ gaining_terms (market_of (state_of (core_of p))) (or_nothing (entire_of (state_of (core_of p)) account)) (gain_of (state_of (core_of p)) account)) (h : first_refusal (rules (state_of (core_of p)) (GainToTrove account words)) ≡ None) where
   gain_told : entire_of (state_of (core_of p)) account ≡ Some (or_nothing (entire_of (state_of (core_of p)) account))
-  gain_told = told (entire_of (state_of (core_of p)) account) (all_false (rules (state_of (core_of p)) (GainToTrove account words)) h).1.0
+  gain_told = told (entire_of (state_of (core_of p)) account) (gain_allows (state_of (core_of p)) account words h).there
 
   gain_effect : effect (state_of (core_of p)) (GainToTrove account words) ≡ set_trove (owned (state_of (core_of p)) account 0 0) account plan.coll plan.debt
   gain_effect = ap (λ (x : Plan). set_trove (owned (state_of (core_of p)) account 0 0) account x.coll x.debt) (sym is)
 
   gain_left : Leaves 0 (state_of (core_of p)) (effect (state_of (core_of p)) (GainToTrove account words))
   gain_left =
-      gain_leaves (state_of (core_of p)) (core_finds (core_of p) sound.image) account k (all_false (rules (state_of (core_of p)) (GainToTrove account words)) h).1.0
+      gain_leaves (state_of (core_of p)) (core_finds (core_of p) sound.image) account k (gain_allows (state_of (core_of p)) account words h).there
 
   gain_image : image (set_trove (owned (state_of (core_of p)) account 0 0) account plan.coll plan.debt) ≡ with_books (image (owned (state_of (core_of p)) account 0 0)) (place (lift (books_kept p.troves p.pools) account) account plan.coll plan.debt)
   gain_image =

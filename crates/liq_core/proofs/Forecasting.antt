@@ -1,7 +1,7 @@
 -- What is planned of opening, adjusting and closing is what the step has.
-use Rattle.std.proofs.Common.{◌≡◌, ℕ, ◌+◌, ◌<◌, Bool, List, [], ◌∷◌, refl, ap, sym, ◌∙◌, None, Option}
+use Rattle.std.proofs.Common.{◌≡◌, ℕ, ◌+◌, Bool, List, [], ◌∷◌, refl, ap, sym, ◌∙◌, None, Option}
 use Rattle.std.specs.Prelude.{Ok, Err, is_some}
-use Rattle.liq_types.specs.declared.amounts.TheConstants.{ACCOUNTS, RESERVE}
+use Rattle.liq_types.specs.declared.amounts.TheConstants.{RESERVE}
 use Rattle.liq_types.specs.declared.events.ListChange.{ListChange}
 use Rattle.liq_types.specs.declared.events.ListChange.TheVariants.{Put}
 use Rattle.liq_types.specs.declared.figures.Market.{Market}
@@ -26,7 +26,6 @@ use Rattle.liq_core.specs.declared.turns.Terms.TheVariants as terms
 use Rattle.liq_rules.specs.Borrowing.{with_fee}
 use Rattle.liq_core.specs.Plan.{IsForecast}
 use Rattle.liq_rules.specs.Rules.{rules}
-use Rattle.liq_rules.specs.Step.{in_range}
 use Rattle.liq_core.specs.Turn.{IsRuled}
 use Rattle.liq_core.proofs.Reading.{refused_so, allowed_so, placed_told, set_told}
 
@@ -34,13 +33,7 @@ use Rattle.liq_core.proofs.Reading.{refused_so, allowed_so, placed_told, set_tol
 abbrev pub put_for : State → ℕ → Plan → ListChange
 put_for s account plan = Put (key_by (set_row (sums_words s) plan.coll plan.debt)) account
 
--- what allows a call of an account in range, and what is planned of it
-pub record IsAllowedSo {X : Type 0} (s : State) (account : ℕ) (call_rules : Option Refusal) (all_rules : Option Refusal) (planned terms : X) : Type 0 where
-  pub all : all_rules ≡ None
-  pub verb : call_rules ≡ None
-  pub is : planned ≡ terms
-
-module _ (s : State) (account : ℕ) (k : account < ACCOUNTS) (m : Market) (w : Wallet) (market_is : m ≡ market_of s) (wallet_is : w ≡ wallet_of s account) where
+module _ (s : State) (account : ℕ) (m : Market) (w : Wallet) (market_is : m ≡ market_of s) (wallet_is : w ≡ wallet_of s account) where
   module _ (coll borrow bound : ℕ) (hint : HintWords) (exists : Bool) (exists_is : exists ≡ is_some (at s.troves account)) where
     open_as : open_plan m w exists account coll borrow bound ≡ open_plan (market_of s) (wallet_of s account) (is_some (at s.troves account)) account coll borrow bound
     open_as =
@@ -50,12 +43,10 @@ module _ (s : State) (account : ℕ) (k : account < ACCOUNTS) (m : Market) (w : 
 
     pub open_refused : (refusal : Refusal) → open_plan m w exists account coll borrow bound ≡ Err refusal → IsRuled s (Open account coll borrow bound hint) (Err refusal)
     open_refused refusal e =
-        refused_so (rules s (Open account coll borrow bound hint)) (opening_terms (market_of s) coll borrow) account k refusal (sym open_as ∙ e)
+        refused_so (rules s (Open account coll borrow bound hint)) (opening_terms (market_of s) coll borrow) refusal (sym open_as ∙ e)
 
-    pub open_allowed : (plan : Plan) → open_plan m w exists account coll borrow bound ≡ Ok plan → IsAllowedSo s account (first_refusal (rules s (Open account coll borrow bound hint))) (first_refusal (in_range account ∷ rules s (Open account coll borrow bound hint))) plan (opening_terms (market_of s) coll borrow)
-    open_allowed plan e =
-        let a = allowed_so (rules s (Open account coll borrow bound hint)) (opening_terms (market_of s) coll borrow) account k plan (sym open_as ∙ e) in
-        record { all = a.0; verb = a.1; is = a.2 }
+    pub open_allowed : (plan : Plan) → open_plan m w exists account coll borrow bound ≡ Ok plan → (first_refusal (rules s (Open account coll borrow bound hint)) ≡ None) × (plan ≡ (opening_terms (market_of s) coll borrow))
+    open_allowed plan e = allowed_so (rules s (Open account coll borrow bound hint)) (opening_terms (market_of s) coll borrow) plan (sym open_as ∙ e)
 
   module _ (change : Change) (bound : ℕ) (hint : HintWords) (entire : Option (ℕ × ℕ)) (entire_is : entire ≡ entire_of s account) where
     adjust_as : adjust_plan m w entire account change bound ≡ adjust_plan (market_of s) (wallet_of s account) (entire_of s account) account change bound
@@ -66,12 +57,10 @@ module _ (s : State) (account : ℕ) (k : account < ACCOUNTS) (m : Market) (w : 
 
     pub adjust_refused : (refusal : Refusal) → adjust_plan m w entire account change bound ≡ Err refusal → IsRuled s (Adjust account change.coll_in change.coll_out change.borrow change.repay bound hint) (Err refusal)
     adjust_refused refusal e =
-        refused_so (rules s (Adjust account change.coll_in change.coll_out change.borrow change.repay bound hint)) (adjusting_terms (market_of s) (or_nothing (entire_of s account)) change) account k refusal (sym adjust_as ∙ e)
+        refused_so (rules s (Adjust account change.coll_in change.coll_out change.borrow change.repay bound hint)) (adjusting_terms (market_of s) (or_nothing (entire_of s account)) change) refusal (sym adjust_as ∙ e)
 
-    pub adjust_allowed : (plan : Plan) → adjust_plan m w entire account change bound ≡ Ok plan → IsAllowedSo s account (first_refusal (rules s (Adjust account change.coll_in change.coll_out change.borrow change.repay bound hint))) (first_refusal (in_range account ∷ rules s (Adjust account change.coll_in change.coll_out change.borrow change.repay bound hint))) plan (adjusting_terms (market_of s) (or_nothing (entire_of s account)) change)
-    adjust_allowed plan e =
-        let a = allowed_so (rules s (Adjust account change.coll_in change.coll_out change.borrow change.repay bound hint)) (adjusting_terms (market_of s) (or_nothing (entire_of s account)) change) account k plan (sym adjust_as ∙ e) in
-        record { all = a.0; verb = a.1; is = a.2 }
+    pub adjust_allowed : (plan : Plan) → adjust_plan m w entire account change bound ≡ Ok plan → (first_refusal (rules s (Adjust account change.coll_in change.coll_out change.borrow change.repay bound hint)) ≡ None) × (plan ≡ (adjusting_terms (market_of s) (or_nothing (entire_of s account)) change))
+    adjust_allowed plan e = allowed_so (rules s (Adjust account change.coll_in change.coll_out change.borrow change.repay bound hint)) (adjusting_terms (market_of s) (or_nothing (entire_of s account)) change) plan (sym adjust_as ∙ e)
 
 -- ---- what is planned
 

@@ -1,3 +1,4 @@
+pub mod AccountsFirst
 pub mod Cutting
 pub mod Depositing
 pub mod Forecasting

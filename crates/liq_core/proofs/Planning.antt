@@ -1,13 +1,13 @@
 -- What the plans of liquidations are told of a protocol.
-use Rattle.std.proofs.Common.{◌≡◌, ℕ, ◌+◌, ◌^◌, ◌≤◌, ◌<◌, refl, ap, sym, ◌∙◌, subst, arith, false, cond, nat_le, nat_lt, List, [], ◌∷◌, length, Some, None, Option}
+use Rattle.std.proofs.Common.{◌≡◌, ℕ, ◌+◌, ◌^◌, ◌≤◌, ◌<◌, refl, ap, sym, ◌∙◌, subst, arith, false, cond, nat_lt, List, [], ◌∷◌, length, Some, None, Option}
 use Rattle.std.specs.Prelude.{◌==◌, IfSome, Result, Ok, sum_by}
 use Rattle.std.proofs.lemmas.Bool.Decides.{nat_tests}
-use Rattle.liq_types.specs.declared.amounts.TheConstants.{ACCOUNTS, LOWEST_MOST}
+use Rattle.liq_types.specs.declared.amounts.TheConstants.{LOWEST_MOST}
 use Rattle.liq_types.specs.declared.replies.Done.{Done}
 use Rattle.liq_types.specs.declared.replies.Refusal.{Refusal}
-use Rattle.liq_types.specs.declared.replies.Refusal.TheVariants.{AccountRange, AmountLimit, AmountZero}
+use Rattle.liq_types.specs.declared.replies.Refusal.TheVariants.{AmountLimit, AmountZero}
 use Rattle.liq_types.specs.declared.requests.Call.TheVariants.{Liquidate, LiquidateLowest}
-use Rattle.liq_types.specs.Rules.{Rule, first_refusal, outcome, where_above}
+use Rattle.liq_types.specs.Rules.{first_refusal, outcome, where_above}
 use Rattle.liq_types.specs.declared.figures.Market.{Market}
 use Rattle.liq_types.specs.declared.figures.Trove.{Trove}
 use Rattle.liq_types.specs.Image.{Image}
@@ -38,7 +38,6 @@ use Rattle.liq_core.specs.declared.turns.Forecast.{Forecast}
 use Rattle.liq_rules.specs.Liquidation.{listed, lowest_values, offset_events, one_values, victim_changes}
 use Rattle.liq_rules.specs.Row.{not_zero}
 use Rattle.liq_rules.specs.Rules.{six}
-use Rattle.liq_rules.specs.Step.{in_range}
 use Rattle.liq_core.specs.Terms.{victims_in}
 use Rattle.liq_core.specs.Told.{events_in, changes_in}
 use Rattle.liq_core.specs.Turn.{IsRuled}
@@ -121,21 +120,16 @@ module _ (p : Inside) (sound : IsSound p) where
 
 -- ---- what is ruled
 
-within : (account : ℕ) (rules : List Rule) → account < ACCOUNTS → first_refusal (in_range account ∷ rules) ≡ first_refusal rules
-within account rules k =
-    let near : nat_le ACCOUNTS account ≡ false = grind (arith, nat_tests, k) in
-    ap (λ b. cond b (Some (AccountRange account)) (first_refusal rules)) near
-
 -- the reply to a liquidation
 abbrev pub one_done : One → Done
 one_done made = record { kind = 12; values = made.gas ∷ made.offset_debt ∷ made.offset_coll ∷ made.spread_debt ∷ made.spread_coll ∷ made.surplus ∷ [] }
 
-pub liquidate_ruled : (s : State) (liquidator account : ℕ) (made : One) → liquidator < ACCOUNTS → account < ACCOUNTS → one s account ≡ Ok made → (forecast : Forecast)
+pub liquidate_ruled : (s : State) (liquidator account : ℕ) (made : One) → one s account ≡ Ok made → (forecast : Forecast)
     → forecast.done ≡ one_done made → victims_in forecast.terms ≡ record { account = account; one = made } ∷ []
     → events_in forecast.events ≡ offset_events s (record { account = account; one = made } ∷ []) → changes_in forecast.changes ≡ victim_changes s (record { account = account; one = made } ∷ [])
     → IsRuled s (Liquidate liquidator account) (Ok forecast)
-liquidate_ruled s liquidator account made j k is forecast done terms events changes = (
-  within liquidator (in_range account ∷ refusal_of (one s account)) j ∙ within account (refusal_of (one s account)) k ∙ ap (λ (r : Result One Refusal). first_refusal (refusal_of r)) is,
+liquidate_ruled s liquidator account made is forecast done terms events changes = (
+  ap (λ (r : Result One Refusal). first_refusal (refusal_of r)) is,
   record {
     done = done ∙ sym (ap (λ (r : Result One Refusal). record { kind = 12; values = six (one_values r) }) is);
     terms = terms ∙ sym (ap (λ (r : Result One Refusal). listed (victim_by account r)) is);
@@ -181,13 +175,13 @@ lowest_fits s h count vs most plan =
       coll = omega (arith, sums.coll, coll, f.balanced.coll_limit);
     })
 
-pub lowest_ruled : (s : State) (liquidator count : ℕ) (vs : List Victim) → liquidator < ACCOUNTS → 1 ≤ count → count ≤ LOWEST_MOST → lowest_plan s count ≡ Ok vs → (forecast : Forecast)
+pub lowest_ruled : (s : State) (liquidator count : ℕ) (vs : List Victim) → 1 ≤ count → count ≤ LOWEST_MOST → lowest_plan s count ≡ Ok vs → (forecast : Forecast)
     → forecast.done ≡ record { kind = 13; values = six (lowest_values vs) } → victims_in forecast.terms ≡ vs
     → events_in forecast.events ≡ offset_events s vs → changes_in forecast.changes ≡ victim_changes s vs
     → IsRuled s (LiquidateLowest liquidator count) (Ok forecast)
-lowest_ruled s liquidator count vs k some most h forecast done terms events changes =
+lowest_ruled s liquidator count vs some most h forecast done terms events changes =
     let made = lowest_made s count vs h in (
-      within liquidator (not_zero count ∷ where_above count LOWEST_MOST AmountLimit ∷ lowest_rules s) k ∙ lowest_tests s count some most ∙ made.0,
+      lowest_tests s count some most ∙ made.0,
       record {
         done = done ∙ sym (ap (λ (l : List Victim). record { kind = 13; values = six (lowest_values l) }) made.1);
         terms = terms ∙ sym made.1;

@@ -1,8 +1,8 @@
 -- What the plans of depositors are told, and that they are what the step has.
-use Rattle.std.proofs.Common.{◌≡◌, ℕ, ◌+◌, ◌≤◌, ◌<◌, Bool, true, false, cond, [], ◌∷◌, refl, ap, sym, ◌∙◌, arith, nat_lt, nat_le, Some, None, Option, Bor}
+use Rattle.std.proofs.Common.{◌≡◌, ℕ, ◌+◌, ◌≤◌, ◌<◌, Bool, true, false, cond, [], ◌∷◌, refl, ap, sym, ◌∙◌, arith, nat_lt, Some, None, Option, Bor}
 use Rattle.std.specs.Prelude.{Result, Ok, Err, is_some, is_none, not, option_copied}
 use Rattle.std.proofs.lemmas.Bool.Decides.{nat_tests}
-use Rattle.liq_types.specs.declared.amounts.TheConstants.{ACCOUNTS, LIM, MCR}
+use Rattle.liq_types.specs.declared.amounts.TheConstants.{LIM, MCR}
 use Rattle.liq_types.specs.declared.events.ListChange.{ListChange}
 use Rattle.liq_types.specs.declared.events.PoolEvent.TheVariants.{Own}
 use Rattle.liq_types.specs.declared.figures.Deposit.{Deposit}
@@ -10,7 +10,7 @@ use Rattle.liq_types.specs.declared.figures.Market.{Market}
 use Rattle.liq_types.specs.declared.figures.Trove.{Trove}
 use Rattle.liq_types.specs.declared.hints.HintWords.{HintWords}
 use Rattle.liq_types.specs.declared.replies.Refusal.{Refusal}
-use Rattle.liq_types.specs.declared.replies.Refusal.TheVariants.{NoDeposit, TroveUnder, AccountRange}
+use Rattle.liq_types.specs.declared.replies.Refusal.TheVariants.{NoDeposit, TroveUnder}
 use Rattle.liq_types.specs.declared.requests.Call.TheVariants.{GainToTrove}
 use Rattle.liq_types.specs.Rules.{first_refusal, outcome}
 use Rattle.liq_types.specs.State.{State, wallet_of}
@@ -32,14 +32,13 @@ use Rattle.liq_core.specs.Plan.{IsForecast}
 use Rattle.liq_rules.specs.Pool.{trove_under}
 use Rattle.liq_rules.specs.Rules.{rules}
 use Rattle.liq_core.specs.Sound.{IsSound, core_of}
-use Rattle.liq_rules.specs.Step.{in_range}
+use Rattle.liq_rules.proofs.AlikeChanges.{balance_within, gain_within}
 use Rattle.liq_core.proofs.Forecasting.{put_for}
 use Rattle.liq_core.proofs.Lending.{rows_are}
 use Rattle.liq_core.proofs.Reading.{set_told}
 use Rattle.liq_soundness.proofs.SoundBorrow.{has_trove}
 use Rattle.liq_soundness.proofs.SoundCalls.{pool_and_wallet}
 use Rattle.liq_soundness.proofs.SoundFacts.{Finds}
-use Rattle.liq_stability.proofs.Pool.{balance_within, gain_within}
 
 -- ---- what is read
 
@@ -92,12 +91,10 @@ module _ (s : State) (account left right : ℕ) (left_is : left ≡ worth (or_no
 
 -- ---- a gain that moves into the trove
 
-module _ (s : State) (account : ℕ) (hint : HintWords) (k : account < ACCOUNTS) where
-  gain_as : (b : Bool) → is_none (at s.deposits account) ≡ b → first_refusal (in_range account ∷ rules s (GainToTrove account hint)) ≡ cond b (Some (NoDeposit account)) (first_refusal (gain_rules (market_of s) (entire_of s account) account (gain_of s account)))
+module _ (s : State) (account : ℕ) (hint : HintWords) where
+  gain_as : (b : Bool) → is_none (at s.deposits account) ≡ b → first_refusal (rules s (GainToTrove account hint)) ≡ cond b (Some (NoDeposit account)) (first_refusal (gain_rules (market_of s) (entire_of s account) account (gain_of s account)))
   gain_as b e =
-      let near : nat_le ACCOUNTS account ≡ false = grind (arith, nat_tests, k) in
-      ap (λ c. cond c (Some (AccountRange account)) (first_refusal (rules s (GainToTrove account hint)))) near
-      ∙ ap (λ c. cond c (Some (NoDeposit account)) (first_refusal (gain_rules (market_of s) (entire_of s account) account (gain_of s account)))) e
+      ap (λ c. cond c (Some (NoDeposit account)) (first_refusal (gain_rules (market_of s) (entire_of s account) account (gain_of s account)))) e
 
   module _ (there : is_none (at s.deposits account) ≡ false) (m : Market) (entire : Option (ℕ × ℕ)) (gain : ℕ) (market_is : m ≡ market_of s) (entire_is : entire ≡ entire_of s account) (gain_is : gain ≡ gain_of s account) where
     planned_as : gain_plan m entire account gain ≡ gain_plan (market_of s) (entire_of s account) account (gain_of s account)
@@ -110,7 +107,7 @@ module _ (s : State) (account : ℕ) (hint : HintWords) (k : account < ACCOUNTS)
     planned_by None terms plan h = (refl, cc)
     planned_by (Some r) terms plan h = cc
 
-    pub gain_passed : (plan : Plan) → gain_plan m entire account gain ≡ Ok plan → first_refusal (in_range account ∷ rules s (GainToTrove account hint)) ≡ None
+    pub gain_passed : (plan : Plan) → gain_plan m entire account gain ≡ Ok plan → first_refusal (rules s (GainToTrove account hint)) ≡ None
     gain_passed plan e = gain_as false there ∙ (planned_by _ _ plan (sym planned_as ∙ e)).0
 
     pub gain_terms : (plan : Plan) → gain_plan m entire account gain ≡ Ok plan → plan ≡ gaining_terms (market_of s) (or_nothing (entire_of s account)) (gain_of s account)

@@ -1,17 +1,15 @@
 -- What plans are told of a protocol's troves, and what they tell.
-use Rattle.std.proofs.Common.{◌≡◌, ℕ, ◌+◌, ◌≤◌, ◌<◌, false, cond, List, ◌∷◌, refl, ap, sym, ◌∙◌, arith, nat_le, length, Some, None, Option}
+use Rattle.std.proofs.Common.{◌≡◌, ℕ, ◌+◌, ◌≤◌, List, refl, ap, sym, ◌∙◌, arith, length, Some, None, Option}
 use Rattle.std.specs.Prelude.{Ok, Err, is_some, sum_by}
 use Rattle.std.specs.BTreeMap.{is_at}
 use Rattle.std.specs.Map.{values_of}
 use Rattle.std.specs.Ordering.{nat_cmp}
-use Rattle.std.proofs.lemmas.Bool.Decides.{nat_tests}
 use Rattle.std.proofs.lemmas.Map.Entries.{sum_by-remove_entry}
-use Rattle.liq_types.specs.declared.amounts.TheConstants.{ACCOUNTS, LIM}
+use Rattle.liq_types.specs.declared.amounts.TheConstants.{LIM}
 use Rattle.liq_types.specs.declared.events.ListChange.TheVariants.{Put}
 use Rattle.liq_types.specs.declared.figures.Trove.{Trove}
 use Rattle.liq_types.specs.declared.figures.Wallet.{Wallet}
 use Rattle.liq_types.specs.declared.replies.Refusal.{Refusal}
-use Rattle.liq_types.specs.declared.replies.Refusal.TheVariants.{AccountRange}
 use Rattle.liq_types.specs.Image.{Image}
 use Rattle.liq_types.specs.Rules.{Rule, first_refusal, outcome}
 use Rattle.liq_types.specs.Soundness.{IsSoundImage}
@@ -25,7 +23,6 @@ use Rattle.liq_troves.specs.Rows.{entire_in, key_by, set_row}
 use Rattle.liq_troves.specs.StakeSums.{entire_of, sums_words, trove_row}
 use Rattle.liq_core.specs.Core.{Core, state_of}
 use Rattle.liq_rules.specs.ListChanges.{standing, stands}
-use Rattle.liq_rules.specs.Step.{in_range}
 use Rattle.liq_rules.proofs.AlikeReads.{sums_by, some-map}
 use Rattle.liq_rules.proofs.Moving.{read_or}
 use Rattle.liq_soundness.proofs.SoundBorrow.{has_trove}
@@ -66,22 +63,17 @@ owned_within s f account own e =
         let w = has.within in
         (omega (arith, within, homes, limit, has.coll_is, w.coll, w.pending_coll), omega (arith, has.debt_is, w.debt, w.pending_debt))
 
--- ---- rules on an account in range
+-- ---- what an outcome says of its rules
 
-module _ {X : Type 0} (rules : List Rule) (terms : X) (account : ℕ) (k : account < ACCOUNTS) where
-  inside : first_refusal (in_range account ∷ rules) ≡ first_refusal rules
-  inside =
-      let near : nat_le ACCOUNTS account ≡ false = grind (arith, nat_tests, k) in
-      ap (λ b. cond b (Some (AccountRange account)) (first_refusal rules)) near
-
-  pub refused_so : (refusal : Refusal) → outcome (first_refusal rules) terms ≡ Err refusal → first_refusal (in_range account ∷ rules) ≡ Some refusal
-  refused_so refusal e = inside ∙ by (first_refusal rules) e where
+module _ {X : Type 0} (rules : List Rule) (terms : X) where
+  pub refused_so : (refusal : Refusal) → outcome (first_refusal rules) terms ≡ Err refusal → first_refusal rules ≡ Some refusal
+  refused_so refusal e = by (first_refusal rules) e where
     by : (o : Option Refusal) → outcome o terms ≡ Err refusal → o ≡ Some refusal
     by None h = cc
     by (Some r) h = cc
 
-  pub allowed_so : (x : X) → outcome (first_refusal rules) terms ≡ Ok x → (first_refusal (in_range account ∷ rules) ≡ None) × (first_refusal rules ≡ None) × (x ≡ terms)
-  allowed_so x e = let found = by (first_refusal rules) e in (inside ∙ found.0, found.0, found.1) where
+  pub allowed_so : (x : X) → outcome (first_refusal rules) terms ≡ Ok x → (first_refusal rules ≡ None) × (x ≡ terms)
+  allowed_so x e = by (first_refusal rules) e where
     by : (o : Option Refusal) → outcome o terms ≡ Ok x → (o ≡ None) × (x ≡ terms)
     by None h = (refl, cc)
     by (Some r) h = cc

@@ -20,13 +20,20 @@ Plans s c (Ok (New plan)) = (plan.command ≡ c) × IsPlan s plan
 Plans s c (Err (No refusal)) = ruling s c ≡ Refused refusal
 Plans s c (Err NoMemory) = IsTrue (plans_list c.call)
 
--- the refusal of the call's accounts and of what its verb tests, or what it comes to
+-- the refusal of what the call's verb tests, or what it comes to
 abbrev pub IsRuled : State → Call → Result Forecast Refusal → Type 0
-IsRuled s call (Ok forecast) = (first_refusal (map in_range (accounts call) ++ rules s call) ≡ None) × IsForecast s call forecast
-IsRuled s call (Err refusal) = first_refusal (map in_range (accounts call) ++ rules s call) ≡ Some refusal
+IsRuled s call (Ok forecast) = (first_refusal (rules s call) ≡ None) × IsForecast s call forecast
+IsRuled s call (Err refusal) = first_refusal (rules s call) ≡ Some refusal
 
 -- the same of what plans a list, for which there may be no memory
 abbrev pub Forecasts : State → Call → Result Forecast PlanFault → Type 0
 Forecasts s call (Ok forecast) = IsRuled s call (Ok forecast)
 Forecasts s call (Err (No refusal)) = IsRuled s call (Err refusal)
 Forecasts s call (Err NoMemory) = IsTrue (plans_list call)
+
+-- the same of a call whose accounts may be out of range, which is refused first
+abbrev pub ForecastsCall : State → Call → Result Forecast PlanFault → Type 0
+ForecastsCall s call (Ok forecast) =
+    (first_refusal (map in_range (accounts call) ++ rules s call) ≡ None) × IsForecast s call forecast
+ForecastsCall s call (Err (No refusal)) = first_refusal (map in_range (accounts call) ++ rules s call) ≡ Some refusal
+ForecastsCall s call (Err NoMemory) = IsTrue (plans_list call)

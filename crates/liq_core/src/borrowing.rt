@@ -56,9 +56,6 @@ impl Protocol {
     ) -> Result<Forecast, Refusal>
         ensures { (hint : HintWords) → IsRuled (state_of self.now) (call.Open account coll borrow bound hint) result }
     {
-        if account >= ACCOUNTS {
-            return Err(Refusal::AccountRange { value: account });
-        }
         let exists = self.troves.get(account).is_some();
         let wallet = self.wallet(account);
         let plan = plan_open(
@@ -89,9 +86,6 @@ impl Protocol {
     ) -> Result<Forecast, Refusal>
         ensures { (hint : HintWords) → IsRuled (state_of self.now) (call.Adjust account change.now.coll_in change.now.coll_out change.now.borrow change.now.repay bound hint) result }
     {
-        if account >= ACCOUNTS {
-            return Err(Refusal::AccountRange { value: account });
-        }
         // Where no field is used, nothing is known of the protocol.
         let _ = &self.records;
         let had = self.entire(account);
@@ -111,9 +105,6 @@ impl Protocol {
     pub(crate) fn plan_close(&self, account: u32) -> Result<Forecast, Refusal>
         ensures { IsRuled (state_of self.now) (call.Close account) result }
     {
-        if account >= ACCOUNTS {
-            return Err(Refusal::AccountRange { value: account });
-        }
         let had = self.entire(account);
         let wallet = self.wallet(account);
         let (repaid, coll) = plan_close(&self.market(), &wallet, had, account)?;

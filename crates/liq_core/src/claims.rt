@@ -16,9 +16,6 @@ impl Protocol {
     pub(crate) fn plan_claim(&self, account: u32) -> Result<Forecast, Refusal>
         ensures { IsRuled (state_of self.now) (call.Claim account) result }
     {
-        if account >= ACCOUNTS {
-            return Err(Refusal::AccountRange { value: account });
-        }
         let coll = self.surplus.read(account);
         if coll == 0 {
             return Err(Refusal::NoSurplus { account });

@@ -46,9 +46,6 @@ impl Protocol {
     pub(crate) fn plan_provide(&self, account: u32, lusd: u64) -> Result<Forecast, Refusal>
         ensures { IsRuled (state_of self.now) (call.Provide account lusd) result }
     {
-        if account >= ACCOUNTS {
-            return Err(Refusal::AccountRange { value: account });
-        }
         if lusd == 0 {
             return Err(Refusal::AmountZero);
         }
@@ -78,9 +75,6 @@ impl Protocol {
     pub(crate) fn plan_withdraw(&self, account: u32, lusd: u64) -> Result<Forecast, Refusal>
         ensures { IsRuled (state_of self.now) (call.Withdraw account lusd) result }
     {
-        if account >= ACCOUNTS {
-            return Err(Refusal::AccountRange { value: account });
-        }
         if self.no_deposit(account) {
             return Err(Refusal::NoDeposit { account });
         }
@@ -130,9 +124,6 @@ impl Protocol {
     pub(crate) fn plan_gain_to_trove(&self, account: u32) -> Result<Forecast, Refusal>
         ensures { (hint : HintWords) → IsRuled (state_of self.now) (call.GainToTrove account hint) result }
     {
-        if account >= ACCOUNTS {
-            return Err(Refusal::AccountRange { value: account });
-        }
         if self.no_deposit(account) {
             return Err(Refusal::NoDeposit { account });
         }

@@ -14,6 +14,7 @@ ghost use Rattle.liq_rules.specs.Verbs.{pays, opens, provides, plans_list, liqui
 ghost use Rattle.liq_rules.specs.Step.{built, built_call, accounts, rules, first_refusal, noted, step};
 
 use crate::payments::plan_price;
+use crate::ranges::check_accounts;
 use crate::turns::{Forecast, PlanFault, Planned, Terms, Turn};
 use liq_borrow::Change;
 use liq_ledger::{Pools, Surplus, Wallets};
@@ -86,7 +87,7 @@ const NO_POOLS: Pools = Pools {
 
 impl Protocol {
     ghost use Rattle.liq_core.specs.Plan.{HasRoom, IsPlannedOn};
-    ghost use Rattle.liq_core.specs.Turn.{Plans, IsRuled, Forecasts};
+    ghost use Rattle.liq_core.specs.Turn.{Plans, IsRuled, Forecasts, ForecastsCall};
 
     /// The protocol as it opens: nothing is inside.
     pub fn new(alloc: Global) -> Protocol
@@ -174,8 +175,19 @@ impl Protocol {
         }))
     }
 
-    /// Rules on a call, whatever its client and number.
+    /// Rules on a call, whatever its client and number: first on its accounts.
     fn plan_call(&self, call: &Call) -> Result<Forecast, PlanFault>
+        requires { IsTrue (built_call call.now) }
+        ensures { ForecastsCall (state_of self.now) call.now result }
+    {
+        match check_accounts(call) {
+            Ok(()) => self.plan_verb(call),
+            Err(refusal) => Err(PlanFault::No(refusal)),
+        }
+    }
+
+    /// Rules on what the call's verb tests.
+    fn plan_verb(&self, call: &Call) -> Result<Forecast, PlanFault>
         requires { IsTrue (built_call call.now) }
         ensures { Forecasts (state_of self.now) call.now result }
     {

@@ -13,6 +13,7 @@ pub mod laws;
 mod liquidations;
 mod payments;
 mod queries;
+mod ranges;
 mod redemptions;
 mod standing;
 mod told;

@@ -46,12 +46,6 @@ impl Protocol {
     pub(crate) fn plan_liquidate(&self, liquidator: u32, account: u32) -> Result<Forecast, Refusal>
         ensures { IsRuled (state_of self.now) (call.Liquidate liquidator account) result }
     {
-        if liquidator >= ACCOUNTS {
-            return Err(Refusal::AccountRange { value: liquidator });
-        }
-        if account >= ACCOUNTS {
-            return Err(Refusal::AccountRange { value: account });
-        }
         // Where no field is used, nothing is known of the protocol.
         let _ = &self.records;
         let one = self.one(account)?;
@@ -83,9 +77,6 @@ impl Protocol {
     ) -> Result<Forecast, PlanFault>
         ensures { Forecasts (state_of self.now) (call.LiquidateLowest liquidator count) result }
     {
-        if liquidator >= ACCOUNTS {
-            return Err(PlanFault::No(Refusal::AccountRange { value: liquidator }));
-        }
         if count == 0 {
             return Err(PlanFault::No(Refusal::AmountZero));
         }

@@ -40,9 +40,6 @@ impl Protocol {
     pub(crate) fn plan_fund(&self, account: u32, coll: u64) -> Result<Forecast, Refusal>
         ensures { IsRuled (state_of self.now) (call.Fund account coll) result }
     {
-        if account >= ACCOUNTS {
-            return Err(Refusal::AccountRange { value: account });
-        }
         if coll == 0 {
             return Err(Refusal::AmountZero);
         }
@@ -56,9 +53,6 @@ impl Protocol {
     pub(crate) fn plan_take(&self, account: u32, coll: u64) -> Result<Forecast, Refusal>
         ensures { IsRuled (state_of self.now) (call.Take account coll) result }
     {
-        if account >= ACCOUNTS {
-            return Err(Refusal::AccountRange { value: account });
-        }
         if coll == 0 {
             return Err(Refusal::AmountZero);
         }
@@ -72,12 +66,6 @@ impl Protocol {
     pub(crate) fn plan_send(&self, from: u32, to: u32, lusd: u64) -> Result<Forecast, Refusal>
         ensures { IsRuled (state_of self.now) (call.Send from to lusd) result }
     {
-        if from >= ACCOUNTS {
-            return Err(Refusal::AccountRange { value: from });
-        }
-        if to >= ACCOUNTS {
-            return Err(Refusal::AccountRange { value: to });
-        }
         if lusd == 0 {
             return Err(Refusal::AmountZero);
         }

@@ -33,9 +33,6 @@ impl Protocol {
     ) -> Result<Forecast, PlanFault>
         ensures { (hint : HintWords) → Forecasts (state_of self.now) (call.Redeem account lusd bound hint) result }
     {
-        if account >= ACCOUNTS {
-            return Err(PlanFault::No(Refusal::AccountRange { value: account }));
-        }
         // Where no field is used, nothing is known of the protocol.
         let _ = &self.records;
         let taken = match self.redemption(account, lusd, bound) {

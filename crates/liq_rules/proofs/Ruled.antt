@@ -24,7 +24,7 @@ some_first (rule ∷ front) more refusal h = by rule.0 h (some_first front more 
   by true e later = e
   by false e later = later e
 
-none_first_of : (front more : List Rule) → first_refusal front ≡ None → first_refusal (front ++ more) ≡ first_refusal more
+pub none_first_of : (front more : List Rule) → first_refusal front ≡ None → first_refusal (front ++ more) ≡ first_refusal more
 none_first_of [] more h = refl
 none_first_of (rule ∷ front) more h = by rule.0 h (none_first_of front more) where
   by : (b : Bool) → cond b (Some rule.1) (first_refusal front) ≡ None → (first_refusal front ≡ None → first_refusal (front ++ more) ≡ first_refusal more) → cond b (Some rule.1) (first_refusal (front ++ more)) ≡ first_refusal more

@@ -2,14 +2,13 @@
 use Rattle.std.proofs.Common.{◌≡◌, ℕ, zero, suc, ◌+◌, ◌-◌, ◌*◌, ◌≤◌, ◌<◌, Bool, true, false, cond, refl, ap, sym, ◌∙◌, subst, arith, length, nat_lt, Some, None, Option}
 use Rattle.std.specs.Prelude.{◌&&◌, ◌||◌, is_none, is_some, not, option_map}
 use Rattle.std.proofs.Math.Nat.{mul-le-mul_left, div-le_of_le-mul}
-use Rattle.std.proofs.lemmas.Bool.Decides.{nat_tests}
 use Rattle.liq_num.specs.Power.{power_of}
 use Rattle.liq_num.proofs.Digits.{power_of-le}
 use Rattle.liq_types.specs.declared.amounts.TheConstants.{ACCOUNTS, LIM, ONE, RESERVE, MIN_NET, DECAY, MCR, CCR}
 use Rattle.liq_types.specs.declared.figures.Market.{Market}
 use Rattle.liq_types.specs.declared.figures.Trove.{Trove}
 use Rattle.liq_types.specs.declared.hints.HintWords.{HintWords}
-use Rattle.liq_types.specs.declared.requests.Call.TheVariants.{Open}
+use Rattle.liq_types.specs.declared.requests.Call.TheVariants.{Open, GainToTrove}
 use Rattle.liq_types.specs.Payments.{credited, charged}
 use Rattle.liq_types.specs.Rules.{first_refusal}
 use Rattle.liq_types.specs.State.{State, TroveEntry, After, wallet_of}
@@ -17,7 +16,7 @@ use Rattle.liq_types.specs.Tables.{at, without}
 use Rattle.liq_types.specs.Totals.{market_of, or_nothing, is_recovery, is_normal, worth, asked}
 use Rattle.liq_types.specs.WellFormed.{Ascends}
 use Rattle.liq_types.proofs.Ascending.{wallet-ascends}
-use Rattle.liq_types.proofs.Lookups.{at-without_same, length-put, length-without}
+use Rattle.liq_types.proofs.Lookups.{at-without_same}
 use Rattle.liq_types.proofs.MapRows.{at-map, all-put, all-without}
 use Rattle.liq_rate.specs.Rate.{decayed, rate_left}
 use Rattle.liq_rate.specs.declared.rate.Rate.{Rate}
@@ -28,19 +27,22 @@ use Rattle.liq_troves.specs.StakeSums.{trove_row, trove_rows, sums_words, entire
 use Rattle.liq_troves.proofs.Standing.{IsWithinBooks, trove_within}
 use Rattle.liq_stability.specs.Own.{owned}
 use Rattle.liq_stability.specs.Position.{gain_of}
-use Rattle.liq_stability.proofs.Pool.{owned-total, owned-coll, balance_within, gain_within}
+use Rattle.liq_stability.proofs.Pool.{owned-total, owned-coll}
 use Rattle.liq_borrow.specs.declared.change.Change.{Change}
 use Rattle.liq_borrow.specs.declared.change.Plan.{Plan}
-use Rattle.liq_borrow.specs.Borrowing.{rate_borrowed, least_ratio, opening_terms, open_rules, adjusting_terms, adjust_rules, closing_terms, close_rules}
+use Rattle.liq_borrow.proofs.Allowed.{open_passes, change_passes, close_passes, gain_passes}
+use Rattle.liq_borrow.specs.Allowed.{GainPasses}
+use Rattle.liq_borrow.specs.Borrowing.{rate_borrowed, least_ratio, opening_terms, open_rules, adjusting_terms, adjust_rules, closing_terms, close_rules, gain_rules}
 use Rattle.liq_rules.specs.Borrowing.{with_fee, opened, adjusted, closed}
 use Rattle.liq_soundness.specs.SoundState.{IsSetSince, ChangeIsCovered}
+use Rattle.liq_rules.specs.Pool.{no_deposit}
 use Rattle.liq_rules.specs.Rules.{rules, effect}
+use Rattle.liq_rules.proofs.Allowed.{none_first}
+use Rattle.liq_rules.proofs.AlikeChanges.{balance_within, gain_within}
 use Rattle.liq_rules.proofs.Moving.{paid_coll, paid_lusd, charged_coll, charged_lusd}
 use Rattle.liq_rules.proofs.Opening.{opening_conserves}
 use Rattle.liq_soundness.proofs.SoundCalls.{pool_and_wallet}
-use Rattle.liq_soundness.proofs.SoundFacts.{conserved_by, Finds, Stands, InRange, Rest, Leaves, homes_of, in_order, trove_table, paid_stands, charged_stands, lifted_stands, placed_stands, owned_keeps, fees_stand, reserve_stands}
-use Rattle.liq_types.proofs.Tests.{all_false}
-use Rattle.std.proofs.lemmas.Bool.{ltb-false}
+use Rattle.liq_soundness.proofs.SoundFacts.{conserved_by, Finds, Stands, InRange, Rest, Leaves, homes_of, in_order, trove_table, paid_stands, charged_stands, lifted_stands, placed_stands, owned_keeps, fees_stand, reserve_stands, length_without, length_put}
 
 -- ---- the base rate
 
@@ -117,11 +119,10 @@ set_stands s account coll debt k some enough h =
 
 -- ---- open
 
-ratio_some : (coll price percent debt : ℕ) → nat_lt (worth coll price) (asked percent debt) ≡ false → 1 ≤ percent * debt → 1 ≤ coll
+ratio_some : (coll price percent debt : ℕ) → asked percent debt ≤ worth coll price → 1 ≤ percent * debt → 1 ≤ coll
 ratio_some zero price percent debt h some =
-    let low = ltb-false (worth 0 price) (asked percent debt) h in
     let none : 0 * price * 100 ≡ 0 = omega arith in
-    absurd (omega (arith, low, none, some))
+    absurd (omega (arith, h, none, some))
 ratio_some (suc n) price percent debt h some = omega arith
 
 some_percent : (m : Market) (debt : ℕ) → 1 ≤ debt → 1 ≤ least_ratio m * debt
@@ -142,13 +143,13 @@ pub open_allows : (s : State) (account coll borrow bound : ℕ) → first_refusa
 open_allows s account coll borrow bound h =
     let m = market_of s in
     let plan = opening_terms m coll borrow in
-    let rules = all_false (open_rules m (wallet_of s account) (is_some (at s.troves account)) account coll borrow bound) h in
-    let net = ltb-false (borrow + plan.fee) MIN_NET rules.1.1.1.0 in
+    let passes = open_passes m (wallet_of s account) (is_some (at s.troves account)) account coll borrow bound h in
+    let net = passes.net in
     record {
-      absent = absent (at s.troves account) rules.0;
-      enough = ltb-false (wallet_of s account).coll coll rules.1.1.1.1.1.0;
-      limit = ltb-false LIM (m.total_debt + plan.debt) rules.1.1.1.1.0;
-      some = ratio_some coll s.price (least_ratio m) plan.debt rules.1.1.1.1.1.1.0 (some_percent m plan.debt (omega (arith, net)));
+      absent = absent (at s.troves account) passes.absent;
+      enough = passes.enough;
+      limit = passes.limit;
+      some = ratio_some coll s.price (least_ratio m) plan.debt passes.ratio (some_percent m plan.debt (omega (arith, net)));
       least = omega (arith, net);
     }
   where
@@ -203,39 +204,33 @@ module _ (s : State) (f : Finds s) (account coll debt : ℕ) (change : Change) (
       let m = market_of s in
       let plan = adjusting_terms m (coll, debt) change in
       let has = has_trove s account (coll, debt) f.stands there in
-      let rules = all_false (adjust_rules m (wallet_of s account) (Some (coll, debt)) account change bound)
+      let passes = change_passes m (wallet_of s account) (Some (coll, debt)) change account bound
       (subst (λ (o : Option (ℕ × ℕ)). first_refusal (adjust_rules m (wallet_of s account) o account change bound) ≡ None) there h) in
-      let forbids = rules.1.1.1.1.1.0 in
-      let ci = ltb-false (wallet_of s account).coll change.coll_in rules.1.1.1.1.1.1.1.0 in
-      let co = ltb-false coll change.coll_out rules.1.1.1.1.1.1.1.1.0 in
-      let repay = ltb-false (wallet_of s account).lusd change.repay rules.1.1.1.1.1.1.1.1.1.0 in
-      let net = rules.1.1.1.1.1.1.1.1.1.1.0 in
-      let limit = ltb-false LIM (m.total_debt + change.borrow + plan.fee) rules.1.1.1.1.1.1.1.1.1.1.1.0 in
-      let ratio = rules.1.1.1.1.1.1.1.1.1.1.1.1.0 in
-      let kept = keeps_net (nat_lt 0 change.repay) refl net has.least in
+      let kept = keeps_net change.repay passes.net has.least in
       let least : RESERVE + MIN_NET ≤ plan.debt = omega (arith, kept) in
       record {
-        coll_in = ci;
-        coll_out = co;
-        repay = repay;
+        coll_in = passes.coll_in;
+        coll_out = passes.coll_out;
+        repay = passes.repay;
         repays_part = omega (arith, kept);
-        limit = limit;
+        limit = passes.limit;
         coll_is = refl;
         debt_is = refl;
-        some = keeps_some (is_recovery m) (nat_lt 0 change.borrow) refl refl forbids ratio co has.some (omega (arith, least));
+        some = keeps_some (is_recovery m) (nat_lt 0 change.borrow) refl refl passes.normal passes.ratio passes.coll_out has.some (omega (arith, least));
         least = least;
       }
     where
-      keeps_net : (b : Bool) → nat_lt 0 change.repay ≡ b → (b && nat_lt (debt - RESERVE - change.repay) MIN_NET) ≡ false → RESERVE + MIN_NET ≤ debt → RESERVE + MIN_NET + change.repay ≤ debt
-      keeps_net true e refused least =
-          let enough = ltb-false (debt - RESERVE - change.repay) MIN_NET refused in
-          omega (arith, enough)
-      keeps_net false e refused least = let none = ltb-false 0 change.repay e in omega (arith, none, least)
+      keeps_net : (repay : ℕ) → (0 < repay → MIN_NET ≤ debt - RESERVE - repay) → RESERVE + MIN_NET ≤ debt → RESERVE + MIN_NET + repay ≤ debt
+      keeps_net zero net least = omega (arith, least)
+      keeps_net (suc n) net least = let enough = net (omega arith) in omega (arith, enough)
 
-      keeps_some : (r b : Bool) → is_recovery (market_of s) ≡ r → nat_lt 0 change.borrow ≡ b → (nat_lt 0 change.coll_out && r) ≡ false → ((not r || b) && nat_lt (worth (coll + change.coll_in - change.coll_out) s.price) (asked (least_ratio (market_of s)) (adjusting_terms (market_of s) (coll, debt) change).debt)) ≡ false → change.coll_out ≤ coll → 1 ≤ coll → 1 ≤ (adjusting_terms (market_of s) (coll, debt) change).debt → 1 ≤ coll + change.coll_in - change.coll_out
-      keeps_some true true e g refused low out some debt_some = ratio_some (coll + change.coll_in - change.coll_out) s.price (least_ratio (market_of s)) _ low (some_percent (market_of s) _ debt_some)
-      keeps_some false b e g refused low out some debt_some = ratio_some (coll + change.coll_in - change.coll_out) s.price (least_ratio (market_of s)) _ low (some_percent (market_of s) _ debt_some)
-      keeps_some true false e g refused low out some debt_some = let none : change.coll_out ≡ 0 = grind (arith, nat_tests, refused) in omega (arith, none, some)
+      keeps_some : (r b : Bool) → is_recovery (market_of s) ≡ r → nat_lt 0 change.borrow ≡ b → (0 < change.coll_out → r ≡ false) → ((not r || b) ≡ true → asked (least_ratio (market_of s)) (adjusting_terms (market_of s) (coll, debt) change).debt ≤ worth (coll + change.coll_in - change.coll_out) s.price) → change.coll_out ≤ coll → 1 ≤ coll → 1 ≤ (adjusting_terms (market_of s) (coll, debt) change).debt → 1 ≤ coll + change.coll_in - change.coll_out
+      keeps_some true true e g normal ratio out some debt_some = ratio_some (coll + change.coll_in - change.coll_out) s.price (least_ratio (market_of s)) _ (ratio refl) (some_percent (market_of s) _ debt_some)
+      keeps_some false b e g normal ratio out some debt_some = ratio_some (coll + change.coll_in - change.coll_out) s.price (least_ratio (market_of s)) _ (ratio refl) (some_percent (market_of s) _ debt_some)
+      keeps_some true false e g normal ratio out some debt_some = stays change.coll_out normal where
+        stays : (n : ℕ) → (0 < n → true ≡ false) → 1 ≤ coll + change.coll_in - n
+        stays zero normally = omega (arith, some)
+        stays (suc n) normally = let never = normally (omega arith) in cc
 
   adjust_stands : account < ACCOUNTS → Stands LIM (adjusted s account change (adjusting_terms (market_of s) (coll, debt) change))
   adjust_stands k =
@@ -262,8 +257,8 @@ module _ (s : State) (f : Finds s) (account coll debt : ℕ) (change : Change) (
       let l1 = charged_lusd feed account change.coll_in change.repay f.stands.wallets.ascend a.repay in
       let c2 = paid_coll mid account change.coll_out change.borrow ordered in
       let l2 = paid_lusd mid account change.coll_out change.borrow ordered in
-      let gone = length-without s.troves account e has.there in
-      let back = length-put (without s.troves account) account (record { coll = plan.coll; debt = plan.debt; stake = stake_for moved plan.coll; mark = After (length s.redistributions) }) (at-without_same s.troves account (trove_table s f.stands.troves.ascend)) in
+      let gone = length_without s.troves account e has.there in
+      let back = length_put (without s.troves account) account (record { coll = plan.coll; debt = plan.debt; stake = stake_for moved plan.coll; mark = After (length s.redistributions) }) (at-without_same s.troves account (trove_table s f.stands.troves.ascend)) in
       subst (λ (o : Option TroveEntry). Rest 0 s (placed (lifted_entry moved account o) account plan.coll plan.debt)) (sym has.there)
       (record {
         homes = record {
@@ -288,14 +283,13 @@ module _ (s : State) (f : Finds s) (account coll debt : ℕ) (change : Change) (
 pub adjust_allows_own : (s : State) → Finds s → (account bound : ℕ) (change : Change) → first_refusal (adjust_rules (market_of s) (wallet_of s account) (entire_of s account) account change bound) ≡ None → Allows s account (or_nothing (entire_of s account)).0 (or_nothing (entire_of s account)).1 change (adjusting_terms (market_of s) (or_nothing (entire_of s account)) change)
 adjust_allows_own s f account bound change h =
     let own = or_nothing (entire_of s account) in
-    let first = (all_false (adjust_rules (market_of s) (wallet_of s account) (entire_of s account) account change bound) h).0 in
-    adjust_allows s f account own.0 own.1 change bound (told (entire_of s account) first) h
+    let passes = change_passes (market_of s) (wallet_of s account) (entire_of s account) change account bound h in
+    adjust_allows s f account own.0 own.1 change bound (told (entire_of s account) passes.there) h
 
 pub adjust_leaves : (s : State) → Finds s → (account bound : ℕ) (change : Change) → account < ACCOUNTS → first_refusal (adjust_rules (market_of s) (wallet_of s account) (entire_of s account) account change bound) ≡ None → Leaves 0 s (adjusted s account change (adjusting_terms (market_of s) (or_nothing (entire_of s account)) change))
 adjust_leaves s f account bound change k h =
     let own = or_nothing (entire_of s account) in
-    let first = (all_false (adjust_rules (market_of s) (wallet_of s account) (entire_of s account) account change bound) h).0 in
-    let there = told (entire_of s account) first in
+    let there = told (entire_of s account) (change_passes (market_of s) (wallet_of s account) (entire_of s account) change account bound h).there in
     record {
       stands = adjust_stands s f account own.0 own.1 change bound there h k;
       rest = adjust_rest s f account own.0 own.1 change bound there h;
@@ -328,7 +322,7 @@ module _ (s : State) (f : Finds s) (account coll debt : ℕ) (there : entire_of 
       let l1 = charged_lusd s account 0 repaid f.stands.wallets.ascend enough in
       let c2 = paid_coll mid account coll 0 ordered in
       let l2 = paid_lusd mid account coll 0 ordered in
-      let gone = length-without s.troves account e has.there in
+      let gone = length_without s.troves account e has.there in
       subst (λ (o : Option TroveEntry). Rest 0 s (lifted_entry burned account o)) (sym has.there)
       (record {
         homes = record {
@@ -352,12 +346,17 @@ module _ (s : State) (f : Finds s) (account coll debt : ℕ) (there : entire_of 
 pub close_leaves : (s : State) → Finds s → (account : ℕ) → account < ACCOUNTS → first_refusal (close_rules (market_of s) (wallet_of s account) (entire_of s account) account) ≡ None → Leaves 0 s (closed s account (closing_terms (or_nothing (entire_of s account))).0 (closing_terms (or_nothing (entire_of s account))).1)
 close_leaves s f account k h =
     let own = or_nothing (entire_of s account) in
-    let rules = all_false (close_rules (market_of s) (wallet_of s account) (entire_of s account) account) h in
-    let there = told (entire_of s account) rules.0 in
-    let enough = ltb-false (wallet_of s account).lusd (own.1 - RESERVE) rules.1.1.1.0 in
-    record { stands = close_stands s f account own.0 own.1 there enough k; rest = close_rest s f account own.0 own.1 there enough }
+    let passes = close_passes (market_of s) (wallet_of s account) (entire_of s account) account h in
+    let there = told (entire_of s account) passes.there in
+    record { stands = close_stands s f account own.0 own.1 there passes.repaid k; rest = close_rest s f account own.0 own.1 there passes.repaid }
 
 -- ---- a gain that moves into the trove
+
+pub gain_allows : (s : State) (account : ℕ) (hint : HintWords) → first_refusal (rules s (GainToTrove account hint)) ≡ None → GainPasses (market_of s) (entire_of s account) (gain_of s account)
+gain_allows s account hint h =
+    let m = market_of s in
+    let gain = gain_of s account in
+    gain_passes m (entire_of s account) account gain (none_first (no_deposit s account) (gain_rules m (entire_of s account) account gain) h).1
 
 module _ (s : State) (f : Finds s) (account coll debt : ℕ) (there : entire_of s account ≡ Some (coll, debt)) where
   gain_stands : account < ACCOUNTS → Stands LIM (set_trove (owned s account 0 0) account (coll + gain_of s account) debt)
@@ -381,8 +380,8 @@ module _ (s : State) (f : Finds s) (account coll debt : ℕ) (there : entire_of 
       let total = owned-total s f.stands.formed.3 account 0 0 in
       let left = owned-coll s account 0 0 in
       let within = gain_within s (at s.deposits account) in
-      let gone = length-without s.troves account e has.there in
-      let back = length-put (without s.troves account) account (record { coll = coll + gain; debt = debt; stake = stake_for pooled (coll + gain); mark = After (length s.redistributions) }) (at-without_same s.troves account (trove_table s f.stands.troves.ascend)) in
+      let gone = length_without s.troves account e has.there in
+      let back = length_put (without s.troves account) account (record { coll = coll + gain; debt = debt; stake = stake_for pooled (coll + gain); mark = After (length s.redistributions) }) (at-without_same s.troves account (trove_table s f.stands.troves.ascend)) in
       subst (λ (o : Option TroveEntry). Rest 0 s (placed (lifted_entry pooled account o) account (coll + gain) debt)) (sym has.there)
       (record {
         homes = record {

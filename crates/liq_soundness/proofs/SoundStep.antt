@@ -30,7 +30,7 @@ use Rattle.liq_soundness.specs.SoundState.{IsSoundState}
 use Rattle.liq_rules.specs.Step.{Ruling, Refused, Repeated, Allowed, unless_refused, ruling, after_ruling, accounts, in_range, is_repeated, room_rules, tests, after, step, run}
 use Rattle.liq_rules.specs.Verbs.{kind, rotates}
 use Rattle.liq_rules.proofs.Allowed.{allowed_number, allowed_rules}
-use Rattle.liq_soundness.proofs.SoundBorrow.{open_leaves, adjust_leaves, close_leaves, gain_leaves}
+use Rattle.liq_soundness.proofs.SoundBorrow.{open_leaves, adjust_leaves, close_leaves, gain_allows, gain_leaves}
 use Rattle.liq_soundness.proofs.SoundCalls.{price_leaves, advance_leaves, fund_leaves, take_leaves, send_leaves, claim_leaves, provide_leaves, withdraw_leaves}
 use Rattle.liq_soundness.proofs.SoundFacts.{Finds, Leaves, ClientStands, keys_put, leaves_more, finds_after}
 use Rattle.liq_soundness.proofs.SoundLiquidate.{liquidate_leaves, lowest_leaves}
@@ -56,7 +56,7 @@ effect_leaves s f (Adjust account coll_in coll_out borrow repay bound hint) r k 
 effect_leaves s f (Close account) r k h = wide 0 s _ (omega arith) (close_leaves s f account k.0 h)
 effect_leaves s f (Provide account lusd) r k h = wide 0 s _ (omega arith) (provide_leaves s f account lusd k.0 h)
 effect_leaves s f (Withdraw account lusd) r k h = wide 0 s _ (omega arith) (withdraw_leaves s f account lusd k.0 h)
-effect_leaves s f (GainToTrove account hint) r k h = wide 0 s _ (omega arith) (gain_leaves s f account k.0 (all_false (rules s (GainToTrove account hint)) h).1.0)
+effect_leaves s f (GainToTrove account hint) r k h = wide 0 s _ (omega arith) (gain_leaves s f account k.0 (gain_allows s account hint h).there)
 effect_leaves s f (Liquidate liquidator account) r k h = wide 3 s _ (omega arith) (liquidate_leaves s f liquidator account k.0)
 effect_leaves s f (LiquidateLowest liquidator count) r k h =
     let few = ltb-false LOWEST_MOST count (all_false (rules s (LiquidateLowest liquidator count)) h).1.0 in

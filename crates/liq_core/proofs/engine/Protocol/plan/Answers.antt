@@ -10,7 +10,7 @@ use Rattle.liq_core.specs.Core.{Core, state_of}
 use Rattle.liq_rules.specs.Rules.{rules}
 use Rattle.liq_core.specs.declared.turns.Forecast.{Forecast}
 use Rattle.liq_core.specs.declared.turns.PlanFault.{PlanFault}
-use Rattle.liq_core.specs.Turn.{Forecasts}
+use Rattle.liq_core.specs.Turn.{ForecastsCall}
 use Rattle.liq_rules.specs.Verbs.{accounts}
 use Rattle.liq_rules.proofs.Allowed.{built-rotates}
 use Rattle.liq_rules.proofs.Ruled.{accounts_within, allowed_call, refused_call, refused_room, room_full, room_left}
@@ -27,8 +27,8 @@ returns-in-Err-No c s h =
     grind (arith, nat_tests, c.if-command-eq0.false, c.if-command-client-2.false, last) in
     let sound = subst (λ (view : Core). IsSoundImage view.image view.records) c.self.view_is c.self.invariant.image in
     standing_ruling core s command sound h ∙ refused_call (state_of core) command c.in-Err-No.refusal within next
-    (subst (λ (fault : PlanFault). Forecasts (state_of core) command.call (Err fault)) c.in-Err-No.field-0-is
-    (subst (λ (r : Result Forecast PlanFault). Forecasts (state_of core) command.call r) c.in-Err-No.is c.plan_call.ensures))
+    (subst (λ (fault : PlanFault). ForecastsCall (state_of core) command.call (Err fault)) c.in-Err-No.field-0-is
+    (subst (λ (r : Result Forecast PlanFault). ForecastsCall (state_of core) command.call r) c.in-Err-No.is c.plan_call.ensures))
 
 pub returns-then-is_full : goal.returns-then-is_full
 returns-then-is_full c s h =

@@ -1,9 +1,10 @@
-use Rattle.std.proofs.Common.{sym, subst}
-use Rattle.liq_types.specs.declared.requests.Call.{Call}
+use Rattle.std.proofs.Common.{sym, ◌∙◌}
 use Rattle.liq_core.specs.Core.{state_of}
-use Rattle.liq_core.specs.Turn.{Forecasts}
+use Rattle.liq_core.proofs.AccountsFirst.{passed_range, refused_range}
 use Rattle.liq_core.proofs.engine.Protocol.plan_call.Goals as goal
 
-pub returns-in-Redeem : goal.returns-in-Redeem
-returns-in-Redeem c =
-    subst (λ (call : Call). Forecasts (state_of c.args.self.now) call c.plan_redeem.result) (sym c.in-Redeem.is) (c.plan_redeem.ensures c.in-Redeem.field-3)
+pub returns-in-Ok : goal.returns-in-Ok
+returns-in-Ok c = passed_range (state_of c.args.self.now) c.args.call.now c.plan_verb.result (sym c.in-Ok.is ∙ c.check_accounts.ensures) c.plan_verb.ensures
+
+pub returns-in-Err : goal.returns-in-Err
+returns-in-Err c = refused_range (state_of c.args.self.now) c.args.call.now c.in-Err.refusal (sym c.in-Err.is ∙ c.check_accounts.ensures)

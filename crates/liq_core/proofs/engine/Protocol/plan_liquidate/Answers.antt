@@ -1,5 +1,4 @@
-use Rattle.std.proofs.Common.{◌<◌, [], ◌∷◌, refl, sym, ◌∙◌, subst, arith}
-use Rattle.liq_types.specs.declared.amounts.TheConstants.{ACCOUNTS}
+use Rattle.std.proofs.Common.{[], ◌∷◌, refl, sym, ◌∙◌, subst, arith}
 use Rattle.liq_liquidation.specs.declared.one.Victim.{Victim}
 use Rattle.liq_core.specs.Core.{Core, state_of}
 use Rattle.liq_soundness.specs.SoundState.{IsSoundState}
@@ -26,9 +25,7 @@ returns c =
     let s = state_of c.args.self.now in
     let v : Victim = record { account = c.args.account; one = c.in_ok-one.one } in
     let made = sym c.one.ensures ∙ c.in_ok-one.was in
-    let j : c.args.liquidator < ACCOUNTS = omega (arith, c.if-liquidator-ge-ACCOUNTS.false) in
-    let k : c.args.account < ACCOUNTS = omega (arith, c.if-account-ge-ACCOUNTS.false) in
     let later = course_at s sound (v ∷ []) (made, tt) (omega arith) 0 (omega arith) c.stake.result c.stake.ensures c.course-course.result c.pass-event.new.self c.course-course.ensures c.pass-event.ensures.after in
-    liquidate_ruled s c.args.liquidator c.args.account c.in_ok-one.one j k made _ refl refl
+    liquidate_ruled s c.args.liquidator c.args.account c.in_ok-one.one made _ refl refl
     (events_at s sound (v ∷ []) (made, tt) (omega arith) 0 (omega arith) c.course-course.result c.course-course.ensures c.pass-event.result c.pass-event.ensures.event [] _ refl c.of.ensures)
     (changes_at s sound (v ∷ []) (made, tt) (omega arith) 0 (omega arith) c.pass-event.new.self later c.list_words.result c.list_words.ensures [] _ refl refl)

@@ -46,7 +46,7 @@ pub returns : goal.returns
 returns c =
     let s = state_of c.args.self.now in
     let vs = c.in-Ok.victims.items in
-    lowest_ruled s c.args.liquidator c.args.count vs (omega (arith, c.if-liquidator-ge-ACCOUNTS.false)) (omega (arith, c.if-count-eq0.false)) (omega (arith, c.if-count-gt-LOWEST_MOST.false)) c.in-Ok.ensures _
+    lowest_ruled s c.args.liquidator c.args.count vs (omega (arith, c.if-count-eq0.false)) (omega (arith, c.if-count-gt-LOWEST_MOST.false)) c.in-Ok.ensures _
     (c.lowest_done.ensures ∙ ap (λ (l : List Victim). record { kind = 13; values = six (lowest_values l) }) c.as_slice-2.ensures.value)
     refl
     (c.in-Ok-told.ensures.events ∙ ap (λ (l : List Victim). offset_events s l) c.as_slice.ensures.value)

@@ -26,7 +26,7 @@ returns-in_err-plan c hint =
     let exists = c.is_some-exists.ensures ∙ there c.args.self.now sound c.args.account c.get.result (c.get.ensures.row ∙ ap (λ (core : Core). at core.image.troves c.args.account) c.self.view_is) in
     let p = err_from_is_err_and c.from_residual.result c.from_residual.ensures.1 in
     rw (p.1, p.2)
-    (open_refused s c.args.account c.if-account-ge-ACCOUNTS.false c.market.result c.wallet-wallet.result c.market.ensures.market c.wallet-wallet.ensures c.args.coll c.args.borrow c.args.bound hint c.is_some-exists.result exists c.in_err-plan.field-0.0
+    (open_refused s c.args.account c.market.result c.wallet-wallet.result c.market.ensures.market c.wallet-wallet.ensures c.args.coll c.args.borrow c.args.bound hint c.is_some-exists.result exists c.in_err-plan.field-0.0
     (sym c.plan_open.ensures ∙ c.in_err-plan.was))
 
 pub standing-requires : goal.standing-requires
@@ -34,16 +34,16 @@ standing-requires c =
     let s = state_of c.args.self.now in
     let sound = subst (λ (view : Core). IsSoundImage view.image view.records) c.self.view_is c.self.invariant.image in
     let exists = c.is_some-exists.ensures ∙ there c.args.self.now sound c.args.account c.get.result (c.get.ensures.row ∙ ap (λ (core : Core). at core.image.troves c.args.account) c.self.view_is) in
-    let a = open_allowed s c.args.account c.if-account-ge-ACCOUNTS.false c.market.result c.wallet-wallet.result c.market.ensures.market c.wallet-wallet.ensures c.args.coll c.args.borrow c.args.bound no_hint c.is_some-exists.result exists c.in_ok-plan.plan
+    let a = open_allowed s c.args.account c.market.result c.wallet-wallet.result c.market.ensures.market c.wallet-wallet.ensures c.args.coll c.args.borrow c.args.bound no_hint c.is_some-exists.result exists c.in_ok-plan.plan
     (sym c.plan_open.ensures ∙ c.in_ok-plan.was) in
-    let allows = open_allows s c.args.account c.args.coll c.args.borrow c.args.bound a.verb in
-    subst (λ (p : Plan). 1 ≤ p.coll) (sym a.is) allows.some
+    let allows = open_allows s c.args.account c.args.coll c.args.borrow c.args.bound a.0 in
+    subst (λ (p : Plan). 1 ≤ p.coll) (sym a.1) allows.some
 
 pub returns : goal.returns
 returns c hint =
     let s = state_of c.args.self.now in
     let sound = subst (λ (view : Core). IsSoundImage view.image view.records) c.self.view_is c.self.invariant.image in
     let exists = c.is_some-exists.ensures ∙ there c.args.self.now sound c.args.account c.get.result (c.get.ensures.row ∙ ap (λ (core : Core). at core.image.troves c.args.account) c.self.view_is) in
-    let a = open_allowed s c.args.account c.if-account-ge-ACCOUNTS.false c.market.result c.wallet-wallet.result c.market.ensures.market c.wallet-wallet.ensures c.args.coll c.args.borrow c.args.bound hint c.is_some-exists.result exists c.in_ok-plan.plan
+    let a = open_allowed s c.args.account c.market.result c.wallet-wallet.result c.market.ensures.market c.wallet-wallet.ensures c.args.coll c.args.borrow c.args.bound hint c.is_some-exists.result exists c.in_ok-plan.plan
     (sym c.plan_open.ensures ∙ c.in_ok-plan.was) in
-    (a.all, open_forecast s c.args.account c.args.coll c.args.borrow c.args.bound hint c.in_ok-plan.plan c.standing.result a.is c.standing.ensures)
+    (a.0, open_forecast s c.args.account c.args.coll c.args.borrow c.args.bound hint c.in_ok-plan.plan c.standing.result a.1 c.standing.ensures)

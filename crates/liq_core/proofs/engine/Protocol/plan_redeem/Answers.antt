@@ -22,8 +22,8 @@ cut_changes-requires c =
     let core = c.args.self.now in
     let s = state_of core in
     let sound = subst (λ (view : Core). IsSoundImage view.image view.records) c.self.view_is c.self.invariant.image in
-    let a = allowed_so (rules s (Redeem c.args.account c.args.lusd c.args.bound no_hint)) (redeeming_terms (market_of s) (visited s) c.args.lusd) c.args.account c.if-account-ge-ACCOUNTS.false c.in-Ok.taken c.in-Ok.ensures in
-    let made = c.as_slice.ensures ∙ ap (λ (t : RedeemTerms). t.cuts) a.2 in
+    let a = allowed_so (rules s (Redeem c.args.account c.args.lusd c.args.bound no_hint)) (redeeming_terms (market_of s) (visited s) c.args.lusd) c.in-Ok.taken c.in-Ok.ensures in
+    let made = c.as_slice.ensures ∙ ap (λ (t : RedeemTerms). t.cuts) a.1 in
     subst (λ (cuts : List Cut). AllByRecursion (CutIsCovered s) cuts) (sym made) (cuts_covered s (core_finds core sound) c.args.lusd)
 
 pub returns : goal.returns
@@ -31,12 +31,12 @@ returns c hint =
     let core = c.args.self.now in
     let s = state_of core in
     let sound = subst (λ (view : Core). IsSoundImage view.image view.records) c.self.view_is c.self.invariant.image in
-    let a = allowed_so (rules s (Redeem c.args.account c.args.lusd c.args.bound hint)) (redeeming_terms (market_of s) (visited s) c.args.lusd) c.args.account c.if-account-ge-ACCOUNTS.false c.in-Ok.taken c.in-Ok.ensures in
-    let made = c.as_slice.ensures ∙ ap (λ (t : RedeemTerms). t.cuts) a.2 in (
+    let a = allowed_so (rules s (Redeem c.args.account c.args.lusd c.args.bound hint)) (redeeming_terms (market_of s) (visited s) c.args.lusd) c.in-Ok.taken c.in-Ok.ensures in
+    let made = c.as_slice.ensures ∙ ap (λ (t : RedeemTerms). t.cuts) a.1 in (
       a.0,
       record {
-        done = ap (λ (t : RedeemTerms). record { kind = 14; values = t.redeemed ∷ t.drawn ∷ t.fee ∷ t.rate.base ∷ 0 ∷ 0 ∷ [] }) a.2;
-        terms = a.2;
+        done = ap (λ (t : RedeemTerms). record { kind = 14; values = t.redeemed ∷ t.drawn ∷ t.fee ∷ t.rate.base ∷ 0 ∷ 0 ∷ [] }) a.1;
+        terms = a.1;
         events = refl;
         changes =
             c.in-Ok-cut_changes.ensures ∙ ap (λ (cuts : List Cut). map (cut_told s) cuts) made
