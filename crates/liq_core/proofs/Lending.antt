@@ -19,7 +19,7 @@ use Rattle.liq_types.specs.Tables.{Table, at}
 use Rattle.liq_types.specs.Totals.{market_of, or_nothing}
 use Rattle.liq_types.specs.WellFormed.{Ascends}
 use Rattle.liq_types.proofs.Ascending.{wallet-ascends}
-use Rattle.liq_types.proofs.Lookups.{at-without_same}
+use Rattle.liq_types.proofs.Lookups.{at-without_same, length-without}
 use Rattle.liq_types.proofs.MapRows.{at-map}
 use Rattle.liq_tables.specs.WithRoom.{WithRoom}
 use Rattle.liq_ledger.specs.declared.pools.Pools.{Pools}
@@ -37,7 +37,7 @@ use Rattle.liq_borrow.specs.declared.change.Plan.{Plan}
 use Rattle.liq_borrow.proofs.Allowed.{change_passes, close_passes as closing_passes}
 use Rattle.liq_borrow.specs.Borrowing.{opening_terms, adjusting_terms, adjust_rules, closing_terms, close_rules}
 use Rattle.liq_core.specs.declared.engine.Protocol.TheInside.{Inside}
-use Rattle.liq_core.specs.Books.{kept_books, SameOthers}
+use Rattle.liq_standing.specs.Books.{books_kept, SameOthers}
 use Rattle.liq_rules.specs.Borrowing.{with_fee, opened, adjusted, closed}
 use Rattle.liq_core.specs.Core.{Core, Changes, state_of}
 use Rattle.liq_rules.specs.Image.{image}
@@ -46,7 +46,7 @@ use Rattle.liq_core.specs.Sound.{IsSound, core_of}
 use Rattle.liq_rules.proofs.Moving.{read_or, wallet_here}
 use Rattle.liq_soundness.proofs.SoundBorrow.{open_allows, open_leaves, adjust_allows_own, adjust_leaves, close_leaves, has_trove, told}
 use Rattle.liq_core.proofs.SoundCores.{core_finds, image_back, sound_after}
-use Rattle.liq_soundness.proofs.SoundFacts.{Finds, Leaves, finds_after, length_without}
+use Rattle.liq_soundness.proofs.SoundFacts.{Finds, Leaves, finds_after}
 use Rattle.liq_core.proofs.Telling.{books_by}
 
 -- ---- images by their parts
@@ -119,10 +119,10 @@ charged-ascends wallets account coll lusd h = wallet-ascends wallets account (re
 -- ---- the books of a protocol
 
 module _ (p : Inside) (sound : IsSound p) where
-  pub books_are : books_of (state_of (core_of p)) ≡ kept_books p.pools p.troves
+  pub books_are : books_of (state_of (core_of p)) ≡ books_kept p.troves p.pools
   books_are = ap books_by (image_back (core_of p) sound.image)
 
-  pub books_stand : TrovesStand (kept_books p.pools p.troves)
+  pub books_stand : TrovesStand (books_kept p.troves p.pools)
   books_stand = subst TrovesStand books_are (core_finds (core_of p) sound.image).stands.troves
 
   pub coll_held : p.pools.active_coll + p.pools.default_coll ≤ LIM
@@ -138,15 +138,15 @@ module _ (p : Inside) (sound : IsSound p) where
 
   -- a protocol with a state's image is changed into it
   changed_into : (call : Call) (rate : Rate) (wallets : WithRoom Wallet) (pools old_pools : Pools) (troves : Kept) (order : Listed) (b : Books) (paid : Table Wallet)
-      → wallets.rows ≡ paid → kept_books pools troves ≡ b → SameOthers old_pools pools
+      → wallets.rows ≡ paid → books_kept troves pools ≡ b → SameOthers old_pools pools
       → image (effect (state_of (core_of p)) call) ≡ with_parts (image (state_of (core_of p))) rate old_pools.reserve old_pools.surplus old_pools.fee_coll old_pools.fee_lusd paid b
       → Changes (core_of p) call (core_of (record p { rate = rate; wallets = wallets; pools = pools; troves = troves; order = order }))
   changed_into call rate wallets pools old_pools troves order b paid paid_is kept others is =
       let i = (core_of p).image in
       record {
         image =
-            same_others i rate old_pools pools wallets.rows (kept_books pools troves) others
-            ∙ ap (λ (t : Table Wallet). with_parts i rate old_pools.reserve old_pools.surplus old_pools.fee_coll old_pools.fee_lusd t (kept_books pools troves)) paid_is
+            same_others i rate old_pools pools wallets.rows (books_kept troves pools) others
+            ∙ ap (λ (t : Table Wallet). with_parts i rate old_pools.reserve old_pools.surplus old_pools.fee_coll old_pools.fee_lusd t (books_kept troves pools)) paid_is
             ∙ ap (with_parts i rate old_pools.reserve old_pools.surplus old_pools.fee_coll old_pools.fee_lusd paid) kept
             ∙ ap (λ (x : Image). with_parts x rate old_pools.reserve old_pools.surplus old_pools.fee_coll old_pools.fee_lusd paid b) (sym (image_back (core_of p) sound.image))
             ∙ sym is;
@@ -205,7 +205,7 @@ module _ (p : Inside) (sound : IsSound p) (account borrow bound : ℕ) (words : 
 
   opened_changes : (wallets : WithRoom Wallet) (pools : Pools) (troves : Kept) (order : Listed)
       → wallets.rows ≡ credited_in (charged_in p.wallets.rows account plan.coll 0) account 0 borrow
-      → kept_books pools troves ≡ place (kept_books p.pools p.troves) account plan.coll plan.debt
+      → books_kept troves pools ≡ place (books_kept p.troves p.pools) account plan.coll plan.debt
       → SameOthers (record p.pools { fee_lusd = p.pools.fee_lusd + plan.fee; reserve = p.pools.reserve + RESERVE }) pools
       → Changes (core_of p) (Open account plan.coll borrow bound words) (core_of (record p { rate = plan.rate; wallets = wallets; pools = pools; troves = troves; order = order }))
   opened_changes wallets pools troves order paid kept others =
@@ -213,7 +213,7 @@ module _ (p : Inside) (sound : IsSound p) (account borrow bound : ℕ) (words : 
       let lent = credited (charged (with_fee s plan) account plan.coll 0) account 0 borrow in
       let made = placed_image (record lent { reserve = lent.reserve + RESERVE }) account plan.coll plan.debt in
       changed_into p sound (Open account plan.coll borrow bound words) plan.rate wallets pools (record p.pools { fee_lusd = p.pools.fee_lusd + plan.fee; reserve = p.pools.reserve + RESERVE }) troves order
-      (place (kept_books p.pools p.troves) account plan.coll plan.debt) (credited_in (charged_in p.wallets.rows account plan.coll 0) account 0 borrow) paid kept others
+      (place (books_kept p.troves p.pools) account plan.coll plan.debt) (credited_in (charged_in p.wallets.rows account plan.coll 0) account 0 borrow) paid kept others
       (ap image open_effect ∙ made ∙ ap (λ (b : Books). with_books (image (record lent { reserve = lent.reserve + RESERVE })) (place b account plan.coll plan.debt)) (books_are p sound))
 
 -- the same of the core that a protocol is seen as
@@ -229,7 +229,7 @@ module _ (p : Inside) (old : Core) (view : core_of p ≡ old) (sound : IsSound p
 
   module _ (wallets : WithRoom Wallet) (pools : Pools) (troves : Kept) (order : Listed)
       (paid : wallets.rows ≡ credited_in (charged_in p.wallets.rows account plan.coll 0) account 0 borrow)
-      (kept : kept_books pools troves ≡ place (kept_books p.pools p.troves) account plan.coll plan.debt)
+      (kept : books_kept troves pools ≡ place (books_kept p.troves p.pools) account plan.coll plan.debt)
       (others : SameOthers (record p.pools { fee_lusd = p.pools.fee_lusd + plan.fee; reserve = p.pools.reserve + RESERVE }) pools) where
     pub open_changes : (bound : ℕ) (words : HintWords) → Changes old (Open account plan.coll borrow bound words) (core_of (record p { rate = plan.rate; wallets = wallets; pools = pools; troves = troves; order = order }))
     open_changes bound words =
@@ -265,8 +265,8 @@ pub record MayAdjust (p : Inside) (account : ℕ) (change : Change) (plan : Plan
   pub there : IsSome (at p.troves.table.rows account)
   pub some : 1 ≤ plan.coll
   pub least : RESERVE + MIN_NET ≤ plan.debt
-  pub active_coll : (lift (kept_books p.pools p.troves) account).active_coll + plan.coll ≤ LIM
-  pub active_debt : (lift (kept_books p.pools p.troves) account).active_debt + plan.debt ≤ LIM
+  pub active_coll : (lift (books_kept p.troves p.pools) account).active_coll + plan.coll ≤ LIM
+  pub active_debt : (lift (books_kept p.troves p.pools) account).active_debt + plan.debt ≤ LIM
 
 -- what is conserved of an image, within the limits
 pub record IsWithin (i : Image) : Type 0 where
@@ -287,7 +287,7 @@ module _ (p : Inside) (sound : IsSound p) (account : ℕ) (change : Change) (bou
   adjust_finds =
       subst (λ (x : Plan). Finds (adjusted (state_of (core_of p)) account change x)) (sym is) (finds_after (state_of (core_of p)) _ adjust_left)
 
-  adjust_image : image (adjusted (state_of (core_of p)) account change plan) ≡ with_books (image (credited (charged (with_fee (state_of (core_of p)) plan) account change.coll_in change.repay) account change.coll_out change.borrow)) (place (lift (kept_books p.pools p.troves) account) account plan.coll plan.debt)
+  adjust_image : image (adjusted (state_of (core_of p)) account change plan) ≡ with_books (image (credited (charged (with_fee (state_of (core_of p)) plan) account change.coll_in change.repay) account change.coll_out change.borrow)) (place (lift (books_kept p.troves p.pools) account) account plan.coll plan.debt)
   adjust_image =
       let paid = credited (charged (with_fee (state_of (core_of p)) plan) account change.coll_in change.repay) account change.coll_out change.borrow in
       set_image paid account plan.coll plan.debt
@@ -317,13 +317,13 @@ module _ (p : Inside) (sound : IsSound p) (account : ℕ) (change : Change) (bou
 
   adjusted_changes : (wallets : WithRoom Wallet) (pools : Pools) (troves : Kept) (order : Listed) (words : HintWords)
       → wallets.rows ≡ credited_in (charged_in p.wallets.rows account change.coll_in change.repay) account change.coll_out change.borrow
-      → kept_books pools troves ≡ place (lift (kept_books p.pools p.troves) account) account plan.coll plan.debt
+      → books_kept troves pools ≡ place (lift (books_kept p.troves p.pools) account) account plan.coll plan.debt
       → SameOthers (record p.pools { fee_lusd = p.pools.fee_lusd + plan.fee }) pools
       → Changes (core_of p) (Adjust account change.coll_in change.coll_out change.borrow change.repay bound words) (core_of (record p { rate = plan.rate; wallets = wallets; pools = pools; troves = troves; order = order }))
   adjusted_changes wallets pools troves order words paid kept others =
       let s = state_of (core_of p) in
       changed_into p sound (Adjust account change.coll_in change.coll_out change.borrow change.repay bound words) plan.rate wallets pools (record p.pools { fee_lusd = p.pools.fee_lusd + plan.fee }) troves order
-      (place (lift (kept_books p.pools p.troves) account) account plan.coll plan.debt) (credited_in (charged_in p.wallets.rows account change.coll_in change.repay) account change.coll_out change.borrow) paid kept others
+      (place (lift (books_kept p.troves p.pools) account) account plan.coll plan.debt) (credited_in (charged_in p.wallets.rows account change.coll_in change.repay) account change.coll_out change.borrow) paid kept others
       (ap (λ (x : Plan). image (adjusted s account change x)) (sym is) ∙ adjust_image)
 
 -- ---- close
@@ -346,7 +346,7 @@ module _ (p : Inside) (sound : IsSound p) (account repaid coll : ℕ) (k : accou
   close_finds : Finds (closed (state_of (core_of p)) account repaid coll)
   close_finds = subst Finds close_effect (finds_after (state_of (core_of p)) (effect (state_of (core_of p)) (Close account)) close_left)
 
-  close_image : image (closed (state_of (core_of p)) account repaid coll) ≡ with_books (image (record (credited (charged (state_of (core_of p)) account 0 repaid) account coll 0) { reserve = p.pools.reserve - RESERVE })) (lift (kept_books p.pools p.troves) account)
+  close_image : image (closed (state_of (core_of p)) account repaid coll) ≡ with_books (image (record (credited (charged (state_of (core_of p)) account 0 repaid) account coll 0) { reserve = p.pools.reserve - RESERVE })) (lift (books_kept p.troves p.pools) account)
   close_image =
       let settled = record (credited (charged (state_of (core_of p)) account 0 repaid) account coll 0) { reserve = p.pools.reserve - RESERVE } in
       lifted_image settled account ∙ ap (λ (b : Books). with_books (image settled) (lift b account)) (books_are p sound)
@@ -361,7 +361,7 @@ module _ (p : Inside) (sound : IsSound p) (account repaid coll : ℕ) (k : accou
       let enough = passes.repaid in
       let repaid_is = ap (λ (t : ℕ × ℕ). t.0) is in
       let has = has_trove s account own f.stands there in
-      let rows = length_without s.troves account has.entry has.there in
+      let rows = length-without s.troves account has.entry has.there in
       let paid = pay_within (closed s account repaid coll) close_finds (charged_in p.wallets.rows account 0 repaid) account coll 0 (charged-ascends p.wallets.rows account 0 repaid f.stands.wallets.ascend) (ap (λ (i : Image). i.wallets) close_image) in
       record {
         lusd = omega (arith, enough, repaid_is);
@@ -373,12 +373,12 @@ module _ (p : Inside) (sound : IsSound p) (account repaid coll : ℕ) (k : accou
 
   closed_changes : (wallets : WithRoom Wallet) (pools : Pools) (troves : Kept) (order : Listed)
       → wallets.rows ≡ credited_in (charged_in p.wallets.rows account 0 repaid) account coll 0
-      → kept_books pools troves ≡ lift (kept_books p.pools p.troves) account
+      → books_kept troves pools ≡ lift (books_kept p.troves p.pools) account
       → SameOthers (record p.pools { reserve = p.pools.reserve - RESERVE }) pools
       → Changes (core_of p) (Close account) (core_of (record p { wallets = wallets; pools = pools; troves = troves; order = order }))
   closed_changes wallets pools troves order paid kept others =
       changed_into p sound (Close account) p.rate wallets pools (record p.pools { reserve = p.pools.reserve - RESERVE }) troves order
-      (lift (kept_books p.pools p.troves) account) (credited_in (charged_in p.wallets.rows account 0 repaid) account coll 0) paid kept others
+      (lift (books_kept p.troves p.pools) account) (credited_in (charged_in p.wallets.rows account 0 repaid) account coll 0) paid kept others
       (ap image close_effect ∙ close_image)
 
 -- ---- adjusting and closing, of the core that a protocol is seen as
@@ -396,8 +396,8 @@ module _ (p : Inside) (old : Core) (view : core_of p ≡ old) (sound : IsSound p
 
     module _ (wallets : WithRoom Wallet) (pools left_pools : Pools) (troves left_troves : Kept) (order : Listed)
         (paid : wallets.rows ≡ credited_in (charged_in p.wallets.rows account change.coll_in change.repay) account change.coll_out change.borrow)
-        (left : kept_books left_pools left_troves ≡ lift (kept_books p.pools p.troves) account)
-        (kept : kept_books pools troves ≡ place (kept_books left_pools left_troves) account plan.coll plan.debt)
+        (left : books_kept left_troves left_pools ≡ lift (books_kept p.troves p.pools) account)
+        (kept : books_kept troves pools ≡ place (books_kept left_troves left_pools) account plan.coll plan.debt)
         (first : SameOthers (record p.pools { fee_lusd = p.pools.fee_lusd + plan.fee }) left_pools)
         (second : SameOthers left_pools pools) where
       adjust_made : Changes (core_of p) (Adjust account change.coll_in change.coll_out change.borrow change.repay h.0 h.1) (core_of (record p { rate = plan.rate; wallets = wallets; pools = pools; troves = troves; order = order }))
@@ -428,7 +428,7 @@ module _ (p : Inside) (old : Core) (view : core_of p ≡ old) (sound : IsSound p
 
     module _ (wallets : WithRoom Wallet) (pools : Pools) (troves : Kept) (order : Listed)
         (paid : wallets.rows ≡ credited_in (charged_in p.wallets.rows account 0 repaid) account coll 0)
-        (kept : kept_books pools troves ≡ lift (kept_books p.pools p.troves) account)
+        (kept : books_kept troves pools ≡ lift (books_kept p.troves p.pools) account)
         (others : SameOthers (record p.pools { reserve = p.pools.reserve - RESERVE }) pools) where
       close_made : Changes (core_of p) (Close account) (core_of (record p { wallets = wallets; pools = pools; troves = troves; order = order }))
       close_made = closed_changes p sound account repaid coll k close_is close_passes wallets pools troves order paid kept others
@@ -444,11 +444,11 @@ module _ (p : Inside) (old : Core) (view : core_of p ≡ old) (sound : IsSound p
 
 -- ---- between the two halves of an adjustment
 
-module _ (b : Books) (stand : TrovesStand b) (account : ℕ) (pools : Pools) (troves : Kept) (left : kept_books pools troves ≡ lift b account) where
+module _ (b : Books) (stand : TrovesStand b) (account : ℕ) (pools : Pools) (troves : Kept) (left : books_kept troves pools ≡ lift b account) where
   pub left_absent : at troves.table.rows account ≡ None
   left_absent = ap (λ (x : Books). at x.troves account) left ∙ no_longer_there b account (at b.troves account) refl stand.ascend
 
-  pub left_stand : TrovesStand (kept_books pools troves)
+  pub left_stand : TrovesStand (books_kept troves pools)
   left_stand = subst TrovesStand (sym left) (lift_stands b account stand)
 
   pub left_coll : pools.active_coll ≡ (lift b account).active_coll

@@ -32,7 +32,7 @@ use Rattle.liq_core.specs.Plan.{IsForecast}
 use Rattle.liq_rules.specs.Pool.{trove_under}
 use Rattle.liq_rules.specs.Rules.{rules}
 use Rattle.liq_core.specs.Sound.{IsSound, core_of}
-use Rattle.liq_rules.proofs.AlikeChanges.{balance_within, gain_within}
+use Rattle.liq_stability.proofs.Pool.{balance_within, gain_within}
 use Rattle.liq_core.proofs.Forecasting.{put_for}
 use Rattle.liq_core.proofs.Lending.{rows_are}
 use Rattle.liq_core.proofs.Reading.{set_told}

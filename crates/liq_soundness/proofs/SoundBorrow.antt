@@ -16,7 +16,7 @@ use Rattle.liq_types.specs.Tables.{at, without}
 use Rattle.liq_types.specs.Totals.{market_of, or_nothing, is_recovery, is_normal, worth, asked}
 use Rattle.liq_types.specs.WellFormed.{Ascends}
 use Rattle.liq_types.proofs.Ascending.{wallet-ascends}
-use Rattle.liq_types.proofs.Lookups.{at-without_same}
+use Rattle.liq_types.proofs.Lookups.{at-without_same, length-without, length-put}
 use Rattle.liq_types.proofs.MapRows.{at-map, all-put, all-without}
 use Rattle.liq_rate.specs.Rate.{decayed, rate_left}
 use Rattle.liq_rate.specs.declared.rate.Rate.{Rate}
@@ -27,7 +27,7 @@ use Rattle.liq_troves.specs.StakeSums.{trove_row, trove_rows, sums_words, entire
 use Rattle.liq_troves.proofs.Standing.{IsWithinBooks, trove_within}
 use Rattle.liq_stability.specs.Own.{owned}
 use Rattle.liq_stability.specs.Position.{gain_of}
-use Rattle.liq_stability.proofs.Pool.{owned-total, owned-coll}
+use Rattle.liq_stability.proofs.Pool.{owned-total, owned-coll, balance_within, gain_within}
 use Rattle.liq_borrow.specs.declared.change.Change.{Change}
 use Rattle.liq_borrow.specs.declared.change.Plan.{Plan}
 use Rattle.liq_borrow.proofs.Allowed.{open_passes, change_passes, close_passes, gain_passes}
@@ -38,11 +38,10 @@ use Rattle.liq_soundness.specs.SoundState.{IsSetSince, ChangeIsCovered}
 use Rattle.liq_rules.specs.Pool.{no_deposit}
 use Rattle.liq_rules.specs.Rules.{rules, effect}
 use Rattle.liq_rules.proofs.Allowed.{none_first}
-use Rattle.liq_rules.proofs.AlikeChanges.{balance_within, gain_within}
 use Rattle.liq_rules.proofs.Moving.{paid_coll, paid_lusd, charged_coll, charged_lusd}
 use Rattle.liq_rules.proofs.Opening.{opening_conserves}
 use Rattle.liq_soundness.proofs.SoundCalls.{pool_and_wallet}
-use Rattle.liq_soundness.proofs.SoundFacts.{conserved_by, Finds, Stands, InRange, Rest, Leaves, homes_of, in_order, trove_table, paid_stands, charged_stands, lifted_stands, placed_stands, owned_keeps, fees_stand, reserve_stands, length_without, length_put}
+use Rattle.liq_soundness.proofs.SoundFacts.{conserved_by, Finds, Stands, InRange, Rest, Leaves, homes_of, in_order, trove_table, paid_stands, charged_stands, lifted_stands, placed_stands, owned_keeps, fees_stand, reserve_stands}
 
 -- ---- the base rate
 
@@ -257,8 +256,8 @@ module _ (s : State) (f : Finds s) (account coll debt : ℕ) (change : Change) (
       let l1 = charged_lusd feed account change.coll_in change.repay f.stands.wallets.ascend a.repay in
       let c2 = paid_coll mid account change.coll_out change.borrow ordered in
       let l2 = paid_lusd mid account change.coll_out change.borrow ordered in
-      let gone = length_without s.troves account e has.there in
-      let back = length_put (without s.troves account) account (record { coll = plan.coll; debt = plan.debt; stake = stake_for moved plan.coll; mark = After (length s.redistributions) }) (at-without_same s.troves account (trove_table s f.stands.troves.ascend)) in
+      let gone = length-without s.troves account e has.there in
+      let back = length-put (without s.troves account) account (record { coll = plan.coll; debt = plan.debt; stake = stake_for moved plan.coll; mark = After (length s.redistributions) }) (at-without_same s.troves account (trove_table s f.stands.troves.ascend)) in
       subst (λ (o : Option TroveEntry). Rest 0 s (placed (lifted_entry moved account o) account plan.coll plan.debt)) (sym has.there)
       (record {
         homes = record {
@@ -322,7 +321,7 @@ module _ (s : State) (f : Finds s) (account coll debt : ℕ) (there : entire_of 
       let l1 = charged_lusd s account 0 repaid f.stands.wallets.ascend enough in
       let c2 = paid_coll mid account coll 0 ordered in
       let l2 = paid_lusd mid account coll 0 ordered in
-      let gone = length_without s.troves account e has.there in
+      let gone = length-without s.troves account e has.there in
       subst (λ (o : Option TroveEntry). Rest 0 s (lifted_entry burned account o)) (sym has.there)
       (record {
         homes = record {
@@ -380,8 +379,8 @@ module _ (s : State) (f : Finds s) (account coll debt : ℕ) (there : entire_of 
       let total = owned-total s f.stands.formed.3 account 0 0 in
       let left = owned-coll s account 0 0 in
       let within = gain_within s (at s.deposits account) in
-      let gone = length_without s.troves account e has.there in
-      let back = length_put (without s.troves account) account (record { coll = coll + gain; debt = debt; stake = stake_for pooled (coll + gain); mark = After (length s.redistributions) }) (at-without_same s.troves account (trove_table s f.stands.troves.ascend)) in
+      let gone = length-without s.troves account e has.there in
+      let back = length-put (without s.troves account) account (record { coll = coll + gain; debt = debt; stake = stake_for pooled (coll + gain); mark = After (length s.redistributions) }) (at-without_same s.troves account (trove_table s f.stands.troves.ascend)) in
       subst (λ (o : Option TroveEntry). Rest 0 s (placed (lifted_entry pooled account o) account (coll + gain) debt)) (sym has.there)
       (record {
         homes = record {
