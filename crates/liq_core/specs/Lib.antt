@@ -17,6 +17,7 @@ pub mod Payments
 pub mod Plan
 pub mod Pool
 pub mod Queries
+pub mod Recorded
 pub mod Redemption
 pub mod RedemptionExamples
 pub mod Rotation
