@@ -22,11 +22,11 @@ use Rattle.liq_store.specs.Answering.{Answers}
 use Rattle.liq_store.specs.Causes.{CausesAnswer, Faults, stopped_after}
 use Rattle.liq_store.specs.Keeping.{IsInOrder, IsInOrderWith, IsKeptAround, LeavesPairs}
 use Rattle.liq_store.specs.Stored.{Stored, disk_beside, taken_disk}
-use Rattle.liq_book.specs.declared.items.Entry.{Entry}
+use Rattle.liq_types.specs.declared.entries.Entry.{Entry}
 use Rattle.liq_book.specs.declared.items.Halt.{Halt}
 use Rattle.liq_book.specs.declared.items.TheConstants.{ENTRIES_MOST}
 use Rattle.liq_book.specs.Booked.{IsBook, KeepsDisks}
-use Rattle.liq_book.specs.Items.{recorded}
+use Rattle.liq_rules.specs.Recorded.{recorded}
 use Rattle.liq_book.specs.Origin.{DiskAt, GoesOnFrom, IsAtOrigin}
 
 -- a session has no more entries than there are

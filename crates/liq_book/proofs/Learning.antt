@@ -12,14 +12,15 @@ use Rattle.liq_rules.specs.History as history
 use Rattle.liq_rules.specs.History.{IsLegal, own_entries, state_after}
 use Rattle.liq_lock.specs.History.{Behind, GoesOn, NoneOf}
 use Rattle.liq_lock.proofs.Histories.{in_one, nothing_in_nil}
-use Rattle.liq_book.specs.declared.items.Entry.{Entry}
+use Rattle.liq_types.specs.declared.entries.Entry.{Entry}
 use Rattle.liq_book.specs.declared.items.Halt.{Halt}
 use Rattle.liq_book.specs.declared.items.Item.{Item}
 use Rattle.liq_book.specs.declared.items.Item.TheVariants as item
 use Rattle.liq_book.specs.Answered.{Answered, IsLimited}
 use Rattle.liq_book.specs.Booked.{Booked}
 use Rattle.liq_book.specs.Entered.{Enters, IsTestedFirst}
-use Rattle.liq_book.specs.Items.{calls_of, chronicle, entries_of, faulted_in, recorded, session_of}
+use Rattle.liq_rules.specs.Recorded.{recorded}
+use Rattle.liq_book.specs.Items.{calls_of, chronicle, entries_of, faulted_in, session_of}
 use Rattle.liq_book.proofs.Chronicles.{entries_of-append, entries_of-chronicle, faulted_behind, faulted_in-append, faulted_on, own_behind, own_entries-append, own_on, same_session}
 
 abbrev pub items_in : {D : Type 0} → Booked D → List Item

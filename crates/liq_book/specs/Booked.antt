@@ -9,10 +9,10 @@ use Rattle.liq_pairs.specs.Kept.{IsKept}
 use Rattle.liq_store.specs.Causes.{Faults, OneRose}
 use Rattle.liq_store.specs.Keeping.{IsKeptAround}
 use Rattle.liq_store.specs.Stored.{Stored}
-use Rattle.liq_book.specs.declared.items.Entry.{Entry}
+use Rattle.liq_types.specs.declared.entries.Entry.{Entry}
 use Rattle.liq_book.specs.declared.items.Halt.{Halt}
 use Rattle.liq_book.specs.declared.items.TheConstants.{ENTRIES_MOST}
-use Rattle.liq_book.specs.Items.{recorded}
+use Rattle.liq_rules.specs.Recorded.{recorded}
 use Rattle.liq_book.specs.Origin.{DiskAt, GoesOnFrom, faults_at}
 
 -- the store that answers, all entries, and the halt, once there is one

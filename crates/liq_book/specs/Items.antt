@@ -3,15 +3,12 @@ use Rattle.std.specs.Prelude.{ℕ, ◌≡◌, ◌++◌, List, [], ◌∷◌, map
 use Rattle.liq_types.specs.declared.replies.Reply.{Reply}
 use Rattle.liq_types.specs.declared.requests.Request.{Request}
 use Rattle.liq_rules.specs.History as history
-use Rattle.liq_book.specs.declared.items.Entry.{Entry}
+use Rattle.liq_rules.specs.Recorded.{recorded}
+use Rattle.liq_types.specs.declared.entries.Entry.{Entry}
 use Rattle.liq_book.specs.declared.items.Halt.{Halt}
 use Rattle.liq_book.specs.declared.items.Item.{Item}
 use Rattle.liq_book.specs.declared.items.Item.TheVariants as item
 use Rattle.liq_book.specs.declared.items.TheConstants.{ENTRIES_MOST}
-
--- the entry as the rules know it
-abbrev pub recorded : Entry → history.Entry
-recorded e = record { session = e.session; index = e.index; request = e.request; reply = e.reply }
 
 -- all entries, and behind them the halt
 abbrev pub chronicle : List Entry → Option Halt → List Item

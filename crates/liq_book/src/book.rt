@@ -3,16 +3,17 @@
 ghost use Rattle.std.specs.Prelude.{◌≡◌, ◌≤◌, map, length, [], None};
 ghost use Rattle.std.specs.Option.{option_map};
 ghost use Rattle.liq_rules.specs.History.{IsLegal, own_entries};
-ghost use Rattle.liq_book.specs.Items.{chronicle, recorded, session_of};
+ghost use Rattle.liq_rules.specs.Recorded.{recorded};
+ghost use Rattle.liq_book.specs.Items.{chronicle, session_of};
 
-use crate::items::{ENTRIES_MOST, Entry, Halt, Item};
+use crate::items::{ENTRIES_MOST, Halt, Item};
 use crate::origin::Origin;
 use crate::service::Closed;
 use liq_core::is_built;
 use liq_lock::Chronicle;
 use liq_outside::Disk;
 use liq_store::Store;
-use liq_types::{Answer, Hint, Request};
+use liq_types::{Answer, Entry, Hint, Request};
 use std::alloc::Global;
 use std::marker::{Model, PhantomData};
 
@@ -24,7 +25,7 @@ pub struct History {
 
 impl Model for History {
     ghost use Rattle.std.specs.Prelude.{List};
-    ghost use Rattle.liq_book.specs.declared.items.Entry.{Entry};
+    ghost use Rattle.liq_types.specs.declared.entries.Entry.{Entry};
 
     ghost Value = { List Entry };
 

@@ -1,19 +1,9 @@
 //! What is written into a book.
 
-use liq_types::{Reply, Request};
+use liq_types::{Entry, Request};
 
 /// The most entries of a book.
 pub const ENTRIES_MOST: usize = 1_000_000;
-
-/// A call that got a reply.
-#[derive(Clone, Copy, Debug, PartialEq, Eq)]
-pub struct Entry {
-    pub session: u8,
-    /// The session's calls with a reply are counted, from 1.
-    pub index: u32,
-    pub request: Request,
-    pub reply: Reply,
-}
 
 /// The end of a service: the call that met a fault of a disk.
 #[derive(Clone, Copy, Debug, PartialEq, Eq)]

@@ -9,7 +9,8 @@ mod seat;
 mod service;
 
 pub use book::{Book, History};
-pub use items::{ENTRIES_MOST, Entry, Halt, Item};
+pub use items::{ENTRIES_MOST, Halt, Item};
+pub use liq_types::Entry;
 pub use origin::Origin;
 pub use seat::BookSeat;
 pub use service::{Closed, Service, StillOut};

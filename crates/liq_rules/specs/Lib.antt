@@ -13,6 +13,7 @@ pub mod ListChanges
 pub mod Payments
 pub mod Pool
 pub mod Queries
+pub mod Recorded
 pub mod Redemption
 pub mod RedemptionExamples
 pub mod Rotation

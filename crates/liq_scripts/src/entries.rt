@@ -1,10 +1,9 @@
-//! The output shows the entries of a book.
+//! The output shows the entries of a history.
 
-ghost use Rattle.liq_book.specs.Items.{recorded};
+ghost use Rattle.liq_rules.specs.Recorded.{recorded};
 
 use crate::output::Shown;
-use liq_book::Entry;
-use liq_types::Reply;
+use liq_types::{Entry, Reply};
 
 impl Shown for Entry {
     ghost entry = { recorded };

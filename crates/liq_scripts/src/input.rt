@@ -17,6 +17,7 @@ use liq_lines::{LineEnd, Reader};
 use liq_outside::{Failed, Source};
 use liq_sessions::Script;
 use liq_text::read_session_line;
+use liq_types::NoMemory;
 use liq_types::amounts::{LINE_BYTES, LINES_MOST};
 use std::alloc::Global;
 
@@ -37,11 +38,19 @@ pub fn read_scripts<S: Source>(alloc: Global, input: &mut S) -> Result<Vec<Scrip
     ensures complete { (bytes : List ℕ) → S.left input.old ≡ Some bytes → (asked : List (ℕ × Request)) → AreAsked (lines_in bytes) asked
         → length asked ≤ LINES_MOST → (Rose (S.faults input.old) (S.faults input.new) → ⊥) → IsOkUnless result Stop.NoMemory }
 {
-    let mut scripts = blank(alloc)?;
-    let mut reader = Reader::new(alloc)?;
-    let mut line = Vec::with_capacity(alloc, LINE_BYTES)?;
+    let (mut scripts, mut reader, mut line) = buffers(alloc)?;
     read_lines(&mut reader, &mut line, input, &mut scripts)?;
     Ok(scripts)
+}
+
+/// What is read into: blank scripts, a reader that has taken nothing, and room for a line.
+fn buffers(alloc: Global) -> Result<(Vec<Script>, Reader, Vec<u8>), NoMemory>
+    ensures { IfOk result (λ b. (b.0.items ≡ scripts_of []) × (b.1 ≡ []) × (LINE_BYTES ≤ vec_capacity b.2)) }
+{
+    let scripts = blank(alloc)?;
+    let reader = Reader::new(alloc)?;
+    let line = Vec::with_capacity(alloc, LINE_BYTES)?;
+    Ok((scripts, reader, line))
 }
 
 /// Reads the lines to the source's end, each into its session's script.

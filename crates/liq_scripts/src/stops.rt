@@ -3,7 +3,6 @@
 ghost use Rattle.std.specs.Prelude.{◌≡◌};
 
 use liq_types::NoMemory;
-use std::alloc::AllocError;
 
 /// Why the scripts were not read to the source's end.
 #[derive(Clone, Copy, Debug, PartialEq, Eq)]
@@ -24,16 +23,6 @@ impl From<NoMemory> for Stop {
     ghost from_gives = { λ _ stop. stop ≡ Stop.NoMemory };
 
     fn from(_: NoMemory) -> Stop {
-        Stop::NoMemory
-    }
-}
-
-impl From<AllocError> for Stop {
-    ghost use Rattle.liq_scripts.specs.declared.stops.Stop.{Stop};
-
-    ghost from_gives = { λ _ stop. stop ≡ Stop.NoMemory };
-
-    fn from(_: AllocError) -> Stop {
         Stop::NoMemory
     }
 }

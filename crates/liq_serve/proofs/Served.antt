@@ -18,16 +18,16 @@ use Rattle.liq_serving.specs.Input as serving
 use Rattle.liq_serving.specs.Input.{IsAllButForMemory, Written, reading_of}
 use Rattle.liq_store.specs.declared.answers.StoreWhy.TheVariants as why
 use Rattle.liq_store.specs.Causes.{Faults}
-use Rattle.liq_serve.specs.declared.halts.Halt.{Halt}
-use Rattle.liq_serve.specs.declared.halts.Halt.TheVariants.{BadLine, ReadFault, DiskFault, NoMemory, Limit}
-use Rattle.liq_serve.specs.declared.halts.Halt.TheVariants as halts
-use Rattle.liq_serve.specs.Causes.{DiskCause, ReadCause, WriteCause}
-use Rattle.liq_serve.specs.Output.{last}
+use Rattle.liq_ends.specs.declared.halts.Halt.{Halt}
+use Rattle.liq_ends.specs.declared.halts.Halt.TheVariants.{BadLine, ReadFault, DiskFault, NoMemory, Limit}
+use Rattle.liq_ends.specs.declared.halts.Halt.TheVariants as halts
+use Rattle.liq_ends.specs.Causes.{DiskCause, ReadCause, WriteCause}
+use Rattle.liq_ends.specs.Output.{last}
 use Rattle.liq_serve.specs.Serve.{IsUnread, ServesTo, TellsServed, end_of}
-use Rattle.liq_serve.specs.Statuses.{IsDone, status_of}
-use Rattle.liq_serve.specs.Stops.{Adds}
-use Rattle.liq_serve.proofs.EndingLines.{adds_weaker, part_stays}
-use Rattle.liq_serve.proofs.Turning.{all_shares}
+use Rattle.liq_ends.specs.Statuses.{IsDone, status_of}
+use Rattle.liq_ends.specs.Stops.{Adds}
+use Rattle.liq_ends.proofs.EndingLines.{adds_weaker, part_stays}
+use Rattle.liq_ends.proofs.Shares.{all_shares}
 
 -- ---- the counts
 

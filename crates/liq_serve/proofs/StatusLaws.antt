@@ -4,12 +4,12 @@ use Rattle.std.specs.Prelude.{◌⊎◌, Contains}
 use Rattle.liq_types.specs.declared.amounts.TheConstants.{LINES_MOST}
 use Rattle.liq_types.specs.State.{State}
 use Rattle.liq_types.specs.declared.requests.Request.{Request}
-use Rattle.liq_serve.specs.declared.halts.Halt.{Halt}
-use Rattle.liq_serve.specs.declared.halts.Halt.TheVariants.{BadLine, ReadFault, WriteFault, DiskFault, Damaged, NoMemory, Limit}
+use Rattle.liq_ends.specs.declared.halts.Halt.{Halt}
+use Rattle.liq_ends.specs.declared.halts.Halt.TheVariants.{BadLine, ReadFault, WriteFault, DiskFault, Damaged, NoMemory, Limit}
 use Rattle.liq_lines.specs.Lines.{lines_in}
-use Rattle.liq_serve.specs.Requests.{IsBadLine, AreRequests}
-use Rattle.liq_serve.specs.Statuses.{status_of}
-use Rattle.liq_serve.specs.Stops.{EndsAfter}
+use Rattle.liq_ends.specs.Requests.{IsBadLine, AreRequests}
+use Rattle.liq_ends.specs.Statuses.{status_of}
+use Rattle.liq_ends.specs.Stops.{EndsAfter}
 
 pub status_known : (end : Result (Unit {0}) Halt) → Contains (0 ∷ 1 ∷ 2 ∷ 3 ∷ 4 ∷ 5 ∷ 6 ∷ 7 ∷ 8 ∷ []) (status_of end)
 status_known (Ok done) = (0, lit< tt, refl)

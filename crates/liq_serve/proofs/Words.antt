@@ -17,25 +17,25 @@ use Rattle.liq_words.specs.declared.words.Word.TheVariants as word
 use Rattle.liq_words.specs.declared.words.WordsFault.{WordsFault}
 use Rattle.liq_words.specs.declared.words.WordsFault.TheVariants as fault
 use Rattle.liq_words.specs.Words.{Ask}
-use Rattle.liq_serve.specs.declared.halts.Halt.{Halt}
-use Rattle.liq_serve.specs.declared.halts.Halt.TheVariants.{BadLine, ReadFault, WriteFault, DiskFault, Damaged, NoMemory, Limit}
+use Rattle.liq_ends.specs.declared.halts.Halt.{Halt}
+use Rattle.liq_ends.specs.declared.halts.Halt.TheVariants.{BadLine, ReadFault, WriteFault, DiskFault, Damaged, NoMemory, Limit}
 use Rattle.liq_store.specs.Causes.{Faults}
-use Rattle.liq_serve.specs.Audit.{AuditHolds}
-use Rattle.liq_serve.specs.Causes.{DiskCause, LastCause, ReadCause}
-use Rattle.liq_serve.specs.Disks.{DisksHold}
-use Rattle.liq_serve.specs.Load.{Tells, load, summary}
-use Rattle.liq_serve.specs.Output.{last, usage}
+use Rattle.liq_tell.specs.Audit.{AuditHolds}
+use Rattle.liq_ends.specs.Causes.{DiskCause, LastCause, ReadCause}
+use Rattle.liq_ends.specs.Disks.{DisksHold}
+use Rattle.liq_load.specs.Load.{Tells, load, summary}
+use Rattle.liq_ends.specs.Output.{last, usage}
 use Rattle.liq_serve.specs.Outside.{Outside, DiskRose, SinkRose, SourceRose}
 use Rattle.liq_serve.specs.Serve.{IsUnread, ServesTo}
-use Rattle.liq_serve.specs.State.{standing}
-use Rattle.liq_serve.specs.Statuses.{IsDone, status_of}
-use Rattle.liq_serve.specs.Stops.{Adds, EndsIn}
-use Rattle.liq_serve.specs.Telling.{TellsText}
+use Rattle.liq_tell.specs.State.{standing}
+use Rattle.liq_ends.specs.Statuses.{IsDone, status_of}
+use Rattle.liq_ends.specs.Stops.{Adds, EndsIn}
+use Rattle.liq_ends.specs.Telling.{TellsText}
 use Rattle.liq_serve.specs.Top.{Ends, EndsOverDamage, HasCauses, Loads}
-use Rattle.liq_serve.proofs.Audited.{no_limit}
-use Rattle.liq_serve.proofs.Causes.{disk_causes, sink_causes, source_causes}
-use Rattle.liq_serve.proofs.EndingLines.{last_written, no_room}
-use Rattle.liq_serve.proofs.Opened.{untouched}
+use Rattle.liq_tell.proofs.Audited.{no_limit}
+use Rattle.liq_ends.proofs.Causes.{disk_causes, sink_causes, source_causes}
+use Rattle.liq_ends.proofs.EndingLines.{last_written, no_room}
+use Rattle.liq_ends.proofs.Opened.{untouched}
 use Rattle.liq_serve.proofs.Served.{is_unread, not_unread, same_disks, serves_nothing}
 use Rattle.liq_serve.proofs.StatusLaws.{complete, status_known}
 use Rattle.liq_serve.proofs.Telling.{load_ends, text_ends}

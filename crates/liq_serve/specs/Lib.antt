@@ -1,15 +1,3 @@
-pub mod Audit
-pub mod Causes
-pub mod Disks
-pub mod Load
-pub mod Output
 pub mod Outside
-pub mod Progress
-pub mod Requests
 pub mod Serve
-pub mod State
-pub mod Statuses
-pub mod Stops
-pub mod Telling
 pub mod Top
-pub mod Writing

@@ -12,11 +12,11 @@ use Rattle.liq_scripts.specs.Output.{served}
 use Rattle.liq_serving.specs.declared.input.Finish.{Finish}
 use Rattle.liq_serving.specs.declared.input.Finish.TheVariants as finish
 use Rattle.liq_serving.specs.Input.{AnswersInput}
-use Rattle.liq_serve.specs.declared.halts.Halt.{Halt}
-use Rattle.liq_serve.specs.declared.halts.Halt.TheVariants.{BadLine, ReadFault, WriteFault, DiskFault, NoMemory, Limit}
-use Rattle.liq_serve.specs.Disks.{halt_of}
-use Rattle.liq_serve.specs.Output.{last}
-use Rattle.liq_serve.specs.Stops.{Adds, HaveTheirShares}
+use Rattle.liq_ends.specs.declared.halts.Halt.{Halt}
+use Rattle.liq_ends.specs.declared.halts.Halt.TheVariants.{BadLine, ReadFault, WriteFault, DiskFault, NoMemory, Limit}
+use Rattle.liq_ends.specs.Disks.{halt_of}
+use Rattle.liq_ends.specs.Output.{last}
+use Rattle.liq_ends.specs.Stops.{Adds, HaveTheirShares}
 
 -- why a word stops whose input was not read to its end
 abbrev pub halt_at : Stop → Halt
@@ -46,13 +46,19 @@ TellsServed (Ok done) history fault before now = Writes before (served history) 
 TellsServed (Err WriteFault) history fault before now = WritesPart before (served history) now
 TellsServed (Err halt) history fault before now = Adds [] (last halt) fault before now
 
--- What the lines asked was answered along one history, as far as the finish says; and after it no depositor has more than its share, or
--- less by more than is allowed.
-pub record ServesTo {D : Type 0} (seen : D → Option (List ℕ)) (before unread : Option (List ℕ)) (left right : D) (end : Result (Unit {0}) Halt) (left_now right_now : D) (fault : Type 0) (held now : Option (List ℕ)) : Type 0 where
+-- What the lines asked was answered along one history, as far as the finish says; and after it no depositor has more
+-- than its share, or less by more than is allowed.
+pub record ServesTo
+    {D : Type 0} (seen : D → Option (List ℕ)) (before unread : Option (List ℕ)) (left right : D)
+    (end : Result (Unit {0}) Halt) (left_now right_now : D) (fault : Type 0) (held now : Option (List ℕ)) : Type 0 where
   pub finish : Finish
   pub end_is : end ≡ end_of finish
   pub asked : List (ℕ × Request)
   pub history : List Entry
-  pub answered : AnswersInput seen before unread left right (record { left = left_now; right = right_now; finish = finish }) asked history
+  pub answered :
+      AnswersInput seen before unread left right (record { left = left_now; right = right_now; finish = finish })
+      asked history
   pub written : TellsServed end history fault held now
-  pub shares : (l r : List ℕ) (start : State) → seen left ≡ Some l → seen right ≡ Some r → state_on l r ≡ Ok start → HaveTheirShares start (requests_of history)
+  pub shares :
+      (l r : List ℕ) (start : State) → seen left ≡ Some l → seen right ≡ Some r → state_on l r ≡ Ok start
+      → HaveTheirShares start (requests_of history)

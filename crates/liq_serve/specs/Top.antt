@@ -1,5 +1,6 @@
 -- What the top call leaves, word by word, and which counts rise.
-use Rattle.std.specs.Prelude.{ℕ, ◌≡◌, ◌≢◌, ◌≤◌, ◌⊎◌, ◌↔◌, ◌∷◌, [], Contains, List, length, Option, Some, None, Result, Ok, Err}
+use Rattle.std.specs.Prelude.{ℕ, ◌≡◌, ◌≢◌, ◌≤◌, ◌⊎◌, ◌↔◌, ◌∷◌, []}
+use Rattle.std.specs.Prelude.{Contains, List, length, Option, Some, None, Result, Ok, Err}
 use Rattle.liq_types.specs.declared.amounts.TheConstants.{LINES_MOST}
 use Rattle.liq_types.specs.declared.requests.Request.{Request}
 use Rattle.liq_types.specs.State.{State, opening}
@@ -14,18 +15,18 @@ use Rattle.liq_scripts.specs.Asked.{AreAsked}
 use Rattle.liq_words.specs.declared.words.Word.{Word}
 use Rattle.liq_words.specs.declared.words.Word.TheVariants as word
 use Rattle.liq_words.specs.Words.{Ask}
-use Rattle.liq_serve.specs.declared.halts.Halt.{Halt}
-use Rattle.liq_serve.specs.Audit.{AuditHolds}
-use Rattle.liq_serve.specs.Disks.{DisksHold, EndsDamaged}
-use Rattle.liq_serve.specs.Load.{Tells, load, summary}
-use Rattle.liq_serve.specs.Output.{last, usage}
+use Rattle.liq_ends.specs.declared.halts.Halt.{Halt}
+use Rattle.liq_tell.specs.Audit.{AuditHolds}
+use Rattle.liq_ends.specs.Disks.{DisksHold, EndsDamaged}
+use Rattle.liq_load.specs.Load.{Tells, load, summary}
+use Rattle.liq_ends.specs.Output.{last, usage}
 use Rattle.liq_serve.specs.Outside.{Outside, DiskRose, IsUntouched, SinkRose, SourceRose}
-use Rattle.liq_serve.specs.Requests.{AreRequests}
+use Rattle.liq_ends.specs.Requests.{AreRequests}
 use Rattle.liq_serve.specs.Serve.{ServesTo}
-use Rattle.liq_serve.specs.State.{standing}
-use Rattle.liq_serve.specs.Statuses.{IsDone, status_of}
-use Rattle.liq_serve.specs.Stops.{Adds, EndsIn}
-use Rattle.liq_serve.specs.Telling.{TellsText}
+use Rattle.liq_tell.specs.State.{standing}
+use Rattle.liq_ends.specs.Statuses.{IsDone, status_of}
+use Rattle.liq_ends.specs.Stops.{Adds, EndsIn}
+use Rattle.liq_ends.specs.Telling.{TellsText}
 
 module _ {S D : Type 0} (seen : D → Option (List ℕ)) (before after : Outside S D) (status : ℕ) where
   -- the bytes that both disks tell
@@ -41,12 +42,13 @@ module _ {S D : Type 0} (seen : D → Option (List ℕ)) (before after : Outside
 
   -- `run`: wherever the source and the disks tell their bytes
   pub record Runs : Type 0 where
-    -- From the state for which the disks stand it ends in one of its ways, which says what came in, what went out, and what the
-    -- disks hold.
+    -- From the state for which the disks stand it ends in one of its ways, which says what came in, what went out, and
+    -- what the disks hold.
     pub ends :
         (bytes l r : List ℕ) → before.unread ≡ Some bytes → AreOnDisks l r → (start : State) → state_on l r ≡ Ok start
         → (end : Result (Unit {0}) Halt) × (status ≡ status_of end)
-        × EndsIn last start end bytes after.unread (SinkRose before after) before.held after.held (DisksHold seen end bytes l r start after.left after.right)
+        × EndsIn last start end bytes after.unread (SinkRose before after) before.held after.held
+        (DisksHold seen end bytes l r start after.left after.right)
     -- over damaged disks nothing is read
     pub damaged :
         (l r : List ℕ) → AreOnDisks l r → (side : Side) (damage : Damage) → state_on l r ≡ Err (side, damage)
@@ -62,7 +64,8 @@ module _ {S D : Type 0} (seen : D → Option (List ℕ)) (before after : Outside
     -- one history holds what was answered, and says what came in, what went out, and what the disks hold
     pub ends :
         (end : Result (Unit {0}) Halt) × (status ≡ status_of end)
-        × ServesTo seen before.unread after.unread before.left before.right end after.left after.right (SinkRose before after) before.held after.held
+        × ServesTo seen before.unread after.unread before.left before.right end after.left after.right
+        (SinkRose before after) before.held after.held
     -- where the input was not read to its end the disks are as they were
     pub unread : (status ≡ 2) ⊎ (status ≡ 3) ⊎ (status ≡ 8) → (after.left ≡ before.left) × (after.right ≡ before.right)
     pub complete :
@@ -79,24 +82,30 @@ module _ {S D : Type 0} (seen : D → Option (List ℕ)) (before after : Outside
         → (end : Result (Unit {0}) Halt) × (status ≡ status_of end)
         × TellsText (Ok (standing start)) end (SinkRose before after) before.held after.held
         × DisksHold seen end [] l r start after.left after.right []
-    pub damaged : (l r : List ℕ) → AreOnDisks l r → (side : Side) (damage : Damage) → state_on l r ≡ Err (side, damage) → EndsOverDamage side damage l r
+    pub damaged :
+        (l r : List ℕ) → AreOnDisks l r → (side : Side) (damage : Damage) → state_on l r ≡ Err (side, damage)
+        → EndsOverDamage side damage l r
     pub complete :
-        (l r : List ℕ) → AreOnDisks l r → (start : State) → state_on l r ≡ Ok start → (SinkRose before after → ⊥) → (DiskRose before after → ⊥) → IsDone status
+        (l r : List ℕ) → AreOnDisks l r → (start : State) → state_on l r ≡ Ok start → (SinkRose before after → ⊥)
+        → (DiskRose before after → ⊥) → IsDone status
 
   -- `audit`: nothing is read
   pub record Audits : Type 0 where
     pub reads : after.source ≡ before.source
-    -- Of the commands that lead to that state the review is told, and the disks stand for it then. At 0 each row of the review
-    -- encloses the exact share of its account, and what the protocol gives it in that state is within the row.
+    -- Of the commands that lead to that state the review is told, and the disks stand for it then. At 0 each row of the
+    -- review encloses the exact share of its account, and what the protocol gives it in that state is within the row.
     pub ends :
         (l r : List ℕ) → AreOnDisks l r → (start : State) → state_on l r ≡ Ok start
         → (end : Result (Unit {0}) Halt) × (status ≡ status_of end)
         × TellsText (reviewed (commands_on l r)) end (SinkRose before after) before.held after.held
         × AuditHolds end start (commands_on l r)
         × DisksHold seen end [] l r start after.left after.right []
-    pub damaged : (l r : List ℕ) → AreOnDisks l r → (side : Side) (damage : Damage) → state_on l r ≡ Err (side, damage) → EndsOverDamage side damage l r
+    pub damaged :
+        (l r : List ℕ) → AreOnDisks l r → (side : Side) (damage : Damage) → state_on l r ≡ Err (side, damage)
+        → EndsOverDamage side damage l r
     pub complete :
-        (l r : List ℕ) → AreOnDisks l r → (start : State) → state_on l r ≡ Ok start → number_above (events opening (commands_on l r)) ≡ None
+        (l r : List ℕ) → AreOnDisks l r → (start : State) → state_on l r ≡ Ok start
+        → number_above (events opening (commands_on l r)) ≡ None
         → (SinkRose before after → ⊥) → (DiskRose before after → ⊥) → IsDone status
 
   -- `gen`: nothing is read, and the disks stay

@@ -9,15 +9,16 @@ ghost use Rattle.liq_lines.specs.Lines.{lines_in};
 ghost use Rattle.liq_pairs.specs.Pair.{state_on};
 ghost use Rattle.liq_scripts.specs.Asked.{AreAsked};
 ghost use Rattle.liq_store.specs.Causes.{OneRose, counts_of};
-ghost use Rattle.liq_serve.specs.Causes.{DiskCause, LastCause, ReadCause};
-ghost use Rattle.liq_serve.specs.Serve.{IsUnread, ServesTo, end_of};
-ghost use Rattle.liq_serve.specs.Statuses.{IsDone, status_of};
+ghost use Rattle.liq_ends.specs.Causes.{DiskCause, LastCause, ReadCause};
+ghost use Rattle.liq_ends.specs.Statuses.{IsDone, status_of};
+ghost use Rattle.liq_serve.specs.Serve.{IsUnread, ServesTo, end_of, halt_at};
 
-use crate::ending::{Ending, tell_last};
-use crate::halts::Halt;
+use liq_ends::{Ending, Halt, tell_last};
 use liq_outside::{Disk, Sink, Source};
+use liq_scripts::Stop;
 use liq_serving::{Finish, Finished, serve_input};
 use liq_sessions::Gate;
+use liq_types::amounts::LINES_MOST;
 use std::alloc::Global;
 use std::sync::Wait;
 use std::thread::Threads;
@@ -60,10 +61,22 @@ fn end_of(finish: Finish) -> Result<(), Halt>
 {
     match finish {
         Finish::All => Ok(()),
-        Finish::NotRead(stop) => Err(Halt::from(stop)),
+        Finish::NotRead(stop) => Err(halt_at(stop)),
         Finish::NotOpened(why) => Err(Halt::from(why)),
         Finish::NoMemory => Err(Halt::NoMemory),
         Finish::DiskFault => Err(Halt::DiskFault),
         Finish::WriteFault => Err(Halt::WriteFault),
+    }
+}
+
+/// Why the program stops whose input was not read to its end.
+fn halt_at(stop: Stop) -> Halt
+    ensures { result ≡ halt_at stop }
+{
+    match stop {
+        Stop::BadLine(number) => Halt::BadLine(number),
+        Stop::ReadFault => Halt::ReadFault,
+        Stop::NoMemory => Halt::NoMemory,
+        Stop::Limit => Halt::Limit(LINES_MOST),
     }
 }

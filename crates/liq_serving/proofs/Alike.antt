@@ -9,7 +9,7 @@ use Rattle.liq_rules.proofs.AlikeReplies.{replies_alike, run_alike, step_alike}
 use Rattle.liq_pairs.proofs.Alike.{kept_alike, settled_alike}
 use Rattle.liq_sessions.specs.declared.script.Script.{Script}
 use Rattle.liq_store.specs.Keeping.{IsKeptAround}
-use Rattle.liq_book.specs.Items.{recorded}
+use Rattle.liq_rules.specs.Recorded.{recorded}
 use Rattle.liq_book.specs.Origin.{DiskAt, IsDiskAt}
 use Rattle.liq_serving.specs.declared.served.End.{End}
 use Rattle.liq_serving.specs.declared.served.End.TheVariants as end

@@ -22,14 +22,15 @@ use Rattle.liq_sessions.specs.Ran.{EndsAt, faulted_at}
 use Rattle.liq_sessions.specs.Sessions.{HasRun}
 use Rattle.liq_store.specs.Keeping.{IsInOrder}
 use Rattle.liq_store.specs.Stored.{Stored}
-use Rattle.liq_book.specs.declared.items.Entry.{Entry}
+use Rattle.liq_types.specs.declared.entries.Entry.{Entry}
 use Rattle.liq_book.specs.declared.items.Halt.{Halt}
 use Rattle.liq_book.specs.declared.items.Item.{Item}
 use Rattle.liq_book.specs.declared.items.Item.TheVariants as item
 use Rattle.liq_book.specs.declared.origin.Origin.{Ghosts}
 use Rattle.liq_book.specs.declared.seat.BookSeat.{BookSeat}
 use Rattle.liq_book.specs.declared.items.TheConstants.{ENTRIES_MOST}
-use Rattle.liq_book.specs.Items.{calls_of, chronicle, entries_of, faulted_in, recorded, session_of}
+use Rattle.liq_rules.specs.Recorded.{recorded}
+use Rattle.liq_book.specs.Items.{calls_of, chronicle, entries_of, faulted_in, session_of}
 use Rattle.liq_book.specs.Origin.{DiskAt, IsAtOrigin}
 use Rattle.liq_book.specs.Seats.{AreSeated, IsNewSeat, items_seen, session_at}
 use Rattle.liq_book.proofs.Chronicles.{entries_of-chronicle}

@@ -35,7 +35,7 @@ use Rattle.liq_scripts.specs.Gathering.{EndsAfter, Gathers}
 use Rattle.liq_scripts.specs.Sessions.{sessions}
 use Rattle.liq_book.specs.declared.items.Halt.{Halt}
 use Rattle.liq_book.specs.Booked.{CausesHalt}
-use Rattle.liq_book.specs.Items.{recorded}
+use Rattle.liq_rules.specs.Recorded.{recorded}
 use Rattle.liq_serving.specs.declared.input.Finish.{Finish}
 use Rattle.liq_serving.specs.declared.input.Finish.TheVariants as finish
 use Rattle.liq_serving.specs.declared.served.End.{End}

@@ -6,13 +6,14 @@ use Rattle.liq_rules.specs.History.{state_after}
 use Rattle.liq_lock.specs.History.{Behind, Within}
 use Rattle.liq_store.specs.Keeping.{IsInOrder, IsInOrderWith}
 use Rattle.liq_store.specs.Stored.{Stored}
-use Rattle.liq_book.specs.declared.items.Entry.{Entry}
+use Rattle.liq_types.specs.declared.entries.Entry.{Entry}
 use Rattle.liq_book.specs.declared.items.Halt.{Halt}
 use Rattle.liq_book.specs.declared.items.Item.{Item}
 use Rattle.liq_book.specs.declared.origin.Origin.{Ghosts}
 use Rattle.liq_book.specs.declared.seat.BookSeat.{BookSeat}
 use Rattle.liq_book.specs.Booked.{IsBook}
-use Rattle.liq_book.specs.Items.{chronicle, recorded, session_of}
+use Rattle.liq_rules.specs.Recorded.{recorded}
+use Rattle.liq_book.specs.Items.{chronicle, session_of}
 use Rattle.liq_book.specs.Origin.{DiskAt}
 use Rattle.liq_book.specs.Seats.{items_seen, session_at}
 use Rattle.liq_core.specs.Core.{StandsFor}

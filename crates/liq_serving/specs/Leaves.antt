@@ -8,7 +8,8 @@ use Rattle.liq_book.specs.declared.items.Item.{Item}
 use Rattle.liq_book.specs.declared.origin.Origin.{Ghosts}
 use Rattle.liq_book.specs.declared.seat.BookSeat.{BookSeat}
 use Rattle.liq_book.specs.Booked.{CausesHalt}
-use Rattle.liq_book.specs.Items.{chronicle, recorded, session_of}
+use Rattle.liq_rules.specs.Recorded.{recorded}
+use Rattle.liq_book.specs.Items.{chronicle, session_of}
 use Rattle.liq_book.specs.Origin.{DiskAt, GoesOnFrom, faults_at}
 use Rattle.liq_book.specs.Seats.{items_seen, session_at}
 use Rattle.liq_serving.specs.declared.served.Served.{Served}

@@ -11,7 +11,7 @@ use Rattle.liq_store.specs.Keeping.{IsAtRest, IsKeptAround}
 use Rattle.liq_sessions.specs.declared.script.Script.{Script}
 use Rattle.liq_book.specs.declared.items.TheConstants.{ENTRIES_MOST}
 use Rattle.liq_book.specs.Booked.{CausesHalt}
-use Rattle.liq_book.specs.Items.{recorded}
+use Rattle.liq_rules.specs.Recorded.{recorded}
 use Rattle.liq_book.specs.Origin.{DiskAt, GoesOnFrom, faults_at}
 use Rattle.liq_serving.specs.declared.served.End.{End}
 use Rattle.liq_serving.specs.declared.served.End.TheVariants as end

@@ -6,6 +6,7 @@
 pub mod amounts;
 pub mod counting;
 pub mod desks;
+pub mod entries;
 pub mod events;
 pub mod figures;
 pub mod hints;
@@ -15,6 +16,7 @@ pub mod requests;
 
 pub use counting::Steps;
 pub use desks::{Desk, Hinter};
+pub use entries::Entry;
 pub use events::{ListChange, PoolEvent};
 pub use figures::{Client, Deposit, Market, Trove, Wallet};
 pub use hints::{Hint, HintWords};

@@ -1,8 +1,16 @@
 //! What the protocol answers.
 
+use std::alloc::AllocError;
+
 /// There was no memory for it, and nothing changed.
 #[derive(Clone, Copy, Debug, PartialEq, Eq)]
 pub struct NoMemory;
+
+impl From<AllocError> for NoMemory {
+    fn from(_: AllocError) -> NoMemory {
+        NoMemory
+    }
+}
 
 /// An accepted command: its verb's place in the list of verbs, from 1, and the values that its reply shows, unused ones 0.
 #[derive(Clone, Copy, Debug, PartialEq, Eq)]

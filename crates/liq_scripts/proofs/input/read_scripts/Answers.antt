@@ -14,16 +14,6 @@ returns-in_err-scripts-clause-read g c =
     let left = g.S.Source.left c.args.input.now in
     subst (λ (end : Result (Vec Script Global) Stop). Gathers end left left) (sym (handed_on c.from_residual.result NoMemory c.from_residual.ensures.1)) (gathers_nothing left left)
 
-pub returns-in_err-reader-clause-read : goal.returns-in_err-reader-clause-read
-returns-in_err-reader-clause-read g c =
-    let left = g.S.Source.left c.args.input.now in
-    subst (λ (end : Result (Vec Script Global) Stop). Gathers end left left) (sym (handed_on c.from_residual-in_err-reader.result NoMemory c.from_residual-in_err-reader.ensures.1)) (gathers_nothing left left)
-
-pub returns-in_err-line-clause-read : goal.returns-in_err-line-clause-read
-returns-in_err-line-clause-read g c =
-    let left = g.S.Source.left c.args.input.now in
-    subst (λ (end : Result (Vec Script Global) Stop). Gathers end left left) (sym (handed_on c.from_residual-in_err-line.result NoMemory c.from_residual-in_err-line.ensures.1)) (gathers_nothing left left)
-
 pub returns-in_err-read_lines-clause-read : goal.returns-in_err-read_lines-clause-read
 returns-in_err-read_lines-clause-read g c =
     let before = g.S.Source.left c.args.input.now in

@@ -1,10 +1,10 @@
 use Rattle.liq_rules.specs.History.{requests_of}
 use Rattle.liq_outside.specs.Faults.{Rose}
 use Rattle.liq_serve.specs.Serve.{end_of}
-use Rattle.liq_serve.proofs.Causes.{write_no_fewer}
-use Rattle.liq_serve.proofs.EndingLines.{rose_earlier, rose_later}
+use Rattle.liq_ends.proofs.Causes.{write_no_fewer}
+use Rattle.liq_ends.proofs.EndingLines.{rose_earlier, rose_later}
 use Rattle.liq_serve.proofs.Served.{disk_cause, is_done, sink_cause, source_cause, told_served, unread_so}
-use Rattle.liq_serve.proofs.Turning.{all_shares}
+use Rattle.liq_ends.proofs.Shares.{all_shares}
 use Rattle.liq_serve.proofs.serve.serve_on.Goals as goal
 
 pub returns-clause-served : goal.returns-clause-served

@@ -2,8 +2,8 @@ use Rattle.std.proofs.Common.{refl, subst, ap}
 use Rattle.liq_words.specs.declared.words.Word.{Word}
 use Rattle.liq_words.specs.Words.{IsInRange}
 use Rattle.liq_serve.specs.Outside.{outside}
-use Rattle.liq_serve.specs.Statuses.{status_of}
-use Rattle.liq_serve.proofs.Causes.{unread_causes}
+use Rattle.liq_ends.specs.Statuses.{status_of}
+use Rattle.liq_ends.proofs.Causes.{unread_causes}
 use Rattle.liq_serve.proofs.Words.{IsRead, audit_ends, gen_ends, run_ends, state_ends}
 use Rattle.liq_serve.proofs.top.carry_out.Goals as goal
 
@@ -51,9 +51,9 @@ returns-in-Audit g c words asks only =
 
 pub returns-in-Gen : goal.returns-in-Gen
 returns-in-Gen g c words asks only =
-    let ran = c.tell_on-end in
+    let ran = c.tell_load-end in
     let read = subst (λ (w : Word). IsRead words w) c.in-Gen.is (record { asks = asks; only = only }) in
     gen_ends g.D.Disk.seen _ _ _ _ _ _ _ _ _ _ words ran.result c.in-Gen.seed c.in-Gen.count read ran.ensures.told ran.ensures.sink
 
-pub tell_on-end-requires-clause-few : goal.tell_on-end-requires-clause-few
-tell_on-end-requires-clause-few g c = (subst (λ (w : Word). IsInRange w) c.in-Gen.is c.requires.range).2
+pub tell_load-end-requires-clause-few : goal.tell_load-end-requires-clause-few
+tell_load-end-requires-clause-few g c = (subst (λ (w : Word). IsInRange w) c.in-Gen.is c.requires.range).2

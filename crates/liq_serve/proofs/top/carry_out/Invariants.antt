@@ -1,4 +1,4 @@
 use Rattle.liq_serve.proofs.top.carry_out.Given as goal
 
-abbrev pub ghosts-tell_on : goal.ghosts-tell_on
-ghosts-tell_on g a = record { name = a.blank.name; parts = a.blank.parts }
+abbrev pub ghosts-tell_load : goal.ghosts-tell_load
+ghosts-tell_load g a = record { name = a.blank.name; parts = a.blank.parts }

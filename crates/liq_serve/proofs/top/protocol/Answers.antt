@@ -19,6 +19,3 @@ returns-then-is_serve g c =
     (serve_ends g.D.Disk.seen before (told ran.new.input ran.new.out ran.result.left ran.result.right) words ran.result.end read
     (record { source = ran.ensures.source; sink = ran.ensures.sink; disks = ran.ensures.disks })
     ran.ensures.served ran.ensures.unread ran.ensures.complete)
-
-pub returns : goal.returns
-returns g c = c.answered.ensures (map string_bytes c.args.words.now) c.read_words-read.ensures.word c.read_words-read.ensures.only c.read_words-read.ensures.usage

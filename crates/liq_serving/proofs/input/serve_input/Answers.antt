@@ -1,7 +1,7 @@
 use Rattle.std.proofs.Common.{map, List, subst}
 use Rattle.liq_core.specs.Core.{state_of}
-use Rattle.liq_book.specs.declared.items.Entry.{Entry}
-use Rattle.liq_book.specs.Items.{recorded}
+use Rattle.liq_types.specs.declared.entries.Entry.{Entry}
+use Rattle.liq_rules.specs.Recorded.{recorded}
 use Rattle.liq_serving.specs.Input.{Written}
 use Rattle.liq_serving.proofs.Inputs.{cause_by, completes, serves_input, serves_nothing, serves_unopened}
 use Rattle.liq_serving.proofs.input.serve_input.Goals as goal

@@ -1,0 +1,5 @@
+pub mod Causes
+pub mod EndingLines
+pub mod Opened
+pub mod Shares
+pub mod Shown

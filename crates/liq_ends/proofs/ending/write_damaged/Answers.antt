@@ -1,0 +1,15 @@
+use Rattle.std.proofs.Common.{subst, sym}
+use Rattle.std.specs.Prelude.{OnOk}
+use Rattle.liq_lines.specs.Writing.{Writes}
+use Rattle.liq_pairs.specs.declared.side.Side.{Side}
+use Rattle.liq_ends.specs.declared.halts.Halt.TheVariants.{Damaged}
+use Rattle.liq_ends.specs.Output.{last}
+use Rattle.liq_ends.proofs.ending.write_damaged.Goals as goal
+
+pub returns-in-Left-clause-ok : goal.returns-in-Left-clause-ok
+returns-in-Left-clause-ok g c =
+    subst (λ (side : Side). OnOk c.write_numbered.result (Writes (g.K.Sink.held c.args.out.now) (last (Damaged side c.args.number)) (g.K.Sink.held c.write_numbered.new.out))) (sym c.in-Left.is) c.write_numbered.ensures.ok
+
+pub returns-in-Right-clause-ok : goal.returns-in-Right-clause-ok
+returns-in-Right-clause-ok g c =
+    subst (λ (side : Side). OnOk c.write_numbered-in-Right.result (Writes (g.K.Sink.held c.args.out.now) (last (Damaged side c.args.number)) (g.K.Sink.held c.write_numbered-in-Right.new.out))) (sym c.in-Right.is) c.write_numbered-in-Right.ensures.ok

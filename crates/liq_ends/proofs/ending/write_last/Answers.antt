@@ -1,0 +1,47 @@
+use Rattle.std.proofs.Common.{subst, sym, []}
+use Rattle.liq_outside.specs.Faults.{Rose}
+use Rattle.liq_ends.specs.Output.{last}
+use Rattle.liq_ends.specs.Stops.{Adds}
+use Rattle.liq_ends.proofs.EndingLines.{adds_line, nothing_added}
+use Rattle.liq_ends.proofs.ending.write_last.Goals as goal
+
+pub returns-in-BadLine-clause-written : goal.returns-in-BadLine-clause-written
+returns-in-BadLine-clause-written g c =
+    let e = c.write_numbered.ensures in
+    subst (λ halt. Adds [] (last halt) (Rose (g.K.Sink.faults c.args.out.now) (g.K.Sink.faults c.write_numbered.new.out)) (g.K.Sink.held c.args.out.now) (g.K.Sink.held c.write_numbered.new.out)) (sym c.in-BadLine.is)
+    (adds_line _ c.write_numbered.result _ _ _ e.ok e.err e.cause.failed)
+
+pub returns-in-ReadFault-clause-written : goal.returns-in-ReadFault-clause-written
+returns-in-ReadFault-clause-written g c =
+    let e = c.write_all.ensures in
+    subst (λ halt. Adds [] (last halt) (Rose (g.K.Sink.faults c.args.out.now) (g.K.Sink.faults c.write_all.new.out)) (g.K.Sink.held c.args.out.now) (g.K.Sink.held c.write_all.new.out)) (sym c.in-ReadFault.is)
+    (adds_line _ c.write_all.result _ _ _ e.ok e.err e.cause.failed)
+
+pub returns-in-WriteFault-clause-written : goal.returns-in-WriteFault-clause-written
+returns-in-WriteFault-clause-written g c =
+    subst (λ halt. Adds [] (last halt) (Rose (g.K.Sink.faults c.args.out.now) (g.K.Sink.faults c.args.out.now)) (g.K.Sink.held c.args.out.now) (g.K.Sink.held c.args.out.now)) (sym c.in-WriteFault.is)
+    (nothing_added _ (g.K.Sink.held c.args.out.now))
+
+pub returns-in-NoMemory-clause-written : goal.returns-in-NoMemory-clause-written
+returns-in-NoMemory-clause-written g c =
+    let e = c.write_all-in-NoMemory.ensures in
+    subst (λ halt. Adds [] (last halt) (Rose (g.K.Sink.faults c.args.out.now) (g.K.Sink.faults c.write_all-in-NoMemory.new.out)) (g.K.Sink.held c.args.out.now) (g.K.Sink.held c.write_all-in-NoMemory.new.out)) (sym c.in-NoMemory.is)
+    (adds_line _ c.write_all-in-NoMemory.result _ _ _ e.ok e.err e.cause.failed)
+
+pub returns-in-Limit-clause-written : goal.returns-in-Limit-clause-written
+returns-in-Limit-clause-written g c =
+    let e = c.write_numbered-in-Limit.ensures in
+    subst (λ halt. Adds [] (last halt) (Rose (g.K.Sink.faults c.args.out.now) (g.K.Sink.faults c.write_numbered-in-Limit.new.out)) (g.K.Sink.held c.args.out.now) (g.K.Sink.held c.write_numbered-in-Limit.new.out)) (sym c.in-Limit.is)
+    (adds_line _ c.write_numbered-in-Limit.result _ _ _ e.ok e.err e.cause.failed)
+
+pub returns-in-DiskFault-clause-written : goal.returns-in-DiskFault-clause-written
+returns-in-DiskFault-clause-written g c =
+    let e = c.write_all-in-DiskFault.ensures in
+    subst (λ halt. Adds [] (last halt) (Rose (g.K.Sink.faults c.args.out.now) (g.K.Sink.faults c.write_all-in-DiskFault.new.out)) (g.K.Sink.held c.args.out.now) (g.K.Sink.held c.write_all-in-DiskFault.new.out)) (sym c.in-DiskFault.is)
+    (adds_line _ c.write_all-in-DiskFault.result _ _ _ e.ok e.err e.cause.failed)
+
+pub returns-in-Damaged-clause-written : goal.returns-in-Damaged-clause-written
+returns-in-Damaged-clause-written g c =
+    let e = c.write_damaged.ensures in
+    subst (λ halt. Adds [] (last halt) (Rose (g.K.Sink.faults c.args.out.now) (g.K.Sink.faults c.write_damaged.new.out)) (g.K.Sink.held c.args.out.now) (g.K.Sink.held c.write_damaged.new.out)) (sym c.in-Damaged.is)
+    (adds_line _ c.write_damaged.result _ _ _ e.ok e.err e.cause.failed)

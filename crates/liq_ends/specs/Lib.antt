@@ -1,0 +1,7 @@
+pub mod Causes
+pub mod Disks
+pub mod Output
+pub mod Requests
+pub mod Statuses
+pub mod Stops
+pub mod Telling

@@ -1,0 +1,37 @@
+-- Which lines are requests.
+use Rattle.std.specs.Prelude.{ℕ, ◌≡◌, ◌∷◌, [], ◌++◌, List, IsTrue}
+use Rattle.liq_types.specs.declared.requests.Request.{Request}
+use Rattle.liq_types.specs.declared.requests.Request.TheVariants.{Do, Ask}
+use Rattle.liq_types.specs.State.{State}
+use Rattle.liq_rules.specs.Step.{built}
+use Rattle.liq_store.specs.Memory.{TakesMemory}
+use Rattle.liq_text.specs.Spelling.{Spells}
+use Rattle.liq_lines.specs.Lines.{lines_in}
+
+-- the line spells the request, and the protocol answers such requests
+abbrev pub IsRequest : List ℕ → Request → Type 0
+IsRequest line request = Spells line request × IsTrue (built request)
+
+abbrev pub IsBadLine : List ℕ → Type 0
+IsBadLine line = (request : Request) → IsRequest line request → ⊥
+
+-- each line spells the request in its place
+abbrev pub AreRequests : List (List ℕ) → List Request → Type 0
+AreRequests [] [] = Unit {0}
+AreRequests (line ∷ lines) (request ∷ requests) = IsRequest line request × AreRequests lines requests
+AreRequests [] (request ∷ requests) = ⊥
+AreRequests (line ∷ lines) [] = ⊥
+
+abbrev pub IsCommand : Request → Type 0
+IsCommand (Do command) = Unit {0}
+IsCommand (Ask query) = ⊥
+
+-- the first of these lines is that of a request for which memory may be asked
+abbrev pub BeginsWithTaker : State → List (List ℕ) → Type 0
+BeginsWithTaker s lines =
+    (line : List ℕ) × (request : Request) × (more : List (List ℕ)) × IsRequest line request × TakesMemory s request
+    × (lines ≡ line ∷ more)
+
+-- the text begins with lines of these requests, and these lines follow
+abbrev pub BeginsWith : List ℕ → List Request → List (List ℕ) → Type 0
+BeginsWith bytes requests more = (lines : List (List ℕ)) × AreRequests lines requests × (lines_in bytes ≡ lines ++ more)

@@ -1,0 +1,101 @@
+-- Where a run ends, and what it has written by then.
+use Rattle.std.specs.Prelude.{ℕ, ◌≡◌, ◌≢◌, ◌≤◌, ◌+◌, ◌∷◌, [], ◌++◌, ◌⊎◌, List, length, Option, Some, Result, Ok, Err}
+use Rattle.liq_types.specs.declared.amounts.TheConstants.{LINES_MOST}
+use Rattle.liq_types.specs.declared.requests.Request.{Request}
+use Rattle.liq_types.specs.State.{State, opening}
+use Rattle.liq_stability.specs.Promise.{IsWithinAllowance}
+use Rattle.liq_rules.specs.Events.{events}
+use Rattle.liq_rules.specs.Step.{run, accepted}
+use Rattle.liq_ends.specs.declared.halts.Halt.{Halt}
+use Rattle.liq_ends.specs.declared.halts.Halt.TheVariants.{BadLine, ReadFault, WriteFault}
+use Rattle.liq_ends.specs.declared.halts.Halt.TheVariants.{DiskFault, Damaged, NoMemory, Limit}
+use Rattle.liq_lines.specs.Lines.{lines_in, ended, IsPartOfLine}
+use Rattle.liq_ends.specs.Output.{lines}
+use Rattle.liq_ends.specs.Requests.{AreRequests, IsBadLine, BeginsWith, BeginsWithTaker}
+use Rattle.liq_lines.specs.Writing.{Writes}
+
+-- the text is a front of the whole
+abbrev pub IsFrontOf : List ℕ → List ℕ → Type 0
+IsFrontOf front whole = (rest : List ℕ) × (whole ≡ front ++ rest)
+
+-- a front of the requests' lines that ends within the last of them
+abbrev pub IsCutInLastLine : State → List ℕ → List Request → Type 0
+IsCutInLastLine start part requests =
+    (earlier : List Request) × (request : Request) × (requests ≡ earlier ++ request ∷ [])
+    × IsFrontOf (lines start earlier) part
+    × ((missing : List ℕ) × (missing ≢ []) × (lines start requests ≡ part ++ missing))
+
+-- Every depositor has its share after these requests from a state, whichever requests led to that from the opening: an
+-- account's balance and all that it gained are at most its exact share of what all accepted commands did to the
+-- Stability Pool, and short of it by at most the allowance.
+abbrev pub HaveTheirShares : State → List Request → Type 0
+HaveTheirShares start requests =
+    (earlier : List Request) → (run opening earlier).0 ≡ start
+    → (account : ℕ)
+    → IsWithinAllowance (run start requests).0 account (events opening (accepted opening (earlier ++ requests)))
+
+-- all of the bytes was answered by these requests
+pub record IsAnswered (start : State) (bytes : List ℕ) (left : Option (List ℕ)) (requests : List Request) : Type 0 where
+  -- they are those of all lines
+  pub spelled : AreRequests (lines_in bytes) requests
+  -- the source is at its end
+  pub over : left ≡ Some []
+  -- and no depositor has more than its share, or less by more than is allowed
+  pub shares : HaveTheirShares start requests
+
+-- Why a run from a state ended after these requests of the bytes. `left` is what the source still tells.
+abbrev pub EndsAfter : State → Result (Unit {0}) Halt → List ℕ → Option (List ℕ) → List Request → Type 0
+EndsAfter start (Ok done) bytes left requests = IsAnswered start bytes left requests
+-- the next line is the first that is no request
+EndsAfter start (Err (BadLine number)) bytes left requests =
+    (number ≡ length requests + 1) × (number ≤ LINES_MOST)
+    × ((line : List ℕ) × IsBadLine line × ((more : List (List ℕ)) × BeginsWith bytes requests (line ∷ more)))
+-- they are all whose line ends the source gave
+EndsAfter start (Err ReadFault) bytes left requests =
+    (front : List (List ℕ)) × AreRequests front requests
+    × ((part : List ℕ) × IsPartOfLine (length requests) part
+    × ((rest : List ℕ) × (left ≡ Some rest) × (bytes ≡ ended front ++ part ++ rest)))
+EndsAfter start (Err WriteFault) bytes left requests = (more : List (List ℕ)) × BeginsWith bytes requests more
+EndsAfter start (Err DiskFault) bytes left requests = (more : List (List ℕ)) × BeginsWith bytes requests more
+-- a run over damaged disks begins nowhere
+EndsAfter start (Err (Damaged side number)) bytes left requests = ⊥
+-- memory is asked for before the first line, and then only for a command that is allowed or plans a list
+EndsAfter start (Err NoMemory) bytes left requests =
+    (more : List (List ℕ)) × BeginsWith bytes requests more
+    × ((requests ≡ []) ⊎ BeginsWithTaker (run start requests).0 more)
+-- as many lines as one run answers, and a further one begins
+EndsAfter start (Err (Limit number)) bytes left requests =
+    (number ≡ LINES_MOST) × (length requests ≡ LINES_MOST)
+    × ((line : List ℕ) × ((more : List (List ℕ)) × BeginsWith bytes requests (line ∷ more)))
+
+-- Behind what was said the line was written, or a front of it where the sink met a fault.
+abbrev pub Adds : List ℕ → List ℕ → Type 0 → Option (List ℕ) → Option (List ℕ) → Type 0
+Adds said line fault before now =
+    (part : List ℕ) × Writes before (said ++ part) now × ((part ≡ line) ⊎ (fault × IsFrontOf part line))
+
+-- What a run has written by its end: all replies, and a closing line where it stopped. Where the sink met a fault at a
+-- reply, the replies are cut within that to the last request.
+abbrev pub WritesUpTo :
+    (Halt → List ℕ) → State → Result (Unit {0}) Halt → Type 0 → List Request → Option (List ℕ) → Option (List ℕ)
+    → Type 0
+WritesUpTo closing start (Ok done) fault requests before now = Writes before (lines start requests) now
+WritesUpTo closing start (Err WriteFault) fault requests before now =
+    (part : List ℕ) × Writes before part now × IsCutInLastLine start part requests
+WritesUpTo closing start (Err halt) fault requests before now =
+    Adds (lines start requests) (closing halt) fault before now
+
+-- How a run from a state ends, where the source told these bytes. `so` is what holds then of the requests beside what
+-- is read and written.
+pub record EndsIn
+    (closing : Halt → List ℕ) (start : State) (end : Result (Unit {0}) Halt) (bytes : List ℕ) (left : Option (List ℕ))
+    (fault : Type 0) (before now : Option (List ℕ)) (so : List Request → Type 0) : Type 0 where
+  pub requests : List Request
+  -- they are no more than one run answers
+  pub few : length requests ≤ LINES_MOST
+  pub read : EndsAfter start end bytes left requests
+  pub written : WritesUpTo closing start end fault requests before now
+  pub beside : so requests
+
+-- no closing line is written yet
+abbrev pub none_yet : Halt → List ℕ
+none_yet halt = []

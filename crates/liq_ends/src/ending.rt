@@ -1,0 +1,117 @@
+//! How a run ends: its last line and its status.
+
+ghost use Rattle.std.specs.Prelude.{[], ◌∷◌, ◌++◌, ◌≡◌, ◌≤◌, ℕ, List, Option, Result, Err, decimal, OnOk, OnErr, IfErr};
+ghost use Rattle.liq_outside.specs.Faults.{Rose, HasCause};
+ghost use Rattle.liq_review.specs.declared.fault.ReviewFault.{ReviewFault};
+ghost use Rattle.liq_ends.specs.Causes.{LastCause, WriteCause};
+ghost use Rattle.liq_ends.specs.Disks.{halt_of};
+ghost use Rattle.liq_ends.specs.Output.{last, usage};
+ghost use Rattle.liq_ends.specs.Statuses.{status_of};
+ghost use Rattle.liq_ends.specs.Stops.{Adds};
+ghost use Rattle.liq_ends.specs.Telling.{TellsText, WritesText};
+ghost use Rattle.liq_lines.specs.Writing.{Writes, WritesPart};
+
+use crate::halts::Halt;
+use itoa::Buffer;
+use liq_lines::write_all;
+use liq_outside::{Failed, Sink};
+use liq_pairs::Side;
+use liq_store::StoreFault;
+
+/// What is written where the words are not understood.
+const USAGE: &[u8] = b"usage: liq run, serve, state, audit or gen SEED COUNT\n";
+
+/// How a word ends, and the disks as it leaves them.
+#[derive(Drop)]
+pub struct Ending<D> {
+    pub end: Result<(), Halt>,
+    pub left: D,
+    pub right: D,
+}
+
+/// How a word ends whose store was not opened: with the disks as they are then.
+pub fn unopened<D>(fault: StoreFault<D>) -> Ending<D>
+    ensures { result ≡ record { end = Err (halt_of fault.why); left = fault.left; right = fault.right } }
+{
+    let StoreFault { left, right, why } = fault;
+    let end = Err(Halt::from(why));
+    Ending { end, left, right }
+}
+
+/// The exit status of a run.
+pub fn status(end: &Result<(), Halt>) -> u8
+    ensures { result ≡ status_of end.now }
+{
+    match end {
+        Ok(()) => 0,
+        Err(Halt::BadLine(_)) => 2,
+        Err(Halt::ReadFault) => 3,
+        Err(Halt::WriteFault) => 4,
+        Err(Halt::DiskFault) => 5,
+        Err(Halt::Damaged(..)) => 6,
+        Err(Halt::NoMemory) => 7,
+        Err(Halt::Limit(_)) => 8,
+    }
+}
+
+/// Writes the last line of a run that stopped. Where it cannot be written whole, the run has stopped all the same.
+pub fn write_last<K: Sink>(out: &mut K, halt: Halt)
+    ensures written { Adds [] (last halt) (Rose (K.faults out.old) (K.faults out.new)) (K.held out.old) (K.held out.new) }
+    ensures count { K.faults out.old ≤ K.faults out.new }
+{
+    let _ = match halt {
+        Halt::BadLine(number) => write_numbered(out, b"bad line ", number),
+        Halt::ReadFault => write_all(out, b"read fault\n"),
+        Halt::WriteFault => Ok(()),
+        Halt::DiskFault => write_all(out, b"disk fault\n"),
+        Halt::Damaged(side, number) => write_damaged(out, side, number),
+        Halt::NoMemory => write_all(out, b"no memory\n"),
+        Halt::Limit(number) => write_numbered(out, b"limit ", number),
+    };
+}
+
+/// Writes the last line of a word where it stopped.
+pub fn tell_last<K: Sink>(out: &mut K, end: Result<(), Halt>)
+    ensures told { (told : Result (List ℕ) ReviewFault) (before : Option (List ℕ)) (count : ℕ) → count ≤ K.faults out.old → WritesText told end before (K.held out.old)
+        → TellsText told end (Rose count (K.faults out.new)) before (K.held out.new) }
+    ensures last { IfErr end (λ halt. Adds [] (last halt) (Rose (K.faults out.old) (K.faults out.new)) (K.held out.old) (K.held out.new)) }
+    ensures same { OnOk end (out.new ≡ out.old) }
+    ensures count { K.faults out.old ≤ K.faults out.new }
+    ensures sink { (count : ℕ) → WriteCause end count (K.faults out.old) → LastCause end count (K.faults out.new) }
+{
+    if let Err(halt) = end {
+        write_last(out, halt);
+    }
+}
+
+/// Writes which disk is damaged, and at which record.
+fn write_damaged<K: Sink>(out: &mut K, side: Side, number: u64) -> Result<(), Failed>
+    ensures ok { OnOk result (Writes (K.held out.old) (last (Halt.Damaged side number)) (K.held out.new)) }
+    ensures err { OnErr result (WritesPart (K.held out.old) (last (Halt.Damaged side number)) (K.held out.new)) }
+    ensures cause { HasCause (K.faults out.old) (K.faults out.new) result }
+{
+    match side {
+        Side::Left => write_numbered(out, b"damaged left ", number),
+        Side::Right => write_numbered(out, b"damaged right ", number),
+    }
+}
+
+/// Writes a line of a text and a number.
+fn write_numbered<K: Sink>(out: &mut K, text: &[u8], number: u64) -> Result<(), Failed>
+    ensures ok { OnOk result (Writes (K.held out.old) (text.now ++ (decimal number ++ 10 ∷ [])) (K.held out.new)) }
+    ensures err { OnErr result (WritesPart (K.held out.old) (text.now ++ (decimal number ++ 10 ∷ [])) (K.held out.new)) }
+    ensures cause { HasCause (K.faults out.old) (K.faults out.new) result }
+{
+    let mut digits = Buffer::new();
+    write_all(out, text)?;
+    write_all(out, digits.format(number).as_bytes())?;
+    write_all(out, b"\n")
+}
+
+/// Writes how the program is used.
+pub fn write_usage<K: Sink>(out: &mut K)
+    ensures written { Adds [] usage (Rose (K.faults out.old) (K.faults out.new)) (K.held out.old) (K.held out.new) }
+    ensures count { K.faults out.old ≤ K.faults out.new }
+{
+    let _ = write_all(out, USAGE);
+}

@@ -1,0 +1,3 @@
+mod BuiltLoads
+mod Loads
+pub mod Told

@@ -1,0 +1,21 @@
+use Rattle.std.proofs.Common.{ap, refl, ◌+◌, ◌∷◌, [], ◌∙◌}
+use Rattle.liq_core.specs.Core.{state_of}
+use Rattle.liq_load.specs.Load.{next_command}
+use Rattle.liq_load.proofs.Loads.{stands_after}
+use Rattle.liq_load.proofs.Loads.{few_more, next_carries}
+use Rattle.liq_load.proofs.load.Load.carry_out.Goals as goal
+
+pub returns-in_ok-reserve-in-Ok-New-clause-done : goal.returns-in_ok-reserve-in-Ok-New-clause-done
+returns-in_ok-reserve-in-Ok-New-clause-done g c s h =
+    let n = c.args.self.now.counts in
+    let after = stands_after c.args.self.now.protocol c.reserve.new.self s c.reserve.ensures.same h in
+    let planned = (rw c.in-Ok-New.field-0-is at c.in-Ok-New.ensures) s h in
+    next_carries s c.args.call c.in-Ok-New.planned.command c.next_number.result c.apply.new.self c.events.result.now n _ planned.0 (c.next_number.ensures s h) planned.1.allowed (c.events.ensures ∙ planned.1.events) (c.apply.ensures.state s after)
+    (ap (λ o. record { accepted = n.accepted + 1; refused = n.refused; offsets = n.offsets + o }) c.offsets.ensures)
+
+pub returns-in_ok-reserve-in-Ok-New-clause-few : goal.returns-in_ok-reserve-in-Ok-New-clause-few
+returns-in_ok-reserve-in-Ok-New-clause-few g c n h =
+    let s = state_of c.args.self.now.protocol in
+    let r = next_command s c.args.call in
+    let done = returns-in_ok-reserve-in-Ok-New-clause-done g c s c.protocols_stand.ensures in
+    few_more s r c.args.self.now.counts _ n done.1 (c.commands_make_few_events.ensures.run s (r ∷ [])) refl refl h

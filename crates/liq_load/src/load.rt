@@ -1,0 +1,149 @@
+//! A generated load, carried out on a protocol of its own.
+
+ghost use Rattle.std.specs.Prelude.{◌≡◌, ◌≤◌, ◌+◌, ◌^◌, ◌∷◌, [], ℕ, IfOk, OnOk, IsTrue, count_by};
+ghost use Rattle.std.specs.String.{string_bytes};
+ghost use Rattle.liq_types.specs.State.{State, opening};
+ghost use Rattle.liq_types.specs.Totals.{total_debt};
+ghost use Rattle.liq_stability.specs.Words.{pool_words};
+ghost use Rattle.liq_core.specs.Core.{StandsFor};
+ghost use Rattle.liq_rules.specs.Step.{built_call, run, step, next_number};
+ghost use Rattle.liq_words.specs.declared.words.TheConstants.{COUNT_MOST};
+ghost use Rattle.liq_load.specs.Load.{AreWithin, counts, is_offset, load, next_command, plus, told};
+
+use liq_core::laws::protocols_stand;
+use liq_rules::laws::commands_make_few_events;
+use liq_core::{PlanFault, Protocol, Turn};
+use liq_sessions::generate;
+use liq_types::{Call, Command, Hint, Info, NoMemory, PoolEvent, Query, Reply, Steps};
+use std::alloc::Global;
+use std::sync::ledger::Ledger;
+
+/// The client that asks.
+const CLIENT: u32 = 1;
+
+/// What is counted of commands.
+#[derive(Clone, Copy)]
+pub struct Counts {
+    pub accepted: u64,
+    pub refused: u64,
+    /// Offsets that the Stability Pool made.
+    pub offsets: u64,
+}
+
+/// Where a load has come to.
+#[derive(Drop)]
+pub struct Load {
+    protocol: Protocol,
+    counts: Counts,
+}
+
+impl Load {
+    /// Carries out the calls of a seed, so many of them drawn, from the opening.
+    pub fn carried_out<L: Ledger>(
+        alloc: Global,
+        seed: u64,
+        count: u64,
+        steps: &mut Steps<L>,
+    ) -> Result<Load, NoMemory>
+        requires { count ≤ COUNT_MOST }
+        ensures { IfOk result (λ done. StandsFor done.protocol (run opening (load seed count)).0 × (done.counts ≡ counts opening (load seed count))) }
+    {
+        let mut done = Load {
+            protocol: Protocol::new(alloc),
+            counts: Counts {
+                accepted: 0,
+                refused: 0,
+                offsets: 0,
+            },
+        };
+        let mut calls = generate(seed, count);
+        while let Some(call) = calls.next() {
+            done.carry_out(call, steps)?;
+        }
+        Ok(done)
+    }
+
+    /// Carries out the client's next command, with this call.
+    fn carry_out<L: Ledger>(&mut self, call: Call, steps: &mut Steps<L>) -> Result<(), NoMemory>
+        requires built { IsTrue (built_call call) }
+        requires few { AreWithin (2 ^ 32) self.old.counts }
+        ensures done { OnOk result ((s : State) → StandsFor self.old.protocol s
+            → StandsFor self.new.protocol (step s (next_command s call)).0
+            × (self.new.counts ≡ plus self.old.counts (counts s (next_command s call ∷ [])))) }
+        ensures few { (n : ℕ) → AreWithin n self.old.counts → AreWithin (n + 1) self.new.counts }
+    {
+        commands_make_few_events();
+        protocols_stand(&self.protocol);
+        let command = Command {
+            client: CLIENT,
+            number: self.next_number(),
+            call,
+        };
+        match self.protocol.plan(&command) {
+            Ok(Turn::New(planned)) => {
+                self.protocol.reserve(&planned)?;
+                self.counts.accepted += 1;
+                self.counts.offsets += offsets(planned.events());
+                self.protocol.apply(planned, &Hint::NONE, steps);
+                Ok(())
+            }
+            Ok(Turn::Again(_)) => Ok(()),
+            Err(PlanFault::No(_)) => {
+                self.counts.refused += 1;
+                Ok(())
+            }
+            Err(PlanFault::NoMemory) => Err(NoMemory),
+        }
+    }
+
+    /// The number of the client's next command.
+    fn next_number(&self) -> u64
+        ensures { (s : State) → StandsFor self.now.protocol s → result ≡ next_number s CLIENT }
+    {
+        protocols_stand(&self.protocol);
+        match self.protocol.query(&Query::NextNumber(CLIENT)) {
+            Reply::Told(Info::Next { number }) => number,
+            _ => unreachable!(),
+        }
+    }
+
+    /// The debt of all troves, which is all LUSD.
+    fn supply(&self) -> u64
+        ensures { (s : State) → StandsFor self.now.protocol s → result ≡ total_debt s }
+    {
+        protocols_stand(&self.protocol);
+        match self.protocol.query(&Query::System) {
+            Reply::Told(Info::System { words }) => words[8],
+            _ => unreachable!(),
+        }
+    }
+
+    /// The line that tells where it has come to.
+    pub fn line(&self, alloc: Global) -> Result<String, NoMemory>
+        ensures { IfOk result (λ line. (s : State) → StandsFor self.now.protocol s → string_bytes line ≡ told self.now.counts (pool_words s) (total_debt s)) }
+    {
+        let Counts {
+            accepted,
+            refused,
+            offsets,
+        } = self.counts;
+        let words = self.protocol.pool_words();
+        let (epoch, scale, p) = (words.epoch, words.scale, words.p);
+        let (total, coll) = (words.total, words.coll);
+        let supply = self.supply();
+        let line = format!(in alloc;
+            "accepted {accepted} refused {refused} offsets {offsets} epochs {epoch} scale {scale} p {p} total {total} coll {coll} supply {supply}\n"
+        )?;
+        Ok(line)
+    }
+}
+
+/// How many of the events are offsets.
+fn offsets(events: &[PoolEvent]) -> u64
+    ensures { result ≡ count_by is_offset events.now }
+{
+    events
+        .iter()
+        .filter(|event| matches!(event, PoolEvent::Offset { .. }))
+        .count() as u64
+}

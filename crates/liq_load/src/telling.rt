@@ -1,0 +1,54 @@
+//! The word `gen`: a load is carried out, and a line tells where it leads.
+
+ghost use Rattle.std.specs.Prelude.{◌≡◌, ◌≤◌};
+ghost use Rattle.liq_outside.specs.Faults.{Rose};
+ghost use Rattle.liq_ends.specs.Causes.{LastCause, WriteCause};
+ghost use Rattle.liq_load.specs.Load.{Tells, WritesLine, load, summary};
+
+use crate::load::Load;
+use liq_ends::{Halt, write_last, write_text};
+use liq_outside::Sink;
+use liq_types::Steps;
+use liq_words::COUNT_MOST;
+use std::alloc::Global;
+use std::sync::ledger::{Blank, Ledger};
+
+/// Carries a load out on a ledger of its own, on which the steps are counted, and tells where it leads.
+pub fn tell_load<L: Ledger, K: Sink>(
+    alloc: Global,
+    seed: u64,
+    count: u64,
+    out: &mut K,
+    blank: Blank,
+) -> Result<(), Halt>
+    requires few { count ≤ COUNT_MOST }
+    requires name { blank.name ≡ L.name }
+    requires parts { blank.parts ≡ L.parts }
+    requires one { L.parts ≡ 1 }
+    ensures told { Tells (summary (load seed count)) result (Rose (K.faults out.old) (K.faults out.new)) (K.held out.old) (K.held out.new) }
+    ensures sink { LastCause result (K.faults out.old) (K.faults out.new) }
+{
+    let mut steps = Steps::<L>::new(blank);
+    let end = write_load(alloc, seed, count, out, &mut steps);
+    if let Err(halt) = end {
+        write_last(out, halt);
+    }
+    end
+}
+
+/// Carries a load out, and writes its line.
+#[tactic(auto, unfolding(crate::specs::Load::summary))]
+fn write_load<K: Sink, L: Ledger>(
+    alloc: Global,
+    seed: u64,
+    count: u64,
+    out: &mut K,
+    steps: &mut Steps<L>,
+) -> Result<(), Halt>
+    requires { count ≤ COUNT_MOST }
+    ensures written { WritesLine (summary (load seed count)) result (K.held out.old) (K.held out.new) }
+    ensures sink { WriteCause result (K.faults out.old) (K.faults out.new) }
+{
+    let line = Load::carried_out(alloc, seed, count, steps)?.line(alloc)?;
+    write_text(out, line.as_bytes())
+}

@@ -1,0 +1,23 @@
+-- One more line, and where a run has come then.
+use Rattle.std.proofs.Common.{◌≡◌, ℕ, List, [], ◌∷◌, ◌++◌, refl, ap, sym, ◌∙◌, append_assoc, append-nil}
+use Rattle.liq_types.specs.declared.requests.Request.{Request}
+use Rattle.liq_types.specs.State.{State}
+use Rattle.liq_rules.specs.Step.{step, run}
+use Rattle.liq_ends.specs.Output.{lines, reply_line}
+use Rattle.liq_ends.specs.Requests.{IsRequest, AreRequests}
+
+pub after-more : (s : State) (rs : List Request) (r : Request) → (run s (rs ++ r ∷ [])).0 ≡ (step (run s rs).0 r).0
+after-more s [] r = refl
+after-more s (q ∷ rs) r = after-more (step s q).0 rs r
+
+pub lines-more : (s : State) (rs : List Request) (r : Request) → lines s (rs ++ r ∷ []) ≡ lines s rs ++ reply_line (step (run s rs).0 r).1
+lines-more s [] r = append-nil (reply_line (step s r).1)
+lines-more s (q ∷ rs) r =
+    ap (λ (t : List ℕ). reply_line (step s q).1 ++ t) (lines-more (step s q).0 rs r)
+    ∙ sym (append_assoc (reply_line (step s q).1) (lines (step s q).0 rs) (reply_line (step (run (step s q).0 rs).0 r).1))
+
+pub requests-more : (front : List (List ℕ)) (rs : List Request) (line : List ℕ) (r : Request) → AreRequests front rs → IsRequest line r → AreRequests (front ++ line ∷ []) (rs ++ r ∷ [])
+requests-more [] [] line r h k = (k, tt)
+requests-more [] (q ∷ rs) line r h k = absurd h
+requests-more (l ∷ front) [] line r h k = absurd h
+requests-more (l ∷ front) (q ∷ rs) line r h k = (h.0, requests-more front rs line r h.1 k)

@@ -1,0 +1,328 @@
+-- What one line more makes of a run.
+use Rattle.std.proofs.Common.{◌≡◌, ◌≢◌, ℕ, ◌+◌, ◌<◌, ◌≤◌, List, [], ◌∷◌, ◌++◌, Option, Some, None, refl, ap, sym, ap₂, subst, ◌∙◌, append_assoc, append-nil, length-append, arith, length, Ok, Err, inl, inr}
+use Rattle.std.specs.Prelude.{◌⊎◌}
+use Rattle.liq_types.specs.declared.requests.Request.{Request}
+use Rattle.liq_types.specs.declared.requests.Request.TheVariants.{Do, Ask}
+use Rattle.liq_types.specs.declared.amounts.TheConstants.{LINES_MOST}
+use Rattle.liq_types.specs.State.{State}
+use Rattle.liq_core.specs.Core.{Core, StandsFor}
+use Rattle.liq_rules.specs.Step.{step, run}
+use Rattle.liq_ends.specs.declared.halts.Halt.{Halt}
+use Rattle.liq_ends.specs.declared.halts.Halt.TheVariants.{BadLine, ReadFault, WriteFault, DiskFault, Damaged, NoMemory, Limit}
+use Rattle.liq_lines.specs.Lines.{lines_in, ended, IsWithinLine}
+use Rattle.liq_ends.specs.Output.{lines, reply_line}
+use Rattle.liq_run.specs.Progress.{ReadsRequest, ReadsBad, Written, Answered, Answers, Comes}
+use Rattle.liq_lines.specs.Reading.{unread, Reads, IsOver}
+use Rattle.liq_ends.specs.Requests.{IsRequest, IsCommand, AreRequests, BeginsWith}
+use Rattle.liq_run.specs.Writing.{WritesFront}
+use Rattle.liq_run.proofs.BadLines.{first_is_bad}
+use Rattle.liq_lines.proofs.Bytes.{told_reads, writes_nothing, writes_more}
+use Rattle.liq_run.proofs.Cutting.{cut_comes}
+use Rattle.liq_lines.proofs.LinesRead.{lines_in-ended, lines_in-unended, lines_in-ended_all, lines_in-some, ended-append, within-append}
+use Rattle.liq_ends.proofs.Shares.{all_shares}
+use Rattle.liq_run.proofs.Progressing.{after-more, lines-more, requests-more}
+
+-- what follows the answered lines
+begins : (start : State) (bytes : List ℕ) (n : ℕ) (core : Core) (u : Option (List ℕ)) (w : List ℕ) (before now : Option (List ℕ)) → (a : Answered start bytes n core u w before now) → lines_in bytes ≡ a.front ++ lines_in a.rest
+begins start bytes n core u w before now a = ap lines_in a.bytes_are ∙ lines_in-ended_all a.front a.rest a.within
+
+begins_with : (start : State) (bytes : List ℕ) (n : ℕ) (core : Core) (u : Option (List ℕ)) (w : List ℕ) (before now : Option (List ℕ)) → (a : Answered start bytes n core u w before now) → BeginsWith bytes a.requests (lines_in a.rest)
+begins_with start bytes n core u w before now a = (a.front, a.spelled, begins start bytes n core u w before now a)
+
+-- what the source has left, where it told what was unread
+told_left : (rest xs taken : List ℕ) (left : Option (List ℕ)) → Reads (Some rest) xs (unread taken left) → (more : List ℕ) × (left ≡ Some more) × (rest ≡ xs ++ (taken ++ more))
+told_left rest xs taken None h = absurd (cc h)
+told_left rest xs taken (Some more) h = (more, refl, told_reads rest xs (taken ++ more) h)
+
+-- ---- a front of what waits is written
+
+written_on : (start : State) (requests : List Request) (w w' : List ℕ) (before now now' : Option (List ℕ)) → Written start requests w before now → WritesFront (Ok tt) w w' now now' → Written start requests w' before now'
+written_on start requests w w' before now now' h f =
+    record {
+      front = h.front ++ f.0;
+      writes = writes_more before now now' h.front f.0 h.writes f.1;
+      replies = h.replies ∙ ap (λ (t : List ℕ). h.front ++ t) f.2 ∙ sym (append_assoc h.front f.0 w');
+      steady = λ earlier later request is behind. h.steady earlier later request is (omega (arith, behind, length-append h.front f.0));
+    }
+
+pub answered_on : (start : State) (bytes : List ℕ) (n : ℕ) (core : Core) (u : Option (List ℕ)) (w w' : List ℕ) (before now now' : Option (List ℕ)) → Answered start bytes n core u w before now → WritesFront (Ok tt) w w' now now' → Answered start bytes n core u w' before now'
+answered_on start bytes n core u w w' before now now' a f =
+    record {
+      requests = a.requests;
+      front = a.front;
+      rest = a.rest;
+      spelled = a.spelled;
+      within = a.within;
+      count = a.count;
+      bytes_are = a.bytes_are;
+      unread_is = a.unread_is;
+      stands = a.stands;
+      written = written_on start a.requests w w' before now now' a.written f;
+    }
+
+-- it cannot be written
+pub answered_cut : (start : State) (kept : State → Request → Type 0) (halt : Halt) (bytes : List ℕ) (n : ℕ) (core : Core) (u left : Option (List ℕ)) (w w' : List ℕ) (before now now' : Option (List ℕ)) → n ≤ LINES_MOST → Answered start bytes n core u w before now → WritesFront (Err halt) w w' now now' → Comes start (Err halt) core kept bytes left w' before now'
+answered_cut start kept (BadLine n) bytes m core u left w w' before now now' few a f = absurd f
+answered_cut start kept ReadFault bytes m core u left w w' before now now' few a f = absurd f
+answered_cut start kept NoMemory bytes m core u left w w' before now now' few a f = absurd f
+answered_cut start kept DiskFault bytes m core u left w w' before now now' few a f = absurd f
+answered_cut start kept (Damaged side number) bytes m core u left w w' before now now' few a f = absurd f
+answered_cut start kept (Limit number) bytes m core u left w w' before now now' few a f = absurd f
+answered_cut start kept WriteFault bytes m core u left w w' before now now' few a f =
+    cut_comes start core kept bytes a.requests left w w' (lines_in a.rest) before now now' (omega (arith, few, a.count)) (begins_with start bytes m core u w before now a) a.written a.stands f
+
+-- ---- the run stops at the next line
+
+pub reading_fails : (start : State) (kept : State → Request → Type 0) (bytes taken : List ℕ) (n : ℕ) (core : Core) (u left : Option (List ℕ)) (w : List ℕ) (before now : Option (List ℕ)) → n ≤ LINES_MOST → (r : ReadsRequest u (unread taken left) taken (n + 1) (Err ReadFault)) → (n ≡ LINES_MOST → r.0 ≡ []) → Answered start bytes n core u w before now → Comes start (Err ReadFault) core kept bytes left w before now
+reading_fails start kept bytes taken n core u left w before now few r none a =
+    let got = told_left a.rest r.0 taken left (subst (λ (v : Option (List ℕ)). Reads v r.0 (unread taken left)) a.unread_is r.2) in
+    record {
+      requests = a.requests;
+      few = omega (arith, few, a.count);
+      read = (
+        a.front,
+        a.spelled,
+        (
+          r.0,
+          record { within = r.1; short = r.4; none_behind = λ e. none (omega (arith, e, a.count)) },
+          (
+            got.0,
+            got.1,
+            a.bytes_are ∙ ap (λ (t : List ℕ). ended a.front ++ t) (got.2 ∙ ap (λ (t : List ℕ). r.0 ++ (t ++ got.0)) r.3) ∙ sym (append_assoc (ended a.front) r.0 got.0),
+          ),
+        ),
+      );
+      more = lines_in a.rest;
+      begins = begins_with start bytes n core u w before now a;
+      written = a.written;
+      stands = a.stands;
+      halted = tt;
+    }
+
+pub reading_halts : (start : State) (kept : State → Request → Type 0) (halt : Halt) (bytes taken : List ℕ) (n : ℕ) (core : Core) (u left : Option (List ℕ)) (w : List ℕ) (before now : Option (List ℕ)) → n < LINES_MOST → ReadsRequest u (unread taken left) taken (n + 1) (Err halt) → Answered start bytes n core u w before now → Comes start (Err halt) core kept bytes left w before now
+reading_halts start kept (BadLine at) bytes taken n core u left w before now few r a =
+    let bad = first_is_bad a.rest (unread taken left) (subst (λ (v : Option (List ℕ)). ReadsBad v (unread taken left)) a.unread_is r.1) in
+    record {
+      requests = a.requests;
+      few = omega (arith, few, a.count);
+      read = (
+        r.0 ∙ ap (λ m. m + 1) (sym a.count),
+        omega (arith, few, r.0),
+        (bad.0, bad.1, (bad.2.0, (a.front, a.spelled, begins start bytes n core u w before now a ∙ ap (λ (ls : List (List ℕ)). a.front ++ ls) bad.2.1))),
+      );
+      more = lines_in a.rest;
+      begins = begins_with start bytes n core u w before now a;
+      written = a.written;
+      stands = a.stands;
+      halted = tt;
+    }
+reading_halts start kept ReadFault bytes taken n core u left w before now few r a = reading_fails start kept bytes taken n core u left w before now (omega (arith, few)) r (λ e. absurd (omega (arith, e, few))) a
+reading_halts start kept WriteFault bytes taken n core u left w before now few r a = absurd r
+reading_halts start kept NoMemory bytes taken n core u left w before now few r a = absurd r
+reading_halts start kept DiskFault bytes taken n core u left w before now few r a = absurd r
+reading_halts start kept (Damaged side number) bytes taken n core u left w before now few r a = absurd r
+reading_halts start kept (Limit number) bytes taken n core u left w before now few r a = absurd r
+
+-- ---- the input is over
+
+empty_end : (xs ys : List ℕ) → xs ++ ys ≡ [] → ys ≡ []
+empty_end [] ys h = h
+empty_end (x ∷ xs) ys h = absurd (cc h)
+
+over_left : (rest xs taken : List ℕ) (left : Option (List ℕ)) → Reads (Some rest) xs (unread taken left) → IsOver (unread taken left) → (left ≡ Some []) × (rest ≡ xs)
+over_left rest xs taken None h over = absurd (cc h)
+over_left rest xs taken (Some more) h over =
+    (ap Some (empty_end taken more over), told_reads rest xs (taken ++ more) h ∙ ap (λ (t : List ℕ). xs ++ t) over ∙ append-nil xs)
+
+pub reading_ends : (start : State) (kept : State → Request → Type 0) (bytes taken : List ℕ) (n : ℕ) (core : Core) (u left : Option (List ℕ)) (w : List ℕ) (before now : Option (List ℕ)) → n ≤ LINES_MOST → Reads u [] (unread taken left) → IsOver (unread taken left) → Answered start bytes n core u w before now → Comes start (Ok tt) core kept bytes left w before now
+reading_ends start kept bytes taken n core u left w before now few r over a =
+    let done = over_left a.rest [] taken left (subst (λ (v : Option (List ℕ)). Reads v [] (unread taken left)) a.unread_is r) over in
+    record {
+      requests = a.requests;
+      few = omega (arith, few, a.count);
+      read = record {
+        spelled = subst (λ (ls : List (List ℕ)). AreRequests ls a.requests) (sym (begins start bytes n core u w before now a ∙ ap (λ (t : List ℕ). a.front ++ lines_in t) done.1 ∙ append-nil a.front)) a.spelled;
+        over = done.0;
+        shares = all_shares start a.requests;
+      };
+      more = lines_in a.rest;
+      begins = begins_with start bytes n core u w before now a;
+      written = a.written;
+      stands = a.stands;
+      halted = tt;
+    }
+
+-- ---- a line is answered
+
+-- a list with one more at its end, split before one of it: that is the last, or it is one of the list
+last_or_earlier : (requests earlier later : List Request) (r request : Request) → requests ++ r ∷ [] ≡ earlier ++ request ∷ later → ((later ≡ []) × (requests ≡ earlier) × (r ≡ request)) ⊎ ((more : List Request) × (requests ≡ earlier ++ request ∷ more))
+last_or_earlier [] [] [] r request is = inl (refl, refl, cc)
+last_or_earlier [] [] (x ∷ later) r request is = absurd cc
+last_or_earlier [] (x ∷ []) later r request is = absurd cc
+last_or_earlier [] (x ∷ y ∷ earlier) later r request is = absurd cc
+last_or_earlier (q ∷ requests) [] later r request is = inr (requests, cc)
+last_or_earlier (q ∷ requests) (x ∷ earlier) later r request is = by (last_or_earlier requests earlier later r request cc) where
+  by : ((later ≡ []) × (requests ≡ earlier) × (r ≡ request)) ⊎ ((more : List Request) × (requests ≡ earlier ++ request ∷ more)) → ((later ≡ []) × (q ∷ requests ≡ x ∷ earlier) × (r ≡ request)) ⊎ ((more : List Request) × (q ∷ requests ≡ (x ∷ earlier) ++ request ∷ more))
+  by (inl h) = inl (h.0, cc (is, h.1), h.2)
+  by (inr h) = inr (h.0, cc (is, h.1))
+
+-- the replies to some first requests are no longer than those to all
+lines_of_first : (start : State) (first more : List Request) → length (lines start first) ≤ length (lines start (first ++ more))
+lines_of_first start [] more = omega arith
+lines_of_first start (q ∷ first) more =
+    let now = step start q in
+    omega (arith, length-append (reply_line now.1) (lines now.0 first), length-append (reply_line now.1) (lines now.0 (first ++ more)), lines_of_first now.0 first more)
+
+-- A query leaves the state, and before a command nothing waits.
+steady_more : (start : State) (requests : List Request) (r : Request) (rest front : List ℕ) → lines start requests ≡ front ++ rest → (IsCommand r → rest ≡ []) → ((earlier later : List Request) (request : Request) → requests ≡ earlier ++ request ∷ later → length front < length (lines start (earlier ++ request ∷ [])) → (run start (earlier ++ request ∷ [])).0 ≡ (run start requests).0) → (earlier more : List Request) (request : Request) → requests ≡ earlier ++ request ∷ more → length front < length (lines start (earlier ++ request ∷ [])) → (run start (earlier ++ request ∷ [])).0 ≡ (run start (requests ++ r ∷ [])).0
+steady_more start requests (Ask query) rest front replies command steady earlier more request is behind =
+    steady earlier more request is behind ∙ sym (after-more start requests (Ask query))
+steady_more start requests (Do c) rest front replies command steady earlier more request is behind =
+    let all : lines start requests ≡ front = replies ∙ ap (λ (t : List ℕ). front ++ t) (command tt) ∙ append-nil front in
+    let whole : requests ≡ (earlier ++ request ∷ []) ++ more = is ∙ sym (append_assoc earlier (request ∷ []) more) in
+    let fewer = lines_of_first start (earlier ++ request ∷ []) more in
+    let same : length (lines start ((earlier ++ request ∷ []) ++ more)) ≡ length front = ap (λ (rs : List Request). length (lines start rs)) (sym whole) ∙ ap length all in
+    absurd (omega (arith, behind, fewer, same))
+
+-- the reply to one more request waits behind what waited, of which a front is written
+wrote_more : (start : State) (requests : List Request) (r : Request) (w rest w' : List ℕ) (before now now' : Option (List ℕ)) → Written start requests w before now → WritesFront (Ok tt) w rest now now' → w' ≡ rest ++ reply_line (step (run start requests).0 r).1 → (IsCommand r → rest ≡ []) → Written start (requests ++ r ∷ []) w' before now'
+wrote_more start requests r w rest w' before now now' h f is command =
+    let reply = reply_line (step (run start requests).0 r).1 in
+    let on = written_on start requests w rest before now now' h f in
+    record {
+      front = on.front;
+      writes = on.writes;
+      replies = lines-more start requests r ∙ ap (λ (t : List ℕ). t ++ reply) on.replies ∙ append_assoc on.front rest reply ∙ ap (λ (t : List ℕ). on.front ++ t) (sym is);
+      steady = λ earlier later request split behind. by earlier later request behind (last_or_earlier requests earlier later r request split);
+    } where
+      by : (earlier later : List Request) (request : Request) → length (written_on start requests w rest before now now' h f).front < length (lines start (earlier ++ request ∷ []))
+          → ((later ≡ []) × (requests ≡ earlier) × (r ≡ request)) ⊎ ((more : List Request) × (requests ≡ earlier ++ request ∷ more))
+          → (run start (earlier ++ request ∷ [])).0 ≡ (run start (requests ++ r ∷ [])).0
+      by earlier later request behind (inl last) = ap₂ (λ (rs : List Request) (q : Request). (run start (rs ++ q ∷ [])).0) (sym last.1) (sym last.2)
+      by earlier later request behind (inr one) =
+          let on = written_on start requests w rest before now now' h f in
+          steady_more start requests r rest on.front on.replies command on.steady earlier one.0 request one.1 behind
+
+pub line_answered : (start : State) (bytes line : List ℕ) (r : Request) (n : ℕ) (core core' : Core) (u u' : Option (List ℕ)) (w w' : List ℕ) (before now now' : Option (List ℕ)) → IsRequest line r → IsWithinLine line → Reads u (line ++ 10 ∷ []) u' → (a : Answered start bytes n core u w before now) → Answers (run start a.requests).0 r (Ok tt) core' w w' now now' → Answered start bytes (n + 1) core' u' w' before now'
+line_answered start bytes line r n core core' u None w w' before now now' is within reads a said = absurd (cc (reads, a.unread_is))
+line_answered start bytes line r n core core' u (Some rest) w w' before now now' is within reads a said =
+    let got = told_reads a.rest (line ++ 10 ∷ []) rest (subst (λ (v : Option (List ℕ)). Reads v (line ++ 10 ∷ []) (Some rest)) a.unread_is reads) in
+    record {
+      requests = a.requests ++ r ∷ [];
+      front = a.front ++ line ∷ [];
+      rest = rest;
+      spelled = requests-more a.front a.requests line r a.spelled is;
+      within = within-append a.front (line ∷ []) a.within (within, tt);
+      count = omega (arith, length-append a.requests (r ∷ []), a.count);
+      bytes_are =
+          a.bytes_are ∙ ap (λ (t : List ℕ). ended a.front ++ t) got ∙ sym (append_assoc (ended a.front) (line ++ 10 ∷ []) rest)
+          ∙ ap (λ (t : List ℕ). (ended a.front ++ t) ++ rest) (sym (append-nil (line ++ 10 ∷ []))) ∙ ap (λ (t : List ℕ). t ++ rest) (sym (ended-append a.front (line ∷ [])));
+      unread_is = refl;
+      stands = subst (λ (s : State). StandsFor core' s) (sym (after-more start a.requests r)) said.0;
+      written = wrote_more start a.requests r w said.1.0 w' before now now' a.written said.1.1 said.1.2 said.1.3;
+    }
+
+pub last_answered : (start : State) (kept : State → Request → Type 0) (bytes line taken : List ℕ) (r : Request) (n : ℕ) (core core' : Core) (u left : Option (List ℕ)) (w w' : List ℕ) (before now now' : Option (List ℕ)) → n < LINES_MOST → IsRequest line r → IsWithinLine line → line ≢ [] → Reads u line (unread taken left) → IsOver (unread taken left) → (a : Answered start bytes n core u w before now) → Answers (run start a.requests).0 r (Ok tt) core' w w' now now' → Comes start (Ok tt) core' kept bytes left w' before now'
+last_answered start kept bytes line taken r n core core' u left w w' before now now' few is within some reads over a said =
+    let done = over_left a.rest line taken left (subst (λ (v : Option (List ℕ)). Reads v line (unread taken left)) a.unread_is reads) over in
+    let spelled = requests-more a.front a.requests line r a.spelled is in
+    let whole = begins start bytes n core u w before now a ∙ ap (λ (t : List ℕ). a.front ++ lines_in t) done.1 ∙ ap (λ (ls : List (List ℕ)). a.front ++ ls) (lines_in-unended line within some) in
+    record {
+      requests = a.requests ++ r ∷ [];
+      few = omega (arith, few, a.count, length-append a.requests (r ∷ []));
+      read = record {
+        spelled = subst (λ (ls : List (List ℕ)). AreRequests ls (a.requests ++ r ∷ [])) (sym whole) spelled;
+        over = done.0;
+        shares = all_shares start (a.requests ++ r ∷ []);
+      };
+      more = [];
+      begins = (a.front ++ line ∷ [], spelled, whole ∙ sym (append-nil (a.front ++ line ∷ [])));
+      written = wrote_more start a.requests r w said.1.0 w' before now now' a.written said.1.1 said.1.2 said.1.3;
+      stands = subst (λ (s : State). StandsFor core' s) (sym (after-more start a.requests r)) said.0;
+      halted = tt;
+    }
+
+-- ---- a line is read, and its answer stops the run
+
+pub answering_halts : (start : State) (kept : State → Request → Type 0) (halt : Halt) (bytes line : List ℕ) (more : List (List ℕ)) (r : Request) (n : ℕ) (core core' : Core) (u left : Option (List ℕ)) (w w' : List ℕ) (before now now' : Option (List ℕ)) → n < LINES_MOST → IsRequest line r → (a : Answered start bytes n core u w before now) → lines_in a.rest ≡ line ∷ more → Answers (run start a.requests).0 r (Err halt) core' w w' now now' → (halt ≡ DiskFault → kept (run start a.requests).0 r) → Comes start (Err halt) core' kept bytes left w' before now'
+answering_halts start kept (BadLine at) bytes line more r n core core' u left w w' before now now' few is a first failed kept_so = absurd failed
+answering_halts start kept ReadFault bytes line more r n core core' u left w w' before now now' few is a first failed kept_so = absurd failed
+answering_halts start kept (Limit number) bytes line more r n core core' u left w w' before now now' few is a first failed kept_so = absurd failed
+answering_halts start kept (Damaged side number) bytes line more r n core core' u left w w' before now now' few is a first failed kept_so = absurd failed
+answering_halts start kept DiskFault bytes line more r n core core' u left w w' before now now' few is a first failed kept_so =
+    record {
+      requests = a.requests;
+      few = omega (arith, few, a.count);
+      read = (lines_in a.rest, begins_with start bytes n core u w before now a);
+      more = lines_in a.rest;
+      begins = begins_with start bytes n core u w before now a;
+      written = written_on start a.requests w w' before now now' a.written failed.2;
+      stands = failed.0;
+      halted = (r, (line, more, is, (a.front, a.spelled, begins start bytes n core u w before now a ∙ ap (λ (ls : List (List ℕ)). a.front ++ ls) first)), failed.1, failed.3, kept_so refl);
+    }
+answering_halts start kept NoMemory bytes line more r n core core' u left w w' before now now' few is a first failed kept_so =
+    record {
+      requests = a.requests;
+      few = omega (arith, few, a.count);
+      read = (lines_in a.rest, begins_with start bytes n core u w before now a, inr (line, r, more, is, failed.1, first));
+      more = lines_in a.rest;
+      begins = begins_with start bytes n core u w before now a;
+      written = written_on start a.requests w w' before now now' a.written failed.2;
+      stands = failed.0;
+      halted = tt;
+    }
+answering_halts start kept WriteFault bytes line more r n core core' u left w w' before now now' few is a first failed kept_so =
+    cut_comes start core' kept bytes a.requests left w w' (lines_in a.rest) before now now' (omega (arith, few, a.count)) (begins_with start bytes n core u w before now a) a.written failed.0 failed.1
+
+-- the line that was read is the first of what was unread
+pub first_line : (rest line : List ℕ) (u' : Option (List ℕ)) → IsWithinLine line → Reads (Some rest) (line ++ 10 ∷ []) u' → (more : List (List ℕ)) × (lines_in rest ≡ line ∷ more)
+first_line rest line None within reads = absurd (cc reads)
+first_line rest line (Some after) within reads =
+    (lines_in after, ap lines_in (told_reads rest (line ++ 10 ∷ []) after reads ∙ append_assoc line (10 ∷ []) after) ∙ lines_in-ended line after within)
+
+pub last_line : (rest line taken : List ℕ) (left : Option (List ℕ)) → IsWithinLine line → line ≢ [] → Reads (Some rest) line (unread taken left) → IsOver (unread taken left) → lines_in rest ≡ line ∷ []
+last_line rest line taken left within some reads over =
+    ap lines_in (over_left rest line taken left reads over).1 ∙ lines_in-unended line within some
+
+-- ---- before the first line, and behind the last that one run answers
+
+no_split : (earlier later : List Request) (request : Request) → [] ≡ earlier ++ request ∷ later → ⊥
+no_split [] later request is = cc
+no_split (x ∷ earlier) later request is = cc
+
+pub opened : (start : State) (bytes reader waiting : List ℕ) (core : Core) (left before : Option (List ℕ)) → StandsFor core start → reader ≡ [] → waiting ≡ [] → left ≡ Some bytes → Answered start bytes 0 core (unread reader left) waiting before before
+opened start bytes reader waiting core left before stands fresh none told =
+    record {
+      requests = [];
+      front = [];
+      rest = bytes;
+      spelled = tt;
+      within = tt;
+      count = refl;
+      bytes_are = refl;
+      unread_is = ap (λ (t : List ℕ). unread t left) fresh ∙ ap (λ (o : Option (List ℕ)). unread [] o) told;
+      stands = stands;
+      written = record {
+        front = [];
+        writes = writes_nothing before;
+        replies = sym none;
+        steady = λ earlier later request is behind. absurd (no_split earlier later request is);
+      };
+    }
+
+pub limit_halts : (start : State) (kept : State → Request → Type 0) (bytes : List ℕ) (n byte : ℕ) (core : Core) (u u' left : Option (List ℕ)) (w : List ℕ) (before now : Option (List ℕ)) → n ≡ LINES_MOST → Reads u (byte ∷ []) u' → Answered start bytes n core u w before now → Comes start (Err (Limit LINES_MOST)) core kept bytes left w before now
+limit_halts start kept bytes n byte core u None left w before now full reads a = absurd (cc (reads, a.unread_is))
+limit_halts start kept bytes n byte core u (Some rest) left w before now full reads a =
+    let got = told_reads a.rest (byte ∷ []) rest (subst (λ (v : Option (List ℕ)). Reads v (byte ∷ []) (Some rest)) a.unread_is reads) in
+    let first = lines_in-some byte rest in
+    let whole = begins start bytes n core u w before now a ∙ ap (λ (t : List ℕ). a.front ++ lines_in t) got ∙ ap (λ (ls : List (List ℕ)). a.front ++ ls) first.2 in
+    record {
+      requests = a.requests;
+      few = omega (arith, full, a.count);
+      read = (refl, a.count ∙ full, (first.0, (first.1, (a.front, a.spelled, whole))));
+      more = lines_in a.rest;
+      begins = begins_with start bytes n core u w before now a;
+      written = a.written;
+      stands = a.stands;
+      halted = tt;
+    }

@@ -1,0 +1,23 @@
+use Rattle.std.proofs.Common.{◌≡◌, Err, Result, sym, subst, arith}
+use Rattle.liq_ends.specs.declared.halts.Halt.{Halt}
+use Rattle.liq_ends.specs.declared.halts.Halt.TheVariants.{WriteFault}
+use Rattle.liq_ends.specs.Disks.{KeepsAround}
+use Rattle.liq_run.specs.Progress.{Ends}
+use Rattle.liq_run.proofs.Closing.{closing_cut, closing_well}
+use Rattle.liq_run.proofs.Residual.{handed_on}
+use Rattle.liq_run.proofs.run.Run.catch_up_at.Goals as goal
+use Rattle.liq_run.proofs.run.Run.catch_up_at.Goals.{in_default-via-in-Err+in_default, in_default-via-in_default}
+
+pub returns-in_err-flush-in_default-clause-run : goal.returns-in_err-flush-in_default-clause-run
+returns-in_err-flush-in_default-clause-run g c start bytes left before h =
+    let held = g.K.Sink.held in
+    let other : c.args.end ≡ Err WriteFault → ⊥ = λ e. elim c.in_default.branch [ in_default-via-in-Err+in_default w ↦ grind (arith, e, w.in_default) | in_default-via-in_default w ↦ grind (arith, e, w.in_default) ] in
+    let halt = c.in_err-flush-in_default.field-0.0 in
+    subst (λ (end : Result (Unit {0}) Halt). Ends start end c.args.self.now.store.core (KeepsAround g.D.Disk.seen c.args.self.now.store.left c.args.self.now.store.right) bytes left before (held c.flush.new.out)) (sym (handed_on c.from_residual.result halt c.from_residual.ensures.1))
+    (closing_cut start c.args.self.now.store.core _ c.args.end halt bytes left c.args.self.now.waiting.items c.flush.new.waiting.items before (held c.args.out.now) (held c.flush.new.out) other h c.in_err-flush-in_default.ensures.written)
+
+pub returns-in_ok-flush-in_default-clause-run : goal.returns-in_ok-flush-in_default-clause-run
+returns-in_ok-flush-in_default-clause-run g c start bytes left before h =
+    let held = g.K.Sink.held in
+    let other : c.args.end ≡ Err WriteFault → ⊥ = λ e. elim c.in_default.branch [ in_default-via-in-Err+in_default w ↦ grind (arith, e, w.in_default) | in_default-via-in_default w ↦ grind (arith, e, w.in_default) ] in
+    closing_well start c.args.self.now.store.core _ c.args.end bytes left c.args.self.now.waiting.items c.flush.new.waiting.items before (held c.args.out.now) (held c.flush.new.out) other h c.in_ok-flush-in_default.ensures.written c.flush.ensures.empty

@@ -1,0 +1,141 @@
+-- How far a run has come.
+use Rattle.std.specs.Prelude.{ℕ, ◌≡◌, ◌≢◌, ◌≤◌, ◌<◌, ◌+◌, [], ◌∷◌, ◌++◌}
+use Rattle.std.specs.Prelude.{List, length, Option, Some, Result, Ok, Err, Bool, true, false}
+use Rattle.std.specs.List.{AllByRecursion}
+use Rattle.liq_types.specs.declared.amounts.TheConstants.{LINE_BYTES, LINES_MOST}
+use Rattle.liq_types.specs.declared.requests.Request.{Request}
+use Rattle.liq_types.specs.State.{State}
+use Rattle.liq_core.specs.Core.{Core, StandsFor}
+use Rattle.liq_rules.specs.Step.{run, step}
+use Rattle.liq_ends.specs.declared.halts.Halt.{Halt}
+use Rattle.liq_ends.specs.declared.halts.Halt.TheVariants.{BadLine, ReadFault, WriteFault, DiskFault, NoMemory}
+use Rattle.liq_run.specs.declared.run.Next.{Next}
+use Rattle.liq_run.specs.declared.run.Next.TheVariants.{Line, LastLine, End}
+use Rattle.liq_lines.specs.Lines.{ended, IsWithinLine}
+use Rattle.liq_ends.specs.Output.{lines, reply_line}
+use Rattle.liq_lines.specs.Reading.{Reads, IsOver}
+use Rattle.liq_store.specs.Memory.{IsAccepted, TakesMemory}
+use Rattle.liq_ends.specs.Disks.{IsNext}
+use Rattle.liq_ends.specs.Requests.{IsRequest, IsBadLine, IsCommand, AreRequests, BeginsWith}
+use Rattle.liq_ends.specs.Stops.{EndsAfter, EndsIn, IsCutInLastLine, none_yet}
+use Rattle.liq_lines.specs.Writing.{Writes, WritesPart}
+use Rattle.liq_run.specs.Writing.{WritesFront}
+
+-- a request, or why a line has none
+abbrev pub RequestOn : List ℕ → ℕ → Result Request Halt → Type 0
+RequestOn line number (Ok request) = IsRequest line request
+RequestOn line number (Err halt) = (halt ≡ BadLine number) × IsBadLine line
+
+-- A bad line was read and nothing behind it: with its line end, to the input's end, or to the first byte that is too
+-- many.
+pub data ReadsBad (before after : Option (List ℕ)) : Type 0 where
+  with_end :
+      (line : List ℕ) → IsBadLine line → IsWithinLine line → Reads before (line ++ 10 ∷ []) after
+      → ReadsBad before after
+  without_end :
+      (line : List ℕ) → IsBadLine line → IsWithinLine line → line ≢ [] → Reads before line after → IsOver after
+      → ReadsBad before after
+  too_long :
+      (line : List ℕ) (byte : ℕ) → IsWithinLine line → byte ≢ 10 → length line ≡ LINE_BYTES
+      → Reads before (line ++ byte ∷ []) after → ReadsBad before after
+
+-- a line was read that is a request, or there is none, or the run stops here
+abbrev pub ReadsRequest : Option (List ℕ) → Option (List ℕ) → List ℕ → ℕ → Result Next Halt → Type 0
+ReadsRequest before after taken number (Ok (Line request)) =
+    (line : List ℕ) × IsRequest line request × IsWithinLine line × Reads before (line ++ 10 ∷ []) after
+ReadsRequest before after taken number (Ok (LastLine request)) =
+    (line : List ℕ) × IsRequest line request × IsWithinLine line × (line ≢ []) × Reads before line after × IsOver after
+ReadsRequest before after taken number (Ok End) = Reads before [] after × IsOver after
+ReadsRequest before after taken number (Err (BadLine at)) = (at ≡ number) × ReadsBad before after
+ReadsRequest before after taken number (Err ReadFault) =
+    (part : List ℕ) × IsWithinLine part × Reads before part after × (taken ≡ []) × (length part ≤ LINE_BYTES)
+ReadsRequest before after taken number (Err _) = ⊥
+
+-- The replies to these requests are written, but for those that wait. Of the requests whose replies wait none but the
+-- first is a command: wherever the replies are cut behind what is written, the state is the one after them all.
+pub record Written
+    (start : State) (requests : List Request) (waiting : List ℕ) (before now : Option (List ℕ)) : Type 0 where
+  pub front : List ℕ
+  pub writes : Writes before front now
+  pub replies : lines start requests ≡ front ++ waiting
+  pub steady :
+      (earlier later : List Request) (request : Request) → requests ≡ earlier ++ request ∷ later
+      → length front < length (lines start (earlier ++ request ∷ []))
+      → (run start (earlier ++ request ∷ [])).0 ≡ (run start requests).0
+
+-- n lines were requests, and each is answered
+pub record Answered
+    (start : State) (bytes : List ℕ) (n : ℕ) (core : Core) (unread : Option (List ℕ)) (waiting : List ℕ)
+    (before now : Option (List ℕ)) : Type 0 where
+  pub requests : List Request
+  pub front : List (List ℕ)
+  pub rest : List ℕ
+  pub spelled : AreRequests front requests
+  pub within : AllByRecursion IsWithinLine front
+  pub count : length requests ≡ n
+  pub bytes_are : bytes ≡ ended front ++ rest
+  pub unread_is : unread ≡ Some rest
+  pub stands : StandsFor core (run start requests).0
+  pub written : Written start requests waiting before now
+
+-- The request's step was made and its reply waits behind what waited, of which a front was written first: all where the
+-- request is a command. Or the sink met a fault at what waited, or there was no memory where it may be asked for: no
+-- step was made then.
+abbrev pub Answers :
+    State → Request → Result (Unit {0}) Halt → Core → List ℕ → List ℕ → Option (List ℕ) → Option (List ℕ) → Type 0
+Answers s request (Ok done) core waited waits before after =
+    StandsFor core (step s request).0
+    × ((rest : List ℕ) × WritesFront (Ok tt) waited rest before after
+    × (waits ≡ rest ++ reply_line (step s request).1) × (IsCommand request → rest ≡ []))
+Answers s request (Err NoMemory) core waited waits before after =
+    StandsFor core s × TakesMemory s request × WritesFront (Ok tt) waited waits before after
+Answers s request (Err WriteFault) core waited waits before after = StandsFor core s × WritesPart before waited after
+Answers s request (Err DiskFault) core waited waits before after =
+    StandsFor core s × IsAccepted s request × WritesFront (Ok tt) waited waits before after × (waits ≡ [])
+Answers s request (Err _) core waited waits before after = ⊥
+
+-- What is written where a run comes to its end: all replies but those that wait, or up to a cut.
+abbrev pub WrittenAt :
+    State → Result (Unit {0}) Halt → List Request → List ℕ → Option (List ℕ) → Option (List ℕ) → Type 0
+WrittenAt start (Err WriteFault) requests waiting before now =
+    (part : List ℕ) × Writes before part now × IsCutInLastLine start part requests
+WrittenAt start _ requests waiting before now = Written start requests waiting before now
+
+-- where a disk met a fault, the next line's command was on its way, nothing waits, and this holds of it
+abbrev pub HaltsAt :
+    Result (Unit {0}) Halt → List ℕ → List Request → List ℕ → State → (State → Request → Type 0) → Type 0
+HaltsAt (Err DiskFault) bytes requests waiting s kept =
+    (request : Request) × IsNext bytes requests request × IsAccepted s request × (waiting ≡ []) × kept s request
+HaltsAt _ bytes requests waiting s kept = Unit {0}
+
+-- a run came to its end, some replies wait, and the protocol stands for the state after the requests
+pub record Comes
+    (start : State) (end : Result (Unit {0}) Halt) (core : Core) (kept : State → Request → Type 0) (bytes : List ℕ)
+    (left : Option (List ℕ)) (waiting : List ℕ) (before now : Option (List ℕ)) : Type 0 where
+  pub requests : List Request
+  pub few : length requests ≤ LINES_MOST
+  pub read : EndsAfter start end bytes left requests
+  pub more : List (List ℕ)
+  pub begins : BeginsWith bytes requests more
+  pub written : WrittenAt start end requests waiting before now
+  pub stands : StandsFor core (run start requests).0
+  pub halted : HaltsAt end bytes requests waiting (run start requests).0 kept
+
+-- a run is at its end, its last line is not written yet, and the protocol stands for the state after the requests
+abbrev pub Ends :
+    State → Result (Unit {0}) Halt → Core → (State → Request → Type 0) → List ℕ → Option (List ℕ) → Option (List ℕ)
+    → Option (List ℕ) → Type 0
+Ends start end core kept bytes left before now =
+    EndsIn none_yet start end bytes left ⊥ before now (λ requests.
+    StandsFor core (run start requests).0 × HaltsAt end bytes requests [] (run start requests).0 kept)
+
+-- one more line was answered, or the run comes to its end
+abbrev pub Turns :
+    State → (State → Request → Type 0) → List ℕ → ℕ → Core → Option (List ℕ) → Option (List ℕ) → List ℕ
+    → Option (List ℕ) → Option (List ℕ) → Result Bool Halt → Type 0
+Turns start kept bytes n core unread left waiting before now (Ok true) =
+    Answered start bytes (n + 1) core unread waiting before now
+Turns start kept bytes n core unread left waiting before now (Ok false) =
+    Comes start (Ok tt) core kept bytes left waiting before now
+Turns start kept bytes n core unread left waiting before now (Err halt) =
+    Comes start (Err halt) core kept bytes left waiting before now

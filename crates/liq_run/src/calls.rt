@@ -1,0 +1,37 @@
+//! One request after another, as the store answers them.
+
+ghost use Rattle.std.specs.Prelude.{◌≡◌, ◌≢◌, Some, None, Err, List, ℕ, IsTrue};
+ghost use Rattle.liq_types.specs.State.{State};
+ghost use Rattle.liq_core.specs.Core.{StandsFor};
+ghost use Rattle.liq_rules.specs.Step.{built};
+ghost use Rattle.liq_ends.specs.Causes.{DiskCause};
+ghost use Rattle.liq_ends.specs.Disks.{Calls, IsStopped, KeepsAround};
+ghost use Rattle.liq_ends.specs.Requests.{IsCommand};
+
+use liq_core::laws::protocols_stand;
+use liq_ends::Halt;
+use liq_outside::Disk;
+use liq_store::Store;
+use liq_types::{Answer, Hint, Reply, Request};
+
+/// Makes the request's step, and gives its reply.
+pub fn call<D: Disk>(store: &mut Store<D>, request: &Request) -> Result<Reply, Halt>
+    requires built { IsTrue (built request.now) }
+    requires going { store.old.stopped ≡ None }
+    ensures call { (s : State) → StandsFor store.old.core s → Calls s request.now result store.new.core }
+    ensures no_source { result ≢ Err Halt.ReadFault }
+    ensures no_sink { result ≢ Err Halt.WriteFault }
+    ensures command { result ≡ Err Halt.DiskFault → IsCommand request.now }
+    ensures stopped { IsStopped result store.new.stopped }
+    // Where a disk met a fault, both keep the state before the request or after it.
+    ensures kept { result ≡ Err Halt.DiskFault → (s : State) → StandsFor store.old.core s → KeepsAround D.seen store.new.left store.new.right s request.now }
+    ensures cause { DiskCause result (record { left = D.faults store.old.left; right = D.faults store.old.right }) (record { left = D.faults store.new.left; right = D.faults store.new.right }) }
+{
+    protocols_stand(store.protocol());
+    match store.call(request, &Hint::NONE) {
+        Answer::Reply(reply) => Ok(reply),
+        Answer::NoMemory => Err(Halt::NoMemory),
+        Answer::DiskFault => Err(Halt::DiskFault),
+        _ => unreachable!(),
+    }
+}

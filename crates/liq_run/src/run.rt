@@ -1,0 +1,296 @@
+//! The word `run`: a store over two disks, and the lines that it is asked and answers.
+
+ghost use Rattle.std.specs.Prelude.{Contains, Err, Option, Some, None, ◌≡◌, ◌≢◌, IsTrue, ◌≤◌, ◌<◌, ◌+◌, [], ℕ, List, Ok, OnOk, OnErr, IfOk, IfErr, vec_capacity};
+ghost use Rattle.liq_types.specs.State.{State};
+ghost use Rattle.liq_types.specs.declared.amounts.TheConstants.{LINE_BYTES};
+ghost use Rattle.liq_run.specs.declared.waiting.TheConstants.{WAITING_MOST};
+ghost use Rattle.liq_rules.specs.Step.{built};
+ghost use Rattle.liq_core.specs.Core.{StandsFor};
+ghost use Rattle.liq_journal.specs.declared.damage.Damage.{Damage};
+ghost use Rattle.liq_pairs.specs.declared.side.Side.{Side};
+ghost use Rattle.liq_pairs.specs.Pair.{state_on};
+ghost use Rattle.liq_store.specs.Causes.{Faults, counts_of};
+ghost use Rattle.liq_store.specs.Opening.{IsNotOpened, OpensOn};
+ghost use Rattle.liq_store.specs.Keeping.{IsInOrder};
+ghost use Rattle.liq_lines.specs.Reading.{unread};
+ghost use Rattle.liq_ends.specs.Causes.{DiskCause, ReadCause, WriteCause};
+ghost use Rattle.liq_ends.specs.Disks.{DisksHold, EndsDamaged, IsStopped, KeepsAround};
+ghost use Rattle.liq_run.specs.Progress.{RequestOn, ReadsRequest, Answered, Answers, Turns, Comes, Ends};
+ghost use Rattle.liq_ends.specs.Stops.{EndsIn, none_yet};
+
+use crate::calls::call;
+use crate::waiting::{WAITING_MOST, catch_up, flush, keep, make_way};
+use liq_core::is_built;
+use liq_ends::{Ending, Halt, unopened};
+use liq_lines::{LINE_END, LineEnd, Reader};
+use liq_outside::{Disk, Failed, Sink, Source};
+use liq_store::{Store, StoreFault, StoreWhy};
+use liq_text::read_line;
+use liq_types::Request;
+use liq_types::amounts::{LINE_BYTES, LINES_MOST};
+use std::alloc::{AllocError, Global};
+
+/// What stands next in the input.
+#[derive(Clone, Copy)]
+enum Next {
+    /// A request on a line with a line end.
+    Line(Request),
+    /// A request on the last line, which lacks its line end.
+    LastLine(Request),
+    /// Nothing: the input is over.
+    End,
+}
+
+/// Reads the next line's request. Behind a bad line nothing is read.
+fn next_request<S: Source>(
+    reader: &mut Reader,
+    line: &mut Vec<u8>,
+    input: &mut S,
+    number: u64,
+) -> Result<Next, Halt>
+    requires { LINE_BYTES ≤ vec_capacity line.old }
+    ensures request { ReadsRequest (unread reader.old (S.left input.old)) (unread reader.new (S.left input.new)) reader.new number result }
+    // Where the line was taken already, nothing is read.
+    ensures taken { Contains reader.old LINE_END → result ≢ Err Halt.ReadFault }
+    ensures capacity { vec_capacity line.new ≡ vec_capacity line.old }
+    ensures cause { ReadCause result (S.faults input.old) (S.faults input.new) }
+{
+    match reader.next_line(input, line) {
+        Err(Failed) => Err(Halt::ReadFault),
+        Ok(LineEnd::Nothing) => Ok(Next::End),
+        Ok(LineEnd::TooLong) => Err(Halt::BadLine(number)),
+        Ok(LineEnd::Ended) => Ok(Next::Line(request_on(line, number)?)),
+        Ok(LineEnd::Unended) => Ok(Next::LastLine(request_on(line, number)?)),
+    }
+}
+
+/// The request on the line of this number.
+fn request_on(line: &[u8], number: u64) -> Result<Request, Halt>
+    ensures { RequestOn line.now number result }
+{
+    match read_line(line) {
+        Ok(request) if is_built(&request) => Ok(request),
+        _ => Err(Halt::BadLine(number)),
+    }
+}
+
+/// Answers the input's lines over the store of two disks, from the state for which they stand.
+pub fn answer_input<S: Source, K: Sink, D: Disk>(
+    alloc: Global,
+    input: &mut S,
+    out: &mut K,
+    left: D,
+    right: D,
+) -> Ending<D>
+    ensures run { (bytes l r : List ℕ) → S.left input.old ≡ Some bytes → D.seen left ≡ Some l → D.seen right ≡ Some r
+        → (start : State) → state_on l r ≡ Ok start
+        → EndsIn none_yet start result.end bytes (S.left input.new) ⊥ (K.held out.old) (K.held out.new) (DisksHold D.seen result.end bytes l r start result.left result.right) }
+    // Over damaged disks nothing is read or written.
+    ensures damaged { (l r : List ℕ) → D.seen left ≡ Some l → D.seen right ≡ Some r → (side : Side) (damage : Damage) → state_on l r ≡ Err (side, damage)
+        → (input.new ≡ input.old) × (out.new ≡ out.old) × EndsDamaged D.seen side damage l r result.end result.left result.right }
+    ensures source { ReadCause result.end (S.faults input.old) (S.faults input.new) }
+    ensures sink { WriteCause result.end (K.faults out.old) (K.faults out.new) }
+    ensures disks { DiskCause result.end (counts_of D.faults left right) (counts_of D.faults result.left result.right) }
+{
+    let mut run = match Run::open(alloc, left, right) {
+        Ok(run) => run,
+        Err(fault) => return unopened(fault),
+    };
+    let end = run.answer_all(input, out);
+    let (left, right) = run.close();
+    Ending { end, left, right }
+}
+
+/// What a run reads into and gathers replies in.
+#[derive(Drop)]
+struct Buffers {
+    reader: Reader,
+    line: Vec<u8>,
+    waiting: Vec<u8>,
+    ghost line_room: { LINE_BYTES ≤ vec_capacity line },
+    ghost waiting_room: { WAITING_MOST ≤ vec_capacity waiting },
+}
+
+impl Buffers {
+    fn new(alloc: Global) -> Result<Buffers, AllocError>
+        ensures { IfOk result (λ buffers. (buffers.reader ≡ []) × (buffers.waiting.items ≡ [])) }
+    {
+        Ok(Buffers {
+            reader: Reader::new(alloc)?,
+            line: Vec::with_capacity(alloc, LINE_BYTES)?,
+            waiting: Vec::with_capacity(alloc, WAITING_MOST)?,
+        })
+    }
+}
+
+/// One store, and where it has come to in its input.
+#[derive(Drop)]
+pub struct Run<D: Disk> {
+    store: Store<D>,
+    reader: Reader,
+    line: Vec<u8>,
+    waiting: Vec<u8>,
+    ghost line_room: { LINE_BYTES ≤ vec_capacity line },
+    ghost waiting_room: { WAITING_MOST ≤ vec_capacity waiting },
+}
+
+impl<D: Disk> Run<D> {
+    /// A run over the store of two disks. Where it is not opened the disks are handed back.
+    pub fn open(alloc: Global, left: D, right: D) -> Result<Run<D>, StoreFault<D>>
+        ensures opened { IfOk result (λ run. OpensOn D.seen D.faults left right run.store × (run.reader ≡ []) × (run.waiting.items ≡ [])) }
+        ensures not_opened { IfErr result (IsNotOpened D.seen D.faults left right) }
+    {
+        let Buffers {
+            reader,
+            line,
+            waiting,
+        } = match Buffers::new(alloc) {
+            Ok(buffers) => buffers,
+            Err(_) => {
+                let why = StoreWhy::NoMemory;
+                return Err(StoreFault { left, right, why });
+            }
+        };
+        match Store::open(alloc, left, right) {
+            Ok(store) => Ok(Run {
+                store,
+                reader,
+                line,
+                waiting,
+            }),
+            Err(fault) => Err(fault),
+        }
+    }
+
+    /// The disks, as the run leaves them.
+    pub fn close(self) -> (D, D)
+        ensures left { result.0 ≡ self.store.left }
+        ensures right { result.1 ≡ self.store.right }
+        ensures order { IsInOrder D.seen D.moment D.left_at self.store }
+    {
+        let Run {
+            store,
+            reader: _,
+            line: _,
+            waiting: _,
+        } = self;
+        store.close()
+    }
+
+    /// Answers the input's lines, to its end or to where the run stops, and writes all replies.
+    pub fn answer_all<S: Source, K: Sink>(&mut self, input: &mut S, out: &mut K) -> Result<(), Halt>
+        requires unread { self.old.reader ≡ [] }
+        requires waiting { self.old.waiting.items ≡ [] }
+        requires going { self.old.store.stopped ≡ None }
+        ensures run { (start : State) → StandsFor self.old.store.core start → (bytes : List ℕ) → S.left input.old ≡ Some bytes
+            → Ends start result self.new.store.core (KeepsAround D.seen self.new.store.left self.new.store.right) bytes (S.left input.new) (K.held out.old) (K.held out.new) }
+        ensures source { ReadCause result (S.faults input.old) (S.faults input.new) }
+        ensures sink { WriteCause result (K.faults out.old) (K.faults out.new) }
+        ensures stopped { IsStopped result self.new.store.stopped }
+        ensures disks { DiskCause result (counts_of D.faults self.old.store.left self.old.store.right) (counts_of D.faults self.new.store.left self.new.store.right) }
+    {
+        let end = self.answer_lines(input, out);
+        self.catch_up_at(end, out)
+    }
+
+    /// Answers the input's lines. Some replies may wait at the end, but none at a read fault or a disk's.
+    fn answer_lines<S: Source, K: Sink>(&mut self, input: &mut S, out: &mut K) -> Result<(), Halt>
+        requires unread { self.old.reader ≡ [] }
+        requires waiting { self.old.waiting.items ≡ [] }
+        requires going { self.old.store.stopped ≡ None }
+        ensures run { (start : State) → StandsFor self.old.store.core start → (bytes : List ℕ) → S.left input.old ≡ Some bytes
+            → Comes start result self.new.store.core (KeepsAround D.seen self.new.store.left self.new.store.right) bytes (S.left input.new) self.new.waiting.items (K.held out.old) (K.held out.new) }
+        ensures caught_up { result ≡ Err Halt.ReadFault → self.new.waiting.items ≡ [] }
+        ensures caught_up_too { result ≡ Err Halt.DiskFault → self.new.waiting.items ≡ [] }
+        ensures source { ReadCause result (S.faults input.old) (S.faults input.new) }
+        ensures sink { WriteCause result (K.faults out.old) (K.faults out.new) }
+        ensures stopped { IsStopped result self.new.store.stopped }
+        ensures disks { DiskCause result (counts_of D.faults self.old.store.left self.old.store.right) (counts_of D.faults self.new.store.left self.new.store.right) }
+    {
+        for answered in 0..LINES_MOST {
+            if !self.turn(input, out, answered)? {
+                return Ok(());
+            }
+        }
+        flush(&mut self.waiting, out)?;
+        match self.reader.next_byte(input) {
+            Ok(None) => Ok(()),
+            Ok(Some(_)) => Err(Halt::Limit(LINES_MOST)),
+            Err(Failed) => Err(Halt::ReadFault),
+        }
+    }
+
+    /// Writes what waits at the run's end. Where the sink meets a fault at it, that is the end.
+    fn catch_up_at<K: Sink>(&mut self, end: Result<(), Halt>, out: &mut K) -> Result<(), Halt>
+        ensures run { (start : State) (bytes : List ℕ) (left before : Option (List ℕ)) → Comes start end self.old.store.core (KeepsAround D.seen self.old.store.left self.old.store.right) bytes left self.old.waiting.items before (K.held out.old)
+            → Ends start result self.new.store.core (KeepsAround D.seen self.new.store.left self.new.store.right) bytes left before (K.held out.new) }
+        ensures source { (old new : ℕ) → (end ≡ Err Halt.ReadFault → self.old.waiting.items ≡ []) → ReadCause end old new → ReadCause result old new }
+        ensures sink { (old : ℕ) → WriteCause end old (K.faults out.old) → WriteCause result old (K.faults out.new) }
+        ensures disks { (old new : Faults) → (end ≡ Err Halt.DiskFault → self.old.waiting.items ≡ []) → DiskCause end old new → DiskCause result old new }
+        ensures stopped { (stopped : Option ℕ) → (end ≡ Err Halt.DiskFault → self.old.waiting.items ≡ []) → IsStopped end stopped → IsStopped result stopped }
+        ensures store { self.new.store ≡ self.old.store }
+    {
+        match end {
+            Err(Halt::WriteFault) => Err(Halt::WriteFault),
+            _ => {
+                flush(&mut self.waiting, out)?;
+                end
+            }
+        }
+    }
+
+    /// Answers the next line, of which there are `answered` before it, and says whether another may follow. Before the source
+    /// is read the replies that wait are written.
+    fn turn<S: Source, K: Sink>(
+        &mut self,
+        input: &mut S,
+        out: &mut K,
+        answered: u64,
+    ) -> Result<bool, Halt>
+        requires few { answered < LINES_MOST }
+        requires going { self.old.store.stopped ≡ None }
+        ensures turn { (start : State) (bytes : List ℕ) (before : Option (List ℕ))
+            → Answered start bytes answered self.old.store.core (unread self.old.reader (S.left input.old)) self.old.waiting.items before (K.held out.old)
+            → Turns start (KeepsAround D.seen self.new.store.left self.new.store.right) bytes answered self.new.store.core (unread self.new.reader (S.left input.new)) (S.left input.new) self.new.waiting.items before (K.held out.new) result }
+        ensures caught_up { result ≡ Err Halt.ReadFault → self.new.waiting.items ≡ [] }
+        ensures caught_up_too { result ≡ Err Halt.DiskFault → self.new.waiting.items ≡ [] }
+        ensures source { ReadCause result (S.faults input.old) (S.faults input.new) }
+        ensures sink { WriteCause result (K.faults out.old) (K.faults out.new) }
+        ensures stopped { IsStopped result self.new.store.stopped }
+        ensures disks { DiskCause result (counts_of D.faults self.old.store.left self.old.store.right) (counts_of D.faults self.new.store.left self.new.store.right) }
+    {
+        catch_up(&self.reader, &mut self.waiting, out)?;
+        match next_request(&mut self.reader, &mut self.line, input, answered + 1)? {
+            Next::End => Ok(false),
+            Next::Line(request) => {
+                self.answer(&request, out)?;
+                Ok(true)
+            }
+            Next::LastLine(request) => {
+                self.answer(&request, out)?;
+                Ok(false)
+            }
+        }
+    }
+
+    /// Makes the request's step, and keeps its reply until it is written. Before a command's step all other replies are written.
+    fn answer<K: Sink>(&mut self, request: &Request, out: &mut K) -> Result<(), Halt>
+        requires built { IsTrue (built request.now) }
+        requires going { self.old.store.stopped ≡ None }
+        ensures answer { (s : State) → StandsFor self.old.store.core s
+            → Answers s request.now result self.new.store.core self.old.waiting.items self.new.waiting.items (K.held out.old) (K.held out.new) }
+        ensures reader { self.new.reader ≡ self.old.reader }
+        ensures other { result ≢ Err Halt.ReadFault }
+        // Where a disk met a fault nothing waits, and both disks keep the state before the request or after it.
+        ensures caught_up { result ≡ Err Halt.DiskFault → self.new.waiting.items ≡ [] }
+        ensures kept { result ≡ Err Halt.DiskFault → (s : State) → StandsFor self.old.store.core s → KeepsAround D.seen self.new.store.left self.new.store.right s request.now }
+        ensures sink { WriteCause result (K.faults out.old) (K.faults out.new) }
+        ensures stopped { IsStopped result self.new.store.stopped }
+        ensures disks { DiskCause result (counts_of D.faults self.old.store.left self.old.store.right) (counts_of D.faults self.new.store.left self.new.store.right) }
+    {
+        make_way(request, &mut self.waiting, out)?;
+        let reply = call(&mut self.store, request)?;
+        keep(&reply, &mut self.waiting);
+        Ok(())
+    }
+}

@@ -1,0 +1,72 @@
+//! Replies that wait to be written.
+
+ghost use Rattle.std.specs.Prelude.{◌≡◌, ◌≤◌, ◌<◌, ◌+◌, ◌++◌, ◌⊎◌, [], Contains, OnOk, vec_len, vec_capacity};
+ghost use Rattle.liq_ends.specs.Causes.{WriteCause};
+ghost use Rattle.liq_ends.specs.Output.{reply_line};
+ghost use Rattle.liq_ends.specs.Requests.{IsCommand};
+ghost use Rattle.liq_run.specs.Writing.{WritesFront};
+
+use liq_ends::Halt;
+use liq_lines::{LINE_END, Reader, write_all};
+use liq_outside::{Failed, Sink};
+use liq_text::write_reply;
+use liq_types::amounts::REPLY_BYTES;
+use liq_types::{Reply, Request};
+
+/// How many bytes of replies may wait.
+pub const WAITING_MOST: usize = 16_384;
+
+/// Writes all that waits. Nothing waits then, also where the sink met a fault.
+pub fn flush<K: Sink>(waiting: &mut Vec<u8>, out: &mut K) -> Result<(), Halt>
+    ensures written { WritesFront result waiting.old.items waiting.new.items (K.held out.old) (K.held out.new) }
+    ensures empty { waiting.new.items ≡ [] }
+    ensures capacity { vec_capacity waiting.new ≡ vec_capacity waiting.old }
+    ensures cause { WriteCause result (K.faults out.old) (K.faults out.new) }
+{
+    let written = write_all(out, waiting);
+    waiting.clear();
+    match written {
+        Ok(()) => Ok(()),
+        Err(Failed) => Err(Halt::WriteFault),
+    }
+}
+
+/// Writes what waits, but where the next line was taken from the source already, so that the source is not read for it.
+pub fn catch_up<K: Sink>(reader: &Reader, waiting: &mut Vec<u8>, out: &mut K) -> Result<(), Halt>
+    ensures written { WritesFront result waiting.old.items waiting.new.items (K.held out.old) (K.held out.new) }
+    ensures taken { OnOk result ((waiting.new.items ≡ []) ⊎ Contains reader.now LINE_END) }
+    ensures capacity { vec_capacity waiting.new ≡ vec_capacity waiting.old }
+    ensures cause { WriteCause result (K.faults out.old) (K.faults out.new) }
+{
+    if reader.has_line() {
+        return Ok(());
+    }
+    flush(waiting, out)
+}
+
+/// Writes what waits where the request is a command, and where there is no room for another reply.
+pub fn make_way<K: Sink>(request: &Request, waiting: &mut Vec<u8>, out: &mut K) -> Result<(), Halt>
+    requires { WAITING_MOST ≤ vec_capacity waiting.old }
+    ensures written { WritesFront result waiting.old.items waiting.new.items (K.held out.old) (K.held out.new) }
+    ensures command { OnOk result (IsCommand request.now → waiting.new.items ≡ []) }
+    ensures room { OnOk result (vec_len waiting.new + REPLY_BYTES < vec_capacity waiting.new) }
+    ensures capacity { vec_capacity waiting.new ≡ vec_capacity waiting.old }
+    ensures cause { WriteCause result (K.faults out.old) (K.faults out.new) }
+{
+    match request {
+        Request::Ask(_) if waiting.len() < WAITING_MOST - REPLY_BYTES => Ok(()),
+        _ => flush(waiting, out),
+    }
+}
+
+/// Puts the reply's line behind those that wait.
+pub fn keep(reply: &Reply, waiting: &mut Vec<u8>)
+    requires { vec_len waiting.old + REPLY_BYTES < vec_capacity waiting.old }
+    ensures line { waiting.new.items ≡ waiting.old.items ++ reply_line reply.now }
+    ensures capacity { vec_capacity waiting.old ≤ vec_capacity waiting.new }
+{
+    if write_reply(reply, waiting).is_err() {
+        unreachable!();
+    }
+    waiting.push_reserved(LINE_END);
+}

@@ -1,0 +1,89 @@
+-- What is told of the commands on two disks, which are only looked at.
+use Rattle.std.proofs.Common.{◌≡◌, ◌≢◌, ℕ, List, Option, Some, None, Result, Ok, Err, inl, inr, refl, sym, ap, ◌∙◌}
+use Rattle.std.specs.Prelude.{◌⊎◌, ◌↔◌, IsSome}
+use Rattle.liq_types.specs.declared.requests.Command.{Command}
+use Rattle.liq_types.specs.State.{State, opening}
+use Rattle.liq_rules.specs.Events.{events}
+use Rattle.liq_pairs.specs.declared.side.Side.{Side}
+use Rattle.liq_pairs.specs.declared.side.Side.TheVariants.{Left, Right}
+use Rattle.liq_pairs.specs.Replay.{replay}
+use Rattle.liq_pairs.specs.Sides.{beside, on}
+use Rattle.liq_review.specs.declared.fault.ReviewFault.{ReviewFault}
+use Rattle.liq_review.specs.declared.fault.ReviewFault.TheVariants as review
+use Rattle.liq_review.specs.Engine.{rows_of}
+use Rattle.liq_review.specs.Limits.{number_above}
+use Rattle.liq_review.specs.Reviewed.{review_of, reviewed, unless_above}
+use Rattle.liq_review.specs.Shown.{shown}
+use Rattle.liq_ends.specs.declared.halts.Halt.{Halt}
+use Rattle.liq_ends.specs.declared.halts.Halt.TheVariants.{DiskFault, ReadFault}
+use Rattle.liq_tell.specs.Audit.{AuditHolds, HoldTheirShares, halt_on}
+use Rattle.liq_ends.specs.Causes.{WriteCause}
+use Rattle.liq_ends.specs.Disks.{DisksStand}
+use Rattle.liq_ends.specs.Telling.{WritesText}
+use Rattle.liq_ends.proofs.Opened.{is_some_of, some_of}
+
+-- ---- the review of commands that lead to a state
+
+reviewed_after : (commands : List Command) (s : State) → replay 1 opening commands ≡ Ok s → reviewed commands ≡ unless_above (number_above (events opening commands)) (shown (rows_of s (events opening commands)))
+reviewed_after commands s is = ap (review_of (events opening commands)) is
+
+unrefused : (above : Option ℕ) (text : List ℕ) (index code : ℕ) → unless_above above text ≡ Err (review.Refused index code) → ⊥
+unrefused None text index code is = absurd cc
+unrefused (Some number) text index code is = absurd cc
+
+-- none of them is refused
+not_refused : (commands : List Command) (s : State) (index code : ℕ) → replay 1 opening commands ≡ Ok s → reviewed commands ≡ Err (review.Refused index code) → ⊥
+not_refused commands s index code is refused = unrefused _ _ index code (sym (reviewed_after commands s is) ∙ refused)
+
+within : (above : Option ℕ) (text : List ℕ) (number : ℕ) → above ≡ None → unless_above above text ≡ Err (review.Limit number) → ⊥
+within None text number none is = absurd cc
+within (Some n) text number none is = absurd cc
+
+-- where no limit is passed, none is told
+pub no_limit : (commands : List Command) (s : State) (number : ℕ) → replay 1 opening commands ≡ Ok s → number_above (events opening commands) ≡ None → reviewed commands ≡ Err (review.Limit number) → ⊥
+no_limit commands s number is none limit = within _ _ number none (sym (reviewed_after commands s is) ∙ limit)
+
+-- why there is no review of them
+pub not_reviewed : (commands : List Command) (s : State) (side : Side) (why : ReviewFault) (held : Option (List ℕ)) → replay 1 opening commands ≡ Ok s → (why ≡ review.NoMemory) ⊎ (reviewed commands ≡ Err why) → WritesText (reviewed commands) (Err (halt_on side why)) held held
+not_reviewed commands s side (review.Refused index code) held is (inl none) = absurd cc
+not_reviewed commands s side (review.Refused index code) held is (inr so) = absurd (not_refused commands s index code is so)
+not_reviewed commands s side (review.Limit number) held is (inl none) = absurd cc
+not_reviewed commands s side (review.Limit number) held is (inr so) = (so, refl)
+not_reviewed commands s side review.NoMemory held is so = refl
+
+-- neither a disk nor a stream met a fault
+pub no_fault : (side : Side) (why : ReviewFault) → (halt_on side why ≢ DiskFault) × (halt_on side why ≢ ReadFault)
+no_fault side (review.Refused index code) = ((λ e. cc), (λ e. cc))
+no_fault side (review.Limit number) = ((λ e. cc), (λ e. cc))
+no_fault side review.NoMemory = ((λ e. cc), (λ e. cc))
+
+pub no_cause : (side : Side) (why : ReviewFault) (count : ℕ) → (let end : Result (Unit {0}) Halt = Err (halt_on side why) in WriteCause end count count)
+no_cause side (review.Refused index code) count = refl
+no_cause side (review.Limit number) count = refl
+no_cause side review.NoMemory count = refl
+
+pub audit_holds : (end : Result (Unit {0}) Halt) (s : State) (commands : List Command) → HoldTheirShares s commands → AuditHolds end s commands
+audit_holds (Ok done) s commands h = h
+audit_holds (Err halt) s commands h = tt
+
+-- ---- the disks
+
+module _ {D : Type 0} (seen : D → Option (List ℕ)) where
+  -- both tell what they told where one was looked at
+  pub both_seen : (side now : Side) (ol or nl nr : D) → now ≡ side → seen (on now nl nr) ≡ seen (on side ol or) → beside now nl nr ≡ beside side ol or → (seen nl ≡ seen ol) × (seen nr ≡ seen or)
+  both_seen Left Left ol or nl nr is same other = (same, ap seen other)
+  both_seen Right Right ol or nl nr is same other = (ap seen other, same)
+  both_seen Left Right ol or nl nr is same other = absurd cc
+  both_seen Right Left ol or nl nr is same other = absurd cc
+
+  pub stand_too : (ol or nl nr : D) (s : State) → seen nl ≡ seen ol → seen nr ≡ seen or → DisksStand seen ol or s → DisksStand seen nl nr s
+  stand_too ol or nl nr s left right stand a b told_a told_b = stand a b (sym left ∙ told_a) (sym right ∙ told_b)
+
+  on_tells : (side : Side) (l r : D) → IsSome (seen l) → IsSome (seen r) → IsSome (seen (on side l r))
+  on_tells Left l r left right = left
+  on_tells Right l r left right = right
+
+  -- the one that is taken tells its bytes where both did before
+  pub taken_tells : (side : Side) (ol or nl nr : D) → (IsSome (seen nl) ↔ IsSome (seen ol)) → (IsSome (seen nr) ↔ IsSome (seen or)) → (l r : List ℕ) → seen ol ≡ Some l → seen or ≡ Some r → (now : List ℕ) × (seen (on side nl nr) ≡ Some now)
+  taken_tells side ol or nl nr left right l r told_l told_r =
+      some_of (seen (on side nl nr)) (on_tells side nl nr (left.1 (is_some_of (seen ol) l told_l)) (right.1 (is_some_of (seen or) r told_r)))

@@ -1,0 +1,3 @@
+pub mod Audited
+mod DamagedTold
+mod Standing

@@ -1,0 +1,60 @@
+use Rattle.std.proofs.Common.{◌≡◌, refl, Ok, List, [], sym, subst, ap, ◌∙◌}
+use Rattle.liq_types.specs.declared.requests.Command.{Command}
+use Rattle.liq_types.specs.State.{opening}
+use Rattle.liq_pairs.specs.Pair.{commands_on}
+use Rattle.liq_pairs.specs.Replay.{replay}
+use Rattle.liq_review.specs.Reviewed.{reviewed}
+use Rattle.liq_ends.specs.declared.ending.Ending.{Ending}
+use Rattle.liq_tell.specs.Audit.{AuditHolds}
+use Rattle.liq_ends.specs.Disks.{DisksHold, EndsDamaged}
+use Rattle.liq_ends.specs.Telling.{WritesText}
+use Rattle.liq_tell.proofs.Audited.{stand_too, taken_tells}
+use Rattle.liq_ends.proofs.Opened.{opened_at}
+use Rattle.liq_tell.proofs.Standing.{not_told, left_standing, disks_hold, unopened_damaged}
+use Rattle.liq_tell.proofs.audit.tell_audit.Goals as goal
+
+pub returns-in-Err-clause-told : goal.returns-in-Err-clause-told
+returns-in-Err-clause-told g c l r told_l told_r start is =
+    let held = g.K.Sink.held c.args.out.now in
+    let seen = g.D.Disk.seen in
+    let fault = c.in-Err.fault in
+    let told = reviewed (commands_on l r) in
+    let found = not_told seen g.D.Disk.faults told fault.why fault.left fault.right c.args.left c.args.right c.in-Err.ensures.not_opened l r held told_l told_r start is in
+    subst (λ (e : Ending g.row.D.Denot). WritesText told e.end held held × AuditHolds e.end start (commands_on l r) × DisksHold seen e.end [] l r start e.left e.right [])
+    (sym c.unopened.ensures) (found.0, tt, found.1)
+
+pub returns-clause-told : goal.returns-clause-told
+returns-clause-told g c l r told_l told_r start is =
+    let seen = g.D.Disk.seen in
+    let held = g.K.Sink.held in
+    let store = c.in-Ok.store in
+    let opened = c.in-Ok.ensures.opened in
+    let found = opened.state l r told_l told_r in
+    let stands = opened_at found.0 start _ _ found.1 is found.2 in
+    let wrote = c.write_audit-end in
+    let end = wrote.result in
+    let left = wrote.new.store in
+    let stand = left_standing seen g.D.Disk.faults g.D.Disk.moment g.D.Disk.left_at store start opened.going c.in-Ok.ensures.order stands in
+    let hold = disks_hold seen end l r start left.left left.right (stand_too seen store.left store.right left.left left.right start wrote.ensures.left wrote.ensures.right stand) in
+    let taken = taken_tells seen store.side c.args.left c.args.right store.left store.right c.in-Ok.ensures.left_telling c.in-Ok.ensures.right_telling l r told_l told_r in
+    let holds = opened.commands l r taken.0 told_l told_r taken.1 in
+    let leads : replay 1 opening holds.written.commands ≡ Ok start = ap (replay 1 opening) holds.are ∙ c.commands_lead_to_the_state.ensures l r start is in
+    let written = wrote.ensures.written taken.0 holds.written start taken.1 holds.found leads in
+    let so = subst (λ (commands : List Command). WritesText (reviewed commands) end (held c.args.out.now) (held wrote.new.out) × AuditHolds end start commands) holds.are written in (
+      so.0,
+      so.1,
+      subst (λ (d : g.row.D.Denot). DisksHold seen end [] l r start d c.close-left.result.1 []) (sym c.close-left.ensures.left)
+          (subst (λ (d : g.row.D.Denot). DisksHold seen end [] l r start left.left d []) (sym c.close-left.ensures.right) hold),
+    )
+
+pub returns-clause-damaged : goal.returns-clause-damaged
+returns-clause-damaged g c l r told_l told_r side damage is =
+    let found = c.in-Ok.ensures.opened.state l r told_l told_r in
+    absurd (cc (found.1, is))
+
+pub returns-in-Err-clause-damaged : goal.returns-in-Err-clause-damaged
+returns-in-Err-clause-damaged g c l r told_l told_r side damage is =
+    let seen = g.D.Disk.seen in
+    let fault = c.in-Err.fault in
+    let found = unopened_damaged seen g.D.Disk.faults fault.why fault.left fault.right c.args.left c.args.right c.in-Err.ensures.not_opened l r told_l told_r side damage is in
+    (refl, subst (λ (e : Ending g.row.D.Denot). EndsDamaged seen side damage l r e.end e.left e.right) (sym c.unopened.ensures) found)

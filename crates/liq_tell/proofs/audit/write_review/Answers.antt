@@ -1,0 +1,41 @@
+use Rattle.std.proofs.Common.{Ok, Err, Result, ap, sym, subst, ◌∙◌}
+use Rattle.liq_review.specs.Reviewed.{reviewed}
+use Rattle.liq_ends.specs.declared.halts.Halt.{Halt}
+use Rattle.liq_ends.specs.declared.halts.Halt.TheVariants.{DiskFault, ReadFault}
+use Rattle.liq_tell.specs.Audit.{AuditHolds}
+use Rattle.liq_ends.specs.Causes.{WriteCause}
+use Rattle.liq_ends.specs.Telling.{WritesText}
+use Rattle.liq_tell.proofs.Audited.{audit_holds, no_cause, no_fault, not_reviewed}
+use Rattle.liq_ends.proofs.Shown.{by_sink, text_written}
+use Rattle.liq_tell.proofs.audit.write_review.Goals as goal
+
+pub returns-in-Ok-clause-written : goal.returns-in-Ok-clause-written
+returns-in-Ok-clause-written g c s is =
+    let e = c.in-Ok.ensures in (
+      text_written (reviewed c.args.commands.now) _ c.write_text.result _ _ (e.text ∙ ap Ok (sym c.deref.ensures.value)) c.write_text.ensures.ok c.write_text.ensures.err,
+      audit_holds c.write_text.result s c.args.commands.now (record { enclose = e.shares s is; within = e.within s is }),
+    )
+
+pub returns-in-Ok-clause-no_disk : goal.returns-in-Ok-clause-no_disk
+returns-in-Ok-clause-no_disk g c = by_sink _ c.write_text.result DiskFault c.write_text.ensures.err (λ e. cc)
+
+pub returns-in-Ok-clause-no_source : goal.returns-in-Ok-clause-no_source
+returns-in-Ok-clause-no_source g c = by_sink _ c.write_text.result ReadFault c.write_text.ensures.err (λ e. cc)
+
+pub returns-in-Err-clause-written : goal.returns-in-Err-clause-written
+returns-in-Err-clause-written g c s is =
+    let held = g.K.Sink.held c.args.out.now in
+    let commands = c.args.commands.now in
+    subst (λ (halt : Halt). WritesText (reviewed commands) (Err halt) held held × AuditHolds (Err halt) s commands) (sym c.halt_on.ensures)
+    (not_reviewed commands s c.args.side c.in-Err.fault held is c.in-Err.ensures.fault, tt)
+
+pub returns-in-Err-clause-no_disk : goal.returns-in-Err-clause-no_disk
+returns-in-Err-clause-no_disk g c is = (no_fault c.args.side c.in-Err.fault).0 (sym c.halt_on.ensures ∙ cc)
+
+pub returns-in-Err-clause-no_source : goal.returns-in-Err-clause-no_source
+returns-in-Err-clause-no_source g c is = (no_fault c.args.side c.in-Err.fault).1 (sym c.halt_on.ensures ∙ cc)
+
+pub returns-in-Err-clause-sink : goal.returns-in-Err-clause-sink
+returns-in-Err-clause-sink g c =
+    let count = g.K.Sink.faults c.args.out.now in
+    subst (λ (halt : Halt). let end : Result (Unit {0}) Halt = Err halt in WriteCause end count count) (sym c.halt_on.ensures) (no_cause c.args.side c.in-Err.fault count)
