@@ -3,8 +3,8 @@ use Rattle.std.specs.List.Sorted.{IsStrictlySortedBy}
 use Rattle.liq_types.specs.declared.figures.Trove.{Trove}
 use Rattle.liq_types.specs.Tables.{Table}
 use Rattle.liq_troves.specs.Kept.{AreSoundRows}
-use Rattle.liq_trove_rows.specs.declared.troves.TheConstants.{SECOND, THIRD, SUMS}
-use Rattle.liq_trove_rows.proofs.troves.made_anew.Goals as goal
+use Rattle.test_troves.specs.declared.troves.TheConstants.{SECOND, THIRD, SUMS}
+use Rattle.test_troves.proofs.troves.made_anew.Goals as goal
 
 sound : AreSoundRows ((2, SECOND) ∷ (3, THIRD) ∷ []) SUMS
 unfolding IsStrictlySortedBy
