@@ -1,5 +1,5 @@
 use Rattle.std.proofs.Common.{◌+◌, ◌-◌, ◌*◌}
-use Rattle.liq_lock_bench.proofs.plain.+at_once+fn-at_once-join+arg3.Given as goal
+use Rattle.bench.proofs.lock.plain.+at_once+fn-at_once-join+arg3.Given as goal
 
 abbrev pub decreases-at_once : goal.decreases-at_once
 decreases-at_once g l = 2 * l.threads

@@ -1,16 +1,16 @@
-//! Times a journal on a real file in the current folder: `liq_disk_bench RECORDS` prints appends a second, those of the raw
-//! loop of two writes and two syncs, and the seconds that an opening takes. With no argument it appends three records.
-#![tactic(auto)]
+//! A journal on a real file in the current folder.
 
+use crate::rate;
 use liq_journal::Journal;
 use liq_outside::FileDisk;
 use liq_types::{Call, Command};
 use liq_wire::encode;
 use std::alloc::Global;
 use std::fs::{File, Files};
+use std::io;
 use std::os::unix::fs::FileExt;
-use std::time::{Duration, Instant};
-use std::{env, io};
+use std::rt::Clock;
+use std::time::Instant;
 
 const FEW_RECORDS: u64 = 3;
 
@@ -68,42 +68,45 @@ fn written(file: &File, records: u64) -> io::Result<u64> {
     Ok(records)
 }
 
-/// How many a second that is.
-fn rate(count: u64, time: Duration) -> u128 {
-    u128::from(count) * 1_000_000_000 / time.as_nanos().max(1)
+/// A few records are appended.
+pub fn a_few<R: Print + Files<File = File>>(rt: &R) -> io::Result<()> {
+    let records = appended(file(rt, "bench.liq")?, FEW_RECORDS);
+    println!(rt; "journal: {records} records")
 }
 
-fn main(rt: HostRuntime) -> io::Result<()> {
-    let Some(records) = env::args(&rt)?
-        .nth(1)
-        .and_then(|word| word.parse::<u64>().ok())
-    else {
-        println!(rt;
-            "{} records",
-            appended(file(&rt, "bench.liq")?, FEW_RECORDS)
-        )?;
-        return Ok(());
-    };
-    let made = file(&rt, "bench.liq")?;
-    let start = Instant::now(&rt)?;
+/// Appends a second, those of the raw loop of two writes and two syncs, and how long an opening takes.
+pub fn measure<R>(rt: &R, alloc: Global, records: u64) -> io::Result<()>
+where
+    R: Print + Clock + Files<File = File>,
+{
+    appends(rt, records)?;
+    raw_writes(rt, records)?;
+    opening(rt, alloc)
+}
+
+fn appends<R: Print + Clock + Files<File = File>>(rt: &R, records: u64) -> io::Result<()> {
+    let made = file(rt, "bench.liq")?;
+    let start = Instant::now(rt)?;
     let count = appended(made, records);
-    println!(rt; "append: {} a second", rate(count, start.elapsed(&rt)?))?;
-    let raw = file(&rt, "bench.raw")?;
-    let start = Instant::now(&rt)?;
+    let time = start.elapsed(rt)?;
+    println!(rt; "append: {} a second", rate(count, time))
+}
+
+fn raw_writes<R: Print + Clock + Files<File = File>>(rt: &R, records: u64) -> io::Result<()> {
+    let raw = file(rt, "bench.raw")?;
+    let start = Instant::now(rt)?;
     let count = written(&raw, records)?;
-    println!(rt;
-        "two writes and two syncs: {} a second",
-        rate(count, start.elapsed(&rt)?)
-    )?;
+    let time = start.elapsed(rt)?;
+    println!(rt; "two writes and two syncs: {} a second", rate(count, time))
+}
+
+fn opening<R: Print + Clock + Files<File = File>>(rt: &R, alloc: Global) -> io::Result<()> {
     let found = File::options()
         .read(true)
         .write(true)
-        .open(&rt, "bench.liq")?;
-    let start = Instant::now(&rt)?;
-    let opened = opened(rt.alloc(), found);
-    println!(rt;
-        "open: {opened} records in {} us",
-        start.elapsed(&rt)?.as_micros()
-    )?;
-    Ok(())
+        .open(rt, "bench.liq")?;
+    let start = Instant::now(rt)?;
+    let opened = opened(alloc, found);
+    let time = start.elapsed(rt)?.as_micros();
+    println!(rt; "open: {opened} records in {time} us")
 }

@@ -2,7 +2,7 @@
 ghost use Rattle.std.specs.Prelude.{◌<◌};
 ghost use denote.Param.Send.{IsSync};
 
-use crate::counts::Counted;
+use super::counts::Counted;
 use std::sync::{Mutex, Wait};
 use std::thread::{Threads, join};
 

@@ -3,7 +3,7 @@ ghost use Rattle.std.specs.Prelude.{◌≡◌, ◌<◌, All};
 ghost use denote.Param.Send.{IsSync};
 ghost use Rattle.liq_lock.specs.Seats.{lock_id, seat_id};
 
-use crate::counts::Counted;
+use super::counts::Counted;
 use liq_lock::{Lock, LockSeat};
 use std::alloc::{AllocError, Global};
 use std::sync::Wait;

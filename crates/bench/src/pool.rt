@@ -1,14 +1,12 @@
-//! Times an offset of a Stability Pool with few and with many deposits: `liq_pool_bench OFFSETS` prints nanoseconds an offset
-//! for each number of deposits, and the greatest of them over the least. With no argument it makes a few offsets and prints
-//! what the pool has then.
-#![tactic(auto)]
+//! An offset of a Stability Pool with few and with many deposits.
 
 use liq_stability::Stability;
 use liq_types::NoMemory;
 use liq_types::amounts::LIM;
 use std::alloc::Global;
+use std::io;
+use std::rt::Clock;
 use std::time::Instant;
-use std::{env, io};
 
 const FEW_OFFSETS: u64 = 3;
 
@@ -52,39 +50,42 @@ fn left(alloc: Global, deposits: u32, offsets: u64) -> Result<(u64, u64), NoMemo
     Ok((pool.words().total, pool.words().coll))
 }
 
-fn main(rt: HostRuntime) -> io::Result<()> {
-    let Some(offsets) = env::args(&rt)?
-        .nth(1)
-        .and_then(|word| word.parse::<u64>().ok())
-    else {
-        for deposits in DEPOSITS {
-            match left(rt.alloc(), deposits, FEW_OFFSETS) {
-                Ok((total, coll)) => println!(rt; "{deposits} deposits: {total} {coll}")?,
-                Err(NoMemory) => println!(rt; "no memory")?,
-            }
-        }
-        return Ok(());
-    };
+/// What a pool has after a few offsets.
+pub fn a_few<R: Print>(rt: &R, alloc: Global) -> io::Result<()> {
+    for deposits in DEPOSITS {
+        let (total, coll) = left(alloc, deposits, FEW_OFFSETS).unwrap_or((0, 0));
+        println!(rt; "pool: {deposits} deposits: {total} {coll}")?;
+    }
+    Ok(())
+}
+
+/// Nanoseconds an offset for each number of deposits, and the greatest of them over the least. Where there is no memory it ends.
+pub fn measure<R: Print + Clock>(rt: &R, alloc: Global, offsets: u64) -> io::Result<()> {
     let mut least = u128::MAX;
     let mut greatest: u128 = 0;
     for deposits in DEPOSITS {
-        let Ok(mut pool) = pool_of(rt.alloc(), deposits) else {
+        let Ok(mut pool) = pool_of(alloc, deposits) else {
             return Ok(());
         };
-        let mut best = u128::MAX;
-        for _ in 0..ROUNDS {
-            let start = Instant::now(&rt)?;
-            if take_over(&mut pool, offsets).is_err() {
-                return Ok(());
-            }
-            best = best.min(start.elapsed(&rt)?.as_nanos());
-        }
+        let best = best_of(rt, &mut pool, offsets)?;
         let each = best / u128::from(offsets.max(1));
         println!(rt; "{deposits} deposits: {each} ns an offset")?;
         least = least.min(best);
         greatest = greatest.max(best);
     }
     let percent = greatest.min(LIM.into()) * 100 / least.max(1);
-    println!(rt; "greatest over least: {percent} percent")?;
-    Ok(())
+    println!(rt; "greatest over least: {percent} percent")
+}
+
+/// The least nanoseconds that so many offsets took.
+fn best_of<R: Clock>(rt: &R, pool: &mut Stability, offsets: u64) -> io::Result<u128> {
+    let mut best = u128::MAX;
+    for _ in 0..ROUNDS {
+        let start = Instant::now(rt)?;
+        if take_over(pool, offsets).is_err() {
+            return Err(io::ErrorKind::OutOfMemory.into());
+        }
+        best = best.min(start.elapsed(rt)?.as_nanos());
+    }
+    Ok(best)
 }
