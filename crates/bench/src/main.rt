@@ -1,0 +1,54 @@
+//! Measures what a word names, so many times as the count behind it says, on this machine: `num CALLS` the numbers' costly
+//! functions, `journal RECORDS` a journal on a file of the current folder, `pool OFFSETS` an offset of the Stability Pool with few
+//! and with many deposits, `lock TURNS` the lock beside a plain mutex, `serve LINES` sessions over disks in memory. With no word it
+//! does a little of each and prints what comes of it, which is the same each time.
+#![tactic(auto)]
+
+mod journal;
+mod lock;
+mod num;
+mod pool;
+mod serve;
+
+use std::alloc::Global;
+use std::fs::{File, Files};
+use std::sync::Wait;
+use std::thread::Threads;
+use std::time::Duration;
+use std::{env, io};
+
+/// How many a second that is.
+pub fn rate(count: u64, time: Duration) -> u128 {
+    u128::from(count) * 1_000_000_000 / time.as_nanos().max(1)
+}
+
+/// A little of each.
+fn a_few<R>(rt: &R, alloc: Global) -> io::Result<()>
+where
+    R: Print + Files<File = File> + Threads + Wait + Sync,
+{
+    num::a_few(rt)?;
+    journal::a_few(rt)?;
+    pool::a_few(rt, alloc)?;
+    lock::a_few(rt, alloc)?;
+    serve::a_few(rt, alloc)
+}
+
+fn main(rt: HostRuntime) -> io::Result<()> {
+    let mut words = env::args(&rt)?.skip(1);
+    let Some(word) = words.next() else {
+        return a_few(&rt, rt.alloc());
+    };
+    let count = match words.next() {
+        Some(count) => count.parse::<u64>().unwrap_or(0),
+        None => 0,
+    };
+    match word.as_str() {
+        "num" => num::measure(&rt, count),
+        "journal" => journal::measure(&rt, rt.alloc(), count),
+        "pool" => pool::measure(&rt, rt.alloc(), count),
+        "lock" => lock::measure(&rt, rt.alloc(), count),
+        "serve" => serve::measure(&rt, rt.alloc(), count),
+        _ => println!(rt; "num, journal, pool, lock or serve, and a count"),
+    }
+}
