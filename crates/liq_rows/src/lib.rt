@@ -12,8 +12,6 @@ mod disks;
 #[cfg(test)]
 mod faults;
 #[cfg(test)]
-mod full_journal;
-#[cfg(test)]
 mod limit;
 #[cfg(test)]
 mod lines;

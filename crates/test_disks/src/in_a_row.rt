@@ -4,10 +4,11 @@ ghost use Rattle.liq_wire.specs.Fields.{HasHints};
 ghost use Rattle.liq_journal.specs.Crash.{Stands};
 ghost use Rattle.liq_journal.specs.Written.{is_rotate};
 
-use crate::journals::{disk, fund};
-use crate::table;
+use crate::checks::{same, shows};
+use crate::disks;
+use crate::journals::fund;
 use liq_journal::Journal;
-use liq_outside::Disk;
+use liq_outside::{Disk, MemoryDisk};
 use liq_types::Command;
 use liq_wire::encode;
 use std::test::Fail;
@@ -34,13 +35,32 @@ fn two_records<D: Disk>(disk: D, first: &Command, second: &Command) -> Result<Jo
     }
 }
 
+// What is left of two appends in a row: how many records, and whether the disk holds these bytes.
+#[derive(Clone, Copy)]
+struct Row {
+    records: u64,
+    is_right: bool,
+}
+
+fn of_two(disk: MemoryDisk, bytes: &[u8]) -> Row {
+    match two_records(disk, &fund(1), &fund(2)) {
+        Ok(journal) => Row {
+            records: journal.records(),
+            is_right: journal.close().bytes() == bytes,
+        },
+        Err(_) => Row {
+            records: 0,
+            is_right: false,
+        },
+    }
+}
+
 #[test]
 fn a_creation_and_two_appends(rt: HostRuntime) -> Result<(), Fail> {
-    let (records, made) = match two_records(disk(rt.alloc(), &[], &[])?, &fund(1), &fund(2)) {
-        Ok(journal) => (journal.records(), journal.close()),
-        Err(made) => (0, made),
-    };
-    assert_eq!(rt; records, 2);
-    assert_eq!(rt; made.bytes(), table::two_records(rt.alloc())?.as_slice());
+    let alloc = rt.alloc();
+    let expected = disks::two_records(alloc)?;
+    let row = of_two(disks::disk(alloc, &[], &[])?, &expected);
+    same(&rt, row.records, 2, "two appends in a row");
+    shows(&rt, "their bytes", row.is_right);
     Ok(())
 }

@@ -1,4 +1,26 @@
+//! Disks in memory, and the bytes of one.
+
+use liq_outside::MemoryDisk;
 use std::alloc::{AllocError, Global};
+
+/// A disk that holds these bytes, and whose device calls of these numbers fail.
+pub fn disk(alloc: Global, bytes: &[u8], failing: &[u64]) -> Result<MemoryDisk, AllocError> {
+    Ok(MemoryDisk::new(alloc, bytes.to_vec(alloc)?, failing.to_vec(alloc)?))
+}
+
+/// The bytes with another one at a place.
+pub fn changed(alloc: Global, bytes: &[u8], at: u64, byte: u8) -> Result<Vec<u8>, AllocError> {
+    let mut bytes = bytes.to_vec(alloc)?;
+    if let Some(place) = bytes.get_mut(at as usize) {
+        *place = byte;
+    }
+    Ok(bytes)
+}
+
+/// The byte at a place.
+pub fn byte_at(bytes: &[u8], at: u64) -> u8 {
+    bytes.get(at as usize).copied().unwrap_or(0)
+}
 
 // The bytes of a journal with two records, worked out apart from the program, 32 in each row.
 const TWO_RECORDS: [&str; 10] = [
@@ -34,7 +56,7 @@ fn push_row(bytes: &mut Vec<u8>, row: &str) -> Result<(), AllocError> {
     Ok(())
 }
 
-// The bytes of a journal with two records.
+/// The bytes of a journal with two records.
 pub fn two_records(alloc: Global) -> Result<Vec<u8>, AllocError> {
     let mut bytes = Vec::new(alloc);
     for row in TWO_RECORDS {
