@@ -78,9 +78,15 @@ fn see_two<R: Wait>(rt: &R, lock: Lock<Ledger>, first: Clerk, second: Clerk) -> 
 #[test]
 fn one_entry_and_a_seat_out(rt: HostRuntime) -> Result<(), Fail> {
     let (lock, mut clerks) = open(rt.alloc(), 2, 1)?;
-    let first = clerks.pop().ok_or("a clerk")?;
-    let second = clerks.pop().ok_or("another clerk")?;
-    let seen = see_two(&rt, lock, first, second).ok_or("closed with a seat out, or still shared")?;
+    let Some(first) = clerks.pop() else {
+        return Err(Fail::from("no clerk"));
+    };
+    let Some(second) = clerks.pop() else {
+        return Err(Fail::from("no other clerk"));
+    };
+    let Some(seen) = see_two(&rt, lock, first, second) else {
+        return Err(Fail::from("closed with a seat out, or still shared"));
+    };
     same(&rt, seen.first, 1, "seen by the first");
     same(&rt, seen.second, 0, "seen by the second");
     same(&rt, u64::from(seen.shares), 1, "a seat that is out");
@@ -113,8 +119,12 @@ fn look_twice<R: Threads + Wait + Sync>(
 #[test]
 fn both_look(rt: HostRuntime) -> Result<(), Fail> {
     let (lock, mut clerks) = open(rt.alloc(), 2, 1)?;
-    let first = clerks.pop().ok_or("a clerk")?;
-    let second = clerks.pop().ok_or("another clerk")?;
+    let Some(first) = clerks.pop() else {
+        return Err(Fail::from("no clerk"));
+    };
+    let Some(second) = clerks.pop() else {
+        return Err(Fail::from("no other clerk"));
+    };
     same(
         &rt,
         look_twice(&rt, lock, first, second),
@@ -146,7 +156,9 @@ fn see_all<R: Threads + Wait + Sync>(
 #[test]
 fn eight_threads(rt: HostRuntime) -> Result<(), Fail> {
     let (lock, mut clerks) = open(rt.alloc(), THREADS, (THREADS * TIMES) as usize)?;
-    let first = clerks.pop().ok_or("a clerk")?;
+    let Some(first) = clerks.pop() else {
+        return Err(Fail::from("no clerk"));
+    };
     let (seen, odd) = see_all(&rt, lock, first, clerks);
     same(&rt, seen, 80_000, "seen by eight threads");
     same(
