@@ -96,7 +96,7 @@ fn run_on(
 // How many bytes a call takes. A reply has four, so it takes two calls.
 const MOST: usize = 3;
 
-// Whether the last line is cut where one of its five calls fails, and the status stays.
+// Whether the last line is cut where one of its five calls fails, or whole where none does, and the status stays.
 fn is_cut(alloc: Global, long: &Long, call: usize) -> Result<bool, AllocError> {
     let text = long.text.as_slice();
     let held = text.get(..4 * LINES + MOST * call).unwrap_or(text);
@@ -117,7 +117,8 @@ fn limit(rt: HostRuntime) -> Result<(), Fail> {
     let ran = run_on(alloc, &long.lines, 65_536, usize::MAX, &long.text)?;
     same(&rt, ran.status, 8, "one line more");
     shows(&rt, "the limit behind the replies", ran.is_text);
-    for call in 0..5 {
+    // Behind the last of its calls nothing fails.
+    for call in 0..6 {
         let cut = is_cut(alloc, &long, call)?;
         shows(&rt, "the last line, cut", cut);
     }
