@@ -25,6 +25,3 @@ pub use memory::{MemorySink, MemorySource};
 pub use memory_disk::MemoryDisk;
 pub use sink::Sink;
 pub use source::Source;
-
-#[cfg(test)]
-mod tests;

@@ -30,28 +30,6 @@ fn depositors_reviewed(alloc: Global, count: u32) -> Result<String, AllocError> 
     Ok(text)
 }
 
-/// One depositor, and so many troves that are offset against it, of 2.3 ether and 2,009 LUSD each.
-fn offsets(alloc: Global, count: u32) -> Result<String, AllocError> {
-    let mut calls = String::from_str(
-        alloc,
-        "fund 1 100000000000000000\nopen 1 100000000000000000 30000000000000 1000000000000000000 - -\nprovide 1 30000000000000\n",
-    )?;
-    for i in 0..count {
-        let account = 100 + i % 64;
-        if account == 100 {
-            calls.push_str("price 1000000000\n")?;
-        }
-        writeln!(
-            calls,
-            "fund {account} 2300000000\nopen {account} 2300000000 1800000000 1000000000000000000 - -"
-        )?;
-        if account == 163 || i + 1 == count {
-            calls.push_str("price 900000000\nliquidate_lowest 2 64\n")?;
-        }
-    }
-    Ok(calls)
-}
-
 /// The same collateral passes the pool so many times, 2.985 * 10^17 gwei each time.
 fn passes(alloc: Global, count: u32) -> Result<String, AllocError> {
     let mut calls = String::from_str(
@@ -84,29 +62,6 @@ fn accounts(rt: HostRuntime) -> Result<(), Fail> {
         &more,
         Err(ReviewFault::Limit { number: 1_001 }),
         "one account more",
-    )
-}
-
-#[test]
-fn counted_offsets(rt: HostRuntime) -> Result<(), Fail> {
-    let alloc = rt.alloc();
-    let most = numbered(alloc, &offsets(alloc, 10_000)?)?;
-    let text =
-        "1 9910000000000 9910000000000 9909999999999 300000001 22885000000000 22885000000000 22884999999999 3600000015\nwithin 1 of 1\n";
-    check(
-        &rt,
-        alloc,
-        &most,
-        Ok(text),
-        "as many offsets as there may be",
-    )?;
-    let more = numbered(alloc, &offsets(alloc, 10_001)?)?;
-    check(
-        &rt,
-        alloc,
-        &more,
-        Err(ReviewFault::Limit { number: 10_001 }),
-        "one offset more",
     )
 }
 

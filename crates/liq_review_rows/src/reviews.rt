@@ -28,31 +28,6 @@ const ROWS: [Row; 4] = [
     ),
 ];
 
-/// What a row shows, its lines, and the number and the code with which their replay stops.
-type StoppedRow = (&'static str, &'static str, u64, u8);
-
-const STOPPED: [StoppedRow; 4] = [
-    ("the first is out of turn", "1 2 fund 1 5\n", 1, 70),
-    (
-        "one comes again",
-        "1 1 fund 1 5\n1 2 fund 1 6\n1 2 fund 1 6\n1 3 fund 1 7\n",
-        3,
-        0,
-    ),
-    (
-        "one is refused by its verb",
-        "1 1 fund 1 5\n1 2 take 1 6\n",
-        2,
-        14,
-    ),
-    (
-        "one plans a list and is refused",
-        "1 1 fund 1 5\n2 1 liquidate_lowest 1 0\n",
-        2,
-        11,
-    ),
-];
-
 /// Stops the test where the review of these lines' commands is another.
 pub fn check<R: Abort>(
     rt: &R,
@@ -72,12 +47,6 @@ fn rows(rt: HostRuntime) -> Result<(), Fail> {
     let alloc = rt.alloc();
     for (what, calls, text) in &ROWS {
         check(&rt, alloc, &numbered(alloc, calls)?, Ok(text), what)?;
-    }
-    for (what, lines, index, code) in &STOPPED {
-        let index = *index;
-        let code = *code;
-        let stopped = ReviewFault::Refused { index, code };
-        check(&rt, alloc, lines, Err(stopped), what)?;
     }
     Ok(())
 }

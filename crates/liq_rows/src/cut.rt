@@ -71,7 +71,7 @@ fn check_call<R: Abort>(
 }
 
 /// Runs it whole, and then with each of so many last calls failing.
-pub fn check_cuts<R: Abort>(
+fn check_cuts<R: Abort>(
     rt: &R,
     alloc: Global,
     run: &Run<'_>,

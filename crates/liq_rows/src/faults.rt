@@ -3,10 +3,7 @@
 ghost use Rattle.std.specs.Prelude.{◌≤◌};
 
 use crate::runs::{RUN, run_on};
-use liq_outside::MemorySink;
-use liq_serve::without_words;
 use std::alloc::{AllocError, Global};
-use std::io::ErrorKind;
 use std::process::Abort;
 use std::test::Fail;
 
@@ -153,29 +150,6 @@ fn check_other_words<R: Abort>(rt: &R, alloc: Global, words: &[&str]) -> Result<
     let ran = run_on(alloc, words, INPUT, CHUNK, &[0], &[0])?;
     ran.check(rt, b"", 1, "lost", 0);
     Ok(())
-}
-
-// The words could not be had: the line that says why, whole and lost.
-fn check_without_words<R: Abort>(
-    rt: &R,
-    alloc: Global,
-    fault: ErrorKind,
-    line: &[u8],
-    status: u8,
-) -> Result<(), Fail> {
-    let mut sink = MemorySink::new(alloc, Vec::new(alloc));
-    assert_eq!(rt; without_words(fault, &mut sink), status);
-    assert_eq!(rt; sink.bytes(), line);
-    let mut broken = MemorySink::new(alloc, [0].to_vec(alloc)?);
-    assert_eq!(rt; without_words(fault, &mut broken), status);
-    assert_eq!(rt; broken.bytes().len(), 0);
-    Ok(())
-}
-
-#[test]
-fn no_words(rt: HostRuntime) -> Result<(), Fail> {
-    check_without_words(&rt, rt.alloc(), ErrorKind::OutOfMemory, b"no memory\n", 7)?;
-    check_without_words(&rt, rt.alloc(), ErrorKind::InvalidData, USAGE, 1)
 }
 
 #[test]

@@ -12,12 +12,6 @@ mod disks;
 #[cfg(test)]
 mod faults;
 #[cfg(test)]
-mod full_journal;
-#[cfg(test)]
-mod limit;
-#[cfg(test)]
-mod lines;
-#[cfg(test)]
 mod liquidating;
 #[cfg(test)]
 mod loads;
@@ -33,7 +27,3 @@ mod runs;
 mod small_sink;
 #[cfg(test)]
 mod tables;
-#[cfg(test)]
-mod texts;
-#[cfg(test)]
-mod words;

@@ -1,9 +1,7 @@
-//! Tests of the program with several sessions, and of its audit: what no clause says. Sessions are served at once, services come to
+//! Tests of the program with several sessions, and of its audit: what no clause says. Services come to
 //! their end, and what one word leaves on the disks another finds.
 #![tactic(auto)]
 
-#[cfg(test)]
-mod at_once;
 #[cfg(test)]
 mod auditing;
 #[cfg(test)]

@@ -1,0 +1,84 @@
+//! A store that is closed and opened again.
+
+use crate::checks::{same, shows};
+use crate::journals::fund;
+use crate::runs::{Made, funding, make_calls, run};
+use liq_outside::MemoryDisk;
+use liq_store::{Side, Store};
+use liq_types::{Answer, Command, Hint, Info, Query, Reply, Request};
+use std::alloc::Global;
+use std::test::Fail;
+
+// What a store answers to queries and to a command that comes again, and how many commands it accepted: none where those that it
+// tells are others, or stand on the other disk.
+#[derive(Clone, Copy)]
+struct Asked {
+    answers: [Answer; 5],
+    accepted: u64,
+}
+
+fn answer(store: &mut Store<MemoryDisk>, query: Query) -> Answer {
+    store.call(&Request::Ask(query), &Hint::NONE)
+}
+
+fn ask(store: &mut Store<MemoryDisk>) -> Asked {
+    let answers = [
+        answer(store, Query::Wallet(1)),
+        answer(store, Query::System),
+        answer(store, Query::Pools),
+        answer(store, Query::NextNumber(1)),
+        store.call(&funding(3), &Hint::NONE),
+    ];
+    let accepted = if are_told(store) && matches!(store.side(), Side::Left) {
+        store.protocol().records()
+    } else {
+        0
+    };
+    Asked { answers, accepted }
+}
+
+// Whether these are the three commands.
+fn are_three(commands: &[Command]) -> bool {
+    match commands {
+        [one, two, three] => *one == fund(1) && *two == fund(2) && *three == fund(3),
+        _ => false,
+    }
+}
+
+// Whether the three commands are told as accepted.
+fn are_told(store: &mut Store<MemoryDisk>) -> bool {
+    match store.accepted() {
+        Ok(commands) => are_three(&commands),
+        Err(_) => false,
+    }
+}
+
+// What is asked of a store after three commands that it accepted, where it was opened so often.
+fn ask_again(alloc: Global, made: Made) -> Asked {
+    let Made { left, right, .. } = made;
+    match Store::open(alloc, left, right) {
+        Ok(mut store) => ask(&mut store),
+        Err(_) => Asked {
+            answers: [Answer::NoMemory; 5],
+            accepted: 0,
+        },
+    }
+}
+
+const WALLET: Answer = Answer::Reply(Reply::Told(Info::Wallet {
+    coll: 30_000_000_000,
+    lusd: 0,
+}));
+
+#[test]
+fn closed_and_opened_again(rt: HostRuntime) -> Result<(), Fail> {
+    let alloc = rt.alloc();
+    let once = ask_again(alloc, run(alloc, &[], 3)?);
+    let made = run(alloc, &[], 3)?;
+    let twice = ask_again(alloc, make_calls(alloc, made.left, made.right, 0));
+    same(&rt, once.accepted, 3, "accepted");
+    same(&rt, twice.accepted, 3, "accepted, once opened again");
+    shows(&rt, "the wallet", once.answers[0] == WALLET);
+    shows(&rt, "the same answers", once.answers == twice.answers);
+    Ok(())
+}

@@ -1,0 +1,106 @@
+//! A journal of three records that is cut at each byte, and one whose bytes are changed.
+
+use crate::checks::{NOWHERE, same};
+use crate::disks::{byte_at, changed};
+use crate::found::Found;
+use crate::journals::{find_in, journal};
+use std::alloc::{AllocError, Global};
+use std::test::Fail;
+
+const HEADER: u64 = 57;
+
+const RECORD: u64 = 129;
+
+// What is found where the bytes end before a place.
+fn cut_at(at: u64) -> Found {
+    if at < HEADER {
+        Found::Absent
+    } else {
+        Found::Records((at - HEADER) / RECORD)
+    }
+}
+
+// What is found where the last bit of the byte at a place is another.
+fn changed_at(at: u64) -> Found {
+    match at {
+        0 => Found::Absent,
+        1..9 => Found::NoForm { index: 0, place: 1 },
+        9..17 => Found::NoForm { index: 0, place: 9 },
+        17..25 => Found::NoForm {
+            index: 0,
+            place: 17,
+        },
+        25..HEADER => Found::OtherDigest(0),
+        // The gate behind the last record opens nothing: no whole record stands there.
+        _ if (at - HEADER) % RECORD == 0 => Found::Records((at - HEADER) / RECORD),
+        _ => Found::OtherDigest((at - HEADER) / RECORD + 1),
+    }
+}
+
+// The first place at which a cut leaves something else.
+fn first_odd_cut(alloc: Global, bytes: &[u8], places: u64) -> Result<u64, AllocError> {
+    for at in 0..places {
+        let left = bytes.get(..at as usize).unwrap_or(bytes);
+        if find_in(alloc, left)? != cut_at(at) {
+            return Ok(at);
+        }
+    }
+    Ok(NOWHERE)
+}
+
+// What is found where the byte at a place is another.
+fn find_changed(alloc: Global, bytes: &[u8], at: u64, byte: u8) -> Result<Found, AllocError> {
+    let bytes = changed(alloc, bytes, at, byte)?;
+    find_in(alloc, &bytes)
+}
+
+// The first place at which a change leaves something else.
+fn first_odd_change(alloc: Global, bytes: &[u8], places: u64) -> Result<u64, AllocError> {
+    for at in 0..places {
+        if find_changed(alloc, bytes, at, byte_at(bytes, at) ^ 1)? != changed_at(at) {
+            return Ok(at);
+        }
+    }
+    Ok(NOWHERE)
+}
+
+#[test]
+fn a_journal_is_cut_and_changed_at_each_byte(rt: HostRuntime) -> Result<(), Fail> {
+    let alloc = rt.alloc();
+    let bytes = journal(alloc, 3)?;
+    same(&rt, bytes.len() as u64, 445, "three records");
+    let cut = first_odd_cut(alloc, &bytes, 446)?;
+    same(&rt, cut, NOWHERE, "cut at each byte");
+    let change = first_odd_change(alloc, &bytes, 445)?;
+    same(&rt, change, NOWHERE, "changed at each byte");
+    let row = first_odd_row(alloc, &bytes)?;
+    same(&rt, row, NOWHERE, "gates and fields");
+    Ok(())
+}
+
+// A place, the byte there, and what is found: gates, generation 2 on the left disk, and a name and a length that are none.
+const GATES_AND_FIELDS: [(u64, u8, Found); 6] = [
+    (315, 0, Found::Records(2)),
+    (315, 1, Found::Records(3)),
+    (315, 7, Found::Records(2)),
+    (8, 2, Found::NoForm { index: 0, place: 1 }),
+    (16, 2, Found::NoForm { index: 0, place: 9 }),
+    (
+        24,
+        2,
+        Found::NoForm {
+            index: 0,
+            place: 17,
+        },
+    ),
+];
+
+// The place of the first row that finds something else.
+fn first_odd_row(alloc: Global, bytes: &[u8]) -> Result<u64, AllocError> {
+    for (at, byte, found) in GATES_AND_FIELDS {
+        if find_changed(alloc, bytes, at, byte)? != found {
+            return Ok(at);
+        }
+    }
+    Ok(NOWHERE)
+}

@@ -1,0 +1,43 @@
+//! What is found on a disk.
+
+use liq_journal::{Damage, LookFault, OpenWhy, What};
+
+#[derive(Clone, Copy, PartialEq, Eq)]
+pub enum Found {
+    /// A journal with so many records.
+    Records(u64),
+    Absent,
+    DiskFault,
+    /// The record of this number has another digest; 0 is the header.
+    OtherDigest(u64),
+    /// A field of the record fits nothing, at this place of the disk.
+    NoForm { index: u64, place: u64 },
+    /// The rules refuse the record, with this code.
+    NoReplay { index: u64, code: u8 },
+    NoMemory,
+}
+
+pub fn of_damage(damage: &Damage) -> Found {
+    let index = damage.index;
+    match damage.what {
+        What::Digest { .. } => Found::OtherDigest(index),
+        What::Form { place } => Found::NoForm { index, place },
+        What::Replay { code } => Found::NoReplay { index, code },
+    }
+}
+
+pub fn of_look(fault: &LookFault) -> Found {
+    match fault {
+        LookFault::DiskFault => Found::DiskFault,
+        LookFault::Damaged(damage) => of_damage(damage),
+    }
+}
+
+pub fn of_opening(why: &OpenWhy) -> Found {
+    match why {
+        OpenWhy::Absent => Found::Absent,
+        OpenWhy::DiskFault => Found::DiskFault,
+        OpenWhy::Damaged(damage) => of_damage(damage),
+        OpenWhy::NoMemory => Found::NoMemory,
+    }
+}

@@ -1,0 +1,66 @@
+//! Calls in a row on one journal, each of which leaves what the next one asks for.
+ghost use Rattle.std.specs.Prelude.{◌≡◌, ◌∷◌, [], Some, false, true, List, ℕ, IfOk};
+ghost use Rattle.liq_wire.specs.Fields.{HasHints};
+ghost use Rattle.liq_journal.specs.Crash.{Stands};
+ghost use Rattle.liq_journal.specs.Written.{is_rotate};
+
+use crate::checks::{same, shows};
+use crate::disks;
+use crate::journals::fund;
+use liq_journal::Journal;
+use liq_outside::{Disk, MemoryDisk};
+use liq_types::Command;
+use liq_wire::encode;
+use std::test::Fail;
+
+// A new journal with two records, or the disk that failed. Where the disk tells its content, it is then
+// the journal of the two commands.
+fn two_records<D: Disk>(disk: D, first: &Command, second: &Command) -> Result<Journal<D>, D>
+    requires hints { HasHints first.now.call × HasHints second.now.call }
+    requires no_rotation { (is_rotate first.now.call ≡ false) × (is_rotate second.now.call ≡ false) }
+    ensures { IfOk result (λ j. (held : List ℕ) → D.seen disk ≡ Some held
+        → (after : List ℕ) × (D.seen j.disk ≡ Some after) × Stands true after (record { generation = 1; checkpoint = []; commands = first.now ∷ second.now ∷ [] })) }
+{
+    let mut journal = match Journal::create(disk, 1, &[]) {
+        Ok(journal) => journal,
+        Err(fault) => return Err(fault.disk),
+    };
+    match journal.append(&encode(first)) {
+        Ok(()) => {}
+        Err(_) => return Err(journal.close()),
+    }
+    match journal.append(&encode(second)) {
+        Ok(()) => Ok(journal),
+        Err(_) => Err(journal.close()),
+    }
+}
+
+// What is left of two appends in a row: how many records, and whether the disk holds these bytes.
+#[derive(Clone, Copy)]
+struct Row {
+    records: u64,
+    is_right: bool,
+}
+
+fn of_two(disk: MemoryDisk, bytes: &[u8]) -> Row {
+    match two_records(disk, &fund(1), &fund(2)) {
+        Ok(journal) => Row {
+            records: journal.records(),
+            is_right: journal.close().bytes() == bytes,
+        },
+        Err(_) => Row {
+            records: 0,
+            is_right: false,
+        },
+    }
+}
+
+#[test]
+fn a_creation_and_two_appends(rt: HostRuntime) -> Result<(), Fail> {
+    let alloc = rt.alloc();
+    let expected = disks::two_records(alloc)?;
+    let row = of_two(disks::disk(alloc, &[], &[])?, &expected);
+    same(&rt, row.records, 2, "two appends in a row");
+    shows(&rt, "their bytes", row.is_right);
+    Ok(())
+}

@@ -1,0 +1,256 @@
+//! Looks at a disk, and bodies of records read back.
+
+use crate::checks::{NOWHERE, same, shows};
+use crate::disks::{byte_at, changed, disk, two_records};
+use crate::files::{file, make_two};
+use crate::found::{Found, of_look};
+use crate::journals::fund;
+use liq_journal::{Journal, Look, look};
+use liq_outside::{Disk, FileDisk, MemoryDisk};
+use liq_types::{Call, Command};
+use liq_wire::encode;
+use std::alloc::{AllocError, Global};
+use std::fs;
+use std::test::Fail;
+
+// What a look at these bytes finds, where the device call of this number fails. Of a journal it tells the generation alone: 1 is
+// told as no records.
+fn look_at(alloc: Global, bytes: &[u8], odd: bool, failing: &[u64]) -> Result<Found, AllocError> {
+    let mut disk = disk(alloc, bytes, failing)?;
+    Ok(match look(&mut disk, odd) {
+        Ok(Look::Absent) => Found::Absent,
+        Ok(Look::Open { generation }) => Found::Records(generation.wrapping_sub(1)),
+        Err(fault) => of_look(&fault),
+    })
+}
+
+const OPEN: Found = Found::Records(0);
+
+// What is looked at, how many of its bytes, as the left disk's, the call that fails, and what is found. A look reads the header and
+// the length.
+const LOOKS: [(&str, usize, bool, &[u64], Found); 9] = [
+    ("a whole journal", 316, true, &[], OPEN),
+    (
+        "on the other disk",
+        316,
+        false,
+        &[],
+        Found::NoForm { index: 0, place: 9 },
+    ),
+    ("no bytes", 0, true, &[], Found::Absent),
+    ("one byte", 1, true, &[], Found::Absent),
+    ("a header cut", 56, true, &[], Found::Absent),
+    ("a header", 57, true, &[], OPEN),
+    ("the first call fails", 316, true, &[0], Found::DiskFault),
+    ("the second call fails", 316, true, &[1], Found::DiskFault),
+    ("there is no third call", 316, true, &[2], OPEN),
+];
+
+#[test]
+fn a_look_tells_the_header(rt: HostRuntime) -> Result<(), Fail> {
+    let bytes = two_records(rt.alloc())?;
+    for (what, length, odd, failing, expected) in LOOKS {
+        let part = bytes.get(..length).unwrap_or(&[]);
+        let found = look_at(rt.alloc(), part, odd, failing)?;
+        shows(&rt, what, found == expected);
+    }
+    Ok(())
+}
+
+// What a look finds where the byte at a place is another.
+fn looked_at_change(at: u64) -> Found {
+    match at {
+        0 => Found::Absent,
+        1..9 => Found::NoForm { index: 0, place: 1 },
+        9..17 => Found::NoForm { index: 0, place: 9 },
+        17..25 => Found::NoForm {
+            index: 0,
+            place: 17,
+        },
+        25..57 => Found::OtherDigest(0),
+        _ => OPEN,
+    }
+}
+
+// What a look finds where a bit of the byte at a place is another.
+fn look_at_change(alloc: Global, bytes: &[u8], at: u64) -> Result<Found, AllocError> {
+    let bytes = changed(alloc, bytes, at, byte_at(bytes, at) ^ 4)?;
+    look_at(alloc, &bytes, true, &[])
+}
+
+// The first place at which a change is told as something else.
+fn first_odd_look(alloc: Global, bytes: &[u8], places: u64) -> Result<u64, AllocError> {
+    for at in 0..places {
+        if look_at_change(alloc, bytes, at)? != looked_at_change(at) {
+            return Ok(at);
+        }
+    }
+    Ok(NOWHERE)
+}
+
+#[test]
+fn a_look_at_changed_bytes(rt: HostRuntime) -> Result<(), Fail> {
+    let bytes = two_records(rt.alloc())?;
+    let place = first_odd_look(rt.alloc(), &bytes, 316)?;
+    same(&rt, place, NOWHERE, "a look at a changed byte");
+    Ok(())
+}
+
+// The body of a record, or what is found in its place: nothing where there is no record of this number.
+fn body<D: Disk>(journal: &mut Journal<D>, index: u64) -> Result<[u8; 96], Found> {
+    if index < 1 || index > journal.records() {
+        return Err(Found::Absent);
+    }
+    match journal.body(index) {
+        Ok(body) => Ok(body),
+        Err(fault) => Err(of_look(&fault)),
+    }
+}
+
+// Whether the record has these bytes as its body.
+fn has_body<D: Disk>(journal: &mut Journal<D>, index: u64, bytes: &[u8]) -> bool {
+    match body(journal, index) {
+        Ok(body) => body.as_slice() == bytes,
+        Err(_) => false,
+    }
+}
+
+// Whether this is found in place of the record's body.
+fn has_none<D: Disk>(journal: &mut Journal<D>, index: u64, found: Found) -> bool {
+    match body(journal, index) {
+        Ok(_) => false,
+        Err(other) => other == found,
+    }
+}
+
+// What was seen in turn: how many of the looks were as they are to be, and the disk's faults.
+#[derive(Clone, Copy)]
+struct Seen {
+    right: u64,
+    faults: u64,
+}
+
+// Nothing is seen where there is no journal.
+const NOTHING: Seen = Seen {
+    right: NOWHERE,
+    faults: NOWHERE,
+};
+
+// An opening makes seven device calls where two records stand, and a body is one more. Here the eighth call fails.
+fn bodies_of_two(journal: &mut Journal<MemoryDisk>, bytes: &[u8]) -> Seen {
+    let looks = [
+        has_none(journal, 1, Found::DiskFault),
+        journal.faults() == 1,
+        has_body(journal, 1, bytes.get(58..154).unwrap_or(&[])),
+        has_body(journal, 2, bytes.get(187..283).unwrap_or(&[])),
+        has_none(journal, 3, Found::Absent),
+    ];
+    Seen {
+        right: count_true(&looks),
+        faults: journal.faults(),
+    }
+}
+
+// How many hold before the first that does not.
+fn count_true(holds: &[bool]) -> u64 {
+    holds.iter().take_while(|holds| **holds).count() as u64
+}
+
+fn see_bodies(alloc: Global, disk: MemoryDisk, bytes: &[u8]) -> Seen {
+    let Ok((mut journal, _)) = Journal::open(alloc, disk, true) else {
+        return NOTHING;
+    };
+    bodies_of_two(&mut journal, bytes)
+}
+
+#[test]
+fn bodies_are_read_back(rt: HostRuntime) -> Result<(), Fail> {
+    let bytes = two_records(rt.alloc())?;
+    let disk = disk(rt.alloc(), &bytes, &[7])?;
+    let seen = see_bodies(rt.alloc(), disk, &bytes);
+    same(&rt, seen.right, 5, "looks at bodies");
+    same(&rt, seen.faults, 1, "faults at bodies");
+    Ok(())
+}
+
+// What is found in place of the body of the journal's only record, which has these bytes.
+fn body_of_one(journal: &mut Journal<MemoryDisk>, bytes: &[u8; 96]) -> Found {
+    if journal.append(bytes).is_err() {
+        return Found::DiskFault;
+    }
+    match body(journal, 1) {
+        Ok(_) => Found::Records(1),
+        Err(found) => found,
+    }
+}
+
+// The same, on a new disk.
+fn find_body(disk: MemoryDisk, bytes: &[u8; 96]) -> Found {
+    match Journal::create(disk, 1, &[]) {
+        Ok(mut journal) => body_of_one(&mut journal, bytes),
+        Err(_) => Found::DiskFault,
+    }
+}
+
+fn no_command(alloc: Global, bytes: &[u8; 96]) -> Result<Found, AllocError> {
+    Ok(find_body(disk(alloc, &[], &[])?, bytes))
+}
+
+#[test]
+fn a_body_that_is_no_command(rt: HostRuntime) -> Result<(), Fail> {
+    let found = no_command(rt.alloc(), &[0; 96])?;
+    let form = |place| Found::NoForm { index: 1, place };
+    shows(&rt, "a body of nothing", found == form(58));
+    let rotation = encode(&Command {
+        client: 1,
+        number: 1,
+        call: Call::Rotate,
+    });
+    let found = no_command(rt.alloc(), &rotation)?;
+    shows(&rt, "a rotation", found == form(58));
+    let mut no_account = encode(&fund(1));
+    no_account[23] = 1;
+    let found = no_command(rt.alloc(), &no_account)?;
+    shows(&rt, "an account that is none", found == form(78));
+    Ok(())
+}
+
+// The bodies of two records, while the file is changed from outside. A gate that was shut since takes nothing back.
+fn bodies_behind_changes(journal: &mut Journal<FileDisk>, other: &mut FileDisk) -> Seen {
+    let one = encode(&fund(1));
+    let two = encode(&fund(2));
+    let looks = [
+        has_body(journal, 1, &one),
+        other.write_at(100, &[9]).is_ok(),
+        has_none(journal, 1, Found::OtherDigest(1)),
+        has_body(journal, 2, &two),
+        other.write_at(186, &[0]).is_ok(),
+        has_body(journal, 2, &two),
+        other.write_at(314, &[9]).is_ok(),
+        has_none(journal, 2, Found::OtherDigest(2)),
+    ];
+    Seen {
+        right: count_true(&looks),
+        faults: journal.faults(),
+    }
+}
+
+fn see_changes(alloc: Global, disk: FileDisk, other: &mut FileDisk) -> Seen {
+    let Ok((mut journal, _)) = Journal::open(alloc, disk, true) else {
+        return NOTHING;
+    };
+    bodies_behind_changes(&mut journal, other)
+}
+
+#[test]
+fn bodies_of_a_file_that_was_changed(rt: HostRuntime) -> Result<(), Fail> {
+    let alloc = rt.alloc();
+    let _ = fs::remove_file(&rt, "bodies.liq");
+    let made = make_two(alloc, file(&rt, "bodies.liq")?);
+    shows(&rt, "a journal of two bodies", made);
+    let mut other = file(&rt, "bodies.liq")?;
+    let seen = see_changes(alloc, file(&rt, "bodies.liq")?, &mut other);
+    same(&rt, seen.right, 8, "looks at bodies that change");
+    same(&rt, seen.faults, 0, "faults at bodies that change");
+    Ok(())
+}

@@ -1,0 +1,108 @@
+//! Stores over disks in memory: opened, called and closed.
+ghost use Rattle.std.specs.Prelude.{◌≡◌};
+ghost use Rattle.liq_types.specs.declared.requests.Call.TheVariants.{Fund};
+ghost use Rattle.liq_types.specs.declared.requests.Request.TheVariants.{Do};
+
+use crate::disks::disk;
+use crate::found::{Found, of_damage};
+use crate::journals::fund;
+use liq_outside::MemoryDisk;
+use liq_store::{Side, Store, StoreWhy};
+use liq_types::{Answer, Hint, Request};
+use std::alloc::{AllocError, Global};
+
+/// `1 NUMBER fund 1 10000000000`
+pub fn funding(number: u64) -> Request
+    ensures { result ≡ Do (record { client = 1; number = number; call = Fund 1 10000000000 }) }
+{
+    Request::Do(fund(number))
+}
+
+/// Two disks, and what was found on them: how many commands were accepted, or why there is no store, and whether it is the right
+/// disk that says so.
+#[derive(Drop)]
+pub struct Opened {
+    pub left: MemoryDisk,
+    pub right: MemoryDisk,
+    pub found: Found,
+    pub is_right: bool,
+}
+
+fn of_store(why: &StoreWhy) -> (Found, bool) {
+    match why {
+        StoreWhy::DiskFault => (Found::DiskFault, false),
+        StoreWhy::Damaged { side, damage } => (of_damage(damage), matches!(side, Side::Right)),
+        StoreWhy::NoMemory => (Found::NoMemory, false),
+    }
+}
+
+/// Opens the store and closes it.
+pub fn open(alloc: Global, left: MemoryDisk, right: MemoryDisk) -> Opened {
+    match Store::open(alloc, left, right) {
+        Ok(store) => {
+            let found = Found::Records(store.protocol().records());
+            let (left, right) = store.close();
+            Opened {
+                left,
+                right,
+                found,
+                is_right: false,
+            }
+        }
+        Err(fault) => {
+            let (found, is_right) = of_store(&fault.why);
+            Opened {
+                left: fault.left,
+                right: fault.right,
+                found,
+                is_right,
+            }
+        }
+    }
+}
+
+/// How many calls a run makes at most.
+pub const CALLS: u64 = 6;
+
+/// What a store answered to commands with the numbers from 1 on: none where it was not opened.
+#[derive(Drop)]
+pub struct Made {
+    pub left: MemoryDisk,
+    pub right: MemoryDisk,
+    pub answers: [Option<Answer>; 6],
+    pub stopped: Option<u64>,
+}
+
+/// Opens the store, makes so many calls and closes it.
+pub fn make_calls(alloc: Global, left: MemoryDisk, right: MemoryDisk, calls: u64) -> Made {
+    let mut answers = [None; 6];
+    match Store::open(alloc, left, right) {
+        Ok(store) => {
+            let mut store = store;
+            for before in 0..calls.min(CALLS) {
+                let answer = store.call(&funding(before + 1), &Hint::NONE);
+                answers[before as usize] = Some(answer);
+            }
+            let stopped = store.stopped();
+            let (left, right) = store.close();
+            Made {
+                left,
+                right,
+                answers,
+                stopped,
+            }
+        }
+        Err(fault) => Made {
+            left: fault.left,
+            right: fault.right,
+            answers,
+            stopped: None,
+        },
+    }
+}
+
+/// Makes so many calls on two new disks, of which the left one's device calls of these numbers fail.
+pub fn run(alloc: Global, failing: &[u64], calls: u64) -> Result<Made, AllocError> {
+    let right = disk(alloc, &[], &[])?;
+    Ok(make_calls(alloc, disk(alloc, &[], failing)?, right, calls))
+}

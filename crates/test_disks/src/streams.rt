@@ -1,0 +1,133 @@
+//! Sources and sinks: that each form works over real bytes, and that each fault is counted.
+
+use crate::checks::{same, shows};
+use liq_outside::{MemorySink, MemorySource, Sink, Source, StdSink, StdSource};
+use std::alloc::{AllocError, Global};
+use std::io::{self, ErrorKind, Read};
+use std::test::Fail;
+
+const WORD: &[u8] = b"liquidation";
+
+// What so many reads take, five bytes at most in each.
+fn take_by_fives<S: Source>(
+    alloc: Global,
+    source: &mut S,
+    reads: u8,
+) -> Result<Vec<u8>, AllocError> {
+    let mut bytes = Vec::new(alloc);
+    for _ in 0..reads {
+        let mut buf = [0; 5];
+        if let Ok(count) = source.read(&mut buf) {
+            bytes.extend_from_slice(&buf[..count])?;
+        }
+    }
+    Ok(bytes)
+}
+
+// Whether so many reads take the word.
+fn gives_the_word<S: Source>(alloc: Global, source: &mut S, reads: u8) -> Result<bool, AllocError> {
+    let bytes = take_by_fives(alloc, source, reads)?;
+    Ok(bytes.as_slice() == WORD)
+}
+
+// How many of the pieces could not be written whole.
+fn write_each<K: Sink>(sink: &mut K, pieces: &[&[u8]]) -> u64 {
+    let mut failed = 0u64;
+    for piece in pieces {
+        match sink.write(piece) {
+            Ok(count) if count == piece.len() => {}
+            _ => failed = failed.saturating_add(1),
+        }
+    }
+    failed
+}
+
+// What is seen of a source: whether it gives the word, its faults, how much is left, and whether it then gives nothing.
+#[derive(Clone, Copy)]
+struct Taken {
+    is_word: bool,
+    faults: u64,
+    left: u64,
+    is_at_end: bool,
+}
+
+fn take_from_memory(
+    alloc: Global,
+    chunk: u8,
+    reads: u8,
+    failing: &[u64],
+) -> Result<Taken, AllocError> {
+    let chunk = usize::from(chunk).max(1);
+    let mut source = MemorySource::new(WORD.to_vec(alloc)?, chunk, failing.to_vec(alloc)?);
+    let is_word = gives_the_word(alloc, &mut source, reads)?;
+    Ok(Taken {
+        is_word,
+        faults: source.faults(),
+        left: source.left().len() as u64,
+        is_at_end: matches!(source.read(&mut [0; 5]), Ok(0)),
+    })
+}
+
+#[test]
+fn a_memory_source_gives_its_bytes_in_chunks(rt: HostRuntime) -> Result<(), Fail> {
+    // Chunks of 1: eleven reads and two that fail. Chunks of 7 into five places: 5, 5 and 1.
+    for (chunk, reads, failing) in [(1, 13, [0, 3]), (7, 5, [1, 2])] {
+        let taken = take_from_memory(rt.alloc(), chunk, reads, &failing)?;
+        shows(&rt, "a source gives its bytes", taken.is_word);
+        same(&rt, taken.faults, 2, "faults of a source");
+        same(&rt, taken.left, 0, "what is left");
+        shows(&rt, "a source ends", taken.is_at_end);
+    }
+    Ok(())
+}
+
+#[test]
+fn a_memory_sink_holds_what_did_not_fail(rt: HostRuntime) -> Result<(), Fail> {
+    let alloc = rt.alloc();
+    let mut sink = MemorySink::new(alloc, [1].to_vec(alloc)?);
+    let failed = write_each(&mut sink, &[b"ab", b"cd", b"efg"]);
+    same(&rt, failed, 1, "pieces that are lost");
+    shows(
+        &rt,
+        "a sink holds the others",
+        sink.bytes() == b"abefg".as_slice(),
+    );
+    same(&rt, sink.faults(), 1, "faults of a sink");
+    Ok(())
+}
+
+#[derive(Drop)]
+struct BrokenReader;
+
+impl Read for BrokenReader {
+    fn read(&mut self, _buf: &mut [u8]) -> io::Result<usize> {
+        Err(io::Error::from(ErrorKind::Other))
+    }
+}
+
+#[test]
+fn a_reader_is_a_source(rt: HostRuntime) -> Result<(), Fail> {
+    let mut source = StdSource::new(WORD);
+    let is_word = gives_the_word(rt.alloc(), &mut source, 4)?;
+    shows(&rt, "a reader gives its bytes", is_word);
+    same(&rt, source.faults(), 0, "faults of a reader");
+    let mut broken = StdSource::new(BrokenReader);
+    shows(&rt, "a broken reader", broken.read(&mut [0; 5]).is_err());
+    same(&rt, broken.faults(), 1, "faults of a broken reader");
+    Ok(())
+}
+
+#[test]
+fn a_writer_is_a_sink(rt: HostRuntime) {
+    let mut room = [0; 4];
+    let mut sink = StdSink::new(room.as_mut_slice());
+    // The last piece finds no room, and the writer takes none of it.
+    let failed = write_each(&mut sink, &[b"ab", b"cd", b"e"]);
+    same(&rt, failed, 1, "pieces without room");
+    same(&rt, sink.faults(), 1, "faults of a writer");
+    shows(
+        &rt,
+        "a writer holds the others",
+        room.as_slice() == b"abcd".as_slice(),
+    );
+}

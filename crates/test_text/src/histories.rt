@@ -1,0 +1,162 @@
+//! Histories, and what is written of them.
+
+ghost use Rattle.std.specs.Prelude.{◌≡◌, ◌<◌, []};
+
+use crate::checks::{NOWHERE, same, shows};
+use crate::drip::Drip;
+use liq_book::Entry;
+use liq_scripts::{Outbox, Shown, write_served};
+use liq_types::{Done, Info, Query, Refusal, Reply, Request};
+use std::alloc::{AllocError, Global};
+use std::test::Fail;
+
+/// What each entry asked: it is not shown.
+const ASKED: Request = Request::Ask(Query::Pools);
+
+/// A wallet of so much.
+const fn a_wallet(session: u8, index: u32, coll: u64) -> Entry {
+    Entry {
+        session,
+        index,
+        request: ASKED,
+        reply: Reply::Told(Info::Wallet { coll, lusd: 0 }),
+    }
+}
+
+const NO_TROVE: Reply = Reply::No(Refusal::NoTrove {
+    account: 4_294_967_295,
+});
+
+const FUNDED: Reply = Reply::Said(Done {
+    kind: 3,
+    values: [0; 6],
+});
+
+const MIXED: [Entry; 6] = [
+    Entry {
+        session: 7,
+        index: 1,
+        request: ASKED,
+        reply: FUNDED,
+    },
+    Entry {
+        session: 2,
+        index: 1,
+        request: ASKED,
+        reply: NO_TROVE,
+    },
+    Entry {
+        session: 7,
+        index: 2,
+        request: ASKED,
+        reply: Reply::Told(Info::NoDeposit),
+    },
+    Entry {
+        session: 8,
+        index: 1,
+        request: ASKED,
+        reply: FUNDED,
+    },
+    Entry {
+        session: 2,
+        index: 2,
+        request: ASKED,
+        reply: FUNDED,
+    },
+    Entry {
+        session: 7,
+        index: 3,
+        request: ASKED,
+        reply: Reply::Told(Info::Next {
+            number: 18_446_744_073_709_551_615,
+        }),
+    },
+];
+
+const MIXED_OUTPUT: &[u8] =
+    b"session 2\nno 21 4294967295\nok\nsession 7\nok\nnone\n18446744073709551615\nsession 8\nok\nhistory\n7 1\n2 1\n7 2\n8 1\n2 2\n7 3\n";
+
+// Whether a sink that takes so many bytes in a call, and fails in the call of this number, holds this text then. All is written where
+// no call fails, and then alone.
+fn is_written<E: Shown>(
+    alloc: Global,
+    entries: &[E],
+    most: usize,
+    failing: usize,
+    text: &[u8],
+) -> Result<bool, AllocError>
+    requires { 0 < most }
+{
+    let mut sink = Drip::new(alloc, most, failing);
+    let mut outbox = Outbox::new(alloc)?;
+    let is_whole = write_served(entries, &mut outbox, &mut sink).is_ok();
+    Ok(is_whole == (failing == NONE) && sink.bytes() == text)
+}
+
+/// No call has this number.
+const NONE: usize = usize::MAX;
+
+// The first call at which a sink of one byte holds something else, where that call fails.
+fn first_odd_call(alloc: Global) -> Result<u64, AllocError> {
+    for call in 0..MIXED_OUTPUT.len() {
+        let text = MIXED_OUTPUT.get(..call).unwrap_or(b"");
+        if !is_written(alloc, &MIXED, 1, call, text)? {
+            return Ok(call as u64);
+        }
+    }
+    Ok(NOWHERE)
+}
+
+#[test]
+fn served(rt: HostRuntime) -> Result<(), Fail> {
+    let alloc = rt.alloc();
+    let entries: [Entry; 0] = [];
+    let nothing = is_written(alloc, &entries, 1, NONE, b"history\n")?;
+    shows(&rt, "a history of nothing", nothing);
+    let by_bytes = is_written(alloc, &MIXED, 1, NONE, MIXED_OUTPUT)?;
+    shows(&rt, "a mixed history, byte by byte", by_bytes);
+    let at_once = is_written(alloc, &MIXED, 4_096, NONE, MIXED_OUTPUT)?;
+    shows(&rt, "a mixed history, at once", at_once);
+    let call = first_odd_call(alloc)?;
+    same(&rt, call, NOWHERE, "a call that fails");
+    Ok(())
+}
+
+/// A long history of session 5, and what is written of it.
+#[derive(Drop)]
+struct Long {
+    entries: Vec<Entry>,
+    text: String,
+}
+
+// Appends so many entries, their replies, and then their places.
+fn put_long(long: &mut Long, most: u32) -> Result<(), AllocError> {
+    long.text.push_str("session 5\n")?;
+    for index in 1..most {
+        long.entries.push(a_wallet(5, index, 999_999_999_999))?;
+        long.text.push_str("999999999999 0\n")?;
+    }
+    long.text.push_str("history\n")?;
+    for index in 1..most {
+        writeln!(long.text, "5 {index}")?;
+    }
+    Ok(())
+}
+
+// Whether such a history is written so.
+fn long_is_written(alloc: Global) -> Result<bool, AllocError> {
+    let mut long = Long {
+        entries: Vec::new(alloc),
+        text: String::new(alloc),
+    };
+    put_long(&mut long, 5_001)?;
+    is_written(alloc, &long.entries, 1_000, NONE, long.text.as_bytes())
+}
+
+/// More than waits at once: one session with so many lines that some are written before the others.
+#[test]
+fn served_in_pieces(rt: HostRuntime) -> Result<(), Fail> {
+    let written = long_is_written(rt.alloc())?;
+    shows(&rt, "five thousand entries", written);
+    Ok(())
+}

@@ -1,0 +1,40 @@
+//! The words of the command line could not be had.
+
+use crate::checks::{same, shows};
+use liq_outside::MemorySink;
+use liq_serve::without_words;
+use std::alloc::{AllocError, Global};
+use std::io::ErrorKind;
+use std::test::Fail;
+
+const USAGE: &[u8] = b"usage: liq run, serve, state, audit or gen SEED COUNT\n";
+
+// The status, and whether the sink, whose writes of these numbers fail, holds these bytes then.
+fn told(
+    alloc: Global,
+    fault: ErrorKind,
+    failing: &[u64],
+    line: &[u8],
+) -> Result<(u64, bool), AllocError> {
+    let mut sink = MemorySink::new(alloc, failing.to_vec(alloc)?);
+    let status = without_words(fault, &mut sink);
+    Ok((u64::from(status), sink.bytes() == line))
+}
+
+// The line that says why, whole and lost.
+#[test]
+fn no_words(rt: HostRuntime) -> Result<(), Fail> {
+    let alloc = rt.alloc();
+    for (fault, line, expected) in [
+        (ErrorKind::OutOfMemory, b"no memory\n".as_slice(), 7),
+        (ErrorKind::InvalidData, USAGE, 1),
+    ] {
+        let (status, is_line) = told(alloc, fault, &[], line)?;
+        same(&rt, status, expected, "without words");
+        shows(&rt, "the line that says why", is_line);
+        let (status, is_nothing) = told(alloc, fault, &[0], b"")?;
+        same(&rt, status, expected, "the line is lost");
+        shows(&rt, "nothing is written", is_nothing);
+    }
+    Ok(())
+}
