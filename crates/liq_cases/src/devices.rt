@@ -1,0 +1,125 @@
+//! What one run meets, and what it leaves.
+
+ghost use Rattle.std.specs.Prelude.{◌≡◌, IsTrue, codes, map};
+ghost use Rattle.std.specs.String.{string_bytes};
+ghost use Rattle.liq_words.specs.declared.words.Word.{Word};
+ghost use Rattle.liq_words.specs.Words.{Ask};
+
+use crate::sink::SmallSink;
+use liq_outside::{MemoryDisk, MemorySource};
+use liq_serve::{Ended, OpenGate, protocol, without_threads};
+use std::alloc::{AllocError, Global};
+use std::sync::Wait;
+use std::thread::Threads;
+
+/// What a run meets: its words, its input, how many bytes a read gives and a write takes, what the disks hold, and which calls fail.
+#[derive(Clone, Copy)]
+pub struct Devices<'a> {
+    pub words: &'a [String],
+    pub input: &'a [u8],
+    pub read: u64,
+    pub write: u64,
+    pub left: &'a [u8],
+    pub right: &'a [u8],
+    pub source_fails: &'a [u64],
+    pub sink_fails: &'a [u64],
+    pub left_fails: &'a [u64],
+    pub right_fails: &'a [u64],
+}
+
+/// What a run leaves.
+#[derive(Drop)]
+pub struct Outcome {
+    pub ended: Ended<MemoryDisk>,
+    pub source: MemorySource,
+    pub sink: SmallSink,
+}
+
+/// The streams and the disks of a run.
+#[derive(Drop)]
+struct Made {
+    source: MemorySource,
+    sink: SmallSink,
+    left: MemoryDisk,
+    right: MemoryDisk,
+}
+
+/// A disk that holds these bytes, and whose calls of these numbers fail.
+pub fn disk(alloc: Global, bytes: &[u8], failing: &[u64]) -> Result<MemoryDisk, AllocError> {
+    Ok(MemoryDisk::new(alloc, bytes.to_vec(alloc)?, failing.to_vec(alloc)?))
+}
+
+fn make(alloc: Global, devices: &Devices<'_>) -> Result<Made, AllocError> {
+    let read = (devices.read as usize).max(1);
+    let write = (devices.write as usize).max(1);
+    let input = devices.input.to_vec(alloc)?;
+    Ok(Made {
+        source: MemorySource::new(input, read, devices.source_fails.to_vec(alloc)?),
+        sink: SmallSink::new(alloc, write, devices.sink_fails.to_vec(alloc)?),
+        left: disk(alloc, devices.left, devices.left_fails)?,
+        right: disk(alloc, devices.right, devices.right_fails)?,
+    })
+}
+
+fn is_serve(word: &str) -> bool
+    ensures { word.now ≡ codes "serve" → IsTrue result }
+{
+    matches!(word, "serve")
+}
+
+/// Whether the words ask for sessions, which want threads.
+pub fn are_serve(words: &[String]) -> bool
+    ensures { Ask (map string_bytes words.now) Word.Serve → IsTrue result }
+{
+    match words {
+        [word] => is_serve(word),
+        _ => false,
+    }
+}
+
+/// A run by the call with threads.
+pub fn by_protocol<R: Threads + Wait + Sync>(
+    rt: &R,
+    alloc: Global,
+    devices: &Devices<'_>,
+) -> Result<Outcome, AllocError> {
+    let Made {
+        mut source,
+        mut sink,
+        left,
+        right,
+    } = make(alloc, devices)?;
+    let ended = protocol(
+        rt,
+        alloc,
+        &OpenGate,
+        devices.words,
+        &mut source,
+        &mut sink,
+        left,
+        right,
+    );
+    Ok(Outcome {
+        ended,
+        source,
+        sink,
+    })
+}
+
+/// A run by the call without threads, of words that do not ask for sessions.
+pub fn by_one_thread(alloc: Global, devices: &Devices<'_>) -> Result<Outcome, AllocError>
+    requires { Ask (map string_bytes devices.now.words.now) Word.Serve → ⊥ }
+{
+    let Made {
+        mut source,
+        mut sink,
+        left,
+        right,
+    } = make(alloc, devices)?;
+    let ended = without_threads(alloc, devices.words, &mut source, &mut sink, left, right);
+    Ok(Outcome {
+        ended,
+        source,
+        sink,
+    })
+}

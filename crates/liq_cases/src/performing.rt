@@ -1,0 +1,97 @@
+//! A run as it is written, made and compared.
+
+use crate::devices::{Devices, Outcome, are_serve};
+use crate::facts::check_facts;
+use crate::lines::Lines;
+use crate::run::{Asked, Run, Start};
+use crate::runs::run_by_both;
+use crate::sessions::check_served;
+use crate::sweeps::{sweep_disk, sweep_sink, sweep_source};
+use crate::told::{At, Told};
+use liq_outside::MemoryDisk;
+use liq_serve::Ended;
+use std::alloc::{AllocError, Global};
+use std::sync::Wait;
+use std::thread::Threads;
+
+/// A run that is to be made, and what the disks hold where it begins.
+#[derive(Drop)]
+pub struct Stage<'a> {
+    pub alloc: Global,
+    pub run: &'a Run,
+    pub start: &'a Start,
+}
+
+/// Makes a run's sweeps, and then the run for each of its sizes. The disks are those that the last size left.
+pub fn perform<R: Threads + Wait + Sync>(
+    rt: &R,
+    stage: &Stage<'_>,
+    told: &mut Told,
+) -> Result<Option<Ended<MemoryDisk>>, AllocError> {
+    for asked in &stage.run.sweeps {
+        match *asked {
+            Asked::Source => sweep_source(rt, stage, told)?,
+            Asked::Sink => sweep_sink(rt, stage, told)?,
+            Asked::Disk(side, first, last) => sweep_disk(rt, stage, told, side, first, last)?,
+        }
+    }
+    told.replies = told.replies.saturating_add(stage.run.lines.replies);
+    let mut last = None;
+    for read in &stage.run.reads {
+        for write in &stage.run.writes {
+            let outcome = make_once(rt, stage, told, *read, *write)?;
+            check_facts(told, stage.run, stage.start, &outcome);
+            last = Some(outcome.ended);
+        }
+    }
+    Ok(last)
+}
+
+/// What a run at a read and a write of these sizes leaves, once it is compared with what stands in the file.
+pub fn make_once<R: Threads + Wait + Sync>(
+    rt: &R,
+    stage: &Stage<'_>,
+    told: &mut Told,
+    read: u64,
+    write: u64,
+) -> Result<Outcome, AllocError> {
+    told.at = At::line(stage.run.line);
+    let devices = Devices {
+        read,
+        write,
+        ..stage.run.devices(stage.start)
+    };
+    let outcome = run_by_both(rt, stage.alloc, told, &devices)?;
+    check(rt, stage, told, &outcome)?;
+    Ok(outcome)
+}
+
+/// Tells where a run's status or its output is another one.
+pub fn check<R: Threads + Wait + Sync>(
+    rt: &R,
+    stage: &Stage<'_>,
+    told: &mut Told,
+    outcome: &Outcome,
+) -> Result<(), AllocError> {
+    let run = stage.run;
+    told.number(
+        "status",
+        u64::from(run.status),
+        u64::from(outcome.ended.status),
+    );
+    if run.status == 0 && are_serve(&run.words) {
+        check_served(rt, stage, told, &outcome.sink.bytes)
+    } else {
+        check_output(told, &run.lines, &outcome.sink.bytes);
+        Ok(())
+    }
+}
+
+/// Tells the first line that went out otherwise.
+fn check_output(told: &mut Told, lines: &Lines, came: &[u8]) {
+    if came != lines.output.as_slice() {
+        let difference = lines.difference(came);
+        told.at.line = difference.line.unwrap_or(told.at.line);
+        told.bytes("output", difference.wanted, difference.came);
+    }
+}

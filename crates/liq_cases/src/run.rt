@@ -1,0 +1,120 @@
+//! A run as it is written in a file.
+
+use crate::devices::Devices;
+use crate::facts::Fact;
+use crate::lines::Lines;
+use std::alloc::{AllocError, Global};
+
+/// How many bytes a read gives at most, where no other number is written.
+pub const READ: u64 = 16_384;
+
+/// No fewer bytes than any write has.
+pub const ALL: u64 = 1 << 32;
+
+/// A run as it is written.
+#[derive(Drop)]
+pub struct Run {
+    /// The line of the file at which it begins.
+    pub line: usize,
+    pub words: Vec<String>,
+    pub lines: Lines,
+    pub status: u8,
+    /// How many bytes a read gives at most; there is a run for each.
+    pub reads: Vec<u64>,
+    /// How many bytes a write takes at most; there is a run for each.
+    pub writes: Vec<u64>,
+    pub failing: Failing,
+    pub facts: Vec<Fact>,
+    pub sweeps: Vec<Asked>,
+    pub legal: bool,
+}
+
+/// Which calls fail, counted from 0.
+#[derive(Drop)]
+pub struct Failing {
+    pub source: Vec<u64>,
+    pub sink: Vec<u64>,
+    pub left: Vec<u64>,
+    pub right: Vec<u64>,
+}
+
+/// A sweep that is asked for. Those of disks have the numbers of the first call that fails and of the last one.
+#[derive(Clone, Copy)]
+pub enum Asked {
+    Source,
+    Sink,
+    Disk(Side, u64, u64),
+}
+
+/// One of the two disks.
+#[derive(Clone, Copy)]
+pub enum Side {
+    Left,
+    Right,
+}
+
+/// What both disks hold where a run begins.
+#[derive(Drop)]
+pub struct Start {
+    pub left: Vec<u8>,
+    pub right: Vec<u8>,
+}
+
+impl Run {
+    /// A run without words and lines.
+    pub fn new(alloc: Global, line: usize) -> Run {
+        Run {
+            line,
+            words: Vec::new(alloc),
+            lines: Lines::new(alloc),
+            status: 0,
+            reads: Vec::new(alloc),
+            writes: Vec::new(alloc),
+            failing: Failing {
+                source: Vec::new(alloc),
+                sink: Vec::new(alloc),
+                left: Vec::new(alloc),
+                right: Vec::new(alloc),
+            },
+            facts: Vec::new(alloc),
+            sweeps: Vec::new(alloc),
+            legal: false,
+        }
+    }
+
+    /// What it meets at reads and writes of the first sizes.
+    pub fn devices<'a>(&'a self, start: &'a Start) -> Devices<'a> {
+        Devices {
+            source_fails: &self.failing.source,
+            sink_fails: &self.failing.sink,
+            left_fails: &self.failing.left,
+            right_fails: &self.failing.right,
+            ..self.unfailing(start)
+        }
+    }
+
+    /// The same where no call fails.
+    pub fn unfailing<'a>(&'a self, start: &'a Start) -> Devices<'a> {
+        Devices {
+            words: &self.words,
+            input: &self.lines.input,
+            read: self.reads.first().copied().unwrap_or(READ),
+            write: self.writes.first().copied().unwrap_or(ALL),
+            left: &start.left,
+            right: &start.right,
+            source_fails: &[],
+            sink_fails: &[],
+            left_fails: &[],
+            right_fails: &[],
+        }
+    }
+}
+
+/// The words of a command line. Two quotes stand for a word without letters.
+pub fn put_words(alloc: Global, words: &mut Vec<String>, texts: &[&str]) -> Result<(), AllocError> {
+    for text in texts {
+        let word = if *text == "''" { "" } else { *text };
+        words.push(String::from_str(alloc, word)?)?;
+    }
+    Ok(())
+}
