@@ -5,7 +5,7 @@ use liq_num::{mul_div, mul_div_up};
 use liq_types::PoolEvent;
 
 /// Whole numbers between which an account's exact share lies: the balance in micro-LUSD, the gain in gwei.
-#[derive(Clone, Copy, Debug, PartialEq, Eq)]
+#[derive(Clone, Copy)]
 pub struct Enclosure {
     pub balance_lo: u128,
     pub balance_hi: u128,

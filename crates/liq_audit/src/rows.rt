@@ -5,7 +5,7 @@ pub const OFFSETS_MOST: u64 = 10_000;
 pub const ACCOUNTS_MOST: u64 = 1_000;
 
 /// What the protocol gives an account: its balance in micro-LUSD, and in gwei what it gained, paid out or not.
-#[derive(Clone, Copy, Debug, PartialEq, Eq)]
+#[derive(Clone, Copy)]
 pub struct EngineRow {
     pub account: u32,
     pub balance: u64,
@@ -13,7 +13,7 @@ pub struct EngineRow {
 }
 
 /// An account's exact share between whole numbers, and what the protocol gives it. Balances are in micro-LUSD, gains in gwei.
-#[derive(Clone, Copy, Debug, PartialEq, Eq)]
+#[derive(Clone, Copy)]
 pub struct Row {
     pub account: u32,
     /// The exact balance is not below this,
@@ -35,7 +35,7 @@ pub struct Row {
 }
 
 /// Why there is no audit.
-#[derive(Clone, Copy, Debug, Drop, PartialEq, Eq)]
+#[derive(Clone, Copy, Drop)]
 pub enum AuditFault {
     /// There are more offsets than [`OFFSETS_MOST`], or else more accounts than [`ACCOUNTS_MOST`].
     AuditLimit { count: u64, limit: u64 },

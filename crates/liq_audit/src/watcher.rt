@@ -10,7 +10,7 @@ use liq_types::PoolEvent;
 const STEP: u64 = 1_000_000_000;
 
 /// What an account's allowance is made of.
-#[derive(Clone, Copy, Debug, PartialEq, Eq)]
+#[derive(Clone, Copy)]
 pub struct Watcher {
     /// The scale and the epoch of now.
     pub scale: u64,

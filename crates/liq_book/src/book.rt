@@ -18,7 +18,7 @@ use std::alloc::Global;
 use std::marker::{Model, PhantomData};
 
 /// Entries in their order. Contracts see the list of them.
-#[derive(Debug, Drop)]
+#[derive(Drop)]
 pub struct History {
     list: Vec<Entry>,
 }

@@ -6,7 +6,7 @@ use liq_types::{Entry, Request};
 pub const ENTRIES_MOST: usize = 1_000_000;
 
 /// The end of a service: the call that met a fault of a disk.
-#[derive(Clone, Copy, Debug, PartialEq, Eq)]
+#[derive(Clone, Copy)]
 pub struct Halt {
     pub session: u8,
     pub request: Request,
@@ -15,7 +15,7 @@ pub struct Halt {
 }
 
 /// What the chronicle of a book has: entries, and behind them the halt, once there is one.
-#[derive(Clone, Copy, Debug, PartialEq, Eq)]
+#[derive(Clone, Copy)]
 pub enum Item {
     Entry(Entry),
     Halt(Halt),

@@ -1,7 +1,7 @@
 use liq_rate::Rate;
 
 /// What an owner asks of a trove. Collateral is in gwei, LUSD in micro-LUSD.
-#[derive(Clone, Copy, Debug, PartialEq, Eq)]
+#[derive(Clone, Copy)]
 pub struct Change {
     pub coll_in: u64,
     pub coll_out: u64,
@@ -10,7 +10,7 @@ pub struct Change {
 }
 
 /// What a borrowing makes of a trove, and of the base rate.
-#[derive(Clone, Copy, Debug, PartialEq, Eq)]
+#[derive(Clone, Copy)]
 pub struct Plan {
     /// The trove's collateral after it, in gwei.
     pub coll: u64,

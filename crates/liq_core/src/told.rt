@@ -6,7 +6,7 @@ ghost use Rattle.liq_core.specs.Told.{events_in, changes_in, told_of};
 use liq_types::{ListChange, PoolEvent};
 
 /// What a command does to the Stability Pool. A single event takes no memory.
-#[derive(Debug, Drop)]
+#[derive(Drop)]
 pub(crate) enum PoolEvents {
     Nothing,
     One([PoolEvent; 1]),
@@ -36,7 +36,7 @@ impl PoolEvents {
 }
 
 /// What a command does to the ordered list. One change or two take no memory.
-#[derive(Debug, Drop)]
+#[derive(Drop)]
 pub(crate) enum ListChanges {
     Nothing,
     One([ListChange; 1]),

@@ -14,7 +14,7 @@ use liq_types::{Command, Done, ListChange, PoolEvent, Refusal};
 use std::marker::Model;
 
 /// What a planned call makes of what it changes, where its words alone do not say it.
-#[derive(Debug, Drop)]
+#[derive(Drop)]
 pub(crate) enum Terms {
     /// The words say all.
     Words,
@@ -77,7 +77,7 @@ impl Terms {
 }
 
 /// What an allowed call comes to: its reply, what it makes of what it changes, and what others follow.
-#[derive(Debug, Drop)]
+#[derive(Drop)]
 pub(crate) struct Forecast {
     pub(crate) done: Done,
     pub(crate) terms: Terms,
@@ -100,7 +100,7 @@ impl Forecast {
 }
 
 /// A command that will be accepted, with its reply. It holds for the protocol that planned it, as long as that stays.
-#[derive(Debug, Drop)]
+#[derive(Drop)]
 pub struct Planned {
     pub(crate) command: Command,
     pub(crate) forecast: Forecast,
@@ -140,7 +140,7 @@ impl Planned {
 }
 
 /// What becomes of a command that is not refused.
-#[derive(Debug, Drop)]
+#[derive(Drop)]
 pub enum Turn {
     /// It was accepted before, and this is the reply that was kept. It changes nothing.
     Again(Done),
@@ -149,7 +149,7 @@ pub enum Turn {
 }
 
 /// Why a command cannot be planned. Nothing has changed.
-#[derive(Debug, Drop)]
+#[derive(Drop)]
 pub enum PlanFault {
     No(Refusal),
     NoMemory,

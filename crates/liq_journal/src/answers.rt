@@ -3,7 +3,7 @@ use crate::damage::Damage;
 use liq_outside::Failed;
 
 /// A device call failed in this call.
-#[derive(Clone, Copy, Debug, PartialEq, Eq)]
+#[derive(Clone, Copy)]
 pub struct DiskFault;
 
 impl From<Failed> for DiskFault {
@@ -13,7 +13,7 @@ impl From<Failed> for DiskFault {
 }
 
 /// What a look at a disk tells.
-#[derive(Clone, Copy, Debug, PartialEq, Eq)]
+#[derive(Clone, Copy)]
 pub enum Look {
     /// No journal is open on it: it has fewer bytes than a header, or its gate isn't open.
     Absent,
@@ -21,20 +21,20 @@ pub enum Look {
 }
 
 /// Why a disk could not be looked at, or a record not be read.
-#[derive(Clone, Copy, Debug, PartialEq, Eq)]
+#[derive(Clone, Copy)]
 pub enum LookFault {
     DiskFault,
     Damaged(Damage),
 }
 
 /// The disk met a fault while a journal was created on it.
-#[derive(Debug, Drop)]
+#[derive(Drop)]
 pub struct CreateFault<D> {
     pub disk: D,
 }
 
 /// Why no journal was opened.
-#[derive(Clone, Copy, Debug, PartialEq, Eq)]
+#[derive(Clone, Copy)]
 pub enum OpenWhy {
     /// There is none: the disk has fewer bytes than a header, or its gate isn't open.
     Absent,
@@ -44,7 +44,7 @@ pub enum OpenWhy {
 }
 
 /// No journal was opened, and the disk is handed back.
-#[derive(Debug, Drop)]
+#[derive(Drop)]
 pub struct OpenFault<D> {
     pub disk: D,
     pub why: OpenWhy,

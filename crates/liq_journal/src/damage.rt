@@ -1,14 +1,14 @@
 // Where and how a disk is damaged.
 
 /// The first fault of a damaged disk.
-#[derive(Clone, Copy, Debug, PartialEq, Eq)]
+#[derive(Clone, Copy)]
 pub struct Damage {
     /// The number of the damaged record; 0 is the header with its checkpoint.
     pub index: u64,
     pub what: What,
 }
 
-#[derive(Clone, Copy, Debug, PartialEq, Eq)]
+#[derive(Clone, Copy)]
 pub enum What {
     /// The bytes have another digest than the one that is stored behind them.
     Digest {

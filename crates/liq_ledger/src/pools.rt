@@ -1,7 +1,7 @@
 //! What the pools hold.
 
 /// What each pool holds. Collateral is in gwei, debt and LUSD in micro-LUSD.
-#[derive(Clone, Copy, Debug, PartialEq, Eq)]
+#[derive(Clone, Copy)]
 pub struct Pools {
     /// What the troves have as of their owners' last operations.
     pub active_coll: u64,

@@ -15,7 +15,7 @@ use liq_types::{Market, NoMemory, Refusal};
 use std::alloc::Global;
 
 /// Why no lowest troves are liquidated.
-#[derive(Debug, Drop)]
+#[derive(Drop)]
 pub enum LowestFault {
     /// The first of them may not be liquidated.
     No(Refusal),

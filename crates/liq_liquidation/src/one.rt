@@ -1,5 +1,5 @@
 /// What becomes of a liquidated trove. Collateral is in gwei, debt in micro-LUSD.
-#[derive(Clone, Copy, Debug, PartialEq, Eq)]
+#[derive(Clone, Copy)]
 pub struct One {
     /// Collateral for the liquidator.
     pub gas: u64,
@@ -16,7 +16,7 @@ pub struct One {
 }
 
 /// A trove that is liquidated, and what becomes of it.
-#[derive(Clone, Copy, Debug, PartialEq, Eq)]
+#[derive(Clone, Copy)]
 pub struct Victim {
     pub account: u32,
     pub one: One,

@@ -11,8 +11,8 @@ ghost use Rattle.liq_words.specs.declared.words.TheConstants.{COUNT_MOST};
 ghost use Rattle.liq_load.specs.Load.{AreWithin, counts, is_offset, load, next_command, plus, told};
 
 use liq_core::laws::protocols_stand;
-use liq_rules::laws::commands_make_few_events;
 use liq_core::{PlanFault, Protocol, Turn};
+use liq_rules::laws::commands_make_few_events;
 use liq_sessions::generate;
 use liq_types::{Call, Command, Hint, Info, NoMemory, PoolEvent, Query, Reply, Steps};
 use std::alloc::Global;

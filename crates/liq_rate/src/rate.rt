@@ -8,7 +8,7 @@ use liq_num::{dec_pow, mul_div};
 use liq_types::amounts::{DECAY, FLOOR_RATE, MAX_BORROW_RATE, ONE};
 
 /// The base rate and the minute as of which it holds.
-#[derive(Clone, Copy, Debug, PartialEq, Eq)]
+#[derive(Clone, Copy)]
 pub struct Rate {
     /// Over 10^18, at most the whole.
     pub base: u64,

@@ -1,5 +1,5 @@
 /// What a redemption takes of a trove.
-#[derive(Clone, Copy, Debug, PartialEq, Eq)]
+#[derive(Clone, Copy)]
 pub struct Cut {
     pub account: u32,
     /// Debt that is redeemed, in micro-LUSD.

@@ -9,7 +9,7 @@ use std::alloc::Global;
 use std::marker::Model;
 
 /// The cuts of a redemption, in the order in which the troves are visited.
-#[derive(Debug, Drop)]
+#[derive(Drop)]
 pub struct Cuts {
     list: Vec<Cut>,
 }

@@ -5,7 +5,7 @@ ghost use Rattle.std.specs.Prelude.{◌≡◌};
 use liq_types::{NoMemory, Refusal};
 
 /// Why a redemption cannot be planned. Nothing has changed.
-#[derive(Debug, Drop, PartialEq)]
+#[derive(Drop)]
 pub enum RedeemFault {
     /// It is refused.
     No(Refusal),

@@ -19,7 +19,7 @@ use liq_types::{Market, Refusal, Wallet};
 use std::alloc::Global;
 
 /// What a redemption takes of each trove, and what it comes to.
-#[derive(Debug, Drop)]
+#[derive(Drop)]
 pub struct RedeemPlan {
     pub cuts: Cuts,
     /// The LUSD that is redeemed, in micro-LUSD.

@@ -10,7 +10,7 @@ use liq_troves::{Troves, entire};
 use liq_types::amounts::{MCR, RESERVE};
 
 /// A trove on the way of a redemption, with its entire amounts.
-#[derive(Clone, Copy, Debug)]
+#[derive(Clone, Copy)]
 pub struct Visit {
     pub account: u32,
     /// Gwei.

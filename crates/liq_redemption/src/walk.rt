@@ -19,7 +19,7 @@ use liq_types::amounts::MIN_NET;
 use std::alloc::Global;
 
 /// How far a redemption has come.
-#[derive(Debug, Drop)]
+#[derive(Drop)]
 pub struct Walk {
     pub cuts: Cuts,
     /// What is still to be redeemed, in micro-LUSD.

@@ -7,7 +7,7 @@ use liq_types::NoMemory;
 use std::alloc::AllocError;
 
 /// Why a list of commands has no review.
-#[derive(Clone, Copy, Debug, PartialEq, Eq)]
+#[derive(Clone, Copy)]
 pub enum ReviewFault {
     /// The command of this number, from 1, is refused with this code; or it is a repetition, and the code is 0.
     Refused { index: u64, code: u8 },

@@ -5,7 +5,7 @@ ghost use Rattle.std.specs.Prelude.{◌≡◌};
 use liq_types::NoMemory;
 
 /// Why the scripts were not read to the source's end.
-#[derive(Clone, Copy, Debug, PartialEq, Eq)]
+#[derive(Clone, Copy)]
 pub enum Stop {
     /// The line of this number asks nothing: it spells no session from 1 to 8 and request, or one that the protocol has not yet.
     BadLine(u64),

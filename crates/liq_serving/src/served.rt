@@ -8,7 +8,7 @@ use liq_book::{Closed, Halt, History, Origin};
 use liq_outside::Disk;
 
 /// How a service ended.
-#[derive(Clone, Copy, Debug, PartialEq, Eq)]
+#[derive(Clone, Copy)]
 pub enum End {
     /// Each request of each script got a reply.
     All,

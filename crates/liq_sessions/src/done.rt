@@ -18,7 +18,7 @@ where
 }
 
 /// Replies in the order of their requests. Contracts see the list of them.
-#[derive(Debug, Drop)]
+#[derive(Drop)]
 pub struct Replies {
     list: Vec<Reply>,
 }
@@ -49,7 +49,7 @@ impl Replies {
 }
 
 /// How a session ended.
-#[derive(Clone, Copy, Debug, PartialEq, Eq)]
+#[derive(Clone, Copy)]
 pub enum SessionEnd {
     /// Each request of its script got a reply.
     All,

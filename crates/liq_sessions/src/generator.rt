@@ -18,7 +18,7 @@ const PREAMBLE: u64 = 3 * OWNERS;
 const LIQUIDATOR: u32 = 1000;
 
 /// Calls that a seed determines, one after the other. Contracts see the list of those that are still to come.
-#[derive(Clone, Debug, Drop)]
+#[derive(Clone, Drop)]
 pub struct Generator {
     state: u64,
     /// How many calls of the preamble came.

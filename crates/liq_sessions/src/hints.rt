@@ -5,7 +5,7 @@ ghost use Rattle.std.specs.Prelude.{◌≡◌, None};
 use liq_types::{Hint, Hinter, Request};
 
 /// Finds no hint: both sides are absent, of version 0.
-#[derive(Clone, Copy, Debug, PartialEq, Eq)]
+#[derive(Clone, Copy)]
 pub struct NoHints;
 
 impl Hinter for NoHints {

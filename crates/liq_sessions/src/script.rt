@@ -10,7 +10,7 @@ use std::marker::Model;
 pub const REQUESTS_MOST: usize = 1_000_000;
 
 /// Requests in the order in which they are asked. Contracts see the list of them.
-#[derive(Debug, Drop)]
+#[derive(Drop)]
 pub struct Requests {
     list: Vec<Request>,
 }
@@ -68,7 +68,7 @@ impl Requests {
 }
 
 /// The requests of a session, from 1 to 8.
-#[derive(Debug, Drop)]
+#[derive(Drop)]
 pub struct Script {
     pub session: u8,
     pub requests: Requests,

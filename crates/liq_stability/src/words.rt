@@ -1,7 +1,7 @@
 //! The plain data of the Stability Pool.
 
 /// The words of the Stability Pool. LUSD is in micro-LUSD, collateral in gwei.
-#[derive(Clone, Copy, Debug, PartialEq, Eq)]
+#[derive(Clone, Copy)]
 pub struct PoolWords {
     /// What is left of a whole deposit of this epoch, over 10^18, at the scale.
     pub p: u128,
@@ -18,7 +18,7 @@ pub struct PoolWords {
 }
 
 /// The sum of an epoch and a scale that are over.
-#[derive(Clone, Copy, Debug, PartialEq, Eq)]
+#[derive(Clone, Copy)]
 pub struct FinishedSum {
     pub epoch: u64,
     pub scale: u64,

@@ -3,7 +3,7 @@ use liq_journal::Damage;
 use liq_pairs::Side;
 
 /// Why no store was opened.
-#[derive(Clone, Copy, Debug, PartialEq, Eq)]
+#[derive(Clone, Copy)]
 pub enum StoreWhy {
     /// A device call failed in this call.
     DiskFault,
@@ -13,7 +13,7 @@ pub enum StoreWhy {
 }
 
 /// No store was opened, and the disks are handed back.
-#[derive(Debug, Drop)]
+#[derive(Drop)]
 pub struct StoreFault<D> {
     pub left: D,
     pub right: D,
@@ -21,7 +21,7 @@ pub struct StoreFault<D> {
 }
 
 /// Why the accepted commands could not be read, or not be made again.
-#[derive(Clone, Copy, Debug, PartialEq, Eq)]
+#[derive(Clone, Copy)]
 pub enum AcceptedFault {
     DiskFault,
     Damaged(Damage),

@@ -1,5 +1,5 @@
 /// What a table of troves keeps beside its rows: the sums per unit of stake, and the stakes.
-#[derive(Clone, Copy, Debug, PartialEq, Eq)]
+#[derive(Clone, Copy)]
 pub struct Sums {
     /// Gwei redistributed to each unit of stake, over 10^18.
     pub coll: u128,

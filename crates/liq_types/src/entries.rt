@@ -4,7 +4,7 @@ use crate::replies::Reply;
 use crate::requests::Request;
 
 /// A session's call that got a reply.
-#[derive(Clone, Copy, Debug, PartialEq, Eq)]
+#[derive(Clone, Copy)]
 pub struct Entry {
     pub session: u8,
     /// The session's calls with a reply are counted, from 1.

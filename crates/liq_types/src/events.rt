@@ -1,7 +1,7 @@
 //! What a step does to the Stability Pool and to the ordered list, as others follow it.
 
 /// A change of the Stability Pool. LUSD is in micro-LUSD, collateral in gwei.
-#[derive(Clone, Copy, Debug, PartialEq, Eq)]
+#[derive(Clone, Copy)]
 pub enum PoolEvent {
     /// A depositor's own operation: LUSD put in, LUSD and collateral paid out, and the amount recorded after it.
     Own {
@@ -22,7 +22,7 @@ pub enum PoolEvent {
 }
 
 /// A change of the ordered list.
-#[derive(Clone, Copy, Debug, PartialEq, Eq)]
+#[derive(Clone, Copy)]
 pub enum ListChange {
     /// The account's trove stands at this key from now on.
     Put {

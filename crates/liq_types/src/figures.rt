@@ -3,7 +3,7 @@
 use crate::replies::Done;
 
 /// What an account has outside troves and deposits: collateral in gwei, LUSD in micro-LUSD.
-#[derive(Clone, Copy, Debug, PartialEq, Eq)]
+#[derive(Clone, Copy)]
 pub struct Wallet {
     pub coll: u64,
     pub lusd: u64,
@@ -11,14 +11,14 @@ pub struct Wallet {
 
 /// What is kept for a client, so that a command that comes again acts once: the last number that was accepted, 0 for none,
 /// and the reply to it.
-#[derive(Clone, Copy, Debug, PartialEq, Eq)]
+#[derive(Clone, Copy)]
 pub struct Client {
     pub last: u64,
     pub kept: Done,
 }
 
 /// What the rules on troves read of a state.
-#[derive(Clone, Copy, Debug, PartialEq, Eq)]
+#[derive(Clone, Copy)]
 pub struct Market {
     /// Micro-LUSD per ether.
     pub price: u64,
@@ -36,7 +36,7 @@ pub struct Market {
 
 /// A trove as it is kept: the amounts and the stake as of its owner's last operation, and the sums per stake of that
 /// moment.
-#[derive(Clone, Copy, Debug, PartialEq, Eq)]
+#[derive(Clone, Copy)]
 pub struct Trove {
     /// Gwei.
     pub coll: u64,
@@ -50,7 +50,7 @@ pub struct Trove {
 }
 
 /// A deposit as it is kept: the amount as of its owner's last operation, and the Stability Pool's words of that moment.
-#[derive(Clone, Copy, Debug, PartialEq, Eq)]
+#[derive(Clone, Copy)]
 pub struct Deposit {
     /// Micro-LUSD.
     pub amount: u64,

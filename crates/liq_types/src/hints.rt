@@ -1,7 +1,7 @@
 //! Where a trove may stand in the ordered list. A hint saves steps and changes no reply.
 
 /// The two hint words of a command.
-#[derive(Clone, Copy, Debug, PartialEq, Eq)]
+#[derive(Clone, Copy, PartialEq, Eq)]
 pub struct HintWords {
     /// The account before the place, nearer the front.
     pub prev: Option<u32>,
@@ -18,7 +18,7 @@ impl HintWords {
 }
 
 /// A place that was found in some version of the ordered list.
-#[derive(Clone, Copy, Debug, PartialEq, Eq)]
+#[derive(Clone, Copy, PartialEq, Eq)]
 pub struct Hint {
     /// The account before the place, nearer the front.
     pub prev: Option<u32>,

@@ -3,7 +3,7 @@
 use std::alloc::AllocError;
 
 /// There was no memory for it, and nothing changed.
-#[derive(Clone, Copy, Debug, PartialEq, Eq)]
+#[derive(Clone, Copy)]
 pub struct NoMemory;
 
 impl From<AllocError> for NoMemory {
@@ -13,14 +13,14 @@ impl From<AllocError> for NoMemory {
 }
 
 /// An accepted command: its verb's place in the list of verbs, from 1, and the values that its reply shows, unused ones 0.
-#[derive(Clone, Copy, Debug, PartialEq, Eq)]
+#[derive(Clone, Copy, PartialEq, Eq)]
 pub struct Done {
     pub kind: u8,
     pub values: [u64; 6],
 }
 
 /// The answer to a query.
-#[derive(Clone, Copy, Debug, PartialEq, Eq)]
+#[derive(Clone, Copy, PartialEq, Eq)]
 pub enum Info {
     /// Collateral (gwei) and LUSD (micro-LUSD) of a wallet.
     Wallet { coll: u64, lusd: u64 },
@@ -42,7 +42,7 @@ pub enum Info {
 }
 
 /// Why a command or a query was refused. Its fields are printed in their order behind its code.
-#[derive(Clone, Copy, Debug, PartialEq, Eq)]
+#[derive(Clone, Copy, PartialEq, Eq)]
 pub enum Refusal {
     /// 10: the price is outside its limits.
     PriceRange {
@@ -189,7 +189,7 @@ pub enum Refusal {
 }
 
 /// The protocol's reply to a request.
-#[derive(Clone, Copy, Debug, PartialEq, Eq)]
+#[derive(Clone, Copy, PartialEq, Eq)]
 pub enum Reply {
     Said(Done),
     Told(Info),
@@ -197,7 +197,7 @@ pub enum Reply {
 }
 
 /// What a service answers: the protocol's reply, or why there is none.
-#[derive(Clone, Copy, Debug, PartialEq, Eq)]
+#[derive(Clone, Copy, PartialEq, Eq)]
 pub enum Answer {
     Reply(Reply),
     NoMemory,

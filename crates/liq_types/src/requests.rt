@@ -3,7 +3,7 @@
 use crate::hints::HintWords;
 
 /// A call under its client's number, which makes it act once however often it comes.
-#[derive(Clone, Copy, Debug, PartialEq, Eq)]
+#[derive(Clone, Copy, PartialEq, Eq)]
 pub struct Command {
     /// Who sends it. A client at or above [`crate::amounts::ACCOUNTS`] is refused.
     pub client: u32,
@@ -13,7 +13,7 @@ pub struct Command {
 }
 
 /// A call that may change the protocol. Collateral is in gwei, LUSD in micro-LUSD, fee bounds over 10^18.
-#[derive(Clone, Copy, Debug, PartialEq, Eq)]
+#[derive(Clone, Copy, PartialEq, Eq)]
 pub enum Call {
     /// Sets the price, in micro-LUSD per ether.
     Price(u64),
@@ -50,7 +50,7 @@ pub enum Call {
 }
 
 /// A question, which changes nothing.
-#[derive(Clone, Copy, Debug, PartialEq, Eq)]
+#[derive(Clone, Copy, PartialEq, Eq)]
 pub enum Query {
     /// What an account's wallet holds.
     Wallet(u32),
@@ -67,7 +67,7 @@ pub enum Query {
 }
 
 /// One line of input.
-#[derive(Clone, Copy, Debug, PartialEq, Eq)]
+#[derive(Clone, Copy, PartialEq, Eq)]
 pub enum Request {
     Do(Command),
     Ask(Query),

@@ -17,7 +17,7 @@ use std::alloc::{AllocError, Global};
 pub const COUNT_MOST: u64 = 1_000_000;
 
 /// What the program is asked to do.
-#[derive(Clone, Copy, Debug, PartialEq, Eq)]
+#[derive(Clone, Copy)]
 pub enum Word {
     /// Answer the requests of the input.
     Run,
@@ -32,7 +32,7 @@ pub enum Word {
 }
 
 /// Why words ask for nothing.
-#[derive(Clone, Copy, Debug, PartialEq, Eq)]
+#[derive(Clone, Copy)]
 pub enum WordsFault {
     /// They are not understood.
     Usage,
