@@ -28,17 +28,13 @@ use Rattle.liq_book.specs.declared.items.TheConstants.{ENTRIES_MOST}
 use Rattle.liq_book.specs.Booked.{IsBook, KeepsDisks}
 use Rattle.liq_rules.specs.Recorded.{recorded}
 use Rattle.liq_book.specs.Origin.{DiskAt, GoesOnFrom, IsAtOrigin}
+use Rattle.liq_types.proofs.Tests.{value_of}
 
 -- a session has no more entries than there are
 pub own_few : (session : ℕ) (entries : List Entry) → length (own_entries session (map recorded entries)) ≤ length entries
 own_few session entries =
     let p : history.Entry → Bool = λ (e : history.Entry). e.session == session in
     omega (arith, length-filter p (map recorded entries), count_by-le-length p (map recorded entries), length-map entries recorded)
-
--- an option that is there has a value
-pub told_so : {A : Type 0} (o : Option A) → IsSome o → (x : A) × (o ≡ Some x)
-told_so None some = absurd (let e : false ≡ true = some in cc)
-told_so (Some x) some = (x, refl)
 
 -- a store that answers otherwise was not stopped
 pub goes : (stopped : Option ℕ) → ((sum : ℕ) → stopped ≡ Some sum → ⊥) → stopped ≡ None
@@ -178,8 +174,8 @@ module _ {D : Type 0} (seen : D → Option (List ℕ)) (faults : D → ℕ) (mom
           state = stands;
           halt = stopped;
           keeps = λ l r told_left told_right.
-              let before_left = told_so (seen old.left) (told.0 (rw told_left refl)) in
-              let before_right = told_so (seen old.right) (told.1 (rw told_right refl)) in
+              let before_left = value_of (seen old.left) (told.0 (rw told_left refl)) in
+              let before_right = value_of (seen old.right) (told.1 (rw told_right refl)) in
               let around = c.around going before_left.0 before_right.0 s before_left.1 before_right.1 b.state in
               let now = λ (a b : List ℕ) (in_left : LeftNow moment left_at new.left a) (in_right : LeftNow moment left_at new.right b).
               around a b (moment new.left, disks.0.later, omega arith, in_left) (moment new.right, disks.1.later, omega arith, in_right) in

@@ -8,16 +8,10 @@ use Rattle.liq_types.specs.declared.amounts.TheConstants.{ONE}
 use Rattle.liq_types.specs.declared.figures.Market.{Market}
 use Rattle.liq_types.specs.declared.figures.Wallet.{Wallet}
 use Rattle.liq_types.specs.Rules.{Rule, first_refusal}
+use Rattle.liq_types.proofs.Tests.{all_false}
 use Rattle.liq_borrow.specs.declared.change.Change.{Change}
 use Rattle.liq_borrow.specs.Allowed.{IsBound, OpenPasses, ChangePasses, ClosePasses, GainPasses}
 use Rattle.liq_borrow.specs.Borrowing.{least_bound, open_rules, adjust_rules, close_rules, gain_rules}
-
-all_false : (rules : List Rule) → first_refusal rules ≡ None → AllByRecursion (λ (rule : Rule). rule.0 ≡ false) rules
-all_false [] h = tt
-all_false (rule ∷ rules) h = by rule.0 h (all_false rules) where
-  by : (b : Bool) → cond b (Some rule.1) (first_refusal rules) ≡ None → (first_refusal rules ≡ None → AllByRecursion (λ (rule : Rule). rule.0 ≡ false) rules) → (b ≡ false) × AllByRecursion (λ (rule : Rule). rule.0 ≡ false) rules
-  by true k later = cc
-  by false k later = (refl, later k)
 
 -- a test that is made only where a condition holds
 where_so : (condition test : Bool) → (condition && test) ≡ false → condition ≡ true → test ≡ false

@@ -11,6 +11,7 @@ use Rattle.liq_rules.specs.Rules.{rules, values, six, done_of}
 use Rattle.liq_core.specs.Sound.{IsKeptRow}
 use Rattle.liq_rules.specs.Verbs.{kind}
 use Rattle.liq_rules.proofs.Counting.{values_count}
+use Rattle.liq_soundness.proofs.SoundStep.{kind_range}
 
 abbrev is_zero : List ℕ → Type 0
 is_zero xs = list_all (λ value. value == 0) xs ≡ true
@@ -40,27 +41,9 @@ pub six_values : (shown : List ℕ) → length (six shown) ≡ 6
 six_values shown =
     full 6 (shown ++ replicate 6 0) (let all = length-append shown (replicate 6 0) in omega (arith, all))
 
-pub kind_in_range : (call : Call) → (1 ≤ kind call) × (kind call ≤ 16)
-kind_in_range (Price price) = (omega arith, omega arith)
-kind_in_range (Advance minutes) = (omega arith, omega arith)
-kind_in_range (Fund account coll) = (omega arith, omega arith)
-kind_in_range (Take account coll) = (omega arith, omega arith)
-kind_in_range (Send from to lusd) = (omega arith, omega arith)
-kind_in_range (Open account coll borrow bound hint) = (omega arith, omega arith)
-kind_in_range (Adjust account coll_in coll_out borrow repay bound hint) = (omega arith, omega arith)
-kind_in_range (Close account) = (omega arith, omega arith)
-kind_in_range (Provide account lusd) = (omega arith, omega arith)
-kind_in_range (Withdraw account lusd) = (omega arith, omega arith)
-kind_in_range (GainToTrove account hint) = (omega arith, omega arith)
-kind_in_range (Liquidate liquidator account) = (omega arith, omega arith)
-kind_in_range (LiquidateLowest liquidator count) = (omega arith, omega arith)
-kind_in_range (Redeem account lusd bound hint) = (omega arith, omega arith)
-kind_in_range (Claim account) = (omega arith, omega arith)
-kind_in_range Rotate = (omega arith, omega arith)
-
 pub kept_reply : (s : State) (call : Call) (number : ℕ) → first_refusal (rules s call) ≡ None → 1 ≤ number → IsKeptRow (record { last = number; kept = done_of s call })
 kept_reply s call number h some =
     record {
-      form = record { last = some; kind = kind_in_range call; values = six_values (values s call) };
+      form = record { last = some; kind = kind_range call; values = six_values (values s call) };
       shown = six_shown (values s call) (value_count (kind call)) (values_count s call h);
     }

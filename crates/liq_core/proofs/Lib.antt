@@ -11,6 +11,7 @@ pub mod Planning
 pub mod Pooling
 pub mod Reading
 pub mod Redeeming
+pub mod SameContents
 pub mod SoundCores
 pub mod Stands
 pub mod Striking

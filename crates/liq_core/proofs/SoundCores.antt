@@ -31,8 +31,8 @@ use Rattle.liq_core.specs.Sound.{IsSound, core_of}
 use Rattle.liq_rules.proofs.Moving.{read_or, charged_lusd}
 use Rattle.liq_soundness.proofs.SoundFacts.{Finds, Leaves}
 use Rattle.liq_rules.proofs.SoundRules.{meets, both_first, both_second}
-use Rattle.liq_soundness.proofs.SoundStart.{started_with}
-use Rattle.liq_soundness.proofs.SoundTests.{SoundFacts, sound_facts, facts_sound}
+use Rattle.liq_soundness.proofs.SoundStart.{started_with, finished_before}
+use Rattle.liq_soundness.proofs.SoundTests.{SoundFacts, sound_facts, facts_sound, stakes_added}
 use Rattle.liq_rules.proofs.Started.{started_image, started_formed}
 use Rattle.liq_stability.proofs.Tests.{before_in}
 
@@ -107,22 +107,14 @@ all_earlier most place (row ∷ table) h = (
   all_earlier most place table (both_second (nat_le row.1 most && is_before row.0 place) _ h),
 )
 
-pub sound_finished : (i : Image) (records : ℕ) → IsSoundImage i records → AreFinished i
-sound_finished i records h = all_earlier _ (i.epoch, i.scale) i.finished (both_second _ _ (meets i records h).words)
-
-pub sound_stakes : (i : Image) (records : ℕ) → IsSoundImage i records → i.stakes ≡ stakes_in i
-sound_stakes i records h =
-    let stakes : (i.stakes == stakes_in i) ≡ true = both_first _ _ (both_first _ _ (both_first _ (nat_le i.snap_stakes i.snap_coll) (both_first _ _ (meets i records h).added))) in
-    grind (arith, nat_tests, stakes)
-
 module _ (core : Core) (h : IsSoundImage core.image core.records) where
   pub image_back : image (state_of core) ≡ core.image
-  image_back = started_image core.image (sound_stakes core.image core.records h)
+  image_back = started_image core.image (stakes_added core.image core.records h)
 
   -- whatever the core keeps, its sound image makes it stand for the state that begins with it
   pub sound_stands : StandsFor core (state_of core)
   sound_stands =
-      record { image = sym image_back; records = refl; formed = started_formed core.image (sound_finished core.image core.records h) }
+      record { image = sym image_back; records = refl; formed = started_formed core.image (finished_before core.image core.records h) }
 
   pub core_facts : SoundFacts (state_of core)
   core_facts = sound_facts (state_of core) (started_with core.image core.records h)

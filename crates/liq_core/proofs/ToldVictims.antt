@@ -44,6 +44,7 @@ use Rattle.liq_soundness.proofs.SoundStep.{finds}
 use Rattle.liq_soundness.proofs.SoundTests.{sound_facts}
 use Rattle.liq_core.proofs.Striking.{no_victim, walked, victim_there, one_more, places_fit}
 use Rattle.std.proofs.lemmas.Bool.{and_from, le-leb}
+use Rattle.liq_soundness.proofs.SoundEvents.{offset_paid}
 
 -- ---- one trove
 
@@ -145,12 +146,6 @@ event_told t made = by (made.offset_debt == 0) where
 
 -- ---- several
 
-events_paid : (vs : List Victim) (s : State) (wallets : Table Wallet) (reserve : ℕ) → offset_events (with_pay s wallets reserve) vs ≡ offset_events s vs
-events_paid [] s wallets reserve = refl
-events_paid (v ∷ vs) s wallets reserve =
-    ap (λ (l : List PoolEvent). victim_events s v.one ++ l)
-    (ap (λ (t : State). offset_events t vs) (struck_paid s v wallets reserve) ∙ events_paid vs (struck s v) wallets reserve)
-
 changes_paid : (vs : List Victim) (s : State) (wallets : Table Wallet) (reserve : ℕ) → victim_changes (with_pay s wallets reserve) vs ≡ victim_changes s vs
 changes_paid [] s wallets reserve = refl
 changes_paid (v ∷ vs) s wallets reserve =
@@ -163,8 +158,8 @@ events_more [] s v = append-nil (victim_events s v.one)
 events_more (u ∷ us) s v =
     let next = liquidated s 0 u in
     let here = victim_events s u.one in
-    ap (λ (l : List PoolEvent). here ++ l) (sym (events_paid (us ++ v ∷ []) (struck s u) next.wallets next.reserve) ∙ events_more us next v)
-    ∙ ap (λ (l : List PoolEvent). here ++ (l ++ victim_events (all_liquidated next 0 us) v.one)) (events_paid us (struck s u) next.wallets next.reserve)
+    ap (λ (l : List PoolEvent). here ++ l) (sym (offset_paid (us ++ v ∷ []) (struck s u) next.wallets next.reserve) ∙ events_more us next v)
+    ∙ ap (λ (l : List PoolEvent). here ++ (l ++ victim_events (all_liquidated next 0 us) v.one)) (offset_paid us (struck s u) next.wallets next.reserve)
     ∙ sym (append_assoc here (offset_events (struck s u) us) (victim_events (all_liquidated next 0 us) v.one))
 
 pub changes_more : (vs : List Victim) (s : State) (v : Victim) → victim_changes s (vs ++ v ∷ []) ≡ victim_changes s vs ++ Gone v.account ∷ words_in (liquidated (all_liquidated s 0 vs) 0 v) ∷ []

@@ -14,18 +14,7 @@ use Rattle.liq_ends.specs.Output.{lines, last}
 use Rattle.liq_ends.specs.Stops.{Adds, EndsIn, IsFrontOf, IsCutInLastLine, none_yet}
 use Rattle.liq_lines.specs.Writing.{Writes, WritesPart}
 use Rattle.liq_lines.proofs.Bytes.{writes_more, writes_nothing}
-
--- a part of the first of two pieces, and a part of the second behind the first
-pub part_first : (before after : Option (List ℕ)) (xs ys : List ℕ) → WritesPart before xs after → WritesPart before (xs ++ ys) after
-part_first before after xs ys h =
-    (h.0, omega (arith, h.1, length-append xs ys), subst (λ (t : List ℕ). Writes before t after) (sym (take-append-le h.0 xs ys (omega (arith, h.1)))) h.2)
-
-pub part_second : (before mid after : Option (List ℕ)) (xs ys : List ℕ) → Writes before xs mid → WritesPart mid ys after → WritesPart before (xs ++ ys) after
-part_second before mid after xs ys h k = (
-  length xs + k.0,
-  omega (arith, k.1, length-append xs ys),
-  subst (λ (t : List ℕ). Writes before t after) (sym (take-append-add xs ys k.0)) (writes_more before mid after xs (take k.0 ys) h k.2),
-)
+use Rattle.liq_lines.proofs.Parts.{part_first, part_second}
 
 pub adds_line : (fault : Type 0) (result : Result (Unit {0}) Failed) (line : List ℕ) (before after : Option (List ℕ)) → OnOk result (Writes before line after) → OnErr result (WritesPart before line after) → OnErr result fault → Adds [] line fault before after
 adds_line fault (Ok done) line before after ok err cause = (line, ok, inl refl)

@@ -5,14 +5,11 @@ use Rattle.liq_types.specs.State.{State, opening}
 use Rattle.liq_stability.specs.Promise.{IsWithinAllowance}
 use Rattle.liq_rules.specs.Events.{events}
 use Rattle.liq_rules.specs.Step.{step, run, accepted}
+use Rattle.liq_rules.proofs.Runs.{run_state}
 use Rattle.liq_soundness.proofs.SoundPromises.{reached_shares}
 use Rattle.liq_ends.specs.Stops.{HaveTheirShares}
 
-pub after-append : (s : State) (first more : List Request) → (run s (first ++ more)).0 ≡ (run (run s first).0 more).0
-after-append s [] more = refl
-after-append s (q ∷ first) more = after-append (step s q).0 first more
-
 pub all_shares : (start : State) (requests : List Request) → HaveTheirShares start requests
 all_shares start requests earlier is account =
-    let all = after-append opening earlier requests ∙ ap (λ (s : State). (run s requests).0) is in
+    let all = run_state opening earlier requests ∙ ap (λ (s : State). (run s requests).0) is in
     subst (λ (s : State). IsWithinAllowance s account (events opening (accepted opening (earlier ++ requests)))) all (reached_shares (earlier ++ requests) account)

@@ -15,14 +15,15 @@ use Rattle.liq_journal.specs.Records.{records, begins_whole}
 use Rattle.liq_journal.specs.Settled.{JournalOn}
 use Rattle.liq_journal.specs.Tested.{IsBodyRead, IsFaultRead}
 use Rattle.liq_journal.specs.Written.{Written, Open, piece, record_on, record_digest, command_from, is_rotate, found_records, most_records}
-use Rattle.liq_journal.proofs.Reading.{records_whole, records_none, records_zero, true_or_false, whole_long}
+use Rattle.liq_journal.proofs.Reading.{records_whole, records_none, records_zero, whole_long}
 use Rattle.liq_journal.proofs.Heading.{is_open, of_records, record_open}
 use Rattle.liq_journal.proofs.Testing.{if_some}
+use Rattle.std.proofs.lemmas.Bool.{cases_Bool}
 
 -- a record that is read as a command holds its body
 from_command : (place : ℕ) (read : Result Command ℕ) (command : Command) → command_from place read ≡ Ok command → (read ≡ Ok command) × (is_rotate command.call ≡ false)
 from_command place (Err at) command is = absurd (cc (is))
-from_command place (Ok other) command is = elim (true_or_false (is_rotate other.call)) [
+from_command place (Ok other) command is = elim (cases_Bool (is_rotate other.call)) [
   | inl rotates ↦
       let e : ◌≡◌ {A = Result Command What} (if true then Err (Form place) else Ok other) (Ok command) = sym (ap (λ (b : Bool). if b then Err (Form place) else Ok other) rotates) ∙ is in absurd (cc (e))
   | inr none ↦
@@ -78,7 +79,7 @@ record_at k zero generation checkpoint index place bytes w is few =
     let c = (of_records generation checkpoint index place (records zero bytes) w is).count in
     let none = ap length (records_zero bytes) in
     absurd (omega arith)
-record_at k (suc fuel) generation checkpoint index place bytes w is few = elim (true_or_false (begins_whole bytes)) [
+record_at k (suc fuel) generation checkpoint index place bytes w is few = elim (cases_Bool (begins_whole bytes)) [
   | inr none ↦
       let c = (of_records generation checkpoint index place (records (suc fuel) bytes) w is).count in
       let n = ap length (records_none (suc fuel) bytes none) in

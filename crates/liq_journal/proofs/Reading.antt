@@ -7,6 +7,7 @@ use Rattle.byteorder.specs.Numbers.{big_from-take}
 use Rattle.liq_wire.specs.Fields.{number_at}
 use Rattle.liq_journal.specs.Records.{begins_whole, records}
 use Rattle.liq_journal.specs.Written.{piece}
+use Rattle.std.proofs.lemmas.Bool.{cases_Bool}
 
 pub records_whole : (most : ℕ) (bytes : List ℕ) → begins_whole bytes ≡ true → records (suc most) bytes ≡ take 128 (drop 1 bytes) ∷ records most (drop 129 bytes)
 unfolding records
@@ -20,10 +21,6 @@ records_none (suc most) bytes is = ap (λ (b : Bool). if b then take 128 (drop 1
 pub records_zero : (bytes : List ℕ) → records zero bytes ≡ []
 unfolding records
 records_zero bytes = refl
-
-pub true_or_false : (b : Bool) → (b ≡ true) ⊎ (b ≡ false)
-true_or_false true = inl refl
-true_or_false false = inr refl
 
 -- where a gate is open and 128 bytes stand behind it
 pub is_whole : (bytes : List ℕ) → get_or bytes 0 0 ≡ 1 → 128 < length bytes → begins_whole bytes ≡ true
@@ -71,7 +68,7 @@ records_alike zero fuel most xs ys is none alike =
     let nothing : records fuel xs ≡ [] = nil_from_length (records fuel xs) none in
     ap (λ (n : ℕ). records n ys) same ∙ ap (λ (l : List (List ℕ)). l ++ records most ys) (sym nothing)
 records_alike (suc k) zero most xs ys is some alike = absurd (omega arith)
-records_alike (suc k) (suc fuel) most xs ys is some alike = elim (true_or_false (begins_whole xs)) [
+records_alike (suc k) (suc fuel) most xs ys is some alike = elim (cases_Bool (begins_whole xs)) [
   | inr none ↦ let nothing : length (records (suc fuel) xs) ≡ 0 = ap length (records_none (suc fuel) xs none) in absurd (omega arith)
   | inl whole ↦
       let read = records_whole fuel xs whole in
@@ -90,7 +87,7 @@ records_alike (suc k) (suc fuel) most xs ys is some alike = elim (true_or_false 
 -- whole records are as long as they are
 pub records_long : (fuel : ℕ) (xs : List ℕ) → 129 * length (records fuel xs) ≤ length xs
 records_long zero xs = let e = ap length (records_zero xs) in omega arith
-records_long (suc fuel) xs = elim (true_or_false (begins_whole xs)) [
+records_long (suc fuel) xs = elim (cases_Bool (begins_whole xs)) [
   | inr none ↦ let e = ap length (records_none (suc fuel) xs none) in omega arith
   | inl whole ↦
       let e = ap length (records_whole fuel xs whole) in
@@ -103,7 +100,7 @@ records_long (suc fuel) xs = elim (true_or_false (begins_whole xs)) [
 -- and no more than are read
 pub records_few : (fuel : ℕ) (xs : List ℕ) → length (records fuel xs) ≤ fuel
 records_few zero xs = let e = ap length (records_zero xs) in omega arith
-records_few (suc fuel) xs = elim (true_or_false (begins_whole xs)) [
+records_few (suc fuel) xs = elim (cases_Bool (begins_whole xs)) [
   | inr none ↦ let e = ap length (records_none (suc fuel) xs none) in omega arith
   | inl whole ↦ let e = ap length (records_whole fuel xs whole) in let more = records_few fuel (drop 129 xs) in omega arith
 ]

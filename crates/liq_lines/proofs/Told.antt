@@ -19,7 +19,7 @@ pub told_left : (bytes xs taken : List ℕ) (left : Option (List ℕ)) → Reads
 told_left bytes xs taken None h = absurd (cc h)
 told_left bytes xs taken (Some more) h = (more, refl, told_reads bytes xs (taken ++ more) h)
 
-empty_end : (xs ys : List ℕ) → xs ++ ys ≡ [] → ys ≡ []
+pub empty_end : (xs ys : List ℕ) → xs ++ ys ≡ [] → ys ≡ []
 empty_end [] ys h = h
 empty_end (x ∷ xs) ys h = absurd (cc h)
 

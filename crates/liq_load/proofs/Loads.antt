@@ -148,7 +148,3 @@ within_more n m c le h = record { commands = omega (arith, le, h.commands); offs
 
 pub lined : (n : Counts) (words now : PoolWords) (supply debt : ℕ) (line text : List ℕ) → line ≡ text → text ≡ told n words supply → words ≡ now → supply ≡ debt → line ≡ told n now debt
 lined n words now supply debt line text line_is text_is words_are supply_is = line_is ∙ text_is ∙ ap₂ (told n) words_are supply_is
-
--- what stands for a state still does where the content is the same
-pub stands_after : (old new : Core) (s : State) → SameContent old new → StandsFor old s → StandsFor new s
-stands_after old new s same h = record { image = same.image ∙ h.image; records = same.records ∙ h.records; formed = h.formed }

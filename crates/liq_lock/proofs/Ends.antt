@@ -16,10 +16,11 @@ use Rattle.liq_lock.specs.Views.{waits, shares, opener}
 use Rattle.liq_lock.specs.Rule.{Ledger, Fits, Ruled}
 use Rattle.liq_lock.proofs.Histories.{in_one, one_in, no_items, nothing_in_nil, behind_none}
 use Rattle.liq_lock.proofs.Moved.{same_at, None_not_Some, false_not_true}
-use Rattle.liq_lock.proofs.Parts.{both_cases, ltb_lt, ltb_le}
+use Rattle.liq_lock.proofs.Parts.{ltb_lt, ltb_le}
 use Rattle.liq_lock.proofs.Rests.{AtRest}
 use Rattle.liq_lock.proofs.Sums.{sum_at, sum_two}
-use Rattle.liq_lock.proofs.Waits.{which, not_inside}
+use Rattle.liq_lock.proofs.Waits.{not_inside}
+use Rattle.std.proofs.lemmas.Bool.{cases_Bool, false_from_ne_true}
 
 only_first : {A : Type 0} (a b : A) (j : ℕ) → get_elem? (a ∷ []) j ≡ some b → (j ≡ 0) × (a ≡ b)
 only_first a b zero e = (refl, some-injective a b e)
@@ -54,7 +55,7 @@ module _ {T I : Type 0} (history : T → List I) (maker : I → ℕ) where
     held = λ t low high. absurd (omega arith);
     kept = λ y low high. let is : 1 ≡ y = omega arith in (opener n, refl, some_seat, subst (Contains (1 ∷ [])) is (one_in 1 []));
     makers = λ i c. absurd (nothing_in_nil i c);
-    cut = ⊎_elim (λ e. inr (0, opener n, refl, e)) (λ e. let one : n ≤ 1 = ltb_le 1 n e in inl (omega arith)) (both_cases (ltb 1 n));
+    cut = ⊎_elim (λ e. inr (0, opener n, refl, e)) (λ e. let one : n ≤ 1 = ltb_le 1 n e in inl (omega arith)) (cases_Bool (ltb 1 n));
     home = λ _. (x, refl, empty);
     away = λ e. absurd (false_not_true e);
     each = λ j u there. let p = only_first (opener n) u j there in subst (λ (z : ℕ × View I). Fits maker n start z.0 z.1) (λ i. (sym p.0 i, p.1 i)) (first_fits n some_seat);
@@ -74,7 +75,7 @@ module _ {T I : Type 0} (history : T → List I) (maker : I → ℕ) where
       let most = sum_at shares s.views id v here in let whole = r.shared in
       let alone : (j : ℕ) (u : View I) → get_elem? s.views j ≡ some u → 1 ≤ u.shares → j ≡ id = λ j u there alive. dite (ℕ_discrete j id) (λ yes. yes)
       (λ no. let both = sum_two shares s.views id j v u here there no in absurd (omega arith)) in
-      let idle : g.busy ≡ false = which g.busy (λ busy.
+      let idle : g.busy ≡ false = false_from_ne_true g.busy (λ busy.
       let a = r.away busy in let u : View I = a.1.0 in let f = r.each (g.holder g.served) u a.1.1 in
       let one : waits u ≡ 1 = ap (λ (o : Option ℕ). waits (record u { ticket = o })) (f.inside a.1.2).0 in let least = f.share in
       not_inside history maker n s r id v here rest.calm busy (alone (g.holder g.served) u a.1.1 (omega arith))) in

@@ -19,16 +19,13 @@ use Rattle.liq_lock.proofs.Moved.{same_at, set_at, None_not_Some, false_not_true
 use Rattle.liq_lock.proofs.Rests.{AtRest}
 use Rattle.liq_lock.proofs.Sums.{sum_set, sum_at, sum_snoc}
 use Rattle.liq_lock.proofs.Waits.{at, at_here, at_else, not_inside, unmoved}
+use Rattle.std.proofs.lemmas.Bool.{cases_Bool}
 
 pub ltb_lt : (a b : ℕ) → ltb a b ≡ true → a < b
 ltb_lt a b e = grind (arith, nat_tests)
 
 pub ltb_le : (a b : ℕ) → ltb a b ≡ false → b ≤ a
 ltb_le a b e = grind (arith, nat_tests)
-
-pub both_cases : (b : Bool) → (b ≡ true) ⊎ (b ≡ false)
-both_cases true = inl refl
-both_cases false = inr refl
 
 module _ {A : Type 0} where
   at_snoc : (l : List A) (a b : A) (j : ℕ) → get_elem? (l ++ a ∷ []) j ≡ some b → (get_elem? l j ≡ some b) ⊎ ((j ≡ length l) × (a ≡ b))
@@ -213,7 +210,7 @@ module _ {T I : Type 0} (history : T → List I) (maker : I → ℕ) where
             makers = λ i k. let p = r.makers i k in let high : maker i ≤ r.ledger.made = p.1 in (p.0, omega arith);
             cut = ⊎_elim
                 (λ e. inr (id, keeping v, cut_here s.views id v (keeping v) (dealt v) here, e))
-                (λ e. let few : v.shares - 1 ≤ 1 = ltb_le 1 (v.shares - 1) e in inl (omega arith)) (both_cases (ltb 1 (v.shares - 1)));
+                (λ e. let few : v.shares - 1 ≤ 1 = ltb_le 1 (v.shares - 1) e in inl (omega arith)) (cases_Bool (ltb 1 (v.shares - 1)));
             home = r.home;
             away = λ busy. let a = r.away busy in (a.0, (a.1.0, cut_else s.views id (keeping v) (dealt v) a.1.0 (r.ledger.holder r.ledger.served) (not_inside history maker n s r id v here calm busy) a.1.1, a.1.2));
             each = λ j u there. ⊎_elim

@@ -16,7 +16,7 @@ use Rattle.liq_lock.specs.Sentences.{Lives, Sentences}
 use Rattle.liq_lock.proofs.Ends.{made_most}
 use Rattle.liq_lock.proofs.Histories.{beginnings, one_in}
 use Rattle.liq_lock.proofs.Moved.{None_not_Some, false_not_true}
-use Rattle.liq_lock.proofs.Waits.{which}
+use Rattle.std.proofs.lemmas.Bool.{false_from_ne_true}
 
 cancel : {A : Type 0} (xs a b : List A) → xs ++ a ≡ xs ++ b → a ≡ b
 cancel [] a b e = e
@@ -91,7 +91,7 @@ module _ {T I : Type 0} (history : T → List I) (maker : I → ℕ) (n : ℕ) (
     longest = longest;
     begins = λ j v l. let f = r.each j v l.0 in (f.behind.0, f.behind.1);
     seen_inside = λ j v l p. let f = (r.each j v l.0).inside p in (f.1, (r.away f.2).0);
-    slot_home = λ calm. r.home (which G.busy (λ busy.
+    slot_home = λ calm. r.home (false_from_ne_true G.busy (λ busy.
         let a = r.away busy in false_not_true (sym (calm (G.holder G.served) a.1.0 (lives_inside (G.holder G.served) a.1.0 a.1.1 a.1.2)) ∙ a.1.2)));
     numbers_differ = λ i j v w l m e. let p = place i v l in let q = place j w m in sym p.4 ∙ ap G.keeper e ∙ q.4;
     numbers_within = λ j v l. let p = place j v l in let high : v.number ≤ G.made = p.3 in (p.2, omega arith);

@@ -17,6 +17,7 @@ use Rattle.liq_lock.specs.Steps.{Draws, Looks}
 use Rattle.liq_lock.proofs.Histories.{behind_whole, behind_none}
 use Rattle.liq_lock.proofs.Moved.{same_at, set_at, Some_is, None_not_Some, false_not_true, turned, HeldBy, moved}
 use Rattle.liq_lock.proofs.Sums.{sum_le}
+use Rattle.std.proofs.lemmas.Bool.{false_from_ne_true}
 
 -- f, but at k the value y
 abbrev pub at : (ℕ → ℕ) → ℕ → ℕ → ℕ → ℕ
@@ -27,11 +28,6 @@ at_here f k y x e = rw (eq-eqb x k e) refl
 
 pub at_else : (f : ℕ → ℕ) (k y x : ℕ) → x ≢ k → at f k y x ≡ f x
 at_else f k y x e = rw (ne_eqb x k e) refl
-
--- a test is false where it cannot be true
-pub which : (b : Bool) → (b ≡ true → ⊥) → b ≡ false
-which true h = absurd (h refl)
-which false h = refl
 
 module _ {T I : Type 0} (history : T → List I) (maker : I → ℕ) where
   abbrev M : Type 0
@@ -121,7 +117,7 @@ module _ {T I : Type 0} (history : T → List I) (maker : I → ℕ) where
       × Behind maker (history x) m.0.stands m.0.seen
   enters n id m t s r here out calm alive now =
       let v : View I = m.0 in let g : Ledger I = r.ledger in let f = r.each id v here in
-      let idle : g.busy ≡ false = which g.busy (λ busy. absurd (not_inside n s r id v here calm busy (ap g.holder now ∙ (f.ticket t out).2))) in
+      let idle : g.busy ≡ false = false_from_ne_true g.busy (λ busy. absurd (not_inside n s r id v here calm busy (ap g.holder now ∙ (f.ticket t out).2))) in
       let home = r.home idle in let x : T = home.0 in let w : View I = entered v (history x) in let all : history x ≡ g.log = home.2 in (
         x,
         ap (λ (l : List (maybe.Option (Option T))). get_elem? l 0) home.1,

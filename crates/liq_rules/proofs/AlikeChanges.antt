@@ -16,6 +16,7 @@ use Rattle.liq_types.proofs.MapRows.{all-put, all-without, all-weaken}
 use Rattle.liq_rules.proofs.Alike.{lift, lift-image, place, place-image, redistribute, redistribute-image, own, own-image, offset_by, offset-image}
 use Rattle.liq_rules.proofs.AlikeReads.{Alike, gain_alike, amount_alike}
 use Rattle.liq_stability.proofs.Pool.{moment-more, deposits-more, length-more, with_deposit-marked, balance_within, gain_within, still_covered, gains_covered, taken_covered}
+use Rattle.liq_rules.proofs.Allowed.{lifted-records}
 
 -- ---- what is well formed stays so
 
@@ -111,14 +112,10 @@ pub surplus_taken_alike : {s t : State} → Alike s t → (account : ℕ) → Al
 surplus_taken_alike {s} {t} h account =
     alike_by (take_surplus account) s t (surplus_taken s account) (surplus_taken t account) h refl refl refl refl h.left h.right
 
-lifted_entry-records : (s : State) (account : ℕ) (o : Option TroveEntry) → (lifted_entry s account o).records ≡ s.records
-lifted_entry-records s account None = refl
-lifted_entry-records s account (Some t) = refl
-
 pub lifted_alike : {s t : State} → Alike s t → (account : ℕ) → Alike (lifted s account) (lifted t account)
 lifted_alike {s} {t} h account =
     alike_by (λ i. lift i account) s t (lifted s account) (lifted t account) h (lift-image s account) (lift-image t account)
-    (lifted_entry-records s account (at s.troves account)) (lifted_entry-records t account (at t.troves account))
+    (lifted-records s account (at s.troves account)) (lifted-records t account (at t.troves account))
     (formed-lifted s account h.left) (formed-lifted t account h.right)
 
 pub placed_alike : {s t : State} → Alike s t → (account c d m n : ℕ) → c ≡ d → m ≡ n → Alike (placed s account c m) (placed t account d n)

@@ -109,7 +109,7 @@ send_enough s from to lusd h =
     let enough : nat_lt have lusd ≡ false = second_false (lusd == 0, AmountZero) (nat_lt have lusd, ShortTokens lusd have) h in
     grind (arith, nat_tests, enough)
 
-lifted-records : (s : State) (account : ℕ) (o : Option TroveEntry) → (lifted_entry s account o).records ≡ s.records
+pub lifted-records : (s : State) (account : ℕ) (o : Option TroveEntry) → (lifted_entry s account o).records ≡ s.records
 lifted-records s account None = refl
 lifted-records s account (Some t) = refl
 

@@ -21,6 +21,7 @@ use Rattle.liq_run.proofs.Cutting.{cut_comes}
 use Rattle.liq_lines.proofs.LinesRead.{lines_in-ended, lines_in-unended, lines_in-ended_all, lines_in-some, ended-append, within-append}
 use Rattle.liq_ends.proofs.Shares.{all_shares}
 use Rattle.liq_run.proofs.Progressing.{after-more, lines-more, requests-more}
+use Rattle.liq_lines.proofs.Told.{empty_end}
 
 -- what follows the answered lines
 begins : (start : State) (bytes : List ℕ) (n : ℕ) (core : Core) (u : Option (List ℕ)) (w : List ℕ) (before now : Option (List ℕ)) → (a : Answered start bytes n core u w before now) → lines_in bytes ≡ a.front ++ lines_in a.rest
@@ -124,10 +125,6 @@ reading_halts start kept (Damaged side number) bytes taken n core u left w befor
 reading_halts start kept (Limit number) bytes taken n core u left w before now few r a = absurd r
 
 -- ---- the input is over
-
-empty_end : (xs ys : List ℕ) → xs ++ ys ≡ [] → ys ≡ []
-empty_end [] ys h = h
-empty_end (x ∷ xs) ys h = absurd (cc h)
 
 over_left : (rest xs taken : List ℕ) (left : Option (List ℕ)) → Reads (Some rest) xs (unread taken left) → IsOver (unread taken left) → (left ≡ Some []) × (rest ≡ xs)
 over_left rest xs taken None h over = absurd (cc h)

@@ -145,7 +145,7 @@ victim_lawful s f account made x = by (made.offset_debt == 0) refl where
         (tt, tt),
       )
 
-offset_paid : (vs : List Victim) (s : State) (wallets : Table Wallet) (reserve : ℕ) → offset_events (with_pay s wallets reserve) vs ≡ offset_events s vs
+pub offset_paid : (vs : List Victim) (s : State) (wallets : Table Wallet) (reserve : ℕ) → offset_events (with_pay s wallets reserve) vs ≡ offset_events s vs
 offset_paid [] s wallets reserve = refl
 offset_paid (v ∷ vs) s wallets reserve =
     ap (λ (es : List PoolEvent). victim_events s v.one ++ es)

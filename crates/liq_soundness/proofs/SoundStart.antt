@@ -18,7 +18,7 @@ before_rows : (now : Place) (table : List (Place × ℕ)) → AllByRecursion (Fi
 before_rows now [] h = tt
 before_rows now (e ∷ es) h = (h.0.before, before_rows now es h.1)
 
-finished_before : (i : Image) (records : ℕ) → IsSoundImage i records → AreFinished i
+pub finished_before : (i : Image) (records : ℕ) → IsSoundImage i records → AreFinished i
 finished_before i records h = before_rows (i.epoch, i.scale) i.finished (finished_rows i records h)
 
 pub started_with : (i : Image) (records : ℕ) → IsSoundImage i records → IsSoundState (record (started i) { records = records })

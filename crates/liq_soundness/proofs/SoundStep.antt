@@ -67,7 +67,7 @@ effect_leaves s f Rotate r k h = cc
 
 -- ---- the kept reply
 
-kind_range : (call : Call) → (1 ≤ kind call) × (kind call ≤ 16)
+pub kind_range : (call : Call) → (1 ≤ kind call) × (kind call ≤ 16)
 kind_range (Price price) = (omega arith, omega arith)
 kind_range (Advance minutes) = (omega arith, omega arith)
 kind_range (Fund account coll) = (omega arith, omega arith)

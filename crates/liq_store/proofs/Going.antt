@@ -14,7 +14,7 @@ use Rattle.liq_pairs.proofs.Keeping.{settled_kept}
 use Rattle.liq_store.specs.Keeping.{IsAtRest, IsGoing, IsInOrder, IsInOrderWith, IsKeptAround, IsKeptNear, LeavesPairs}
 use Rattle.liq_store.specs.Stored.{Stored}
 use Rattle.liq_store.specs.Within.{IsWithin, stored}
-use Rattle.liq_store.proofs.Steps.{stands_before}
+use Rattle.liq_core.proofs.SameContents.{stands_before}
 
 pub taken_is : {D : Type 0} (side : Side) (t b : D) → on side (on side t b) (on side b t) ≡ t
 taken_is Left t b = refl

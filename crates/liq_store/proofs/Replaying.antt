@@ -14,6 +14,7 @@ use Rattle.liq_store.specs.declared.answers.AcceptedFault.{AcceptedFault}
 use Rattle.liq_store.specs.declared.answers.AcceptedFault.TheVariants.{DiskFault, Damaged, NoMemory}
 use Rattle.liq_store.specs.Answering.{IsReadable}
 use Rattle.liq_store.specs.Replays.{IsDamageBy, IsOutcome, Replays}
+use Rattle.liq_pairs.proofs.Replaying.{replay_none, replay_allowed}
 
 -- one command is the record's
 pub same_record : (commands : List Command) (place : ℕ) (c d : Command) → slice_get commands place ≡ Some c → slice_get commands place ≡ Some d → c ≡ d
@@ -42,10 +43,6 @@ next_recorded (c ∷ cs) done h =
     let at : done ≡ done + 1 - 1 = omega arith in
     (d, subst (λ (k : ℕ). slice_get (c ∷ cs) k ≡ Some d) at (slice_get-get_or (c ∷ cs) done c h), drop_more (c ∷ cs) done c h)
 
-allowed_rest : (index : ℕ) (s : State) (c : Command) (cs : List Command) → ruling s c ≡ Allowed → replay index s (c ∷ cs) ≡ replay (index + 1) (after s c) cs
-unfolding replay
-allowed_rest index s c cs h = ap (λ r. replayed index r (replay (index + 1) (after s c) cs)) h
-
 damaged_rest : (index : ℕ) (s : State) (c : Command) (cs : List Command) (damage : Damage) → IsDamageBy s c index damage → replay index s (c ∷ cs) ≡ Err damage
 unfolding replay
 damaged_rest index s c cs damage h = h (replay (index + 1) (after s c) cs)
@@ -55,16 +52,12 @@ reached_more s commands done core next before c rest allowed stands =
     record {
       state = after before.state c;
       stands = stands;
-      rest = before.rest ∙ ap (replay (done + 1) before.state) rest ∙ allowed_rest (done + 1) before.state c (drop (done + 1) commands) allowed;
+      rest = before.rest ∙ ap (replay (done + 1) before.state) rest ∙ replay_allowed (done + 1) before.state c (drop (done + 1) commands) allowed;
     }
 
 pub reached_damage : (s : State) (commands : List Command) (done : ℕ) (core : Core) (before : Reached s commands done core) (c : Command) (damage : Damage) → drop done commands ≡ c ∷ drop (done + 1) commands → IsDamageBy before.state c (done + 1) damage → replay 1 s commands ≡ Err damage
 reached_damage s commands done core before c damage rest h =
     before.rest ∙ ap (replay (done + 1) before.state) rest ∙ damaged_rest (done + 1) before.state c (drop (done + 1) commands) damage h
-
-replay_none : (index : ℕ) (s : State) → replay index s [] ≡ Ok s
-unfolding replay
-replay_none index s = refl
 
 pub reached_all : (s : State) (commands : List Command) (done : ℕ) (core : Core) → length commands ≤ done → Reached s commands done core → (t : State) × (replay 1 s commands ≡ Ok t) × StandsFor core t
 reached_all s commands done core all r =

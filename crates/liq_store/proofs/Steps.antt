@@ -7,12 +7,6 @@ use Rattle.liq_core.specs.Core.{Core, StandsFor, SameContent}
 use Rattle.liq_core.specs.Plan.{Plan, IsPlan}
 use Rattle.liq_rules.specs.Step.{Allowed, after, after_ruling, ruling, step}
 
-pub stands_before : (old new : Core) (s : State) → SameContent old new → StandsFor new s → StandsFor old s
-stands_before old new s same h = record { image = sym same.image ∙ h.image; records = sym same.records ∙ h.records; formed = h.formed }
-
-pub stands_after : (old new : Core) (s : State) → SameContent old new → StandsFor old s → StandsFor new s
-stands_after old new s same h = record { image = same.image ∙ h.image; records = same.records ∙ h.records; formed = h.formed }
-
 -- a planned command is allowed
 pub planned_allowed : (s : State) (c : Command) (plan : Plan) → (plan.command ≡ c) × IsPlan s plan → ruling s c ≡ Allowed
 planned_allowed s c plan is = subst (λ (k : Command). ruling s k ≡ Allowed) is.0 is.1.allowed

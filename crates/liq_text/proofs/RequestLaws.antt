@@ -24,7 +24,8 @@ use Rattle.liq_text.proofs.Named.{verb_name, topic_name}
 use Rattle.liq_text.specs.Spelling.{Word, text, account, number, Spell, SpellEach, call_words, query_words, request_words}
 use Rattle.liq_text.specs.Reading.{◌>>=◌, number_of, account_of, first, others, fields, verb_kinds, call_with, topic_kinds, query_with, arguments_of, subject_of, call_of, query_of, request_of}
 use Rattle.liq_text.proofs.ReadingLaws.{number_of-decimal, number_of-some, yes}
-use Rattle.liq_text.proofs.SpellingLaws.{bind_some, either_some, account_takes, account_again, is_false, Values, words_of, made, fields_take, fields_again, plain, IsPlain, plain_spelled, plain_words_of, plain_each}
+use Rattle.liq_text.proofs.SpellingLaws.{bind_some, either_some, account_takes, account_again, Values, words_of, made, fields_take, fields_again, plain, IsPlain, plain_spelled, plain_words_of, plain_each}
+use Rattle.std.proofs.lemmas.Bool.{false_from_ne_true}
 
 -- the pieces that spell a list of words with a first one
 record SpellParts (pieces : List (List ℕ)) (word : Word) (words : List Word) : Type 0 where
@@ -268,7 +269,7 @@ no_query : (a : ℕ) → a < 2 ^ 64 → codes "?" ≡ decimal a → ⊥
 no_query a lt e = let d : IsNumeral 10 (codes "?") = subst (λ (ds : List ℕ). IsNumeral 10 ds) (sym e) (decimal_is_IsNumeral a lt).0 in let far : digit_value 63 < 10 = d.1.0 in omega (arith, far)
 
 queryless : (piece : List ℕ) (a : ℕ) → a < 2 ^ 32 → piece ≡ decimal a → bytes_eq piece (codes "?") ≡ false
-queryless piece a small e = is_false (bytes_eq piece (codes "?")) (λ t. no_query a (omega arith) (sym ((bytes_eq-Decides piece (codes "?")).0 t) ∙ e))
+queryless piece a small e = false_from_ne_true (bytes_eq piece (codes "?")) (λ t. no_query a (omega arith) (sym ((bytes_eq-Decides piece (codes "?")).0 t) ∙ e))
 
 query_request : (pieces : List (List ℕ)) (r : Request) → (query_of pieces >>= λ q. Some (Ask q)) ≡ Some r → SpellEach (codes "?" ∷ pieces) (request_words r)
 query_request pieces r e =

@@ -7,7 +7,7 @@ use Rattle.std.specs.Str.{bytes_eq}
 use Rattle.std.specs.Str.Parse.{IsNumeral, AllDigits}
 use Rattle.std.proofs.lemmas.Str.Parse.{digit_from_value}
 use Rattle.std.proofs.lemmas.Fmt.{decimal_is_IsNumeral}
-use Rattle.std.proofs.lemmas.Bool.{ltb-true, lt-ltb, eqb-true, eqb-false, ne_eqb, and_from}
+use Rattle.std.proofs.lemmas.Bool.{ltb-true, lt-ltb, eqb-true, eqb-false, ne_eqb, and_from, false_from_ne_true}
 use Rattle.std.proofs.lemmas.Option.{cond_some, same_Some}
 use Rattle.std.proofs.lemmas.Slice.Eq.{bytes_eq-Decides}
 use Rattle.liq_text.specs.Spelling.{Word, text, account, number, hint, Spell, SpellEach}
@@ -23,10 +23,6 @@ bind_some (Some x) f y e = (x, refl, e)
 pub either_some : {A : Type 0} (b : Bool) (x y : Option A) (z : A) → cond b x y ≡ Some z → ((b ≡ true) × (x ≡ Some z)) ⊎ ((b ≡ false) × (y ≡ Some z))
 either_some true x y z e = inl (refl, e)
 either_some false x y z e = inr (refl, e)
-
-pub is_false : (b : Bool) → (b ≡ true → ⊥) → b ≡ false
-is_false true h = absurd (h refl)
-is_false false h = refl
 
 -- ---- one word
 
@@ -74,7 +70,7 @@ no_dash : (a : ℕ) → a < 2 ^ 64 → codes "-" ≡ decimal a → ⊥
 no_dash a lt e = let d : IsNumeral 10 (codes "-") = subst (λ (ds : List ℕ). IsNumeral 10 ds) (sym e) (decimal_is_IsNumeral a lt).0 in let far : digit_value 45 < 10 = d.1.0 in omega (arith, far)
 
 pub dashless : (piece : List ℕ) (a : ℕ) → a < 2 ^ 32 → piece ≡ decimal a → bytes_eq piece (codes "-") ≡ false
-dashless piece a small e = is_false (bytes_eq piece (codes "-")) (λ t. no_dash a (omega arith) (sym ((bytes_eq-Decides piece (codes "-")).0 t) ∙ e))
+dashless piece a small e = false_from_ne_true (bytes_eq piece (codes "-")) (λ t. no_dash a (omega arith) (sym ((bytes_eq-Decides piece (codes "-")).0 t) ∙ e))
 
 hint_again : (piece : List ℕ) (h : Option ℕ) → Spell piece (hint h) → hint_of piece ≡ Some h
 unfolding hint_of

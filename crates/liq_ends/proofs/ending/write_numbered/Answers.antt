@@ -1,8 +1,9 @@
 use Rattle.std.proofs.Common.{◌++◌, ◌∷◌, [], ℕ, List, subst, ◌∙◌}
 use Rattle.std.specs.Prelude.{decimal}
 use Rattle.liq_lines.specs.Writing.{Writes, WritesPart}
-use Rattle.liq_ends.proofs.EndingLines.{part_first, part_second, on_err_of, on_err_map}
+use Rattle.liq_ends.proofs.EndingLines.{on_err_of, on_err_map}
 use Rattle.liq_ends.proofs.ending.write_numbered.Goals as goal
+use Rattle.liq_lines.proofs.Parts.{part_first, part_second}
 
 pub returns-in_err-write_all-clause-err : goal.returns-in_err-write_all-clause-err
 returns-in_err-write_all-clause-err g c =

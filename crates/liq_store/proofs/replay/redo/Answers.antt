@@ -1,7 +1,8 @@
 use Rattle.liq_core.specs.Core.{state_of}
 use Rattle.liq_store.proofs.Built.{built_stays}
 use Rattle.liq_store.proofs.Generations.{counts_on, generation_stays}
-use Rattle.liq_store.proofs.Steps.{planned_allowed, stands_after, stepped}
+use Rattle.liq_core.proofs.SameContents.{stands_after}
+use Rattle.liq_store.proofs.Steps.{planned_allowed, stepped}
 use Rattle.liq_store.proofs.replay.redo.Goals as goal
 
 pub returns-in-Ready-clause-outcome : goal.returns-in-Ready-clause-outcome

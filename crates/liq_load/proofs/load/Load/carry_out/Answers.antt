@@ -1,7 +1,7 @@
 use Rattle.std.proofs.Common.{ap, refl, ◌+◌, ◌∷◌, [], ◌∙◌}
 use Rattle.liq_core.specs.Core.{state_of}
 use Rattle.liq_load.specs.Load.{next_command}
-use Rattle.liq_load.proofs.Loads.{stands_after}
+use Rattle.liq_core.proofs.SameContents.{stands_after}
 use Rattle.liq_load.proofs.Loads.{few_more, next_carries}
 use Rattle.liq_load.proofs.load.Load.carry_out.Goals as goal
 

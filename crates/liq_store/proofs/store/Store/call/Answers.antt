@@ -8,7 +8,8 @@ use Rattle.liq_store.specs.Keeping.{IsInOrder}
 use Rattle.liq_store.specs.Stored.{Stored}
 use Rattle.liq_store.proofs.Appending.{all_has, appends, has_same, kept_from, kept_near, some_isnt_none, still_has, went_on, written_from, written_never}
 use Rattle.liq_store.proofs.Going.{going_of, order_going, order_halted, order_same, pairs_at_rest, unchanged_pairs, within_same}
-use Rattle.liq_store.proofs.Steps.{stands_after, stepped}
+use Rattle.liq_core.proofs.SameContents.{stands_after}
+use Rattle.liq_store.proofs.Steps.{stepped}
 use Rattle.liq_store.proofs.store.Store.call.Goals as goal
 
 pub returns-in-Ask-clause-kept : goal.returns-in-Ask-clause-kept
