@@ -14,6 +14,4 @@ pub mod Redeeming
 pub mod SameContents
 pub mod SoundCores
 pub mod Stands
-pub mod Striking
 pub mod Telling
-pub mod ToldVictims

@@ -48,7 +48,7 @@ use Rattle.liq_soundness.specs.SoundState.{IsSoundState}
 use Rattle.liq_rules.specs.Step.{Allowed, after, ruling}
 use Rattle.liq_core.specs.Terms.{AreTerms, struck_by, victims_in}
 use Rattle.liq_rules.specs.Verbs.{accounts, pays, rotates}
-use Rattle.liq_core.specs.Victims.{AreKept, AreVictims}
+use Rattle.liq_victims.specs.Victims.{AreKept, AreVictims}
 use Rattle.liq_rules.proofs.Allowed.{all-records, allowed_rules}
 use Rattle.liq_rules.proofs.Counting.{listed_count, lowest_count, lowest_within}
 use Rattle.liq_core.proofs.Noting.{kept_rows}
@@ -57,7 +57,7 @@ use Rattle.liq_core.proofs.SoundCores.{image_back, sound_stands}
 use Rattle.liq_soundness.proofs.SoundStart.{started_with}
 use Rattle.liq_soundness.proofs.SoundStep.{after_sound, allowed_has, finds}
 use Rattle.liq_soundness.proofs.SoundTests.{sound_facts}
-use Rattle.liq_core.proofs.ToldVictims.{lowest_victims}
+use Rattle.liq_victims.proofs.ToldVictims.{lowest_victims}
 use Rattle.liq_standing.specs.Books.{pools_of}
 
 -- ---- what is liquidated

@@ -33,7 +33,7 @@ use Rattle.liq_core.specs.declared.engine.Protocol.TheInside.{Inside}
 use Rattle.liq_core.specs.Core.{state_of}
 use Rattle.liq_rules.specs.Image.{image}
 use Rattle.liq_core.specs.Sound.{IsSound, core_of}
-use Rattle.liq_core.specs.declared.course.Course.{Course}
+use Rattle.liq_victims.specs.declared.course.Course.{Course}
 use Rattle.liq_core.specs.declared.turns.Forecast.{Forecast}
 use Rattle.liq_rules.specs.Liquidation.{listed, lowest_values, offset_events, one_values, victim_changes}
 use Rattle.liq_rules.specs.Row.{not_zero}
@@ -42,14 +42,14 @@ use Rattle.liq_core.specs.Terms.{victims_in}
 use Rattle.liq_core.specs.Told.{events_in, changes_in}
 use Rattle.liq_core.specs.Turn.{IsRuled}
 use Rattle.liq_soundness.specs.SoundState.{IsSoundState}
-use Rattle.liq_core.specs.Victims.{AreVictims, course_of}
+use Rattle.liq_victims.specs.Victims.{AreVictims, course_of}
 use Rattle.liq_rules.proofs.AlikeReads.{sums_by}
 use Rattle.liq_core.proofs.SoundCores.{core_finds, image_back}
 use Rattle.liq_rules.proofs.Counting.{lowest_count}
 use Rattle.liq_soundness.proofs.SoundFacts.{Finds}
 use Rattle.liq_soundness.proofs.SoundStep.{finds}
 use Rattle.liq_soundness.proofs.SoundTests.{sound_facts}
-use Rattle.liq_core.proofs.ToldVictims.{lowest_victims, sums_within}
+use Rattle.liq_victims.proofs.ToldVictims.{lowest_victims, sums_within}
 
 -- ---- of a state
 

@@ -4,4 +4,3 @@ pub mod Sound
 pub mod Terms
 pub mod Told
 pub mod Turn
-pub mod Victims

@@ -1,16 +1,11 @@
 -- What others follow of a planned command, as lists.
-use Rattle.std.specs.Prelude.{List, [], ◌∷◌, Option, Some, None}
+use Rattle.std.specs.Prelude.{List, []}
 use Rattle.liq_types.specs.declared.events.ListChange.{ListChange}
 use Rattle.liq_types.specs.declared.events.PoolEvent.{PoolEvent}
 use Rattle.liq_core.specs.declared.told.ListChanges.{ListChanges}
 use Rattle.liq_core.specs.declared.told.ListChanges.TheVariants as changes
 use Rattle.liq_core.specs.declared.told.PoolEvents.{PoolEvents}
 use Rattle.liq_core.specs.declared.told.PoolEvents.TheVariants as events
-
--- one event or none
-abbrev pub told_of : Option PoolEvent → List PoolEvent
-told_of None = []
-told_of (Some event) = event ∷ []
 
 abbrev pub events_in : PoolEvents → List PoolEvent
 events_in events.Nothing = []

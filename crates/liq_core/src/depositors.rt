@@ -1,6 +1,6 @@
 //! The Stability Pool's depositors: LUSD is provided and withdrawn, and a gain moves into its owner's trove.
 
-ghost use Rattle.std.specs.Prelude.{◌≡◌, ◌≤◌, ◌<◌, ◌+◌, ℕ, is_none, None};
+ghost use Rattle.std.specs.Prelude.{◌≡◌, ◌≤◌, ◌<◌, ◌+◌, is_none, None};
 ghost use Rattle.std.specs.List.{Contains};
 ghost use Rattle.liq_types.specs.declared.hints.HintWords.{HintWords};
 ghost use Rattle.liq_types.specs.declared.requests.Call.TheVariants as call;

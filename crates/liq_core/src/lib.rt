@@ -6,7 +6,6 @@
 
 mod borrowing;
 mod claims;
-mod course;
 mod depositors;
 mod engine;
 pub mod laws;

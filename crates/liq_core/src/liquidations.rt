@@ -1,45 +1,30 @@
 //! Liquidation: one trove or the last ones of the list, one after the other.
 
-ghost use Rattle.std.specs.Prelude.{◌≡◌, ◌≤◌, ◌<◌, ◌^◌, ◌++◌, ◌∷◌, [], length, sum_by, false, unwrap_or, option_map, IfOk, IsOk, OnOk, MatchResult, Ok};
+ghost use Rattle.std.specs.Prelude.{◌≡◌, ◌≤◌, ◌<◌, length, false, unwrap_or, option_map, IfOk, IsOk, OnOk, MatchResult, Ok};
 ghost use Rattle.std.specs.List.{AllByRecursion, Contains};
 ghost use Rattle.liq_types.specs.declared.events.ListChange.TheVariants.{Gone};
-ghost use Rattle.liq_types.specs.declared.figures.Trove.{Trove};
 ghost use Rattle.liq_types.specs.declared.requests.Call.TheVariants as call;
-ghost use Rattle.liq_types.specs.State.{State};
 ghost use Rattle.liq_types.specs.Tables.{at};
-ghost use Rattle.liq_tables.specs.WithRoom.{HasRoom, KeepsRoom};
 ghost use Rattle.liq_troves.specs.StakeSums.{trove_rows};
 ghost use Rattle.liq_liquidation.specs.Lowest.{lowest_plan};
 ghost use Rattle.liq_liquidation.specs.Moment.{IsFaultOf};
 ghost use Rattle.liq_liquidation.specs.One as rules;
 ghost use Rattle.liq_core.specs.Core.{SameContent, StandsFor, state_of};
-ghost use Rattle.liq_rules.specs.Liquidation.{all_liquidated, lowest_values, offset_events, victim_changes};
-ghost use Rattle.liq_rules.specs.Rules.{done_of, effect, six};
-ghost use Rattle.liq_soundness.specs.SoundState.{IsSoundState};
+ghost use Rattle.liq_rules.specs.Liquidation.{all_liquidated, offset_events, victim_changes};
+ghost use Rattle.liq_rules.specs.Rules.{done_of, effect};
 ghost use Rattle.liq_rules.specs.Step.{Allowed, after, ruling};
-ghost use Rattle.liq_core.specs.Told.{told_of};
 ghost use Rattle.liq_core.specs.Turn.{Forecasts, IsRuled};
 ghost use Rattle.liq_rules.specs.Verbs.{rotates};
-ghost use Rattle.liq_core.specs.Victims.{AreKept, AreVictims, course_of};
+ghost use Rattle.liq_victims.specs.Victims.{AreVictims, course_of};
 
-use crate::course::Course;
 use crate::engine::Protocol;
 use crate::told::{ListChanges, PoolEvents};
 use crate::turns::{Forecast, PlanFault, Terms};
-use liq_ledger::{Pools, Surplus, Wallets};
-use liq_liquidation::{LowestFault, One, Victim, apply_one, plan_lowest, plan_one};
-use liq_order::Order;
+use liq_liquidation::{LowestFault, One, Victim, plan_lowest, plan_one};
 use liq_stability::Stability;
-use liq_troves::Troves;
 use liq_types::amounts::{ACCOUNTS, LOWEST_MOST};
-use liq_types::{Client, Command, Done, ListChange, NoMemory, PoolEvent, Refusal};
-
-/// What the liquidations of a plan do to the Stability Pool and to the ordered list, in order.
-#[derive(Drop)]
-struct Told {
-    events: Vec<PoolEvent>,
-    changes: Vec<ListChange>,
-}
+use liq_types::{Client, Command, Done, ListChange, NoMemory, Refusal};
+use liq_victims::{Course, Told, lowest_done, reserve_owners, strike};
 
 impl Protocol {
     /// Rules on the liquidation of one trove.
@@ -228,100 +213,5 @@ impl Protocol {
         let last = command.number;
         self.clients
             .write(command.client, Client { last, kept: done });
-    }
-}
-
-impl Told {
-    /// A trove is gone, and what goes with it.
-    fn add(
-        &mut self,
-        account: u32,
-        event: Option<PoolEvent>,
-        words: ListChange,
-    ) -> Result<(), NoMemory>
-        ensures events { OnOk result (self.new.events.items ≡ self.old.events.items ++ told_of event) }
-        ensures changes { OnOk result (self.new.changes.items ≡ self.old.changes.items ++ Gone account ∷ words ∷ []) }
-    {
-        if let Some(event) = event {
-            push(&mut self.events, event)?;
-        }
-        push(&mut self.changes, ListChange::Gone { account })?;
-        push(&mut self.changes, words)
-    }
-}
-
-/// One more, behind the others.
-fn push<T: Copy + Drop>(list: &mut Vec<T>, item: T) -> Result<(), NoMemory>
-    ensures { OnOk result (list.new.items ≡ list.old.items ++ item ∷ []) }
-{
-    match list.push(item) {
-        Ok(()) => Ok(()),
-        Err(_) => Err(NoMemory),
-    }
-}
-
-/// The reply to the liquidation of the last troves: how many they are, and what they come to.
-fn lowest_done(victims: &[Victim]) -> Done
-    requires gas { sum_by (λ v. v.one.gas) victims.now < 2 ^ 64 }
-    requires debt { sum_by (λ v. v.one.offset_debt) victims.now < 2 ^ 64 }
-    requires coll { sum_by (λ v. v.one.offset_coll) victims.now < 2 ^ 64 }
-    ensures { result ≡ record { kind = 13; values = six (lowest_values victims.now) } }
-{
-    let gas = victims.iter().map(|v| v.one.gas).sum();
-    let debt = victims.iter().map(|v| v.one.offset_debt).sum();
-    let coll = victims.iter().map(|v| v.one.offset_coll).sum();
-    Done {
-        kind: 13,
-        values: [victims.len() as u64, gas, debt, coll, 0, 0],
-    }
-}
-
-/// Room for what the owners of liquidated troves may claim.
-fn reserve_owners(victims: &[Victim], surplus: &mut Surplus) -> Result<(), NoMemory>
-    ensures rows { surplus.new.rows ≡ surplus.old.rows }
-    ensures room { OnOk result (AllByRecursion (λ v. HasRoom surplus.new v.account) victims.now) }
-    ensures had { AllByRecursion (λ v. HasRoom surplus.old v.account) victims.now → IsOk result }
-    ensures kept { KeepsRoom surplus.old surplus.new }
-{
-    for victim in victims {
-        reserve_owner(victim.account, surplus)?;
-    }
-    Ok(())
-}
-
-/// Room for what an owner may claim.
-fn reserve_owner(account: u32, surplus: &mut Surplus) -> Result<(), NoMemory>
-    ensures rows { surplus.new.rows ≡ surplus.old.rows }
-    ensures room { OnOk result (HasRoom surplus.new account) }
-    ensures had { HasRoom surplus.old account → IsOk result }
-    ensures kept { KeepsRoom surplus.old surplus.new }
-{
-    surplus.reserve(&[account])
-}
-
-/// Makes planned liquidations, one after the other.
-fn strike(
-    victims: &[Victim],
-    liquidator: u32,
-    wallets: &mut Wallets,
-    pools: &mut Pools,
-    surplus: &mut Surplus,
-    troves: &mut Troves,
-    order: &mut Order,
-    stability: &mut Stability,
-)
-    requires planned { (s : State) × IsSoundState s × AreVictims s liquidator victims.now × AreKept s wallets.old pools.old surplus.old troves.old order.old stability.old }
-    requires few { length victims.now ≤ LOWEST_MOST }
-    requires range { liquidator < ACCOUNTS }
-    requires wallet { HasRoom wallets.old liquidator }
-    requires owners { AllByRecursion (λ v. HasRoom surplus.old v.account) victims.now }
-    requires finished { length victims.now ≤ stability.old.spare }
-    ensures { (s : State) → IsSoundState s → AreVictims s liquidator victims.now → AreKept s wallets.old pools.old surplus.old troves.old order.old stability.old
-        → AreKept (all_liquidated s liquidator victims.now) wallets.new pools.new surplus.new troves.new order.new stability.new }
-{
-    for victim in victims {
-        apply_one(
-            victim, liquidator, wallets, pools, surplus, troves, order, stability,
-        );
     }
 }

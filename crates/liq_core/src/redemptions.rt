@@ -1,6 +1,6 @@
 //! Redemption: LUSD is given back for the collateral of the last troves of the list.
 
-ghost use Rattle.std.specs.Prelude.{◌≡◌, ◌≤◌, ◌<◌, ℕ, None, IfOk, map};
+ghost use Rattle.std.specs.Prelude.{◌≡◌, ◌<◌, ℕ, None, IfOk, map};
 ghost use Rattle.std.specs.List.{AllByRecursion, Contains};
 ghost use Rattle.liq_types.specs.declared.hints.HintWords.{HintWords};
 ghost use Rattle.liq_types.specs.declared.requests.Call.TheVariants as call;
@@ -20,7 +20,7 @@ use crate::told::{ListChanges, PoolEvents};
 use crate::turns::{Forecast, PlanFault, Terms};
 use liq_redemption::{Cut, RedeemFault, RedeemPlan, apply, plan};
 use liq_types::amounts::ACCOUNTS;
-use liq_types::{Done, Hint, ListChange, NoMemory, Refusal, Steps};
+use liq_types::{Done, Hint, ListChange, NoMemory, Steps};
 use std::sync::ledger::Ledger;
 
 impl Protocol {

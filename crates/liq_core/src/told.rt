@@ -1,7 +1,8 @@
 //! What others follow of a command: its events of the Stability Pool, and its changes of the ordered list.
 
 ghost use Rattle.std.specs.Prelude.{◌≡◌};
-ghost use Rattle.liq_core.specs.Told.{events_in, changes_in, told_of};
+ghost use Rattle.liq_core.specs.Told.{events_in, changes_in};
+ghost use Rattle.liq_victims.specs.Victims.{told_of};
 
 use liq_types::{ListChange, PoolEvent};
 

@@ -2,7 +2,7 @@
 
 ghost use Rattle.std.specs.Prelude.{◌≡◌, IsTrue};
 ghost use Rattle.liq_types.specs.declared.requests.Request.TheVariants.{Do};
-ghost use Rattle.liq_core.specs.Step.{built};
+ghost use Rattle.liq_rules.specs.Step.{built};
 
 use crate::checks::{same, shows};
 use liq_core::{PlanFault, Protocol, Turn};

@@ -4,7 +4,7 @@ use Rattle.liq_core.specs.Core.{Core, state_of}
 use Rattle.liq_soundness.specs.SoundState.{IsSoundState}
 use Rattle.liq_core.proofs.Planning.{liquidate_ruled}
 use Rattle.liq_soundness.proofs.SoundStart.{started_with}
-use Rattle.liq_core.proofs.ToldVictims.{next_at, others_at, course_at, events_at, changes_at}
+use Rattle.liq_victims.proofs.ToldVictims.{next_at, others_at, course_at, events_at, changes_at}
 use Rattle.liq_core.proofs.engine.Protocol.plan_liquidate.Goals as goal
 
 pub pass-event-requires-clause-next : goal.pass-event-requires-clause-next

@@ -6,7 +6,7 @@ use Rattle.liq_core.specs.Core.{Core, state_of}
 use Rattle.liq_rules.specs.Liquidation.{lowest_values, offset_events, victim_changes}
 use Rattle.liq_rules.specs.Rules.{six}
 use Rattle.liq_soundness.specs.SoundState.{IsSoundState}
-use Rattle.liq_core.specs.Victims.{AreVictims}
+use Rattle.liq_victims.specs.Victims.{AreVictims}
 use Rattle.liq_core.proofs.Planning.{lowest_fits, lowest_ruled}
 use Rattle.liq_soundness.proofs.SoundStart.{started_with}
 use Rattle.liq_core.proofs.engine.Protocol.plan_liquidate_lowest.Goals as goal

@@ -32,17 +32,17 @@ use Rattle.liq_liquidation.specs.Applied.{words_left}
 use Rattle.liq_liquidation.specs.Lowest.{lowest, next_victim}
 use Rattle.liq_liquidation.specs.One.{one, liquidated, struck}
 use Rattle.liq_liquidation.proofs.Left.{left_books, left_words}
-use Rattle.liq_core.specs.declared.course.Course.{Course}
+use Rattle.liq_victims.specs.declared.course.Course.{Course}
 use Rattle.liq_rules.specs.Liquidation.{all_liquidated, offset_events, victim_changes, victim_events}
 use Rattle.liq_rules.specs.ListChanges.{words_in}
-use Rattle.liq_core.specs.Told.{told_of}
-use Rattle.liq_core.specs.Victims.{AreVictims, IsNext, course_of, course_after, course_words, offset_told}
+use Rattle.liq_victims.specs.Victims.{told_of}
+use Rattle.liq_victims.specs.Victims.{AreVictims, IsNext, course_of, course_after, course_words, offset_told}
 use Rattle.liq_soundness.proofs.SoundFacts.{Finds, finds_after}
 use Rattle.liq_soundness.proofs.SoundLiquidate.{Strikes, strikes, victim_leaves, found, lowest_by, lowest_paid, some_left, stakes_left, with_pay, struck_paid}
 use Rattle.liq_soundness.specs.SoundState.{IsSoundState}
 use Rattle.liq_soundness.proofs.SoundStep.{finds}
 use Rattle.liq_soundness.proofs.SoundTests.{sound_facts}
-use Rattle.liq_core.proofs.Striking.{no_victim, walked, victim_there, one_more, places_fit}
+use Rattle.liq_victims.proofs.Striking.{no_victim, walked, victim_there, one_more, places_fit}
 use Rattle.std.proofs.lemmas.Bool.{and_from, le-leb}
 use Rattle.liq_soundness.proofs.SoundEvents.{offset_paid}
 

@@ -7,12 +7,12 @@ use Rattle.liq_liquidation.specs.declared.one.Victim.{Victim}
 use Rattle.liq_liquidation.specs.Applied.{finished_in}
 use Rattle.liq_rules.specs.Liquidation.{all_liquidated}
 use Rattle.liq_soundness.specs.SoundState.{IsSoundState}
-use Rattle.liq_core.specs.Victims.{AreKept, AreVictims}
+use Rattle.liq_victims.specs.Victims.{AreKept, AreVictims}
 use Rattle.liq_soundness.proofs.SoundFacts.{Finds, finds_after}
 use Rattle.liq_soundness.proofs.SoundStep.{finds}
 use Rattle.liq_soundness.proofs.SoundTests.{sound_facts}
-use Rattle.liq_core.proofs.Striking.{no_victim, all_at, walked, victim_there, one_more, room_few, places_fit, planned_kept, within_kept, listed_kept, kept_next}
-use Rattle.liq_core.proofs.liquidations.strike.Goals as goal
+use Rattle.liq_victims.proofs.Striking.{no_victim, all_at, walked, victim_there, one_more, room_few, places_fit, planned_kept, within_kept, listed_kept, kept_next}
+use Rattle.liq_victims.proofs.liquidations.strike.Goals as goal
 
 -- what stands before the victim at an index
 finds_before : (s : State) → IsSoundState s → (liquidator : ℕ) → liquidator < ACCOUNTS → (vs : List Victim) → AreVictims s liquidator vs → (i : ℕ) → Finds (all_liquidated s liquidator (take i vs))

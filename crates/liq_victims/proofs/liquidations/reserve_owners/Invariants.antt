@@ -2,7 +2,7 @@ use Rattle.std.proofs.Common.{◌≡◌, take}
 use Rattle.std.specs.List.{AllByRecursion}
 use Rattle.liq_tables.specs.WithRoom.{HasRoom, KeepsRoom}
 use Rattle.liq_liquidation.specs.declared.one.Victim.{Victim}
-use Rattle.liq_core.proofs.liquidations.reserve_owners.Given as goal
+use Rattle.liq_victims.proofs.liquidations.reserve_owners.Given as goal
 
 abbrev pub invariant-loop-victim : goal.invariant-loop-victim
 invariant-loop-victim l = record {

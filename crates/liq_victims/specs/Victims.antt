@@ -25,7 +25,7 @@ use Rattle.liq_liquidation.specs.declared.one.One.{One}
 use Rattle.liq_liquidation.specs.declared.one.Victim.{Victim}
 use Rattle.liq_liquidation.specs.Applied.{words_left}
 use Rattle.liq_liquidation.specs.One.{one, liquidated}
-use Rattle.liq_core.specs.declared.course.Course.{Course}
+use Rattle.liq_victims.specs.declared.course.Course.{Course}
 use Rattle.liq_standing.specs.Books.{pools_of}
 
 -- each may be liquidated after those before it
@@ -57,6 +57,11 @@ offset_told words one =
     if one.offset_debt == 0
     then None
     else Some (Offset one.offset_debt one.offset_coll words.total (rise_of words.p (offset_in words one.offset_debt one.offset_coll)))
+
+-- one event or none
+abbrev pub told_of : Option PoolEvent → List PoolEvent
+told_of None = []
+told_of (Some event) = event ∷ []
 
 -- after a trove with this stake
 abbrev pub course_after : Course → ℕ → One → Course

@@ -2,7 +2,7 @@
 
 ghost use Rattle.std.specs.Prelude.{◌≡◌, ◌<◌};
 ghost use Rattle.liq_liquidation.specs.Applied.{words_left};
-ghost use Rattle.liq_core.specs.Victims.{IsNext, course_after, course_words, offset_told};
+ghost use Rattle.liq_victims.specs.Victims.{IsNext, course_after, course_words, offset_told};
 
 use liq_liquidation::One;
 use liq_num::mul_div;
@@ -12,7 +12,8 @@ use liq_types::{ListChange, PoolEvent};
 
 /// From what is told what liquidations do to the Stability Pool and to the ordered list.
 #[derive(Clone, Copy)]
-pub(crate) struct Course {
+pub struct Course {
+    /// The words of the Stability Pool.
     pub words: PoolWords,
     /// The stakes of all troves.
     pub stakes: u64,
@@ -24,7 +25,7 @@ pub(crate) struct Course {
 
 impl Course {
     /// Goes on behind the liquidation of a trove with this stake. Answers what the Stability Pool takes over, if anything.
-    pub(crate) fn pass(&mut self, stake: u64, one: &One) -> Option<PoolEvent>
+    pub fn pass(&mut self, stake: u64, one: &One) -> Option<PoolEvent>
         requires next { IsNext self.old one.now }
         requires others { stake < self.old.stakes }
         ensures event { result ≡ offset_told self.old.words one.now }
@@ -65,7 +66,7 @@ impl Course {
     }
 
     /// The words from which later keys are made.
-    pub(crate) fn list_words(&self) -> ListChange
+    pub fn list_words(&self) -> ListChange
         ensures { result ≡ course_words self.now }
     {
         ListChange::Words {

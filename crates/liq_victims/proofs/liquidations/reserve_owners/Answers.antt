@@ -2,8 +2,8 @@ use Rattle.std.proofs.Common.{ℕ, ◌<◌, zero, suc, List, [], ◌∷◌, take
 use Rattle.std.specs.List.{AllByRecursion}
 use Rattle.liq_tables.specs.WithRoom.{WithRoom, HasRoom, KeepsRoom}
 use Rattle.liq_liquidation.specs.declared.one.Victim.{Victim}
-use Rattle.liq_core.proofs.Striking.{no_victim}
-use Rattle.liq_core.proofs.liquidations.reserve_owners.Goals as goal
+use Rattle.liq_victims.proofs.Striking.{no_victim}
+use Rattle.liq_victims.proofs.liquidations.reserve_owners.Goals as goal
 
 abbrev HasOwner : WithRoom ℕ → Victim → Type 0
 HasOwner table v = HasRoom table v.account

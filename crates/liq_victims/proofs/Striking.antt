@@ -41,7 +41,7 @@ use Rattle.liq_liquidation.specs.Applied.{IsPlannedOn, StayWithin, finished_in, 
 use Rattle.liq_liquidation.specs.One.{one, liquidated, struck_books}
 use Rattle.liq_liquidation.proofs.Left.{left_beside, left_books, left_words, left_sums, left_list}
 use Rattle.liq_rules.specs.Liquidation.{all_liquidated}
-use Rattle.liq_core.specs.Victims.{AreVictims, AreKept}
+use Rattle.liq_victims.specs.Victims.{AreVictims, AreKept}
 use Rattle.liq_rules.proofs.AlikeChanges.{formed-lifted}
 use Rattle.liq_rules.proofs.Moving.{read_or}
 use Rattle.liq_soundness.proofs.SoundFacts.{Finds, Leaves, finds_after, leaves_itself, leaves_more, leaves_then}

@@ -1,9 +1,9 @@
 use Rattle.std.proofs.Common.{◌≡◌, ◌+◌, ◌≤◌, length, take}
 use Rattle.liq_types.specs.State.{State}
 use Rattle.liq_soundness.specs.SoundState.{IsSoundState}
-use Rattle.liq_core.specs.Victims.{AreKept, AreVictims}
+use Rattle.liq_victims.specs.Victims.{AreKept, AreVictims}
 use Rattle.liq_rules.specs.Liquidation.{all_liquidated}
-use Rattle.liq_core.proofs.liquidations.strike.Given as goal
+use Rattle.liq_victims.proofs.liquidations.strike.Given as goal
 
 abbrev pub invariant-loop-victim : goal.invariant-loop-victim
 invariant-loop-victim l = record {
