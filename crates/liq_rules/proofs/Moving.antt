@@ -14,7 +14,7 @@ use Rattle.liq_types.specs.Tables.{Table, at, put, without}
 use Rattle.liq_rules.specs.Identities.{wallets_coll, wallets_lusd, WalletsAscend}
 use Rattle.liq_types.proofs.UsedRows.{sum_by-put}
 use Rattle.liq_rules.proofs.Rows.{at-put_same, at-put_other, at-without_same, at-without_other}
-use Rattle.liq_ledger.proofs.Exchanging.{unused}
+use Rattle.liq_types.proofs.Tests.{unused}
 
 pub read_or : (f : Wallet → ℕ) → f no_wallet ≡ 0 → (o : Option Wallet) → unwrap_or (option_map f o) 0 ≡ f (unwrap_or o no_wallet)
 read_or f z None = sym z
