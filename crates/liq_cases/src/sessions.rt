@@ -30,11 +30,11 @@ impl<'a> BySession<'a> {
     fn push(&mut self, session: u8, text: &'a [u8]) -> Result<(), AllocError> {
         let here = self.texts.len();
         self.texts.push(text)?;
-        if let Some((start, end)) = self.ranges.get_mut(session as usize) {
-            if *end == 0 {
-                *start = here;
+        if let Some(range) = self.ranges.get_mut(session as usize) {
+            if range.1 == 0 {
+                range.0 = here;
             }
-            *end = here.saturating_add(1);
+            range.1 = here.saturating_add(1);
         }
         Ok(())
     }
