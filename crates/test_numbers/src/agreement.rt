@@ -4,12 +4,11 @@ ghost use Rattle.std.specs.Prelude.{IsTrue};
 
 use liq_borrow::Plan;
 use liq_types::Refusal;
-use std::fmt::Debug;
 use std::process::Abort;
 
 /// A number, or several, or a plan, is what was worked out.
-pub fn same<R: Abort, T: PartialEq + Debug>(rt: &R, got: &T, want: &T, what: &str) {
-    assert_eq!(rt; got, want, "{what}");
+pub fn same<R: Abort, T: PartialEq>(rt: &R, got: &T, want: &T, what: &str) {
+    assert!(rt; *got == *want, "{what}");
 }
 
 /// Something holds.

@@ -2,12 +2,11 @@
 
 ghost use Rattle.std.specs.Prelude.{IsTrue};
 
-use std::fmt::Debug;
 use std::process::Abort;
 
 /// A number, or several, or an answer, is what was worked out.
-pub fn same<R: Abort, T: PartialEq + Debug>(rt: &R, got: &T, want: &T, what: &str) {
-    assert_eq!(rt; got, want, "{what}");
+pub fn same<R: Abort, T: PartialEq>(rt: &R, got: &T, want: &T, what: &str) {
+    assert!(rt; *got == *want, "{what}");
 }
 
 /// Something holds.
