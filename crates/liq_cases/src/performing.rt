@@ -80,7 +80,7 @@ pub fn check<R: Threads + Wait + Sync>(
         u64::from(outcome.ended.status),
     );
     if run.status == 0 && are_serve(&run.words) {
-        check_served(rt, stage, told, &outcome.sink.bytes)
+        check_served(rt, stage, told, outcome)
     } else {
         check_output(told, &run.lines, &outcome.sink.bytes);
         Ok(())
@@ -92,6 +92,11 @@ fn check_output(told: &mut Told, lines: &Lines, came: &[u8]) {
     if came != lines.output.as_slice() {
         let difference = lines.difference(came);
         told.at.line = difference.line.unwrap_or(told.at.line);
-        told.bytes("output", difference.wanted, difference.came);
+        if difference.wanted == difference.came {
+            // Only the line end is another one, or what stands behind it.
+            told.bytes("output", &lines.output, came);
+        } else {
+            told.bytes("output", difference.wanted, difference.came);
+        }
     }
 }

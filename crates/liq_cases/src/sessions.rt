@@ -1,6 +1,6 @@
 //! What `serve` writes, taken apart, and asked again by one session.
 
-use crate::devices::Devices;
+use crate::devices::{Devices, Outcome};
 use crate::lines::{Lines, ends_line};
 use crate::performing::Stage;
 use crate::run::put_words;
@@ -35,6 +35,19 @@ impl<'a> BySession<'a> {
                 range.0 = here;
             }
             range.1 = here.saturating_add(1);
+        }
+        Ok(())
+    }
+
+    /// Appends the texts of a session below its heading, where it has any.
+    fn put_session(&self, text: &mut Vec<u8>, session: u8) -> Result<(), AllocError> {
+        let (start, end) = self.ranges.get(session as usize).copied().unwrap_or((0, 0));
+        if start < end {
+            text.extend_from_slice(b"session ")?;
+            put(text, Some(&[b'0'.saturating_add(session)]))?;
+        }
+        for line in self.texts.get(start..end).unwrap_or(&[]) {
+            put(text, Some(*line))?;
         }
         Ok(())
     }
@@ -129,21 +142,44 @@ fn taken_apart(alloc: Global, output: &[u8]) -> Result<Output<'_>, AllocError> {
     Ok(parts)
 }
 
+/// The output of which these are the parts.
+fn put_together(alloc: Global, parts: &Output<'_>) -> Result<Vec<u8>, AllocError> {
+    let mut text = Vec::new(alloc);
+    for session in 1..9u8 {
+        parts.replies.put_session(&mut text, session)?;
+    }
+    text.extend_from_slice(b"history\n")?;
+    let mut counts = Counts { counts: [0; 9] };
+    for session in &parts.history {
+        let index = counts.next(*session).saturating_add(1);
+        let entry = format!(in alloc; "{session} {index}\n")?;
+        text.extend_from_slice(entry.as_bytes())?;
+    }
+    Ok(text)
+}
+
 /// Tells where the output of sessions is not what it must be: each session's replies, and a history that has each line once.
 pub fn check_served<R: Threads + Wait + Sync>(
     rt: &R,
     stage: &Stage<'_>,
     told: &mut Told,
-    output: &[u8],
+    served: &Outcome,
 ) -> Result<(), AllocError> {
+    let output = served.sink.bytes.as_slice();
     let lines = asked(stage.alloc, &stage.run.lines.input)?;
     let parts = taken_apart(stage.alloc, output)?;
+    told.bytes("form", &put_together(stage.alloc, &parts)?, output);
     let count = lines.texts.len() as u64;
     told.number("entries of the history", count, parts.history.len() as u64);
     told.number("entries out of order", 0, parts.out_of_order);
     told.number("replies", count, parts.replies.texts.len() as u64);
-    check_legal(rt, stage, told, &lines, &parts)?;
+    check_legal(rt, stage, told, &lines, &parts, served)?;
     if stage.run.legal {
+        told.number(
+            "bytes of replies that nothing compares",
+            0,
+            stage.run.lines.output.len() as u64,
+        );
         return Ok(());
     }
     check_replies(stage.alloc, told, &stage.run.lines, output)
@@ -196,13 +232,15 @@ fn put(text: &mut Vec<u8>, line: Option<&[u8]>) -> Result<(), AllocError> {
     text.extend_from_slice(b"\n")
 }
 
-/// Tells where one session that asks the lines along the history, over the disks with which the run began, gets other replies.
+/// Tells where one session that asks the lines along the history, over the disks with which the run began, gets other replies, or
+/// leaves other disks than the run did.
 fn check_legal<R: Threads + Wait + Sync>(
     rt: &R,
     stage: &Stage<'_>,
     told: &mut Told,
     lines: &BySession<'_>,
     parts: &Output<'_>,
+    served: &Outcome,
 ) -> Result<(), AllocError> {
     let merged = merge(stage.alloc, lines, parts)?;
     let mut words = Vec::new(stage.alloc);
@@ -222,6 +260,16 @@ fn check_legal<R: Threads + Wait + Sync>(
         "replies along the history",
         &merged.replies,
         &outcome.sink.bytes,
+    );
+    told.bytes(
+        "left disk along the history",
+        outcome.ended.left.bytes(),
+        served.ended.left.bytes(),
+    );
+    told.bytes(
+        "right disk along the history",
+        outcome.ended.right.bytes(),
+        served.ended.right.bytes(),
     );
     Ok(())
 }

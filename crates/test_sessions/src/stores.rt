@@ -46,7 +46,9 @@ fn script(alloc: Global, session: u8, requests: usize) -> Result<Script, Fail>
 {
     let mut list = Requests::new(alloc);
     for before in 0..requests {
-        list.push(asked_at(session, before as u64 + 1))?;
+        if list.push(asked_at(session, before as u64 + 1)).is_err() {
+            return Err(Fail::from("no memory"));
+        }
     }
     Ok(Script {
         session,
