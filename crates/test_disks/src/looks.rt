@@ -173,22 +173,17 @@ fn bodies_are_read_back(rt: HostRuntime) -> Result<(), Fail> {
     Ok(())
 }
 
-// What is found in place of the body of the journal's only record, which has these bytes.
-fn body_of_one(journal: &mut Journal<MemoryDisk>, bytes: &[u8; 96]) -> Found {
+// What is found in place of the body of a new journal's only record, which has these bytes.
+fn find_body(disk: MemoryDisk, bytes: &[u8; 96]) -> Found {
+    let Ok(mut journal) = Journal::create(disk, 1, &[]) else {
+        return Found::DiskFault;
+    };
     if journal.append(bytes).is_err() {
         return Found::DiskFault;
     }
-    match body(journal, 1) {
+    match body(&mut journal, 1) {
         Ok(_) => Found::Records(1),
         Err(found) => found,
-    }
-}
-
-// The same, on a new disk.
-fn find_body(disk: MemoryDisk, bytes: &[u8; 96]) -> Found {
-    match Journal::create(disk, 1, &[]) {
-        Ok(mut journal) => body_of_one(&mut journal, bytes),
-        Err(_) => Found::DiskFault,
     }
 }
 
