@@ -99,8 +99,10 @@ const MOST: usize = 3;
 // Whether the last line is cut where one of its five calls fails, or whole where none does, and the status stays.
 fn is_cut(alloc: Global, long: &Long, call: usize) -> Result<bool, AllocError> {
     let text = long.text.as_slice();
-    let held = text.get(..4 * LINES + MOST * call).unwrap_or(text);
-    let ran = run_on(alloc, &long.lines, MOST, 2 * LINES + call, held)?;
+    let written = (4 * LINES).saturating_add(call.saturating_mul(MOST));
+    let held = text.get(..written).unwrap_or(text);
+    let failing = (2 * LINES).saturating_add(call);
+    let ran = run_on(alloc, &long.lines, MOST, failing, held)?;
     Ok(ran.status == 8 && ran.is_text)
 }
 
