@@ -33,6 +33,11 @@ impl Drip {
     pub fn bytes(&self) -> &[u8] {
         &self.bytes
     }
+
+    /// How many calls it had.
+    pub fn calls(&self) -> usize {
+        self.calls
+    }
 }
 
 impl Sink for Drip {

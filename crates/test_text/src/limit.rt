@@ -76,6 +76,7 @@ fn long_run(alloc: Global) -> Result<Long, AllocError> {
 struct Ran {
     status: u64,
     is_text: bool,
+    calls: usize,
 }
 
 fn run_on(
@@ -90,18 +91,19 @@ fn run_on(
     Ok(Ran {
         status,
         is_text: sink.bytes() == text,
+        calls: sink.calls(),
     })
 }
 
-// How many bytes a call takes. A reply has four, so it takes two calls.
+// How many bytes a call takes at the most: the last line has fourteen, so it takes the last five calls.
 const MOST: usize = 3;
 
 // Whether the last line is cut where one of its five calls fails, or whole where none does, and the status stays.
-fn is_cut(alloc: Global, long: &Long, call: usize) -> Result<bool, AllocError> {
+fn is_cut(alloc: Global, long: &Long, calls: usize, call: usize) -> Result<bool, AllocError> {
     let text = long.text.as_slice();
     let written = (4 * LINES).saturating_add(call.saturating_mul(MOST));
     let held = text.get(..written).unwrap_or(text);
-    let failing = (2 * LINES).saturating_add(call);
+    let failing = calls.saturating_sub(5).saturating_add(call);
     let ran = run_on(alloc, &long.lines, MOST, failing, held)?;
     Ok(ran.status == 8 && ran.is_text)
 }
@@ -119,9 +121,11 @@ fn limit(rt: HostRuntime) -> Result<(), Fail> {
     let ran = run_on(alloc, &long.lines, 65_536, usize::MAX, &long.text)?;
     same(&rt, ran.status, 8, "one line more");
     shows(&rt, "the limit behind the replies", ran.is_text);
+    let whole = run_on(alloc, &long.lines, MOST, usize::MAX, &long.text)?;
+    shows(&rt, "the limit in small pieces", whole.is_text);
     // Behind the last of its calls nothing fails.
     for call in 0..6 {
-        let cut = is_cut(alloc, &long, call)?;
+        let cut = is_cut(alloc, &long, whole.calls, call)?;
         shows(&rt, "the last line, cut", cut);
     }
     Ok(())
