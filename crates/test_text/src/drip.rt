@@ -12,6 +12,8 @@ pub struct Drip {
     most: usize,
     failing: usize,
     calls: usize,
+    /// How many bytes were held when each call began.
+    before: Vec<usize>,
     faults: u64,
     ghost some: { 0 < most },
 }
@@ -25,6 +27,7 @@ impl Drip {
             most,
             failing,
             calls: 0,
+            before: Vec::new(alloc),
             faults: 0,
         }
     }
@@ -38,6 +41,11 @@ impl Drip {
     pub fn calls(&self) -> usize {
         self.calls
     }
+
+    /// How many bytes were held when a call began; all that were written where there was no such call.
+    pub fn before(&self, call: usize) -> usize {
+        self.before.get(call).copied().unwrap_or(self.bytes.len())
+    }
 }
 
 impl Sink for Drip {
@@ -49,7 +57,8 @@ impl Sink for Drip {
         let count = bytes.len().min(self.most);
         let fails = self.calls == self.failing;
         self.calls = self.calls.saturating_add(1);
-        if fails || self.bytes.extend_from_slice(&bytes[..count]).is_err() {
+        let noted = self.before.push(self.bytes.len());
+        if fails || noted.is_err() || self.bytes.extend_from_slice(&bytes[..count]).is_err() {
             self.faults = self.faults.saturating_add(1);
             return Err(Failed);
         }

@@ -76,7 +76,6 @@ fn long_run(alloc: Global) -> Result<Long, AllocError> {
 struct Ran {
     status: u64,
     is_text: bool,
-    calls: usize,
 }
 
 fn run_on(
@@ -91,19 +90,24 @@ fn run_on(
     Ok(Ran {
         status,
         is_text: sink.bytes() == text,
-        calls: sink.calls(),
     })
 }
 
-// How many bytes a call takes at the most: the last line has fourteen, so it takes the last five calls.
+// How many bytes a call takes at the most.
 const MOST: usize = 3;
 
-// Whether the last line is cut where one of its five calls fails, or whole where none does, and the status stays.
-fn is_cut(alloc: Global, long: &Long, calls: usize, call: usize) -> Result<bool, AllocError> {
+// What a sink that takes few bytes in a call got of all.
+fn whole_run(alloc: Global, long: &Long) -> Result<Drip, AllocError> {
+    let mut sink = Drip::new(alloc, MOST, usize::MAX);
+    run(alloc, &long.lines, &mut sink)?;
+    Ok(sink)
+}
+
+// Whether the text is cut where one of its last five calls fails, or whole where none does, and the status stays.
+fn is_cut(alloc: Global, long: &Long, whole: &Drip, call: usize) -> Result<bool, AllocError> {
+    let failing = whole.calls().saturating_sub(5).saturating_add(call);
     let text = long.text.as_slice();
-    let written = (4 * LINES).saturating_add(call.saturating_mul(MOST));
-    let held = text.get(..written).unwrap_or(text);
-    let failing = calls.saturating_sub(5).saturating_add(call);
+    let held = text.get(..whole.before(failing)).unwrap_or(text);
     let ran = run_on(alloc, &long.lines, MOST, failing, held)?;
     Ok(ran.status == 8 && ran.is_text)
 }
@@ -121,11 +125,12 @@ fn limit(rt: HostRuntime) -> Result<(), Fail> {
     let ran = run_on(alloc, &long.lines, 65_536, usize::MAX, &long.text)?;
     same(&rt, ran.status, 8, "one line more");
     shows(&rt, "the limit behind the replies", ran.is_text);
-    let whole = run_on(alloc, &long.lines, MOST, usize::MAX, &long.text)?;
-    shows(&rt, "the limit in small pieces", whole.is_text);
+    let whole = whole_run(alloc, &long)?;
+    let is_text = whole.bytes() == long.text.as_slice();
+    shows(&rt, "the limit in small pieces", is_text);
     // Behind the last of its calls nothing fails.
     for call in 0..6 {
-        let cut = is_cut(alloc, &long, whole.calls, call)?;
+        let cut = is_cut(alloc, &long, &whole, call)?;
         shows(&rt, "the last line, cut", cut);
     }
     Ok(())
