@@ -5,4 +5,5 @@ mod serve;
 mod top;
 
 pub use liq_sessions::OpenGate;
+pub use liq_words::takes_disks;
 pub use top::{Ended, protocol, without_threads, without_words};

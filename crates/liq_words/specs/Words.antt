@@ -19,3 +19,8 @@ IsInRange _ = Unit {0}
 -- the words are just those that ask for it
 abbrev pub Ask : List (List ℕ) → Word → Type 0
 Ask words word = IsInRange word × (words ≡ words_of word)
+
+-- it uses the disks
+abbrev pub UsesDisks : Word → Type 0
+UsesDisks (Gen seed count) = ⊥
+UsesDisks _ = Unit {0}

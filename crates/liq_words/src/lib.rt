@@ -4,4 +4,4 @@
 mod line;
 mod words;
 
-pub use words::{COUNT_MOST, Word, WordsFault, read_words};
+pub use words::{COUNT_MOST, Word, WordsFault, read_words, takes_disks};

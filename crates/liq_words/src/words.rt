@@ -4,7 +4,7 @@ ghost use Rattle.std.specs.Prelude.{◌≡◌, ◌↔◌, ◌⊎◌, ◌∷◌, 
 ghost use Rattle.std.specs.String.{string_bytes};
 ghost use Rattle.clap.specs.Words.{subcommand_rows_of};
 ghost use Rattle.liq_words.specs.Reading.{HasRead};
-ghost use Rattle.liq_words.specs.Words.{Ask, IsInRange};
+ghost use Rattle.liq_words.specs.Words.{Ask, IsInRange, UsesDisks};
 ghost use Rattle.liq_words.specs.declared.words.Word.{Word};
 
 use crate::line::line;
@@ -53,6 +53,14 @@ pub fn read_words(alloc: Global, words: &[String]) -> Result<Word, WordsFault>
     }
     let matches = line(alloc)?.try_get_matches_from(words)?;
     word_of(&matches).ok_or(WordsFault::Usage)
+}
+
+/// Whether the words ask for something that uses the disks, which is all but `gen`. It takes no memory.
+pub fn takes_disks(words: &[String]) -> bool
+    ensures asks { IsTrue result → (word : Word) × Ask (map string_bytes words.now) word × UsesDisks word }
+    ensures all { (word : Word) → Ask (map string_bytes words.now) word → UsesDisks word → IsTrue result }
+{
+    matches!(words, [word] if alone(word).is_some())
 }
 
 /// Whether the words ask for something.
