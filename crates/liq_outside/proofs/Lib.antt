@@ -1,3 +1,4 @@
+mod Loops
 pub mod Moments
 pub mod Steps
 mod Tearing

@@ -1,4 +1,4 @@
-use Rattle.std.specs.Prelude.{ℕ, ◌≡◌, Bool, List, Result}
+use Rattle.std.specs.Prelude.{ℕ, ◌≡◌, List, Result}
 use Rattle.std.specs.Result.{MatchResult}
 use Rattle.liq_outside.specs.Calls.{one_more}
 
@@ -10,11 +10,6 @@ pub record Counted (T : Type 0) : Type 0 where
 -- each failure is counted, and nothing else
 abbrev pub CountsFailure : {T E : Type 0} → Result T E → ℕ → ℕ → Type 0
 CountsFailure result before after = MatchResult result (λ _. after ≡ before) (λ _. after ≡ one_more before)
-
--- whether there is a file, and how many of the calls have failed
-pub record MaybeFile : Type 0 where
-  pub is_there : Bool
-  pub faults : ℕ
 
 -- what a crash may leave of a file, of which nothing is told
 abbrev pub AnyImage : List ℕ → Type 0

@@ -1,5 +1,6 @@
 pub mod Adapters
 pub mod Calls
+pub mod Devices
 pub mod Disk
 pub mod DiskInMemory
 pub mod Faults

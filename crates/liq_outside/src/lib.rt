@@ -7,21 +7,27 @@
 
 mod adapters;
 mod crash;
+mod device;
+mod device_disk;
 mod disk;
 mod failed;
 mod file_disk;
 mod made;
 mod memory;
+mod memory_device;
 mod memory_disk;
 mod schedule;
 mod sink;
 mod source;
 
 pub use adapters::{StdSink, StdSource};
+pub use device::Device;
+pub use device_disk::DeviceDisk;
 pub use disk::{Disk, calls_keep_to_their_time};
 pub use failed::Failed;
 pub use file_disk::FileDisk;
 pub use memory::{MemorySink, MemorySource};
+pub use memory_device::MemoryDevice;
 pub use memory_disk::MemoryDisk;
 pub use sink::Sink;
 pub use source::Source;

@@ -1,0 +1,177 @@
+// A device as a disk: each of its calls is made again until all is done. As such it tells no content, and any image may be left.
+ghost use Rattle.std.specs.Prelude.{◌≡◌, ◌≤◌, ◌+◌, ◌-◌, ◌^◌, None, Some, List, ℕ, is_some, length, min, take, drop, option_and_then, IfOk, IfSome, IsErr, OnOk, OnErr};
+ghost use Rattle.liq_outside.specs.Adapters.{AnyImage, CountsFailure};
+ghost use Rattle.liq_outside.specs.Devices.{TellsFailure};
+ghost use Rattle.liq_outside.specs.Disk.{Follows, Torn, overwritten};
+ghost use Rattle.liq_outside.specs.Faults.{HasCause};
+
+use super::device::Device;
+use super::disk::Disk;
+use super::failed::Failed;
+use std::marker::Model;
+
+/// A device as a disk: where one call of the device does a part of what is asked, the next goes on behind it.
+///
+/// Without a device every call fails and is counted. A contract sees the device, and how many calls failed.
+#[derive(Drop)]
+pub struct DeviceDisk<V> {
+    device: Option<V>,
+    faults: u64,
+}
+
+impl<V> Model for DeviceDisk<V> {
+    ghost use Rattle.liq_outside.specs.Devices.{OverDevice};
+
+    ghost Value = { OverDevice V };
+
+    ghost view = { λ d. record { device = d.device; faults = d.faults } };
+}
+
+impl<V: Device> DeviceDisk<V> {
+    /// The disk over this device, or over none.
+    pub fn over(device: Option<V>) -> Self
+        ensures device { result.device ≡ device }
+        ensures faults { result.faults ≡ 0 }
+    {
+        DeviceDisk { device, faults: 0 }
+    }
+
+    /// Whether there is a device.
+    pub fn is_there(&self) -> bool
+        ensures { result ≡ is_some self.now.device }
+    {
+        self.device.is_some()
+    }
+}
+
+impl<V: Device> Disk for DeviceDisk<V> {
+    ghost seen = { λ _. None };
+
+    ghost moment = { λ _. 0 };
+
+    ghost left_at = { λ _ _ image. AnyImage image };
+
+    ghost faults = { λ d. d.faults };
+
+    ghost seen_may_stay = { λ disk held is. tt };
+
+    fn length(&mut self) -> Result<u64, Failed>
+        ensures told { IfOk result (λ n. IfSome (option_and_then V.held self.old.device) (λ old. n ≡ length old)) }
+        ensures same { option_and_then V.held self.new.device ≡ option_and_then V.held self.old.device }
+        ensures missing { self.old.device ≡ None → IsErr result }
+        ensures there { is_some self.new.device ≡ is_some self.old.device }
+        ensures caused { TellsFailure result (option_and_then V.failures self.old.device) (option_and_then V.failures self.new.device) }
+        ensures counted { CountsFailure result self.old.faults self.new.faults }
+        ensures cause { HasCause self.old.faults self.new.faults result }
+    {
+        let answer = match &mut self.device {
+            Some(device) => device.length(),
+            None => Err(Failed),
+        };
+        counted(&mut self.faults, answer)
+    }
+
+    fn read_at(&mut self, at: u64, buf: &mut [u8]) -> Result<usize, Failed>
+        ensures fits { IfOk result (λ n. n ≤ length buf.old) }
+        // As far as places go.
+        ensures told { at + length buf.old ≤ 2 ^ 64 → IfOk result (λ n. IfSome (option_and_then V.held self.old.device) (λ old. (n ≡ min (length buf.old) (length old - at)) × (take n buf.new ≡ take n (drop at old)))) }
+        ensures same { option_and_then V.held self.new.device ≡ option_and_then V.held self.old.device }
+        ensures missing { self.old.device ≡ None → IsErr result }
+        ensures there { is_some self.new.device ≡ is_some self.old.device }
+        ensures caused { TellsFailure result (option_and_then V.failures self.old.device) (option_and_then V.failures self.new.device) }
+        ensures counted { CountsFailure result self.old.faults self.new.faults }
+        ensures cause { HasCause self.old.faults self.new.faults result }
+    {
+        let answer = match &mut self.device {
+            Some(device) => filled(device, at, buf),
+            None => Err(Failed),
+        };
+        counted(&mut self.faults, answer)
+    }
+
+    fn write_at(&mut self, at: u64, bytes: &[u8]) -> Result<(), Failed>
+        requires limit { at + length bytes.now ≤ 2 ^ 40 }
+        ensures written { OnOk result ((old : List ℕ) → option_and_then V.held self.old.device ≡ Some old → at ≤ length old → option_and_then V.held self.new.device ≡ Some (overwritten old at bytes.now)) }
+        ensures missing { self.old.device ≡ None → IsErr result }
+        ensures there { is_some self.new.device ≡ is_some self.old.device }
+        ensures crash { Follows (Torn at (length bytes.now)) AnyImage AnyImage }
+        ensures caused { TellsFailure result (option_and_then V.failures self.old.device) (option_and_then V.failures self.new.device) }
+        ensures counted { CountsFailure result self.old.faults self.new.faults }
+        ensures cause { HasCause self.old.faults self.new.faults result }
+    {
+        let answer = match &mut self.device {
+            Some(device) => written(device, at, bytes),
+            None => Err(Failed),
+        };
+        counted(&mut self.faults, answer)
+    }
+
+    fn sync(&mut self) -> Result<(), Failed>
+        ensures synced { OnOk result (option_and_then V.synced self.new.device ≡ option_and_then V.held self.old.device) }
+        ensures same { option_and_then V.held self.new.device ≡ option_and_then V.held self.old.device }
+        ensures missing { self.old.device ≡ None → IsErr result }
+        ensures there { is_some self.new.device ≡ is_some self.old.device }
+        ensures caused { TellsFailure result (option_and_then V.failures self.old.device) (option_and_then V.failures self.new.device) }
+        ensures counted { CountsFailure result self.old.faults self.new.faults }
+        ensures cause { HasCause self.old.faults self.new.faults result }
+    {
+        let answer = match &mut self.device {
+            Some(device) => device.sync(),
+            None => Err(Failed),
+        };
+        counted(&mut self.faults, answer)
+    }
+
+    fn faults(&self) -> u64 {
+        self.faults
+    }
+}
+
+// The answer, which is counted where it is a failure. The count stays at its last value.
+fn counted<T>(faults: &mut u64, answer: Result<T, Failed>) -> Result<T, Failed>
+    ensures same { result ≡ answer }
+    ensures counted { CountsFailure answer faults.old faults.new }
+    ensures count { faults.old ≤ faults.new }
+{
+    match answer {
+        Ok(value) => Ok(value),
+        Err(Failed) => {
+            *faults = faults.saturating_add(1);
+            Err(Failed)
+        }
+    }
+}
+
+// One read may give less than there is, so it goes on until the buffer is full or the device ends.
+fn filled<V: Device>(device: &mut V, at: u64, buf: &mut [u8]) -> Result<usize, Failed>
+    ensures fits { IfOk result (λ n. n ≤ length buf.old) }
+    ensures told { at + length buf.old ≤ 2 ^ 64 → IfOk result (λ n. IfSome (V.held device.old) (λ old. (n ≡ min (length buf.old) (length old - at)) × (take n buf.new ≡ take n (drop at old)))) }
+    ensures same { V.held device.new ≡ V.held device.old }
+    ensures kept { V.synced device.new ≡ V.synced device.old }
+    ensures counted { TellsFailure result (V.failures device.old) (V.failures device.new) }
+{
+    let mut count = 0;
+    while count < buf.len() {
+        let more = device.read_some(at.saturating_add(count as u64), &mut buf[count..])?;
+        if more == 0 {
+            return Ok(count);
+        }
+        count += more;
+    }
+    Ok(count)
+}
+
+// One write may take less than it is given, so it goes on behind what was taken.
+fn written<V: Device>(device: &mut V, at: u64, bytes: &[u8]) -> Result<(), Failed>
+    requires { at + length bytes.now ≤ 2 ^ 40 }
+    ensures written { OnOk result ((old : List ℕ) → V.held device.old ≡ Some old → at ≤ length old → V.held device.new ≡ Some (overwritten old at bytes.now)) }
+    ensures telling { is_some (V.held device.new) ≡ is_some (V.held device.old) }
+    ensures kept { V.synced device.new ≡ V.synced device.old }
+    ensures counted { TellsFailure result (V.failures device.old) (V.failures device.new) }
+{
+    let mut count = 0;
+    while count < bytes.len() {
+        count += device.write_some(at + count as u64, &bytes[count..])?;
+    }
+    Ok(())
+}
