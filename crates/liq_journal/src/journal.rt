@@ -57,6 +57,7 @@ impl<D: Disk> Journal<D> {
     /// A crash in it leaves a disk on which none is open, or the disk as it was, or with another byte at
     /// place 0, or the new journal, with any byte there until the last sync.
     pub fn create(disk: D, generation: u64, checkpoint: &[u8]) -> Result<Journal<D>, CreateFault<D>>
+        requires from_one { 1 ≤ generation }
         requires limit { length checkpoint.now ≤ 2 ^ 36 }
         requires size { is_size generation (length checkpoint.now) ≡ true }
 

@@ -19,12 +19,14 @@ pub record HoldsRecord (odd : Bool) (bytes : List ℕ) (w : Written) (s : State)
 abbrev pub IsRotationOf : State → Written → Command → Type 0
 IsRotationOf s w c = ⊥
 
--- With an open gate at place 0 it is the journal after this rotation, without records and with a 0 where the first one's gate is.
+-- With an open gate at place 0 it is the journal after this rotation, which the state accepts, without records and with a 0 where the
+-- first one's gate is.
 pub record HoldsRotation (odd : Bool) (bytes : List ℕ) (s : State) (c : Command) : Type 0 where
   pub written : Written
   pub stands : Stands odd (opened 0 bytes) written
   pub none : written.commands ≡ []
   pub rotation : IsRotationOf s written c
+  pub allowed : ruling s c ≡ Allowed
 
 -- With an open gate at place 0 it is an undamaged journal of a smaller generation, with a 0 behind its last record.
 pub record IsOlder (odd : Bool) (bytes : List ℕ) (generation : ℕ) : Type 0 where
