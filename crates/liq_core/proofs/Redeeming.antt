@@ -38,7 +38,8 @@ use Rattle.liq_redemption.specs.Given as given
 use Rattle.liq_redemption.specs.Parts.{Parts, parts_of, parts_with, books_in, lifted_parts, placed_parts, closed_parts, cut_own, cut_parts, redeemed_parts, redeemed_wallets}
 use Rattle.liq_redemption.specs.Redemption.{RedeemTerms, Visit, visited, visited_by, redeeming_terms, redeem_plan, cut_entire, cut_down, redeemed_by}
 use Rattle.liq_redemption.proofs.Following.{redeemed_follows, redeemed_pays}
-use Rattle.liq_redemption.proofs.Once.{order_distinct, order_has_each}
+use Rattle.liq_order.proofs.Present.{order_has_each}
+use Rattle.liq_order.proofs.Ranking.{order_distinct}
 use Rattle.liq_core.specs.declared.engine.Protocol.TheInside.{Inside}
 use Rattle.liq_standing.specs.Books.{books_kept}
 use Rattle.liq_core.specs.Core.{Core, Changes, state_of}

@@ -1,7 +1,6 @@
 pub mod Ahead
 pub mod Cutting
 pub mod Following
-pub mod Once
 pub mod Parts
 pub mod Paying
 pub mod Taking

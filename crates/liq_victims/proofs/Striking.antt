@@ -27,7 +27,7 @@ use Rattle.liq_troves.specs.Standing.{Books, books_of}
 use Rattle.liq_troves.specs.StakeSums.{trove_row, trove_rows, sums_words}
 use Rattle.liq_order.specs.Listed.{Listed}
 use Rattle.liq_order.specs.Order.{trove_order}
-use Rattle.liq_redemption.proofs.Once.{order_has_each}
+use Rattle.liq_order.proofs.Present.{order_has_each}
 use Rattle.liq_stability.specs.Kept as stability
 use Rattle.liq_stability.specs.Kept.{room_for}
 use Rattle.liq_stability.specs.declared.words.FinishedSum.{FinishedSum}

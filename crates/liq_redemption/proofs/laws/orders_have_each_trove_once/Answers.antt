@@ -1,4 +1,5 @@
-use Rattle.liq_redemption.proofs.Once.{order_distinct, order_has_each}
+use Rattle.liq_order.proofs.Present.{order_has_each}
+use Rattle.liq_order.proofs.Ranking.{order_distinct}
 use Rattle.liq_redemption.proofs.laws.orders_have_each_trove_once.Goals as goal
 
 pub returns-clause-once : goal.returns-clause-once

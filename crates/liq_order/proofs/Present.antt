@@ -1,9 +1,6 @@
--- The order of the troves has each of them once.
+-- Each trove of a table is in its order.
 use Rattle.std.proofs.Common.{◌≡◌, ℕ, ℤ, Bool, true, false, cond, List, [], ◌∷◌, fold, refl, sym, ap, ◌∙◌, subst, Some, Option, arith}
-use Rattle.std.specs.Prelude.{◌≢◌, ◌==◌, find, option_map, IsSome, is_some}
-use Rattle.std.specs.List.{AllByRecursion}
-use Rattle.std.specs.List.Sorted.{IsStrictlySortedBy}
-use Rattle.std.specs.Map.{keys_of}
+use Rattle.std.specs.Prelude.{◌==◌, find, option_map, IsSome, is_some}
 use Rattle.std.specs.Ordering.{nat_cmp, is_eq, match_ordering}
 use Rattle.std.specs.declared.cmp.Ordering.{Ordering}
 use Rattle.std.specs.declared.cmp.Ordering.TheVariants.{Less, Equal, Greater}
@@ -11,45 +8,10 @@ use Rattle.std.proofs.lemmas.Bool.Decides.{nat_tests}
 use Rattle.liq_types.specs.declared.figures.Trove.{Trove}
 use Rattle.liq_types.specs.Ranked.{Ranked, key_in, with_ranked, rank_order}
 use Rattle.liq_types.specs.Tables.{Table, at}
-use Rattle.liq_types.specs.WellFormed.{Ascends}
 use Rattle.liq_types.proofs.Places.{nat_cmp-eq}
 use Rattle.liq_troves.specs.Rows.{key_by}
-use Rattle.liq_order.specs.Listed.{IsAbsent, AreDistinct}
 use Rattle.liq_order.specs.Order.{ranks, order_by}
-use Rattle.liq_order.proofs.Placed.{with_distinct}
-use Rattle.liq_order.proofs.Sorting.{with_absent}
 use Rattle.liq_order.proofs.Listing.{key_with_other}
-
--- ---- none twice
-
--- no row's account is in the list
-abbrev AreNew : List Ranked → Table Trove → Type 0
-AreNew list table = AllByRecursion (λ (row : ℕ × Trove). IsAbsent row.0 list) table
-
-less_differs : (a b : ℕ) → nat_cmp a b ≡ Less → a ≢ b
-less_differs a b less same = clash (sym (nat_cmp-eq a b) ∙ ap is_eq less) where
-  clash : (a == b) ≡ false → ⊥
-  clash e = grind (arith, nat_tests, e, same)
-
-still_new : (list : List Ranked) (e : Ranked) (table : Table Trove) → AllByRecursion (λ y. nat_cmp e.1 y ≡ Less) (keys_of table) → AreNew list table → AreNew (with_ranked list e) table
-still_new list e [] below h = tt
-still_new list e (row ∷ rows) below h =
-    (with_absent list e row.0 (less_differs e.1 row.0 below.0) h.0, still_new list e rows below.1 h.1)
-
-all_distinct : (table : Table Trove) (list : List Ranked) → Ascends table → AreNew list table → AreDistinct list → AreDistinct (fold with_ranked list (ranks table))
-unfolding IsStrictlySortedBy
-all_distinct [] list s n h = h
-all_distinct (row ∷ rows) list s n h =
-    all_distinct rows (with_ranked list (key_by row.1, row.0)) s.1 (still_new list (key_by row.1, row.0) rows s.0 n.1) (with_distinct list (key_by row.1, row.0) n.0 h)
-
-none_new : (table : Table Trove) → AreNew [] table
-none_new [] = tt
-none_new (row ∷ rows) = (tt, none_new rows)
-
-pub order_distinct : (troves : Table Trove) → Ascends troves → AreDistinct (order_by troves)
-order_distinct troves s = all_distinct troves [] s (none_new troves) tt
-
--- ---- each is there
 
 abbrev key_or : Ranked → ℕ → Bool → List Ranked → Option ℤ
 key_or e account b es = option_map (λ (f : Ranked). f.0) (cond b (Some e) (find (λ (f : Ranked). f.1 == account) es))
