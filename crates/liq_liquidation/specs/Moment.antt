@@ -1,5 +1,5 @@
 -- Moments: what a liquidation reads of a state, and what it leaves of that for the next one.
-use Rattle.std.specs.Prelude.{◌≡◌, ℕ, zero, suc, ◌+◌, ◌-◌, ◌≤◌, Option, Some, None, Result, Ok, Err, List, [], ◌∷◌, length}
+use Rattle.std.specs.Prelude.{◌≡◌, ℕ, zero, suc, ◌+◌, ◌-◌, ◌≤◌, Option, Some, None, Result, Ok, Err, List, [], ◌∷◌, length, IsOk}
 use Rattle.liq_types.specs.declared.amounts.TheConstants.{LIM}
 use Rattle.liq_types.specs.declared.figures.Market.{Market}
 use Rattle.liq_types.specs.declared.figures.Trove.{Trove}
@@ -86,10 +86,10 @@ lowest_from now (suc more) = elim (next_at now) [ Err refusal ↦ [] | Ok v ↦ 
 abbrev pub plan_from : Moment → ℕ → Result (List Victim) Refusal
 plan_from now count = elim (next_at now) [ Err refusal ↦ Err refusal | Ok v ↦ Ok (lowest_from now count) ]
 
--- an answer that is no plan: this is refused, or there was no memory
+-- an answer that is no plan: this is refused, or there was no memory, where the first of them may be liquidated
 abbrev pub IsFaultOf : Result (List Victim) Refusal → LowestFault → Type 0
 IsFaultOf plan (No refusal) = plan ≡ Err refusal
-IsFaultOf plan NoMemory = Unit {0}
+IsFaultOf plan NoMemory = IsOk plan
 
 -- ---- moments of sound states
 

@@ -19,14 +19,14 @@ use std::alloc::Global;
 pub enum LowestFault {
     /// The first of them may not be liquidated.
     No(Refusal),
-    /// There is no memory for the plan.
+    /// There is no memory for the plan. The first of them may be liquidated.
     NoMemory,
 }
 
 /// The lowest troves, at most n of them, as they would be liquidated one after the other: each is the last of the list, is
 /// treated by the mode of its moment, and leaves the totals, the sums and the pool for the next. It ends before the first that
 /// may not be liquidated; where that is the very first, its refusal is the answer, and `LastTrove` where there is no trove.
-/// Nothing is changed.
+/// So there may be no memory only where the first may be liquidated. Nothing is changed.
 pub fn plan_lowest(
     alloc: Global,
     m: &Market,

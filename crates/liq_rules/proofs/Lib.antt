@@ -2,6 +2,7 @@ pub mod Alike
 pub mod AlikeChanges
 pub mod AlikeFollowed
 pub mod AlikeLiquidation
+pub mod AlikeLists
 pub mod AlikeReads
 pub mod AlikeRedemption
 pub mod AlikeReplies

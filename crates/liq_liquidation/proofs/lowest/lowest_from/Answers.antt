@@ -1,8 +1,12 @@
-use Rattle.std.proofs.Common.{sym, ap, subst, ◌∙◌, ◌+◌, List, [], ◌∷◌, ◌++◌}
+use Rattle.std.proofs.Common.{◌≡◌, ℕ, refl, sym, ap, subst, ◌∙◌, ◌+◌, List, [], ◌∷◌, ◌++◌}
+use Rattle.std.specs.Prelude.{Ok, is_ok}
+use Rattle.std.proofs.lemmas.Result.{err_from_is_err_and}
 use Rattle.liq_types.specs.Ranked.{Ranked, last_account}
 use Rattle.liq_order.specs.Listed.{AreDistinct}
+use Rattle.liq_liquidation.specs.declared.lowest.LowestFault.{LowestFault}
+use Rattle.liq_liquidation.specs.declared.lowest.LowestFault.TheVariants.{NoMemory}
 use Rattle.liq_liquidation.specs.declared.one.Victim.{Victim}
-use Rattle.liq_liquidation.specs.Moment.{Moment, victim_from}
+use Rattle.liq_liquidation.specs.Moment.{IsFaultOf, Moment, lowest_from, next_at, plan_from, victim_from}
 use Rattle.liq_liquidation.proofs.Walking.{Reached, row_struck, walk_first, walk_on, walk_struck, reached_listed, reached_before, reached_next, plan_made, walk_ends, walk_stops}
 use Rattle.liq_liquidation.proofs.lowest.lowest_from.Goals as goal
 use Rattle.liq_liquidation.proofs.lowest.lowest_from.Goals.{else-loop-test, then-loop-test+in-Err-strike}
@@ -20,6 +24,24 @@ loop-init c =
     let next = sym (ap (λ (l : List Ranked). victim_from c.args.figures c.args.troves.now.table.rows (last_account l)) (sym c.requires.order) ∙ ap (victim_from c.args.figures c.args.troves.now.table.rows) (sym c.last.ensures) ∙ sym c.strike.ensures.answer) in
     subst (λ (l : List Victim). Reached start list c.args.n 1 c.strike.new.self l c.in-Ok.first.account) (sym items)
     (walk_first start list c.args.n c.strike.new.self c.requires.order c.requires.sound distinct c.in-Ok.first c.requires.some (sym next ∙ c.in-Ok.is) c.in-Ok.ensures.after)
+
+-- there was no memory for what is planned
+no_memory : (start : Moment) (count : ℕ) (v : Victim) (fault : LowestFault) → fault ≡ NoMemory → next_at start ≡ Ok v → IsFaultOf (plan_from start count) fault
+no_memory start count v fault is first = subst (IsFaultOf (plan_from start count)) (sym is) (ap is_ok (plan_made start count v (lowest_from start count) first refl))
+
+pub returns-in_err-add : goal.returns-in_err-add
+returns-in_err-add c =
+    let start : Moment = record { figures = c.args.figures; troves = c.args.troves.now.table.rows } in
+    let first = sym (ap (λ (l : List Ranked). victim_from c.args.figures c.args.troves.now.table.rows (last_account l)) (sym c.requires.order) ∙ ap (victim_from c.args.figures c.args.troves.now.table.rows) (sym c.last.ensures) ∙ sym c.strike.ensures.answer) in
+    let p = err_from_is_err_and c.from_residual.result c.from_residual.ensures.1 in
+    rw (p.1, p.2) (no_memory start c.args.n c.in-Ok.first c.in_err-add.field-0.0 c.in_err-add.ensures (sym first ∙ c.in-Ok.is))
+
+pub returns-in_err-add-in-Ok-strike : goal.returns-in_err-add-in-Ok-strike
+returns-in_err-add-in-Ok-strike c =
+    let start : Moment = record { figures = c.args.figures; troves = c.args.troves.now.table.rows } in
+    let first = sym (ap (λ (l : List Ranked). victim_from c.args.figures c.args.troves.now.table.rows (last_account l)) (sym c.requires.order) ∙ ap (victim_from c.args.figures c.args.troves.now.table.rows) (sym c.last.ensures) ∙ sym c.strike.ensures.answer) in
+    let p = err_from_is_err_and c.from_residual-in_err-add-in-Ok-strike.result c.from_residual-in_err-add-in-Ok-strike.ensures.1 in
+    rw (p.1, p.2) (no_memory start c.args.n c.in-Ok.first c.in_err-add-in-Ok-strike.field-0.0 c.in_err-add-in-Ok-strike.ensures (sym first ∙ c.in-Ok.is))
 
 pub before-requires : goal.before-requires
 before-requires c =
