@@ -5,6 +5,7 @@ use Rattle.liq_types.specs.declared.replies.Refusal.{Refusal}
 use Rattle.liq_types.specs.declared.requests.Call.{Call}
 use Rattle.liq_types.specs.State.{State}
 use Rattle.liq_ledger.specs.Refusals.{ruled}
+use Rattle.liq_rules.specs.Lists.{rules_before_list}
 use Rattle.liq_rules.specs.Step.{accounts, in_range, rules}
 use Rattle.liq_core.specs.declared.turns.Forecast.{Forecast}
 use Rattle.liq_core.specs.declared.turns.PlanFault.{PlanFault}
@@ -19,4 +20,4 @@ refused_range s call refusal h = some_first (map in_range (accounts call)) (rule
 pub passed_range : (s : State) (call : Call) (planned : Result Forecast PlanFault) → Ok tt ≡ ruled (map in_range (accounts call)) → Forecasts s call planned → ForecastsCall s call planned
 passed_range s call (Ok forecast) h are = (none_first_of (map in_range (accounts call)) (rules s call) (allowed_so (map in_range (accounts call)) tt tt (sym h)).0 ∙ are.0, are.1)
 passed_range s call (Err (No refusal)) h are = none_first_of (map in_range (accounts call)) (rules s call) (allowed_so (map in_range (accounts call)) tt tt (sym h)).0 ∙ are
-passed_range s call (Err NoMemory) h are = are
+passed_range s call (Err NoMemory) h are = (are.0, none_first_of (map in_range (accounts call)) (rules_before_list s call) (allowed_so (map in_range (accounts call)) tt tt (sym h)).0 ∙ are.1)

@@ -40,6 +40,7 @@ use Rattle.liq_rules.specs.Image.{image}
 use Rattle.liq_rules.specs.Rules.{rules, effect}
 use Rattle.liq_core.specs.Sound.{IsSound, core_of}
 use Rattle.liq_rules.proofs.AlikeReads.{none-map}
+use Rattle.liq_core.proofs.Images.{with_pool, words_by}
 use Rattle.liq_core.proofs.Lending.{IsWithin, within, with_books, same_others, set_image, books_are, rows_are, there_row, pay_within, charged-ascends}
 use Rattle.liq_soundness.proofs.SoundBorrow.{gain_allows, gain_leaves, has_trove, told}
 use Rattle.liq_soundness.proofs.SoundBounds.{surplus_covered}
@@ -52,35 +53,18 @@ use Rattle.std.proofs.lemmas.Bool.{ltb-false}
 
 -- ---- a protocol's pool
 
--- an image with another Stability Pool
-abbrev pub with_pool : Image → PoolWords → List (Place × ℕ) → Table Deposit → Image
-with_pool i words finished deposits =
-    record i {
-      p = words.p;
-      scale = words.scale;
-      epoch = words.epoch;
-      sum = words.sum;
-      total = words.total;
-      pool_coll = words.coll;
-      finished = finished;
-      deposits = deposits;
-    }
-
 pub pool_image : (t : State) (pool : Kept) → IsPoolOf t pool → image t ≡ with_pool (image t) pool.words pool.finished pool.deposits.rows
 pool_image t pool h =
     ap (λ (w : PoolWords). with_pool (image t) w (image t).finished (image t).deposits) (sym h.words)
     ∙ ap (λ (f : List (Place × ℕ)). with_pool (image t) pool.words f (image t).deposits) (sym h.finished)
     ∙ ap (λ (d : Table Deposit). with_pool (image t) pool.words pool.finished d) (sym h.deposits)
 
-abbrev words_of_image : Image → PoolWords
-words_of_image i = record { p = i.p; scale = i.scale; epoch = i.epoch; sum = i.sum; total = i.total; coll = i.pool_coll }
-
 module _ (p : Inside) (sound : IsSound p) where
   pub pool_is : IsPoolOf (state_of (core_of p)) p.pool
   pool_is =
       let back = image_back (core_of p) sound.image in
       record {
-        words = sym (ap words_of_image back);
+        words = sym (ap words_by back);
         finished = sym (ap (λ (i : Image). i.finished) back);
         deposits = sym (ap (λ (i : Image). i.deposits) back);
       }

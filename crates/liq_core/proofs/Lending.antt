@@ -47,18 +47,14 @@ use Rattle.liq_rules.proofs.Moving.{read_or, wallet_here}
 use Rattle.liq_soundness.proofs.SoundBorrow.{open_allows, open_leaves, adjust_allows_own, adjust_leaves, close_leaves, has_trove, told}
 use Rattle.liq_core.proofs.SoundCores.{core_finds, image_back, sound_after}
 use Rattle.liq_soundness.proofs.SoundFacts.{Finds, Leaves, finds_after}
+use Rattle.liq_core.proofs.Images.{with_sums}
 use Rattle.liq_core.proofs.Telling.{books_by}
 
 -- ---- images by their parts
 
 abbrev pub with_books : Image → Books → Image
 with_books i b =
-    record i {
-      sum_coll = b.sums.coll;
-      sum_debt = b.sums.debt;
-      stakes = b.sums.stakes;
-      snap_stakes = b.sums.snap_stakes;
-      snap_coll = b.sums.snap_coll;
+    record (with_sums i b.sums) {
       troves = b.troves;
       active_coll = b.active_coll;
       active_debt = b.active_debt;

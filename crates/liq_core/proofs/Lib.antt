@@ -2,6 +2,7 @@ pub mod AccountsFirst
 pub mod Cutting
 pub mod Depositing
 pub mod Forecasting
+pub mod Images
 pub mod KeptReplies
 pub mod Lending
 pub mod Liquidating
@@ -11,6 +12,7 @@ pub mod Planning
 pub mod Pooling
 pub mod Reading
 pub mod Redeeming
+pub mod Rooms
 pub mod SameContents
 pub mod SoundCores
 pub mod Stands

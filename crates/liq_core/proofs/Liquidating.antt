@@ -1,6 +1,6 @@
 -- What liquidations make of a protocol, with their command counted.
 use Rattle.std.proofs.Common.{◌≡◌, ℕ, ◌+◌, ◌≤◌, ◌<◌, Bool, true, false, cond, List, [], ◌∷◌, refl, ap, sym, ◌∙◌, subst, arith, inl, inr, length, Some, None, Option}
-use Rattle.std.specs.Prelude.{◌==◌, ◌⊎◌, Result, Ok, Err, if◌then◌else◌}
+use Rattle.std.specs.Prelude.{◌==◌, ◌⊎◌, map, Result, Ok, Err, if◌then◌else◌}
 use Rattle.std.specs.List.{AllByRecursion, Contains}
 use Rattle.liq_types.specs.declared.amounts.TheConstants.{ACCOUNTS, LOWEST_MOST}
 use Rattle.liq_types.specs.declared.figures.Client.{Client}
@@ -38,21 +38,23 @@ use Rattle.liq_liquidation.specs.Lowest.{victim_by}
 use Rattle.liq_liquidation.specs.One.{liquidated, one, rewarded}
 use Rattle.liq_core.specs.declared.turns.Terms.{Terms}
 use Rattle.liq_core.specs.declared.engine.Protocol.TheInside.{Inside}
-use Rattle.liq_core.specs.Core.{Core, StandsFor, state_of}
+use Rattle.liq_core.specs.Core.{Core, IsWithin, Room, StandsFor, state_of}
 use Rattle.liq_rules.specs.Image.{image}
 use Rattle.liq_rules.specs.Liquidation.{all_liquidated, listed}
-use Rattle.liq_core.specs.Plan.{Plan, IsPlannedOn, IsSoundPlan, HasRoom}
+use Rattle.liq_core.specs.Plan.{Plan, IsPlannedOn, IsSoundPlan, HasRoom, room_of_call}
 use Rattle.liq_rules.specs.Rules.{effect, done_of, rules}
 use Rattle.liq_core.specs.Sound.{IsSound, core_of}
 use Rattle.liq_soundness.specs.SoundState.{IsSoundState}
 use Rattle.liq_rules.specs.Step.{Allowed, after, ruling}
-use Rattle.liq_core.specs.Terms.{AreTerms, struck_by, victims_in}
-use Rattle.liq_rules.specs.Verbs.{accounts, pays, rotates}
+use Rattle.liq_core.specs.Terms.{AreTerms, victims_in}
+use Rattle.liq_rules.specs.Verbs.{accounts, rotates}
 use Rattle.liq_victims.specs.Victims.{AreKept, AreVictims}
 use Rattle.liq_rules.proofs.Allowed.{all-records, allowed_rules}
 use Rattle.liq_rules.proofs.Counting.{listed_count, lowest_count, lowest_within}
+use Rattle.liq_core.proofs.Images.{pools_by, with_pool, with_pools, with_sums}
 use Rattle.liq_core.proofs.Noting.{kept_rows}
 use Rattle.liq_core.proofs.Planning.{its_rows, its_sums, its_words}
+use Rattle.liq_core.proofs.Rooms.{among_owners}
 use Rattle.liq_core.proofs.SoundCores.{image_back, sound_stands}
 use Rattle.liq_soundness.proofs.SoundStart.{started_with}
 use Rattle.liq_soundness.proofs.SoundStep.{after_sound, allowed_has, finds}
@@ -104,13 +106,14 @@ strike_planned s h call terms liquidator (inr q) range passed are =
       stays = refl;
     }))
 
-pub liquidator_paid : (call : Call) (liquidator : ℕ) → LiquidatesBy call liquidator → pays call ≡ liquidator ∷ []
-liquidator_paid call liquidator (inl q) = ap pays q.1
-liquidator_paid call liquidator (inr q) = ap pays q.1
+-- room for what liquidations write
+abbrev pub room_of_victims : ℕ → List Victim → Room
+room_of_victims liquidator vs =
+    record { wallets = liquidator ∷ []; troves = []; surplus = map (λ (v : Victim). v.account) vs; deposits = []; clients = []; list = 0; finished = length vs }
 
-pub all_struck : (call : Call) (liquidator : ℕ) (terms : Terms) → LiquidatesBy call liquidator → struck_by call terms ≡ victims_in terms
-all_struck call liquidator terms (inl q) = ap (λ (k : Call). struck_by k terms) q.1
-all_struck call liquidator terms (inr q) = ap (λ (k : Call). struck_by k terms) q.1
+pub room_liquidating : (call : Call) (liquidator : ℕ) (terms : Terms) → LiquidatesBy call liquidator → room_of_call call terms ≡ room_of_victims liquidator (victims_in terms)
+room_liquidating call liquidator terms (inl q) = ap (λ (k : Call). room_of_call k terms) q.1
+room_liquidating call liquidator terms (inr q) = ap (λ (k : Call). room_of_call k terms) q.1
 
 -- what a planned command liquidates
 pub record IsLiquidation (old : Core) (command : Command) (done : Done) (liquidator : ℕ) (vs : List Victim) : Type 0 where
@@ -125,45 +128,24 @@ pub liquidation_planned : (old : Core) → IsSoundImage old.image old.records �
 liquidation_planned old sound plan planned fit room liquidator is =
     let s = state_of old in
     let p = planned s (sound_stands old sound) in
-    let struck = all_struck plan.command.call liquidator plan.terms is in
+    let needs = subst (λ (needed : Room). IsWithin (record needed { clients = plan.command.client ∷ [] }) old.room) (room_liquidating plan.command.call liquidator plan.terms is) room in
     record {
       allowed = p.allowed;
       done_is = p.done;
       strike = strike_planned s (started_with old.image old.records sound) plan.command.call plan.terms liquidator is fit.accounts (allowed_rules s plan.command p.allowed) p.terms;
-      wallet = (subst (λ (names : List ℕ). AllByRecursion (λ account. Contains old.room.wallets account) names) (liquidator_paid plan.command.call liquidator is) room.wallets).0;
-      owners = subst (λ (vs : List Victim). AllByRecursion (λ (v : Victim). Contains old.room.surplus v.account) vs) struck room.owners;
-      finished = subst (λ (vs : List Victim). length vs ≤ old.room.finished) struck room.finished;
+      wallet = needs.wallets.0;
+      owners = among_owners old.room.surplus (victims_in plan.terms) needs.surplus;
+      finished = needs.finished;
     }
 
 -- ---- images by the parts that liquidations change
 
 abbrev with_kept : Image → Table Wallet → Pools → Sums → Table Trove → Table ℕ → PoolWords → List (Place × ℕ) → Table Deposit → Image
 with_kept i wallets pools sums rows owners words finished deposits =
-    record i {
-      active_coll = pools.active_coll;
-      active_debt = pools.active_debt;
-      default_coll = pools.default_coll;
-      default_debt = pools.default_debt;
-      reserve = pools.reserve;
-      surplus = pools.surplus;
-      fee_coll = pools.fee_coll;
-      fee_lusd = pools.fee_lusd;
-      sum_coll = sums.coll;
-      sum_debt = sums.debt;
-      stakes = sums.stakes;
-      snap_stakes = sums.snap_stakes;
-      snap_coll = sums.snap_coll;
-      p = words.p;
-      scale = words.scale;
-      epoch = words.epoch;
-      sum = words.sum;
-      total = words.total;
-      pool_coll = words.coll;
+    record (with_pool (with_sums (with_pools i pools) sums) words finished deposits) {
       wallets = wallets;
       troves = rows;
       surplus_rows = owners;
-      finished = finished;
-      deposits = deposits;
     }
 
 abbrev kept_by : Image → State → Image
@@ -204,19 +186,6 @@ module _ (p : Inside) (sound : IsSound p) where
         order_is = sound.order ∙ ap (λ (t : Table Trove). order_by t) (its_rows p sound);
         pool_is = record { words = its_words p sound; finished = ap (λ (i : Image). i.finished) same; deposits = ap (λ (i : Image). i.deposits) same };
       }
-    where
-      pools_by : Image → Pools
-      pools_by i =
-          record {
-            active_coll = i.active_coll;
-            active_debt = i.active_debt;
-            default_coll = i.default_coll;
-            default_debt = i.default_debt;
-            reserve = i.reserve;
-            surplus = i.surplus;
-            fee_coll = i.fee_coll;
-            fee_lusd = i.fee_lusd;
-          }
 
 module _ (t : State) (i : Image) (wallets : WithRoom Wallet) (pools : Pools) (surplus : WithRoom ℕ) (kept : troves.Kept) (order : Listed) (pool : stability.Kept)
     (h : AreKept t wallets pools surplus kept order pool) where

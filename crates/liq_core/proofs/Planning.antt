@@ -1,6 +1,6 @@
 -- What the plans of liquidations are told of a protocol.
 use Rattle.std.proofs.Common.{◌≡◌, ℕ, ◌+◌, ◌^◌, ◌≤◌, ◌<◌, refl, ap, sym, ◌∙◌, subst, arith, false, cond, nat_lt, List, [], ◌∷◌, length, Some, None, Option}
-use Rattle.std.specs.Prelude.{◌==◌, IfSome, Result, Ok, sum_by}
+use Rattle.std.specs.Prelude.{◌==◌, IfSome, IsOk, Result, Ok, sum_by}
 use Rattle.std.proofs.lemmas.Bool.Decides.{nat_tests}
 use Rattle.liq_types.specs.declared.amounts.TheConstants.{LOWEST_MOST}
 use Rattle.liq_types.specs.declared.replies.Done.{Done}
@@ -44,6 +44,7 @@ use Rattle.liq_core.specs.Turn.{IsRuled}
 use Rattle.liq_soundness.specs.SoundState.{IsSoundState}
 use Rattle.liq_victims.specs.Victims.{AreVictims, course_of}
 use Rattle.liq_rules.proofs.AlikeReads.{sums_by}
+use Rattle.liq_core.proofs.Images.{words_by}
 use Rattle.liq_core.proofs.SoundCores.{core_finds, image_back}
 use Rattle.liq_rules.proofs.Counting.{lowest_count}
 use Rattle.liq_soundness.proofs.SoundFacts.{Finds}
@@ -65,9 +66,6 @@ pub troves_sound : (s : State) → Finds s → TrovesAreSound s
 troves_sound s f = record { troves = f.stands.troves; marked = f.stands.formed.1 }
 
 -- ---- of a protocol
-
-abbrev pub words_by : Image → PoolWords
-words_by i = record { p = i.p; scale = i.scale; epoch = i.epoch; sum = i.sum; total = i.total; coll = i.pool_coll }
 
 abbrev pub course_by : Image → Course
 course_by i = record { words = words_by i; stakes = i.stakes; coll = i.active_coll + i.default_coll; sum_debt = i.sum_debt }
@@ -145,7 +143,14 @@ lowest_made s count vs h = by (first_refusal (lowest_rules s)) h where
   by None e = (refl, cc)
   by (Some refusal) e = cc
 
-lowest_tests : (s : State) (count : ℕ) → 1 ≤ count → count ≤ LOWEST_MOST → first_refusal (not_zero count ∷ where_above count LOWEST_MOST AmountLimit ∷ lowest_rules s) ≡ first_refusal (lowest_rules s)
+-- there may be no memory for them only where the first may be liquidated
+pub lowest_passes : (s : State) (count : ℕ) → IsOk (lowest_plan s count) → first_refusal (lowest_rules s) ≡ None
+lowest_passes s count h = by (first_refusal (lowest_rules s)) h where
+  by : (o : Option Refusal) → IsOk (outcome o (lowest s count)) → o ≡ None
+  by None e = refl
+  by (Some refusal) e = cc
+
+pub lowest_tests : (s : State) (count : ℕ) → 1 ≤ count → count ≤ LOWEST_MOST → first_refusal (not_zero count ∷ where_above count LOWEST_MOST AmountLimit ∷ lowest_rules s) ≡ first_refusal (lowest_rules s)
 lowest_tests s count some most =
     let not_none : (count == 0) ≡ false = grind (arith, nat_tests, some) in
     let few : nat_lt LOWEST_MOST count ≡ false = grind (arith, nat_tests, most) in

@@ -39,6 +39,8 @@ use Rattle.liq_redemption.specs.Parts.{Parts, parts_of, parts_with, books_in, li
 use Rattle.liq_redemption.specs.Redemption.{RedeemTerms, Visit, visited, visited_by, redeeming_terms, redeem_plan, cut_entire, cut_down, redeemed_by}
 use Rattle.liq_redemption.proofs.Following.{redeemed_follows, redeemed_pays}
 use Rattle.liq_order.proofs.Present.{order_has_each}
+use Rattle.liq_core.proofs.Images.{pools_by, with_pools, with_sums}
+use Rattle.liq_rules.proofs.AlikeReads.{sums_by}
 use Rattle.liq_order.proofs.Ranking.{order_distinct}
 use Rattle.liq_core.specs.declared.engine.Protocol.TheInside.{Inside}
 use Rattle.liq_standing.specs.Books.{books_kept}
@@ -58,24 +60,7 @@ use Rattle.liq_types.proofs.SameRows.{without-absent}
 -- ---- images by their parts
 
 abbrev with_all : Image → Parts → Image
-with_all i p =
-    record i {
-      sum_coll = p.sums.coll;
-      sum_debt = p.sums.debt;
-      stakes = p.sums.stakes;
-      snap_stakes = p.sums.snap_stakes;
-      snap_coll = p.sums.snap_coll;
-      troves = p.troves;
-      active_coll = p.pools.active_coll;
-      active_debt = p.pools.active_debt;
-      default_coll = p.pools.default_coll;
-      default_debt = p.pools.default_debt;
-      reserve = p.pools.reserve;
-      surplus = p.pools.surplus;
-      fee_coll = p.pools.fee_coll;
-      fee_lusd = p.pools.fee_lusd;
-      surplus_rows = p.surplus;
-    }
+with_all i p = record (with_pools (with_sums i p.sums) p.pools) { troves = p.troves; surplus_rows = p.surplus }
 
 -- a trove that has left is closed
 abbrev closed_left : State → ℕ → ℕ → State
@@ -164,24 +149,7 @@ entire_all sums (row ∷ rows) a b c d coll due debt owed coll_fits debt_fits =
     )
 
 abbrev parts_by : Image → List Ranked → Parts
-parts_by i order =
-    record {
-      sums = record { coll = i.sum_coll; debt = i.sum_debt; stakes = i.stakes; snap_stakes = i.snap_stakes; snap_coll = i.snap_coll };
-      troves = i.troves;
-      pools =
-          record {
-            active_coll = i.active_coll;
-            active_debt = i.active_debt;
-            default_coll = i.default_coll;
-            default_debt = i.default_debt;
-            reserve = i.reserve;
-            surplus = i.surplus;
-            fee_coll = i.fee_coll;
-            fee_lusd = i.fee_lusd;
-          };
-      surplus = i.surplus_rows;
-      order = order;
-    }
+parts_by i order = record { sums = sums_by i; troves = i.troves; pools = pools_by i; surplus = i.surplus_rows; order = order }
 
 module _ (p : Inside) (sound : IsSound p) where
   parts_are : parts_with (state_of (core_of p)) p.order.entries ≡ parts_of p.pools p.surplus p.troves p.order

@@ -1,12 +1,11 @@
 -- A sound core: what is read of it, and what a change leaves of it.
 use Rattle.std.proofs.Common.{◌≡◌, ℕ, ◌+◌, ◌≤◌, true, nat_le, List, [], ◌∷◌, refl, ap, sym, subst, ◌∙◌, arith}
-use Rattle.std.specs.Prelude.{◌&&◌, ◌==◌, sum_by}
+use Rattle.std.specs.Prelude.{◌&&◌, sum_by}
 use Rattle.std.specs.BTreeMap.{is_at}
 use Rattle.std.specs.List.{AllByRecursion, list_all}
 use Rattle.std.specs.List.Sorted.{IsStrictlySortedBy}
 use Rattle.std.specs.Map.{values_of}
 use Rattle.std.specs.Ordering.{nat_cmp}
-use Rattle.std.proofs.lemmas.Bool.Decides.{nat_tests}
 use Rattle.std.proofs.lemmas.Map.Entries.{sum_by-remove_entry}
 use Rattle.liq_types.specs.declared.amounts.TheConstants.{LIM, P_OPENING}
 use Rattle.liq_types.specs.declared.figures.Client.{Client}
@@ -19,7 +18,7 @@ use Rattle.liq_types.specs.Payments.{charged_in}
 use Rattle.liq_types.specs.Soundness.{IsSoundImage, HasTables, is_before}
 use Rattle.liq_types.specs.State.{State, wallet_in}
 use Rattle.liq_types.specs.Tables.{Table, at}
-use Rattle.liq_types.specs.WellFormed.{IsBefore, AreFinished, stakes_in}
+use Rattle.liq_types.specs.WellFormed.{IsBefore}
 use Rattle.liq_order.specs.Order.{order_by}
 use Rattle.liq_troves.specs.declared.sums.Sums.{Sums}
 use Rattle.liq_stability.specs.declared.words.PoolWords.{PoolWords}
@@ -30,7 +29,8 @@ use Rattle.liq_rules.specs.Rules.{effect}
 use Rattle.liq_core.specs.Sound.{IsSound, core_of}
 use Rattle.liq_rules.proofs.Moving.{read_or, charged_lusd}
 use Rattle.liq_soundness.proofs.SoundFacts.{Finds, Leaves}
-use Rattle.liq_rules.proofs.SoundRules.{meets, both_first, both_second}
+use Rattle.liq_rules.proofs.SoundRules.{both_first, both_second}
+use Rattle.liq_core.proofs.Images.{with_pool, with_sums}
 use Rattle.liq_soundness.proofs.SoundStart.{started_with, finished_before}
 use Rattle.liq_soundness.proofs.SoundTests.{SoundFacts, sound_facts, facts_sound, stakes_added}
 use Rattle.liq_rules.proofs.Started.{started_image, started_formed}
@@ -66,23 +66,10 @@ no_words = record { p = P_OPENING; scale = 0; epoch = 0; sum = 0; total = 0; col
 
 abbrev kept_of : Table Wallet → Table Trove → Sums → PoolWords → List (Place × ℕ) → Table Deposit → Table ℕ → Table Client → Image
 kept_of wallets troves sums words finished deposits surplus clients =
-    record opening_image {
-      sum_coll = sums.coll;
-      sum_debt = sums.debt;
-      stakes = sums.stakes;
-      snap_stakes = sums.snap_stakes;
-      snap_coll = sums.snap_coll;
-      p = words.p;
-      scale = words.scale;
-      epoch = words.epoch;
-      sum = words.sum;
-      total = words.total;
-      pool_coll = words.coll;
+    record (with_pool (with_sums opening_image sums) words finished deposits) {
       wallets = wallets;
       troves = troves;
       surplus_rows = surplus;
-      finished = finished;
-      deposits = deposits;
       clients = clients;
     }
 

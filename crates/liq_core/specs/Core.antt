@@ -1,5 +1,6 @@
 -- What the code of a protocol holds, and the states for which it stands.
-use Rattle.std.specs.Prelude.{◌≡◌, ℕ, List}
+use Rattle.std.specs.Prelude.{◌≡◌, ℕ, ◌≤◌, List}
+use Rattle.std.specs.List.{AllByRecursion, Contains}
 use Rattle.liq_types.specs.declared.requests.Call.{Call}
 use Rattle.liq_types.specs.Image.{Image}
 use Rattle.liq_types.specs.State.{State, started}
@@ -17,6 +18,20 @@ pub record Room : Type 0 where
   pub clients : List ℕ
   pub list : ℕ
   pub finished : ℕ
+
+-- every key of the first is one of the second
+abbrev pub AreAmong : List ℕ → List ℕ → Type 0
+AreAmong some all = AllByRecursion (λ key. Contains all key) some
+
+-- what there is room for in the first there is room for in the second
+pub record IsWithin (some all : Room) : Type 0 where
+  pub wallets : AreAmong some.wallets all.wallets
+  pub troves : AreAmong some.troves all.troves
+  pub surplus : AreAmong some.surplus all.surplus
+  pub deposits : AreAmong some.deposits all.deposits
+  pub clients : AreAmong some.clients all.clients
+  pub list : some.list ≤ all.list
+  pub finished : some.finished ≤ all.finished
 
 -- The image has no row that only keeps room.
 pub record Core : Type 0 where

@@ -1,6 +1,6 @@
 -- A planned command, the states on which it may be applied, and the rows that it wants.
-use Rattle.std.specs.Prelude.{◌≡◌, ◌<◌, ◌≤◌, IsTrue, List, length}
-use Rattle.std.specs.List.{AllByRecursion, Contains}
+use Rattle.std.specs.Prelude.{◌≡◌, ◌<◌, IsTrue, List, [], ◌∷◌, length}
+use Rattle.std.specs.List.{AllByRecursion}
 use Rattle.liq_types.specs.declared.amounts.TheConstants.{ACCOUNTS}
 use Rattle.liq_types.specs.declared.events.ListChange.{ListChange}
 use Rattle.liq_types.specs.declared.events.PoolEvent.{PoolEvent}
@@ -8,13 +8,12 @@ use Rattle.liq_types.specs.declared.replies.Done.{Done}
 use Rattle.liq_types.specs.declared.requests.Call.{Call}
 use Rattle.liq_types.specs.declared.requests.Command.{Command}
 use Rattle.liq_types.specs.State.{State}
-use Rattle.liq_liquidation.specs.declared.one.Victim.{Victim}
 use Rattle.liq_core.specs.declared.turns.Forecast.{Forecast}
 use Rattle.liq_core.specs.declared.turns.Terms.{Terms}
-use Rattle.liq_core.specs.Core.{Core, StandsFor}
+use Rattle.liq_core.specs.Core.{Core, IsWithin, Room, StandsFor}
 use Rattle.liq_rules.specs.Rules.{call_events, call_changes}
 use Rattle.liq_rules.specs.Step.{Allowed, ruling, done_of}
-use Rattle.liq_core.specs.Terms.{AreTerms, TermsFit, HasClaimRoom, struck_by}
+use Rattle.liq_core.specs.Terms.{AreTerms, TermsFit, claimants, struck_by}
 use Rattle.liq_core.specs.Told.{events_in, changes_in}
 use Rattle.liq_rules.specs.Verbs.{accounts, pays, opens, provides, built_call}
 
@@ -55,16 +54,26 @@ pub record IsPlan (s : State) (plan : Plan) : Type 0 where
 abbrev pub IsPlannedOn : Core → Plan → Type 0
 IsPlannedOn core plan = (s : State) → StandsFor core s → IsPlan s plan
 
+-- room for what a call writes: for each trove that is liquidated also a sum of the Stability Pool that it may finish
+abbrev pub room_of_call : Call → Terms → Room
+room_of_call call terms =
+    record {
+      wallets = pays call;
+      troves = opens call;
+      surplus = claimants call terms;
+      deposits = provides call;
+      clients = [];
+      list = length (opens call);
+      finished = length (struck_by call terms);
+    }
+
+-- room for all that a planned command writes
+abbrev pub room_for : Plan → Room
+room_for plan = record (room_of_call plan.command.call plan.terms) { clients = plan.command.client ∷ [] }
+
 -- there is a row for all that the planned command writes
-pub record HasRoom (core : Core) (plan : Plan) : Type 0 where
-  pub wallets : AllByRecursion (λ account. Contains core.room.wallets account) (pays plan.command.call)
-  pub troves : AllByRecursion (λ account. Contains core.room.troves account) (opens plan.command.call)
-  pub deposits : AllByRecursion (λ account. Contains core.room.deposits account) (provides plan.command.call)
-  pub claims : HasClaimRoom core.room.surplus plan.command.call plan.terms
-  pub owners : AllByRecursion (λ (v : Victim). Contains core.room.surplus v.account) (struck_by plan.command.call plan.terms)
-  pub list : length (opens plan.command.call) ≤ core.room.list
-  pub finished : length (struck_by plan.command.call plan.terms) ≤ core.room.finished
-  pub client : Contains core.room.clients plan.command.client
+abbrev pub HasRoom : Core → Plan → Type 0
+HasRoom core plan = IsWithin (room_for plan) core.room
 
 -- what holds of every planned command: its verb is built, its client and its accounts are in range, and its terms are those of
 -- its verb

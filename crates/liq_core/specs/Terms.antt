@@ -1,6 +1,5 @@
 -- What a planned call makes of what it changes, where its words alone do not say it.
-use Rattle.std.specs.Prelude.{◌≡◌, ℕ, Bool, true, false, IsTrue, List, []}
-use Rattle.std.specs.List.{AllByRecursion, Contains}
+use Rattle.std.specs.Prelude.{◌≡◌, ℕ, Bool, true, false, List, [], filter, map}
 use Rattle.liq_types.specs.declared.requests.Call.{Call}
 use Rattle.liq_types.specs.declared.requests.Call.TheVariants.{Open, Adjust, Close, GainToTrove, Liquidate, LiquidateLowest, Redeem}
 use Rattle.liq_types.specs.State.{State}
@@ -73,20 +72,21 @@ TermsFit _ terms = Unit {0}
 
 -- ---- room
 
--- for what the owners of closed troves may claim
-abbrev pub HasRoomToClose : List ℕ → Cut → Type 0
-HasRoomToClose keys cut = IsTrue cut.full → Contains keys cut.account
+-- the troves that a redemption closes, by their accounts
+abbrev pub closed : List Cut → List ℕ
+closed cuts = map (λ (cut : Cut). cut.account) (filter (λ (cut : Cut). cut.full) cuts)
 
-abbrev pub HasRoomToClaim : List ℕ → Terms → Type 0
-HasRoomToClaim keys (terms.Redeem plan) = AllByRecursion (HasRoomToClose keys) plan.cuts
-HasRoomToClaim keys _ = Unit {0}
+abbrev pub closed_in : Terms → List ℕ
+closed_in (terms.Redeem plan) = closed plan.cuts
+closed_in _ = []
 
-abbrev pub HasClaimRoom : List ℕ → Call → Terms → Type 0
-HasClaimRoom keys (Redeem account lusd bound hint) terms = HasRoomToClaim keys terms
-HasClaimRoom keys _ terms = Unit {0}
-
--- the troves whose owners may claim something, and each of which may finish a sum of the Stability Pool
+-- the troves that are liquidated, each of which may finish a sum of the Stability Pool
 abbrev pub struck_by : Call → Terms → List Victim
 struck_by (Liquidate liquidator account) terms = victims_in terms
 struck_by (LiquidateLowest liquidator count) terms = victims_in terms
 struck_by _ terms = []
+
+-- the accounts that may come to claim something
+abbrev pub claimants : Call → Terms → List ℕ
+claimants (Redeem account lusd bound hint) terms = closed_in terms
+claimants call terms = map (λ (v : Victim). v.account) (struck_by call terms)

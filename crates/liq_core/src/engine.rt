@@ -6,9 +6,9 @@ ghost use Rattle.liq_types.specs.declared.requests.Request.TheVariants.{Do, Ask}
 ghost use Rattle.liq_types.specs.declared.replies.Reply.TheVariants.{Said};
 ghost use Rattle.liq_types.specs.State.{State, opening, client_of};
 ghost use Rattle.liq_stability.specs.Words.{pool_words};
-ghost use Rattle.liq_core.specs.Core.{Changes, StandsFor, SameContent, state_of};
+ghost use Rattle.liq_core.specs.Core.{AreAmong, Changes, IsWithin, StandsFor, SameContent, state_of};
 ghost use Rattle.liq_core.specs.Sound.{IsKeptRow};
-ghost use Rattle.liq_core.specs.Terms.{AreTerms, HasRoomToClose, HasClaimRoom};
+ghost use Rattle.liq_core.specs.Terms.{AreTerms, TermsFit, claimants, closed};
 ghost use Rattle.liq_rules.specs.Verbs.{pays, opens, provides, plans_list, liquidates, no_hint};
 ghost use Rattle.liq_rules.specs.Step.{built, built_call, accounts, rules, first_refusal, noted, step};
 
@@ -85,8 +85,8 @@ const NO_POOLS: Pools = Pools {
 };
 
 impl Protocol {
-    ghost use Rattle.liq_core.specs.Plan.{HasRoom, IsPlannedOn};
-    ghost use Rattle.liq_core.specs.Turn.{Plans, IsRuled, Forecasts, ForecastsCall};
+    ghost use Rattle.liq_core.specs.Plan.{HasRoom, IsPlannedOn, room_of_call};
+    ghost use Rattle.liq_core.specs.Turn.{Plans, IsKept, IsRuled, Forecasts, ForecastsCall};
 
     /// The protocol as it opens: nothing is inside.
     pub fn new(alloc: Global) -> Protocol
@@ -141,23 +141,17 @@ impl Protocol {
     }
 
     /// Rules on a command, and plans it where it is allowed. A refusal is the first whose condition holds, in the order
-    /// of the rules; the last is that the journal is full. Only a list of troves may find no memory.
+    /// of the rules; the last is that the journal is full. Only a list of troves may find no memory, and only where all that
+    /// needs no list is passed.
     pub fn plan(&self, command: &Command) -> Result<Turn, PlanFault>
         requires built { IsTrue (built (Do command.now)) }
         ensures { (s : State) → StandsFor self.now s → Plans s command.now result }
     {
         let is_full = self.records >= RECORDS_MOST;
-        if command.client >= ACCOUNTS {
-            let value = command.client;
-            return Err(PlanFault::No(Refusal::AccountRange { value }));
-        }
-        let client = self.client(command.client);
-        if command.number == client.last && command.number != 0 {
-            return Ok(Turn::Again(client.kept));
-        }
-        if command.number == 0 || command.number - 1 != client.last {
-            let expected = client.last.saturating_add(1);
-            return Err(PlanFault::No(Refusal::OutOfTurn { expected }));
+        match self.kept(command) {
+            Ok(None) => {}
+            Ok(Some(kept)) => return Ok(Turn::Again(kept)),
+            Err(refusal) => return Err(PlanFault::No(refusal)),
         }
         let forecast = match self.plan_call(&command.call) {
             Ok(forecast) => forecast,
@@ -172,6 +166,25 @@ impl Protocol {
             command: *command,
             forecast,
         }))
+    }
+
+    /// The reply that was kept of a command that comes again; nothing, where the command is its client's next one.
+    fn kept(&self, command: &Command) -> Result<Option<Done>, Refusal>
+        ensures { IsKept (state_of self.now) command.now result }
+    {
+        if command.client >= ACCOUNTS {
+            let value = command.client;
+            return Err(Refusal::AccountRange { value });
+        }
+        let client = self.client(command.client);
+        if command.number == client.last && command.number != 0 {
+            return Ok(Some(client.kept));
+        }
+        if command.number == 0 || command.number - 1 != client.last {
+            let expected = client.last.saturating_add(1);
+            return Err(Refusal::OutOfTurn { expected });
+        }
+        Ok(None)
     }
 
     /// Rules on a call, whatever its client and number: first on its accounts.
@@ -237,14 +250,27 @@ impl Protocol {
     }
 
     /// Makes room for what the planned command writes, so that [`Protocol::apply`] takes no memory. What is seen of the
-    /// protocol stays, also where there is no memory. Where there was room none is wanted.
+    /// protocol stays, and so does all room that there was, also where there is no memory. Where there was room none is wanted.
     pub fn reserve(&mut self, planned: &Planned) -> Result<(), NoMemory>
         ensures same { SameContent self.old self.new }
         ensures room { OnOk result (HasRoom self.new planned.now) }
+        ensures kept { IsWithin self.old.room self.new.room }
         ensures had { HasRoom self.old planned.now → IsOk result }
     {
         self.reserve_client(planned.command.client)?;
-        match planned.command.call {
+        self.reserve_call(&planned.command.call, &planned.forecast.terms)
+    }
+
+    /// Room for what a call writes.
+    fn reserve_call(&mut self, call: &Call, terms: &Terms) -> Result<(), NoMemory>
+        requires built { IsTrue (built_call call.now) }
+        requires fit { TermsFit call.now terms.now }
+        ensures same { SameContent self.old self.new }
+        ensures room { OnOk result (IsWithin (room_of_call call.now terms.now) self.new.room) }
+        ensures kept { IsWithin self.old.room self.new.room }
+        ensures had { IsWithin (room_of_call call.now terms.now) self.old.room → IsOk result }
+    {
+        match *call {
             Call::Price(_) | Call::Advance(_) => Ok(()),
             Call::Fund(account, _)
             | Call::Take(account, _)
@@ -257,11 +283,9 @@ impl Protocol {
             Call::Open(account, ..) => self.reserve_trove(account),
             Call::Provide(account, _) => self.reserve_deposit(account),
             Call::Liquidate(liquidator, _) | Call::LiquidateLowest(liquidator, _) => {
-                self.reserve_liquidation(liquidator, planned.forecast.terms.victims())
+                self.reserve_liquidation(liquidator, terms.victims())
             }
-            Call::Redeem(account, ..) => {
-                self.reserve_redemption(account, planned.forecast.terms.redemption())
-            }
+            Call::Redeem(account, ..) => self.reserve_redemption(account, terms.redemption()),
             _ => unreachable!(),
         }
     }
@@ -269,9 +293,8 @@ impl Protocol {
     fn reserve_wallet(&mut self, account: u32) -> Result<(), NoMemory>
         ensures same { SameContent self.old self.new }
         ensures room { OnOk result (Contains self.new.room.wallets account) }
+        ensures kept { IsWithin self.old.room self.new.room }
         ensures had { Contains self.old.room.wallets account → IsOk result }
-        ensures kept { (other : ℕ) → Contains self.old.room.wallets other → Contains self.new.room.wallets other }
-        ensures others { self.new.room ≡ record self.old.room { wallets = self.new.room.wallets } }
     {
         self.wallets.reserve(account)
     }
@@ -279,19 +302,19 @@ impl Protocol {
     fn reserve_wallets(&mut self, first: u32, second: u32) -> Result<(), NoMemory>
         ensures same { SameContent self.old self.new }
         ensures room { OnOk result (Contains self.new.room.wallets first × Contains self.new.room.wallets second) }
+        ensures kept { IsWithin self.old.room self.new.room }
         ensures had { Contains self.old.room.wallets first → Contains self.old.room.wallets second → IsOk result }
-        ensures others { self.new.room ≡ record self.old.room { wallets = self.new.room.wallets } }
     {
-        self.reserve_wallet(first)?;
-        self.reserve_wallet(second)
+        self.wallets.reserve(first)?;
+        self.wallets.reserve(second)
     }
 
     /// Room for a trove that comes into being, with its owner's wallet and its place in the list.
     fn reserve_trove(&mut self, account: u32) -> Result<(), NoMemory>
         ensures same { SameContent self.old self.new }
         ensures room { OnOk result (Contains self.new.room.wallets account × Contains self.new.room.troves account × (1 ≤ self.new.room.list)) }
+        ensures kept { IsWithin self.old.room self.new.room }
         ensures had { Contains self.old.room.wallets account → Contains self.old.room.troves account → 1 ≤ self.old.room.list → IsOk result }
-        ensures clients { self.new.room.clients ≡ self.old.room.clients }
     {
         self.wallets.reserve(account)?;
         self.troves.reserve(account)?;
@@ -302,8 +325,8 @@ impl Protocol {
     fn reserve_deposit(&mut self, account: u32) -> Result<(), NoMemory>
         ensures same { SameContent self.old self.new }
         ensures room { OnOk result (Contains self.new.room.wallets account × Contains self.new.room.deposits account) }
+        ensures kept { IsWithin self.old.room self.new.room }
         ensures had { Contains self.old.room.wallets account → Contains self.old.room.deposits account → IsOk result }
-        ensures clients { self.new.room.clients ≡ self.old.room.clients }
     {
         self.wallets.reserve(account)?;
         self.pool.reserve(Some(account), 0)
@@ -312,9 +335,9 @@ impl Protocol {
     /// Room for what a redemption writes: its account's wallet, and what the owners of closed troves may claim.
     fn reserve_redemption(&mut self, account: u32, plan: &RedeemPlan) -> Result<(), NoMemory>
         ensures same { SameContent self.old self.new }
-        ensures room { OnOk result (Contains self.new.room.wallets account × AllByRecursion (HasRoomToClose self.new.room.surplus) plan.now.cuts) }
-        ensures had { Contains self.old.room.wallets account → AllByRecursion (HasRoomToClose self.old.room.surplus) plan.now.cuts → IsOk result }
-        ensures clients { self.new.room.clients ≡ self.old.room.clients }
+        ensures room { OnOk result (Contains self.new.room.wallets account × AreAmong (closed plan.now.cuts) self.new.room.surplus) }
+        ensures kept { IsWithin self.old.room self.new.room }
+        ensures had { Contains self.old.room.wallets account → AreAmong (closed plan.now.cuts) self.old.room.surplus → IsOk result }
     {
         liq_redemption::reserve(plan, account, &mut self.wallets, &mut self.surplus)
     }
@@ -322,8 +345,8 @@ impl Protocol {
     fn reserve_client(&mut self, client: u32) -> Result<(), NoMemory>
         ensures same { SameContent self.old self.new }
         ensures room { OnOk result (Contains self.new.room.clients client) }
+        ensures kept { IsWithin self.old.room self.new.room }
         ensures had { Contains self.old.room.clients client → IsOk result }
-        ensures others { self.new.room ≡ record self.old.room { clients = self.new.room.clients } }
     {
         self.clients.reserve(client)
     }
@@ -362,7 +385,7 @@ impl Protocol {
         requires wallets { AllByRecursion (λ account. Contains self.old.room.wallets account) (pays call.now) }
         requires troves { AllByRecursion (λ account. Contains self.old.room.troves account) (opens call.now) }
         requires deposits { AllByRecursion (λ account. Contains self.old.room.deposits account) (provides call.now) }
-        requires claims { HasClaimRoom self.old.room.surplus call.now terms.now }
+        requires claims { AreAmong (claimants call.now terms.now) self.old.room.surplus }
         requires list { length (opens call.now) ≤ self.old.room.list }
         ensures { Changes self.old call.now self.new }
     {

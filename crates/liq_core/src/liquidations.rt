@@ -1,6 +1,6 @@
 //! Liquidation: one trove or the last ones of the list, one after the other.
 
-ghost use Rattle.std.specs.Prelude.{◌≡◌, ◌≤◌, ◌<◌, length, false, unwrap_or, option_map, IfOk, IsOk, OnOk, MatchResult, Ok};
+ghost use Rattle.std.specs.Prelude.{◌≡◌, ◌≤◌, ◌<◌, length, map, false, unwrap_or, option_map, IfOk, IsOk, OnOk, MatchResult, Ok};
 ghost use Rattle.std.specs.List.{AllByRecursion, Contains};
 ghost use Rattle.liq_types.specs.declared.events.ListChange.TheVariants.{Gone};
 ghost use Rattle.liq_types.specs.declared.requests.Call.TheVariants as call;
@@ -9,7 +9,7 @@ ghost use Rattle.liq_troves.specs.StakeSums.{trove_rows};
 ghost use Rattle.liq_liquidation.specs.Lowest.{lowest_plan};
 ghost use Rattle.liq_liquidation.specs.Moment.{IsFaultOf};
 ghost use Rattle.liq_liquidation.specs.One as rules;
-ghost use Rattle.liq_core.specs.Core.{SameContent, StandsFor, state_of};
+ghost use Rattle.liq_core.specs.Core.{AreAmong, IsWithin, SameContent, StandsFor, state_of};
 ghost use Rattle.liq_rules.specs.Liquidation.{all_liquidated, offset_events, victim_changes};
 ghost use Rattle.liq_rules.specs.Rules.{done_of, effect};
 ghost use Rattle.liq_rules.specs.Step.{Allowed, after, ruling};
@@ -168,9 +168,9 @@ impl Protocol {
         victims: &[Victim],
     ) -> Result<(), NoMemory>
         ensures same { SameContent self.old self.new }
-        ensures room { OnOk result (Contains self.new.room.wallets liquidator × AllByRecursion (λ v. Contains self.new.room.surplus v.account) victims.now × (length victims.now ≤ self.new.room.finished)) }
-        ensures had { Contains self.old.room.wallets liquidator → AllByRecursion (λ v. Contains self.old.room.surplus v.account) victims.now → length victims.now ≤ self.old.room.finished → IsOk result }
-        ensures clients { self.new.room.clients ≡ self.old.room.clients }
+        ensures room { OnOk result (Contains self.new.room.wallets liquidator × AreAmong (map (λ v. v.account) victims.now) self.new.room.surplus × (length victims.now ≤ self.new.room.finished)) }
+        ensures kept { IsWithin self.old.room self.new.room }
+        ensures had { Contains self.old.room.wallets liquidator → AreAmong (map (λ v. v.account) victims.now) self.old.room.surplus → length victims.now ≤ self.old.room.finished → IsOk result }
     {
         self.wallets.reserve(liquidator)?;
         reserve_owners(victims, &mut self.surplus)?;

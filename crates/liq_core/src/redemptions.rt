@@ -8,11 +8,11 @@ ghost use Rattle.liq_types.specs.State.{wallet_of};
 ghost use Rattle.liq_types.specs.Totals.{market_of};
 ghost use Rattle.liq_redemption.specs.Answers.{Answers};
 ghost use Rattle.liq_redemption.specs.Redemption.{redeeming_terms, visited};
-ghost use Rattle.liq_core.specs.Core.{Changes, state_of};
+ghost use Rattle.liq_core.specs.Core.{AreAmong, Changes, state_of};
 ghost use Rattle.liq_rules.specs.Redemption.{cut_told};
 ghost use Rattle.liq_soundness.specs.SoundState.{CutIsCovered};
 ghost use Rattle.liq_rules.specs.Step.{rules, first_refusal};
-ghost use Rattle.liq_core.specs.Terms.{HasRoomToClose};
+ghost use Rattle.liq_core.specs.Terms.{closed};
 ghost use Rattle.liq_core.specs.Turn.{Forecasts};
 
 use crate::engine::Protocol;
@@ -116,7 +116,7 @@ impl Protocol {
             × (taken.now ≡ redeeming_terms (market_of (state_of self.old)) (visited (state_of self.old)) lusd) }
         requires range { account < ACCOUNTS }
         requires wallet { Contains self.old.room.wallets account }
-        requires claims { AllByRecursion (HasRoomToClose self.old.room.surplus) taken.now.cuts }
+        requires claims { AreAmong (closed taken.now.cuts) self.old.room.surplus }
         ensures { (lusd bound : ℕ) → (words : HintWords) → taken.now ≡ redeeming_terms (market_of (state_of self.old)) (visited (state_of self.old)) lusd
             → Changes self.old (call.Redeem account lusd bound words) self.new }
     {

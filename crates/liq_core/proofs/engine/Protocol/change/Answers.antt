@@ -11,9 +11,9 @@ use Rattle.liq_redemption.specs.Redemption.{RedeemTerms, redeeming_terms, visite
 use Rattle.liq_core.specs.declared.turns.Terms.{Terms}
 use Rattle.liq_core.specs.declared.turns.Terms.TheVariants as kind
 use Rattle.liq_core.specs.declared.turns.Terms.TheVariants.{Trove}
-use Rattle.liq_core.specs.Core.{Changes, state_of}
+use Rattle.liq_core.specs.Core.{AreAmong, Changes, state_of}
 use Rattle.liq_rules.specs.Step.{rules}
-use Rattle.liq_core.specs.Terms.{AreTerms, IsTrove, IsRedeeming, HasRoomToClaim, HasClaimRoom}
+use Rattle.liq_core.specs.Terms.{AreTerms, IsTrove, IsRedeeming, claimants, closed_in}
 use Rattle.liq_core.proofs.engine.Protocol.change.Goals as goal
 
 -- the collateral of an opening is its word
@@ -80,8 +80,8 @@ redeem-requires-clause-planned g c =
 pub redeem-requires-clause-claims : goal.redeem-requires-clause-claims
 redeem-requires-clause-claims g c =
     let keys = c.args.self.now.room.surplus in
-    subst (HasRoomToClaim keys) c.redemption.ensures
-    (subst (λ (call : Call). HasClaimRoom keys call c.args.terms.now) c.in-Redeem.is c.requires.claims)
+    subst (λ (t : Terms). AreAmong (closed_in t) keys) c.redemption.ensures
+    (subst (λ (call : Call). AreAmong (claimants call c.args.terms.now) keys) c.in-Redeem.is c.requires.claims)
 
 pub returns-in-Redeem : goal.returns-in-Redeem
 returns-in-Redeem g c =

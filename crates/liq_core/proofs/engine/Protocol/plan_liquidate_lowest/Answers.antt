@@ -2,12 +2,14 @@ use Rattle.std.proofs.Common.{◌<◌, ◌≤◌, ◌^◌, List, length, refl, a
 use Rattle.std.specs.Prelude.{sum_by}
 use Rattle.liq_types.specs.declared.amounts.TheConstants.{LOWEST_MOST}
 use Rattle.liq_liquidation.specs.declared.one.Victim.{Victim}
+use Rattle.liq_liquidation.specs.Lowest.{lowest_plan}
+use Rattle.liq_liquidation.specs.Moment.{IsFaultOf}
 use Rattle.liq_core.specs.Core.{Core, state_of}
 use Rattle.liq_rules.specs.Liquidation.{lowest_values, offset_events, victim_changes}
 use Rattle.liq_rules.specs.Rules.{six}
 use Rattle.liq_soundness.specs.SoundState.{IsSoundState}
 use Rattle.liq_victims.specs.Victims.{AreVictims}
-use Rattle.liq_core.proofs.Planning.{lowest_fits, lowest_ruled}
+use Rattle.liq_core.proofs.Planning.{lowest_fits, lowest_made, lowest_passes, lowest_ruled, lowest_tests}
 use Rattle.liq_soundness.proofs.SoundStart.{started_with}
 use Rattle.liq_core.proofs.engine.Protocol.plan_liquidate_lowest.Goals as goal
 
@@ -51,3 +53,14 @@ returns c =
     refl
     (c.in-Ok-told.ensures.events ∙ ap (λ (l : List Victim). offset_events s l) c.as_slice.ensures.value)
     (c.in-Ok-told.ensures.changes ∙ ap (λ (l : List Victim). victim_changes s l) c.as_slice.ensures.value)
+
+pub returns-in-Err-NoMemory : goal.returns-in-Err-NoMemory
+returns-in-Err-NoMemory c =
+    let s = state_of c.args.self.now in
+    let passed = subst (IsFaultOf (lowest_plan s c.args.count)) c.in-Err-NoMemory.field-0-is c.in-Err-NoMemory.ensures in
+    (refl, lowest_tests s c.args.count (omega (arith, c.if-count-eq0.false)) (omega (arith, c.if-count-gt-LOWEST_MOST.false)) ∙ lowest_passes s c.args.count passed)
+
+pub returns-in-Err : goal.returns-in-Err
+returns-in-Err c =
+    let s = state_of c.args.self.now in
+    (refl, lowest_tests s c.args.count (omega (arith, c.if-count-eq0.false)) (omega (arith, c.if-count-gt-LOWEST_MOST.false)) ∙ (lowest_made s c.args.count c.in-Ok.victims.items c.in-Ok.ensures).0)

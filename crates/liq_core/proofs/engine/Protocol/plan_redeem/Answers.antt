@@ -1,11 +1,16 @@
-use Rattle.std.proofs.Common.{List, [], ◌∷◌, refl, ap, sym, ◌∙◌, subst}
-use Rattle.std.specs.Prelude.{map}
+use Rattle.std.proofs.Common.{◌≡◌, ℕ, List, [], ◌∷◌, Some, None, Option, refl, ap, sym, ◌∙◌, subst}
+use Rattle.std.specs.Prelude.{map, Ok}
 use Rattle.std.specs.List.{AllByRecursion}
+use Rattle.liq_types.specs.declared.figures.Market.{Market}
+use Rattle.liq_types.specs.declared.figures.Wallet.{Wallet}
+use Rattle.liq_types.specs.declared.replies.Refusal.{Refusal}
 use Rattle.liq_types.specs.declared.requests.Call.TheVariants.{Redeem}
+use Rattle.liq_types.specs.Rules.{first_refusal}
 use Rattle.liq_types.specs.Soundness.{IsSoundImage}
+use Rattle.liq_types.specs.State.{wallet_of}
 use Rattle.liq_types.specs.Totals.{market_of}
 use Rattle.liq_redemption.specs.declared.cut.Cut.{Cut}
-use Rattle.liq_redemption.specs.Redemption.{RedeemTerms, visited, redeeming_terms}
+use Rattle.liq_redemption.specs.Redemption.{RedeemTerms, Visit, asking_rules, first_net, redeem_plan, redeem_rules, redeeming_terms, taking_rules, visited}
 use Rattle.liq_core.specs.Core.{Core, state_of}
 use Rattle.liq_rules.specs.Redemption.{cut_told}
 use Rattle.liq_soundness.specs.SoundState.{CutIsCovered}
@@ -14,6 +19,7 @@ use Rattle.liq_rules.specs.Verbs.{no_hint}
 use Rattle.liq_core.proofs.Cutting.{redeem_told}
 use Rattle.liq_core.proofs.Reading.{allowed_so}
 use Rattle.liq_core.proofs.SoundCores.{core_finds}
+use Rattle.liq_rules.proofs.Ruled.{some_first}
 use Rattle.liq_soundness.proofs.SoundRedeem.{cuts_covered}
 use Rattle.liq_core.proofs.engine.Protocol.plan_redeem.Goals as goal
 
@@ -43,3 +49,18 @@ returns c hint =
             ∙ redeem_told s (core_finds core sound) c.args.account c.args.lusd;
       },
     )
+
+-- what is tested before any trove is visited is passed where a plan is made
+asked : (m : Market) (wallet : Wallet) (visits : List Visit) (lusd bound : ℕ) (plan : RedeemTerms) → redeem_plan m wallet visits lusd bound ≡ Ok plan → first_refusal (asking_rules m wallet lusd bound) ≡ None
+asked m wallet visits lusd bound plan made = by (first_refusal (asking_rules m wallet lusd bound)) refl where
+  by : (o : Option Refusal) → first_refusal (asking_rules m wallet lusd bound) ≡ o → o ≡ None
+  by None is = refl
+  by (Some refusal) is =
+      let refused = some_first (asking_rules m wallet lusd bound) (taking_rules (redeeming_terms m visits lusd) (first_net visits) lusd bound) refusal is in
+      let passed = (allowed_so (redeem_rules m wallet visits lusd bound) (redeeming_terms m visits lusd) plan made).0 in
+      cc
+
+pub returns-in-Err : goal.returns-in-Err
+returns-in-Err c hint =
+    let s = state_of c.args.self.now in
+    (refl, asked (market_of s) (wallet_of s c.args.account) (visited s) c.args.lusd c.args.bound c.in-Ok.taken c.in-Ok.ensures)

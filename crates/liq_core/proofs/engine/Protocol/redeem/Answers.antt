@@ -1,3 +1,8 @@
+use Rattle.std.proofs.Common.{sym, subst}
+use Rattle.std.specs.List.{Contains}
+use Rattle.liq_core.specs.Core.{AreAmong, Core}
+use Rattle.liq_core.specs.Terms.{closed}
+use Rattle.liq_core.proofs.Rooms.{among_closed}
 use Rattle.liq_core.proofs.Redeeming.{redeem_parts, redeem_planned, wallets_ascend, redeem_changes, redeem_sound}
 use Rattle.liq_core.proofs.engine.Protocol.redeem.Goals as goal
 
@@ -9,6 +14,12 @@ apply-requires-clause-planned g c = redeem_planned c.self.inside c.args.self.now
 
 pub apply-requires-clause-ascend : goal.apply-requires-clause-ascend
 apply-requires-clause-ascend g c = wallets_ascend c.self.inside c.self.invariant
+
+pub apply-requires-clause-room : goal.apply-requires-clause-room
+apply-requires-clause-room g c =
+    let cuts = c.args.taken.now.cuts in
+    let its = sym c.self.view_is in
+    (subst (λ (core : Core). Contains core.room.wallets c.args.account) its c.requires.wallet, among_closed c.self.inside.surplus cuts (subst (λ (core : Core). AreAmong (closed cuts) core.room.surplus) its c.requires.claims))
 
 pub invariant_of-self : goal.invariant_of-self
 invariant_of-self g c =
