@@ -330,12 +330,11 @@ module _ (p : Inside) (old : Core) (view : core_of p ≡ old) (sound : IsSound p
   pub move_answer : withdrawing p.pool account 0 ≡ Ok (min 0 (balance_of (state_of (core_of p)) account), gain_of (state_of (core_of p)) account)
   move_answer = withdrawn p sound account 0 (all_false (rules (state_of (core_of p)) (GainToTrove account h.0)) move_passes).0
 
-  module _ (paid : ℕ × ℕ) (answered : withdrawing p.pool account 0 ≡ Ok paid) (pool : Kept) (pools left_pools : Pools) (troves left_troves : Troves) (order : Listed)
+  module _ (paid : ℕ × ℕ) (answered : withdrawing p.pool account 0 ≡ Ok paid) (pool : Kept) (pools : Pools) (troves : Troves) (order : Listed)
       (pool_words : pool.words ≡ words_owned p.pool.words 0 paid.0 paid.1) (finished : pool.finished ≡ p.pool.finished)
       (rows : pool.deposits.rows ≡ left_in p.pool.deposits.rows p.pool.words account ((position_at p.pool account).0 - paid.0))
-      (left : books_kept left_troves left_pools ≡ lift (books_kept p.troves p.pools) account)
-      (kept : books_kept troves pools ≡ place (books_kept left_troves left_pools) account plan.coll plan.debt)
-      (first : SameOthers p.pools left_pools) (second : SameOthers left_pools pools) where
+      (kept : books_kept troves pools ≡ place (lift (books_kept p.troves p.pools) account) account plan.coll plan.debt)
+      (others : SameOthers p.pools pools) where
     move_made : Changes (core_of p) (GainToTrove account h.0) (core_of (record p { pool = pool; pools = pools; troves = troves; order = order }))
     move_made =
         let s = state_of (core_of p) in
@@ -346,8 +345,7 @@ module _ (p : Inside) (old : Core) (view : core_of p ≡ old) (sound : IsSound p
         let amount : (position_at p.pool account).0 - paid.0 ≡ amount_after s account 0 0 = omega (arith, balance, paid_none) in
         moved_changes p sound account plan h.0 k move_is move_passes pool pools troves order
         (owned_pool p sound account 0 0 pool (pool_words ∙ ap (λ n. words_owned p.pool.words 0 n paid.1) paid_none ∙ ap (words_owned p.pool.words 0 0) gained) finished (rows ∙ ap (left_in p.pool.deposits.rows p.pool.words account) amount))
-        (kept ∙ ap (λ (b : Books). place b account plan.coll plan.debt) left)
-        (record { reserve = second.reserve ∙ first.reserve; surplus = second.surplus ∙ first.surplus; fee_coll = second.fee_coll ∙ first.fee_coll; fee_lusd = second.fee_lusd ∙ first.fee_lusd })
+        kept others
 
     pub move_changes : (words : HintWords) → Changes old (GainToTrove account words) (core_of (record p { pool = pool; pools = pools; troves = troves; order = order }))
     move_changes words =

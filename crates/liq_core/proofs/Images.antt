@@ -2,23 +2,15 @@
 use Rattle.std.specs.Prelude.{ℕ, List}
 use Rattle.liq_types.specs.declared.figures.Deposit.{Deposit}
 use Rattle.liq_types.specs.Image.{Image, Place}
+use Rattle.liq_types.specs.State.{started}
 use Rattle.liq_types.specs.Tables.{Table}
 use Rattle.liq_ledger.specs.declared.pools.Pools.{Pools}
 use Rattle.liq_troves.specs.declared.sums.Sums.{Sums}
+use Rattle.liq_standing.specs.Books.{pools_of}
 use Rattle.liq_stability.specs.declared.words.PoolWords.{PoolWords}
 
 abbrev pub pools_by : Image → Pools
-pools_by i =
-    record {
-      active_coll = i.active_coll;
-      active_debt = i.active_debt;
-      default_coll = i.default_coll;
-      default_debt = i.default_debt;
-      reserve = i.reserve;
-      surplus = i.surplus;
-      fee_coll = i.fee_coll;
-      fee_lusd = i.fee_lusd;
-    }
+pools_by i = pools_of (started i)
 
 abbrev pub with_pools : Image → Pools → Image
 with_pools i pools =

@@ -390,17 +390,13 @@ module _ (p : Inside) (old : Core) (view : core_of p ≡ old) (sound : IsSound p
     pub adjusts_so : MayAdjust p account change plan
     adjusts_so = may_adjust p sound account change h.0 plan k adjust_is adjust_passes
 
-    module _ (wallets : WithRoom Wallet) (pools left_pools : Pools) (troves left_troves : Kept) (order : Listed)
+    module _ (wallets : WithRoom Wallet) (pools : Pools) (troves : Kept) (order : Listed)
         (paid : wallets.rows ≡ credited_in (charged_in p.wallets.rows account change.coll_in change.repay) account change.coll_out change.borrow)
-        (left : books_kept left_troves left_pools ≡ lift (books_kept p.troves p.pools) account)
-        (kept : books_kept troves pools ≡ place (books_kept left_troves left_pools) account plan.coll plan.debt)
-        (first : SameOthers (record p.pools { fee_lusd = p.pools.fee_lusd + plan.fee }) left_pools)
-        (second : SameOthers left_pools pools) where
+        (kept : books_kept troves pools ≡ place (lift (books_kept p.troves p.pools) account) account plan.coll plan.debt)
+        (others : SameOthers (record p.pools { fee_lusd = p.pools.fee_lusd + plan.fee }) pools) where
       adjust_made : Changes (core_of p) (Adjust account change.coll_in change.coll_out change.borrow change.repay h.0 h.1) (core_of (record p { rate = plan.rate; wallets = wallets; pools = pools; troves = troves; order = order }))
       adjust_made =
-          adjusted_changes p sound account change h.0 plan k adjust_is adjust_passes wallets pools troves order h.1 paid
-          (kept ∙ ap (λ (b : Books). place b account plan.coll plan.debt) left)
-          (record { reserve = second.reserve ∙ first.reserve; surplus = second.surplus ∙ first.surplus; fee_coll = second.fee_coll ∙ first.fee_coll; fee_lusd = second.fee_lusd ∙ first.fee_lusd })
+          adjusted_changes p sound account change h.0 plan k adjust_is adjust_passes wallets pools troves order h.1 paid kept others
 
       pub adjust_changes : (bound : ℕ) (words : HintWords) → Changes old (Adjust account change.coll_in change.coll_out change.borrow change.repay bound words) (core_of (record p { rate = plan.rate; wallets = wallets; pools = pools; troves = troves; order = order }))
       adjust_changes bound words =

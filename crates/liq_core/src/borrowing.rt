@@ -15,7 +15,7 @@ ghost use Rattle.liq_rules.specs.Step.{rules, first_refusal};
 ghost use Rattle.liq_core.specs.Turn.{IsRuled};
 
 use crate::engine::Protocol;
-use crate::standing::{lift_trove, place_trove};
+use crate::standing::{change_trove, lift_trove, place_trove};
 use crate::told::{ListChanges, PoolEvents};
 use crate::turns::{Forecast, Terms};
 use liq_borrow::{Change, Plan, plan_adjust, plan_close, plan_open};
@@ -188,8 +188,7 @@ impl Protocol {
         );
         self.rate = plan.rate;
         self.pools.fee_lusd += plan.fee;
-        lift_trove(&mut self.pools, &mut self.troves, &mut self.order, account);
-        place_trove(
+        change_trove(
             &mut self.pools,
             &mut self.troves,
             &mut self.order,

@@ -18,7 +18,7 @@ ghost use Rattle.liq_rules.specs.Step.{rules, first_refusal};
 ghost use Rattle.liq_core.specs.Turn.{IsRuled};
 
 use crate::engine::Protocol;
-use crate::standing::{lift_trove, place_trove};
+use crate::standing::change_trove;
 use crate::told::{ListChanges, PoolEvents};
 use crate::turns::{Forecast, Terms};
 use liq_borrow::{Plan, plan_gain};
@@ -196,8 +196,7 @@ impl Protocol {
             Ok(_) => {}
             Err(_) => unreachable!(),
         }
-        lift_trove(&mut self.pools, &mut self.troves, &mut self.order, account);
-        place_trove(
+        change_trove(
             &mut self.pools,
             &mut self.troves,
             &mut self.order,

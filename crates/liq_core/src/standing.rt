@@ -60,3 +60,32 @@ pub(crate) fn place_trove<L: Ledger>(
 {
     place(pools, troves, order, account, coll, debt, hint, steps);
 }
+
+/// The account's trove changes to these amounts in gwei and micro-LUSD: it leaves, and comes in again with nothing pending. The
+/// other pools stay.
+pub(crate) fn change_trove<L: Ledger>(
+    pools: &mut Pools,
+    troves: &mut Troves,
+    order: &mut Order,
+    account: u32,
+    coll: u64,
+    debt: u64,
+    hint: &Hint,
+    steps: &mut Steps<L>,
+)
+    requires there { IsSome (at troves.old.table.rows account) }
+    requires stand { TrovesStand (books_kept troves.old pools.old) }
+    requires list { order.old.entries ≡ order_by troves.old.table.rows }
+    requires coll { pools.old.active_coll + pools.old.default_coll ≤ LIM }
+    requires debt { pools.old.active_debt + pools.old.default_debt ≤ LIM }
+    requires some { 1 ≤ coll }
+    requires least { RESERVE + MIN_NET ≤ debt }
+    requires active_coll { (lifted (books_kept troves.old pools.old) account).active_coll + coll ≤ LIM }
+    requires active_debt { (lifted (books_kept troves.old pools.old) account).active_debt + debt ≤ LIM }
+    ensures books { books_kept troves.new pools.new ≡ placed (lifted (books_kept troves.old pools.old) account) account coll debt }
+    ensures others { SameOthers pools.old pools.new }
+    ensures list { order.new.entries ≡ order_by troves.new.table.rows }
+{
+    lift_trove(pools, troves, order, account);
+    place_trove(pools, troves, order, account, coll, debt, hint, steps);
+}

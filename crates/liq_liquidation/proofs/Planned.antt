@@ -40,7 +40,7 @@ some_debt coll debt price below =
     let under : worth coll price < asked MCR debt = grind (arith, nat_tests, below) in
     omega (arith, under)
 
-plain_worth : (coll debt total price : ℕ) → PRICE_LEAST ≤ price → is_below_percent coll debt price MCR ≡ true → (plain coll debt total).offset_coll ≤ OFFSET_MOST * (plain coll debt total).offset_debt
+pub plain_worth : (coll debt total price : ℕ) → PRICE_LEAST ≤ price → is_below_percent coll debt price MCR ≡ true → (plain coll debt total).offset_coll ≤ OFFSET_MOST * (plain coll debt total).offset_debt
 plain_worth coll debt total price least below =
     let offset_debt = min debt total in
     let rest = coll - gas_of coll in

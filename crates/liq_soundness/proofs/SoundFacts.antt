@@ -442,26 +442,6 @@ leaves_itself s f =
       };
     }
 
-pub leaves_more : (few many : ℕ) (s t : State) → few ≤ many → Leaves few s t → Leaves many s t
-leaves_more few many s t k h =
-    let r = h.rest in
-    record {
-      stands = h.stands;
-      rest = record {
-        homes = r.homes;
-        coll_limit = r.coll_limit;
-        debt_limit = r.debt_limit;
-        ranges = r.ranges;
-        scale = omega (arith, r.scale, k);
-        epoch = omega (arith, r.epoch, k);
-        generation = r.generation;
-        records = r.records;
-        clients = r.clients;
-        snap = r.snap;
-        marks = r.marks;
-      };
-    }
-
 pub leaves_then : (few more many : ℕ) (r s t : State) → few + more ≤ many → Leaves few r s → Leaves more s t → Leaves many r t
 leaves_then few more many r s t k g h =
     let a = g.rest in
@@ -482,3 +462,6 @@ leaves_then few more many r s t k g h =
         marks = λ n. b.marks (a.marks n);
       };
     }
+
+pub leaves_more : (few many : ℕ) (s t : State) → few ≤ many → Leaves few s t → Leaves many s t
+leaves_more few many s t k h = leaves_then few 0 many s t t (omega (arith, k)) h (leaves_itself t (finds_after s t h))

@@ -16,7 +16,6 @@ use Rattle.liq_types.specs.State.{State, TroveEntry}
 use Rattle.liq_types.specs.Tables.{Table, at}
 use Rattle.liq_types.specs.Totals.{is_below_percent, is_at_most_whole, is_ratio_below, is_normal, market_of, pool_total, pool_coll, stakes_of, trove_count, worth, asked}
 use Rattle.liq_types.proofs.MapRows.{at-map, map-length, all-without}
-use Rattle.liq_types.proofs.Rounding.{offset_worth}
 use Rattle.liq_troves.specs.Own.{lifted_entry, redistributed, snapped}
 use Rattle.liq_troves.specs.Rows.{entire_by, sum_after}
 use Rattle.liq_troves.specs.Standing.{TrovesStand, books_of}
@@ -41,7 +40,7 @@ use Rattle.liq_types.proofs.Tests.{all_false, made_by}
 use Rattle.liq_types.proofs.Lookups.{length-without}
 use Rattle.std.proofs.lemmas.Bool.{ltb-false}
 use Rattle.liq_liquidation.proofs.Parts.{gas_within}
-use Rattle.liq_liquidation.proofs.Planned.{below_worth, plain_below}
+use Rattle.liq_liquidation.proofs.Planned.{plain_below, plain_worth}
 
 -- ---- what becomes of a trove
 
@@ -57,13 +56,9 @@ plain_parts coll debt total price some least below =
     let offset_debt = min debt total in
     let rest = coll - gas_of coll in
     let offset_coll = floor_of rest offset_debt debt in
-    let low : offset_coll * debt ≤ rest * offset_debt = div-mul-le_self (rest * offset_debt) debt in
-    let rich = below_worth coll debt price least below in
-    let law = offset_worth debt offset_debt offset_coll rest low (omega (arith, rich)) in
-    let less : offset_coll ≤ 11 * offset_debt = le_of_mul-le-mul_right law (omega (arith, some)) in
     let part : rest * offset_debt ≤ rest * debt = mul-le-mul_left rest (omega arith) in
     let within : offset_coll ≤ rest = div-le_of_le-mul debt (omega (arith, part)) in
-    record { coll_is = omega (arith, gas, within); debt_is = omega arith; served = omega arith; worth_less = less }
+    record { coll_is = omega (arith, gas, within); debt_is = omega arith; served = omega arith; worth_less = plain_worth coll debt total price least below }
 
 capped_parts : (coll debt total price : ℕ) → 1 ≤ debt → PRICE_LEAST ≤ price → is_below_percent coll debt price MCR ≡ false → debt ≤ total → Parts coll debt total (capped price coll debt)
 capped_parts coll debt total price some least above serves =

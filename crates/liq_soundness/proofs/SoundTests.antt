@@ -1,5 +1,5 @@
 -- The tests of an image's rules say just what stands of the state: in both directions.
-use Rattle.std.proofs.Common.{◌≡◌, ℕ, ◌+◌, ◌-◌, ◌*◌, ◌≤◌, ◌<◌, Bool, true, false, cond, List, [], ◌∷◌, refl, ap, sym, ◌∙◌, subst, arith, nat_lt, nat_le, Some, None, length}
+use Rattle.std.proofs.Common.{◌≡◌, ℕ, ◌+◌, ◌-◌, ◌*◌, ◌≤◌, ◌<◌, Bool, true, false, List, [], ◌∷◌, refl, sym, subst, arith, nat_lt, nat_le, length}
 use Rattle.std.specs.Prelude.{◌==◌, ◌&&◌, ◌||◌, not, sum, sum_by}
 use Rattle.std.specs.List.{AllByRecursion, list_all}
 use Rattle.std.specs.Map.{keys_of, values_of}
@@ -10,7 +10,7 @@ use Rattle.liq_types.specs.declared.figures.Client.{Client}
 use Rattle.liq_types.specs.declared.figures.Trove.{Trove}
 use Rattle.liq_types.specs.declared.figures.Deposit.{Deposit}
 use Rattle.liq_types.specs.Image.{Image, Place}
-use Rattle.liq_types.specs.Soundness.{has_ranges, has_accounts, has_keys_in_range, has_coll_at_home, has_lusd_at_home, has_surplus_at_home, has_sound_troves, is_sound_trove, has_troves_added_up, is_backed, has_sound_words, has_sound_deposits, is_sound_deposit, has_sound_clients, is_sound_client, is_before, places_most, soundness, first_failing, first_unsound, HasTables, IsSoundImage, IsClientRow}
+use Rattle.liq_types.specs.Soundness.{has_ranges, has_keys_in_range, is_sound_trove, has_sound_words, is_sound_deposit, is_sound_client, is_before, places_most, HasTables, IsSoundImage, IsClientRow}
 use Rattle.liq_types.specs.State.{State, is_used_wallet}
 use Rattle.liq_types.specs.Tables.{Table}
 use Rattle.liq_types.specs.WellFormed.{stakes_in}
@@ -25,6 +25,7 @@ use Rattle.liq_soundness.proofs.SoundFacts.{KeysBelow, ClientStands, Stands, Bal
 use Rattle.liq_soundness.proofs.SoundPool.{PoolStands, DepositStands, FinishedStands, part_of, sum_in}
 use Rattle.std.proofs.lemmas.Bool.{and_parts, and_from, leb-true, le-leb, ltb-true, lt-ltb, eqb-true, eq-eqb}
 use Rattle.liq_stability.proofs.Tests.{before_in, before_tested, up_to_in, up_to_tested}
+use Rattle.liq_rules.proofs.SoundRules.{Meets, meets, sound_of}
 
 -- ---- what a sound state has, as facts
 
@@ -84,53 +85,6 @@ pass_keys : {X : Type 0} (table : Table X) → KeysBelow table → has_keys_in_r
 pass_keys table h = pass_list (λ key. nat_lt key ACCOUNTS) (λ key. key < ACCOUNTS) (λ key. lt-ltb key ACCOUNTS) (keys_of table) h
 
 -- ---- places
-
--- ---- the rules
-
-passing : (rules : List (ℕ × Bool)) → first_failing rules ≡ None → AllByRecursion (λ (rule : ℕ × Bool). rule.1 ≡ true) rules
-passing [] h = tt
-passing (rule ∷ rules) h = by rule.1 h (passing rules) where
-  by : (b : Bool) → cond b (first_failing rules) (Some rule.0) ≡ None → (first_failing rules ≡ None → AllByRecursion (λ (rule : ℕ × Bool). rule.1 ≡ true) rules) → (b ≡ true) × AllByRecursion (λ (rule : ℕ × Bool). rule.1 ≡ true) rules
-  by true k later = (refl, later k)
-  by false k later = cc
-
-all_passing : (rules : List (ℕ × Bool)) → AllByRecursion (λ (rule : ℕ × Bool). rule.1 ≡ true) rules → first_failing rules ≡ None
-all_passing [] h = refl
-all_passing (rule ∷ rules) h = ap (λ b. cond b (first_failing rules) (Some rule.0)) h.0 ∙ all_passing rules h.1
-
-pub record Passes (i : Image) (records : ℕ) : Type 0 where
-  pub ranges : has_ranges i records ≡ true
-  pub accounts : has_accounts i ≡ true
-  pub coll : has_coll_at_home i ≡ true
-  pub lusd : has_lusd_at_home i ≡ true
-  pub surplus : has_surplus_at_home i ≡ true
-  pub troves : has_sound_troves i ≡ true
-  pub added_up : has_troves_added_up i ≡ true
-  pub backed : is_backed i ≡ true
-  pub words : has_sound_words i records ≡ true
-  pub deposits : has_sound_deposits i ≡ true
-  pub clients : has_sound_clients i ≡ true
-
-pub passes_all : (i : Image) (records : ℕ) → first_unsound i records ≡ None → Passes i records
-passes_all i records h =
-    let r = passing (soundness i records) h in
-    record {
-      ranges = r.0;
-      accounts = r.1.0;
-      coll = r.1.1.0;
-      lusd = r.1.1.1.0;
-      surplus = r.1.1.1.1.0;
-      troves = r.1.1.1.1.1.0;
-      added_up = r.1.1.1.1.1.1.0;
-      backed = r.1.1.1.1.1.1.1.0;
-      words = r.1.1.1.1.1.1.1.1.0;
-      deposits = r.1.1.1.1.1.1.1.1.1.0;
-      clients = r.1.1.1.1.1.1.1.1.1.1.0;
-    }
-
-pub all_pass : (i : Image) (records : ℕ) → Passes i records → first_unsound i records ≡ None
-all_pass i records p =
-    all_passing (soundness i records) (p.ranges, (p.accounts, (p.coll, (p.lusd, (p.surplus, (p.troves, (p.added_up, (p.backed, (p.words, (p.deposits, (p.clients, tt)))))))))))
 
 -- ---- from the tests to the facts
 
@@ -200,8 +154,8 @@ clients_true (e ∷ es) h k =
     (record { row = h.0; kept = parts.0 }, clients_true es h.1 parts.1)
 
 module _ (s : State) (f : IsSoundState s) where
-  p : Passes (image s) s.records
-  p = passes_all (image s) s.records f.sound.rules
+  p : Meets (image s) s.records
+  p = meets (image s) s.records f.sound
 
   range_facts : has_ranges (image s) s.records ≡ true → InRange s × (s.records ≤ RECORDS_MOST) × (s.brought ≤ LIM)
   range_facts h = (
@@ -222,7 +176,7 @@ module _ (s : State) (f : IsSoundState s) where
   troves_facts =
       let debt_sum = and_parts _ (nat_le (image s).sum_debt SUM_MOST) p.troves in
       let coll_sum = and_parts (list_all (is_sound_trove (image s).sum_coll (image s).sum_debt) (values_of (image s).troves)) (nat_le (image s).sum_coll SUM_MOST) debt_sum.0 in
-      let both = and_parts _ _ p.added_up in
+      let both = and_parts _ _ p.added in
       let snap = and_parts _ (nat_le (image s).snap_stakes (image s).snap_coll) both.0 in
       let debts = and_parts _ ((image s).active_debt == sum_by (λ (t : Trove). t.debt) (values_of (image s).troves)) snap.0 in
       let colls = and_parts ((image s).stakes == sum_by (λ (t : Trove). t.stake) (values_of (image s).troves)) ((image s).active_coll == sum_by (λ (t : Trove). t.coll) (values_of (image s).troves)) debts.0 in
@@ -310,7 +264,7 @@ module _ (s : State) (f : SoundFacts s) where
   t : TrovesStand (books_of s)
   t = f.stands.troves
 
-  passes : Passes (image s) s.records
+  passes : Meets (image s) s.records
   passes =
       let i = image s in
       let h = f.stands in
@@ -333,7 +287,7 @@ module _ (s : State) (f : SoundFacts s) where
         lusd = and_from _ _ (and_from _ _ (le-leb _ LIM f.balanced.debt_limit) (eq-eqb _ _ c.lusd)) (eq-eqb s.reserve (RESERVE * length i.troves) (omega (arith, c.reserve, count)));
         surplus = eq-eqb _ _ c.surplus;
         troves = and_from _ _ (and_from _ _ (pass_rows (is_sound_trove i.sum_coll i.sum_debt) (TroveStands i.sum_coll i.sum_debt) (true_trove i.sum_coll i.sum_debt) i.troves t.each) (le-leb i.sum_coll SUM_MOST t.sum_coll)) (le-leb i.sum_debt SUM_MOST t.sum_debt);
-        added_up =
+        added =
             and_from _ _ (and_from _ _ (and_from _ _ (and_from _ _ (eq-eqb _ _ t.stakes) (eq-eqb _ _ t.active_coll)) (eq-eqb _ _ t.active_debt)) (le-leb i.snap_stakes i.snap_coll t.snap))
             (snap_words (i.snap_stakes == 0) refl);
         backed = and_from _ _ (le-leb _ _ t.due_coll) (le-leb _ _ t.due_debt);
@@ -377,7 +331,7 @@ module _ (s : State) (f : SoundFacts s) where
       record {
         formed = f.stands.formed;
         ordered = in_order s f.stands;
-        sound = record { rules = all_pass (image s) s.records passes; tables = tables };
+        sound = sound_of (image s) s.records passes tables;
         spread = f.stands.spread;
       }
 
@@ -385,13 +339,13 @@ module _ (s : State) (f : SoundFacts s) where
 
 pub finished_rows : (i : Image) (records : ℕ) → IsSoundImage i records → AllByRecursion (FinishedStands (i.epoch, i.scale)) i.finished
 finished_rows i records h =
-    let words = (passes_all i records h.rules).words in
+    let words = (meets i records h).words in
     let rows = and_parts _ (list_all (λ (row : Place × ℕ). nat_le row.1 (OFFSET_MOST * P_OPENING) && is_before row.0 (i.epoch, i.scale)) i.finished) words in
     finished_true (i.epoch, i.scale) i.finished h.tables.some_finished rows.1
 
 pub stakes_added : (i : Image) (records : ℕ) → IsSoundImage i records → i.stakes ≡ stakes_in i
 stakes_added i records h =
-    let both = and_parts _ _ (passes_all i records h.rules).added_up in
+    let both = and_parts _ _ (meets i records h).added in
     let snap = and_parts _ (nat_le i.snap_stakes i.snap_coll) both.0 in
     let debts = and_parts _ (i.active_debt == sum_by (λ (t : Trove). t.debt) (values_of i.troves)) snap.0 in
     let colls = and_parts (i.stakes == stakes_in i) (i.active_coll == sum_by (λ (t : Trove). t.coll) (values_of i.troves)) debts.0 in
