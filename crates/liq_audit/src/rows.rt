@@ -1,3 +1,6 @@
+ghost use Rattle.std.specs.Prelude.{◌≡◌};
+ghost use Rattle.liq_audit.specs.Rows.{numbers_of};
+
 /// The most offsets that an audit takes.
 pub const OFFSETS_MOST: u64 = 10_000;
 
@@ -32,6 +35,25 @@ pub struct Row {
     pub gain: u64,
     /// By how much that may be less than the exact one.
     pub gain_allow: u64,
+}
+
+impl Row {
+    /// The row's numbers, in the order of its fields.
+    pub fn numbers(&self) -> [u128; 9]
+        ensures { result ≡ numbers_of self.now }
+    {
+        [
+            u128::from(self.account),
+            self.balance_lo,
+            self.balance_hi,
+            u128::from(self.balance),
+            u128::from(self.balance_allow),
+            self.gain_lo,
+            self.gain_hi,
+            u128::from(self.gain),
+            u128::from(self.gain_allow),
+        ]
+    }
 }
 
 /// Why there is no audit.

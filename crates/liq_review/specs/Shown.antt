@@ -2,19 +2,7 @@
 use Rattle.std.specs.Prelude.{ℕ, ◌+◌, ◌&&◌, nat_le, Bool, List, [], ◌∷◌, ◌++◌, length, map, count_by, codes, decimal}
 use Rattle.std.specs.List.{flat_map, join_with_byte}
 use Rattle.liq_audit.specs.declared.rows.Row.{Row}
-
-abbrev pub numbers_of : Row → List ℕ
-numbers_of row =
-    row.account
-    ∷ row.balance_lo
-    ∷ row.balance_hi
-    ∷ row.balance
-    ∷ row.balance_allow
-    ∷ row.gain_lo
-    ∷ row.gain_hi
-    ∷ row.gain
-    ∷ row.gain_allow
-    ∷ []
+use Rattle.liq_audit.specs.Rows.{numbers_of}
 
 -- a line of numbers with one space between two
 abbrev pub line_of : Row → List ℕ

@@ -12,8 +12,8 @@ ghost use Rattle.liq_review.specs.Engine.{paid_row, Pays};
 
 use liq_audit::EngineRow;
 use liq_core::Protocol;
-use liq_types::{Info, Query, Reply};
-use std::alloc::{AllocError, Global};
+use liq_types::{Info, NoMemory, Query, Reply};
+use std::alloc::Global;
 use std::collections::BTreeMap;
 
 /// What the protocol gives each of the accounts that were paid so much.
@@ -21,14 +21,16 @@ pub(crate) fn engine_rows(
     alloc: Global,
     protocol: &Protocol,
     paid: &BTreeMap<u32, u64>,
-) -> Result<Vec<EngineRow>, AllocError>
+) -> Result<Vec<EngineRow>, NoMemory>
     requires { AllByRecursion (Pays protocol.now) paid.now.entries }
     ensures rows { IfOk result (λ rows. (s : State) → StandsFor protocol.now s → rows.items ≡ map (paid_row s) paid.now.entries) }
     ensures accounts { IfOk result (λ rows. accounts_of rows.items ≡ keys_of paid.now.entries) }
 {
     let mut rows = Vec::with_capacity(alloc, paid.len())?;
     for (account, gains) in paid {
-        rows.push(engine_row(protocol, *account, *gains))?;
+        let Ok(()) = rows.push(engine_row(protocol, *account, *gains)) else {
+            return Err(NoMemory);
+        };
     }
     Ok(rows)
 }

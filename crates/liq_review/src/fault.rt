@@ -4,7 +4,6 @@ ghost use Rattle.std.specs.Prelude.{◌≡◌};
 
 use liq_audit::AuditFault;
 use liq_types::NoMemory;
-use std::alloc::AllocError;
 
 /// Why a list of commands has no review.
 #[derive(Clone, Copy)]
@@ -23,16 +22,6 @@ impl From<NoMemory> for ReviewFault {
     ghost from_gives = { λ _ fault. fault ≡ ReviewFault.NoMemory };
 
     fn from(_: NoMemory) -> ReviewFault {
-        ReviewFault::NoMemory
-    }
-}
-
-impl From<AllocError> for ReviewFault {
-    ghost use Rattle.liq_review.specs.declared.fault.ReviewFault.{ReviewFault};
-
-    ghost from_gives = { λ _ fault. fault ≡ ReviewFault.NoMemory };
-
-    fn from(_: AllocError) -> ReviewFault {
         ReviewFault::NoMemory
     }
 }

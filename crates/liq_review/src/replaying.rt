@@ -1,6 +1,6 @@
 //! The replay of a list of commands, and what they do to the Stability Pool.
 
-ghost use Rattle.std.specs.Prelude.{◌≡◌, ◌<◌, ◌^◌, All, IsTrue, IfOk, IfErr};
+ghost use Rattle.std.specs.Prelude.{◌≡◌, ◌<◌, ◌^◌, ◌++◌, All, IsTrue, IfOk, IfErr, OnOk};
 ghost use Rattle.liq_types.specs.declared.requests.Command.{Command};
 ghost use Rattle.liq_types.specs.declared.requests.Request.TheVariants.{Do};
 ghost use Rattle.liq_types.specs.State.{State};
@@ -11,7 +11,7 @@ ghost use Rattle.liq_review.specs.Replaying.{PlansNext, MakesNext, IsReplayed, S
 use crate::fault::ReviewFault;
 use liq_core::{PlanFault, Planned, Protocol, Turn};
 use liq_pairs::code_of;
-use liq_types::{Command, Hint, PoolEvent, Steps};
+use liq_types::{Command, Hint, NoMemory, PoolEvent, Steps};
 use std::alloc::Global;
 use std::sync::ledger::{Blank, Ledger};
 
@@ -62,10 +62,17 @@ fn make<L: Ledger>(
     ensures { (s : State) → StandsFor protocol.old s → MakesNext s command.now index protocol.new events.old.items events.new.items result }
 {
     let planned = plan(protocol, command, index)?;
-    events.extend_from_slice(planned.events())?;
+    append(events, planned.events())?;
     protocol.reserve(&planned)?;
     protocol.apply(planned, &Hint::NONE, steps);
     Ok(())
+}
+
+/// Puts further events behind the others.
+fn append(events: &mut Vec<PoolEvent>, more: &[PoolEvent]) -> Result<(), NoMemory>
+    ensures { OnOk result (events.new.items ≡ events.old.items ++ more.now) }
+{
+    Ok(events.extend_from_slice(more)?)
 }
 
 /// Plans a command, which must be new and allowed.

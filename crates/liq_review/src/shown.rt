@@ -2,14 +2,15 @@
 
 ghost use Rattle.std.specs.Prelude.{◌≡◌, ◌++◌, ◌∷◌, [], ◌+◌, ◌<◌, ◌^◌, length, map, count_by, decimal, IfOk, OnOk};
 ghost use Rattle.std.specs.List.{join_with_byte};
-ghost use Rattle.liq_review.specs.Shown.{shown as shown_rows, line_of, last_line, is_within, numbers_of};
+ghost use Rattle.liq_review.specs.Shown.{shown as shown_rows, line_of, last_line, is_within};
 
 use itoa::{Buffer, Integer};
 use liq_audit::Row;
+use liq_types::NoMemory;
 use std::alloc::{AllocError, Global};
 
 /// A line for each row, and how many of how many are within theirs.
-pub(crate) fn shown(alloc: Global, rows: &[Row]) -> Result<Vec<u8>, AllocError>
+pub(crate) fn shown(alloc: Global, rows: &[Row]) -> Result<Vec<u8>, NoMemory>
     ensures { IfOk result (λ text. text.items ≡ shown_rows rows.now) }
 {
     let mut text = Vec::new(alloc);
@@ -49,20 +50,7 @@ fn is_row_within(row: &Row) -> bool
 fn put_row(text: &mut Vec<u8>, row: &Row) -> Result<(), AllocError>
     ensures { OnOk result (text.new.items ≡ text.old.items ++ line_of row.now) }
 {
-    put_numbers(
-        text,
-        &[
-            u128::from(row.account),
-            row.balance_lo,
-            row.balance_hi,
-            u128::from(row.balance),
-            u128::from(row.balance_allow),
-            row.gain_lo,
-            row.gain_hi,
-            u128::from(row.gain),
-            u128::from(row.gain_allow),
-        ],
-    )?;
+    put_numbers(text, &row.numbers())?;
     text.extend_from_slice(b"\n")
 }
 
