@@ -10,7 +10,7 @@ use Rattle.atomic_table.specs.Table.{State}
 use Rattle.atomic_table.proofs.Lists.{at_set, set_here, set_else}
 use Rattle.liq_lock.specs.declared.view.View.{View}
 use Rattle.liq_lock.specs.History.{Behind, Within}
-use Rattle.liq_lock.specs.Views.{waits, shares}
+use Rattle.liq_lock.specs.Views.{count_of, waits, shares}
 use Rattle.liq_lock.specs.Rule.{Ledger, Fits, Ruled}
 use Rattle.liq_lock.proofs.Sums.{sum_set}
 
@@ -62,6 +62,23 @@ module _ {I : Type 0} where
       own = f.own;
       number = f.number;
       behind = s.behind;
+      pasts = f.pasts;
+      cutting = f.cutting;
+    }
+
+    -- a view that changes its ticket and its turn keeps the rest
+    pub turn_fits : (n : ℕ) (g : Ledger I) (d e : ℕ) (h : ℕ → ℕ) (b : Bool) (j : ℕ) (v : View I) (held : Option ℕ) (turn : Bool) → Fits maker n g j v → 1 ≤ v.shares → count_of held ≤ v.shares
+        → ((t : ℕ) → held ≡ Some t → (e ≤ t) × (t < d) × (h t ≡ j))
+        → (turn ≡ true → (held ≡ Some e) × (v.seen ≡ g.log) × (b ≡ true))
+        → Fits maker n (turned g d e h g.log b) j (record v { ticket = held; inside = turn })
+    turn_fits n g d e h b j v held turn f alive few ticket inside = record {
+      ticket = ticket;
+      inside = inside;
+      share = few;
+      alive = inr alive;
+      own = f.own;
+      number = f.number;
+      behind = f.behind;
       pasts = f.pasts;
       cutting = f.cutting;
     }

@@ -97,6 +97,7 @@ module _ {T I : Type 0} (history : T → List I) (maker : I → ℕ) (n : ℕ) (
     numbers_within = λ j v l. let p = place j v l in let high : v.number ≤ G.made = p.3 in (p.2, omega arith);
     makers_within = λ i c. let p = r.makers i c in let high : maker i ≤ G.made = p.1 in (p.0, omega arith);
     own_number = λ j v l. (r.each j v l.0).number (alive j v l);
+    stands_within = λ j v l x p. let o = (r.each j v l.0).own x p in let high : x ≤ G.made = o.2 in (o.1, omega arith);
     stands_once = λ x i j v w l m p q. sym ((r.each i v l.0).own x p).0 ∙ ((r.each j w m.0).own x q).0;
     all_stand = λ whole x low high.
         let made : G.made ≡ n = ⊎_elim (λ e. e) (λ c. absurd (false_not_true (sym (whole c.0 c.1 (lives_marked c.0 c.1 c.2 c.3)) ∙ c.3))) r.cut in

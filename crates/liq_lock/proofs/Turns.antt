@@ -12,7 +12,7 @@ use Rattle.liq_lock.specs.Views.{waits, saw, outside}
 use Rattle.liq_lock.specs.Rule.{Ledger, Fits, Ruled}
 use Rattle.liq_lock.specs.Steps.{Counts, Leaves}
 use Rattle.liq_lock.proofs.Histories.{behind_whole, behind_none, behind_on}
-use Rattle.liq_lock.proofs.Moved.{same_at, set_at, Some_is, None_not_Some, false_not_true, moved}
+use Rattle.liq_lock.proofs.Moved.{same_at, set_at, Some_is, None_not_Some, false_not_true, turn_fits, moved}
 use Rattle.liq_lock.proofs.Waits.{holds_on}
 
 -- what is held first
@@ -93,17 +93,7 @@ module _ {T I : Type 0} (history : T → List I) (maker : I → ℕ) where
             r.makers
             (λ _. (x, ap (λ (l : List (maybe.Option (Option T))). set l 0 (some (Some x))) away.0, same ∙ now.1))
             (λ q. absurd (false_not_true q))
-            record {
-              ticket = λ t q. absurd (None_not_Some t q);
-              inside = λ q. absurd (false_not_true q);
-              share = omega arith;
-              alive = inr alive;
-              own = f.own;
-              number = f.number;
-              behind = f.behind;
-              pasts = f.pasts;
-              cutting = f.cutting;
-            }
+            (turn_fits maker n g g.drawn (e + 1) g.holder false id v None false f alive (omega arith) (λ t q. absurd (None_not_Some t q)) (λ q. absurd (false_not_true q)))
             (λ j u other there. let o = r.each j u there in record {
               ticket = λ t q. let k = o.ticket t q in let low : e ≤ t = k.0 in
                   let apart : t ≢ e = λ z. other (sym k.2 ∙ ap g.holder z ∙ mine.2) in (omega arith, k.1, k.2);

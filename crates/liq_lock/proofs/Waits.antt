@@ -15,7 +15,7 @@ use Rattle.liq_lock.specs.Views.{waits, shares, drew, entered}
 use Rattle.liq_lock.specs.Rule.{Ledger, Ruled}
 use Rattle.liq_lock.specs.Steps.{Draws, Looks}
 use Rattle.liq_lock.proofs.Histories.{behind_whole, behind_none}
-use Rattle.liq_lock.proofs.Moved.{same_at, set_at, Some_is, None_not_Some, false_not_true, turned, HeldBy, moved}
+use Rattle.liq_lock.proofs.Moved.{same_at, set_at, Some_is, None_not_Some, false_not_true, turned, HeldBy, turn_fits, moved}
 use Rattle.liq_lock.proofs.Sums.{sum_le}
 use Rattle.std.proofs.lemmas.Bool.{false_from_ne_true}
 
@@ -71,17 +71,9 @@ module _ {T I : Type 0} (history : T → List I) (maker : I → ℕ) where
             r.home
             (λ busy. let a = r.away busy in let ne = not_inside n s r id v here calm busy in
             (a.0, (a.1.0, set_else s.views id (h e) w (λ q. ne (sym (time busy) ∙ q)) ∙ ap (get_elem? s.views) (time busy) ∙ a.1.1, a.1.2)))
-            record {
-              ticket = λ t q. let is : d ≡ t = Some_is d t q in let sums : sum_by waits s.views ≡ sum_by waits s.views = refl in let before = r.waiting in (omega arith, omega arith, at_here g.holder d id t (sym is));
-              inside = λ q. absurd (false_not_true (sym calm ∙ q));
-              share = alive;
-              alive = inr alive;
-              own = f.own;
-              number = f.number;
-              behind = f.behind;
-              pasts = f.pasts;
-              cutting = f.cutting;
-            }
+            (turn_fits maker n g (d + 1) e h g.busy id v (Some d) v.inside f alive alive
+            (λ t q. let is : d ≡ t = Some_is d t q in let sums : sum_by waits s.views ≡ sum_by waits s.views = refl in let before = r.waiting in (omega arith, omega arith, at_here g.holder d id t (sym is)))
+            (λ q. absurd (false_not_true (sym calm ∙ q))))
             (λ j u other there. let o = r.each j u there in record {
               ticket = λ t q. let k = o.ticket t q in let below : t < d = k.1 in (k.0, omega arith, at_else g.holder d id t (λ z. omega arith) ∙ k.2);
               inside = o.inside;

@@ -30,20 +30,26 @@ module _ {I : Type 0} where
     pub number : 1 ≤ v.shares → Contains v.stands v.number
     pub behind : Behind maker g.log v.stands v.seen
     pub pasts : Behind maker v.seen v.left.stands v.left.seen × Behind maker v.seen v.right.stands v.right.seen
-    pub cutting : v.splitting ≡ true → (1 < v.shares) × (g.made + v.shares ≡ n + 1) × (v.next ≡ g.made + 1) × (v.number ≡ 1)
+    pub cutting : v.splitting ≡ true
+        → (1 < v.shares) × (g.made + v.shares ≡ n + 1) × (v.next ≡ g.made + 1) × (v.number ≡ 1)
 
   -- the rule of a lock that was made with n seats
-  pub record Ruled {T : Type 0} (history : T → List I) (maker : I → ℕ) (n : ℕ) (s : State (Option T) (View I)) : Type 0 where
+  pub record Ruled {T : Type 0} (history : T → List I) (maker : I → ℕ) (n : ℕ) (s : State (Option T) (View I))
+      : Type 0 where
     pub ledger : Ledger I
     pub few : n < 2 ^ 32
     pub begun : 1 ≤ ledger.made
     pub words : s.words ≡ ledger.drawn % 2 ^ 64 ∷ ledger.served % 2 ^ 64 ∷ length ledger.log ∷ []
     pub shared : sum_by shares s.views ≡ n
     pub waiting : ledger.served + sum_by waits s.views ≡ ledger.drawn
-    pub held : (t : ℕ) → ledger.served ≤ t → t < ledger.drawn → (v : View I) × (get_elem? s.views (ledger.holder t) ≡ some v) × (v.ticket ≡ Some t)
-    pub kept : (x : ℕ) → 1 ≤ x → x ≤ ledger.made → (v : View I) × (get_elem? s.views (ledger.keeper x) ≡ some v) × (1 ≤ v.shares) × Contains v.stands x
+    pub held : (t : ℕ) → ledger.served ≤ t → t < ledger.drawn
+        → (v : View I) × (get_elem? s.views (ledger.holder t) ≡ some v) × (v.ticket ≡ Some t)
+    pub kept : (x : ℕ) → 1 ≤ x → x ≤ ledger.made
+        → (v : View I) × (get_elem? s.views (ledger.keeper x) ≡ some v) × (1 ≤ v.shares) × Contains v.stands x
     pub makers : Within maker ledger.made ledger.log
     pub cut : (ledger.made ≡ n) ⊎ ((j : ℕ) × (v : View I) × (get_elem? s.views j ≡ some v) × (v.splitting ≡ true))
     pub home : ledger.busy ≡ false → (x : T) × (s.homes ≡ some (Some x) ∷ []) × (history x ≡ ledger.log)
-    pub away : ledger.busy ≡ true → (s.homes ≡ none ∷ []) × ((v : View I) × (get_elem? s.views (ledger.holder ledger.served) ≡ some v) × (v.inside ≡ true))
+    pub away : ledger.busy ≡ true
+        → (s.homes ≡ none ∷ [])
+        × ((v : View I) × (get_elem? s.views (ledger.holder ledger.served) ≡ some v) × (v.inside ≡ true))
     pub each : (j : ℕ) (v : View I) → get_elem? s.views j ≡ some v → Fits maker n ledger j v

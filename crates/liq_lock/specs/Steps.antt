@@ -12,11 +12,14 @@ module _ {T I : Type 0} where
 
   -- the turn has come: the view knows the value's history to its end, which goes on from what it knew, and its seat holds the slot
   abbrev pub Enters : (T → List I) → (I → ℕ) → Me (Option T) (View I) → Me (Option T) (View I) → Type 0
-  Enters history maker m n = (x : T) × (n ≡ (entered m.0 (history x), (0, Some x) ∷ m.1)) × Behind maker (history x) m.0.stands m.0.seen
+  Enters history maker m n = (x : T) × (n ≡ (entered m.0 (history x), (0, Some x) ∷ m.1))
+      × Behind maker (history x) m.0.stands m.0.seen
 
   -- where the word is the view's ticket the view enters, else nothing changes
-  abbrev pub Looks : (T → List I) → (I → ℕ) → Step (Option T) → Me (Option T) (View I) → ℕ → Me (Option T) (View I) → Type 0
-  Looks history maker st m found n = (t : ℕ) → m.0.ticket ≡ Some t → (found ≡ t % 2 ^ 64 → Enters history maker m n) × (found ≢ t % 2 ^ 64 → n ≡ m)
+  abbrev pub Looks : (T → List I) → (I → ℕ) → Step (Option T) → Me (Option T) (View I) → ℕ → Me (Option T) (View I)
+      → Type 0
+  Looks history maker st m found n = (t : ℕ) → m.0.ticket ≡ Some t
+      → (found ≡ t % 2 ^ 64 → Enters history maker m n) × (found ≢ t % 2 ^ 64 → n ≡ m)
 
   -- the history has become that of the value in the slot, and the view has seen all of it
   abbrev pub Counts : (T → List I) → Step (Option T) → Me (Option T) (View I) → ℕ → Me (Option T) (View I) → Type 0
@@ -28,7 +31,8 @@ module _ {T I : Type 0} where
 
   -- nothing changes, the shares are few, and the view's history goes on from both pasts
   abbrev pub Settles : (I → ℕ) → Step (Option T) → Me (Option T) (View I) → ℕ → Me (Option T) (View I) → Type 0
-  Settles maker st m found n = (n ≡ m) × (m.0.shares < 2 ^ 32) × Behind maker m.0.seen m.0.left.stands m.0.left.seen × Behind maker m.0.seen m.0.right.stands m.0.right.seen
+  Settles maker st m found n = (n ≡ m) × (m.0.shares < 2 ^ 32) × Behind maker m.0.seen m.0.left.stands m.0.left.seen
+      × Behind maker m.0.seen m.0.right.stands m.0.right.seen
 
   -- the view waits with the ticket whose number this is
   pub record IsWaiting (m : Me (Option T) (View I)) (number : ℕ) : Type 0 where

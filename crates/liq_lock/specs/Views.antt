@@ -46,13 +46,28 @@ module _ {I : Type 0} where
   abbrev pub longer : List I → List I → List I
   longer xs ys = cond (ltb (length xs) (length ys)) ys xs
 
-  -- the first view, with all shares
-  abbrev pub opener : ℕ → View I
-  opener seats = record { number = 1; stands = 1 ∷ []; seen = []; ticket = None; inside = false; shares = seats; splitting = ltb 1 seats; next = 2; left = no_past; right = no_past }
+  -- a view that knows nothing and has no share
+  abbrev pub blank : View I
+  blank = record {
+    number = 0;
+    stands = [];
+    seen = [];
+    ticket = None;
+    inside = false;
+    shares = 0;
+    splitting = false;
+    next = 0;
+    left = no_past;
+    right = no_past;
+  }
 
   -- what is left of a view that was joined into another
   abbrev pub spent : View I
-  spent = record { number = 0; stands = []; seen = []; ticket = None; inside = false; shares = 0; splitting = false; next = 0; left = no_past; right = no_past }
+  spent = blank
+
+  -- the first view, with all shares
+  abbrev pub opener : ℕ → View I
+  opener seats = record blank { number = 1; stands = 1 ∷ []; shares = seats; splitting = ltb 1 seats; next = 2 }
 
   abbrev pub drew : View I → ℕ → View I
   drew v t = record v { ticket = Some t }
@@ -90,8 +105,10 @@ module _ {I : Type 0} where
 
   -- the first view, when the seats below k are made
   abbrev pub dealer : ℕ → ℕ → View I
-  dealer k n = record { number = 1; stands = 1 ∷ []; seen = []; ticket = None; inside = false; shares = n + 2 - k; splitting = ltb 1 (n + 2 - k); next = k; left = no_past; right = no_past }
+  dealer k n =
+      let kept = n + 2 - k in
+      record blank { number = 1; stands = 1 ∷ []; shares = kept; splitting = ltb 1 kept; next = k }
 
   -- the view of a seat that was made for one share
   abbrev pub newcomer : ℕ → ℕ → View I
-  newcomer k next = record { number = k; stands = k ∷ []; seen = []; ticket = None; inside = false; shares = 1; splitting = false; next = next; left = no_past; right = no_past }
+  newcomer k next = record blank { number = k; stands = k ∷ []; shares = 1; next = next }

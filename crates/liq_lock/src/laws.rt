@@ -3,12 +3,15 @@
 ghost use Rattle.std.specs.Prelude.{ℕ, Option};
 ghost use Rattle.atomic_table.specs.Table.{State};
 ghost use Rattle.liq_lock.specs.declared.view.View.{View};
-ghost use Rattle.liq_lock.specs.Rule.{Ruled};
 ghost use Rattle.liq_lock.specs.Sentences.{Sentences};
 
 use crate::chronicle::Chronicle;
+use crate::rule::Turns;
+use crate::view::View;
+use atomic_table::TableRule;
 
-/// The rule that holds of a lock between any two atomic steps says the ten sentences.
+/// The rule of the lock's table, which holds between any two atomic steps, says the ten sentences.
 pub fn rule_in_sentences<T: Chronicle>()
-    ensures { (n : ℕ) (s : State (Option T) (View T.Item)) → Ruled T.history T.maker n s → Sentences T.history T.maker n s }
+    ensures { (n : ℕ) (s : State (Option T) (View T.Item)) → ⟦<Turns as TableRule<Option<T>, View<T::Item>, u32>>⟧.holds n s
+        → Sentences T.history T.maker n s }
 {}
