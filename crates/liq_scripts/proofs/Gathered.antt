@@ -10,7 +10,7 @@ use Rattle.liq_sessions.specs.declared.script.Script.{Script}
 use Rattle.liq_scripts.specs.declared.stops.Stop.{Stop}
 use Rattle.liq_scripts.specs.declared.stops.Stop.TheVariants.{BadLine, ReadFault, NoMemory, Limit}
 use Rattle.liq_scripts.specs.Asked.{Asks, AreAsked, IsBadLine, scripts_of}
-use Rattle.liq_scripts.specs.Gathering.{BeginsWith}
+use Rattle.liq_scripts.specs.Gathering.{BeginsWith, StopsAfter}
 use Rattle.liq_scripts.specs.Progress.{HasRead, HasGathered, Comes, Keeps}
 use Rattle.liq_scripts.proofs.Bad.{bad_long}
 
@@ -99,17 +99,21 @@ ended_well x start u left n scripts taken few h reads over =
           (subst (λ (ls : List (List ℕ)). AreAsked ls h.asked) (sym whole) r.spelled, done.0);
     }
 
-pub ended_by_fault : {T : Type 0} (start u left : Option (List ℕ)) (n : ℕ) (scripts : List Script) (part taken : List ℕ) → n ≤ LINES_MOST → HasGathered start n scripts u → IsPartOfLine n part → Reads u part (unread taken left) → taken ≡ [] → Comes {T = T} (Err ReadFault) start scripts left
-ended_by_fault start u left n scripts part taken few h within reads fresh =
+-- it stops, for a reason that is shown by what was read
+stopped : {T : Type 0} (stop : Stop) (start u left : Option (List ℕ)) (n : ℕ) (scripts : List Script) → n ≤ LINES_MOST → (h : HasGathered start n scripts u) → ((bytes : List ℕ) → HasRead bytes h.asked u → StopsAfter stop bytes left h.asked) → Comes {T = T} (Err stop) start scripts left
+stopped stop start u left n scripts few h why =
     record {
       asked = h.asked;
       few = omega (arith, few, h.count);
       scripts_are = tt;
-      read = λ bytes is.
-          let r = h.read bytes is in
-          let t = told_left r.rest part taken left (told part u (unread taken left) r.rest r.unread_is reads) in
-          (r.front, r.spelled, (part, subst (λ (m : ℕ). IsPartOfLine m part) (sym h.count) within, (t.0, t.1, r.bytes_are ∙ ap (λ (t : List ℕ). ended r.front ++ t) (t.2 ∙ ap (λ (l : List ℕ). part ++ (l ++ t.0)) fresh) ∙ sym (append_assoc (ended r.front) part t.0))));
+      read = λ bytes is. why bytes (h.read bytes is);
     }
+
+pub ended_by_fault : {T : Type 0} (start u left : Option (List ℕ)) (n : ℕ) (scripts : List Script) (part taken : List ℕ) → n ≤ LINES_MOST → HasGathered start n scripts u → IsPartOfLine n part → Reads u part (unread taken left) → taken ≡ [] → Comes {T = T} (Err ReadFault) start scripts left
+ended_by_fault start u left n scripts part taken few h within reads fresh =
+    stopped ReadFault start u left n scripts few h (λ bytes r.
+    let t = told_left r.rest part taken left (told part u (unread taken left) r.rest r.unread_is reads) in
+    (r.front, r.spelled, (part, subst (λ (m : ℕ). IsPartOfLine m part) (sym h.count) within, (t.0, t.1, r.bytes_are ∙ ap (λ (t : List ℕ). ended r.front ++ t) (t.2 ∙ ap (λ (l : List ℕ). part ++ (l ++ t.0)) fresh) ∙ sym (append_assoc (ended r.front) part t.0)))))
 
 -- what is unread begins with a bad line
 abbrev pub StartsBad : Option (List ℕ) → Type 0
@@ -117,15 +121,9 @@ StartsBad u = (rest : List ℕ) → u ≡ Some rest → (line : List ℕ) × IsB
 
 pub ended_by_bad_line : {T : Type 0} (start u left : Option (List ℕ)) (n at : ℕ) (scripts : List Script) → n < LINES_MOST → at ≡ n + 1 → HasGathered start n scripts u → StartsBad u → Comes {T = T} (Err (BadLine at)) start scripts left
 ended_by_bad_line start u left n at scripts few next h bad =
-    record {
-      asked = h.asked;
-      few = omega (arith, few, h.count);
-      scripts_are = tt;
-      read = λ bytes is.
-          let r = h.read bytes is in
-          let b = bad r.rest r.unread_is in
-          (next ∙ ap (λ m. m + 1) (sym h.count), omega (arith, few, next), (b.0, b.1, (b.2.0, begins_with bytes h.asked u r (b.0 ∷ b.2.0) b.2.1)));
-    }
+    stopped (BadLine at) start u left n scripts (omega (arith, few)) h (λ bytes r.
+    let b = bad r.rest r.unread_is in
+    (next ∙ ap (λ m. m + 1) (sym h.count), omega (arith, few, next), (b.0, b.1, (b.2.0, begins_with bytes h.asked u r (b.0 ∷ b.2.0) b.2.1))))
 
 pub starts_too_long : (line : List ℕ) (byte : ℕ) (u u' : Option (List ℕ)) → IsWithinLine line → byte ≢ 10 → length line ≡ LINE_BYTES → Reads u (line ++ byte ∷ []) u' → StartsBad u
 starts_too_long line byte u u' within apart long reads rest is =
@@ -134,24 +132,13 @@ starts_too_long line byte u u' within apart long reads rest is =
 
 pub ended_by_memory : {T : Type 0} (start u left : Option (List ℕ)) (n : ℕ) (scripts : List Script) → n ≤ LINES_MOST → HasGathered start n scripts u → Comes {T = T} (Err NoMemory) start scripts left
 ended_by_memory start u left n scripts few h =
-    record {
-      asked = h.asked;
-      few = omega (arith, few, h.count);
-      scripts_are = tt;
-      read = λ bytes is. let r = h.read bytes is in (lines_in r.rest, begins_with bytes h.asked u r (lines_in r.rest) refl);
-    }
+    stopped NoMemory start u left n scripts few h (λ bytes r. (lines_in r.rest, begins_with bytes h.asked u r (lines_in r.rest) refl))
 
 pub ended_by_limit : {T : Type 0} (start u u' left : Option (List ℕ)) (n byte : ℕ) (scripts : List Script) → n ≡ LINES_MOST → HasGathered start n scripts u → Reads u (byte ∷ []) u' → Comes {T = T} (Err Limit) start scripts left
 ended_by_limit start u u' left n byte scripts full h reads =
-    record {
-      asked = h.asked;
-      few = omega (arith, full, h.count);
-      scripts_are = tt;
-      read = λ bytes is.
-          let r = h.read bytes is in
-          let f = first-begun r.rest byte u' (told (byte ∷ []) u u' r.rest r.unread_is reads) in
-          (h.count ∙ full, (f.0, (f.1, begins_with bytes h.asked u r (f.0 ∷ f.1) f.2)));
-    }
+    stopped Limit start u left n scripts (omega (arith, full)) h (λ bytes r.
+    let f = first-begun r.rest byte u' (told (byte ∷ []) u u' r.rest r.unread_is reads) in
+    (h.count ∙ full, (f.0, (f.1, begins_with bytes h.asked u r (f.0 ∷ f.1) f.2))))
 
 -- the line was read, and its request is not kept
 pub ended_at_line : {T : Type 0} (stop : Stop) (start u left : Option (List ℕ)) (n : ℕ) (scripts scripts' : List Script) (line : List ℕ) → n < LINES_MOST → HasGathered start n scripts u → Keeps line (n + 1) scripts scripts' (Err stop) → ((rest : List ℕ) → u ≡ Some rest → (more : List (List ℕ)) × (lines_in rest ≡ line ∷ more)) → Comes {T = T} (Err stop) start scripts' left

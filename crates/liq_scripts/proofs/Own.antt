@@ -1,21 +1,19 @@
 -- A session's own entries.
 use Rattle.std.proofs.Common.{◌≡◌, ℕ, ◌+◌, ◌<◌, Bool, true, false, cond, List, [], ◌∷◌, ◌++◌, get_or, refl, ap, sym, ◌∙◌, arith}
-use Rattle.std.specs.Prelude.{◌==◌, ◌||◌, map, decimal}
+use Rattle.std.specs.Prelude.{◌==◌, ◌||◌, map}
 use Rattle.std.specs.List.{flat_map, list_any}
 use Rattle.std.proofs.lemmas.List.FromFn.{get_or-map-range_with_len}
 use Rattle.liq_rules.specs.History.{Entry, own_entries}
-use Rattle.liq_scripts.specs.Output.{heading, reply_line, entry_line, session_text}
-use Rattle.liq_scripts.specs.Sending.{line_text}
+use Rattle.liq_scripts.specs.Output.{heading, reply_line, session_text}
+use Rattle.liq_scripts.specs.Sending.{part_text}
 use Rattle.liq_scripts.specs.Sessions.{sessions}
-use Rattle.liq_scripts.specs.declared.outbox.Line.TheVariants as line
+use Rattle.liq_scripts.specs.declared.output.Part.{Part}
+use Rattle.liq_scripts.specs.declared.output.Part.TheVariants.{ReplyTo}
 
 module _ {E : Type 0} (entry : E → Entry) where
-  abbrev pub shown_line : E → List ℕ
-  shown_line e = entry_line (entry e)
-
-  pub line-shown : (e : E) (session index : ℕ) → session ≡ (entry e).session → index ≡ (entry e).index → line_text (line.Entry session index) ≡ shown_line e
-  line-shown e session index s i =
-      ap (λ (n : ℕ). decimal n ++ 32 ∷ decimal index ++ 10 ∷ []) s ∙ ap (λ (n : ℕ). decimal (entry e).session ++ 32 ∷ decimal n ++ 10 ∷ []) i
+  -- what is sent of each
+  abbrev pub sent_of : Part → E → List ℕ
+  sent_of part e = part_text part (entry e)
 
   -- what the entries say of a session
   abbrev pub session_part : List E → ℕ → List ℕ
@@ -24,7 +22,7 @@ module _ {E : Type 0} (entry : E → Entry) where
 module _ {E : Type 0} (entry : E → Entry) (session : ℕ) where
   -- the reply's line, where the entry is the session's
   abbrev pub own_line : E → List ℕ
-  own_line e = cond ((entry e).session == session) (reply_line (entry e).reply) []
+  own_line e = sent_of entry (ReplyTo session) e
 
   pub own-lines : (es : List E) → flat_map (λ (e : Entry). reply_line e.reply) (own_entries session (map entry es)) ≡ flat_map own_line es
   own-lines [] = refl

@@ -1,12 +1,12 @@
 //! A history, written.
 
-ghost use Rattle.std.specs.Prelude.{◌≡◌, ◌==◌, [], map, OnOk, OnErr, if◌then◌else◌};
-ghost use Rattle.std.specs.List.{list_any};
+ghost use Rattle.std.specs.Prelude.{◌≡◌, ◌==◌, [], map, OnOk, OnErr};
+ghost use Rattle.std.specs.List.{flat_map, list_any};
 ghost use Rattle.liq_outside.specs.Faults.{HasCause};
 ghost use Rattle.liq_rules.specs.History.{Entry, own_entries};
 ghost use Rattle.liq_lines.specs.Writing.{Writes, WritesPart};
-ghost use Rattle.liq_scripts.specs.Output.{served, reply_line, replies_text, session_text, history_text};
-ghost use Rattle.liq_scripts.specs.Sending.{Sends};
+ghost use Rattle.liq_scripts.specs.Output.{served, replies_text, session_text, history_text};
+ghost use Rattle.liq_scripts.specs.Sending.{Sends, part_text};
 
 use crate::outbox::{Line, Outbox};
 use crate::scripts::SESSIONS;
@@ -29,6 +29,15 @@ pub trait Shown {
     /// What was answered.
     fn reply(&self) -> Reply
         ensures { result ≡ (entry self.now).reply };
+}
+
+/// What of an entry is written.
+#[derive(Clone, Copy)]
+pub(crate) enum Part {
+    /// The reply, where the entry is this session's.
+    ReplyTo(u8),
+    /// Whose call it was, and which of its own.
+    Call,
 }
 
 /// Writes a history: the replies of each session that has any, and then the entries. Where the sink meets a fault, it holds a
@@ -78,27 +87,7 @@ fn send_session<E: Shown, K: Sink>(
         return Ok(());
     }
     outbox.send(Line::Session(session), out)?;
-    for entry in entries {
-        send_own(entry, session, outbox, out)?;
-    }
-    Ok(())
-}
-
-/// Sends the reply that the entry has, if it is the session's.
-fn send_own<E: Shown, K: Sink>(
-    entry: &E,
-    session: u8,
-    outbox: &mut Outbox,
-    out: &mut K,
-) -> Result<(), Failed>
-    ensures sends { Sends result outbox.old (if (E.entry entry.now).session == session then reply_line (E.entry entry.now).reply else []) outbox.new
-        (K.held out.old) (K.held out.new) }
-    ensures cause { HasCause (K.faults out.old) (K.faults out.new) result }
-{
-    if entry.session() != session {
-        return Ok(());
-    }
-    outbox.send(Line::Reply(entry.reply()), out)
+    send_each(entries, Part::ReplyTo(session), outbox, out)
 }
 
 /// Whether some entry is the session's.
@@ -117,8 +106,54 @@ fn send_entries<E: Shown, K: Sink>(
     ensures sends { Sends result outbox.old (history_text (map E.entry entries.now)) outbox.new (K.held out.old) (K.held out.new) }
     ensures cause { HasCause (K.faults out.old) (K.faults out.new) result }
 {
+    send_each(entries, Part::Call, outbox, out)
+}
+
+/// Sends this part of each entry.
+fn send_each<E: Shown, K: Sink>(
+    entries: &[E],
+    part: Part,
+    outbox: &mut Outbox,
+    out: &mut K,
+) -> Result<(), Failed>
+    ensures sends { Sends result outbox.old (flat_map (λ e. part_text part (E.entry e)) entries.now) outbox.new
+        (K.held out.old) (K.held out.new) }
+    ensures cause { HasCause (K.faults out.old) (K.faults out.new) result }
+{
     for entry in entries {
-        outbox.send(Line::Entry(entry.session(), entry.index()), out)?;
+        send_part(entry, part, outbox, out)?;
     }
     Ok(())
+}
+
+/// Sends this part of an entry.
+fn send_part<E: Shown, K: Sink>(
+    entry: &E,
+    part: Part,
+    outbox: &mut Outbox,
+    out: &mut K,
+) -> Result<(), Failed>
+    ensures sends { Sends result outbox.old (part_text part (E.entry entry.now)) outbox.new (K.held out.old) (K.held out.new) }
+    ensures cause { HasCause (K.faults out.old) (K.faults out.new) result }
+{
+    match part {
+        Part::ReplyTo(session) => send_own(entry, session, outbox, out),
+        Part::Call => outbox.send(Line::Entry(entry.session(), entry.index()), out),
+    }
+}
+
+/// Sends the reply that the entry has, if it is the session's.
+fn send_own<E: Shown, K: Sink>(
+    entry: &E,
+    session: u8,
+    outbox: &mut Outbox,
+    out: &mut K,
+) -> Result<(), Failed>
+    ensures sends { Sends result outbox.old (part_text (Part.ReplyTo session) (E.entry entry.now)) outbox.new (K.held out.old) (K.held out.new) }
+    ensures cause { HasCause (K.faults out.old) (K.faults out.new) result }
+{
+    if entry.session() != session {
+        return Ok(());
+    }
+    outbox.send(Line::Reply(entry.reply()), out)
 }
