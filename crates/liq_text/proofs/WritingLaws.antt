@@ -66,10 +66,6 @@ written_words out a b c d name numbers h ea eb ec ed =
     append_assoc (32 ∷ name) (spaced (map decimal numbers)) (written (hint_words h)) ∙ ap (λ (x : List ℕ). (32 ∷ name) ++ x) (sym (written_numbers numbers (hint_words h))) in
     ed ∙ ap (λ (x : List ℕ). x ++ written (hint_words h)) two ∙ append_assoc out ((32 ∷ name) ++ spaced (map decimal numbers)) (written (hint_words h)) ∙ ap (λ (x : List ℕ). out ++ x) rest
 
-pub each_in_range : (numbers : List ℕ) → ((i : ℕ) → get_or numbers i 0 < 2 ^ 64) → AllByRecursion (λ n. n < 2 ^ 64) numbers
-each_in_range [] h = tt
-each_in_range (n ∷ ns) h = (h 0, each_in_range ns (λ i. h (suc i)))
-
 pub put_two_behind : (out a b c first second : List ℕ) (pieces : List (List ℕ)) → a ≡ out ++ first → b ≡ a ++ (32 ∷ second) → c ≡ b ++ spaced pieces → c ≡ out ++ join_with_byte 32 (first ∷ second ∷ pieces)
 put_two_behind out a b c first second pieces ea eb ec =
     put_behind out a c first (second ∷ pieces) ea (ec ∙ ap (λ (x : List ℕ). x ++ spaced pieces) eb ∙ append_assoc a (32 ∷ second) (spaced pieces))

@@ -1,8 +1,9 @@
 -- Words written one after the other.
-use Rattle.std.specs.Prelude.{ℕ, List, [], ◌∷◌, ◌<◌, ◌^◌, map, Option, Some, None, codes, decimal}
+use Rattle.std.specs.Prelude.{ℕ, List, [], ◌∷◌, ◌++◌, ◌<◌, ◌^◌, map, take, Option, Some, None, codes, decimal}
 use Rattle.std.specs.List.{flat_map, join_with_byte}
 use Rattle.liq_types.specs.declared.requests.Request.{Request}
 use Rattle.liq_types.specs.declared.hints.HintWords.{HintWords}
+use Rattle.liq_text.specs.declared.requests.Named.{Named}
 use Rattle.liq_text.specs.Spelling.{Word, text, account, number, hint, request_words}
 
 -- each piece with a space in front of it
@@ -25,6 +26,10 @@ line_of request = join_with_byte 32 (map piece_of (request_words request))
 abbrev pub hint_words : Option HintWords → List Word
 hint_words None = []
 hint_words (Some h) = hint h.prev ∷ hint h.next ∷ []
+
+-- the words of a name and of what stands behind it
+abbrev pub words_in : Named → List Word
+words_in named = text named.name.now ∷ (map number (take named.count named.numbers) ++ hint_words named.hint)
 
 -- a name, numbers and hints, each with a space in front of it
 abbrev pub written : List Word → List ℕ

@@ -1,6 +1,6 @@
 //! Replies, written.
 
-ghost use Rattle.std.specs.Prelude.{map, decimal, ◌≡◌, ◌≤◌, ◌+◌, ◌++◌, OnOk, OnErr, IsOk, slice_index, length};
+ghost use Rattle.std.specs.Prelude.{map, decimal, ◌≡◌, ◌≤◌, ◌+◌, ◌++◌, OnOk, OnErr, IsOk, slice_index, length, take};
 ghost use Rattle.std.specs.List.{join_with_byte};
 ghost use Rattle.std.specs.Vec.{vec_len, vec_capacity};
 ghost use Rattle.liq_text.specs.Replies.{text, info_words, refusal_numbers, value_counts, shown_values};
@@ -10,86 +10,74 @@ use crate::writing::{put, put_list, put_numbers};
 use liq_types::amounts::REPLY_BYTES;
 use liq_types::{Done, Info, NoMemory, Refusal, Reply};
 
-fn put_refusal(out: &mut Vec<u8>, refusal: &Refusal)
-    requires { vec_len out.old + 240 ≤ vec_capacity out.old }
-    ensures items { out.new.items ≡ out.old.items ++ spaced (map decimal (refusal_numbers refusal.now)) }
-    ensures len { vec_len out.new ≤ vec_len out.old + 240 }
-    ensures capacity { vec_capacity out.old ≤ vec_capacity out.new }
+/// A refusal's code and the values that it carries, in front of noughts, and how many numbers these are.
+fn numbers_of(refusal: &Refusal) -> ([u128; 6], usize)
+    ensures numbers { take result.1 result.0 ≡ refusal_numbers refusal.now }
+    ensures few { result.1 ≤ 6 }
 {
     match *refusal {
-        Refusal::PriceRange { price } => put_numbers(out, &[10u128, price.into()]),
-        Refusal::AmountZero => put_numbers(out, &[11u128]),
-        Refusal::AmountLimit { sum, limit } => put_numbers(out, &[12u128, sum, limit.into()]),
-        Refusal::AccountRange { value } => put_numbers(out, &[13u128, value.into()]),
-        Refusal::ShortCollateral { need, have } => put_numbers(
-            out,
-            &[14u128, need.into(), have.into()],
-        ),
-        Refusal::ShortTokens { need, have } => put_numbers(
-            out,
-            &[15u128, need.into(), have.into()],
-        ),
-        Refusal::TroveExists { account } => put_numbers(out, &[20u128, account.into()]),
-        Refusal::NoTrove { account } => put_numbers(out, &[21u128, account.into()]),
-        Refusal::FeeBound { bound, least } => put_numbers(
-            out,
-            &[22u128, bound.into(), least.into()],
-        ),
-        Refusal::FeeOver { left, right } => put_numbers(out, &[23u128, left, right]),
-        Refusal::NetDebtLow { net, least } => put_numbers(out, &[24u128, net.into(), least.into()]),
-        Refusal::RatioLow { left, right } => put_numbers(out, &[25u128, left, right]),
-        Refusal::SystemRatioLow { left, right } => put_numbers(out, &[26u128, left, right]),
-        Refusal::RecoveryForbids { left, right } => put_numbers(out, &[27u128, left, right]),
-        Refusal::RatioFalls { left, right } => put_numbers(out, &[28u128, left, right]),
-        Refusal::BothWays { first, second } => put_numbers(
-            out,
-            &[29u128, first.into(), second.into()],
-        ),
-        Refusal::NoChange => put_numbers(out, &[30u128]),
-        Refusal::LastTrove { troves } => put_numbers(out, &[31u128, troves.into()]),
-        Refusal::NoDeposit { account } => put_numbers(out, &[40u128, account.into()]),
+        Refusal::PriceRange { price } => ([10, price.into(), 0, 0, 0, 0], 2),
+        Refusal::AmountZero => ([11, 0, 0, 0, 0, 0], 1),
+        Refusal::AmountLimit { sum, limit } => ([12, sum, limit.into(), 0, 0, 0], 3),
+        Refusal::AccountRange { value } => ([13, value.into(), 0, 0, 0, 0], 2),
+        Refusal::ShortCollateral { need, have } => ([14, need.into(), have.into(), 0, 0, 0], 3),
+        Refusal::ShortTokens { need, have } => ([15, need.into(), have.into(), 0, 0, 0], 3),
+        Refusal::TroveExists { account } => ([20, account.into(), 0, 0, 0, 0], 2),
+        Refusal::NoTrove { account } => ([21, account.into(), 0, 0, 0, 0], 2),
+        Refusal::FeeBound { bound, least } => ([22, bound.into(), least.into(), 0, 0, 0], 3),
+        Refusal::FeeOver { left, right } => ([23, left, right, 0, 0, 0], 3),
+        Refusal::NetDebtLow { net, least } => ([24, net.into(), least.into(), 0, 0, 0], 3),
+        Refusal::RatioLow { left, right } => ([25, left, right, 0, 0, 0], 3),
+        Refusal::SystemRatioLow { left, right } => ([26, left, right, 0, 0, 0], 3),
+        Refusal::RecoveryForbids { left, right } => ([27, left, right, 0, 0, 0], 3),
+        Refusal::RatioFalls { left, right } => ([28, left, right, 0, 0, 0], 3),
+        Refusal::BothWays { first, second } => ([29, first.into(), second.into(), 0, 0, 0], 3),
+        Refusal::NoChange => ([30, 0, 0, 0, 0, 0], 1),
+        Refusal::LastTrove { troves } => ([31, troves.into(), 0, 0, 0, 0], 2),
+        Refusal::NoDeposit { account } => ([40, account.into(), 0, 0, 0, 0], 2),
         Refusal::TroveUnder {
             account,
             left,
             right,
-        } => put_numbers(out, &[41u128, account.into(), left, right]),
-        Refusal::NoGain { account } => put_numbers(out, &[42u128, account.into()]),
+        } => ([41, account.into(), left, right, 0, 0], 4),
+        Refusal::NoGain { account } => ([42, account.into(), 0, 0, 0, 0], 2),
         Refusal::NotLiquidatable {
             coll,
             debt,
             price,
             total_coll,
             total_debt,
-        } => put_numbers(
-            out,
-            &[
-                50u128,
+        } => (
+            [
+                50,
                 coll.into(),
                 debt.into(),
                 price.into(),
                 total_coll.into(),
                 total_debt.into(),
             ],
+            6,
         ),
-        Refusal::PoolTooSmall { total, debt } => put_numbers(
-            out,
-            &[51u128, total.into(), debt.into()],
-        ),
-        Refusal::SumLimit { sum } => put_numbers(out, &[52u128, sum]),
-        Refusal::Bootstrap { minute, limit } => put_numbers(
-            out,
-            &[60u128, minute.into(), limit.into()],
-        ),
-        Refusal::SystemUnder { left, right } => put_numbers(out, &[61u128, left, right]),
-        Refusal::NothingRedeemed { amount, net } => put_numbers(
-            out,
-            &[62u128, amount.into(), net.into()],
-        ),
-        Refusal::FeeEatsAll { fee, drawn } => put_numbers(out, &[63u128, fee.into(), drawn.into()]),
-        Refusal::NoSurplus { account } => put_numbers(out, &[64u128, account.into()]),
-        Refusal::OutOfTurn { expected } => put_numbers(out, &[70u128, expected.into()]),
-        Refusal::JournalFull { records } => put_numbers(out, &[81u128, records.into()]),
+        Refusal::PoolTooSmall { total, debt } => ([51, total.into(), debt.into(), 0, 0, 0], 3),
+        Refusal::SumLimit { sum } => ([52, sum, 0, 0, 0, 0], 2),
+        Refusal::Bootstrap { minute, limit } => ([60, minute.into(), limit.into(), 0, 0, 0], 3),
+        Refusal::SystemUnder { left, right } => ([61, left, right, 0, 0, 0], 3),
+        Refusal::NothingRedeemed { amount, net } => ([62, amount.into(), net.into(), 0, 0, 0], 3),
+        Refusal::FeeEatsAll { fee, drawn } => ([63, fee.into(), drawn.into(), 0, 0, 0], 3),
+        Refusal::NoSurplus { account } => ([64, account.into(), 0, 0, 0, 0], 2),
+        Refusal::OutOfTurn { expected } => ([70, expected.into(), 0, 0, 0, 0], 2),
+        Refusal::JournalFull { records } => ([81, records.into(), 0, 0, 0, 0], 2),
     }
+}
+
+fn put_refusal(out: &mut Vec<u8>, refusal: &Refusal)
+    requires { vec_len out.old + 240 ≤ vec_capacity out.old }
+    ensures items { out.new.items ≡ out.old.items ++ spaced (map decimal (refusal_numbers refusal.now)) }
+    ensures len { vec_len out.new ≤ vec_len out.old + 240 }
+    ensures capacity { vec_capacity out.old ≤ vec_capacity out.new }
+{
+    let (numbers, count) = numbers_of(refusal);
+    put_numbers(out, &numbers[..count]);
 }
 
 // How many values the reply to a kind of command shows.

@@ -1,11 +1,11 @@
 //! Requests, written.
 
-ghost use Rattle.std.specs.Prelude.{[], ◌≡◌, ◌≤◌, ◌+◌, ◌*◌, ◌<◌, ◌^◌, ◌++◌, ◌∷◌, ℕ, List, length, map, OnOk, OnErr, IsOk};
+ghost use Rattle.std.specs.Prelude.{[], ◌≡◌, ◌≤◌, ◌+◌, ◌*◌, ◌++◌, ◌∷◌, length, map, OnOk, OnErr, IsOk};
 ghost use Rattle.std.specs.List.{AllByRecursion, join_with_byte};
 ghost use Rattle.std.specs.Vec.{vec_len, vec_capacity};
 ghost use Rattle.liq_types.specs.declared.requests.Request.TheVariants.{Do};
-ghost use Rattle.liq_text.specs.Spelling.{text, number, hint, call_words, query_words, request_words, HasSpelling, AppendsLine};
-ghost use Rattle.liq_text.specs.Writing.{piece_of, line_of, written, hint_words, IsInRange};
+ghost use Rattle.liq_text.specs.Spelling.{hint, call_words, query_words, request_words, HasSpelling, AppendsLine};
+ghost use Rattle.liq_text.specs.Writing.{piece_of, line_of, written, words_in, hint_words, IsInRange};
 
 use crate::writing::{put, put_first, put_number, put_numbers};
 use liq_types::amounts::LINE_BYTES;
@@ -63,58 +63,61 @@ fn put_call(out: &mut Vec<u8>, call: &Call)
     ensures len { vec_len out.new ≤ vec_len out.old + 155 }
     ensures capacity { vec_capacity out.old ≤ vec_capacity out.new }
 {
+    put_named(out, &named_call(call));
+}
+
+/// A verb, and the numbers and hints behind it.
+fn named_call(call: &Call) -> Named
+    ensures words { map piece_of (words_in result) ≡ map piece_of (call_words call.now) }
+    ensures range { AllByRecursion IsInRange (call_words call.now) }
+    ensures few { result.count ≤ 6 }
+    ensures short { length result.name.now + result.count * 21 ≤ 132 }
+{
     match *call {
-        Call::Price(price) => put_words(out, b"price", &[price], None),
-        Call::Advance(minutes) => put_words(out, b"advance", &[minutes], None),
-        Call::Fund(account, coll) => put_words(out, b"fund", &[account.into(), coll], None),
-        Call::Take(account, coll) => put_words(out, b"take", &[account.into(), coll], None),
-        Call::Send(from, to, lusd) => put_words(
-            out,
-            b"send",
-            &[from.into(), to.into(), lusd],
-            None,
-        ),
-        Call::Open(account, coll, borrow, bound, hint) => put_words(
-            out,
+        Call::Price(price) => words(b"price", [price, 0, 0, 0, 0, 0], 1),
+        Call::Advance(minutes) => words(b"advance", [minutes, 0, 0, 0, 0, 0], 1),
+        Call::Fund(account, coll) => words(b"fund", [account.into(), coll, 0, 0, 0, 0], 2),
+        Call::Take(account, coll) => words(b"take", [account.into(), coll, 0, 0, 0, 0], 2),
+        Call::Send(from, to, lusd) => words(b"send", [from.into(), to.into(), lusd, 0, 0, 0], 3),
+        Call::Open(account, coll, borrow, bound, hint) => hinted(
             b"open",
-            &[account.into(), coll, borrow, bound],
-            Some(hint),
+            [account.into(), coll, borrow, bound, 0, 0],
+            4,
+            hint,
         ),
-        Call::Adjust(account, coll_in, coll_out, borrow, repay, bound, hint) => put_words(
-            out,
+        Call::Adjust(account, coll_in, coll_out, borrow, repay, bound, hint) => hinted(
             b"adjust",
-            &[account.into(), coll_in, coll_out, borrow, repay, bound],
-            Some(hint),
+            [account.into(), coll_in, coll_out, borrow, repay, bound],
+            6,
+            hint,
         ),
-        Call::Close(account) => put_words(out, b"close", &[account.into()], None),
-        Call::Provide(account, lusd) => put_words(out, b"provide", &[account.into(), lusd], None),
-        Call::Withdraw(account, lusd) => put_words(out, b"withdraw", &[account.into(), lusd], None),
-        Call::GainToTrove(account, hint) => put_words(
-            out,
+        Call::Close(account) => words(b"close", [account.into(), 0, 0, 0, 0, 0], 1),
+        Call::Provide(account, lusd) => words(b"provide", [account.into(), lusd, 0, 0, 0, 0], 2),
+        Call::Withdraw(account, lusd) => words(b"withdraw", [account.into(), lusd, 0, 0, 0, 0], 2),
+        Call::GainToTrove(account, hint) => hinted(
             b"gain_to_trove",
-            &[account.into()],
-            Some(hint),
+            [account.into(), 0, 0, 0, 0, 0],
+            1,
+            hint,
         ),
-        Call::Liquidate(liquidator, owner) => put_words(
-            out,
+        Call::Liquidate(liquidator, owner) => words(
             b"liquidate",
-            &[liquidator.into(), owner.into()],
-            None,
+            [liquidator.into(), owner.into(), 0, 0, 0, 0],
+            2,
         ),
-        Call::LiquidateLowest(liquidator, count) => put_words(
-            out,
+        Call::LiquidateLowest(liquidator, count) => words(
             b"liquidate_lowest",
-            &[liquidator.into(), count],
-            None,
+            [liquidator.into(), count, 0, 0, 0, 0],
+            2,
         ),
-        Call::Redeem(account, lusd, bound, hint) => put_words(
-            out,
+        Call::Redeem(account, lusd, bound, hint) => hinted(
             b"redeem",
-            &[account.into(), lusd, bound],
-            Some(hint),
+            [account.into(), lusd, bound, 0, 0, 0],
+            3,
+            hint,
         ),
-        Call::Claim(account) => put_words(out, b"claim", &[account.into()], None),
-        Call::Rotate => put_words(out, b"rotate", &[], None),
+        Call::Claim(account) => words(b"claim", [account.into(), 0, 0, 0, 0, 0], 1),
+        Call::Rotate => words(b"rotate", [0, 0, 0, 0, 0, 0], 0),
     }
 }
 
@@ -125,28 +128,70 @@ fn put_query(out: &mut Vec<u8>, query: &Query)
     ensures len { vec_len out.new ≤ vec_len out.old + 155 }
     ensures capacity { vec_capacity out.old ≤ vec_capacity out.new }
 {
+    put_named(out, &named_query(query));
+}
+
+/// The name of a query, and the number behind it.
+fn named_query(query: &Query) -> Named
+    ensures words { map piece_of (words_in result) ≡ map piece_of (query_words query.now) }
+    ensures range { AllByRecursion IsInRange (query_words query.now) }
+    ensures few { result.count ≤ 6 }
+    ensures short { length result.name.now + result.count * 21 ≤ 132 }
+{
     match *query {
-        Query::Wallet(account) => put_words(out, b"wallet", &[account.into()], None),
-        Query::Trove(account) => put_words(out, b"trove", &[account.into()], None),
-        Query::Deposit(account) => put_words(out, b"deposit", &[account.into()], None),
-        Query::Pools => put_words(out, b"pools", &[], None),
-        Query::System => put_words(out, b"system", &[], None),
-        Query::NextNumber(client) => put_words(out, b"next_number", &[client.into()], None),
+        Query::Wallet(account) => words(b"wallet", [account.into(), 0, 0, 0, 0, 0], 1),
+        Query::Trove(account) => words(b"trove", [account.into(), 0, 0, 0, 0, 0], 1),
+        Query::Deposit(account) => words(b"deposit", [account.into(), 0, 0, 0, 0, 0], 1),
+        Query::Pools => words(b"pools", [0, 0, 0, 0, 0, 0], 0),
+        Query::System => words(b"system", [0, 0, 0, 0, 0, 0], 0),
+        Query::NextNumber(client) => words(b"next_number", [client.into(), 0, 0, 0, 0, 0], 1),
     }
 }
 
-// A name and the words after it, each with a space in front of it.
-fn put_words(out: &mut Vec<u8>, name: &[u8], numbers: &[u64], hint: Option<HintWords>)
-    requires { vec_len out.old + (length name.now + length numbers.now * 21 + 23) ≤ vec_capacity out.old }
-    ensures items { out.new.items ≡ out.old.items ++ written (text name.now ∷ (map number numbers.now ++ hint_words hint)) }
-    ensures range { AllByRecursion (λ n. n < 2 ^ 64) numbers.now }
-    ensures len { vec_len out.new ≤ vec_len out.old + (length name.now + length numbers.now * 21 + 23) }
+/// A name and what stands behind it: the first `count` of the numbers, and hints where there are any.
+#[derive(Drop)]
+struct Named {
+    name: &'static [u8],
+    numbers: [u64; 6],
+    count: usize,
+    hint: Option<HintWords>,
+}
+
+fn words(name: &'static [u8], numbers: [u64; 6], count: usize) -> Named
+    ensures { result ≡ record { name = name.entry; numbers = numbers; count = count; hint = None } }
+{
+    Named {
+        name,
+        numbers,
+        count,
+        hint: None,
+    }
+}
+
+fn hinted(name: &'static [u8], numbers: [u64; 6], count: usize, hint: HintWords) -> Named
+    ensures { result ≡ record { name = name.entry; numbers = numbers; count = count; hint = Some hint } }
+{
+    Named {
+        name,
+        numbers,
+        count,
+        hint: Some(hint),
+    }
+}
+
+// The name and the words after it, each with a space in front of it.
+fn put_named(out: &mut Vec<u8>, named: &Named)
+    requires few { named.now.count ≤ 6 }
+    requires short { length named.now.name.now + named.now.count * 21 ≤ 132 }
+    requires room { vec_len out.old + 155 ≤ vec_capacity out.old }
+    ensures items { out.new.items ≡ out.old.items ++ written (words_in named.now) }
+    ensures len { vec_len out.new ≤ vec_len out.old + 155 }
     ensures capacity { vec_capacity out.old ≤ vec_capacity out.new }
 {
     put(out, b" ");
-    put(out, name);
-    put_numbers(out, numbers);
-    put_hints(out, hint);
+    put(out, named.name);
+    put_numbers(out, &named.numbers[..named.count]);
+    put_hints(out, named.hint);
 }
 
 fn put_hints(out: &mut Vec<u8>, hint: Option<HintWords>)
