@@ -17,22 +17,26 @@ use Rattle.liq_book.specs.Items.{IsFull, entries_of, session_of}
 abbrev pub SeesOthers : ℕ → List Item → List Item → Type 0
 SeesOthers session before after = Behind session_of after (session ∷ []) before
 
--- A reply: others' items follow what was seen before, then this call's entry as the last one, and its reply is the one of the rules
--- after all entries before it. A fault of a disk: others' items, and this call's halt as the last one. Any other answer: others'
--- items alone, of which a halt is the last one where the service was stopped by it.
+-- A reply: others' items follow what was seen before, then this call's entry as the last one, and its reply is the one
+-- of the rules after all entries before it. A fault of a disk: others' items, and this call's halt as the last one. Any
+-- other answer: others' items alone, of which a halt is the last one where the service was stopped by it.
 abbrev pub Answered : State → ℕ → ℕ → Request → Answer → List Item → List Item → Type 0
 Answered base session calls request (answer.Reply reply) before after =
     (between : List Item) × NoneOf session_of (session ∷ []) between
-    × (after ≡ (before ++ between) ++ item.Entry (record { session = session; index = calls + 1; request = request; reply = reply }) ∷ [])
+    × (after ≡ (before ++ between) ++ item.Entry
+    (record { session = session; index = calls + 1; request = request; reply = reply }) ∷ [])
     × (reply ≡ (step (state_after base (entries_of (before ++ between))) request).1)
 Answered base session calls request answer.NoMemory before after = SeesOthers session before after
 Answered base session calls request answer.DiskFault before after =
     (between : List Item) × NoneOf session_of (session ∷ []) between
-    × ((faults : ℕ) × (after ≡ (before ++ between) ++ item.Halt (record { session = session; request = request; faults = faults }) ∷ []))
+    × ((faults : ℕ)
+    × (after ≡ (before ++ between) ++ item.Halt
+    (record { session = session; request = request; faults = faults }) ∷ []))
 Answered base session calls request (answer.Stopped faults) before after =
     SeesOthers session before after
     × ((earlier : List Item) × ((halt : Halt) × ((after ≡ earlier ++ item.Halt halt ∷ []) × (halt.faults ≡ faults))))
-Answered base session calls request (answer.HistoryFull entries) before after = SeesOthers session before after × (entries ≡ ENTRIES_MOST)
+Answered base session calls request (answer.HistoryFull entries) before after =
+    SeesOthers session before after × (entries ≡ ENTRIES_MOST)
 
 -- The limit is answered exactly where it was reached before the call, whatever else there was.
 abbrev pub IsLimited : Answer → List Item → Type 0

@@ -31,22 +31,29 @@ CausesHalt None before after = after ≡ before
 CausesHalt (Some halt) before after = OneRose before after
 
 module _ {D : Type 0} (seen : D → Option (List ℕ)) (moment : D → ℕ) (left_at : D → ℕ → List ℕ → Type 0) where
-  -- What both disks read, where both tell it, is kept for the state; and behind a halt what they read, and all that a crash may now leave
-  -- of the one beside all of the other, is kept for the state or for the one after the halt's request.
+  -- What both disks read, where both tell it, is kept for the state; and behind a halt what they read, and all that a
+  -- crash may now leave of the one beside all of the other, is kept for the state or for the one after the halt's
+  -- request.
   abbrev pub KeepsDisks : Option Halt → State → Stored D → Type 0
   KeepsDisks None s store = (l r : List ℕ) → seen store.left ≡ Some l → seen store.right ≡ Some r → IsKept l r s
   KeepsDisks (Some halt) s store =
       (l r : List ℕ) → seen store.left ≡ Some l → seen store.right ≡ Some r
-      → IsKeptAround s halt.request l r × ((a b : List ℕ) → LeftNow moment left_at store.left a → LeftNow moment left_at store.right b → IsKeptAround s halt.request a b)
+      → IsKeptAround s halt.request l r
+      × ((a b : List ℕ) → LeftNow moment left_at store.left a → LeftNow moment left_at store.right b
+      → IsKeptAround s halt.request a b)
 
--- What holds of every book: the entries are a legal history from its base, and the store's protocol is in the state after them. A halt
--- is there exactly where the store is stopped, with the faults that it then tells.
-pub record IsBook {D : Type 0} (seen : D → Option (List ℕ)) (faults : D → ℕ) (moment : D → ℕ) (left_at : D → ℕ → List ℕ → Type 0) (base : State) (left_origin right_origin : DiskAt) (book : Booked D) : Type 0 where
+-- What holds of every book: the entries are a legal history from its base, and the store's protocol is in the state
+-- after them. A halt is there exactly where the store is stopped, with the faults that it then tells.
+pub record IsBook
+    {D : Type 0} (seen : D → Option (List ℕ)) (faults : D → ℕ) (moment : D → ℕ) (left_at : D → ℕ → List ℕ → Type 0)
+    (base : State) (left_origin right_origin : DiskAt) (book : Booked D) : Type 0 where
   pub few : length book.entries ≤ ENTRIES_MOST
   pub legal : IsLegal base (map recorded book.entries)
   pub state : StandsFor book.store.core (state_of_book base book)
   pub halt : book.store.stopped ≡ option_map (λ h. h.faults) book.halt
   pub keeps : KeepsDisks seen moment left_at book.halt (state_of_book base book) book.store
-  pub cause : CausesHalt book.halt (faults_at left_origin right_origin) (record { left = faults book.store.left; right = faults book.store.right })
+  pub cause :
+      CausesHalt book.halt (faults_at left_origin right_origin)
+      (record { left = faults book.store.left; right = faults book.store.right })
   pub left : GoesOnFrom left_origin moment left_at book.store.left
   pub right : GoesOnFrom right_origin moment left_at book.store.right

@@ -28,7 +28,8 @@ entries_of (item.Halt h ∷ items) = entries_of items
 
 -- a session's requests that were answered, with their replies
 abbrev pub calls_of : ℕ → List Item → List (Request × Reply)
-calls_of session items = map (λ (e : history.Entry). (e.request, e.reply)) (history.own_entries session (entries_of items))
+calls_of session items =
+    map (λ (e : history.Entry). (e.request, e.reply)) (history.own_entries session (entries_of items))
 
 abbrev pub or_else : Option Request → Option Request → Option Request
 or_else (Some request) other = Some request
@@ -38,7 +39,8 @@ or_else None other = other
 abbrev pub faulted_in : ℕ → List Item → Option Request
 faulted_in session [] = None
 faulted_in session (item.Entry e ∷ items) = faulted_in session items
-faulted_in session (item.Halt h ∷ items) = or_else (faulted_in session items) (if h.session == session then Some h.request else None)
+faulted_in session (item.Halt h ∷ items) =
+    or_else (faulted_in session items) (if h.session == session then Some h.request else None)
 
 abbrev pub EndsInHalt : List Item → Type 0
 EndsInHalt items = (before : List Item) × ((h : Halt) × (items ≡ before ++ item.Halt h ∷ []))

@@ -15,20 +15,26 @@ pub record DiskAt : Type 1 where
   pub left_at : ℕ → List ℕ → Type 0
 
 -- The law of moments from there on: time goes on, and what a crash may have left up to that moment stays what it was.
-pub record GoesOnFrom {D : Type 0} (origin : DiskAt) (moment_of : D → ℕ) (left_by : D → ℕ → List ℕ → Type 0) (disk : D) : Type 0 where
+pub record GoesOnFrom
+    {D : Type 0} (origin : DiskAt) (moment_of : D → ℕ) (left_by : D → ℕ → List ℕ → Type 0) (disk : D) : Type 0 where
   pub later : origin.moment ≤ moment_of disk
   pub past : (k : ℕ) (image : List ℕ) → k ≤ origin.moment → left_by disk k image → origin.left_at k image
   pub kept : (k : ℕ) (image : List ℕ) → k ≤ origin.moment → origin.left_at k image → left_by disk k image
 
 -- the disk is as it was then
-pub record IsDiskAt {D : Type 0} (origin : DiskAt) (seen_by : D → Option (List ℕ)) (faults_of : D → ℕ) (moment_of : D → ℕ) (left_by : D → ℕ → List ℕ → Type 0) (disk : D) : Type 0 where
+pub record IsDiskAt
+    {D : Type 0} (origin : DiskAt) (seen_by : D → Option (List ℕ)) (faults_of : D → ℕ) (moment_of : D → ℕ)
+    (left_by : D → ℕ → List ℕ → Type 0) (disk : D) : Type 0 where
   pub seen : seen_by disk ≡ origin.seen
   pub faults : faults_of disk ≡ origin.faults
   pub moment : moment_of disk ≡ origin.moment
   pub time : GoesOnFrom origin moment_of left_by disk
 
 -- the store is as it was there
-pub record IsAtOrigin {D : Type 0} (seen_by : D → Option (List ℕ)) (faults_of : D → ℕ) (moment_of : D → ℕ) (left_by : D → ℕ → List ℕ → Type 0) (base : State) (left_origin right_origin : DiskAt) (store : Stored D) : Type 0 where
+pub record IsAtOrigin
+    {D : Type 0} (seen_by : D → Option (List ℕ)) (faults_of : D → ℕ) (moment_of : D → ℕ)
+    (left_by : D → ℕ → List ℕ → Type 0) (base : State) (left_origin right_origin : DiskAt)
+    (store : Stored D) : Type 0 where
   pub state : StandsFor store.core base
   pub left : IsDiskAt left_origin seen_by faults_of moment_of left_by store.left
   pub right : IsDiskAt right_origin seen_by faults_of moment_of left_by store.right

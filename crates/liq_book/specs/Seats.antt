@@ -28,7 +28,8 @@ module _ {O : Type 0} {o : Ghosts O} where
 
   -- seats as they were made, for the sessions from 1 on
   abbrev pub AreSeated : {T : Type 0} → Lock T Item → List (BookSeat O o) → Type 0
-  AreSeated lock seats = (k : ℕ) (d : BookSeat O o) → k < length seats → IsNewSeat lock (k + 1) (slice_index_or seats k d)
+  AreSeated lock seats =
+      (k : ℕ) (d : BookSeat O o) → k < length seats → IsNewSeat lock (k + 1) (slice_index_or seats k d)
 
 module _ {D O : Type 0} where
   -- how many seats the service was made with
