@@ -1,20 +1,28 @@
 -- The disks of a word, as it finds them.
-use Rattle.std.proofs.Common.{◌≡◌, ℕ, Bool, true, false, List, [], Option, Some, None, Result, Ok, Err, refl, ap₂, subst, ◌∙◌, arith, inl, inr}
+use Rattle.std.proofs.Common.{◌≡◌, ℕ, Bool, true, false, List, Option, Some, None, Result, Ok, Err, refl, sym, ap, ap₂, subst, ◌∙◌}
 use Rattle.std.specs.Prelude.{cond, nat_lt, IsSome}
-use Rattle.liq_types.specs.declared.requests.Command.{Command}
 use Rattle.liq_types.specs.State.{State, opening}
 use Rattle.liq_types.specs.WellFormed.{IsWellFormed}
 use Rattle.liq_core.specs.Core.{Core, StandsFor}
-use Rattle.liq_rules.specs.Step.{Allowed, ruling}
+use Rattle.liq_rules.specs.Image.{IsSameState, image}
+use Rattle.liq_rules.proofs.AlikeReads.{Alike}
 use Rattle.liq_journal.specs.declared.damage.Damage.{Damage}
 use Rattle.liq_journal.specs.Written.{Found, Written, Absent, Damaged, Open, found_on}
 use Rattle.liq_pairs.specs.declared.side.Side.{Side}
+use Rattle.liq_pairs.specs.Kept.{IsKept}
 use Rattle.liq_pairs.specs.Pair.{Standing, Nothing, Faulty, Holding, StandFor, pair_state, standing, standing_after, standing_of, state_on}
 use Rattle.liq_pairs.specs.Replay.{outcome}
-use Rattle.liq_pairs.specs.Unfinished.{HoldsUnfinished}
+use Rattle.liq_pairs.proofs.Alike.{kept_alike}
+use Rattle.liq_pairs.proofs.Keeping.{settled_kept}
 use Rattle.liq_pairs.proofs.Replaying.{opening_formed, outcome_formed}
+use Rattle.liq_store.specs.declared.answers.StoreFault.{StoreFault}
+use Rattle.liq_store.specs.declared.answers.StoreWhy.TheVariants as why
+use Rattle.liq_store.specs.Keeping.{IsInOrder, IsInOrderWith}
+use Rattle.liq_store.specs.Opening.{IsNotOpened, OpensOn}
+use Rattle.liq_store.specs.Stored.{Stored}
+use Rattle.liq_store.proofs.Recovered.{still_kept}
 use Rattle.liq_ends.specs.declared.halts.Halt.{Halt}
-use Rattle.liq_ends.specs.Disks.{DisksStand, EndsDamaged}
+use Rattle.liq_ends.specs.Disks.{DisksStand, EndsDamaged, StandStill}
 
 -- ---- the state for which disks stand is well formed
 
@@ -59,18 +67,13 @@ pair_formed (Holding n t) Nothing s fa fb is =
     subst (λ (x : State). IsWellFormed x) same (fa n t refl)
 pair_formed (Holding n t) (Holding m u) s fa fb is = later_formed (nat_lt n m) t u s (fa n t refl) (fb m u refl) is
 
-state_formed : (l r : List ℕ) (s : State) → state_on l r ≡ Ok s → IsWellFormed s
+pub state_formed : (l r : List ℕ) (s : State) → state_on l r ≡ Ok s → IsWellFormed s
 unfolding state_on
 state_formed l r s is = pair_formed (standing true l) (standing false r) s (standing_formed true l) (standing_formed false r) is
 
 -- disks that stand for what others stood for
 pub still_stand : (l r a b : List ℕ) (s : State) → state_on a b ≡ state_on l r → state_on l r ≡ Ok s → StandFor a b s
 still_stand l r a b s stays is = record { state = s; is = stays ∙ is; same = record { image = refl; records = refl }; formed = state_formed l r s is }
-
--- what was unfinished is accepted
-pub unfinished_is_allowed : (l r : List ℕ) (s : State) (c : Command) → HoldsUnfinished l r s c → ruling s c ≡ Allowed
-unfinished_is_allowed l r s c (side, inl unfinished) = unfinished.record_is.allowed
-unfinished_is_allowed l r s c (side, inr rotated) = absurd rotated.rotation.rotation
 
 -- the state at which a store was opened is that for which the disks stand
 pub opened_at : (s start : State) {E : Type 0} (found : Result State E) (core : Core) → found ≡ Ok s → found ≡ Ok start → StandsFor core s → StandsFor core start
@@ -79,16 +82,58 @@ opened_at s start found core one other stands =
     subst (λ (t : State). StandsFor core t) same stands
 
 -- disks that nobody touched
-pub untouched : {D : Type 0} (seen : D → Option (List ℕ)) (left right : D) (l r : List ℕ) (s : State) → seen left ≡ Some l → seen right ≡ Some r → state_on l r ≡ Ok s → DisksStand seen left right s
+pub untouched : {D : Type 0} (seen : D → Option (List ℕ)) (left right : D) (l r : List ℕ) (s : State) → seen left ≡ Some l → seen right ≡ Some r → state_on l r ≡ Ok s → StandStill seen l r s left right
 untouched seen left right l r s told_l told_r is a b told_a told_b =
     let left_is : a ≡ l = cc in
     let right_is : b ≡ r = cc in
-    still_stand l r a b s (ap₂ state_on left_is right_is) is
+    (ap₂ state_on left_is right_is ∙ is, λ kept. subst (λ (x : List ℕ). IsKept x b s) (sym left_is) (subst (λ (x : List ℕ). IsKept l x s) (sym right_is) kept))
+
+-- disks at which a store was not opened, for want of memory
+pub unopened : {D : Type 0} (seen : D → Option (List ℕ)) (faults : D → ℕ) (left right : D) (fault : StoreFault D) → IsNotOpened seen faults left right fault → (fault.why ≡ why.DiskFault → ⊥)
+    → (l r : List ℕ) (s : State) → seen left ≡ Some l → seen right ≡ Some r → state_on l r ≡ Ok s → StandStill seen l r s fault.left fault.right
+unopened seen faults left right fault h other l r s told_l told_r is a b told_a told_b =
+    let stands : state_on a b ≡ Ok s = h.stays other l r a b told_l told_r told_a told_b ∙ is in
+    (stands, λ kept. still_kept l r a b s stands (h.reads l r a b s told_l told_r kept told_a told_b))
+
+-- disks that stand still stand for the state
+pub standing_still : {D : Type 0} (seen : D → Option (List ℕ)) (left right : D) (l r : List ℕ) (s : State) → state_on l r ≡ Ok s → StandStill seen l r s left right → DisksStand seen l r s left right s
+standing_still seen left right l r s is still a b told_a told_b =
+    let so = still a b told_a told_b in
+    (still_stand l r a b s (so.0 ∙ sym is) is, so.1)
+
+-- disks of a store that was opened
+pub opened_still : {D : Type 0} (seen : D → Option (List ℕ)) (faults : D → ℕ) (moment : D → ℕ) (left_at : D → ℕ → List ℕ → Type 0) (left right : D) (store : Stored D) (l r : List ℕ) (s : State)
+    → OpensOn seen faults left right store → IsInOrder seen moment left_at store → StandsFor store.core s → seen left ≡ Some l → seen right ≡ Some r → state_on l r ≡ Ok s → StandStill seen l r s store.left store.right
+opened_still seen faults moment left_at left right store l r s opened order stands told_l told_r is a b told_a told_b =
+    let now = subst (λ (stopped : Option ℕ). IsInOrderWith seen moment left_at stopped store) opened.going order in
+    (opened.stays l r a b told_l told_r told_a told_b ∙ is, λ kept. settled_kept store.side a b s (now.settled a b told_a told_b s stands))
+
+-- disks of a store that goes on
+pub settled : {D : Type 0} (seen : D → Option (List ℕ)) (moment : D → ℕ) (left_at : D → ℕ → List ℕ → Type 0) (store : Stored D) (l r : List ℕ) (start s : State)
+    → store.stopped ≡ None → IsInOrder seen moment left_at store → StandsFor store.core s → DisksStand seen l r start store.left store.right s
+settled seen moment left_at store l r start s going order stands a b told_a told_b =
+    let now = subst (λ (stopped : Option ℕ). IsInOrderWith seen moment left_at stopped store) going order in
+    let is = now.settled a b told_a told_b s stands in
+    (is.stands, λ kept. settled_kept store.side a b s is)
+
+-- ---- disks that are kept begin again
+
+pub kept_again : (a b : List ℕ) (s t : State) → IsKept a b s → state_on a b ≡ Ok t → IsSameState s t × IsKept a b t
+kept_again a b s t kept is =
+    let stands = kept.stands in
+    let here : stands.state ≡ t = cc (stands.is, is) in
+    let alike : Alike s t = record {
+      image = sym stands.same.image ∙ ap image here;
+      records = sym stands.same.records ∙ ap (λ (u : State). u.records) here;
+      left = stands.formed;
+      right = state_formed a b t is;
+    } in
+    (record { image = alike.image; records = alike.records }, kept_alike alike a b kept)
 
 -- a word over damaged disks stops
-pub damaged_halts : {D : Type 0} (seen : D → Option (List ℕ)) (side : Side) (damage : Damage) (l r : List ℕ) (end : Result (Unit {0}) Halt) (left right : D) → EndsDamaged seen side damage l r end left right → (halt : Halt) × (end ≡ Err halt)
-damaged_halts seen side damage l r (Ok done) left right h = absurd h
-damaged_halts seen side damage l r (Err halt) left right h = (halt, refl)
+pub damaged_halts : {D : Type 0} (seen : D → Option (List ℕ)) (side : Side) (damage : Damage) (end : Result (Unit {0}) Halt) (left right : D) → EndsDamaged seen side damage end left right → (halt : Halt) × (end ≡ Err halt)
+damaged_halts seen side damage (Ok done) left right h = absurd h
+damaged_halts seen side damage (Err halt) left right h = (halt, refl)
 
 -- ---- disks that tell their bytes
 

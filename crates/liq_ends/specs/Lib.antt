@@ -1,3 +1,5 @@
+-- A reader of the top call's clause needs Disks, Output, Requests, Statuses, Stops and Telling. Causes, Unopened and
+-- Unsaid are for the contracts below it.
 pub mod Causes
 pub mod Disks
 pub mod Output
@@ -5,3 +7,5 @@ pub mod Requests
 pub mod Statuses
 pub mod Stops
 pub mod Telling
+pub mod Unopened
+pub mod Unsaid

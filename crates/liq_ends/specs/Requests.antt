@@ -1,7 +1,7 @@
 -- Which lines are requests.
-use Rattle.std.specs.Prelude.{ℕ, ◌≡◌, ◌∷◌, [], ◌++◌, List, IsTrue}
+use Rattle.std.specs.Prelude.{ℕ, ◌≡◌, ◌∷◌, ◌++◌, List, IsTrue}
+use Rattle.std.specs.List.{AllZip}
 use Rattle.liq_types.specs.declared.requests.Request.{Request}
-use Rattle.liq_types.specs.declared.requests.Request.TheVariants.{Do, Ask}
 use Rattle.liq_types.specs.State.{State}
 use Rattle.liq_rules.specs.Step.{built}
 use Rattle.liq_store.specs.Memory.{TakesMemory}
@@ -17,14 +17,7 @@ IsBadLine line = (request : Request) → IsRequest line request → ⊥
 
 -- each line spells the request in its place
 abbrev pub AreRequests : List (List ℕ) → List Request → Type 0
-AreRequests [] [] = Unit {0}
-AreRequests (line ∷ lines) (request ∷ requests) = IsRequest line request × AreRequests lines requests
-AreRequests [] (request ∷ requests) = ⊥
-AreRequests (line ∷ lines) [] = ⊥
-
-abbrev pub IsCommand : Request → Type 0
-IsCommand (Do command) = Unit {0}
-IsCommand (Ask query) = ⊥
+AreRequests lines requests = AllZip IsRequest lines requests
 
 -- the first of these lines is that of a request for which memory may be asked
 abbrev pub BeginsWithTaker : State → List (List ℕ) → Type 0

@@ -5,12 +5,14 @@ use Rattle.liq_types.specs.declared.requests.Request.{Request}
 use Rattle.liq_types.specs.State.{State, opening}
 use Rattle.liq_stability.specs.Promise.{IsWithinAllowance}
 use Rattle.liq_rules.specs.Events.{events}
+use Rattle.liq_rules.specs.Image.{IsSameState}
 use Rattle.liq_rules.specs.Step.{run, accepted}
 use Rattle.liq_ends.specs.declared.halts.Halt.{Halt}
 use Rattle.liq_ends.specs.declared.halts.Halt.TheVariants.{BadLine, ReadFault, WriteFault}
 use Rattle.liq_ends.specs.declared.halts.Halt.TheVariants.{DiskFault, Damaged, NoMemory, Limit}
 use Rattle.liq_lines.specs.Lines.{lines_in, ended, IsPartOfLine}
-use Rattle.liq_ends.specs.Output.{lines}
+use Rattle.liq_ends.specs.Disks.{DisksHold}
+use Rattle.liq_ends.specs.Output.{last, lines}
 use Rattle.liq_ends.specs.Requests.{AreRequests, IsBadLine, BeginsWith, BeginsWithTaker}
 use Rattle.liq_lines.specs.Writing.{Writes}
 
@@ -25,27 +27,19 @@ IsCutInLastLine start part requests =
     × IsFrontOf (lines start earlier) part
     × ((missing : List ℕ) × (missing ≢ []) × (lines start requests ≡ part ++ missing))
 
--- Every depositor has its share after these requests from a state, whichever requests led to that from the opening: an
--- account's balance and all that it gained are at most its exact share of what all accepted commands did to the
--- Stability Pool, and short of it by at most the allowance.
+-- Every depositor has its share after these requests from a state, whichever requests led from the opening to one that
+-- is the same in image and count of records: an account's balance and all that it gained are at most its exact share of
+-- what all accepted commands did to the Stability Pool, and short of it by at most the allowance.
 abbrev pub HaveTheirShares : State → List Request → Type 0
 HaveTheirShares start requests =
-    (earlier : List Request) → (run opening earlier).0 ≡ start
+    (earlier : List Request) → IsSameState (run opening earlier).0 start
     → (account : ℕ)
     → IsWithinAllowance (run start requests).0 account (events opening (accepted opening (earlier ++ requests)))
 
--- all of the bytes was answered by these requests
-pub record IsAnswered (start : State) (bytes : List ℕ) (left : Option (List ℕ)) (requests : List Request) : Type 0 where
-  -- they are those of all lines
-  pub spelled : AreRequests (lines_in bytes) requests
-  -- the source is at its end
-  pub over : left ≡ Some []
-  -- and no depositor has more than its share, or less by more than is allowed
-  pub shares : HaveTheirShares start requests
-
 -- Why a run from a state ended after these requests of the bytes. `left` is what the source still tells.
 abbrev pub EndsAfter : State → Result (Unit {0}) Halt → List ℕ → Option (List ℕ) → List Request → Type 0
-EndsAfter start (Ok done) bytes left requests = IsAnswered start bytes left requests
+-- they are those of all lines, and the source is at its end
+EndsAfter start (Ok done) bytes left requests = AreRequests (lines_in bytes) requests × (left ≡ Some [])
 -- the next line is the first that is no request
 EndsAfter start (Err (BadLine number)) bytes left requests =
     (number ≡ length requests + 1) × (number ≤ LINES_MOST)
@@ -73,29 +67,25 @@ abbrev pub Adds : List ℕ → List ℕ → Type 0 → Option (List ℕ) → Opt
 Adds said line fault before now =
     (part : List ℕ) × Writes before (said ++ part) now × ((part ≡ line) ⊎ (fault × IsFrontOf part line))
 
--- What a run has written by its end: all replies, and a closing line where it stopped. Where the sink met a fault at a
+-- What a run has written by its end: all replies, and the last line where it stopped. Where the sink met a fault at a
 -- reply, the replies are cut within that to the last request.
 abbrev pub WritesUpTo :
-    (Halt → List ℕ) → State → Result (Unit {0}) Halt → Type 0 → List Request → Option (List ℕ) → Option (List ℕ)
-    → Type 0
-WritesUpTo closing start (Ok done) fault requests before now = Writes before (lines start requests) now
-WritesUpTo closing start (Err WriteFault) fault requests before now =
+    State → Result (Unit {0}) Halt → Type 0 → List Request → Option (List ℕ) → Option (List ℕ) → Type 0
+WritesUpTo start (Ok done) fault requests before now = Writes before (lines start requests) now
+WritesUpTo start (Err WriteFault) fault requests before now =
     (part : List ℕ) × Writes before part now × IsCutInLastLine start part requests
-WritesUpTo closing start (Err halt) fault requests before now =
-    Adds (lines start requests) (closing halt) fault before now
+WritesUpTo start (Err halt) fault requests before now = Adds (lines start requests) (last halt) fault before now
 
--- How a run from a state ends, where the source told these bytes. `so` is what holds then of the requests beside what
--- is read and written.
+-- How a run ends that began with these bytes in its source and with l and r on its disks, for which they stood for this
+-- state. `unread` is what the source still tells, and `before` and `now` are what the sink held and holds.
 pub record EndsIn
-    (closing : Halt → List ℕ) (start : State) (end : Result (Unit {0}) Halt) (bytes : List ℕ) (left : Option (List ℕ))
-    (fault : Type 0) (before now : Option (List ℕ)) (so : List Request → Type 0) : Type 0 where
+    {D : Type 0} (seen : D → Option (List ℕ)) (start : State) (end : Result (Unit {0}) Halt) (bytes l r : List ℕ)
+    (unread : Option (List ℕ)) (fault : Type 0) (before now : Option (List ℕ)) (left right : D) : Type 0 where
   pub requests : List Request
   -- they are no more than one run answers
   pub few : length requests ≤ LINES_MOST
-  pub read : EndsAfter start end bytes left requests
-  pub written : WritesUpTo closing start end fault requests before now
-  pub beside : so requests
-
--- no closing line is written yet
-abbrev pub none_yet : Halt → List ℕ
-none_yet halt = []
+  pub read : EndsAfter start end bytes unread requests
+  pub written : WritesUpTo start end fault requests before now
+  pub disks : DisksHold seen end bytes unread l r start left right requests
+  -- and after them no depositor has more than its share, or less by more than is allowed
+  pub shares : HaveTheirShares start requests

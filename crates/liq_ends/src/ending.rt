@@ -1,14 +1,14 @@
 //! How a run ends: its last line and its status.
 
-ghost use Rattle.std.specs.Prelude.{[], ◌∷◌, ◌++◌, ◌≡◌, ◌≤◌, ℕ, List, Option, Result, Err, decimal, OnOk, OnErr, IfErr};
+ghost use Rattle.std.specs.Prelude.{[], ◌∷◌, ◌++◌, ◌≡◌, ◌≤◌, ℕ, List, Option, Err, decimal, OnOk, OnErr, IfErr};
 ghost use Rattle.liq_outside.specs.Faults.{Rose, HasCause};
-ghost use Rattle.liq_review.specs.declared.fault.ReviewFault.{ReviewFault};
 ghost use Rattle.liq_ends.specs.Causes.{LastCause, WriteCause};
-ghost use Rattle.liq_ends.specs.Disks.{halt_of};
+ghost use Rattle.liq_ends.specs.Unopened.{halt_of};
 ghost use Rattle.liq_ends.specs.Output.{last, usage};
 ghost use Rattle.liq_ends.specs.Statuses.{status_of};
 ghost use Rattle.liq_ends.specs.Stops.{Adds};
-ghost use Rattle.liq_ends.specs.Telling.{TellsText, WritesText};
+ghost use Rattle.liq_ends.specs.Telling.{TellsAll};
+ghost use Rattle.liq_ends.specs.Unsaid.{WritesAll};
 ghost use Rattle.liq_lines.specs.Writing.{Writes, WritesPart};
 
 use crate::halts::Halt;
@@ -72,8 +72,8 @@ pub fn write_last<K: Sink>(out: &mut K, halt: Halt)
 
 /// Writes the last line of a word where it stopped.
 pub fn tell_last<K: Sink>(out: &mut K, end: Result<(), Halt>)
-    ensures told { (told : Result (List ℕ) ReviewFault) (before : Option (List ℕ)) (count : ℕ) → count ≤ K.faults out.old → WritesText told end before (K.held out.old)
-        → TellsText told end (Rose count (K.faults out.new)) before (K.held out.new) }
+    ensures told { (text : List ℕ) (before : Option (List ℕ)) (count : ℕ) → count ≤ K.faults out.old → WritesAll text end before (K.held out.old)
+        → TellsAll text end (Rose count (K.faults out.new)) before (K.held out.new) }
     ensures last { IfErr end (λ halt. Adds [] (last halt) (Rose (K.faults out.old) (K.faults out.new)) (K.held out.old) (K.held out.new)) }
     ensures same { OnOk end (out.new ≡ out.old) }
     ensures count { K.faults out.old ≤ K.faults out.new }

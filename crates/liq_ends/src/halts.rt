@@ -37,7 +37,7 @@ impl From<NoMemory> for Halt {
 
 impl From<StoreWhy> for Halt {
     ghost use Rattle.liq_ends.specs.declared.halts.Halt.{Halt};
-    ghost use Rattle.liq_ends.specs.Disks.{halt_of};
+    ghost use Rattle.liq_ends.specs.Unopened.{halt_of};
 
     ghost from_gives = { λ why halt. halt ≡ halt_of why };
 

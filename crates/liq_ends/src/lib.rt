@@ -3,6 +3,7 @@
 
 mod ending;
 mod halts;
+pub mod laws;
 mod texts;
 
 pub use ending::{Ending, status, tell_last, unopened, write_last, write_usage};

@@ -1,3 +1,3 @@
 mod BuiltLoads
 mod Loads
-pub mod Told
+mod Told

@@ -1,22 +1,18 @@
--- How a load is told, with the last line of one that stopped.
-use Rattle.std.proofs.Common.{◌≡◌, ◌≢◌, ℕ, List, [], Option, Ok, Err, Result, refl, subst, inl, inr}
-use Rattle.std.specs.Prelude.{◌⊎◌}
+-- How a load is told, by its end.
+use Rattle.std.proofs.Common.{ℕ, List, [], ◌∷◌, Option, Ok, Err, Result, refl, lit<}
+use Rattle.std.specs.Prelude.{Contains}
 use Rattle.liq_ends.specs.declared.halts.Halt.{Halt}
 use Rattle.liq_ends.specs.declared.halts.Halt.TheVariants.{BadLine, ReadFault, WriteFault, DiskFault, Damaged, NoMemory, Limit}
-use Rattle.liq_load.specs.Load.{Tells, WritesLine}
-use Rattle.liq_ends.specs.Output.{last}
-use Rattle.liq_ends.specs.Stops.{Adds}
-use Rattle.liq_ends.proofs.EndingLines.{part_stays}
+use Rattle.liq_ends.specs.Statuses.{status_of}
+use Rattle.liq_ends.specs.Unsaid.{WritesAll}
+use Rattle.liq_load.specs.Carrying.{WritesLine}
 
-pub told_halted : (halt : Halt) (line : List ℕ) (fault : Type 0) (before now after : Option (List ℕ)) → WritesLine line (Err halt) before now → Adds [] (last halt) fault now after → Tells line (Err halt) fault before after
-told_halted (BadLine n) line fault before now after h adds = absurd h
-told_halted ReadFault line fault before now after h adds = absurd h
-told_halted (Limit number) line fault before now after h adds = absurd h
-told_halted DiskFault line fault before now after h adds = absurd h
-told_halted (Damaged side number) line fault before now after h adds = absurd h
-told_halted NoMemory line fault before now after h adds = subst (λ (held : Option (List ℕ)). Adds [] (last NoMemory) fault held after) h adds
-told_halted WriteFault line fault before now after h adds = part_stays fault line before now after h adds
-
-pub told_well : (end : Result (Unit {0}) Halt) (line : List ℕ) (fault : Type 0) (before now : Option (List ℕ)) → ((halt : Halt) → end ≡ Err halt → ⊥) → WritesLine line end before now → Tells line end fault before now
-told_well (Ok done) line fault before now well h = h
-told_well (Err halt) line fault before now well h = absurd (well halt refl)
+pub line_told : (line : List ℕ) (end : Result (Unit {0}) Halt) (before now : Option (List ℕ)) → WritesLine line end before now → Contains (0 ∷ 4 ∷ 7 ∷ []) (status_of end) × WritesAll line end before now
+line_told line (Ok done) before now h = ((0, lit< tt, refl), h)
+line_told line (Err (BadLine n)) before now h = absurd h
+line_told line (Err ReadFault) before now h = absurd h
+line_told line (Err WriteFault) before now h = ((1, lit< tt, refl), h)
+line_told line (Err DiskFault) before now h = absurd h
+line_told line (Err (Damaged side number)) before now h = absurd h
+line_told line (Err NoMemory) before now h = ((2, lit< tt, refl), h)
+line_told line (Err (Limit number)) before now h = absurd h

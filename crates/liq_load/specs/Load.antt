@@ -1,7 +1,5 @@
 -- The generated load, carried out, and the line that tells where it leads.
-use Rattle.std.specs.Prelude.{ℕ, ◌≡◌, ◌+◌, ◌*◌, ◌≤◌, Bool, true, false, List, []}
-use Rattle.std.specs.Prelude.{◌∷◌, ◌++◌, length, count_by, codes, decimal, Option, Result, Ok, Err}
-use Rattle.liq_types.specs.declared.amounts.TheConstants.{LOWEST_MOST}
+use Rattle.std.specs.Prelude.{ℕ, Bool, true, false, List, [], ◌∷◌, ◌++◌, length, count_by, codes, decimal}
 use Rattle.liq_types.specs.declared.events.PoolEvent.{PoolEvent}
 use Rattle.liq_types.specs.declared.events.PoolEvent.TheVariants.{Own, Offset}
 use Rattle.liq_types.specs.declared.replies.Reply.{Reply}
@@ -16,12 +14,7 @@ use Rattle.liq_stability.specs.Words.{pool_words}
 use Rattle.liq_rules.specs.Events.{events}
 use Rattle.liq_rules.specs.Step.{step, run, accepted, next_number}
 use Rattle.liq_sessions.specs.Generated.{generated}
-use Rattle.liq_ends.specs.declared.halts.Halt.{Halt}
-use Rattle.liq_ends.specs.declared.halts.Halt.TheVariants.{WriteFault, NoMemory}
 use Rattle.liq_load.specs.declared.load.Counts.{Counts}
-use Rattle.liq_ends.specs.Output.{last}
-use Rattle.liq_ends.specs.Stops.{Adds}
-use Rattle.liq_lines.specs.Writing.{Writes, WritesPart}
 
 -- client 1's next command, with this call
 abbrev pub next_command : State → Call → Request
@@ -50,22 +43,6 @@ counts s requests = record {
   offsets = count_by is_offset (events s (accepted s requests));
 }
 
-abbrev pub none_yet : Counts
-none_yet = record { accepted = 0; refused = 0; offsets = 0 }
-
--- both together
-abbrev pub plus : Counts → Counts → Counts
-plus a b = record {
-  accepted = a.accepted + b.accepted;
-  refused = a.refused + b.refused;
-  offsets = a.offsets + b.offsets;
-}
-
--- they are counts of at most n commands
-pub record AreWithin (n : ℕ) (c : Counts) : Type 0 where
-  pub commands : c.accepted + c.refused ≤ n
-  pub offsets : c.offsets ≤ LOWEST_MOST * c.accepted
-
 -- the line of counts, of the Stability Pool's words and of the debt of all troves
 abbrev pub told : Counts → PoolWords → ℕ → List ℕ
 told counts words supply =
@@ -89,18 +66,3 @@ unfoldable pub summary : List Request → List ℕ
 summary requests =
     let s = (run opening requests).0 in
     told (counts opening requests) (pool_words s) (total_debt s)
-
--- the line was written, or there was no memory for it, or the sink met a fault within it
-abbrev pub WritesLine : List ℕ → Result (Unit {0}) Halt → Option (List ℕ) → Option (List ℕ) → Type 0
-WritesLine line (Ok done) before now = Writes before line now
-WritesLine line (Err WriteFault) before now = WritesPart before line now
-WritesLine line (Err NoMemory) before now = now ≡ before
-WritesLine line (Err _) before now = ⊥
-
--- What a load's run has written by its end: the line, or a part of it where the sink met a fault; or that there was no
--- memory.
-abbrev pub Tells : List ℕ → Result (Unit {0}) Halt → Type 0 → Option (List ℕ) → Option (List ℕ) → Type 0
-Tells line (Ok done) fault before now = Writes before line now
-Tells line (Err WriteFault) fault before now = WritesPart before line now
-Tells line (Err NoMemory) fault before now = Adds [] (last NoMemory) fault before now
-Tells line (Err _) fault before now = ⊥

@@ -1,12 +1,15 @@
 //! The word `gen`: a load is carried out, and a line tells where it leads.
 
-ghost use Rattle.std.specs.Prelude.{◌≡◌, ◌≤◌};
+ghost use Rattle.std.specs.Prelude.{◌≡◌, ◌≤◌, [], ◌∷◌, Contains};
 ghost use Rattle.liq_outside.specs.Faults.{Rose};
 ghost use Rattle.liq_ends.specs.Causes.{LastCause, WriteCause};
-ghost use Rattle.liq_load.specs.Load.{Tells, WritesLine, load, summary};
+ghost use Rattle.liq_ends.specs.Statuses.{status_of};
+ghost use Rattle.liq_ends.specs.Telling.{TellsAll};
+ghost use Rattle.liq_load.specs.Carrying.{WritesLine};
+ghost use Rattle.liq_load.specs.Load.{load, summary};
 
 use crate::load::Load;
-use liq_ends::{Halt, write_last, write_text};
+use liq_ends::{Halt, tell_last, write_text};
 use liq_outside::Sink;
 use liq_types::Steps;
 use liq_words::COUNT_MOST;
@@ -25,14 +28,13 @@ pub fn tell_load<L: Ledger, K: Sink>(
     requires name { blank.name ≡ L.name }
     requires parts { blank.parts ≡ L.parts }
     requires one { L.parts ≡ 1 }
-    ensures told { Tells (summary (load seed count)) result (Rose (K.faults out.old) (K.faults out.new)) (K.held out.old) (K.held out.new) }
+    ensures told { TellsAll (summary (load seed count)) result (Rose (K.faults out.old) (K.faults out.new)) (K.held out.old) (K.held out.new) }
+    ensures ends { Contains (0 ∷ 4 ∷ 7 ∷ []) (status_of result) }
     ensures sink { LastCause result (K.faults out.old) (K.faults out.new) }
 {
     let mut steps = Steps::<L>::new(blank);
     let end = write_load(alloc, seed, count, out, &mut steps);
-    if let Err(halt) = end {
-        write_last(out, halt);
-    }
+    tell_last(out, end);
     end
 }
 

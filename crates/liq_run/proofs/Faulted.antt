@@ -15,7 +15,7 @@ use Rattle.liq_pairs.specs.Sides.{beside, on}
 use Rattle.liq_store.specs.Answering.{Answers}
 use Rattle.liq_store.specs.Keeping.{LeavesPairs}
 use Rattle.liq_store.specs.Memory.{IsAccepted}
-use Rattle.liq_ends.specs.Requests.{IsCommand}
+use Rattle.liq_run.specs.Calls.{IsCommand}
 use Rattle.liq_ends.proofs.Opened.{is_some_of, some_of}
 
 -- a store that goes on has no other answer

@@ -1,5 +1,5 @@
 -- The disks of a run, as it leaves them.
-use Rattle.std.proofs.Common.{◌≡◌, ℕ, List, [], Option, Some, None, Result, Ok, Err, refl, subst, arith, inl, inr}
+use Rattle.std.proofs.Common.{◌≡◌, ℕ, List, [], Option, Some, Result, Ok, Err, refl, subst, arith, inl, inr}
 use Rattle.std.specs.Prelude.{◌⊎◌}
 use Rattle.liq_types.specs.declared.requests.Command.{Command}
 use Rattle.liq_types.specs.declared.requests.Request.{Request}
@@ -9,75 +9,82 @@ use Rattle.liq_core.specs.Core.{StandsFor}
 use Rattle.liq_rules.specs.Step.{Allowed, Ruling, after, after_ruling, ruling, run}
 use Rattle.liq_lines.specs.Lines.{lines_in}
 use Rattle.liq_lines.proofs.Bytes.{writes_nothing}
-use Rattle.liq_pairs.specs.Pair.{StandFor, state_on}
+use Rattle.liq_pairs.specs.Kept.{IsKept}
+use Rattle.liq_pairs.specs.Pair.{state_on}
 use Rattle.liq_pairs.specs.Unfinished.{IsRecovered}
 use Rattle.liq_store.specs.declared.answers.StoreWhy.{StoreWhy}
 use Rattle.liq_store.specs.declared.answers.StoreWhy.TheVariants as why
-use Rattle.liq_store.specs.Keeping.{IsInOrder, IsInOrderWith, IsKeptAround}
+use Rattle.liq_store.specs.Keeping.{IsInOrder, IsKeptAround}
 use Rattle.liq_store.specs.Memory.{IsAccepted}
 use Rattle.liq_store.specs.Opening.{IsNotOpened}
 use Rattle.liq_store.specs.Stored.{Stored}
+use Rattle.liq_store.proofs.Recovered.{unfinished_is_allowed}
 use Rattle.liq_ends.specs.declared.halts.Halt.{Halt}
 use Rattle.liq_ends.specs.declared.halts.Halt.TheVariants.{BadLine, ReadFault, WriteFault, DiskFault, NoMemory, Limit}
 use Rattle.liq_ends.specs.declared.halts.Halt.TheVariants as halts
-use Rattle.liq_ends.specs.Disks.{IsFurther, IsNext, DisksHold, DisksStand, IsStopped, KeepsAround, halt_of}
-use Rattle.liq_run.specs.Progress.{HaltsAt}
-use Rattle.liq_ends.specs.Stops.{EndsIn, none_yet}
-use Rattle.liq_ends.proofs.Opened.{still_stand, unfinished_is_allowed}
+use Rattle.liq_ends.specs.Disks.{DisksHold, IsFurther, IsNext}
+use Rattle.liq_ends.specs.Unopened.{halt_of}
+use Rattle.liq_ends.proofs.Opened.{settled, standing_still, unopened}
+use Rattle.liq_run.specs.Calls.{IsStopped, KeepsAround}
+use Rattle.liq_run.specs.Progress.{Ends, GivesBack, HaltsAt}
 
 module _ {D : Type 0} (seen : D → Option (List ℕ)) (faults : D → ℕ) where
   -- ---- no store was opened
 
-  pub unopened_by : (why_is : StoreWhy) (fl fr left right : D) → IsNotOpened seen faults left right (record { left = fl; right = fr; why = why_is }) → (bytes l r : List ℕ) (unread before : Option (List ℕ)) → seen left ≡ Some l → seen right ≡ Some r → (start : State) → state_on l r ≡ Ok start
-      → EndsIn none_yet start (Err (halt_of why_is)) bytes unread ⊥ before before (DisksHold seen (Err (halt_of why_is)) bytes l r start fl fr)
-  unopened_by why.DiskFault fl fr left right h bytes l r unread before told_l told_r start is =
+  pub unopened_by : (why_is : StoreWhy) (fl fr left right : D) → IsNotOpened seen faults left right (record { left = fl; right = fr; why = why_is }) → (bytes l r : List ℕ) (unread before : Option (List ℕ)) → unread ≡ Some bytes → seen left ≡ Some l → seen right ≡ Some r → (start : State) → state_on l r ≡ Ok start
+      → GivesBack seen start (Err (halt_of why_is)) bytes l r unread before before fl fr
+  unopened_by why.DiskFault fl fr left right h bytes l r unread before told told_l told_r start is =
       record {
         requests = [];
         few = omega arith;
         read = (lines_in bytes, ([], tt, refl));
-        written = ([], writes_nothing before, inl refl);
-        beside = λ kept a b told_a told_b. by a b (h.reads l r a b start told_l told_r kept told_a told_b);
+        written = writes_nothing before;
+        disks = λ kept a b told_a told_b. by a b (h.reads l r a b start told_l told_r kept told_a told_b);
       } where
-        by : (a b : List ℕ) → IsRecovered l r start a b → StandFor a b start ⊎ ((c : Command) × IsFurther bytes [] l r start c × (ruling start c ≡ Allowed) × StandFor a b (after start c))
-        by a b (inl stays) = inl stays.stands
-        by a b (inr more) = inr (more.0, inr (refl, more.1), unfinished_is_allowed l r start more.0 more.1, more.2.stands)
-  unopened_by (why.Damaged side damage) fl fr left right h bytes l r unread before told_l told_r start is = absurd (cc (h.is_why l r told_l told_r, is))
-  unopened_by why.NoMemory fl fr left right h bytes l r unread before told_l told_r start is =
+        by : (a b : List ℕ) → IsRecovered l r start a b → IsKept a b start ⊎ ((c : Command) × IsFurther bytes unread [] l r start c × (ruling start c ≡ Allowed) × IsKept a b (after start c))
+        by a b (inl stays) = inl stays
+        by a b (inr more) = inr (more.0, inr (refl, told, more.1), unfinished_is_allowed l r start more.0 more.1, more.2)
+  unopened_by (why.Damaged side damage) fl fr left right h bytes l r unread before told told_l told_r start is = absurd (cc (h.is_why l r told_l told_r, is))
+  unopened_by why.NoMemory fl fr left right h bytes l r unread before told told_l told_r start is =
       record {
         requests = [];
         few = omega arith;
         read = (lines_in bytes, ([], tt, refl), inl refl);
-        written = ([], writes_nothing before, inl refl);
-        beside = λ a b told_a told_b. still_stand l r a b start (h.stays (λ e. cc) l r a b told_l told_r told_a told_b) is;
+        written = writes_nothing before;
+        disks = standing_still seen fl fr l r start is (unopened seen faults left right (record { left = fl; right = fr; why = why.NoMemory }) h (λ e. cc) l r start told_l told_r is);
       }
 
   -- ---- a store was opened
 
   -- a command that is accepted makes its step
-  around : (s : State) (request : Request) (bytes l r : List ℕ) (start : State) (requests : List Request) (a b : List ℕ) → IsNext bytes requests request → IsAccepted s request → IsKeptAround s request a b → StandFor a b s ⊎ ((c : Command) × IsFurther bytes requests l r start c × (ruling s c ≡ Allowed) × StandFor a b (after s c))
-  around s (Ask query) bytes l r start requests a b next accepted kept = absurd accepted
-  around s (Do c) bytes l r start requests a b next accepted (inl kept) = inl kept.stands
-  around s (Do c) bytes l r start requests a b next accepted (inr kept) =
-      inr (c, inl next, accepted, subst (λ (q : Ruling). StandFor a b (after_ruling s c q).0) accepted kept.stands)
+  around : (s : State) (request : Request) (bytes : List ℕ) (unread : Option (List ℕ)) (l r : List ℕ) (start : State) (requests : List Request) (a b : List ℕ) → IsNext bytes requests request → IsAccepted s request → IsKeptAround s request a b
+      → IsKept a b s ⊎ ((c : Command) × IsFurther bytes unread requests l r start c × (ruling s c ≡ Allowed) × IsKept a b (after s c))
+  around s (Ask query) bytes unread l r start requests a b next accepted kept = absurd accepted
+  around s (Do c) bytes unread l r start requests a b next accepted (inl kept) = inl kept
+  around s (Do c) bytes unread l r start requests a b next accepted (inr kept) =
+      inr (c, inl next, accepted, subst (λ (q : Ruling). IsKept a b (after_ruling s c q).0) accepted kept)
 
   module _ (moment : D → ℕ) (left_at : D → ℕ → List ℕ → Type 0) where
-    settled : (store : Stored D) (s : State) → store.stopped ≡ None → IsInOrder seen moment left_at store → StandsFor store.core s → DisksStand seen store.left store.right s
-    settled store s going order stands l r told_l told_r =
-        let now = subst (λ (stopped : Option ℕ). IsInOrderWith seen moment left_at stopped store) going order in
-        (now.settled l r told_l told_r s stands).stands
+    pub left_by : (store : Stored D) (end : Result (Unit {0}) Halt) (bytes : List ℕ) (unread : Option (List ℕ)) (l r : List ℕ) (start : State) (requests : List Request) → IsStopped end store.stopped → IsInOrder seen moment left_at store
+        → StandsFor store.core (run start requests).0 → HaltsAt end bytes requests [] (run start requests).0 (KeepsAround seen store.left store.right) → DisksHold seen end bytes unread l r start store.left store.right requests
+    left_by store (Err DiskFault) bytes unread l r start requests stopped order stands halted =
+        λ kept a b told_a told_b. around (run start requests).0 halted.0 bytes unread l r start requests a b halted.1 halted.2 (halted.4 a b told_a told_b)
+    left_by store (Ok done) bytes unread l r start requests stopped order stands halted = settled seen moment left_at store l r start (run start requests).0 stopped order stands
+    left_by store (Err (BadLine n)) bytes unread l r start requests stopped order stands halted = settled seen moment left_at store l r start (run start requests).0 stopped order stands
+    left_by store (Err ReadFault) bytes unread l r start requests stopped order stands halted = settled seen moment left_at store l r start (run start requests).0 stopped order stands
+    left_by store (Err WriteFault) bytes unread l r start requests stopped order stands halted = settled seen moment left_at store l r start (run start requests).0 stopped order stands
+    left_by store (Err (halts.Damaged side number)) bytes unread l r start requests stopped order stands halted = settled seen moment left_at store l r start (run start requests).0 stopped order stands
+    left_by store (Err NoMemory) bytes unread l r start requests stopped order stands halted = settled seen moment left_at store l r start (run start requests).0 stopped order stands
+    left_by store (Err (Limit number)) bytes unread l r start requests stopped order stands halted = settled seen moment left_at store l r start (run start requests).0 stopped order stands
 
-    pub left_by : (store : Stored D) (end : Result (Unit {0}) Halt) (bytes l r : List ℕ) (start : State) (requests : List Request) → IsStopped end store.stopped → IsInOrder seen moment left_at store
-        → StandsFor store.core (run start requests).0 → HaltsAt end bytes requests [] (run start requests).0 (KeepsAround seen store.left store.right) → DisksHold seen end bytes l r start store.left store.right requests
-    left_by store (Err DiskFault) bytes l r start requests stopped order stands halted =
-        λ kept a b told_a told_b. around (run start requests).0 halted.0 bytes l r start requests a b halted.1 halted.2 (halted.4 a b told_a told_b)
-    left_by store (Ok done) bytes l r start requests stopped order stands halted = settled store (run start requests).0 stopped order stands
-    left_by store (Err (BadLine n)) bytes l r start requests stopped order stands halted = settled store (run start requests).0 stopped order stands
-    left_by store (Err ReadFault) bytes l r start requests stopped order stands halted = settled store (run start requests).0 stopped order stands
-    left_by store (Err WriteFault) bytes l r start requests stopped order stands halted = settled store (run start requests).0 stopped order stands
-    left_by store (Err (halts.Damaged side number)) bytes l r start requests stopped order stands halted = settled store (run start requests).0 stopped order stands
-    left_by store (Err NoMemory) bytes l r start requests stopped order stands halted = settled store (run start requests).0 stopped order stands
-    left_by store (Err (Limit number)) bytes l r start requests stopped order stands halted = settled store (run start requests).0 stopped order stands
-
--- a run is at its end, and this holds beside
-pub ends_with : (start : State) (end : Result (Unit {0}) Halt) (bytes : List ℕ) (unread before now : Option (List ℕ)) (P Q : List Request → Type 0) → EndsIn none_yet start end bytes unread ⊥ before now P → ((requests : List Request) → P requests → Q requests) → EndsIn none_yet start end bytes unread ⊥ before now Q
-ends_with start end bytes unread before now P Q h f = record { requests = h.requests; few = h.few; read = h.read; written = h.written; beside = f h.requests h.beside }
+    -- a run is at its end, and its store is closed
+    pub gives_back : (store : Stored D) (end : Result (Unit {0}) Halt) (bytes l r : List ℕ) (unread before now : Option (List ℕ)) (start : State) → IsStopped end store.stopped → IsInOrder seen moment left_at store
+        → Ends start end store.core (KeepsAround seen store.left store.right) bytes unread before now → GivesBack seen start end bytes l r unread before now store.left store.right
+    gives_back store end bytes l r unread before now start stopped order h =
+        record {
+          requests = h.requests;
+          few = h.few;
+          read = h.read;
+          written = h.written;
+          disks = left_by store end bytes unread l r start h.requests stopped order h.stands h.halted;
+        }

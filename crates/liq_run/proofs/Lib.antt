@@ -2,6 +2,7 @@ mod BadLines
 mod Closing
 mod Cutting
 mod Faulted
+mod Last
 mod Leaving
 mod Progressing
 mod Residual

@@ -13,13 +13,13 @@ use Rattle.liq_lines.specs.Lines.{lines_in, ended, IsWithinLine}
 use Rattle.liq_ends.specs.Output.{lines, reply_line}
 use Rattle.liq_run.specs.Progress.{ReadsRequest, ReadsBad, Written, Answered, Answers, Comes}
 use Rattle.liq_lines.specs.Reading.{unread, Reads, IsOver}
-use Rattle.liq_ends.specs.Requests.{IsRequest, IsCommand, AreRequests, BeginsWith}
+use Rattle.liq_ends.specs.Requests.{IsRequest, AreRequests, BeginsWith}
+use Rattle.liq_run.specs.Calls.{IsCommand}
 use Rattle.liq_run.specs.Writing.{WritesFront}
 use Rattle.liq_run.proofs.BadLines.{first_is_bad}
 use Rattle.liq_lines.proofs.Bytes.{told_reads, writes_nothing, writes_more}
 use Rattle.liq_run.proofs.Cutting.{cut_comes}
 use Rattle.liq_lines.proofs.LinesRead.{lines_in-ended, lines_in-unended, lines_in-ended_all, lines_in-some, ended-append, within-append}
-use Rattle.liq_ends.proofs.Shares.{all_shares}
 use Rattle.liq_run.proofs.Progressing.{after-more, lines-more, requests-more}
 use Rattle.liq_lines.proofs.Told.{empty_end}
 
@@ -137,11 +137,10 @@ reading_ends start kept bytes taken n core u left w before now few r over a =
     record {
       requests = a.requests;
       few = omega (arith, few, a.count);
-      read = record {
-        spelled = subst (λ (ls : List (List ℕ)). AreRequests ls a.requests) (sym (begins start bytes n core u w before now a ∙ ap (λ (t : List ℕ). a.front ++ lines_in t) done.1 ∙ append-nil a.front)) a.spelled;
-        over = done.0;
-        shares = all_shares start a.requests;
-      };
+      read = (
+        subst (λ (ls : List (List ℕ)). AreRequests ls a.requests) (sym (begins start bytes n core u w before now a ∙ ap (λ (t : List ℕ). a.front ++ lines_in t) done.1 ∙ append-nil a.front)) a.spelled,
+        done.0,
+      );
       more = lines_in a.rest;
       begins = begins_with start bytes n core u w before now a;
       written = a.written;
@@ -227,11 +226,7 @@ last_answered start kept bytes line taken r n core core' u left w w' before now 
     record {
       requests = a.requests ++ r ∷ [];
       few = omega (arith, few, a.count, length-append a.requests (r ∷ []));
-      read = record {
-        spelled = subst (λ (ls : List (List ℕ)). AreRequests ls (a.requests ++ r ∷ [])) (sym whole) spelled;
-        over = done.0;
-        shares = all_shares start (a.requests ++ r ∷ []);
-      };
+      read = (subst (λ (ls : List (List ℕ)). AreRequests ls (a.requests ++ r ∷ [])) (sym whole) spelled, done.0);
       more = [];
       begins = (a.front ++ line ∷ [], spelled, whole ∙ sym (append-nil (a.front ++ line ∷ [])));
       written = wrote_more start a.requests r w said.1.0 w' before now now' a.written said.1.1 said.1.2 said.1.3;

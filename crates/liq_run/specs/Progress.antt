@@ -15,10 +15,11 @@ use Rattle.liq_lines.specs.Lines.{ended, IsWithinLine}
 use Rattle.liq_ends.specs.Output.{lines, reply_line}
 use Rattle.liq_lines.specs.Reading.{Reads, IsOver}
 use Rattle.liq_store.specs.Memory.{IsAccepted, TakesMemory}
-use Rattle.liq_ends.specs.Disks.{IsNext}
-use Rattle.liq_ends.specs.Requests.{IsRequest, IsBadLine, IsCommand, AreRequests, BeginsWith}
-use Rattle.liq_ends.specs.Stops.{EndsAfter, EndsIn, IsCutInLastLine, none_yet}
+use Rattle.liq_ends.specs.Disks.{DisksHold, IsNext}
+use Rattle.liq_ends.specs.Requests.{IsRequest, IsBadLine, AreRequests, BeginsWith}
+use Rattle.liq_ends.specs.Stops.{EndsAfter, IsCutInLastLine}
 use Rattle.liq_lines.specs.Writing.{Writes, WritesPart}
+use Rattle.liq_run.specs.Calls.{IsCommand}
 use Rattle.liq_run.specs.Writing.{WritesFront}
 
 -- a request, or why a line has none
@@ -121,13 +122,33 @@ pub record Comes
   pub stands : StandsFor core (run start requests).0
   pub halted : HaltsAt end bytes requests waiting (run start requests).0 kept
 
+-- What is written at a run's end, but for the last line of one that stops: all replies, or up to a cut.
+abbrev pub WritesReplies :
+    State → Result (Unit {0}) Halt → List Request → Option (List ℕ) → Option (List ℕ) → Type 0
+WritesReplies start (Err WriteFault) requests before now =
+    (part : List ℕ) × Writes before part now × IsCutInLastLine start part requests
+WritesReplies start _ requests before now = Writes before (lines start requests) now
+
 -- a run is at its end, its last line is not written yet, and the protocol stands for the state after the requests
-abbrev pub Ends :
-    State → Result (Unit {0}) Halt → Core → (State → Request → Type 0) → List ℕ → Option (List ℕ) → Option (List ℕ)
-    → Option (List ℕ) → Type 0
-Ends start end core kept bytes left before now =
-    EndsIn none_yet start end bytes left ⊥ before now (λ requests.
-    StandsFor core (run start requests).0 × HaltsAt end bytes requests [] (run start requests).0 kept)
+pub record Ends
+    (start : State) (end : Result (Unit {0}) Halt) (core : Core) (kept : State → Request → Type 0) (bytes : List ℕ)
+    (left : Option (List ℕ)) (before now : Option (List ℕ)) : Type 0 where
+  pub requests : List Request
+  pub few : length requests ≤ LINES_MOST
+  pub read : EndsAfter start end bytes left requests
+  pub written : WritesReplies start end requests before now
+  pub stands : StandsFor core (run start requests).0
+  pub halted : HaltsAt end bytes requests [] (run start requests).0 kept
+
+-- the same of a run that has given back its disks
+pub record GivesBack
+    {D : Type 0} (seen : D → Option (List ℕ)) (start : State) (end : Result (Unit {0}) Halt) (bytes l r : List ℕ)
+    (unread before now : Option (List ℕ)) (left right : D) : Type 0 where
+  pub requests : List Request
+  pub few : length requests ≤ LINES_MOST
+  pub read : EndsAfter start end bytes unread requests
+  pub written : WritesReplies start end requests before now
+  pub disks : DisksHold seen end bytes unread l r start left right requests
 
 -- one more line was answered, or the run comes to its end
 abbrev pub Turns :

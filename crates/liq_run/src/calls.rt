@@ -5,8 +5,7 @@ ghost use Rattle.liq_types.specs.State.{State};
 ghost use Rattle.liq_core.specs.Core.{StandsFor};
 ghost use Rattle.liq_rules.specs.Step.{built};
 ghost use Rattle.liq_ends.specs.Causes.{DiskCause};
-ghost use Rattle.liq_ends.specs.Disks.{Calls, IsStopped, KeepsAround};
-ghost use Rattle.liq_ends.specs.Requests.{IsCommand};
+ghost use Rattle.liq_run.specs.Calls.{Calls, IsCommand, IsStopped, KeepsAround};
 
 use liq_core::laws::protocols_stand;
 use liq_ends::Halt;

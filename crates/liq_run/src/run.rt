@@ -14,9 +14,9 @@ ghost use Rattle.liq_store.specs.Opening.{IsNotOpened, OpensOn};
 ghost use Rattle.liq_store.specs.Keeping.{IsInOrder};
 ghost use Rattle.liq_lines.specs.Reading.{unread};
 ghost use Rattle.liq_ends.specs.Causes.{DiskCause, ReadCause, WriteCause};
-ghost use Rattle.liq_ends.specs.Disks.{DisksHold, EndsDamaged, IsStopped, KeepsAround};
-ghost use Rattle.liq_run.specs.Progress.{RequestOn, ReadsRequest, Answered, Answers, Turns, Comes, Ends};
-ghost use Rattle.liq_ends.specs.Stops.{EndsIn, none_yet};
+ghost use Rattle.liq_ends.specs.Disks.{EndsDamaged};
+ghost use Rattle.liq_run.specs.Calls.{IsStopped, KeepsAround};
+ghost use Rattle.liq_run.specs.Progress.{RequestOn, ReadsRequest, Answered, Answers, Turns, Comes, Ends, GivesBack};
 
 use crate::calls::call;
 use crate::waiting::{WAITING_MOST, catch_up, flush, keep, make_way};
@@ -84,10 +84,10 @@ pub fn answer_input<S: Source, K: Sink, D: Disk>(
 ) -> Ending<D>
     ensures run { (bytes l r : List ℕ) → S.left input.old ≡ Some bytes → D.seen left ≡ Some l → D.seen right ≡ Some r
         → (start : State) → state_on l r ≡ Ok start
-        → EndsIn none_yet start result.end bytes (S.left input.new) ⊥ (K.held out.old) (K.held out.new) (DisksHold D.seen result.end bytes l r start result.left result.right) }
+        → GivesBack D.seen start result.end bytes l r (S.left input.new) (K.held out.old) (K.held out.new) result.left result.right }
     // Over damaged disks nothing is read or written.
     ensures damaged { (l r : List ℕ) → D.seen left ≡ Some l → D.seen right ≡ Some r → (side : Side) (damage : Damage) → state_on l r ≡ Err (side, damage)
-        → (input.new ≡ input.old) × (out.new ≡ out.old) × EndsDamaged D.seen side damage l r result.end result.left result.right }
+        → (input.new ≡ input.old) × (out.new ≡ out.old) × EndsDamaged D.seen side damage result.end result.left result.right }
     ensures source { ReadCause result.end (S.faults input.old) (S.faults input.new) }
     ensures sink { WriteCause result.end (K.faults out.old) (K.faults out.new) }
     ensures disks { DiskCause result.end (counts_of D.faults left right) (counts_of D.faults result.left result.right) }

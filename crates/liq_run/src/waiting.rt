@@ -3,7 +3,7 @@
 ghost use Rattle.std.specs.Prelude.{◌≡◌, ◌≤◌, ◌<◌, ◌+◌, ◌++◌, ◌⊎◌, [], Contains, OnOk, vec_len, vec_capacity};
 ghost use Rattle.liq_ends.specs.Causes.{WriteCause};
 ghost use Rattle.liq_ends.specs.Output.{reply_line};
-ghost use Rattle.liq_ends.specs.Requests.{IsCommand};
+ghost use Rattle.liq_run.specs.Calls.{IsCommand};
 ghost use Rattle.liq_run.specs.Writing.{WritesFront};
 
 use liq_ends::Halt;

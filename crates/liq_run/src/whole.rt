@@ -9,7 +9,7 @@ ghost use Rattle.liq_pairs.specs.Pair.{state_on};
 ghost use Rattle.liq_store.specs.Causes.{counts_of};
 ghost use Rattle.liq_ends.specs.declared.halts.Halt.{Halt};
 ghost use Rattle.liq_ends.specs.Causes.{DiskCause, LastCause, ReadCause};
-ghost use Rattle.liq_ends.specs.Disks.{DisksHold, EndsDamaged};
+ghost use Rattle.liq_ends.specs.Disks.{EndsDamaged};
 ghost use Rattle.liq_ends.specs.Output.{last};
 ghost use Rattle.liq_ends.specs.Stops.{Adds, EndsIn};
 
@@ -28,10 +28,10 @@ pub fn run_on<S: Source, K: Sink, D: Disk>(
 ) -> Ending<D>
     ensures run { (bytes l r : List ℕ) → S.left input.old ≡ Some bytes → D.seen left ≡ Some l → D.seen right ≡ Some r
         → (start : State) → state_on l r ≡ Ok start
-        → EndsIn last start result.end bytes (S.left input.new) (Rose (K.faults out.old) (K.faults out.new)) (K.held out.old) (K.held out.new) (DisksHold D.seen result.end bytes l r start result.left result.right) }
+        → EndsIn D.seen start result.end bytes l r (S.left input.new) (Rose (K.faults out.old) (K.faults out.new)) (K.held out.old) (K.held out.new) result.left result.right }
     ensures damaged { (l r : List ℕ) → D.seen left ≡ Some l → D.seen right ≡ Some r → (side : Side) (damage : Damage) → state_on l r ≡ Err (side, damage)
         → (input.new ≡ input.old) × ((halt : Halt) × (result.end ≡ Err halt)
-        × EndsDamaged D.seen side damage l r (Err halt) result.left result.right
+        × EndsDamaged D.seen side damage (Err halt) result.left result.right
         × Adds [] (last halt) (Rose (K.faults out.old) (K.faults out.new)) (K.held out.old) (K.held out.new)) }
     ensures source { ReadCause result.end (S.faults input.old) (S.faults input.new) }
     ensures sink { LastCause result.end (K.faults out.old) (K.faults out.new) }

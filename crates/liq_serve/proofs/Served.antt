@@ -1,13 +1,12 @@
 -- Serving an input, as an end of the program.
-use Rattle.std.proofs.Common.{◌≡◌, ◌≢◌, ℕ, List, [], Option, Some, Ok, Err, Result, refl, sym, subst, ap₂, ◌∙◌, arith, inl, inr}
-use Rattle.std.specs.Prelude.{◌⊎◌, IfErr, OnOk}
+use Rattle.std.proofs.Common.{◌≡◌, ◌≢◌, ℕ, List, [], Option, Some, Ok, Err, Result, refl, ap, ap₂, ◌∙◌, arith, inl, inr, lit<}
+use Rattle.std.specs.Prelude.{◌⊎◌}
 use Rattle.std.proofs.lemmas.List.Elements.{All-nil}
 use Rattle.liq_types.specs.State.{State}
-use Rattle.liq_types.specs.declared.amounts.TheConstants.{LINES_MOST}
 use Rattle.liq_rules.specs.History.{Entry}
 use Rattle.liq_lines.specs.Lines.{lines_in}
-use Rattle.liq_lines.specs.Writing.{Writes}
-use Rattle.liq_pairs.specs.Pair.{state_on}
+use Rattle.liq_types.specs.declared.requests.Request.{Request}
+use Rattle.liq_journal.specs.declared.damage.Damage.{Damage}
 use Rattle.liq_scripts.specs.declared.stops.Stop.{Stop}
 use Rattle.liq_scripts.specs.declared.stops.Stop.TheVariants as stop
 use Rattle.liq_scripts.specs.Gathering as scripts
@@ -15,7 +14,7 @@ use Rattle.liq_scripts.specs.Output.{served}
 use Rattle.liq_serving.specs.declared.input.Finish.{Finish}
 use Rattle.liq_serving.specs.declared.input.Finish.TheVariants as finish
 use Rattle.liq_serving.specs.Input as serving
-use Rattle.liq_serving.specs.Input.{IsAllButForMemory, Written, reading_of}
+use Rattle.liq_serving.specs.Input.{AnswersInput, IsAllButForMemory, Written, reading_of}
 use Rattle.liq_store.specs.declared.answers.StoreWhy.TheVariants as why
 use Rattle.liq_store.specs.Causes.{Faults}
 use Rattle.liq_ends.specs.declared.halts.Halt.{Halt}
@@ -23,10 +22,12 @@ use Rattle.liq_ends.specs.declared.halts.Halt.TheVariants.{BadLine, ReadFault, D
 use Rattle.liq_ends.specs.declared.halts.Halt.TheVariants as halts
 use Rattle.liq_ends.specs.Causes.{DiskCause, ReadCause, WriteCause}
 use Rattle.liq_ends.specs.Output.{last}
-use Rattle.liq_serve.specs.Serve.{IsUnread, ServesTo, TellsServed, end_of}
+use Rattle.liq_ends.specs.Unsaid.{WritesAll}
+use Rattle.liq_serve.specs.Finishing.{IsUnread, end_of}
+use Rattle.liq_serve.specs.Serve.{AnswersAll, OpensNone, ServesTo, StopsReading}
 use Rattle.liq_ends.specs.Statuses.{IsDone, status_of}
 use Rattle.liq_ends.specs.Stops.{Adds}
-use Rattle.liq_ends.proofs.EndingLines.{adds_weaker, part_stays}
+use Rattle.liq_ends.proofs.Opened.{state_formed}
 use Rattle.liq_ends.proofs.Shares.{all_shares}
 
 -- ---- the counts
@@ -72,25 +73,19 @@ disk_cause finish.WriteFault before after c = c
 
 -- ---- what is written
 
-module _ {K : Type 0} (held : K → Option (List ℕ)) (history : List Entry) (F G : Type 0) (weaker : F → G) (before middle after : K) where
-  -- behind nothing the last line was written
-  closing : (halt : Halt) → middle ≡ before → Adds [] (last halt) F (held middle) (held after) → Adds [] (last halt) G (held before) (held after)
-  closing halt same adds = subst (λ (out : K). Adds [] (last halt) G (held out) (held after)) same (adds_weaker (last halt) F G (held middle) (held after) weaker adds)
-
-  pub told_served :
-      (how : Finish) → Written held how history before middle → IfErr (end_of how) (λ halt. Adds [] (last halt) F (held middle) (held after)) → OnOk (end_of how) (after ≡ middle)
-      → TellsServed (end_of how) history G (held before) (held after)
-  told_served finish.All wrote adds same = subst (λ (out : K). Writes (held before) (served history) (held out)) (sym same) wrote
-  told_served finish.WriteFault wrote adds same = part_stays F (served history) (held before) (held middle) (held after) wrote adds
-  told_served (finish.NotRead (stop.BadLine number)) wrote adds same = closing (BadLine number) wrote adds
-  told_served (finish.NotRead stop.ReadFault) wrote adds same = closing ReadFault wrote adds
-  told_served (finish.NotRead stop.NoMemory) wrote adds same = closing NoMemory wrote adds
-  told_served (finish.NotRead stop.Limit) wrote adds same = closing (Limit LINES_MOST) wrote adds
-  told_served (finish.NotOpened why.DiskFault) wrote adds same = closing DiskFault wrote adds
-  told_served (finish.NotOpened (why.Damaged side damage)) wrote adds same = closing (halts.Damaged side damage.index) wrote adds
-  told_served (finish.NotOpened why.NoMemory) wrote adds same = closing NoMemory wrote adds
-  told_served finish.NoMemory wrote adds same = closing NoMemory wrote adds
-  told_served finish.DiskFault wrote adds same = closing DiskFault wrote adds
+-- before the last line
+pub all_served : {K : Type 0} (held : K → Option (List ℕ)) (history : List Entry) (before now : K) (how : Finish) → Written held how history before now → WritesAll (served history) (end_of how) (held before) (held now)
+all_served held history before now finish.All wrote = wrote
+all_served held history before now finish.WriteFault wrote = wrote
+all_served held history before now (finish.NotRead (stop.BadLine number)) wrote = ap held wrote
+all_served held history before now (finish.NotRead stop.ReadFault) wrote = ap held wrote
+all_served held history before now (finish.NotRead stop.NoMemory) wrote = ap held wrote
+all_served held history before now (finish.NotRead stop.Limit) wrote = ap held wrote
+all_served held history before now (finish.NotOpened why.DiskFault) wrote = ap held wrote
+all_served held history before now (finish.NotOpened (why.Damaged side damage)) wrote = ap held wrote
+all_served held history before now (finish.NotOpened why.NoMemory) wrote = ap held wrote
+all_served held history before now finish.NoMemory wrote = ap held wrote
+all_served held history before now finish.DiskFault wrote = ap held wrote
 
 -- ---- the disks, and the status
 
@@ -150,20 +145,91 @@ pub serves_nothing :
     → ServesTo seen unread unread left right (Err NoMemory) left right fault held now
 serves_nothing seen unread left right fault held now written =
     record {
-      finish = finish.NotRead stop.NoMemory;
-      end_is = refl;
       asked = [];
       history = [];
-      answered = record {
-        few = omega arith;
+      few = omega arith;
+      fronts = λ k d has. ([], refl);
+      sessions = All-nil _;
+      came = inl (record {
+        stop = stop.NoMemory;
+        end_is = refl;
         read = λ bytes told. (lines_in bytes, ([], tt, refl));
-        fronts = λ k d has. ([], refl);
-        sessions = All-nil _;
-        answers = refl;
-        legal = λ l r start told_l told_r is. record { replies = refl; indices = λ session. refl };
-        disks = λ l r start told_l told_r is a b told_a told_b. same_disks seen left right l r a b (Ok start) told_l told_r told_a told_b state_on is;
-        damaged = λ l r side damage told_l told_r is a b told_a told_b. same_disks seen left right l r a b (Err (side, damage)) told_l told_r told_a told_b state_on is;
-      };
+        none = refl;
+        left_same = refl;
+        right_same = refl;
+      });
+      legal = λ l r start found. record { replies = refl; indices = λ session. refl };
       written = written;
-      shares = λ l r start told_l told_r is. all_shares start [];
+      shares = λ l r start found. all_shares start [] (state_formed l r start found.is);
     }
+
+-- ---- what the finish says
+
+module _ {D : Type 0} (seen : D → Option (List ℕ)) (before unread : Option (List ℕ)) (left right left_now right_now : D) (asked : List (ℕ × Request)) (history : List Entry) where
+  abbrev pub Came : Result (Unit {0}) Halt → Type 0
+  Came end =
+      StopsReading seen before unread left right end left_now right_now asked history
+      ⊎ (OpensNone seen before unread left right end left_now right_now asked history
+      ⊎ AnswersAll seen before unread left right end left_now right_now asked history)
+
+  pub came_by : (how : Finish) → AnswersInput seen before unread left right (record { left = left_now; right = right_now; finish = how }) asked history
+      → ((why_not : Stop) → how ≡ finish.NotRead why_not → (left_now ≡ left) × (right_now ≡ right)) → Came (end_of how)
+  came_by finish.All a same = inr (inr (record {
+    read = a.read;
+    halted = a.halted;
+    answers = a.answers;
+    disks = λ l r x y start found told_x told_y. a.disks l r start found.left found.right found.is x y told_x told_y;
+    whole = λ l r side damage found. a.damaged l r side damage found.left found.right found.is;
+  }))
+  came_by finish.WriteFault a same = inr (inr (record {
+    read = a.read;
+    halted = a.halted;
+    answers = a.answers;
+    disks = λ l r x y start found told_x told_y. a.disks l r start found.left found.right found.is x y told_x told_y;
+    whole = λ l r side damage found. a.damaged l r side damage found.left found.right found.is;
+  }))
+  came_by finish.NoMemory a same = inr (inr (record {
+    read = a.read;
+    halted = a.halted;
+    answers = a.answers;
+    disks = λ l r x y start found told_x told_y. a.disks l r start found.left found.right found.is x y told_x told_y;
+    whole = λ l r side damage found. a.damaged l r side damage found.left found.right found.is;
+  }))
+  came_by finish.DiskFault a same = inr (inr (record {
+    read = a.read;
+    halted = a.halted;
+    answers = a.answers;
+    disks = λ l r x y start found told_x told_y. a.disks l r start found.left found.right found.is x y told_x told_y;
+    whole = λ l r side damage found. a.damaged l r side damage found.left found.right found.is;
+  }))
+  came_by (finish.NotRead why_not) a same = inl (record {
+    stop = why_not;
+    end_is = refl;
+    read = a.read;
+    none = a.answers;
+    left_same = (same why_not refl).0;
+    right_same = (same why_not refl).1;
+  })
+  came_by (finish.NotOpened why.DiskFault) a same = inr (inl (record {
+    statuses = (0, lit< tt, refl);
+    read = a.read;
+    none = a.answers;
+    disks = λ l r start found. ((0, lit< tt, refl), a.disks l r start found.left found.right found.is);
+    damaged = λ l r side damage found. tt;
+  }))
+  came_by (finish.NotOpened why.NoMemory) a same = inr (inl (record {
+    statuses = (2, lit< tt, refl);
+    read = a.read;
+    none = a.answers;
+    disks = λ l r start found. ((1, lit< tt, refl), a.disks l r start found.left found.right found.is);
+    damaged = λ l r side damage found. a.damaged l r side damage found.left found.right found.is;
+  }))
+  came_by (finish.NotOpened (why.Damaged which met)) a same = inr (inl (record {
+    statuses = (1, lit< tt, refl);
+    read = a.read;
+    none = a.answers;
+    disks = λ l r start found. absurd (a.disks l r start found.left found.right found.is);
+    damaged = λ l r side damage found.
+        let h = a.damaged l r side damage found.left found.right found.is in
+        (h.0, ap (λ (d : Damage). d.index) h.1, h.2);
+  }))

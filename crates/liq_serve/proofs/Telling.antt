@@ -1,34 +1,83 @@
 -- What the status of a word that tells says.
-use Rattle.std.proofs.Common.{◌≡◌, ◌≢◌, ℕ, List, Option, Ok, Err, Result, refl, inl, inr}
-use Rattle.std.specs.Prelude.{◌⊎◌}
-use Rattle.liq_review.specs.declared.fault.ReviewFault.{ReviewFault}
+use Rattle.std.proofs.Common.{◌≡◌, ◌≢◌, ℕ, zero, suc, List, [], ◌∷◌, Ok, Err, Result, refl, sym, ap, ◌∙◌, inl, inr, arith}
+use Rattle.std.specs.Prelude.{◌⊎◌, Contains}
+use Rattle.liq_types.specs.declared.requests.Command.{Command}
+use Rattle.liq_types.specs.State.{State}
+use Rattle.liq_review.specs.Reviewed.{reviewed}
 use Rattle.liq_review.specs.declared.fault.ReviewFault.TheVariants as review
+use Rattle.liq_store.specs.Causes.{Faults}
 use Rattle.liq_ends.specs.declared.halts.Halt.{Halt}
 use Rattle.liq_ends.specs.declared.halts.Halt.TheVariants.{BadLine, ReadFault, WriteFault, DiskFault, Damaged, NoMemory, Limit}
-use Rattle.liq_load.specs.Load.{Tells}
+use Rattle.liq_ends.specs.Causes.{DiskCause, ReadCause}
 use Rattle.liq_ends.specs.Statuses.{status_of}
-use Rattle.liq_ends.specs.Telling.{TellsText}
+use Rattle.liq_ends.proofs.Causes.{unread_causes}
+use Rattle.liq_tell.specs.Audit.{IsAuditOf}
 
--- ---- what a load's status says
+-- ---- of a load
 
-pub load_ends : (line : List ℕ) (fault : Type 0) (before now : Option (List ℕ)) (end : Result (Unit {0}) Halt) → Tells line end fault before now → status_of end ≢ 4 → (status_of end ≡ 0) ⊎ (status_of end ≡ 7)
-load_ends line fault before now (Ok done) h other = inl refl
-load_ends line fault before now (Err (BadLine n)) h other = absurd h
-load_ends line fault before now (Err ReadFault) h other = absurd h
-load_ends line fault before now (Err WriteFault) h other = absurd (other refl)
-load_ends line fault before now (Err NoMemory) h other = inr refl
-load_ends line fault before now (Err (Limit number)) h other = absurd h
-load_ends line fault before now (Err DiskFault) h other = absurd h
-load_ends line fault before now (Err (Damaged side number)) h other = absurd h
+load_list : (n : ℕ) → Contains (0 ∷ 4 ∷ 7 ∷ []) n → (n ≡ 0) ⊎ ((n ≡ 4) ⊎ (n ≡ 7))
+load_list n (zero, within, is) = inl (sym is)
+load_list n (suc zero, within, is) = inr (inl (sym is))
+load_list n (suc (suc zero), within, is) = inr (inr (sym is))
+load_list n (suc (suc (suc k)), within, is) = absurd (omega (arith, within))
 
--- what the status of a word says that tells a text, where no limit is passed
-pub text_ends : (told : Result (List ℕ) ReviewFault) (fault : Type 0) (before now : Option (List ℕ)) (end : Result (Unit {0}) Halt) → ((number : ℕ) → told ≡ Err (review.Limit number) → ⊥) → TellsText told end fault before now
-    → status_of end ≢ 4 → status_of end ≢ 5 → (status_of end ≡ 0) ⊎ (status_of end ≡ 7)
-text_ends told fault before now (Ok done) within h sink disk = inl refl
-text_ends told fault before now (Err (BadLine n)) within h sink disk = absurd h
-text_ends told fault before now (Err ReadFault) within h sink disk = absurd h
-text_ends told fault before now (Err WriteFault) within h sink disk = absurd (sink refl)
-text_ends told fault before now (Err DiskFault) within h sink disk = absurd (disk refl)
-text_ends told fault before now (Err (Damaged side number)) within h sink disk = absurd h
-text_ends told fault before now (Err NoMemory) within h sink disk = inr refl
-text_ends told fault before now (Err (Limit number)) within h sink disk = absurd (within number h.0)
+load_not : (n m : ℕ) → (n ≡ 0) ⊎ ((n ≡ 4) ⊎ (n ≡ 7)) → n ≡ m → m ≢ 0 → m ≢ 4 → m ≢ 7 → ⊥
+load_not n m (inl is) same none four seven = none (sym same ∙ is)
+load_not n m (inr (inl is)) same none four seven = four (sym same ∙ is)
+load_not n m (inr (inr is)) same none four seven = seven (sym same ∙ is)
+
+pub load_done : (n : ℕ) → Contains (0 ∷ 4 ∷ 7 ∷ []) n → n ≢ 4 → (n ≡ 0) ⊎ (n ≡ 7)
+load_done n ends sink = by (load_list n ends) where
+  by : (n ≡ 0) ⊎ ((n ≡ 4) ⊎ (n ≡ 7)) → (n ≡ 0) ⊎ (n ≡ 7)
+  by (inl is) = inl is
+  by (inr (inl is)) = absurd (sink is)
+  by (inr (inr is)) = inr is
+
+-- neither the source nor a disk is asked
+pub source_unasked : (end : Result (Unit {0}) Halt) (n : ℕ) → Contains (0 ∷ 4 ∷ 7 ∷ []) (status_of end) → ReadCause end n n
+source_unasked end n ends = unread_causes end n (λ is. load_not (status_of end) 3 (load_list (status_of end) ends) (ap status_of is) (λ e. omega (arith, e)) (λ e. omega (arith, e)) (λ e. omega (arith, e)))
+
+untouched_causes : (end : Result (Unit {0}) Halt) (n : Faults) → end ≢ Err DiskFault → DiskCause end n n
+untouched_causes (Ok done) n other = refl
+untouched_causes (Err (BadLine at)) n other = refl
+untouched_causes (Err ReadFault) n other = refl
+untouched_causes (Err WriteFault) n other = refl
+untouched_causes (Err DiskFault) n other = absurd (other refl)
+untouched_causes (Err (Damaged side number)) n other = refl
+untouched_causes (Err NoMemory) n other = refl
+untouched_causes (Err (Limit number)) n other = refl
+
+pub disks_unasked : (end : Result (Unit {0}) Halt) (n : Faults) → Contains (0 ∷ 4 ∷ 7 ∷ []) (status_of end) → DiskCause end n n
+disks_unasked end n ends = untouched_causes end n (λ is. load_not (status_of end) 5 (load_list (status_of end) ends) (ap status_of is) (λ e. omega (arith, e)) (λ e. omega (arith, e)) (λ e. omega (arith, e)))
+
+-- ---- of a state
+
+pub state_done : (n : ℕ) → Contains (0 ∷ 4 ∷ 5 ∷ 7 ∷ []) n → n ≢ 4 → n ≢ 5 → (n ≡ 0) ⊎ (n ≡ 7)
+state_done n (zero, within, is) sink disk = inl (sym is)
+state_done n (suc zero, within, is) sink disk = absurd (sink (sym is))
+state_done n (suc (suc zero), within, is) sink disk = absurd (disk (sym is))
+state_done n (suc (suc (suc zero)), within, is) sink disk = inr (sym is)
+state_done n (suc (suc (suc (suc k))), within, is) sink disk = absurd (omega (arith, within))
+
+-- ---- of an audit
+
+at_limit : (s : State) (commands : List Command) (end : Result (Unit {0}) Halt) (text : List ℕ) → status_of end ≡ 8 → IsAuditOf s commands end text → (number : ℕ) × (reviewed commands ≡ Err (review.Limit number))
+at_limit s commands (Ok done) text is h = absurd (omega (arith, is))
+at_limit s commands (Err (BadLine n)) text is h = absurd (omega (arith, is))
+at_limit s commands (Err ReadFault) text is h = absurd (omega (arith, is))
+at_limit s commands (Err WriteFault) text is h = absurd (omega (arith, is))
+at_limit s commands (Err DiskFault) text is h = absurd (omega (arith, is))
+at_limit s commands (Err (Damaged side number)) text is h = absurd (omega (arith, is))
+at_limit s commands (Err NoMemory) text is h = absurd (omega (arith, is))
+at_limit s commands (Err (Limit number)) text is h = (number, h)
+
+pub audit_done : (s : State) (commands : List Command) (end : Result (Unit {0}) Halt) (text : List ℕ) → IsAuditOf s commands end text → ((number : ℕ) → reviewed commands ≡ Err (review.Limit number) → ⊥)
+    → Contains (0 ∷ 4 ∷ 5 ∷ 7 ∷ 8 ∷ []) (status_of end) → status_of end ≢ 4 → status_of end ≢ 5 → (status_of end ≡ 0) ⊎ (status_of end ≡ 7)
+audit_done s commands end text h within_limits (zero, within, is) sink disk = inl (sym is)
+audit_done s commands end text h within_limits (suc zero, within, is) sink disk = absurd (sink (sym is))
+audit_done s commands end text h within_limits (suc (suc zero), within, is) sink disk = absurd (disk (sym is))
+audit_done s commands end text h within_limits (suc (suc (suc zero)), within, is) sink disk = inr (sym is)
+audit_done s commands end text h within_limits (suc (suc (suc (suc zero))), within, is) sink disk =
+    let limit = at_limit s commands end text (sym is) h in
+    absurd (within_limits limit.0 limit.1)
+audit_done s commands end text h within_limits (suc (suc (suc (suc (suc k)))), within, is) sink disk = absurd (omega (arith, within))

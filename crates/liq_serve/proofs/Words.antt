@@ -1,6 +1,6 @@
 -- How each word ends, put together to the clause of the top call.
-use Rattle.std.proofs.Common.{◌≡◌, ◌≤◌, ℕ, List, [], length, Option, Some, Ok, Err, Result, refl, sym, subst, arith, lit<, inl, inr}
-use Rattle.std.specs.Prelude.{◌⊎◌, ◌↔◌, IfOk}
+use Rattle.std.proofs.Common.{◌≡◌, ◌≤◌, ℕ, List, [], ◌∷◌, length, Option, Some, Ok, Err, Result, refl, sym, subst, arith, lit<, inl, inr}
+use Rattle.std.specs.Prelude.{◌⊎◌, ◌↔◌, Contains, IfOk}
 use Rattle.liq_outside.specs.Faults.{Rose}
 use Rattle.liq_types.specs.declared.amounts.TheConstants.{LINES_MOST}
 use Rattle.liq_types.specs.declared.requests.Request.{Request}
@@ -11,7 +11,6 @@ use Rattle.liq_journal.specs.declared.damage.Damage.{Damage}
 use Rattle.liq_pairs.specs.declared.side.Side.{Side}
 use Rattle.liq_pairs.specs.Pair.{commands_on, state_on}
 use Rattle.liq_pairs.specs.Replay.{replay}
-use Rattle.liq_review.specs.Reviewed.{reviewed}
 use Rattle.liq_words.specs.declared.words.Word.{Word}
 use Rattle.liq_words.specs.declared.words.Word.TheVariants as word
 use Rattle.liq_words.specs.declared.words.WordsFault.{WordsFault}
@@ -20,25 +19,26 @@ use Rattle.liq_words.specs.Words.{Ask}
 use Rattle.liq_ends.specs.declared.halts.Halt.{Halt}
 use Rattle.liq_ends.specs.declared.halts.Halt.TheVariants.{BadLine, ReadFault, WriteFault, DiskFault, Damaged, NoMemory, Limit}
 use Rattle.liq_store.specs.Causes.{Faults}
-use Rattle.liq_tell.specs.Audit.{AuditHolds}
+use Rattle.liq_tell.specs.Audit.{IsAuditOf}
 use Rattle.liq_ends.specs.Causes.{DiskCause, LastCause, ReadCause}
-use Rattle.liq_ends.specs.Disks.{DisksHold}
-use Rattle.liq_load.specs.Load.{Tells, load, summary}
+use Rattle.liq_ends.specs.Disks.{DisksStay, EndsDamaged}
+use Rattle.liq_load.specs.Load.{load, summary}
 use Rattle.liq_ends.specs.Output.{last, usage}
-use Rattle.liq_serve.specs.Outside.{Outside, DiskRose, SinkRose, SourceRose}
-use Rattle.liq_serve.specs.Serve.{IsUnread, ServesTo}
+use Rattle.liq_serve.specs.Outside.{Outside, DiskRose, Finds, SinkRose, SourceRose}
+use Rattle.liq_serve.specs.Finishing.{IsUnread}
+use Rattle.liq_serve.specs.Serve.{ServesTo}
 use Rattle.liq_tell.specs.State.{standing}
 use Rattle.liq_ends.specs.Statuses.{IsDone, status_of}
 use Rattle.liq_ends.specs.Stops.{Adds, EndsIn}
-use Rattle.liq_ends.specs.Telling.{TellsText}
+use Rattle.liq_ends.specs.Telling.{TellsAll}
 use Rattle.liq_serve.specs.Top.{Ends, EndsOverDamage, HasCauses, Loads}
 use Rattle.liq_tell.proofs.Audited.{no_limit}
 use Rattle.liq_ends.proofs.Causes.{disk_causes, sink_causes, source_causes}
-use Rattle.liq_ends.proofs.EndingLines.{last_written, no_room}
-use Rattle.liq_ends.proofs.Opened.{untouched}
+use Rattle.liq_ends.proofs.Opened.{standing_still, state_formed, untouched}
+use Rattle.liq_ends.proofs.Shares.{all_shares}
 use Rattle.liq_serve.proofs.Served.{is_unread, not_unread, same_disks, serves_nothing}
 use Rattle.liq_serve.proofs.StatusLaws.{complete, status_known}
-use Rattle.liq_serve.proofs.Telling.{load_ends, text_ends}
+use Rattle.liq_serve.proofs.Telling.{audit_done, disks_unasked, load_done, source_unasked, state_done}
 
 -- ---- the words ask for one thing
 
@@ -54,6 +54,17 @@ is_read words found read is asks only =
       by : (other : Word) → (found ≡ Ok other) ⊎ (found ≡ Err fault.NoMemory) → read ≡ other
       by other (inl same) = cc
       by other (inr none) = absurd cc
+
+-- they ask for no word that opens the disks before it reads
+opens_first : (words : List (List ℕ)) (read : Word) → IsRead words read → (read ≡ word.Run → ⊥) → (read ≡ word.State → ⊥) → (read ≡ word.Audit → ⊥) → Ask words word.Run ⊎ (Ask words word.State ⊎ Ask words word.Audit) → ⊥
+opens_first words read is run state audit (inl asked) = run (is.only word.Run asked)
+opens_first words read is run state audit (inr (inl asked)) = state (is.only word.State asked)
+opens_first words read is run state audit (inr (inr asked)) = audit (is.only word.Audit asked)
+
+some_asked : (words : List (List ℕ)) → ((word : Word) → Ask words word → ⊥) → Ask words word.Run ⊎ (Ask words word.State ⊎ Ask words word.Audit) → ⊥
+some_asked words none (inl asked) = none word.Run asked
+some_asked words none (inr (inl asked)) = none word.State asked
+some_asked words none (inr (inr asked)) = none word.Audit asked
 
 -- no end of a word has the status of words that ask for nothing
 not_usage : (end : Result (Unit {0}) Halt) → status_of end ≡ 1 → ⊥
@@ -90,12 +101,22 @@ module _ {S D : Type 0} (seen : D → Option (List ℕ)) (before after : Outside
 
   -- ---- `run`
 
+  -- what is said of damaged disks
+  abbrev IsOverDamage : ℕ → Type 0
+  IsOverDamage status =
+      (l r : List ℕ) → seen before.left ≡ Some l → seen before.right ≡ Some r → (side : Side) (damage : Damage) → state_on l r ≡ Err (side, damage)
+      → (after.source ≡ before.source) × ((halt : Halt) × (status ≡ status_of (Err halt)) × EndsDamaged seen side damage (Err halt) after.left after.right × Adds [] (last halt) (SinkRose before after) before.held after.held)
+
+  over_damage : (status : ℕ) → IsOverDamage status → (l r : List ℕ) (side : Side) (damage : Damage) → Finds seen before.left before.right l r (Err (side, damage)) → EndsOverDamage seen before after status side damage
+  over_damage status damaged l r side damage found =
+      let h = damaged l r found.left found.right side damage found.is in
+      record { reads = h.0; halt = h.1.0; status_is = h.1.1; ends = h.1.2; written = h.1.3 }
+
   pub run_ends :
       (words : List (List ℕ)) (end : Result (Unit {0}) Halt) → IsRead words word.Run → HasCounts end
       → ((bytes l r : List ℕ) → before.unread ≡ Some bytes → seen before.left ≡ Some l → seen before.right ≡ Some r → (start : State) → state_on l r ≡ Ok start
-      → EndsIn last start end bytes after.unread (SinkRose before after) before.held after.held (DisksHold seen end bytes l r start after.left after.right))
-      → ((l r : List ℕ) → seen before.left ≡ Some l → seen before.right ≡ Some r → (side : Side) (damage : Damage) → state_on l r ≡ Err (side, damage)
-      → (after.source ≡ before.source) × EndsOverDamage seen before after (status_of end) side damage l r)
+      → EndsIn seen start end bytes l r after.unread (SinkRose before after) before.held after.held after.left after.right)
+      → IsOverDamage (status_of end)
       → Ends seen before after (status_of end) words
   run_ends words end read counts told damaged =
       let causes = has_causes end counts in
@@ -103,16 +124,16 @@ module _ {S D : Type 0} (seen : D → Option (List ℕ)) (before after : Outside
         understood = (λ is. absurd (not_usage end is), λ none. absurd (none word.Run read.asks));
         usage = λ is. absurd (not_usage end is);
         run = λ asked. record {
-          ends = λ bytes l r unread on start is. (end, refl, told bytes l r unread on.0 on.1 start is);
-          damaged = λ l r on side damage is. damaged l r on.0 on.1 side damage is;
-          complete = λ bytes l r unread on start is requests all few source sink disk.
-              let ran = told bytes l r unread on.0 on.1 start is in
-              complete start bytes after.unread requests all few end (λ e. source (causes.source_fault e)) (λ e. sink (causes.sink_fault e)) (λ e. disk (causes.disk_fault e)) ran.requests ran.read;
+          ends = λ bytes l r start unread found. (end, refl, told bytes l r unread found.left found.right start found.is);
+          complete = λ bytes l r start requests unread found all few source calm.
+              let ran = told bytes l r unread found.left found.right start found.is in
+              complete start bytes after.unread requests all few end (λ e. source (causes.source_fault e)) (λ e. calm.sink (causes.sink_fault e)) (λ e. calm.disk (causes.disk_fault e)) ran.requests ran.read;
         };
         serve = λ asked. absurd (cc (read.only word.Serve asked));
         state = λ asked. absurd (cc (read.only word.State asked));
         audit = λ asked. absurd (cc (read.only word.Audit asked));
         gen = λ seed count asked. absurd (cc (read.only (word.Gen seed count) asked));
+        damaged = λ asked. over_damage (status_of end) damaged;
         causes = causes;
       }
 
@@ -121,9 +142,8 @@ module _ {S D : Type 0} (seen : D → Option (List ℕ)) (before after : Outside
   pub state_ends :
       (words : List (List ℕ)) (end : Result (Unit {0}) Halt) → IsRead words word.State → HasCounts end → after.source ≡ before.source
       → ((l r : List ℕ) → seen before.left ≡ Some l → seen before.right ≡ Some r → (start : State) → state_on l r ≡ Ok start
-      → TellsText (Ok (standing start)) end (SinkRose before after) before.held after.held × DisksHold seen end [] l r start after.left after.right [])
-      → ((l r : List ℕ) → seen before.left ≡ Some l → seen before.right ≡ Some r → (side : Side) (damage : Damage) → state_on l r ≡ Err (side, damage)
-      → EndsOverDamage seen before after (status_of end) side damage l r)
+      → Contains (0 ∷ 4 ∷ 5 ∷ 7 ∷ []) (status_of end) × TellsAll (standing start) end (SinkRose before after) before.held after.held × DisksStay seen end l r start after.left after.right)
+      → IsOverDamage (status_of end)
       → Ends seen before after (status_of end) words
   state_ends words end read counts reads told damaged =
       let causes = has_causes end counts in
@@ -134,13 +154,13 @@ module _ {S D : Type 0} (seen : D → Option (List ℕ)) (before after : Outside
         serve = λ asked. absurd (cc (read.only word.Serve asked));
         state = λ asked. record {
           reads = reads;
-          ends = λ l r on start is. let found = told l r on.0 on.1 start is in (end, refl, found.0, found.1);
-          damaged = λ l r on side damage is. damaged l r on.0 on.1 side damage is;
-          complete = λ l r on start is sink disk.
-              text_ends (Ok (standing start)) _ _ _ end (λ number limit. cc) (told l r on.0 on.1 start is).0 (λ e. sink (causes.sink_fault e)) (λ e. disk (causes.disk_fault e));
+          ends = λ l r start found. let so = told l r found.left found.right start found.is in (end, refl, so.1, so.2);
+          statuses = λ l r start found. (told l r found.left found.right start found.is).0;
+          complete = λ l r start found calm. state_done (status_of end) (told l r found.left found.right start found.is).0 (λ e. calm.sink (causes.sink_fault e)) (λ e. calm.disk (causes.disk_fault e));
         };
         audit = λ asked. absurd (cc (read.only word.Audit asked));
         gen = λ seed count asked. absurd (cc (read.only (word.Gen seed count) asked));
+        damaged = λ asked. over_damage (status_of end) damaged;
         causes = causes;
       }
 
@@ -162,11 +182,12 @@ module _ {S D : Type 0} (seen : D → Option (List ℕ)) (before after : Outside
         serve = λ asked. record {
           ends = (end, refl, told);
           unread = λ is. unread (is_unread end is);
-          complete = λ bytes l r told on start is asked all few source sink disk. done bytes l r told on.0 on.1 start is asked all few source sink disk;
+          complete = λ bytes l r start asked unread found all few source calm. done bytes l r unread found.left found.right start found.is asked all few source calm.sink calm.disk;
         };
         state = λ asked. absurd (cc (read.only word.State asked));
         audit = λ asked. absurd (cc (read.only word.Audit asked));
         gen = λ seed count asked. absurd (cc (read.only (word.Gen seed count) asked));
+        damaged = λ asked. absurd (opens_first words word.Serve read (λ e. cc) (λ e. cc) (λ e. cc) asked);
         causes = has_causes end counts;
       }
 
@@ -175,11 +196,10 @@ module _ {S D : Type 0} (seen : D → Option (List ℕ)) (before after : Outside
   pub audit_ends :
       (words : List (List ℕ)) (end : Result (Unit {0}) Halt) → IsRead words word.Audit → HasCounts end → after.source ≡ before.source
       → ((l r : List ℕ) → seen before.left ≡ Some l → seen before.right ≡ Some r → (start : State) → state_on l r ≡ Ok start
-      → TellsText (reviewed (commands_on l r)) end (SinkRose before after) before.held after.held
-      × AuditHolds end start (commands_on l r)
-      × DisksHold seen end [] l r start after.left after.right [])
-      → ((l r : List ℕ) → seen before.left ≡ Some l → seen before.right ≡ Some r → (side : Side) (damage : Damage) → state_on l r ≡ Err (side, damage)
-      → EndsOverDamage seen before after (status_of end) side damage l r)
+      → Contains (0 ∷ 4 ∷ 5 ∷ 7 ∷ 8 ∷ []) (status_of end)
+      × ((text : List ℕ) × IsAuditOf start (commands_on l r) end text × TellsAll text end (SinkRose before after) before.held after.held)
+      × DisksStay seen end l r start after.left after.right)
+      → IsOverDamage (status_of end)
       → ((l r : List ℕ) (s : State) → state_on l r ≡ Ok s → replay 1 opening (commands_on l r) ≡ Ok s)
       → Ends seen before after (status_of end) words
   audit_ends words end read counts reads told damaged leads =
@@ -192,38 +212,19 @@ module _ {S D : Type 0} (seen : D → Option (List ℕ)) (before after : Outside
         state = λ asked. absurd (cc (read.only word.State asked));
         audit = λ asked. record {
           reads = reads;
-          ends = λ l r on start is. let found = told l r on.0 on.1 start is in (end, refl, found.0, found.1, found.2);
-          damaged = λ l r on side damage is. damaged l r on.0 on.1 side damage is;
-          complete = λ l r on start is within sink disk.
-              text_ends (reviewed (commands_on l r)) _ _ _ end (λ number limit. no_limit (commands_on l r) start number (leads l r start is) within limit)
-              (told l r on.0 on.1 start is).0 (λ e. sink (causes.sink_fault e)) (λ e. disk (causes.disk_fault e));
+          ends = λ l r start found. let so = told l r found.left found.right start found.is in (end, refl, so.1, so.2);
+          statuses = λ l r start found. (told l r found.left found.right start found.is).0;
+          complete = λ l r start found within calm.
+              let so = told l r found.left found.right start found.is in
+              audit_done start (commands_on l r) end so.1.0 so.1.1 (λ number limit. no_limit (commands_on l r) start number (leads l r start found.is) within limit)
+              so.0 (λ e. calm.sink (causes.sink_fault e)) (λ e. calm.disk (causes.disk_fault e));
         };
         gen = λ seed count asked. absurd (cc (read.only (word.Gen seed count) asked));
+        damaged = λ asked. over_damage (status_of end) damaged;
         causes = causes;
       }
 
 -- ---- words that write alone
-
--- of a load neither the source nor a disk is asked
-source_unasked : (line : List ℕ) (fault : Type 0) (held now : Option (List ℕ)) (end : Result (Unit {0}) Halt) (n : ℕ) → Tells line end fault held now → ReadCause end n n
-source_unasked line fault held now (Ok done) n h = refl
-source_unasked line fault held now (Err (BadLine at)) n h = absurd h
-source_unasked line fault held now (Err ReadFault) n h = absurd h
-source_unasked line fault held now (Err WriteFault) n h = refl
-source_unasked line fault held now (Err DiskFault) n h = absurd h
-source_unasked line fault held now (Err (Damaged side number)) n h = absurd h
-source_unasked line fault held now (Err NoMemory) n h = refl
-source_unasked line fault held now (Err (Limit number)) n h = absurd h
-
-disks_unasked : (line : List ℕ) (fault : Type 0) (held now : Option (List ℕ)) (end : Result (Unit {0}) Halt) (n : Faults) → Tells line end fault held now → DiskCause end n n
-disks_unasked line fault held now (Ok done) n h = refl
-disks_unasked line fault held now (Err (BadLine at)) n h = absurd h
-disks_unasked line fault held now (Err ReadFault) n h = absurd h
-disks_unasked line fault held now (Err WriteFault) n h = refl
-disks_unasked line fault held now (Err DiskFault) n h = absurd h
-disks_unasked line fault held now (Err (Damaged side number)) n h = absurd h
-disks_unasked line fault held now (Err NoMemory) n h = refl
-disks_unasked line fault held now (Err (Limit number)) n h = absurd h
 
 module _ {S D : Type 0} (seen : D → Option (List ℕ)) (source : S) (unread : Option (List ℕ)) (source_faults : ℕ) (left right : D) (disk_faults : Faults) (held now : Option (List ℕ)) (sink sink_now : ℕ) where
   -- the outside, with what the sink holds and its count
@@ -236,13 +237,12 @@ module _ {S D : Type 0} (seen : D → Option (List ℕ)) (source : S) (unread : 
 
   pub gen_ends :
       (words : List (List ℕ)) (end : Result (Unit {0}) Halt) (seed count : ℕ) → IsRead words (word.Gen seed count)
-      → Tells (summary (load seed count)) end (Rose sink sink_now) held now → LastCause end sink sink_now → EndsWriting (status_of end) words
-  gen_ends words end seed count read told cause =
-      let line = summary (load seed count) in
+      → TellsAll (summary (load seed count)) end (Rose sink sink_now) held now → Contains (0 ∷ 4 ∷ 7 ∷ []) (status_of end) → LastCause end sink sink_now → EndsWriting (status_of end) words
+  gen_ends words end seed count read told ends cause =
       let causes = has_causes seen (with_sink held sink) (with_sink now sink_now) end (record {
-        source = source_unasked line _ held now end source_faults told;
+        source = source_unasked end source_faults ends;
         sink = cause;
-        disks = disks_unasked line _ held now end disk_faults told;
+        disks = disks_unasked end disk_faults ends;
       }) in
       record {
         understood = (λ is. absurd (not_usage end is), λ none. absurd (none (word.Gen seed count) read.asks));
@@ -259,8 +259,10 @@ module _ {S D : Type 0} (seen : D → Option (List ℕ)) (source : S) (unread : 
             (subst (λ (n : ℕ). Loads seen (with_sink held sink) (with_sink now sink_now) (status_of end) seed n) counts (record {
               untouched = record { source = refl; left = refl; right = refl };
               ends = (end, refl, told);
-              complete = λ none. load_ends line _ held now end told (λ e. none (causes.sink_fault e));
+              statuses = ends;
+              complete = λ none. load_done (status_of end) ends (λ e. none (causes.sink_fault e));
             }));
+        damaged = λ asked. absurd (opens_first words (word.Gen seed count) read (λ e. cc) (λ e. cc) (λ e. cc) asked);
         causes = causes;
       }
 
@@ -276,6 +278,7 @@ module _ {S D : Type 0} (seen : D → Option (List ℕ)) (source : S) (unread : 
         state = λ asked. absurd (none word.State asked);
         audit = λ asked. absurd (none word.Audit asked);
         gen = λ seed count asked. absurd (none (word.Gen seed count) asked);
+        damaged = λ asked. absurd (some_asked words none asked);
         causes = record {
           known = (1, lit< tt, refl);
           source_fault = λ is. absurd (omega (arith, is));
@@ -289,39 +292,53 @@ module _ {S D : Type 0} (seen : D → Option (List ℕ)) (source : S) (unread : 
 
   wordless : (words : List (List ℕ)) → (((word : Word) → Ask words word → ⊥) → ⊥) → Adds [] (last NoMemory) (Rose sink sink_now) held now → EndsWriting 7 words
   wordless words some written =
-      let untouched_so = λ (l r : List ℕ) (start : State) (told_l : seen left ≡ Some l) (told_r : seen right ≡ Some r) (is : state_on l r ≡ Ok start). untouched seen left right l r start told_l told_r is in
-      let still_damaged = λ (l r : List ℕ) (side : Side) (damage : Damage) (told_l : seen left ≡ Some l) (told_r : seen right ≡ Some r) (is : state_on l r ≡ Err (side, damage)) (a b : List ℕ) (told_a : seen left ≡ Some a) (told_b : seen right ≡ Some b). same_disks seen left right l r a b (Err (side, damage)) told_l told_r told_a told_b state_on is in
       record {
         understood = (λ is. absurd (omega (arith, is)), λ none. absurd (some none));
         usage = λ is. absurd (omega (arith, is));
         run = λ asked. record {
-          ends = λ bytes l r told on start is.
-              let failed : Result (Unit {0}) Halt = Err NoMemory in
-              (Err NoMemory, refl, last_written start NoMemory bytes _ unread held held now (DisksHold seen failed bytes l r start left right) (no_room start bytes unread held _ (untouched_so l r start on.0 on.1 is)) written);
-          damaged = λ l r on side damage is. (refl, (NoMemory, refl, still_damaged l r side damage on.0 on.1 is, written));
-          complete = λ bytes l r told on start is requests all few source sink disk. inr refl;
+          ends = λ bytes l r start told found. (
+            Err NoMemory,
+            refl,
+            record {
+              requests = [];
+              few = omega arith;
+              read = (lines_in bytes, ([], tt, refl), inl refl);
+              written = written;
+              disks = standing_still seen left right l r start found.is (untouched seen left right l r start found.left found.right found.is);
+              shares = all_shares start [] (state_formed l r start found.is);
+            },
+          );
+          complete = λ bytes l r start requests told found all few source calm. inr refl;
         };
         serve = λ asked. record {
           ends = (Err NoMemory, refl, serves_nothing seen unread left right (Rose sink sink_now) held now written);
           unread = λ is. absurd (not_unread 7 refl is);
-          complete = λ bytes l r told on start is asked all few source sink disk. inr refl;
+          complete = λ bytes l r start asked told found all few source calm. inr refl;
         };
         state = λ asked. record {
           reads = refl;
-          ends = λ l r on start is. (Err NoMemory, refl, written, untouched_so l r start on.0 on.1 is);
-          damaged = λ l r on side damage is. (NoMemory, refl, still_damaged l r side damage on.0 on.1 is, written);
-          complete = λ l r on start is sink disk. inr refl;
+          ends = λ l r start found. (Err NoMemory, refl, written, untouched seen left right l r start found.left found.right found.is);
+          statuses = λ l r start found. (3, lit< tt, refl);
+          complete = λ l r start found calm. inr refl;
         };
         audit = λ asked. record {
           reads = refl;
-          ends = λ l r on start is. (Err NoMemory, refl, written, tt, untouched_so l r start on.0 on.1 is);
-          damaged = λ l r on side damage is. (NoMemory, refl, still_damaged l r side damage on.0 on.1 is, written);
-          complete = λ l r on start is within sink disk. inr refl;
+          ends = λ l r start found. (Err NoMemory, refl, ([], tt, written), untouched seen left right l r start found.left found.right found.is);
+          statuses = λ l r start found. (3, lit< tt, refl);
+          complete = λ l r start found within calm. inr refl;
         };
         gen = λ seed count asked. record {
           untouched = record { source = refl; left = refl; right = refl };
           ends = (Err NoMemory, refl, written);
+          statuses = (2, lit< tt, refl);
           complete = λ none. inr refl;
+        };
+        damaged = λ asked l r side damage found. record {
+          reads = refl;
+          halt = NoMemory;
+          status_is = refl;
+          ends = λ a b told_a told_b. same_disks seen left right l r a b (Err (side, damage)) found.left found.right told_a told_b state_on found.is;
+          written = written;
         };
         causes = record {
           known = (7, lit< tt, refl);

@@ -1,6 +1,10 @@
 -- What the outside is at a moment: the source, the sink and the two disks.
-use Rattle.std.specs.Prelude.{ℕ, ◌≡◌, List, Option}
+use Rattle.std.specs.Prelude.{ℕ, ◌≡◌, List, Option, Some, Result}
+use Rattle.liq_types.specs.State.{State}
 use Rattle.liq_outside.specs.Faults.{Rose}
+use Rattle.liq_journal.specs.declared.damage.Damage.{Damage}
+use Rattle.liq_pairs.specs.declared.side.Side.{Side}
+use Rattle.liq_pairs.specs.Pair.{state_on}
 use Rattle.liq_store.specs.Causes.{Faults, OneRose, counts_of}
 
 pub record Outside (S D : Type 0) : Type 0 where
@@ -29,6 +33,14 @@ outside unread source_faults held sink_faults disk_faults source sink left right
   right = right;
   disk_faults = counts_of disk_faults left right;
 }
+
+-- These disks tell l and r, and this is the state for which they stand, or their first damage.
+pub record Finds
+    {D : Type 0} (seen : D → Option (List ℕ)) (left_disk right_disk : D) (l r : List ℕ)
+    (found : Result State (Side × Damage)) : Type 0 where
+  pub left : seen left_disk ≡ Some l
+  pub right : seen right_disk ≡ Some r
+  pub is : state_on l r ≡ found
 
 module _ {S D : Type 0} (before after : Outside S D) where
   abbrev pub SourceRose : Type 0

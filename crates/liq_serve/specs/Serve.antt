@@ -1,22 +1,31 @@
 -- The word `serve`: how serving an input ends, and what is written by then.
-use Rattle.std.specs.Prelude.{ℕ, ◌≡◌, [], List, Option, Some, Result, Ok, Err}
+use Rattle.std.specs.Prelude.{ℕ, ◌≡◌, ◌≤◌, ◌⊎◌, [], ◌∷◌, List, length, All, Contains, Option, Some, Result, Ok, Err}
+use Rattle.std.specs.Option.{IsSomeAnd}
 use Rattle.liq_types.specs.declared.amounts.TheConstants.{LINES_MOST}
+use Rattle.liq_types.specs.declared.requests.Command.{Command}
 use Rattle.liq_types.specs.declared.requests.Request.{Request}
+use Rattle.liq_types.specs.declared.requests.Request.TheVariants.{Do}
 use Rattle.liq_types.specs.State.{State}
-use Rattle.liq_rules.specs.History.{Entry, requests_of}
-use Rattle.liq_lines.specs.Writing.{Writes, WritesPart}
-use Rattle.liq_pairs.specs.Pair.{state_on}
+use Rattle.liq_rules.specs.History.{Entry, IsLegal, requests_of, state_after}
+use Rattle.liq_rules.specs.Step.{Allowed, after, ruling}
+use Rattle.liq_journal.specs.declared.damage.Damage.{Damage}
+use Rattle.liq_lines.specs.Lines.{lines_in}
+use Rattle.liq_pairs.specs.declared.side.Side.{Side}
+use Rattle.liq_pairs.specs.Kept.{IsKept}
+use Rattle.liq_scripts.specs.declared.scripts.TheConstants.{SESSIONS}
 use Rattle.liq_scripts.specs.declared.stops.Stop.{Stop}
 use Rattle.liq_scripts.specs.declared.stops.Stop.TheVariants as stop
+use Rattle.liq_scripts.specs.Asked.{AreAsked, script_of, scripts_of}
+use Rattle.liq_scripts.specs.Gathering.{StopsAfter}
 use Rattle.liq_scripts.specs.Output.{served}
-use Rattle.liq_serving.specs.declared.input.Finish.{Finish}
-use Rattle.liq_serving.specs.declared.input.Finish.TheVariants as finish
-use Rattle.liq_serving.specs.Input.{AnswersInput}
+use Rattle.liq_serving.specs.Answered.{AreServedFrom, AreServedWhole, IsNextOf, LacksMemory}
 use Rattle.liq_ends.specs.declared.halts.Halt.{Halt}
 use Rattle.liq_ends.specs.declared.halts.Halt.TheVariants.{BadLine, ReadFault, WriteFault, DiskFault, NoMemory, Limit}
-use Rattle.liq_ends.specs.Disks.{halt_of}
-use Rattle.liq_ends.specs.Output.{last}
-use Rattle.liq_ends.specs.Stops.{Adds, HaveTheirShares}
+use Rattle.liq_ends.specs.Disks.{DisksStay, EndsDamaged}
+use Rattle.liq_ends.specs.Statuses.{status_of}
+use Rattle.liq_ends.specs.Stops.{HaveTheirShares}
+use Rattle.liq_ends.specs.Telling.{TellsAll}
+use Rattle.liq_serve.specs.Outside.{Finds}
 
 -- why a word stops whose input was not read to its end
 abbrev pub halt_at : Stop → Halt
@@ -25,40 +34,76 @@ halt_at stop.ReadFault = ReadFault
 halt_at stop.NoMemory = NoMemory
 halt_at stop.Limit = Limit LINES_MOST
 
-abbrev pub end_of : Finish → Result (Unit {0}) Halt
-end_of finish.All = Ok tt
-end_of (finish.NotRead why) = Err (halt_at why)
-end_of (finish.NotOpened why) = Err (halt_of why)
-end_of finish.NoMemory = Err NoMemory
-end_of finish.DiskFault = Err DiskFault
-end_of finish.WriteFault = Err WriteFault
+-- What was answered of all that the lines ask, once a store was open: all, or memory was wanting for the rest, or a
+-- call met a disk's fault, and it is that of the next request of its session.
+abbrev pub Answers :
+    Result (Unit {0}) Halt → Option (ℕ × Request) → List (ℕ × Request) → List Entry → Type 0
+Answers (Ok done) halted asked history = AreServedWhole asked history
+Answers (Err WriteFault) halted asked history = AreServedWhole asked history
+Answers (Err NoMemory) halted asked history = LacksMemory (scripts_of asked) history
+Answers (Err DiskFault) halted asked history =
+    IsSomeAnd halted (λ (call : ℕ × Request). IsNextOf history call.1 (script_of asked call.0))
+Answers (Err _) halted asked history = ⊥
 
--- the input was not read to its end, and not for want of memory
-abbrev pub IsUnread : Result (Unit {0}) Halt → Type 0
-IsUnread (Err (BadLine number)) = Unit {0}
-IsUnread (Err ReadFault) = Unit {0}
-IsUnread (Err (Limit number)) = Unit {0}
-IsUnread _ = ⊥
+-- the disks are kept for the state, or after a call's fault for it after that call's command, if it is accepted there
+abbrev pub AreKept : Result (Unit {0}) Halt → Option (ℕ × Request) → State → List ℕ → List ℕ → Type 0
+AreKept (Err DiskFault) halted s a b =
+    IsKept a b s
+    ⊎ ((c : Command) × IsSomeAnd halted (λ (call : ℕ × Request). call.1 ≡ Do c) × (ruling s c ≡ Allowed)
+    × IsKept a b (after s c))
+AreKept _ halted s a b = IsKept a b s
 
--- The history was written, or the sink met a fault within it; or the last line of a word that stopped.
-abbrev pub TellsServed : Result (Unit {0}) Halt → List Entry → Type 0 → Option (List ℕ) → Option (List ℕ) → Type 0
-TellsServed (Ok done) history fault before now = Writes before (served history) now
-TellsServed (Err WriteFault) history fault before now = WritesPart before (served history) now
-TellsServed (Err halt) history fault before now = Adds [] (last halt) fault before now
-
--- What the lines asked was answered along one history, as far as the finish says; and after it no depositor has more
--- than its share, or less by more than is allowed.
-pub record ServesTo
+module _
     {D : Type 0} (seen : D → Option (List ℕ)) (before unread : Option (List ℕ)) (left right : D)
-    (end : Result (Unit {0}) Halt) (left_now right_now : D) (fault : Type 0) (held now : Option (List ℕ)) : Type 0 where
-  pub finish : Finish
-  pub end_is : end ≡ end_of finish
-  pub asked : List (ℕ × Request)
-  pub history : List Entry
-  pub answered :
-      AnswersInput seen before unread left right (record { left = left_now; right = right_now; finish = finish })
-      asked history
-  pub written : TellsServed end history fault held now
-  pub shares :
-      (l r : List ℕ) (start : State) → seen left ≡ Some l → seen right ≡ Some r → state_on l r ≡ Ok start
-      → HaveTheirShares start (requests_of history)
+    (end : Result (Unit {0}) Halt) (left_now right_now : D) where
+  -- Reading stopped behind what was asked. Nothing was opened, and the disks are as they were.
+  pub record StopsReading (asked : List (ℕ × Request)) (history : List Entry) : Type 0 where
+    pub stop : Stop
+    pub end_is : end ≡ Err (halt_at stop)
+    pub read : (bytes : List ℕ) → before ≡ Some bytes → StopsAfter stop bytes unread asked
+    pub none : history ≡ []
+    pub left_same : left_now ≡ left
+    pub right_same : right_now ≡ right
+
+  -- all lines ask this, and the source is at its end
+  abbrev pub IsAllRead : List (ℕ × Request) → Type 0
+  IsAllRead asked = (bytes : List ℕ) → before ≡ Some bytes → AreAsked (lines_in bytes) asked × (unread ≡ Some [])
+
+  -- All was read, and no store was opened: for a disk's fault, the disks' damage or want of memory.
+  pub record OpensNone (asked : List (ℕ × Request)) (history : List Entry) : Type 0 where
+    pub statuses : Contains (5 ∷ 6 ∷ 7 ∷ []) (status_of end)
+    pub read : IsAllRead asked
+    pub none : history ≡ []
+    pub disks :
+        (l r : List ℕ) (start : State) → Finds seen left right l r (Ok start)
+        → Contains (5 ∷ 7 ∷ []) (status_of end) × DisksStay seen end l r start left_now right_now
+    pub damaged :
+        (l r : List ℕ) (side : Side) (damage : Damage) → Finds seen left right l r (Err (side, damage))
+        → EndsDamaged seen side damage end left_now right_now
+
+  -- All was read, and a store was opened, whose disks are not damaged.
+  pub record AnswersAll (asked : List (ℕ × Request)) (history : List Entry) : Type 0 where
+    pub read : IsAllRead asked
+    -- the session whose call met a disk's fault, and what it asked
+    pub halted : Option (ℕ × Request)
+    pub answers : Answers end halted asked history
+    pub disks :
+        (l r a b : List ℕ) (start : State) → Finds seen left right l r (Ok start) → seen left_now ≡ Some a
+        → seen right_now ≡ Some b
+        → AreKept end halted (state_after start history) a b
+    pub whole : (l r : List ℕ) (side : Side) (damage : Damage) → Finds seen left right l r (Err (side, damage)) → ⊥
+
+  -- Along one history a part of what the lines asked was answered, and it was written, as far as the end says; and
+  -- after it no depositor has more than its share, or less by more than is allowed.
+  pub record ServesTo (fault : Type 0) (held now : Option (List ℕ)) : Type 0 where
+    pub asked : List (ℕ × Request)
+    pub history : List Entry
+    pub few : length asked ≤ LINES_MOST
+    pub fronts : AreServedFrom asked history
+    pub sessions : All (λ (e : Entry). (1 ≤ e.session) × (e.session ≤ SESSIONS)) history
+    pub came : StopsReading asked history ⊎ (OpensNone asked history ⊎ AnswersAll asked history)
+    pub legal : (l r : List ℕ) (start : State) → Finds seen left right l r (Ok start) → IsLegal start history
+    pub written : TellsAll (served history) end fault held now
+    pub shares :
+        (l r : List ℕ) (start : State) → Finds seen left right l r (Ok start)
+        → HaveTheirShares start (requests_of history)

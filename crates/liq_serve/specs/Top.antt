@@ -8,56 +8,56 @@ use Rattle.liq_rules.specs.Events.{events}
 use Rattle.liq_journal.specs.declared.damage.Damage.{Damage}
 use Rattle.liq_lines.specs.Lines.{lines_in}
 use Rattle.liq_pairs.specs.declared.side.Side.{Side}
-use Rattle.liq_pairs.specs.Pair.{commands_on, state_on}
+use Rattle.liq_pairs.specs.Pair.{commands_on}
 use Rattle.liq_review.specs.Limits.{number_above}
-use Rattle.liq_review.specs.Reviewed.{reviewed}
 use Rattle.liq_scripts.specs.Asked.{AreAsked}
 use Rattle.liq_words.specs.declared.words.Word.{Word}
 use Rattle.liq_words.specs.declared.words.Word.TheVariants as word
 use Rattle.liq_words.specs.Words.{Ask}
 use Rattle.liq_ends.specs.declared.halts.Halt.{Halt}
-use Rattle.liq_tell.specs.Audit.{AuditHolds}
-use Rattle.liq_ends.specs.Disks.{DisksHold, EndsDamaged}
-use Rattle.liq_load.specs.Load.{Tells, load, summary}
+use Rattle.liq_tell.specs.Audit.{IsAuditOf}
+use Rattle.liq_ends.specs.Disks.{DisksStay, EndsDamaged}
+use Rattle.liq_load.specs.Load.{load, summary}
 use Rattle.liq_ends.specs.Output.{last, usage}
-use Rattle.liq_serve.specs.Outside.{Outside, DiskRose, IsUntouched, SinkRose, SourceRose}
+use Rattle.liq_serve.specs.Outside.{Outside, DiskRose, Finds, IsUntouched, SinkRose, SourceRose}
 use Rattle.liq_ends.specs.Requests.{AreRequests}
 use Rattle.liq_serve.specs.Serve.{ServesTo}
 use Rattle.liq_tell.specs.State.{standing}
 use Rattle.liq_ends.specs.Statuses.{IsDone, status_of}
 use Rattle.liq_ends.specs.Stops.{Adds, EndsIn}
-use Rattle.liq_ends.specs.Telling.{TellsText}
+use Rattle.liq_ends.specs.Telling.{TellsAll}
 
 module _ {S D : Type 0} (seen : D → Option (List ℕ)) (before after : Outside S D) (status : ℕ) where
-  -- the bytes that both disks tell
-  abbrev pub AreOnDisks : List ℕ → List ℕ → Type 0
-  AreOnDisks l r = (seen before.left ≡ Some l) × (seen before.right ≡ Some r)
+  -- the disks tell these bytes, and this is what they stand for
+  abbrev pub FindsDisks : List ℕ → List ℕ → Result State (Side × Damage) → Type 0
+  FindsDisks l r found = Finds seen before.left before.right l r found
 
-  -- over disks with this first damage a last line alone is written
-  abbrev pub EndsOverDamage : Side → Damage → List ℕ → List ℕ → Type 0
-  EndsOverDamage side damage l r =
-      (halt : Halt) × (status ≡ status_of (Err halt))
-      × EndsDamaged seen side damage l r (Err halt) after.left after.right
-      × Adds [] (last halt) (SinkRose before after) before.held after.held
+  -- neither the sink nor a disk met a fault
+  pub record IsCalm : Type 0 where
+    pub sink : SinkRose before after → ⊥
+    pub disk : DiskRose before after → ⊥
 
-  -- `run`: wherever the source and the disks tell their bytes
+  -- over disks with this first damage nothing is read, and a last line alone is written
+  pub record EndsOverDamage (side : Side) (damage : Damage) : Type 0 where
+    pub reads : after.source ≡ before.source
+    pub halt : Halt
+    pub status_is : status ≡ status_of (Err halt)
+    pub ends : EndsDamaged seen side damage (Err halt) after.left after.right
+    pub written : Adds [] (last halt) (SinkRose before after) before.held after.held
+
+  -- `run`, wherever the source tells its bytes and the disks stand for a state
   pub record Runs : Type 0 where
-    -- From the state for which the disks stand it ends in one of its ways, which says what came in, what went out, and
-    -- what the disks hold.
+    -- it ends in one of its ways from there, which says what came in, what went out, and what the disks hold
     pub ends :
-        (bytes l r : List ℕ) → before.unread ≡ Some bytes → AreOnDisks l r → (start : State) → state_on l r ≡ Ok start
+        (bytes l r : List ℕ) (start : State) → before.unread ≡ Some bytes → FindsDisks l r (Ok start)
         → (end : Result (Unit {0}) Halt) × (status ≡ status_of end)
-        × EndsIn last start end bytes after.unread (SinkRose before after) before.held after.held
-        (DisksHold seen end bytes l r start after.left after.right)
-    -- over damaged disks nothing is read
-    pub damaged :
-        (l r : List ℕ) → AreOnDisks l r → (side : Side) (damage : Damage) → state_on l r ≡ Err (side, damage)
-        → (after.source ≡ before.source) × EndsOverDamage side damage l r
+        × EndsIn seen start end bytes l r after.unread (SinkRose before after) before.held after.held after.left
+        after.right
     -- where nothing is wrong with lines, streams and disks, all is answered
     pub complete :
-        (bytes l r : List ℕ) → before.unread ≡ Some bytes → AreOnDisks l r → (start : State) → state_on l r ≡ Ok start
-        → (requests : List Request) → AreRequests (lines_in bytes) requests → length requests ≤ LINES_MOST
-        → (SourceRose before after → ⊥) → (SinkRose before after → ⊥) → (DiskRose before after → ⊥) → IsDone status
+        (bytes l r : List ℕ) (start : State) (requests : List Request) → before.unread ≡ Some bytes
+        → FindsDisks l r (Ok start) → AreRequests (lines_in bytes) requests → length requests ≤ LINES_MOST
+        → (SourceRose before after → ⊥) → IsCalm → IsDone status
 
   -- `serve`: each session's lines are answered in order, all sessions' at once
   pub record Serves : Type 0 where
@@ -69,44 +69,37 @@ module _ {S D : Type 0} (seen : D → Option (List ℕ)) (before after : Outside
     -- where the input was not read to its end the disks are as they were
     pub unread : (status ≡ 2) ⊎ (status ≡ 3) ⊎ (status ≡ 8) → (after.left ≡ before.left) × (after.right ≡ before.right)
     pub complete :
-        (bytes l r : List ℕ) → before.unread ≡ Some bytes → AreOnDisks l r → (start : State) → state_on l r ≡ Ok start
-        → (asked : List (ℕ × Request)) → AreAsked (lines_in bytes) asked → length asked ≤ LINES_MOST
-        → (SourceRose before after → ⊥) → (SinkRose before after → ⊥) → (DiskRose before after → ⊥) → IsDone status
+        (bytes l r : List ℕ) (start : State) (asked : List (ℕ × Request)) → before.unread ≡ Some bytes
+        → FindsDisks l r (Ok start) → AreAsked (lines_in bytes) asked → length asked ≤ LINES_MOST
+        → (SourceRose before after → ⊥) → IsCalm → IsDone status
 
   -- `state`: nothing is read
   pub record States : Type 0 where
     pub reads : after.source ≡ before.source
-    -- of the state for which the disks stand it is told what stands, and they stand for it then
+    -- of the state for which the disks stand it is told what stands, and they stay so
     pub ends :
-        (l r : List ℕ) → AreOnDisks l r → (start : State) → state_on l r ≡ Ok start
+        (l r : List ℕ) (start : State) → FindsDisks l r (Ok start)
         → (end : Result (Unit {0}) Halt) × (status ≡ status_of end)
-        × TellsText (Ok (standing start)) end (SinkRose before after) before.held after.held
-        × DisksHold seen end [] l r start after.left after.right []
-    pub damaged :
-        (l r : List ℕ) → AreOnDisks l r → (side : Side) (damage : Damage) → state_on l r ≡ Err (side, damage)
-        → EndsOverDamage side damage l r
-    pub complete :
-        (l r : List ℕ) → AreOnDisks l r → (start : State) → state_on l r ≡ Ok start → (SinkRose before after → ⊥)
-        → (DiskRose before after → ⊥) → IsDone status
+        × TellsAll (standing start) end (SinkRose before after) before.held after.held
+        × DisksStay seen end l r start after.left after.right
+    pub statuses : (l r : List ℕ) (start : State) → FindsDisks l r (Ok start) → Contains (0 ∷ 4 ∷ 5 ∷ 7 ∷ []) status
+    pub complete : (l r : List ℕ) (start : State) → FindsDisks l r (Ok start) → IsCalm → IsDone status
 
   -- `audit`: nothing is read
   pub record Audits : Type 0 where
     pub reads : after.source ≡ before.source
-    -- Of the commands that lead to that state the review is told, and the disks stand for it then. At 0 each row of the
-    -- review encloses the exact share of its account, and what the protocol gives it in that state is within the row.
+    -- Of the commands that lead to that state the review is told, and the disks stay so. At 0 each row of the review
+    -- encloses the exact share of its account, and what the protocol gives it in that state is within the row.
     pub ends :
-        (l r : List ℕ) → AreOnDisks l r → (start : State) → state_on l r ≡ Ok start
+        (l r : List ℕ) (start : State) → FindsDisks l r (Ok start)
         → (end : Result (Unit {0}) Halt) × (status ≡ status_of end)
-        × TellsText (reviewed (commands_on l r)) end (SinkRose before after) before.held after.held
-        × AuditHolds end start (commands_on l r)
-        × DisksHold seen end [] l r start after.left after.right []
-    pub damaged :
-        (l r : List ℕ) → AreOnDisks l r → (side : Side) (damage : Damage) → state_on l r ≡ Err (side, damage)
-        → EndsOverDamage side damage l r
+        × ((text : List ℕ) × IsAuditOf start (commands_on l r) end text
+        × TellsAll text end (SinkRose before after) before.held after.held)
+        × DisksStay seen end l r start after.left after.right
+    pub statuses : (l r : List ℕ) (start : State) → FindsDisks l r (Ok start) → Contains (0 ∷ 4 ∷ 5 ∷ 7 ∷ 8 ∷ []) status
     pub complete :
-        (l r : List ℕ) → AreOnDisks l r → (start : State) → state_on l r ≡ Ok start
-        → number_above (events opening (commands_on l r)) ≡ None
-        → (SinkRose before after → ⊥) → (DiskRose before after → ⊥) → IsDone status
+        (l r : List ℕ) (start : State) → FindsDisks l r (Ok start)
+        → number_above (events opening (commands_on l r)) ≡ None → IsCalm → IsDone status
 
   -- `gen`: nothing is read, and the disks stay
   pub record Loads (seed count : ℕ) : Type 0 where
@@ -114,7 +107,8 @@ module _ {S D : Type 0} (seen : D → Option (List ℕ)) (before after : Outside
     -- the load is told by the rules' steps along its requests from the opening
     pub ends :
         (end : Result (Unit {0}) Halt) × (status ≡ status_of end)
-        × Tells (summary (load seed count)) end (SinkRose before after) before.held after.held
+        × TellsAll (summary (load seed count)) end (SinkRose before after) before.held after.held
+    pub statuses : Contains (0 ∷ 4 ∷ 7 ∷ []) status
     pub complete : (SinkRose before after → ⊥) → IsDone status
 
   -- words that ask for nothing
@@ -141,4 +135,9 @@ module _ {S D : Type 0} (seen : D → Option (List ℕ)) (before after : Outside
     pub state : Ask words word.State → States
     pub audit : Ask words word.Audit → Audits
     pub gen : (seed count : ℕ) → Ask words (word.Gen seed count) → Loads seed count
+    -- each word that opens the disks before it reads
+    pub damaged :
+        Ask words word.Run ⊎ (Ask words word.State ⊎ Ask words word.Audit)
+        → (l r : List ℕ) (side : Side) (damage : Damage) → FindsDisks l r (Err (side, damage))
+        → EndsOverDamage side damage
     pub causes : HasCauses

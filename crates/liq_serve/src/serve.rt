@@ -11,7 +11,8 @@ ghost use Rattle.liq_scripts.specs.Asked.{AreAsked};
 ghost use Rattle.liq_store.specs.Causes.{OneRose, counts_of};
 ghost use Rattle.liq_ends.specs.Causes.{DiskCause, LastCause, ReadCause};
 ghost use Rattle.liq_ends.specs.Statuses.{IsDone, status_of};
-ghost use Rattle.liq_serve.specs.Serve.{IsUnread, ServesTo, end_of, halt_at};
+ghost use Rattle.liq_serve.specs.Finishing.{IsUnread, end_of};
+ghost use Rattle.liq_serve.specs.Serve.{ServesTo, halt_at};
 
 use liq_ends::{Ending, Halt, tell_last};
 use liq_outside::{Disk, Sink, Source};

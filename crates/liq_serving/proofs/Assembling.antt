@@ -34,12 +34,13 @@ use Rattle.liq_book.specs.Items.{calls_of, chronicle, entries_of, faulted_in, se
 use Rattle.liq_book.specs.Origin.{DiskAt, IsAtOrigin}
 use Rattle.liq_book.specs.Seats.{AreSeated, IsNewSeat, items_seen, session_at}
 use Rattle.liq_book.proofs.Chronicles.{entries_of-chronicle}
+use Rattle.liq_serving.specs.Answered.{IsServedFrom, IsServedWhole, LacksMemory, answered_of}
 use Rattle.liq_serving.specs.declared.served.End.{End}
 use Rattle.liq_serving.specs.declared.served.End.TheVariants as end
 use Rattle.liq_serving.specs.declared.served.Served.{Served}
 use Rattle.liq_serving.specs.Ends.{end_of, halt_of}
 use Rattle.liq_serving.specs.Leaves.{Leaves, chronicle_of}
-use Rattle.liq_serving.specs.Serves.{AreNumbered, IsServedFrom, IsServedWhole, LacksMemory, LeavesDisks, Serves, answered_of}
+use Rattle.liq_serving.specs.Serves.{AreNumbered, LeavesDisks, Serves}
 use Rattle.liq_serving.proofs.Counting.{each_short, has_room, none_left}
 use Rattle.liq_serving.proofs.Leaving.{settles}
 use Rattle.liq_serving.proofs.Told.{IsTold, all_from, all_mapped, all_so, all_to, all_unmap, answered_none, front_told, next_told, script_of, short_told, told_by, told_none, whole_told}

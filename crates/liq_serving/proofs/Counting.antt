@@ -11,7 +11,8 @@ use Rattle.liq_sessions.specs.declared.script.TheConstants.{REQUESTS_MOST}
 use Rattle.liq_types.specs.declared.entries.Entry.{Entry}
 use Rattle.liq_book.specs.declared.items.TheConstants.{ENTRIES_MOST}
 use Rattle.liq_rules.specs.Recorded.{recorded}
-use Rattle.liq_serving.specs.Serves.{AreNumbered, IsServedFrom, IsServedWhole, answered_of}
+use Rattle.liq_serving.specs.Answered.{IsServedFrom, IsServedWhole, answered_of}
+use Rattle.liq_serving.specs.Serves.{AreNumbered}
 use Rattle.liq_serving.proofs.Told.{script_of}
 
 -- ---- sums

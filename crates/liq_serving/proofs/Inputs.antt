@@ -1,7 +1,8 @@
 -- What serving an input comes to, by what was read, opened and served.
-use Rattle.std.proofs.Common.{ℕ, zero, suc, ◌+◌, ◌<◌, ◌≤◌, ◌≡◌, ◌⊎◌, inl, inr, List, [], ◌∷◌, map, length, Option, Some, Result, Ok, Err, refl, sym, ap, ap₂, ◌∙◌, subst, arith}
+use Rattle.std.proofs.Common.{ℕ, zero, suc, ◌+◌, ◌<◌, ◌≤◌, ◌≡◌, ◌⊎◌, inl, inr, List, [], ◌∷◌, map, length, Option, Some, None, Result, Ok, Err, refl, sym, ap, ap₂, ◌∙◌, subst, arith}
 use Rattle.std.specs.Prelude.{All, Contains, Vec, slice_index_or}
 use Rattle.std.specs.List.{AllByRecursion}
+use Rattle.std.specs.Option.{IsSomeAnd}
 use Rattle.std.proofs.lemmas.List.Elements.{All-map}
 use Rattle.std.specs.Global.{Global}
 use Rattle.liq_outside.specs.Faults.{Rose}
@@ -12,19 +13,21 @@ use Rattle.liq_types.specs.declared.requests.Request.TheVariants.{Do, Ask}
 use Rattle.liq_types.specs.State.{State}
 use Rattle.liq_core.specs.Core.{StandsFor}
 use Rattle.liq_rules.specs.History as history
-use Rattle.liq_rules.specs.History.{IsLegal, state_after}
+use Rattle.liq_rules.specs.History.{state_after}
 use Rattle.liq_rules.specs.Step.{Ruling, Refused, Repeated, Allowed, after, after_ruling, ruling}
 use Rattle.liq_rules.proofs.Histories.{legal-empty}
 use Rattle.liq_journal.specs.declared.damage.Damage.{Damage}
 use Rattle.liq_pairs.specs.declared.side.Side.{Side}
 use Rattle.liq_pairs.specs.Kept.{IsKept}
-use Rattle.liq_pairs.specs.Pair.{StandFor, state_on}
+use Rattle.liq_pairs.specs.Pair.{state_on}
+use Rattle.liq_pairs.proofs.Keeping.{settled_kept}
 use Rattle.liq_store.specs.declared.answers.StoreWhy.{StoreWhy}
 use Rattle.liq_store.specs.declared.answers.StoreWhy.TheVariants as why
 use Rattle.liq_store.specs.Causes.{Faults, OneRose, counts_of}
 use Rattle.liq_store.specs.Keeping.{IsKeptAround}
 use Rattle.liq_store.specs.Opening.{IsNotOpened, OpensOn}
 use Rattle.liq_store.specs.Stored.{Stored}
+use Rattle.liq_store.proofs.Recovered.{still_kept}
 use Rattle.liq_sessions.specs.declared.script.Script.{Script}
 use Rattle.liq_lines.specs.Lines.{lines_in}
 use Rattle.liq_scripts.specs.declared.scripts.TheConstants.{SESSIONS}
@@ -36,14 +39,15 @@ use Rattle.liq_scripts.specs.Sessions.{sessions}
 use Rattle.liq_book.specs.declared.items.Halt.{Halt}
 use Rattle.liq_book.specs.Booked.{CausesHalt}
 use Rattle.liq_rules.specs.Recorded.{recorded}
+use Rattle.liq_serving.specs.Answered.{AreServedFrom, IsNextOf, IsServedFrom, IsServedWhole, LacksMemory}
 use Rattle.liq_serving.specs.declared.input.Finish.{Finish}
 use Rattle.liq_serving.specs.declared.input.Finish.TheVariants as finish
 use Rattle.liq_serving.specs.declared.served.End.{End}
 use Rattle.liq_serving.specs.declared.served.End.TheVariants as end
 use Rattle.liq_serving.specs.declared.served.Served.{Served}
 use Rattle.liq_serving.specs.Ends.{halt_of}
-use Rattle.liq_serving.specs.Input.{Answers, AreServedFrom, DiskCause, EndsDamaged, HoldsAfter, IsAllButForMemory, IsFinishOf, IsNextAsked, ServesInput, WriteCause, Written, reading_of}
-use Rattle.liq_serving.specs.Serves.{AreNumbered, AreSettled, IsNextOf, IsServedFrom, IsServedWhole, LacksMemory, LeavesDisks, Serves, disk_at}
+use Rattle.liq_serving.specs.Input.{Answers, DiskCause, EndsDamaged, HoldsAfter, IsAllButForMemory, IsFinishOf, ServesInput, StayFor, WriteCause, Written, reading_of}
+use Rattle.liq_serving.specs.Serves.{AreNumbered, AreSettled, LeavesDisks, Serves, disk_at}
 use Rattle.liq_serving.proofs.Told.{all_from, all_to, all_unmap}
 
 -- ---- the scripts of what was asked
@@ -57,12 +61,14 @@ mapped f [] k y within is = absurd (omega arith)
 mapped f (x ∷ xs) zero y within is = (x, sym is)
 mapped f (x ∷ xs) (suc k) y within is = mapped f xs k y (omega arith) is
 
-next_asked : (asked : List (ℕ × Request)) (scripts : List Script) (entries : List history.Entry) (request : Request) (script : Script) → scripts ≡ scripts_of asked
-    → Contains scripts script → IsNextOf entries request script → IsNextAsked asked entries request
-next_asked asked scripts entries request script are there next =
+-- the next request of a script is that of its session
+next_asked : (asked : List (ℕ × Request)) (scripts : List Script) (entries : List history.Entry) (request : Request) (script : Script) (session : ℕ) → scripts ≡ scripts_of asked
+    → Contains scripts script → script.session ≡ session → IsNextOf entries request script → IsNextOf entries request (script_of asked session)
+next_asked asked scripts entries request script session are there whose next =
     let found : Contains (scripts_of asked) script = subst (λ (list : List Script). Contains list script) are there in
-    let whose = mapped (script_of asked) sessions found.0 script found.1 found.2 in
-    (whose.0, subst (IsNextOf entries request) whose.1 next)
+    let of_one = mapped (script_of asked) sessions found.0 script found.1 found.2 in
+    let same : of_one.0 ≡ session = ap (λ (s : Script). s.session) (sym of_one.1) ∙ whose in
+    subst (λ n. IsNextOf entries request (script_of asked n)) same (subst (IsNextOf entries request) of_one.1 next)
 
 -- numbers that go up one by one
 abbrev GoUp : ℕ → List ℕ → Type 0
@@ -84,15 +90,20 @@ are_eight asked scripts are = ap length are
 -- ---- a call that met a fault
 
 -- its step was not made, or it was an accepted command's
-around : (asked : List (ℕ × Request)) (entries : List history.Entry) (s : State) (request : Request) (a b : List ℕ) → IsNextAsked asked entries request → IsKeptAround s request a b
-    → IsKept a b s ⊎ ((c : Command) × IsNextAsked asked entries (Do c) × (ruling s c ≡ Allowed) × IsKept a b (after s c))
-around asked entries s request a b next (inl kept) = inl kept
-around asked entries s (Ask query) a b next (inr kept) = inl kept
-around asked entries s (Do c) a b next (inr kept) = by (ruling s c) refl where
-  by : (r : Ruling) → ruling s c ≡ r → IsKept a b s ⊎ ((d : Command) × IsNextAsked asked entries (Do d) × (ruling s d ≡ Allowed) × IsKept a b (after s d))
+around : (s : State) (request : Request) (a b : List ℕ) → IsKeptAround s request a b → IsKept a b s ⊎ ((c : Command) × (request ≡ Do c) × (ruling s c ≡ Allowed) × IsKept a b (after s c))
+around s request a b (inl kept) = inl kept
+around s (Ask query) a b (inr kept) = inl kept
+around s (Do c) a b (inr kept) = by (ruling s c) refl where
+  by : (r : Ruling) → ruling s c ≡ r → IsKept a b s ⊎ ((d : Command) × (Do c ≡ Do d) × (ruling s d ≡ Allowed) × IsKept a b (after s d))
   by (Refused refusal) is = inl (subst (λ (r : Ruling). IsKept a b (after_ruling s c r).0) is kept)
   by (Repeated done) is = inl (subst (λ (r : Ruling). IsKept a b (after_ruling s c r).0) is kept)
-  by Allowed is = inr (c, next, is, subst (λ (r : Ruling). IsKept a b (after_ruling s c r).0) is kept)
+  by Allowed is = inr (c, refl, is, subst (λ (r : Ruling). IsKept a b (after_ruling s c r).0) is kept)
+
+-- the call that met it
+abbrev halted_in : End → Option (ℕ × Request)
+halted_in (end.DiskFault halt) = Some (halt.session, halt.request)
+halted_in end.All = None
+halted_in end.NoMemory = None
 
 -- ---- by the finish
 
@@ -133,6 +144,13 @@ module _ {D : Type 0} (seen : D → Option (List ℕ)) (left right : D) where
       let right_is : b ≡ r = cc in
       ap₂ state_on left_is right_is
 
+  -- disks that nobody touched
+  untouched : (l r : List ℕ) (start : State) → seen left ≡ Some l → seen right ≡ Some r → state_on l r ≡ Ok start → StayFor seen l r start left right
+  untouched l r start told_l told_r is a b told_a told_b =
+      let left_is : a ≡ l = cc in
+      let right_is : b ≡ r = cc in
+      (ap₂ state_on left_is right_is ∙ is, λ kept. subst (λ (x : List ℕ). IsKept x b start) (sym left_is) (subst (λ (x : List ℕ). IsKept l x start) (sym right_is) kept))
+
 module _ {K D : Type 0} (held : K → Option (List ℕ)) (seen : D → Option (List ℕ)) where
   -- the input was not read to its end
   pub serves_unread : (before unread : Option (List ℕ)) (out : K) (left right : D) (why_not : Stop) → Gathers (Err why_not) before unread
@@ -145,9 +163,10 @@ module _ {K D : Type 0} (held : K → Option (List ℕ)) (seen : D → Option (L
       read = gathers.read;
       fronts = nothing_front gathers.asked;
       sessions = λ k d within. absurd (omega arith);
+      halted = None;
       answers = refl;
       legal = λ l r start told_l told_r is. legal-empty start;
-      disks = λ l r start told_l told_r is a b told_a told_b. same_state seen left right l r a b told_l told_r told_a told_b ∙ is;
+      disks = λ l r start told_l told_r is. untouched seen left right l r start told_l told_r is;
       damaged = λ l r side damage told_l told_r is a b told_a told_b. same_state seen left right l r a b told_l told_r told_a told_b ∙ is;
     };
     written = refl;
@@ -163,12 +182,14 @@ module _ {K D : Type 0} (held : K → Option (List ℕ)) (seen : D → Option (L
   })
 
 module _ {D : Type 0} (seen : D → Option (List ℕ)) (faults : D → ℕ) (left right : D) where
-  unopened_holds : (asked : List (ℕ × Request)) (why_not : StoreWhy) (now_left now_right : D) → IsNotOpened seen faults left right (record { left = now_left; right = now_right; why = why_not })
+  unopened_holds : (why_not : StoreWhy) (now_left now_right : D) → IsNotOpened seen faults left right (record { left = now_left; right = now_right; why = why_not })
       → (l r : List ℕ) (start : State) → seen left ≡ Some l → seen right ≡ Some r → state_on l r ≡ Ok start
-      → HoldsAfter seen (finish.NotOpened why_not) asked [] l r start now_left now_right
-  unopened_holds asked why.DiskFault now_left now_right unopened l r start told_l told_r is = λ kept a b told_a told_b. unopened.reads l r a b start told_l told_r kept told_a told_b
-  unopened_holds asked (why.Damaged side damage) now_left now_right unopened l r start told_l told_r is = cc (unopened.is_why l r told_l told_r, is)
-  unopened_holds asked why.NoMemory now_left now_right unopened l r start told_l told_r is = λ a b told_a told_b. unopened.stays (λ e. cc) l r a b told_l told_r told_a told_b ∙ is
+      → HoldsAfter seen (finish.NotOpened why_not) None [] l r start now_left now_right
+  unopened_holds why.DiskFault now_left now_right unopened l r start told_l told_r is = λ kept a b told_a told_b. unopened.reads l r a b start told_l told_r kept told_a told_b
+  unopened_holds (why.Damaged side damage) now_left now_right unopened l r start told_l told_r is = cc (unopened.is_why l r told_l told_r, is)
+  unopened_holds why.NoMemory now_left now_right unopened l r start told_l told_r is = λ a b told_a told_b.
+      let stands : state_on a b ≡ Ok start = unopened.stays (λ e. cc) l r a b told_l told_r told_a told_b ∙ is in
+      (stands, λ kept. still_kept l r a b start stands (unopened.reads l r a b start told_l told_r kept told_a told_b))
 
   unopened_damaged : (why_not : StoreWhy) (now_left now_right : D) → IsNotOpened seen faults left right (record { left = now_left; right = now_right; why = why_not })
       → (l r : List ℕ) (side : Side) (damage : Damage) → seen left ≡ Some l → seen right ≡ Some r → state_on l r ≡ Err (side, damage)
@@ -201,9 +222,10 @@ module _ {K D : Type 0} (held : K → Option (List ℕ)) (seen : D → Option (L
       read = gathers.read;
       fronts = nothing_front gathers.asked;
       sessions = λ k d within. absurd (omega arith);
+      halted = None;
       answers = refl;
       legal = λ l r start told_l told_r is. legal-empty start;
-      disks = unopened_holds seen faults left right gathers.asked why_not now_left now_right unopened;
+      disks = unopened_holds seen faults left right why_not now_left now_right unopened;
       damaged = unopened_damaged seen faults left right why_not now_left now_right unopened;
     };
     written = refl;
@@ -218,26 +240,28 @@ module _ {D : Type 0} (seen : D → Option (List ℕ)) (faults : D → ℕ) (mom
   abbrev entries : List history.Entry
   entries = map recorded served.history
 
-  answers_by : (s : State) → ServesAt s → (how : Finish) → IsFinishOf served.end how → Answers how asked entries
+  answers_by : (s : State) → ServesAt s → (how : Finish) → IsFinishOf served.end how → Answers how (halted_in served.end) asked entries
   answers_by s serves how how_is =
-      by_finish (λ (h : Finish). Answers h asked entries) served.end how how_is
+      by_finish (λ (h : Finish). Answers h (halted_in served.end) asked entries) served.end how how_is
       (λ is. let whole = by_session (IsServedWhole entries) asked scripts are (serves.whole is) in (whole, whole))
       (λ is. subst (λ (list : List Script). LacksMemory list entries) are (serves.memory is))
-      (λ halt is. let next = (rw is at serves.disks).0 in (halt.request, next_asked asked scripts entries halt.request next.0 are next.1 next.3))
+      (λ halt is.
+      let next = (rw is at serves.disks).0 in
+      subst (λ (e : End). IsSomeAnd (halted_in e) (λ (call : ℕ × Request). IsNextOf entries call.1 (script_of asked call.0))) (sym is)
+      (next_asked asked scripts entries halt.request next.0 halt.session are next.1 next.2 next.3))
 
-  disks_by : (start : State) → ServesAt start → (how : Finish) → IsFinishOf served.end how → (l r : List ℕ) → HoldsAfter seen how asked entries l r start served.left served.right
+  disks_by : (start : State) → ServesAt start → (how : Finish) → IsFinishOf served.end how → (l r : List ℕ) → HoldsAfter seen how (halted_in served.end) entries l r start served.left served.right
   disks_by start serves how how_is l r =
-      by_finish (λ (h : Finish). HoldsAfter seen h asked entries l r start served.left served.right) served.end how how_is
+      by_finish (λ (h : Finish). HoldsAfter seen h (halted_in served.end) entries l r start served.left served.right) served.end how how_is
       (λ is. let stands = settled (rw is at serves.disks) in (stands, stands))
       (λ is. settled (rw is at serves.disks))
-      (λ halt is. fault halt (rw is at serves.disks)) where
-        settled : AreSettled seen moment left_at (state_after start entries) served.left served.right → (a b : List ℕ) → seen served.left ≡ Some a → seen served.right ≡ Some b → StandFor a b (state_after start entries)
-        settled both a b told_a told_b = (both.settled a b told_a told_b).stands
+      (λ halt is. subst (λ (e : End). HoldsAfter seen finish.DiskFault (halted_in e) entries l r start served.left served.right) (sym is) (fault halt (rw is at serves.disks))) where
+        settled : AreSettled seen moment left_at (state_after start entries) served.left served.right → (a b : List ℕ) → seen served.left ≡ Some a → seen served.right ≡ Some b → IsKept a b (state_after start entries)
+        settled both a b told_a told_b = settled_kept both.side a b (state_after start entries) (both.settled a b told_a told_b)
 
         fault : (halt : Halt) → LeavesDisks seen moment left_at scripts entries (state_after start entries) (end.DiskFault halt) served.left served.right
-            → HoldsAfter seen finish.DiskFault asked entries l r start served.left served.right
-        fault halt kept a b told_a told_b =
-            around asked entries (state_after start entries) halt.request a b (next_asked asked scripts entries halt.request kept.0.0 are kept.0.1 kept.0.3) (kept.1 a b told_a told_b).0
+            → HoldsAfter seen finish.DiskFault (Some (halt.session, halt.request)) entries l r start served.left served.right
+        fault halt kept a b told_a told_b = around (state_after start entries) halt.request a b (kept.1 a b told_a told_b).0
 
   -- a count rose exactly where a call met a fault
   pub cause_by : (left right : D) (s : State) → ServesAt s → OpensOn seen faults left right store → (how : Finish) → IsFinishOf served.end how
@@ -263,6 +287,7 @@ module _ {D : Type 0} (seen : D → Option (List ℕ)) (faults : D → ℕ) (mom
         sessions =
             All-map (λ (e : history.Entry). (1 ≤ e.session) × (e.session ≤ SESSIONS)) recorded served.history
             (λ k d within. let range = serves.sessions k d within in (range.0, omega (arith, range.1, ap length are)));
+        halted = halted_in served.end;
         answers = answers_by base serves how how_is;
         legal = λ l r start told_l told_r is. (serves_at start (stands_at l r start told_l told_r is)).legal;
         disks = λ l r start told_l told_r is. disks_by start (serves_at start (stands_at l r start told_l told_r is)) how how_is l r;

@@ -19,7 +19,8 @@ use Rattle.liq_book.specs.declared.items.Item.{Item}
 use Rattle.liq_book.specs.declared.items.Item.TheVariants as item
 use Rattle.liq_book.specs.Items.{calls_of, entries_of, faulted_in, session_of}
 use Rattle.liq_book.proofs.Chronicles.{faulted_behind, faulted_in-append, own_behind, same_session}
-use Rattle.liq_serving.specs.Serves.{AreNumbered, IsNextOf, IsServedFrom, IsServedWhole, answered_of}
+use Rattle.liq_serving.specs.Answered.{IsNextOf, IsServedFrom, IsServedWhole, answered_of}
+use Rattle.liq_serving.specs.Serves.{AreNumbered}
 
 -- ---- lists
 

@@ -1,5 +1,6 @@
 -- What serving an input comes to.
 use Rattle.std.specs.Prelude.{ℕ, ◌≡◌, ◌≤◌, ◌⊎◌, List, [], length, All, Option, Some, Result, Ok, Err}
+use Rattle.std.specs.Option.{IsSomeAnd}
 use Rattle.liq_outside.specs.Faults.{Rose}
 use Rattle.liq_types.specs.declared.amounts.TheConstants.{LINES_MOST}
 use Rattle.liq_types.specs.declared.requests.Command.{Command}
@@ -11,7 +12,7 @@ use Rattle.liq_rules.specs.Step.{Allowed, after, ruling}
 use Rattle.liq_journal.specs.declared.damage.Damage.{Damage}
 use Rattle.liq_pairs.specs.declared.side.Side.{Side}
 use Rattle.liq_pairs.specs.Kept.{IsKept}
-use Rattle.liq_pairs.specs.Pair.{StandFor, state_on}
+use Rattle.liq_pairs.specs.Pair.{state_on}
 use Rattle.liq_pairs.specs.Unfinished.{IsRecovered}
 use Rattle.liq_store.specs.declared.answers.StoreWhy.TheVariants as why
 use Rattle.liq_store.specs.Causes.{CausesWhy, Faults, OneRose}
@@ -22,13 +23,12 @@ use Rattle.liq_scripts.specs.declared.stops.Stop.TheVariants as stop
 use Rattle.liq_scripts.specs.Asked.{script_of, scripts_of}
 use Rattle.liq_scripts.specs.Gathering.{EndsAfter}
 use Rattle.liq_scripts.specs.Output.{served}
-use Rattle.liq_scripts.specs.Sessions.{sessions}
 use Rattle.liq_serving.specs.declared.input.Finish.{Finish}
 use Rattle.liq_serving.specs.declared.input.Finish.TheVariants as finish
 use Rattle.liq_serving.specs.declared.input.Finished.{Finished}
 use Rattle.liq_serving.specs.declared.served.End.{End}
 use Rattle.liq_serving.specs.declared.served.End.TheVariants as end
-use Rattle.liq_serving.specs.Serves.{IsNextOf, IsServedFrom, IsServedWhole, LacksMemory}
+use Rattle.liq_serving.specs.Answered.{AreServedFrom, AreServedWhole, IsNextOf, LacksMemory}
 
 -- ---- what was read
 
@@ -39,25 +39,15 @@ reading_of _ = Ok tt
 
 -- ---- what was answered
 
--- the first requests of each session, in order
-abbrev pub AreServedFrom : List (ℕ × Request) → List Entry → Type 0
-AreServedFrom asked history = All (λ session. IsServedFrom history (script_of asked session)) sessions
-
--- all requests of each session
-abbrev pub AreServedWhole : List (ℕ × Request) → List Entry → Type 0
-AreServedWhole asked history = All (λ session. IsServedWhole history (script_of asked session)) sessions
-
--- this one is the next of some session
-abbrev pub IsNextAsked : List (ℕ × Request) → List Entry → Request → Type 0
-IsNextAsked asked history request = (session : ℕ) × IsNextOf history request (script_of asked session)
-
--- All where the output was begun, and none where no store was opened. Where a call met a disk's fault, one is not answered.
-abbrev pub Answers : Finish → List (ℕ × Request) → List Entry → Type 0
-Answers finish.All asked history = AreServedWhole asked history
-Answers finish.WriteFault asked history = AreServedWhole asked history
-Answers finish.NoMemory asked history = LacksMemory (scripts_of asked) history
-Answers finish.DiskFault asked history = (request : Request) × IsNextAsked asked history request
-Answers _ asked history = history ≡ []
+-- All where the output was begun, and none where no store was opened. Where a call met a disk's fault, it is that of
+-- the next request of its session.
+abbrev pub Answers : Finish → Option (ℕ × Request) → List (ℕ × Request) → List Entry → Type 0
+Answers finish.All halted asked history = AreServedWhole asked history
+Answers finish.WriteFault halted asked history = AreServedWhole asked history
+Answers finish.NoMemory halted asked history = LacksMemory (scripts_of asked) history
+Answers finish.DiskFault halted asked history =
+    IsSomeAnd halted (λ (call : ℕ × Request). IsNextOf history call.1 (script_of asked call.0))
+Answers _ halted asked history = history ≡ []
 
 -- ---- what was written
 
@@ -69,52 +59,72 @@ Written held _ history before now = now ≡ before
 
 -- ---- what the disks hold
 
+-- Where both disks tell their bytes, these stand for the state; and they are kept for it, if l and r were.
+abbrev pub StayFor : {D : Type 0} → (D → Option (List ℕ)) → List ℕ → List ℕ → State → D → D → Type 0
+StayFor seen l r s left right =
+    (a b : List ℕ) → seen left ≡ Some a → seen right ≡ Some b → (state_on a b ≡ Ok s) × (IsKept l r s → IsKept a b s)
+
 module _ {D : Type 0} (seen : D → Option (List ℕ)) where
-  -- They stand for the state after the history. After a call's fault they are kept for it, or for it after one command more that is accepted there,
-  -- the next of some session. Where no store was opened they stand for what they stood for, or are kept for it as an opening leaves them.
-  abbrev pub HoldsAfter : Finish → List (ℕ × Request) → List Entry → List ℕ → List ℕ → State → D → D → Type 0
-  HoldsAfter finish.DiskFault asked history l r start left right =
+  -- They are kept for the state after the history. After a call's fault they are kept for it, or for it after that
+  -- call's command, if it is accepted there. Where no store was opened they stand for what they stood for, and stay
+  -- kept; after a disk's fault they are, if they were kept, as an opening leaves them.
+  abbrev pub HoldsAfter :
+      Finish → Option (ℕ × Request) → List Entry → List ℕ → List ℕ → State → D → D → Type 0
+  HoldsAfter finish.DiskFault halted history l r start left right =
       let s = state_after start history in
       (a b : List ℕ) → seen left ≡ Some a → seen right ≡ Some b
-      → IsKept a b s ⊎ ((c : Command) × IsNextAsked asked history (Do c) × (ruling s c ≡ Allowed) × IsKept a b (after s c))
-  HoldsAfter (finish.NotOpened why.DiskFault) asked history l r start left right =
+      → IsKept a b s
+      ⊎ ((c : Command) × IsSomeAnd halted (λ (call : ℕ × Request). call.1 ≡ Do c) × (ruling s c ≡ Allowed)
+      × IsKept a b (after s c))
+  HoldsAfter (finish.NotOpened why.DiskFault) halted history l r start left right =
       IsKept l r start → (a b : List ℕ) → seen left ≡ Some a → seen right ≡ Some b → IsRecovered l r start a b
-  HoldsAfter (finish.NotOpened (why.Damaged side damage)) asked history l r start left right = ⊥
-  HoldsAfter (finish.NotOpened why.NoMemory) asked history l r start left right =
-      (a b : List ℕ) → seen left ≡ Some a → seen right ≡ Some b → state_on a b ≡ Ok start
-  HoldsAfter (finish.NotRead why_not) asked history l r start left right =
-      (a b : List ℕ) → seen left ≡ Some a → seen right ≡ Some b → state_on a b ≡ Ok start
-  HoldsAfter _ asked history l r start left right =
-      (a b : List ℕ) → seen left ≡ Some a → seen right ≡ Some b → StandFor a b (state_after start history)
+  HoldsAfter (finish.NotOpened (why.Damaged side damage)) halted history l r start left right = ⊥
+  HoldsAfter (finish.NotOpened why.NoMemory) halted history l r start left right = StayFor seen l r start left right
+  HoldsAfter (finish.NotRead why_not) halted history l r start left right = StayFor seen l r start left right
+  HoldsAfter _ halted history l r start left right =
+      (a b : List ℕ) → seen left ≡ Some a → seen right ≡ Some b → IsKept a b (state_after start history)
 
   -- the damage stays
   abbrev pub StaysDamaged : Side → Damage → D → D → Type 0
-  StaysDamaged side damage left right = (a b : List ℕ) → seen left ≡ Some a → seen right ≡ Some b → state_on a b ≡ Err (side, damage)
+  StaysDamaged side damage left right =
+      (a b : List ℕ) → seen left ≡ Some a → seen right ≡ Some b → state_on a b ≡ Err (side, damage)
 
-  -- Over damaged disks nothing is answered. That damage is told, unless reading stopped, or memory or a disk failed before it was found.
+  -- Over damaged disks nothing is answered. That damage is told, unless reading stopped, or memory or a disk failed
+  -- before it was found.
   abbrev pub EndsDamaged : Finish → Side → Damage → D → D → Type 0
   EndsDamaged (finish.NotRead why_not) side damage left right = StaysDamaged side damage left right
   EndsDamaged (finish.NotOpened why.DiskFault) side damage left right = Unit {0}
   EndsDamaged (finish.NotOpened why.NoMemory) side damage left right = StaysDamaged side damage left right
-  EndsDamaged (finish.NotOpened (why.Damaged which found)) side damage left right = (which ≡ side) × (found ≡ damage) × StaysDamaged side damage left right
+  EndsDamaged (finish.NotOpened (why.Damaged which found)) side damage left right =
+      (which ≡ side) × (found ≡ damage) × StaysDamaged side damage left right
   EndsDamaged _ side damage left right = ⊥
 
--- What the lines asked was answered along this history, as far as the finish says. It is what they asked where the source told its
--- bytes, and the history is legal from the state for which the disks stood, where they told theirs.
-pub record AnswersInput {D : Type 0} (seen : D → Option (List ℕ)) (before unread : Option (List ℕ)) (left right : D) (finished : Finished D) (asked : List (ℕ × Request)) (history : List Entry) : Type 0 where
+-- What the lines asked was answered along this history, as far as the finish says. It is what they asked where the
+-- source told its bytes, and the history is legal from the state for which the disks stood, where they told theirs.
+pub record AnswersInput
+    {D : Type 0} (seen : D → Option (List ℕ)) (before unread : Option (List ℕ)) (left right : D)
+    (finished : Finished D) (asked : List (ℕ × Request)) (history : List Entry) : Type 0 where
   pub few : length asked ≤ LINES_MOST
   pub read : (bytes : List ℕ) → before ≡ Some bytes → EndsAfter (reading_of finished.finish) bytes unread asked
   pub fronts : AreServedFrom asked history
+  -- the session whose call met a disk's fault, and what it asked
+  pub halted : Option (ℕ × Request)
   pub sessions : All (λ (e : Entry). (1 ≤ e.session) × (e.session ≤ SESSIONS)) history
-  pub answers : Answers finished.finish asked history
-  pub legal : (l r : List ℕ) (start : State) → seen left ≡ Some l → seen right ≡ Some r → state_on l r ≡ Ok start → IsLegal start history
+  pub answers : Answers finished.finish halted asked history
+  pub legal :
+      (l r : List ℕ) (start : State) → seen left ≡ Some l → seen right ≡ Some r → state_on l r ≡ Ok start
+      → IsLegal start history
   pub disks : (l r : List ℕ) (start : State) → seen left ≡ Some l → seen right ≡ Some r → state_on l r ≡ Ok start
-      → HoldsAfter seen finished.finish asked history l r start finished.left finished.right
-  pub damaged : (l r : List ℕ) (side : Side) (damage : Damage) → seen left ≡ Some l → seen right ≡ Some r → state_on l r ≡ Err (side, damage)
+      → HoldsAfter seen finished.finish halted history l r start finished.left finished.right
+  pub damaged :
+      (l r : List ℕ) (side : Side) (damage : Damage) → seen left ≡ Some l → seen right ≡ Some r
+      → state_on l r ≡ Err (side, damage)
       → EndsDamaged seen finished.finish side damage finished.left finished.right
 
 -- it was, and the history was written, as far as the finish says
-pub record ServesInput {K D : Type 0} (held : K → Option (List ℕ)) (seen : D → Option (List ℕ)) (before unread : Option (List ℕ)) (out_before out_now : K) (left right : D) (finished : Finished D) : Type 0 where
+pub record ServesInput
+    {K D : Type 0} (held : K → Option (List ℕ)) (seen : D → Option (List ℕ)) (before unread : Option (List ℕ))
+    (out_before out_now : K) (left right : D) (finished : Finished D) : Type 0 where
   pub asked : List (ℕ × Request)
   pub history : List Entry
   pub answered : AnswersInput seen before unread left right finished asked history

@@ -26,12 +26,19 @@ module _ {D : Type 0} (seen : D → Option (List ℕ)) (moment : D → ℕ) (lef
   KeepsBehind (Some halt) s left right = AreKeptAround seen moment left_at s halt.request left right
 
 -- The seats are those with which it was closed.
-pub record Leaves {D O : Type 0} {o : Ghosts O} (seen : D → Option (List ℕ)) (faults : D → ℕ) (moment : D → ℕ) (left_at : D → ℕ → List ℕ → Type 0) (base : State) (left_origin right_origin : DiskAt) (most : ℕ) (all : Bool) (seats : List (BookSeat O o)) (served : Served D) : Type 0 where
+pub record Leaves
+    {D O : Type 0} {o : Ghosts O} (seen : D → Option (List ℕ)) (faults : D → ℕ) (moment : D → ℕ)
+    (left_at : D → ℕ → List ℕ → Type 0) (base : State) (left_origin right_origin : DiskAt) (most : ℕ) (all : Bool)
+    (seats : List (BookSeat O o)) (served : Served D) : Type 0 where
   pub legal : IsLegal base (map recorded served.history)
   pub end : served.end ≡ end_of (halt_of served.end) all
   pub within : Within session_of most (chronicle_of served)
   pub back : All (λ seat. Behind session_of (chronicle_of served) (session_at seat ∷ []) (items_seen seat)) seats
-  pub disks : KeepsBehind seen moment left_at (halt_of served.end) (state_after base (map recorded served.history)) served.left served.right
-  pub cause : CausesHalt (halt_of served.end) (faults_at left_origin right_origin) (record { left = faults served.left; right = faults served.right })
+  pub disks :
+      KeepsBehind seen moment left_at (halt_of served.end) (state_after base (map recorded served.history)) served.left
+      served.right
+  pub cause :
+      CausesHalt (halt_of served.end) (faults_at left_origin right_origin)
+      (record { left = faults served.left; right = faults served.right })
   pub left_time : GoesOnFrom left_origin moment left_at served.left
   pub right_time : GoesOnFrom right_origin moment left_at served.right

@@ -1,3 +1,5 @@
+-- A reader of the top call's clause needs Answered. The others are for the contracts below it.
+pub mod Answered
 pub mod Ends
 pub mod Input
 pub mod Leaves

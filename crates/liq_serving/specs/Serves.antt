@@ -1,45 +1,22 @@
 -- What serving scripts leaves.
-use Rattle.std.specs.Prelude.{ℕ, ◌≡◌, ◌≤◌, ◌⊎◌, ◌++◌, List, [], ◌∷◌, map, length, slice_index_or, All, Contains, ◌<◌, ◌+◌, Option, Some}
+use Rattle.std.specs.Prelude.{ℕ, ◌≡◌, ◌≤◌, List, map, length, slice_index_or, All, Contains, ◌<◌, ◌+◌, Option, Some}
 use Rattle.liq_outside.specs.Disk.{LeftNow}
 use Rattle.liq_types.specs.declared.requests.Request.{Request}
 use Rattle.liq_types.specs.State.{State}
 use Rattle.liq_rules.specs.History as history
-use Rattle.liq_rules.specs.History.{IsLegal, own_entries, requests_of, state_after}
+use Rattle.liq_rules.specs.History.{IsLegal, state_after}
 use Rattle.liq_pairs.specs.declared.side.Side.{Side}
 use Rattle.liq_pairs.specs.Kept.{IsSettledFor}
 use Rattle.liq_store.specs.Keeping.{IsAtRest, IsKeptAround}
 use Rattle.liq_sessions.specs.declared.script.Script.{Script}
-use Rattle.liq_book.specs.declared.items.TheConstants.{ENTRIES_MOST}
 use Rattle.liq_book.specs.Booked.{CausesHalt}
 use Rattle.liq_rules.specs.Recorded.{recorded}
 use Rattle.liq_book.specs.Origin.{DiskAt, GoesOnFrom, faults_at}
 use Rattle.liq_serving.specs.declared.served.End.{End}
 use Rattle.liq_serving.specs.declared.served.End.TheVariants as end
 use Rattle.liq_serving.specs.declared.served.Served.{Served}
+use Rattle.liq_serving.specs.Answered.{IsNextOf, IsServedFrom, IsServedWhole, LacksMemory}
 use Rattle.liq_serving.specs.Ends.{halt_of}
-
--- ---- scripts along a history
-
--- the requests of a session that got replies, in order
-abbrev pub answered_of : ℕ → List history.Entry → List Request
-answered_of session entries = requests_of (own_entries session entries)
-
--- they are the first ones of its script
-abbrev pub IsServedFrom : List history.Entry → Script → Type 0
-IsServedFrom entries script = (rest : List Request) × (script.requests ≡ answered_of script.session entries ++ rest)
-
--- they are all of them
-abbrev pub IsServedWhole : List history.Entry → Script → Type 0
-IsServedWhole entries script = script.requests ≡ answered_of script.session entries
-
--- this one is the next
-abbrev pub IsNextOf : List history.Entry → Request → Script → Type 0
-IsNextOf entries request script = (later : List Request) × (script.requests ≡ answered_of script.session entries ++ request ∷ later)
-
--- Memory is wanted where nothing was answered at all, or where a script has a request without a reply, and the book had room for it.
-abbrev pub LacksMemory : List Script → List history.Entry → Type 0
-LacksMemory scripts entries =
-    (entries ≡ []) ⊎ ((length entries < ENTRIES_MOST) × ((script : Script) × Contains scripts script × (IsServedWhole entries script → ⊥)))
 
 -- scripts of the sessions from 1 on
 abbrev pub AreNumbered : List Script → Type 0
@@ -55,35 +32,44 @@ module _ {D : Type 0} (seen : D → Option (List ℕ)) (moment : D → ℕ) (lef
     pub side : Side
     pub settled : (l r : List ℕ) → seen left ≡ Some l → seen right ≡ Some r → IsSettledFor side l r s
 
-  -- What both disks tell, and all that a crash may now leave of the one beside all of the other, is kept for the state or for the one
-  -- after this request.
+  -- What both disks tell, and all that a crash may now leave of the one beside all of the other, is kept for the state
+  -- or for the one after this request.
   abbrev pub AreKeptAround : State → Request → D → D → Type 0
   AreKeptAround s request left right =
       (l r : List ℕ) → seen left ≡ Some l → seen right ≡ Some r
-      → IsKeptAround s request l r × ((a b : List ℕ) → LeftNow moment left_at left a → LeftNow moment left_at right b → IsKeptAround s request a b)
+      → IsKeptAround s request l r
+      × ((a b : List ℕ) → LeftNow moment left_at left a → LeftNow moment left_at right b → IsKeptAround s request a b)
 
   -- Settled; or, after a fault, kept with one request more, which is the next one of the session whose call met it.
   abbrev pub LeavesDisks : List Script → List history.Entry → State → End → D → D → Type 0
   LeavesDisks scripts entries s end.All left right = AreSettled s left right
   LeavesDisks scripts entries s end.NoMemory left right = AreSettled s left right
   LeavesDisks scripts entries s (end.DiskFault halt) left right =
-      ((script : Script) × Contains scripts script × (script.session ≡ halt.session) × IsNextOf entries halt.request script)
+      ((script : Script) × Contains scripts script × (script.session ≡ halt.session)
+      × IsNextOf entries halt.request script)
       × AreKeptAround s halt.request left right
 
--- The history is legal from the state with which the service began. Each session's entries in it are the first requests of its script,
--- in order, and all of them where the service ended with all; no other session is in it. It ended so, or by a fault, unless memory was
--- wanted.
-pub record Serves {D : Type 0} (seen : D → Option (List ℕ)) (faults : D → ℕ) (moment : D → ℕ) (left_at : D → ℕ → List ℕ → Type 0) (base : State) (left_origin right_origin : DiskAt) (scripts : List Script) (served : Served D) : Type 0 where
+-- The history is legal from the state with which the service began. Each session's entries in it are the first requests
+-- of its script, in order, and all of them where the service ended with all; no other session is in it. It ended so, or
+-- by a fault, unless memory was wanted.
+pub record Serves
+    {D : Type 0} (seen : D → Option (List ℕ)) (faults : D → ℕ) (moment : D → ℕ) (left_at : D → ℕ → List ℕ → Type 0)
+    (base : State) (left_origin right_origin : DiskAt) (scripts : List Script) (served : Served D) : Type 0 where
   pub legal : IsLegal base (map recorded served.history)
   pub fronts : All (IsServedFrom (map recorded served.history)) scripts
   pub whole : served.end ≡ end.All → All (IsServedWhole (map recorded served.history)) scripts
   pub memory : served.end ≡ end.NoMemory → LacksMemory scripts (map recorded served.history)
   pub sessions : All (λ e. (1 ≤ e.session) × (e.session ≤ length scripts)) served.history
-  pub disks : LeavesDisks seen moment left_at scripts (map recorded served.history) (state_after base (map recorded served.history)) served.end served.left served.right
-  pub cause : CausesHalt (halt_of served.end) (faults_at left_origin right_origin) (record { left = faults served.left; right = faults served.right })
+  pub disks :
+      LeavesDisks seen moment left_at scripts (map recorded served.history)
+      (state_after base (map recorded served.history)) served.end served.left served.right
+  pub cause :
+      CausesHalt (halt_of served.end) (faults_at left_origin right_origin)
+      (record { left = faults served.left; right = faults served.right })
   pub left_time : GoesOnFrom left_origin moment left_at served.left
   pub right_time : GoesOnFrom right_origin moment left_at served.right
 
 -- a disk as it is
 abbrev pub disk_at : {D : Type 0} → (D → Option (List ℕ)) → (D → ℕ) → (D → ℕ) → (D → ℕ → List ℕ → Type 0) → D → DiskAt
-disk_at seen faults moment left_at disk = record { seen = seen disk; faults = faults disk; moment = moment disk; left_at = left_at disk }
+disk_at seen faults moment left_at disk =
+    record { seen = seen disk; faults = faults disk; moment = moment disk; left_at = left_at disk }

@@ -7,5 +7,6 @@ pub mod Listing
 pub mod Looking
 pub mod OneDisk
 pub mod Opening
+pub mod Recovered
 pub mod Replaying
 pub mod Steps

@@ -12,15 +12,15 @@ use Rattle.liq_ends.proofs.Opened.{damaged_halts}
 use Rattle.liq_ends.proofs.Shown.{of_halt}
 
 -- over damaged disks it wrote nothing but its last line
-pub damaged_told : {D K : Type 0} (seen : D → Option (List ℕ)) (faults : K → ℕ) (held : K → Option (List ℕ)) (out middle after : K) (side : Side) (damage : Damage) (l r : List ℕ) (end : Result (Unit {0}) Halt) (left right : D) → middle ≡ out → EndsDamaged seen side damage l r end left right
+pub damaged_told : {D K : Type 0} (seen : D → Option (List ℕ)) (faults : K → ℕ) (held : K → Option (List ℕ)) (out middle after : K) (side : Side) (damage : Damage) (end : Result (Unit {0}) Halt) (left right : D) → middle ≡ out → EndsDamaged seen side damage end left right
     → IfErr end (λ halt. Adds [] (last halt) (Rose (faults middle) (faults after)) (held middle) (held after))
-    → (halt : Halt) × (end ≡ Err halt) × EndsDamaged seen side damage l r (Err halt) left right × Adds [] (last halt) (Rose (faults out) (faults after)) (held out) (held after)
-damaged_told seen faults held out middle after side damage l r end left right same ends wrote =
-    let halts = damaged_halts seen side damage l r end left right ends in
+    → (halt : Halt) × (end ≡ Err halt) × EndsDamaged seen side damage (Err halt) left right × Adds [] (last halt) (Rose (faults out) (faults after)) (held out) (held after)
+damaged_told seen faults held out middle after side damage end left right same ends wrote =
+    let halts = damaged_halts seen side damage end left right ends in
     let halt = halts.0 in (
       halt,
       halts.1,
-      subst (λ (e : Result (Unit {0}) Halt). EndsDamaged seen side damage l r e left right) halts.1 ends,
+      subst (λ (e : Result (Unit {0}) Halt). EndsDamaged seen side damage e left right) halts.1 ends,
       subst (λ o. Adds [] (last halt) (Rose (faults o) (faults after)) (held o) (held after)) same
           (of_halt (λ h. Adds [] (last h) (Rose (faults middle) (faults after)) (held middle) (held after)) end halt halts.1 wrote),
     )

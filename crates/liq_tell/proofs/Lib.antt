@@ -1,3 +1,4 @@
 pub mod Audited
 mod DamagedTold
 mod Standing
+mod Telling

@@ -1,25 +1,19 @@
 -- What is told of two disks, and how they stand then.
-use Rattle.std.proofs.Common.{◌≡◌, ℕ, List, [], Option, Some, None, Result, Ok, Err, refl, ap, subst, ◌∙◌, inl, inr}
-use Rattle.std.specs.Prelude.{◌⊎◌}
-use Rattle.liq_types.specs.declared.requests.Command.{Command}
+use Rattle.std.proofs.Common.{◌≡◌, ℕ, List, Option, Some, Result, Ok, Err, refl, ap, ◌∙◌, inl}
 use Rattle.liq_types.specs.State.{State}
-use Rattle.liq_core.specs.Core.{StandsFor}
-use Rattle.liq_rules.specs.Step.{Allowed, after, ruling}
 use Rattle.liq_journal.specs.declared.damage.Damage.{Damage}
 use Rattle.liq_pairs.specs.declared.side.Side.{Side}
-use Rattle.liq_pairs.specs.Pair.{StandFor, state_on}
-use Rattle.liq_pairs.specs.Unfinished.{IsRecovered}
+use Rattle.liq_pairs.specs.Pair.{state_on}
 use Rattle.liq_store.specs.declared.answers.StoreWhy.{StoreWhy}
 use Rattle.liq_store.specs.declared.answers.StoreWhy.TheVariants as why
-use Rattle.liq_store.specs.Keeping.{IsInOrder, IsInOrderWith}
 use Rattle.liq_store.specs.Opening.{IsNotOpened}
-use Rattle.liq_store.specs.Stored.{Stored}
 use Rattle.liq_review.specs.declared.fault.ReviewFault.{ReviewFault}
 use Rattle.liq_ends.specs.declared.halts.Halt.{Halt}
 use Rattle.liq_ends.specs.declared.halts.Halt.TheVariants.{BadLine, ReadFault, WriteFault, DiskFault, Damaged, NoMemory, Limit}
-use Rattle.liq_ends.specs.Disks.{DisksHold, DisksStand, EndsDamaged, IsFurther, halt_of}
-use Rattle.liq_ends.specs.Telling.{WritesText}
-use Rattle.liq_ends.proofs.Opened.{still_stand, unfinished_is_allowed}
+use Rattle.liq_ends.specs.Disks.{DisksStay, EndsDamaged, StandStill}
+use Rattle.liq_tell.specs.Writing.{WritesText}
+use Rattle.liq_ends.specs.Unopened.{halt_of}
+use Rattle.liq_ends.proofs.Opened.{unopened}
 
 -- two disks have one first damage
 first_damage : (found : Result State (Side × Damage)) (a b : Side × Damage) → found ≡ Err a → found ≡ Err b → a ≡ b
@@ -28,38 +22,28 @@ first_damage found a b one other = cc
 module _ {D : Type 0} (seen : D → Option (List ℕ)) (faults : D → ℕ) where
   -- no store was opened
   pub not_told : (told : Result (List ℕ) ReviewFault) (why_is : StoreWhy) (fl fr left right : D) → IsNotOpened seen faults left right (record { left = fl; right = fr; why = why_is }) → (l r : List ℕ) (held : Option (List ℕ)) → seen left ≡ Some l → seen right ≡ Some r → (start : State) → state_on l r ≡ Ok start
-      → WritesText told (Err (halt_of why_is)) held held × DisksHold seen (Err (halt_of why_is)) [] l r start fl fr []
-  not_told told why.DiskFault fl fr left right h l r held told_l told_r start is =
-      (refl, λ kept a b told_a told_b. by a b (h.reads l r a b start told_l told_r kept told_a told_b)) where
-        by : (a b : List ℕ) → IsRecovered l r start a b → StandFor a b start ⊎ ((c : Command) × IsFurther [] [] l r start c × (ruling start c ≡ Allowed) × StandFor a b (after start c))
-        by a b (inl stays) = inl stays.stands
-        by a b (inr more) = inr (more.0, inr (refl, more.1), unfinished_is_allowed l r start more.0 more.1, more.2.stands)
+      → WritesText told (Err (halt_of why_is)) held held × DisksStay seen (Err (halt_of why_is)) l r start fl fr
+  not_told told why.DiskFault fl fr left right h l r held told_l told_r start is = (refl, λ kept a b told_a told_b. h.reads l r a b start told_l told_r kept told_a told_b)
   not_told told (why.Damaged side damage) fl fr left right h l r held told_l told_r start is = absurd (cc (h.is_why l r told_l told_r, is))
   not_told told why.NoMemory fl fr left right h l r held told_l told_r start is =
-      (refl, λ a b told_a told_b. still_stand l r a b start (h.stays (λ e. cc) l r a b told_l told_r told_a told_b) is)
+      (refl, unopened seen faults left right (record { left = fl; right = fr; why = why.NoMemory }) h (λ e. cc) l r start told_l told_r is)
 
   -- for the disks are damaged
   pub unopened_damaged : (why_is : StoreWhy) (fl fr left right : D) → IsNotOpened seen faults left right (record { left = fl; right = fr; why = why_is }) → (l r : List ℕ) → seen left ≡ Some l → seen right ≡ Some r → (side : Side) (damage : Damage) → state_on l r ≡ Err (side, damage)
-      → EndsDamaged seen side damage l r (Err (halt_of why_is)) fl fr
+      → EndsDamaged seen side damage (Err (halt_of why_is)) fl fr
   unopened_damaged why.DiskFault fl fr left right h l r told_l told_r side damage is = tt
   unopened_damaged (why.Damaged which found) fl fr left right h l r told_l told_r side damage is =
       let same = first_damage (state_on l r) (which, found) (side, damage) (h.is_why l r told_l told_r) is in
       (ap (λ (d : Side × Damage). d.0) same, ap (λ (d : Side × Damage). d.1.index) same, λ a b told_a told_b. h.stays (λ e. cc) l r a b told_l told_r told_a told_b ∙ is)
   unopened_damaged why.NoMemory fl fr left right h l r told_l told_r side damage is = λ a b told_a told_b. h.stays (λ e. cc) l r a b told_l told_r told_a told_b ∙ is
 
-  -- a store that nothing was asked of
-  pub left_standing : (moment : D → ℕ) (left_at : D → ℕ → List ℕ → Type 0) (store : Stored D) (start : State) → store.stopped ≡ None → IsInOrder seen moment left_at store → StandsFor store.core start → DisksStand seen store.left store.right start
-  left_standing moment left_at store start going order stands l r told_l told_r =
-      let now = subst (λ (stopped : Option ℕ). IsInOrderWith seen moment left_at stopped store) going order in
-      (now.settled l r told_l told_r start stands).stands
-
 -- a word that asks nothing of the disks leaves them so
-pub disks_hold : {D : Type 0} (seen : D → Option (List ℕ)) (end : Result (Unit {0}) Halt) (l r : List ℕ) (start : State) (left right : D) → DisksStand seen left right start → DisksHold seen end [] l r start left right []
-disks_hold seen (Ok done) l r start left right stand = stand
-disks_hold seen (Err (BadLine n)) l r start left right stand = stand
-disks_hold seen (Err ReadFault) l r start left right stand = stand
-disks_hold seen (Err WriteFault) l r start left right stand = stand
-disks_hold seen (Err DiskFault) l r start left right stand = λ kept a b told_a told_b. inl (stand a b told_a told_b)
-disks_hold seen (Err (Damaged side number)) l r start left right stand = stand
-disks_hold seen (Err NoMemory) l r start left right stand = stand
-disks_hold seen (Err (Limit number)) l r start left right stand = stand
+pub disks_stay : {D : Type 0} (seen : D → Option (List ℕ)) (end : Result (Unit {0}) Halt) (l r : List ℕ) (start : State) (left right : D) → StandStill seen l r start left right → DisksStay seen end l r start left right
+disks_stay seen (Ok done) l r start left right stand = stand
+disks_stay seen (Err (BadLine n)) l r start left right stand = stand
+disks_stay seen (Err ReadFault) l r start left right stand = stand
+disks_stay seen (Err WriteFault) l r start left right stand = stand
+disks_stay seen (Err DiskFault) l r start left right stand = λ kept a b told_a told_b. inl ((stand a b told_a told_b).1 kept)
+disks_stay seen (Err (Damaged side number)) l r start left right stand = stand
+disks_stay seen (Err NoMemory) l r start left right stand = stand
+disks_stay seen (Err (Limit number)) l r start left right stand = stand

@@ -1,2 +1,5 @@
+-- A reader of the top call's clause needs Audit and State. Reviewing and Writing are for the contracts below it.
 pub mod Audit
+pub mod Reviewing
 pub mod State
+pub mod Writing

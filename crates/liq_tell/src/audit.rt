@@ -1,6 +1,6 @@
 //! The word `audit`: what each depositor has beside its exact share, told of the commands on two disks.
 
-ghost use Rattle.std.specs.Prelude.{◌≡◌, ◌≢◌, ◌≤◌, ◌⊎◌, [], All, List, ℕ, Some, None, Ok, Err, IfOk, IfErr, IsSome, IsTrue};
+ghost use Rattle.std.specs.Prelude.{◌≡◌, ◌≢◌, ◌≤◌, ◌⊎◌, [], ◌∷◌, All, Contains, List, ℕ, Some, None, Ok, Err, IfOk, IfErr, IsSome, IsTrue};
 ghost use Rattle.liq_types.specs.declared.requests.Command.{Command};
 ghost use Rattle.liq_types.specs.declared.requests.Request.TheVariants.{Do};
 ghost use Rattle.liq_outside.specs.Faults.{Rose};
@@ -14,13 +14,16 @@ ghost use Rattle.liq_pairs.specs.Replay.{replay};
 ghost use Rattle.liq_pairs.specs.Sides.{has_odd};
 ghost use Rattle.liq_store.specs.Stored.{taken_disk};
 ghost use Rattle.liq_review.specs.Reviewed.{reviewed};
-ghost use Rattle.liq_tell.specs.Audit.{AuditHolds, halt_on};
+ghost use Rattle.liq_tell.specs.Audit.{IsAuditOf};
+ghost use Rattle.liq_tell.specs.Reviewing.{halt_on};
 ghost use Rattle.liq_store.specs.Causes.{counts_of};
 ghost use Rattle.liq_ends.specs.Causes.{DiskCause, LastCause, WriteCause};
-ghost use Rattle.liq_ends.specs.Disks.{DisksHold, EndsDamaged};
+ghost use Rattle.liq_ends.specs.Disks.{DisksStay, EndsDamaged};
 ghost use Rattle.liq_ends.specs.Output.{last};
 ghost use Rattle.liq_ends.specs.Stops.{Adds};
-ghost use Rattle.liq_ends.specs.Telling.{TellsText, WritesText};
+ghost use Rattle.liq_ends.specs.Telling.{TellsAll};
+ghost use Rattle.liq_ends.specs.Statuses.{status_of};
+ghost use Rattle.liq_tell.specs.Writing.{AuditHolds, WritesText};
 
 use liq_ends::{Ending, Halt, tell_last, unopened, write_text};
 use liq_outside::{Disk, Sink};
@@ -36,10 +39,10 @@ pub fn tell_audit<K: Sink, D: Disk>(alloc: Global, out: &mut K, left: D, right: 
     // Of the commands that lead to the state for which the disks stand the review is told, and they stand for that state then.
     ensures told { (l r : List ℕ) → D.seen left ≡ Some l → D.seen right ≡ Some r → (start : State) → state_on l r ≡ Ok start
         → WritesText (reviewed (commands_on l r)) result.end (K.held out.old) (K.held out.new) × AuditHolds result.end start (commands_on l r)
-        × DisksHold D.seen result.end [] l r start result.left result.right [] }
+        × DisksStay D.seen result.end l r start result.left result.right }
     // Of damaged disks nothing is told.
     ensures damaged { (l r : List ℕ) → D.seen left ≡ Some l → D.seen right ≡ Some r → (side : Side) (damage : Damage) → state_on l r ≡ Err (side, damage)
-        → (out.new ≡ out.old) × EndsDamaged D.seen side damage l r result.end result.left result.right }
+        → (out.new ≡ out.old) × EndsDamaged D.seen side damage result.end result.left result.right }
     ensures no_source { result.end ≢ Err Halt.ReadFault }
     ensures sink { WriteCause result.end (K.faults out.old) (K.faults out.new) }
     ensures disks { DiskCause result.end (counts_of D.faults left right) (counts_of D.faults result.left result.right) }
@@ -133,11 +136,13 @@ fn halt_on(side: Side, fault: ReviewFault) -> Halt
 /// Tells the audit of the disks' commands, and writes the last line where that stops.
 pub fn audit_on<K: Sink, D: Disk>(alloc: Global, out: &mut K, left: D, right: D) -> Ending<D>
     ensures told { (l r : List ℕ) → D.seen left ≡ Some l → D.seen right ≡ Some r → (start : State) → state_on l r ≡ Ok start
-        → TellsText (reviewed (commands_on l r)) result.end (Rose (K.faults out.old) (K.faults out.new)) (K.held out.old) (K.held out.new)
-        × AuditHolds result.end start (commands_on l r) × DisksHold D.seen result.end [] l r start result.left result.right [] }
+        → Contains (0 ∷ 4 ∷ 5 ∷ 7 ∷ 8 ∷ []) (status_of result.end)
+        × ((text : List ℕ) × IsAuditOf start (commands_on l r) result.end text
+        × TellsAll text result.end (Rose (K.faults out.old) (K.faults out.new)) (K.held out.old) (K.held out.new))
+        × DisksStay D.seen result.end l r start result.left result.right }
     ensures damaged { (l r : List ℕ) → D.seen left ≡ Some l → D.seen right ≡ Some r → (side : Side) (damage : Damage) → state_on l r ≡ Err (side, damage)
         → (halt : Halt) × (result.end ≡ Err halt)
-        × EndsDamaged D.seen side damage l r (Err halt) result.left result.right
+        × EndsDamaged D.seen side damage (Err halt) result.left result.right
         × Adds [] (last halt) (Rose (K.faults out.old) (K.faults out.new)) (K.held out.old) (K.held out.new) }
     ensures no_source { result.end ≢ Err Halt.ReadFault }
     ensures sink { LastCause result.end (K.faults out.old) (K.faults out.new) }

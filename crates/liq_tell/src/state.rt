@@ -1,6 +1,6 @@
 //! The word `state`: what stands on two disks, told.
 
-ghost use Rattle.std.specs.Prelude.{◌≡◌, ◌≢◌, ◌++◌, [], List, ℕ, Some, Ok, Err, OnOk, IfOk};
+ghost use Rattle.std.specs.Prelude.{◌≡◌, ◌≢◌, ◌++◌, [], ◌∷◌, Contains, List, ℕ, Some, Ok, Err, OnOk, IfOk};
 ghost use Rattle.std.specs.String.{string_bytes};
 ghost use Rattle.liq_outside.specs.Faults.{Rose};
 ghost use Rattle.liq_types.specs.State.{State};
@@ -10,11 +10,13 @@ ghost use Rattle.liq_pairs.specs.declared.side.Side.{Side};
 ghost use Rattle.liq_pairs.specs.Pair.{state_on};
 ghost use Rattle.liq_store.specs.Causes.{counts_of};
 ghost use Rattle.liq_ends.specs.Causes.{DiskCause, LastCause, WriteCause};
-ghost use Rattle.liq_ends.specs.Disks.{DisksHold, EndsDamaged};
+ghost use Rattle.liq_ends.specs.Disks.{DisksStay, EndsDamaged};
 ghost use Rattle.liq_tell.specs.State.{pool_and_journal, standing};
 ghost use Rattle.liq_ends.specs.Output.{last, reply_line};
 ghost use Rattle.liq_ends.specs.Stops.{Adds};
-ghost use Rattle.liq_ends.specs.Telling.{TellsText, WritesText};
+ghost use Rattle.liq_ends.specs.Telling.{TellsAll};
+ghost use Rattle.liq_ends.specs.Statuses.{status_of};
+ghost use Rattle.liq_tell.specs.Writing.{WritesText};
 
 use liq_core::Protocol;
 use liq_ends::{Ending, Halt, tell_last, unopened, write_text};
@@ -30,10 +32,10 @@ use std::alloc::{AllocError, Global};
 pub fn tell_state<K: Sink, D: Disk>(alloc: Global, out: &mut K, left: D, right: D) -> Ending<D>
     // Of the state for which the disks stand the text is told, and they stand for it then.
     ensures told { (l r : List ℕ) → D.seen left ≡ Some l → D.seen right ≡ Some r → (start : State) → state_on l r ≡ Ok start
-        → WritesText (Ok (standing start)) result.end (K.held out.old) (K.held out.new) × DisksHold D.seen result.end [] l r start result.left result.right [] }
+        → WritesText (Ok (standing start)) result.end (K.held out.old) (K.held out.new) × DisksStay D.seen result.end l r start result.left result.right }
     // Of damaged disks nothing is told.
     ensures damaged { (l r : List ℕ) → D.seen left ≡ Some l → D.seen right ≡ Some r → (side : Side) (damage : Damage) → state_on l r ≡ Err (side, damage)
-        → (out.new ≡ out.old) × EndsDamaged D.seen side damage l r result.end result.left result.right }
+        → (out.new ≡ out.old) × EndsDamaged D.seen side damage result.end result.left result.right }
     ensures no_source { result.end ≢ Err Halt.ReadFault }
     ensures sink { WriteCause result.end (K.faults out.old) (K.faults out.new) }
     ensures disks { DiskCause result.end (counts_of D.faults left right) (counts_of D.faults result.left result.right) }
@@ -96,11 +98,12 @@ fn put_reply(reply: &Reply, text: &mut Vec<u8>) -> Result<(), AllocError>
 /// Tells what stands on the disks, and writes the last line where that stops.
 pub fn stand_on<K: Sink, D: Disk>(alloc: Global, out: &mut K, left: D, right: D) -> Ending<D>
     ensures told { (l r : List ℕ) → D.seen left ≡ Some l → D.seen right ≡ Some r → (start : State) → state_on l r ≡ Ok start
-        → TellsText (Ok (standing start)) result.end (Rose (K.faults out.old) (K.faults out.new)) (K.held out.old) (K.held out.new)
-        × DisksHold D.seen result.end [] l r start result.left result.right [] }
+        → Contains (0 ∷ 4 ∷ 5 ∷ 7 ∷ []) (status_of result.end)
+        × TellsAll (standing start) result.end (Rose (K.faults out.old) (K.faults out.new)) (K.held out.old) (K.held out.new)
+        × DisksStay D.seen result.end l r start result.left result.right }
     ensures damaged { (l r : List ℕ) → D.seen left ≡ Some l → D.seen right ≡ Some r → (side : Side) (damage : Damage) → state_on l r ≡ Err (side, damage)
         → (halt : Halt) × (result.end ≡ Err halt)
-        × EndsDamaged D.seen side damage l r (Err halt) result.left result.right
+        × EndsDamaged D.seen side damage (Err halt) result.left result.right
         × Adds [] (last halt) (Rose (K.faults out.old) (K.faults out.new)) (K.held out.old) (K.held out.new) }
     ensures no_source { result.end ≢ Err Halt.ReadFault }
     ensures sink { LastCause result.end (K.faults out.old) (K.faults out.new) }

@@ -1,9 +1,10 @@
 use Rattle.liq_rules.specs.History.{requests_of}
-use Rattle.liq_outside.specs.Faults.{Rose}
-use Rattle.liq_serve.specs.Serve.{end_of}
+use Rattle.liq_serve.specs.Finishing.{end_of}
 use Rattle.liq_ends.proofs.Causes.{write_no_fewer}
-use Rattle.liq_ends.proofs.EndingLines.{rose_earlier, rose_later}
-use Rattle.liq_serve.proofs.Served.{disk_cause, is_done, sink_cause, source_cause, told_served, unread_so}
+use Rattle.liq_ends.proofs.EndingLines.{rose_earlier}
+use Rattle.liq_scripts.specs.Output.{served as text_of}
+use Rattle.liq_serve.proofs.Served.{all_served, came_by, disk_cause, is_done, sink_cause, source_cause, unread_so}
+use Rattle.liq_ends.proofs.Opened.{state_formed}
 use Rattle.liq_ends.proofs.Shares.{all_shares}
 use Rattle.liq_serve.proofs.serve.serve_on.Goals as goal
 
@@ -17,17 +18,19 @@ returns-clause-served g c =
     let served = ran.ensures.served in
     let start = c.args.out.now in
     let middle = ran.new.out in
-    let after = c.tell_last.new.out in
     let fewer = write_no_fewer (end_of how) (faults start) (faults middle) (sink_cause how (faults start) (faults middle) ran.ensures.sink) in
+    let answered = served.answered in
+    let came = came_by g.D.Disk.seen (g.S.Source.left c.args.input.now) (g.S.Source.left ran.new.input) c.args.left c.args.right ran.result.left ran.result.right served.asked served.history how answered ran.ensures.unread in
     record {
-      finish = how;
-      end_is = is;
       asked = served.asked;
       history = served.history;
-      answered = served.answered;
-      written = rw is (told_served held served.history (Rose (faults middle) (faults after)) (Rose (faults start) (faults after)) (rose_later (faults start) (faults middle) (faults after) fewer) start middle after how served.written
-          (rw is at c.tell_last.ensures.last) (rw is at c.tell_last.ensures.same));
-      shares = λ l r s told_l told_r stands. all_shares s (requests_of served.history);
+      few = answered.few;
+      fronts = answered.fronts;
+      sessions = answered.sessions;
+      came = rw is came;
+      legal = λ l r start found. answered.legal l r start found.left found.right found.is;
+      written = c.tell_last.ensures.told (text_of served.history) (held start) (faults start) fewer (rw is (all_served held served.history start middle how served.written));
+      shares = λ l r start found. all_shares start (requests_of served.history) (state_formed l r start found.is);
     }
 
 pub returns-clause-unread : goal.returns-clause-unread

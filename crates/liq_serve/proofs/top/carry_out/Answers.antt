@@ -32,7 +32,7 @@ returns-in-State g c words asks only =
     ran.ensures.told
     (λ l r told_l told_r side damage is.
     let found = ran.ensures.damaged l r told_l told_r side damage is in
-    (found.0, ap status_of found.1, found.2, found.3))
+    (refl, (found.0, ap status_of found.1, found.2, found.3)))
 
 pub returns-in-Audit : goal.returns-in-Audit
 returns-in-Audit g c words asks only =
@@ -46,14 +46,14 @@ returns-in-Audit g c words asks only =
     ran.ensures.told
     (λ l r told_l told_r side damage is.
     let found = ran.ensures.damaged l r told_l told_r side damage is in
-    (found.0, ap status_of found.1, found.2, found.3))
+    (refl, (found.0, ap status_of found.1, found.2, found.3)))
     c.commands_lead_to_the_state.ensures
 
 pub returns-in-Gen : goal.returns-in-Gen
 returns-in-Gen g c words asks only =
     let ran = c.tell_load-end in
     let read = subst (λ (w : Word). IsRead words w) c.in-Gen.is (record { asks = asks; only = only }) in
-    gen_ends g.D.Disk.seen _ _ _ _ _ _ _ _ _ _ words ran.result c.in-Gen.seed c.in-Gen.count read ran.ensures.told ran.ensures.sink
+    gen_ends g.D.Disk.seen _ _ _ _ _ _ _ _ _ _ words ran.result c.in-Gen.seed c.in-Gen.count read ran.ensures.told ran.ensures.ends ran.ensures.sink
 
 pub tell_load-end-requires-clause-few : goal.tell_load-end-requires-clause-few
 tell_load-end-requires-clause-few g c = (subst (λ (w : Word). IsInRange w) c.in-Gen.is c.requires.range).2

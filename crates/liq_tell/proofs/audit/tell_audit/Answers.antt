@@ -1,16 +1,16 @@
-use Rattle.std.proofs.Common.{◌≡◌, refl, Ok, List, [], sym, subst, ap, ◌∙◌}
+use Rattle.std.proofs.Common.{◌≡◌, refl, Ok, List, sym, subst, ap, ◌∙◌}
 use Rattle.liq_types.specs.declared.requests.Command.{Command}
 use Rattle.liq_types.specs.State.{opening}
 use Rattle.liq_pairs.specs.Pair.{commands_on}
 use Rattle.liq_pairs.specs.Replay.{replay}
 use Rattle.liq_review.specs.Reviewed.{reviewed}
 use Rattle.liq_ends.specs.declared.ending.Ending.{Ending}
-use Rattle.liq_tell.specs.Audit.{AuditHolds}
-use Rattle.liq_ends.specs.Disks.{DisksHold, EndsDamaged}
-use Rattle.liq_ends.specs.Telling.{WritesText}
+use Rattle.liq_tell.specs.Writing.{AuditHolds}
+use Rattle.liq_ends.specs.Disks.{DisksStay, EndsDamaged}
+use Rattle.liq_tell.specs.Writing.{WritesText}
 use Rattle.liq_tell.proofs.Audited.{stand_too, taken_tells}
-use Rattle.liq_ends.proofs.Opened.{opened_at}
-use Rattle.liq_tell.proofs.Standing.{not_told, left_standing, disks_hold, unopened_damaged}
+use Rattle.liq_ends.proofs.Opened.{opened_at, opened_still}
+use Rattle.liq_tell.proofs.Standing.{not_told, disks_stay, unopened_damaged}
 use Rattle.liq_tell.proofs.audit.tell_audit.Goals as goal
 
 pub returns-in-Err-clause-told : goal.returns-in-Err-clause-told
@@ -20,7 +20,7 @@ returns-in-Err-clause-told g c l r told_l told_r start is =
     let fault = c.in-Err.fault in
     let told = reviewed (commands_on l r) in
     let found = not_told seen g.D.Disk.faults told fault.why fault.left fault.right c.args.left c.args.right c.in-Err.ensures.not_opened l r held told_l told_r start is in
-    subst (λ (e : Ending g.row.D.Denot). WritesText told e.end held held × AuditHolds e.end start (commands_on l r) × DisksHold seen e.end [] l r start e.left e.right [])
+    subst (λ (e : Ending g.row.D.Denot). WritesText told e.end held held × AuditHolds e.end start (commands_on l r) × DisksStay seen e.end l r start e.left e.right)
     (sym c.unopened.ensures) (found.0, tt, found.1)
 
 pub returns-clause-told : goal.returns-clause-told
@@ -34,8 +34,8 @@ returns-clause-told g c l r told_l told_r start is =
     let wrote = c.write_audit-end in
     let end = wrote.result in
     let left = wrote.new.store in
-    let stand = left_standing seen g.D.Disk.faults g.D.Disk.moment g.D.Disk.left_at store start opened.going c.in-Ok.ensures.order stands in
-    let hold = disks_hold seen end l r start left.left left.right (stand_too seen store.left store.right left.left left.right start wrote.ensures.left wrote.ensures.right stand) in
+    let stand = opened_still seen g.D.Disk.faults g.D.Disk.moment g.D.Disk.left_at c.args.left c.args.right store l r start opened c.in-Ok.ensures.order stands told_l told_r is in
+    let stay = disks_stay seen end l r start left.left left.right (stand_too seen l r start store.left store.right left.left left.right wrote.ensures.left wrote.ensures.right stand) in
     let taken = taken_tells seen store.side c.args.left c.args.right store.left store.right c.in-Ok.ensures.left_telling c.in-Ok.ensures.right_telling l r told_l told_r in
     let holds = opened.commands l r taken.0 told_l told_r taken.1 in
     let leads : replay 1 opening holds.written.commands ≡ Ok start = ap (replay 1 opening) holds.are ∙ c.commands_lead_to_the_state.ensures l r start is in
@@ -43,8 +43,8 @@ returns-clause-told g c l r told_l told_r start is =
     let so = subst (λ (commands : List Command). WritesText (reviewed commands) end (held c.args.out.now) (held wrote.new.out) × AuditHolds end start commands) holds.are written in (
       so.0,
       so.1,
-      subst (λ (d : g.row.D.Denot). DisksHold seen end [] l r start d c.close-left.result.1 []) (sym c.close-left.ensures.left)
-          (subst (λ (d : g.row.D.Denot). DisksHold seen end [] l r start left.left d []) (sym c.close-left.ensures.right) hold),
+      subst (λ (d : g.row.D.Denot). DisksStay seen end l r start d c.close-left.result.1) (sym c.close-left.ensures.left)
+          (subst (λ (d : g.row.D.Denot). DisksStay seen end l r start left.left d) (sym c.close-left.ensures.right) stay),
     )
 
 pub returns-clause-damaged : goal.returns-clause-damaged
@@ -57,4 +57,4 @@ returns-in-Err-clause-damaged g c l r told_l told_r side damage is =
     let seen = g.D.Disk.seen in
     let fault = c.in-Err.fault in
     let found = unopened_damaged seen g.D.Disk.faults fault.why fault.left fault.right c.args.left c.args.right c.in-Err.ensures.not_opened l r told_l told_r side damage is in
-    (refl, subst (λ (e : Ending g.row.D.Denot). EndsDamaged seen side damage l r e.end e.left e.right) (sym c.unopened.ensures) found)
+    (refl, subst (λ (e : Ending g.row.D.Denot). EndsDamaged seen side damage e.end e.left e.right) (sym c.unopened.ensures) found)

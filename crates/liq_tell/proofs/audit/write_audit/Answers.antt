@@ -3,8 +3,8 @@ use Rattle.liq_types.specs.declared.requests.Command.{Command}
 use Rattle.liq_types.specs.State.{opening}
 use Rattle.liq_pairs.specs.Replay.{replay}
 use Rattle.liq_review.specs.Reviewed.{reviewed}
-use Rattle.liq_tell.specs.Audit.{AuditHolds}
-use Rattle.liq_ends.specs.Telling.{WritesText}
+use Rattle.liq_tell.specs.Writing.{AuditHolds}
+use Rattle.liq_tell.specs.Writing.{WritesText}
 use Rattle.liq_tell.proofs.audit.write_audit.Goals as goal
 
 pub returns-clause-written : goal.returns-clause-written

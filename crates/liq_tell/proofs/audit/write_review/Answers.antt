@@ -2,11 +2,12 @@ use Rattle.std.proofs.Common.{Ok, Err, Result, ap, sym, subst, ◌∙◌}
 use Rattle.liq_review.specs.Reviewed.{reviewed}
 use Rattle.liq_ends.specs.declared.halts.Halt.{Halt}
 use Rattle.liq_ends.specs.declared.halts.Halt.TheVariants.{DiskFault, ReadFault}
-use Rattle.liq_tell.specs.Audit.{AuditHolds}
+use Rattle.liq_tell.specs.Writing.{AuditHolds}
 use Rattle.liq_ends.specs.Causes.{WriteCause}
-use Rattle.liq_ends.specs.Telling.{WritesText}
+use Rattle.liq_tell.specs.Writing.{WritesText}
 use Rattle.liq_tell.proofs.Audited.{audit_holds, no_cause, no_fault, not_reviewed}
-use Rattle.liq_ends.proofs.Shown.{by_sink, text_written}
+use Rattle.liq_ends.proofs.Shown.{by_sink}
+use Rattle.liq_tell.proofs.Telling.{text_written}
 use Rattle.liq_tell.proofs.audit.write_review.Goals as goal
 
 pub returns-in-Ok-clause-written : goal.returns-in-Ok-clause-written

@@ -1,11 +1,11 @@
-use Rattle.std.proofs.Common.{refl, Ok, [], sym, subst}
+use Rattle.std.proofs.Common.{refl, Ok, sym, subst}
 use Rattle.liq_core.specs.Core.{Core, StandsFor}
 use Rattle.liq_ends.specs.declared.ending.Ending.{Ending}
-use Rattle.liq_ends.specs.Disks.{DisksHold, EndsDamaged}
+use Rattle.liq_ends.specs.Disks.{DisksStay, EndsDamaged}
 use Rattle.liq_tell.specs.State.{standing}
-use Rattle.liq_ends.specs.Telling.{WritesText}
-use Rattle.liq_ends.proofs.Opened.{opened_at}
-use Rattle.liq_tell.proofs.Standing.{not_told, left_standing, disks_hold, unopened_damaged}
+use Rattle.liq_tell.specs.Writing.{WritesText}
+use Rattle.liq_ends.proofs.Opened.{opened_at, opened_still}
+use Rattle.liq_tell.proofs.Standing.{not_told, disks_stay, unopened_damaged}
 use Rattle.liq_tell.proofs.state.tell_state.Goals as goal
 
 pub returns-in-Err-clause-told : goal.returns-in-Err-clause-told
@@ -13,7 +13,7 @@ returns-in-Err-clause-told g c l r told_l told_r start is =
     let held = g.K.Sink.held c.args.out.now in
     let seen = g.D.Disk.seen in
     let fault = c.in-Err.fault in
-    subst (λ (e : Ending g.row.D.Denot). WritesText (Ok (standing start)) e.end held held × DisksHold seen e.end [] l r start e.left e.right [])
+    subst (λ (e : Ending g.row.D.Denot). WritesText (Ok (standing start)) e.end held held × DisksStay seen e.end l r start e.left e.right)
     (sym c.unopened.ensures)
     (not_told seen g.D.Disk.faults (Ok (standing start)) fault.why fault.left fault.right c.args.left c.args.right c.in-Err.ensures.not_opened l r held told_l told_r start is)
 
@@ -25,10 +25,10 @@ returns-clause-told g c l r told_l told_r start is =
     let found = opened.state l r told_l told_r in
     let stands = opened_at found.0 start _ _ found.1 is found.2 in
     let end = c.write_standing-end.result in
-    let hold = disks_hold seen end l r start store.left store.right (left_standing seen g.D.Disk.faults g.D.Disk.moment g.D.Disk.left_at store start opened.going c.close-left.ensures.order stands) in (
+    let stay = disks_stay seen end l r start store.left store.right (opened_still seen g.D.Disk.faults g.D.Disk.moment g.D.Disk.left_at c.args.left c.args.right store l r start opened c.close-left.ensures.order stands told_l told_r is) in (
       c.write_standing-end.ensures.written start (subst (λ (core : Core). StandsFor core start) (sym c.protocol.ensures) stands),
-      subst (λ (left : g.row.D.Denot). DisksHold seen end [] l r start left c.close-left.result.1 []) (sym c.close-left.ensures.left)
-          (subst (λ (right : g.row.D.Denot). DisksHold seen end [] l r start store.left right []) (sym c.close-left.ensures.right) hold),
+      subst (λ (left : g.row.D.Denot). DisksStay seen end l r start left c.close-left.result.1) (sym c.close-left.ensures.left)
+          (subst (λ (right : g.row.D.Denot). DisksStay seen end l r start store.left right) (sym c.close-left.ensures.right) stay),
     )
 
 pub returns-clause-damaged : goal.returns-clause-damaged
@@ -41,4 +41,4 @@ returns-in-Err-clause-damaged g c l r told_l told_r side damage is =
     let seen = g.D.Disk.seen in
     let fault = c.in-Err.fault in
     let found = unopened_damaged seen g.D.Disk.faults fault.why fault.left fault.right c.args.left c.args.right c.in-Err.ensures.not_opened l r told_l told_r side damage is in
-    (refl, subst (λ (e : Ending g.row.D.Denot). EndsDamaged seen side damage l r e.end e.left e.right) (sym c.unopened.ensures) found)
+    (refl, subst (λ (e : Ending g.row.D.Denot). EndsDamaged seen side damage e.end e.left e.right) (sym c.unopened.ensures) found)

@@ -2,7 +2,8 @@ use Rattle.std.proofs.Common.{◌≡◌, ◌^◌, ◌+◌, ◌∷◌, List, ap, 
 use Rattle.liq_types.specs.declared.requests.Call.{Call}
 use Rattle.liq_types.specs.Ranked.{first_of}
 use Rattle.liq_sessions.specs.Generated.{generated}
-use Rattle.liq_load.specs.Load.{load, none_yet}
+use Rattle.liq_load.specs.Carrying.{none_yet}
+use Rattle.liq_load.specs.Load.{load}
 use Rattle.liq_load.proofs.BuiltLoads.{AreBuilt, generated_built}
 use Rattle.liq_load.proofs.Loads.{Underway, begun, gone_on, come_to_end, some_left, none_left, within_more}
 use Rattle.liq_load.proofs.load.Load.carried_out.Goals as goal

@@ -1,6 +1,6 @@
 use Rattle.std.proofs.Common.{ℕ, ◌≡◌, ◌+◌, length}
 use Rattle.liq_sessions.specs.Generated.{generated, PREAMBLE}
-use Rattle.liq_load.specs.Load.{AreWithin}
+use Rattle.liq_load.specs.Carrying.{AreWithin}
 use Rattle.liq_load.proofs.BuiltLoads.{AreBuilt}
 use Rattle.liq_load.proofs.Loads.{Underway}
 use Rattle.liq_load.proofs.load.Load.carried_out.Given as goal

@@ -1,7 +1,7 @@
 use Rattle.std.proofs.Common.{◌≡◌, [], Result, arith, refl, sym, subst, ◌∙◌}
 use Rattle.liq_types.specs.declared.amounts.TheConstants.{LINES_MOST}
 use Rattle.liq_ends.specs.declared.halts.Halt.{Halt}
-use Rattle.liq_ends.specs.Disks.{KeepsAround}
+use Rattle.liq_run.specs.Calls.{KeepsAround}
 use Rattle.liq_run.specs.Progress.{Comes}
 use Rattle.liq_run.proofs.Residual.{handed_on}
 use Rattle.liq_run.proofs.Turning.{opened, answered_on, answered_cut, reading_fails, reading_ends, limit_halts}

@@ -1,7 +1,7 @@
 use Rattle.std.proofs.Common.{◌≡◌, Err, Result, sym, subst, arith}
 use Rattle.liq_ends.specs.declared.halts.Halt.{Halt}
 use Rattle.liq_ends.specs.declared.halts.Halt.TheVariants.{WriteFault}
-use Rattle.liq_ends.specs.Disks.{KeepsAround}
+use Rattle.liq_run.specs.Calls.{KeepsAround}
 use Rattle.liq_run.specs.Progress.{Ends}
 use Rattle.liq_run.proofs.Closing.{closing_cut, closing_well}
 use Rattle.liq_run.proofs.Residual.{handed_on}

@@ -1,0 +1,50 @@
+-- A run at its end, its last line written.
+use Rattle.std.proofs.Common.{◌≡◌, List, ℕ, [], ◌++◌, Option, Ok, Err, Result, refl, ap, subst, ◌∙◌, append-nil}
+use Rattle.liq_types.specs.declared.requests.Request.{Request}
+use Rattle.liq_types.specs.State.{State}
+use Rattle.liq_types.specs.WellFormed.{IsWellFormed}
+use Rattle.liq_lines.specs.Writing.{Writes}
+use Rattle.liq_lines.proofs.Bytes.{writes_more}
+use Rattle.liq_ends.specs.declared.halts.Halt.{Halt}
+use Rattle.liq_ends.specs.declared.halts.Halt.TheVariants.{BadLine, ReadFault, WriteFault, DiskFault, Damaged, NoMemory, Limit}
+use Rattle.liq_ends.specs.Output.{lines, last}
+use Rattle.liq_ends.specs.Stops.{Adds, EndsIn, IsCutInLastLine, WritesUpTo}
+use Rattle.liq_ends.proofs.EndingLines.{no_part}
+use Rattle.liq_ends.proofs.Shares.{all_shares}
+use Rattle.liq_run.specs.Progress.{GivesBack, WritesReplies}
+
+line_behind : (fault : Type 0) (said line : List ℕ) (before now after : Option (List ℕ)) → Writes before said now → Adds [] line fault now after → Adds said line fault before after
+line_behind fault said line before now after h adds = (adds.0, writes_more before now after said adds.0 h adds.1, adds.2)
+
+cut_stays : (start : State) (fault : Type 0) (requests : List Request) (before now after : Option (List ℕ)) → (part : List ℕ) × Writes before part now × IsCutInLastLine start part requests → Adds [] [] fault now after → (part : List ℕ) × Writes before part after × IsCutInLastLine start part requests
+cut_stays start fault requests before now after h adds =
+    let more = writes_more before now after h.0 adds.0 h.1 adds.1 in
+    (h.0, subst (λ (t : List ℕ). Writes before t after) (ap (λ (t : List ℕ). h.0 ++ t) (no_part fault adds.0 adds.2) ∙ append-nil h.0) more, h.2)
+
+all_written : (start : State) (halt : Halt) (fault : Type 0) (requests : List Request) (before now after : Option (List ℕ)) → WritesReplies start (Err halt) requests before now → Adds [] (last halt) fault now after → WritesUpTo start (Err halt) fault requests before after
+all_written start (BadLine n) fault requests before now after h adds = line_behind fault (lines start requests) (last (BadLine n)) before now after h adds
+all_written start ReadFault fault requests before now after h adds = line_behind fault (lines start requests) (last ReadFault) before now after h adds
+all_written start WriteFault fault requests before now after h adds = cut_stays start fault requests before now after h adds
+all_written start DiskFault fault requests before now after h adds = line_behind fault (lines start requests) (last DiskFault) before now after h adds
+all_written start (Damaged side number) fault requests before now after h adds = line_behind fault (lines start requests) (last (Damaged side number)) before now after h adds
+all_written start NoMemory fault requests before now after h adds = line_behind fault (lines start requests) (last NoMemory) before now after h adds
+all_written start (Limit number) fault requests before now after h adds = line_behind fault (lines start requests) (last (Limit number)) before now after h adds
+
+module _ {D : Type 0} (seen : D → Option (List ℕ)) (start : State) (formed : IsWellFormed start) (bytes l r : List ℕ) (unread : Option (List ℕ)) (fault : Type 0) (left right : D) where
+  pub last_written : (halt : Halt) (before now after : Option (List ℕ)) → GivesBack seen start (Err halt) bytes l r unread before now left right → Adds [] (last halt) fault now after
+      → EndsIn seen start (Err halt) bytes l r unread fault before after left right
+  last_written halt before now after h adds =
+      record {
+        requests = h.requests;
+        few = h.few;
+        read = h.read;
+        written = all_written start halt fault h.requests before now after h.written adds;
+        disks = h.disks;
+        shares = all_shares start h.requests formed;
+      }
+
+  pub went_well : (end : Result (Unit {0}) Halt) (before now : Option (List ℕ)) → ((halt : Halt) → end ≡ Err halt → ⊥) → GivesBack seen start end bytes l r unread before now left right
+      → EndsIn seen start end bytes l r unread fault before now left right
+  went_well (Ok done) before now well h =
+      record { requests = h.requests; few = h.few; read = h.read; written = h.written; disks = h.disks; shares = all_shares start h.requests formed }
+  went_well (Err halt) before now well h = absurd (well halt refl)

@@ -1,0 +1,35 @@
+-- One request, as the store of two disks answers it.
+use Rattle.std.specs.Prelude.{ℕ, ◌≡◌, List, Option, Some, None, Result, Ok, Err}
+use Rattle.liq_types.specs.declared.replies.Reply.{Reply}
+use Rattle.liq_types.specs.declared.requests.Request.{Request}
+use Rattle.liq_types.specs.declared.requests.Request.TheVariants.{Do, Ask}
+use Rattle.liq_types.specs.State.{State}
+use Rattle.liq_core.specs.Core.{Core, StandsFor}
+use Rattle.liq_rules.specs.Step.{step}
+use Rattle.liq_store.specs.Keeping.{IsKeptAround}
+use Rattle.liq_store.specs.Memory.{IsAccepted, TakesMemory}
+use Rattle.liq_ends.specs.declared.halts.Halt.{Halt}
+use Rattle.liq_ends.specs.declared.halts.Halt.TheVariants.{DiskFault, NoMemory}
+
+abbrev pub IsCommand : Request → Type 0
+IsCommand (Do command) = Unit {0}
+IsCommand (Ask query) = ⊥
+
+-- The step was made; or there was no memory, or a disk met a fault at a command that is accepted: no step was made
+-- then.
+abbrev pub Calls : State → Request → Result Reply Halt → Core → Type 0
+Calls s request (Ok reply) core = StandsFor core (step s request).0 × ((step s request).1 ≡ reply)
+Calls s request (Err NoMemory) core = StandsFor core s × TakesMemory s request
+Calls s request (Err DiskFault) core = StandsFor core s × IsAccepted s request
+Calls s request (Err _) core = ⊥
+
+-- a store is stopped by a disk's fault alone
+abbrev pub IsStopped : {T : Type 0} → Result T Halt → Option ℕ → Type 0
+IsStopped (Err DiskFault) stopped = (sum : ℕ) × (stopped ≡ Some sum)
+IsStopped _ stopped = stopped ≡ None
+
+module _ {D : Type 0} (seen : D → Option (List ℕ)) where
+  -- where both disks tell their bytes, these are kept for the state before the request or after it
+  abbrev pub KeepsAround : D → D → State → Request → Type 0
+  KeepsAround left right s request =
+      (l r : List ℕ) → seen left ≡ Some l → seen right ≡ Some r → IsKeptAround s request l r

@@ -1,0 +1,36 @@
+-- What an opening leaves that made no step is kept for what it was kept for.
+use Rattle.std.proofs.Common.{◌≡◌, List, ℕ, Option, Ok, inl, inr, sym, ap, ◌∙◌, arith}
+use Rattle.std.specs.Prelude.{unwrap_or}
+use Rattle.liq_types.specs.declared.figures.Client.{Client}
+use Rattle.liq_types.specs.declared.requests.Command.{Command}
+use Rattle.liq_types.specs.Image.{Image}
+use Rattle.liq_types.specs.State.{State, client_of, no_client}
+use Rattle.liq_types.specs.Tables.{at}
+use Rattle.liq_types.proofs.Lookups.{at-put_same}
+use Rattle.liq_rules.specs.Image.{image}
+use Rattle.liq_rules.specs.Step.{Allowed, after, done_of, effect, ruling}
+use Rattle.liq_rules.proofs.Allowed.{allowed_number}
+use Rattle.liq_pairs.specs.Kept.{IsKept}
+use Rattle.liq_pairs.specs.Pair.{state_on}
+use Rattle.liq_pairs.specs.Unfinished.{HoldsUnfinished, IsRecovered}
+
+-- what was unfinished is accepted
+pub unfinished_is_allowed : (l r : List ℕ) (s : State) (c : Command) → HoldsUnfinished l r s c → ruling s c ≡ Allowed
+unfinished_is_allowed l r s c (side, inl unfinished) = unfinished.record_is.allowed
+unfinished_is_allowed l r s c (side, inr rotated) = absurd rotated.rotation.rotation
+
+-- a command that is accepted changes the image, since its client's last number goes up
+accepted_changes : (s : State) (c : Command) → ruling s c ≡ Allowed → image s ≡ image (after s c) → ⊥
+accepted_changes s c allowed same =
+    let kept : Client = record { last = c.number; kept = done_of s c.call } in
+    let stays : (client_of s c.client).last ≡ (client_of (after s c) c.client).last = ap (λ (i : Image). (unwrap_or (at i.clients c.client) no_client).last) same in
+    let goes : (client_of (after s c) c.client).last ≡ c.number = ap (λ (o : Option Client). (unwrap_or o no_client).last) (at-put_same (effect s c.call).clients c.client kept) in
+    omega (arith, stays, goes, allowed_number s c allowed)
+
+-- where they still stand for the state, the command that was unfinished was not made
+pub still_kept : (l r a b : List ℕ) (s : State) → state_on a b ≡ Ok s → IsRecovered l r s a b → IsKept a b s
+still_kept l r a b s is (inl kept) = kept
+still_kept l r a b s is (inr more) =
+    let stands = more.2.stands in
+    let here : stands.state ≡ s = cc (stands.is, is) in
+    absurd (accepted_changes s more.0 (unfinished_is_allowed l r s more.0 more.1) (sym (ap image here) ∙ stands.same.image))

@@ -1,0 +1,26 @@
+-- How writing a text of the disks ends, before the last line.
+use Rattle.std.specs.Prelude.{ℕ, ◌≡◌, List, Option, Result, Ok, Err}
+use Rattle.liq_types.specs.declared.requests.Command.{Command}
+use Rattle.liq_types.specs.State.{State}
+use Rattle.liq_lines.specs.Writing.{Writes, WritesPart}
+use Rattle.liq_review.specs.declared.fault.ReviewFault.{ReviewFault}
+use Rattle.liq_review.specs.declared.fault.ReviewFault.TheVariants as review
+use Rattle.liq_ends.specs.declared.halts.Halt.{Halt}
+use Rattle.liq_ends.specs.declared.halts.Halt.TheVariants.{WriteFault, DiskFault, NoMemory, Limit}
+use Rattle.liq_tell.specs.Audit.{HoldTheirShares}
+
+-- The text was written, or the sink met a fault within it. Or nothing was: a limit is passed, there was no memory, or a
+-- disk met a fault.
+abbrev pub WritesText :
+    Result (List ℕ) ReviewFault → Result (Unit {0}) Halt → Option (List ℕ) → Option (List ℕ) → Type 0
+WritesText told (Ok done) before now = (text : List ℕ) × (told ≡ Ok text) × Writes before text now
+WritesText told (Err WriteFault) before now = (text : List ℕ) × (told ≡ Ok text) × WritesPart before text now
+WritesText told (Err (Limit number)) before now = (told ≡ Err (review.Limit number)) × (now ≡ before)
+WritesText told (Err NoMemory) before now = now ≡ before
+WritesText told (Err DiskFault) before now = now ≡ before
+WritesText told (Err _) before now = ⊥
+
+-- the rows of a review that was told hold the shares
+abbrev pub AuditHolds : Result (Unit {0}) Halt → State → List Command → Type 0
+AuditHolds (Ok done) s commands = HoldTheirShares s commands
+AuditHolds (Err halt) s commands = Unit {0}
