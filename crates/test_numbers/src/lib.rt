@@ -3,16 +3,4 @@
 #![tactic(auto)]
 
 #[cfg(test)]
-mod adjusting;
-#[cfg(test)]
-mod agreement;
-#[cfg(test)]
-mod closing;
-#[cfg(test)]
-mod numbers;
-#[cfg(test)]
-mod opening;
-#[cfg(test)]
-mod rates;
-#[cfg(test)]
-mod wallets;
+mod tests;

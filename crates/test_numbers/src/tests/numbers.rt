@@ -1,6 +1,6 @@
 //! Quotients, powers and comparisons of ratios.
 
-use crate::agreement::{same, shows};
+use crate::tests::agreement::{same, shows};
 use liq_num::{
     HALF, MOST_MINUTES, ONE, dec_mul, dec_pow, mul_div, mul_div_up, ratio_below, ratio_cmp,
 };

@@ -1,6 +1,6 @@
 //! Changing a trove, and moving a gain into it: plans, and each refusal at its edge and one beside it.
 
-use crate::agreement::{Told, same, shows, told};
+use crate::tests::agreement::{Told, same, shows, told};
 use liq_borrow::{Change, plan_adjust, plan_gain};
 use liq_types::amounts::{FLOOR_RATE, LIM, ONE};
 use liq_types::{Market, Refusal, Wallet};

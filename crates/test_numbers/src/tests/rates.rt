@@ -1,6 +1,6 @@
 //! The base rate's decays and rises, and the fees.
 
-use crate::agreement::{same, shows};
+use crate::tests::agreement::{same, shows};
 use liq_rate::{Rate, borrow_fee, redeem_fee};
 use liq_types::amounts::ONE;
 

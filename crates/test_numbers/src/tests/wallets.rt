@@ -4,7 +4,7 @@ ghost use Rattle.std.specs.Prelude.{◌≡◌, []};
 ghost use Rattle.liq_types.specs.Payments.{credited_in};
 ghost use Rattle.liq_tables.specs.WithRoom.{HasRoom};
 
-use crate::agreement::{same, shows};
+use crate::tests::agreement::{same, shows};
 use liq_ledger::{Surplus, Wallets};
 use liq_types::Refusal;
 use liq_types::amounts::{ACCOUNTS, LIM};

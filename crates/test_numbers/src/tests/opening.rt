@@ -1,6 +1,6 @@
 //! Opening a trove: plans, and each refusal at its edge and one beside it.
 
-use crate::agreement::{Told, same, shows, told};
+use crate::tests::agreement::{Told, same, shows, told};
 use liq_borrow::plan_open;
 use liq_types::amounts::{FLOOR_RATE, LIM, ONE, PRICE_MOST};
 use liq_types::{Market, Refusal, Wallet};
@@ -23,6 +23,12 @@ const TIED: Market = Market {
     total_debt: 2_210_000_000,
     troves: 1,
     ..EMPTY
+};
+
+/// One gwei less of it.
+const BELOW: Market = Market {
+    total_coll: 4_198_999_999,
+    ..TIED
 };
 
 /// After a redemption that left a high base rate, so that the fee is five percent, which the bound may forbid.
@@ -56,30 +62,26 @@ const FULL: Market = Market {
     ..EMPTY
 };
 
+/// One micro-LUSD more.
+const FULLER: Market = Market {
+    total_debt: LIM - 4_219_999_999,
+    ..FULL
+};
+
 const WALLET: Wallet = Wallet {
     coll: 10_000_000_000,
     lusd: 0,
 };
 
-/// The market, the account, what is asked (collateral, LUSD borrowed and bound), and what is planned.
-type Row = (Market, u32, [u64; 3], Told);
+/// What is asked (collateral, LUSD borrowed and bound), and what is planned.
+type Row = ([u64; 3], Told);
+
+const PLANNED: Told = Ok([10_000_000_000, 4_220_000_000, 20_000_000, 0, 0]);
 
 const FIRST: [Row; 11] = [
+    ([10_000_000_000, 4_000_000_000, ONE], PLANNED),
+    ([10_000_000_000, 4_000_000_000, FLOOR_RATE], PLANNED),
     (
-        EMPTY,
-        1,
-        [10_000_000_000, 4_000_000_000, ONE],
-        Ok([10_000_000_000, 4_220_000_000, 20_000_000, 0, 0]),
-    ),
-    (
-        EMPTY,
-        1,
-        [10_000_000_000, 4_000_000_000, FLOOR_RATE],
-        Ok([10_000_000_000, 4_220_000_000, 20_000_000, 0, 0]),
-    ),
-    (
-        EMPTY,
-        1,
         [10_000_000_000, 4_000_000_000, FLOOR_RATE - 1],
         Err(Refusal::FeeBound {
             bound: FLOOR_RATE - 1,
@@ -87,8 +89,6 @@ const FIRST: [Row; 11] = [
         }),
     ),
     (
-        EMPTY,
-        1,
         [10_000_000_000, 4_000_000_000, ONE + 1],
         Err(Refusal::FeeBound {
             bound: ONE + 1,
@@ -96,8 +96,6 @@ const FIRST: [Row; 11] = [
         }),
     ),
     (
-        EMPTY,
-        1,
         [10_000_000_000, 1_791_040_000, ONE],
         Err(Refusal::NetDebtLow {
             net: 1_799_995_200,
@@ -105,8 +103,6 @@ const FIRST: [Row; 11] = [
         }),
     ),
     (
-        EMPTY,
-        1,
         [10_000_000_000, 1_791_044_776, ONE],
         Err(Refusal::NetDebtLow {
             net: 1_799_999_999,
@@ -114,14 +110,10 @@ const FIRST: [Row; 11] = [
         }),
     ),
     (
-        EMPTY,
-        1,
         [10_000_000_000, 1_791_044_777, ONE],
         Ok([10_000_000_000, 2_000_000_000, 8_955_223, 0, 0]),
     ),
     (
-        EMPTY,
-        1,
         [10_000_000_001, 4_000_000_000, ONE],
         Err(Refusal::ShortCollateral {
             need: 10_000_000_001,
@@ -129,14 +121,10 @@ const FIRST: [Row; 11] = [
         }),
     ),
     (
-        EMPTY,
-        1,
         [6_330_000_000, 4_000_000_000, ONE],
         Ok([6_330_000_000, 4_220_000_000, 20_000_000, 0, 0]),
     ),
     (
-        EMPTY,
-        1,
         [6_329_999_999, 4_000_000_000, ONE],
         Err(Refusal::SystemRatioLow {
             left: 632_999_999_900_000_000_000,
@@ -144,8 +132,6 @@ const FIRST: [Row; 11] = [
         }),
     ),
     (
-        EMPTY,
-        1,
         [0, u64::MAX, ONE],
         Err(Refusal::AmountLimit {
             sum: 18_538_977_794_278_099_373,
@@ -154,38 +140,39 @@ const FIRST: [Row; 11] = [
     ),
 ];
 
-const FURTHER: [Row; 12] = [
-    // The second trove is exactly at 110 percent and all together exactly at 150.
+/// The second trove is exactly at 110 percent and all together exactly at 150.
+const AT_A_TIE: [Row; 2] = [
     (
-        TIED,
-        2,
         [2_431_000_000, 2_000_000_000, ONE],
         Ok([2_431_000_000, 2_210_000_000, 10_000_000, 0, 0]),
     ),
     (
-        TIED,
-        2,
         [2_430_999_999, 2_000_000_000, ONE],
         Err(Refusal::RatioLow {
             left: 243_099_999_900_000_000_000,
             right: 243_100_000_000_000_000_000,
         }),
     ),
+];
+
+const BELOW_THE_TIE: [Row; 1] = [(
+    [2_431_000_000, 2_000_000_000, ONE],
+    Err(Refusal::SystemRatioLow {
+        left: 662_999_999_900_000_000_000,
+        right: 663_000_000_000_000_000_000,
+    }),
+)];
+
+const WITH_FEE: Told = Ok([
+    10_000_000_000,
+    2_300_000_000,
+    100_000_000,
+    296_208_530_805_687_203,
+    20_160,
+]);
+
+const AT_A_FEE: [Row; 4] = [
     (
-        Market {
-            total_coll: 4_198_999_999,
-            ..TIED
-        },
-        2,
-        [2_431_000_000, 2_000_000_000, ONE],
-        Err(Refusal::SystemRatioLow {
-            left: 662_999_999_900_000_000_000,
-            right: 663_000_000_000_000_000_000,
-        }),
-    ),
-    (
-        REDEEMED,
-        3,
         [10_000_000_000, 2_000_000_000, FLOOR_RATE],
         Err(Refusal::FeeOver {
             left: 100_000_000_000_000_000_000_000_000,
@@ -193,8 +180,6 @@ const FURTHER: [Row; 12] = [
         }),
     ),
     (
-        REDEEMED,
-        3,
         [10_000_000_000, 2_000_000_000, 49_999_999_999_999_999],
         Err(Refusal::FeeOver {
             left: 100_000_000_000_000_000_000_000_000,
@@ -202,38 +187,18 @@ const FURTHER: [Row; 12] = [
         }),
     ),
     (
-        REDEEMED,
-        3,
         [10_000_000_000, 2_000_000_000, 50_000_000_000_000_000],
-        Ok([
-            10_000_000_000,
-            2_300_000_000,
-            100_000_000,
-            296_208_530_805_687_203,
-            20_160,
-        ]),
+        WITH_FEE,
     ),
+    ([10_000_000_000, 2_000_000_000, ONE], WITH_FEE),
+];
+
+const IN_RECOVERY: [Row; 3] = [
     (
-        REDEEMED,
-        3,
-        [10_000_000_000, 2_000_000_000, ONE],
-        Ok([
-            10_000_000_000,
-            2_300_000_000,
-            100_000_000,
-            296_208_530_805_687_203,
-            20_160,
-        ]),
-    ),
-    (
-        RECOVERY,
-        3,
         [6_300_000_000, 4_000_000_000, 0],
         Ok([6_300_000_000, 4_200_000_000, 0, ONE, 0]),
     ),
     (
-        RECOVERY,
-        3,
         [6_299_999_999, 4_000_000_000, 0],
         Err(Refusal::RatioLow {
             left: 629_999_999_900_000_000_000,
@@ -241,54 +206,46 @@ const FURTHER: [Row; 12] = [
         }),
     ),
     (
-        RECOVERY,
-        3,
         [6_300_000_000, 4_000_000_000, ONE + 1],
         Err(Refusal::FeeBound {
             bound: ONE + 1,
             least: 0,
         }),
     ),
-    (
-        FULL,
-        3,
-        [10_000_000_000, 4_000_000_000, ONE],
-        Ok([10_000_000_000, 4_220_000_000, 20_000_000, 0, 0]),
-    ),
-    // The ratio would be too low as well.
-    (
-        Market {
-            total_debt: LIM - 4_219_999_999,
-            ..FULL
-        },
-        3,
-        [1, 4_000_000_000, ONE],
-        Err(Refusal::AmountLimit {
-            sum: 1_000_000_000_000_000_001,
-            limit: LIM,
-        }),
-    ),
 ];
 
-fn check<R: Abort>(rt: &R, row: &Row) {
-    let (m, account, [coll, borrow, bound], want) = *row;
+const AT_THE_LIMIT: [Row; 1] = [([10_000_000_000, 4_000_000_000, ONE], PLANNED)];
+
+/// The ratio would be too low as well.
+const PAST_THE_LIMIT: [Row; 1] = [(
+    [1, 4_000_000_000, ONE],
+    Err(Refusal::AmountLimit {
+        sum: 1_000_000_000_000_000_001,
+        limit: LIM,
+    }),
+)];
+
+fn check<R: Abort>(rt: &R, m: &Market, account: u32, rows: &[Row]) {
     shows(
         rt,
         "a market",
         m.price <= PRICE_MOST && m.base <= ONE && m.fee_minute <= m.minute,
     );
-    let plan = plan_open(&m, &WALLET, false, account, coll, borrow, bound);
-    same(rt, &told(plan), &want, "a plan");
+    for ([coll, borrow, bound], want) in rows {
+        let plan = plan_open(m, &WALLET, false, account, *coll, *borrow, *bound);
+        same(rt, &told(plan), want, "a plan");
+    }
 }
 
 #[test]
 fn opens(rt: HostRuntime) {
-    for row in FIRST {
-        check(&rt, &row);
-    }
-    for row in FURTHER {
-        check(&rt, &row);
-    }
+    check(&rt, &EMPTY, 1, &FIRST);
+    check(&rt, &TIED, 2, &AT_A_TIE);
+    check(&rt, &BELOW, 2, &BELOW_THE_TIE);
+    check(&rt, &REDEEMED, 3, &AT_A_FEE);
+    check(&rt, &RECOVERY, 3, &IN_RECOVERY);
+    check(&rt, &FULL, 3, &AT_THE_LIMIT);
+    check(&rt, &FULLER, 3, &PAST_THE_LIMIT);
     let plan = plan_open(&EMPTY, &WALLET, true, 1, 0, 0, 0);
     let exists = Err(Refusal::TroveExists { account: 1 });
     same(&rt, &told(plan), &exists, "of an owner");

@@ -1,6 +1,6 @@
 //! Closing a trove: plans, and each refusal at its edge and one beside it.
 
-use crate::agreement::same;
+use crate::tests::agreement::same;
 use liq_borrow::plan_close;
 use liq_types::{Market, Refusal, Wallet};
 
