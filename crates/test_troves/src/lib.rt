@@ -3,12 +3,4 @@
 #![tactic(auto)]
 
 #[cfg(test)]
-mod agreement;
-#[cfg(test)]
-mod audits;
-#[cfg(test)]
-mod orders;
-#[cfg(test)]
-mod pools;
-#[cfg(test)]
-mod troves;
+mod tests;

@@ -1,6 +1,6 @@
 //! Small pools: deposits, offsets and withdrawals in turn, and what is then read of the words and of each deposit.
 
-use crate::agreement::{same, shows};
+use crate::tests::agreement::{same, shows};
 use liq_stability::{Deposit, FinishedSum, PoolWords, Stability, offset_words, position};
 use liq_types::amounts::{LIM, OFFSET_MOST};
 use liq_types::{NoMemory, Refusal};

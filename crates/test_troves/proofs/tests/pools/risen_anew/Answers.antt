@@ -4,8 +4,8 @@ use Rattle.liq_types.specs.declared.figures.Deposit.{Deposit}
 use Rattle.liq_types.specs.Tables.{Table}
 use Rattle.liq_stability.specs.declared.words.FinishedSum.{FinishedSum}
 use Rattle.liq_stability.specs.Kept.{IsSoundPool, IsSoundDeposit, finished_rows}
-use Rattle.test_troves.specs.declared.pools.TheConstants.{RISEN, RISEN_SUM, RISEN_FIRST, RISEN_SECOND}
-use Rattle.test_troves.proofs.pools.risen_anew.Goals as goal
+use Rattle.test_troves.specs.declared.tests.pools.TheConstants.{RISEN, RISEN_SUM, RISEN_FIRST, RISEN_SECOND}
+use Rattle.test_troves.proofs.tests.pools.risen_anew.Goals as goal
 
 sound : IsSoundPool RISEN (finished_rows (RISEN_SUM ∷ [])) ((1, RISEN_FIRST) ∷ (2, RISEN_SECOND) ∷ [])
 unfolding IsStrictlySortedBy

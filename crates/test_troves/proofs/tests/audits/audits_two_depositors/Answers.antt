@@ -4,7 +4,7 @@ use Rattle.liq_types.specs.State.{opening}
 use Rattle.liq_stability.specs.Examples.{shared_again}
 use Rattle.liq_stability.specs.Lawful.{IsLawful}
 use Rattle.liq_shares.proofs.Auditing.{auditable}
-use Rattle.test_troves.proofs.audits.audits_two_depositors.Goals as goal
+use Rattle.test_troves.proofs.tests.audits.audits_two_depositors.Goals as goal
 
 lawful : IsLawful opening shared_again
 unfolding least_from

@@ -1,6 +1,6 @@
 //! An audit of what the Stability Pool gave.
 
-use crate::agreement::{same, shows};
+use crate::tests::agreement::{same, shows};
 use liq_audit::{EngineRow, Row, audit};
 use liq_types::PoolEvent;
 
@@ -54,24 +54,28 @@ const ENGINE: [EngineRow; 2] = [
     },
 ];
 
-/// The account, and of its balance and then of its gain: the least, the most, what the protocol gives, and its allowance.
-const WANT: [[u128; 9]; 2] = [
-    [1, 92, 94, 92, 3, 36, 39, 36, 31],
-    [2, 106, 108, 106, 2, 61, 64, 62, 16],
+/// The account, and of its balance and of its gain: the least, the most, what the protocol gives, and its allowance.
+type Told = (u32, [u128; 4], [u128; 4]);
+
+const WANT: [Told; 2] = [
+    (1, [92, 94, 92, 3], [36, 39, 36, 31]),
+    (2, [106, 108, 106, 2], [61, 64, 62, 16]),
 ];
 
-fn read(row: &Row) -> [u128; 9] {
-    [
-        u128::from(row.account),
+fn read(row: &Row) -> Told {
+    let balance = [
         row.balance_lo,
         row.balance_hi,
         u128::from(row.balance),
         u128::from(row.balance_allow),
+    ];
+    let gain = [
         row.gain_lo,
         row.gain_hi,
         u128::from(row.gain),
         u128::from(row.gain_allow),
-    ]
+    ];
+    (row.account, balance, gain)
 }
 
 #[test]

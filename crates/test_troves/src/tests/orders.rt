@@ -2,7 +2,7 @@
 
 ghost use Rattle.std.specs.Prelude.{◌≡◌};
 
-use crate::agreement::{same, shows};
+use crate::tests::agreement::{same, shows};
 use liq_order::Order;
 use liq_types::{Hint, Steps};
 use std::alloc::Global;

@@ -3,7 +3,7 @@
 ghost use Rattle.std.specs.Prelude.{◌≡◌, []};
 ghost use Rattle.liq_tables.specs.WithRoom.{HasRoom};
 
-use crate::agreement::{same, shows};
+use crate::tests::agreement::{same, shows};
 use liq_troves::{Sums, Trove, Troves, entire, key};
 use liq_types::amounts::LIM;
 use liq_types::{NoMemory, Refusal};

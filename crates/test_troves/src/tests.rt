@@ -1,0 +1,7 @@
+//! The tests, and what they share.
+
+mod agreement;
+mod audits;
+mod orders;
+mod pools;
+mod troves;
