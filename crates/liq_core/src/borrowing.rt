@@ -193,8 +193,7 @@ impl Protocol {
             &mut self.troves,
             &mut self.order,
             account,
-            plan.coll,
-            plan.debt,
+            plan,
             hint,
             steps,
         );

@@ -201,8 +201,7 @@ impl Protocol {
             &mut self.troves,
             &mut self.order,
             account,
-            plan.coll,
-            plan.debt,
+            plan,
             hint,
             steps,
         );

@@ -7,7 +7,9 @@ ghost use Rattle.liq_tables.specs.WithRoom.{HasRoom};
 ghost use Rattle.liq_troves.specs.Standing.{TrovesStand, lift as lifted, place as placed};
 ghost use Rattle.liq_order.specs.Order.{order_by};
 ghost use Rattle.liq_standing.specs.Books.{books_kept, SameOthers};
+ghost use Rattle.liq_core.specs.Held.{AreHeld};
 
+use liq_borrow::Plan;
 use liq_ledger::Pools;
 use liq_order::Order;
 use liq_standing::{lift, place};
@@ -20,10 +22,7 @@ use std::sync::ledger::Ledger;
 /// its room does in table and list.
 pub(crate) fn lift_trove(pools: &mut Pools, troves: &mut Troves, order: &mut Order, account: u32)
     requires there { IsSome (at troves.old.table.rows account) }
-    requires stand { TrovesStand (books_kept troves.old pools.old) }
-    requires list { order.old.entries ≡ order_by troves.old.table.rows }
-    requires coll { pools.old.active_coll + pools.old.default_coll ≤ LIM }
-    requires debt { pools.old.active_debt + pools.old.default_debt ≤ LIM }
+    requires held { AreHeld pools.old troves.old order.old }
     ensures books { books_kept troves.new pools.new ≡ lifted (books_kept troves.old pools.old) account }
     ensures others { SameOthers pools.old pools.new }
     ensures list { order.new.entries ≡ order_by troves.new.table.rows }
@@ -61,31 +60,27 @@ pub(crate) fn place_trove<L: Ledger>(
     place(pools, troves, order, account, coll, debt, hint, steps);
 }
 
-/// The account's trove changes to these amounts in gwei and micro-LUSD: it leaves, and comes in again with nothing pending. The
-/// other pools stay.
+/// The account's trove changes to what is planned: it leaves, and comes in again with nothing pending. The other pools stay.
 pub(crate) fn change_trove<L: Ledger>(
     pools: &mut Pools,
     troves: &mut Troves,
     order: &mut Order,
     account: u32,
-    coll: u64,
-    debt: u64,
+    plan: &Plan,
     hint: &Hint,
     steps: &mut Steps<L>,
 )
     requires there { IsSome (at troves.old.table.rows account) }
-    requires stand { TrovesStand (books_kept troves.old pools.old) }
-    requires list { order.old.entries ≡ order_by troves.old.table.rows }
-    requires coll { pools.old.active_coll + pools.old.default_coll ≤ LIM }
-    requires debt { pools.old.active_debt + pools.old.default_debt ≤ LIM }
-    requires some { 1 ≤ coll }
-    requires least { RESERVE + MIN_NET ≤ debt }
-    requires active_coll { (lifted (books_kept troves.old pools.old) account).active_coll + coll ≤ LIM }
-    requires active_debt { (lifted (books_kept troves.old pools.old) account).active_debt + debt ≤ LIM }
-    ensures books { books_kept troves.new pools.new ≡ placed (lifted (books_kept troves.old pools.old) account) account coll debt }
+    requires held { AreHeld pools.old troves.old order.old }
+    requires some { 1 ≤ plan.now.coll }
+    requires least { RESERVE + MIN_NET ≤ plan.now.debt }
+    requires active_coll { (lifted (books_kept troves.old pools.old) account).active_coll + plan.now.coll ≤ LIM }
+    requires active_debt { (lifted (books_kept troves.old pools.old) account).active_debt + plan.now.debt ≤ LIM }
+    ensures books { books_kept troves.new pools.new ≡ placed (lifted (books_kept troves.old pools.old) account) account plan.now.coll plan.now.debt }
     ensures others { SameOthers pools.old pools.new }
     ensures list { order.new.entries ≡ order_by troves.new.table.rows }
 {
     lift_trove(pools, troves, order, account);
+    let (coll, debt) = (plan.coll, plan.debt);
     place_trove(pools, troves, order, account, coll, debt, hint, steps);
 }

@@ -1,5 +1,5 @@
 -- Worked examples: requests from the opening on, and the replies to them. Client 1 makes them, with numbers that ascend.
-use Rattle.std.specs.Prelude.{ℕ, List, [], ◌∷◌}
+use Rattle.std.specs.Prelude.{ℕ, List, [], ◌∷◌, ◌++◌}
 use Rattle.liq_types.specs.declared.events.PoolEvent.{PoolEvent}
 use Rattle.liq_types.specs.declared.events.PoolEvent.TheVariants.{Own, Offset}
 use Rattle.liq_types.specs.declared.replies.Info.TheVariants as info
@@ -78,15 +78,31 @@ a_gwei_too_little_replies =
     ∷ No (RatioLow 243099999900000000000 243100000000000000000)
     ∷ []
 
-abbrev pub pool_and_others : List Request
-pool_and_others =
+-- two troves, one of whose owners provides, and a price that leaves the other one below the least ratio
+abbrev pub price_falls : List Request
+price_falls =
     by_one 1 (Fund 1 10000000000)
     ∷ by_one 2 (Open 1 10000000000 4000000000 1000000000000000000 no_hint)
     ∷ by_one 3 (Fund 2 100000000000)
     ∷ by_one 4 (Open 2 100000000000 4000000000 1000000000000000000 no_hint)
     ∷ by_one 5 (Provide 2 4000000000)
     ∷ by_one 6 (Price 460000000)
-    ∷ by_one 7 (Liquidate 3 1)
+    ∷ []
+
+abbrev pub price_falls_replies : List Reply
+price_falls_replies =
+    said 3 []
+    ∷ said 6 (4220000000 ∷ 20000000 ∷ [])
+    ∷ said 3 []
+    ∷ said 6 (4220000000 ∷ 20000000 ∷ [])
+    ∷ said 9 (4000000000 ∷ 0 ∷ [])
+    ∷ said 1 []
+    ∷ []
+
+abbrev pub pool_and_others : List Request
+pool_and_others =
+    price_falls
+    ++ by_one 7 (Liquidate 3 1)
     ∷ Ask (query.Trove 2)
     ∷ Ask (query.Deposit 2)
     ∷ Ask query.Pools
@@ -96,13 +112,8 @@ pool_and_others =
 
 abbrev pub pool_and_others_replies : List Reply
 pool_and_others_replies =
-    said 3 []
-    ∷ said 6 (4220000000 ∷ 20000000 ∷ [])
-    ∷ said 3 []
-    ∷ said 6 (4220000000 ∷ 20000000 ∷ [])
-    ∷ said 9 (4000000000 ∷ 0 ∷ [])
-    ∷ said 1 []
-    ∷ said 12 (50000000 ∷ 4000000000 ∷ 9431279620 ∷ 220000000 ∷ 518720380 ∷ 0 ∷ [])
+    price_falls_replies
+    ++ said 12 (50000000 ∷ 4000000000 ∷ 9431279620 ∷ 220000000 ∷ 518720380 ∷ 0 ∷ [])
     ∷ Told (info.Trove 100518720380 4440000000 100000000000)
     ∷ Told (info.Deposit 0 9431279620)
     ∷ Told (info.Pools (100000000000 ∷ 4220000000 ∷ 518720380 ∷ 220000000 ∷ 200000000 ∷ 0 ∷ 0 ∷ 40000000 ∷ 0 ∷ 9431279620 ∷ []))
@@ -130,25 +141,15 @@ in_and_out_replies =
 
 abbrev pub trove_under : List Request
 trove_under =
-    by_one 1 (Fund 1 10000000000)
-    ∷ by_one 2 (Open 1 10000000000 4000000000 1000000000000000000 no_hint)
-    ∷ by_one 3 (Fund 2 100000000000)
-    ∷ by_one 4 (Open 2 100000000000 4000000000 1000000000000000000 no_hint)
-    ∷ by_one 5 (Provide 2 4000000000)
-    ∷ by_one 6 (Price 460000000)
-    ∷ by_one 7 (Withdraw 2 1)
+    price_falls
+    ++ by_one 7 (Withdraw 2 1)
     ∷ by_one 7 (Withdraw 2 0)
     ∷ []
 
 abbrev pub trove_under_replies : List Reply
 trove_under_replies =
-    said 3 []
-    ∷ said 6 (4220000000 ∷ 20000000 ∷ [])
-    ∷ said 3 []
-    ∷ said 6 (4220000000 ∷ 20000000 ∷ [])
-    ∷ said 9 (4000000000 ∷ 0 ∷ [])
-    ∷ said 1 []
-    ∷ No (TroveUnder 1 460000000000000000000 464200000000000000000)
+    price_falls_replies
+    ++ No (TroveUnder 1 460000000000000000000 464200000000000000000)
     ∷ said 10 (0 ∷ 0 ∷ [])
     ∷ []
 
@@ -206,8 +207,9 @@ pool_too_small_replies =
     ∷ said 12 (42200000 ∷ 4220000000 ∷ 8397800000 ∷ 0 ∷ 0 ∷ 0 ∷ [])
     ∷ []
 
-abbrev pub capped_lowest : List Request
-capped_lowest =
+-- two troves, of which one could be taken over in Recovery Mode
+abbrev pub pool_is_filled : List Request
+pool_is_filled =
     by_one 1 (Fund 1 8440000000)
     ∷ by_one 2 (Fund 2 12660000000)
     ∷ by_one 3 (Open 1 8440000000 4000000000 1000000000000000000 no_hint)
@@ -215,51 +217,50 @@ capped_lowest =
     ∷ by_one 5 (Send 1 2 220000000)
     ∷ by_one 6 (Provide 2 4220000000)
     ∷ by_one 7 (Price 560000000)
-    ∷ by_one 8 (LiquidateLowest 3 5)
+    ∷ []
+
+abbrev pub pool_is_filled_replies : List Reply
+pool_is_filled_replies =
+    said 3 []
+    ∷ said 3 []
+    ∷ said 6 (4220000000 ∷ 20000000 ∷ [])
+    ∷ said 6 (4220000000 ∷ 20000000 ∷ [])
+    ∷ said 5 []
+    ∷ said 9 (4220000000 ∷ 0 ∷ [])
+    ∷ said 1 []
+    ∷ []
+
+abbrev pub capped_lowest : List Request
+capped_lowest =
+    pool_is_filled
+    ++ by_one 8 (LiquidateLowest 3 5)
     ∷ by_one 9 (Claim 1)
     ∷ by_one 10 (Claim 1)
     ∷ []
 
 abbrev pub capped_lowest_replies : List Reply
 capped_lowest_replies =
-    said 3 []
-    ∷ said 3 []
-    ∷ said 6 (4220000000 ∷ 20000000 ∷ [])
-    ∷ said 6 (4220000000 ∷ 20000000 ∷ [])
-    ∷ said 5 []
-    ∷ said 9 (4220000000 ∷ 0 ∷ [])
-    ∷ said 1 []
-    ∷ said 13 (1 ∷ 41446428 ∷ 4220000000 ∷ 8247839286 ∷ [])
+    pool_is_filled_replies
+    ++ said 13 (1 ∷ 41446428 ∷ 4220000000 ∷ 8247839286 ∷ [])
     ∷ said 15 (150714286 ∷ [])
     ∷ No (NoSurplus 1)
     ∷ []
 
 abbrev pub capped_single : List Request
 capped_single =
-    by_one 1 (Fund 1 8440000000)
-    ∷ by_one 2 (Fund 2 12660000000)
-    ∷ by_one 3 (Open 1 8440000000 4000000000 1000000000000000000 no_hint)
-    ∷ by_one 4 (Open 2 12660000000 4000000000 1000000000000000000 no_hint)
-    ∷ by_one 5 (Send 1 2 220000000)
-    ∷ by_one 6 (Provide 2 4220000000)
-    ∷ by_one 7 (Price 560000000)
-    ∷ by_one 8 (Liquidate 3 1)
+    pool_is_filled
+    ++ by_one 8 (Liquidate 3 1)
     ∷ []
 
 abbrev pub capped_single_replies : List Reply
 capped_single_replies =
-    said 3 []
-    ∷ said 3 []
-    ∷ said 6 (4220000000 ∷ 20000000 ∷ [])
-    ∷ said 6 (4220000000 ∷ 20000000 ∷ [])
-    ∷ said 5 []
-    ∷ said 9 (4220000000 ∷ 0 ∷ [])
-    ∷ said 1 []
-    ∷ said 12 (41446428 ∷ 4220000000 ∷ 8247839286 ∷ 0 ∷ 0 ∷ 150714286 ∷ [])
+    pool_is_filled_replies
+    ++ said 12 (41446428 ∷ 4220000000 ∷ 8247839286 ∷ 0 ∷ 0 ∷ 150714286 ∷ [])
     ∷ []
 
-abbrev pub redemption : List Request
-redemption =
+-- two troves, and the first minute at which LUSD may be redeemed
+abbrev pub bootstrap_ends : List Request
+bootstrap_ends =
     by_one 1 (Fund 1 8440000000)
     ∷ by_one 2 (Fund 2 12660000000)
     ∷ by_one 3 (Open 1 8440000000 4000000000 1000000000000000000 no_hint)
@@ -268,7 +269,24 @@ redemption =
     ∷ by_one 6 (Advance 20159)
     ∷ by_one 7 (Redeem 2 5000000000 1000000000000000000 no_hint)
     ∷ by_one 7 (Advance 1)
-    ∷ by_one 8 (Redeem 2 5000000000 1000000000000000000 no_hint)
+    ∷ []
+
+abbrev pub bootstrap_ends_replies : List Reply
+bootstrap_ends_replies =
+    said 3 []
+    ∷ said 3 []
+    ∷ said 6 (4220000000 ∷ 20000000 ∷ [])
+    ∷ said 6 (4220000000 ∷ 20000000 ∷ [])
+    ∷ said 5 []
+    ∷ said 2 (20159 ∷ [])
+    ∷ No (Bootstrap 20159 20160)
+    ∷ said 2 (20160 ∷ [])
+    ∷ []
+
+abbrev pub redemption : List Request
+redemption =
+    bootstrap_ends
+    ++ by_one 8 (Redeem 2 5000000000 1000000000000000000 no_hint)
     ∷ by_one 9 (Claim 1)
     ∷ by_one 10 (Fund 3 10000000000)
     ∷ by_one 11 (Open 3 10000000000 2000000000 5000000000000000 no_hint)
@@ -277,15 +295,8 @@ redemption =
 
 abbrev pub redemption_replies : List Reply
 redemption_replies =
-    said 3 []
-    ∷ said 3 []
-    ∷ said 6 (4220000000 ∷ 20000000 ∷ [])
-    ∷ said 6 (4220000000 ∷ 20000000 ∷ [])
-    ∷ said 5 []
-    ∷ said 2 (20159 ∷ [])
-    ∷ No (Bootstrap 20159 20160)
-    ∷ said 2 (20160 ∷ [])
-    ∷ said 14 (5000000000 ∷ 5000000000 ∷ 1506042654 ∷ 296208530805687203 ∷ [])
+    bootstrap_ends_replies
+    ++ said 14 (5000000000 ∷ 5000000000 ∷ 1506042654 ∷ 296208530805687203 ∷ [])
     ∷ said 15 (4420000000 ∷ [])
     ∷ said 3 []
     ∷ No (FeeOver 100000000000000000000000000 10000000000000000000000000)
@@ -294,28 +305,14 @@ redemption_replies =
 
 abbrev pub redemption_stops : List Request
 redemption_stops =
-    by_one 1 (Fund 1 8440000000)
-    ∷ by_one 2 (Fund 2 12660000000)
-    ∷ by_one 3 (Open 1 8440000000 4000000000 1000000000000000000 no_hint)
-    ∷ by_one 4 (Open 2 12660000000 4000000000 1000000000000000000 no_hint)
-    ∷ by_one 5 (Send 1 2 4000000000)
-    ∷ by_one 6 (Advance 20159)
-    ∷ by_one 7 (Redeem 2 5000000000 1000000000000000000 no_hint)
-    ∷ by_one 7 (Advance 1)
-    ∷ by_one 8 (Redeem 2 6241000000 1000000000000000000 no_hint)
+    bootstrap_ends
+    ++ by_one 8 (Redeem 2 6241000000 1000000000000000000 no_hint)
     ∷ []
 
 abbrev pub redemption_stops_replies : List Reply
 redemption_stops_replies =
-    said 3 []
-    ∷ said 3 []
-    ∷ said 6 (4220000000 ∷ 20000000 ∷ [])
-    ∷ said 6 (4220000000 ∷ 20000000 ∷ [])
-    ∷ said 5 []
-    ∷ said 2 (20159 ∷ [])
-    ∷ No (Bootstrap 20159 20160)
-    ∷ said 2 (20160 ∷ [])
-    ∷ said 14 (4020000000 ∷ 4020000000 ∷ 977469668 ∷ 238151658767772511 ∷ [])
+    bootstrap_ends_replies
+    ++ said 14 (4020000000 ∷ 4020000000 ∷ 977469668 ∷ 238151658767772511 ∷ [])
     ∷ []
 
 abbrev pub numbers : List Request

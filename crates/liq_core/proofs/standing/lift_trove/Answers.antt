@@ -11,8 +11,8 @@ use Rattle.liq_core.proofs.standing.lift_trove.Goals as goal
 
 pub lift-requires-clause-listed : goal.lift-requires-clause-listed
 lift-requires-clause-listed c =
-    subst (λ (l : List Ranked). IsSome (key_in l c.args.account)) (sym c.requires.list)
-    (listed_where c.args.troves.now.table.rows c.args.account c.requires.stand.ascend c.requires.there)
+    subst (λ (l : List Ranked). IsSome (key_in l c.args.account)) (sym c.requires.held.list)
+    (listed_where c.args.troves.now.table.rows c.args.account c.requires.held.stand.ascend c.requires.there)
 
 pub returns-clause-others : goal.returns-clause-others
 returns-clause-others c = others_of c.args.pools.now c.lift.new.pools (books_kept c.lift.new.troves c.lift.new.pools) c.lift.ensures.rest
@@ -20,6 +20,6 @@ returns-clause-others c = others_of c.args.pools.now c.lift.new.pools (books_kep
 pub returns-clause-list : goal.returns-clause-list
 returns-clause-list c =
     c.lift.ensures.list
-    ∙ ap (λ (l : List Ranked). without_ranked l c.args.account) c.requires.list
-    ∙ sym (left_order c.args.troves.now.table.rows c.args.account c.requires.stand.ascend)
+    ∙ ap (λ (l : List Ranked). without_ranked l c.args.account) c.requires.held.list
+    ∙ sym (left_order c.args.troves.now.table.rows c.args.account c.requires.held.stand.ascend)
     ∙ ap (λ (t : Table Trove). order_by t) (sym c.lift.ensures.rows)

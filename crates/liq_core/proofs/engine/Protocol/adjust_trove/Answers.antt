@@ -20,14 +20,8 @@ overflow_add-self g c = let may = adjusts_so c.self.inside c.args.self.now c.sel
 pub change_trove-requires-clause-there : goal.change_trove-requires-clause-there
 change_trove-requires-clause-there g c = (adjusts_so c.self.inside c.args.self.now c.self.view_is c.self.invariant c.args.account c.requires.range c.args.change.now c.args.plan.now c.requires.terms c.requires.allowed).there
 
-pub change_trove-requires-clause-stand : goal.change_trove-requires-clause-stand
-change_trove-requires-clause-stand g c = books_stand c.self.inside c.self.invariant
-
-pub change_trove-requires-clause-coll : goal.change_trove-requires-clause-coll
-change_trove-requires-clause-coll g c = coll_held c.self.inside c.self.invariant
-
-pub change_trove-requires-clause-debt : goal.change_trove-requires-clause-debt
-change_trove-requires-clause-debt g c = debt_held c.self.inside c.self.invariant
+pub change_trove-requires-clause-held : goal.change_trove-requires-clause-held
+change_trove-requires-clause-held g c = record { stand = books_stand c.self.inside c.self.invariant; list = c.self.invariant.order; coll = coll_held c.self.inside c.self.invariant; debt = debt_held c.self.inside c.self.invariant }
 
 pub change_trove-requires-clause-some : goal.change_trove-requires-clause-some
 change_trove-requires-clause-some g c = (adjusts_so c.self.inside c.args.self.now c.self.view_is c.self.invariant c.args.account c.requires.range c.args.change.now c.args.plan.now c.requires.terms c.requires.allowed).some

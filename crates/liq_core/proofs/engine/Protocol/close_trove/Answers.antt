@@ -19,14 +19,8 @@ overflow_sub-self c =
 pub lift_trove-requires-clause-there : goal.lift_trove-requires-clause-there
 lift_trove-requires-clause-there c = (closes_so c.self.inside c.args.self.now c.self.view_is c.self.invariant c.args.account c.requires.range c.args.repaid c.args.coll c.requires.terms c.requires.allowed).there
 
-pub lift_trove-requires-clause-stand : goal.lift_trove-requires-clause-stand
-lift_trove-requires-clause-stand c = books_stand c.self.inside c.self.invariant
-
-pub lift_trove-requires-clause-coll : goal.lift_trove-requires-clause-coll
-lift_trove-requires-clause-coll c = coll_held c.self.inside c.self.invariant
-
-pub lift_trove-requires-clause-debt : goal.lift_trove-requires-clause-debt
-lift_trove-requires-clause-debt c = debt_held c.self.inside c.self.invariant
+pub lift_trove-requires-clause-held : goal.lift_trove-requires-clause-held
+lift_trove-requires-clause-held c = record { stand = books_stand c.self.inside c.self.invariant; list = c.self.invariant.order; coll = coll_held c.self.inside c.self.invariant; debt = debt_held c.self.inside c.self.invariant }
 
 pub invariant_of-self : goal.invariant_of-self
 invariant_of-self c =

@@ -13,14 +13,8 @@ unreachable-requires g c = refused_not c.withdraw.result _ _ c.in-Err.is (c.with
 pub change_trove-requires-clause-there : goal.change_trove-requires-clause-there
 change_trove-requires-clause-there g c = (moves_so c.self.inside c.args.self.now c.self.view_is c.self.invariant c.args.account c.args.plan.now c.requires.range c.requires.terms c.requires.allowed).there
 
-pub change_trove-requires-clause-stand : goal.change_trove-requires-clause-stand
-change_trove-requires-clause-stand g c = books_stand c.self.inside c.self.invariant
-
-pub change_trove-requires-clause-coll : goal.change_trove-requires-clause-coll
-change_trove-requires-clause-coll g c = coll_held c.self.inside c.self.invariant
-
-pub change_trove-requires-clause-debt : goal.change_trove-requires-clause-debt
-change_trove-requires-clause-debt g c = debt_held c.self.inside c.self.invariant
+pub change_trove-requires-clause-held : goal.change_trove-requires-clause-held
+change_trove-requires-clause-held g c = record { stand = books_stand c.self.inside c.self.invariant; list = c.self.invariant.order; coll = coll_held c.self.inside c.self.invariant; debt = debt_held c.self.inside c.self.invariant }
 
 pub change_trove-requires-clause-some : goal.change_trove-requires-clause-some
 change_trove-requires-clause-some g c = (moves_so c.self.inside c.args.self.now c.self.view_is c.self.invariant c.args.account c.args.plan.now c.requires.range c.requires.terms c.requires.allowed).some
