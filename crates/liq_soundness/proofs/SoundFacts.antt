@@ -162,61 +162,45 @@ in_order s h = (h.wallets.ascend, trove_table s h.troves.ascend, h.surplus.ascen
 -- ---- payments
 
 module _ {most : ℕ} (s : State) (account : ℕ) (k : account < ACCOUNTS) (h : Stands most s) where
-  pub paid_stands : (coll lusd : ℕ) → Stands most (credited s account coll lusd)
-  paid_stands coll lusd =
+  wallet_stands : (w : Wallet) → Stands most (record s { wallets = with_wallet s.wallets account w })
+  wallet_stands w =
       record {
         formed = h.formed;
         troves = h.troves;
         pool = h.pool;
         spread = h.spread;
-        wallets = wallet_rows s.wallets account (record { coll = (wallet_of s account).coll + coll; lusd = (wallet_of s account).lusd + lusd }) k h.wallets;
+        wallets = wallet_rows s.wallets account w k h.wallets;
         surplus = h.surplus;
         trove_keys = h.trove_keys;
         deposit_keys = h.deposit_keys;
         clients = h.clients;
       }
 
+  pub paid_stands : (coll lusd : ℕ) → Stands most (credited s account coll lusd)
+  paid_stands coll lusd = wallet_stands (record { coll = (wallet_of s account).coll + coll; lusd = (wallet_of s account).lusd + lusd })
+
   pub charged_stands : (coll lusd : ℕ) → Stands most (charged s account coll lusd)
-  charged_stands coll lusd =
+  charged_stands coll lusd = wallet_stands (record { coll = (wallet_of s account).coll - coll; lusd = (wallet_of s account).lusd - lusd })
+
+  surplus_stands : (total coll : ℕ) → Stands most (record s { surplus = total; surplus_rows = with_surplus s.surplus_rows account coll })
+  surplus_stands total coll =
       record {
         formed = h.formed;
         troves = h.troves;
         pool = h.pool;
         spread = h.spread;
-        wallets = wallet_rows s.wallets account (record { coll = (wallet_of s account).coll - coll; lusd = (wallet_of s account).lusd - lusd }) k h.wallets;
-        surplus = h.surplus;
+        wallets = h.wallets;
+        surplus = surplus_rows s.surplus_rows account coll k h.surplus;
         trove_keys = h.trove_keys;
         deposit_keys = h.deposit_keys;
         clients = h.clients;
       }
 
   pub added_stands : (coll : ℕ) → Stands most (surplus_added s account coll)
-  added_stands coll =
-      record {
-        formed = h.formed;
-        troves = h.troves;
-        pool = h.pool;
-        spread = h.spread;
-        wallets = h.wallets;
-        surplus = surplus_rows s.surplus_rows account _ k h.surplus;
-        trove_keys = h.trove_keys;
-        deposit_keys = h.deposit_keys;
-        clients = h.clients;
-      }
+  added_stands coll = surplus_stands (s.surplus + coll) (surplus_in s.surplus_rows account + coll)
 
   pub taken_stands : Stands most (surplus_taken s account)
-  taken_stands =
-      record {
-        formed = h.formed;
-        troves = h.troves;
-        pool = h.pool;
-        spread = h.spread;
-        wallets = h.wallets;
-        surplus = surplus_rows s.surplus_rows account 0 k h.surplus;
-        trove_keys = h.trove_keys;
-        deposit_keys = h.deposit_keys;
-        clients = h.clients;
-      }
+  taken_stands = surplus_stands (s.surplus - surplus_in s.surplus_rows account) 0
 
 -- ---- troves
 
