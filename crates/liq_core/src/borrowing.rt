@@ -188,15 +188,8 @@ impl Protocol {
         );
         self.rate = plan.rate;
         self.pools.fee_lusd += plan.fee;
-        change_trove(
-            &mut self.pools,
-            &mut self.troves,
-            &mut self.order,
-            account,
-            plan,
-            hint,
-            steps,
-        );
+        let (pools, troves) = (&mut self.pools, &mut self.troves);
+        change_trove(pools, troves, &mut self.order, account, plan, hint, steps);
     }
 
     /// Closes the account's trove: its debt beside the reserve is repaid, the reserve is burned, and its collateral returns.

@@ -196,14 +196,7 @@ impl Protocol {
             Ok(_) => {}
             Err(_) => unreachable!(),
         }
-        change_trove(
-            &mut self.pools,
-            &mut self.troves,
-            &mut self.order,
-            account,
-            plan,
-            hint,
-            steps,
-        );
+        let (pools, troves) = (&mut self.pools, &mut self.troves);
+        change_trove(pools, troves, &mut self.order, account, plan, hint, steps);
     }
 }

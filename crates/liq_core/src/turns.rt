@@ -151,6 +151,8 @@ pub enum Turn {
 /// Why a command cannot be planned. Nothing has changed.
 #[derive(Drop)]
 pub enum PlanFault {
+    /// It is refused.
     No(Refusal),
+    /// There is no memory for the list of troves that it plans. It passed all that is tested without the list.
     NoMemory,
 }
