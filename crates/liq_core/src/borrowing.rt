@@ -148,16 +148,8 @@ impl Protocol {
         self.rate = plan.rate;
         self.pools.fee_lusd += plan.fee;
         self.pools.reserve += RESERVE;
-        place_trove(
-            &mut self.pools,
-            &mut self.troves,
-            &mut self.order,
-            account,
-            coll,
-            plan.debt,
-            hint,
-            steps,
-        );
+        let (pools, troves) = (&mut self.pools, &mut self.troves);
+        place_trove(pools, troves, &mut self.order, account, plan, hint, steps);
     }
 
     /// Adjusts the account's trove as it is planned: the owner gives and gets what is asked.

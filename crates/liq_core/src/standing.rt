@@ -32,31 +32,31 @@ pub(crate) fn lift_trove(pools: &mut Pools, troves: &mut Troves, order: &mut Ord
     lift(pools, troves, order, account);
 }
 
-/// A trove of the account comes into the table, the active pool and the list, with these amounts in gwei and micro-LUSD and
-/// nothing pending. The other pools stay.
+/// A trove of the account comes into the table, the active pool and the list, with what is planned and nothing pending. The
+/// other pools stay.
 pub(crate) fn place_trove<L: Ledger>(
     pools: &mut Pools,
     troves: &mut Troves,
     order: &mut Order,
     account: u32,
-    coll: u64,
-    debt: u64,
+    plan: &Plan,
     hint: &Hint,
     steps: &mut Steps<L>,
 )
     requires absent { at troves.old.table.rows account ≡ None }
     requires stand { TrovesStand (books_kept troves.old pools.old) }
     requires list { order.old.entries ≡ order_by troves.old.table.rows }
-    requires some { 1 ≤ coll }
-    requires least { RESERVE + MIN_NET ≤ debt }
-    requires coll { pools.old.active_coll + coll ≤ LIM }
-    requires debt { pools.old.active_debt + debt ≤ LIM }
+    requires some { 1 ≤ plan.now.coll }
+    requires least { RESERVE + MIN_NET ≤ plan.now.debt }
+    requires coll { pools.old.active_coll + plan.now.coll ≤ LIM }
+    requires debt { pools.old.active_debt + plan.now.debt ≤ LIM }
     requires room { HasRoom troves.old.table account }
     requires spare { 1 ≤ order.old.room }
-    ensures books { books_kept troves.new pools.new ≡ placed (books_kept troves.old pools.old) account coll debt }
+    ensures books { books_kept troves.new pools.new ≡ placed (books_kept troves.old pools.old) account plan.now.coll plan.now.debt }
     ensures others { SameOthers pools.old pools.new }
     ensures list { order.new.entries ≡ order_by troves.new.table.rows }
 {
+    let (coll, debt) = (plan.coll, plan.debt);
     place(pools, troves, order, account, coll, debt, hint, steps);
 }
 
@@ -81,6 +81,5 @@ pub(crate) fn change_trove<L: Ledger>(
     ensures list { order.new.entries ≡ order_by troves.new.table.rows }
 {
     lift_trove(pools, troves, order, account);
-    let (coll, debt) = (plan.coll, plan.debt);
-    place_trove(pools, troves, order, account, coll, debt, hint, steps);
+    place_trove(pools, troves, order, account, plan, hint, steps);
 }

@@ -19,7 +19,7 @@ returns-clause-others g c = others_of c.args.pools.now c.place.new.pools (books_
 
 pub returns-clause-list : goal.returns-clause-list
 returns-clause-list g c =
-    let row = set_row c.args.troves.now.sums c.args.coll c.args.debt in
+    let row = set_row c.args.troves.now.sums c.args.plan.now.coll c.args.plan.now.debt in
     c.place.ensures.list
     ∙ ap (λ (l : List Ranked). with_ranked l (key_by row, c.args.account)) c.requires.list
     ∙ sym (more_list c.args.troves.now.table.rows c.args.account row c.requires.absent)
