@@ -161,20 +161,14 @@ in_order s h = (h.wallets.ascend, trove_table s h.troves.ascend, h.surplus.ascen
 
 -- ---- payments
 
+-- other wallets, and another surplus of the owners
+rows_stand : {most : ℕ} (s : State) (wallets : Table Wallet) (total : ℕ) (rows : Table ℕ) → WalletRows wallets → SurplusRows rows → Stands most s → Stands most (record s { wallets = wallets; surplus = total; surplus_rows = rows })
+rows_stand s wallets total rows w r h =
+    record { formed = h.formed; troves = h.troves; pool = h.pool; spread = h.spread; wallets = w; surplus = r; trove_keys = h.trove_keys; deposit_keys = h.deposit_keys; clients = h.clients }
+
 module _ {most : ℕ} (s : State) (account : ℕ) (k : account < ACCOUNTS) (h : Stands most s) where
   wallet_stands : (w : Wallet) → Stands most (record s { wallets = with_wallet s.wallets account w })
-  wallet_stands w =
-      record {
-        formed = h.formed;
-        troves = h.troves;
-        pool = h.pool;
-        spread = h.spread;
-        wallets = wallet_rows s.wallets account w k h.wallets;
-        surplus = h.surplus;
-        trove_keys = h.trove_keys;
-        deposit_keys = h.deposit_keys;
-        clients = h.clients;
-      }
+  wallet_stands w = rows_stand s (with_wallet s.wallets account w) s.surplus s.surplus_rows (wallet_rows s.wallets account w k h.wallets) h.surplus h
 
   pub paid_stands : (coll lusd : ℕ) → Stands most (credited s account coll lusd)
   paid_stands coll lusd = wallet_stands (record { coll = (wallet_of s account).coll + coll; lusd = (wallet_of s account).lusd + lusd })
@@ -183,18 +177,7 @@ module _ {most : ℕ} (s : State) (account : ℕ) (k : account < ACCOUNTS) (h : 
   charged_stands coll lusd = wallet_stands (record { coll = (wallet_of s account).coll - coll; lusd = (wallet_of s account).lusd - lusd })
 
   surplus_stands : (total coll : ℕ) → Stands most (record s { surplus = total; surplus_rows = with_surplus s.surplus_rows account coll })
-  surplus_stands total coll =
-      record {
-        formed = h.formed;
-        troves = h.troves;
-        pool = h.pool;
-        spread = h.spread;
-        wallets = h.wallets;
-        surplus = surplus_rows s.surplus_rows account coll k h.surplus;
-        trove_keys = h.trove_keys;
-        deposit_keys = h.deposit_keys;
-        clients = h.clients;
-      }
+  surplus_stands total coll = rows_stand s s.wallets total (with_surplus s.surplus_rows account coll) h.wallets (surplus_rows s.surplus_rows account coll k h.surplus) h
 
   pub added_stands : (coll : ℕ) → Stands most (surplus_added s account coll)
   added_stands coll = surplus_stands (s.surplus + coll) (surplus_in s.surplus_rows account + coll)
