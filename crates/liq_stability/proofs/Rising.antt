@@ -6,7 +6,7 @@ use Rattle.std.proofs.lemmas.Bool.{cases_lt}
 use Rattle.std.proofs.lemmas.Bool.Decides.{nat_tests}
 use Rattle.std.proofs.lemmas.Nat.{pow-add}
 use Rattle.liq_types.specs.declared.amounts.TheConstants.{LIM, P_LEAST, P_OPENING, RISES_MOST}
-use Rattle.liq_types.specs.Product.{ScaledProduct, IsWithinRange, TakesPart, product_after, rise_of}
+use Rattle.liq_types.specs.Product.{ScaledProduct, IsWithinRange, TakesPart, TakesPartUpTo, product_after, rise_of}
 use Rattle.liq_types.specs.Soundness.{is_product}
 use Rattle.liq_types.specs.State.{PoolOffset}
 use Rattle.liq_types.proofs.Ranges.{offset_within, rise_few, rise_no_more}
@@ -35,6 +35,20 @@ next_power : (j : ℕ) → 10 ^ (9 * (j + 1)) ≡ 10 ^ (9 * j) * 1000000000
 next_power j = ap (λ n. 10 ^ n) (nine j) ∙ pow-add 10 (9 * j) 9 where
   nine : (i : ℕ) → 9 * (i + 1) ≡ 9 * i + 9
   nine i = omega arith
+
+-- what is divided for a rise, up to the one that suffices, is below the whole of all that the pool has
+module _ (most : ℕ) (served : most ≤ 10 ^ (9 * RISES_MOST)) (w : ScaledProduct) (o : PoolOffset) (range : IsWithinRange w) (takes : TakesPartUpTo most o) (less : o.debt < o.total) where
+  raised_next : (before : ℕ) → before < rise_of w.p o → w.p * ((o.total - o.debt) * 10 ^ (9 * (before + 1))) < P_OPENING * o.total
+  raised_next before few =
+      let pos : 0 < o.total = omega (arith, less) in
+      let low : w.p * ((o.total - o.debt) * 10 ^ (9 * before)) < P_LEAST * o.total = (div-lt_iff_lt-mul pos).0 (rise_no_more most served w o range takes before few) in
+      let more : w.p * ((o.total - o.debt) * 10 ^ (9 * (before + 1))) ≡ w.p * ((o.total - o.debt) * (10 ^ (9 * before) * 1000000000)) = ap (λ n. w.p * ((o.total - o.debt) * n)) (next_power before) in
+      omega (arith, low, more)
+
+  pub raised_below : (rise : ℕ) → 1 ≤ rise → rise ≤ rise_of w.p o → w.p * ((o.total - o.debt) * 10 ^ (9 * rise)) < P_OPENING * o.total
+  raised_below rise some few =
+      let is : rise - 1 + 1 ≡ rise = omega arith in
+      subst (λ n. w.p * ((o.total - o.debt) * 10 ^ (9 * n)) < P_OPENING * o.total) is (raised_next (rise - 1) (omega arith))
 
 module _ (w : ScaledProduct) (o : PoolOffset) (range : IsWithinRange w) (takes : TakesPart o) (less : o.debt < o.total) where
   pub first_try : IsTried w.p o (w.p * (o.total - o.debt)) 0

@@ -101,7 +101,8 @@ left_in deposits now account amount =
 
 -- LUSD is put in and paid out, and the gain is paid
 abbrev pub words_owned : PoolWords → ℕ → ℕ → ℕ → PoolWords
-words_owned words put_in paid_out gain = record words { total = words.total + put_in - paid_out; coll = words.coll - gain }
+words_owned words put_in paid_out gain =
+    record words { total = words.total + put_in - paid_out; coll = words.coll - gain }
 
 abbrev pub deposit_rules : Table Deposit → ℕ → List Rule
 deposit_rules deposits account = (is_none (at deposits account), NoDeposit account) ∷ []

@@ -42,5 +42,6 @@ abbrev pub gain_carried : State → ℕ → ℕ → ℕ
 gain_carried s amount items =
     let before = take items s.offsets in
     let w = fold after_offset opening_words before in
-    let mark : PoolMark = record { p = w.p; sum = carried_at opening_words 0 before (place_of w); scale = w.scale; epoch = w.epoch } in
+    let sum = carried_at opening_words 0 before (place_of w) in
+    let mark : PoolMark = record { p = w.p; sum = sum; scale = w.scale; epoch = w.epoch } in
     gain_by amount mark (λ i. carried_at opening_words 0 s.offsets (w.epoch, w.scale + i))

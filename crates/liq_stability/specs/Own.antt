@@ -22,7 +22,9 @@ owned s account put_in paid_out =
       provided = s.provided + put_in;
       withdrawn = s.withdrawn + paid_out;
       gains_paid = s.gains_paid + gain_of s account;
-      deposits = with_deposit s.deposits account (record { amount = amount_after s account put_in paid_out; mark = After (length s.offsets) });
+      deposits =
+          let left = amount_after s account put_in paid_out in
+          with_deposit s.deposits account (record { amount = left; mark = After (length s.offsets) });
     }
 
 -- the pool takes over debt for collateral; no deposit changes

@@ -14,5 +14,7 @@ gained_of s account events = gain_of s account + gains_paid_to account events
 pub record IsWithinAllowance (s : State) (account : ℕ) (events : List PoolEvent) : Type 0 where
   pub balance_at_most : balance_of s account * (exact_share account events).den ≤ (exact_share account events).bal
   pub gain_at_most : gained_of s account events * (exact_share account events).den ≤ (exact_share account events).gain
-  pub balance_at_least : (exact_share account events).bal ≤ (balance_of s account + balance_allowance account events) * (exact_share account events).den
-  pub gain_at_least : (exact_share account events).gain ≤ (gained_of s account events + gain_allowance account events) * (exact_share account events).den
+  pub balance_at_least : (exact_share account events).bal
+      ≤ (balance_of s account + balance_allowance account events) * (exact_share account events).den
+  pub gain_at_least : (exact_share account events).gain
+      ≤ (gained_of s account events + gain_allowance account events) * (exact_share account events).den

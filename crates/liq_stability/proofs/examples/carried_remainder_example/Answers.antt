@@ -2,18 +2,11 @@ use Rattle.std.proofs.Common.{refl, arith}
 use Rattle.liq_types.specs.Product.{least_from}
 use Rattle.liq_stability.proofs.examples.carried_remainder_example.Goals as goal
 
-pub returns-clause-lawful : goal.returns-clause-lawful
+pub returns : goal.returns
 unfolding least_from
-returns-clause-lawful c = (record { total = omega arith; coll = omega arith }, record { gain_is = refl; paid_is = omega arith; amount_is = refl }, (record { total = omega arith; coll = omega arith }, record { some = omega arith; within = omega arith; total_is = refl; coll_is = omega arith; rise_is = refl }, (record { total = omega arith; coll = omega arith }, record { gain_is = refl; paid_is = omega arith; amount_is = refl }, (record { total = omega arith; coll = omega arith }, record { some = omega arith; within = omega arith; total_is = refl; coll_is = omega arith; rise_is = refl }, (record { total = omega arith; coll = omega arith }, record { gain_is = refl; paid_is = omega arith; amount_is = refl }, (record { total = omega arith; coll = omega arith }, record { gain_is = refl; paid_is = omega arith; amount_is = refl }, (record { total = omega arith; coll = omega arith }, record { some = omega arith; within = omega arith; total_is = refl; coll_is = omega arith; rise_is = refl }, record { total = omega arith; coll = omega arith })))))))
-
-pub returns-clause-carried : goal.returns-clause-carried
-unfolding least_from
-returns-clause-carried c = refl
-
-pub returns-clause-passed : goal.returns-clause-passed
-unfolding least_from
-returns-clause-passed c = omega arith
-
-pub returns-clause-dropped : goal.returns-clause-dropped
-unfolding least_from
-returns-clause-dropped c = refl
+returns c = record {
+  lawful = (record { total = omega arith; coll = omega arith }, record { gain_is = refl; paid_is = omega arith; amount_is = refl }, (record { total = omega arith; coll = omega arith }, record { some = omega arith; within = omega arith; total_is = refl; coll_is = omega arith; rise_is = refl }, (record { total = omega arith; coll = omega arith }, record { gain_is = refl; paid_is = omega arith; amount_is = refl }, (record { total = omega arith; coll = omega arith }, record { some = omega arith; within = omega arith; total_is = refl; coll_is = omega arith; rise_is = refl }, (record { total = omega arith; coll = omega arith }, record { gain_is = refl; paid_is = omega arith; amount_is = refl }, (record { total = omega arith; coll = omega arith }, record { gain_is = refl; paid_is = omega arith; amount_is = refl }, (record { total = omega arith; coll = omega arith }, record { some = omega arith; within = omega arith; total_is = refl; coll_is = omega arith; rise_is = refl }, record { total = omega arith; coll = omega arith })))))));
+  carried = refl;
+  passed = omega arith;
+  dropped = refl;
+}
