@@ -35,6 +35,7 @@ use Rattle.liq_troves.proofs.Parts.{pending_near_part}
 use Rattle.liq_troves.proofs.Standing.{trove_within, entire_within, stakes_within}
 use Rattle.liq_stability.specs.Position.{words_of, mark_of, deposit_row, sums_from}
 use Rattle.liq_stability.proofs.Pool.{offset_now}
+use Rattle.liq_stability.proofs.Rising.{raised_below}
 use Rattle.liq_rules.specs.Image.{image}
 use Rattle.liq_rules.specs.Rules.{rules, effect}
 use Rattle.liq_soundness.specs.SoundState.{IsSoundState, IsSetSince, AreSetSince, AmountsWithin, SnapshotWithin, WordsWithin, TroveIsCovered, DepositIsCovered, PoolIsWhole}
@@ -306,6 +307,11 @@ rise_fits s range limit debt coll some less steps few = by (cases_lt steps (rise
       let low = rise_no_more LIM served_limit (words_of s) (offset_now s debt coll) range takes steps earlier in
       under P_OPENING (omega arith) (omega (arith, low))
   by (inr last) = under P_OPENING (omega arith) (reached (omega (arith, last, few)))
+
+-- where the scale rises it is below the whole of all that the pool has
+pub raised_fits : (s : State) → IsSoundState s → (debt coll : ℕ) → 1 ≤ debt → debt < pool_total s → (steps : ℕ) → 1 ≤ steps → steps ≤ rise_of (words_of s).p (offset_now s debt coll) → (words_of s).p * ((pool_total s - debt) * 10 ^ (9 * steps)) < P_OPENING * pool_total s
+raised_fits s h debt coll some less =
+    raised_below LIM served_limit (words_of s) (offset_now s debt coll) (words_within s h).product (record { some = some; within = omega (arith, less); limit = (amounts_within s h).pool_total }) less
 
 pub product_fits : (s : State) → IsSoundState s → (debt coll : ℕ) → 1 ≤ debt → debt < pool_total s → (steps : ℕ) → steps ≤ rise_of (words_of s).p (offset_now s debt coll) → (words_of s).p * ((pool_total s - debt) * 10 ^ (9 * steps)) < (P_OPENING + 1) * LIM
 product_fits s h debt coll some less steps few = rise_fits s (words_within s h).product (amounts_within s h).pool_total debt coll some less steps few

@@ -121,7 +121,8 @@ pub fn nothing_is_cut_at_zero()
 {}
 
 /// The products that are divided stay below 2^128. Of the Stability Pool: a deposit's amount times the product or any sum, what an
-/// offset makes of the product, for each rise of the scale that is tried, and the collateral of an offset times the product. Of
+/// offset makes of the product, for each rise of the scale that is tried (and where there is one, below 10^18 times what the pool
+/// has), and the collateral of an offset times the product. Of
 /// troves: what is due to one before any rounding (which is not bounded by the stake and the sums alone), its debt for its key, and
 /// its collateral times the stakes of a snapshot, where these have 64 bits, as they have in each state that is reached from the
 /// opening. Of a liquidation: the cap on the collateral, the pool's share of it and what is spread, also along the lowest troves.
@@ -139,6 +140,9 @@ pub fn products_fit()
     ensures own { (s : State) → IsSoundState s → (account : ℕ) → (own : ℕ × ℕ) → entire_of s account ≡ Some own → OwnFits s own }
     ensures lowest { (s : State) → IsSoundState s → (count : ℕ) → StruckFit s (lowest s count) }
     ensures rise { (s : State) → IsWithinRange (words_of s) → pool_total s ≤ LIM → (debt coll : ℕ) → 1 ≤ debt → debt < pool_total s → (steps : ℕ) → steps ≤ rise_of (words_of s).p (record { debt = debt; coll = coll; total = pool_total s }) → (words_of s).p * ((pool_total s - debt) * 10 ^ (9 * steps)) < (P_OPENING + 1) * LIM }
+    ensures raised { (s : State) → IsSoundState s → (debt coll : ℕ) → 1 ≤ debt → debt < pool_total s → (steps : ℕ) → 1 ≤ steps
+        → steps ≤ rise_of (words_of s).p (record { debt = debt; coll = coll; total = pool_total s })
+        → (words_of s).p * ((pool_total s - debt) * 10 ^ (9 * steps)) < P_OPENING * pool_total s }
     ensures key { (s : State) → IsSoundState s → (account : ℕ) → (t : TroveEntry) → at s.troves account ≡ Some t → t.debt * ONE ≤ ONE * LIM }
     ensures draw { (s : State) → IsSoundState s → (account : ℕ) → (own : ℕ × ℕ) → entire_of s account ≡ Some own → (lot : ℕ) → lot ≤ own.1 → lot * GWEI_PER_ETH ≤ GWEI_PER_ETH * LIM }
     ensures redeem { (s : State) → IsSoundState s → (account amount : ℕ) → amount ≤ (wallet_of s account).lusd → redeemed (cuts_in s amount) * ONE ≤ ONE * LIM }

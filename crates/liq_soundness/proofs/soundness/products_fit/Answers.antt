@@ -1,5 +1,5 @@
 use Rattle.std.proofs.Common.{arith}
-use Rattle.liq_soundness.proofs.SoundBounds.{due_fits, deposit_fits, rise_fits, product_fits}
+use Rattle.liq_soundness.proofs.SoundBounds.{due_fits, deposit_fits, rise_fits, raised_fits, product_fits}
 use Rattle.liq_soundness.proofs.SoundProducts.{offset_fits, liquidate_fits, key_fits, own_sound_fits, lowest_sound_fit, draw_fits, redeem_fits, decay_fits, rate_fits, fees_fit, stake_fits, stake_reached_fits}
 use Rattle.liq_soundness.proofs.soundness.products_fit.Goals as goal
 
@@ -38,6 +38,9 @@ returns-clause-lowest c = lowest_sound_fit
 
 pub returns-clause-rise : goal.returns-clause-rise
 returns-clause-rise c = rise_fits
+
+pub returns-clause-raised : goal.returns-clause-raised
+returns-clause-raised c = raised_fits
 
 pub returns-clause-draw : goal.returns-clause-draw
 returns-clause-draw c = draw_fits
