@@ -19,7 +19,8 @@ use Rattle.liq_text.specs.declared.names.Verb.{Verb}
 use Rattle.liq_text.specs.declared.names.Verb.TheVariants as verbs
 use Rattle.liq_text.specs.declared.names.Topic.{Topic}
 use Rattle.liq_text.specs.declared.names.Topic.TheVariants as topics
-use Rattle.liq_text.specs.Names.{verb_of, topic_of}
+use Rattle.liq_text.specs.declared.names.TheConstants.{VERBS, TOPICS}
+use Rattle.liq_text.specs.Names.{named, verb_of, topic_of}
 use Rattle.liq_text.proofs.Named.{verb_name, topic_name}
 use Rattle.liq_text.specs.Spelling.{Word, text, account, number, Spell, SpellEach, call_words, query_words, request_words}
 use Rattle.liq_text.specs.Reading.{◌>>=◌, number_of, account_of, first, others, fields, verb_kinds, call_with, topic_kinds, query_with, arguments_of, subject_of, call_of, query_of, request_of}
@@ -41,32 +42,17 @@ spell_parts (piece ∷ rest) word words s = record { piece = piece; rest = rest;
 
 -- ---- the verbs
 
--- a name that was found is how the word is written
-verb_named : (word name : List ℕ) (verb found : Verb) (rest : Option Verb) → name ≡ verb_name verb → cond (bytes_eq word name) (Some verb) rest ≡ Some found → (rest ≡ Some found → word ≡ verb_name found) → word ≡ verb_name found
-verb_named word name verb found rest is_name e more = elim (either_some (bytes_eq word name) (Some verb) rest found e) [
-  | inl g ↦ (bytes_eq-Decides word name).0 g.0 ∙ is_name ∙ ap verb_name (same_Some verb found g.1)
-  | inr g ↦ more g.1
-]
+-- the name that was found is how the word is written
+module _ {R A : Type 0} (name : R → List ℕ) (meant : R → A) (name_of : A → List ℕ) where
+  named_takes : (rows : List R) (word : List ℕ) (found : A) → AllByRecursion (λ (row : R). name row ≡ name_of (meant row)) rows → named name meant rows word ≡ Some found → word ≡ name_of found
+  named_takes [] word found all e = absurd cc
+  named_takes (row ∷ rows) word found all e = elim (either_some (bytes_eq word (name row)) (Some (meant row)) (named name meant rows word) found e) [
+    | inl g ↦ (bytes_eq-Decides word (name row)).0 g.0 ∙ all.0 ∙ ap name_of (same_Some (meant row) found g.1)
+    | inr g ↦ named_takes rows word found all.1 g.1
+  ]
 
 verb_takes : (word : List ℕ) (found : Verb) → verb_of word ≡ Some found → word ≡ verb_name found
-verb_takes word found e =
-    verb_named word (codes "price") verbs.Price found _ refl e (λ e1.
-    verb_named word (codes "advance") verbs.Advance found _ refl e1 (λ e2.
-    verb_named word (codes "fund") verbs.Fund found _ refl e2 (λ e3.
-    verb_named word (codes "take") verbs.Take found _ refl e3 (λ e4.
-    verb_named word (codes "send") verbs.Send found _ refl e4 (λ e5.
-    verb_named word (codes "open") verbs.Open found _ refl e5 (λ e6.
-    verb_named word (codes "adjust") verbs.Adjust found _ refl e6 (λ e7.
-    verb_named word (codes "close") verbs.Close found _ refl e7 (λ e8.
-    verb_named word (codes "provide") verbs.Provide found _ refl e8 (λ e9.
-    verb_named word (codes "withdraw") verbs.Withdraw found _ refl e9 (λ e10.
-    verb_named word (codes "gain_to_trove") verbs.GainToTrove found _ refl e10 (λ e11.
-    verb_named word (codes "liquidate") verbs.Liquidate found _ refl e11 (λ e12.
-    verb_named word (codes "liquidate_lowest") verbs.LiquidateLowest found _ refl e12 (λ e13.
-    verb_named word (codes "redeem") verbs.Redeem found _ refl e13 (λ e14.
-    verb_named word (codes "claim") verbs.Claim found _ refl e14 (λ e15.
-    verb_named word (codes "rotate") verbs.Rotate found _ refl e15 (λ e16.
-    absurd cc))))))))))))))))
+verb_takes word found e = named_takes (λ row. row.0.now) (λ row. row.1) verb_name VERBS word found ((refl, (refl, (refl, (refl, (refl, (refl, (refl, (refl, (refl, (refl, (refl, (refl, (refl, (refl, (refl, (refl, tt))))))))))))))))) e
 
 verb_again : (verb : Verb) → verb_of (verb_name verb) ≡ Some verb
 verb_again verbs.Price = refl
@@ -176,22 +162,8 @@ call_plain pieces x s =
 
 -- ---- the topics
 
--- a name that was found is how the word is written
-topic_named : (word name : List ℕ) (topic found : Topic) (rest : Option Topic) → name ≡ topic_name topic → cond (bytes_eq word name) (Some topic) rest ≡ Some found → (rest ≡ Some found → word ≡ topic_name found) → word ≡ topic_name found
-topic_named word name topic found rest is_name e more = elim (either_some (bytes_eq word name) (Some topic) rest found e) [
-  | inl g ↦ (bytes_eq-Decides word name).0 g.0 ∙ is_name ∙ ap topic_name (same_Some topic found g.1)
-  | inr g ↦ more g.1
-]
-
 topic_takes : (word : List ℕ) (found : Topic) → topic_of word ≡ Some found → word ≡ topic_name found
-topic_takes word found e =
-    topic_named word (codes "wallet") topics.Wallet found _ refl e (λ e1.
-    topic_named word (codes "trove") topics.Trove found _ refl e1 (λ e2.
-    topic_named word (codes "deposit") topics.Deposit found _ refl e2 (λ e3.
-    topic_named word (codes "pools") topics.Pools found _ refl e3 (λ e4.
-    topic_named word (codes "system") topics.System found _ refl e4 (λ e5.
-    topic_named word (codes "next_number") topics.NextNumber found _ refl e5 (λ e6.
-    absurd cc))))))
+topic_takes word found e = named_takes (λ row. row.0.now) (λ row. row.1) topic_name TOPICS word found ((refl, (refl, (refl, (refl, (refl, (refl, tt))))))) e
 
 topic_again : (topic : Topic) → topic_of (topic_name topic) ≡ Some topic
 topic_again topics.Wallet = refl

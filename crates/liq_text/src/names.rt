@@ -1,7 +1,7 @@
 //! The verbs and the names of queries.
 
 ghost use Rattle.std.specs.Prelude.{◌≡◌};
-ghost use Rattle.liq_text.specs.Names.{verb_of, topic_of};
+ghost use Rattle.liq_text.specs.Names.{named, verb_of, topic_of};
 
 #[derive(Clone, Copy)]
 pub(crate) enum Verb {
@@ -34,62 +34,56 @@ pub(crate) enum Topic {
     NextNumber,
 }
 
+/// The verb that each name stands for.
+const VERBS: [(&[u8], Verb); 16] = [
+    (b"price", Verb::Price),
+    (b"advance", Verb::Advance),
+    (b"fund", Verb::Fund),
+    (b"take", Verb::Take),
+    (b"send", Verb::Send),
+    (b"open", Verb::Open),
+    (b"adjust", Verb::Adjust),
+    (b"close", Verb::Close),
+    (b"provide", Verb::Provide),
+    (b"withdraw", Verb::Withdraw),
+    (b"gain_to_trove", Verb::GainToTrove),
+    (b"liquidate", Verb::Liquidate),
+    (b"liquidate_lowest", Verb::LiquidateLowest),
+    (b"redeem", Verb::Redeem),
+    (b"claim", Verb::Claim),
+    (b"rotate", Verb::Rotate),
+];
+
 pub(crate) fn read_verb(word: &[u8]) -> Option<Verb>
     ensures { result ≡ verb_of word.now }
 {
-    if word == b"price".as_slice() {
-        Some(Verb::Price)
-    } else if word == b"advance".as_slice() {
-        Some(Verb::Advance)
-    } else if word == b"fund".as_slice() {
-        Some(Verb::Fund)
-    } else if word == b"take".as_slice() {
-        Some(Verb::Take)
-    } else if word == b"send".as_slice() {
-        Some(Verb::Send)
-    } else if word == b"open".as_slice() {
-        Some(Verb::Open)
-    } else if word == b"adjust".as_slice() {
-        Some(Verb::Adjust)
-    } else if word == b"close".as_slice() {
-        Some(Verb::Close)
-    } else if word == b"provide".as_slice() {
-        Some(Verb::Provide)
-    } else if word == b"withdraw".as_slice() {
-        Some(Verb::Withdraw)
-    } else if word == b"gain_to_trove".as_slice() {
-        Some(Verb::GainToTrove)
-    } else if word == b"liquidate".as_slice() {
-        Some(Verb::Liquidate)
-    } else if word == b"liquidate_lowest".as_slice() {
-        Some(Verb::LiquidateLowest)
-    } else if word == b"redeem".as_slice() {
-        Some(Verb::Redeem)
-    } else if word == b"claim".as_slice() {
-        Some(Verb::Claim)
-    } else if word == b"rotate".as_slice() {
-        Some(Verb::Rotate)
-    } else {
-        None
-    }
+    meaning(&VERBS, word)
 }
+
+/// What the name of each query asks about.
+const TOPICS: [(&[u8], Topic); 6] = [
+    (b"wallet", Topic::Wallet),
+    (b"trove", Topic::Trove),
+    (b"deposit", Topic::Deposit),
+    (b"pools", Topic::Pools),
+    (b"system", Topic::System),
+    (b"next_number", Topic::NextNumber),
+];
 
 pub(crate) fn read_topic(word: &[u8]) -> Option<Topic>
     ensures { result ≡ topic_of word.now }
 {
-    if word == b"wallet".as_slice() {
-        Some(Topic::Wallet)
-    } else if word == b"trove".as_slice() {
-        Some(Topic::Trove)
-    } else if word == b"deposit".as_slice() {
-        Some(Topic::Deposit)
-    } else if word == b"pools".as_slice() {
-        Some(Topic::Pools)
-    } else if word == b"system".as_slice() {
-        Some(Topic::System)
-    } else if word == b"next_number".as_slice() {
-        Some(Topic::NextNumber)
-    } else {
-        None
+    meaning(&TOPICS, word)
+}
+
+/// What a word stands for in a table of names.
+fn meaning<A: Copy>(rows: &[(&'static [u8], A)], word: &[u8]) -> Option<A>
+    ensures { result ≡ named (λ row. row.0.now) (λ row. row.1) rows.now word.now }
+{
+    for row in rows {
+        if word == row.0 {
+            return Some(row.1);
+        }
     }
+    None
 }
