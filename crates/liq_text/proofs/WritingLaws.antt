@@ -1,5 +1,5 @@
 -- Words written one after the other.
-use Rattle.std.proofs.Common.{Option, Some, None, inl, suc, ◌^◌, ◌≡◌, ℕ, ◌+◌, ◌*◌, ◌-◌, ◌<◌, ◌≤◌, List, [], ◌∷◌, ◌++◌, length, get_or, take, drop, refl, sym, ap, ◌∙◌, append_assoc, drop-cons, add-one, mul-le-mul_right, arith}
+use Rattle.std.proofs.Common.{Option, Some, None, inl, suc, ◌≡◌, ℕ, ◌+◌, ◌*◌, ◌-◌, ◌<◌, ◌≤◌, List, [], ◌∷◌, ◌++◌, length, get_or, take, drop, refl, sym, ap, ◌∙◌, append_assoc, drop-cons, add-one, mul-le-mul_right, arith}
 use Rattle.std.specs.Prelude.{decimal, map}
 use Rattle.std.specs.List.{join_with_byte, AllByRecursion}
 use Rattle.std.proofs.lemmas.List.{append-nil, take_all}

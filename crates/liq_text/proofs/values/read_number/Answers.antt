@@ -1,4 +1,4 @@
-use Rattle.std.proofs.Common.{◌≡◌, ℕ, List, Option, Some, None, refl, ◌∙◌}
+use Rattle.std.proofs.Common.{◌≡◌, ℕ, List, Option, Some, None, ◌∙◌}
 use Rattle.std.specs.Prelude.{IfSome, decimal}
 use Rattle.liq_text.specs.Reading.{number_of}
 use Rattle.liq_text.proofs.ReadingLaws.{number_of-decimal, number_of-some}
