@@ -4,7 +4,4 @@ use Rattle.liq_stability.proofs.examples.emptied_example.Goals as goal
 
 pub returns : goal.returns
 unfolding least_from
-returns c = record {
-  words = refl;
-  position = refl;
-}
+returns c = record { words = refl; position = refl }

@@ -4,9 +4,4 @@ use Rattle.liq_stability.proofs.examples.four_scales_on_example.Goals as goal
 
 pub returns : goal.returns
 unfolding least_from
-returns c = record {
-  words = refl;
-  first = refl;
-  second = refl;
-  third = refl;
-}
+returns c = record { words = refl; first = refl; second = refl; third = refl }
