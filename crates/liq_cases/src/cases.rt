@@ -206,10 +206,15 @@ impl Cases {
 
     /// Begins to read so many lines, to be repeated so many times.
     fn repeat_next(&mut self, line: usize, times: &str, lines: &str) -> Result<(), Misread> {
+        let times = number(times)?;
+        let missing = number(lines)?;
+        if times == 0 || missing == 0 {
+            return Err(Misread::NotUnderstood);
+        }
         self.block = Some(Block {
             line,
-            times: number(times)?,
-            missing: number(lines)?,
+            times,
+            missing,
             lines: Vec::new(self.alloc),
         });
         Ok(())

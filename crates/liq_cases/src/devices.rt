@@ -35,14 +35,8 @@ pub struct Outcome {
     pub sink: SmallSink,
 }
 
-/// The streams and the disks of a run.
-#[derive(Drop)]
-struct Made {
-    source: MemorySource,
-    sink: SmallSink,
-    left: MemoryDisk,
-    right: MemoryDisk,
-}
+/// The streams and the disks of a run: its source and its sink, its left disk and its right one.
+type Made = (MemorySource, SmallSink, MemoryDisk, MemoryDisk);
 
 /// A disk that holds these bytes, and whose calls of these numbers fail.
 pub fn disk(alloc: Global, bytes: &[u8], failing: &[u64]) -> Result<MemoryDisk, AllocError> {
@@ -53,12 +47,11 @@ fn make(alloc: Global, devices: &Devices<'_>) -> Result<Made, AllocError> {
     let read = (devices.read as usize).max(1);
     let write = (devices.write as usize).max(1);
     let input = devices.input.to_vec(alloc)?;
-    Ok(Made {
-        source: MemorySource::new(input, read, devices.source_fails.to_vec(alloc)?),
-        sink: SmallSink::new(alloc, write, devices.sink_fails.to_vec(alloc)?),
-        left: disk(alloc, devices.left, devices.left_fails)?,
-        right: disk(alloc, devices.right, devices.right_fails)?,
-    })
+    let source = MemorySource::new(input, read, devices.source_fails.to_vec(alloc)?);
+    let sink = SmallSink::new(alloc, write, devices.sink_fails.to_vec(alloc)?);
+    let left = disk(alloc, devices.left, devices.left_fails)?;
+    let right = disk(alloc, devices.right, devices.right_fails)?;
+    Ok((source, sink, left, right))
 }
 
 fn is_serve(word: &str) -> bool
@@ -83,12 +76,7 @@ pub fn by_protocol<R: Threads + Wait + Sync>(
     alloc: Global,
     devices: &Devices<'_>,
 ) -> Result<Outcome, AllocError> {
-    let Made {
-        mut source,
-        mut sink,
-        left,
-        right,
-    } = make(alloc, devices)?;
+    let (mut source, mut sink, left, right) = make(alloc, devices)?;
     let ended = protocol(
         rt,
         alloc,
@@ -110,12 +98,7 @@ pub fn by_protocol<R: Threads + Wait + Sync>(
 pub fn by_one_thread(alloc: Global, devices: &Devices<'_>) -> Result<Outcome, AllocError>
     requires { Ask (map string_bytes devices.now.words.now) Word.Serve → ⊥ }
 {
-    let Made {
-        mut source,
-        mut sink,
-        left,
-        right,
-    } = make(alloc, devices)?;
+    let (mut source, mut sink, left, right) = make(alloc, devices)?;
     let ended = without_threads(alloc, devices.words, &mut source, &mut sink, left, right);
     Ok(Outcome {
         ended,

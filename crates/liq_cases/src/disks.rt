@@ -39,7 +39,11 @@ pub fn change(alloc: Global, disk: &mut MemoryDisk, words: &[&str]) -> Result<()
 fn change_bytes(held: &mut Vec<u8>, words: &[&str]) -> Result<(), Misread> {
     match words {
         [_, "cut", count] => {
-            held.truncate(number(count)? as usize);
+            let count = number(count)? as usize;
+            if count > held.len() {
+                return Err(Misread::NotUnderstood);
+            }
+            held.truncate(count);
             Ok(())
         }
         [_, "flip", place] => {

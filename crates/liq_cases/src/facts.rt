@@ -46,9 +46,10 @@ pub fn read_held(alloc: Global, words: &[&str]) -> Result<Held, Misread> {
     }
 }
 
-/// Tells each fact of a run that does not hold.
+/// Tells each fact of a run that does not hold, and counts those that it tests.
 pub fn check_facts(told: &mut Told, run: &Run, start: &Start, outcome: &Outcome) {
     for fact in &run.facts {
+        told.facts = told.facts.saturating_add(1);
         told.at = At::line(fact.line);
         match &fact.says {
             Says::Left(held) => check_held(told, held, &start.left, outcome.ended.left.bytes()),

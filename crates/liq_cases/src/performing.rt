@@ -74,12 +74,9 @@ pub fn check<R: Threads + Wait + Sync>(
     outcome: &Outcome,
 ) -> Result<(), AllocError> {
     let run = stage.run;
-    told.number(
-        "status",
-        u64::from(run.status),
-        u64::from(outcome.ended.status),
-    );
-    if run.status == 0 && are_serve(&run.words) {
+    let status = run.status.unwrap_or(0);
+    told.number("status", u64::from(status), u64::from(outcome.ended.status));
+    if status == 0 && are_serve(&run.words) {
         check_served(rt, stage, told, outcome)
     } else {
         check_output(told, &run.lines, &outcome.sink.bytes);

@@ -18,7 +18,8 @@ pub struct Run {
     pub line: usize,
     pub words: Vec<String>,
     pub lines: Lines,
-    pub status: u8,
+    /// The exit status that must come; 0 where none is written.
+    pub status: Option<u8>,
     /// How many bytes a read gives at most; there is a run for each.
     pub reads: Vec<u64>,
     /// How many bytes a write takes at most; there is a run for each.
@@ -67,7 +68,7 @@ impl Run {
             line,
             words: Vec::new(alloc),
             lines: Lines::new(alloc),
-            status: 0,
+            status: None,
             reads: Vec::new(alloc),
             writes: Vec::new(alloc),
             failing: Failing {

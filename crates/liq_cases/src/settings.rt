@@ -12,9 +12,9 @@ pub fn set(alloc: Global, run: &mut Run, line: usize, words: &[&str]) -> Result<
             run.words.clear();
             put_words(alloc, &mut run.words, words)?;
         }
-        ["status", status] => {
+        ["status", status] if run.status.is_none() => {
             let status = u8::try_from(number(status)?).ok();
-            run.status = status.ok_or(Misread::NotUnderstood)?;
+            run.status = Some(status.ok_or(Misread::NotUnderstood)?);
         }
         ["reads", sizes @ ..] => put_numbers(&mut run.reads, sizes)?,
         ["writes", sizes @ ..] => put_numbers(&mut run.writes, sizes)?,

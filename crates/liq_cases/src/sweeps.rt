@@ -129,8 +129,9 @@ fn check_failed_write(
     outcome: &Outcome,
 ) {
     let taken = whole.sink.taken_by(call);
-    let cut = taken.len() < replies(stage.run.status, &whole.sink.bytes);
-    let status = if cut { 4 } else { stage.run.status };
+    let wanted = stage.run.status.unwrap_or(0);
+    let cut = taken.len() < replies(wanted, &whole.sink.bytes);
+    let status = if cut { 4 } else { wanted };
     told.bytes("output", taken, &outcome.sink.bytes);
     told.number("status", u64::from(status), u64::from(outcome.ended.status));
 }
@@ -151,7 +152,8 @@ fn replies(status: u8, output: &[u8]) -> usize {
     replies
 }
 
-/// These calls of a disk fail in turn: a beginning of the replies goes out, and what was answered is found after each crash.
+/// These calls of a disk fail in turn: a beginning of the replies goes out, and what was answered is found after each crash. Then one
+/// behind the last of them fails, which is never made.
 pub fn sweep_disk<R: Threads + Wait + Sync>(
     rt: &R,
     stage: &Stage<'_>,
@@ -161,17 +163,13 @@ pub fn sweep_disk<R: Threads + Wait + Sync>(
     last: u64,
 ) -> Result<(), AllocError> {
     for call in first..last.saturating_add(1) {
-        told.at = At {
-            line: stage.run.line,
-            sweep: "call of a disk",
-            call,
-        };
         let answered = check_failed_call(rt, stage, told, side, call)?;
         if !are_serve(&stage.run.words) {
             check_crashes(rt, stage, told, side, call, answered)?;
         }
     }
-    Ok(())
+    let outcome = fail_call(rt, stage, told, side, last.saturating_add(1))?;
+    check(rt, stage, told, &outcome)
 }
 
 /// The run where a call of a disk fails.
@@ -182,6 +180,11 @@ fn fail_call<R: Threads + Wait + Sync>(
     side: Side,
     call: u64,
 ) -> Result<Outcome, AllocError> {
+    told.at = At {
+        line: stage.run.line,
+        sweep: "call of a disk",
+        call,
+    };
     let (left, right) = match side {
         Side::Left => (call, NONE),
         Side::Right => (NONE, call),

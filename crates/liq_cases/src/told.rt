@@ -34,6 +34,7 @@ pub struct Told {
     pub cases: u64,
     pub runs: u64,
     pub replies: u64,
+    pub facts: u64,
 }
 
 impl Told {
@@ -47,6 +48,7 @@ impl Told {
             cases: 0,
             runs: 0,
             replies: 0,
+            facts: 0,
         }
     }
 
@@ -97,11 +99,12 @@ impl Told {
             cases,
             runs,
             replies,
+            facts,
             ..
         } = self;
         writeln!(
             text,
-            "{file}: {cases} cases, {runs} runs, {replies} replies"
+            "{file}: {cases} cases, {runs} runs, {replies} replies, {facts} facts"
         )?;
         if lost { Err(AllocError) } else { Ok(text) }
     }
