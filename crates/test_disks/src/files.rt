@@ -1,11 +1,11 @@
-//! A journal in a real file.
+//! A journal in a real file, and disks over devices: in memory, and the system's.
 
-use crate::checks::{same, shows};
+use crate::checks::{NOWHERE, same, shows};
 use crate::disks::two_records;
 use crate::found::Found;
 use crate::journals::{append, create, fund, open};
-use liq_outside::{Disk, FileDisk};
-use std::alloc::Global;
+use liq_outside::{DeviceDisk, Disk, FileDisk, MemoryDevice};
+use std::alloc::{AllocError, Global};
 use std::fs::{self, File, Files};
 use std::io::{self, ErrorKind};
 use std::test::Fail;
@@ -84,4 +84,81 @@ fn no_file_fails_at_every_call(rt: HostRuntime) {
     shows(&rt, "no write", none.write_at(0, &[1]).is_err());
     shows(&rt, "no sync", none.sync().is_err());
     same(&rt, none.faults(), 4, "faults without a file");
+}
+
+// What is seen of a disk over a device: whether the word is written and synced, how many bytes of it are read, and the faults.
+#[derive(Clone, Copy)]
+struct Tried {
+    written: bool,
+    synced: bool,
+    read: u64,
+    faults: u64,
+}
+
+const WORD: &[u8] = b"liquidation";
+
+// Of a word that is written, synced and read, with the most that one call of the device takes and the number of the call that fails.
+fn try_word(alloc: Global, chunk: u8, failing: u64) -> Result<Tried, AllocError> {
+    let chunk = usize::from(chunk).max(1);
+    let device = MemoryDevice::new(alloc, chunk, [failing].to_vec(alloc)?);
+    let mut disk = DeviceDisk::over(Some(device));
+    let written = disk.write_at(0, WORD).is_ok();
+    let synced = disk.sync().is_ok();
+    let mut bytes = [0; 20];
+    let read = match disk.read_at(0, &mut bytes) {
+        Ok(count) if bytes.get(..count) == WORD.get(..count) => count as u64,
+        _ => NOWHERE,
+    };
+    Ok(Tried {
+        written,
+        synced,
+        read,
+        faults: disk.faults(),
+    })
+}
+
+#[test]
+fn a_disk_goes_on_where_its_device_ended(rt: HostRuntime) -> Result<(), Fail> {
+    // By threes the word is four writes, a sync, and four reads with a fifth at the end.
+    let trials = [
+        (20, NOWHERE, true, true, 11),
+        (1, NOWHERE, true, true, 11),
+        (3, NOWHERE, true, true, 11),
+        (3, 2, false, true, 6),
+        (3, 4, true, false, 11),
+        (3, 9, true, true, NOWHERE),
+    ];
+    for (chunk, failing, written, synced, read) in trials {
+        let tried = try_word(rt.alloc(), chunk, failing)?;
+        shows(&rt, "the write", tried.written == written);
+        shows(&rt, "the sync", tried.synced == synced);
+        same(&rt, tried.read, read, "the bytes that are read");
+        same(
+            &rt,
+            tried.faults,
+            u64::from(failing != NOWHERE),
+            "the faults",
+        );
+    }
+    Ok(())
+}
+
+#[test]
+fn the_systems_devices_fail(rt: HostRuntime) -> Result<(), Fail> {
+    let mut full = file(&rt, "/dev/full")?;
+    shows(
+        &rt,
+        "a write where all is full",
+        full.write_at(0, &[1]).is_err(),
+    );
+    let mut null = file(&rt, "/dev/null")?;
+    shows(
+        &rt,
+        "a write to the null device",
+        null.write_at(0, &[1]).is_ok(),
+    );
+    shows(&rt, "a sync of the null device", null.sync().is_err());
+    same(&rt, full.faults(), 1, "the full device's faults");
+    same(&rt, null.faults(), 1, "the null device's faults");
+    Ok(())
 }
