@@ -6,28 +6,4 @@
 #![tactic(auto)]
 
 #[cfg(test)]
-mod at_once;
-#[cfg(test)]
-mod checks;
-#[cfg(test)]
-mod clerk;
-#[cfg(test)]
-mod desk;
-#[cfg(test)]
-mod gates;
-#[cfg(test)]
-mod holding;
-#[cfg(test)]
-mod ledger;
-#[cfg(test)]
-mod lock;
-#[cfg(test)]
-mod looks;
-#[cfg(test)]
-mod seats;
-#[cfg(test)]
-mod serving;
-#[cfg(test)]
-mod sessions;
-#[cfg(test)]
-mod stores;
+mod tests;

@@ -1,8 +1,0 @@
-use Rattle.liq_book.specs.Seats.{IsSeatOf}
-use Rattle.liq_book.proofs.Gathering.{all_with}
-use Rattle.test_sessions.proofs.Held.{all_front}
-use Rattle.test_sessions.proofs.seats.call_by_last.Goals as goal
-
-pub returns : goal.returns
-returns g c =
-    all_with (IsSeatOf c.args.service.now) _ _ _ c.in_ok-push.ensures.items (all_front (IsSeatOf c.args.service.now) _ _ _ c.in-Some.ensures.items c.requires) c.call-seat.ensures.own

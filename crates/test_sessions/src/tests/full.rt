@@ -1,0 +1,121 @@
+//! Two sessions at a service whose history comes to be full.
+ghost use Rattle.std.specs.Prelude.{◌≡◌, ◌≤◌, None, All, OnOk, length};
+ghost use Rattle.liq_sessions.specs.declared.script.TheConstants.{REQUESTS_MOST};
+ghost use Rattle.liq_core.specs.Core.{state_of};
+ghost use Rattle.liq_book.specs.Origin.{IsAtOrigin};
+ghost use Rattle.liq_book.specs.Seats.{IsSeatOf};
+
+use crate::tests::checks::same;
+use crate::tests::seats::part;
+use crate::tests::sessions::script;
+use crate::tests::stores::new_store;
+use liq_book::{BookSeat, Origin, Service};
+use liq_core::laws::protocols_stand;
+use liq_outside::Disk;
+use liq_sessions::{NoHints, OpenGate, Script, SessionDone, SessionEnd, Work, run_sessions};
+use liq_store::Store;
+use liq_types::Answer;
+use std::alloc::Global;
+use std::marker::Brand;
+use std::sync::Wait;
+use std::test::Fail;
+use std::thread::Threads;
+
+/// How many entries a history has at the most.
+const ENTRIES: usize = 1_000_000;
+
+/// A seat gets a script.
+fn give<D: Disk, O: Origin>(
+    service: &Service<D, O>,
+    seat: BookSeat<O>,
+    works: &mut Vec<Work<Service<D, O>, NoHints>>,
+    script: Script,
+) -> Result<(), Fail>
+    requires seat { IsSeatOf service.now seat }
+    requires works { All (λ w. IsSeatOf service.now w.seat) works.old.items }
+    requires short { length script.requests ≤ REQUESTS_MOST }
+    requires all_short { All (λ w. length w.script.requests ≤ REQUESTS_MOST) works.old.items }
+    ensures works { OnOk result (All (λ w. IsSeatOf service.now w.seat) works.new.items) }
+    ensures all_short { OnOk result (All (λ w. length w.script.requests ≤ REQUESTS_MOST) works.new.items) }
+{
+    let _service = service;
+    works.push(Work {
+        script,
+        seat,
+        hinter: NoHints,
+    })?;
+    Ok(())
+}
+
+/// How sessions were answered: the replies of all, and how many of them were answered that the history is full.
+#[derive(Clone, Copy)]
+struct Answered {
+    replies: usize,
+    full: u64,
+}
+
+fn count<D: Disk, O: Origin>(done: &[SessionDone<Service<D, O>, NoHints>]) -> Answered {
+    let mut answered = Answered {
+        replies: 0,
+        full: 0,
+    };
+    for one in done {
+        answered.replies = answered
+            .replies
+            .saturating_add(one.replies.as_slice().len());
+        if let SessionEnd::Fault(Answer::HistoryFull { entries: 1_000_000 }) = one.end {
+            answered.full = answered.full.saturating_add(1);
+        }
+    }
+    answered
+}
+
+/// Two sessions ask one request more than a history has entries.
+fn run_two<D: Disk + Drop + Send, O: Origin + Send + Sync, R: Threads + Wait + Sync>(
+    rt: &R,
+    alloc: Global,
+    store: Store<D>,
+) -> Result<Answered, Fail>
+    requires going { store.stopped ≡ None }
+    requires origin { IsAtOrigin D.seen D.faults D.moment D.left_at O.state O.left O.right store }
+{
+    let Ok((service, seats)) = Service::<D, O>::new(alloc, store, 2) else {
+        return Err(Fail::from("no memory"));
+    };
+    let (seats, second) = part(&service, seats)?;
+    let (_, first) = part(&service, seats)?;
+    let mut works = Vec::new(alloc);
+    give(&service, first, &mut works, script(alloc, 1, ENTRIES)?)?;
+    give(&service, second, &mut works, script(alloc, 2, 1)?)?;
+    match run_sessions(rt, alloc, &service, &OpenGate, works) {
+        Ok(done) => Ok(count(&done)),
+        Err(_) => Err(Fail::from("no memory")),
+    }
+}
+
+/// The same, from where the store is.
+fn run_two_over<D: Disk + Drop + Send, R: Threads + Wait + Sync>(
+    rt: &R,
+    alloc: Global,
+    store: Store<D>,
+) -> Result<Answered, Fail>
+    requires { store.stopped ≡ None }
+{
+    protocols_stand(store.protocol());
+    run_two::<D, Brand, R>(rt, alloc, store)
+}
+
+/// The last of all calls is told that the history is full, and every other one has its reply.
+#[test]
+fn the_history_is_full(rt: HostRuntime) -> Result<(), Fail> {
+    let store = new_store(rt.alloc())?;
+    let answered = run_two_over(&rt, rt.alloc(), store)?;
+    same(
+        &rt,
+        answered.replies as u64,
+        1_000_000,
+        "as many replies as entries",
+    );
+    same(&rt, answered.full, 1, "a session that found it full");
+    Ok(())
+}

@@ -1,0 +1,164 @@
+//! Two seats of a service, one of which is out when it is to be closed.
+ghost use Rattle.std.specs.Prelude.{◌≡◌, None, All, IfOk};
+ghost use Rattle.liq_core.specs.Core.{state_of};
+ghost use Rattle.liq_book.specs.Origin.{IsAtOrigin};
+ghost use Rattle.liq_book.specs.Seats.{IsSeatOf};
+
+use crate::tests::checks::{same, shows};
+use crate::tests::stores::new_store;
+use liq_book::{BookSeat, Entry, Origin, Service, StillOut};
+use liq_core::laws::protocols_stand;
+use liq_outside::Disk;
+use liq_store::Store;
+use liq_types::{Answer, Call, Command, Done, Hint, Info, Query, Reply, Request};
+use std::alloc::Global;
+use std::marker::Brand;
+use std::sync::Wait;
+use std::test::Fail;
+
+/// Five gwei come into the wallet of account 1.
+const FUND: Request = Request::Do(Command {
+    client: 1,
+    number: 1,
+    call: Call::Fund(1, 5),
+});
+
+const FUNDED: Reply = Reply::Said(Done {
+    kind: 3,
+    values: [0; 6],
+});
+
+const LOOK: Request = Request::Ask(Query::Wallet(1));
+
+const LOOKED: Reply = Reply::Told(Info::Wallet { coll: 5, lusd: 0 });
+
+/// The last seat, beside the others.
+pub fn part<D: Disk, O: Origin>(
+    service: &Service<D, O>,
+    mut seats: Vec<BookSeat<O>>,
+) -> Result<(Vec<BookSeat<O>>, BookSeat<O>), Fail>
+    requires { All (IsSeatOf service.now) seats.items }
+    ensures others { IfOk result (λ parted. All (IsSeatOf service.now) parted.0.items) }
+    ensures last { IfOk result (λ parted. IsSeatOf service.now parted.1) }
+{
+    let _service = service;
+    let Some(seat) = seats.pop() else {
+        return Err(Fail::from("no seat"));
+    };
+    Ok((seats, seat))
+}
+
+/// The last seat makes a call. The seats, and its answer.
+fn call_by_last<D: Disk, O: Origin, R: Wait>(
+    rt: &R,
+    service: &Service<D, O>,
+    seats: Vec<BookSeat<O>>,
+    request: &Request,
+) -> Result<(Vec<BookSeat<O>>, Answer), Fail>
+    requires { All (IsSeatOf service.now) seats.items }
+    ensures { IfOk result (λ made. All (IsSeatOf service.now) made.0.items) }
+{
+    let (mut seats, seat) = part(service, seats)?;
+    let (seat, answer) = service.call(rt, seat, request, &Hint::NONE);
+    seats.push(seat)?;
+    Ok((seats, answer))
+}
+
+/// What is seen of two seats, of which the first funds a wallet and then the second looks at it.
+#[derive(Clone, Copy)]
+struct Seen {
+    is_funded: bool,
+    is_looked: bool,
+    /// The second's calls, and the entries that it has seen.
+    calls: u32,
+    entries: u64,
+    /// How many seats were missing where the first alone was to close the service.
+    missing: u32,
+    is_history: bool,
+    is_halted: bool,
+}
+
+fn is_entry(entry: &Entry, session: u8, request: &Request, reply: &Reply) -> bool {
+    entry.session == session
+        && entry.index == 1
+        && entry.request == *request
+        && entry.reply == *reply
+}
+
+/// Whether the entries are the first call of session 1 and then that of session 2.
+fn is_history(entries: &[Entry]) -> bool {
+    match entries {
+        [first, second] => {
+            is_entry(first, 1, &FUND, &FUNDED) && is_entry(second, 2, &LOOK, &LOOKED)
+        }
+        _ => false,
+    }
+}
+
+/// Two seats over a store: each makes a call; the service does not close without the second.
+fn two_seats<D: Disk + Drop, O: Origin, R: Wait>(
+    rt: &R,
+    alloc: Global,
+    store: Store<D>,
+) -> Result<Seen, Fail>
+    requires going { store.stopped ≡ None }
+    requires origin { IsAtOrigin D.seen D.faults D.moment D.left_at O.state O.left O.right store }
+{
+    let Ok((service, seats)) = Service::<D, O>::new(alloc, store, 2) else {
+        return Err(Fail::from("no memory"));
+    };
+    let (seats, other) = part(&service, seats)?;
+    let (seats, funded) = call_by_last(rt, &service, seats, &FUND)?;
+    let (other, looked) = service.call(rt, other, &LOOK, &Hint::NONE);
+    let calls = other.calls();
+    let entries = other.seen();
+    let Err(
+        StillOut {
+            service,
+            mut seats,
+            missing,
+        },
+    ) = service.close(seats)
+    else {
+        return Err(Fail::from("closed with a seat out"));
+    };
+    seats.push(other)?;
+    let Ok(closed) = service.close(seats) else {
+        return Err(Fail::from("still out"));
+    };
+    Ok(Seen {
+        is_funded: funded == Answer::Reply(FUNDED),
+        is_looked: looked == Answer::Reply(LOOKED),
+        calls,
+        entries,
+        missing,
+        is_history: is_history(closed.history.as_slice()),
+        is_halted: closed.halt.is_some(),
+    })
+}
+
+/// The same, from where the store is.
+fn two_seats_over<D: Disk + Drop, R: Wait>(
+    rt: &R,
+    alloc: Global,
+    store: Store<D>,
+) -> Result<Seen, Fail>
+    requires { store.stopped ≡ None }
+{
+    protocols_stand(store.protocol());
+    two_seats::<D, Brand, R>(rt, alloc, store)
+}
+
+#[test]
+fn a_seat_is_out(rt: HostRuntime) -> Result<(), Fail> {
+    let store = new_store(rt.alloc())?;
+    let seen = two_seats_over(&rt, rt.alloc(), store)?;
+    shows(&rt, "the first funds", seen.is_funded);
+    shows(&rt, "the second looks", seen.is_looked);
+    same(&rt, u64::from(seen.calls), 1, "the second's calls");
+    same(&rt, seen.entries, 2, "entries that it has seen");
+    same(&rt, u64::from(seen.missing), 1, "a missing seat");
+    shows(&rt, "the history", seen.is_history);
+    shows(&rt, "no halt", !seen.is_halted);
+    Ok(())
+}

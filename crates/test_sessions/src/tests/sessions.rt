@@ -1,0 +1,348 @@
+//! Sessions at a desk whose replies are made up.
+ghost use Rattle.std.specs.Prelude.{◌≡◌, ◌≤◌, All, IfOk, length};
+ghost use Rattle.liq_sessions.specs.declared.script.TheConstants.{REQUESTS_MOST};
+
+use crate::tests::checks::{NOWHERE, same, shows};
+use crate::tests::desk::{CountedHints, MadeUpDesk, MadeUpSeat, Trouble, made_up};
+use crate::tests::gates::Watch;
+use crate::tests::holding::Holding;
+use liq_sessions::{
+    Gate, NoHints, OpenGate, Requests, Script, SessionDone, SessionEnd, Work, run_sessions,
+};
+use liq_types::{Answer, Hinter, Query, Reply, Request};
+use std::alloc::Global;
+use std::sync::{Arc, Wait};
+use std::test::Fail;
+use std::thread::Threads;
+
+/// The request at a place of each script, which are counted from 1.
+fn request_at(index: u64) -> Request {
+    Request::Ask(Query::NextNumber((index % 1_000) as u32))
+}
+
+/// A script of so many requests.
+pub fn script(alloc: Global, session: u8, requests: usize) -> Result<Script, Fail>
+    requires { requests ≤ REQUESTS_MOST }
+    ensures { IfOk result (λ script. length script.requests ≤ REQUESTS_MOST) }
+{
+    let mut list = Requests::new(alloc);
+    for before in 0..requests {
+        if list.push(request_at(before as u64 + 1)).is_err() {
+            return Err(Fail::from("no memory"));
+        }
+    }
+    Ok(Script {
+        session,
+        requests: list,
+    })
+}
+
+/// A seat that has made no call.
+fn seat(alloc: Global, session: u8) -> MadeUpSeat {
+    MadeUpSeat {
+        session,
+        calls: Vec::new(alloc),
+        ended: false,
+        faulted: None,
+    }
+}
+
+/// The works of sessions from 1 on, with so many requests each.
+fn works(
+    alloc: Global,
+    watch: &Arc<Watch>,
+    sessions: u8,
+    requests: usize,
+) -> Result<Vec<Work<MadeUpDesk, CountedHints>>, Fail>
+    requires { requests ≤ REQUESTS_MOST }
+    ensures { IfOk result (λ works. All (λ w. length w.script.requests ≤ REQUESTS_MOST) works.items) }
+{
+    let mut works = Vec::new(alloc);
+    for before in 0..sessions {
+        let session = before + 1;
+        let script = script(alloc, session, requests)?;
+        let hinter = CountedHints {
+            watch: Arc::try_clone(watch)?,
+            session,
+            made: 0,
+        };
+        works.push(Work {
+            script,
+            seat: seat(alloc, session),
+            hinter,
+        })?;
+    }
+    Ok(works)
+}
+
+/// Whether the replies are a session's own, in order, and the calls are those of its script with just these replies.
+fn are_made_up(session: u8, replies: &[Reply], calls: &[(Request, Reply)]) -> bool {
+    let mut index = 0u64;
+    for (reply, (request, given)) in replies.iter().zip(calls.iter()) {
+        index = index.wrapping_add(1);
+        let expected = made_up(session, index);
+        if *reply != expected || *given != expected || *request != request_at(index) {
+            return false;
+        }
+    }
+    replies.len() == calls.len()
+}
+
+/// What a session is to come to: so many replies, then this answer that is none, and the request at which its seat met a fault.
+#[derive(Clone, Copy)]
+struct Wanted {
+    replies: usize,
+    answer: Option<Answer>,
+    faulted: Option<Request>,
+}
+
+fn is_end(end: &SessionEnd, answer: Option<Answer>) -> bool {
+    match end {
+        SessionEnd::All => answer.is_none(),
+        SessionEnd::Fault(met) => answer == Some(*met),
+    }
+}
+
+/// Whether a session came to what is wanted.
+fn is_done<H: Hinter + Drop>(
+    done: &SessionDone<MadeUpDesk, H>,
+    session: u8,
+    wanted: &Wanted,
+) -> bool {
+    let replies = done.replies.as_slice();
+    done.session == session
+        && done.seat.session == session
+        && replies.len() == wanted.replies
+        && are_made_up(session, replies, &done.seat.calls)
+        && is_end(&done.end, wanted.answer)
+        && done.seat.faulted == wanted.faulted
+}
+
+/// The first of the sessions, from 1 on, that came to something else, or made another number of steps.
+fn first_odd(
+    done: &[SessionDone<MadeUpDesk, CountedHints>],
+    watch: &Watch,
+    wanted: &Wanted,
+    steps: u64,
+) -> u64 {
+    let mut session = 0u8;
+    for one in done {
+        session = session.wrapping_add(1);
+        if !is_done(one, session, wanted) || watch.steps(session) != steps {
+            return u64::from(session);
+        }
+    }
+    NOWHERE
+}
+
+/// What is asked of how many sessions, and how many replies their desk has before it makes trouble.
+#[derive(Clone, Copy)]
+struct Setting {
+    sessions: u8,
+    replies: usize,
+    trouble: Trouble,
+}
+
+/// What is seen of sessions: how many there were, the first that is odd, and whether a step was out of its order.
+#[derive(Clone, Copy)]
+struct Seen {
+    sessions: u64,
+    odd: u64,
+    missed: bool,
+}
+
+/// Runs sessions with so many requests each.
+fn run_watched<R: Threads + Wait + Sync, G: Gate + Sync>(
+    rt: &R,
+    alloc: Global,
+    gate: &G,
+    watch: &Arc<Watch>,
+    setting: &Setting,
+    requests: usize,
+) -> Result<Vec<SessionDone<MadeUpDesk, CountedHints>>, Fail>
+    requires { requests ≤ REQUESTS_MOST }
+{
+    let desk = MadeUpDesk {
+        watch: Arc::try_clone(watch)?,
+        replies: setting.replies,
+        trouble: setting.trouble,
+    };
+    let works = works(alloc, watch, setting.sessions, requests)?;
+    match run_sessions(rt, alloc, &desk, gate, works) {
+        Ok(done) => Ok(done),
+        Err(_) => Err(Fail::from("no memory")),
+    }
+}
+
+/// Runs sessions through a gate that watches them: each call is entered, hinted, made and left.
+fn see<R: Threads + Wait + Sync>(
+    rt: &R,
+    alloc: Global,
+    setting: &Setting,
+    requests: usize,
+    wanted: &Wanted,
+    steps: u64,
+) -> Result<Seen, Fail>
+    requires { requests ≤ REQUESTS_MOST }
+{
+    let watch = Arc::new(alloc, Watch::new())?;
+    let done = run_watched(rt, alloc, &*watch, &watch, setting, requests)?;
+    Ok(Seen {
+        sessions: done.len() as u64,
+        odd: first_odd(&done, &watch, wanted, steps),
+        missed: watch.has_missed(),
+    })
+}
+
+/// Eight sessions at once: each gets all its replies in order.
+#[test]
+fn eight_sessions(rt: HostRuntime) -> Result<(), Fail> {
+    let setting = Setting {
+        sessions: 8,
+        replies: 2_000,
+        trouble: Trouble::Stopped,
+    };
+    let wanted = Wanted {
+        replies: 2_000,
+        answer: None,
+        faulted: None,
+    };
+    let seen = see(&rt, rt.alloc(), &setting, 2_000, &wanted, 8_000)?;
+    same(&rt, seen.sessions, 8, "eight sessions");
+    same(&rt, seen.odd, NOWHERE, "a session of eight");
+    shows(&rt, "each step in its order", !seen.missed);
+    Ok(())
+}
+
+/// A session ends at the first answer that is no reply. That call is left too, and no later one is made.
+#[test]
+fn each_trouble(rt: HostRuntime) -> Result<(), Fail> {
+    for (trouble, answer, faulted) in [
+        (Trouble::NoMemory, Answer::NoMemory, None),
+        (Trouble::DiskFault, Answer::DiskFault, Some(request_at(4))),
+        (Trouble::Stopped, Answer::Stopped { faults: 1 }, None),
+    ] {
+        let setting = Setting {
+            sessions: 2,
+            replies: 3,
+            trouble,
+        };
+        let wanted = Wanted {
+            replies: 3,
+            answer: Some(answer),
+            faulted,
+        };
+        let seen = see(&rt, rt.alloc(), &setting, 5, &wanted, 16)?;
+        same(&rt, seen.sessions, 2, "sessions in trouble");
+        same(&rt, seen.odd, NOWHERE, "a session in trouble");
+        shows(&rt, "each step before the trouble", !seen.missed);
+    }
+    Ok(())
+}
+
+/// The first call of one session waits in its gate until the other session's has left. What is seen, where the gate notes no steps.
+fn see_held<R: Threads + Wait + Sync>(
+    rt: &R,
+    alloc: Global,
+    held: u8,
+    awaited: u8,
+) -> Result<Seen, Fail> {
+    let setting = Setting {
+        sessions: 2,
+        replies: 10,
+        trouble: Trouble::Stopped,
+    };
+    let wanted = Wanted {
+        replies: 10,
+        answer: None,
+        faulted: None,
+    };
+    let watch = Arc::new(alloc, Watch::new())?;
+    let gate = Holding::new(held, awaited);
+    let done = run_watched(rt, alloc, &gate, &watch, &setting, 10)?;
+    Ok(Seen {
+        sessions: done.len() as u64,
+        odd: first_odd(&done, &watch, &wanted, 20),
+        missed: gate.has_missed(),
+    })
+}
+
+#[test]
+fn at_once(rt: HostRuntime) -> Result<(), Fail> {
+    for (held, awaited) in [(1, 2), (2, 1)] {
+        let seen = see_held(&rt, rt.alloc(), held, awaited)?;
+        same(&rt, seen.sessions, 2, "two sessions");
+        same(&rt, seen.odd, NOWHERE, "a session that is held");
+        shows(&rt, "the other session has left", !seen.missed);
+    }
+    Ok(())
+}
+
+/// The work of a session that looks for no hints.
+fn quiet_work(
+    alloc: Global,
+    session: u8,
+    requests: usize,
+) -> Result<Work<MadeUpDesk, NoHints>, Fail>
+    requires { requests ≤ REQUESTS_MOST }
+    ensures { IfOk result (λ work. length work.script.requests ≤ REQUESTS_MOST) }
+{
+    Ok(Work {
+        script: script(alloc, session, requests)?,
+        seat: seat(alloc, session),
+        hinter: NoHints,
+    })
+}
+
+/// Runs sessions that look for no hints, through an open gate, at a desk with one reply for each.
+fn run_quiet<R: Threads + Wait + Sync>(
+    rt: &R,
+    alloc: Global,
+    works: Vec<Work<MadeUpDesk, NoHints>>,
+) -> Result<Vec<SessionDone<MadeUpDesk, NoHints>>, Fail>
+    requires { All (λ w. length w.script.requests ≤ REQUESTS_MOST) works.items }
+{
+    let desk = MadeUpDesk {
+        watch: Arc::new(alloc, Watch::new())?,
+        replies: 1,
+        trouble: Trouble::Stopped,
+    };
+    match run_sessions(rt, alloc, &desk, &OpenGate, works) {
+        Ok(done) => Ok(done),
+        Err(_) => Err(Fail::from("no memory")),
+    }
+}
+
+/// Whether the first session got its one reply, and the second, which asks nothing, none.
+fn are_quiet(done: &[SessionDone<MadeUpDesk, NoHints>]) -> bool {
+    let mut wanted = Wanted {
+        replies: 1,
+        answer: None,
+        faulted: None,
+    };
+    match done {
+        [one, other] => {
+            let is_one = is_done(one, 7, &wanted);
+            wanted.replies = 0;
+            is_one && is_done(other, 5, &wanted)
+        }
+        _ => false,
+    }
+}
+
+/// A session with one request and one with none.
+#[test]
+fn quiet_sessions(rt: HostRuntime) -> Result<(), Fail> {
+    let alloc = rt.alloc();
+    let works = vec![in alloc; quiet_work(alloc, 7, 1)?, quiet_work(alloc, 5, 0)?]?;
+    let done = run_quiet(&rt, alloc, works)?;
+    shows(&rt, "one request and none", are_quiet(&done));
+    Ok(())
+}
+
+#[test]
+fn no_sessions(rt: HostRuntime) -> Result<(), Fail> {
+    let done = run_quiet(&rt, rt.alloc(), Vec::new(rt.alloc()))?;
+    same(&rt, done.len() as u64, 0, "no sessions");
+    Ok(())
+}
