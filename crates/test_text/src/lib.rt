@@ -4,24 +4,4 @@
 #![tactic(auto)]
 
 #[cfg(test)]
-mod checks;
-#[cfg(test)]
-mod commands;
-#[cfg(test)]
-mod drip;
-#[cfg(test)]
-mod histories;
-#[cfg(test)]
-mod limit;
-#[cfg(test)]
-mod lines;
-#[cfg(test)]
-mod replies;
-#[cfg(test)]
-mod reviews;
-#[cfg(test)]
-mod scripts;
-#[cfg(test)]
-mod without_words;
-#[cfg(test)]
-mod words;
+mod tests;

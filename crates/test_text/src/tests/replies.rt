@@ -1,6 +1,6 @@
 //! The text of every kind of reply.
 
-use crate::checks::shows;
+use crate::tests::checks::shows;
 use liq_text::write_reply;
 use liq_types::{Done, Info, Refusal, Reply};
 use std::alloc::Global;

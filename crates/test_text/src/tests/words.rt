@@ -1,6 +1,6 @@
 //! Command lines, read.
 
-use crate::checks::{same, shows};
+use crate::tests::checks::{same, shows};
 use liq_words::{Word, WordsFault, read_words};
 use std::alloc::{AllocError, Global};
 use std::test::Fail;

@@ -4,7 +4,7 @@ use Rattle.std.proofs.lemmas.List.Elements.{All-push}
 use Rattle.liq_types.specs.declared.requests.Command.{Command}
 use Rattle.liq_types.specs.declared.requests.Request.TheVariants.{Do}
 use Rattle.liq_rules.specs.Step.{built}
-use Rattle.test_text.proofs.commands.commands_of.Goals as goal
+use Rattle.test_text.proofs.tests.commands.commands_of.Goals as goal
 
 IsBuilt : Command → Type 0
 IsBuilt c = IsTrue (built (Do c))

@@ -2,8 +2,8 @@
 
 ghost use Rattle.std.specs.Prelude.{◌≡◌, ◌<◌, []};
 
-use crate::checks::{NOWHERE, same, shows};
-use crate::drip::Drip;
+use crate::tests::checks::{NOWHERE, same, shows};
+use crate::tests::drip::Drip;
 use liq_book::Entry;
 use liq_scripts::{Outbox, Shown, write_served};
 use liq_types::{Done, Info, Query, Refusal, Reply, Request};

@@ -4,7 +4,7 @@ mod misspelled;
 mod requests;
 mod spelled;
 
-use crate::checks::{NOWHERE, same, shows};
+use crate::tests::checks::{NOWHERE, same, shows};
 use liq_text::{read_line, read_session_line, write_request};
 use liq_types::{Call, Command, HintWords, Query, Request};
 use std::alloc::Global;

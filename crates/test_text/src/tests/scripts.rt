@@ -2,7 +2,7 @@
 
 ghost use Rattle.std.specs.Prelude.{◌≤◌};
 
-use crate::checks::{same, shows};
+use crate::tests::checks::{same, shows};
 use liq_outside::MemorySource;
 use liq_scripts::{Stop, read_scripts};
 use liq_sessions::Script;

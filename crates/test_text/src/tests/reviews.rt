@@ -1,7 +1,7 @@
 //! Reviews that stop, and as many offsets as one may have.
 
-use crate::checks::shows;
-use crate::commands::{commands_of, numbered};
+use crate::tests::checks::shows;
+use crate::tests::commands::{commands_of, numbered};
 use liq_review::{ReviewFault, review};
 use std::alloc::{AllocError, Global};
 use std::test::Fail;

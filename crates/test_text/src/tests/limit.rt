@@ -5,8 +5,8 @@ ghost use Rattle.std.specs.String.{string_bytes};
 ghost use Rattle.liq_words.specs.declared.words.Word.{Word};
 ghost use Rattle.liq_words.specs.Words.{Ask};
 
-use crate::checks::{NOWHERE, same, shows};
-use crate::drip::Drip;
+use crate::tests::checks::{NOWHERE, same, shows};
+use crate::tests::drip::Drip;
 use liq_outside::{MemoryDisk, MemorySource};
 use liq_serve::without_threads;
 use std::alloc::{AllocError, Global};

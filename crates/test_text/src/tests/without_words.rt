@@ -1,6 +1,6 @@
 //! The words of the command line could not be had.
 
-use crate::checks::{same, shows};
+use crate::tests::checks::{same, shows};
 use liq_outside::MemorySink;
 use liq_serve::without_words;
 use std::alloc::{AllocError, Global};
