@@ -40,8 +40,8 @@ use Rattle.liq_rules.specs.Rules.{rules, effect}
 use Rattle.liq_rules.proofs.Allowed.{none_first}
 use Rattle.liq_rules.proofs.Moving.{paid_coll, paid_lusd, charged_coll, charged_lusd}
 use Rattle.liq_rules.proofs.Opening.{opening_conserves}
-use Rattle.liq_soundness.proofs.SoundCalls.{pool_and_wallet}
-use Rattle.liq_soundness.proofs.SoundFacts.{conserved_by, Finds, Stands, InRange, Rest, Leaves, homes_of, in_order, trove_table, paid_stands, charged_stands, lifted_stands, placed_stands, owned_keeps, fees_stand, reserve_stands}
+use Rattle.liq_soundness.proofs.SoundCalls.{pool_and_wallet, same_range}
+use Rattle.liq_soundness.proofs.SoundFacts.{conserved_by, Finds, Stands, Homes, InRange, Rest, rest_in_place, Leaves, homes_of, in_order, trove_table, paid_stands, charged_stands, lifted_stands, placed_stands, owned_keeps, fees_stand, reserve_stands}
 
 -- ---- the base rate
 
@@ -168,19 +168,9 @@ open_leaves s f account coll borrow bound hint k h =
     let conserved = opening_conserves s account coll borrow bound (in_order s f.stands) h (conserved_by s f.stands f.balanced.homes) in
     record {
       stands = placed_stands (record lent { reserve = lent.reserve + RESERVE }) account coll plan.debt k a.absent a.some a.least (reserve_stands lent (lent.reserve + RESERVE) moved);
-      rest = record {
-        homes = homes_of _ conserved;
-        coll_limit = f.balanced.coll_limit;
-        debt_limit = omega (arith, a.limit);
-        ranges = ranges_with s (opened s account borrow plan) f.ranges plan.rate (borrowed_in_range s f.ranges borrow) refl refl refl refl refl;
-        scale = omega arith;
-        epoch = omega arith;
-        generation = refl;
-        records = refl;
-        clients = refl;
-        snap = λ n. n;
-        marks = λ h. all-put (λ (x : TroveEntry). IsSetSince x.mark) s.troves account (record { coll = coll; debt = plan.debt; stake = stake_for (record lent { reserve = lent.reserve + RESERVE }) coll; mark = After (length s.redistributions) }) tt h;
-      };
+      rest = rest_in_place s (opened s account borrow plan) (homes_of _ conserved) f.balanced.coll_limit (omega (arith, a.limit))
+          (ranges_with s (opened s account borrow plan) f.ranges plan.rate (borrowed_in_range s f.ranges borrow) refl refl refl refl refl) refl refl refl refl refl
+          (λ h. all-put (λ (x : TroveEntry). IsSetSince x.mark) s.troves account (record { coll = coll; debt = plan.debt; stake = stake_for (record lent { reserve = lent.reserve + RESERVE }) coll; mark = After (length s.redistributions) }) tt h);
     }
 
 -- ---- adjust
@@ -258,25 +248,17 @@ module _ (s : State) (f : Finds s) (account coll debt : ℕ) (change : Change) (
       let l2 = paid_lusd mid account change.coll_out change.borrow ordered in
       let gone = length-without s.troves account e has.there in
       let back = length-put (without s.troves account) account (record { coll = plan.coll; debt = plan.debt; stake = stake_for moved plan.coll; mark = After (length s.redistributions) }) (at-without_same s.troves account (trove_table s f.stands.troves.ascend)) in
+      let made = placed (lifted_entry moved account (Some e)) account plan.coll plan.debt in
+      let homes : Homes made = record {
+        coll = omega (arith, c1, c2, c.coll, a.coll_out, has.coll_is, w.coll, w.pending_coll);
+        lusd = omega (arith, l1, l2, c.lusd, a.repays_part, has.debt_is, w.debt, w.pending_debt);
+        reserve = omega (arith, gone, back, c.reserve);
+        surplus = c.surplus;
+      } in
       subst (λ (o : Option TroveEntry). Rest 0 s (placed (lifted_entry moved account o) account plan.coll plan.debt)) (sym has.there)
-      (record {
-        homes = record {
-          coll = omega (arith, c1, c2, c.coll, a.coll_out, has.coll_is, w.coll, w.pending_coll);
-          lusd = omega (arith, l1, l2, c.lusd, a.repays_part, has.debt_is, w.debt, w.pending_debt);
-          reserve = omega (arith, gone, back, c.reserve);
-          surplus = c.surplus;
-        };
-        coll_limit = f.balanced.coll_limit;
-        debt_limit = omega (arith, a.limit, has.debt_is, w.debt, w.pending_debt);
-        ranges = ranges_with s (placed (lifted_entry moved account (Some e)) account plan.coll plan.debt) f.ranges plan.rate (borrowed_in_range s f.ranges change.borrow) refl refl refl refl refl;
-        scale = omega arith;
-        epoch = omega arith;
-        generation = refl;
-        records = refl;
-        clients = refl;
-        snap = λ n. n;
-        marks = λ n. all-put (λ (x : TroveEntry). IsSetSince x.mark) (without s.troves account) account (record { coll = plan.coll; debt = plan.debt; stake = stake_for moved plan.coll; mark = After (length s.redistributions) }) tt (all-without (λ (x : TroveEntry). IsSetSince x.mark) s.troves account n);
-      })
+      (rest_in_place s made homes f.balanced.coll_limit (omega (arith, a.limit, has.debt_is, w.debt, w.pending_debt))
+      (ranges_with s made f.ranges plan.rate (borrowed_in_range s f.ranges change.borrow) refl refl refl refl refl) refl refl refl refl refl
+      (λ n. all-put (λ (x : TroveEntry). IsSetSince x.mark) (without s.troves account) account (record { coll = plan.coll; debt = plan.debt; stake = stake_for moved plan.coll; mark = After (length s.redistributions) }) tt (all-without (λ (x : TroveEntry). IsSetSince x.mark) s.troves account n)))
 
 -- the same, of the account's entire amounts
 pub adjust_allows_own : (s : State) → Finds s → (account bound : ℕ) (change : Change) → first_refusal (adjust_rules (market_of s) (wallet_of s account) (entire_of s account) account change bound) ≡ None → Allows s account (or_nothing (entire_of s account)).0 (or_nothing (entire_of s account)).1 change (adjusting_terms (market_of s) (or_nothing (entire_of s account)) change)
@@ -311,8 +293,6 @@ module _ (s : State) (f : Finds s) (account coll debt : ℕ) (there : entire_of 
       let e = has.entry in
       let w = has.within in
       let c = f.balanced.homes in
-      let r = f.ranges in
-      let limit = f.balanced.debt_limit in
       let mid = charged s account 0 repaid in
       let settled = credited mid account coll 0 in
       let burned = record settled { reserve = settled.reserve - RESERVE } in
@@ -322,25 +302,17 @@ module _ (s : State) (f : Finds s) (account coll debt : ℕ) (there : entire_of 
       let c2 = paid_coll mid account coll 0 ordered in
       let l2 = paid_lusd mid account coll 0 ordered in
       let gone = length-without s.troves account e has.there in
+      let left = lifted_entry burned account (Some e) in
+      let homes : Homes left = record {
+        coll = omega (arith, c1, c2, c.coll, has.coll_is, w.coll, w.pending_coll);
+        lusd = omega (arith, l1, l2, c.lusd, has.debt_is, has.least, w.debt, w.pending_debt, c.reserve, gone);
+        reserve = omega (arith, gone, c.reserve);
+        surplus = c.surplus;
+      } in
+      let limit = f.balanced.debt_limit in
       subst (λ (o : Option TroveEntry). Rest 0 s (lifted_entry burned account o)) (sym has.there)
-      (record {
-        homes = record {
-          coll = omega (arith, c1, c2, c.coll, has.coll_is, w.coll, w.pending_coll);
-          lusd = omega (arith, l1, l2, c.lusd, has.debt_is, has.least, w.debt, w.pending_debt, c.reserve, gone);
-          reserve = omega (arith, gone, c.reserve);
-          surplus = c.surplus;
-        };
-        coll_limit = f.balanced.coll_limit;
-        debt_limit = omega (arith, limit);
-        ranges = record { price_least = r.price_least; price_most = r.price_most; minute = r.minute; fee_minute = r.fee_minute; base = r.base; first_generation = r.first_generation; last_generation = r.last_generation };
-        scale = omega arith;
-        epoch = omega arith;
-        generation = refl;
-        records = refl;
-        clients = refl;
-        snap = λ n. n;
-        marks = λ n. all-without (λ (x : TroveEntry). IsSetSince x.mark) s.troves account n;
-      })
+      (rest_in_place s left homes f.balanced.coll_limit (omega (arith, limit)) (same_range s f left refl refl refl refl refl) refl refl refl refl refl
+      (λ n. all-without (λ (x : TroveEntry). IsSetSince x.mark) s.troves account n))
 
 pub close_leaves : (s : State) → Finds s → (account : ℕ) → account < ACCOUNTS → first_refusal (close_rules (market_of s) (wallet_of s account) (entire_of s account) account) ≡ None → Leaves 0 s (closed s account (closing_terms (or_nothing (entire_of s account))).0 (closing_terms (or_nothing (entire_of s account))).1)
 close_leaves s f account k h =
@@ -372,8 +344,6 @@ module _ (s : State) (f : Finds s) (account coll debt : ℕ) (there : entire_of 
       let e = has.entry in
       let w = has.within in
       let c = f.balanced.homes in
-      let r = f.ranges in
-      let limit = f.balanced.debt_limit in
       let pooled = owned s account 0 0 in
       let gain = gain_of s account in
       let total = owned-total s f.stands.formed.3 account 0 0 in
@@ -381,25 +351,18 @@ module _ (s : State) (f : Finds s) (account coll debt : ℕ) (there : entire_of 
       let within = gain_within s (at s.deposits account) in
       let gone = length-without s.troves account e has.there in
       let back = length-put (without s.troves account) account (record { coll = coll + gain; debt = debt; stake = stake_for pooled (coll + gain); mark = After (length s.redistributions) }) (at-without_same s.troves account (trove_table s f.stands.troves.ascend)) in
+      let limit = f.balanced.debt_limit in
+      let made = placed (lifted_entry pooled account (Some e)) account (coll + gain) debt in
+      let homes : Homes made = record {
+        coll = omega (arith, c.coll, left, within, has.coll_is, w.coll, w.pending_coll);
+        lusd = omega (arith, c.lusd, total, has.debt_is, w.debt, w.pending_debt);
+        reserve = omega (arith, gone, back, c.reserve);
+        surplus = c.surplus;
+      } in
       subst (λ (o : Option TroveEntry). Rest 0 s (placed (lifted_entry pooled account o) account (coll + gain) debt)) (sym has.there)
-      (record {
-        homes = record {
-          coll = omega (arith, c.coll, left, within, has.coll_is, w.coll, w.pending_coll);
-          lusd = omega (arith, c.lusd, total, has.debt_is, w.debt, w.pending_debt);
-          reserve = omega (arith, gone, back, c.reserve);
-          surplus = c.surplus;
-        };
-        coll_limit = f.balanced.coll_limit;
-        debt_limit = omega (arith, limit, has.debt_is, w.debt, w.pending_debt);
-        ranges = record { price_least = r.price_least; price_most = r.price_most; minute = r.minute; fee_minute = r.fee_minute; base = r.base; first_generation = r.first_generation; last_generation = r.last_generation };
-        scale = omega arith;
-        epoch = omega arith;
-        generation = refl;
-        records = refl;
-        clients = refl;
-        snap = λ n. n;
-        marks = λ n. all-put (λ (x : TroveEntry). IsSetSince x.mark) (without s.troves account) account (record { coll = coll + gain; debt = debt; stake = stake_for pooled (coll + gain); mark = After (length s.redistributions) }) tt (all-without (λ (x : TroveEntry). IsSetSince x.mark) s.troves account n);
-      })
+      (rest_in_place s made homes f.balanced.coll_limit (omega (arith, limit, has.debt_is, w.debt, w.pending_debt))
+      (same_range s f made refl refl refl refl refl) refl refl refl refl refl
+      (λ n. all-put (λ (x : TroveEntry). IsSetSince x.mark) (without s.troves account) account (record { coll = coll + gain; debt = debt; stake = stake_for pooled (coll + gain); mark = After (length s.redistributions) }) tt (all-without (λ (x : TroveEntry). IsSetSince x.mark) s.troves account n)))
 
 pub gain_leaves : (s : State) → Finds s → (account : ℕ) → account < ACCOUNTS → is_none (entire_of s account) ≡ false → Leaves 0 s (set_trove (owned s account 0 0) account ((or_nothing (entire_of s account)).0 + gain_of s account) (or_nothing (entire_of s account)).1)
 gain_leaves s f account k h =

@@ -7,7 +7,6 @@ use Rattle.liq_types.specs.declared.requests.Call.{Call}
 use Rattle.liq_types.specs.declared.requests.Call.TheVariants.{Price, Advance, Fund, Take, Send, Provide, Withdraw, Claim}
 use Rattle.liq_types.specs.Payments.{credited, charged, surplus_taken}
 use Rattle.liq_types.specs.Rules.{first_refusal}
-use Rattle.liq_types.specs.Product.{ScaledProduct}
 use Rattle.liq_types.specs.State.{State, wallet_of, surplus_of}
 use Rattle.liq_types.specs.Tables.{at}
 use Rattle.liq_types.specs.Totals.{pool_total}
@@ -19,7 +18,7 @@ use Rattle.liq_rules.specs.Rules.{rules, effect}
 use Rattle.liq_rules.proofs.Allowed.{fund_within}
 use Rattle.liq_rules.proofs.Conserving.{call_conserves}
 use Rattle.liq_rules.proofs.Moving.{charged_lusd}
-use Rattle.liq_soundness.proofs.SoundFacts.{conserved_by, Finds, InRange, Rest, Leaves, homes_of, in_order, paid_stands, charged_stands, taken_stands, owned_keeps, words_stand}
+use Rattle.liq_soundness.proofs.SoundFacts.{conserved_by, Finds, InRange, Rest, rest_in_place, Leaves, homes_of, in_order, paid_stands, charged_stands, taken_stands, owned_keeps, words_stand}
 use Rattle.liq_stability.proofs.Pool.{balance_within}
 use Rattle.liq_types.proofs.Tests.{all_false}
 use Rattle.std.proofs.lemmas.Bool.{ltb-false}
@@ -29,23 +28,9 @@ module _ (s : State) (f : Finds s) where
   plain_rest : (call : Call) → (t : State) → t ≡ effect s call → IsConserved t → t.brought ≤ LIM → t.active_debt ≤ s.active_debt → t.default_debt ≤ s.default_debt → InRange t → words_of t ≡ words_of s → t.generation ≡ s.generation → t.records ≡ s.records → t.clients ≡ s.clients → t.snap_coll ≡ s.snap_coll → t.troves ≡ s.troves → Rest 0 s t
   plain_rest call t e c coll active default r w g n k snap troves =
       let limit = f.balanced.debt_limit in
-      let scale = ap (λ (v : ScaledProduct). v.scale) w in
-      let epoch = ap (λ (v : ScaledProduct). v.epoch) w in
-      record {
-        homes = homes_of t c;
-        coll_limit = coll;
-        debt_limit = omega (arith, active, default, limit);
-        ranges = r;
-        scale = omega (arith, scale);
-        epoch = omega (arith, epoch);
-        generation = g;
-        records = n;
-        clients = k;
-        snap = λ h. omega (arith, snap, h);
-        marks = λ h. subst AreSetSince (sym troves) h;
-      }
+      rest_in_place s t (homes_of t c) coll (omega (arith, active, default, limit)) r w g n k snap (λ h. subst AreSetSince (sym troves) h)
 
-  same_range : (t : State) → t.price ≡ s.price → t.minute ≡ s.minute → t.fee_minute ≡ s.fee_minute → t.base ≡ s.base → t.generation ≡ s.generation → InRange t
+  pub same_range : (t : State) → t.price ≡ s.price → t.minute ≡ s.minute → t.fee_minute ≡ s.fee_minute → t.base ≡ s.base → t.generation ≡ s.generation → InRange t
   same_range t price minute fee_minute base generation =
       let r = f.ranges in
       record {

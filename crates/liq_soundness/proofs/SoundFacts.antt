@@ -17,6 +17,7 @@ use Rattle.liq_types.specs.declared.amounts.TheConstants.{ACCOUNTS, OFFSET_MOST,
 use Rattle.liq_types.specs.declared.figures.Wallet.{Wallet}
 use Rattle.liq_types.specs.declared.figures.Client.{Client}
 use Rattle.liq_types.specs.Payments.{credited, charged, surplus_added, surplus_taken}
+use Rattle.liq_types.specs.Product.{ScaledProduct}
 use Rattle.liq_types.specs.Soundness.{IsClientRow, is_sound_client, coll_homes, lusd_homes}
 use Rattle.liq_types.specs.State.{State, TroveEntry, DepositEntry, Redistribution, is_used_wallet, wallet_of, surplus_in, with_wallet, with_surplus}
 use Rattle.liq_types.specs.Tables.{Table, at, put, without}
@@ -159,6 +160,21 @@ in_order s h = (h.wallets.ascend, trove_table s h.troves.ascend, h.surplus.ascen
   deposit_table : Ascends (part_of (image s)).deposits → Ascends s.deposits
   deposit_table k = subst (λ (keys : List ℕ). IsStrictlySortedBy nat_cmp keys) (keys_of-map_values (deposit_row s) s.deposits) k
 
+-- a change of words alone: every row stands where it stood
+same_rows : {most : ℕ} (s t : State) → Stands most s → t.redistributions ≡ s.redistributions → t.wallets ≡ s.wallets → t.surplus_rows ≡ s.surplus_rows → t.troves ≡ s.troves → t.deposits ≡ s.deposits → t.clients ≡ s.clients → IsWellFormed t → TrovesStand (books_of t) → PoolStands most (part_of (image t)) → Stands most t
+same_rows s t h spread wallets surplus troves deposits clients formed books pool =
+    record {
+      formed = formed;
+      troves = books;
+      pool = pool;
+      spread = subst (λ (rs : List Redistribution). HadStakes rs) (sym spread) h.spread;
+      wallets = subst (λ (table : Table Wallet). WalletRows table) (sym wallets) h.wallets;
+      surplus = subst (λ (table : Table ℕ). SurplusRows table) (sym surplus) h.surplus;
+      trove_keys = subst (λ (table : Table TroveEntry). KeysBelow table) (sym troves) h.trove_keys;
+      deposit_keys = subst (λ (table : Table DepositEntry). KeysBelow table) (sym deposits) h.deposit_keys;
+      clients = subst (λ (table : Table Client). ClientRows table) (sym clients) h.clients;
+    }
+
 -- ---- payments
 
 -- other wallets, and another surplus of the owners
@@ -256,17 +272,7 @@ redistributed_stands s coll debt some coll_fits debt_fits h =
 
 pub snapped_stands : {most : ℕ} (s : State) → 1 ≤ stakes_of s → Stands most s → Stands most (snapped s)
 snapped_stands s some h =
-    record {
-      formed = h.formed;
-      troves = snap_stands (books_of s) some h.troves;
-      pool = h.pool;
-      spread = h.spread;
-      wallets = h.wallets;
-      surplus = h.surplus;
-      trove_keys = h.trove_keys;
-      deposit_keys = h.deposit_keys;
-      clients = h.clients;
-    }
+    same_rows s (snapped s) h refl refl refl refl refl refl h.formed (snap_stands (books_of s) some h.troves) h.pool
 
 -- ---- the Stability Pool
 
@@ -290,17 +296,8 @@ owned_keeps {most} s account put_in out k within fits h =
 
 pub offset_keeps : {most : ℕ} → most ≤ 10 ^ (9 * RISES_MOST) → (s : State) (debt coll : ℕ) → 1 ≤ debt → debt ≤ pool_total s → pool_total s ≤ most → coll ≤ OFFSET_MOST * debt → Stands most s → Stands most (offset s debt coll)
 offset_keeps {most} served s debt coll some within limit less h =
-    record {
-      formed = formed-offset s debt coll within h.formed;
-      troves = h.troves;
-      pool = offset_stands most served s debt coll h.formed some within limit h.pool less;
-      spread = h.spread;
-      wallets = h.wallets;
-      surplus = h.surplus;
-      trove_keys = h.trove_keys;
-      deposit_keys = h.deposit_keys;
-      clients = h.clients;
-    }
+    let pool = offset_stands most served s debt coll h.formed some within limit h.pool less in
+    same_rows s (offset s debt coll) h refl refl refl refl refl refl (formed-offset s debt coll within h.formed) h.troves pool
 
 -- ---- what is conserved
 
@@ -341,6 +338,25 @@ pub record Rest (few : ℕ) (s t : State) : Type 0 where
   -- it keeps a snapshot within the limit, and troves that were set since the start
   pub snap : s.snap_coll ≤ LIM → t.snap_coll ≤ LIM
   pub marks : AreSetSince s.troves → AreSetSince t.troves
+
+-- a verb that keeps the pool's place, the counts and the snapshot
+pub rest_in_place : (s t : State) → Homes t → t.brought ≤ LIM → t.active_debt + t.default_debt ≤ LIM → InRange t → words_of t ≡ words_of s → t.generation ≡ s.generation → t.records ≡ s.records → t.clients ≡ s.clients → t.snap_coll ≡ s.snap_coll → (AreSetSince s.troves → AreSetSince t.troves) → Rest 0 s t
+rest_in_place s t homes coll_limit debt_limit ranges words generation records clients snap marks =
+    let scale = ap (λ (v : ScaledProduct). v.scale) words in
+    let epoch = ap (λ (v : ScaledProduct). v.epoch) words in
+    record {
+      homes = homes;
+      coll_limit = coll_limit;
+      debt_limit = debt_limit;
+      ranges = ranges;
+      scale = omega (arith, scale);
+      epoch = omega (arith, epoch);
+      generation = generation;
+      records = records;
+      clients = clients;
+      snap = λ n. omega (arith, snap, n);
+      marks = marks;
+    }
 
 pub record Leaves (few : ℕ) (s t : State) : Type 0 where
   pub stands : Stands LIM t
@@ -394,19 +410,7 @@ pub leaves_itself : (s : State) → Finds s → Leaves 0 s s
 leaves_itself s f =
     record {
       stands = f.stands;
-      rest = record {
-        homes = f.balanced.homes;
-        coll_limit = f.balanced.coll_limit;
-        debt_limit = f.balanced.debt_limit;
-        ranges = f.ranges;
-        scale = omega arith;
-        epoch = omega arith;
-        generation = refl;
-        records = refl;
-        clients = refl;
-        snap = λ k. k;
-        marks = λ k. k;
-      };
+      rest = rest_in_place s s f.balanced.homes f.balanced.coll_limit f.balanced.debt_limit f.ranges refl refl refl refl refl (λ k. k);
     }
 
 pub leaves_then : (few more many : ℕ) (r s t : State) → few + more ≤ many → Leaves few r s → Leaves more s t → Leaves many r t
