@@ -10,6 +10,7 @@ use Rattle.std.proofs.lemmas.List.Sorted.{IsPermutation-map, IsPermutation-rever
 use Rattle.std.proofs.lemmas.List.Sums.{sum_by-cons}
 use Rattle.std.proofs.lemmas.Map.Keys.{IsDistinct-IsPermutation, IsDistinct-from_sorted}
 use Rattle.liq_types.specs.declared.amounts.TheConstants.{ACCOUNTS, LIM, RESERVE, MIN_NET, MCR}
+use Rattle.liq_types.specs.declared.figures.Client.{Client}
 use Rattle.liq_types.specs.declared.figures.Trove.{Trove}
 use Rattle.liq_types.specs.declared.figures.Wallet.{Wallet}
 use Rattle.liq_types.specs.Image.{Image}
@@ -39,7 +40,7 @@ use Rattle.liq_rules.specs.Image.{image}
 use Rattle.liq_soundness.specs.SoundState.{IsSetSince, AreSetSince, CutIsCovered}
 use Rattle.liq_rules.proofs.Moving.{paid_coll, paid_lusd, charged_coll, charged_lusd}
 use Rattle.liq_soundness.proofs.SoundBorrow.{HasTrove, has_trove, set_stands, RateInRange, ranges_with}
-use Rattle.liq_soundness.proofs.SoundFacts.{Finds, Stands, Leaves, trove_table, paid_stands, charged_stands, added_stands, lifted_stands, reserve_stands, fees_stand, key_below, surplus_sum}
+use Rattle.liq_soundness.proofs.SoundFacts.{Finds, Stands, Homes, rest_in_place, Leaves, trove_table, paid_stands, charged_stands, added_stands, lifted_stands, reserve_stands, fees_stand, key_below, surplus_sum}
 use Rattle.liq_types.proofs.Tests.{all_false}
 use Rattle.liq_redemption.proofs.Cutting.{draw_less}
 use Rattle.liq_redemption.proofs.Taking.{redeemed_within}
@@ -112,6 +113,23 @@ visited_are s h = visits_are s s.price (from_last (trove_order s)) (order_distin
 
 -- ---- a cut
 
+-- what no cut touches
+pub record Untouched : Type 0 where
+  pub wallets : Table Wallet
+  pub brought : ℕ
+  pub price : ℕ
+  pub minute : ℕ
+  pub fee_coll : ℕ
+  pub words : ScaledProduct
+  pub generation : ℕ
+  pub records : ℕ
+  pub clients : Table Client
+  pub snap : ℕ
+
+abbrev pub untouched : State → Untouched
+untouched t =
+    record { wallets = t.wallets; brought = t.brought; price = t.price; minute = t.minute; fee_coll = t.fee_coll; words = words_of t; generation = t.generation; records = t.records; clients = t.clients; snap = t.snap_coll }
+
 -- the state after the cuts so far, in which so much collateral and LUSD has left its home
 pub record Cutting (s t : State) (coll lusd : ℕ) : Type 0 where
   pub stands : Stands LIM t
@@ -120,16 +138,7 @@ pub record Cutting (s t : State) (coll lusd : ℕ) : Type 0 where
   pub reserve : t.reserve ≡ RESERVE * trove_count t
   pub surplus : t.surplus ≡ sum (values_of t.surplus_rows)
   pub less : t.active_debt + t.default_debt ≤ s.active_debt + s.default_debt
-  pub wallets : t.wallets ≡ s.wallets
-  pub brought : t.brought ≡ s.brought
-  pub price : t.price ≡ s.price
-  pub minute : t.minute ≡ s.minute
-  pub fee_coll : t.fee_coll ≡ s.fee_coll
-  pub words : words_of t ≡ words_of s
-  pub generation : t.generation ≡ s.generation
-  pub records : t.records ≡ s.records
-  pub clients : t.clients ≡ s.clients
-  pub snap : t.snap_coll ≡ s.snap_coll
+  pub same : untouched t ≡ untouched s
   pub marks : AreSetSince s.troves → AreSetSince t.troves
 
 -- what the entire amounts of another account are is not touched
@@ -189,16 +198,7 @@ module _ (s t : State) (coll lusd : ℕ) (c : Cutting s t coll lusd) (v : Visit)
         reserve = omega (arith, rows, c.reserve);
         surplus = omega (arith, surplus, c.surplus);
         less = omega (arith, c.less);
-        wallets = c.wallets;
-        brought = c.brought;
-        price = c.price;
-        minute = c.minute;
-        fee_coll = c.fee_coll;
-        words = c.words;
-        generation = c.generation;
-        records = c.records;
-        clients = c.clients;
-        snap = c.snap;
+        same = c.same;
         marks = λ n. all-without (λ (x : TroveEntry). IsSetSince x.mark) t.troves v.account (c.marks n);
       }) stands
 
@@ -221,16 +221,7 @@ module _ (s t : State) (coll lusd : ℕ) (c : Cutting s t coll lusd) (v : Visit)
         reserve = omega (arith, rows, back, c.reserve);
         surplus = c.surplus;
         less = omega (arith, c.less, has.debt_is, w.debt, w.pending_debt);
-        wallets = c.wallets;
-        brought = c.brought;
-        price = c.price;
-        minute = c.minute;
-        fee_coll = c.fee_coll;
-        words = c.words;
-        generation = c.generation;
-        records = c.records;
-        clients = c.clients;
-        snap = c.snap;
+        same = c.same;
         marks = λ n. all-put (λ (x : TroveEntry). IsSetSince x.mark) (without t.troves v.account) v.account (entry t) tt (all-without (λ (x : TroveEntry). IsSetSince x.mark) t.troves v.account (c.marks n));
       }) stands
 
@@ -334,16 +325,7 @@ module _ (s : State) (f : Finds s) (account amount bound : ℕ) (h : first_refus
         reserve = c.reserve;
         surplus = c.surplus;
         less = omega arith;
-        wallets = refl;
-        brought = refl;
-        price = refl;
-        minute = refl;
-        fee_coll = refl;
-        words = refl;
-        generation = refl;
-        records = refl;
-        clients = refl;
-        snap = refl;
+        same = refl;
         marks = λ n. n;
       }
 
@@ -363,7 +345,7 @@ module _ (s : State) (f : Finds s) (account amount bound : ℕ) (h : first_refus
       let eats : nat_le terms.drawn terms.fee ≡ false = rules.1.1.1.1.1.1.0 in
       let fee_less = fee_below terms.drawn terms.fee eats in
       let within = redeemed_within s.price (visited s) (trove_count s) amount in
-      let enough : terms.redeemed ≤ (wallet_of t account).lusd = subst (λ (table : Table Wallet). terms.redeemed ≤ (wallet_in table account).lusd) (sym c.wallets) (omega (arith, tokens, within)) in
+      let enough : terms.redeemed ≤ (wallet_of t account).lusd = subst (λ (u : Untouched). terms.redeemed ≤ (wallet_in u.wallets account).lusd) (sym c.same) (omega (arith, tokens, within)) in
       let ascend = c.stands.wallets.ascend in
       let mid = charged t account 0 terms.redeemed in
       let ordered = wallet-ascends t.wallets account (record { coll = (wallet_of t account).coll - 0; lusd = (wallet_of t account).lusd - terms.redeemed }) ascend in
@@ -373,29 +355,26 @@ module _ (s : State) (f : Finds s) (account amount bound : ℕ) (h : first_refus
       let l2 = paid_lusd mid account (terms.drawn - terms.fee) 0 ordered in
       let given = credited mid account (terms.drawn - terms.fee) 0 in
       let moved = paid_stands mid account k (charged_stands t account k c.stands 0 terms.redeemed) (terms.drawn - terms.fee) 0 in
-      let scale = ap (λ (v : ScaledProduct). v.scale) c.words in
-      let epoch = ap (λ (v : ScaledProduct). v.epoch) c.words in
+      let brought : t.brought ≡ s.brought = ap (λ (u : Untouched). u.brought) c.same in
+      let price : t.price ≡ s.price = ap (λ (u : Untouched). u.price) c.same in
+      let minute : t.minute ≡ s.minute = ap (λ (u : Untouched). u.minute) c.same in
+      let fee_coll : t.fee_coll ≡ s.fee_coll = ap (λ (u : Untouched). u.fee_coll) c.same in
+      let words : words_of t ≡ words_of s = ap (λ (u : Untouched). u.words) c.same in
+      let generation : t.generation ≡ s.generation = ap (λ (u : Untouched). u.generation) c.same in
+      let records : t.records ≡ s.records = ap (λ (u : Untouched). u.records) c.same in
+      let clients : t.clients ≡ s.clients = ap (λ (u : Untouched). u.clients) c.same in
+      let snap : t.snap_coll ≡ s.snap_coll = ap (λ (u : Untouched). u.snap) c.same in
+      let homes : Homes (redeemed_by s account terms) = record {
+        coll = omega (arith, c1, c2, c.coll_is, fee_coll, fee_less);
+        lusd = omega (arith, l1, l2, c.lusd_is);
+        reserve = c.reserve;
+        surplus = c.surplus;
+      } in
       let rate : RateInRange s terms.rate = record { base = omega arith; minute = omega arith } in
       record {
         stands = fees_stand given terms.rate.base terms.rate.minute (s.fee_coll + terms.fee) given.fee_lusd moved;
-        rest = record {
-          homes = record {
-            coll = omega (arith, c1, c2, c.coll_is, c.fee_coll, fee_less);
-            lusd = omega (arith, l1, l2, c.lusd_is);
-            reserve = c.reserve;
-            surplus = c.surplus;
-          };
-          coll_limit = omega (arith, c.brought, f.balanced.coll_limit);
-          debt_limit = omega (arith, c.less, f.balanced.debt_limit);
-          ranges = ranges_with s (redeemed_by s account terms) r terms.rate rate c.price c.minute refl refl c.generation;
-          scale = omega (arith, scale);
-          epoch = omega (arith, epoch);
-          generation = c.generation;
-          records = c.records;
-          clients = c.clients;
-          snap = λ n. omega (arith, c.snap, n);
-          marks = c.marks;
-        };
+        rest = rest_in_place s (redeemed_by s account terms) homes (omega (arith, brought, f.balanced.coll_limit)) (omega (arith, c.less, f.balanced.debt_limit))
+            (ranges_with s (redeemed_by s account terms) r terms.rate rate price minute refl refl generation) words generation records clients snap c.marks;
       }
     where
       fee_below : (drawn fee : ℕ) → nat_le drawn fee ≡ false → fee < drawn
