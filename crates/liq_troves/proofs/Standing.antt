@@ -9,13 +9,33 @@ use Rattle.std.proofs.lemmas.List.Sums.{sum_by-cons}
 use Rattle.liq_num.specs.Quotient.{floor_of}
 use Rattle.liq_types.specs.declared.amounts.TheConstants.{ONE, SUM_MOST, RESERVE, MIN_NET}
 use Rattle.liq_types.specs.declared.figures.Trove.{Trove}
-use Rattle.liq_types.specs.Tables.{Table, at}
+use Rattle.liq_types.specs.Tables.{Table, at, without}
+use Rattle.liq_types.specs.WellFormed.{Ascends}
 use Rattle.liq_types.proofs.Ascending.{put-ascends, without-ascends}
 use Rattle.liq_types.proofs.Lookups.{all-at}
 use Rattle.liq_types.proofs.MapRows.{all-put, all-without, all-weaken}
-use Rattle.liq_troves.specs.Rows.{pending, entire_by, stake_by, stakes_in, set_row, growth, sum_after}
+use Rattle.liq_troves.specs.Rows.{pending, entire_by, stake_by, stakes_in, beside, set_row, set_in, growth, sum_after}
 use Rattle.liq_troves.specs.Standing.{Books, TroveStands, TrovesStand, added_up, coll_due, debt_due, lifted_row, lift, place, spread, snap}
 use Rattle.liq_troves.proofs.Added.{sum_taken, sum_put, sums_within, one_within, due_risen, pending_within, pendings_within}
+
+-- ---- other rows
+
+-- rows that change beside the same sums and snapshot, with pools that hold what they add up to
+other_rows : (b : Books) (troves : Table Trove) (active_coll active_debt default_coll default_debt : ℕ) → TrovesStand b → Ascends troves → AllByRecursion (λ (row : ℕ × Trove). TroveStands b.sums.coll b.sums.debt row.1) troves → active_coll ≡ added_up (λ t. t.coll) troves → active_debt ≡ added_up (λ t. t.debt) troves → added_up (coll_due b.sums.coll) troves ≤ default_coll * ONE → added_up (debt_due b.sums.debt) troves ≤ default_debt * ONE → TrovesStand (record { sums = beside b.sums troves; troves = troves; active_coll = active_coll; active_debt = active_debt; default_coll = default_coll; default_debt = default_debt })
+other_rows b troves active_coll active_debt default_coll default_debt h ascend each colls debts dues owed =
+    record {
+      ascend = ascend;
+      each = each;
+      sum_coll = h.sum_coll;
+      sum_debt = h.sum_debt;
+      stakes = refl;
+      active_coll = colls;
+      active_debt = debts;
+      snap = h.snap;
+      snap_none = h.snap_none;
+      due_coll = dues;
+      due_debt = owed;
+    }
 
 -- ---- a trove leaves
 
@@ -52,19 +72,10 @@ lift_row b account (Some t) there h =
     let owed = sum_taken (debt_due b.sums.debt) b.troves account t there in
     let coll_part = pending_within t.stake b.sums.coll t.mark_coll in
     let debt_part = pending_within t.stake b.sums.debt t.mark_debt in
-    record {
-      ascend = without-ascends b.troves account h.ascend;
-      each = all-without (TroveStands b.sums.coll b.sums.debt) b.troves account h.each;
-      sum_coll = h.sum_coll;
-      sum_debt = h.sum_debt;
-      stakes = refl;
-      active_coll = omega (arith, colls, h.active_coll);
-      active_debt = omega (arith, debts, h.active_debt);
-      snap = h.snap;
-      snap_none = h.snap_none;
-      due_coll = omega (arith, dues, coll_part, h.due_coll);
-      due_debt = omega (arith, owed, debt_part, h.due_debt);
-    }
+    let ascend = without-ascends b.troves account h.ascend in
+    let each = all-without (TroveStands b.sums.coll b.sums.debt) b.troves account h.each in
+    other_rows b (without b.troves account) (b.active_coll - t.coll) (b.active_debt - t.debt) (b.default_coll - pending t.stake b.sums.coll t.mark_coll) (b.default_debt - pending t.stake b.sums.debt t.mark_debt) h ascend each
+    (omega (arith, colls, h.active_coll)) (omega (arith, debts, h.active_debt)) (omega (arith, dues, coll_part, h.due_coll)) (omega (arith, owed, debt_part, h.due_debt))
 
 pub lift_stands : (b : Books) (account : ℕ) → TrovesStand b → TrovesStand (lift b account)
 lift_stands b account h = lift_row b account (at b.troves account) refl h
@@ -100,19 +111,10 @@ place_stands b account coll debt none some enough h =
     let owed = sum_put (debt_due b.sums.debt) b.troves account row h.ascend none in
     let no_coll = nothing_due row.stake b.sums.coll in
     let no_debt = nothing_due row.stake b.sums.debt in
-    record {
-      ascend = put-ascends b.troves account row h.ascend;
-      each = all-put (TroveStands b.sums.coll b.sums.debt) b.troves account row stands h.each;
-      sum_coll = h.sum_coll;
-      sum_debt = h.sum_debt;
-      stakes = refl;
-      active_coll = omega (arith, colls, h.active_coll);
-      active_debt = omega (arith, debts, h.active_debt);
-      snap = h.snap;
-      snap_none = h.snap_none;
-      due_coll = omega (arith, dues, no_coll, h.due_coll);
-      due_debt = omega (arith, owed, no_debt, h.due_debt);
-    }
+    let ascend = put-ascends b.troves account row h.ascend in
+    let each = all-put (TroveStands b.sums.coll b.sums.debt) b.troves account row stands h.each in
+    other_rows b (set_in b.sums b.troves account coll debt) (b.active_coll + coll) (b.active_debt + debt) b.default_coll b.default_debt h ascend each
+    (omega (arith, colls, h.active_coll)) (omega (arith, debts, h.active_debt)) (omega (arith, dues, no_coll, h.due_coll)) (omega (arith, owed, no_debt, h.due_debt))
   where
     nothing_due : (stake sum : ℕ) → stake * (sum - sum) ≡ 0
     nothing_due stake sum =
