@@ -148,32 +148,21 @@ without_kept troves sums count account h =
       counted = refl;
     }
 
+-- the same rows under other sums or another snapshot
+kept_under : (troves : Table Trove) (sums made : Sums) (count : ℕ) → AreKept troves sums count → made.stakes ≡ sums.stakes → AllByRecursion (λ (row : ℕ × Trove). IsKept made.coll made.debt row.1) troves → made.coll ≤ SUM_MOST → made.debt ≤ SUM_MOST → made.snap_stakes ≤ made.snap_coll → AreKept troves made count
+kept_under troves sums made count h same each coll_fits debt_fits snap =
+    record { ascend = h.ascend; each = each; sum_coll = coll_fits; sum_debt = debt_fits; stakes = same ∙ h.stakes; snap = snap; limit = h.limit; counted = h.counted }
+
 pub spread_kept : (troves : Table Trove) (sums : Sums) (count coll debt : ℕ) → AreKept troves sums count → sum_after sums.coll coll sums.stakes ≤ SUM_MOST → sum_after sums.debt debt sums.stakes ≤ SUM_MOST → AreKept troves (sums_spread sums coll debt) count
-spread_kept troves sums count coll debt h coll_fits debt_fits = record {
-  ascend = h.ascend;
-  each = all-weaken (IsKept sums.coll sums.debt) (IsKept (sum_after sums.coll coll sums.stakes) (sum_after sums.debt debt sums.stakes))
-      (λ t k. record { some = k.some; within = k.within; mark_coll = omega (arith, k.mark_coll); mark_debt = omega (arith, k.mark_debt) }) troves h.each;
-  sum_coll = coll_fits;
-  sum_debt = debt_fits;
-  stakes = h.stakes;
-  snap = h.snap;
-  limit = h.limit;
-  counted = h.counted;
-}
+spread_kept troves sums count coll debt h coll_fits debt_fits =
+    let each = all-weaken (IsKept sums.coll sums.debt) (IsKept (sum_after sums.coll coll sums.stakes) (sum_after sums.debt debt sums.stakes))
+    (λ t k. record { some = k.some; within = k.within; mark_coll = omega (arith, k.mark_coll); mark_debt = omega (arith, k.mark_debt) }) troves h.each in
+    kept_under troves sums (sums_spread sums coll debt) count h refl each coll_fits debt_fits h.snap
 
 pub snapped_kept : (troves : Table Trove) (sums : Sums) (count total : ℕ) → AreKept troves sums count → coll_in troves ≤ total → AreKept troves (sums_snapped sums total) count
 snapped_kept troves sums count total h enough =
     let less = stakes_most sums.coll sums.debt troves h.each in
-    record {
-      ascend = h.ascend;
-      each = h.each;
-      sum_coll = h.sum_coll;
-      sum_debt = h.sum_debt;
-      stakes = h.stakes;
-      snap = omega (arith, less, h.stakes, enough);
-      limit = h.limit;
-      counted = h.counted;
-    }
+    kept_under troves sums (sums_snapped sums total) count h refl h.each h.sum_coll h.sum_debt (omega (arith, less, h.stakes, enough))
 
 -- ---- made of rows
 
