@@ -2,10 +2,11 @@
 
 ghost use Rattle.std.specs.Prelude.{◌≡◌, ◌≤◌, ◌+◌, ◌^◌, ◌∷◌, [], ℕ, IfOk, OnOk, IsTrue, count_by};
 ghost use Rattle.std.specs.String.{string_bytes};
+ghost use Rattle.liq_types.specs.declared.requests.Request.TheVariants.{Ask};
 ghost use Rattle.liq_types.specs.State.{State, opening};
 ghost use Rattle.liq_types.specs.Totals.{total_debt};
 ghost use Rattle.liq_stability.specs.Words.{pool_words};
-ghost use Rattle.liq_core.specs.Core.{StandsFor};
+ghost use Rattle.liq_core.specs.Core.{StandsFor, state_of};
 ghost use Rattle.liq_rules.specs.Step.{built_call, run, step, next_number};
 ghost use Rattle.liq_words.specs.declared.words.TheConstants.{COUNT_MOST};
 ghost use Rattle.liq_load.specs.Carrying.{AreWithin, plus};
@@ -97,12 +98,20 @@ impl Load {
         }
     }
 
+    /// The protocol's answer to a query.
+    fn answer(&self, query: &Query) -> Reply
+        ensures here { (step (state_of self.now.protocol) (Ask query.now)).1 ≡ result }
+        ensures each { (s : State) → StandsFor self.now.protocol s → (step s (Ask query.now)).1 ≡ result }
+    {
+        protocols_stand(&self.protocol);
+        self.protocol.query(query)
+    }
+
     /// The number of the client's next command.
     fn next_number(&self) -> u64
         ensures { (s : State) → StandsFor self.now.protocol s → result ≡ next_number s CLIENT }
     {
-        protocols_stand(&self.protocol);
-        match self.protocol.query(&Query::NextNumber(CLIENT)) {
+        match self.answer(&Query::NextNumber(CLIENT)) {
             Reply::Told(Info::Next { number }) => number,
             _ => unreachable!(),
         }
@@ -112,8 +121,7 @@ impl Load {
     fn supply(&self) -> u64
         ensures { (s : State) → StandsFor self.now.protocol s → result ≡ total_debt s }
     {
-        protocols_stand(&self.protocol);
-        match self.protocol.query(&Query::System) {
+        match self.answer(&Query::System) {
             Reply::Told(Info::System { words }) => words[8],
             _ => unreachable!(),
         }
