@@ -6,11 +6,11 @@ use Rattle.liq_pairs.specs.Replay.{replay}
 use Rattle.liq_review.specs.Reviewed.{reviewed}
 use Rattle.liq_ends.specs.declared.ending.Ending.{Ending}
 use Rattle.liq_tell.specs.Writing.{AuditHolds}
-use Rattle.liq_ends.specs.Disks.{DisksStay, EndsDamaged}
+use Rattle.liq_ends.specs.Disks.{DisksStay}
 use Rattle.liq_tell.specs.Writing.{WritesText}
 use Rattle.liq_tell.proofs.Audited.{stand_too, taken_tells}
 use Rattle.liq_ends.proofs.Opened.{opened_at, opened_still}
-use Rattle.liq_tell.proofs.Standing.{not_told, disks_stay, unopened_damaged}
+use Rattle.liq_tell.proofs.Standing.{not_told, disks_stay, ends_damaged}
 use Rattle.liq_tell.proofs.audit.tell_audit.Goals as goal
 
 pub returns-in-Err-clause-told : goal.returns-in-Err-clause-told
@@ -22,6 +22,9 @@ returns-in-Err-clause-told g c l r told_l told_r start is =
     let found = not_told seen g.D.Disk.faults told fault.why fault.left fault.right c.args.left c.args.right c.in-Err.ensures.not_opened l r held told_l told_r start is in
     subst (λ (e : Ending g.row.D.Denot). WritesText told e.end held held × AuditHolds e.end start (commands_on l r) × DisksStay seen e.end l r start e.left e.right)
     (sym c.unopened.ensures) (found.0, tt, found.1)
+
+pub returns-in-Err-clause-damaged : goal.returns-in-Err-clause-damaged
+returns-in-Err-clause-damaged g c l r told_l told_r side damage is = (refl, ends_damaged g.D.Disk.seen g.D.Disk.faults c.in-Err.fault c.args.left c.args.right c.in-Err.ensures.not_opened _ c.unopened.ensures l r told_l told_r side damage is)
 
 pub returns-clause-told : goal.returns-clause-told
 returns-clause-told g c l r told_l told_r start is =
@@ -48,13 +51,4 @@ returns-clause-told g c l r told_l told_r start is =
     )
 
 pub returns-clause-damaged : goal.returns-clause-damaged
-returns-clause-damaged g c l r told_l told_r side damage is =
-    let found = c.in-Ok.ensures.opened.state l r told_l told_r in
-    absurd (cc (found.1, is))
-
-pub returns-in-Err-clause-damaged : goal.returns-in-Err-clause-damaged
-returns-in-Err-clause-damaged g c l r told_l told_r side damage is =
-    let seen = g.D.Disk.seen in
-    let fault = c.in-Err.fault in
-    let found = unopened_damaged seen g.D.Disk.faults fault.why fault.left fault.right c.args.left c.args.right c.in-Err.ensures.not_opened l r told_l told_r side damage is in
-    (refl, subst (λ (e : Ending g.row.D.Denot). EndsDamaged seen side damage e.end e.left e.right) (sym c.unopened.ensures) found)
+returns-clause-damaged g c l r told_l told_r side damage is = absurd (cc ((c.in-Ok.ensures.opened.state l r told_l told_r).1, is))

@@ -1,11 +1,11 @@
 use Rattle.std.proofs.Common.{refl, Ok, sym, subst}
 use Rattle.liq_core.specs.Core.{Core, StandsFor}
 use Rattle.liq_ends.specs.declared.ending.Ending.{Ending}
-use Rattle.liq_ends.specs.Disks.{DisksStay, EndsDamaged}
+use Rattle.liq_ends.specs.Disks.{DisksStay}
 use Rattle.liq_tell.specs.State.{standing}
 use Rattle.liq_tell.specs.Writing.{WritesText}
 use Rattle.liq_ends.proofs.Opened.{opened_at, opened_still}
-use Rattle.liq_tell.proofs.Standing.{not_told, disks_stay, unopened_damaged}
+use Rattle.liq_tell.proofs.Standing.{not_told, disks_stay, ends_damaged}
 use Rattle.liq_tell.proofs.state.tell_state.Goals as goal
 
 pub returns-in-Err-clause-told : goal.returns-in-Err-clause-told
@@ -16,6 +16,9 @@ returns-in-Err-clause-told g c l r told_l told_r start is =
     subst (λ (e : Ending g.row.D.Denot). WritesText (Ok (standing start)) e.end held held × DisksStay seen e.end l r start e.left e.right)
     (sym c.unopened.ensures)
     (not_told seen g.D.Disk.faults (Ok (standing start)) fault.why fault.left fault.right c.args.left c.args.right c.in-Err.ensures.not_opened l r held told_l told_r start is)
+
+pub returns-in-Err-clause-damaged : goal.returns-in-Err-clause-damaged
+returns-in-Err-clause-damaged g c l r told_l told_r side damage is = (refl, ends_damaged g.D.Disk.seen g.D.Disk.faults c.in-Err.fault c.args.left c.args.right c.in-Err.ensures.not_opened _ c.unopened.ensures l r told_l told_r side damage is)
 
 pub returns-clause-told : goal.returns-clause-told
 returns-clause-told g c l r told_l told_r start is =
@@ -32,13 +35,4 @@ returns-clause-told g c l r told_l told_r start is =
     )
 
 pub returns-clause-damaged : goal.returns-clause-damaged
-returns-clause-damaged g c l r told_l told_r side damage is =
-    let found = c.in-Ok.ensures.opened.state l r told_l told_r in
-    absurd (cc (found.1, is))
-
-pub returns-in-Err-clause-damaged : goal.returns-in-Err-clause-damaged
-returns-in-Err-clause-damaged g c l r told_l told_r side damage is =
-    let seen = g.D.Disk.seen in
-    let fault = c.in-Err.fault in
-    let found = unopened_damaged seen g.D.Disk.faults fault.why fault.left fault.right c.args.left c.args.right c.in-Err.ensures.not_opened l r told_l told_r side damage is in
-    (refl, subst (λ (e : Ending g.row.D.Denot). EndsDamaged seen side damage e.end e.left e.right) (sym c.unopened.ensures) found)
+returns-clause-damaged g c l r told_l told_r side damage is = absurd (cc ((c.in-Ok.ensures.opened.state l r told_l told_r).1, is))
