@@ -42,6 +42,7 @@ use Rattle.liq_rules.specs.Recorded.{recorded}
 use Rattle.liq_serving.specs.Answered.{AreServedFrom, IsNextOf, IsServedFrom, IsServedWhole, LacksMemory}
 use Rattle.liq_serving.specs.declared.input.Finish.{Finish}
 use Rattle.liq_serving.specs.declared.input.Finish.TheVariants as finish
+use Rattle.liq_serving.specs.declared.input.Finished.{Finished}
 use Rattle.liq_serving.specs.declared.served.End.{End}
 use Rattle.liq_serving.specs.declared.served.End.TheVariants as end
 use Rattle.liq_serving.specs.declared.served.Served.{Served}
@@ -152,25 +153,37 @@ module _ {D : Type 0} (seen : D → Option (List ℕ)) (left right : D) where
       (ap₂ state_on left_is right_is ∙ is, λ kept. subst (λ (x : List ℕ). IsKept x b start) (sym left_is) (subst (λ (x : List ℕ). IsKept l x start) (sym right_is) kept))
 
 module _ {K D : Type 0} (held : K → Option (List ℕ)) (seen : D → Option (List ℕ)) where
+  -- nothing was answered or written
+  serves_none : (before unread : Option (List ℕ)) (out : K) (left right : D) (finished : Finished D) (asked : List (ℕ × Request)) → length asked ≤ LINES_MOST
+      → ((bytes : List ℕ) → before ≡ Some bytes → EndsAfter (reading_of finished.finish) bytes unread asked)
+      → Answers finished.finish None asked [] → Written held finished.finish [] out out
+      → ((l r : List ℕ) (start : State) → seen left ≡ Some l → seen right ≡ Some r → state_on l r ≡ Ok start → HoldsAfter seen finished.finish None [] l r start finished.left finished.right)
+      → ((l r : List ℕ) (side : Side) (damage : Damage) → seen left ≡ Some l → seen right ≡ Some r → state_on l r ≡ Err (side, damage) → EndsDamaged seen finished.finish side damage finished.left finished.right)
+      → ServesInput held seen before unread out out left right finished
+  serves_none before unread out left right finished asked few read answers written disks damaged = record {
+    asked = asked;
+    history = [];
+    answered = record {
+      few = few;
+      read = read;
+      fronts = nothing_front asked;
+      sessions = λ k d within. absurd (omega arith);
+      halted = None;
+      answers = answers;
+      legal = λ l r start told_l told_r is. legal-empty start;
+      disks = disks;
+      damaged = damaged;
+    };
+    written = written;
+  }
+
   -- the input was not read to its end
   pub serves_unread : (before unread : Option (List ℕ)) (out : K) (left right : D) (why_not : Stop) → Gathers (Err why_not) before unread
       → ServesInput held seen before unread out out left right (record { left = left; right = right; finish = finish.NotRead why_not })
-  serves_unread before unread out left right why_not gathers = record {
-    asked = gathers.asked;
-    history = [];
-    answered = record {
-      few = gathers.few;
-      read = gathers.read;
-      fronts = nothing_front gathers.asked;
-      sessions = λ k d within. absurd (omega arith);
-      halted = None;
-      answers = refl;
-      legal = λ l r start told_l told_r is. legal-empty start;
-      disks = λ l r start told_l told_r is. untouched seen left right l r start told_l told_r is;
-      damaged = λ l r side damage told_l told_r is a b told_a told_b. same_state seen left right l r a b told_l told_r told_a told_b ∙ is;
-    };
-    written = refl;
-  }
+  serves_unread before unread out left right why_not gathers =
+      serves_none before unread out left right (record { left = left; right = right; finish = finish.NotRead why_not }) gathers.asked gathers.few gathers.read refl refl
+      (λ l r start told_l told_r is. untouched seen left right l r start told_l told_r is)
+      (λ l r side damage told_l told_r is a b told_a told_b. same_state seen left right l r a b told_l told_r told_a told_b ∙ is)
 
   -- there was no memory for the output, and nothing was read
   pub serves_nothing : (before : Option (List ℕ)) (out : K) (left right : D) → ServesInput held seen before before out out left right (record { left = left; right = right; finish = finish.NotRead stop.NoMemory })
@@ -214,22 +227,10 @@ module _ {K D : Type 0} (held : K → Option (List ℕ)) (seen : D → Option (L
   pub serves_unopened : (scripts : Vec Script Global) (why_not : StoreWhy) (now_left now_right : D) → Gathers (Ok scripts) before unread
       → IsNotOpened seen faults left right (record { left = now_left; right = now_right; why = why_not })
       → ServesInput held seen before unread out out left right (record { left = now_left; right = now_right; finish = finish.NotOpened why_not })
-  serves_unopened scripts why_not now_left now_right gathers unopened = record {
-    asked = gathers.asked;
-    history = [];
-    answered = record {
-      few = gathers.few;
-      read = gathers.read;
-      fronts = nothing_front gathers.asked;
-      sessions = λ k d within. absurd (omega arith);
-      halted = None;
-      answers = refl;
-      legal = λ l r start told_l told_r is. legal-empty start;
-      disks = unopened_holds seen faults left right why_not now_left now_right unopened;
-      damaged = unopened_damaged seen faults left right why_not now_left now_right unopened;
-    };
-    written = refl;
-  }
+  serves_unopened scripts why_not now_left now_right gathers unopened =
+      serves_none held seen before unread out left right (record { left = now_left; right = now_right; finish = finish.NotOpened why_not }) gathers.asked gathers.few gathers.read refl refl
+      (unopened_holds seen faults left right why_not now_left now_right unopened)
+      (unopened_damaged seen faults left right why_not now_left now_right unopened)
 
 -- ---- the sessions were served
 
