@@ -2,20 +2,4 @@
 #![tactic(auto)]
 
 #[cfg(test)]
-mod agreement;
-#[cfg(test)]
-mod liquidated;
-#[cfg(test)]
-mod lowest;
-#[cfg(test)]
-mod pairs;
-#[cfg(test)]
-mod read;
-#[cfg(test)]
-mod redeemed;
-#[cfg(test)]
-mod redeeming;
-#[cfg(test)]
-mod treatments;
-#[cfg(test)]
-mod world;
+mod tests;

@@ -4,9 +4,10 @@ ghost use Rattle.std.specs.Prelude.{◌≡◌, IfOk};
 ghost use Rattle.liq_types.specs.WellFormed.{Ascends};
 ghost use Rattle.liq_types.specs.State.{wallet_in};
 
-use crate::agreement::{same, shows};
-use crate::pairs::two;
-use crate::read;
+use crate::tests::agreement::{same, shows};
+use crate::tests::pairs::two;
+use crate::tests::read;
+use crate::tests::world::BEFORE;
 use liq_ledger::{Pools, Surplus, Wallets};
 use liq_order::Order;
 use liq_redemption::{apply, plan, reserve};
@@ -14,9 +15,8 @@ use liq_troves::{Trove, Troves};
 use liq_types::amounts::ONE;
 use liq_types::{Hint, Market, NoMemory, Steps};
 use std::alloc::Global;
-use std::marker::Brand;
 use std::process::Abort;
-use std::sync::ledger::{Blank, Ledger};
+use std::sync::ledger::Ledger;
 
 const MARKET: Market = Market {
     price: 1_000_000_000,
@@ -26,17 +26,6 @@ const MARKET: Market = Market {
     total_coll: 21_100_000_000,
     total_debt: 8_440_000_000,
     troves: 2,
-};
-
-const BEFORE: Pools = Pools {
-    active_coll: 21_100_000_000,
-    active_debt: 8_440_000_000,
-    default_coll: 0,
-    default_debt: 0,
-    reserve: 400_000_000,
-    surplus: 0,
-    fee_coll: 0,
-    fee_lusd: 40_000_000,
 };
 
 const AFTER: Pools = Pools {
@@ -138,19 +127,9 @@ fn check_left<R: Abort>(rt: &R, troves: &Troves, order: &Order) {
     );
 }
 
-fn check_on<R: Abort, L: Ledger>(rt: &R, alloc: Global, blank: Blank)
-    requires name { blank.name ≡ L.name }
-    requires parts { blank.parts ≡ L.parts }
-    requires one { L.parts ≡ 1 }
-{
-    let mut steps = Steps::<L>::new(blank);
+pub fn check<R: Abort, L: Ledger>(rt: &R, alloc: Global, steps: &mut Steps<L>) {
     // The owner of the second trove, of the first, which is closed, and one who has none.
     for account in [2, 1, 3] {
-        check_redeemed(rt, alloc, account, &mut steps);
+        check_redeemed(rt, alloc, account, steps);
     }
-}
-
-#[test]
-fn redeems(rt: HostRuntime) {
-    check_on::<HostRuntime, Brand>(&rt, rt.alloc(), Blank::new(1));
 }

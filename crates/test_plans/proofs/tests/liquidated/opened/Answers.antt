@@ -1,7 +1,7 @@
 use Rattle.std.proofs.Common.{rules, ap, ◌∙◌, refl, arith}
 use Rattle.liq_stability.specs.Kept.{words_owned}
 use Rattle.liq_stability.specs.declared.words.PoolWords.{PoolWords}
-use Rattle.test_plans.proofs.liquidated.opened.Goals as goal
+use Rattle.test_plans.proofs.tests.liquidated.opened.Goals as goal
 
 pub returns : goal.returns
 returns g c =

@@ -4,17 +4,16 @@ ghost use Rattle.std.specs.Prelude.{◌≡◌};
 ghost use Rattle.liq_order.specs.Listed.{AreDistinct};
 ghost use Rattle.liq_redemption.specs.Given.{AreEntireWithin};
 
-use crate::agreement::{same, shows};
-use crate::pairs::{one, two};
+use crate::tests::agreement::{same, shows};
+use crate::tests::pairs::{one, two};
 use liq_order::Order;
 use liq_redemption::{Cut, RedeemFault, RedeemPlan, plan};
 use liq_troves::Troves;
 use liq_types::amounts::{LIM, ONE, PRICE_LEAST, PRICE_MOST};
 use liq_types::{Market, Refusal, Steps, Wallet};
 use std::alloc::Global;
-use std::marker::Brand;
 use std::process::Abort;
-use std::sync::ledger::{Blank, Ledger};
+use std::sync::ledger::Ledger;
 
 // The two troves at the opening price, when redemptions begin, and what is asked.
 #[derive(Clone, Copy)]
@@ -189,13 +188,8 @@ const PLANS: [(Case, [Option<Part>; 2], [u64; 4]); 6] = [
     ),
 ];
 
-fn check_plans<R: Abort, L: Ledger>(rt: &R, alloc: Global, blank: Blank)
-    requires name { blank.name ≡ L.name }
-    requires parts { blank.parts ≡ L.parts }
-    requires one { L.parts ≡ 1 }
-{
-    let mut steps = Steps::<L>::new(blank);
-    let Ok((troves, order)) = two(alloc, &mut steps) else {
+pub fn check_plans<R: Abort, L: Ledger>(rt: &R, alloc: Global, steps: &mut Steps<L>) {
+    let Ok((troves, order)) = two(alloc, steps) else {
         shows(rt, "memory", false);
         return;
     };
@@ -206,11 +200,6 @@ fn check_plans<R: Abort, L: Ledger>(rt: &R, alloc: Global, blank: Blank)
         let answer = planned(rt, alloc, &troves, &order, &case);
         same(rt, &answer, &Ok((cuts, count, sums)), "a plan");
     }
-}
-
-#[test]
-fn plans(rt: HostRuntime) {
-    check_plans::<HostRuntime, Brand>(&rt, rt.alloc(), Blank::new(1));
 }
 
 /// A case, and its refusal where it is refused.
@@ -227,28 +216,18 @@ fn check_answers<R: Abort>(rt: &R, alloc: Global, troves: &Troves, order: &Order
     }
 }
 
-fn check_refusals<R: Abort, L: Ledger>(rt: &R, alloc: Global, blank: Blank)
-    requires name { blank.name ≡ L.name }
-    requires parts { blank.parts ≡ L.parts }
-    requires one { L.parts ≡ 1 }
-{
-    let mut steps = Steps::<L>::new(blank);
-    if let Ok((troves, order)) = two(alloc, &mut steps) {
+pub fn check_refusals<R: Abort, L: Ledger>(rt: &R, alloc: Global, steps: &mut Steps<L>) {
+    if let Ok((troves, order)) = two(alloc, steps) {
         check_answers(rt, alloc, &troves, &order, &ASKED);
         check_answers(rt, alloc, &troves, &order, &TAKEN);
     } else {
         shows(rt, "memory", false);
     }
-    if let Ok((troves, order)) = one(alloc, &mut steps) {
+    if let Ok((troves, order)) = one(alloc, steps) {
         check_answers(rt, alloc, &troves, &order, &OF_ONE);
     } else {
         shows(rt, "memory", false);
     }
-}
-
-#[test]
-fn refusals(rt: HostRuntime) {
-    check_refusals::<HostRuntime, Brand>(&rt, rt.alloc(), Blank::new(1));
 }
 
 const EARLY: Case = Case {

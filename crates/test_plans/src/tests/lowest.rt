@@ -3,35 +3,20 @@
 ghost use Rattle.std.specs.Prelude.{◌≡◌, IsTrue};
 ghost use Rattle.test_plans.specs.World.{IsSmall};
 
-use crate::agreement::{same, shows};
-use crate::read::parts;
-use crate::world::{FIRST, SECOND, three, two};
+use crate::tests::agreement::{same, shows};
+use crate::tests::read::parts;
+use crate::tests::world::{FIRST, SECOND, market, three, two};
 use liq_liquidation::{LowestFault, Victim, plan_lowest};
 use liq_stability::PoolWords;
-use liq_types::{Market, Refusal, Steps};
+use liq_types::{Refusal, Steps};
 use std::alloc::Global;
-use std::marker::Brand;
 use std::process::Abort;
-use std::sync::ledger::{Blank, Ledger};
+use std::sync::ledger::Ledger;
 
 fn is_small(own: (u64, u64)) -> bool
     ensures { IsTrue result → IsSmall own }
 {
     own.0 >= 1 && own.0 <= 1_000_000_000_000 && own.1 >= 2_000_000_000 && own.1 <= 1_000_000_000_000
-}
-
-fn market(price: u64, total_coll: u64, total_debt: u64, troves: u64) -> Market
-    ensures { result ≡ record { price = price; minute = 0; base = 0; fee_minute = 0; total_coll = total_coll; total_debt = total_debt; troves = troves } }
-{
-    Market {
-        price,
-        minute: 0,
-        base: 0,
-        fee_minute: 0,
-        total_coll,
-        total_debt,
-        troves,
-    }
 }
 
 /// A pool with so much LUSD.
@@ -53,24 +38,9 @@ type Struck = [u64; 7];
 type Answer = Result<([Option<Struck>; 2], usize), Option<Refusal>>;
 
 fn struck_of(victim: &Victim) -> Struck {
-    let [
-        gas,
-        offset_debt,
-        offset_coll,
-        spread_debt,
-        spread_coll,
-        surplus,
-    ] = parts(&victim.one);
-    let account = u64::from(victim.account);
-    [
-        account,
-        gas,
-        offset_debt,
-        offset_coll,
-        spread_debt,
-        spread_coll,
-        surplus,
-    ]
+    let mut struck = [u64::from(victim.account); 7];
+    struck[1..].copy_from_slice(&parts(&victim.one));
+    struck
 }
 
 fn told(answer: &Result<Vec<Victim>, LowestFault>) -> Answer {
@@ -148,6 +118,15 @@ struct Row {
     want: [Option<Struck>; 2],
 }
 
+const TIGHT: [(u64, u64); 3] = [
+    (10_500_000_000, 10_000_000_000),
+    (10_800_000_000, 10_000_000_000),
+    (14_000_000_000, 10_000_000_000),
+];
+
+/// The first where the pool takes over all of it.
+const FIRST_OFFSET: Option<Struck> = Some([1, 52_500_000, 10_000_000_000, 10_447_500_000, 0, 0, 0]);
+
 const THREE: [Row; 5] = [
     // The first leaves the others in Normal Mode, so the second may not be liquidated any more.
     Row {
@@ -158,10 +137,7 @@ const THREE: [Row; 5] = [
         ],
         pool: 20_000_000_000,
         n: 64,
-        want: [
-            Some([1, 52_500_000, 10_000_000_000, 10_447_500_000, 0, 0, 0]),
-            None,
-        ],
+        want: [FIRST_OFFSET, None],
     },
     // It leaves them in Recovery Mode.
     Row {
@@ -173,7 +149,7 @@ const THREE: [Row; 5] = [
         pool: 20_000_000_000,
         n: 64,
         want: [
-            Some([1, 52_500_000, 10_000_000_000, 10_447_500_000, 0, 0, 0]),
+            FIRST_OFFSET,
             Some([
                 2,
                 55_000_000,
@@ -187,11 +163,7 @@ const THREE: [Row; 5] = [
     },
     // With an empty pool the second has taken over its part of the first.
     Row {
-        troves: [
-            (10_500_000_000, 10_000_000_000),
-            (10_800_000_000, 10_000_000_000),
-            (14_000_000_000, 10_000_000_000),
-        ],
+        troves: TIGHT,
         pool: 0,
         n: 64,
         want: [
@@ -201,15 +173,11 @@ const THREE: [Row; 5] = [
     },
     // The pool has only a part left for the second.
     Row {
-        troves: [
-            (10_500_000_000, 10_000_000_000),
-            (10_800_000_000, 10_000_000_000),
-            (14_000_000_000, 10_000_000_000),
-        ],
+        troves: TIGHT,
         pool: 12_000_000_000,
         n: 2,
         want: [
-            Some([1, 52_500_000, 10_000_000_000, 10_447_500_000, 0, 0, 0]),
+            FIRST_OFFSET,
             Some([
                 2,
                 54_000_000,
@@ -223,17 +191,10 @@ const THREE: [Row; 5] = [
     },
     // No more than one is asked for.
     Row {
-        troves: [
-            (10_500_000_000, 10_000_000_000),
-            (10_800_000_000, 10_000_000_000),
-            (14_000_000_000, 10_000_000_000),
-        ],
+        troves: TIGHT,
         pool: 12_000_000_000,
         n: 1,
-        want: [
-            Some([1, 52_500_000, 10_000_000_000, 10_447_500_000, 0, 0, 0]),
-            None,
-        ],
+        want: [FIRST_OFFSET, None],
     },
 ];
 
@@ -263,37 +224,22 @@ fn lowest_of_three<R: Abort, L: Ledger>(
     ))
 }
 
-fn check_on<R: Abort, L: Ledger>(rt: &R, alloc: Global, blank: Blank)
-    requires name { blank.name ≡ L.name }
-    requires parts { blank.parts ≡ L.parts }
-    requires one { L.parts ≡ 1 }
-{
-    let mut steps = Steps::<L>::new(blank);
+pub fn check<R: Abort, L: Ledger>(rt: &R, alloc: Global, steps: &mut Steps<L>) {
     for (row, want) in TWO {
         let want = match want {
             Ok(struck) => Ok(([Some(struck), None], 1)),
             Err(refusal) => Err(Some(refusal)),
         };
-        same(
-            rt,
-            &lowest_of_two(rt, alloc, row, &mut steps),
-            &want,
-            "of two",
-        );
+        same(rt, &lowest_of_two(rt, alloc, row, steps), &want, "of two");
     }
     for row in THREE {
         let [first, second] = row.want;
         let count = usize::from(first.is_some()) + usize::from(second.is_some());
         same(
             rt,
-            &lowest_of_three(rt, alloc, &row, &mut steps),
+            &lowest_of_three(rt, alloc, &row, steps),
             &Ok((row.want, count)),
             "of three",
         );
     }
-}
-
-#[test]
-fn lowest_troves(rt: HostRuntime) {
-    check_on::<HostRuntime, Brand>(&rt, rt.alloc(), Blank::new(1));
 }

@@ -4,8 +4,9 @@ use Rattle.liq_types.specs.State.{wallet_in}
 use Rattle.liq_types.specs.Tables.{Table}
 use Rattle.liq_redemption.specs.Given.{IsPlannedOn}
 use Rattle.liq_redemption.specs.Parts.{parts_of}
-use Rattle.test_plans.specs.declared.redeemed.TheConstants.{MARKET, BEFORE}
-use Rattle.test_plans.proofs.redeemed.check_redeemed.Goals as goal
+use Rattle.test_plans.specs.declared.tests.redeemed.TheConstants.{MARKET}
+use Rattle.test_plans.specs.declared.tests.world.TheConstants.{BEFORE}
+use Rattle.test_plans.proofs.tests.redeemed.check_redeemed.Goals as goal
 
 pub apply-requires-clause-planned : goal.apply-requires-clause-planned
 apply-requires-clause-planned g c =

@@ -4,7 +4,7 @@ use Rattle.liq_types.specs.declared.figures.Wallet.{Wallet}
 use Rattle.liq_types.specs.Payments.{credited_in}
 use Rattle.liq_types.specs.Tables.{Table}
 use Rattle.liq_types.specs.WellFormed.{Ascends}
-use Rattle.test_plans.proofs.redeemed.funded.Goals as goal
+use Rattle.test_plans.proofs.tests.redeemed.funded.Goals as goal
 
 one_ascends : (account : ℕ) → Ascends (credited_in [] account 0 8000000000)
 unfolding IsStrictlySortedBy

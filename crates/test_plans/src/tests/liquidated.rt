@@ -3,9 +3,9 @@
 ghost use Rattle.std.specs.Prelude.{◌≡◌, ◌≤◌, [], ◌∷◌, IfOk};
 ghost use Rattle.test_plans.specs.World.{AreFresh, AreOpened, fresh};
 
-use crate::agreement::{same, shows};
-use crate::read;
-use crate::world::{FIRST, SECOND, World, two};
+use crate::tests::agreement::{same, shows};
+use crate::tests::read;
+use crate::tests::world::{BEFORE, FIRST, SECOND, World, two};
 use liq_ledger::{Pools, Surplus, Wallets};
 use liq_liquidation::{Victim, apply_one, plan_one};
 use liq_stability::Stability;
@@ -13,9 +13,8 @@ use liq_troves::Trove;
 use liq_types::amounts::LIM;
 use liq_types::{Market, NoMemory, Steps};
 use std::alloc::Global;
-use std::marker::Brand;
 use std::process::Abort;
-use std::sync::ledger::{Blank, Ledger};
+use std::sync::ledger::Ledger;
 
 const OWNER: u32 = 1;
 
@@ -61,16 +60,7 @@ fn opened<R: Abort>(rt: &R, alloc: Global, deposit: u64) -> Result<Homes, NoMemo
     shows(rt, "no gain", gain == 0);
     Ok(Homes {
         wallets,
-        pools: Pools {
-            active_coll: 21_100_000_000,
-            active_debt: 8_440_000_000,
-            default_coll: 0,
-            default_debt: 0,
-            reserve: 400_000_000,
-            surplus: 0,
-            fee_coll: 0,
-            fee_lusd: 40_000_000,
-        },
+        pools: BEFORE,
         surplus,
         stability,
     })
@@ -246,18 +236,8 @@ fn check_world<R: Abort>(rt: &R, world: &World, case: &Case) {
     );
 }
 
-fn check_on<R: Abort, L: Ledger>(rt: &R, alloc: Global, blank: Blank)
-    requires name { blank.name ≡ L.name }
-    requires parts { blank.parts ≡ L.parts }
-    requires one { L.parts ≡ 1 }
-{
-    let mut steps = Steps::<L>::new(blank);
+pub fn check<R: Abort, L: Ledger>(rt: &R, alloc: Global, steps: &mut Steps<L>) {
     for case in CASES {
-        check_case(rt, alloc, &case, &mut steps);
+        check_case(rt, alloc, &case, steps);
     }
-}
-
-#[test]
-fn made(rt: HostRuntime) {
-    check_on::<HostRuntime, Brand>(&rt, rt.alloc(), Blank::new(1));
 }

@@ -1,11 +1,12 @@
 //! One trove: each line of the table of treatments, at its edges and one beside.
 
-use crate::agreement::{same, shows};
-use crate::read::parts;
+use crate::tests::agreement::{same, shows};
+use crate::tests::read::parts;
+use crate::tests::world::market;
 use liq_liquidation::plan_one;
 use liq_troves::{Sums, Trove};
+use liq_types::Refusal;
 use liq_types::amounts::SUM_MOST;
-use liq_types::{Market, Refusal};
 use std::process::Abort;
 
 /// Price, collateral and debt of all troves, how many they are, collateral and debt of one with nothing pending, and the LUSD of
@@ -280,15 +281,7 @@ fn treated<R: Abort>(
     shows(rt, "a price", price >= 1 && price <= 1_000_000_000_000);
     shows(rt, "sums", sum_coll <= SUM_MOST && sum_debt <= SUM_MOST);
     shows(rt, "an amount", coll < u64::MAX);
-    let m = Market {
-        price,
-        minute: 0,
-        base: 0,
-        fee_minute: 0,
-        total_coll,
-        total_debt,
-        troves,
-    };
+    let m = market(price, total_coll, total_debt, troves);
     let sums = Sums {
         coll: sum_coll,
         debt: sum_debt,

@@ -8,9 +8,10 @@ ghost use Rattle.liq_troves.specs.Kept.{coll_in};
 ghost use Rattle.liq_troves.specs.Rows.{key_by, stakes_in};
 ghost use Rattle.test_plans.specs.World.{AreFresh, IsSmall, fresh, fresh_sums};
 
+use liq_ledger::Pools;
 use liq_order::Order;
 use liq_troves::{Trove, Troves, key};
-use liq_types::{Hint, NoMemory, Steps};
+use liq_types::{Hint, Market, NoMemory, Steps};
 use std::alloc::Global;
 use std::sync::ledger::Ledger;
 
@@ -20,11 +21,38 @@ pub const FIRST: (u64, u64) = (8_440_000_000, 4_220_000_000);
 /// 300 percent.
 pub const SECOND: (u64, u64) = (12_660_000_000, 4_220_000_000);
 
+/// The pools of these two.
+pub const BEFORE: Pools = Pools {
+    active_coll: 21_100_000_000,
+    active_debt: 8_440_000_000,
+    default_coll: 0,
+    default_debt: 0,
+    reserve: 400_000_000,
+    surplus: 0,
+    fee_coll: 0,
+    fee_lusd: 40_000_000,
+};
+
 /// Troves and the list that has them in their order.
 #[derive(Drop)]
 pub struct World {
     pub troves: Troves,
     pub order: Order,
+}
+
+/// A market before any minute has passed, in which no fee was taken.
+pub fn market(price: u64, total_coll: u64, total_debt: u64, troves: u64) -> Market
+    ensures { result ≡ record { price = price; minute = 0; base = 0; fee_minute = 0; total_coll = total_coll; total_debt = total_debt; troves = troves } }
+{
+    Market {
+        price,
+        minute: 0,
+        base: 0,
+        fee_minute: 0,
+        total_coll,
+        total_debt,
+        troves,
+    }
 }
 
 /// The troves of accounts 1, 2 and 3, with these amounts.

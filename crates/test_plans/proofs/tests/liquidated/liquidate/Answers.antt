@@ -12,8 +12,8 @@ use Rattle.liq_troves.specs.Standing.{Books, TroveStands, TrovesStand}
 use Rattle.liq_stability.specs.declared.words.PoolWords.{PoolWords}
 use Rattle.liq_liquidation.specs.One.{one_by, one_in}
 use Rattle.test_plans.specs.World.{fresh, fresh_sums}
-use Rattle.test_plans.specs.declared.world.TheConstants.{FIRST, SECOND}
-use Rattle.test_plans.proofs.liquidated.liquidate.Goals as goal
+use Rattle.test_plans.specs.declared.tests.world.TheConstants.{FIRST, SECOND}
+use Rattle.test_plans.proofs.tests.liquidated.liquidate.Goals as goal
 
 abbrev two_rows : Table Trove
 two_rows = (1, fresh FIRST) ∷ (2, fresh SECOND) ∷ []

@@ -7,12 +7,14 @@ use liq_troves::Trove;
 /// The collateral for the liquidator, debt and collateral for the Stability Pool, debt and collateral for the other troves, and
 /// what the owner may claim.
 pub fn parts(one: &One) -> [u64; 6] {
+    let [offset_debt, offset_coll] = [one.offset_debt, one.offset_coll];
+    let [spread_debt, spread_coll] = [one.spread_debt, one.spread_coll];
     [
         one.gas,
-        one.offset_debt,
-        one.offset_coll,
-        one.spread_debt,
-        one.spread_coll,
+        offset_debt,
+        offset_coll,
+        spread_debt,
+        spread_coll,
         one.surplus,
     ]
 }

@@ -1,0 +1,12 @@
+//! The tests, and what they share.
+
+mod agreement;
+mod counted;
+mod liquidated;
+mod lowest;
+mod pairs;
+mod read;
+mod redeemed;
+mod redeeming;
+mod treatments;
+mod world;
