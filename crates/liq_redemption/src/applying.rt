@@ -81,7 +81,6 @@ pub fn apply<L: Ledger>(
     ensures surplus_room { surplus.new.room ≡ surplus.old.room }
     ensures trove_room { troves.new.table.room ≡ troves.old.table.room }
     ensures order_room { order.new.room ≡ order.old.room + count_by (λ cut. cut.full) plan.now.cuts }
-    ensures steps { steps.new ≡ steps.old }
 {
     for cut in plan.cuts.as_slice() {
         take_down(cut, hint, pools, surplus, troves, order, steps);
@@ -110,7 +109,6 @@ fn take_down<L: Ledger>(
     ensures surplus_room { surplus.new.room ≡ surplus.old.room }
     ensures trove_room { troves.new.table.room ≡ troves.old.table.room }
     ensures order_room { order.new.room ≡ order.old.room + (if cut.now.full then 1 else 0) }
-    ensures steps { steps.new ≡ steps.old }
 {
     let (coll, debt) = lift(pools, troves, order, cut.account);
     let coll = coll - cut.draw;

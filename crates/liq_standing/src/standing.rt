@@ -74,7 +74,6 @@ pub fn place<L: Ledger>(
     ensures list { order.new.entries ≡ with_ranked order.old.entries (key_by (set_row troves.old.sums coll debt), account) }
     ensures room { troves.new.table.room ≡ troves.old.table.room }
     ensures spare { order.new.room + 1 ≡ order.old.room }
-    ensures steps { steps.new ≡ steps.old }
 {
     pools.active_coll += coll;
     pools.active_debt += debt;

@@ -26,7 +26,6 @@ loop-cut-init g c =
       surplus_room = refl;
       trove_room = refl;
       order_room = ap (λ (l : List Cut). c.args.order.now.room + count_by (λ (cut : Cut). cut.full) l) same;
-      steps = refl;
     }
 
 -- the cut that is next, and those behind it
@@ -70,7 +69,6 @@ loop-cut-preserved g c =
       surplus_room = c.take_down.ensures.surplus_room ∙ c.loop-cut.invariant.surplus_room;
       trove_room = c.take_down.ensures.trove_room ∙ c.loop-cut.invariant.trove_room;
       order_room = omega (arith, c.take_down.ensures.order_room, room, rooms, c.loop-cut.invariant.order_room);
-      steps = c.take_down.ensures.steps ∙ c.loop-cut.invariant.steps;
     }
 
 -- ---- what is left to do

@@ -15,5 +15,4 @@ invariant-loop-cut g l = record {
   surplus_room : l.surplus.room ≡ l.fn.surplus.room;
   trove_room : l.troves.table.room ≡ l.fn.troves.table.room;
   order_room : l.order.room + count_by (λ (cut : Cut). cut.full) (drop l.cut-index l.cut-items) ≡ l.fn.order.room + count_by (λ (cut : Cut). cut.full) l.fn.plan.cuts;
-  steps : l.steps ≡ l.fn.steps;
 }
