@@ -228,7 +228,7 @@ module _ (p : Parts) (stands : Stands p) (price : ℕ) (price_some : 1 ≤ price
         debt = debts;
         draw = draw_part;
         listed = is.listed;
-        surplus = omega (arith, total);
+        surplus = omega (arith, o.coll, total);
         claim = omega (arith, claim, o.coll, total);
         left = still_owed troves goes;
       }

@@ -2,9 +2,8 @@
 use Rattle.std.proofs.Common.{◌≡◌, ℕ, ◌-◌, ◌*◌, ◌≤◌, Bool, true, false, cond, List, [], ◌∷◌, refl, sym, ap, ◌∙◌, Some, None, Option, arith, append-nil}
 use Rattle.std.specs.Prelude.{◌==◌, filter, filter_map}
 use Rattle.std.specs.List.{cons_option}
-use Rattle.std.proofs.Math.Nat.{div-mul-le_self}
+use Rattle.std.proofs.Math.Nat.{add-mul, div-mul-le_self}
 use Rattle.std.proofs.lemmas.List.Sums.{sum_by-cons}
-use Rattle.liq_types.specs.declared.amounts.TheConstants.{PRICE_LEAST}
 use Rattle.liq_types.specs.declared.figures.Trove.{Trove}
 use Rattle.liq_types.specs.Tables.{Table}
 use Rattle.liq_troves.specs.declared.sums.Sums.{Sums}
@@ -36,28 +35,26 @@ nothing_wanted price troves wanted [] e = refl
 nothing_wanted price troves wanted (v ∷ vs) e =
     ap (λ n. cond (n == 0) [] (cond (stops_before v (cut_of price v n) troves) [] (cut_of price v n ∷ cuts price (troves_after (cut_of price v n) troves) (n - (cut_of price v n).lot) vs))) e
 
--- of a list of cuts: at the least price a micro-LUSD draws ten gwei at most
-abbrev pub IsDrawnWithin : List Cut → Type 0
-IsDrawnWithin list = drawn list ≤ 10 * redeemed list
+-- of a list of cuts: what is drawn is worth no more than what is redeemed
+abbrev pub IsDrawnWithin : ℕ → List Cut → Type 0
+IsDrawnWithin price list = drawn list * price ≤ redeemed list * 1000000000
 
-draw_within : (price lot : ℕ) → PRICE_LEAST ≤ price → draw_of price lot ≤ 10 * lot
-draw_within price lot h =
-    let low : draw_of price lot * price ≤ lot * 1000000000 = div-mul-le_self (lot * 1000000000) price in
-    let least : draw_of price lot * PRICE_LEAST ≤ draw_of price lot * price = grind (arith, h) in
-    omega (arith, low, least)
+draw_within : (price lot : ℕ) → draw_of price lot * price ≤ lot * 1000000000
+draw_within price lot = div-mul-le_self (lot * 1000000000) price
 
-pub drawn_within : (price troves wanted : ℕ) (vs : List Visit) → PRICE_LEAST ≤ price → IsDrawnWithin (cuts price troves wanted vs)
-drawn_within price troves wanted [] h = omega arith
-drawn_within price troves wanted (v ∷ vs) h = by (wanted == 0) (stops_before v (cut_of price v wanted) troves) (drawn_within price (troves_after (cut_of price v wanted) troves) (wanted - (cut_of price v wanted).lot) vs h) where
-  by : (done stops : Bool) → IsDrawnWithin (cuts price (troves_after (cut_of price v wanted) troves) (wanted - (cut_of price v wanted).lot) vs) → IsDrawnWithin (cond done [] (cond stops [] (cut_of price v wanted ∷ cuts price (troves_after (cut_of price v wanted) troves) (wanted - (cut_of price v wanted).lot) vs)))
+pub drawn_within : (price troves wanted : ℕ) (vs : List Visit) → IsDrawnWithin price (cuts price troves wanted vs)
+drawn_within price troves wanted [] = omega arith
+drawn_within price troves wanted (v ∷ vs) = by (wanted == 0) (stops_before v (cut_of price v wanted) troves) (drawn_within price (troves_after (cut_of price v wanted) troves) (wanted - (cut_of price v wanted).lot) vs) where
+  by : (done stops : Bool) → IsDrawnWithin price (cuts price (troves_after (cut_of price v wanted) troves) (wanted - (cut_of price v wanted).lot) vs) → IsDrawnWithin price (cond done [] (cond stops [] (cut_of price v wanted ∷ cuts price (troves_after (cut_of price v wanted) troves) (wanted - (cut_of price v wanted).lot) vs)))
   by true stops later = omega arith
   by false true later = omega arith
   by false false later =
       let list = cuts price (troves_after (cut_of price v wanted) troves) (wanted - (cut_of price v wanted).lot) vs in
       let lots = sum_by-cons (λ (x : Cut). x.lot) (cut_of price v wanted) list in
       let draws = sum_by-cons (λ (x : Cut). x.draw) (cut_of price v wanted) list in
-      let one = draw_within price (cut_of price v wanted).lot h in
-      omega (arith, lots, draws, one, later)
+      let one = draw_within price (cut_of price v wanted).lot in
+      let all = ap (λ n. n * price) draws ∙ add-mul (cut_of price v wanted).draw (drawn list) price in
+      omega (arith, lots, all, one, later)
 
 -- ---- one account further
 

@@ -78,7 +78,7 @@ pub record CutFits (p : Parts) (cut : Cut) : Type 0 where
   pub debt : p.pools.active_debt + p.pools.default_debt ≤ LIM
   pub draw : cut.draw < own.0
   pub listed : IsSome (key_in p.order cut.account)
-  pub surplus : p.pools.surplus ≤ LIM
+  pub surplus : p.pools.surplus + (own.0 - cut.draw) ≤ LIM
   pub claim : surplus_in p.surplus cut.account + (own.0 - cut.draw) ≤ LIM
   -- a trove that stays keeps the least debt
   pub left : cut.full ≡ false → RESERVE + MIN_NET ≤ own.1 - cut.lot

@@ -124,7 +124,7 @@ fn take_down<L: Ledger>(
 fn close(account: u32, coll: u64, pools: &mut Pools, surplus: &mut Surplus)
     requires room { HasRoom surplus.old account }
     requires claim { surplus_in surplus.old.rows account + coll ≤ LIM }
-    requires total { pools.old.surplus ≤ LIM }
+    requires total { pools.old.surplus + coll ≤ LIM }
     ensures parts { (troves : Kept) → (order : Listed) → parts_of pools.new surplus.new troves order ≡ closed_parts (parts_of pools.old surplus.old troves order) account coll }
     ensures surplus_room { surplus.new.room ≡ surplus.old.room }
 {

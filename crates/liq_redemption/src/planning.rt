@@ -1,6 +1,6 @@
 //! What a redemption would do, or why it is refused.
 
-ghost use Rattle.std.specs.Prelude.{◌≡◌, ◌≤◌, ◌<◌, ◌+◌, ◌^◌, OnOk, unwrap_or};
+ghost use Rattle.std.specs.Prelude.{◌≡◌, ◌≤◌, ◌<◌, ◌+◌, ◌*◌, ◌^◌, OnOk, unwrap_or};
 ghost use Rattle.liq_types.specs.Rules.{first_refusal, outcome};
 ghost use Rattle.liq_order.specs.Listed.{AreDistinct};
 ghost use Rattle.liq_redemption.specs.Answers.{Answers};
@@ -10,7 +10,7 @@ ghost use Rattle.liq_redemption.specs.Redemption as rules;
 use crate::cuts::Cuts;
 use crate::fault::RedeemFault;
 use crate::walk::{Walk, along};
-use liq_num::ratio_sides;
+use liq_num::{GWEI_PER_ETH, ratio_sides};
 use liq_order::Order;
 use liq_rate::{Rate, redeem_fee};
 use liq_troves::Troves;
@@ -55,12 +55,14 @@ pub fn plan(
     Ok(come_to(m, walk, amount, bound)?)
 }
 
-/// What is refused before any trove is visited.
+/// What is refused before any trove is visited. Where nothing is, all debt is worth less than all collateral, which has 64 bits;
+/// so is what is asked for.
 fn check_asked(m: &Market, wallet: &Wallet, amount: u64, bound: u64) -> Result<(), Refusal>
     requires { IsMarket m.now wallet.now }
     ensures refused { result ≡ outcome (first_refusal (rules.asking_rules m.now wallet.now amount bound)) tt }
     ensures some { OnOk result (1 ≤ amount) }
     ensures enough { OnOk result (amount ≤ wallet.now.lusd) }
+    ensures worth { OnOk result (amount * GWEI_PER_ETH < 2 ^ 64 * m.now.price) }
 {
     if amount == 0 {
         return Err(Refusal::AmountZero);

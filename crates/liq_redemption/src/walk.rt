@@ -1,8 +1,8 @@
 //! The way of a redemption along the troves, from the list's end to its front.
 
-ghost use Rattle.std.specs.Prelude.{◌≡◌, ◌≤◌, ◌+◌, ◌∷◌, List, Some, IfOk, unwrap_or};
+ghost use Rattle.std.specs.Prelude.{◌≡◌, ◌≤◌, ◌<◌, ◌+◌, ◌*◌, ◌^◌, ◌∷◌, List, Some, IfOk, unwrap_or};
 ghost use Rattle.std.specs.List.{cons_option};
-ghost use Rattle.liq_types.specs.declared.amounts.TheConstants.{LIM, PRICE_LEAST, PRICE_MOST};
+ghost use Rattle.liq_types.specs.declared.amounts.TheConstants.{PRICE_LEAST, PRICE_MOST};
 ghost use Rattle.liq_order.specs.Listed.{AreDistinct};
 ghost use Rattle.liq_redemption.specs.Given.{AreEntireWithin};
 ghost use Rattle.liq_redemption.specs.Redemption as rules;
@@ -37,7 +37,7 @@ impl Walk {
         requires most { price ≤ PRICE_MOST }
         requires entire { AreEntireWithin troves.now.sums troves.now.table.rows }
         requires some { 1 ≤ self.old.wanted }
-        requires wanted { self.old.wanted ≤ LIM }
+        requires wanted { self.old.wanted * GWEI_PER_ETH < 2 ^ 64 * price }
         ensures cuts { IfOk result (λ on. (ahead : List rules.Visit) → all_cuts price self.new (ahead_where on ahead) ≡ all_cuts price self.old (cons_option (rules.visit_at price troves.now.sums troves.now.table.rows account) ahead)) }
         ensures first { IfOk result (λ on. (ahead : List rules.Visit) → first_net_of self.new (ahead_where on ahead) ≡ first_net_of self.old (cons_option (rules.visit_at price troves.now.sums troves.now.table.rows account) ahead)) }
         ensures wanted { IfOk result (λ _. rules.redeemed self.new.cuts + self.new.wanted ≡ rules.redeemed self.old.cuts + self.old.wanted) }
@@ -52,7 +52,7 @@ impl Walk {
     fn take(&mut self, price: u64, visit: &Visit) -> Result<bool, NoMemory>
         requires least { PRICE_LEAST ≤ price }
         requires some { 1 ≤ self.old.wanted }
-        requires wanted { self.old.wanted ≤ LIM }
+        requires wanted { self.old.wanted * GWEI_PER_ETH < 2 ^ 64 * price }
         ensures cuts { IfOk result (λ on. (ahead : List rules.Visit) → all_cuts price self.new (ahead_where on ahead) ≡ all_cuts price self.old (visit.now ∷ ahead)) }
         ensures first { IfOk result (λ _. self.new.first_net ≡ Some (unwrap_or self.old.first_net (rules.net_debt visit.now))) }
         ensures wanted { IfOk result (λ _. rules.redeemed self.new.cuts + self.new.wanted ≡ rules.redeemed self.old.cuts + self.old.wanted) }
@@ -74,7 +74,7 @@ impl Walk {
 /// What a redemption of so much takes of a trove, by a price in micro-LUSD per ether.
 fn cut_of(price: u64, visit: &Visit, wanted: u64) -> Cut
     requires least { PRICE_LEAST ≤ price }
-    requires wanted { wanted ≤ LIM }
+    requires wanted { wanted * GWEI_PER_ETH < 2 ^ 64 * price }
     ensures cut { result ≡ rules.cut_of price visit.now wanted }
 {
     let net = visit.net_debt();
@@ -114,7 +114,7 @@ pub fn along(
     requires entire { AreEntireWithin troves.now.sums troves.now.table.rows }
     requires distinct { AreDistinct order.now.entries }
     requires some { 1 ≤ amount }
-    requires amount { amount ≤ LIM }
+    requires amount { amount * GWEI_PER_ETH < 2 ^ 64 * price }
     ensures cuts { IfOk result (λ w. w.cuts ≡ rules.cuts price count amount (rules.visited_by price troves.now.sums troves.now.table.rows order.now.entries)) }
     ensures first { IfOk result (λ w. rules.redeemed w.cuts ≡ 0 → unwrap_or w.first_net 0 ≡ rules.first_net (rules.visited_by price troves.now.sums troves.now.table.rows order.now.entries)) }
     ensures wanted { IfOk result (λ w. rules.redeemed w.cuts + w.wanted ≡ amount) }

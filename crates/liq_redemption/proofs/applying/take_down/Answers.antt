@@ -16,7 +16,10 @@ lift-coll-requires-clause-there g c =
     trove_there (parts_of c.args.pools.now c.args.surplus.now c.args.troves.now c.args.order.now) c.args.cut.now.account c.requires.fits.own c.requires.fits.entire_is
 
 pub close-requires-clause-total : goal.close-requires-clause-total
-close-requires-clause-total g c = subst (λ n. n ≤ LIM) (sym (ap (λ (p : Pools). p.surplus) c.lift-coll.ensures.rest)) c.requires.fits.surplus
+close-requires-clause-total g c =
+    let same = ap (λ (p : Pools). p.surplus) c.lift-coll.ensures.rest in
+    let own = ap (λ (x : ℕ × ℕ). x.0) (the c.lift-coll.result c.requires.fits.own _ c.lift-coll.ensures.own c.requires.fits.entire_is) in
+    omega (arith, same, own, c.requires.fits.surplus)
 
 pub place-requires-clause-stand : goal.place-requires-clause-stand
 place-requires-clause-stand g c =

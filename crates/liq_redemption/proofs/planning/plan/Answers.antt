@@ -1,12 +1,20 @@
-use Rattle.std.proofs.Common.{List, sym, subst, arith}
+use Rattle.std.proofs.Common.{ℕ, ◌*◌, ◌^◌, ◌<◌, ◌≤◌, List, sym, subst, arith, inl, inr}
+use Rattle.std.proofs.Math.Nat.{mul-le-mul_right}
+use Rattle.std.proofs.lemmas.Bool.{cases_lt}
 use Rattle.liq_redemption.specs.declared.cut.Cut.{Cut}
-use Rattle.liq_redemption.specs.Redemption.{visited_by}
+use Rattle.liq_redemption.specs.Redemption.{drawn, visited_by}
 use Rattle.liq_redemption.proofs.Taking.{IsDrawnWithin, drawn_within}
 use Rattle.liq_redemption.proofs.planning.plan.Goals as goal
+
+-- what is worth less than so much, each at the price, is less
+less_at : (price drawn most : ℕ) → drawn * price < most * price → drawn < most
+less_at price drawn most h = elim (cases_lt drawn most) [ inl less ↦ less | inr more ↦ absurd (clash more) ] where
+  clash : most ≤ drawn → ⊥
+  clash more = let high : most * price ≤ drawn * price = mul-le-mul_right price more in omega (arith, h, high)
 
 pub come_to-requires-clause-drawn : goal.come_to-requires-clause-drawn
 come_to-requires-clause-drawn c =
     let m = c.args.m.now in
     let visits = visited_by m.price c.args.troves.now.sums c.args.troves.now.table.rows c.args.order.now.entries in
-    let within = subst (λ (l : List Cut). IsDrawnWithin l) (sym c.in_ok-walk.ensures.cuts) (drawn_within m.price m.troves c.args.amount visits c.requires.market.price_least) in
-    omega (arith, within, c.in_ok-walk.ensures.wanted, c.in_ok-check_asked.ensures.enough, c.requires.market.supply, c.requires.market.debt)
+    let within = subst (λ (l : List Cut). IsDrawnWithin m.price l) (sym c.in_ok-walk.ensures.cuts) (drawn_within m.price m.troves c.args.amount visits) in
+    less_at m.price (drawn c.in_ok-walk.walk.cuts) (2 ^ 64) (omega (arith, within, c.in_ok-walk.ensures.wanted, c.in_ok-check_asked.ensures.worth))
