@@ -1,12 +1,12 @@
 -- The steps that an offset tries, from none on, until its product is no longer too little.
-use Rattle.std.proofs.Common.{◌≡◌, ℕ, ◌+◌, ◌-◌, ◌*◌, ◌/◌, ◌^◌, ◌<◌, ◌≤◌, Bool, true, false, refl, ap, ◌∙◌, subst, arith, inl, inr}
+use Rattle.std.proofs.Common.{◌≡◌, ℕ, zero, suc, ◌+◌, ◌-◌, ◌*◌, ◌/◌, ◌^◌, ◌<◌, ◌≤◌, Bool, true, false, cond, nat_le, refl, ap, ◌∙◌, subst, arith, inl, inr}
 use Rattle.std.specs.Prelude.{◌==◌, IsTrue}
 use Rattle.std.proofs.Math.Nat.{div-lt_iff_lt-mul, mul-le-mul_left, mul-le-mul_right}
 use Rattle.std.proofs.lemmas.Bool.{cases_lt}
 use Rattle.std.proofs.lemmas.Bool.Decides.{nat_tests}
 use Rattle.std.proofs.lemmas.Nat.{pow-add}
 use Rattle.liq_types.specs.declared.amounts.TheConstants.{LIM, P_LEAST, P_OPENING, RISES_MOST}
-use Rattle.liq_types.specs.Product.{ScaledProduct, IsWithinRange, TakesPart, TakesPartUpTo, product_after, rise_of}
+use Rattle.liq_types.specs.Product.{ScaledProduct, IsWithinRange, TakesPart, TakesPartUpTo, STEPS_TRIED, least_from, product_after, rise_of}
 use Rattle.liq_types.specs.Soundness.{is_product}
 use Rattle.liq_types.specs.State.{PoolOffset}
 use Rattle.liq_types.proofs.Ranges.{offset_within, rise_few, rise_no_more}
@@ -36,19 +36,42 @@ next_power j = ap (λ n. 10 ^ n) (nine j) ∙ pow-add 10 (9 * j) 9 where
   nine : (i : ℕ) → 9 * (i + 1) ≡ 9 * i + 9
   nine i = omega arith
 
+-- no number before the least one passes, whether or not any does
+fails_before : (test : ℕ → Bool) (k more i : ℕ) → k ≤ i → i < least_from test k more → test i ≡ false
+unfolding least_from
+fails_before test k zero i from less = absurd (omega arith)
+fails_before test k (suc more) i from less = by (test k) refl less (λ later few. fails_before test (k + 1) more i later few) where
+  by : (b : Bool) → test k ≡ b → i < cond b k (least_from test (k + 1) more) → (k + 1 ≤ i → i < least_from test (k + 1) more → test i ≡ false) → test i ≡ false
+  by true is few more_fail = absurd (omega arith)
+  by false is few more_fail = elim (cases_lt k i) [ inl later ↦ more_fail (omega arith) few | inr here ↦ at (omega arith) ] where
+    at : k ≡ i → test i ≡ false
+    at e = subst (λ j. test j ≡ false) e is
+
 -- what is divided for a rise, up to the one that suffices, is below the whole of all that the pool has
-module _ (most : ℕ) (served : most ≤ 10 ^ (9 * RISES_MOST)) (w : ScaledProduct) (o : PoolOffset) (range : IsWithinRange w) (takes : TakesPartUpTo most o) (less : o.debt < o.total) where
-  raised_next : (before : ℕ) → before < rise_of w.p o → w.p * ((o.total - o.debt) * 10 ^ (9 * (before + 1))) < P_OPENING * o.total
+module _ (p : ℕ) (o : PoolOffset) (pos : 0 < o.total) where
+  low_before : (before : ℕ) → before < rise_of p o → product_after p o before < P_LEAST
+  low_before before few = by (o.debt == o.total) few where
+    low : (n : ℕ) → nat_le P_LEAST n ≡ false → n < P_LEAST
+    low n e = grind (arith, nat_tests, e)
+
+    by : (b : Bool) → before < cond b 0 (least_from (λ steps. nat_le P_LEAST (product_after p o steps)) 0 STEPS_TRIED) → product_after p o before < P_LEAST
+    by true less = absurd (omega arith)
+    by false less = low (product_after p o before) (fails_before (λ steps. nat_le P_LEAST (product_after p o steps)) 0 STEPS_TRIED before (omega arith) less)
+
+  raised_next : (before : ℕ) → before < rise_of p o → p * ((o.total - o.debt) * 10 ^ (9 * (before + 1))) < P_OPENING * o.total
   raised_next before few =
-      let pos : 0 < o.total = omega (arith, less) in
-      let low : w.p * ((o.total - o.debt) * 10 ^ (9 * before)) < P_LEAST * o.total = (div-lt_iff_lt-mul pos).0 (rise_no_more most served w o range takes before few) in
-      let more : w.p * ((o.total - o.debt) * 10 ^ (9 * (before + 1))) ≡ w.p * ((o.total - o.debt) * (10 ^ (9 * before) * 1000000000)) = ap (λ n. w.p * ((o.total - o.debt) * n)) (next_power before) in
+      let low : p * ((o.total - o.debt) * 10 ^ (9 * before)) < P_LEAST * o.total = (div-lt_iff_lt-mul pos).0 (low_before before few) in
+      let more : p * ((o.total - o.debt) * 10 ^ (9 * (before + 1))) ≡ p * ((o.total - o.debt) * (10 ^ (9 * before) * 1000000000)) = ap (λ n. p * ((o.total - o.debt) * n)) (next_power before) in
       omega (arith, low, more)
 
-  pub raised_below : (rise : ℕ) → 1 ≤ rise → rise ≤ rise_of w.p o → w.p * ((o.total - o.debt) * 10 ^ (9 * rise)) < P_OPENING * o.total
-  raised_below rise some few =
+  pub each_below : (rise : ℕ) → 1 ≤ rise → rise ≤ rise_of p o → p * ((o.total - o.debt) * 10 ^ (9 * rise)) < P_OPENING * o.total
+  each_below rise some few =
       let is : rise - 1 + 1 ≡ rise = omega arith in
-      subst (λ n. w.p * ((o.total - o.debt) * 10 ^ (9 * n)) < P_OPENING * o.total) is (raised_next (rise - 1) (omega arith))
+      subst (λ n. p * ((o.total - o.debt) * 10 ^ (9 * n)) < P_OPENING * o.total) is (raised_next (rise - 1) (omega arith))
+
+-- the same of a pool within a limit
+pub raised_below : (most : ℕ) → most ≤ 10 ^ (9 * RISES_MOST) → (w : ScaledProduct) (o : PoolOffset) → IsWithinRange w → TakesPartUpTo most o → o.debt < o.total → (rise : ℕ) → 1 ≤ rise → rise ≤ rise_of w.p o → w.p * ((o.total - o.debt) * 10 ^ (9 * rise)) < P_OPENING * o.total
+raised_below most served w o range takes less = each_below w.p o (omega (arith, less))
 
 module _ (w : ScaledProduct) (o : PoolOffset) (range : IsWithinRange w) (takes : TakesPart o) (less : o.debt < o.total) where
   pub first_try : IsTried w.p o (w.p * (o.total - o.debt)) 0

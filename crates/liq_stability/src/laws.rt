@@ -10,7 +10,7 @@ ghost use Rattle.liq_types.specs.declared.events.PoolEvent.{PoolEvent};
 ghost use Rattle.liq_types.specs.Allowance.{balance_allowance, gain_allowance};
 ghost use Rattle.liq_types.specs.Image.{Image, Place};
 ghost use Rattle.liq_types.specs.PlainLedger.{exact_share, den_of, offsets_coll, gains_paid_to, AreOwnedBelow, over_accounts};
-ghost use Rattle.liq_types.specs.Product.{ScaledProduct, IsWithinRange, TakesPartUpTo, rise_of, is_place, place_order, place_of, prod, sumat, finished_sums};
+ghost use Rattle.liq_types.specs.Product.{IsWithinRange, rise_of, is_place, place_order, place_of, prod, sumat, finished_sums};
 ghost use Rattle.liq_types.specs.State.{State, DepositEntry, PoolOffset, opening};
 ghost use Rattle.liq_types.specs.Tables.{at};
 ghost use Rattle.liq_types.specs.Totals.{pool_total, pool_coll};
@@ -160,9 +160,8 @@ pub fn depositors_get_their_shares()
 {}
 
 /// Where an offset raises the scale, what is divided is below the whole of all that the pool has, for each rise that is tried
-/// and the one that suffices. So it has 128 bits under each limit of 64 bits that [`RISES_MOST`] steps serve.
+/// and the one that suffices, whatever the product and the offset are. So it has 128 bits wherever the pool has 64.
 pub fn raised_products_fit()
-    ensures { (most : ℕ) → most ≤ 10 ^ (9 * RISES_MOST) → (w : ScaledProduct) → (o : PoolOffset) → IsWithinRange w → TakesPartUpTo most o
-        → o.debt < o.total → (rise : ℕ) → 1 ≤ rise → rise ≤ rise_of w.p o
-        → w.p * ((o.total - o.debt) * 10 ^ (9 * rise)) < P_OPENING * o.total }
+    ensures { (p : ℕ) → (o : PoolOffset) → 0 < o.total → (rise : ℕ) → 1 ≤ rise → rise ≤ rise_of p o
+        → p * ((o.total - o.debt) * 10 ^ (9 * rise)) < P_OPENING * o.total }
 {}

@@ -10,7 +10,7 @@ ghost use Rattle.liq_stability.specs.Words.{words_in};
 use crate::words::PoolWords;
 use liq_num::mul_div;
 use liq_types::Deposit;
-use liq_types::amounts::{LIM, OFFSET_MOST, P_OPENING};
+use liq_types::amounts::{LIM, OFFSET_MOST, P_LEAST, P_OPENING};
 
 /// A deposit counts at the scale of its mark and so many above it.
 const SCALES_READ: u64 = 3;
@@ -65,7 +65,7 @@ fn part_of(deposit: &Deposit, number: u128, scales: u64) -> u128
     requires number { number ≤ OFFSET_MOST * P_OPENING }
     requires scales { scales ≤ SCALES_READ }
     ensures part { result ≡ floor_of deposit.now.amount number (deposit.now.p * 10 ^ (9 * scales)) }
-    ensures within { result ≤ LIM * (OFFSET_MOST * P_OPENING) }
+    ensures within { result * P_LEAST ≤ LIM * (OFFSET_MOST * P_OPENING) }
 {
     let part = mul_div(u128::from(deposit.amount), number, deposit.p);
     if part == 0 || scales == 0 {

@@ -1,5 +1,5 @@
-use Rattle.liq_stability.proofs.Rising.{raised_below}
+use Rattle.liq_stability.proofs.Rising.{each_below}
 use Rattle.liq_stability.proofs.laws.raised_products_fit.Goals as goal
 
 pub returns : goal.returns
-returns c = raised_below
+returns c = each_below

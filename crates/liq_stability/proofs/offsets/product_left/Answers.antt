@@ -1,5 +1,5 @@
 use Rattle.std.proofs.Common.{◌+◌, ◌*◌, ◌/◌, ◌<◌, ◌≤◌, sym, subst, ap, ◌∙◌, arith}
-use Rattle.liq_types.specs.declared.amounts.TheConstants.{P_LEAST}
+use Rattle.liq_types.specs.declared.amounts.TheConstants.{P_LEAST, RISES_MOST}
 use Rattle.liq_stability.specs.Words.{words_in, offset_in}
 use Rattle.liq_stability.proofs.Rising.{range_in, takes_in, IsTried, first_try, next_try, last_try, few_tries, quotient}
 use Rattle.liq_stability.proofs.offsets.product_left.Goals as goal
@@ -11,7 +11,7 @@ next c =
     next_try (words_in w) (offset_in w c.args.debt 0) (range_in w c.requires.product) (takes_in w c.args.debt 0 c.requires.some (omega (arith, c.requires.part)) c.requires.total) c.requires.part
     c.loop-part.part c.loop-part.rise c.loop-part.invariant low
 
-few : (c : goal.In-loop-part) → c.loop-part.rise + 1 ≤ 2
+few : (c : goal.In-loop-part) → c.loop-part.rise + 1 ≤ RISES_MOST
 few c =
     let w = c.args.words.now in
     let most = few_tries (words_in w) (offset_in w c.args.debt 0) (range_in w c.requires.product) (takes_in w c.args.debt 0 c.requires.some (omega (arith, c.requires.part)) c.requires.total) c.requires.part in
