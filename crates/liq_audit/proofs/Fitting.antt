@@ -31,8 +31,8 @@ pub record IsBounded (k colls : ℕ) (e : Enclosure) (share : Share) (now : Scal
   pub balance : share.bal ≤ LIM * share.den
   pub encloses : IsEnclosed e share
   pub near : e.balance_hi * share.den ≤ share.bal + k * share.den
-  pub gain_lo : e.gain_lo ≤ 2 ^ 60 * colls
-  pub gain_hi : e.gain_hi ≤ 2 ^ 60 * colls
+  pub gain_lo : e.gain_lo ≤ 11 * 10 ^ 18 * colls
+  pub gain_hi : e.gain_hi ≤ 11 * 10 ^ 18 * colls
   pub range : IsWithinRange now
   pub scale : now.scale ≤ RISES_MOST * k
   pub epoch : now.epoch ≤ k
@@ -77,9 +77,9 @@ ceiling_most a b c pos = by (ceiling_of a b c) (div_ceil_times (a * b) c pos).1 
     | inr low ↦ low
   ]
 
-gained_most : (gain colls balance coll q : ℕ) → balance ≤ 2 ^ 60 → q ≤ balance * coll → gain ≤ 2 ^ 60 * colls → gain + q ≤ 2 ^ 60 * (colls + coll)
+gained_most : (gain colls balance coll q : ℕ) → balance ≤ 11 * 10 ^ 18 → q ≤ balance * coll → gain ≤ 11 * 10 ^ 18 * colls → gain + q ≤ 11 * 10 ^ 18 * (colls + coll)
 gained_most gain colls balance coll q low most h =
-    let first : balance * coll ≤ 2 ^ 60 * coll = mul-le-mul_right coll low in
+    let first : balance * coll ≤ 11 * 10 ^ 18 * coll = mul-le-mul_right coll low in
     omega arith
 
 words_after : (k : ℕ) (now : ScaledProduct) (o : PoolOffset) → IsWithinRange now → TakesPartUpTo LIM o → now.scale ≤ RISES_MOST * k → now.epoch ≤ k → ((after_offset now o).scale ≤ RISES_MOST * (k + 1)) × ((after_offset now o).epoch ≤ k + 1)
@@ -121,11 +121,11 @@ module _ (account k colls : ℕ) (e : Enclosure) (share : Share) (now : ScaledPr
     nearby true = near_moved (e.balance_hi + put_in - out) e.balance_hi share.den share.bal k put_in out (mul-sub share.den (e.balance_hi + put_in) out) h.near
     nearby false = omega (arith, h.near)
 
-    low : (b : Bool) → (cond b (record e { balance_lo = e.balance_lo + put_in - out; balance_hi = e.balance_hi + put_in - out }) e).gain_lo ≤ 2 ^ 60 * (colls + 0)
+    low : (b : Bool) → (cond b (record e { balance_lo = e.balance_lo + put_in - out; balance_hi = e.balance_hi + put_in - out }) e).gain_lo ≤ 11 * 10 ^ 18 * (colls + 0)
     low true = omega (arith, h.gain_lo)
     low false = omega (arith, h.gain_lo)
 
-    high : (b : Bool) → (cond b (record e { balance_lo = e.balance_lo + put_in - out; balance_hi = e.balance_hi + put_in - out }) e).gain_hi ≤ 2 ^ 60 * (colls + 0)
+    high : (b : Bool) → (cond b (record e { balance_lo = e.balance_lo + put_in - out; balance_hi = e.balance_hi + put_in - out }) e).gain_hi ≤ 11 * 10 ^ 18 * (colls + 0)
     high true = omega (arith, h.gain_hi)
     high false = omega (arith, h.gain_hi)
 

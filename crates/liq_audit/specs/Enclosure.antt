@@ -1,5 +1,5 @@
 -- Whole numbers between which an account's exact share lies: one side rounds every quotient down, the other up.
-use Rattle.std.specs.Prelude.{ℕ, ◌+◌, ◌-◌, ◌^◌, ◌==◌, ◌<◌, ◌≤◌, List, fold, if◌then◌else◌}
+use Rattle.std.specs.Prelude.{ℕ, ◌+◌, ◌-◌, ◌*◌, ◌^◌, ◌==◌, ◌<◌, ◌≤◌, List, fold, if◌then◌else◌}
 use Rattle.std.specs.List.{AllByRecursion}
 use Rattle.liq_num.specs.Quotient.{floor_of, ceiling_of}
 use Rattle.liq_types.specs.declared.events.PoolEvent.{PoolEvent}
@@ -46,7 +46,7 @@ HasParts (Offset debt coll total rise) = (0 < total) × (debt ≤ total)
 
 -- no balance is above all that there may be by more than one for each of 2^40 events, and no gain above that for each gwei
 pub record IsSmall (e : Enclosure) : Type 0 where
-  pub balance_lo : e.balance_lo < 2 ^ 60
-  pub balance_hi : e.balance_hi < 2 ^ 60
-  pub gain_lo : e.gain_lo ≤ 2 ^ 120
-  pub gain_hi : e.gain_hi ≤ 2 ^ 120
+  pub balance_lo : e.balance_lo < 11 * 10 ^ 18
+  pub balance_hi : e.balance_hi < 11 * 10 ^ 18
+  pub gain_lo : e.gain_lo ≤ 11 * 10 ^ 37
+  pub gain_hi : e.gain_hi ≤ 11 * 10 ^ 37
