@@ -60,11 +60,11 @@ pub fn write_last<K: Sink>(out: &mut K, halt: Halt)
     ensures count { K.faults out.old ≤ K.faults out.new }
 {
     let _ = match halt {
-        Halt::BadLine(number) => write_numbered(out, b"bad line ", number),
+        Halt::BadLine(number) => write_numbered(out, b"bad line ", u128::from(number)),
         Halt::ReadFault => write_all(out, b"read fault\n"),
         Halt::WriteFault => Ok(()),
         Halt::DiskFault => write_all(out, b"disk fault\n"),
-        Halt::Damaged(side, number) => write_damaged(out, side, number),
+        Halt::Damaged(side, number) => write_damaged(out, side, u128::from(number)),
         Halt::NoMemory => write_all(out, b"no memory\n"),
         Halt::Limit(number) => write_numbered(out, b"limit ", number),
     };
@@ -85,7 +85,7 @@ pub fn tell_last<K: Sink>(out: &mut K, end: Result<(), Halt>)
 }
 
 /// Writes which disk is damaged, and at which record.
-fn write_damaged<K: Sink>(out: &mut K, side: Side, number: u64) -> Result<(), Failed>
+fn write_damaged<K: Sink>(out: &mut K, side: Side, number: u128) -> Result<(), Failed>
     ensures ok { OnOk result (Writes (K.held out.old) (last (Halt.Damaged side number)) (K.held out.new)) }
     ensures err { OnErr result (WritesPart (K.held out.old) (last (Halt.Damaged side number)) (K.held out.new)) }
     ensures cause { HasCause (K.faults out.old) (K.faults out.new) result }
@@ -97,7 +97,7 @@ fn write_damaged<K: Sink>(out: &mut K, side: Side, number: u64) -> Result<(), Fa
 }
 
 /// Writes a line of a text and a number.
-fn write_numbered<K: Sink>(out: &mut K, text: &[u8], number: u64) -> Result<(), Failed>
+fn write_numbered<K: Sink>(out: &mut K, text: &[u8], number: u128) -> Result<(), Failed>
     ensures ok { OnOk result (Writes (K.held out.old) (text.now ++ (decimal number ++ 10 ∷ [])) (K.held out.new)) }
     ensures err { OnErr result (WritesPart (K.held out.old) (text.now ++ (decimal number ++ 10 ∷ [])) (K.held out.new)) }
     ensures cause { HasCause (K.faults out.old) (K.faults out.new) result }

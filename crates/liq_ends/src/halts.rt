@@ -22,7 +22,7 @@ pub enum Halt {
     /// There was no memory.
     NoMemory,
     /// This number of lines is all that one run answers, and there are more; or a number above a limit of the audit.
-    Limit(u64),
+    Limit(u128),
 }
 
 impl From<NoMemory> for Halt {

@@ -1,19 +1,17 @@
 -- A whole replay is a run: its events are lawful and few, and every depositor has what is promised.
 use Rattle.std.proofs.Common.{◌≡◌, ℕ, zero, suc, ◌+◌, ◌*◌, ◌<◌, ◌≤◌, ◌^◌, false, cond, List, [], ◌∷◌, ◌++◌, length, Ok, refl, ap, sym, subst, ◌∙◌, arith}
 use Rattle.std.specs.Prelude.{All, map, IsTrue}
-use Rattle.liq_types.specs.declared.amounts.TheConstants.{ACCOUNTS, LIM, OFFSET_MOST, RECORDS_MOST}
+use Rattle.liq_types.specs.declared.amounts.TheConstants.{ACCOUNTS, LIM, RECORDS_MOST}
 use Rattle.liq_types.specs.declared.events.PoolEvent.{PoolEvent}
-use Rattle.liq_types.specs.declared.events.PoolEvent.TheVariants as event
 use Rattle.liq_types.specs.declared.requests.Command.{Command}
 use Rattle.liq_types.specs.declared.requests.Request.{Request}
 use Rattle.liq_types.specs.declared.requests.Request.TheVariants.{Do}
-use Rattle.liq_types.specs.PlainLedger.{coll_of, offsets_coll, gains_paid_to, AreOwnedBelow, over_accounts}
+use Rattle.liq_types.specs.PlainLedger.{offsets_coll, gains_paid_to, AreOwnedBelow, over_accounts}
 use Rattle.liq_types.specs.State.{State, opening}
 use Rattle.liq_types.specs.Tables.{at}
-use Rattle.liq_types.specs.Totals.{pool_total, pool_coll}
+use Rattle.liq_types.specs.Totals.{pool_coll}
 use Rattle.liq_types.proofs.Accounts.{over-term, owned_more}
-use Rattle.liq_stability.specs.Lawful.{IsLawful, IsLawfulEvent, IsLawfulUpTo}
-use Rattle.liq_stability.specs.Own.{after_event}
+use Rattle.liq_stability.specs.Lawful.{IsLawful}
 use Rattle.liq_stability.specs.Position.{gain_of}
 use Rattle.liq_stability.specs.Promise.{IsWithinAllowance}
 use Rattle.liq_stability.proofs.Pool.{gain_within}
@@ -79,21 +77,11 @@ module _ (end : State) where
 
 -- ---- its events
 
-event_coll : (s : State) (e : PoolEvent) → pool_total s ≤ LIM → IsLawfulEvent s e → coll_of e ≤ OFFSET_MOST * LIM
-event_coll s (event.Own owner put_in out gain amount) most h = omega arith
-event_coll s (event.Offset debt coll total rise) most h = omega (arith, h.within, h.total_is, h.coll_is, most)
-
-lawful_colls : (es : List PoolEvent) (s : State) → IsLawfulUpTo LIM s es → All (λ e. coll_of e ≤ OFFSET_MOST * LIM) es
-lawful_colls [] s h k d lt = absurd (omega arith)
-lawful_colls (e ∷ es) s h zero d lt = event_coll s e h.0.total h.1
-lawful_colls (e ∷ es) s h (suc k) d lt = lawful_colls es (after_event s e) h.2 k d (omega arith)
-
 -- all that is known of a whole replay, its events and the state after it
 pub record IsFinished (s : State) (told : List PoolEvent) : Type 0 where
   pub lawful : IsLawful opening told
   pub owners : AreOwnedBelow ACCOUNTS told
   pub few : length told < 2 ^ 40
-  pub colls : All (λ e. coll_of e ≤ OFFSET_MOST * LIM) told
   pub paid : pool_coll s + over_accounts ACCOUNTS (λ account. gains_paid_to account told) ≡ offsets_coll told
   pub shares : (account : ℕ) → IsWithinAllowance s account told
 
@@ -105,7 +93,6 @@ finished_run requests few =
       lawful = h.lawful;
       owners = h.owners;
       few = omega (arith, count, few);
-      colls = lawful_colls (events opening (accepted opening requests)) opening h.lawful;
       paid = reached_paid requests;
       shares = reached_shares requests;
     }

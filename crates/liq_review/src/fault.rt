@@ -12,7 +12,7 @@ pub enum ReviewFault {
     Refused { index: u64, code: u8 },
     /// A limit is passed: by the first sum of the offsets' collateral above [`liq_types::amounts::LIM`] (gwei), or else by the
     /// count of offsets ([`liq_audit::OFFSETS_MOST`]), or else by that of accounts ([`liq_audit::ACCOUNTS_MOST`]).
-    Limit { number: u64 },
+    Limit { number: u128 },
     NoMemory,
 }
 
@@ -33,7 +33,9 @@ impl From<AuditFault> for ReviewFault {
 
     fn from(fault: AuditFault) -> ReviewFault {
         match fault {
-            AuditFault::AuditLimit { count, .. } => ReviewFault::Limit { number: count },
+            AuditFault::AuditLimit { count, .. } => ReviewFault::Limit {
+                number: u128::from(count),
+            },
             AuditFault::NoMemory => ReviewFault::NoMemory,
         }
     }

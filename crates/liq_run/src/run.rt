@@ -215,7 +215,7 @@ impl<D: Disk> Run<D> {
         flush(&mut self.waiting, out)?;
         match self.reader.next_byte(input) {
             Ok(None) => Ok(()),
-            Ok(Some(_)) => Err(Halt::Limit(LINES_MOST)),
+            Ok(Some(_)) => Err(Halt::Limit(u128::from(LINES_MOST))),
             Err(Failed) => Err(Halt::ReadFault),
         }
     }

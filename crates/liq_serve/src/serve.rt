@@ -78,6 +78,6 @@ fn halt_at(stop: Stop) -> Halt
         Stop::BadLine(number) => Halt::BadLine(number),
         Stop::ReadFault => Halt::ReadFault,
         Stop::NoMemory => Halt::NoMemory,
-        Stop::Limit => Halt::Limit(LINES_MOST),
+        Stop::Limit => Halt::Limit(u128::from(LINES_MOST)),
     }
 }

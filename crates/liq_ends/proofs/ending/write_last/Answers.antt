@@ -1,5 +1,6 @@
-use Rattle.std.proofs.Common.{subst, sym, []}
+use Rattle.std.proofs.Common.{ℕ, subst, sym, []}
 use Rattle.liq_outside.specs.Faults.{Rose}
+use Rattle.liq_ends.specs.declared.halts.Halt.TheVariants.{BadLine, Damaged}
 use Rattle.liq_ends.specs.Output.{last}
 use Rattle.liq_ends.specs.Stops.{Adds}
 use Rattle.liq_ends.proofs.EndingLines.{adds_line, nothing_added}
@@ -9,7 +10,8 @@ pub returns-in-BadLine-clause-written : goal.returns-in-BadLine-clause-written
 returns-in-BadLine-clause-written g c =
     let e = c.write_numbered.ensures in
     subst (λ halt. Adds [] (last halt) (Rose (g.K.Sink.faults c.args.out.now) (g.K.Sink.faults c.write_numbered.new.out)) (g.K.Sink.held c.args.out.now) (g.K.Sink.held c.write_numbered.new.out)) (sym c.in-BadLine.is)
-    (adds_line _ c.write_numbered.result _ _ _ e.ok e.err e.cause.failed)
+    (subst (λ (n : ℕ). Adds [] (last (BadLine n)) (Rose (g.K.Sink.faults c.args.out.now) (g.K.Sink.faults c.write_numbered.new.out)) (g.K.Sink.held c.args.out.now) (g.K.Sink.held c.write_numbered.new.out)) c.from.ensures
+    (adds_line _ c.write_numbered.result _ _ _ e.ok e.err e.cause.failed))
 
 pub returns-in-ReadFault-clause-written : goal.returns-in-ReadFault-clause-written
 returns-in-ReadFault-clause-written g c =
@@ -44,4 +46,5 @@ pub returns-in-Damaged-clause-written : goal.returns-in-Damaged-clause-written
 returns-in-Damaged-clause-written g c =
     let e = c.write_damaged.ensures in
     subst (λ halt. Adds [] (last halt) (Rose (g.K.Sink.faults c.args.out.now) (g.K.Sink.faults c.write_damaged.new.out)) (g.K.Sink.held c.args.out.now) (g.K.Sink.held c.write_damaged.new.out)) (sym c.in-Damaged.is)
-    (adds_line _ c.write_damaged.result _ _ _ e.ok e.err e.cause.failed)
+    (subst (λ (n : ℕ). Adds [] (last (Damaged c.in-Damaged.side n)) (Rose (g.K.Sink.faults c.args.out.now) (g.K.Sink.faults c.write_damaged.new.out)) (g.K.Sink.held c.args.out.now) (g.K.Sink.held c.write_damaged.new.out)) c.from-in-Damaged.ensures
+    (adds_line _ c.write_damaged.result _ _ _ e.ok e.err e.cause.failed))

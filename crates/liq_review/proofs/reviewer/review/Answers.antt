@@ -10,11 +10,6 @@ use Rattle.liq_review.proofs.Rows.{all_enclose, all_within}
 use Rattle.liq_review.proofs.Runs.{finished, gained_little, paid_little}
 use Rattle.liq_review.proofs.reviewer.review.Goals as goal
 
-pub limit_gains-requires : goal.limit_gains-requires
-limit_gains-requires c =
-    let made = c.in_ok-made.ensures.done in
-    (finished c.args.commands.now c.requires.built made.state made.replays c.deref.result.now (c.deref.ensures.value ∙ made.events_are)).colls
-
 pub audited-requires-clause-auditable : goal.audited-requires-clause-auditable
 audited-requires-clause-auditable c =
     let made = c.in_ok-made.ensures.done in
