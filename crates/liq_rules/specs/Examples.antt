@@ -351,7 +351,7 @@ last_trove_replies =
 
 abbrev pub limits : List Request
 limits =
-    by_one 1 (Fund 1 1000000000000000000)
+    by_one 1 (Fund 1 10000000000000000000)
     ∷ by_one 2 (Fund 1 1)
     ∷ by_one 2 (Fund 1048576 1)
     ∷ []
@@ -359,7 +359,7 @@ limits =
 abbrev pub limits_replies : List Reply
 limits_replies =
     said 3 []
-    ∷ No (AmountLimit 1000000000000000001 1000000000000000000)
+    ∷ No (AmountLimit 10000000000000000001 10000000000000000000)
     ∷ No (AccountRange 1048576)
     ∷ []
 

@@ -35,6 +35,14 @@ four_scales_on =
     ∷ Offset 999999999999999999 0 1000000000000000000 2
     ∷ []
 
+-- from the least product on, all but one micro-LUSD of the greatest pool: the scale is raised three times at once
+abbrev pub three_rises : List PoolEvent
+three_rises =
+    one_rise
+    ++ Own 2 9999999999999999999 0 0 9999999999999999999
+    ∷ Offset 9999999999999999999 10000000000000000000 10000000000000000000 3
+    ∷ []
+
 -- two depositors share an offset
 abbrev pub shared : List PoolEvent
 shared = Own 1 100 0 0 100 ∷ Own 2 200 0 0 200 ∷ Offset 100 70 300 0 ∷ []

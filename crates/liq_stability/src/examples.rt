@@ -5,7 +5,7 @@ ghost use Rattle.std.specs.Prelude.{◌≡◌, ◌*◌, ◌<◌, [], ◌∷◌};
 ghost use Rattle.liq_types.specs.PlainLedger.{exact_share};
 ghost use Rattle.liq_types.specs.State.{opening};
 ghost use Rattle.liq_types.specs.Product.{finished_sums};
-ghost use Rattle.liq_stability.specs.Examples.{after_events, position, allowances, one_rise, two_rises, four_scales_on, shared, shared_again, emptied, paid_out, begun_again, at_the_least, after_another};
+ghost use Rattle.liq_stability.specs.Examples.{after_events, position, allowances, one_rise, two_rises, three_rises, four_scales_on, shared, shared_again, emptied, paid_out, begun_again, at_the_least, after_another};
 ghost use Rattle.liq_stability.specs.Lawful.{IsLawful};
 ghost use Rattle.liq_stability.specs.OtherRounding.{balance_upward, gain_carried};
 ghost use Rattle.liq_stability.specs.Position.{balance_of, gain_of};
@@ -23,6 +23,15 @@ pub fn two_rises_example()
     ensures finished { finished_sums opening.start (after_events two_rises).offsets ≡ ((0, 1), 1000000000) ∷ [] }
     ensures first { position (after_events two_rises) 1 ≡ (0, 1) }
     ensures second { position (after_events two_rises) 2 ≡ (0, 999999999999999999) }
+{}
+
+/// Where the pool has all that it may have, it raises the scale three times at once.
+pub fn three_rises_example()
+    ensures lawful { IsLawful opening three_rises }
+    ensures words { pool_words (after_events three_rises) ≡ record { p = 100000000000000000; scale = 4; epoch = 0; sum = 0; total = 1; coll = 10000000000000000000 } }
+    ensures finished { finished_sums opening.start (after_events three_rises).offsets ≡ ((0, 1), 1000000000) ∷ [] }
+    ensures first { position (after_events three_rises) 1 ≡ (0, 1) }
+    ensures second { position (after_events three_rises) 2 ≡ (0, 9999999999999999999) }
 {}
 
 /// What is more than three scales back stays as it is.

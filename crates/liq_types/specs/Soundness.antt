@@ -139,7 +139,7 @@ is_sound_deposit now sum d =
 
 abbrev pub has_sound_deposits : Image → Bool
 has_sound_deposits i =
-    list_all (λ (d : Deposit). nat_le d.amount (limit_in i) && is_sound_deposit (i.epoch, i.scale) (start_sum i (d.epoch, d.scale)) d) (values_of i.deposits)
+    list_all (λ (d : Deposit). nat_le d.amount LIM && is_sound_deposit (i.epoch, i.scale) (start_sum i (d.epoch, d.scale)) d) (values_of i.deposits)
 
 -- ---- 11: kept replies
 

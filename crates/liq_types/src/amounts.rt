@@ -4,7 +4,7 @@
 pub const ONE: u64 = 1_000_000_000_000_000_000;
 
 /// The most collateral that may be inside the system (gwei), and the most LUSD that may be in circulation (micro-LUSD).
-pub const LIM: u64 = 1_000_000_000_000_000_000;
+pub const LIM: u64 = 10_000_000_000_000_000_000;
 
 /// The least price, in micro-LUSD per ether.
 pub const PRICE_LEAST: u64 = 100_000_000;
@@ -49,7 +49,7 @@ pub const P_OPENING: u128 = 1_000_000_000_000_000_000;
 pub const P_LEAST: u128 = 1_000_000_000;
 
 /// The most steps of 10^9 by which one offset raises the scale, since no pool has more than [`LIM`].
-pub const RISES_MOST: u64 = 2;
+pub const RISES_MOST: u64 = 3;
 
 /// The most gwei that an offset brings for each micro-LUSD that it takes over: what is liquidated for the Stability Pool is
 /// worth at most 110 percent of its debt, and the price is at least [`PRICE_LEAST`].

@@ -148,7 +148,7 @@ const LIMITED: [Row; 8] = [
         OWN,
         [0, 0, LIM, 0, ONE],
         Err(Refusal::AmountLimit {
-            sum: 1_050_000_008_440_000_000,
+            sum: 10_500_000_008_440_000_000,
             limit: LIM,
         }),
     ),

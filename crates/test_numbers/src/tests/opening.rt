@@ -56,7 +56,8 @@ const RECOVERY: Market = Market {
 
 /// So much debt that one more trove of 4,220,000,000 reaches the limit.
 const FULL: Market = Market {
-    total_coll: 2 * LIM,
+    price: 2_000_000_000,
+    total_coll: LIM,
     total_debt: LIM - 4_220_000_000,
     troves: 2,
     ..EMPTY
@@ -220,7 +221,7 @@ const AT_THE_LIMIT: [Row; 1] = [([10_000_000_000, 4_000_000_000, ONE], PLANNED)]
 const PAST_THE_LIMIT: [Row; 1] = [(
     [1, 4_000_000_000, ONE],
     Err(Refusal::AmountLimit {
-        sum: 1_000_000_000_000_000_001,
+        sum: 10_000_000_000_000_000_001,
         limit: LIM,
     }),
 )];

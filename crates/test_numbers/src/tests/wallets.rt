@@ -56,7 +56,7 @@ fn funds_to_the_limit(rt: HostRuntime) {
     shows(&rt, "memory", wallets.reserve(LAST).is_ok());
     same(&rt, &wallets.fund(LAST, LIM), &Ok(()), "to the limit");
     let limit = Refusal::AmountLimit {
-        sum: 1_000_000_000_000_000_001,
+        sum: 10_000_000_000_000_000_001,
         limit: LIM,
     };
     same(&rt, &wallets.fund(LAST, 1), &Err(limit), "past it");

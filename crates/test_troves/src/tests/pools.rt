@@ -7,7 +7,7 @@ use liq_types::{NoMemory, Refusal};
 use std::alloc::Global;
 use std::process::Abort;
 
-const WHOLE: u64 = 1_000_000_000_000_000_000;
+const TENTH: u64 = LIM / 10;
 
 /// What is done to a pool, or seen of it.
 #[derive(Clone, Copy)]
@@ -31,24 +31,24 @@ enum Turn {
 use Turn::{Draw, Finished, Gone, Offset, Put, Stands, Words};
 
 const RISES: [Turn; 7] = [
-    Put(1, WHOLE, 0),
-    Offset(WHOLE - 1, 0),
+    Put(1, TENTH, 0),
+    Offset(TENTH - 1, 0),
     Words([1_000_000_000, 1, 0, 0, 1, 0]),
     // No collateral came, so no sum is finished.
     Finished([None, None]),
-    Put(2, WHOLE - 1, 0),
-    Offset(WHOLE - 1, WHOLE),
+    Put(2, LIM - 1, 0),
+    Offset(LIM - 1, LIM),
     Gone(0),
 ];
 
-/// Scales have risen: once, and twice at once.
+/// Scales have risen: once, and three times at once.
 const RISEN: PoolWords = PoolWords {
-    p: 1_000_000_000,
-    scale: 3,
+    p: 100_000_000_000_000_000,
+    scale: 4,
     epoch: 0,
     sum: 0,
     total: 1,
-    coll: WHOLE,
+    coll: LIM,
 };
 
 const RISEN_SUM: FinishedSum = FinishedSum {
@@ -58,7 +58,7 @@ const RISEN_SUM: FinishedSum = FinishedSum {
 };
 
 const RISEN_FIRST: Deposit = Deposit {
-    amount: WHOLE,
+    amount: TENTH,
     p: 1_000_000_000_000_000_000,
     sum: 0,
     scale: 0,
@@ -66,7 +66,7 @@ const RISEN_FIRST: Deposit = Deposit {
 };
 
 const RISEN_SECOND: Deposit = Deposit {
-    amount: WHOLE - 1,
+    amount: LIM - 1,
     p: 1_000_000_000,
     sum: 0,
     scale: 1,
@@ -74,20 +74,35 @@ const RISEN_SECOND: Deposit = Deposit {
 };
 
 const SEEN: [Turn; 5] = [
-    Words([1_000_000_000, 3, 0, 0, 1, 1_000_000_000_000_000_000]),
+    Words([
+        100_000_000_000_000_000,
+        4,
+        0,
+        0,
+        1,
+        10_000_000_000_000_000_000,
+    ]),
     Finished([Some([0, 1, 1_000_000_000]), None]),
     Gone(0),
     Stands(1, 0, 1),
-    Stands(2, 0, WHOLE - 1),
+    Stands(2, 0, LIM - 1),
 ];
 
+/// And twice at once.
 const FURTHER: [Turn; 7] = [
-    Put(3, WHOLE - 1, 0),
-    Offset(WHOLE - 1, 0),
-    Words([1_000_000_000, 5, 0, 0, 1, 1_000_000_000_000_000_000]),
+    Put(3, LIM - 1, 0),
+    Offset(LIM - 1, 0),
+    Words([
+        10_000_000_000_000_000,
+        6,
+        0,
+        0,
+        1,
+        10_000_000_000_000_000_000,
+    ]),
     Finished([Some([0, 1, 1_000_000_000]), None]),
     Stands(1, 0, 1),
-    Stands(2, 0, WHOLE - 1),
+    Stands(2, 0, LIM - 1),
     Stands(3, 0, 0),
 ];
 
