@@ -1,34 +1,29 @@
-//! A table over a map.
+//! A table with room.
 
 ghost use Rattle.std.specs.Prelude.{◌≡◌, [], true, IsOk, IfOk, OnOk, OnErr, OnSome, option_copied};
 ghost use Rattle.liq_types.specs.Tables.{at, rows, without};
 ghost use Rattle.liq_types.specs.WellFormed.{Ascends};
 ghost use Rattle.liq_tables.specs.WithRoom.{HasRoom, KeepsRoom, written};
 
+use crate::index::Index;
 use crate::row::Row;
 use liq_types::NoMemory;
 use std::alloc::Global;
-use std::collections::BTreeMap;
 use std::marker::Model;
 
 /// Rows by their account or client. Contracts see the used rows, in ascending keys, and the keys that have room. Only
 /// [`Reserved::reserve`] takes memory.
 #[derive(Drop)]
 pub struct Reserved<X: Row> {
-    map: BTreeMap<u32, X>,
+    index: Index<X>,
 }
 
 impl<X: Row> Model for Reserved<X> {
-    ghost use Rattle.std.specs.List.Sorted.{IsStrictlySortedBy};
-    ghost use Rattle.std.specs.Map.{keys_of};
-    ghost use Rattle.std.specs.Ordering.{nat_cmp};
     ghost use Rattle.liq_tables.specs.WithRoom.{WithRoom, seen};
 
     ghost Value = { WithRoom X };
 
-    ghost view = { λ t. seen X.used t.map.entries };
-
-    ghost invariant = { λ t. IsStrictlySortedBy nat_cmp (keys_of t.map.entries) };
+    ghost view = { λ t. seen X.used t.index };
 }
 
 impl<X: Row> Reserved<X> {
@@ -37,7 +32,7 @@ impl<X: Row> Reserved<X> {
         ensures { result.rows ≡ [] }
     {
         Reserved {
-            map: BTreeMap::new(alloc),
+            index: Index::new(alloc),
         }
     }
 
@@ -60,7 +55,7 @@ impl<X: Row> Reserved<X> {
         ensures room { OnSome result (HasRoom self.now key) }
         ensures ascend { Ascends self.now.rows }
     {
-        let row = self.map.get(&key)?;
+        let row = self.index.get(key)?;
         if row.is_used() { Some(row) } else { None }
     }
 
@@ -73,10 +68,10 @@ impl<X: Row> Reserved<X> {
         ensures had { HasRoom self.old key → IsOk result }
         ensures err { OnErr result (self.new ≡ self.old) }
     {
-        if self.map.contains_key(&key) {
+        if self.index.get(key).is_some() {
             return Ok(());
         }
-        let Ok(_) = self.map.insert(key, X::nothing()) else {
+        let Ok(()) = self.index.insert(key, X::nothing()) else {
             return Err(NoMemory);
         };
         Ok(())
@@ -91,11 +86,7 @@ impl<X: Row> Reserved<X> {
         ensures room { self.new.room ≡ self.old.room }
         ensures had { OnSome result (HasRoom self.old key) }
     {
-        let Some(place) = self.map.get_mut(&key) else {
-            return None;
-        };
-        let before = *place;
-        *place = row;
+        let before = self.index.replace(key, row)?;
         if before.is_used() {
             return Some(before);
         }

@@ -1,0 +1,75 @@
+-- A listing of what is found at each key.
+use Rattle.std.proofs.Common.{◌≡◌, ℕ, zero, suc, ◌+◌, ◌<◌, ◌≤◌, Bool, true, false, cond, refl, ap, sym, ◌∙◌, Some, None, Option, arith}
+use Rattle.std.specs.Prelude.{◌==◌}
+use Rattle.std.specs.List.{AllByRecursion}
+use Rattle.std.specs.List.Sorted.{IsStrictlySortedBy}
+use Rattle.std.specs.Map.{keys_of}
+use Rattle.std.specs.Cmp.{nat_cmp_is}
+use Rattle.std.specs.Ordering.{nat_cmp}
+use Rattle.std.specs.declared.cmp.Ordering.TheVariants.{Less}
+use Rattle.std.proofs.lemmas.Bool.{eqb-true}
+use Rattle.std.proofs.lemmas.Bool.Decides.{nat_tests}
+use Rattle.liq_types.proofs.Places.{nat_cmp-eq}
+use Rattle.liq_types.specs.Tables.{Table, at}
+use Rattle.liq_types.specs.WellFormed.{Ascends}
+use Rattle.liq_tables.specs.Pages.{listed, with_row}
+
+module _ {X : Type 0} where
+  abbrev Below : ℕ → Table X → Type 0
+  Below key table = AllByRecursion (λ y. nat_cmp key y ≡ Less) (keys_of table)
+
+  below_row : (b key : ℕ) (o : Option X) (rest : Table X) → b < key → Below b rest → Below b (with_row key o rest)
+  below_row b key None rest less h = h
+  below_row b key (Some x) rest less h = (sym (nat_cmp_is b key Less less), h)
+
+  below_listed : (found : ℕ → Option X) (b key more : ℕ) → b < key → Below b (listed found key more)
+  unfolding listed
+  below_listed found b key zero less = tt
+  below_listed found b key (suc more) less =
+      below_row b key (found key) (listed found (key + 1) more) less (below_listed found b (key + 1) more (omega (arith, less)))
+
+  ascends_row : (key : ℕ) (o : Option X) (rest : Table X) → Below key rest → Ascends rest → Ascends (with_row key o rest)
+  unfolding IsStrictlySortedBy
+  ascends_row key None rest b h = h
+  ascends_row key (Some x) rest b h = (b, h)
+
+  pub ascends_listed : (found : ℕ → Option X) (key more : ℕ) → Ascends (listed found key more)
+  unfolding listed IsStrictlySortedBy
+  ascends_listed found key zero = tt
+  ascends_listed found key (suc more) =
+      ascends_row key (found key) (listed found (key + 1) more) (below_listed found key (key + 1) more (omega arith)) (ascends_listed found (key + 1) more)
+
+  -- a look-up passes a row of another key
+  row_other : (q key : ℕ) (o : Option X) (rest : Table X) → (q == key) ≡ false → at (with_row key o rest) q ≡ at rest q
+  row_other q key None rest h = refl
+  row_other q key (Some x) rest h = ap (λ b. cond b (Some x) (at rest q)) (nat_cmp-eq q key ∙ h)
+
+  row_same : (q key : ℕ) (o : Option X) (rest : Table X) → (q == key) ≡ true → at rest q ≡ None → at (with_row key o rest) q ≡ o
+  row_same q key None rest h none = none
+  row_same q key (Some x) rest h none = ap (λ b. cond b (Some x) (at rest q)) (nat_cmp-eq q key ∙ h)
+
+  -- keys before the listing and behind it have no row
+  at_before : (found : ℕ → Option X) (q key more : ℕ) → q < key → at (listed found key more) q ≡ None
+  unfolding listed
+  at_before found q key zero less = refl
+  at_before found q key (suc more) less =
+      row_other q key (found key) (listed found (key + 1) more) (grind (arith, nat_tests, less)) ∙ at_before found q (key + 1) more (omega (arith, less))
+
+  pub at_behind : (found : ℕ → Option X) (q key more : ℕ) → key + more ≤ q → at (listed found key more) q ≡ None
+  unfolding listed
+  at_behind found q key zero less = refl
+  at_behind found q key (suc more) less =
+      row_other q key (found key) (listed found (key + 1) more) (grind (arith, nat_tests, less)) ∙ at_behind found q (key + 1) more (omega (arith, less))
+
+  at_next : (found : ℕ → Option X) (q key more : ℕ) (b : Bool) → (q == key) ≡ b → key ≤ q → (key + 1 ≤ q → at (listed found (key + 1) more) q ≡ found q) → at (with_row key (found key) (listed found (key + 1) more)) q ≡ found q
+  at_next found q key more true e from later =
+      let same : q ≡ key = eqb-true q key e in
+      row_same q key (found key) (listed found (key + 1) more) e (at_before found q (key + 1) more (omega (arith, same))) ∙ ap found (sym same)
+  at_next found q key more false e from later =
+      row_other q key (found key) (listed found (key + 1) more) e ∙ later (grind (arith, nat_tests, e, from))
+
+  pub at_listed : (found : ℕ → Option X) (q key more : ℕ) → key ≤ q → q < key + more → at (listed found key more) q ≡ found q
+  unfolding listed
+  at_listed found q key zero from to = absurd (omega (arith, from, to))
+  at_listed found q key (suc more) from to =
+      at_next found q key more (q == key) refl from (λ next. at_listed found q (key + 1) more next (omega (arith, to)))

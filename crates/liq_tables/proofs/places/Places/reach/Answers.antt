@@ -1,0 +1,13 @@
+use Rattle.std.proofs.Common.{ℕ, List, ap, ◌∙◌, map, Vec, Global}
+use Rattle.liq_tables.specs.Pages.{place}
+use Rattle.liq_tables.proofs.Numbers.{place-pushed}
+use Rattle.liq_tables.proofs.places.Places.reach.Goals as goal
+
+abbrev items : Vec ℕ Global → List ℕ
+items page = page.items
+
+pub loop-self-preserved : goal.loop-self-preserved
+loop-self-preserved c k =
+    ap (λ (l : List (Vec ℕ Global)). place (map items l) k) c.in-Ok.ensures.items
+    ∙ place-pushed items c.loop-self.self-inside.pages.items c.new-page.result c.new-page.ensures.items k
+    ∙ c.loop-self.invariant k
