@@ -24,6 +24,10 @@ impl Rate {
         ensures left { result ≡ rules.decayed self.now.base self.now.minute now }
         ensures within { result ≤ self.now.base }
     {
+        // Mostly there is nothing to decay, or no time for it.
+        if self.base == 0 || now == self.minute {
+            return self.base;
+        }
         part_of(self.base, dec_pow(DECAY, now - self.minute))
     }
 
