@@ -107,9 +107,9 @@ impl Troves {
     {
         let row = self.row_for(coll, debt);
         let (count, stakes) = self.others(account);
+        self.table.write(account, row);
         self.count = count + 1;
         self.sums.stakes = stakes + row.stake;
-        self.table.write(account, row);
         row
     }
 

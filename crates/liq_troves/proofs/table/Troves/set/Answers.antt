@@ -22,7 +22,7 @@ overflow_add-self-2 c =
     let row = ap (λ (t : Trove). t.stake) c.row_for-row.ensures.row in
     record { fits = omega (arith, b.stakes_fit, row) }
 
-rows : (c : goal.After-write) → c.write.new.self.rows ≡ set_in c.args.self.now.sums c.args.self.now.table.rows c.args.account c.args.coll c.args.debt
+rows : (c : goal.After-self-2-1) → c.write.new.self.rows ≡ set_in c.args.self.now.sums c.args.self.now.table.rows c.args.account c.args.coll c.args.debt
 rows c =
     let b =
     set_beside c.args.self.now.table.rows c.args.self.now.sums c.self.inside.count c.args.account c.args.coll c.args.debt c.others-count.result.0 c.others-count.result.1
@@ -32,7 +32,7 @@ rows c =
     ∙ ap (λ v. put v.table.rows c.args.account c.row_for-row.result) c.self.view_is
     ∙ ap (λ t. put c.args.self.now.table.rows c.args.account t) c.row_for-row.ensures.row
 
-stakes : (c : goal.After-write) → c.others-count.result.1 + c.row_for-row.result.stake ≡ stakes_in (set_in c.args.self.now.sums c.args.self.now.table.rows c.args.account c.args.coll c.args.debt)
+stakes : (c : goal.After-self-2-1) → c.others-count.result.1 + c.row_for-row.result.stake ≡ stakes_in (set_in c.args.self.now.sums c.args.self.now.table.rows c.args.account c.args.coll c.args.debt)
 stakes c =
     let b =
     set_beside c.args.self.now.table.rows c.args.self.now.sums c.self.inside.count c.args.account c.args.coll c.args.debt c.others-count.result.0 c.others-count.result.1
@@ -40,7 +40,7 @@ stakes c =
     let row = ap (λ (t : Trove). t.stake) c.row_for-row.ensures.row in
     omega (arith, b.stakes_are, row)
 
-sums : (c : goal.After-write) → record c.self.inside.sums { stakes = c.others-count.result.1 + c.row_for-row.result.stake } ≡ beside c.args.self.now.sums (set_in c.args.self.now.sums c.args.self.now.table.rows c.args.account c.args.coll c.args.debt)
+sums : (c : goal.After-self-2-1) → record c.self.inside.sums { stakes = c.others-count.result.1 + c.row_for-row.result.stake } ≡ beside c.args.self.now.sums (set_in c.args.self.now.sums c.args.self.now.table.rows c.args.account c.args.coll c.args.debt)
 sums c =
     ap (λ v. record v.sums { stakes = c.others-count.result.1 + c.row_for-row.result.stake }) c.self.view_is
     ∙ ap (λ (n : ℕ). record c.args.self.now.sums { stakes = n }) (stakes c)
