@@ -1,4 +1,5 @@
 pub mod Bytes
+pub mod Few
 pub mod LinesRead
 pub mod Parts
 pub mod Taken

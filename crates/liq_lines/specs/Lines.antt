@@ -1,5 +1,6 @@
 -- The lines of a text.
-use Rattle.std.specs.Prelude.{ℕ, ◌≡◌, ◌≢◌, ◌≤◌, ◌==◌, List, [], ◌∷◌, ◌++◌, length, if◌then◌else◌}
+use Rattle.std.specs.Prelude.{ℕ, ◌≡◌, ◌≢◌, ◌≤◌, ◌==◌, if◌then◌else◌}
+use Rattle.std.specs.Prelude.{List, [], ◌∷◌, ◌++◌, length}
 use Rattle.std.specs.List.{flat_map, AllByRecursion}
 use Rattle.liq_types.specs.declared.amounts.TheConstants.{LINE_BYTES, LINES_MOST}
 
@@ -20,8 +21,8 @@ ended lines = flat_map (λ line. line ++ 10 ∷ []) lines
 abbrev pub IsWithinLine : List ℕ → Type 0
 IsWithinLine bytes = AllByRecursion (λ byte. byte ≢ 10) bytes
 
--- What was given of the line behind so many others: it has no line end, and is no longer than a line may be. Behind the last line that
--- is answered there is none of it.
+-- What was given of the line behind so many others: it has no line end, and is no longer than a line may be. Behind the
+-- last line that is answered there is none of it.
 pub record IsPartOfLine (before : ℕ) (part : List ℕ) : Type 0 where
   pub within : IsWithinLine part
   pub short : length part ≤ LINE_BYTES

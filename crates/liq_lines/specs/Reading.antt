@@ -1,5 +1,6 @@
 -- What reading a line leaves.
-use Rattle.std.specs.Prelude.{ℕ, ◌≡◌, ◌≢◌, ◌≤◌, List, [], ◌∷◌, ◌++◌, length, Option, option_map, Result, Ok, Err, IfSome}
+use Rattle.std.specs.Prelude.{ℕ, ◌≡◌, ◌≢◌, ◌≤◌, List, [], ◌∷◌, ◌++◌, length}
+use Rattle.std.specs.Prelude.{Option, option_map, Result, Ok, Err, IfSome}
 use Rattle.liq_outside.specs.declared.failed.Failed.{Failed}
 use Rattle.liq_lines.specs.declared.reader.LineEnd.{LineEnd}
 use Rattle.liq_lines.specs.declared.reader.LineEnd.TheVariants.{Ended, Unended, Nothing, TooLong}
@@ -14,18 +15,27 @@ unread taken left = option_map (λ bytes. taken ++ bytes) left
 abbrev pub Reads : Option (List ℕ) → List ℕ → Option (List ℕ) → Type 0
 Reads before bytes after = before ≡ option_map (λ rest. bytes ++ rest) after
 
+-- at most so many bytes were read
+abbrev pub ReadsAtMost : ℕ → Option (List ℕ) → Option (List ℕ) → Type 0
+ReadsAtMost most before after = (bytes : List ℕ) × Reads before bytes after × (length bytes ≤ most)
+
 -- nothing is unread
 abbrev pub IsOver : Option (List ℕ) → Type 0
 IsOver unread = IfSome unread (λ bytes. bytes ≡ [])
 
 -- a line was read, or what stood in its place
-abbrev pub ReadsLine : Option (List ℕ) → List ℕ → Option (List ℕ) → List ℕ → Result LineEnd Failed → Type 0
+abbrev pub ReadsLine :
+    Option (List ℕ) → List ℕ → Option (List ℕ) → List ℕ → Result LineEnd Failed → Type 0
 ReadsLine before line after taken (Ok Ended) = Reads before (line ++ 10 ∷ []) after × IsWithinLine line
-ReadsLine before line after taken (Ok Unended) = Reads before line after × IsWithinLine line × (line ≢ []) × IsOver after
+ReadsLine before line after taken (Ok Unended) =
+    Reads before line after × IsWithinLine line × (line ≢ []) × IsOver after
 ReadsLine before line after taken (Ok Nothing) = Reads before [] after × IsOver after
-ReadsLine before line after taken (Ok TooLong) = (byte : ℕ) × Reads before (line ++ byte ∷ []) after × IsWithinLine line × (byte ≢ 10) × (length line ≡ LINE_BYTES)
+ReadsLine before line after taken (Ok TooLong) =
+    (byte : ℕ) × Reads before (line ++ byte ∷ []) after × IsWithinLine line × (byte ≢ 10)
+    × (length line ≡ LINE_BYTES)
 -- all that the source had given was read, no line end stands in it, and it is not too long
-ReadsLine before line after taken (Err fault) = Reads before line after × IsWithinLine line × (taken ≡ []) × (length line ≤ LINE_BYTES)
+ReadsLine before line after taken (Err fault) =
+    Reads before line after × IsWithinLine line × (taken ≡ []) × (length line ≤ LINE_BYTES)
 
 -- at the source's end there is a line where some of it came
 abbrev pub IsEndOfInput : List ℕ → LineEnd → Type 0

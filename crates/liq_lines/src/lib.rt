@@ -4,5 +4,5 @@
 mod reader;
 mod writer;
 
-pub use reader::{LINE_END, LineEnd, Reader};
+pub use reader::{LINE_END, LineEnd, READ_BYTES, Reader};
 pub use writer::write_all;

@@ -1,16 +1,16 @@
 //! Reading lines, a byte at a time from chunks that the source gives.
 
-ghost use Rattle.std.specs.Prelude.{◌≡◌, ◌≤◌, ◌<◌, ◌∷◌, [], Contains, ◌↔◌, IsTrue, OnOk, OnErr, IfOk, IsOk, Ok, Some, List, ℕ, MatchOption, vec_len, vec_capacity};
+ghost use Rattle.std.specs.Prelude.{◌≡◌, ◌≤◌, ◌<◌, ◌+◌, ◌∷◌, [], Contains, ◌↔◌, IsTrue, OnOk, OnErr, IfOk, IsOk, Ok, Some, List, ℕ, IfSome, MatchOption, length, vec_len, vec_capacity};
 ghost use Rattle.liq_outside.specs.Faults.{HasCause};
-ghost use Rattle.liq_lines.specs.Reading.{unread, Reads, ReadsLine, IsOver, IsEndOfInput};
+ghost use Rattle.liq_lines.specs.Reading.{unread, Reads, ReadsAtMost, ReadsLine, IsOver, IsEndOfInput};
 
 use liq_outside::{Failed, Source};
 use liq_types::amounts::LINE_BYTES;
 use std::alloc::{AllocError, Global};
 use std::marker::Model;
 
-/// How many bytes are asked of the source at once.
-const CHUNK: usize = 16_384;
+/// The most that one read asks of the source, in bytes.
+pub const READ_BYTES: usize = 16_384;
 
 /// The byte that ends a line.
 pub const LINE_END: u8 = b'\n';
@@ -38,13 +38,13 @@ pub struct Reader {
 
 impl Model for Reader {
     ghost use Rattle.std.specs.Prelude.{List, ℕ, ◌≤◌, ◌≡◌, slice_range, vec_len};
-    ghost use Rattle.liq_lines.specs.declared.reader.TheConstants.{CHUNK};
+    ghost use Rattle.liq_lines.specs.declared.reader.TheConstants.{READ_BYTES};
 
     ghost Value = { List ℕ };
 
     ghost view = { λ r. slice_range r.chunk.items r.start r.end };
 
-    ghost invariant = { λ r. (r.start ≤ r.end) × (r.end ≤ vec_len r.chunk) × (vec_len r.chunk ≡ CHUNK) };
+    ghost invariant = { λ r. (r.start ≤ r.end) × (r.end ≤ vec_len r.chunk) × (vec_len r.chunk ≡ READ_BYTES) };
 }
 
 impl Reader {
@@ -53,7 +53,7 @@ impl Reader {
         ensures { IfOk result (λ reader. reader ≡ []) }
     {
         Ok(Reader {
-            chunk: vec![in alloc; 0; CHUNK]?,
+            chunk: vec![in alloc; 0; READ_BYTES]?,
             start: 0,
             end: 0,
         })
@@ -61,7 +61,8 @@ impl Reader {
 
     /// The first byte that was taken and is unread.
     fn pop(&mut self) -> Option<u8>
-        ensures { MatchOption result ((self.old ≡ []) × (self.new ≡ [])) (λ byte. self.old ≡ byte ∷ self.new) }
+        ensures byte { MatchOption result ((self.old ≡ []) × (self.new ≡ [])) (λ byte. self.old ≡ byte ∷ self.new) }
+        ensures held { length self.old ≤ READ_BYTES }
     {
         if self.start == self.end {
             return None;
@@ -77,6 +78,7 @@ impl Reader {
         ensures same { Reads (unread self.old (S.left input.old)) [] (unread self.new (S.left input.new)) }
         ensures over { OnOk result (self.new ≡ [] → IsOver (unread self.new (S.left input.new))) }
         ensures failed { OnErr result (self.new ≡ []) }
+        ensures held { length self.new ≤ READ_BYTES }
         ensures cause { HasCause (S.faults input.old) (S.faults input.new) result }
     {
         let count = input.read(&mut self.chunk)?;
@@ -101,6 +103,9 @@ impl Reader {
         // A byte that was taken already is given without reading.
         ensures taken { (byte : ℕ) (rest : List ℕ) → self.old ≡ byte ∷ rest
             → (result ≡ Ok (Some byte)) × (self.new ≡ rest) × (input.new ≡ input.old) }
+        // No more is held than one read asks for, the byte that is given counted with it.
+        ensures held { length self.new ≤ READ_BYTES }
+        ensures held_with { IfOk result (λ found. IfSome found (λ byte. length (byte ∷ self.new) ≤ READ_BYTES)) }
         ensures cause { HasCause (S.faults input.old) (S.faults input.new) result }
     {
         if let Some(byte) = self.pop() {
@@ -111,7 +116,7 @@ impl Reader {
     }
 
     /// Reads the next line into `line`, without its line end. A line that is too long is read no further than one byte
-    /// past its limit.
+    /// past its limit. Of the source no more is taken than this and what one read asks for: the rest is held.
     pub fn next_line<S: Source>(
         &mut self,
         input: &mut S,
@@ -119,7 +124,24 @@ impl Reader {
     ) -> Result<LineEnd, Failed>
         requires { LINE_BYTES ≤ vec_capacity line.old }
         ensures line { ReadsLine (unread self.old (S.left input.old)) line.new.items (unread self.new (S.left input.new)) self.new result }
-        // So is a line whose line end was taken.
+        ensures short { length line.new.items ≤ LINE_BYTES }
+        // A line and its line end, or one byte past the limit.
+        ensures few { ReadsAtMost (LINE_BYTES + 1) (unread self.old (S.left input.old)) (unread self.new (S.left input.new)) }
+        ensures held { length self.new ≤ READ_BYTES }
+        // A line whose line end was taken is given without reading.
+        ensures taken { Contains self.old LINE_END → IsOk result × (input.new ≡ input.old) }
+        ensures capacity { vec_capacity line.new ≡ vec_capacity line.old }
+        ensures cause { HasCause (S.faults input.old) (S.faults input.new) result }
+    {
+        self.read_line(input, line)
+    }
+
+    /// The next line, byte by byte.
+    fn read_line<S: Source>(&mut self, input: &mut S, line: &mut Vec<u8>) -> Result<LineEnd, Failed>
+        requires { LINE_BYTES ≤ vec_capacity line.old }
+        ensures line { ReadsLine (unread self.old (S.left input.old)) line.new.items (unread self.new (S.left input.new)) self.new result }
+        ensures short { length line.new.items ≤ LINE_BYTES }
+        ensures held { length self.new ≤ READ_BYTES }
         ensures taken { Contains self.old LINE_END → IsOk result × (input.new ≡ input.old) }
         ensures capacity { vec_capacity line.new ≡ vec_capacity line.old }
         ensures cause { HasCause (S.faults input.old) (S.faults input.new) result }

@@ -3,7 +3,7 @@ use Rattle.std.specs.Prelude.{Contains}
 use Rattle.std.specs.Vec.{vec_capacity}
 use Rattle.liq_lines.specs.Lines.{IsWithinLine}
 use Rattle.liq_lines.specs.Reading.{unread, Reads}
-use Rattle.liq_lines.proofs.reader.Reader.next_line.Given as goal
+use Rattle.liq_lines.proofs.reader.Reader.read_line.Given as goal
 
 -- what came of the line so far
 abbrev pub invariant-loop-length : goal.invariant-loop-length

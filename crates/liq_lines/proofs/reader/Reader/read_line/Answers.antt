@@ -1,0 +1,66 @@
+use Rattle.std.proofs.Common.{◌≡◌, ℕ, List, ◌∷◌, [], subst, sym, ◌∙◌, refl, arith}
+use Rattle.std.specs.Prelude.{Contains}
+use Rattle.liq_lines.specs.Reading.{unread, Reads}
+use Rattle.liq_lines.specs.Lines.{IsWithinLine}
+use Rattle.liq_lines.proofs.Bytes.{reads_more}
+use Rattle.liq_lines.proofs.LinesRead.{within-more}
+use Rattle.liq_lines.proofs.Taken.{given, contained_rest}
+use Rattle.liq_lines.proofs.reader.Reader.read_line.Goals as goal
+
+pub returns-in_err-next_byte-clause-taken : goal.returns-in_err-next_byte-clause-taken
+returns-in_err-next_byte-clause-taken g c has =
+    let t = given c.loop-length.self c.next_byte.new.self c.next_byte.result c.loop-length.input c.next_byte.new.input (c.loop-length.invariant.taken has).0 c.next_byte.ensures.taken in
+    absurd (cc (t.1, c.in_err-next_byte.was))
+
+pub returns-in-None-clause-taken : goal.returns-in-None-clause-taken
+returns-in-None-clause-taken g c has =
+    let t = given c.loop-length.self c.next_byte.new.self c.next_byte.result c.loop-length.input c.next_byte.new.input (c.loop-length.invariant.taken has).0 c.next_byte.ensures.taken in
+    absurd (cc (t.1, c.in_ok-next_byte.was, c.in-None.is))
+
+pub returns-in-Some-eq10-clause-taken : goal.returns-in-Some-eq10-clause-taken
+returns-in-Some-eq10-clause-taken g c has =
+    let inv = c.loop-length.invariant.taken has in
+    let t = given c.loop-length.self c.next_byte.new.self c.next_byte.result c.loop-length.input c.next_byte.new.input inv.0 c.next_byte.ensures.taken in
+    (refl, t.3 ∙ inv.1)
+
+pub loop-length-preserved : goal.loop-length-preserved
+loop-length-preserved g c =
+    let left = g.S.Source.left in
+    let read = rw c.in-Some.is at c.in_ok-next_byte.ensures.byte in
+    let apart = c.in-Some.byte-test.1 in
+    record {
+      front =
+          subst (λ (line : List ℕ). Reads (unread c.args.self.now (left c.args.input.now)) line (unread c.next_byte.new.self (left c.next_byte.new.input))) (sym c.push_reserved.ensures.items)
+          (reads_more (unread c.args.self.now (left c.args.input.now)) (unread c.loop-length.self (left c.loop-length.input)) (unread c.next_byte.new.self (left c.next_byte.new.input)) c.loop-length.line.items (c.in-Some.byte ∷ []) c.loop-length.invariant.front read);
+      within = subst IsWithinLine (sym c.push_reserved.ensures.items) (within-more c.loop-length.line.items c.in-Some.byte c.loop-length.invariant.within apart);
+      length = omega (arith, c.push_reserved.ensures.len, c.loop-length.invariant.length);
+      capacity = c.push_reserved.ensures.capacity ∙ c.loop-length.invariant.capacity;
+      count = c.in_ok-next_byte.ensures.cause.ok ∙ c.loop-length.invariant.count;
+      taken = λ has.
+          let inv = c.loop-length.invariant.taken has in
+          let t = given c.loop-length.self c.next_byte.new.self c.next_byte.result c.loop-length.input c.next_byte.new.input inv.0 c.next_byte.ensures.taken in
+          let same : t.0 ≡ c.in-Some.byte = cc (t.1, c.in_ok-next_byte.was, c.in-Some.is) in
+          (contained_rest t.0 c.next_byte.new.self 10 (subst (λ (xs : List ℕ). Contains xs 10) t.2 inv.0) (λ e. apart (sym same ∙ e)), t.3 ∙ inv.1);
+    }
+
+pub returns-in_err-next_byte-2-clause-taken : goal.returns-in_err-next_byte-2-clause-taken
+returns-in_err-next_byte-2-clause-taken g c has =
+    let t = given c.loop-length.self c.next_byte-2.new.self c.next_byte-2.result c.loop-length.input c.next_byte-2.new.input (c.loop-length.invariant.taken has).0 c.next_byte-2.ensures.taken in
+    absurd (cc (t.1, c.in_err-next_byte-2.was))
+
+pub returns-in-None-2-clause-taken : goal.returns-in-None-2-clause-taken
+returns-in-None-2-clause-taken g c has =
+    let t = given c.loop-length.self c.next_byte-2.new.self c.next_byte-2.result c.loop-length.input c.next_byte-2.new.input (c.loop-length.invariant.taken has).0 c.next_byte-2.ensures.taken in
+    absurd (cc (t.1, c.in_ok-next_byte-2.was, c.in-None-2.is))
+
+pub returns-in-Some-eq10-2-clause-taken : goal.returns-in-Some-eq10-2-clause-taken
+returns-in-Some-eq10-2-clause-taken g c has =
+    let inv = c.loop-length.invariant.taken has in
+    let t = given c.loop-length.self c.next_byte-2.new.self c.next_byte-2.result c.loop-length.input c.next_byte-2.new.input inv.0 c.next_byte-2.ensures.taken in
+    (refl, t.3 ∙ inv.1)
+
+pub returns-in-Some-2-clause-taken : goal.returns-in-Some-2-clause-taken
+returns-in-Some-2-clause-taken g c has =
+    let inv = c.loop-length.invariant.taken has in
+    let t = given c.loop-length.self c.next_byte-2.new.self c.next_byte-2.result c.loop-length.input c.next_byte-2.new.input inv.0 c.next_byte-2.ensures.taken in
+    (refl, t.3 ∙ inv.1)
