@@ -1,5 +1,5 @@
 -- How many bytes were read.
-use Rattle.std.proofs.Common.{ℕ, ◌+◌, ◌≤◌, List, [], ◌∷◌, ◌++◌, length, Option, Some, None, Result, Ok, Err, length-append, refl, arith}
+use Rattle.std.proofs.Common.{◌≡◌, ℕ, ◌+◌, ◌≤◌, List, [], ◌∷◌, ◌++◌, length, Option, Some, None, Result, Ok, Err, refl, ap, sym, ◌∙◌, append_assoc, length-append, arith}
 use Rattle.liq_outside.specs.declared.failed.Failed.{Failed}
 use Rattle.liq_types.specs.declared.amounts.TheConstants.{LINE_BYTES}
 use Rattle.liq_lines.specs.declared.reader.LineEnd.{LineEnd}
@@ -14,6 +14,22 @@ line_few before after line taken (Ok Unended) read short = (line, read.0, omega 
 line_few before after line taken (Ok Nothing) read short = ([], read.0, omega arith)
 line_few before after line taken (Ok TooLong) read short = (line ++ read.0 ∷ [], read.1, omega (arith, short, length-append line (read.0 ∷ [])))
 line_few before after line taken (Err fault) read short = (line, read.0, omega (arith, short))
+
+-- a whole line that was taken is read
+pub ended_few : (old line new : List ℕ) (left : Option (List ℕ)) → old ≡ line ++ 10 ∷ new → length line ≤ LINE_BYTES → ReadsAtMost (LINE_BYTES + 1) (unread old left) (unread new left)
+ended_few old line new left is short = (line ++ 10 ∷ [], by left, omega (arith, short, length-append line (10 ∷ []))) where
+  by : (left : Option (List ℕ)) → Reads (unread old left) (line ++ 10 ∷ []) (unread new left)
+  by None = refl
+  by (Some more) = ap (λ (t : List ℕ). Some (t ++ more)) (is ∙ sym (append_assoc line (10 ∷ []) new)) ∙ ap Some (append_assoc (line ++ 10 ∷ []) new more)
+
+pub few_begun : (held : List ℕ) (left : Option (List ℕ)) → held ≡ [] → ReadsAtMost 0 left (unread held left)
+few_begun held left fresh = ([], by left fresh, omega arith) where
+  by : (left : Option (List ℕ)) → held ≡ [] → Reads left [] (unread held left)
+  by None fresh = refl
+  by (Some more) fresh = ap (λ (t : List ℕ). Some (t ++ more)) (sym fresh)
+
+pub few_within : (before after : Option (List ℕ)) (m n : ℕ) → ReadsAtMost m before after → m ≤ n → ReadsAtMost n before after
+few_within before after m n h most = (h.0, h.1, omega (arith, h.2, most))
 
 pub few_none : (before : Option (List ℕ)) → ReadsAtMost 0 before before
 few_none before = ([], reads_nothing before, omega arith)

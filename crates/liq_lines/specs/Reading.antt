@@ -1,7 +1,8 @@
 -- What reading a line leaves.
-use Rattle.std.specs.Prelude.{ℕ, ◌≡◌, ◌≢◌, ◌≤◌, List, [], ◌∷◌, ◌++◌, length}
-use Rattle.std.specs.Prelude.{Option, option_map, Result, Ok, Err, IfSome}
+use Rattle.std.specs.Prelude.{ℕ, ◌≡◌, ◌≢◌, ◌≤◌, ◌+◌, ◌*◌, List, [], ◌∷◌, ◌++◌}
+use Rattle.std.specs.Prelude.{length, Option, option_map, Result, Ok, Err, IfSome}
 use Rattle.liq_outside.specs.declared.failed.Failed.{Failed}
+use Rattle.liq_lines.specs.declared.reader.TheConstants.{READ_BYTES}
 use Rattle.liq_lines.specs.declared.reader.LineEnd.{LineEnd}
 use Rattle.liq_lines.specs.declared.reader.LineEnd.TheVariants.{Ended, Unended, Nothing, TooLong}
 use Rattle.liq_lines.specs.Lines.{IsWithinLine}
@@ -18,6 +19,10 @@ Reads before bytes after = before ≡ option_map (λ rest. bytes ++ rest) after
 -- at most so many bytes were read
 abbrev pub ReadsAtMost : ℕ → Option (List ℕ) → Option (List ℕ) → Type 0
 ReadsAtMost most before after = (bytes : List ℕ) × Reads before bytes after × (length bytes ≤ most)
+
+-- the most that is taken of a source for so many lines: each with its line end, and what one read asks for
+abbrev pub taken_most : ℕ → ℕ
+taken_most lines = lines * (LINE_BYTES + 1) + READ_BYTES
 
 -- nothing is unread
 abbrev pub IsOver : Option (List ℕ) → Type 0

@@ -1,7 +1,8 @@
-//! Reading lines, a byte at a time from chunks that the source gives.
+//! Reading lines from chunks that the source gives: at once where one stands whole in a chunk, else byte by byte.
 
-ghost use Rattle.std.specs.Prelude.{◌≡◌, ◌≤◌, ◌<◌, ◌+◌, ◌∷◌, [], Contains, ◌↔◌, IsTrue, OnOk, OnErr, IfOk, IsOk, Ok, Some, List, ℕ, IfSome, MatchOption, length, vec_len, vec_capacity};
+ghost use Rattle.std.specs.Prelude.{◌≡◌, ◌≤◌, ◌<◌, ◌+◌, ◌∷◌, [], Contains, ◌↔◌, IsTrue, IsFalse, ◌++◌, take, drop, OnOk, OnErr, IfOk, IsOk, Ok, Some, List, ℕ, IfSome, MatchOption, length, vec_len, vec_capacity};
 ghost use Rattle.liq_outside.specs.Faults.{HasCause};
+ghost use Rattle.liq_lines.specs.Lines.{IsWithinLine};
 ghost use Rattle.liq_lines.specs.Reading.{unread, Reads, ReadsAtMost, ReadsLine, IsOver, IsEndOfInput};
 
 use liq_outside::{Failed, Source};
@@ -133,7 +134,30 @@ impl Reader {
         ensures capacity { vec_capacity line.new ≡ vec_capacity line.old }
         ensures cause { HasCause (S.faults input.old) (S.faults input.new) result }
     {
+        if self.take_line(line) {
+            return Ok(LineEnd::Ended);
+        }
         self.read_line(input, line)
+    }
+
+    /// Takes the next line whole, where it was taken from the source to its line end and is no longer than a line may be.
+    fn take_line(&mut self, line: &mut Vec<u8>) -> bool
+        requires { LINE_BYTES ≤ vec_capacity line.old }
+        ensures taken { IsTrue result → (self.old ≡ line.new.items ++ LINE_END ∷ self.new) × IsWithinLine line.new.items
+            × (length line.new.items ≤ LINE_BYTES) }
+        ensures held { length self.old ≤ READ_BYTES }
+        ensures left { IsFalse result → self.new ≡ self.old }
+        ensures capacity { vec_capacity line.new ≡ vec_capacity line.old }
+    {
+        let held = &self.chunk[self.start..self.end];
+        match line_end_in(held) {
+            Some(at) if at <= LINE_BYTES => {
+                put(line, &held[..at]);
+                self.start += at + 1;
+                true
+            }
+            _ => false,
+        }
     }
 
     /// The next line, byte by byte.
@@ -159,6 +183,26 @@ impl Reader {
             Some(LINE_END) => Ok(LineEnd::Ended),
             Some(_) => Ok(LineEnd::TooLong),
         }
+    }
+}
+
+/// Where the first line end stands.
+fn line_end_in(bytes: &[u8]) -> Option<usize>
+    ensures { IfSome result (λ at. (at < length bytes.now) × IsWithinLine (take at bytes.now)
+        × (bytes.now ≡ take at bytes.now ++ LINE_END ∷ drop (at + 1) bytes.now)) }
+{
+    bytes.iter().position(|byte| *byte == LINE_END)
+}
+
+/// Puts the bytes into the line in place of what was there.
+fn put(line: &mut Vec<u8>, bytes: &[u8])
+    requires { length bytes.now ≤ vec_capacity line.old }
+    ensures items { line.new.items ≡ bytes.now }
+    ensures capacity { vec_capacity line.new ≡ vec_capacity line.old }
+{
+    line.clear();
+    for byte in bytes {
+        line.push_reserved(*byte);
     }
 }
 

@@ -1,5 +1,17 @@
-use Rattle.liq_lines.proofs.Few.{line_few}
+use Rattle.std.proofs.Common.{◌+◌, ℕ, List, subst}
+use Rattle.liq_types.specs.declared.amounts.TheConstants.{LINE_BYTES}
+use Rattle.liq_lines.specs.Reading.{unread, ReadsAtMost}
+use Rattle.liq_lines.proofs.Few.{line_few, ended_few}
 use Rattle.liq_lines.proofs.reader.Reader.next_line.Goals as goal
 
+pub returns-then-take_line-clause-few : goal.returns-then-take_line-clause-few
+returns-then-take_line-clause-few g c =
+    let taken = c.take_line.ensures.taken c.if-take_line.true in
+    ended_few _ _ _ _ taken.0 taken.2
+
 pub returns-clause-few : goal.returns-clause-few
-returns-clause-few g c = line_few _ _ _ _ _ c.read_line.ensures.line c.read_line.ensures.short
+returns-clause-few g c =
+    let left = g.S.Source.left in
+    subst (λ (held : List ℕ). ReadsAtMost (LINE_BYTES + 1) (unread held (left c.args.input.now)) (unread c.read_line.new.self (left c.read_line.new.input)))
+    (c.take_line.ensures.left c.if-take_line.false)
+    (line_few _ _ _ _ _ c.read_line.ensures.line c.read_line.ensures.short)
