@@ -1,15 +1,14 @@
 -- What the readers of one word give.
-use Rattle.std.proofs.Common.{◌≡◌, ℕ, ◌^◌, ◌<◌, Bool, true, false, cond, ltb, eqb, List, Option, Some, None, Result, Ok, Err, refl, sym, ap, ◌∙◌}
-use Rattle.std.specs.Prelude.{decimal, ◌&&◌, MatchResult}
-use Rattle.std.specs.Result.{result_ok}
-use Rattle.std.specs.Borrow.{Bor}
-use Rattle.std.specs.Cmp.Lexicographic.{pointwise}
-use Rattle.std.specs.Str.{bytes_eq, IsUtf8}
-use Rattle.std.specs.Str.Parse.{digits_value, ParsesUnsigned}
+use Rattle.std.proofs.Common.{◌≡◌, ℕ, zero, suc, ◌+◌, ◌*◌, ◌^◌, ◌<◌, ◌≤◌, Bool, true, false, cond, ltb, List, [], ◌∷◌, length, take, get_or, Option, Some, None, refl, sym, ap, subst, ◌∙◌, arith}
+use Rattle.std.specs.Prelude.{decimal, ◌&&◌}
+use Rattle.std.specs.Char.{digit_value}
+use Rattle.std.specs.Str.{bytes_eq}
+use Rattle.std.specs.Str.Parse.{AllDigits, digits_value}
 use Rattle.std.proofs.lemmas.Bool.{ltb-true, lt-ltb, and_parts, and_from}
-use Rattle.std.proofs.lemmas.Option.{cond_some, same_Some}
-use Rattle.std.proofs.lemmas.Fmt.{decimal_is_IsNumeral, parse-decimal, IsAscii-decimal}
-use Rattle.std.proofs.lemmas.Str.{IsUtf8-from_ascii}
+use Rattle.std.proofs.lemmas.Option.{cond_some}
+use Rattle.std.proofs.lemmas.Fmt.{decimal_is_IsNumeral, decimal_nonempty, decimal_digit, first_decimal, decimal-digits_value}
+use Rattle.std.proofs.lemmas.Int.Digits.{digits_value_more}
+use Rattle.std.proofs.lemmas.Str.Parse.{numerals_by_value, tells_digits, digits_value-take-le}
 use Rattle.std.proofs.lemmas.Slice.Eq.{bytes_eq-Decides}
 use Rattle.liq_text.specs.Reading.{number_of}
 
@@ -39,40 +38,32 @@ number_of-some piece n e =
     let small : digits_value 10 piece < 2 ^ 64 = ltb-true _ _ both.0 in
     (rw (← g.1) small, (bytes_eq-Decides piece (decimal (digits_value 10 piece))).0 both.1 ∙ ap decimal g.1)
 
--- what from_utf8 answers
-abbrev Utf8Read : {E : Type 0} → List ℕ → Result (Bor (List ℕ)) E → (E → Type 0) → Type 0
-Utf8Read bytes r Q = MatchResult r (λ s. (s.now ≡ bytes) × IsUtf8 bytes) (λ e. ¬ (IsUtf8 bytes) × Q e)
+no_number : (word : List ℕ) → ((n : ℕ) → n < 2 ^ 64 → word ≡ decimal n → ⊥) → None ≡ number_of word
+no_number word never = none_from (number_of word) (λ n e. let s = number_of-some word n e in never n s.0 s.1)
 
--- bytes that are no text are no number
-pub number_of-no_text : {E : Type 0} (Q : E → Type 0) (bytes : List ℕ) (r : Result (Bor (List ℕ)) E) → Utf8Read bytes r Q → None ≡ result_ok r → None ≡ number_of bytes
-number_of-no_text Q bytes (Ok s) read none = absurd cc
-number_of-no_text Q bytes (Err d) read none = none_from (number_of bytes) (λ n e. let s = number_of-some bytes n e in read.0 (rw s.1 (IsUtf8-from_ascii (decimal n) (IsAscii-decimal n s.0))))
+pub number_of-empty : (word : List ℕ) → length word ≡ 0 → None ≡ number_of word
+number_of-empty word none = no_number word (λ n small is. omega (arith, decimal_nonempty n small, ap length is, none))
 
-pub text_is : {E : Type 0} (Q : E → Type 0) (bytes : List ℕ) (r : Result (Bor (List ℕ)) E) (s : Bor (List ℕ)) → Utf8Read bytes r Q → Some s ≡ result_ok r → s.now ≡ bytes
-text_is Q bytes (Ok t) s read some = ap (λ (x : Bor (List ℕ)). x.now) (same_Some s t some) ∙ read.0
-text_is Q bytes (Err d) s read some = absurd cc
+pub number_of-leading_zero : (word : List ℕ) → 1 < length word → get_or word 0 0 ≡ 48 → None ≡ number_of word
+number_of-leading_zero word long lead = no_number word by where
+  by : (n : ℕ) → n < 2 ^ 64 → word ≡ decimal n → ⊥
+  by zero small is = omega (arith, long, ap length (is ∙ decimal_digit 0 (omega arith)))
+  by (suc n) small is = omega (arith, lead, first_decimal (suc n) (omega arith) small, ap (λ (w : List ℕ). get_or w 0 0) is)
 
-no_parse : {E : Type 0} (piece : List ℕ) (r : Result ℕ E) → ParsesUnsigned 64 10 piece r → None ≡ result_ok r → None ≡ number_of piece
-no_parse piece (Ok n) parsed none = absurd cc
-no_parse piece (Err d) parsed none = none_from (number_of piece) (λ n e. let s = number_of-some piece n e in let k = parse-decimal 64 n piece (Err d) s.0 s.0 s.1 parsed in absurd cc)
+digit_in : (ds : List ℕ) (i : ℕ) → AllDigits 10 ds → i < length ds → digit_value (get_or ds i 0) < 10
+digit_in [] i all within = absurd (omega (arith, within))
+digit_in (d ∷ ds) zero all within = all.0
+digit_in (d ∷ ds) (suc i) all within = digit_in ds i all.1 (omega (arith, within))
 
--- a text that does not parse is no number
-pub number_of-no_parse : {E : Type 0} (piece text : List ℕ) → text ≡ piece → (r : Result ℕ E) → ParsesUnsigned 64 10 text r → None ≡ result_ok r → None ≡ number_of piece
-number_of-no_parse piece text same r parsed none = no_parse text r parsed none ∙ ap number_of same
+-- a byte that is no digit, or one with which the number is too great
+pub number_of-broken : (word : List ℕ) (i : ℕ) → i < length word → (digit_value (get_or word i 0) < 10 → 2 ^ 64 ≤ digits_value 10 (take i word) * 10 + digit_value (get_or word i 0)) → None ≡ number_of word
+number_of-broken word i within breaks = no_number word (λ n small is.
+    let numeral = decimal_is_IsNumeral n small in
+    let digit : digit_value (get_or word i 0) < 10 = digit_in word i (subst (AllDigits 10) (sym is) numeral.0.1) within in
+    let value : digits_value 10 word ≡ n = ap (digits_value 10) is ∙ numeral.1 in
+    let front : digits_value 10 (take (i + 1) word) ≤ digits_value 10 word = digits_value-take-le 10 word (i + 1) (omega arith) in
+    omega (arith, small, value, front, breaks digit, digits_value_more 10 word i within))
 
-other_text : {E : Type 0} (piece : List ℕ) (r : Result ℕ E) (m : ℕ) → ParsesUnsigned 64 10 piece r → Some m ≡ result_ok r → (decimal m ≡ piece → ⊥) → None ≡ number_of piece
-other_text piece (Err d) m parsed ok other = absurd cc
-other_text {E} piece (Ok v) m parsed ok other = none_from (number_of piece) (λ n e.
-    let s = number_of-some piece n e in
-    let k : ◌≡◌ {A = Result ℕ E} (Ok v) (Ok n) = parse-decimal 64 n piece (Ok v) s.0 s.0 s.1 parsed in
-    let same : m ≡ n = cc in
-    other (ap decimal same ∙ sym s.1))
-
--- a text that is not how the number is written is no number
-pub number_of-other_text : {E : Type 0} (piece text : List ℕ) → text ≡ piece → (r : Result ℕ E) (m : ℕ) → ParsesUnsigned 64 10 text r → Some m ≡ result_ok r
-    → (written : List ℕ) (b : Bool) → written ≡ decimal m → b ≡ pointwise eqb written piece → b ≡ false → None ≡ number_of piece
-number_of-other_text piece text same r m parsed ok written b is_written eq no_match =
-    other_text text r m parsed ok (λ e. let yes_match : b ≡ true = eq ∙ (bytes_eq-Decides written piece).1 (is_written ∙ e ∙ same) in absurd cc) ∙ ap number_of same
-
-pub number_of-same_text : (piece written : List ℕ) (n : ℕ) (b : Bool) → written ≡ decimal n → b ≡ pointwise eqb written piece → b ≡ true → n < 2 ^ 64 → Some n ≡ number_of piece
-number_of-same_text piece written n b is_written eq matches small = sym (number_of-decimal piece n small (sym ((bytes_eq-Decides written piece).0 (sym eq ∙ matches)) ∙ is_written))
+pub number_of-digits : (word : List ℕ) → 0 < length word → (get_or word 0 0 ≡ 48 → length word ≡ 1) → AllDigits 10 word → digits_value 10 word < 2 ^ 64 → Some (digits_value 10 word) ≡ number_of word
+number_of-digits word some lead all small =
+    sym (number_of-decimal word (digits_value 10 word) small (sym (decimal-digits_value (numerals_by_value _ tells_digits) word all some lead small)))

@@ -1,9 +1,8 @@
 //! What one word stands for.
 
-ghost use Rattle.std.specs.Prelude.{ℕ, ◌≡◌, ◌<◌, ◌^◌, IfSome, Some, decimal};
+ghost use Rattle.std.specs.Prelude.{ℕ, ◌≡◌, ◌<◌, ◌≤◌, ◌+◌, ◌*◌, ◌^◌, ◌↔◌, length, slice_index, IsTrue, IfSome, MatchOption, Some, decimal};
+ghost use Rattle.std.specs.Char.{digit_value};
 ghost use Rattle.liq_text.specs.Reading.{number_of, account_of, hint_of};
-
-use itoa::Buffer;
 
 /// The number that a word stands for: none exactly where the word is not how a number below 2^64 is written, without a sign and
 /// without leading zeros.
@@ -17,14 +16,30 @@ pub fn read_number(word: &[u8]) -> Option<u64>
 pub(crate) fn number(word: &[u8]) -> Option<u64>
     ensures { result ≡ number_of word.now }
 {
-    let number = str::from_utf8(word).ok()?.parse::<u64>().ok()?;
     // Only the one way in which a number is written stands for it: no sign and no leading zero.
-    let mut buffer = Buffer::new();
-    if buffer.format(number).as_bytes() == word {
-        Some(number)
-    } else {
-        None
+    if word.is_empty() || has_leading_zero(word) {
+        return None;
     }
+    let mut number = 0;
+    for byte in word {
+        number = with_digit(number, *byte)?;
+    }
+    Some(number)
+}
+
+fn has_leading_zero(word: &[u8]) -> bool
+    ensures { IsTrue result ↔ (1 < length word.now) × (slice_index word.now 0 ≡ 48) }
+{
+    word.len() > 1 && word[0] == b'0'
+}
+
+/// The number with one digit more behind it.
+fn with_digit(number: u64, byte: u8) -> Option<u64>
+    ensures { MatchOption result ((digit_value byte < 10) → 2 ^ 64 ≤ number * 10 + digit_value byte)
+        (λ more. (digit_value byte < 10) × (more ≡ number * 10 + digit_value byte) × (more < 2 ^ 64)) }
+{
+    let digit = char::from(byte).to_digit(10)?;
+    number.checked_mul(10)?.checked_add(u64::from(digit))
 }
 
 #[tactic(auto, unfolding(crate::specs::Reading::account_of))]

@@ -1,19 +1,41 @@
-use Rattle.std.proofs.Common.{◌∙◌, arith}
-use Rattle.liq_text.proofs.ReadingLaws.{number_of-no_text, number_of-no_parse, number_of-other_text, number_of-same_text, text_is}
+use Rattle.std.proofs.Common.{arith, rules, ap, subst, ◌∙◌, ◌≡◌, ◌<◌, ℕ, List, Some, take, length}
+use Rattle.std.specs.Str.Parse.{AllDigits, digits_value}
+use Rattle.std.proofs.lemmas.List.{take_all}
+use Rattle.std.proofs.lemmas.Int.Digits.{digits_more, digits_value_more}
+use Rattle.liq_text.proofs.ReadingLaws.{number_of-empty, number_of-leading_zero, number_of-broken, number_of-digits}
+use Rattle.liq_text.proofs.values.number.Goals.{then-is_empty-via-then-is_empty, then-is_empty-via-else-is_empty+then-has_leading_zero}
 use Rattle.liq_text.proofs.values.number.Goals as goal
 
-pub returns-in_err-ok : goal.returns-in_err-ok
-returns-in_err-ok c = c.from_residual.ensures ∙ number_of-no_text _ c.args.word.now c.from_utf8.result c.from_utf8.ensures.cases c.in_err-ok.ensures.value
+pub returns-then-is_empty : goal.returns-then-is_empty
+returns-then-is_empty c =
+    elim c.then-is_empty.branch [
+      | then-is_empty-via-then-is_empty w ↦ number_of-empty c.args.word.now (search rules)
+      | then-is_empty-via-else-is_empty+then-has_leading_zero w ↦
+          let leading = w.has_leading_zero.ensures.0 w.if-has_leading_zero.true in
+          number_of-leading_zero c.args.word.now leading.0 leading.1
+    ]
 
 pub returns-in_err-number : goal.returns-in_err-number
 returns-in_err-number c =
-    let text = text_is _ c.args.word.now c.from_utf8.result c.in_ok-ok.field-0 c.from_utf8.ensures.cases c.in_ok-ok.ensures.value in
-    c.from_residual-in_err-number.ensures ∙ number_of-no_parse c.args.word.now c.in_ok-ok.field-0.now text c.parse.result c.parse.ensures.value.0 c.in_err-number.ensures.value
+    c.from_residual.ensures
+    ∙ number_of-broken c.args.word.now c.loop-byte.byte-index c.loop-byte-test.true (λ digit. omega (arith, c.in_err-number.ensures digit, c.loop-byte.invariant.value))
 
-pub returns-then-eq : goal.returns-then-eq
-returns-then-eq c = number_of-same_text c.args.word.now c.as_bytes.result.now c.in_ok-number.number _ (c.as_bytes.ensures.value ∙ c.format.ensures.text) c.eq.ensures c.if-eq.true (omega arith)
+pub loop-byte-preserved : goal.loop-byte-preserved
+loop-byte-preserved c =
+    let word : List ℕ = c.args.word.now in
+    record {
+      digits = digits_more 10 word c.loop-byte.byte-index c.loop-byte-test.true c.loop-byte.invariant.digits c.in_ok-number.ensures.0;
+      fits = c.in_ok-number.ensures.2;
+      value = omega (arith, c.in_ok-number.ensures.1, c.loop-byte.invariant.value, digits_value_more 10 word c.loop-byte.byte-index c.loop-byte-test.true);
+    }
 
-pub returns-else-eq : goal.returns-else-eq
-returns-else-eq c =
-    let text = text_is _ c.args.word.now c.from_utf8.result c.in_ok-ok.field-0 c.from_utf8.ensures.cases c.in_ok-ok.ensures.value in
-    number_of-other_text c.args.word.now c.in_ok-ok.field-0.now text c.parse.result c.in_ok-number.number c.parse.ensures.value.0 c.in_ok-number.ensures.value c.as_bytes.result.now _ (c.as_bytes.ensures.value ∙ c.format.ensures.text) c.eq.ensures c.if-eq.false
+pub returns : goal.returns
+returns c =
+    let word : List ℕ = c.args.word.now in
+    let whole : take c.loop-byte.byte-index word ≡ word = take_all c.loop-byte.byte-index word (omega arith) in
+    let value : c.loop-byte.number ≡ digits_value 10 word = c.loop-byte.invariant.value ∙ ap (digits_value 10) whole in
+    let some : 0 < length word = search rules in
+    ap Some value
+    ∙ number_of-digits word some
+    (λ zero. let short : 1 < length word → ⊥ = λ long. cc (c.has_leading_zero.ensures.1 (long, zero), c.if-has_leading_zero.false) in omega (arith, some, short))
+    (subst (AllDigits 10) whole c.loop-byte.invariant.digits) (omega (arith, value, c.loop-byte.invariant.fits))
