@@ -10,7 +10,7 @@ use Rattle.std.specs.declared.cmp.Ordering.TheVariants.{Less}
 use Rattle.liq_order.specs.Listed.{IsAbsent, AreDistinct}
 use Rattle.std.proofs.lemmas.Bool.{eqb-false, ne_eqb, eqb-true}
 
-abbrev has : ℕ → Ranked → Bool
+abbrev pub has : ℕ → Ranked → Bool
 has account = λ (e : Ranked). e.1 == account
 
 -- the list around an account's entry
@@ -76,12 +76,12 @@ position_at list account index s =
     let long : length list ≡ length s.front + length (s.entry ∷ s.back) = ap (λ l. length l) s.whole ∙ length-append s.front (s.entry ∷ s.back) in
     within (position_or_len (has account) list) (length list) (omega (arith, at, long, s.place)) ∙ ap (λ k. Some k) at
 
-key_absent : (list : List Ranked) (account : ℕ) → IsAbsent account list → key_in list account ≡ None
+pub key_absent : (list : List Ranked) (account : ℕ) → IsAbsent account list → key_in list account ≡ None
 key_absent [] account h = refl
 key_absent (e ∷ es) account h =
     ap (λ b. option_map (λ (f : Ranked). f.0) (cond b (Some e) (find (has account) es))) (ne_eqb e.1 account h.0) ∙ key_absent es account h.1
 
-key_front : (account : ℕ) (front back : List Ranked) (entry : Ranked) → IsAbsent account front → (entry.1 == account) ≡ true → key_in (front ++ entry ∷ back) account ≡ Some entry.0
+pub key_front : (account : ℕ) (front back : List Ranked) (entry : Ranked) → IsAbsent account front → (entry.1 == account) ≡ true → key_in (front ++ entry ∷ back) account ≡ Some entry.0
 key_front account [] back entry h same = ap (λ b. option_map (λ (f : Ranked). f.0) (cond b (Some entry) (find (has account) back))) same
 key_front account (e ∷ es) back entry h same =
     ap (λ b. option_map (λ (f : Ranked). f.0) (cond b (Some e) (find (has account) (es ++ entry ∷ back)))) (ne_eqb e.1 account h.0) ∙ key_front account es back entry h.1 same

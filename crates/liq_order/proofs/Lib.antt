@@ -1,6 +1,12 @@
+pub mod Chains
+pub mod Changed
 pub mod Found
+pub mod Kept
 pub mod Listing
 pub mod Placed
 pub mod Present
 pub mod Ranking
+pub mod Rising
+pub mod Rows
+pub mod Seen
 pub mod Sorting

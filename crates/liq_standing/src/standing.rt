@@ -1,8 +1,8 @@
 //! Where a trove stands: in the table, in the pools that hold what it has, and in the list.
 
-ghost use Rattle.std.specs.Prelude.{◌≡◌, ◌≤◌, ◌+◌, IsSome, Some, None};
+ghost use Rattle.std.specs.Prelude.{◌≡◌, ◌≤◌, ◌+◌, IsSome, Some, None, length};
 ghost use Rattle.liq_types.specs.declared.amounts.TheConstants.{MIN_NET};
-ghost use Rattle.liq_types.specs.Ranked.{key_in, with_ranked, without_ranked};
+ghost use Rattle.liq_types.specs.Ranked.{IsTight, key_in, with_ranked, without_ranked};
 ghost use Rattle.liq_types.specs.Tables.{at, without};
 ghost use Rattle.liq_tables.specs.WithRoom.{HasRoom};
 ghost use Rattle.liq_troves.specs.Rows.{entire_in, key_by, set_row};
@@ -49,7 +49,7 @@ pub fn lift(pools: &mut Pools, troves: &mut Troves, order: &mut Order, account: 
 }
 
 /// A trove of the account comes into the table, the active pool and the list, with these amounts in gwei and micro-LUSD and
-/// nothing pending. The other pools stay. The hint may save a search and changes nothing else.
+/// nothing pending. The other pools stay. The hint changes nothing but the steps: with a tight one there are four at most.
 pub fn place<L: Ledger>(
     pools: &mut Pools,
     troves: &mut Troves,
@@ -71,6 +71,8 @@ pub fn place<L: Ledger>(
     requires spare { 1 ≤ order.old.room }
     ensures books { books_kept troves.new pools.new ≡ placed (books_kept troves.old pools.old) account coll debt }
     ensures rest { pools.new ≡ pools_with pools.old (books_kept troves.new pools.new) }
+    ensures tight { IsTight order.old.entries (key_by (set_row troves.old.sums coll debt), account) hint.now.prev hint.now.next → steps.new ≤ steps.old + 4 }
+    ensures any { steps.new ≤ steps.old + (length order.old.entries + 4) }
     ensures list { order.new.entries ≡ with_ranked order.old.entries (key_by (set_row troves.old.sums coll debt), account) }
     ensures room { troves.new.table.room ≡ troves.old.table.room }
     ensures spare { order.new.room + 1 ≡ order.old.room }

@@ -1,6 +1,6 @@
-use Rattle.std.proofs.Common.{ap, ◌∙◌, arith, rules}
+use Rattle.std.proofs.Common.{ap, sym, ◌∙◌, subst, arith, rules}
 use Rattle.std.proofs.lemmas.Int.{to_z-of_z}
-use Rattle.liq_types.specs.Ranked.{with_ranked}
+use Rattle.liq_types.specs.Ranked.{IsTight, with_ranked}
 use Rattle.liq_troves.proofs.Standing.{place_stands}
 use Rattle.liq_troves.specs.Rows.{key_by}
 use Rattle.liq_standing.specs.Books.{books_kept}
@@ -19,3 +19,9 @@ returns-clause-list g c =
     let put_in = simp to_z-of_z at c.insert.ensures.list in
     put_in
     ∙ ap (λ k. with_ranked c.args.order.now.entries (k, c.args.account)) (c.key.ensures ∙ ap key_by c.set-row.ensures.row)
+
+pub returns-clause-tight : goal.returns-clause-tight
+returns-clause-tight g c t =
+    let fits : SFits w128 c.key.result = search rules in
+    let few = simp to_z-of_z at c.insert.ensures.tight in
+    few (subst (λ k. IsTight c.args.order.now.entries (k, c.args.account) c.args.hint.now.prev c.args.hint.now.next) (sym (c.key.ensures ∙ ap key_by c.set-row.ensures.row)) t)

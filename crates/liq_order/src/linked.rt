@@ -1,0 +1,380 @@
+//! Nodes that are linked in the order of their entries.
+
+ghost use Rattle.std.specs.Prelude.{◌≡◌, ◌+◌, ◌≤◌, [], ◌++◌, List, Some, None, IsSome, IfSome, IfNone, IsOk, OnOk, length};
+ghost use Rattle.std.specs.declared.cmp.Ordering.TheVariants.{Less};
+ghost use Rattle.liq_types.specs.Ranked.{rank_order, with_ranked, without_ranked, key_in, last_account, before_in, IsTight};
+ghost use Rattle.liq_order.specs.declared.places.NodeNo.{NodeNo};
+ghost use Rattle.liq_order.specs.Nodes.{IsBehind, IsAhead, IsGap, IsIn, Visits, memory, at_place, entries, entry_of, first_or, last_or, node_of, gap_between, account_of_place};
+
+use crate::accounts::Pairs;
+use crate::places::{Gap, Node, NodeNo, comes_before};
+use crate::writes::{join, settle};
+use liq_types::{Hint, NoMemory, Steps};
+use std::alloc::Global;
+use std::marker::Model;
+use std::sync::ledger::{Blank, Ledger};
+
+/// The nodes of a list. Each has a place, which stays as long as its entry is in the list.
+#[derive(Drop)]
+pub struct Nodes {
+    nodes: Vec<Node>,
+    free: Vec<NodeNo>,
+    pairs: Pairs,
+    first: Option<NodeNo>,
+    last: Option<NodeNo>,
+    // For so many entries there is room in all three.
+    most: usize,
+}
+
+impl Model for Nodes {
+    ghost use Rattle.std.specs.Prelude.{◌-◌, length, vec_capacity};
+    ghost use Rattle.liq_order.specs.Nodes.{Ring, IsRing, IsRoomy, along, memory};
+    ghost use Rattle.liq_order.specs.Pairs.{place_of};
+
+    ghost Value = { Ring };
+
+    ghost view = { λ n. let order = along (memory n.nodes.items) (length n.nodes.items) n.first in record { nodes = n.nodes.items; order = order; room = n.most - length order } };
+
+    ghost invariant = { λ n. let order = along (memory n.nodes.items) (length n.nodes.items) n.first in IsRing n.nodes.items order n.free.items (place_of n.pairs) n.first n.last × IsRoomy n.most (length n.nodes.items) (vec_capacity n.nodes) (vec_capacity n.free) n.pairs.room (length order) };
+}
+
+impl Nodes {
+    pub(crate) fn new(alloc: Global) -> Nodes
+        ensures { entries result ≡ [] }
+    {
+        Nodes {
+            nodes: Vec::new(alloc),
+            free: Vec::new(alloc),
+            pairs: Pairs::new(alloc),
+            first: None,
+            last: None,
+            most: 0,
+        }
+    }
+
+    /// The place of the first node: `None` exactly where the list is empty.
+    pub fn first(&self) -> Option<NodeNo>
+        ensures { result ≡ first_or None self.now.order }
+    {
+        self.first
+    }
+
+    /// The node at a place that is in use. It counts as a step.
+    pub fn read<L: Ledger>(&self, at: NodeNo, steps: &mut Steps<L>) -> &Node
+        requires { IsIn at self.now.order }
+        ensures node { result.now ≡ at_place self.now at }
+        ensures step { steps.new ≡ steps.old + 1 }
+    {
+        steps.tick();
+        &self.nodes[at.0 as usize]
+    }
+
+    /// The place of an account's node: `None` exactly where the account is not in the list. It counts as a step.
+    pub fn at<L: Ledger>(&self, id: u32, steps: &mut Steps<L>) -> Option<NodeNo>
+        ensures there { IfSome result (λ p. IsIn p self.now.order × ((at_place self.now p).account ≡ id)) }
+        ensures none { IfNone result (key_in (entries self.now) id ≡ None) }
+        ensures place { result ≡ node_of (memory self.now.nodes) self.now.order id }
+        ensures step { steps.new ≡ steps.old + 1 }
+    {
+        steps.tick();
+        let _ = &self.first;
+        self.pairs.find(id)
+    }
+
+    /// The nodes, of which going along from the first visits each entry.
+    pub(crate) fn visited(&self) -> &Nodes
+        ensures same { result.now ≡ self.now }
+        ensures all { Visits self.now (first_or None self.now.order) None (entries self.now) }
+    {
+        let _ = &self.first;
+        self
+    }
+
+    // ---- where an entry goes
+
+    /// The gap into which an entry belongs. With a tight hint it is the hinted one; else one goes along from the first.
+    fn gap<L: Ledger>(&self, entry: (i128, u32), hint: &Hint, steps: &mut Steps<L>) -> Gap
+        requires { key_in (entries self.now) entry.1 ≡ None }
+        ensures gap { IsGap self.now entry result }
+        ensures tight { IsTight (entries self.now) entry hint.now.prev hint.now.next → steps.new ≤ steps.old + 3 }
+        ensures any { steps.new ≤ steps.old + (length (entries self.now) + 3) }
+    {
+        match self.hinted(entry, hint, steps) {
+            Some(gap) => gap,
+            None => self.walk(entry, steps),
+        }
+    }
+
+    // The gap between the two accounts of a hint, where they are neighbours and the entry belongs between them.
+    fn hinted<L: Ledger>(
+        &self,
+        entry: (i128, u32),
+        hint: &Hint,
+        steps: &mut Steps<L>,
+    ) -> Option<Gap>
+        ensures gap { IfSome result (λ g. IsGap self.now entry g) }
+        ensures tight { IsTight (entries self.now) entry hint.now.prev hint.now.next → IsSome result }
+        ensures steps { steps.new ≤ steps.old + 3 }
+    {
+        let gap = self.begun(entry, hint.prev, steps)?;
+        self.ending(gap, entry, hint.next, steps)
+    }
+
+    // The gap behind an account, or before all where there is none.
+    fn begun<L: Ledger>(
+        &self,
+        entry: (i128, u32),
+        prev: Option<u32>,
+        steps: &mut Steps<L>,
+    ) -> Option<Gap>
+        ensures gap { IfSome result (λ g. IsBehind self.now entry g) }
+        ensures tight { (front back : List NodeNo) → self.now.order ≡ front ++ back → prev ≡ account_of_place self.now (last_or None front) → IfSome (last_or None front) (λ p. rank_order (entry_of (at_place self.now p)) entry ≡ Less) → result ≡ Some (gap_between front back) }
+        ensures steps { steps.new ≤ steps.old + 2 }
+    {
+        match prev {
+            Some(id) => self.behind(entry, id, steps),
+            None => Some(self.front()),
+        }
+    }
+
+    // The gap before all entries.
+    fn front(&self) -> Gap
+        ensures { result ≡ gap_between [] self.now.order }
+    {
+        Gap {
+            previous: None,
+            next: self.first,
+        }
+    }
+
+    // The gap behind an account, where the entry comes after it.
+    fn behind<L: Ledger>(&self, entry: (i128, u32), id: u32, steps: &mut Steps<L>) -> Option<Gap>
+        ensures gap { IfSome result (λ g. IsBehind self.now entry g) }
+        ensures tight { (front back : List NodeNo) → self.now.order ≡ front ++ back → Some id ≡ account_of_place self.now (last_or None front) → IfSome (last_or None front) (λ p. rank_order (entry_of (at_place self.now p)) entry ≡ Less) → result ≡ Some (gap_between front back) }
+        ensures steps { steps.new ≤ steps.old + 2 }
+    {
+        let _ = &self.first;
+        let at = self.at(id, steps)?;
+        let node = self.read(at, steps);
+        if comes_before(node.entry(), entry) {
+            Some(Gap {
+                previous: Some(at),
+                next: node.next,
+            })
+        } else {
+            None
+        }
+    }
+
+    // The same gap, where the entry comes before what is behind it, which is of this account.
+    fn ending<L: Ledger>(
+        &self,
+        gap: Gap,
+        entry: (i128, u32),
+        next: Option<u32>,
+        steps: &mut Steps<L>,
+    ) -> Option<Gap>
+        requires { IsBehind self.now entry gap }
+        ensures gap { IfSome result (λ g. IsGap self.now entry g) }
+        ensures tight { next ≡ account_of_place self.now gap.next → IsAhead self.now entry gap → IsSome result }
+        ensures steps { steps.new ≤ steps.old + 1 }
+    {
+        match gap.next {
+            Some(at) => {
+                let node = self.read(at, steps);
+                if next == Some(node.account) && comes_before(entry, node.entry()) {
+                    Some(gap)
+                } else {
+                    None
+                }
+            }
+            None => { if next.is_none() { Some(gap) } else { None } }
+        }
+    }
+
+    // Goes along from the first, until the entry comes before what is next.
+    fn walk<L: Ledger>(&self, entry: (i128, u32), steps: &mut Steps<L>) -> Gap
+        requires { key_in (entries self.now) entry.1 ≡ None }
+        ensures gap { IsGap self.now entry result }
+        ensures steps { steps.new ≤ steps.old + length self.now.order }
+    {
+        let mut gap = self.front();
+        for _passed in 0..self.nodes.len() {
+            match self.turn(gap, entry, steps) {
+                Some(further) => gap = further,
+                None => return gap,
+            }
+        }
+        gap
+    }
+
+    // The gap one place further, where the entry comes after what is between.
+    fn turn<L: Ledger>(&self, gap: Gap, entry: (i128, u32), steps: &mut Steps<L>) -> Option<Gap>
+        requires absent { key_in (entries self.now) entry.1 ≡ None }
+        requires behind { IsBehind self.now entry gap }
+        ensures on { IfSome result (λ further. (b : IsBehind self.now entry gap) → (c : IsBehind self.now entry further) × (length c.front ≡ length b.front + 1)) }
+        ensures stop { IfNone result (IsAhead self.now entry gap) }
+        ensures steps { steps.new ≤ steps.old + 1 }
+        ensures ended { gap.next ≡ None → steps.new ≡ steps.old }
+    {
+        let _ = &self.first;
+        match gap.next {
+            Some(at) => {
+                let node = self.read(at, steps);
+                if comes_before(node.entry(), entry) {
+                    Some(Gap {
+                        previous: Some(at),
+                        next: node.next,
+                    })
+                } else {
+                    None
+                }
+            }
+            None => None,
+        }
+    }
+
+    // ---- changes
+
+    /// Room for so many more entries, in all three. The entries stay.
+    pub(crate) fn reserve(&mut self, more: usize) -> Result<(), NoMemory>
+        ensures same { entries self.new ≡ entries self.old }
+        ensures room { OnOk result (more ≤ self.new.room) }
+        ensures kept { self.old.room ≤ self.new.room }
+        ensures had { more ≤ self.old.room → IsOk result }
+    {
+        let listed = self.nodes.len() - self.free.len();
+        if more <= self.most - listed {
+            return Ok(());
+        }
+        if more > u32::MAX as usize - listed {
+            return Err(NoMemory);
+        }
+        if self.nodes.reserve(more).is_err() || self.free.reserve(listed + more).is_err() {
+            return Err(NoMemory);
+        }
+        self.pairs.reserve(more)?;
+        self.most = listed + more;
+        Ok(())
+    }
+
+    /// Puts an entry where it belongs.
+    pub(crate) fn put<L: Ledger>(&mut self, key: i128, id: u32, hint: &Hint, steps: &mut Steps<L>)
+        requires absent { key_in (entries self.old) id ≡ None }
+        requires room { 1 ≤ self.old.room }
+        ensures list { entries self.new ≡ with_ranked (entries self.old) (key, id) }
+        ensures room { self.new.room + 1 ≡ self.old.room }
+        ensures tight { IsTight (entries self.old) (key, id) hint.now.prev hint.now.next → steps.new ≤ steps.old + 4 }
+        ensures any { steps.new ≤ steps.old + (length (entries self.old) + 4) }
+    {
+        let gap = self.gap((key, id), hint, steps);
+        steps.tick();
+        self.put_between(key, id, gap);
+    }
+
+    // Puts an entry into the gap into which it belongs.
+    fn put_between(&mut self, key: i128, id: u32, gap: Gap)
+        requires absent { key_in (entries self.old) id ≡ None }
+        requires room { 1 ≤ self.old.room }
+        requires gap { IsGap self.old (key, id) gap }
+        ensures list { entries self.new ≡ with_ranked (entries self.old) (key, id) }
+        ensures room { self.new.room + 1 ≡ self.old.room }
+    {
+        let node = Node {
+            key,
+            account: id,
+            previous: gap.previous,
+            next: gap.next,
+        };
+        let at = settle(&mut self.nodes, &mut self.free, node);
+        self.pairs.put(id, at);
+        join(
+            &mut self.nodes,
+            &mut self.first,
+            &mut self.last,
+            gap,
+            Some(at),
+            Some(at),
+        );
+    }
+
+    /// Takes an account's entry out. The steps are counted for themselves.
+    pub(crate) fn take<L: Ledger>(&mut self, id: u32, blank: Blank)
+        requires there { IsSome (key_in (entries self.old) id) }
+        requires name { blank.name ≡ L.name }
+        requires parts { blank.parts ≡ L.parts }
+        requires one { L.parts ≡ 1 }
+        ensures list { entries self.new ≡ without_ranked (entries self.old) id }
+        ensures room { self.new.room ≡ self.old.room + 1 }
+    {
+        let mut steps = Steps::<L>::new(blank);
+        match self.at(id, &mut steps) {
+            Some(at) => {
+                let node = *self.read(at, &mut steps);
+                self.take_between(id, at, node.previous, node.next);
+            }
+            None => unreachable!(),
+        }
+    }
+
+    // Takes out the node of an account, which is at this place between these two.
+    fn take_between(&mut self, id: u32, at: NodeNo, previous: Option<NodeNo>, next: Option<NodeNo>)
+        requires there { Some at ≡ node_of (memory self.old.nodes) self.old.order id }
+        requires previous { previous ≡ (at_place self.old at).previous }
+        requires next { next ≡ (at_place self.old at).next }
+        ensures list { entries self.new ≡ without_ranked (entries self.old) id }
+        ensures room { self.new.room ≡ self.old.room + 1 }
+    {
+        self.free.push_reserved(at);
+        self.pairs.take(id);
+        join(
+            &mut self.nodes,
+            &mut self.first,
+            &mut self.last,
+            Gap { previous, next },
+            next,
+            previous,
+        );
+    }
+
+    // ---- reading, with steps counted for themselves
+
+    /// The account of the last entry.
+    pub(crate) fn end<L: Ledger>(&self, blank: Blank) -> Option<u32>
+        requires name { blank.name ≡ L.name }
+        requires parts { blank.parts ≡ L.parts }
+        requires one { L.parts ≡ 1 }
+        ensures { result ≡ last_account (entries self.now) }
+    {
+        let mut steps = Steps::<L>::new(blank);
+        let last = self.last?;
+        Some(self.read(last, &mut steps).account)
+    }
+
+    /// The account of the entry before an account's.
+    pub(crate) fn before<L: Ledger>(&self, id: u32, blank: Blank) -> Option<u32>
+        requires there { IsSome (key_in (entries self.now) id) }
+        requires name { blank.name ≡ L.name }
+        requires parts { blank.parts ≡ L.parts }
+        requires one { L.parts ≡ 1 }
+        ensures { result ≡ before_in (entries self.now) id }
+    {
+        let mut steps = Steps::<L>::new(blank);
+        let _ = &self.first;
+        let at = self.at(id, &mut steps)?;
+        let previous = self.read(at, &mut steps).previous?;
+        Some(self.read(previous, &mut steps).account)
+    }
+
+    /// The key of an account.
+    pub(crate) fn key_of<L: Ledger>(&self, id: u32, blank: Blank) -> Option<i128>
+        requires name { blank.name ≡ L.name }
+        requires parts { blank.parts ≡ L.parts }
+        requires one { L.parts ≡ 1 }
+        ensures { result ≡ key_in (entries self.now) id }
+    {
+        let mut steps = Steps::<L>::new(blank);
+        let at = self.at(id, &mut steps)?;
+        Some(self.read(at, &mut steps).key())
+    }
+}
