@@ -9,7 +9,7 @@ use Rattle.liq_journal.specs.declared.damage.What.{What}
 use Rattle.liq_journal.specs.declared.damage.What.TheVariants.{Digest, Form}
 use Rattle.liq_journal.specs.declared.answers.LookFault.{LookFault}
 use Rattle.liq_journal.specs.declared.answers.LookFault.TheVariants as fault
-use Rattle.liq_journal.specs.Bodies.{IsJournalOf, IsAccepted, body_at}
+use Rattle.liq_journal.specs.Bodies.{IsJournalOf, IsAccepted, IsRecorded, body_at}
 use Rattle.liq_journal.specs.Crash.{IsBodyOf, is_odd}
 use Rattle.liq_journal.specs.Records.{records, begins_whole}
 use Rattle.liq_journal.specs.Settled.{JournalOn}
@@ -44,6 +44,11 @@ body_spells generation index place body stored command size is =
     let from = from_command place (command_of (take 96 raw)) command (by_digest (not (bytes_eq (drop 96 raw) (record_digest generation index (take 96 raw)))) (Digest (drop 96 raw) (record_digest generation index (take 96 raw))) place (command_of (take 96 raw)) command is) in
     record { spelled = ap command_of (sym front) ∙ from.0; no_rotation = from.1 }
 
+-- the command that is read spells its body
+pub spells : (generation index place : ℕ) (body stored : List ℕ) (result : Result Command What) → length body ≡ 96 → MatchResult result (λ c. record_on generation index place (body ++ stored) ≡ Ok c) (λ what. record_on generation index place (body ++ stored) ≡ Err what) → MatchResult result (IsBodyOf body) (λ what. record_on generation index place (body ++ stored) ≡ Err what)
+spells generation index place body stored (Ok command) size is = body_spells generation index place body stored command size is
+spells generation index place body stored (Err what) size is = is
+
 -- 128 bytes that were read at a place
 module _ (told : Option (List ℕ)) (generation index place n : ℕ) (bytes body stored : List ℕ) (read : IfSome told (λ held. (n ≡ min 128 (length held - (place + 1))) × (take n bytes ≡ take n (drop (place + 1) held)))) (size : length bytes ≡ 128) (front : body ≡ take 96 bytes) (behind : stored ≡ drop 96 bytes) where
   whole : body ++ stored ≡ bytes
@@ -66,6 +71,10 @@ module _ (told : Option (List ℕ)) (generation index place n : ℕ) (bytes body
   pub told_fault : (what : What) → record_on generation index (place + 1) (body ++ stored) ≡ Err what → IfSome told (λ held. place + 129 ≤ length held → IsFaultRead generation index (place + 1) held (fault.Damaged (record { index = index; what = what })))
   told_fault what is = if_some told (λ held. (n ≡ min 128 (length held - (place + 1))) × (take n bytes ≡ take n (drop (place + 1) held))) (λ held. place + 129 ≤ length held → IsFaultRead generation index (place + 1) held (fault.Damaged (record { index = index; what = what })))
       (λ held r long. (refl, ap (record_on generation index (place + 1)) (sym (whole ∙ raw_is held r long)) ∙ is)) read
+
+  pub told_command : (command : Command) → IsBodyOf body command → IfSome told (λ held. place + 129 ≤ length held → IsBodyOf (piece (place + 1) 96 held) command)
+  told_command command is = if_some told (λ held. (n ≡ min 128 (length held - (place + 1))) × (take n bytes ≡ take n (drop (place + 1) held))) (λ held. place + 129 ≤ length held → IsBodyOf (piece (place + 1) 96 held) command)
+      (λ held r long. subst (λ (l : List ℕ). IsBodyOf l command) (front ∙ ap (take 96) (raw_is held r long) ∙ first_96 (drop (place + 1) held)) is) read
 
 -- the record number k behind these, counted from 0
 record RecordAt (generation index place : ℕ) (bytes : List ℕ) (commands : List Command) (k : ℕ) : Type 0 where
@@ -153,6 +162,15 @@ module _ (generation start index : ℕ) (held : List ℕ) (w : Written) (is : Is
   accepted (Err (fault.Damaged damage)) told = let t = told long in let e = sym read_is ∙ t.1 in absurd (cc (e))
   accepted (Ok body) told = let t = told long in record { there = t.0; command = at_index.command; recorded = at_index.recorded; spelled = subst (λ (l : List ℕ). IsBodyOf l at_index.command) (sym t.0) body_is }
 
+  pub recorded : (result : Result Command LookFault) → (start + 129 * (index - 1) + 129 ≤ length held → MatchResult result (IsBodyOf (piece (body_at start index) 96 held)) (IsFaultRead generation index (body_at start index) held)) → MatchResult result (IsRecorded w index) (λ why. why ≡ fault.DiskFault)
+  recorded (Err fault.DiskFault) told = refl
+  recorded (Err (fault.Damaged damage)) told = let t = told long in let e = sym read_is ∙ t.1 in absurd (cc (e))
+  recorded (Ok command) told =
+      let read = (told long).spelled in
+      let here = body_is.spelled in
+      let same : at_index.command ≡ command = cc (read, here) in
+      at_index.recorded ∙ ap Some same
+
 -- the clause of a journal
 abbrev pub Accepts : {D : Type 0} → (D → Option (List ℕ)) → JournalOn D → ℕ → Result (List ℕ) LookFault → Type 0
 Accepts seen j index result = (held : List ℕ) (w : Written) → seen j.disk ≡ Some held → IsJournalOf j.generation j.start held w → index ≤ length w.commands → MatchResult result (IsAccepted j.start held w index) (λ why. why ≡ fault.DiskFault)
@@ -160,3 +178,11 @@ Accepts seen j index result = (held : List ℕ) (w : Written) → seen j.disk �
 pub accepts : {D : Type 0} (seen : D → Option (List ℕ)) (j : JournalOn D) (index : ℕ) (result : Result (List ℕ) LookFault) → 1 ≤ index → IfSome (seen j.disk) (λ held. j.start + 129 * (index - 1) + 129 ≤ length held → MatchResult result (IsBodyRead j.generation index (body_at j.start index) held) (IsFaultRead j.generation index (body_at j.start index) held)) → Accepts seen j index result
 accepts seen j index result first told held w is_told is there =
     accepted j.generation j.start index held w is first there result (subst (λ (o : Option (List ℕ)). IfSome o (λ l. j.start + 129 * (index - 1) + 129 ≤ length l → MatchResult result (IsBodyRead j.generation index (body_at j.start index) l) (IsFaultRead j.generation index (body_at j.start index) l))) is_told told)
+
+-- the same of a command
+abbrev pub Records : {D : Type 0} → (D → Option (List ℕ)) → JournalOn D → ℕ → Result Command LookFault → Type 0
+Records seen j index result = (held : List ℕ) (w : Written) → seen j.disk ≡ Some held → IsJournalOf j.generation j.start held w → index ≤ length w.commands → MatchResult result (IsRecorded w index) (λ why. why ≡ fault.DiskFault)
+
+pub records_so : {D : Type 0} (seen : D → Option (List ℕ)) (j : JournalOn D) (index : ℕ) (result : Result Command LookFault) → 1 ≤ index → IfSome (seen j.disk) (λ held. j.start + 129 * (index - 1) + 129 ≤ length held → MatchResult result (IsBodyOf (piece (body_at j.start index) 96 held)) (IsFaultRead j.generation index (body_at j.start index) held)) → Records seen j index result
+records_so seen j index result first told held w is_told is there =
+    recorded j.generation j.start index held w is first there result (subst (λ (o : Option (List ℕ)). IfSome o (λ l. j.start + 129 * (index - 1) + 129 ≤ length l → MatchResult result (IsBodyOf (piece (body_at j.start index) 96 l)) (IsFaultRead j.generation index (body_at j.start index) l))) is_told told)

@@ -4,7 +4,7 @@ ghost use Rattle.std.specs.Result.{MatchResult};
 ghost use Rattle.liq_types.specs.declared.requests.Command.{Command};
 ghost use Rattle.liq_outside.specs.Disk.{GoesOn, LeavesOnly, LeftNow, Only};
 ghost use Rattle.liq_outside.specs.Faults.{HasCause};
-ghost use Rattle.liq_journal.specs.Bodies.{IsAccepted, IsBodyFault, IsJournalOf, body_at};
+ghost use Rattle.liq_journal.specs.Bodies.{IsAccepted, IsBodyFault, IsJournalOf, IsRecorded, body_at};
 ghost use Rattle.liq_journal.specs.Causes.{CauseOfOpen, Counted, CountsLook};
 ghost use Rattle.liq_journal.specs.Crash.{BeforeOrAfter, CrashOfCreate, IsBodyOf, ReadsOfCreate, Stands, beginning, is_odd};
 ghost use Rattle.liq_journal.specs.Looked.{Looked};
@@ -18,9 +18,10 @@ use crate::create::make;
 use crate::digests::record_bytes;
 use crate::header::HEADER;
 use crate::open::open_on;
-use crate::records::read_body;
+use crate::records::{read_body, read_command};
 use crate::scanned::Scanned;
 use liq_outside::Disk;
+use liq_types::Command;
 use std::alloc::Global;
 use std::marker::Model;
 
@@ -189,6 +190,32 @@ impl<D: Disk> Journal<D> {
     {
         let place = self.start + RECORD * (index - 1);
         read_body(&mut self.disk, self.generation, index, place)
+    }
+
+    /// The command of a record, whose number is from 1 to `records`. The opening has tested it, so its digest is not
+    /// worked out again, unless its body is no command. The journal and its disk stay as they are.
+    ///
+    /// `Damaged` comes only where the record's bytes have another digest than the one behind them, or are
+    /// no command or a rotation, and never where the disk tells its content and this is the journal.
+    pub fn command(&mut self, index: u64) -> Result<Command, LookFault>
+        requires from_one { 1 ≤ index }
+        requires there { index ≤ self.old.count }
+
+        ensures generation { self.new.generation ≡ self.old.generation }
+        ensures start { self.new.start ≡ self.old.start }
+        ensures records { self.new.count ≡ self.old.count }
+        ensures command { IfOk result (λ command. (body : List ℕ) × IsBodyOf body command) }
+        ensures damaged { IfErr result (IsBodyFault self.old.generation index (body_at self.old.start index)) }
+
+        // Where the disk tells its content.
+        ensures accepted { (held : List ℕ) (w : Written) → D.seen self.old.disk ≡ Some held → IsJournalOf self.old.generation self.old.start held w → index ≤ length w.commands
+            → MatchResult result (IsRecorded w index) (λ why. why ≡ LookFault.DiskFault) }
+
+        ensures looked { Looked D.seen D.moment D.left_at self.old.disk self.new.disk }
+        ensures cause { CountsLook result (D.faults self.old.disk) (D.faults self.new.disk) }
+    {
+        let gate = self.start + RECORD * (index - 1);
+        read_command(&mut self.disk, self.generation, index, gate)
     }
 
     /// How many records there are.

@@ -47,6 +47,23 @@ pub fn tested(
     }
 }
 
+// The command that the body spells, which begins at the place; or the record's first fault.
+fn spelled(
+    body: &[u8; 96],
+    stored: &[u8; 32],
+    generation: u64,
+    index: u64,
+    place: u64,
+) -> Result<Command, What>
+    requires { place ≤ 2 ^ 40 }
+    ensures { MatchResult result (IsBodyOf body.now) (λ what. record_on generation index place (body.now ++ stored.now) ≡ Err what) }
+{
+    match decode(body) {
+        Ok(command) if !matches!(command.call, Call::Rotate) => Ok(command),
+        _ => tested(body, stored, generation, index, place),
+    }
+}
+
 // The body of the record whose gate stands at the place, once it is tested; `None` where no whole
 // record stands there behind an open gate.
 pub fn read_record<D: Disk>(
@@ -113,6 +130,33 @@ pub fn read_body<D: Disk>(
     let (body, stored) = split(&bytes);
     match tested(&body, &stored, generation, index, place + 1) {
         Ok(_) => Ok(body),
+        Err(what) => Err(LookFault::Damaged(Damage { index, what })),
+    }
+}
+
+// The command of the record whose gate stands at the place, whatever the gate is: a record that was tested already, so that its
+// digest is worked out only where its body is no command.
+pub fn read_command<D: Disk>(
+    disk: &mut D,
+    generation: u64,
+    index: u64,
+    place: u64,
+) -> Result<Command, LookFault>
+    requires { place < 2 ^ 40 }
+    ensures looked { Looked D.seen D.moment D.left_at disk.old disk.new }
+    ensures command { IfOk result (λ command. (body : List ℕ) × IsBodyOf body command) }
+    ensures damaged { IfErr result (IsBodyFault generation index (place + 1)) }
+    ensures told { IfSome (D.seen disk.old) (λ held. place + 129 ≤ length held → MatchResult result (IsBodyOf (piece (place + 1) 96 held)) (IsFaultRead generation index (place + 1) held)) }
+    ensures cause { CountsLook result (D.faults disk.old) (D.faults disk.new) }
+{
+    let mut bytes = [0; 128];
+    match disk.read_at(place + 1, &mut bytes) {
+        Ok(_) => {}
+        Err(_) => return Err(LookFault::DiskFault),
+    }
+    let (body, stored) = split(&bytes);
+    match spelled(&body, &stored, generation, index, place + 1) {
+        Ok(command) => Ok(command),
         Err(what) => Err(LookFault::Damaged(Damage { index, what })),
     }
 }
