@@ -40,3 +40,6 @@ pub body_built : (body : List ℕ) (of read : Command) → IsBodyOf body of → 
 body_built body of read is came =
     let same : of ≡ read = (let spelled = is.spelled in cc (spelled, came)) in
     all_built read.call (never_rotates read.call (subst (λ (c : Command). is_rotate c.call ≡ false) same is.no_rotation))
+
+pub spelled_built : (body : List ℕ) (command : Command) → IsBodyOf body command → IsTrue (built (Do command))
+spelled_built body command is = body_built body command command is is.spelled

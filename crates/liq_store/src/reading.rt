@@ -42,6 +42,28 @@ pub fn read_command<D: Disk>(journal: &mut Journal<D>, index: u64) -> Result<Com
     Ok(command)
 }
 
+// The command of the record of this number, which the opening has tested.
+pub fn tested_command<D: Disk>(
+    journal: &mut Journal<D>,
+    index: u64,
+) -> Result<Command, AcceptedFault>
+    requires from_one { 1 ≤ index }
+    requires there { index ≤ journal.old.count }
+    ensures looked { Looked D.seen D.moment D.left_at journal.old.disk journal.new.disk }
+    ensures same { journal.new ≡ record journal.old { disk = journal.new.disk } }
+    ensures command { IfOk result (λ c. (held : List ℕ) (w : Written) → D.seen journal.old.disk ≡ Some held → IsJournalOf journal.old.generation journal.old.start held w → index ≤ length w.commands
+        → slice_get w.commands (index - 1) ≡ Some c) }
+    ensures built { IfOk result (λ c. IsTrue (built (Do c))) }
+    ensures readable { IfErr result (λ why. (held : List ℕ) (w : Written) → D.seen journal.old.disk ≡ Some held → IsJournalOf journal.old.generation journal.old.start held w → index ≤ length w.commands → IsReadable why) }
+    ensures cause { CountsReading result (D.faults journal.old.disk) (D.faults journal.new.disk) }
+{
+    match journal.command(index) {
+        Ok(command) => Ok(command),
+        Err(LookFault::DiskFault) => Err(AcceptedFault::DiskFault),
+        Err(LookFault::Damaged(damage)) => Err(AcceptedFault::Damaged(damage)),
+    }
+}
+
 // The commands of all of a journal's records, in order.
 pub fn read_commands<D: Disk>(
     alloc: Global,

@@ -14,7 +14,7 @@ ghost use Rattle.liq_store.specs.Replays.{IsOutcome, Replays};
 
 use crate::answers::AcceptedFault;
 use crate::preparing::{Prepared, prepare};
-use crate::reading::read_command;
+use crate::reading::tested_command;
 use liq_core::Protocol;
 use liq_journal::{Damage, Journal, What};
 use liq_outside::Disk;
@@ -71,7 +71,7 @@ fn redo_record<D: Disk, L: Ledger>(
     ensures generation { OnOk result (protocol.new.image.generation ≡ protocol.old.image.generation) }
     ensures cause { CountsReading result (D.faults journal.old.disk) (D.faults journal.new.disk) }
 {
-    let command = match read_command(journal, index) {
+    let command = match tested_command(journal, index) {
         Ok(command) => command,
         Err(why) => return Err(why),
     };
