@@ -6,6 +6,7 @@ mod HeaderFound
 pub mod Heading
 pub mod Looks
 mod Opening
+mod Parting
 pub mod Reading
 mod Scanning
 mod Settling

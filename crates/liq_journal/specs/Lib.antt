@@ -6,6 +6,7 @@ pub mod Header
 pub mod Look
 pub mod Looked
 pub mod Opened
+pub mod Parts
 pub mod Records
 pub mod Settled
 pub mod Tested

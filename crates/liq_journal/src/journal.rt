@@ -9,10 +9,12 @@ ghost use Rattle.liq_journal.specs.Causes.{CauseOfOpen, Counted, CountsLook};
 ghost use Rattle.liq_journal.specs.Crash.{BeforeOrAfter, CrashOfCreate, IsBodyOf, ReadsOfCreate, Stands, beginning, is_odd};
 ghost use Rattle.liq_journal.specs.Looked.{Looked};
 ghost use Rattle.liq_journal.specs.Opened.{CrashOfOpen, IsAtRest, IsKept, IsOpened, IsUnshut, IsWhyOf, ReadsOfOpen};
+ghost use Rattle.liq_journal.specs.Parts.{IsPartOf};
 ghost use Rattle.liq_journal.specs.Settled.{IsSettled};
 ghost use Rattle.liq_journal.specs.Written.{Open, Written, and_then, found_on, is_generation, is_size};
 
 use crate::answers::{CreateFault, DiskFault, LookFault, OpenFault, OpenWhy};
+use crate::block::Block;
 use crate::bytes::write_gated;
 use crate::create::make;
 use crate::digests::record_bytes;
@@ -193,13 +195,18 @@ impl<D: Disk> Journal<D> {
     }
 
     /// The command of a record, whose number is from 1 to `records`. The opening has tested it, so its digest is not
-    /// worked out again, unless its body is no command. The journal and its disk stay as they are.
+    /// worked out again, unless its body is no command. It is read through a block, which is a part of this disk
+    /// or has no bytes, and is filled again where the record isn't in it. The journal and its disk stay as they are.
     ///
     /// `Damaged` comes only where the record's bytes have another digest than the one behind them, or are
     /// no command or a rotation, and never where the disk tells its content and this is the journal.
-    pub fn command(&mut self, index: u64) -> Result<Command, LookFault>
+    pub fn command(&mut self, block: &mut Block, index: u64) -> Result<Command, LookFault>
         requires from_one { 1 ≤ index }
         requires there { index ≤ self.old.count }
+        requires part { IfSome (D.seen self.old.disk) (IsPartOf block.old) }
+
+        // The block is one of the disk's also afterwards.
+        ensures part { IfSome (D.seen self.new.disk) (IsPartOf block.new) }
 
         ensures generation { self.new.generation ≡ self.old.generation }
         ensures start { self.new.start ≡ self.old.start }
@@ -215,7 +222,7 @@ impl<D: Disk> Journal<D> {
         ensures cause { CountsLook result (D.faults self.old.disk) (D.faults self.new.disk) }
     {
         let gate = self.start + RECORD * (index - 1);
-        read_command(&mut self.disk, self.generation, index, gate)
+        read_command(&mut self.disk, block, self.generation, index, gate)
     }
 
     /// How many records there are.

@@ -3,6 +3,7 @@
 #![tactic(auto)]
 
 mod answers;
+mod block;
 mod bytes;
 mod create;
 mod damage;
@@ -17,6 +18,7 @@ mod records;
 mod scanned;
 
 pub use answers::{CreateFault, DiskFault, Look, LookFault, OpenFault, OpenWhy};
+pub use block::Block;
 pub use damage::{Damage, What};
 pub use journal::Journal;
 pub use looking::look;

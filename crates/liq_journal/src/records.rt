@@ -6,12 +6,14 @@ ghost use Rattle.liq_journal.specs.Bodies.{IsBodyFault};
 ghost use Rattle.liq_journal.specs.Causes.{CountsLook};
 ghost use Rattle.liq_journal.specs.Counted.{AreRecords, IsFaultIn};
 ghost use Rattle.liq_journal.specs.Looked.{Looked};
+ghost use Rattle.liq_journal.specs.Parts.{IsPartOf};
 ghost use Rattle.liq_journal.specs.Records.{begins_whole};
 ghost use Rattle.liq_journal.specs.Crash.{IsBodyOf};
 ghost use Rattle.liq_journal.specs.Tested.{IsBodyRead, IsFaultOf, IsFaultRead, IsTested};
 ghost use Rattle.liq_journal.specs.Written.{piece, record_on};
 
 use crate::answers::LookFault;
+use crate::block::Block;
 use crate::damage::{Damage, What};
 use crate::digests::record_digest;
 use liq_outside::Disk;
@@ -66,20 +68,23 @@ fn spelled(
 
 // The body of the record whose gate stands at the place, once it is tested; `None` where no whole
 // record stands there behind an open gate.
-pub fn read_record<D: Disk>(
+fn read_record<D: Disk>(
     disk: &mut D,
+    block: &mut Block,
     generation: u64,
     index: u64,
     place: u64,
 ) -> Result<Option<[u8; 96]>, LookFault>
-    requires { place < 2 ^ 40 }
+    requires limit { place < 2 ^ 40 }
+    requires part { IfSome (D.seen disk.old) (IsPartOf block.old) }
+    ensures part { IfSome (D.seen disk.new) (IsPartOf block.new) }
     ensures looked { Looked D.seen D.moment D.left_at disk.old disk.new }
     ensures tested { IfOk result (λ body. IfSome (D.seen disk.old) (λ held. IsTested generation index place held body)) }
     ensures fault { IfErr result (λ why. IfSome (D.seen disk.old) (λ held. IsFaultOf generation index place held why)) }
     ensures cause { CountsLook result (D.faults disk.old) (D.faults disk.new) }
 {
     let mut bytes = [0; 129];
-    let count = match disk.read_at(place, &mut bytes) {
+    let count = match block.read_at(disk, place, &mut bytes) {
         Ok(count) => count,
         Err(_) => return Err(LookFault::DiskFault),
     };
@@ -138,11 +143,14 @@ pub fn read_body<D: Disk>(
 // digest is worked out only where its body is no command.
 pub fn read_command<D: Disk>(
     disk: &mut D,
+    block: &mut Block,
     generation: u64,
     index: u64,
     place: u64,
 ) -> Result<Command, LookFault>
-    requires { place < 2 ^ 40 }
+    requires limit { place < 2 ^ 40 }
+    requires part { IfSome (D.seen disk.old) (IsPartOf block.old) }
+    ensures part { IfSome (D.seen disk.new) (IsPartOf block.new) }
     ensures looked { Looked D.seen D.moment D.left_at disk.old disk.new }
     ensures command { IfOk result (λ command. (body : List ℕ) × IsBodyOf body command) }
     ensures damaged { IfErr result (IsBodyFault generation index (place + 1)) }
@@ -150,7 +158,7 @@ pub fn read_command<D: Disk>(
     ensures cause { CountsLook result (D.faults disk.old) (D.faults disk.new) }
 {
     let mut bytes = [0; 128];
-    match disk.read_at(place + 1, &mut bytes) {
+    match block.read_at(disk, place + 1, &mut bytes) {
         Ok(_) => {}
         Err(_) => return Err(LookFault::DiskFault),
     }
@@ -171,8 +179,9 @@ pub fn count_records<D: Disk>(disk: &mut D, generation: u64, start: u64) -> Resu
     ensures fault { IfErr result (λ why. IfSome (D.seen disk.old) (λ held. IsFaultIn generation start held why)) }
     ensures cause { CountsLook result (D.faults disk.old) (D.faults disk.new) }
 {
+    let mut block = Block::new();
     for count in 0..1_000_001 {
-        match read_record(disk, generation, count + 1, start + 129 * count) {
+        match read_record(disk, &mut block, generation, count + 1, start + 129 * count) {
             Ok(Some(_)) => {}
             Ok(None) => return Ok(count),
             Err(why) => return Err(why),

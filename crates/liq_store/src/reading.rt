@@ -6,13 +6,14 @@ ghost use Rattle.liq_types.specs.declared.requests.Request.TheVariants.{Do};
 ghost use Rattle.liq_rules.specs.Step.{built};
 ghost use Rattle.liq_journal.specs.Bodies.{IsJournalOf};
 ghost use Rattle.liq_journal.specs.Looked.{Looked};
+ghost use Rattle.liq_journal.specs.Parts.{IsPartOf};
 ghost use Rattle.liq_journal.specs.Written.{Written};
 ghost use Rattle.liq_store.specs.Answering.{IsReadable, IsUnreadable};
 ghost use Rattle.liq_store.specs.Reading.{CountsReading};
 ghost use Rattle.liq_store.specs.Within.{HasRecords};
 
 use crate::answers::AcceptedFault;
-use liq_journal::{Journal, LookFault};
+use liq_journal::{Block, Journal, LookFault};
 use liq_outside::Disk;
 use liq_types::Command;
 use liq_wire::decode;
@@ -45,10 +46,13 @@ pub fn read_command<D: Disk>(journal: &mut Journal<D>, index: u64) -> Result<Com
 // The command of the record of this number, which the opening has tested.
 pub fn tested_command<D: Disk>(
     journal: &mut Journal<D>,
+    block: &mut Block,
     index: u64,
 ) -> Result<Command, AcceptedFault>
     requires from_one { 1 ≤ index }
     requires there { index ≤ journal.old.count }
+    requires part { IfSome (D.seen journal.old.disk) (IsPartOf block.old) }
+    ensures part { IfSome (D.seen journal.new.disk) (IsPartOf block.new) }
     ensures looked { Looked D.seen D.moment D.left_at journal.old.disk journal.new.disk }
     ensures same { journal.new ≡ record journal.old { disk = journal.new.disk } }
     ensures command { IfOk result (λ c. (held : List ℕ) (w : Written) → D.seen journal.old.disk ≡ Some held → IsJournalOf journal.old.generation journal.old.start held w → index ≤ length w.commands
@@ -57,7 +61,7 @@ pub fn tested_command<D: Disk>(
     ensures readable { IfErr result (λ why. (held : List ℕ) (w : Written) → D.seen journal.old.disk ≡ Some held → IsJournalOf journal.old.generation journal.old.start held w → index ≤ length w.commands → IsReadable why) }
     ensures cause { CountsReading result (D.faults journal.old.disk) (D.faults journal.new.disk) }
 {
-    match journal.command(index) {
+    match journal.command(block, index) {
         Ok(command) => Ok(command),
         Err(LookFault::DiskFault) => Err(AcceptedFault::DiskFault),
         Err(LookFault::Damaged(damage)) => Err(AcceptedFault::Damaged(damage)),

@@ -1,5 +1,5 @@
 // A journal's commands, made again one after the other.
-ghost use Rattle.std.specs.Prelude.{◌≡◌, ◌≢◌, ◌≤◌, ◌<◌, ◌+◌, ◌-◌, Some, Ok, Err, false, List, ℕ, length, slice_get, drop, OnOk, IsTrue};
+ghost use Rattle.std.specs.Prelude.{◌≡◌, ◌≢◌, ◌≤◌, ◌<◌, ◌+◌, ◌-◌, Some, Ok, Err, false, List, ℕ, length, slice_get, drop, OnOk, IfSome, IsTrue};
 ghost use Rattle.std.specs.Result.{MatchResult};
 ghost use Rattle.liq_types.specs.declared.requests.Command.{Command};
 ghost use Rattle.liq_types.specs.declared.requests.Request.TheVariants.{Do};
@@ -8,6 +8,7 @@ ghost use Rattle.liq_core.specs.Core.{StandsFor};
 ghost use Rattle.liq_rules.specs.Step.{built};
 ghost use Rattle.liq_journal.specs.Bodies.{IsJournalOf};
 ghost use Rattle.liq_journal.specs.Looked.{Looked};
+ghost use Rattle.liq_journal.specs.Parts.{IsPartOf};
 ghost use Rattle.liq_journal.specs.Written.{Written};
 ghost use Rattle.liq_store.specs.Reading.{CountsReading};
 ghost use Rattle.liq_store.specs.Replays.{IsOutcome, Replays};
@@ -16,7 +17,7 @@ use crate::answers::AcceptedFault;
 use crate::preparing::{Prepared, prepare};
 use crate::reading::tested_command;
 use liq_core::Protocol;
-use liq_journal::{Damage, Journal, What};
+use liq_journal::{Block, Damage, Journal, What};
 use liq_outside::Disk;
 use liq_pairs::code_of;
 use liq_types::{Command, Hint, Steps};
@@ -58,11 +59,14 @@ fn redo<L: Ledger>(
 fn redo_record<D: Disk, L: Ledger>(
     protocol: &mut Protocol,
     journal: &mut Journal<D>,
+    block: &mut Block,
     index: u64,
     steps: &mut Steps<L>,
 ) -> Result<(), AcceptedFault>
     requires from_one { 1 ≤ index }
     requires there { index ≤ journal.old.count }
+    requires part { IfSome (D.seen journal.old.disk) (IsPartOf block.old) }
+    ensures part { IfSome (D.seen journal.new.disk) (IsPartOf block.new) }
     ensures looked { Looked D.seen D.moment D.left_at journal.old.disk journal.new.disk }
     ensures same { journal.new ≡ record journal.old { disk = journal.new.disk } }
     ensures replayed { (held : List ℕ) (w : Written) (s : State) (c : Command) → D.seen journal.old.disk ≡ Some held → IsJournalOf journal.old.generation journal.old.start held w → slice_get w.commands (index - 1) ≡ Some c
@@ -71,7 +75,7 @@ fn redo_record<D: Disk, L: Ledger>(
     ensures generation { OnOk result (protocol.new.image.generation ≡ protocol.old.image.generation) }
     ensures cause { CountsReading result (D.faults journal.old.disk) (D.faults journal.new.disk) }
 {
-    let command = match tested_command(journal, index) {
+    let command = match tested_command(journal, block, index) {
         Ok(command) => command,
         Err(why) => return Err(why),
     };
@@ -96,8 +100,9 @@ pub fn replay<D: Disk, L: Ledger>(
     ensures cause { CountsReading result (D.faults journal.old.disk) (D.faults journal.new.disk) }
 {
     let mut steps = Steps::<L>::new(blank);
+    let mut block = Block::new();
     for done in 0..journal.records() {
-        match redo_record(protocol, journal, done + 1, &mut steps) {
+        match redo_record(protocol, journal, &mut block, done + 1, &mut steps) {
             Ok(()) => {}
             Err(fault) => return Err(fault),
         }

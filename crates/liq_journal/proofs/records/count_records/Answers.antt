@@ -19,6 +19,7 @@ returns-in-Err-clause-fault g c = told_fault (g.D.Disk.seen c.args.disk.now) (g.
 pub loop-count-preserved : goal.loop-count-preserved
 loop-count-preserved g c = record {
   looked = looked_on g.D.Disk.seen g.D.Disk.moment g.D.Disk.left_at c.args.disk.now c.loop-count.disk c.read_record.new.disk c.loop-count.invariant.looked c.read_record.ensures.looked;
+  part = c.read_record.ensures.part;
   still = c.in-Ok-Some.ensures.cause ∙ c.loop-count.invariant.still;
   read = told_more (g.D.Disk.seen c.args.disk.now) (g.D.Disk.seen c.loop-count.disk) c.loop-count.invariant.looked.same c.args.generation c.args.start c.loop-count.count c.in-Ok-Some.field-0-0 c.loop-count.invariant.read (subst (λ (b : Option (List ℕ)). IfSome (g.D.Disk.seen c.loop-count.disk) (λ held. IsTested c.args.generation (c.loop-count.count + 1) (c.args.start + 129 * c.loop-count.count) held b)) c.in-Ok-Some.field-0-is c.in-Ok-Some.ensures.tested);
 }

@@ -18,6 +18,7 @@ pub loop-done-preserved : goal.loop-done-preserved
 loop-done-preserved g c = record {
   looked = looked_on g.D.Disk.seen g.D.Disk.moment g.D.Disk.left_at c.args.journal.now.disk c.loop-done.journal.disk c.redo_record.new.journal.disk c.loop-done.invariant.looked c.redo_record.ensures.looked;
   same = c.redo_record.ensures.same ∙ ap (λ (j : JournalOn g.row.D.Denot). record j { disk = c.redo_record.new.journal.disk }) c.loop-done.invariant.same;
+  part = c.redo_record.ensures.part;
   still = c.in-Ok.ensures.cause ∙ c.loop-done.invariant.still;
   counted = omega (arith, c.in-Ok.ensures.counted, c.loop-done.invariant.counted);
   generation = c.in-Ok.ensures.generation ∙ c.loop-done.invariant.generation;

@@ -1,8 +1,9 @@
-use Rattle.std.proofs.Common.{◌≡◌, ◌+◌, ℕ, List, length, Some}
+use Rattle.std.proofs.Common.{◌≡◌, ◌+◌, ℕ, List, length, Some, IfSome}
 use Rattle.liq_types.specs.State.{State}
 use Rattle.liq_core.specs.Core.{StandsFor}
 use Rattle.liq_journal.specs.Bodies.{IsJournalOf}
 use Rattle.liq_journal.specs.Looked.{Looked}
+use Rattle.liq_journal.specs.Parts.{IsPartOf}
 use Rattle.liq_journal.specs.Written.{Written}
 use Rattle.liq_store.proofs.Replaying.{Reached}
 use Rattle.liq_store.proofs.replay.replay.Given as goal
@@ -11,6 +12,7 @@ abbrev pub invariant-loop-done : goal.invariant-loop-done
 invariant-loop-done g l = record {
   looked : Looked g.D.Disk.seen g.D.Disk.moment g.D.Disk.left_at l.fn.journal.disk l.journal.disk;
   same : l.journal ≡ record l.fn.journal { disk = l.journal.disk };
+  part : IfSome (g.D.Disk.seen l.journal.disk) (IsPartOf l.block);
   still : g.D.Disk.faults l.journal.disk ≡ g.D.Disk.faults l.fn.journal.disk;
   counted : l.protocol.records ≡ l.fn.protocol.records + l.done;
   generation : l.protocol.image.generation ≡ l.fn.protocol.image.generation;

@@ -1,0 +1,106 @@
+// A part of a disk that was read at once.
+ghost use Rattle.std.specs.Prelude.{◌≡◌, ◌≤◌, ◌-◌, [], Some, List, ℕ, min, length, take, drop, IfOk, IfSome, OnOk};
+ghost use Rattle.liq_outside.specs.Faults.{HasCause};
+ghost use Rattle.liq_journal.specs.Looked.{Looked};
+ghost use Rattle.liq_journal.specs.Parts.{IsPartOf, bytes_from};
+ghost use Rattle.liq_journal.specs.Written.{piece};
+
+use liq_outside::{Disk, Failed};
+use std::marker::Model;
+
+// As many bytes as 508 records have.
+const MOST: usize = 65532;
+
+/// A part of a disk, read at once, from which records are taken one after the other. A contract sees where it begins, and its bytes.
+#[derive(Drop)]
+pub struct Block {
+    at: u64,
+    count: usize,
+    bytes: [u8; MOST],
+}
+
+impl Model for Block {
+    ghost use Rattle.std.specs.Prelude.{◌≤◌, take};
+    ghost use Rattle.liq_journal.specs.Parts.{Part};
+
+    ghost Value = { Part };
+
+    ghost view = { λ b. record { at = b.at; bytes = take b.count b.bytes } };
+
+    ghost invariant = { λ b. b.count ≤ 65532 };
+}
+
+impl Block {
+    /// A block of no bytes.
+    pub fn new() -> Block
+        ensures { result ≡ record { at = 0; bytes = [] } }
+    {
+        Block {
+            at: 0,
+            count: 0,
+            bytes: [0; MOST],
+        }
+    }
+
+    // Its bytes from this place of the disk on.
+    fn from(&self, at: u64) -> &[u8]
+        ensures { result.now ≡ bytes_from at self.now }
+    {
+        let bytes = &self.bytes[..self.count];
+        match at.checked_sub(self.at) {
+            Some(skipped) if skipped <= bytes.len() as u64 => &bytes[skipped as usize..],
+            _ => &[],
+        }
+    }
+
+    // Reads the disk from this place on.
+    fn fill<D: Disk>(&mut self, disk: &mut D, at: u64) -> Result<(), Failed>
+        ensures at { self.new.at ≡ at }
+        ensures filled { OnOk result (IfSome (D.seen disk.old) (λ held. self.new.bytes ≡ piece at 65532 held)) }
+        ensures part { IfSome (D.seen disk.old) (IsPartOf self.new) }
+        ensures looked { Looked D.seen D.moment D.left_at disk.old disk.new }
+        ensures cause { HasCause (D.faults disk.old) (D.faults disk.new) result }
+    {
+        self.at = at;
+        self.count = 0;
+        self.count = disk.read_at(at, &mut self.bytes)?;
+        Ok(())
+    }
+
+    // Sees to it that so many bytes from this place on are in the block, or all that the disk has there.
+    fn reach<D: Disk>(&mut self, disk: &mut D, at: u64, count: usize) -> Result<(), Failed>
+        requires few { count ≤ 65532 }
+        requires part { IfSome (D.seen disk.old) (IsPartOf self.old) }
+        ensures reached { OnOk result (IfSome (D.seen disk.old) (λ held. take count (bytes_from at self.new) ≡ piece at count held)) }
+        ensures part { IfSome (D.seen disk.old) (IsPartOf self.new) }
+        ensures looked { Looked D.seen D.moment D.left_at disk.old disk.new }
+        ensures cause { HasCause (D.faults disk.old) (D.faults disk.new) result }
+    {
+        if count <= self.from(at).len() {
+            return Ok(());
+        }
+        self.fill(disk, at)
+    }
+
+    // Reads from a place on into the front of `buf`, as the disk does it, which is read only where the block hasn't all of these bytes.
+    pub fn read_at<D: Disk>(
+        &mut self,
+        disk: &mut D,
+        at: u64,
+        buf: &mut [u8],
+    ) -> Result<usize, Failed>
+        requires few { length buf.old ≤ 65532 }
+        requires part { IfSome (D.seen disk.old) (IsPartOf self.old) }
+        ensures fits { IfOk result (λ n. n ≤ length buf.old) }
+        ensures told { IfOk result (λ n. IfSome (D.seen disk.old) (λ held. (n ≡ min (length buf.old) (length held - at)) × (take n buf.new ≡ take n (drop at held)))) }
+        ensures part { IfSome (D.seen disk.old) (IsPartOf self.new) }
+        ensures looked { Looked D.seen D.moment D.left_at disk.old disk.new }
+        ensures cause { HasCause (D.faults disk.old) (D.faults disk.new) result }
+    {
+        self.reach(disk, at, buf.len())?;
+        let bytes = self.from(at);
+        let count = bytes.len().min(buf.len());
+        buf[..count].copy_from_slice(&bytes[..count]);
+        Ok(count)
+    }
+}
