@@ -136,7 +136,8 @@ const NOTHING: Seen = Seen {
     faults: NOWHERE,
 };
 
-// An opening makes seven device calls where two records stand, and a body is one more. Here the eighth call fails.
+// An opening makes six device calls where two records stand: a sync, the header, the length, both records at once, what stands behind them,
+// and the gate. A body is one more. Here the seventh call fails.
 fn bodies_of_two(journal: &mut Journal<MemoryDisk>, bytes: &[u8]) -> Seen {
     let looks = [
         has_none(journal, 1, Found::DiskFault),
@@ -166,7 +167,7 @@ fn see_bodies(alloc: Global, disk: MemoryDisk, bytes: &[u8]) -> Seen {
 #[test]
 fn bodies_are_read_back(rt: HostRuntime) -> Result<(), Fail> {
     let bytes = two_records(rt.alloc())?;
-    let disk = disk(rt.alloc(), &bytes, &[7])?;
+    let disk = disk(rt.alloc(), &bytes, &[6])?;
     let seen = see_bodies(rt.alloc(), disk, &bytes);
     same(&rt, seen.right, 5, "looks at bodies");
     same(&rt, seen.faults, 1, "faults at bodies");
