@@ -1,0 +1,90 @@
+//! The entries of the ordered list, which follow its changes.
+
+ghost use Rattle.std.specs.Prelude.{◌≡◌, [], OnErr};
+
+use crate::rows::Rows;
+use liq_types::{Hint, ListChange, NoMemory};
+use std::alloc::Global;
+use std::collections::BTreeMap;
+use std::marker::Model;
+use std::ops::Bound;
+
+/// The entries of the ordered list, and the key of each account. Contracts see both.
+#[derive(Drop)]
+pub struct Guide {
+    alloc: Global,
+    rows: Rows,
+}
+
+impl Model for Guide {
+    ghost use Rattle.liq_guide.specs.Followed.{Followed, seen};
+
+    ghost Value = { Followed };
+
+    ghost view = { λ g. seen g.rows.places.entries g.rows.keys.entries };
+}
+
+impl Guide {
+    /// A guide of an empty list.
+    pub fn new(alloc: Global) -> Guide
+        ensures list { result.list ≡ [] }
+        ensures keys { result.keys ≡ [] }
+    {
+        Guide {
+            alloc,
+            rows: Rows {
+                places: BTreeMap::new(alloc),
+                keys: BTreeMap::new(alloc),
+            },
+        }
+    }
+
+    /// Follows the changes of a command. Answers the accounts between which the one that they put last stands, if they put any.
+    ///
+    /// After `NoMemory` all is as before.
+    pub fn follow(&mut self, changes: &[ListChange]) -> Result<Option<Hint>, NoMemory>
+        ensures { OnErr result (self.new ≡ self.old) }
+    {
+        let mut noted = Vec::new(self.alloc);
+        match self.rows.make_room(changes, &mut noted) {
+            Ok(()) => {
+                self.rows.make(changes);
+                self.rows.clear(&noted);
+                Ok(self.answer(changes))
+            }
+            Err(_) => {
+                self.rows.clear(&noted);
+                Err(NoMemory)
+            }
+        }
+    }
+
+    // The accounts before and after the one that the changes put last.
+    fn answer(&self, changes: &[ListChange]) -> Option<Hint> {
+        let place = last_put(changes)?;
+        let before = (Bound::Unbounded, Bound::Excluded(place));
+        let after = (Bound::Excluded(place), Bound::Unbounded);
+        Some(Hint {
+            prev: account_of(self.rows.places.range(before).next_back()),
+            next: account_of(self.rows.places.range(after).next()),
+            version: 0,
+        })
+    }
+}
+
+fn last_put(changes: &[ListChange]) -> Option<(i128, u32)> {
+    let mut put = None;
+    for change in changes {
+        if let ListChange::Put { key, account } = *change {
+            put = Some((key, account));
+        }
+    }
+    put
+}
+
+fn account_of(row: Option<(&(i128, u32), &bool)>) -> Option<u32> {
+    match row {
+        Some(((_, account), _)) => Some(*account),
+        None => None,
+    }
+}

@@ -1,0 +1,7 @@
+//! The neighbours of a trove in the ordered list, kept beside the protocol.
+#![tactic(auto)]
+
+mod guide;
+mod rows;
+
+pub use guide::Guide;
