@@ -1,6 +1,7 @@
 //! The entries of the ordered list, which follow its changes.
 
-ghost use Rattle.std.specs.Prelude.{◌≡◌, [], OnErr};
+ghost use Rattle.std.specs.Prelude.{◌≡◌, [], OnOk, OnErr};
+ghost use Rattle.liq_types.specs.Views.{View, all_followed};
 
 use crate::rows::Rows;
 use liq_types::{Hint, ListChange, NoMemory};
@@ -9,7 +10,7 @@ use std::collections::BTreeMap;
 use std::marker::Model;
 use std::ops::Bound;
 
-/// The entries of the ordered list, and the key of each account. Contracts see both.
+/// The entries of the ordered list, and the key of each account. Contracts see the list.
 #[derive(Drop)]
 pub struct Guide {
     alloc: Global,
@@ -17,18 +18,21 @@ pub struct Guide {
 }
 
 impl Model for Guide {
-    ghost use Rattle.liq_guide.specs.Followed.{Followed, seen};
+    ghost use Rattle.std.specs.Prelude.{List};
+    ghost use Rattle.liq_types.specs.Ranked.{Ranked};
+    ghost use Rattle.liq_guide.specs.Rows.{Follows, standing};
 
-    ghost Value = { Followed };
+    ghost Value = { List Ranked };
 
-    ghost view = { λ g. seen g.rows.places.entries g.rows.keys.entries };
+    ghost view = { λ g. standing g.rows.places.entries };
+
+    ghost invariant = { λ g. Follows g.rows.places.entries g.rows.keys.entries (standing g.rows.places.entries) };
 }
 
 impl Guide {
     /// A guide of an empty list.
     pub fn new(alloc: Global) -> Guide
-        ensures list { result.list ≡ [] }
-        ensures keys { result.keys ≡ [] }
+        ensures { result ≡ [] }
     {
         Guide {
             alloc,
@@ -43,7 +47,8 @@ impl Guide {
     ///
     /// After `NoMemory` all is as before.
     pub fn follow(&mut self, changes: &[ListChange]) -> Result<Option<Hint>, NoMemory>
-        ensures { OnErr result (self.new ≡ self.old) }
+        ensures list { OnOk result ((v : View) → v.list ≡ self.old → self.new ≡ (all_followed v changes.now).list) }
+        ensures err { OnErr result (self.new ≡ self.old) }
     {
         let mut noted = Vec::new(self.alloc);
         match self.rows.make_room(changes, &mut noted) {

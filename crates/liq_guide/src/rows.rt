@@ -1,6 +1,14 @@
 // The rows of a guide, of which some only keep room while changes are followed.
-ghost use Rattle.std.specs.Prelude.{◌≡◌};
-ghost use Rattle.liq_guide.specs.Followed.{standing, keyed};
+ghost use Rattle.std.specs.Prelude.{◌≡◌, ℕ, ◌<◌, Bool, Some, None, List, length, slice_index_or, if◌then◌else◌, IsSome, OnOk};
+ghost use Rattle.std.specs.List.{All};
+ghost use Rattle.std.specs.List.Sorted.{IsStrictlySortedBy};
+ghost use Rattle.std.specs.Map.{keys_of};
+ghost use Rattle.std.specs.Ordering.{nat_cmp, is_eq};
+ghost use Rattle.liq_types.specs.declared.events.ListChange.{ListChange};
+ghost use Rattle.liq_types.specs.declared.events.ListChange.TheVariants.{Put};
+ghost use Rattle.liq_types.specs.Ranked.{Ranked, rank_order, without_ranked};
+ghost use Rattle.liq_guide.specs.Followed.{listed, all_listed};
+ghost use Rattle.liq_guide.specs.Rows.{Places, Keys, Follows, HasRoom, key_at, place_at, row_at};
 
 use liq_types::{ListChange, NoMemory};
 use std::collections::BTreeMap;
@@ -21,8 +29,8 @@ impl Rows {
         changes: &[ListChange],
         noted: &mut Vec<(i128, u32)>,
     ) -> Result<(), NoMemory>
-        ensures places { standing self.new.places.entries ≡ standing self.old.places.entries }
-        ensures keys { keyed self.new.keys.entries ≡ keyed self.old.keys.entries }
+        ensures same { (list : List Ranked) → Follows self.old.places.entries self.old.keys.entries list → Follows self.new.places.entries self.new.keys.entries list }
+        ensures room { OnOk result (All (HasRoom self.new.places.entries self.new.keys.entries) changes.now) }
     {
         for change in changes {
             match self.make_room_for(change, noted) {
@@ -38,8 +46,10 @@ impl Rows {
         change: &ListChange,
         noted: &mut Vec<(i128, u32)>,
     ) -> Result<(), NoMemory>
-        ensures places { standing self.new.places.entries ≡ standing self.old.places.entries }
-        ensures keys { keyed self.new.keys.entries ≡ keyed self.old.keys.entries }
+        ensures same { (list : List Ranked) → Follows self.old.places.entries self.old.keys.entries list → Follows self.new.places.entries self.new.keys.entries list }
+        ensures room { OnOk result (HasRoom self.new.places.entries self.new.keys.entries change.now) }
+        ensures places { (e : Ranked) → IsSome (place_at self.old.places.entries e) → IsSome (place_at self.new.places.entries e) }
+        ensures keys { (a : ℕ) → IsSome (row_at self.old.keys.entries a) → IsSome (row_at self.new.keys.entries a) }
     {
         match *change {
             ListChange::Put { key, account } => self.make_room_at(key, account, noted),
@@ -54,8 +64,10 @@ impl Rows {
         account: u32,
         noted: &mut Vec<(i128, u32)>,
     ) -> Result<(), NoMemory>
-        ensures places { standing self.new.places.entries ≡ standing self.old.places.entries }
-        ensures keys { keyed self.new.keys.entries ≡ keyed self.old.keys.entries }
+        ensures same { (list : List Ranked) → Follows self.old.places.entries self.old.keys.entries list → Follows self.new.places.entries self.new.keys.entries list }
+        ensures room { OnOk result (HasRoom self.new.places.entries self.new.keys.entries (Put key account)) }
+        ensures places { (e : Ranked) → IsSome (place_at self.old.places.entries e) → IsSome (place_at self.new.places.entries e) }
+        ensures keys { (a : ℕ) → IsSome (row_at self.old.keys.entries a) → IsSome (row_at self.new.keys.entries a) }
     {
         self.note_place(account, noted)?;
         note((key, account), noted)?;
@@ -71,7 +83,9 @@ impl Rows {
         }
     }
 
-    fn key_of(&self, account: u32) -> Option<i128> {
+    fn key_of(&self, account: u32) -> Option<i128>
+        ensures { result ≡ key_at self.now.keys.entries account }
+    {
         match self.keys.get(&account) {
             Some(key) => *key,
             None => None,
@@ -79,23 +93,45 @@ impl Rows {
     }
 
     // Makes the changes, in the rows for which there is room.
-    pub(crate) fn make(&mut self, changes: &[ListChange]) {
+    pub(crate) fn make(&mut self, changes: &[ListChange])
+        requires { All (HasRoom self.old.places.entries self.old.keys.entries) changes.now }
+        ensures { (list : List Ranked) → Follows self.old.places.entries self.old.keys.entries list → Follows self.new.places.entries self.new.keys.entries (all_listed list changes.now) }
+    {
         for change in changes {
-            match *change {
-                ListChange::Put { key, account } => self.put(key, account),
-                ListChange::Gone { account } => self.take(account),
-                ListChange::Words { .. } => {}
-            }
+            self.make_one(change);
         }
     }
 
-    fn put(&mut self, key: i128, account: u32) {
+    fn make_one(&mut self, change: &ListChange)
+        requires { HasRoom self.old.places.entries self.old.keys.entries change.now }
+        ensures follows { (list : List Ranked) → Follows self.old.places.entries self.old.keys.entries list → Follows self.new.places.entries self.new.keys.entries (listed list change.now) }
+        ensures places { (e : Ranked) → IsSome (place_at self.old.places.entries e) → IsSome (place_at self.new.places.entries e) }
+        ensures keys { (a : ℕ) → IsSome (row_at self.old.keys.entries a) → IsSome (row_at self.new.keys.entries a) }
+    {
+        match *change {
+            ListChange::Put { key, account } => self.put(key, account),
+            ListChange::Gone { account } => self.take(account),
+            ListChange::Words { .. } => {}
+        }
+    }
+
+    fn put(&mut self, key: i128, account: u32)
+        requires { HasRoom self.old.places.entries self.old.keys.entries (Put key account) }
+        ensures follows { (list : List Ranked) → Follows self.old.places.entries self.old.keys.entries list → Follows self.new.places.entries self.new.keys.entries (listed list (Put key account)) }
+        ensures places { (e : Ranked) → IsSome (place_at self.old.places.entries e) → IsSome (place_at self.new.places.entries e) }
+        ensures keys { (a : ℕ) → IsSome (row_at self.old.keys.entries a) → IsSome (row_at self.new.keys.entries a) }
+    {
         self.take(account);
         mark(&mut self.places, (key, account), true);
         set_key(&mut self.keys, account, Some(key));
     }
 
-    fn take(&mut self, account: u32) {
+    fn take(&mut self, account: u32)
+        ensures follows { (list : List Ranked) → Follows self.old.places.entries self.old.keys.entries list → Follows self.new.places.entries self.new.keys.entries (without_ranked list account) }
+        ensures none { key_at self.new.keys.entries account ≡ None }
+        ensures places { (e : Ranked) → IsSome (place_at self.old.places.entries e) → IsSome (place_at self.new.places.entries e) }
+        ensures keys { (a : ℕ) → IsSome (row_at self.old.keys.entries a) → IsSome (row_at self.new.keys.entries a) }
+    {
         if let Some(key) = self.key_of(account) {
             mark(&mut self.places, (key, account), false);
             set_key(&mut self.keys, account, None);
@@ -104,8 +140,7 @@ impl Rows {
 
     // Takes out the rows, of those that were noted, that only keep room.
     pub(crate) fn clear(&mut self, noted: &[(i128, u32)])
-        ensures places { standing self.new.places.entries ≡ standing self.old.places.entries }
-        ensures keys { keyed self.new.keys.entries ≡ keyed self.old.keys.entries }
+        ensures { (list : List Ranked) → Follows self.old.places.entries self.old.keys.entries list → Follows self.new.places.entries self.new.keys.entries list }
     {
         for place in noted {
             clear_place(&mut self.places, *place);
@@ -122,7 +157,9 @@ fn note(place: (i128, u32), noted: &mut Vec<(i128, u32)>) -> Result<(), NoMemory
 }
 
 fn make_place(places: &mut BTreeMap<(i128, u32), bool>, place: (i128, u32)) -> Result<(), NoMemory>
-    ensures { standing places.new.entries ≡ standing places.old.entries }
+    ensures same { (keys : Keys) (list : List Ranked) → Follows places.old.entries keys list → Follows places.new.entries keys list }
+    ensures room { OnOk result (IsSome (place_at places.new.entries place)) }
+    ensures kept { (e : Ranked) → IsSome (place_at places.old.entries e) → IsSome (place_at places.new.entries e) }
 {
     if places.contains_key(&place) {
         return Ok(());
@@ -134,7 +171,9 @@ fn make_place(places: &mut BTreeMap<(i128, u32), bool>, place: (i128, u32)) -> R
 }
 
 fn make_key(keys: &mut BTreeMap<u32, Option<i128>>, account: u32) -> Result<(), NoMemory>
-    ensures { keyed keys.new.entries ≡ keyed keys.old.entries }
+    ensures same { (places : Places) (list : List Ranked) → Follows places keys.old.entries list → Follows places keys.new.entries list }
+    ensures room { OnOk result (IsSome (row_at keys.new.entries account)) }
+    ensures kept { (a : ℕ) → IsSome (row_at keys.old.entries a) → IsSome (row_at keys.new.entries a) }
 {
     if keys.contains_key(&account) {
         return Ok(());
@@ -145,20 +184,28 @@ fn make_key(keys: &mut BTreeMap<u32, Option<i128>>, account: u32) -> Result<(), 
     Ok(())
 }
 
-fn mark(places: &mut BTreeMap<(i128, u32), bool>, place: (i128, u32), stands: bool) {
+// Marks a place for which there is room.
+fn mark(places: &mut BTreeMap<(i128, u32), bool>, place: (i128, u32), stands: bool)
+    ensures row { IsSome (place_at places.old.entries place) → (e : Ranked) → place_at places.new.entries e ≡ (if is_eq (rank_order place e) then Some stands else place_at places.old.entries e) }
+    ensures kept { (e : Ranked) → IsSome (place_at places.old.entries e) → IsSome (place_at places.new.entries e) }
+    ensures ordered { IsStrictlySortedBy rank_order (keys_of places.new.entries) }
+{
     if let Some(row) = places.get_mut(&place) {
         *row = stands;
     }
 }
 
-fn set_key(keys: &mut BTreeMap<u32, Option<i128>>, account: u32, key: Option<i128>) {
+fn set_key(keys: &mut BTreeMap<u32, Option<i128>>, account: u32, key: Option<i128>)
+    ensures row { IsSome (row_at keys.old.entries account) → (a : ℕ) → row_at keys.new.entries a ≡ (if is_eq (nat_cmp account a) then Some key else row_at keys.old.entries a) }
+    ensures kept { (a : ℕ) → IsSome (row_at keys.old.entries a) → IsSome (row_at keys.new.entries a) }
+{
     if let Some(row) = keys.get_mut(&account) {
         *row = key;
     }
 }
 
 fn clear_place(places: &mut BTreeMap<(i128, u32), bool>, place: (i128, u32))
-    ensures { standing places.new.entries ≡ standing places.old.entries }
+    ensures { (keys : Keys) (list : List Ranked) → Follows places.old.entries keys list → Follows places.new.entries keys list }
 {
     let Some(false) = places.get(&place) else {
         return;
@@ -167,7 +214,7 @@ fn clear_place(places: &mut BTreeMap<(i128, u32), bool>, place: (i128, u32))
 }
 
 fn clear_key(keys: &mut BTreeMap<u32, Option<i128>>, account: u32)
-    ensures { keyed keys.new.entries ≡ keyed keys.old.entries }
+    ensures { (places : Places) (list : List Ranked) → Follows places keys.old.entries list → Follows places keys.new.entries list }
 {
     let Some(None) = keys.get(&account) else {
         return;

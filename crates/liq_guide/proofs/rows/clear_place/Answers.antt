@@ -1,14 +1,11 @@
-use Rattle.std.proofs.Common.{Bool, sym, ap, ◌∙◌}
-use Rattle.std.specs.Map.{keys_of}
-use Rattle.std.specs.BTreeMap.{is_at}
-use Rattle.liq_types.specs.Ranked.{rank_order}
-use Rattle.liq_guide.specs.Followed.{standing}
-use Rattle.liq_guide.proofs.Unused.{filter-remove_unused}
+use Rattle.std.proofs.Common.{sym, ap, ◌∙◌, refl, None, Option, Bool, false}
+use Rattle.std.specs.Prelude.{unwrap_or}
+use Rattle.liq_guide.proofs.Following.{same_places, kept_marked}
 use Rattle.liq_guide.proofs.rows.clear_place.Goals as goal
 
 pub returns : goal.returns
-returns c =
-    ap standing c.remove.ensures.entries
-    ∙ ap keys_of
-    (filter-remove_unused (λ (b : Bool). b) (is_at (rank_order c.args.place)) c.args.places.now.entries c.in-Some-false.field-0.now
-    c.in-Some-false.field-0-test (sym c.in-Some-false.ensures.value))
+returns c keys list h =
+    let old = c.args.places.now.entries in
+    let new = c.remove.new.self.entries in
+    let before = ap (λ (o : Option Bool). unwrap_or o false) (sym c.in-Some-false.ensures.value) ∙ c.in-Some-false.field-0-test in
+    same_places old new keys list c.remove.ensures.ordered (kept_marked old new c.args.place None refl before c.remove.ensures.updates.0) h

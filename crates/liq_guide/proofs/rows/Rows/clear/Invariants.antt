@@ -1,7 +1,8 @@
-use Rattle.std.proofs.Common.{◌≡◌}
-use Rattle.liq_guide.specs.Followed.{standing, keyed}
+use Rattle.std.proofs.Common.{List}
+use Rattle.liq_types.specs.Ranked.{Ranked}
+use Rattle.liq_guide.specs.Rows.{Follows}
 use Rattle.liq_guide.proofs.rows.Rows.clear.Given as goal
 
 abbrev pub invariant-loop-place : goal.invariant-loop-place
 invariant-loop-place l =
-    (standing l.self.places.entries ≡ standing l.fn.self.places.entries) × (keyed l.self.keys.entries ≡ keyed l.fn.self.keys.entries)
+    (list : List Ranked) → Follows l.fn.self.places.entries l.fn.self.keys.entries list → Follows l.self.places.entries l.self.keys.entries list

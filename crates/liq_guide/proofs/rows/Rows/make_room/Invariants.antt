@@ -1,7 +1,10 @@
-use Rattle.std.proofs.Common.{◌≡◌}
-use Rattle.liq_guide.specs.Followed.{standing, keyed}
+use Rattle.std.proofs.Common.{ℕ, ◌<◌, List, get_or}
+use Rattle.liq_types.specs.declared.events.ListChange.{ListChange}
+use Rattle.liq_types.specs.Ranked.{Ranked}
+use Rattle.liq_guide.specs.Rows.{Follows, HasRoom}
 use Rattle.liq_guide.proofs.rows.Rows.make_room.Given as goal
 
 abbrev pub invariant-loop-change : goal.invariant-loop-change
 invariant-loop-change l =
-    (standing l.self.places.entries ≡ standing l.fn.self.places.entries) × (keyed l.self.keys.entries ≡ keyed l.fn.self.keys.entries)
+    ((list : List Ranked) → Follows l.fn.self.places.entries l.fn.self.keys.entries list → Follows l.self.places.entries l.self.keys.entries list)
+    × ((k : ℕ) (d : ListChange) → k < l.change-index → HasRoom l.self.places.entries l.self.keys.entries (get_or l.changes k d))

@@ -1,0 +1,153 @@
+-- What is in a ranked list, and that ascending lists of the same entries are equal.
+use Rattle.std.proofs.Common.{◌≡◌, ℕ, Bool, true, false, cond, List, [], ◌∷◌, refl, sym, ap, ◌∙◌, Some, None, Option}
+use Rattle.std.specs.Prelude.{◌==◌, not, ◌&&◌, ◌||◌, filter, unwrap_or, is_some}
+use Rattle.std.specs.List.{AllByRecursion, list_any}
+use Rattle.std.specs.List.Sorted.{IsStrictlySortedBy}
+use Rattle.std.specs.BTreeMap.{is_at}
+use Rattle.std.specs.BTreeSet.{BTreeSet}
+use Rattle.std.specs.Cmp.{IsTotalOrder, eq_by_cmp_equiv}
+use Rattle.std.specs.Map.{keys_of, lookup}
+use Rattle.std.specs.Ordering.{int_cmp, nat_cmp, is_eq, match_ordering, ordering_reverse}
+use Rattle.std.specs.declared.cmp.Ordering.{Ordering}
+use Rattle.std.specs.declared.cmp.Ordering.TheVariants.{Less, Equal, Greater}
+use Rattle.std.proofs.lemmas.Cmp.{int_cmp_total, nat_cmp_total, then_total, on_total}
+use Rattle.std.proofs.lemmas.Map.Entries.{option_filter, lookup-filter-values}
+use Rattle.std.proofs.lemmas.Map.Keys.{IsDistinct-from_sorted}
+use Rattle.std.proofs.lemmas.Map.Lookups.{CmpEqualImpliesEq, exact_unsigned, exact_signed, exact_pairs, btree_set_from_contains}
+use Rattle.std.proofs.lemmas.Map.Views.{any-filter_same}
+use Rattle.liq_types.specs.Ranked.{Ranked, rank_order, with_ranked, without_ranked, IsAscending}
+use Rattle.liq_guide.specs.Rows.{Places, is_marked, place_at, standing, is_in}
+
+pub rank_total : IsTotalOrder rank_order
+rank_total = then_total (on_total (λ (e : Ranked). e.0) int_cmp_total) (on_total (λ (e : Ranked). e.1) nat_cmp_total)
+
+pub exact_rank : CmpEqualImpliesEq rank_order
+exact_rank = exact_pairs int_cmp nat_cmp exact_signed exact_unsigned
+
+pub is_tied : (o : Ordering) → is_eq o ≡ true → o ≡ Equal
+is_tied Less h = cc
+is_tied Equal h = refl
+is_tied Greater h = cc
+
+pub same_entry : (e f : Ranked) → is_eq (rank_order e f) ≡ true → e ≡ f
+same_entry e f h = exact_rank e f (is_tied (rank_order e f) h)
+
+-- ---- with one more, and without an account
+
+or_swap : (a b c : Bool) → (a || (b || c)) ≡ (b || (a || c))
+or_swap true true c = refl
+or_swap true false c = refl
+or_swap false true c = refl
+or_swap false false c = refl
+
+pub with_is_in : (list : List Ranked) (f e : Ranked) → is_in (with_ranked list f) e ≡ (is_eq (rank_order e f) || is_in list e)
+with_is_in [] f e = refl
+with_is_in (g ∷ gs) f e = by (rank_order f g) (with_is_in gs f e) where
+  by : (o : Ordering) → is_in (with_ranked gs f) e ≡ (is_eq (rank_order e f) || is_in gs e) → is_in (match_ordering o (f ∷ g ∷ gs) (f ∷ g ∷ gs) (g ∷ with_ranked gs f)) e ≡ (is_eq (rank_order e f) || is_in (g ∷ gs) e)
+  by Less more = refl
+  by Equal more = refl
+  by Greater more =
+      ap (λ b. is_eq (rank_order e g) || b) more ∙ or_swap (is_eq (rank_order e g)) (is_eq (rank_order e f)) (is_in gs e)
+
+pub without_is_in : (list : List Ranked) (account : ℕ) (e : Ranked) → is_in (without_ranked list account) e ≡ (not (e.1 == account) && is_in list e)
+without_is_in list account e =
+    any-filter_same (is_at (rank_order e)) (λ (f : Ranked). not (f.1 == account)) (not (e.1 == account))
+    (λ f same. ap (λ (g : Ranked). not (g.1 == account)) (sym (same_entry e f same))) list
+
+-- ---- ascending
+
+abbrev Behind : Ranked → List Ranked → Type 0
+Behind e list = AllByRecursion (λ f. rank_order e f ≡ Less) list
+
+behind_more : (e f : Ranked) (list : List Ranked) → rank_order e f ≡ Less → Behind f list → Behind e list
+behind_more e f [] less h = tt
+behind_more e f (g ∷ gs) less h = (rank_total.trans e f g less h.0, behind_more e f gs less h.1)
+
+with_behind : (f : Ranked) (list : List Ranked) (e : Ranked) → rank_order f e ≡ Less → Behind f list → Behind f (with_ranked list e)
+with_behind f [] e less h = (less, tt)
+with_behind f (g ∷ gs) e less h = by (rank_order e g) (with_behind f gs e less h.1) where
+  by : (o : Ordering) → Behind f (with_ranked gs e) → Behind f (match_ordering o (e ∷ g ∷ gs) (e ∷ g ∷ gs) (g ∷ with_ranked gs e))
+  by Less more = (less, h)
+  by Equal more = (less, h)
+  by Greater more = (h.0, more)
+
+head_out : (b c : Bool) → (b || c) ≡ false → b ≡ false
+head_out true c h = h
+head_out false c h = refl
+
+tail_out : (b c : Bool) → (b || c) ≡ false → c ≡ false
+tail_out true c h = cc
+tail_out false c h = h
+
+pub with_ascending : (list : List Ranked) (e : Ranked) → is_in list e ≡ false → IsAscending list → IsAscending (with_ranked list e)
+with_ascending [] e n h = (tt, tt)
+with_ascending (f ∷ fs) e n h = by (rank_order e f) refl (with_ascending fs e (tail_out (is_eq (rank_order e f)) (is_in fs e) n) h.1) where
+  clash : rank_order e f ≡ Equal → ⊥
+  clash is = let out = sym (ap is_eq is) ∙ head_out (is_eq (rank_order e f)) (is_in fs e) n in cc
+
+  by : (o : Ordering) → rank_order e f ≡ o → IsAscending (with_ranked fs e) → IsAscending (match_ordering o (e ∷ f ∷ fs) (e ∷ f ∷ fs) (f ∷ with_ranked fs e))
+  by Less is more = ((is, behind_more e f fs is h.0), h)
+  by Equal is more = absurd (clash is)
+  by Greater is more = (with_behind f fs e (rank_total.antisymm f e ∙ ap ordering_reverse is) h.0, more)
+
+all_kept : (P : Ranked → Type 0) (q : Ranked → Bool) (list : List Ranked) → AllByRecursion P list → AllByRecursion P (filter q list)
+all_kept P q [] h = tt
+all_kept P q (e ∷ es) h = by (q e) (all_kept P q es h.1) where
+  by : (b : Bool) → AllByRecursion P (filter q es) → AllByRecursion P (cond b (e ∷ filter q es) (filter q es))
+  by true more = (h.0, more)
+  by false more = more
+
+pub ascending_kept : (q : Ranked → Bool) (list : List Ranked) → IsAscending list → IsAscending (filter q list)
+ascending_kept q [] h = tt
+ascending_kept q (e ∷ es) h = by (q e) (ascending_kept q es h.1) where
+  by : (b : Bool) → IsAscending (filter q es) → IsAscending (cond b (e ∷ filter q es) (filter q es))
+  by true more = (all_kept (λ f. rank_order e f ≡ Less) q es h.0, more)
+  by false more = more
+
+-- ---- what stands
+
+behind_standing : (e : Ranked) (places : Places) → Behind e (keys_of places) → Behind e (standing places)
+behind_standing e [] h = tt
+behind_standing e (p ∷ ps) h = by p.1 (behind_standing e ps h.1) where
+  by : (b : Bool) → Behind e (standing ps) → Behind e (keys_of (cond b (p ∷ filter (λ (row : Ranked × Bool). row.1) ps) (filter (λ (row : Ranked × Bool). row.1) ps)))
+  by true more = (h.0, more)
+  by false more = more
+
+pub standing_ascends : (places : Places) → IsStrictlySortedBy rank_order (keys_of places) → IsAscending (standing places)
+unfolding IsStrictlySortedBy
+standing_ascends [] h = tt
+standing_ascends (p ∷ ps) h = by p.1 (standing_ascends ps h.1) where
+  by : (b : Bool) → IsAscending (standing ps) → IsAscending (keys_of (cond b (p ∷ filter (λ (row : Ranked × Bool). row.1) ps) (filter (λ (row : Ranked × Bool). row.1) ps)))
+  by true more = (behind_standing p.0 ps h.0, more)
+  by false more = more
+
+any_keys : {K X : Type 0} (test : K → Bool) (es : List (K × X)) → list_any test (keys_of es) ≡ is_some (lookup test es)
+any_keys test [] = refl
+any_keys {K} {X} test (e ∷ es) = by (test e.0) (any_keys test es) where
+  by : (b : Bool) → list_any test (keys_of es) ≡ is_some (lookup test es) → (b || list_any test (keys_of es)) ≡ is_some (cond b (Some e.1) (lookup test es))
+  by true more = refl
+  by false more = more
+
+some_marked : (o : Option Bool) → is_some (option_filter (λ (b : Bool). b) o) ≡ unwrap_or o false
+some_marked None = refl
+some_marked (Some true) = refl
+some_marked (Some false) = refl
+
+pub standing_is_in : (places : Places) (e : Ranked) → IsStrictlySortedBy rank_order (keys_of places) → is_in (standing places) e ≡ is_marked places e
+standing_is_in places e s =
+    any_keys (is_at (rank_order e)) (filter (λ (row : Ranked × Bool). row.1) places)
+    ∙ ap (λ (o : Option Bool). is_some o) (lookup-filter-values (eq_by_cmp_equiv rank_total) (λ (b : Bool). b) e places (IsDistinct-from_sorted rank_order (keys_of places) s))
+    ∙ some_marked (place_at places e)
+
+-- ---- the same entries
+
+strict : (list : List Ranked) → IsAscending list → IsStrictlySortedBy rank_order list
+unfolding IsStrictlySortedBy
+strict [] h = tt
+strict (e ∷ es) h = (h.0, strict es h.1)
+
+pub same_list : (list more : List Ranked) → IsAscending list → IsAscending more → ((e : Ranked) → is_in list e ≡ is_in more e) → list ≡ more
+same_list list more a b same =
+    let one : BTreeSet Ranked = record { keys = list } in
+    let other : BTreeSet Ranked = record { keys = more } in
+    btree_set_from_contains rank_total one other (strict list a) (strict more b) same exact_rank

@@ -1,0 +1,40 @@
+use Rattle.std.proofs.Common.{List, sym, ap, ◌∙◌, subst}
+use Rattle.liq_types.specs.Ranked.{Ranked}
+use Rattle.liq_guide.specs.Followed.{all_listed}
+use Rattle.liq_guide.specs.Rows.{Follows, standing}
+use Rattle.liq_guide.proofs.Following.{seen_list, list_of_views}
+use Rattle.liq_guide.proofs.guide.Guide.follow.Goals as goal
+
+pub invariant_of-self : goal.invariant_of-self
+invariant_of-self c =
+    let old = standing c.self.inside.rows.places.entries in
+    let places = c.clear.new.self.places.entries in
+    let keys = c.clear.new.self.keys.entries in
+    let new = all_listed old c.args.changes.now in
+    let follows = c.clear.ensures new (c.make.ensures old (c.make_room.ensures.same old c.self.invariant)) in
+    subst (Follows places keys) (sym (seen_list places keys new follows)) follows
+
+pub returns-in-Ok-clause-list : goal.returns-in-Ok-clause-list
+returns-in-Ok-clause-list c v same =
+    let old = standing c.self.inside.rows.places.entries in
+    let places = c.clear.new.self.places.entries in
+    let keys = c.clear.new.self.keys.entries in
+    let new = all_listed old c.args.changes.now in
+    let follows = c.clear.ensures new (c.make.ensures old (c.make_room.ensures.same old c.self.invariant)) in
+    seen_list places keys new follows
+    ∙ ap (λ (l : List Ranked). all_listed l c.args.changes.now) (c.self.view_is ∙ sym same)
+    ∙ sym (list_of_views v c.args.changes.now)
+
+pub invariant_of-self-in-Err : goal.invariant_of-self-in-Err
+invariant_of-self-in-Err c =
+    let old = standing c.self.inside.rows.places.entries in
+    let places = c.clear-in-Err.new.self.places.entries in
+    let keys = c.clear-in-Err.new.self.keys.entries in
+    let follows = c.clear-in-Err.ensures old (c.make_room.ensures.same old c.self.invariant) in
+    subst (Follows places keys) (sym (seen_list places keys old follows)) follows
+
+pub returns-clause-err : goal.returns-clause-err
+returns-clause-err c =
+    let old = standing c.self.inside.rows.places.entries in
+    let follows = c.clear-in-Err.ensures old (c.make_room.ensures.same old c.self.invariant) in
+    seen_list c.clear-in-Err.new.self.places.entries c.clear-in-Err.new.self.keys.entries old follows ∙ c.self.view_is

@@ -1,0 +1,55 @@
+-- The rows of a guide: whether an entry stands at a place, and the key of an account. Others only keep room while changes are
+-- followed.
+use Rattle.std.specs.Prelude.{◌≡◌, ℕ, ℤ, Bool, false, List, Option, Some, None, unwrap_or, filter, IsSome}
+use Rattle.std.specs.List.{list_any}
+use Rattle.std.specs.List.Sorted.{IsStrictlySortedBy}
+use Rattle.std.specs.BTreeMap.{is_at}
+use Rattle.std.specs.Map.{keys_of, lookup}
+use Rattle.std.specs.Ordering.{int_cmp, nat_cmp, is_eq}
+use Rattle.liq_types.specs.declared.events.ListChange.{ListChange}
+use Rattle.liq_types.specs.declared.events.ListChange.TheVariants.{Put, Gone, Words}
+use Rattle.liq_types.specs.Ranked.{Ranked, rank_order, IsAscending}
+
+abbrev pub Places : Type 0
+Places = List (Ranked × Bool)
+
+abbrev pub Keys : Type 0
+Keys = List (ℕ × Option ℤ)
+
+-- the row of a place, and whether an entry stands there
+abbrev pub place_at : Places → Ranked → Option Bool
+place_at places e = lookup (is_at (rank_order e)) places
+
+abbrev pub is_marked : Places → Ranked → Bool
+is_marked places e = unwrap_or (place_at places e) false
+
+-- the row of an account, and its key
+abbrev pub row_at : Keys → ℕ → Option (Option ℤ)
+row_at keys account = lookup (is_at (nat_cmp account)) keys
+
+abbrev pub key_at : Keys → ℕ → Option ℤ
+key_at keys account = unwrap_or (row_at keys account) None
+
+-- the entries that stand
+abbrev pub standing : Places → List Ranked
+standing places = keys_of (filter (λ (row : Ranked × Bool). row.1) places)
+
+abbrev pub is_in : List Ranked → Ranked → Bool
+is_in list e = list_any (is_at (rank_order e)) list
+
+abbrev pub is_key : Option ℤ → ℤ → Bool
+is_key None key = false
+is_key (Some k) key = is_eq (int_cmp key k)
+
+-- the rows say of each entry whether the list has it
+pub record Follows (places : Places) (keys : Keys) (list : List Ranked) : Type 0 where
+  pub ordered : IsStrictlySortedBy rank_order (keys_of places)
+  pub ascending : IsAscending list
+  pub keyed : (e : Ranked) → is_in list e ≡ is_key (key_at keys e.1) e.0
+  pub marked : (e : Ranked) → is_marked places e ≡ is_in list e
+
+-- there are rows for what a change puts
+abbrev pub HasRoom : Places → Keys → ListChange → Type 0
+HasRoom places keys (Put key account) = IsSome (place_at places (key, account)) × IsSome (row_at keys account)
+HasRoom places keys (Gone account) = Unit {0}
+HasRoom places keys (Words snap_stakes snap_coll sum_debt) = Unit {0}
