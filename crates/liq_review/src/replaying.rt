@@ -10,6 +10,7 @@ ghost use Rattle.liq_review.specs.Replaying.{PlansNext, MakesNext, IsReplayed, S
 
 use crate::fault::ReviewFault;
 use liq_core::{PlanFault, Planned, Protocol, Turn};
+use liq_guide::Guide;
 use liq_pairs::code_of;
 use liq_types::{Command, Hint, NoMemory, PoolEvent, Steps};
 use std::alloc::Global;
@@ -37,10 +38,12 @@ pub(crate) fn replayed<L: Ledger>(
 {
     let mut steps = Steps::<L>::new(blank);
     let mut protocol = Protocol::new(alloc);
+    let mut guide = Guide::new(alloc);
     let mut events = Vec::new(alloc);
     for (i, command) in commands.iter().enumerate() {
         make(
             &mut protocol,
+            &mut guide,
             &mut events,
             command,
             i as u64 + 1,
@@ -50,9 +53,10 @@ pub(crate) fn replayed<L: Ledger>(
     Ok(Made { protocol, events })
 }
 
-/// Makes a command's step. It has this number among the commands.
+/// Makes a command's step. It has this number among the commands. The guide saves steps and changes nothing.
 fn make<L: Ledger>(
     protocol: &mut Protocol,
+    guide: &mut Guide,
     events: &mut Vec<PoolEvent>,
     command: &Command,
     index: u64,
@@ -64,7 +68,8 @@ fn make<L: Ledger>(
     let planned = plan(protocol, command, index)?;
     append(events, planned.events())?;
     protocol.reserve(&planned)?;
-    protocol.apply(planned, &Hint::NONE, steps);
+    let hint = guide.follow(planned.list_changes())?;
+    protocol.apply(planned, &hint.unwrap_or(Hint::NONE), steps);
     Ok(())
 }
 
