@@ -1,4 +1,4 @@
--- The rows of a guide: whether an entry stands at a place, and the key of an account. Others only keep room while changes are
+-- The rows of a guide: whether an entry stands at a place, and the key of an account. Some only keep room for what is
 -- followed.
 use Rattle.std.specs.Prelude.{◌≡◌, ℕ, ℤ, Bool, false, List, Option, Some, None, unwrap_or, filter, IsSome}
 use Rattle.std.specs.List.{list_any}
