@@ -26,11 +26,11 @@ fn both<R: Files<File = File> + AllocGlobal>(rt: &R) -> Option<(FileDisk, FileDi
     Some((left, right))
 }
 
-/// The disk over the file of this name. There is none where the file cannot be opened, stands in the place of a standard stream or is
-/// not held, or its folder cannot be synced.
+/// The disk over the file of this name. There is none where the file cannot be opened, is no regular file (a device tells no length),
+/// stands in the place of a standard stream or is not held, or its folder cannot be synced.
 fn disk<R: Files<File = File> + AllocGlobal>(rt: &R, name: &str) -> Option<FileDisk> {
     let file = opened(rt, name).ok()?;
-    if !is_held(&file.try_lock()) {
+    if !file.metadata().ok()?.is_file() || !is_held(&file.try_lock()) {
         return None;
     }
     sync_folder(rt, name).ok()?;

@@ -1,6 +1,7 @@
 -- What a disk stands over: a device, each of whose calls may do a part of what it is asked.
-use Rattle.std.specs.Prelude.{ℕ, ◌≡◌, List, Option, Result, option_map}
+use Rattle.std.specs.Prelude.{ℕ, ◌≡◌, List, None, Option, Result, IsErr, is_some, option_and_then, option_map}
 use Rattle.std.specs.Result.{MatchResult}
+use Rattle.liq_outside.specs.Adapters.{CountsFailure}
 use Rattle.liq_outside.specs.Calls.{Calls, begun, faulted, one_more}
 use Rattle.liq_outside.specs.Disk.{overwritten}
 
@@ -12,6 +13,14 @@ pub record OverDevice (V : Type 0) : Type 0 where
 -- each failure is counted, where that is told, and nothing else
 abbrev pub TellsFailure : {T E : Type 0} → Result T E → Option ℕ → Option ℕ → Type 0
 TellsFailure result before after = MatchResult result (λ _. after ≡ before) (λ _. after ≡ option_map one_more before)
+
+-- A call of the disk: without a device it fails, and the device stays where it was; each failure is counted, the device's own where
+-- that is told.
+pub record IsCall {V T E : Type 0} (failures : V → Option ℕ) (old new : OverDevice V) (result : Result T E) : Type 0 where
+  pub missing : old.device ≡ None → IsErr result
+  pub there : is_some new.device ≡ is_some old.device
+  pub caused : TellsFailure result (option_and_then failures old.device) (option_and_then failures new.device)
+  pub counted : CountsFailure result old.faults new.faults
 
 -- a device in memory
 pub record DeviceInMemory : Type 0 where

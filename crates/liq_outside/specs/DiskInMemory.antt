@@ -1,5 +1,6 @@
 -- A disk in memory: its bytes, and what was done to them, by which one goes back to each earlier moment.
-use Rattle.std.specs.Prelude.{◌≡◌, ◌⊎◌, ℕ, ◌+◌, ◌-◌, ◌<◌, ◌≤◌, List, [], ◌∷◌, ◌++◌, length, take, drop}
+use Rattle.std.specs.Prelude.{◌≡◌, ◌⊎◌, ℕ, ◌+◌, ◌-◌, ◌<◌, ◌≤◌, List, [], ◌∷◌, ◌++◌, Result, length, take, drop}
+use Rattle.std.specs.Result.{MatchResult}
 use Rattle.liq_outside.specs.Calls.{Calls, begun, faulted}
 use Rattle.liq_outside.specs.Disk.{Torn, overwritten}
 
@@ -76,6 +77,10 @@ after_look disk = record disk { calls = begun disk.calls }
 -- after a call that failed and took no step
 abbrev pub after_failed_look : DiskInMemory → DiskInMemory
 after_failed_look disk = record disk { calls = faulted (begun disk.calls) }
+
+-- a call that looks takes no step, whether it fails or not
+abbrev pub Looks : {T E : Type 0} → Result T E → DiskInMemory → DiskInMemory → Type 0
+Looks result old new = MatchResult result (λ _. new ≡ after_look old) (λ _. new ≡ after_failed_look old)
 
 -- after a write
 abbrev pub after_disk_write : DiskInMemory → ℕ → List ℕ → DiskInMemory

@@ -1,7 +1,7 @@
 // A device as a disk: each of its calls is made again until all is done. As such it tells no content, and any image may be left.
 ghost use Rattle.std.specs.Prelude.{◌≡◌, ◌≤◌, ◌+◌, ◌-◌, ◌^◌, None, Some, List, ℕ, is_some, length, min, take, drop, option_and_then, IfOk, IfSome, IsErr, OnOk, OnErr};
 ghost use Rattle.liq_outside.specs.Adapters.{AnyImage, CountsFailure};
-ghost use Rattle.liq_outside.specs.Devices.{TellsFailure};
+ghost use Rattle.liq_outside.specs.Devices.{IsCall, TellsFailure};
 ghost use Rattle.liq_outside.specs.Disk.{Follows, Torn, overwritten};
 ghost use Rattle.liq_outside.specs.Faults.{HasCause};
 
@@ -29,7 +29,7 @@ impl<V> Model for DeviceDisk<V> {
 
 impl<V: Device> DeviceDisk<V> {
     /// The disk over this device, or over none.
-    pub fn over(device: Option<V>) -> Self
+    pub(crate) fn over(device: Option<V>) -> Self
         ensures device { result.device ≡ device }
         ensures faults { result.faults ≡ 0 }
     {
@@ -58,10 +58,7 @@ impl<V: Device> Disk for DeviceDisk<V> {
     fn length(&mut self) -> Result<u64, Failed>
         ensures told { IfOk result (λ n. IfSome (option_and_then V.held self.old.device) (λ old. n ≡ length old)) }
         ensures same { option_and_then V.held self.new.device ≡ option_and_then V.held self.old.device }
-        ensures missing { self.old.device ≡ None → IsErr result }
-        ensures there { is_some self.new.device ≡ is_some self.old.device }
-        ensures caused { TellsFailure result (option_and_then V.failures self.old.device) (option_and_then V.failures self.new.device) }
-        ensures counted { CountsFailure result self.old.faults self.new.faults }
+        ensures called { IsCall V.failures self.old self.new result }
         ensures cause { HasCause self.old.faults self.new.faults result }
     {
         let answer = match &mut self.device {
@@ -76,10 +73,7 @@ impl<V: Device> Disk for DeviceDisk<V> {
         // As far as places go.
         ensures told { at + length buf.old ≤ 2 ^ 64 → IfOk result (λ n. IfSome (option_and_then V.held self.old.device) (λ old. (n ≡ min (length buf.old) (length old - at)) × (take n buf.new ≡ take n (drop at old)))) }
         ensures same { option_and_then V.held self.new.device ≡ option_and_then V.held self.old.device }
-        ensures missing { self.old.device ≡ None → IsErr result }
-        ensures there { is_some self.new.device ≡ is_some self.old.device }
-        ensures caused { TellsFailure result (option_and_then V.failures self.old.device) (option_and_then V.failures self.new.device) }
-        ensures counted { CountsFailure result self.old.faults self.new.faults }
+        ensures called { IsCall V.failures self.old self.new result }
         ensures cause { HasCause self.old.faults self.new.faults result }
     {
         let answer = match &mut self.device {
@@ -92,11 +86,8 @@ impl<V: Device> Disk for DeviceDisk<V> {
     fn write_at(&mut self, at: u64, bytes: &[u8]) -> Result<(), Failed>
         requires limit { at + length bytes.now ≤ 2 ^ 40 }
         ensures written { OnOk result ((old : List ℕ) → option_and_then V.held self.old.device ≡ Some old → at ≤ length old → option_and_then V.held self.new.device ≡ Some (overwritten old at bytes.now)) }
-        ensures missing { self.old.device ≡ None → IsErr result }
-        ensures there { is_some self.new.device ≡ is_some self.old.device }
         ensures crash { Follows (Torn at (length bytes.now)) AnyImage AnyImage }
-        ensures caused { TellsFailure result (option_and_then V.failures self.old.device) (option_and_then V.failures self.new.device) }
-        ensures counted { CountsFailure result self.old.faults self.new.faults }
+        ensures called { IsCall V.failures self.old self.new result }
         ensures cause { HasCause self.old.faults self.new.faults result }
     {
         let answer = match &mut self.device {
@@ -109,10 +100,7 @@ impl<V: Device> Disk for DeviceDisk<V> {
     fn sync(&mut self) -> Result<(), Failed>
         ensures synced { OnOk result (option_and_then V.synced self.new.device ≡ option_and_then V.held self.old.device) }
         ensures same { option_and_then V.held self.new.device ≡ option_and_then V.held self.old.device }
-        ensures missing { self.old.device ≡ None → IsErr result }
-        ensures there { is_some self.new.device ≡ is_some self.old.device }
-        ensures caused { TellsFailure result (option_and_then V.failures self.old.device) (option_and_then V.failures self.new.device) }
-        ensures counted { CountsFailure result self.old.faults self.new.faults }
+        ensures called { IsCall V.failures self.old self.new result }
         ensures cause { HasCause self.old.faults self.new.faults result }
     {
         let answer = match &mut self.device {

@@ -4,6 +4,7 @@ ghost use Rattle.liq_outside.specs.Calls.{FailsNext, not_begun};
 ghost use Rattle.liq_outside.specs.Devices.{after_asking, after_failure, after_syncing, after_writing};
 
 use super::device::Device;
+use super::device_disk::DeviceDisk;
 use super::failed::Failed;
 use super::made::overwrite;
 use super::schedule::Schedule;
@@ -47,6 +48,16 @@ impl MemoryDevice {
             chunk,
             schedule: Schedule::new(failing),
         }
+    }
+}
+
+impl DeviceDisk<MemoryDevice> {
+    /// The disk over this device.
+    pub fn new(device: MemoryDevice) -> Self
+        ensures device { result.device ≡ Some device }
+        ensures faults { result.faults ≡ 0 }
+    {
+        DeviceDisk::over(Some(device))
     }
 }
 

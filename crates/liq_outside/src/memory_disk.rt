@@ -3,7 +3,7 @@ ghost use Rattle.std.specs.Prelude.{◌≡◌, ◌≤◌, ◌<◌, ◌↔◌, �
 ghost use Rattle.liq_outside.specs.Calls.{FailsNext};
 ghost use Rattle.liq_outside.specs.Faults.{HasCause};
 ghost use Rattle.liq_outside.specs.Disk.{Elapses, Follows, LeftNow, Only, Reaches, Torn, Within};
-ghost use Rattle.liq_outside.specs.DiskInMemory.{IsNoted, fresh, left_by, moment_of, after_look, after_failed_look, after_disk_write, after_sync};
+ghost use Rattle.liq_outside.specs.DiskInMemory.{IsNoted, Looks, fresh, left_by, moment_of, after_failed_look, after_disk_write, after_sync};
 
 use super::crash::tear;
 use super::disk::Disk;
@@ -91,8 +91,7 @@ impl Disk for MemoryDisk {
     fn length(&mut self) -> Result<u64, Failed>
         ensures listed { IsErr result ↔ FailsNext self.old.disk.calls }
         ensures told { IfOk result (λ n. n ≡ length self.old.disk.held) }
-        ensures looked { OnOk result (self.new.disk ≡ after_look self.old.disk) }
-        ensures not_looked { OnErr result (self.new.disk ≡ after_failed_look self.old.disk) }
+        ensures looked { Looks result self.old.disk self.new.disk }
         ensures cause { HasCause self.old.disk.calls.faults self.new.disk.calls.faults result }
     {
         if self.schedule.begin() {
@@ -105,8 +104,7 @@ impl Disk for MemoryDisk {
     fn read_at(&mut self, at: u64, buf: &mut [u8]) -> Result<usize, Failed>
         ensures listed { IsErr result ↔ FailsNext self.old.disk.calls }
         ensures told { IfOk result (λ n. (n ≡ min (length buf.old) (length self.old.disk.held - at)) × (buf.new ≡ take n (drop at self.old.disk.held) ++ drop n buf.old)) }
-        ensures looked { OnOk result (self.new.disk ≡ after_look self.old.disk) }
-        ensures not_looked { OnErr result (self.new.disk ≡ after_failed_look self.old.disk) }
+        ensures looked { Looks result self.old.disk self.new.disk }
         ensures cause { HasCause self.old.disk.calls.faults self.new.disk.calls.faults result }
     {
         if self.schedule.begin() {

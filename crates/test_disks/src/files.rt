@@ -101,7 +101,7 @@ const WORD: &[u8] = b"liquidation";
 fn try_word(alloc: Global, chunk: u8, failing: u64) -> Result<Tried, AllocError> {
     let chunk = usize::from(chunk).max(1);
     let device = MemoryDevice::new(alloc, chunk, [failing].to_vec(alloc)?);
-    let mut disk = DeviceDisk::over(Some(device));
+    let mut disk = DeviceDisk::<MemoryDevice>::new(device);
     let written = disk.write_at(0, WORD).is_ok();
     let synced = disk.sync().is_ok();
     let mut bytes = [0; 20];
