@@ -20,10 +20,10 @@ taken b sums account t same there h =
     subst (λ (s : Sums). IsTaken b s t) (sym same)
     (let w = trove_within b account t (sym there) h in
     record {
-      mark_coll = w.stands.mark_coll;
-      mark_debt = w.stands.mark_debt;
       coll = w.coll;
       debt = w.debt;
       pending_coll = w.pending_coll;
       pending_debt = w.pending_debt;
+      mark_coll = w.stands.mark_coll;
+      mark_debt = w.stands.mark_debt;
     })

@@ -45,12 +45,12 @@ pub record SameOthers (old new : Pools) : Type 0 where
 abbrev pub pools_of : State → Pools
 pools_of s =
     record {
-      active_coll = s.active_coll;
-      active_debt = s.active_debt;
-      default_coll = s.default_coll;
-      default_debt = s.default_debt;
       reserve = s.reserve;
       surplus = s.surplus;
       fee_coll = s.fee_coll;
       fee_lusd = s.fee_lusd;
+      active_coll = s.active_coll;
+      active_debt = s.active_debt;
+      default_coll = s.default_coll;
+      default_debt = s.default_debt;
     }
