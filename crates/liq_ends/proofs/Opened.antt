@@ -1,5 +1,5 @@
 -- The disks of a word, as it finds them.
-use Rattle.std.proofs.Common.{◌≡◌, ℕ, Bool, true, false, List, Option, Some, None, Result, Ok, Err, refl, sym, ap, ap₂, subst, ◌∙◌}
+use Rattle.std.proofs.Common.{◌≡◌, ℕ, Bool, true, false, List, [], Option, Some, None, Result, Ok, Err, refl, sym, ap, ap₂, subst, ◌∙◌}
 use Rattle.std.specs.Prelude.{cond, nat_lt, IsSome}
 use Rattle.liq_types.specs.State.{State, opening}
 use Rattle.liq_types.specs.WellFormed.{IsWellFormed}
@@ -22,7 +22,8 @@ use Rattle.liq_store.specs.Opening.{IsNotOpened, OpensOn}
 use Rattle.liq_store.specs.Stored.{Stored}
 use Rattle.liq_store.proofs.Recovered.{still_kept}
 use Rattle.liq_ends.specs.declared.halts.Halt.{Halt}
-use Rattle.liq_ends.specs.Disks.{DisksStand, EndsDamaged, StandStill}
+use Rattle.liq_ends.specs.declared.halts.Halt.TheVariants.{NoMemory}
+use Rattle.liq_ends.specs.Disks.{DisksHold, DisksStay, EndsDamaged, OfBoth}
 
 -- ---- the state for which disks stand is well formed
 
@@ -82,7 +83,7 @@ opened_at s start found core one other stands =
     subst (λ (t : State). StandsFor core t) same stands
 
 -- disks that nobody touched
-pub untouched : {D : Type 0} (seen : D → Option (List ℕ)) (left right : D) (l r : List ℕ) (s : State) → seen left ≡ Some l → seen right ≡ Some r → state_on l r ≡ Ok s → StandStill seen l r s left right
+pub untouched : {D : Type 0} (seen : D → Option (List ℕ)) (left right : D) (l r : List ℕ) (s : State) → seen left ≡ Some l → seen right ≡ Some r → state_on l r ≡ Ok s → DisksStay seen (Err NoMemory) l r s left right
 untouched seen left right l r s told_l told_r is a b told_a told_b =
     let left_is : a ≡ l = cc in
     let right_is : b ≡ r = cc in
@@ -90,31 +91,31 @@ untouched seen left right l r s told_l told_r is a b told_a told_b =
 
 -- disks at which a store was not opened, for want of memory
 pub unopened : {D : Type 0} (seen : D → Option (List ℕ)) (faults : D → ℕ) (left right : D) (fault : StoreFault D) → IsNotOpened seen faults left right fault → (fault.why ≡ why.DiskFault → ⊥)
-    → (l r : List ℕ) (s : State) → seen left ≡ Some l → seen right ≡ Some r → state_on l r ≡ Ok s → StandStill seen l r s fault.left fault.right
+    → (l r : List ℕ) (s : State) → seen left ≡ Some l → seen right ≡ Some r → state_on l r ≡ Ok s → DisksStay seen (Err NoMemory) l r s fault.left fault.right
 unopened seen faults left right fault h other l r s told_l told_r is a b told_a told_b =
     let stands : state_on a b ≡ Ok s = h.stays other l r a b told_l told_r told_a told_b ∙ is in
     (stands, λ kept. still_kept l r a b s stands (h.reads l r a b s told_l told_r kept told_a told_b))
 
--- disks that stand still stand for the state
-pub standing_still : {D : Type 0} (seen : D → Option (List ℕ)) (left right : D) (l r : List ℕ) (s : State) → state_on l r ≡ Ok s → StandStill seen l r s left right → DisksStand seen l r s left right s
-standing_still seen left right l r s is still a b told_a told_b =
+-- so they are left by a run that read nothing
+pub standing_still : {D : Type 0} (seen : D → Option (List ℕ)) (left right : D) (bytes l r : List ℕ) (unread : Option (List ℕ)) (s : State) → unread ≡ Some bytes → state_on l r ≡ Ok s → DisksStay seen (Err NoMemory) l r s left right
+    → DisksHold seen (Err NoMemory) bytes unread l r s left right []
+standing_still seen left right bytes l r unread s none is still a b told_a told_b =
     let so = still a b told_a told_b in
-    (still_stand l r a b s (so.0 ∙ sym is) is, so.1)
+    (still_stand l r a b s (so.0 ∙ sym is) is, λ were. so.1 (were (refl, none)))
 
 -- disks of a store that was opened
 pub opened_still : {D : Type 0} (seen : D → Option (List ℕ)) (faults : D → ℕ) (moment : D → ℕ) (left_at : D → ℕ → List ℕ → Type 0) (left right : D) (store : Stored D) (l r : List ℕ) (s : State)
-    → OpensOn seen faults left right store → IsInOrder seen moment left_at store → StandsFor store.core s → seen left ≡ Some l → seen right ≡ Some r → state_on l r ≡ Ok s → StandStill seen l r s store.left store.right
+    → OpensOn seen faults left right store → IsInOrder seen moment left_at store → StandsFor store.core s → seen left ≡ Some l → seen right ≡ Some r → state_on l r ≡ Ok s → DisksStay seen (Ok tt) l r s store.left store.right
 opened_still seen faults moment left_at left right store l r s opened order stands told_l told_r is a b told_a told_b =
     let now = subst (λ (stopped : Option ℕ). IsInOrderWith seen moment left_at stopped store) opened.going order in
-    (opened.stays l r a b told_l told_r told_a told_b ∙ is, λ kept. settled_kept store.side a b s (now.settled a b told_a told_b s stands))
+    (opened.stays l r a b told_l told_r told_a told_b ∙ is, settled_kept store.side a b s (now.settled a b told_a told_b s stands))
 
 -- disks of a store that goes on
-pub settled : {D : Type 0} (seen : D → Option (List ℕ)) (moment : D → ℕ) (left_at : D → ℕ → List ℕ → Type 0) (store : Stored D) (l r : List ℕ) (start s : State)
-    → store.stopped ≡ None → IsInOrder seen moment left_at store → StandsFor store.core s → DisksStand seen l r start store.left store.right s
-settled seen moment left_at store l r start s going order stands a b told_a told_b =
+pub settled : {D : Type 0} (seen : D → Option (List ℕ)) (moment : D → ℕ) (left_at : D → ℕ → List ℕ → Type 0) (store : Stored D) (s : State)
+    → store.stopped ≡ None → IsInOrder seen moment left_at store → StandsFor store.core s → OfBoth seen store.left store.right (λ a b. IsKept a b s)
+settled seen moment left_at store s going order stands a b told_a told_b =
     let now = subst (λ (stopped : Option ℕ). IsInOrderWith seen moment left_at stopped store) going order in
-    let is = now.settled a b told_a told_b s stands in
-    (is.stands, λ kept. settled_kept store.side a b s is)
+    settled_kept store.side a b s (now.settled a b told_a told_b s stands)
 
 -- ---- disks that are kept begin again
 

@@ -1,5 +1,5 @@
 -- What a run leaves on the disks.
-use Rattle.std.specs.Prelude.{ℕ, ◌≡◌, ◌⊎◌, ◌∷◌, [], List, Option, Some, Result, Ok, Err}
+use Rattle.std.specs.Prelude.{ℕ, ◌≡◌, ◌⊎◌, [], List, Option, Some, Result, Ok, Err}
 use Rattle.liq_types.specs.declared.requests.Command.{Command}
 use Rattle.liq_types.specs.declared.requests.Request.{Request}
 use Rattle.liq_types.specs.declared.requests.Request.TheVariants.{Do}
@@ -9,67 +9,58 @@ use Rattle.liq_journal.specs.declared.damage.Damage.{Damage}
 use Rattle.liq_pairs.specs.declared.side.Side.{Side}
 use Rattle.liq_pairs.specs.Kept.{IsKept}
 use Rattle.liq_pairs.specs.Pair.{StandFor, state_on}
-use Rattle.liq_pairs.specs.Unfinished.{HoldsUnfinished, IsRecovered}
+use Rattle.liq_pairs.specs.Unfinished.{IsRecovered}
 use Rattle.liq_ends.specs.declared.halts.Halt.{Halt}
 use Rattle.liq_ends.specs.declared.halts.Halt.TheVariants.{DiskFault, Damaged, NoMemory}
-use Rattle.liq_ends.specs.Requests.{BeginsWith, IsRequest}
+use Rattle.liq_ends.specs.Requests.{IsNext}
 
--- the next line is that of this request
-abbrev pub IsNext : List ℕ → List Request → Request → Type 0
-IsNext bytes requests request =
-    (line : List ℕ) × (more : List (List ℕ)) × IsRequest line request × BeginsWith bytes requests (line ∷ more)
+-- nothing was read, so that the opening may have failed
+abbrev pub IsUnread : List ℕ → Option (List ℕ) → List Request → Type 0
+IsUnread bytes unread requests = (requests ≡ []) × (unread ≡ Some bytes)
 
--- the next line's command; or one that the disks held unfinished, where nothing was read, since the opening failed
-abbrev pub IsFurther : List ℕ → Option (List ℕ) → List Request → List ℕ → List ℕ → State → Command → Type 0
-IsFurther bytes unread requests l r start c =
-    IsNext bytes requests (Do c) ⊎ ((requests ≡ []) × (unread ≡ Some bytes) × HoldsUnfinished l r start c)
+module _ {D : Type 0} (seen : D → Option (List ℕ)) where
+  -- where both disks tell their bytes, this holds of them
+  abbrev pub OfBoth : D → D → (List ℕ → List ℕ → Type 0) → Type 0
+  OfBoth left right P = (a b : List ℕ) → seen left ≡ Some a → seen right ≡ Some b → P a b
 
--- Where both disks tell their bytes, these stand for the state; and they are kept for it, if l and r were kept for the
--- state at the start.
-abbrev pub DisksStand :
-    {D : Type 0} → (D → Option (List ℕ)) → List ℕ → List ℕ → State → D → D → State → Type 0
-DisksStand seen l r start left right s =
-    (a b : List ℕ) → seen left ≡ Some a → seen right ≡ Some b → StandFor a b s × (IsKept l r start → IsKept a b s)
+  -- The disks of a run that began with l and r on them, for which they stood for the state `start`: they are kept for
+  -- the state after the requests.
+  abbrev pub DisksHold :
+      Result (Unit {0}) Halt → List ℕ → Option (List ℕ) → List ℕ → List ℕ → State → D → D → List Request → Type 0
+  -- After a disk's fault they are kept for that state, or for it after the next line's command, if it is accepted
+  -- there. Or the opening failed, and left what it may leave of disks that were kept.
+  DisksHold (Err DiskFault) bytes unread l r start left right requests =
+      let s = (run start requests).0 in
+      OfBoth left right (λ a b.
+      (IsUnread bytes unread requests × (IsKept l r start → IsRecovered l r start a b))
+      ⊎ (IsKept a b s
+      ⊎ ((c : Command) × IsNext bytes requests (Do c) × (ruling s c ≡ Allowed) × IsKept a b (after s c))))
+  -- Where memory may have been wanted for the opening they stand for that state, and stay kept.
+  DisksHold (Err NoMemory) bytes unread l r start left right requests =
+      let s = (run start requests).0 in
+      OfBoth left right (λ a b.
+      StandFor a b s × ((IsUnread bytes unread requests → IsKept l r start) → IsKept a b s))
+  DisksHold _ bytes unread l r start left right requests =
+      OfBoth left right (λ a b. IsKept a b (run start requests).0)
 
--- The disks of a run that began with l and r on them, for which they stood for this state: they stand for the state
--- after the requests, and stay kept. After a disk's fault they are kept, if they were, for that state or for it after
--- one command more that is accepted there.
-abbrev pub DisksHold :
-    {D : Type 0} → (D → Option (List ℕ)) → Result (Unit {0}) Halt → List ℕ → Option (List ℕ) → List ℕ → List ℕ
-    → State → D → D → List Request → Type 0
-DisksHold seen (Err DiskFault) bytes unread l r start left right requests =
-    let s = (run start requests).0 in
-    IsKept l r start → (a b : List ℕ) → seen left ≡ Some a → seen right ≡ Some b
-    → IsKept a b s ⊎ ((c : Command) × IsFurther bytes unread requests l r start c × (ruling s c ≡ Allowed)
-    × IsKept a b (after s c))
-DisksHold seen _ bytes unread l r start left right requests =
-    DisksStand seen l r start left right (run start requests).0
+  -- The disks of a word that only tells what is on them: they stand for just the state for which l and r stood, and are
+  -- kept for it.
+  abbrev pub DisksStay : Result (Unit {0}) Halt → List ℕ → List ℕ → State → D → D → Type 0
+  -- A disk's fault may be the opening's: then it left what it may leave of disks that were kept. `audit` may meet one
+  -- behind the opening too, and nothing shows which it was.
+  DisksStay (Err DiskFault) l r start left right =
+      IsKept l r start → OfBoth left right (IsRecovered l r start)
+  -- memory may have been wanted for the opening
+  DisksStay (Err NoMemory) l r start left right =
+      OfBoth left right (λ a b. (state_on a b ≡ Ok start) × (IsKept l r start → IsKept a b start))
+  DisksStay _ l r start left right = OfBoth left right (λ a b. (state_on a b ≡ Ok start) × IsKept a b start)
 
--- Where both disks tell their bytes, these stand for just this state; and they are kept for it, if l and r were.
-abbrev pub StandStill : {D : Type 0} → (D → Option (List ℕ)) → List ℕ → List ℕ → State → D → D → Type 0
-StandStill seen l r start left right =
-    (a b : List ℕ) → seen left ≡ Some a → seen right ≡ Some b
-    → (state_on a b ≡ Ok start) × (IsKept l r start → IsKept a b start)
-
--- The disks of a word that only tells what is on them. After a disk's fault they may be kept, if they were, for the state
--- after the command that they held unfinished: nothing shows whether it was the opening that met the fault.
-abbrev pub DisksStay :
-    {D : Type 0} → (D → Option (List ℕ)) → Result (Unit {0}) Halt → List ℕ → List ℕ → State → D → D → Type 0
-DisksStay seen (Err DiskFault) l r start left right =
-    IsKept l r start → (a b : List ℕ) → seen left ≡ Some a → seen right ≡ Some b → IsRecovered l r start a b
-DisksStay seen _ l r start left right = StandStill seen l r start left right
-
--- where both disks tell their bytes, this is their first damage
-abbrev pub StayDamaged : {D : Type 0} → (D → Option (List ℕ)) → Side → Damage → D → D → Type 0
-StayDamaged seen side damage left right =
-    (a b : List ℕ) → seen left ≡ Some a → seen right ≡ Some b → state_on a b ≡ Err (side, damage)
-
--- A word over damaged disks: the first damage is told; or a disk met a fault, or there was no memory, before it was
--- found. It stays, but where a disk met a fault.
-abbrev pub EndsDamaged :
-    {D : Type 0} → (D → Option (List ℕ)) → Side → Damage → Result (Unit {0}) Halt → D → D → Type 0
-EndsDamaged seen side damage (Err DiskFault) left right = Unit {0}
-EndsDamaged seen side damage (Err NoMemory) left right = StayDamaged seen side damage left right
-EndsDamaged seen side damage (Err (Damaged which number)) left right =
-    (which ≡ side) × (number ≡ damage.index) × StayDamaged seen side damage left right
-EndsDamaged seen side damage _ left right = ⊥
+  -- A word over damaged disks: the first damage is told; or a disk met a fault, or there was no memory, before it was
+  -- found. It stays, but where a disk met a fault.
+  abbrev pub EndsDamaged : Side → Damage → Result (Unit {0}) Halt → D → D → Type 0
+  EndsDamaged side damage (Err DiskFault) left right = Unit {0}
+  EndsDamaged side damage (Err NoMemory) left right = OfBoth left right (λ a b. state_on a b ≡ Err (side, damage))
+  EndsDamaged side damage (Err (Damaged which number)) left right =
+      (which ≡ side) × (number ≡ damage.index)
+      × OfBoth left right (λ a b. state_on a b ≡ Err (side, damage))
+  EndsDamaged side damage _ left right = ⊥

@@ -13,7 +13,8 @@ use Rattle.liq_ends.specs.declared.halts.Halt.TheVariants.{DiskFault, Damaged, N
 use Rattle.liq_lines.specs.Lines.{lines_in, ended, IsPartOfLine}
 use Rattle.liq_ends.specs.Disks.{DisksHold}
 use Rattle.liq_ends.specs.Output.{last, lines}
-use Rattle.liq_ends.specs.Requests.{AreRequests, IsBadLine, BeginsWith, BeginsWithTaker}
+use Rattle.liq_store.specs.Memory.{TakesMemory}
+use Rattle.liq_ends.specs.Requests.{AreRequests, IsBadLine, BeginsWith, IsNext}
 use Rattle.liq_lines.specs.Writing.{Writes}
 
 -- the text is a front of the whole
@@ -55,8 +56,9 @@ EndsAfter start (Err DiskFault) bytes left requests = (more : List (List ℕ)) �
 EndsAfter start (Err (Damaged side number)) bytes left requests = ⊥
 -- memory is asked for before the first line, and then only for a command that is allowed or plans a list
 EndsAfter start (Err NoMemory) bytes left requests =
-    (more : List (List ℕ)) × BeginsWith bytes requests more
-    × ((requests ≡ []) ⊎ BeginsWithTaker (run start requests).0 more)
+    let s = (run start requests).0 in
+    ((more : List (List ℕ)) × BeginsWith bytes requests more)
+    × ((requests ≡ []) ⊎ ((request : Request) × IsNext bytes requests request × TakesMemory s request))
 -- as many lines as one run answers, and a further one begins
 EndsAfter start (Err (Limit number)) bytes left requests =
     (number ≡ LINES_MOST) × (length requests ≡ LINES_MOST)

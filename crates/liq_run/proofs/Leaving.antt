@@ -11,18 +11,17 @@ use Rattle.liq_lines.specs.Lines.{lines_in}
 use Rattle.liq_lines.proofs.Bytes.{writes_nothing}
 use Rattle.liq_pairs.specs.Kept.{IsKept}
 use Rattle.liq_pairs.specs.Pair.{state_on}
-use Rattle.liq_pairs.specs.Unfinished.{IsRecovered}
 use Rattle.liq_store.specs.declared.answers.StoreWhy.{StoreWhy}
 use Rattle.liq_store.specs.declared.answers.StoreWhy.TheVariants as why
 use Rattle.liq_store.specs.Keeping.{IsInOrder, IsKeptAround}
 use Rattle.liq_store.specs.Memory.{IsAccepted}
 use Rattle.liq_store.specs.Opening.{IsNotOpened}
 use Rattle.liq_store.specs.Stored.{Stored}
-use Rattle.liq_store.proofs.Recovered.{unfinished_is_allowed}
 use Rattle.liq_ends.specs.declared.halts.Halt.{Halt}
 use Rattle.liq_ends.specs.declared.halts.Halt.TheVariants.{BadLine, ReadFault, WriteFault, DiskFault, NoMemory, Limit}
 use Rattle.liq_ends.specs.declared.halts.Halt.TheVariants as halts
-use Rattle.liq_ends.specs.Disks.{DisksHold, IsFurther, IsNext}
+use Rattle.liq_ends.specs.Disks.{DisksHold}
+use Rattle.liq_ends.specs.Requests.{IsNext}
 use Rattle.liq_ends.specs.Unopened.{halt_of}
 use Rattle.liq_ends.proofs.Opened.{settled, standing_still, unopened}
 use Rattle.liq_run.specs.Calls.{IsStopped, KeepsAround}
@@ -39,43 +38,41 @@ module _ {D : Type 0} (seen : D → Option (List ℕ)) (faults : D → ℕ) wher
         few = omega arith;
         read = (lines_in bytes, ([], tt, refl));
         written = writes_nothing before;
-        disks = λ kept a b told_a told_b. by a b (h.reads l r a b start told_l told_r kept told_a told_b);
-      } where
-        by : (a b : List ℕ) → IsRecovered l r start a b → IsKept a b start ⊎ ((c : Command) × IsFurther bytes unread [] l r start c × (ruling start c ≡ Allowed) × IsKept a b (after start c))
-        by a b (inl stays) = inl stays
-        by a b (inr more) = inr (more.0, inr (refl, told, more.1), unfinished_is_allowed l r start more.0 more.1, more.2)
+        disks = λ a b told_a told_b. inl ((refl, told), λ kept. h.reads l r a b start told_l told_r kept told_a told_b);
+      }
   unopened_by (why.Damaged side damage) fl fr left right h bytes l r unread before told told_l told_r start is = absurd (cc (h.is_why l r told_l told_r, is))
   unopened_by why.NoMemory fl fr left right h bytes l r unread before told told_l told_r start is =
       record {
         requests = [];
         few = omega arith;
-        read = (lines_in bytes, ([], tt, refl), inl refl);
+        read = ((lines_in bytes, ([], tt, refl)), inl refl);
         written = writes_nothing before;
-        disks = standing_still seen fl fr l r start is (unopened seen faults left right (record { left = fl; right = fr; why = why.NoMemory }) h (λ e. cc) l r start told_l told_r is);
+        disks = standing_still seen fl fr bytes l r unread start told is (unopened seen faults left right (record { left = fl; right = fr; why = why.NoMemory }) h (λ e. cc) l r start told_l told_r is);
       }
 
   -- ---- a store was opened
 
   -- a command that is accepted makes its step
-  around : (s : State) (request : Request) (bytes : List ℕ) (unread : Option (List ℕ)) (l r : List ℕ) (start : State) (requests : List Request) (a b : List ℕ) → IsNext bytes requests request → IsAccepted s request → IsKeptAround s request a b
-      → IsKept a b s ⊎ ((c : Command) × IsFurther bytes unread requests l r start c × (ruling s c ≡ Allowed) × IsKept a b (after s c))
-  around s (Ask query) bytes unread l r start requests a b next accepted kept = absurd accepted
-  around s (Do c) bytes unread l r start requests a b next accepted (inl kept) = inl kept
-  around s (Do c) bytes unread l r start requests a b next accepted (inr kept) =
-      inr (c, inl next, accepted, subst (λ (q : Ruling). IsKept a b (after_ruling s c q).0) accepted kept)
+  around : (s : State) (request : Request) (bytes : List ℕ) (requests : List Request) (a b : List ℕ) → IsNext bytes requests request → IsAccepted s request → IsKeptAround s request a b
+      → IsKept a b s ⊎ ((c : Command) × IsNext bytes requests (Do c) × (ruling s c ≡ Allowed) × IsKept a b (after s c))
+  around s (Ask query) bytes requests a b next accepted kept = absurd accepted
+  around s (Do c) bytes requests a b next accepted (inl kept) = inl kept
+  around s (Do c) bytes requests a b next accepted (inr kept) =
+      inr (c, next, accepted, subst (λ (q : Ruling). IsKept a b (after_ruling s c q).0) accepted kept)
 
   module _ (moment : D → ℕ) (left_at : D → ℕ → List ℕ → Type 0) where
     pub left_by : (store : Stored D) (end : Result (Unit {0}) Halt) (bytes : List ℕ) (unread : Option (List ℕ)) (l r : List ℕ) (start : State) (requests : List Request) → IsStopped end store.stopped → IsInOrder seen moment left_at store
         → StandsFor store.core (run start requests).0 → HaltsAt end bytes requests [] (run start requests).0 (KeepsAround seen store.left store.right) → DisksHold seen end bytes unread l r start store.left store.right requests
     left_by store (Err DiskFault) bytes unread l r start requests stopped order stands halted =
-        λ kept a b told_a told_b. around (run start requests).0 halted.0 bytes unread l r start requests a b halted.1 halted.2 (halted.4 a b told_a told_b)
-    left_by store (Ok done) bytes unread l r start requests stopped order stands halted = settled seen moment left_at store l r start (run start requests).0 stopped order stands
-    left_by store (Err (BadLine n)) bytes unread l r start requests stopped order stands halted = settled seen moment left_at store l r start (run start requests).0 stopped order stands
-    left_by store (Err ReadFault) bytes unread l r start requests stopped order stands halted = settled seen moment left_at store l r start (run start requests).0 stopped order stands
-    left_by store (Err WriteFault) bytes unread l r start requests stopped order stands halted = settled seen moment left_at store l r start (run start requests).0 stopped order stands
-    left_by store (Err (halts.Damaged side number)) bytes unread l r start requests stopped order stands halted = settled seen moment left_at store l r start (run start requests).0 stopped order stands
-    left_by store (Err NoMemory) bytes unread l r start requests stopped order stands halted = settled seen moment left_at store l r start (run start requests).0 stopped order stands
-    left_by store (Err (Limit number)) bytes unread l r start requests stopped order stands halted = settled seen moment left_at store l r start (run start requests).0 stopped order stands
+        λ a b told_a told_b. inr (around (run start requests).0 halted.0 bytes requests a b halted.1 halted.2 (halted.4 a b told_a told_b))
+    left_by store (Ok done) bytes unread l r start requests stopped order stands halted = settled seen moment left_at store (run start requests).0 stopped order stands
+    left_by store (Err (BadLine n)) bytes unread l r start requests stopped order stands halted = settled seen moment left_at store (run start requests).0 stopped order stands
+    left_by store (Err ReadFault) bytes unread l r start requests stopped order stands halted = settled seen moment left_at store (run start requests).0 stopped order stands
+    left_by store (Err WriteFault) bytes unread l r start requests stopped order stands halted = settled seen moment left_at store (run start requests).0 stopped order stands
+    left_by store (Err (halts.Damaged side number)) bytes unread l r start requests stopped order stands halted = settled seen moment left_at store (run start requests).0 stopped order stands
+    left_by store (Err NoMemory) bytes unread l r start requests stopped order stands halted =
+        λ a b told_a told_b. let kept = settled seen moment left_at store (run start requests).0 stopped order stands a b told_a told_b in (kept.stands, λ were. kept)
+    left_by store (Err (Limit number)) bytes unread l r start requests stopped order stands halted = settled seen moment left_at store (run start requests).0 stopped order stands
 
     -- a run is at its end, and its store is closed
     pub gives_back : (store : Stored D) (end : Result (Unit {0}) Halt) (bytes l r : List ℕ) (unread before now : Option (List ℕ)) (start : State) → IsStopped end store.stopped → IsInOrder seen moment left_at store

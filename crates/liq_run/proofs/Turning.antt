@@ -256,7 +256,10 @@ answering_halts start kept NoMemory bytes line more r n core core' u left w w' b
     record {
       requests = a.requests;
       few = omega (arith, few, a.count);
-      read = (lines_in a.rest, begins_with start bytes n core u w before now a, inr (line, r, more, is, failed.1, first));
+      read = (
+        (lines_in a.rest, begins_with start bytes n core u w before now a),
+        inr (r, (line, more, is, (a.front, a.spelled, begins start bytes n core u w before now a ∙ ap (λ (ls : List (List ℕ)). a.front ++ ls) first)), failed.1),
+      );
       more = lines_in a.rest;
       begins = begins_with start bytes n core u w before now a;
       written = written_on start a.requests w w' before now now' a.written failed.2;

@@ -15,8 +15,8 @@ use Rattle.liq_lines.specs.Lines.{ended, IsWithinLine}
 use Rattle.liq_ends.specs.Output.{lines, reply_line}
 use Rattle.liq_lines.specs.Reading.{Reads, IsOver}
 use Rattle.liq_store.specs.Memory.{IsAccepted, TakesMemory}
-use Rattle.liq_ends.specs.Disks.{DisksHold, IsNext}
-use Rattle.liq_ends.specs.Requests.{IsRequest, IsBadLine, AreRequests, BeginsWith}
+use Rattle.liq_ends.specs.Disks.{DisksHold}
+use Rattle.liq_ends.specs.Requests.{IsRequest, IsBadLine, IsNext, AreRequests, BeginsWith}
 use Rattle.liq_ends.specs.Stops.{EndsAfter, IsCutInLastLine}
 use Rattle.liq_lines.specs.Writing.{Writes, WritesPart}
 use Rattle.liq_run.specs.Calls.{IsCommand}

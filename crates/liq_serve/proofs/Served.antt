@@ -1,5 +1,5 @@
 -- Serving an input, as an end of the program.
-use Rattle.std.proofs.Common.{◌≡◌, ◌≢◌, ℕ, List, [], Option, Some, Ok, Err, Result, refl, ap, ap₂, ◌∙◌, arith, inl, inr, lit<}
+use Rattle.std.proofs.Common.{◌≡◌, ℕ, List, [], Option, Some, None, Ok, Err, Result, refl, ap, ap₂, ◌∙◌, arith, inl, inr, lit<}
 use Rattle.std.specs.Prelude.{◌⊎◌}
 use Rattle.std.proofs.lemmas.List.Elements.{All-nil}
 use Rattle.liq_types.specs.State.{State}
@@ -23,7 +23,7 @@ use Rattle.liq_ends.specs.declared.halts.Halt.TheVariants as halts
 use Rattle.liq_ends.specs.Causes.{DiskCause, ReadCause, WriteCause}
 use Rattle.liq_ends.specs.Output.{last}
 use Rattle.liq_ends.specs.Unsaid.{WritesAll}
-use Rattle.liq_serve.specs.Finishing.{IsUnread, end_of}
+use Rattle.liq_serve.specs.Finishing.{end_of}
 use Rattle.liq_serve.specs.Serve.{AnswersAll, OpensNone, ServesTo, StopsReading}
 use Rattle.liq_ends.specs.Statuses.{IsDone, status_of}
 use Rattle.liq_ends.specs.Stops.{Adds}
@@ -87,18 +87,7 @@ all_served held history before now (finish.NotOpened why.NoMemory) wrote = ap he
 all_served held history before now finish.NoMemory wrote = ap held wrote
 all_served held history before now finish.DiskFault wrote = ap held wrote
 
--- ---- the disks, and the status
-
--- where the input was not read to its end
-pub unread_so : (how : Finish) (P : Type 0) → ((why_not : Stop) → how ≡ finish.NotRead why_not → P) → IsUnread (end_of how) → P
-unread_so finish.All P so is = absurd is
-unread_so (finish.NotRead why_not) P so is = so why_not refl
-unread_so (finish.NotOpened why.DiskFault) P so is = absurd is
-unread_so (finish.NotOpened (why.Damaged side damage)) P so is = absurd is
-unread_so (finish.NotOpened why.NoMemory) P so is = absurd is
-unread_so finish.NoMemory P so is = absurd is
-unread_so finish.DiskFault P so is = absurd is
-unread_so finish.WriteFault P so is = absurd is
+-- ---- the status
 
 pub is_done : (how : Finish) → IsAllButForMemory how → IsDone (status_of (end_of how))
 is_done finish.All all = inl refl
@@ -112,25 +101,6 @@ is_done (finish.NotOpened why.NoMemory) all = inr refl
 is_done finish.NoMemory all = inr refl
 is_done finish.DiskFault all = absurd all
 is_done finish.WriteFault all = absurd all
-
--- the statuses of an input that was not read to its end
-none_of : (n : ℕ) → n ≢ 2 → n ≢ 3 → n ≢ 8 → (n ≡ 2) ⊎ (n ≡ 3) ⊎ (n ≡ 8) → ⊥
-none_of n two three eight (inl is) = two is
-none_of n two three eight (inr (inl is)) = three is
-none_of n two three eight (inr (inr is)) = eight is
-
-pub not_unread : (n : ℕ) → n ≡ 7 → (n ≡ 2) ⊎ (n ≡ 3) ⊎ (n ≡ 8) → ⊥
-not_unread n is_7 is = none_of n (λ e. omega (arith, e, is_7)) (λ e. omega (arith, e, is_7)) (λ e. omega (arith, e, is_7)) is
-
-pub is_unread : (end : Result (Unit {0}) Halt) → (status_of end ≡ 2) ⊎ (status_of end ≡ 3) ⊎ (status_of end ≡ 8) → IsUnread end
-is_unread (Ok done) is = none_of 0 (λ e. omega (arith, e)) (λ e. omega (arith, e)) (λ e. omega (arith, e)) is
-is_unread (Err (BadLine number)) is = tt
-is_unread (Err ReadFault) is = tt
-is_unread (Err halts.WriteFault) is = none_of 4 (λ e. omega (arith, e)) (λ e. omega (arith, e)) (λ e. omega (arith, e)) is
-is_unread (Err DiskFault) is = none_of 5 (λ e. omega (arith, e)) (λ e. omega (arith, e)) (λ e. omega (arith, e)) is
-is_unread (Err (halts.Damaged side number)) is = none_of 6 (λ e. omega (arith, e)) (λ e. omega (arith, e)) (λ e. omega (arith, e)) is
-is_unread (Err NoMemory) is = not_unread 7 refl is
-is_unread (Err (Limit number)) is = tt
 
 -- ---- nothing was read, for want of memory
 
@@ -176,22 +146,22 @@ module _ {D : Type 0} (seen : D → Option (List ℕ)) (before unread : Option (
       → ((why_not : Stop) → how ≡ finish.NotRead why_not → (left_now ≡ left) × (right_now ≡ right)) → Came (end_of how)
   came_by finish.All a same = inr (inr (record {
     read = a.read;
-    halted = a.halted;
-    answers = a.answers;
+    halted = None;
+    answers = (refl, a.answers);
     disks = λ l r x y start found told_x told_y. a.disks l r start found.left found.right found.is x y told_x told_y;
     whole = λ l r side damage found. a.damaged l r side damage found.left found.right found.is;
   }))
   came_by finish.WriteFault a same = inr (inr (record {
     read = a.read;
-    halted = a.halted;
-    answers = a.answers;
+    halted = None;
+    answers = (refl, a.answers);
     disks = λ l r x y start found told_x told_y. a.disks l r start found.left found.right found.is x y told_x told_y;
     whole = λ l r side damage found. a.damaged l r side damage found.left found.right found.is;
   }))
   came_by finish.NoMemory a same = inr (inr (record {
     read = a.read;
-    halted = a.halted;
-    answers = a.answers;
+    halted = None;
+    answers = (refl, a.answers);
     disks = λ l r x y start found told_x told_y. a.disks l r start found.left found.right found.is x y told_x told_y;
     whole = λ l r side damage found. a.damaged l r side damage found.left found.right found.is;
   }))

@@ -25,7 +25,6 @@ use Rattle.liq_ends.specs.Disks.{DisksStay, EndsDamaged}
 use Rattle.liq_load.specs.Load.{load, summary}
 use Rattle.liq_ends.specs.Output.{last, usage}
 use Rattle.liq_serve.specs.Outside.{Outside, DiskRose, Finds, SinkRose, SourceRose}
-use Rattle.liq_serve.specs.Finishing.{IsUnread}
 use Rattle.liq_serve.specs.Serve.{ServesTo}
 use Rattle.liq_tell.specs.State.{standing}
 use Rattle.liq_ends.specs.Statuses.{IsDone, status_of}
@@ -36,7 +35,7 @@ use Rattle.liq_tell.proofs.Audited.{no_limit}
 use Rattle.liq_ends.proofs.Causes.{disk_causes, sink_causes, source_causes}
 use Rattle.liq_ends.proofs.Opened.{standing_still, state_formed, untouched}
 use Rattle.liq_ends.proofs.Shares.{all_shares}
-use Rattle.liq_serve.proofs.Served.{is_unread, not_unread, same_disks, serves_nothing}
+use Rattle.liq_serve.proofs.Served.{same_disks, serves_nothing}
 use Rattle.liq_serve.proofs.StatusLaws.{complete, status_known}
 use Rattle.liq_serve.proofs.Telling.{audit_done, disks_unasked, load_done, source_unasked, state_done}
 
@@ -169,19 +168,17 @@ module _ {S D : Type 0} (seen : D → Option (List ℕ)) (before after : Outside
   pub serve_ends :
       (words : List (List ℕ)) (end : Result (Unit {0}) Halt) → IsRead words word.Serve → HasCounts end
       → ServesTo seen before.unread after.unread before.left before.right end after.left after.right (SinkRose before after) before.held after.held
-      → (IsUnread end → (after.left ≡ before.left) × (after.right ≡ before.right))
       → ((bytes l r : List ℕ) → before.unread ≡ Some bytes → seen before.left ≡ Some l → seen before.right ≡ Some r → (start : State) → state_on l r ≡ Ok start
       → (asked : List (ℕ × Request)) → AreAsked (lines_in bytes) asked → length asked ≤ LINES_MOST
       → (SourceRose before after → ⊥) → (SinkRose before after → ⊥) → (DiskRose before after → ⊥) → IsDone (status_of end))
       → Ends seen before after (status_of end) words
-  serve_ends words end read counts told unread done =
+  serve_ends words end read counts told done =
       record {
         understood = (λ is. absurd (not_usage end is), λ none. absurd (none word.Serve read.asks));
         usage = λ is. absurd (not_usage end is);
         run = λ asked. absurd (cc (read.only word.Run asked));
         serve = λ asked. record {
           ends = (end, refl, told);
-          unread = λ is. unread (is_unread end is);
           complete = λ bytes l r start asked unread found all few source calm. done bytes l r unread found.left found.right start found.is asked all few source calm.sink calm.disk;
         };
         state = λ asked. absurd (cc (read.only word.State asked));
@@ -302,9 +299,9 @@ module _ {S D : Type 0} (seen : D → Option (List ℕ)) (source : S) (unread : 
             record {
               requests = [];
               few = omega arith;
-              read = (lines_in bytes, ([], tt, refl), inl refl);
+              read = ((lines_in bytes, ([], tt, refl)), inl refl);
               written = written;
-              disks = standing_still seen left right l r start found.is (untouched seen left right l r start found.left found.right found.is);
+              disks = standing_still seen left right bytes l r unread start told found.is (untouched seen left right l r start found.left found.right found.is);
               shares = all_shares start [] (state_formed l r start found.is);
             },
           );
@@ -312,7 +309,6 @@ module _ {S D : Type 0} (seen : D → Option (List ℕ)) (source : S) (unread : 
         };
         serve = λ asked. record {
           ends = (Err NoMemory, refl, serves_nothing seen unread left right (Rose sink sink_now) held now written);
-          unread = λ is. absurd (not_unread 7 refl is);
           complete = λ bytes l r start asked told found all few source calm. inr refl;
         };
         state = λ asked. record {

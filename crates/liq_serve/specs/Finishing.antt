@@ -3,7 +3,7 @@ use Rattle.std.specs.Prelude.{Result, Ok, Err}
 use Rattle.liq_serving.specs.declared.input.Finish.{Finish}
 use Rattle.liq_serving.specs.declared.input.Finish.TheVariants as finish
 use Rattle.liq_ends.specs.declared.halts.Halt.{Halt}
-use Rattle.liq_ends.specs.declared.halts.Halt.TheVariants.{BadLine, ReadFault, WriteFault, DiskFault, NoMemory, Limit}
+use Rattle.liq_ends.specs.declared.halts.Halt.TheVariants.{DiskFault, NoMemory, WriteFault}
 use Rattle.liq_ends.specs.Unopened.{halt_of}
 use Rattle.liq_serve.specs.Serve.{halt_at}
 
@@ -14,10 +14,3 @@ end_of (finish.NotOpened why) = Err (halt_of why)
 end_of finish.NoMemory = Err NoMemory
 end_of finish.DiskFault = Err DiskFault
 end_of finish.WriteFault = Err WriteFault
-
--- the input was not read to its end, and not for want of memory
-abbrev pub IsUnread : Result (Unit {0}) Halt → Type 0
-IsUnread (Err (BadLine number)) = Unit {0}
-IsUnread (Err ReadFault) = Unit {0}
-IsUnread (Err (Limit number)) = Unit {0}
-IsUnread _ = ⊥

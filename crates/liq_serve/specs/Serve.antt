@@ -1,5 +1,5 @@
 -- The word `serve`: how serving an input ends, and what is written by then.
-use Rattle.std.specs.Prelude.{ℕ, ◌≡◌, ◌≤◌, ◌⊎◌, [], ◌∷◌, List, length, All, Contains, Option, Some, Result, Ok, Err}
+use Rattle.std.specs.Prelude.{ℕ, ◌≡◌, ◌≤◌, ◌⊎◌, [], ◌∷◌, List, length, All, Contains, Option, Some, None, Result, Ok, Err}
 use Rattle.std.specs.Option.{IsSomeAnd}
 use Rattle.liq_types.specs.declared.amounts.TheConstants.{LINES_MOST}
 use Rattle.liq_types.specs.declared.requests.Command.{Command}
@@ -35,12 +35,12 @@ halt_at stop.NoMemory = NoMemory
 halt_at stop.Limit = Limit LINES_MOST
 
 -- What was answered of all that the lines ask, once a store was open: all, or memory was wanting for the rest, or a
--- call met a disk's fault, and it is that of the next request of its session.
+-- call met a disk's fault, and it is that of the next request of its session. Else none did.
 abbrev pub Answers :
     Result (Unit {0}) Halt → Option (ℕ × Request) → List (ℕ × Request) → List Entry → Type 0
-Answers (Ok done) halted asked history = AreServedWhole asked history
-Answers (Err WriteFault) halted asked history = AreServedWhole asked history
-Answers (Err NoMemory) halted asked history = LacksMemory (scripts_of asked) history
+Answers (Ok done) halted asked history = (halted ≡ None) × AreServedWhole asked history
+Answers (Err WriteFault) halted asked history = (halted ≡ None) × AreServedWhole asked history
+Answers (Err NoMemory) halted asked history = (halted ≡ None) × LacksMemory (scripts_of asked) history
 Answers (Err DiskFault) halted asked history =
     IsSomeAnd halted (λ (call : ℕ × Request). IsNextOf history call.1 (script_of asked call.0))
 Answers (Err _) halted asked history = ⊥

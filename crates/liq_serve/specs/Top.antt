@@ -66,8 +66,6 @@ module _ {S D : Type 0} (seen : D → Option (List ℕ)) (before after : Outside
         (end : Result (Unit {0}) Halt) × (status ≡ status_of end)
         × ServesTo seen before.unread after.unread before.left before.right end after.left after.right
         (SinkRose before after) before.held after.held
-    -- where the input was not read to its end the disks are as they were
-    pub unread : (status ≡ 2) ⊎ (status ≡ 3) ⊎ (status ≡ 8) → (after.left ≡ before.left) × (after.right ≡ before.right)
     pub complete :
         (bytes l r : List ℕ) (start : State) (asked : List (ℕ × Request)) → before.unread ≡ Some bytes
         → FindsDisks l r (Ok start) → AreAsked (lines_in bytes) asked → length asked ≤ LINES_MOST

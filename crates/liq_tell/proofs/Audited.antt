@@ -19,7 +19,7 @@ use Rattle.liq_ends.specs.declared.halts.Halt.TheVariants.{DiskFault, ReadFault}
 use Rattle.liq_tell.specs.Audit.{HoldTheirShares}
 use Rattle.liq_tell.specs.Reviewing.{halt_on}
 use Rattle.liq_ends.specs.Causes.{WriteCause}
-use Rattle.liq_ends.specs.Disks.{StandStill}
+use Rattle.liq_ends.specs.Disks.{DisksStay}
 use Rattle.liq_tell.specs.Writing.{AuditHolds, WritesText}
 use Rattle.liq_ends.proofs.Opened.{is_some_of, some_of}
 
@@ -77,7 +77,7 @@ module _ {D : Type 0} (seen : D → Option (List ℕ)) where
   both_seen Left Right ol or nl nr is same other = absurd cc
   both_seen Right Left ol or nl nr is same other = absurd cc
 
-  pub stand_too : (l r : List ℕ) (start : State) (ol or nl nr : D) → seen nl ≡ seen ol → seen nr ≡ seen or → StandStill seen l r start ol or → StandStill seen l r start nl nr
+  pub stand_too : (l r : List ℕ) (start : State) (ol or nl nr : D) → seen nl ≡ seen ol → seen nr ≡ seen or → DisksStay seen (Ok tt) l r start ol or → DisksStay seen (Ok tt) l r start nl nr
   stand_too l r start ol or nl nr left right stand a b told_a told_b = stand a b (sym left ∙ told_a) (sym right ∙ told_b)
 
   on_tells : (side : Side) (l r : D) → IsSome (seen l) → IsSome (seen r) → IsSome (seen (on side l r))

@@ -12,7 +12,7 @@ use Rattle.liq_review.specs.declared.fault.ReviewFault.{ReviewFault}
 use Rattle.liq_ends.specs.declared.ending.Ending.{Ending}
 use Rattle.liq_ends.specs.declared.halts.Halt.{Halt}
 use Rattle.liq_ends.specs.declared.halts.Halt.TheVariants.{BadLine, ReadFault, WriteFault, DiskFault, Damaged, NoMemory, Limit}
-use Rattle.liq_ends.specs.Disks.{DisksStay, EndsDamaged, StandStill}
+use Rattle.liq_ends.specs.Disks.{DisksStay, EndsDamaged}
 use Rattle.liq_tell.specs.Writing.{WritesText}
 use Rattle.liq_ends.specs.Unopened.{halt_of}
 use Rattle.liq_ends.proofs.Opened.{unopened}
@@ -46,12 +46,12 @@ module _ {D : Type 0} (seen : D → Option (List ℕ)) (faults : D → ℕ) wher
       subst (λ (e : Ending D). EndsDamaged seen side damage e.end e.left e.right) (sym is_ending) (unopened_damaged fault.why fault.left fault.right left right h l r told_l told_r side damage is)
 
 -- a word that asks nothing of the disks leaves them so
-pub disks_stay : {D : Type 0} (seen : D → Option (List ℕ)) (end : Result (Unit {0}) Halt) (l r : List ℕ) (start : State) (left right : D) → StandStill seen l r start left right → DisksStay seen end l r start left right
+pub disks_stay : {D : Type 0} (seen : D → Option (List ℕ)) (end : Result (Unit {0}) Halt) (l r : List ℕ) (start : State) (left right : D) → DisksStay seen (Ok tt) l r start left right → DisksStay seen end l r start left right
 disks_stay seen (Ok done) l r start left right stand = stand
 disks_stay seen (Err (BadLine n)) l r start left right stand = stand
 disks_stay seen (Err ReadFault) l r start left right stand = stand
 disks_stay seen (Err WriteFault) l r start left right stand = stand
-disks_stay seen (Err DiskFault) l r start left right stand = λ kept a b told_a told_b. inl ((stand a b told_a told_b).1 kept)
+disks_stay seen (Err DiskFault) l r start left right stand = λ kept a b told_a told_b. inl (stand a b told_a told_b).1
 disks_stay seen (Err (Damaged side number)) l r start left right stand = stand
-disks_stay seen (Err NoMemory) l r start left right stand = stand
+disks_stay seen (Err NoMemory) l r start left right stand = λ a b told_a told_b. let so = stand a b told_a told_b in (so.0, λ kept. so.1)
 disks_stay seen (Err (Limit number)) l r start left right stand = stand

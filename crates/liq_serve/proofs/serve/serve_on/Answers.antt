@@ -3,7 +3,7 @@ use Rattle.liq_serve.specs.Finishing.{end_of}
 use Rattle.liq_ends.proofs.Causes.{write_no_fewer}
 use Rattle.liq_ends.proofs.EndingLines.{rose_earlier}
 use Rattle.liq_scripts.specs.Output.{served as text_of}
-use Rattle.liq_serve.proofs.Served.{all_served, came_by, disk_cause, is_done, sink_cause, source_cause, unread_so}
+use Rattle.liq_serve.proofs.Served.{all_served, came_by, disk_cause, is_done, sink_cause, source_cause}
 use Rattle.liq_ends.proofs.Opened.{state_formed}
 use Rattle.liq_ends.proofs.Shares.{all_shares}
 use Rattle.liq_serve.proofs.serve.serve_on.Goals as goal
@@ -32,11 +32,6 @@ returns-clause-served g c =
       written = c.tell_last.ensures.told (text_of served.history) (held start) (faults start) fewer (rw is (all_served held served.history start middle how served.written));
       shares = λ l r start found. all_shares start (requests_of served.history) (state_formed l r start found.is);
     }
-
-pub returns-clause-unread : goal.returns-clause-unread
-returns-clause-unread g c is =
-    let ran = c.serve_input-left in
-    unread_so ran.result.finish _ (λ stop so. ran.ensures.unread stop so) (rw c.end_of-end.ensures at is)
 
 pub returns-clause-source : goal.returns-clause-source
 returns-clause-source g c = rw c.end_of-end.ensures (source_cause c.serve_input-left.result.finish _ _ c.serve_input-left.ensures.source)
