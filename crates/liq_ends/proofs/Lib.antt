@@ -1,5 +1,6 @@
 pub mod Causes
 pub mod EndingLines
+pub mod Few
 pub mod Opened
 pub mod Shares
 pub mod Shown

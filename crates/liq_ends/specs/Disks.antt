@@ -26,7 +26,8 @@ module _ {D : Type 0} (seen : D → Option (List ℕ)) where
   -- The disks of a run that began with l and r on them, for which they stood for the state `start`: they are kept for
   -- the state after the requests.
   abbrev pub DisksHold :
-      Result (Unit {0}) Halt → List ℕ → Option (List ℕ) → List ℕ → List ℕ → State → D → D → List Request → Type 0
+      Result (Unit {0}) Halt → List ℕ → Option (List ℕ) → List ℕ → List ℕ → State → D → D
+      → List Request → Type 0
   -- After a disk's fault they are kept for that state, or for it after the next line's command, if it is accepted
   -- there. Or the opening failed, and left what it may leave of disks that were kept.
   DisksHold (Err DiskFault) bytes unread l r start left right requests =

@@ -1,11 +1,12 @@
--- A reader of the top call's clause needs Disks, Output, Requests, Statuses, Stops and Telling. Causes, Unopened and
--- Unsaid are for the contracts below it.
+-- A reader of the top call's clause needs Disks, Output, Requests, Statuses, Stops, Taking and Telling. Causes,
+-- Unopened and Unsaid are for the contracts below it.
 pub mod Causes
 pub mod Disks
 pub mod Output
 pub mod Requests
 pub mod Statuses
 pub mod Stops
+pub mod Taking
 pub mod Telling
 pub mod Unopened
 pub mod Unsaid

@@ -19,7 +19,8 @@ AreRequests lines requests = AllZip IsRequest lines requests
 
 -- the text begins with lines of these requests, and these lines follow
 abbrev pub BeginsWith : List ℕ → List Request → List (List ℕ) → Type 0
-BeginsWith bytes requests more = (lines : List (List ℕ)) × AreRequests lines requests × (lines_in bytes ≡ lines ++ more)
+BeginsWith bytes requests more =
+    (lines : List (List ℕ)) × AreRequests lines requests × (lines_in bytes ≡ lines ++ more)
 
 -- and the next line is that of this one
 abbrev pub IsNext : List ℕ → List Request → Request → Type 0

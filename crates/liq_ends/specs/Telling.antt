@@ -7,7 +7,8 @@ use Rattle.liq_ends.specs.Output.{last}
 use Rattle.liq_ends.specs.Stops.{Adds}
 
 -- The text was written; or the sink met a fault within it; or the word stopped, and its last line alone was written.
-abbrev pub TellsAll : List ℕ → Result (Unit {0}) Halt → Type 0 → Option (List ℕ) → Option (List ℕ) → Type 0
+abbrev pub TellsAll :
+    List ℕ → Result (Unit {0}) Halt → Type 0 → Option (List ℕ) → Option (List ℕ) → Type 0
 TellsAll text (Ok done) fault before now = Writes before text now
 TellsAll text (Err WriteFault) fault before now = WritesPart before text now
 TellsAll text (Err halt) fault before now = Adds [] (last halt) fault before now

@@ -12,7 +12,8 @@ use Rattle.liq_core.specs.Core.{Core, StandsFor}
 
 -- an account's balance in the state, and all that it gained by then, paid out or not
 abbrev pub engine_row : State → List PoolEvent → ℕ → EngineRow
-engine_row s events account = record { account = account; balance = balance_of s account; gain = gained_of s account events }
+engine_row s events account =
+    record { account = account; balance = balance_of s account; gain = gained_of s account events }
 
 -- of each account with an own operation, ascending
 abbrev pub engine_rows : State → List PoolEvent → List EngineRow

@@ -18,15 +18,19 @@ use Rattle.liq_review.specs.Reviewed.{stopped}
 abbrev pub StopsAt : State → Command → ℕ → ReviewFault → Type 0
 StopsAt s c index fault =
     (fault ≡ NoMemory)
-    ⊎ ((damage : Damage) × (fault ≡ stopped damage) × ((rest : Result State Damage) → replayed index (ruling s c) rest ≡ Err damage))
+    ⊎ ((damage : Damage) × (fault ≡ stopped damage)
+    × ((rest : Result State Damage) → replayed index (ruling s c) rest ≡ Err damage))
 
 abbrev pub PlansNext : State → Command → ℕ → Result Plan ReviewFault → Type 0
 PlansNext s c index (Ok plan) = (plan.command ≡ c) × IsPlan s plan
 PlansNext s c index (Err fault) = StopsAt s c index fault
 
 -- the command is made, and its events stand behind those before it
-abbrev pub MakesNext : State → Command → ℕ → Core → List PoolEvent → List PoolEvent → Result (Unit {0}) ReviewFault → Type 0
-MakesNext s c index core told now (Ok done) = (ruling s c ≡ Allowed) × StandsFor core (after s c) × (now ≡ told ++ call_events s c.call)
+abbrev pub MakesNext :
+    State → Command → ℕ → Core → List PoolEvent → List PoolEvent → Result (Unit {0}) ReviewFault
+    → Type 0
+MakesNext s c index core told now (Ok done) =
+    (ruling s c ≡ Allowed) × StandsFor core (after s c) × (now ≡ told ++ call_events s c.call)
 MakesNext s c index core told now (Err fault) = StopsAt s c index fault
 
 -- the core is that of the commands, and these are their events
@@ -38,4 +42,6 @@ pub record IsReplayed (commands : List Command) (core : Core) (told : List PoolE
 
 -- what replaying a list of commands gives
 abbrev pub StopsWithin : List Command → ReviewFault → Type 0
-StopsWithin commands fault = (fault ≡ NoMemory) ⊎ ((damage : Damage) × (fault ≡ stopped damage) × (replay 1 opening commands ≡ Err damage))
+StopsWithin commands fault =
+    (fault ≡ NoMemory)
+    ⊎ ((damage : Damage) × (fault ≡ stopped damage) × (replay 1 opening commands ≡ Err damage))

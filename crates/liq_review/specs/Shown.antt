@@ -1,5 +1,6 @@
 -- The text of an audit.
-use Rattle.std.specs.Prelude.{ℕ, ◌+◌, ◌&&◌, nat_le, Bool, List, [], ◌∷◌, ◌++◌, length, map, count_by, codes, decimal}
+use Rattle.std.specs.Prelude.{ℕ, ◌+◌, ◌&&◌, nat_le, Bool, List, [], ◌∷◌, ◌++◌}
+use Rattle.std.specs.Prelude.{length, map, count_by, codes, decimal}
 use Rattle.std.specs.List.{flat_map, join_with_byte}
 use Rattle.liq_audit.specs.declared.rows.Row.{Row}
 use Rattle.liq_audit.specs.Rows.{numbers_of}

@@ -6,4 +6,5 @@ mod Last
 mod Leaving
 mod Progressing
 mod Residual
+mod Taking
 mod Turning

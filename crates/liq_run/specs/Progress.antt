@@ -1,5 +1,5 @@
 -- How far a run has come.
-use Rattle.std.specs.Prelude.{ℕ, ◌≡◌, ◌≢◌, ◌≤◌, ◌<◌, ◌+◌, [], ◌∷◌, ◌++◌}
+use Rattle.std.specs.Prelude.{ℕ, ◌≡◌, ◌≢◌, ◌≤◌, ◌<◌, ◌+◌, ◌*◌, [], ◌∷◌, ◌++◌}
 use Rattle.std.specs.Prelude.{List, length, Option, Some, Result, Ok, Err, Bool, true, false}
 use Rattle.std.specs.List.{AllByRecursion}
 use Rattle.liq_types.specs.declared.amounts.TheConstants.{LINE_BYTES, LINES_MOST}
@@ -13,7 +13,8 @@ use Rattle.liq_run.specs.declared.run.Next.{Next}
 use Rattle.liq_run.specs.declared.run.Next.TheVariants.{Line, LastLine, End}
 use Rattle.liq_lines.specs.Lines.{ended, IsWithinLine}
 use Rattle.liq_ends.specs.Output.{lines, reply_line}
-use Rattle.liq_lines.specs.Reading.{Reads, IsOver}
+use Rattle.liq_lines.specs.declared.reader.TheConstants.{READ_BYTES}
+use Rattle.liq_lines.specs.Reading.{unread, Reads, ReadsAtMost, IsOver}
 use Rattle.liq_store.specs.Memory.{IsAccepted, TakesMemory}
 use Rattle.liq_ends.specs.Disks.{DisksHold}
 use Rattle.liq_ends.specs.Requests.{IsRequest, IsBadLine, IsNext, AreRequests, BeginsWith}
@@ -34,8 +35,8 @@ pub data ReadsBad (before after : Option (List ℕ)) : Type 0 where
       (line : List ℕ) → IsBadLine line → IsWithinLine line → Reads before (line ++ 10 ∷ []) after
       → ReadsBad before after
   without_end :
-      (line : List ℕ) → IsBadLine line → IsWithinLine line → line ≢ [] → Reads before line after → IsOver after
-      → ReadsBad before after
+      (line : List ℕ) → IsBadLine line → IsWithinLine line → line ≢ [] → Reads before line after
+      → IsOver after → ReadsBad before after
   too_long :
       (line : List ℕ) (byte : ℕ) → IsWithinLine line → byte ≢ 10 → length line ≡ LINE_BYTES
       → Reads before (line ++ byte ∷ []) after → ReadsBad before after
@@ -45,12 +46,18 @@ abbrev pub ReadsRequest : Option (List ℕ) → Option (List ℕ) → List ℕ �
 ReadsRequest before after taken number (Ok (Line request)) =
     (line : List ℕ) × IsRequest line request × IsWithinLine line × Reads before (line ++ 10 ∷ []) after
 ReadsRequest before after taken number (Ok (LastLine request)) =
-    (line : List ℕ) × IsRequest line request × IsWithinLine line × (line ≢ []) × Reads before line after × IsOver after
+    (line : List ℕ) × IsRequest line request × IsWithinLine line × (line ≢ []) × Reads before line after
+    × IsOver after
 ReadsRequest before after taken number (Ok End) = Reads before [] after × IsOver after
 ReadsRequest before after taken number (Err (BadLine at)) = (at ≡ number) × ReadsBad before after
 ReadsRequest before after taken number (Err ReadFault) =
     (part : List ℕ) × IsWithinLine part × Reads before part after × (taken ≡ []) × (length part ≤ LINE_BYTES)
 ReadsRequest before after taken number (Err _) = ⊥
+
+-- at most n lines were read, and no more is held than one read asks for
+pub record ReadsFew (before : Option (List ℕ)) (n : ℕ) (reader : List ℕ) (left : Option (List ℕ)) : Type 0 where
+  pub few : ReadsAtMost (n * (LINE_BYTES + 1)) before (unread reader left)
+  pub held : length reader ≤ READ_BYTES
 
 -- The replies to these requests are written, but for those that wait. Of the requests whose replies wait none but the
 -- first is a command: wherever the replies are cut behind what is written, the state is the one after them all.
@@ -83,7 +90,8 @@ pub record Answered
 -- request is a command. Or the sink met a fault at what waited, or there was no memory where it may be asked for: no
 -- step was made then.
 abbrev pub Answers :
-    State → Request → Result (Unit {0}) Halt → Core → List ℕ → List ℕ → Option (List ℕ) → Option (List ℕ) → Type 0
+    State → Request → Result (Unit {0}) Halt → Core → List ℕ → List ℕ → Option (List ℕ)
+    → Option (List ℕ) → Type 0
 Answers s request (Ok done) core waited waits before after =
     StandsFor core (step s request).0
     × ((rest : List ℕ) × WritesFront (Ok tt) waited rest before after
@@ -97,22 +105,24 @@ Answers s request (Err _) core waited waits before after = ⊥
 
 -- What is written where a run comes to its end: all replies but those that wait, or up to a cut.
 abbrev pub WrittenAt :
-    State → Result (Unit {0}) Halt → List Request → List ℕ → Option (List ℕ) → Option (List ℕ) → Type 0
+    State → Result (Unit {0}) Halt → List Request → List ℕ → Option (List ℕ) → Option (List ℕ)
+    → Type 0
 WrittenAt start (Err WriteFault) requests waiting before now =
     (part : List ℕ) × Writes before part now × IsCutInLastLine start part requests
 WrittenAt start _ requests waiting before now = Written start requests waiting before now
 
 -- where a disk met a fault, the next line's command was on its way, nothing waits, and this holds of it
 abbrev pub HaltsAt :
-    Result (Unit {0}) Halt → List ℕ → List Request → List ℕ → State → (State → Request → Type 0) → Type 0
+    Result (Unit {0}) Halt → List ℕ → List Request → List ℕ → State → (State → Request → Type 0)
+    → Type 0
 HaltsAt (Err DiskFault) bytes requests waiting s kept =
     (request : Request) × IsNext bytes requests request × IsAccepted s request × (waiting ≡ []) × kept s request
 HaltsAt _ bytes requests waiting s kept = Unit {0}
 
 -- a run came to its end, some replies wait, and the protocol stands for the state after the requests
 pub record Comes
-    (start : State) (end : Result (Unit {0}) Halt) (core : Core) (kept : State → Request → Type 0) (bytes : List ℕ)
-    (left : Option (List ℕ)) (waiting : List ℕ) (before now : Option (List ℕ)) : Type 0 where
+    (start : State) (end : Result (Unit {0}) Halt) (core : Core) (kept : State → Request → Type 0)
+    (bytes : List ℕ) (left : Option (List ℕ)) (waiting : List ℕ) (before now : Option (List ℕ)) : Type 0 where
   pub requests : List Request
   pub few : length requests ≤ LINES_MOST
   pub read : EndsAfter start end bytes left requests
@@ -131,8 +141,8 @@ WritesReplies start _ requests before now = Writes before (lines start requests)
 
 -- a run is at its end, its last line is not written yet, and the protocol stands for the state after the requests
 pub record Ends
-    (start : State) (end : Result (Unit {0}) Halt) (core : Core) (kept : State → Request → Type 0) (bytes : List ℕ)
-    (left : Option (List ℕ)) (before now : Option (List ℕ)) : Type 0 where
+    (start : State) (end : Result (Unit {0}) Halt) (core : Core) (kept : State → Request → Type 0)
+    (bytes : List ℕ) (left : Option (List ℕ)) (before now : Option (List ℕ)) : Type 0 where
   pub requests : List Request
   pub few : length requests ≤ LINES_MOST
   pub read : EndsAfter start end bytes left requests
@@ -152,8 +162,8 @@ pub record GivesBack
 
 -- one more line was answered, or the run comes to its end
 abbrev pub Turns :
-    State → (State → Request → Type 0) → List ℕ → ℕ → Core → Option (List ℕ) → Option (List ℕ) → List ℕ
-    → Option (List ℕ) → Option (List ℕ) → Result Bool Halt → Type 0
+    State → (State → Request → Type 0) → List ℕ → ℕ → Core → Option (List ℕ) → Option (List ℕ)
+    → List ℕ → Option (List ℕ) → Option (List ℕ) → Result Bool Halt → Type 0
 Turns start kept bytes n core unread left waiting before now (Ok true) =
     Answered start bytes (n + 1) core unread waiting before now
 Turns start kept bytes n core unread left waiting before now (Ok false) =

@@ -1,6 +1,6 @@
 //! The word `run`: a store over two disks, and the lines that it is asked and answers.
 
-ghost use Rattle.std.specs.Prelude.{Contains, Err, Option, Some, None, ◌≡◌, ◌≢◌, IsTrue, ◌≤◌, ◌<◌, ◌+◌, [], ℕ, List, Ok, OnOk, OnErr, IfOk, IfErr, vec_capacity};
+ghost use Rattle.std.specs.Prelude.{Contains, length, Err, Option, Some, None, ◌≡◌, ◌≢◌, IsTrue, ◌≤◌, ◌<◌, ◌+◌, [], ℕ, List, Ok, OnOk, OnErr, IfOk, IfErr, vec_capacity};
 ghost use Rattle.liq_types.specs.State.{State};
 ghost use Rattle.liq_types.specs.declared.amounts.TheConstants.{LINE_BYTES};
 ghost use Rattle.liq_run.specs.declared.waiting.TheConstants.{WAITING_MOST};
@@ -12,11 +12,13 @@ ghost use Rattle.liq_pairs.specs.Pair.{state_on};
 ghost use Rattle.liq_store.specs.Causes.{Faults, counts_of};
 ghost use Rattle.liq_store.specs.Opening.{IsNotOpened, OpensOn};
 ghost use Rattle.liq_store.specs.Keeping.{IsInOrder};
-ghost use Rattle.liq_lines.specs.Reading.{unread};
+ghost use Rattle.liq_lines.specs.declared.reader.TheConstants.{READ_BYTES};
+ghost use Rattle.liq_lines.specs.Reading.{unread, ReadsAtMost};
 ghost use Rattle.liq_ends.specs.Causes.{DiskCause, ReadCause, WriteCause};
 ghost use Rattle.liq_ends.specs.Disks.{EndsDamaged};
+ghost use Rattle.liq_ends.specs.Taking.{TakesFew};
 ghost use Rattle.liq_run.specs.Calls.{IsStopped, KeepsAround};
-ghost use Rattle.liq_run.specs.Progress.{RequestOn, ReadsRequest, Answered, Answers, Turns, Comes, Ends, GivesBack};
+ghost use Rattle.liq_run.specs.Progress.{RequestOn, ReadsRequest, Answered, Answers, ReadsFew, Turns, Comes, Ends, GivesBack};
 
 use crate::calls::call;
 use crate::waiting::{WAITING_MOST, catch_up, flush, keep, make_way};
@@ -50,6 +52,8 @@ fn next_request<S: Source>(
 ) -> Result<Next, Halt>
     requires { LINE_BYTES ≤ vec_capacity line.old }
     ensures request { ReadsRequest (unread reader.old (S.left input.old)) (unread reader.new (S.left input.new)) reader.new number result }
+    ensures few { ReadsAtMost (LINE_BYTES + 1) (unread reader.old (S.left input.old)) (unread reader.new (S.left input.new)) }
+    ensures held { length reader.new ≤ READ_BYTES }
     // Where the line was taken already, nothing is read.
     ensures taken { Contains reader.old LINE_END → result ≢ Err Halt.ReadFault }
     ensures capacity { vec_capacity line.new ≡ vec_capacity line.old }
@@ -88,6 +92,7 @@ pub fn answer_input<S: Source, K: Sink, D: Disk>(
     // Over damaged disks nothing is read or written.
     ensures damaged { (l r : List ℕ) → D.seen left ≡ Some l → D.seen right ≡ Some r → (side : Side) (damage : Damage) → state_on l r ≡ Err (side, damage)
         → (input.new ≡ input.old) × (out.new ≡ out.old) × EndsDamaged D.seen side damage result.end result.left result.right }
+    ensures few { TakesFew (S.left input.old) (S.left input.new) }
     ensures source { ReadCause result.end (S.faults input.old) (S.faults input.new) }
     ensures sink { WriteCause result.end (K.faults out.old) (K.faults out.new) }
     ensures disks { DiskCause result.end (counts_of D.faults left right) (counts_of D.faults result.left result.right) }
@@ -184,6 +189,7 @@ impl<D: Disk> Run<D> {
         requires going { self.old.store.stopped ≡ None }
         ensures run { (start : State) → StandsFor self.old.store.core start → (bytes : List ℕ) → S.left input.old ≡ Some bytes
             → Ends start result self.new.store.core (KeepsAround D.seen self.new.store.left self.new.store.right) bytes (S.left input.new) (K.held out.old) (K.held out.new) }
+        ensures few { TakesFew (S.left input.old) (S.left input.new) }
         ensures source { ReadCause result (S.faults input.old) (S.faults input.new) }
         ensures sink { WriteCause result (K.faults out.old) (K.faults out.new) }
         ensures stopped { IsStopped result self.new.store.stopped }
@@ -200,6 +206,7 @@ impl<D: Disk> Run<D> {
         requires going { self.old.store.stopped ≡ None }
         ensures run { (start : State) → StandsFor self.old.store.core start → (bytes : List ℕ) → S.left input.old ≡ Some bytes
             → Comes start result self.new.store.core (KeepsAround D.seen self.new.store.left self.new.store.right) bytes (S.left input.new) self.new.waiting.items (K.held out.old) (K.held out.new) }
+        ensures few { TakesFew (S.left input.old) (S.left input.new) }
         ensures caught_up { result ≡ Err Halt.ReadFault → self.new.waiting.items ≡ [] }
         ensures caught_up_too { result ≡ Err Halt.DiskFault → self.new.waiting.items ≡ [] }
         ensures source { ReadCause result (S.faults input.old) (S.faults input.new) }
@@ -252,6 +259,7 @@ impl<D: Disk> Run<D> {
         ensures turn { (start : State) (bytes : List ℕ) (before : Option (List ℕ))
             → Answered start bytes answered self.old.store.core (unread self.old.reader (S.left input.old)) self.old.waiting.items before (K.held out.old)
             → Turns start (KeepsAround D.seen self.new.store.left self.new.store.right) bytes answered self.new.store.core (unread self.new.reader (S.left input.new)) (S.left input.new) self.new.waiting.items before (K.held out.new) result }
+        ensures few { (before : Option (List ℕ)) → ReadsFew before answered self.old.reader (S.left input.old) → ReadsFew before (answered + 1) self.new.reader (S.left input.new) }
         ensures caught_up { result ≡ Err Halt.ReadFault → self.new.waiting.items ≡ [] }
         ensures caught_up_too { result ≡ Err Halt.DiskFault → self.new.waiting.items ≡ [] }
         ensures source { ReadCause result (S.faults input.old) (S.faults input.new) }

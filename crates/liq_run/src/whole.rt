@@ -12,6 +12,7 @@ ghost use Rattle.liq_ends.specs.Causes.{DiskCause, LastCause, ReadCause};
 ghost use Rattle.liq_ends.specs.Disks.{EndsDamaged};
 ghost use Rattle.liq_ends.specs.Output.{last};
 ghost use Rattle.liq_ends.specs.Stops.{Adds, EndsIn};
+ghost use Rattle.liq_ends.specs.Taking.{TakesFew};
 
 use crate::run::answer_input;
 use liq_ends::{Ending, write_last};
@@ -33,6 +34,8 @@ pub fn run_on<S: Source, K: Sink, D: Disk>(
         → (input.new ≡ input.old) × ((halt : Halt) × (result.end ≡ Err halt)
         × EndsDamaged D.seen side damage (Err halt) result.left result.right
         × Adds [] (last halt) (Rose (K.faults out.old) (K.faults out.new)) (K.held out.old) (K.held out.new)) }
+    // No more is taken from the source than 1,000,000 lines of 201 bytes, and what one read asks for.
+    ensures few { TakesFew (S.left input.old) (S.left input.new) }
     ensures source { ReadCause result.end (S.faults input.old) (S.faults input.new) }
     ensures sink { LastCause result.end (K.faults out.old) (K.faults out.new) }
     ensures disks { DiskCause result.end (counts_of D.faults left right) (counts_of D.faults result.left result.right) }

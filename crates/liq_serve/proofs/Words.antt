@@ -29,10 +29,12 @@ use Rattle.liq_serve.specs.Serve.{ServesTo}
 use Rattle.liq_tell.specs.State.{standing}
 use Rattle.liq_ends.specs.Statuses.{IsDone, status_of}
 use Rattle.liq_ends.specs.Stops.{Adds, EndsIn}
+use Rattle.liq_ends.specs.Taking.{TakesFew}
 use Rattle.liq_ends.specs.Telling.{TellsAll}
 use Rattle.liq_serve.specs.Top.{Ends, EndsOverDamage, HasCauses, Loads}
 use Rattle.liq_tell.proofs.Audited.{no_limit}
 use Rattle.liq_ends.proofs.Causes.{disk_causes, sink_causes, source_causes}
+use Rattle.liq_ends.proofs.Few.{takes_none}
 use Rattle.liq_ends.proofs.Opened.{standing_still, state_formed, untouched}
 use Rattle.liq_ends.proofs.Shares.{all_shares}
 use Rattle.liq_serve.proofs.Served.{same_disks, serves_nothing}
@@ -116,8 +118,9 @@ module _ {S D : Type 0} (seen : D → Option (List ℕ)) (before after : Outside
       → ((bytes l r : List ℕ) → before.unread ≡ Some bytes → seen before.left ≡ Some l → seen before.right ≡ Some r → (start : State) → state_on l r ≡ Ok start
       → EndsIn seen start end bytes l r after.unread (SinkRose before after) before.held after.held after.left after.right)
       → IsOverDamage (status_of end)
+      → TakesFew before.unread after.unread
       → Ends seen before after (status_of end) words
-  run_ends words end read counts told damaged =
+  run_ends words end read counts told damaged few =
       let causes = has_causes end counts in
       record {
         understood = (λ is. absurd (not_usage end is), λ none. absurd (none word.Run read.asks));
@@ -133,6 +136,7 @@ module _ {S D : Type 0} (seen : D → Option (List ℕ)) (before after : Outside
         audit = λ asked. absurd (cc (read.only word.Audit asked));
         gen = λ seed count asked. absurd (cc (read.only (word.Gen seed count) asked));
         damaged = λ asked. over_damage (status_of end) damaged;
+        takes = λ other. few;
         causes = causes;
       }
 
@@ -143,8 +147,9 @@ module _ {S D : Type 0} (seen : D → Option (List ℕ)) (before after : Outside
       → ((l r : List ℕ) → seen before.left ≡ Some l → seen before.right ≡ Some r → (start : State) → state_on l r ≡ Ok start
       → Contains (0 ∷ 4 ∷ 5 ∷ 7 ∷ []) (status_of end) × TellsAll (standing start) end (SinkRose before after) before.held after.held × DisksStay seen end l r start after.left after.right)
       → IsOverDamage (status_of end)
+      → TakesFew before.unread after.unread
       → Ends seen before after (status_of end) words
-  state_ends words end read counts reads told damaged =
+  state_ends words end read counts reads told damaged few =
       let causes = has_causes end counts in
       record {
         understood = (λ is. absurd (not_usage end is), λ none. absurd (none word.State read.asks));
@@ -160,6 +165,7 @@ module _ {S D : Type 0} (seen : D → Option (List ℕ)) (before after : Outside
         audit = λ asked. absurd (cc (read.only word.Audit asked));
         gen = λ seed count asked. absurd (cc (read.only (word.Gen seed count) asked));
         damaged = λ asked. over_damage (status_of end) damaged;
+        takes = λ other. few;
         causes = causes;
       }
 
@@ -185,6 +191,7 @@ module _ {S D : Type 0} (seen : D → Option (List ℕ)) (before after : Outside
         audit = λ asked. absurd (cc (read.only word.Audit asked));
         gen = λ seed count asked. absurd (cc (read.only (word.Gen seed count) asked));
         damaged = λ asked. absurd (opens_first words word.Serve read (λ e. cc) (λ e. cc) (λ e. cc) asked);
+        takes = λ other. absurd (other read.asks);
         causes = has_causes end counts;
       }
 
@@ -197,9 +204,10 @@ module _ {S D : Type 0} (seen : D → Option (List ℕ)) (before after : Outside
       × ((text : List ℕ) × IsAuditOf start (commands_on l r) end text × TellsAll text end (SinkRose before after) before.held after.held)
       × DisksStay seen end l r start after.left after.right)
       → IsOverDamage (status_of end)
+      → TakesFew before.unread after.unread
       → ((l r : List ℕ) (s : State) → state_on l r ≡ Ok s → replay 1 opening (commands_on l r) ≡ Ok s)
       → Ends seen before after (status_of end) words
-  audit_ends words end read counts reads told damaged leads =
+  audit_ends words end read counts reads told damaged few leads =
       let causes = has_causes end counts in
       record {
         understood = (λ is. absurd (not_usage end is), λ none. absurd (none word.Audit read.asks));
@@ -218,6 +226,7 @@ module _ {S D : Type 0} (seen : D → Option (List ℕ)) (before after : Outside
         };
         gen = λ seed count asked. absurd (cc (read.only (word.Gen seed count) asked));
         damaged = λ asked. over_damage (status_of end) damaged;
+        takes = λ other. few;
         causes = causes;
       }
 
@@ -260,6 +269,7 @@ module _ {S D : Type 0} (seen : D → Option (List ℕ)) (source : S) (unread : 
               complete = λ none. load_done (status_of end) ends (λ e. none (causes.sink_fault e));
             }));
         damaged = λ asked. absurd (opens_first words (word.Gen seed count) read (λ e. cc) (λ e. cc) (λ e. cc) asked);
+        takes = λ other. takes_none unread;
         causes = causes;
       }
 
@@ -269,13 +279,14 @@ module _ {S D : Type 0} (seen : D → Option (List ℕ)) (source : S) (unread : 
   misused words none written =
       record {
         understood = (λ is. none, λ other. refl);
-        usage = λ is. record { untouched = record { source = refl; left = refl; right = refl }; written = written };
+        usage = λ is. (record { source = refl; left = refl; right = refl }, written);
         run = λ asked. absurd (none word.Run asked);
         serve = λ asked. absurd (none word.Serve asked);
         state = λ asked. absurd (none word.State asked);
         audit = λ asked. absurd (none word.Audit asked);
         gen = λ seed count asked. absurd (none (word.Gen seed count) asked);
         damaged = λ asked. absurd (some_asked words none asked);
+        takes = λ other. takes_none unread;
         causes = record {
           known = (1, lit< tt, refl);
           source_fault = λ is. absurd (omega (arith, is));
@@ -336,6 +347,7 @@ module _ {S D : Type 0} (seen : D → Option (List ℕ)) (source : S) (unread : 
           ends = λ a b told_a told_b. same_disks seen left right l r a b (Err (side, damage)) found.left found.right told_a told_b state_on found.is;
           written = written;
         };
+        takes = λ other. takes_none unread;
         causes = record {
           known = (7, lit< tt, refl);
           source_fault = λ is. absurd (omega (arith, is));

@@ -21,8 +21,8 @@ pub record Outside (S D : Type 0) : Type 0 where
   pub disk_faults : Faults
 
 abbrev pub outside :
-    {S K D : Type 0} → (S → Option (List ℕ)) → (S → ℕ) → (K → Option (List ℕ)) → (K → ℕ) → (D → ℕ) → S → K → D → D
-    → Outside S D
+    {S K D : Type 0} → (S → Option (List ℕ)) → (S → ℕ) → (K → Option (List ℕ)) → (K → ℕ)
+    → (D → ℕ) → S → K → D → D → Outside S D
 outside unread source_faults held sink_faults disk_faults source sink left right = record {
   source = source;
   unread = unread source;

@@ -1,5 +1,6 @@
 -- The word `serve`: how serving an input ends, and what is written by then.
-use Rattle.std.specs.Prelude.{ℕ, ◌≡◌, ◌≤◌, ◌⊎◌, [], ◌∷◌, List, length, All, Contains, Option, Some, None, Result, Ok, Err}
+use Rattle.std.specs.Prelude.{ℕ, ◌≡◌, ◌≤◌, ◌⊎◌, [], ◌∷◌, List, length, All, Contains}
+use Rattle.std.specs.Prelude.{Option, Some, None, Result, Ok, Err}
 use Rattle.std.specs.Option.{IsSomeAnd}
 use Rattle.liq_types.specs.declared.amounts.TheConstants.{LINES_MOST}
 use Rattle.liq_types.specs.declared.requests.Command.{Command}
@@ -67,7 +68,8 @@ module _
 
   -- all lines ask this, and the source is at its end
   abbrev pub IsAllRead : List (ℕ × Request) → Type 0
-  IsAllRead asked = (bytes : List ℕ) → before ≡ Some bytes → AreAsked (lines_in bytes) asked × (unread ≡ Some [])
+  IsAllRead asked =
+      (bytes : List ℕ) → before ≡ Some bytes → AreAsked (lines_in bytes) asked × (unread ≡ Some [])
 
   -- All was read, and no store was opened: for a disk's fault, the disks' damage or want of memory.
   pub record OpensNone (asked : List (ℕ × Request)) (history : List Entry) : Type 0 where
@@ -91,7 +93,8 @@ module _
         (l r a b : List ℕ) (start : State) → Finds seen left right l r (Ok start) → seen left_now ≡ Some a
         → seen right_now ≡ Some b
         → AreKept end halted (state_after start history) a b
-    pub whole : (l r : List ℕ) (side : Side) (damage : Damage) → Finds seen left right l r (Err (side, damage)) → ⊥
+    pub whole :
+        (l r : List ℕ) (side : Side) (damage : Damage) → Finds seen left right l r (Err (side, damage)) → ⊥
 
   -- Along one history a part of what the lines asked was answered, and it was written, as far as the end says; and
   -- after it no depositor has more than its share, or less by more than is allowed.

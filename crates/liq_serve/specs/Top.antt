@@ -25,6 +25,7 @@ use Rattle.liq_serve.specs.Serve.{ServesTo}
 use Rattle.liq_tell.specs.State.{standing}
 use Rattle.liq_ends.specs.Statuses.{IsDone, status_of}
 use Rattle.liq_ends.specs.Stops.{Adds, EndsIn}
+use Rattle.liq_ends.specs.Taking.{TakesFew}
 use Rattle.liq_ends.specs.Telling.{TellsAll}
 
 module _ {S D : Type 0} (seen : D → Option (List ℕ)) (before after : Outside S D) (status : ℕ) where
@@ -80,7 +81,8 @@ module _ {S D : Type 0} (seen : D → Option (List ℕ)) (before after : Outside
         → (end : Result (Unit {0}) Halt) × (status ≡ status_of end)
         × TellsAll (standing start) end (SinkRose before after) before.held after.held
         × DisksStay seen end l r start after.left after.right
-    pub statuses : (l r : List ℕ) (start : State) → FindsDisks l r (Ok start) → Contains (0 ∷ 4 ∷ 5 ∷ 7 ∷ []) status
+    pub statuses :
+        (l r : List ℕ) (start : State) → FindsDisks l r (Ok start) → Contains (0 ∷ 4 ∷ 5 ∷ 7 ∷ []) status
     pub complete : (l r : List ℕ) (start : State) → FindsDisks l r (Ok start) → IsCalm → IsDone status
 
   -- `audit`: nothing is read
@@ -94,7 +96,9 @@ module _ {S D : Type 0} (seen : D → Option (List ℕ)) (before after : Outside
         × ((text : List ℕ) × IsAuditOf start (commands_on l r) end text
         × TellsAll text end (SinkRose before after) before.held after.held)
         × DisksStay seen end l r start after.left after.right
-    pub statuses : (l r : List ℕ) (start : State) → FindsDisks l r (Ok start) → Contains (0 ∷ 4 ∷ 5 ∷ 7 ∷ 8 ∷ []) status
+    pub statuses :
+        (l r : List ℕ) (start : State) → FindsDisks l r (Ok start)
+        → Contains (0 ∷ 4 ∷ 5 ∷ 7 ∷ 8 ∷ []) status
     pub complete :
         (l r : List ℕ) (start : State) → FindsDisks l r (Ok start)
         → number_above (events opening (commands_on l r)) ≡ None → IsCalm → IsDone status
@@ -109,11 +113,6 @@ module _ {S D : Type 0} (seen : D → Option (List ℕ)) (before after : Outside
     pub statuses : Contains (0 ∷ 4 ∷ 7 ∷ []) status
     pub complete : (SinkRose before after → ⊥) → IsDone status
 
-  -- words that ask for nothing
-  pub record Misuses : Type 0 where
-    pub untouched : IsUntouched before after
-    pub written : Adds [] usage (SinkRose before after) before.held after.held
-
   -- A fault has its cause, and none is passed over.
   pub record HasCauses : Type 0 where
     pub known : Contains (0 ∷ 1 ∷ 2 ∷ 3 ∷ 4 ∷ 5 ∷ 6 ∷ 7 ∷ 8 ∷ []) status
@@ -127,7 +126,8 @@ module _ {S D : Type 0} (seen : D → Option (List ℕ)) (before after : Outside
   -- the clause of the top call, for each list of words
   pub record Ends (words : List (List ℕ)) : Type 0 where
     pub understood : (status ≡ 1) ↔ ((word : Word) → Ask words word → ⊥)
-    pub usage : status ≡ 1 → Misuses
+    pub usage :
+        status ≡ 1 → IsUntouched before after × Adds [] usage (SinkRose before after) before.held after.held
     pub run : Ask words word.Run → Runs
     pub serve : Ask words word.Serve → Serves
     pub state : Ask words word.State → States
@@ -138,4 +138,6 @@ module _ {S D : Type 0} (seen : D → Option (List ℕ)) (before after : Outside
         Ask words word.Run ⊎ (Ask words word.State ⊎ Ask words word.Audit)
         → (l r : List ℕ) (side : Side) (damage : Damage) → FindsDisks l r (Err (side, damage))
         → EndsOverDamage side damage
+    -- but for `serve`: no more is taken from the source than the lines that one run answers, and what one read asks for
+    pub takes : (Ask words word.Serve → ⊥) → TakesFew before.unread after.unread
     pub causes : HasCauses

@@ -1,6 +1,7 @@
 use Rattle.std.proofs.Common.{sym, subst}
 use Rattle.liq_ends.specs.declared.ending.Ending.{Ending}
 use Rattle.liq_ends.proofs.Opened.{opened_at}
+use Rattle.liq_ends.proofs.Few.{takes_none}
 use Rattle.liq_run.specs.Progress.{GivesBack}
 use Rattle.liq_run.proofs.Leaving.{gives_back, unopened_by}
 use Rattle.liq_run.proofs.run.answer_input.Goals as goal
@@ -32,3 +33,6 @@ pub returns-clause-damaged : goal.returns-clause-damaged
 returns-clause-damaged g c l r told_l told_r side damage is =
     let found = c.in-Ok.ensures.opened.0.state l r told_l told_r in
     absurd (cc (found.1, is))
+
+pub returns-in-Err-clause-few : goal.returns-in-Err-clause-few
+returns-in-Err-clause-few g c = takes_none (g.S.Source.left c.args.input.now)

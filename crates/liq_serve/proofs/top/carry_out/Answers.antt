@@ -4,6 +4,7 @@ use Rattle.liq_words.specs.Words.{IsInRange}
 use Rattle.liq_serve.specs.Outside.{outside}
 use Rattle.liq_ends.specs.Statuses.{status_of}
 use Rattle.liq_ends.proofs.Causes.{unread_causes}
+use Rattle.liq_ends.proofs.Few.{takes_none}
 use Rattle.liq_serve.proofs.Words.{IsRead, audit_ends, gen_ends, run_ends, state_ends}
 use Rattle.liq_serve.proofs.top.carry_out.Goals as goal
 
@@ -19,6 +20,7 @@ returns-in-Run g c words asks only =
     (λ l r told_l told_r side damage is.
     let found = ran.ensures.damaged l r told_l told_r side damage is in
     (found.0, (found.1.0, ap status_of found.1.1, found.1.2, found.1.3)))
+    ran.ensures.few
 
 pub returns-in-State : goal.returns-in-State
 returns-in-State g c words asks only =
@@ -33,6 +35,7 @@ returns-in-State g c words asks only =
     (λ l r told_l told_r side damage is.
     let found = ran.ensures.damaged l r told_l told_r side damage is in
     (refl, (found.0, ap status_of found.1, found.2, found.3)))
+    (takes_none (g.S.Source.left c.args.input.now))
 
 pub returns-in-Audit : goal.returns-in-Audit
 returns-in-Audit g c words asks only =
@@ -47,6 +50,7 @@ returns-in-Audit g c words asks only =
     (λ l r told_l told_r side damage is.
     let found = ran.ensures.damaged l r told_l told_r side damage is in
     (refl, (found.0, ap status_of found.1, found.2, found.3)))
+    (takes_none (g.S.Source.left c.args.input.now))
     c.commands_lead_to_the_state.ensures
 
 pub returns-in-Gen : goal.returns-in-Gen

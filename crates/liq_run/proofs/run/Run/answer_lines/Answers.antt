@@ -1,16 +1,18 @@
-use Rattle.std.proofs.Common.{◌≡◌, ℕ, [], Result, Err, arith, refl, sym, subst, ◌∙◌}
+use Rattle.std.proofs.Common.{◌≡◌, ℕ, [], ◌∷◌, ◌+◌, Result, Err, arith, refl, sym, subst, ◌∙◌}
 use Rattle.liq_types.specs.declared.amounts.TheConstants.{LINES_MOST}
 use Rattle.liq_ends.specs.declared.halts.Halt.{Halt}
 use Rattle.liq_ends.specs.declared.halts.Halt.TheVariants.{Limit}
 use Rattle.liq_run.specs.Calls.{KeepsAround}
 use Rattle.liq_run.specs.Progress.{Comes}
 use Rattle.liq_run.proofs.Residual.{handed_on}
+use Rattle.liq_run.proofs.Taking.{few_begins, few_behind, few_in_all}
 use Rattle.liq_run.proofs.Turning.{opened, answered_on, answered_cut, reading_fails, reading_ends, limit_halts}
 use Rattle.liq_run.proofs.run.Run.answer_lines.Goals as goal
 
 pub loop-answered-init : goal.loop-answered-init
 loop-answered-init g c = record {
   answered = λ start stands bytes told. opened start bytes c.args.self.now.reader c.args.self.now.waiting.items c.args.self.now.store.core (g.S.Source.left c.args.input.now) (g.K.Sink.held c.args.out.now) stands c.requires.unread c.requires.waiting told;
+  few = few_begins (g.S.Source.left c.args.input.now) c.args.self.now.reader c.requires.unread;
   going = c.requires.going;
   disks_count = refl;
   source_count = refl;
@@ -24,6 +26,7 @@ returns-then-not-branch-clause-run g c start stands bytes told =
 pub loop-answered-preserved : goal.loop-answered-preserved
 loop-answered-preserved g c = record {
   answered = λ start stands bytes told. (rw c.if-not-branch.false at c.in_ok-turn.ensures.turn) start bytes (g.K.Sink.held c.args.out.now) (c.loop-answered.invariant.answered start stands bytes told);
+  few = c.turn.ensures.few (g.S.Source.left c.args.input.now) c.loop-answered.invariant.few;
   going = c.in_ok-turn.ensures.stopped;
   disks_count = c.in_ok-turn.ensures.disks ∙ c.loop-answered.invariant.disks_count;
   source_count = c.in_ok-turn.ensures.source ∙ c.loop-answered.invariant.source_count;
@@ -57,3 +60,32 @@ returns-in-Err-clause-run g c start stands bytes told =
     let a = answered_on start bytes c.loop-answered.answered _ _ _ c.flush.new.waiting.items (g.K.Sink.held c.args.out.now) _ (g.K.Sink.held c.flush.new.out) (c.loop-answered.invariant.answered start stands bytes told) c.in_ok-flush.ensures.written in
     let failed = c.in-Err.ensures.failed in
     reading_fails start _ bytes c.next_byte.new.self c.loop-answered.answered _ _ (g.S.Source.left c.next_byte.new.input) _ _ _ (omega (arith, c.loop-answered.auto.answered-end)) ([], tt, failed.0, failed.1, omega arith) (λ e. refl) a
+
+-- ---- what is taken
+
+pub returns-then-not-branch-clause-few : goal.returns-then-not-branch-clause-few
+returns-then-not-branch-clause-few g c =
+    few_in_all _ (c.loop-answered.answered + 1) _ _ (c.turn.ensures.few (g.S.Source.left c.args.input.now) c.loop-answered.invariant.few) (omega (arith, c.loop-answered-test.true))
+
+pub returns-in_err-turn-clause-few : goal.returns-in_err-turn-clause-few
+returns-in_err-turn-clause-few g c =
+    few_in_all _ (c.loop-answered.answered + 1) _ _ (c.turn.ensures.few (g.S.Source.left c.args.input.now) c.loop-answered.invariant.few) (omega (arith, c.loop-answered-test.true))
+
+pub returns-in_err-flush-clause-few : goal.returns-in_err-flush-clause-few
+returns-in_err-flush-clause-few g c = few_in_all _ c.loop-answered.answered _ _ c.loop-answered.invariant.few (omega (arith, c.loop-answered.auto.answered-end))
+
+pub returns-in-Ok-None-clause-few : goal.returns-in-Ok-None-clause-few
+returns-in-Ok-None-clause-few g c =
+    let over = rw c.in-Ok-None.field-0-is at c.in-Ok-None.ensures.byte in
+    few_behind _ c.loop-answered.answered _ _ c.loop-answered.invariant.few (omega (arith, c.loop-answered.auto.answered-end)) [] _ _ over.0 (omega (arith, c.next_byte.ensures.held))
+
+pub returns-in-Ok-Some-clause-few : goal.returns-in-Ok-Some-clause-few
+returns-in-Ok-Some-clause-few g c =
+    let read = rw c.in-Ok-Some.field-0-is at c.in-Ok-Some.ensures.byte in
+    let held = rw c.in-Ok-Some.field-0-is at c.in-Ok-Some.ensures.held_with in
+    few_behind _ c.loop-answered.answered _ _ c.loop-answered.invariant.few (omega (arith, c.loop-answered.auto.answered-end)) (_ ∷ []) _ _ read (omega (arith, held))
+
+pub returns-in-Err-clause-few : goal.returns-in-Err-clause-few
+returns-in-Err-clause-few g c =
+    let failed = c.in-Err.ensures.failed in
+    few_behind _ c.loop-answered.answered _ _ c.loop-answered.invariant.few (omega (arith, c.loop-answered.auto.answered-end)) [] _ _ failed.0 (omega (arith, c.next_byte.ensures.held))

@@ -2,7 +2,7 @@ use Rattle.std.proofs.Common.{◌≡◌, ℕ, List, Some, None}
 use Rattle.liq_types.specs.State.{State}
 use Rattle.liq_core.specs.Core.{StandsFor}
 use Rattle.liq_store.specs.Causes.{counts_of}
-use Rattle.liq_run.specs.Progress.{Answered}
+use Rattle.liq_run.specs.Progress.{Answered, ReadsFew}
 use Rattle.liq_lines.specs.Reading.{unread}
 use Rattle.liq_run.proofs.run.Run.answer_lines.Given as goal
 
@@ -13,6 +13,7 @@ invariant-loop-answered g l =
     let held = g.K.Sink.held in
     record {
       answered : (start : State) → StandsFor l.fn.self.store.core start → (bytes : List ℕ) → left l.fn.input ≡ Some bytes → Answered start bytes l.answered l.self.store.core (unread l.self.reader (left l.input)) l.self.waiting.items (held l.fn.out) (held l.out);
+      few : ReadsFew (left l.fn.input) l.answered l.self.reader (left l.input);
       going : l.self.store.stopped ≡ None;
       disks_count : counts_of g.D.Disk.faults l.self.store.left l.self.store.right ≡ counts_of g.D.Disk.faults l.fn.self.store.left l.fn.self.store.right;
       source_count : g.S.Source.faults l.input ≡ g.S.Source.faults l.fn.input;

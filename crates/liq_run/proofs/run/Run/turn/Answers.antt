@@ -4,9 +4,10 @@ use Rattle.liq_rules.specs.Step.{run}
 use Rattle.liq_types.specs.State.{State}
 use Rattle.liq_types.specs.declared.requests.Request.{Request}
 use Rattle.liq_ends.specs.declared.halts.Halt.{Halt}
-use Rattle.liq_run.specs.Progress.{Answered, Turns, Comes}
+use Rattle.liq_run.specs.Progress.{Answered, ReadsFew, Turns, Comes}
 use Rattle.liq_lines.specs.Reading.{unread, Reads}
 use Rattle.liq_run.proofs.Residual.{handed_on}
+use Rattle.liq_run.proofs.Taking.{few_line, few_still}
 use Rattle.liq_run.proofs.Turning.{answered_on, answered_cut, reading_halts, reading_ends, line_answered, last_answered, answering_halts, first_line, last_line}
 use Rattle.liq_run.proofs.run.Run.turn.Goals as goal
 
@@ -71,3 +72,34 @@ returns-in_err-answer-in-LastLine-clause-turn g c start bytes before b =
     turn_halts start _ bytes c.args.answered _ _ (g.S.Source.left c.next_request.new.input) c.answer-in-LastLine.new.self.waiting.items before (g.K.Sink.held c.answer-in-LastLine.new.out) c.from_residual-in_err-answer-in-LastLine.result halt
     (handed_on c.from_residual-in_err-answer-in-LastLine.result halt c.from_residual-in_err-answer-in-LastLine.ensures.1)
     (answering_halts start _ halt bytes read.0 [] c.in-LastLine.request c.args.answered c.args.self.now.store.core c.answer-in-LastLine.new.self.store.core _ (g.S.Source.left c.next_request.new.input) _ _ before _ _ c.requires.few read.1 a first said (λ is. c.in_err-answer-in-LastLine.ensures.kept (ap Err is) (run start a.requests).0 a.stands))
+
+-- ---- what is taken
+
+pub returns-in_err-catch_up-clause-few : goal.returns-in_err-catch_up-clause-few
+returns-in_err-catch_up-clause-few g c before h = few_still before c.args.answered _ _ h
+
+pub returns-in_err-next_request-clause-few : goal.returns-in_err-next_request-clause-few
+returns-in_err-next_request-clause-few g c before h = few_line before c.args.answered _ _ h _ _ c.next_request.ensures.few c.next_request.ensures.held
+
+pub returns-in-End-clause-few : goal.returns-in-End-clause-few
+returns-in-End-clause-few g c before h = few_line before c.args.answered _ _ h _ _ c.next_request.ensures.few c.next_request.ensures.held
+
+pub returns-in_ok-answer-in-Line-clause-few : goal.returns-in_ok-answer-in-Line-clause-few
+returns-in_ok-answer-in-Line-clause-few g c before h =
+    subst (λ (taken : List ℕ). ReadsFew before (c.args.answered + 1) taken (g.S.Source.left c.next_request.new.input)) (sym c.answer.ensures.reader)
+    (few_line before c.args.answered _ _ h _ _ c.next_request.ensures.few c.next_request.ensures.held)
+
+pub returns-in_err-answer-in-Line-clause-few : goal.returns-in_err-answer-in-Line-clause-few
+returns-in_err-answer-in-Line-clause-few g c before h =
+    subst (λ (taken : List ℕ). ReadsFew before (c.args.answered + 1) taken (g.S.Source.left c.next_request.new.input)) (sym c.answer.ensures.reader)
+    (few_line before c.args.answered _ _ h _ _ c.next_request.ensures.few c.next_request.ensures.held)
+
+pub returns-in_ok-answer-in-LastLine-clause-few : goal.returns-in_ok-answer-in-LastLine-clause-few
+returns-in_ok-answer-in-LastLine-clause-few g c before h =
+    subst (λ (taken : List ℕ). ReadsFew before (c.args.answered + 1) taken (g.S.Source.left c.next_request.new.input)) (sym c.answer-in-LastLine.ensures.reader)
+    (few_line before c.args.answered _ _ h _ _ c.next_request.ensures.few c.next_request.ensures.held)
+
+pub returns-in_err-answer-in-LastLine-clause-few : goal.returns-in_err-answer-in-LastLine-clause-few
+returns-in_err-answer-in-LastLine-clause-few g c before h =
+    subst (λ (taken : List ℕ). ReadsFew before (c.args.answered + 1) taken (g.S.Source.left c.next_request.new.input)) (sym c.answer-in-LastLine.ensures.reader)
+    (few_line before c.args.answered _ _ h _ _ c.next_request.ensures.few c.next_request.ensures.held)
