@@ -1,10 +1,8 @@
 -- Serving an input, as an end of the program.
-use Rattle.std.proofs.Common.{◌≡◌, ℕ, List, [], Option, Some, None, Ok, Err, Result, refl, ap, ap₂, ◌∙◌, arith, inl, inr, lit<}
+use Rattle.std.proofs.Common.{◌≡◌, ℕ, List, Option, Some, None, Result, refl, ap, ap₂, ◌∙◌, inl, inr, lit<}
 use Rattle.std.specs.Prelude.{◌⊎◌}
-use Rattle.std.proofs.lemmas.List.Elements.{All-nil}
 use Rattle.liq_types.specs.State.{State}
 use Rattle.liq_rules.specs.History.{Entry}
-use Rattle.liq_lines.specs.Lines.{lines_in}
 use Rattle.liq_types.specs.declared.requests.Request.{Request}
 use Rattle.liq_journal.specs.declared.damage.Damage.{Damage}
 use Rattle.liq_scripts.specs.declared.stops.Stop.{Stop}
@@ -21,14 +19,11 @@ use Rattle.liq_ends.specs.declared.halts.Halt.{Halt}
 use Rattle.liq_ends.specs.declared.halts.Halt.TheVariants.{BadLine, ReadFault, DiskFault, NoMemory, Limit}
 use Rattle.liq_ends.specs.declared.halts.Halt.TheVariants as halts
 use Rattle.liq_ends.specs.Causes.{DiskCause, ReadCause, WriteCause}
-use Rattle.liq_ends.specs.Output.{last}
 use Rattle.liq_ends.specs.Unsaid.{WritesAll}
 use Rattle.liq_serve.specs.Finishing.{end_of}
-use Rattle.liq_serve.specs.Serve.{AnswersAll, OpensNone, ServesTo, StopsReading}
+use Rattle.liq_serve.specs.Outside.{Outside}
+use Rattle.liq_serve.specs.Serve.{AnswersAll, OpensNone, StopsReading}
 use Rattle.liq_ends.specs.Statuses.{IsDone, status_of}
-use Rattle.liq_ends.specs.Stops.{Adds}
-use Rattle.liq_ends.proofs.Opened.{state_formed}
-use Rattle.liq_ends.proofs.Shares.{all_shares}
 
 -- ---- the counts
 
@@ -102,7 +97,7 @@ is_done finish.NoMemory all = inr refl
 is_done finish.DiskFault all = absurd all
 is_done finish.WriteFault all = absurd all
 
--- ---- nothing was read, for want of memory
+-- ---- disks that nobody touched
 
 pub same_disks : {E : Type 0} {D : Type 0} (seen : D → Option (List ℕ)) (left right : D) (l r a b : List ℕ) (found : Result State E) → seen left ≡ Some l → seen right ≡ Some r → seen left ≡ Some a → seen right ≡ Some b → (on : List ℕ → List ℕ → Result State E) → on l r ≡ found → on a b ≡ found
 same_disks seen left right l r a b found told_l told_r told_a told_b on is =
@@ -110,66 +105,42 @@ same_disks seen left right l r a b found told_l told_r told_a told_b on is =
     let right_is : b ≡ r = cc in
     ap₂ on left_is right_is ∙ is
 
-pub serves_nothing :
-    {D : Type 0} (seen : D → Option (List ℕ)) (unread : Option (List ℕ)) (left right : D) (fault : Type 0) (held now : Option (List ℕ)) → Adds [] (last NoMemory) fault held now
-    → ServesTo seen unread unread left right (Err NoMemory) left right fault held now
-serves_nothing seen unread left right fault held now written =
-    record {
-      asked = [];
-      history = [];
-      few = omega arith;
-      fronts = λ k d has. ([], refl);
-      sessions = All-nil _;
-      came = inl (record {
-        stop = stop.NoMemory;
-        end_is = refl;
-        read = λ bytes told. (lines_in bytes, ([], tt, refl));
-        none = refl;
-        left_same = refl;
-        right_same = refl;
-      });
-      legal = λ l r start found. record { replies = refl; indices = λ session. refl };
-      written = written;
-      shares = λ l r start found. all_shares start [] (state_formed l r start found.is);
-    }
-
 -- ---- what the finish says
 
-module _ {D : Type 0} (seen : D → Option (List ℕ)) (before unread : Option (List ℕ)) (left right left_now right_now : D) (asked : List (ℕ × Request)) (history : List Entry) where
+module _ {S D : Type 0} (seen : D → Option (List ℕ)) (before after : Outside S D) (asked : List (ℕ × Request)) (history : List Entry) where
   abbrev pub Came : Result (Unit {0}) Halt → Type 0
   Came end =
-      StopsReading seen before unread left right end left_now right_now asked history
-      ⊎ (OpensNone seen before unread left right end left_now right_now asked history
-      ⊎ AnswersAll seen before unread left right end left_now right_now asked history)
+      StopsReading seen before after end asked history
+      ⊎ (OpensNone seen before after end asked history ⊎ AnswersAll seen before after end asked history)
 
-  pub came_by : (how : Finish) → AnswersInput seen before unread left right (record { left = left_now; right = right_now; finish = how }) asked history
-      → ((why_not : Stop) → how ≡ finish.NotRead why_not → (left_now ≡ left) × (right_now ≡ right)) → Came (end_of how)
+  pub came_by : (how : Finish) → AnswersInput seen before.unread after.unread before.left before.right (record { left = after.left; right = after.right; finish = how }) asked history
+      → ((why_not : Stop) → how ≡ finish.NotRead why_not → (after.left ≡ before.left) × (after.right ≡ before.right)) → Came (end_of how)
   came_by finish.All a same = inr (inr (record {
     read = a.read;
     halted = None;
     answers = (refl, a.answers);
-    disks = λ l r x y start found told_x told_y. a.disks l r start found.left found.right found.is x y told_x told_y;
+    disks = λ l r start found. a.disks l r start found.left found.right found.is;
     whole = λ l r side damage found. a.damaged l r side damage found.left found.right found.is;
   }))
   came_by finish.WriteFault a same = inr (inr (record {
     read = a.read;
     halted = None;
     answers = (refl, a.answers);
-    disks = λ l r x y start found told_x told_y. a.disks l r start found.left found.right found.is x y told_x told_y;
+    disks = λ l r start found. a.disks l r start found.left found.right found.is;
     whole = λ l r side damage found. a.damaged l r side damage found.left found.right found.is;
   }))
   came_by finish.NoMemory a same = inr (inr (record {
     read = a.read;
     halted = None;
     answers = (refl, a.answers);
-    disks = λ l r x y start found told_x told_y. a.disks l r start found.left found.right found.is x y told_x told_y;
+    disks = λ l r start found. a.disks l r start found.left found.right found.is;
     whole = λ l r side damage found. a.damaged l r side damage found.left found.right found.is;
   }))
   came_by finish.DiskFault a same = inr (inr (record {
     read = a.read;
     halted = a.halted;
     answers = a.answers;
-    disks = λ l r x y start found told_x told_y. a.disks l r start found.left found.right found.is x y told_x told_y;
+    disks = λ l r start found. a.disks l r start found.left found.right found.is;
     whole = λ l r side damage found. a.damaged l r side damage found.left found.right found.is;
   }))
   came_by (finish.NotRead why_not) a same = inl (record {

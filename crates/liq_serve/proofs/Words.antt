@@ -1,11 +1,13 @@
 -- How each word ends, put together to the clause of the top call.
 use Rattle.std.proofs.Common.{◌≡◌, ◌≤◌, ℕ, List, [], ◌∷◌, length, Option, Some, Ok, Err, Result, refl, sym, subst, arith, lit<, inl, inr}
 use Rattle.std.specs.Prelude.{◌⊎◌, ◌↔◌, Contains, IfOk}
+use Rattle.std.proofs.lemmas.List.Elements.{All-nil}
 use Rattle.liq_outside.specs.Faults.{Rose}
 use Rattle.liq_types.specs.declared.amounts.TheConstants.{LINES_MOST}
 use Rattle.liq_types.specs.declared.requests.Request.{Request}
 use Rattle.liq_types.specs.State.{State, opening}
 use Rattle.liq_lines.specs.Lines.{lines_in}
+use Rattle.liq_scripts.specs.declared.stops.Stop.TheVariants as stop
 use Rattle.liq_scripts.specs.Asked.{AreAsked}
 use Rattle.liq_journal.specs.declared.damage.Damage.{Damage}
 use Rattle.liq_pairs.specs.declared.side.Side.{Side}
@@ -37,7 +39,7 @@ use Rattle.liq_ends.proofs.Causes.{disk_causes, sink_causes, source_causes}
 use Rattle.liq_ends.proofs.Few.{takes_none}
 use Rattle.liq_ends.proofs.Opened.{standing_still, state_formed, untouched}
 use Rattle.liq_ends.proofs.Shares.{all_shares}
-use Rattle.liq_serve.proofs.Served.{same_disks, serves_nothing}
+use Rattle.liq_serve.proofs.Served.{same_disks}
 use Rattle.liq_serve.proofs.StatusLaws.{complete, status_known}
 use Rattle.liq_serve.proofs.Telling.{audit_done, disks_unasked, load_done, source_unasked, state_done}
 
@@ -108,7 +110,7 @@ module _ {S D : Type 0} (seen : D → Option (List ℕ)) (before after : Outside
       (l r : List ℕ) → seen before.left ≡ Some l → seen before.right ≡ Some r → (side : Side) (damage : Damage) → state_on l r ≡ Err (side, damage)
       → (after.source ≡ before.source) × ((halt : Halt) × (status ≡ status_of (Err halt)) × EndsDamaged seen side damage (Err halt) after.left after.right × Adds [] (last halt) (SinkRose before after) before.held after.held)
 
-  over_damage : (status : ℕ) → IsOverDamage status → (l r : List ℕ) (side : Side) (damage : Damage) → Finds seen before.left before.right l r (Err (side, damage)) → EndsOverDamage seen before after status side damage
+  over_damage : (status : ℕ) → IsOverDamage status → (l r : List ℕ) (side : Side) (damage : Damage) → Finds seen before l r (Err (side, damage)) → EndsOverDamage seen before after status side damage
   over_damage status damaged l r side damage found =
       let h = damaged l r found.left found.right side damage found.is in
       record { reads = h.0; halt = h.1.0; status_is = h.1.1; ends = h.1.2; written = h.1.3 }
@@ -173,7 +175,7 @@ module _ {S D : Type 0} (seen : D → Option (List ℕ)) (before after : Outside
 
   pub serve_ends :
       (words : List (List ℕ)) (end : Result (Unit {0}) Halt) → IsRead words word.Serve → HasCounts end
-      → ServesTo seen before.unread after.unread before.left before.right end after.left after.right (SinkRose before after) before.held after.held
+      → ServesTo seen before after end
       → ((bytes l r : List ℕ) → before.unread ≡ Some bytes → seen before.left ≡ Some l → seen before.right ≡ Some r → (start : State) → state_on l r ≡ Ok start
       → (asked : List (ℕ × Request)) → AreAsked (lines_in bytes) asked → length asked ≤ LINES_MOST
       → (SourceRose before after → ⊥) → (SinkRose before after → ⊥) → (DiskRose before after → ⊥) → IsDone (status_of end))
@@ -275,6 +277,27 @@ module _ {S D : Type 0} (seen : D → Option (List ℕ)) (source : S) (unread : 
 
   -- ---- words that were not read
 
+  serves_nothing : Adds [] (last NoMemory) (Rose sink sink_now) held now → ServesTo seen (with_sink held sink) (with_sink now sink_now) (Err NoMemory)
+  serves_nothing written =
+      record {
+        asked = [];
+        history = [];
+        few = omega arith;
+        fronts = λ k d has. ([], refl);
+        sessions = All-nil _;
+        came = inl (record {
+          stop = stop.NoMemory;
+          end_is = refl;
+          read = λ bytes told. (lines_in bytes, ([], tt, refl));
+          none = refl;
+          left_same = refl;
+          right_same = refl;
+        });
+        legal = λ l r start found. record { replies = refl; indices = λ session. refl };
+        written = written;
+        shares = λ l r start found. all_shares start [] (state_formed l r start found.is);
+      }
+
   misused : (words : List (List ℕ)) → ((word : Word) → Ask words word → ⊥) → Adds [] usage (Rose sink sink_now) held now → EndsWriting 1 words
   misused words none written =
       record {
@@ -319,7 +342,7 @@ module _ {S D : Type 0} (seen : D → Option (List ℕ)) (source : S) (unread : 
           complete = λ bytes l r start requests told found all few source calm. inr refl;
         };
         serve = λ asked. record {
-          ends = (Err NoMemory, refl, serves_nothing seen unread left right (Rose sink sink_now) held now written);
+          ends = (Err NoMemory, refl, serves_nothing written);
           complete = λ bytes l r start asked told found all few source calm. inr refl;
         };
         state = λ asked. record {

@@ -34,12 +34,12 @@ outside unread source_faults held sink_faults disk_faults source sink left right
   disk_faults = counts_of disk_faults left right;
 }
 
--- These disks tell l and r, and this is the state for which they stand, or their first damage.
+-- The disks tell l and r, and this is the state for which they stand, or their first damage.
 pub record Finds
-    {D : Type 0} (seen : D → Option (List ℕ)) (left_disk right_disk : D) (l r : List ℕ)
+    {S D : Type 0} (seen : D → Option (List ℕ)) (before : Outside S D) (l r : List ℕ)
     (found : Result State (Side × Damage)) : Type 0 where
-  pub left : seen left_disk ≡ Some l
-  pub right : seen right_disk ≡ Some r
+  pub left : seen before.left ≡ Some l
+  pub right : seen before.right ≡ Some r
   pub is : state_on l r ≡ found
 
 module _ {S D : Type 0} (before after : Outside S D) where

@@ -22,11 +22,11 @@ use Rattle.liq_scripts.specs.Output.{served}
 use Rattle.liq_serving.specs.Answered.{AreServedFrom, AreServedWhole, IsNextOf, LacksMemory}
 use Rattle.liq_ends.specs.declared.halts.Halt.{Halt}
 use Rattle.liq_ends.specs.declared.halts.Halt.TheVariants.{BadLine, ReadFault, WriteFault, DiskFault, NoMemory, Limit}
-use Rattle.liq_ends.specs.Disks.{DisksStay, EndsDamaged}
+use Rattle.liq_ends.specs.Disks.{DisksStay, EndsDamaged, OfBoth}
 use Rattle.liq_ends.specs.Statuses.{status_of}
 use Rattle.liq_ends.specs.Stops.{HaveTheirShares}
 use Rattle.liq_ends.specs.Telling.{TellsAll}
-use Rattle.liq_serve.specs.Outside.{Finds}
+use Rattle.liq_serve.specs.Outside.{Outside, Finds, SinkRose}
 
 -- why a word stops whose input was not read to its end
 abbrev pub halt_at : Stop → Halt
@@ -55,21 +55,21 @@ AreKept (Err DiskFault) halted s a b =
 AreKept _ halted s a b = IsKept a b s
 
 module _
-    {D : Type 0} (seen : D → Option (List ℕ)) (before unread : Option (List ℕ)) (left right : D)
-    (end : Result (Unit {0}) Halt) (left_now right_now : D) where
+    {S D : Type 0} (seen : D → Option (List ℕ)) (before after : Outside S D) (end : Result (Unit {0}) Halt) where
   -- Reading stopped behind what was asked. Nothing was opened, and the disks are as they were.
   pub record StopsReading (asked : List (ℕ × Request)) (history : List Entry) : Type 0 where
     pub stop : Stop
     pub end_is : end ≡ Err (halt_at stop)
-    pub read : (bytes : List ℕ) → before ≡ Some bytes → StopsAfter stop bytes unread asked
+    pub read : (bytes : List ℕ) → before.unread ≡ Some bytes → StopsAfter stop bytes after.unread asked
     pub none : history ≡ []
-    pub left_same : left_now ≡ left
-    pub right_same : right_now ≡ right
+    pub left_same : after.left ≡ before.left
+    pub right_same : after.right ≡ before.right
 
   -- all lines ask this, and the source is at its end
   abbrev pub IsAllRead : List (ℕ × Request) → Type 0
   IsAllRead asked =
-      (bytes : List ℕ) → before ≡ Some bytes → AreAsked (lines_in bytes) asked × (unread ≡ Some [])
+      (bytes : List ℕ) → before.unread ≡ Some bytes
+      → AreAsked (lines_in bytes) asked × (after.unread ≡ Some [])
 
   -- All was read, and no store was opened: for a disk's fault, the disks' damage or want of memory.
   pub record OpensNone (asked : List (ℕ × Request)) (history : List Entry) : Type 0 where
@@ -77,11 +77,11 @@ module _
     pub read : IsAllRead asked
     pub none : history ≡ []
     pub disks :
-        (l r : List ℕ) (start : State) → Finds seen left right l r (Ok start)
-        → Contains (5 ∷ 7 ∷ []) (status_of end) × DisksStay seen end l r start left_now right_now
+        (l r : List ℕ) (start : State) → Finds seen before l r (Ok start)
+        → Contains (5 ∷ 7 ∷ []) (status_of end) × DisksStay seen end l r start after.left after.right
     pub damaged :
-        (l r : List ℕ) (side : Side) (damage : Damage) → Finds seen left right l r (Err (side, damage))
-        → EndsDamaged seen side damage end left_now right_now
+        (l r : List ℕ) (side : Side) (damage : Damage) → Finds seen before l r (Err (side, damage))
+        → EndsDamaged seen side damage end after.left after.right
 
   -- All was read, and a store was opened, whose disks are not damaged.
   pub record AnswersAll (asked : List (ℕ × Request)) (history : List Entry) : Type 0 where
@@ -90,23 +90,21 @@ module _
     pub halted : Option (ℕ × Request)
     pub answers : Answers end halted asked history
     pub disks :
-        (l r a b : List ℕ) (start : State) → Finds seen left right l r (Ok start) → seen left_now ≡ Some a
-        → seen right_now ≡ Some b
-        → AreKept end halted (state_after start history) a b
-    pub whole :
-        (l r : List ℕ) (side : Side) (damage : Damage) → Finds seen left right l r (Err (side, damage)) → ⊥
+        (l r : List ℕ) (start : State) → Finds seen before l r (Ok start)
+        → OfBoth seen after.left after.right (AreKept end halted (state_after start history))
+    pub whole : (l r : List ℕ) (side : Side) (damage : Damage) → Finds seen before l r (Err (side, damage)) → ⊥
 
   -- Along one history a part of what the lines asked was answered, and it was written, as far as the end says; and
   -- after it no depositor has more than its share, or less by more than is allowed.
-  pub record ServesTo (fault : Type 0) (held now : Option (List ℕ)) : Type 0 where
+  pub record ServesTo : Type 0 where
     pub asked : List (ℕ × Request)
     pub history : List Entry
     pub few : length asked ≤ LINES_MOST
     pub fronts : AreServedFrom asked history
     pub sessions : All (λ (e : Entry). (1 ≤ e.session) × (e.session ≤ SESSIONS)) history
     pub came : StopsReading asked history ⊎ (OpensNone asked history ⊎ AnswersAll asked history)
-    pub legal : (l r : List ℕ) (start : State) → Finds seen left right l r (Ok start) → IsLegal start history
-    pub written : TellsAll (served history) end fault held now
+    pub legal : (l r : List ℕ) (start : State) → Finds seen before l r (Ok start) → IsLegal start history
+    pub written : TellsAll (served history) end (SinkRose before after) before.held after.held
     pub shares :
-        (l r : List ℕ) (start : State) → Finds seen left right l r (Ok start)
+        (l r : List ℕ) (start : State) → Finds seen before l r (Ok start)
         → HaveTheirShares start (requests_of history)

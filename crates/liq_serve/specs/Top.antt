@@ -29,10 +29,6 @@ use Rattle.liq_ends.specs.Taking.{TakesFew}
 use Rattle.liq_ends.specs.Telling.{TellsAll}
 
 module _ {S D : Type 0} (seen : D → Option (List ℕ)) (before after : Outside S D) (status : ℕ) where
-  -- the disks tell these bytes, and this is what they stand for
-  abbrev pub FindsDisks : List ℕ → List ℕ → Result State (Side × Damage) → Type 0
-  FindsDisks l r found = Finds seen before.left before.right l r found
-
   -- neither the sink nor a disk met a fault
   pub record IsCalm : Type 0 where
     pub sink : SinkRose before after → ⊥
@@ -50,26 +46,25 @@ module _ {S D : Type 0} (seen : D → Option (List ℕ)) (before after : Outside
   pub record Runs : Type 0 where
     -- it ends in one of its ways from there, which says what came in, what went out, and what the disks hold
     pub ends :
-        (bytes l r : List ℕ) (start : State) → before.unread ≡ Some bytes → FindsDisks l r (Ok start)
+        (bytes l r : List ℕ) (start : State) → before.unread ≡ Some bytes → Finds seen before l r (Ok start)
         → (end : Result (Unit {0}) Halt) × (status ≡ status_of end)
         × EndsIn seen start end bytes l r after.unread (SinkRose before after) before.held after.held after.left
         after.right
     -- where nothing is wrong with lines, streams and disks, all is answered
     pub complete :
         (bytes l r : List ℕ) (start : State) (requests : List Request) → before.unread ≡ Some bytes
-        → FindsDisks l r (Ok start) → AreRequests (lines_in bytes) requests → length requests ≤ LINES_MOST
-        → (SourceRose before after → ⊥) → IsCalm → IsDone status
+        → Finds seen before l r (Ok start) → AreRequests (lines_in bytes) requests
+        → length requests ≤ LINES_MOST → (SourceRose before after → ⊥) → IsCalm → IsDone status
 
   -- `serve`: each session's lines are answered in order, all sessions' at once
   pub record Serves : Type 0 where
     -- one history holds what was answered, and says what came in, what went out, and what the disks hold
     pub ends :
         (end : Result (Unit {0}) Halt) × (status ≡ status_of end)
-        × ServesTo seen before.unread after.unread before.left before.right end after.left after.right
-        (SinkRose before after) before.held after.held
+        × ServesTo seen before after end
     pub complete :
         (bytes l r : List ℕ) (start : State) (asked : List (ℕ × Request)) → before.unread ≡ Some bytes
-        → FindsDisks l r (Ok start) → AreAsked (lines_in bytes) asked → length asked ≤ LINES_MOST
+        → Finds seen before l r (Ok start) → AreAsked (lines_in bytes) asked → length asked ≤ LINES_MOST
         → (SourceRose before after → ⊥) → IsCalm → IsDone status
 
   -- `state`: nothing is read
@@ -77,13 +72,14 @@ module _ {S D : Type 0} (seen : D → Option (List ℕ)) (before after : Outside
     pub reads : after.source ≡ before.source
     -- of the state for which the disks stand it is told what stands, and they stay so
     pub ends :
-        (l r : List ℕ) (start : State) → FindsDisks l r (Ok start)
+        (l r : List ℕ) (start : State) → Finds seen before l r (Ok start)
         → (end : Result (Unit {0}) Halt) × (status ≡ status_of end)
         × TellsAll (standing start) end (SinkRose before after) before.held after.held
         × DisksStay seen end l r start after.left after.right
     pub statuses :
-        (l r : List ℕ) (start : State) → FindsDisks l r (Ok start) → Contains (0 ∷ 4 ∷ 5 ∷ 7 ∷ []) status
-    pub complete : (l r : List ℕ) (start : State) → FindsDisks l r (Ok start) → IsCalm → IsDone status
+        (l r : List ℕ) (start : State) → Finds seen before l r (Ok start)
+        → Contains (0 ∷ 4 ∷ 5 ∷ 7 ∷ []) status
+    pub complete : (l r : List ℕ) (start : State) → Finds seen before l r (Ok start) → IsCalm → IsDone status
 
   -- `audit`: nothing is read
   pub record Audits : Type 0 where
@@ -91,16 +87,16 @@ module _ {S D : Type 0} (seen : D → Option (List ℕ)) (before after : Outside
     -- Of the commands that lead to that state the review is told, and the disks stay so. At 0 each row of the review
     -- encloses the exact share of its account, and what the protocol gives it in that state is within the row.
     pub ends :
-        (l r : List ℕ) (start : State) → FindsDisks l r (Ok start)
+        (l r : List ℕ) (start : State) → Finds seen before l r (Ok start)
         → (end : Result (Unit {0}) Halt) × (status ≡ status_of end)
         × ((text : List ℕ) × IsAuditOf start (commands_on l r) end text
         × TellsAll text end (SinkRose before after) before.held after.held)
         × DisksStay seen end l r start after.left after.right
     pub statuses :
-        (l r : List ℕ) (start : State) → FindsDisks l r (Ok start)
+        (l r : List ℕ) (start : State) → Finds seen before l r (Ok start)
         → Contains (0 ∷ 4 ∷ 5 ∷ 7 ∷ 8 ∷ []) status
     pub complete :
-        (l r : List ℕ) (start : State) → FindsDisks l r (Ok start)
+        (l r : List ℕ) (start : State) → Finds seen before l r (Ok start)
         → number_above (events opening (commands_on l r)) ≡ None → IsCalm → IsDone status
 
   -- `gen`: nothing is read, and the disks stay
@@ -136,7 +132,7 @@ module _ {S D : Type 0} (seen : D → Option (List ℕ)) (before after : Outside
     -- each word that opens the disks before it reads
     pub damaged :
         Ask words word.Run ⊎ (Ask words word.State ⊎ Ask words word.Audit)
-        → (l r : List ℕ) (side : Side) (damage : Damage) → FindsDisks l r (Err (side, damage))
+        → (l r : List ℕ) (side : Side) (damage : Damage) → Finds seen before l r (Err (side, damage))
         → EndsOverDamage side damage
     -- but for `serve`: no more is taken from the source than the lines that one run answers, and what one read asks for
     pub takes : (Ask words word.Serve → ⊥) → TakesFew before.unread after.unread

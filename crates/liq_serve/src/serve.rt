@@ -12,6 +12,7 @@ ghost use Rattle.liq_store.specs.Causes.{OneRose, counts_of};
 ghost use Rattle.liq_ends.specs.Causes.{DiskCause, LastCause, ReadCause};
 ghost use Rattle.liq_ends.specs.Statuses.{IsDone, status_of};
 ghost use Rattle.liq_serve.specs.Finishing.{end_of};
+ghost use Rattle.liq_serve.specs.Outside.{outside};
 ghost use Rattle.liq_serve.specs.Serve.{ServesTo, halt_at};
 
 use liq_ends::{Ending, Halt, tell_last};
@@ -34,7 +35,9 @@ pub fn serve_on<S: Source, K: Sink, D: Disk + Send, G: Gate + Sync, R: Threads +
     left: D,
     right: D,
 ) -> Ending<D>
-    ensures served { ServesTo D.seen (S.left input.old) (S.left input.new) left right result.end result.left result.right (Rose (K.faults out.old) (K.faults out.new)) (K.held out.old) (K.held out.new) }
+    ensures served { ServesTo D.seen
+        (outside S.left S.faults K.held K.faults D.faults input.old out.old left right)
+        (outside S.left S.faults K.held K.faults D.faults input.new out.new result.left result.right) result.end }
     ensures source { ReadCause result.end (S.faults input.old) (S.faults input.new) }
     ensures sink { LastCause result.end (K.faults out.old) (K.faults out.new) }
     ensures disks { DiskCause result.end (counts_of D.faults left right) (counts_of D.faults result.left result.right) }

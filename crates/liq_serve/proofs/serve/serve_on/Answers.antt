@@ -1,5 +1,6 @@
 use Rattle.liq_rules.specs.History.{requests_of}
 use Rattle.liq_serve.specs.Finishing.{end_of}
+use Rattle.liq_serve.specs.Outside.{outside}
 use Rattle.liq_ends.proofs.Causes.{write_no_fewer}
 use Rattle.liq_ends.proofs.EndingLines.{rose_earlier}
 use Rattle.liq_scripts.specs.Output.{served as text_of}
@@ -20,7 +21,10 @@ returns-clause-served g c =
     let middle = ran.new.out in
     let fewer = write_no_fewer (end_of how) (faults start) (faults middle) (sink_cause how (faults start) (faults middle) ran.ensures.sink) in
     let answered = served.answered in
-    let came = came_by g.D.Disk.seen (g.S.Source.left c.args.input.now) (g.S.Source.left ran.new.input) c.args.left c.args.right ran.result.left ran.result.right served.asked served.history how answered ran.ensures.unread in
+    let told = outside g.S.Source.left g.S.Source.faults g.K.Sink.held g.K.Sink.faults g.D.Disk.faults in
+    let before = told c.args.input.now c.args.out.now c.args.left c.args.right in
+    let after = told ran.new.input c.tell_last.new.out ran.result.left ran.result.right in
+    let came = came_by g.D.Disk.seen before after served.asked served.history how answered ran.ensures.unread in
     record {
       asked = served.asked;
       history = served.history;
