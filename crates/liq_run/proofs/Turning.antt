@@ -305,16 +305,16 @@ opened start bytes reader waiting core left before stands fresh none told =
       };
     }
 
-pub limit_halts : (start : State) (kept : State → Request → Type 0) (bytes : List ℕ) (n byte : ℕ) (core : Core) (u u' left : Option (List ℕ)) (w : List ℕ) (before now : Option (List ℕ)) → n ≡ LINES_MOST → Reads u (byte ∷ []) u' → Answered start bytes n core u w before now → Comes start (Err (Limit LINES_MOST)) core kept bytes left w before now
-limit_halts start kept bytes n byte core u None left w before now full reads a = absurd (cc (reads, a.unread_is))
-limit_halts start kept bytes n byte core u (Some rest) left w before now full reads a =
+pub limit_halts : (start : State) (kept : State → Request → Type 0) (bytes : List ℕ) (n byte : ℕ) (core : Core) (u u' left : Option (List ℕ)) (w : List ℕ) (before now : Option (List ℕ)) (number : ℕ) → number ≡ LINES_MOST → n ≡ LINES_MOST → Reads u (byte ∷ []) u' → Answered start bytes n core u w before now → Comes start (Err (Limit number)) core kept bytes left w before now
+limit_halts start kept bytes n byte core u None left w before now number is full reads a = absurd (cc (reads, a.unread_is))
+limit_halts start kept bytes n byte core u (Some rest) left w before now number is full reads a =
     let got = told_reads a.rest (byte ∷ []) rest (subst (λ (v : Option (List ℕ)). Reads v (byte ∷ []) (Some rest)) a.unread_is reads) in
     let first = lines_in-some byte rest in
     let whole = begins start bytes n core u w before now a ∙ ap (λ (t : List ℕ). a.front ++ lines_in t) got ∙ ap (λ (ls : List (List ℕ)). a.front ++ ls) first.2 in
     record {
       requests = a.requests;
       few = omega (arith, full, a.count);
-      read = (refl, a.count ∙ full, (first.0, (first.1, (a.front, a.spelled, whole))));
+      read = (is, a.count ∙ full, (first.0, (first.1, (a.front, a.spelled, whole))));
       more = lines_in a.rest;
       begins = begins_with start bytes n core u w before now a;
       written = a.written;

@@ -1,7 +1,6 @@
-use Rattle.std.proofs.Common.{◌≡◌, ℕ, [], ◌∷◌, ◌+◌, Result, Err, arith, refl, sym, subst, ◌∙◌}
+use Rattle.std.proofs.Common.{◌≡◌, [], ◌∷◌, ◌+◌, Result, arith, refl, sym, subst, ◌∙◌}
 use Rattle.liq_types.specs.declared.amounts.TheConstants.{LINES_MOST}
 use Rattle.liq_ends.specs.declared.halts.Halt.{Halt}
-use Rattle.liq_ends.specs.declared.halts.Halt.TheVariants.{Limit}
 use Rattle.liq_run.specs.Calls.{KeepsAround}
 use Rattle.liq_run.specs.Progress.{Comes}
 use Rattle.liq_run.proofs.Residual.{handed_on}
@@ -52,8 +51,7 @@ returns-in-Ok-Some-clause-run g c start stands bytes told =
     let a = answered_on start bytes c.loop-answered.answered _ _ _ c.flush.new.waiting.items (g.K.Sink.held c.args.out.now) _ (g.K.Sink.held c.flush.new.out) (c.loop-answered.invariant.answered start stands bytes told) c.in_ok-flush.ensures.written in
     let read = rw c.in-Ok-Some.field-0-is at c.in-Ok-Some.ensures.byte in
     let full : c.loop-answered.answered ≡ LINES_MOST = omega (arith, c.loop-answered-test.false, c.loop-answered.auto.answered-end) in
-    subst (λ (n : ℕ). Comes start (Err (Limit n)) _ _ bytes (g.S.Source.left c.next_byte.new.input) _ _ _) (sym c.from.ensures)
-    (limit_halts start _ bytes c.loop-answered.answered _ _ _ _ (g.S.Source.left c.next_byte.new.input) _ _ _ full read a)
+    limit_halts start _ bytes c.loop-answered.answered _ _ _ _ (g.S.Source.left c.next_byte.new.input) _ _ _ c.from.result c.from.ensures full read a
 
 pub returns-in-Err-clause-run : goal.returns-in-Err-clause-run
 returns-in-Err-clause-run g c start stands bytes told =
