@@ -8,6 +8,7 @@ pub mod SoundPool
 pub mod SoundProducts
 pub mod SoundPromises
 pub mod SoundRedeem
+pub mod SoundSame
 pub mod SoundStart
 pub mod SoundStep
 pub mod SoundTests

@@ -20,12 +20,13 @@ use Rattle.liq_troves.specs.Standing.{books_of}
 use Rattle.liq_troves.specs.StakeSums.{trove_row, pending_coll, pending_debt}
 use Rattle.liq_troves.proofs.Standing.{pending_covered}
 use Rattle.liq_stability.specs.Own.{after_events, pool_of}
-use Rattle.liq_stability.specs.Position.{balance_of, gain_of, balance_by, gain_by, mark_of, sums_from, words_of}
+use Rattle.liq_stability.specs.Position.{balance_of, gain_of}
 use Rattle.liq_stability.specs.Promise.{IsWithinAllowance}
 use Rattle.liq_stability.proofs.Promise.{within_allowance, all_balances_are, all_gains_are, all_paid_are, balance_uncapped, gain_uncapped, balances_held, gains_held}
 use Rattle.liq_rules.specs.Dust.{IsCovered, dust}
 use Rattle.liq_rules.specs.Events.{events}
 use Rattle.liq_rules.specs.Image.{image}
+use Rattle.liq_soundness.specs.Exact.{IsExactPool, IsUncapped}
 use Rattle.liq_soundness.specs.SoundState.{IsSoundState}
 use Rattle.liq_rules.specs.Step.{accepted, run}
 use Rattle.liq_rules.proofs.Alike.{balance_row, gain_row, balance-image, gain-image}
@@ -73,13 +74,13 @@ same_shares requests s f e account =
 
 -- ---- the pool and the plain ledger
 
-pub reached_balances : (requests : List Request) → over_accounts ACCOUNTS (λ account. (exact_share account (events opening (accepted opening requests))).bal) ≡ pool_total (run opening requests).0 * den_of (events opening (accepted opening requests))
+reached_balances : (requests : List Request) → over_accounts ACCOUNTS (λ account. (exact_share account (events opening (accepted opening requests))).bal) ≡ pool_total (run opening requests).0 * den_of (events opening (accepted opening requests))
 reached_balances requests =
     let h = run_follows requests opening opening_sound in
     let es = events opening (accepted opening requests) in
     subst (λ (q : State). over_accounts ACCOUNTS (λ account. (exact_share account es).bal) ≡ pool_total q * den_of es) (sym h.pool) (all_balances_are LIM (omega arith) es h.lawful ACCOUNTS h.owners)
 
-pub reached_gains : (requests : List Request) → over_accounts ACCOUNTS (λ account. (exact_share account (events opening (accepted opening requests))).gain) ≡ offsets_coll (events opening (accepted opening requests)) * den_of (events opening (accepted opening requests))
+reached_gains : (requests : List Request) → over_accounts ACCOUNTS (λ account. (exact_share account (events opening (accepted opening requests))).gain) ≡ offsets_coll (events opening (accepted opening requests)) * den_of (events opening (accepted opening requests))
 reached_gains requests =
     let h = run_follows requests opening opening_sound in
     let es = events opening (accepted opening requests) in
@@ -91,16 +92,20 @@ reached_paid requests =
     let es = events opening (accepted opening requests) in
     subst (λ (q : State). pool_coll q + over_accounts ACCOUNTS (λ account. gains_paid_to account es) ≡ offsets_coll es) (sym h.pool) (all_paid_are LIM (omega arith) es h.lawful ACCOUNTS h.owners)
 
--- the caps on a depositor's position never act
-abbrev pub IsUncapped : State → ℕ → DepositEntry → Type 0
-IsUncapped s account d =
-    (balance_of s account ≡ balance_by d.amount (mark_of s d.mark) (words_of s)) × (gain_of s account ≡ gain_by d.amount (mark_of s d.mark) (sums_from s (mark_of s d.mark)))
-
-pub reached_uncapped : (requests : List Request) (account : ℕ) (d : DepositEntry) → at (run opening requests).0.deposits account ≡ Some d → IsUncapped (run opening requests).0 account d
+reached_uncapped : (requests : List Request) (account : ℕ) (d : DepositEntry) → at (run opening requests).0.deposits account ≡ Some d → IsUncapped (run opening requests).0 account d
 reached_uncapped requests account d there =
     let h = run_follows requests opening opening_sound in
     let es = events opening (accepted opening requests) in
     subst (λ (q : State). at q.deposits account ≡ Some d → IsUncapped q account d) (sym h.pool) (λ is. (balance_uncapped LIM (omega arith) es h.lawful account d is, gain_uncapped LIM (omega arith) es h.lawful account d is)) there
+
+pub reached_exact : (requests : List Request) → IsExactPool (run opening requests).0 (events opening (accepted opening requests))
+reached_exact requests =
+    record {
+      balances = reached_balances requests;
+      gains = reached_gains requests;
+      paid = reached_paid requests;
+      caps = reached_uncapped requests;
+    }
 
 -- ---- dust
 

@@ -1,8 +1,10 @@
 -- Sound states: what every state is that the rules reach, and what every step keeps.
-use Rattle.std.specs.Prelude.{◌≡◌, ℕ, ◌+◌, ◌-◌, ◌*◌, ◌≤◌, ◌<◌, List, [], ◌∷◌, Some, Ok, min, sum_by}
+use Rattle.std.specs.Prelude.{◌≡◌, ℕ, ◌+◌, ◌-◌, ◌*◌, ◌≤◌, ◌<◌, min, sum_by}
+use Rattle.std.specs.Prelude.{List, [], ◌∷◌, Some, Ok}
 use Rattle.std.specs.List.{AllByRecursion}
 use Rattle.std.specs.Map.{values_of}
-use Rattle.liq_types.specs.declared.amounts.TheConstants.{ONE, LIM, CAP_WORTH, OFFSET_MOST, P_OPENING, P_LEAST, SUM_MOST, RESERVE, MIN_NET}
+use Rattle.liq_types.specs.declared.amounts.TheConstants.{ONE, LIM, CAP_WORTH, OFFSET_MOST, P_OPENING, P_LEAST}
+use Rattle.liq_types.specs.declared.amounts.TheConstants.{SUM_MOST, RESERVE, MIN_NET}
 use Rattle.liq_types.specs.declared.figures.Wallet.{Wallet}
 use Rattle.liq_types.specs.Image.{Place}
 use Rattle.liq_types.specs.Product.{IsWithinRange, place_of, sumat}
@@ -22,8 +24,8 @@ use Rattle.liq_liquidation.specs.One.{one, gas_of, one_total_coll, one_total_deb
 use Rattle.liq_redemption.specs.declared.cut.Cut.{Cut}
 use Rattle.liq_rules.specs.Image.{image}
 
--- It is well formed, its tables are in order, its image meets the rules beside its records, and every redistribution went to
--- some stake.
+-- It is well formed, its tables are in order, its image meets the rules beside its records, and every redistribution
+-- went to some stake.
 pub record IsSoundState (s : State) : Type 0 where
   pub formed : IsWellFormed s
   pub ordered : TablesAscend s
@@ -111,11 +113,13 @@ pub record PoolIsWhole (s : State) : Type 0 where
 
 -- ---- what an allowed call takes
 
--- of the troves that are struck one after the other each may be liquidated at its moment, and what stands of the troves and of
--- the product stands after each
+-- of the troves that are struck one after the other each may be liquidated at its moment, and what stands of the
+-- troves and of the product stands after each
 abbrev pub StruckStand : State → List Victim → Type 0
 StruckStand s [] = Unit {0}
-StruckStand s (v ∷ vs) = (one s v.account ≡ Ok v.one) × TrovesStand (books_of (struck s v)) × IsWithinRange (words_of (struck s v)) × StruckStand (struck s v) vs
+StruckStand s (v ∷ vs) =
+    (one s v.account ≡ Ok v.one) × TrovesStand (books_of (struck s v)) × IsWithinRange (words_of (struck s v))
+    × StruckStand (struck s v) vs
 
 -- all that becomes of a trove with these entire amounts is in it, and the pool takes over no more than it has
 pub record OneIsCovered (s : State) (own : ℕ × ℕ) (one : One) : Type 0 where
@@ -124,7 +128,8 @@ pub record OneIsCovered (s : State) (own : ℕ × ℕ) (one : One) : Type 0 wher
   pub served : one.offset_debt ≤ pool_total s
   pub worth : one.offset_coll ≤ OFFSET_MOST * one.offset_debt
 
--- what is divided of a liquidated trove: the collateral of the offset times the product, and what each unit of stake gets
+-- what is divided of a liquidated trove: the collateral of the offset times the product, and what each unit of stake
+-- gets
 pub record OneFits (s : State) (one : One) : Type 0 where
   pub offset : one.offset_coll * (words_of s).p ≤ P_OPENING * LIM
   pub spread_coll : one.spread_coll * ONE ≤ ONE * LIM
@@ -139,7 +144,8 @@ pub record OwnFits (s : State) (own : ℕ × ℕ) : Type 0 where
 abbrev pub StruckFit : State → List Victim → Type 0
 StruckFit s [] = Unit {0}
 StruckFit s (v ∷ vs) =
-    (pool_total s ≤ LIM) × ((own : ℕ × ℕ) → entire_of s v.account ≡ Some own → OwnFits s own) × OneFits s v.one × StruckFit (struck s v) vs
+    (pool_total s ≤ LIM) × ((own : ℕ × ℕ) → entire_of s v.account ≡ Some own → OwnFits s own)
+    × OneFits s v.one × StruckFit (struck s v) vs
 
 -- a cut takes less collateral than the trove has, and no more debt than it has beside its reserve
 pub record CutIsCovered (s : State) (cut : Cut) : Type 0 where

@@ -8,7 +8,7 @@ ghost use Rattle.liq_num.specs.declared.ratio.TheConstants.{GWEI_PER_ETH};
 ghost use Rattle.liq_types.specs.declared.amounts.TheConstants.{ACCOUNTS, LIM, ONE, P_OPENING, OFFSET_MOST, CAP_WORTH, DECAY};
 ghost use Rattle.liq_types.specs.declared.requests.Request.{Request};
 ghost use Rattle.liq_types.specs.Image.{Image, Place};
-ghost use Rattle.liq_types.specs.PlainLedger.{exact_share, den_of, offsets_coll, gains_paid_to, AreOwnedBelow, over_accounts};
+ghost use Rattle.liq_types.specs.PlainLedger.{AreOwnedBelow};
 ghost use Rattle.liq_types.specs.Product.{IsWithinRange, rise_of, sumat};
 ghost use Rattle.liq_types.specs.Rules.{first_refusal};
 ghost use Rattle.liq_types.specs.Soundness.{IsSoundImage};
@@ -33,6 +33,7 @@ ghost use Rattle.liq_rules.specs.Dust.{IsCovered, dust};
 ghost use Rattle.liq_rules.specs.Events.{events};
 ghost use Rattle.liq_rules.specs.Identities.{IsConserved};
 ghost use Rattle.liq_rules.specs.Image.{image};
+ghost use Rattle.liq_soundness.specs.Exact.{IsExactPool};
 ghost use Rattle.liq_soundness.specs.Parts.{ArePartsOfSound};
 ghost use Rattle.liq_soundness.specs.SoundState.{IsSoundState, AmountsWithin, SnapshotWithin, WordsWithin, TroveIsCovered, DepositIsCovered, PoolIsWhole, ChangeIsCovered, OneIsCovered, OneFits, OwnFits, StruckFit, StruckStand, CutIsCovered};
 ghost use Rattle.liq_rules.specs.Step.{step, run, accepted};
@@ -82,20 +83,21 @@ pub fn depositors_of_runs_get_their_shares()
 
 /// In every state that is reached from the opening the Stability Pool is what the plain ledger of the run's events says: the
 /// exact balances of all accounts come to its LUSD, their exact gains to the collateral of all offsets, and what was paid of these
-/// is what is no longer in it. The caps on a position never act.
+/// is what is no longer in it. The caps on a position never act. So it is in every well-formed state with the same image, as one
+/// that begins again.
 pub fn pools_of_runs_are_exact()
-    ensures balances { (requests : List Request) → let es = events opening (accepted opening requests) in over_accounts ACCOUNTS (λ account. (exact_share account es).bal) ≡ pool_total (run opening requests).0 * den_of es }
-    ensures gains { (requests : List Request) → let es = events opening (accepted opening requests) in over_accounts ACCOUNTS (λ account. (exact_share account es).gain) ≡ offsets_coll es * den_of es }
-    ensures paid { (requests : List Request) → let es = events opening (accepted opening requests) in pool_coll (run opening requests).0 + over_accounts ACCOUNTS (λ account. gains_paid_to account es) ≡ offsets_coll es }
-    ensures caps { (requests : List Request) → (account : ℕ) → (d : DepositEntry) → let now = (run opening requests).0 in at now.deposits account ≡ Some d → (balance_of now account ≡ balance_by d.amount (mark_of now d.mark) (words_of now)) × (gain_of now account ≡ gain_by d.amount (mark_of now d.mark) (sums_from now (mark_of now d.mark))) }
+    ensures reached { (requests : List Request) → IsExactPool (run opening requests).0 (events opening (accepted opening requests)) }
+    ensures same { (requests : List Request) → (s : State) → IsWellFormed s → image s ≡ image (run opening requests).0 → IsExactPool s (events opening (accepted opening requests)) }
 {}
 
 /// Dust is never negative: in every sound state what is pending for all troves is in the default pool, and in every state that
-/// is reached from the opening what all depositors may take is in the Stability Pool too.
+/// is reached from the opening, and in every well-formed one with the same image, what all depositors may take is in the Stability
+/// Pool too.
 pub fn dust_is_never_negative()
     ensures default_coll { (s : State) → IsSoundState s → pos 0 ≤ℤ (dust s).default_coll }
     ensures default_debt { (s : State) → IsSoundState s → pos 0 ≤ℤ (dust s).default_debt }
     ensures reached { (requests : List Request) → IsCovered (dust (run opening requests).0) }
+    ensures same { (requests : List Request) → (s : State) → IsWellFormed s → image s ≡ image (run opening requests).0 → IsCovered (dust s) }
 {}
 
 /// Bounds of every sound state: the product and the sums of the Stability Pool, its scale and epoch by the counts of records,

@@ -1,4 +1,5 @@
 use Rattle.liq_soundness.proofs.SoundPromises.{default_dust, reached_covered}
+use Rattle.liq_soundness.proofs.SoundSame.{same_covered}
 use Rattle.liq_soundness.proofs.soundness.dust_is_never_negative.Goals as goal
 
 pub returns-clause-default_coll : goal.returns-clause-default_coll
@@ -9,3 +10,6 @@ returns-clause-default_debt c s h = (default_dust s h).1
 
 pub returns-clause-reached : goal.returns-clause-reached
 returns-clause-reached c = reached_covered
+
+pub returns-clause-same : goal.returns-clause-same
+returns-clause-same c = same_covered
