@@ -1,20 +1,17 @@
 -- The disks of a word, as it finds them.
-use Rattle.std.proofs.Common.{◌≡◌, ℕ, Bool, true, false, List, [], Option, Some, None, Result, Ok, Err, refl, sym, ap, ap₂, subst, ◌∙◌}
-use Rattle.std.specs.Prelude.{cond, nat_lt, IsSome}
-use Rattle.liq_types.specs.State.{State, opening}
-use Rattle.liq_types.specs.WellFormed.{IsWellFormed}
+use Rattle.std.proofs.Common.{◌≡◌, ℕ, List, [], Option, Some, None, Result, Ok, Err, refl, sym, ap, ap₂, subst, ◌∙◌}
+use Rattle.std.specs.Prelude.{IsSome}
+use Rattle.liq_types.specs.State.{State}
 use Rattle.liq_core.specs.Core.{Core, StandsFor}
 use Rattle.liq_rules.specs.Image.{IsSameState, image}
 use Rattle.liq_rules.proofs.AlikeReads.{Alike}
 use Rattle.liq_journal.specs.declared.damage.Damage.{Damage}
-use Rattle.liq_journal.specs.Written.{Found, Written, Absent, Damaged, Open, found_on}
 use Rattle.liq_pairs.specs.declared.side.Side.{Side}
 use Rattle.liq_pairs.specs.Kept.{IsKept}
-use Rattle.liq_pairs.specs.Pair.{Standing, Nothing, Faulty, Holding, StandFor, pair_state, standing, standing_after, standing_of, state_on}
-use Rattle.liq_pairs.specs.Replay.{outcome}
+use Rattle.liq_pairs.specs.Pair.{StandFor, state_on}
 use Rattle.liq_pairs.proofs.Alike.{kept_alike}
+pub use Rattle.liq_pairs.proofs.Formed.{state_formed}
 use Rattle.liq_pairs.proofs.Keeping.{settled_kept}
-use Rattle.liq_pairs.proofs.Replaying.{opening_formed, outcome_formed}
 use Rattle.liq_store.specs.declared.answers.StoreFault.{StoreFault}
 use Rattle.liq_store.specs.declared.answers.StoreWhy.TheVariants as why
 use Rattle.liq_store.specs.Keeping.{IsInOrder, IsInOrderWith}
@@ -24,53 +21,6 @@ use Rattle.liq_store.proofs.Recovered.{still_kept}
 use Rattle.liq_ends.specs.declared.halts.Halt.{Halt}
 use Rattle.liq_ends.specs.declared.halts.Halt.TheVariants.{NoMemory}
 use Rattle.liq_ends.specs.Disks.{DisksHold, DisksStay, EndsDamaged, OfBoth}
-
--- ---- the state for which disks stand is well formed
-
-after_formed : (generation here : ℕ) (s : State) (w : Written) (r : Result State Damage) → outcome w ≡ r → standing_after generation r ≡ Holding here s → IsWellFormed s
-after_formed generation here s w (Ok t) came is =
-    let same : t ≡ s = cc in
-    subst (λ (x : State). IsWellFormed x) same (outcome_formed w t came)
-after_formed generation here s w (Err damage) came is = absurd cc
-
-found_formed : (found : Found) (here : ℕ) (s : State) → standing_of found ≡ Holding here s → IsWellFormed s
-found_formed Absent here s is = absurd cc
-found_formed (Damaged damage) here s is = absurd cc
-found_formed (Open w) here s is = after_formed w.generation here s w (outcome w) refl is
-
-standing_formed : (odd : Bool) (bytes : List ℕ) (here : ℕ) (s : State) → standing odd bytes ≡ Holding here s → IsWellFormed s
-unfolding standing
-standing_formed odd bytes here s is = found_formed (found_on odd bytes) here s is
-
-abbrev AllFormed : Standing → Type 0
-AllFormed a = (here : ℕ) (s : State) → a ≡ Holding here s → IsWellFormed s
-
-later_formed : (b : Bool) (s t u : State) → IsWellFormed s → IsWellFormed t → (let r : Result State (Side × Damage) = Ok (cond b t s) in r ≡ Ok u) → IsWellFormed u
-later_formed true s t u formed_s formed_t is =
-    let same : t ≡ u = cc in
-    subst (λ (x : State). IsWellFormed x) same formed_t
-later_formed false s t u formed_s formed_t is =
-    let same : s ≡ u = cc in
-    subst (λ (x : State). IsWellFormed x) same formed_s
-
-pair_formed : (a b : Standing) (s : State) → AllFormed a → AllFormed b → pair_state a b ≡ Ok s → IsWellFormed s
-pair_formed (Faulty damage) b s fa fb is = absurd cc
-pair_formed Nothing (Faulty damage) s fa fb is = absurd cc
-pair_formed Nothing Nothing s fa fb is =
-    let same : opening ≡ s = cc in
-    subst (λ (x : State). IsWellFormed x) same opening_formed
-pair_formed Nothing (Holding n t) s fa fb is =
-    let same : t ≡ s = cc in
-    subst (λ (x : State). IsWellFormed x) same (fb n t refl)
-pair_formed (Holding n t) (Faulty damage) s fa fb is = absurd cc
-pair_formed (Holding n t) Nothing s fa fb is =
-    let same : t ≡ s = cc in
-    subst (λ (x : State). IsWellFormed x) same (fa n t refl)
-pair_formed (Holding n t) (Holding m u) s fa fb is = later_formed (nat_lt n m) t u s (fa n t refl) (fb m u refl) is
-
-pub state_formed : (l r : List ℕ) (s : State) → state_on l r ≡ Ok s → IsWellFormed s
-unfolding state_on
-state_formed l r s is = pair_formed (standing true l) (standing false r) s (standing_formed true l) (standing_formed false r) is
 
 -- disks that stand for what others stood for
 pub still_stand : (l r a b : List ℕ) (s : State) → state_on a b ≡ state_on l r → state_on l r ≡ Ok s → StandFor a b s

@@ -4,6 +4,7 @@ pub mod AtEnd
 pub mod Beginning
 pub mod Commands
 pub mod FirstPlace
+pub mod Formed
 pub mod Hints
 pub mod Keeping
 pub mod OneByte

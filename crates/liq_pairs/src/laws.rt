@@ -23,6 +23,11 @@ pub fn what_is_found_decides()
     ensures commands { (l r a b : List ℕ) → found_on true a ≡ found_on true l → found_on false b ≡ found_on false r → commands_on a b ≡ commands_on l r }
 {}
 
+/// The state for which two disks stand is well formed: its table and its lists belong together, as the rules leave them.
+pub fn states_on_disks_are_well_formed()
+    ensures { (l r : List ℕ) → (s : State) → state_on l r ≡ Ok s → IsWellFormed s }
+{}
+
 /// The commands of two disks lead from the opening, with which every journal begins until there is rotation, to the state for which
 /// they stand.
 pub fn commands_lead_to_the_state()
