@@ -2,7 +2,7 @@
 
 use crate::checks::{NOWHERE, same};
 use crate::disks::{byte_at, changed};
-use crate::found::Found;
+use crate::found::{Found, of_header};
 use crate::journals::{find_in, journal};
 use std::alloc::{AllocError, Global};
 use std::test::Fail;
@@ -23,14 +23,7 @@ fn cut_at(at: u64) -> Found {
 // What is found where the last bit of the byte at a place is another.
 fn changed_at(at: u64) -> Found {
     match at {
-        0 => Found::Absent,
-        1..9 => Found::NoForm { index: 0, place: 1 },
-        9..17 => Found::NoForm { index: 0, place: 9 },
-        17..25 => Found::NoForm {
-            index: 0,
-            place: 17,
-        },
-        25..HEADER => Found::OtherDigest(0),
+        0..HEADER => of_header(at),
         // The gate behind the last record opens nothing: no whole record stands there.
         _ if (at - HEADER) % RECORD == 0 => Found::Records((at - HEADER) / RECORD),
         _ => Found::OtherDigest((at - HEADER) / RECORD + 1),

@@ -158,6 +158,14 @@ fn the_systems_devices_fail(rt: HostRuntime) -> Result<(), Fail> {
         null.write_at(0, &[1]).is_ok(),
     );
     shows(&rt, "a sync of the null device", null.sync().is_err());
+    // A read that fails is no end of the disk.
+    let mut folder = FileDisk::new(Some(File::open(&rt, ".")?));
+    shows(
+        &rt,
+        "a read of a folder",
+        folder.read_at(0, &mut [0; 4]).is_err(),
+    );
+    same(&rt, folder.faults(), 1, "the folder's faults");
     same(&rt, full.faults(), 1, "the full device's faults");
     same(&rt, null.faults(), 1, "the null device's faults");
     Ok(())

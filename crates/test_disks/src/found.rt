@@ -17,6 +17,20 @@ pub enum Found {
     NoMemory,
 }
 
+/// What is found where the byte at a place of the header is another.
+pub fn of_header(at: u64) -> Found {
+    match at {
+        0 => Found::Absent,
+        1..9 => Found::NoForm { index: 0, place: 1 },
+        9..17 => Found::NoForm { index: 0, place: 9 },
+        17..25 => Found::NoForm {
+            index: 0,
+            place: 17,
+        },
+        _ => Found::OtherDigest(0),
+    }
+}
+
 pub fn of_damage(damage: &Damage) -> Found {
     let index = damage.index;
     match damage.what {

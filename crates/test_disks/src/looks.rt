@@ -3,7 +3,7 @@
 use crate::checks::{NOWHERE, same, shows};
 use crate::disks::{byte_at, changed, disk, two_records};
 use crate::files::{file, make_two};
-use crate::found::{Found, of_look};
+use crate::found::{Found, of_header, of_look};
 use crate::journals::fund;
 use liq_journal::{Journal, Look, look};
 use liq_outside::{Disk, FileDisk, MemoryDisk};
@@ -57,21 +57,6 @@ fn a_look_tells_the_header(rt: HostRuntime) -> Result<(), Fail> {
     Ok(())
 }
 
-// What a look finds where the byte at a place is another.
-fn looked_at_change(at: u64) -> Found {
-    match at {
-        0 => Found::Absent,
-        1..9 => Found::NoForm { index: 0, place: 1 },
-        9..17 => Found::NoForm { index: 0, place: 9 },
-        17..25 => Found::NoForm {
-            index: 0,
-            place: 17,
-        },
-        25..57 => Found::OtherDigest(0),
-        _ => OPEN,
-    }
-}
-
 // What a look finds where a bit of the byte at a place is another.
 fn look_at_change(alloc: Global, bytes: &[u8], at: u64) -> Result<Found, AllocError> {
     let bytes = changed(alloc, bytes, at, byte_at(bytes, at) ^ 4)?;
@@ -81,7 +66,8 @@ fn look_at_change(alloc: Global, bytes: &[u8], at: u64) -> Result<Found, AllocEr
 // The first place at which a change is told as something else.
 fn first_odd_look(alloc: Global, bytes: &[u8], places: u64) -> Result<u64, AllocError> {
     for at in 0..places {
-        if look_at_change(alloc, bytes, at)? != looked_at_change(at) {
+        let expected = if at < 57 { of_header(at) } else { OPEN };
+        if look_at_change(alloc, bytes, at)? != expected {
             return Ok(at);
         }
     }
@@ -188,13 +174,9 @@ fn find_body(disk: MemoryDisk, bytes: &[u8; 96]) -> Found {
     }
 }
 
-fn no_command(alloc: Global, bytes: &[u8; 96]) -> Result<Found, AllocError> {
-    Ok(find_body(disk(alloc, &[], &[])?, bytes))
-}
-
 #[test]
 fn a_body_that_is_no_command(rt: HostRuntime) -> Result<(), Fail> {
-    let found = no_command(rt.alloc(), &[0; 96])?;
+    let found = find_body(disk(rt.alloc(), &[], &[])?, &[0; 96]);
     let form = |place| Found::NoForm { index: 1, place };
     shows(&rt, "a body of nothing", found == form(58));
     let rotation = encode(&Command {
@@ -202,11 +184,11 @@ fn a_body_that_is_no_command(rt: HostRuntime) -> Result<(), Fail> {
         number: 1,
         call: Call::Rotate,
     });
-    let found = no_command(rt.alloc(), &rotation)?;
+    let found = find_body(disk(rt.alloc(), &[], &[])?, &rotation);
     shows(&rt, "a rotation", found == form(58));
     let mut no_account = encode(&fund(1));
     no_account[23] = 1;
-    let found = no_command(rt.alloc(), &no_account)?;
+    let found = find_body(disk(rt.alloc(), &[], &[])?, &no_account);
     shows(&rt, "an account that is none", found == form(78));
     Ok(())
 }

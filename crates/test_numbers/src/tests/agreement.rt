@@ -11,13 +11,6 @@ pub fn same<R: Abort, T: PartialEq>(rt: &R, got: &T, want: &T, what: &str) {
     assert!(rt; *got == *want, "{what}");
 }
 
-/// Something holds.
-pub fn shows<R: Abort>(rt: &R, what: &str, holds: bool)
-    ensures { IsTrue holds }
-{
-    assert!(rt; holds, "{what}");
-}
-
 /// Collateral, debt, fee, and the base rate with its minute that a plan leaves; or its refusal.
 pub type Told = Result<[u64; 5], Refusal>;
 
@@ -32,4 +25,11 @@ pub fn told(plan: Result<Plan, Refusal>) -> Told {
         ]),
         Err(refusal) => Err(refusal),
     }
+}
+
+/// Something holds.
+pub fn shows<R: Abort>(rt: &R, what: &str, holds: bool)
+    ensures { IsTrue holds }
+{
+    assert!(rt; holds, "{what}");
 }

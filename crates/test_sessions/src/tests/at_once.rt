@@ -16,11 +16,6 @@ const TWO: &[u8] = b"1 ? pools\n2 ? system\n";
 const EIGHT: &[u8] =
     b"1 ? pools\n2 ? pools\n3 ? pools\n4 ? pools\n5 ? pools\n6 ? pools\n7 ? pools\n8 ? pools\n";
 
-/// A disk on which nothing stands, and which does not fail.
-fn empty(alloc: Global) -> MemoryDisk {
-    MemoryDisk::new(alloc, Vec::new(alloc), Vec::new(alloc))
-}
-
 /// Serves the lines through the gate. The status.
 fn serve<R: Threads + Wait + Sync, G: Gate + Sync>(
     rt: &R,
@@ -38,8 +33,8 @@ fn serve<R: Threads + Wait + Sync, G: Gate + Sync>(
         &words,
         &mut source,
         &mut sink,
-        empty(alloc),
-        empty(alloc),
+        MemoryDisk::new(alloc, Vec::new(alloc), Vec::new(alloc)),
+        MemoryDisk::new(alloc, Vec::new(alloc), Vec::new(alloc)),
     );
     Ok(u64::from(ended.status))
 }

@@ -5,9 +5,8 @@ ghost use Rattle.liq_sessions.specs.declared.script.TheConstants.{REQUESTS_MOST}
 use crate::tests::checks::{NOWHERE, same, shows};
 use crate::tests::desk::{CountedHints, MadeUpDesk, MadeUpSeat, Trouble, made_up};
 use crate::tests::gates::Watch;
-use crate::tests::holding::Holding;
 use liq_sessions::{
-    Gate, NoHints, OpenGate, Requests, Script, SessionDone, SessionEnd, Work, run_sessions,
+    NoHints, OpenGate, Requests, Script, SessionDone, SessionEnd, Work, run_sessions,
 };
 use liq_types::{Answer, Hinter, Query, Reply, Request};
 use std::alloc::Global;
@@ -96,13 +95,6 @@ struct Wanted {
     faulted: Option<Request>,
 }
 
-fn is_end(end: &SessionEnd, answer: Option<Answer>) -> bool {
-    match end {
-        SessionEnd::All => answer.is_none(),
-        SessionEnd::Fault(met) => answer == Some(*met),
-    }
-}
-
 /// Whether a session came to what is wanted.
 fn is_done<H: Hinter + Drop>(
     done: &SessionDone<MadeUpDesk, H>,
@@ -110,11 +102,15 @@ fn is_done<H: Hinter + Drop>(
     wanted: &Wanted,
 ) -> bool {
     let replies = done.replies.as_slice();
+    let answer = match done.end {
+        SessionEnd::All => None,
+        SessionEnd::Fault(met) => Some(met),
+    };
     done.session == session
         && done.seat.session == session
         && replies.len() == wanted.replies
         && are_made_up(session, replies, &done.seat.calls)
-        && is_end(&done.end, wanted.answer)
+        && answer == wanted.answer
         && done.seat.faulted == wanted.faulted
 }
 
@@ -152,10 +148,9 @@ struct Seen {
 }
 
 /// Runs sessions with so many requests each.
-fn run_watched<R: Threads + Wait + Sync, G: Gate + Sync>(
+fn run_watched<R: Threads + Wait + Sync>(
     rt: &R,
     alloc: Global,
-    gate: &G,
     watch: &Arc<Watch>,
     setting: &Setting,
     requests: usize,
@@ -168,7 +163,7 @@ fn run_watched<R: Threads + Wait + Sync, G: Gate + Sync>(
         trouble: setting.trouble,
     };
     let works = works(alloc, watch, setting.sessions, requests)?;
-    match run_sessions(rt, alloc, &desk, gate, works) {
+    match run_sessions(rt, alloc, &desk, &**watch, works) {
         Ok(done) => Ok(done),
         Err(_) => Err(Fail::from("no memory")),
     }
@@ -186,7 +181,7 @@ fn see<R: Threads + Wait + Sync>(
     requires { requests ≤ REQUESTS_MOST }
 {
     let watch = Arc::new(alloc, Watch::new())?;
-    let done = run_watched(rt, alloc, &*watch, &watch, setting, requests)?;
+    let done = run_watched(rt, alloc, &watch, setting, requests)?;
     Ok(Seen {
         sessions: done.len() as u64,
         odd: first_odd(&done, &watch, wanted, steps),
@@ -236,44 +231,6 @@ fn each_trouble(rt: HostRuntime) -> Result<(), Fail> {
         same(&rt, seen.sessions, 2, "sessions in trouble");
         same(&rt, seen.odd, NOWHERE, "a session in trouble");
         shows(&rt, "each step before the trouble", !seen.missed);
-    }
-    Ok(())
-}
-
-/// The first call of one session waits in its gate until the other session's has left. What is seen, where the gate notes no steps.
-fn see_held<R: Threads + Wait + Sync>(
-    rt: &R,
-    alloc: Global,
-    held: u8,
-    awaited: u8,
-) -> Result<Seen, Fail> {
-    let setting = Setting {
-        sessions: 2,
-        replies: 10,
-        trouble: Trouble::Stopped,
-    };
-    let wanted = Wanted {
-        replies: 10,
-        answer: None,
-        faulted: None,
-    };
-    let watch = Arc::new(alloc, Watch::new())?;
-    let gate = Holding::new(held, awaited);
-    let done = run_watched(rt, alloc, &gate, &watch, &setting, 10)?;
-    Ok(Seen {
-        sessions: done.len() as u64,
-        odd: first_odd(&done, &watch, &wanted, 20),
-        missed: gate.has_missed(),
-    })
-}
-
-#[test]
-fn at_once(rt: HostRuntime) -> Result<(), Fail> {
-    for (held, awaited) in [(1, 2), (2, 1)] {
-        let seen = see_held(&rt, rt.alloc(), held, awaited)?;
-        same(&rt, seen.sessions, 2, "two sessions");
-        same(&rt, seen.odd, NOWHERE, "a session that is held");
-        shows(&rt, "the other session has left", !seen.missed);
     }
     Ok(())
 }
@@ -330,19 +287,14 @@ fn are_quiet(done: &[SessionDone<MadeUpDesk, NoHints>]) -> bool {
     }
 }
 
-/// A session with one request and one with none.
+/// A session with one request and one with none; and no sessions.
 #[test]
 fn quiet_sessions(rt: HostRuntime) -> Result<(), Fail> {
     let alloc = rt.alloc();
     let works = vec![in alloc; quiet_work(alloc, 7, 1)?, quiet_work(alloc, 5, 0)?]?;
     let done = run_quiet(&rt, alloc, works)?;
     shows(&rt, "one request and none", are_quiet(&done));
-    Ok(())
-}
-
-#[test]
-fn no_sessions(rt: HostRuntime) -> Result<(), Fail> {
-    let done = run_quiet(&rt, rt.alloc(), Vec::new(rt.alloc()))?;
+    let done = run_quiet(&rt, alloc, Vec::new(alloc))?;
     same(&rt, done.len() as u64, 0, "no sessions");
     Ok(())
 }
