@@ -85,7 +85,7 @@ fn offsets_reviewed(alloc: Global, count: u32) -> Result<(bool, bool), Fail> {
     let commands = commands_of(alloc, &lines)?;
     Ok(match review(alloc, &commands) {
         Ok(text) => (text.as_slice() == REVIEWED.as_bytes(), false),
-        Err(ReviewFault::Limit { number }) => (false, number == u64::from(count)),
+        Err(ReviewFault::Limit { number }) => (false, number == u128::from(count)),
         Err(_) => (false, false),
     })
 }
