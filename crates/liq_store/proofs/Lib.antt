@@ -10,3 +10,4 @@ pub mod Opening
 pub mod Recovered
 pub mod Replaying
 pub mod Steps
+pub mod Unhinted

@@ -4,8 +4,8 @@ ghost use Rattle.liq_store.specs.Judging.{IsJudged, disk_of, first_of, later_sid
 ghost use Rattle.liq_store.specs.Standing.{disk_in};
 
 use crate::answers::{AcceptedFault, StoreFault, StoreWhy};
+use crate::guided::Guided;
 use crate::standing::{StandFault, Stood};
-use liq_core::Protocol;
 use liq_outside::Disk;
 use liq_pairs::Side;
 
@@ -75,7 +75,7 @@ fn first_of(left: AcceptedFault, right: AcceptedFault) -> StoreWhy
 }
 
 // Of two journals the one that is taken: that of the greater generation.
-pub fn later_side(left: &Protocol, right: &Protocol) -> Side
+pub fn later_side(left: &Guided, right: &Guided) -> Side
     ensures { result ≡ later_side left.now.image.generation right.now.image.generation }
 {
     if left.generation() < right.generation() {

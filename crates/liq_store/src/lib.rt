@@ -3,6 +3,7 @@
 #![tactic(auto)]
 
 mod answers;
+mod guided;
 mod judging;
 mod preparing;
 mod reading;

@@ -9,8 +9,9 @@ ghost use Rattle.liq_rules.specs.Step.{built, step};
 ghost use Rattle.liq_journal.specs.Written.{is_rotate};
 ghost use Rattle.liq_store.specs.Preparing.{IsPrepared, IsReady};
 
+use crate::guided::Guided;
 use liq_core::laws::protocols_stand;
-use liq_core::{PlanFault, Planned, Protocol, Turn};
+use liq_core::{PlanFault, Planned, Turn};
 use liq_types::{Command, Done, Hint, Refusal, Steps};
 use std::sync::ledger::{Blank, Ledger};
 
@@ -27,14 +28,14 @@ pub enum Prepared {
 }
 
 // Plans a command, and makes room for it. What is seen of the protocol stays.
-pub fn prepare(protocol: &mut Protocol, command: &Command) -> Prepared
+pub fn prepare(protocol: &mut Guided, command: &Command) -> Prepared
     requires { IsTrue (built (Do command.now)) }
     ensures same { SameContent protocol.old protocol.new }
     ensures prepared { (s : State) → StandsFor protocol.old s → IsPrepared s command.now result }
     ensures ready { IsReady command.now protocol.new result }
     ensures stands { StandsFor protocol.old (state_of protocol.old) }
 {
-    protocols_stand(protocol);
+    protocols_stand(protocol.protocol());
     let planned = match protocol.plan(command) {
         Ok(Turn::New(planned)) => planned,
         Ok(Turn::Again(done)) => return Prepared::Again(done),
@@ -48,7 +49,7 @@ pub fn prepare(protocol: &mut Protocol, command: &Command) -> Prepared
 }
 
 // Makes the step of a planned command. Its steps are counted on a ledger of their own.
-pub fn make<L: Ledger>(protocol: &mut Protocol, planned: Planned, hint: &Hint, blank: Blank) -> Done
+pub fn make<L: Ledger>(protocol: &mut Guided, planned: Planned, hint: &Hint, blank: Blank) -> Done
     requires name { blank.name ≡ L.name }
     requires parts { blank.parts ≡ L.parts }
     requires one { L.parts ≡ 1 }
@@ -60,7 +61,7 @@ pub fn make<L: Ledger>(protocol: &mut Protocol, planned: Planned, hint: &Hint, b
     ensures counted { protocol.new.records ≡ protocol.old.records + 1 }
     ensures generation { protocol.new.image.generation ≡ protocol.old.image.generation }
 {
-    protocols_stand(protocol);
+    protocols_stand(protocol.protocol());
     let mut steps = Steps::<L>::new(blank);
     protocol.apply(planned, hint, &mut steps)
 }

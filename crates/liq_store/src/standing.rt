@@ -9,8 +9,8 @@ ghost use Rattle.liq_store.specs.Keeping.{IsAtRest};
 ghost use Rattle.liq_store.specs.Standing.{Continues, CountsStand, HoldsTo, IsCounted, IsFaultless, IsFoundOn, IsLeftOn, disk_in};
 
 use crate::answers::AcceptedFault;
+use crate::guided::Guided;
 use crate::replay::replay;
-use liq_core::Protocol;
 use liq_journal::{Journal, OpenFault, OpenWhy};
 use liq_outside::Disk;
 use std::alloc::Global;
@@ -23,7 +23,7 @@ pub enum Stood<D> {
     // No journal is open on it.
     Nothing(D),
     // A journal, and the protocol to which its commands lead.
-    Holding(Journal<D>, Protocol),
+    Holding(Journal<D>, Guided),
 }
 
 // A disk that is damaged or met a fault, or for which there was no memory.
@@ -41,7 +41,7 @@ fn hold<D: Disk>(alloc: Global, journal: Journal<D>) -> Result<Stood<D>, StandFa
     ensures cause { CountsStand result (D.faults journal.disk) (D.faults (disk_in result)) }
 {
     let mut journal = journal;
-    let mut protocol = Protocol::new(alloc);
+    let mut protocol = Guided::new(alloc);
     match replay::<D, Brand>(&mut protocol, &mut journal, Blank::new(1)) {
         Ok(()) => Ok(Stood::Holding(journal, protocol)),
         Err(why) => Err(StandFault {

@@ -30,6 +30,7 @@ ghost use Rattle.liq_store.specs.Stored.{disk_beside, taken_disk};
 ghost use Rattle.liq_store.specs.Within.{IsWithin, stored};
 
 use crate::answers::{AcceptedFault, StoreFault, StoreWhy};
+use crate::guided::Guided;
 use crate::judging::{judge, later_side};
 use crate::preparing::{Prepared, make, prepare};
 use crate::reading::read_commands;
@@ -59,7 +60,7 @@ pub struct Store<D: Disk> {
     taken: Journal<D>,
     beside: D,
     side: Side,
-    protocol: Protocol,
+    protocol: Guided,
     stopped: Option<u64>,
 }
 
@@ -190,7 +191,7 @@ impl<D: Disk> Store<D> {
     pub fn protocol(&self) -> &Protocol
         ensures { result.now ≡ self.now.core }
     {
-        &self.protocol
+        self.protocol.protocol()
     }
 
     /// The commands that were accepted in this generation, in order. It reads the disk that is taken.
@@ -283,7 +284,7 @@ fn begin_on<D: Disk>(
     side: Side,
     taken: Journal<D>,
     beside: D,
-    protocol: Protocol,
+    protocol: Guided,
 ) -> Store<D>
     requires { IsWithin D.seen D.moment D.left_at side taken beside protocol None }
     ensures { result ≡ stored side taken beside protocol None }
@@ -313,7 +314,7 @@ fn begin_anew<D: Disk>(alloc: Global, left: D, right: D) -> Result<Store<D>, Sto
 {
     match Journal::create(left, 1, &[]) {
         Ok(taken) => {
-            let protocol = Protocol::new(alloc);
+            let protocol = Guided::new(alloc);
             Ok(begin_on(alloc, Side::Left, taken, right, protocol))
         }
         Err(fault) => Err(StoreFault {

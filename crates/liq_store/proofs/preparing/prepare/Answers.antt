@@ -1,5 +1,5 @@
-use Rattle.std.proofs.Common.{arith}
-use Rattle.liq_core.specs.Core.{state_of}
+use Rattle.std.proofs.Common.{arith, subst}
+use Rattle.liq_core.specs.Core.{Core, StandsFor, state_of}
 use Rattle.liq_rules.proofs.Allowed.{allowed_few, built-rotates}
 use Rattle.liq_store.proofs.Steps.{planned_allowed}
 use Rattle.liq_store.proofs.preparing.prepare.Goals as goal
@@ -7,6 +7,6 @@ use Rattle.liq_store.proofs.preparing.prepare.Goals as goal
 pub returns-in-Ok-clause-ready : goal.returns-in-Ok-clause-ready
 returns-in-Ok-clause-ready c =
     let s = state_of c.args.protocol.now in
-    let is = (rw c.in-Ok-New.field-0-is at c.in-Ok-New.ensures) s c.protocols_stand.ensures in
+    let is = (rw c.in-Ok-New.field-0-is at c.in-Ok-New.ensures) s (subst (λ (p : Core). StandsFor p (state_of p)) c.protocol.ensures c.protocols_stand.ensures) in
     let few = allowed_few s c.args.command.now (planned_allowed s c.args.command.now c.in-Ok-New.planned is) (built-rotates c.args.command.now.call c.requires) in
     (is.0, c.in-Ok.ensures.room, omega (arith, few, c.reserve.ensures.same.records))

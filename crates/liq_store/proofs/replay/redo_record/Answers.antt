@@ -3,6 +3,7 @@ use Rattle.std.proofs.lemmas.Option.{slice_get_within}
 use Rattle.liq_types.specs.declared.requests.Command.{Command}
 use Rattle.liq_store.specs.Replays.{IsOutcome}
 use Rattle.liq_store.proofs.Replaying.{same_record, unread}
+use Rattle.liq_store.proofs.Unhinted.{outcome_same}
 use Rattle.liq_store.proofs.replay.redo_record.Goals as goal
 
 pub returns-in-Err-clause-replayed : goal.returns-in-Err-clause-replayed
@@ -14,4 +15,6 @@ pub returns-clause-replayed : goal.returns-clause-replayed
 returns-clause-replayed g c held w s k told journal recorded stands =
     let room : c.args.index ≤ length w.commands = (let h = slice_get_within w.commands (c.args.index - 1) k recorded in omega arith) in
     let same = same_record w.commands (c.args.index - 1) c.in-Ok.command k (c.in-Ok.ensures.command held w told journal room) recorded in
-    subst (λ (d : Command). IsOutcome s d c.args.index c.redo.new.protocol c.redo.result) same (c.redo.ensures.outcome s stands)
+    let plain = subst (λ (d : Command). IsOutcome s d c.args.index c.redo.new.protocol c.redo.result) c.unhinted.ensures.same (c.redo.ensures.outcome s stands) in
+    subst (λ (d : Command). IsOutcome s d c.args.index c.redo.new.protocol c.redo.result) same
+    (outcome_same s c.in-Ok.command c.args.index c.redo.new.protocol c.redo.result plain)

@@ -1,0 +1,93 @@
+// A protocol, and beside it the guide of its ordered list.
+ghost use Rattle.std.specs.Prelude.{◌≡◌, OnOk, IsTrue};
+ghost use Rattle.liq_types.specs.State.{State, opening};
+ghost use Rattle.liq_types.specs.declared.replies.Reply.TheVariants.{Said};
+ghost use Rattle.liq_types.specs.declared.requests.Request.TheVariants.{Do, Ask};
+ghost use Rattle.liq_core.specs.Core.{SameContent, StandsFor};
+ghost use Rattle.liq_core.specs.Plan.{HasRoom, IsPlannedOn};
+ghost use Rattle.liq_core.specs.Turn.{Plans};
+ghost use Rattle.liq_rules.specs.Step.{built, step};
+
+use liq_core::{PlanFault, Planned, Protocol, Turn};
+use liq_guide::Guide;
+use liq_types::{Command, Done, Hint, NoMemory, Query, Reply, Steps};
+use std::alloc::Global;
+use std::marker::Model;
+use std::sync::ledger::Ledger;
+
+// A protocol whose list is asked with the hint of its guide, as long as that has one. Contracts see the protocol: no hint
+// changes it.
+#[derive(Drop)]
+pub struct Guided {
+    protocol: Protocol,
+    guide: Guide,
+    // Where the trove stands that the reserved command puts last.
+    hint: Option<Hint>,
+}
+
+impl Model for Guided {
+    ghost use Rattle.liq_core.specs.Core.{Core};
+
+    ghost Value = { Core };
+
+    ghost view = { λ g. g.protocol };
+}
+
+impl Guided {
+    // The protocol as it opens.
+    pub fn new(alloc: Global) -> Guided
+        ensures { StandsFor result opening }
+    {
+        Guided {
+            protocol: Protocol::new(alloc),
+            guide: Guide::new(alloc),
+            hint: None,
+        }
+    }
+
+    pub fn protocol(&self) -> &Protocol
+        ensures { result.now ≡ self.now }
+    {
+        &self.protocol
+    }
+
+    pub fn generation(&self) -> u64
+        ensures { result ≡ self.now.image.generation }
+    {
+        self.protocol.generation()
+    }
+
+    pub fn query(&self, query: &Query) -> Reply
+        ensures { (s : State) → StandsFor self.now s → (step s (Ask query.now)).1 ≡ result }
+    {
+        self.protocol.query(query)
+    }
+
+    pub fn plan(&self, command: &Command) -> Result<Turn, PlanFault>
+        requires { IsTrue (built (Do command.now)) }
+        ensures { (s : State) → StandsFor self.now s → Plans s command.now result }
+    {
+        self.protocol.plan(command)
+    }
+
+    // Makes room for what the planned command writes. The guide follows it.
+    pub fn reserve(&mut self, planned: &Planned) -> Result<(), NoMemory>
+        ensures same { SameContent self.old self.new }
+        ensures room { OnOk result (HasRoom self.new planned.now) }
+    {
+        self.protocol.reserve(planned)?;
+        self.hint = self.guide.follow(planned.list_changes())?;
+        Ok(())
+    }
+
+    // Makes the planned command's step, for which room was reserved. The hint that is given counts where the guide has none.
+    pub fn apply<L: Ledger>(&mut self, planned: Planned, hint: &Hint, steps: &mut Steps<L>) -> Done
+        requires planned { IsPlannedOn self.old planned }
+        requires room { HasRoom self.old planned }
+        ensures state { (s : State) → StandsFor self.old s → StandsFor self.new (step s (Do planned.command)).0 }
+        ensures reply { (s : State) → StandsFor self.old s → (step s (Do planned.command)).1 ≡ Said result }
+    {
+        let hint = self.hint.unwrap_or(*hint);
+        self.protocol.apply(planned, &hint, steps)
+    }
+}
