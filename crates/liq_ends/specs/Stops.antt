@@ -12,7 +12,7 @@ use Rattle.liq_ends.specs.declared.halts.Halt.{Halt}
 use Rattle.liq_ends.specs.declared.halts.Halt.TheVariants.{BadLine, ReadFault, WriteFault}
 use Rattle.liq_ends.specs.declared.halts.Halt.TheVariants.{DiskFault, Damaged, NoMemory, Limit}
 use Rattle.liq_lines.specs.Lines.{lines_in, ended, IsPartOfLine}
-use Rattle.liq_ends.specs.Disks.{DisksHold}
+use Rattle.liq_ends.specs.Disks.{DisksHold, IsUnread}
 use Rattle.liq_ends.specs.Output.{last, lines}
 use Rattle.liq_store.specs.Memory.{TakesMemory}
 use Rattle.liq_ends.specs.Requests.{AreRequests, IsBadLine, BeginsWith, IsNext}
@@ -55,11 +55,11 @@ EndsAfter start (Err WriteFault) bytes left requests = (more : List (List ℕ)) 
 EndsAfter start (Err DiskFault) bytes left requests = (more : List (List ℕ)) × BeginsWith bytes requests more
 -- a run over damaged disks begins nowhere
 EndsAfter start (Err (Damaged side number)) bytes left requests = ⊥
--- memory is asked for before the first line, and then only for a command that is allowed or plans a list
+-- memory is asked for before a line is read, and then only for a command that is allowed or plans a list
 EndsAfter start (Err NoMemory) bytes left requests =
     let s = (run start requests).0 in
     ((more : List (List ℕ)) × BeginsWith bytes requests more)
-    × ((requests ≡ []) ⊎ ((request : Request) × IsNext bytes requests request × TakesMemory s request))
+    × (IsUnread bytes left requests ⊎ ((request : Request) × IsNext bytes requests request × TakesMemory s request))
 -- as many lines as one run answers, and a further one begins
 EndsAfter start (Err (Limit number)) bytes left requests =
     (number ≡ LINES_MOST) × (length requests ≡ LINES_MOST)

@@ -45,7 +45,7 @@ module _ {D : Type 0} (seen : D → Option (List ℕ)) (faults : D → ℕ) wher
       record {
         requests = [];
         few = omega arith;
-        read = ((lines_in bytes, ([], tt, refl)), inl refl);
+        read = ((lines_in bytes, ([], tt, refl)), inl (refl, told));
         written = writes_nothing before;
         disks = standing_still seen fl fr bytes l r unread start told is (unopened seen faults left right (record { left = fl; right = fr; why = why.NoMemory }) h (λ e. cc) l r start told_l told_r is);
       }
