@@ -1,4 +1,4 @@
-use Rattle.std.proofs.Common.{◌≤◌, List, subst, refl, sym, ◌∙◌}
+use Rattle.std.proofs.Common.{◌≤◌, List, rules, subst, refl, sym, ◌∙◌}
 use Rattle.liq_types.specs.declared.amounts.TheConstants.{LIM}
 use Rattle.liq_types.specs.declared.events.PoolEvent.{PoolEvent}
 use Rattle.liq_types.specs.PlainLedger.{offsets_coll}
@@ -40,3 +40,12 @@ pub returns-clause-within : goal.returns-clause-within
 returns-clause-within c s replays =
     let told = events opening c.args.commands.now in
     all_within s told (finished c.args.commands.now c.requires.built s replays told refl) (subst (λ (es : List PoolEvent). offsets_coll es ≤ LIM) (c.deref.ensures.value ∙ c.in_ok-made.ensures.done.events_are) c.in_ok-limit_gains.ensures.sum)
+
+pub returns-in_err-rows-clause-fault : goal.returns-in_err-rows-clause-fault
+returns-in_err-rows-clause-fault c = search (rules, c.in_ok-made.ensures.done, c.in_ok-limit_gains.ensures.within, c.audited.ensures.limit, c.in_err-rows.ensures.limit, c.in_err-rows.is, c.from_residual-in_err-rows.ensures, c.deref.ensures.value, c.deref-2.ensures.value)
+
+pub returns-in_err-shown-clause-fault : goal.returns-in_err-shown-clause-fault
+returns-in_err-shown-clause-fault c = search (rules, c.in_err-shown.is, c.from_residual-in_err-shown.ensures)
+
+pub returns-clause-text : goal.returns-clause-text
+returns-clause-text c = search (rules, c.in_ok-made.ensures.done, c.in_ok-limit_gains.ensures.within, c.in_ok-rows.ensures.within, c.in_ok-rows.ensures.rows, c.in_ok-shown.ensures, c.deref.ensures.value, c.deref-2.ensures.value, c.deref-3.ensures.value)
