@@ -33,7 +33,6 @@ use std::sync::ledger::Ledger;
 
 /// The protocol: wallets, troves and their order, the Stability Pool, what owners may claim, pools and fees, time and price, and
 /// the clients.
-#[derive(Drop)]
 pub struct Protocol {
     pub(crate) alloc: Global,
     pub(crate) price: u64,
@@ -49,6 +48,28 @@ pub struct Protocol {
     pub(crate) pool: Stability,
     pub(crate) surplus: Surplus,
     pub(crate) clients: Reserved<Client>,
+}
+
+// Written out, so that who lets a protocol go need not look inside it.
+impl Drop for Protocol {
+    fn drop(self) {
+        let Protocol {
+            alloc: _,
+            price: _,
+            minute: _,
+            rate: _,
+            generation: _,
+            records: _,
+            brought: _,
+            pools: _,
+            wallets: _,
+            troves: _,
+            order: _,
+            pool: _,
+            surplus: _,
+            clients: _,
+        } = self;
+    }
 }
 
 impl Model for Protocol {

@@ -17,12 +17,22 @@ use std::sync::ledger::Ledger;
 
 // A protocol whose list is asked with the hint of its guide, as long as that has one. Contracts see the protocol: no hint
 // changes it.
-#[derive(Drop)]
 pub struct Guided {
     protocol: Protocol,
     guide: Guide,
     // Where the trove stands that the reserved command puts last.
     hint: Option<Hint>,
+}
+
+// Written out, as that of the protocol is.
+impl Drop for Guided {
+    fn drop(self) {
+        let Guided {
+            protocol: _,
+            guide: _,
+            hint: _,
+        } = self;
+    }
 }
 
 impl Model for Guided {

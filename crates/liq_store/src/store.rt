@@ -54,7 +54,6 @@ fn sum_of_faults<D: Disk>(taken: &Journal<D>, beside: &D) -> u64
 
 /// The protocol over two disks. A contract sees the disks, the side on which the journal goes on and where its records begin, the
 /// protocol, and, once a call met a disk's fault, the sum of both counts of faults then.
-#[derive(Drop)]
 pub struct Store<D: Disk> {
     alloc: Global,
     taken: Journal<D>,
@@ -62,6 +61,20 @@ pub struct Store<D: Disk> {
     side: Side,
     protocol: Guided,
     stopped: Option<u64>,
+}
+
+// Written out, as that of the protocol is.
+impl<D: Disk + Drop> Drop for Store<D> {
+    fn drop(self) {
+        let Store {
+            alloc: _,
+            taken: _,
+            beside: _,
+            side: _,
+            protocol: _,
+            stopped: _,
+        } = self;
+    }
 }
 
 impl<D: Disk> Model for Store<D> {

@@ -1,7 +1,9 @@
-use Rattle.std.proofs.Common.{◌≡◌, ◌∷◌, [], ap, ◌∙◌}
+use Rattle.std.proofs.Common.{◌≡◌, ◌≤◌, ℕ, List, ◌∷◌, [], ap, subst, ◌∙◌}
+use Rattle.std.specs.List.{Contains}
 use Rattle.liq_lock.specs.History.{Behind}
 use Rattle.liq_lock.specs.Seats.{seen_of}
 use Rattle.liq_book.specs.Closing.{items_left}
+use Rattle.liq_book.specs.declared.items.Item.{Item}
 use Rattle.liq_book.specs.Items.{session_of}
 use Rattle.liq_book.specs.Seats.{items_seen, session_at}
 use Rattle.liq_book.proofs.Gathering.{all_with}
@@ -13,3 +15,8 @@ returns-clause-seen g c =
     let left : items_left c.close-in-Ok.result ≡ seen_of c.gathered-seat.result = ap items_in c.close-in-Ok.ensures.same ∙ c.in-Ok.ensures.value in
     rw left (all_with (λ seat. Behind session_of (seen_of c.gathered-seat.result) (session_at seat ∷ []) (items_seen seat)) _ _ _ c.in-Some.ensures.items c.gathered-seat.ensures.behind_seats
     (rw c.in-Some.first.stands at c.gathered-seat.ensures.behind))
+
+pub returns-clause-sessions : goal.returns-clause-sessions
+returns-clause-sessions g c i is =
+    let within = c.in-Ok.ensures.makers i (subst (λ (items : List Item). Contains items i) (ap items_in c.close-in-Ok.ensures.same) is) in
+    (within.0, subst (λ (most : ℕ). session_of i ≤ most) c.args.self.seats within.1)
