@@ -333,7 +333,7 @@ module _ {S D : Type 0} (seen : D → Option (List ℕ)) (source : S) (unread : 
             record {
               requests = [];
               few = omega arith;
-              read = ((lines_in bytes, ([], tt, refl)), inl refl);
+              read = ((lines_in bytes, ([], tt, refl)), inl (refl, told));
               written = written;
               disks = standing_still seen left right bytes l r unread start told found.is (untouched seen left right l r start found.left found.right found.is);
               shares = all_shares start [] (state_formed l r start found.is);
