@@ -1,4 +1,6 @@
-use Rattle.std.proofs.Common.{rules, ap, ◌∙◌, refl, arith}
+use Rattle.std.proofs.Common.{rules, ap, ◌∙◌, refl, arith, []}
+use Rattle.std.proofs.lemmas.List.Elements.{All-head}
+use Rattle.liq_tables.specs.WithRoom.{HasRoom}
 use Rattle.liq_stability.specs.Kept.{words_owned}
 use Rattle.liq_stability.specs.declared.words.PoolWords.{PoolWords}
 use Rattle.test_plans.proofs.tests.liquidated.opened.Goals as goal
@@ -10,7 +12,7 @@ returns g c =
       wallets_are = search rules;
       liquidator = search rules;
       surplus_is = search rules;
-      owner = search rules;
+      owner = All-head (HasRoom c.reserve-2.new.self) 1 [] c.in_ok-reserve-2.ensures.room;
       pools_are = refl;
       coll = let coll = ap (λ (w : PoolWords). w.coll) words in omega (arith, coll);
       scale = ap (λ (w : PoolWords). w.scale) words;
