@@ -12,9 +12,15 @@ use std::sync::ledger::{Blank, Ledger};
 
 /// The accounts that have a trove, in ascending order of their keys and, where keys are equal, of their accounts. The last
 /// one counts as that of the lowest ratio.
-#[derive(Drop)]
 pub struct Order {
     nodes: Nodes,
+}
+
+// Written out, so that who lets a list go need not look inside it.
+impl Drop for Order {
+    fn drop(self) {
+        let Order { nodes: _ } = self;
+    }
 }
 
 impl Model for Order {

@@ -8,7 +8,7 @@ pub record WithRoom (X : Type 0) : Type 0 where
   pub rows : Table X
   pub room : List ℕ
 
--- what is seen of a map in which some rows only keep room
+-- what is seen of entries of which some only keep room
 abbrev pub seen : {X : Type 0} → (X → Bool) → Table X → WithRoom X
 seen used entries = record { rows = rows used entries; room = keys_of entries }
 

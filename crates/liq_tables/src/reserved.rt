@@ -13,9 +13,15 @@ use std::marker::Model;
 
 /// Rows by their account or client. Contracts see the used rows, in ascending keys, and the keys that have room. Only
 /// [`Reserved::reserve`] takes memory.
-#[derive(Drop)]
 pub struct Reserved<X: Row> {
     index: Index<X>,
+}
+
+// Written out, so that who lets a table go need not look inside it.
+impl<X: Row> Drop for Reserved<X> {
+    fn drop(self) {
+        let Reserved { index: _ } = self;
+    }
 }
 
 impl<X: Row> Model for Reserved<X> {
