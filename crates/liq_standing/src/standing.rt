@@ -8,6 +8,7 @@ ghost use Rattle.liq_tables.specs.WithRoom.{HasRoom};
 ghost use Rattle.liq_troves.specs.Rows.{entire_in, key_by, set_row};
 ghost use Rattle.liq_troves.specs.Standing.{TrovesStand, lift as lifted, place as placed};
 ghost use Rattle.liq_standing.specs.Books.{books_kept, pools_with};
+ghost use Rattle.liq_standing.specs.Steps.{TakesFew, entry_in};
 
 use liq_ledger::Pools;
 use liq_order::Order;
@@ -33,6 +34,7 @@ pub fn lift(pools: &mut Pools, troves: &mut Troves, order: &mut Order, account: 
     ensures gone { at troves.new.table.rows account ≡ None }
     ensures list { order.new.entries ≡ without_ranked order.old.entries account }
     ensures unlisted { key_in order.new.entries account ≡ None }
+    ensures shorter { length order.new.entries ≤ length order.old.entries }
     ensures room { troves.new.table.room ≡ troves.old.table.room }
     ensures had { HasRoom troves.new.table account }
     ensures spare { order.new.room ≡ order.old.room + 1 }
@@ -72,6 +74,7 @@ pub fn place<L: Ledger>(
     ensures books { books_kept troves.new pools.new ≡ placed (books_kept troves.old pools.old) account coll debt }
     ensures rest { pools.new ≡ pools_with pools.old (books_kept troves.new pools.new) }
     ensures tight { IsTight order.old.entries (key_by (set_row troves.old.sums coll debt), account) hint.now.prev hint.now.next → steps.new ≤ steps.old + 4 }
+    ensures few { TakesFew order.new.entries hint.now (entry_in order.new.entries account) steps.old steps.new }
     ensures any { steps.new ≤ steps.old + (length order.old.entries + 4) }
     ensures list { order.new.entries ≡ with_ranked order.old.entries (key_by (set_row troves.old.sums coll debt), account) }
     ensures room { troves.new.table.room ≡ troves.old.table.room }

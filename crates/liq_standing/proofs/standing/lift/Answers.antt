@@ -1,4 +1,5 @@
-use Rattle.std.proofs.Common.{ℕ, ap, arith, ◌≡◌, List, ◌∙◌}
+use Rattle.std.proofs.Common.{ℕ, ◌≤◌, ap, arith, List, length, sym, subst, ◌∙◌}
+use Rattle.std.specs.Prelude.{◌==◌, not}
 use Rattle.liq_standing.specs.Books.{books_kept}
 use Rattle.liq_standing.proofs.Taken.{taken}
 use Rattle.liq_standing.proofs.standing.lift.Goals as goal
@@ -7,6 +8,7 @@ use Rattle.liq_types.specs.Tables.{Table, at}
 use Rattle.liq_types.specs.Ranked.{Ranked, key_in}
 use Rattle.liq_types.proofs.Lookups.{at-without_same}
 use Rattle.liq_order.proofs.Listing.{key_without}
+use Rattle.liq_standing.proofs.Entries.{filter_within}
 
 pub entire-coll-requires-clause-mark_coll : goal.entire-coll-requires-clause-mark_coll
 entire-coll-requires-clause-mark_coll c =
@@ -65,3 +67,8 @@ returns-clause-gone c =
 pub returns-clause-unlisted : goal.returns-clause-unlisted
 returns-clause-unlisted c =
     ap (λ (l : List Ranked). key_in l c.args.account) c.remove.ensures.list ∙ key_without c.args.order.now.entries c.args.account
+
+pub returns-clause-shorter : goal.returns-clause-shorter
+returns-clause-shorter c =
+    subst (λ (l : List Ranked). length l ≤ length c.args.order.now.entries) (sym c.remove.ensures.list)
+    (filter_within (λ (e : Ranked). not (e.1 == c.args.account)) c.args.order.now.entries)

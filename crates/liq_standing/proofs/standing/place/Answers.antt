@@ -4,6 +4,7 @@ use Rattle.liq_types.specs.Ranked.{IsTight, with_ranked}
 use Rattle.liq_troves.proofs.Standing.{place_stands}
 use Rattle.liq_troves.specs.Rows.{key_by}
 use Rattle.liq_standing.specs.Books.{books_kept}
+use Rattle.liq_standing.proofs.Entries.{few_put}
 use Rattle.liq_standing.proofs.standing.place.Goals as goal
 use mir.Syntax.{w128}
 use mir.Val.{SFits}
@@ -25,3 +26,10 @@ returns-clause-tight g c t =
     let fits : SFits w128 c.key.result = search rules in
     let few = simp to_z-of_z at c.insert.ensures.tight in
     few (subst (λ k. IsTight c.args.order.now.entries (k, c.args.account) c.args.hint.now.prev c.args.hint.now.next) (sym (c.key.ensures ∙ ap key_by c.set-row.ensures.row)) t)
+
+pub returns-clause-few : goal.returns-clause-few
+returns-clause-few g c =
+    let fits : SFits w128 c.key.result = search rules in
+    let put_in = simp to_z-of_z at c.insert.ensures.list in
+    let few = simp to_z-of_z at c.insert.ensures.tight in
+    few_put c.args.order.now.entries _ c.key.result c.args.account c.args.hint.now _ _ c.requires.unlisted put_in few
