@@ -216,5 +216,15 @@ module _ (held next : List ℕ) (before after : List Made) (calls later : Calls)
       let step = Wrote at (length bytes) (take (length bytes) (drop at held)) in
       subst (λ (s : List Step). AreWrites next s) (sym (one_more_step before after step one)) (subst (λ (l : List ℕ). AreWrites l (step ∷ steps_of before)) (sym held_is) (writes_on held at bytes inside (steps_of before) writes))
 
+-- a note that changes no byte
+module _ (held : List ℕ) (before after : List Made) where
+  pub syncs_noted : IsNotedIn before after Synced → AreWrites held (steps_of before) → AreWrites held (steps_of after)
+  syncs_noted one writes = subst (λ (s : List Step). AreWrites held s) (sym (one_more_step before after Synced one)) writes
+
+  module _ (room at : ℕ) (bytes : List ℕ) where
+    pub tries_noted : IsNotedIn before after (Tried at (length bytes)) ⊎ ((after ≡ before) × (room ≤ length before)) → AreWrites held (steps_of before) → AreWrites held (steps_of after)
+    tries_noted (inl one) writes = subst (λ (s : List Step). AreWrites held s) (sym (one_more_step before after (Tried at (length bytes)) one)) writes
+    tries_noted (inr (same, full)) writes = subst (λ (s : List Made). AreWrites held (steps_of s)) (sym same) writes
+
 pub length-steps_of : (notes : List Made) → length (steps_of notes) ≡ length notes
 length-steps_of notes = simp (length-reverse, length-map)

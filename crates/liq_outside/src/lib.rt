@@ -16,6 +16,7 @@ mod made;
 mod memory;
 mod memory_device;
 mod memory_disk;
+mod reading;
 mod schedule;
 mod sink;
 mod source;

@@ -5,6 +5,7 @@ ghost use Rattle.liq_outside.specs.Faults.{HasCause};
 ghost use Rattle.liq_outside.specs.Memory.{after_failed_read, after_failed_write, after_read, after_write, count_taken};
 
 use super::failed::Failed;
+use super::reading::read_part;
 use super::schedule::Schedule;
 use super::sink::Sink;
 use super::source::Source;
@@ -85,9 +86,7 @@ impl Source for MemorySource {
             self.schedule.fault();
             return Err(Failed);
         }
-        let left = &self.bytes[self.taken..];
-        let count = buf.len().min(self.chunk).min(left.len());
-        buf[..count].copy_from_slice(&left[..count]);
+        let count = read_part(&self.bytes, self.taken, self.chunk, buf);
         self.taken += count;
         Ok(count)
     }

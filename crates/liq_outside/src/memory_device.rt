@@ -7,6 +7,7 @@ use super::device::Device;
 use super::device_disk::DeviceDisk;
 use super::failed::Failed;
 use super::made::overwrite;
+use super::reading::read_part;
 use super::schedule::Schedule;
 use std::alloc::Global;
 use std::marker::Model;
@@ -92,11 +93,7 @@ impl Device for MemoryDevice {
             self.schedule.fault();
             return Err(Failed);
         }
-        let start = self.bytes.len().min(at as usize);
-        let rest = &self.bytes[start..];
-        let count = buf.len().min(self.chunk).min(rest.len());
-        buf[..count].copy_from_slice(&rest[..count]);
-        Ok(count)
+        Ok(read_part(&self.bytes, at as usize, self.chunk, buf))
     }
 
     fn write_some(&mut self, at: u64, bytes: &[u8]) -> Result<usize, Failed>

@@ -9,6 +9,7 @@ use super::crash::tear;
 use super::disk::Disk;
 use super::failed::Failed;
 use super::made::{Made, note_sync, note_try, overwrite};
+use super::reading::read_part;
 use super::schedule::Schedule;
 use std::alloc::Global;
 use std::marker::Model;
@@ -111,11 +112,8 @@ impl Disk for MemoryDisk {
             self.schedule.fault();
             return Err(Failed);
         }
-        let start = self.bytes.len().min(at as usize);
-        let rest = &self.bytes[start..];
-        let count = buf.len().min(rest.len());
-        buf[..count].copy_from_slice(&rest[..count]);
-        Ok(count)
+        let most = buf.len();
+        Ok(read_part(&self.bytes, at as usize, most, buf))
     }
 
     fn write_at(&mut self, at: u64, bytes: &[u8]) -> Result<(), Failed>
