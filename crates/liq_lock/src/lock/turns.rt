@@ -14,7 +14,7 @@ use atomic_table::{Badge, Seat};
 use std::sync::Wait;
 use std::thread::yield_now;
 
-// Looks of a waiting thread before it sleeps.
+// Looks of a thread before it draws a ticket, and of one that waits before it sleeps.
 const LOOKS: u32 = 64;
 
 // A sleep compares the low 32 bits of a word.
@@ -22,8 +22,8 @@ const LOW: u64 = 0xffff_ffff;
 
 impl<T: Chronicle> Lock<T> {
     /// Takes the value when the turn of this seat has come. The history of the value begins with all that the seat has
-    /// seen, and what follows was made by other seats than those for which this one stands. It waits for the seats that
-    /// drew their tickets before.
+    /// seen, and what follows was made by other seats than those for which this one stands. It looks some times whether
+    /// a turn is taken before it draws a ticket, and then waits for the seats that drew theirs before.
     pub fn take<R: Wait>(&self, rt: &R, seat: LockSeat<T::Item>) -> (Held<T>, T)
         requires own { seat_id seat ≡ lock_id self.now }
         ensures own { held_id result.0 ≡ lock_id self.now }
@@ -38,6 +38,7 @@ impl<T: Chronicle> Lock<T> {
             shares,
             entries: _,
         } = seat;
+        self.let_pass();
         let (mut seat, number) = self.draw(badge);
         self.wait_for(rt, &mut seat, number);
         let value = match self.table.shared.exchange(&mut seat, 0, None) {
@@ -84,6 +85,18 @@ impl<T: Chronicle> Lock<T> {
             badge: seat.into_badge(),
             shares,
             entries: now,
+        }
+    }
+
+    // Lets other threads run while a turn is taken, so that a ticket is mostly drawn by a thread that can use it at once:
+    // who draws one and doesn't run keeps all later ones waiting.
+    fn let_pass(&self) {
+        let shared = &self.table.shared;
+        for _ in 0..LOOKS {
+            if shared.peek(SERVING) == shared.peek(TICKET) {
+                return;
+            }
+            yield_now();
         }
     }
 
