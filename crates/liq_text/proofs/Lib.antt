@@ -4,6 +4,7 @@ pub mod ReadingLaws
 pub mod SpellingLaws
 pub mod RequestLaws
 pub mod LineLaws
+pub mod FormLaws
 pub mod LineLengths
 pub mod WritingLaws
 pub mod ReplyLaws

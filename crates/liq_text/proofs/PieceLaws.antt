@@ -2,7 +2,7 @@
 use Rattle.std.proofs.Common.{◌≡◌, ℕ, ◌+◌, ◌-◌, ◌≤◌, Bool, true, false, cond, eqb, ltb, List, [], ◌∷◌, length, take, drop, Option, Some, None, refl, sym, subst, arith}
 use Rattle.std.specs.Borrow.{Bor}
 use Rattle.std.specs.Option.{is_some}
-use Rattle.std.specs.Prelude.{position, not}
+use Rattle.std.specs.Prelude.{position, not, ◌&&◌}
 use Rattle.std.specs.List.{slice_split, onto_first, position_or_len, All}
 use Rattle.std.proofs.lemmas.Bool.{ltb-true, ltb-false}
 use Rattle.std.proofs.lemmas.Option.{cond_some}
@@ -10,7 +10,7 @@ use Rattle.std.proofs.lemmas.List.Splits.{slice_split_none, slice_split_first}
 use Rattle.std.proofs.lemmas.Grind.{common_steps}
 use Rattle.std.proofs.lemmas.List.Sums.{fails_before_first}
 use Rattle.liq_text.specs.Reading.{pieces_of, others, is_empty}
-use Rattle.liq_text.specs.Pieces.{rest_pieces, TakesFirst}
+use Rattle.liq_text.specs.Pieces.{rest_pieces, first_word}
 
 onto_some : (x : ℕ) (parts : List (List ℕ)) → is_empty (onto_first x parts) ≡ false
 unfolding is_empty
@@ -28,12 +28,16 @@ unfolding pieces_of is_empty
 is_empty-pieces_of [] = refl
 is_empty-pieces_of (b ∷ line) = either_some (eqb b 32) b (slice_split (λ b. eqb b 32) line) (slice_split (λ b. eqb b 32) line)
 
-pub is_empty-rest_pieces : (rest : Option (Bor (List ℕ))) (r : Bool) → is_some rest ≡ not r → r ≡ is_empty (rest_pieces rest)
-unfolding is_empty
+is_empty-rest_pieces : (rest : Option (Bor (List ℕ))) (r : Bool) → is_some rest ≡ not r → r ≡ is_empty (rest_pieces rest)
+unfolding is_empty rest_pieces
 is_empty-rest_pieces None true e = refl
 is_empty-rest_pieces None false e = absurd cc
 is_empty-rest_pieces (Some line) true e = absurd cc
 is_empty-rest_pieces (Some line) false e = sym (is_empty-pieces_of line.now)
+
+pub done-rest_pieces : (failed : Bool) (rest : Option (Bor (List ℕ))) (r : Bool) → failed ≡ false → is_some rest ≡ not r → r ≡ (not failed && is_empty (rest_pieces rest))
+done-rest_pieces true rest r well e = absurd cc
+done-rest_pieces false rest r well e = is_empty-rest_pieces rest r e
 
 abbrev is_space : ℕ → Bool
 is_space b = eqb b 32
@@ -60,17 +64,18 @@ pieces_of-more line at found =
 pub to_the_end : (line : List ℕ) (from : ℕ) {pieces : List (List ℕ)} {word : List ℕ} → pieces ≡ word ∷ pieces_of (drop from line) → pieces ≡ word ∷ pieces_of (take (length line - from) (drop from line))
 to_the_end line from {pieces} {word} e = let whole : take (length line - from) (drop from line) ≡ drop from line = grind (arith, common_steps) in rw whole e
 
-pub taken_none : (rest : Option (Bor (List ℕ))) (r : Option (Bor (List ℕ))) → r ≡ None → rest ≡ None → TakesFirst r (rest_pieces rest)
-taken_none rest None e none = rw none refl
-taken_none rest (Some piece) e none = absurd cc
+pub word_none : (rest : Option (Bor (List ℕ))) → rest ≡ None → [] ≡ first_word (rest_pieces rest)
+unfolding first_word rest_pieces
+word_none rest none = rw none refl
 
 pub left_none : (rest : Option (Bor (List ℕ))) → rest ≡ None → rest_pieces rest ≡ others (rest_pieces rest)
-unfolding others
+unfolding others rest_pieces
 left_none rest none = rw none refl
 
-pub taken_some : (rest : Option (Bor (List ℕ))) (line : Bor (List ℕ)) (piece : List ℕ) {pieces : List (List ℕ)} → rest ≡ Some line → pieces_of line.now ≡ piece ∷ pieces → (x : List (List ℕ)) × (rest_pieces rest ≡ piece ∷ x)
-taken_some rest line piece {pieces} some e = (pieces, rw some e)
+pub word_some : (rest : Option (Bor (List ℕ))) (line : Bor (List ℕ)) (piece : List ℕ) {pieces : List (List ℕ)} → rest ≡ Some line → pieces_of line.now ≡ piece ∷ pieces → piece ≡ first_word (rest_pieces rest)
+unfolding first_word rest_pieces
+word_some rest line piece some e = rw (some, e) refl
 
 pub left_some : (rest : Option (Bor (List ℕ))) (line : Bor (List ℕ)) (piece : List ℕ) {pieces : List (List ℕ)} → rest ≡ Some line → pieces_of line.now ≡ piece ∷ pieces → pieces ≡ others (rest_pieces rest)
-unfolding others
+unfolding others rest_pieces
 left_some rest line piece some e = rw (some, e) refl

@@ -4,7 +4,7 @@ ghost use Rattle.std.specs.Prelude.{◌≡◌, ℕ, Ok, IfOk, OnErr};
 ghost use Rattle.liq_types.specs.declared.requests.Request.{Request};
 ghost use Rattle.liq_text.specs.Spelling.{Spells, SpellsInSession};
 ghost use Rattle.liq_text.specs.Reading.{pieces_of, call_of, query_of, request_of, session_of, session_request_of};
-ghost use Rattle.liq_text.specs.Pieces.{pieces_left};
+ghost use Rattle.liq_text.specs.Pieces.{pieces_left, unless};
 
 use crate::bad_line::BadLine;
 use crate::calls::arguments;
@@ -14,32 +14,31 @@ use crate::queries::subject;
 use crate::values;
 use liq_types::{Call, Command, Query, Request};
 
-#[tactic(auto, unfolding(crate::specs::Reading::call_of, crate::specs::Reading::first))]
 fn call(words: &mut Pieces<'_>) -> Option<Call>
-    ensures { result ≡ call_of (pieces_left words.old) }
+    ensures { result ≡ unless words.old.has_failed (call_of (pieces_left words.old)) }
 {
-    let verb = read_verb(words.next()?)?;
-    arguments(verb, words)
+    let verb = read_verb(words.next())?;
+    let call = arguments(verb, words);
+    words.is_done().then_some(call)
 }
 
-#[tactic(auto, unfolding(crate::specs::Reading::query_of, crate::specs::Reading::first))]
 fn query(words: &mut Pieces<'_>) -> Option<Query>
-    ensures { result ≡ query_of (pieces_left words.old) }
+    ensures { result ≡ unless words.old.has_failed (query_of (pieces_left words.old)) }
 {
-    let topic = read_topic(words.next()?)?;
-    subject(topic, words)
+    let topic = read_topic(words.next())?;
+    let query = subject(topic, words);
+    words.is_done().then_some(query)
 }
 
-#[tactic(auto, unfolding(crate::specs::Reading::request_of, crate::specs::Reading::first))]
 fn request(words: &mut Pieces<'_>) -> Option<Request>
-    ensures { result ≡ request_of (pieces_left words.old) }
+    ensures { result ≡ unless words.old.has_failed (request_of (pieces_left words.old)) }
 {
-    let first = words.next()?;
+    let first = words.next();
     if first == b"?".as_slice() {
         return Some(Request::Ask(query(words)?));
     }
     let client = values::account(first)?;
-    let number = words.number()?;
+    let number = words.number();
     let call = call(words)?;
     Some(Request::Do(Command {
         client,
@@ -75,12 +74,11 @@ fn session(word: &[u8]) -> Option<u8>
     }
 }
 
-#[tactic(auto, unfolding(crate::specs::Reading::session_request_of, crate::specs::Reading::first))]
 fn session_request_in(line: &[u8]) -> Option<(u8, Request)>
     ensures { result ≡ session_request_of (pieces_of line.now) }
 {
     let mut words = Pieces::new(line);
-    let session = session(words.next()?)?;
+    let session = session(words.next())?;
     let request = request(&mut words)?;
     Some((session, request))
 }

@@ -1,8 +1,8 @@
 //! A line, word by word.
 
-ghost use Rattle.std.specs.Prelude.{◌≡◌, ◌==◌, ◌<◌, ◌∷◌, length, position, IfSome};
-ghost use Rattle.liq_text.specs.Reading.{pieces_of, is_empty, others, first, number_of, account_of, hint_of};
-ghost use Rattle.liq_text.specs.Pieces.{pieces_left, rest_pieces, TakesFirst};
+ghost use Rattle.std.specs.Prelude.{◌≡◌, ◌==◌, ◌<◌, ◌∷◌, ◌&&◌, false, not, length, position, IfSome};
+ghost use Rattle.liq_text.specs.Reading.{an_account, a_number, a_hint, pieces_of, is_empty, others};
+ghost use Rattle.liq_text.specs.Pieces.{pieces_left, rest_pieces, first_word, value_read, fails};
 
 use crate::values;
 
@@ -11,54 +11,88 @@ use crate::values;
 pub(crate) struct Pieces<'a> {
     /// What stands behind the last space that was passed; nothing once the last word was taken.
     rest: Option<&'a [u8]>,
+    /// Whether a word was missing, or stood for nothing of the kind that was asked for.
+    has_failed: bool,
 }
 
 impl<'a> Pieces<'a> {
-    #[tactic(auto, unfolding(crate::specs::Pieces::pieces_left))]
+    #[tactic(auto, unfolding(crate::specs::Pieces::rest_pieces))]
     pub(crate) fn new(line: &'a [u8]) -> Self
-        ensures { pieces_left result ≡ pieces_of line.now }
+        ensures left { pieces_left result ≡ pieces_of line.now }
+        ensures well { result.has_failed ≡ false }
     {
-        Pieces { rest: Some(line) }
+        Pieces {
+            rest: Some(line),
+            has_failed: false,
+        }
     }
 
-    pub(crate) fn next(&mut self) -> Option<&'a [u8]>
-        ensures taken { TakesFirst result (pieces_left self.old) }
+    /// The next word, which is empty where none is left.
+    pub(crate) fn next(&mut self) -> &'a [u8]
+        ensures word { result.now ≡ first_word (pieces_left self.old) }
         ensures left { pieces_left self.new ≡ others (pieces_left self.old) }
+        ensures same { self.new.has_failed ≡ self.old.has_failed }
     {
-        let (first, rest) = split_first(self.rest?);
-        self.rest = rest;
-        Some(first)
+        match self.rest {
+            Some(line) => {
+                let (first, rest) = split_first(line);
+                self.rest = rest;
+                first
+            }
+            None => &[],
+        }
     }
 
-    #[tactic(auto, unfolding(crate::specs::Reading::is_empty, crate::specs::Pieces::pieces_left))]
-    pub(crate) fn is_empty(&self) -> bool
-        ensures { result ≡ is_empty (pieces_left self.now) }
+    /// Whether all that was asked for was there, and no word is left.
+    pub(crate) fn is_done(&self) -> bool
+        ensures { result ≡ (not self.now.has_failed && is_empty (pieces_left self.now)) }
     {
-        self.rest.is_none()
+        !self.has_failed && self.rest.is_none()
     }
 
-    #[tactic(auto, unfolding(crate::specs::Reading::first))]
-    pub(crate) fn account(&mut self) -> Option<u32>
-        ensures value { result ≡ first account_of (pieces_left self.old) }
+    /// The account that the next word stands for. Where it stands for none, the reader has failed for good.
+    pub(crate) fn account(&mut self) -> u32
+        ensures value { result ≡ value_read an_account (pieces_left self.old) }
         ensures left { pieces_left self.new ≡ others (pieces_left self.old) }
+        ensures failed { self.new.has_failed ≡ fails an_account self.old.has_failed (pieces_left self.old) }
     {
-        values::account(self.next()?)
+        match values::account(self.next()) {
+            Some(account) => account,
+            None => {
+                self.has_failed = true;
+                0
+            }
+        }
     }
 
-    #[tactic(auto, unfolding(crate::specs::Reading::first))]
-    pub(crate) fn number(&mut self) -> Option<u64>
-        ensures value { result ≡ first number_of (pieces_left self.old) }
+    /// The number that the next word stands for. Where it stands for none, the reader has failed for good.
+    pub(crate) fn number(&mut self) -> u64
+        ensures value { result ≡ value_read a_number (pieces_left self.old) }
         ensures left { pieces_left self.new ≡ others (pieces_left self.old) }
+        ensures failed { self.new.has_failed ≡ fails a_number self.old.has_failed (pieces_left self.old) }
     {
-        values::number(self.next()?)
+        match values::number(self.next()) {
+            Some(number) => number,
+            None => {
+                self.has_failed = true;
+                0
+            }
+        }
     }
 
-    #[tactic(auto, unfolding(crate::specs::Reading::first))]
-    pub(crate) fn hint(&mut self) -> Option<Option<u32>>
-        ensures value { result ≡ first hint_of (pieces_left self.old) }
+    /// The hint that the next word stands for. Where it stands for none, the reader has failed for good.
+    pub(crate) fn hint(&mut self) -> Option<u32>
+        ensures value { result ≡ value_read a_hint (pieces_left self.old) }
         ensures left { pieces_left self.new ≡ others (pieces_left self.old) }
+        ensures failed { self.new.has_failed ≡ fails a_hint self.old.has_failed (pieces_left self.old) }
     {
-        values::hint(self.next()?)
+        match values::hint(self.next()) {
+            Some(hint) => hint,
+            None => {
+                self.has_failed = true;
+                None
+            }
+        }
     }
 }
 
