@@ -8,7 +8,7 @@ ghost use Rattle.liq_text.specs.Pieces.{pieces_left, unless};
 
 use crate::bad_line::BadLine;
 use crate::calls::arguments;
-use crate::names::{read_topic, read_verb};
+use crate::names::{TOPICS, VERBS, meaning};
 use crate::pieces::Pieces;
 use crate::queries::subject;
 use crate::values;
@@ -17,7 +17,7 @@ use liq_types::{Call, Command, Query, Request};
 fn call(words: &mut Pieces<'_>) -> Option<Call>
     ensures { result ≡ unless words.old.has_failed (call_of (pieces_left words.old)) }
 {
-    let verb = read_verb(words.next())?;
+    let verb = meaning(&VERBS, words.next())?;
     let call = arguments(verb, words);
     words.is_done().then_some(call)
 }
@@ -25,7 +25,7 @@ fn call(words: &mut Pieces<'_>) -> Option<Call>
 fn query(words: &mut Pieces<'_>) -> Option<Query>
     ensures { result ≡ unless words.old.has_failed (query_of (pieces_left words.old)) }
 {
-    let topic = read_topic(words.next())?;
+    let topic = meaning(&TOPICS, words.next())?;
     let query = subject(topic, words);
     words.is_done().then_some(query)
 }
@@ -47,12 +47,6 @@ fn request(words: &mut Pieces<'_>) -> Option<Request>
     }))
 }
 
-fn request_in(line: &[u8]) -> Option<Request>
-    ensures { result ≡ request_of (pieces_of line.now) }
-{
-    request(&mut Pieces::new(line))
-}
-
 /// The request that a line spells, the line end not counted: [`BadLine`] where no request is spelled so, as on every line of
 /// more than 200 bytes.
 pub fn read_line(line: &[u8]) -> Result<Request, BadLine>
@@ -61,7 +55,7 @@ pub fn read_line(line: &[u8]) -> Result<Request, BadLine>
     ensures only { (request : Request) → Spells line.now request → result ≡ Ok request }
     ensures bad { OnErr result ((request : Request) → Spells line.now request → ⊥) }
 {
-    request_in(line).ok_or(BadLine)
+    request(&mut Pieces::new(line)).ok_or(BadLine)
 }
 
 #[tactic(auto, unfolding(crate::specs::Reading::session_of))]

@@ -1,7 +1,7 @@
 //! The verbs and the names of queries.
 
 ghost use Rattle.std.specs.Prelude.{◌≡◌};
-ghost use Rattle.liq_text.specs.Names.{named, verb_of, topic_of};
+ghost use Rattle.liq_text.specs.Names.{named};
 
 #[derive(Clone, Copy)]
 pub(crate) enum Verb {
@@ -35,7 +35,7 @@ pub(crate) enum Topic {
 }
 
 /// The verb that each name stands for.
-const VERBS: [(&[u8], Verb); 16] = [
+pub(crate) const VERBS: [(&[u8], Verb); 16] = [
     (b"price", Verb::Price),
     (b"advance", Verb::Advance),
     (b"fund", Verb::Fund),
@@ -54,14 +54,8 @@ const VERBS: [(&[u8], Verb); 16] = [
     (b"rotate", Verb::Rotate),
 ];
 
-pub(crate) fn read_verb(word: &[u8]) -> Option<Verb>
-    ensures { result ≡ verb_of word.now }
-{
-    meaning(&VERBS, word)
-}
-
 /// What the name of each query asks about.
-const TOPICS: [(&[u8], Topic); 6] = [
+pub(crate) const TOPICS: [(&[u8], Topic); 6] = [
     (b"wallet", Topic::Wallet),
     (b"trove", Topic::Trove),
     (b"deposit", Topic::Deposit),
@@ -70,14 +64,8 @@ const TOPICS: [(&[u8], Topic); 6] = [
     (b"next_number", Topic::NextNumber),
 ];
 
-pub(crate) fn read_topic(word: &[u8]) -> Option<Topic>
-    ensures { result ≡ topic_of word.now }
-{
-    meaning(&TOPICS, word)
-}
-
 /// What a word stands for in a table of names.
-fn meaning<A: Copy>(rows: &[(&'static [u8], A)], word: &[u8]) -> Option<A>
+pub(crate) fn meaning<A: Copy>(rows: &[(&'static [u8], A)], word: &[u8]) -> Option<A>
     ensures { result ≡ named (λ row. row.0.now) (λ row. row.1) rows.now word.now }
 {
     for row in rows {

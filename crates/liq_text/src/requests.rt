@@ -39,7 +39,7 @@ fn put_request(out: &mut Vec<u8>, request: &Request)
         Request::Do(command) => put_command(out, command),
         Request::Ask(query) => {
             put(out, b"?");
-            put_query(out, query);
+            put_named(out, &named_query(query));
         }
     }
 }
@@ -53,17 +53,7 @@ fn put_command(out: &mut Vec<u8>, command: &Command)
 {
     put_first(out, command.client);
     put_number(out, command.number);
-    put_call(out, &command.call);
-}
-
-fn put_call(out: &mut Vec<u8>, call: &Call)
-    requires { vec_len out.old + 155 ≤ vec_capacity out.old }
-    ensures items { out.new.items ≡ out.old.items ++ written (call_words call.now) }
-    ensures range { AllByRecursion IsInRange (call_words call.now) }
-    ensures len { vec_len out.new ≤ vec_len out.old + 155 }
-    ensures capacity { vec_capacity out.old ≤ vec_capacity out.new }
-{
-    put_named(out, &named_call(call));
+    put_named(out, &named_call(&command.call));
 }
 
 /// A verb, and the numbers and hints behind it.
@@ -119,16 +109,6 @@ fn named_call(call: &Call) -> Named
         Call::Claim(account) => words(b"claim", [account.into(), 0, 0, 0, 0, 0], 1),
         Call::Rotate => words(b"rotate", [0, 0, 0, 0, 0, 0], 0),
     }
-}
-
-fn put_query(out: &mut Vec<u8>, query: &Query)
-    requires { vec_len out.old + 155 ≤ vec_capacity out.old }
-    ensures items { out.new.items ≡ out.old.items ++ written (query_words query.now) }
-    ensures range { AllByRecursion IsInRange (query_words query.now) }
-    ensures len { vec_len out.new ≤ vec_len out.old + 155 }
-    ensures capacity { vec_capacity out.old ≤ vec_capacity out.new }
-{
-    put_named(out, &named_query(query));
 }
 
 /// The name of a query, and the number behind it.
