@@ -1,4 +1,4 @@
-//! Sessions that run at once, each in a thread of its own.
+//! Sessions that run at once.
 
 ghost use Rattle.std.specs.Prelude.{◌≡◌, ◌≤◌, All, IfOk, IfErr, vec_capacity, vec_len, length, []};
 ghost use Rattle.std.specs.List.{AllZip};
@@ -14,10 +14,11 @@ use std::alloc::{AllocError, Global};
 use std::sync::Wait;
 use std::thread::{Threads, join};
 
-/// Runs the scripts of sessions at once, each in a new thread: each request in its turn, with the hint that the session's hinter finds
-/// for it, and with the gate before and behind each call. The seats are those of the desk, and a script has at most
-/// [`REQUESTS_MOST`] requests. Each work comes back at its place with the replies that it got. All memory is taken before the first
-/// call: where there is none the works come back as they were.
+/// Runs the scripts of sessions at once, each in a thread of its own: each request in its turn, with the hint that the
+/// session's hinter finds for it, and with the gate before and behind each call. The seats are those of the desk, and a
+/// script has at most [`REQUESTS_MOST`] requests. Each work comes back at its place with the replies that it got. All
+/// memory is taken before the first call: where there is none the works come back as they were. No thread is made for a
+/// script without requests, nor for the first session, which runs in this one.
 pub fn run_sessions<
     K: Desk + Sync,
     G: Gate + Sync,
@@ -62,8 +63,9 @@ where
     Ok(lists)
 }
 
-/// Runs the last of the works in a thread of its own, and those before it in this one. It takes no memory: there is room for
-/// the replies of each work, and for what each comes to.
+/// Runs the last of the works in a new thread, and those before it in this one. Where there are none before it, or it has
+/// nothing to ask, it runs in this one too. It takes no memory: there is room for the replies of each work, and for what
+/// each comes to.
 fn run_all<K: Desk + Sync, G: Gate + Sync, H: Hinter + Drop + Send, R: Threads + Wait + Sync>(
     rt: &R,
     desk: &K,
@@ -86,6 +88,11 @@ where
     let Some(list) = replies.pop() else {
         unreachable!();
     };
+    if work.is_empty() || last.script.requests.is_empty() {
+        let mut all = run_all(rt, desk, gate, work, replies, done);
+        all.push_reserved(run_session(rt, desk, gate, last, list));
+        return all;
+    }
     let (one, mut all) = join(
         rt,
         move || -> SessionDone<K, H>
