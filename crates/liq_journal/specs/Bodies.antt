@@ -27,7 +27,10 @@ pub record IsAccepted (start : ℕ) (bytes : List ℕ) (w : Written) (index : �
   pub recorded : IsRecorded w index command
   pub spelled : IsBodyOf body command
 
--- Why there is no body at this place: the bytes of the record have another digest than the one behind them, or are no command.
+-- Why there is no body at this place: the bytes of the record have another digest than the one behind them, or are no
+-- command.
 abbrev pub IsBodyFault : ℕ → ℕ → ℕ → LookFault → Type 0
 IsBodyFault generation index place fault.DiskFault = Unit {0}
-IsBodyFault generation index place (fault.Damaged damage) = (damage.index ≡ index) × ((raw : List ℕ) × (length raw ≡ 128) × (record_on generation index place raw ≡ Err damage.what))
+IsBodyFault generation index place (fault.Damaged damage) =
+    (damage.index ≡ index)
+    × ((raw : List ℕ) × (length raw ≡ 128) × (record_on generation index place raw ≡ Err damage.what))

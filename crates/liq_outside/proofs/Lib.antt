@@ -2,3 +2,4 @@ mod Loops
 pub mod Moments
 pub mod Steps
 mod Tearing
+mod Writing

@@ -14,9 +14,10 @@ pub record OverDevice (V : Type 0) : Type 0 where
 abbrev pub TellsFailure : {T E : Type 0} → Result T E → Option ℕ → Option ℕ → Type 0
 TellsFailure result before after = MatchResult result (λ _. after ≡ before) (λ _. after ≡ option_map one_more before)
 
--- A call of the disk: without a device it fails, and the device stays where it was; each failure is counted, the device's own where
--- that is told.
-pub record IsCall {V T E : Type 0} (failures : V → Option ℕ) (old new : OverDevice V) (result : Result T E) : Type 0 where
+-- A call of the disk: without a device it fails, and the device stays where it was; each failure is counted, the
+-- device's own where that is told.
+pub record IsCall {V T E : Type 0} (failures : V → Option ℕ) (old new : OverDevice V) (result : Result T E)
+    : Type 0 where
   pub missing : old.device ≡ None → IsErr result
   pub there : is_some new.device ≡ is_some old.device
   pub caused : TellsFailure result (option_and_then failures old.device) (option_and_then failures new.device)

@@ -30,23 +30,29 @@ abbrev pub undone_all : List ℕ → List Step → List ℕ
 undone_all held [] = held
 undone_all held (step ∷ steps) = undone_all (undone held step) steps
 
--- What a crash after these steps may leave: what is there, or any part of each write since the last sync, one that failed too.
+-- What a crash after these steps may leave: what is there, or any part of each write since the last sync, one that
+-- failed too.
 abbrev pub MayBeLeft : List ℕ → List Step → List ℕ → Type 0
 MayBeLeft held [] image = image ≡ held
-MayBeLeft held (Wrote at count over ∷ steps) image = (image ≡ held) ⊎ ((earlier : List ℕ) × MayBeLeft (undone held (Wrote at count over)) steps earlier × Torn at count earlier image)
-MayBeLeft held (Tried at count ∷ steps) image = (earlier : List ℕ) × MayBeLeft held steps earlier × Torn at count earlier image
+MayBeLeft held (Wrote at count over ∷ steps) image =
+    (image ≡ held)
+    ⊎ ((earlier : List ℕ) × MayBeLeft (undone held (Wrote at count over)) steps earlier × Torn at count earlier image)
+MayBeLeft held (Tried at count ∷ steps) image =
+    (earlier : List ℕ) × MayBeLeft held steps earlier × Torn at count earlier image
 MayBeLeft held (Synced ∷ steps) image = image ≡ held
 
 -- each write's bytes are a whole write of its range over what stood there
 abbrev pub AreWrites : List ℕ → List Step → Type 0
 AreWrites held [] = Unit {0}
-AreWrites held (Wrote at count over ∷ steps) = Torn at count (undone held (Wrote at count over)) held × AreWrites (undone held (Wrote at count over)) steps
+AreWrites held (Wrote at count over ∷ steps) =
+    Torn at count (undone held (Wrote at count over)) held × AreWrites (undone held (Wrote at count over)) steps
 AreWrites held (Tried at count ∷ steps) = AreWrites held steps
 AreWrites held (Synced ∷ steps) = AreWrites held steps
 
 -- what a crash at moment k may have left, the moment being the number of steps
 abbrev pub WasLeft : List ℕ → List Step → ℕ → List ℕ → Type 0
-WasLeft held steps k image = let since = length steps - k in MayBeLeft (undone_all held (take since steps)) (drop since steps) image
+WasLeft held steps k image =
+    let since = length steps - k in MayBeLeft (undone_all held (take since steps)) (drop since steps) image
 
 -- how many bytes there were at the last sync
 abbrev pub synced_length : List ℕ → List Step → ℕ
@@ -64,7 +70,12 @@ IsReached place (Synced ∷ steps) = ⊥
 
 -- where the range of a write since the last sync is reached, what it may leave stays so
 abbrev pub StaysLeft : ℕ → ℕ → List ℕ → List ℕ → Type 0
-StaysLeft at count old new = (held : List ℕ) (steps : List Step) → AreWrites held steps → ((place : ℕ) → at ≤ place → place < at + count → IsReached place steps) → MayBeLeft held steps old → MayBeLeft held steps new
+StaysLeft at count old new =
+    (held : List ℕ) (steps : List Step)
+    → AreWrites held steps
+    → ((place : ℕ) → at ≤ place → place < at + count → IsReached place steps)
+    → MayBeLeft held steps old
+    → MayBeLeft held steps new
 
 -- a disk with these bytes, all of them synced
 abbrev pub fresh : List ℕ → List ℕ → DiskInMemory
@@ -92,7 +103,10 @@ after_disk_write disk at bytes = record disk {
 
 -- after a write that failed, which is a step too
 abbrev pub after_failed_disk_write : DiskInMemory → ℕ → List ℕ → DiskInMemory
-after_failed_disk_write disk at bytes = record disk { steps = Tried at (length bytes) ∷ disk.steps; calls = faulted (begun disk.calls) }
+after_failed_disk_write disk at bytes = record disk {
+  steps = Tried at (length bytes) ∷ disk.steps;
+  calls = faulted (begun disk.calls);
+}
 
 -- after a sync
 abbrev pub after_sync : DiskInMemory → DiskInMemory
@@ -113,4 +127,6 @@ left_by d k image = WasLeft d.disk.held d.disk.steps k image
 
 -- a write that failed is noted, unless there was no room for the note
 abbrev pub IsNoted : Roomy → ℕ → List ℕ → DiskInMemory → Type 0
-IsNoted old at bytes new = (new ≡ after_failed_disk_write old.disk at bytes) ⊎ ((new ≡ after_failed_look old.disk) × (old.room ≤ length old.disk.steps))
+IsNoted old at bytes new =
+    (new ≡ after_failed_disk_write old.disk at bytes)
+    ⊎ ((new ≡ after_failed_look old.disk) × (old.room ≤ length old.disk.steps))

@@ -1,8 +1,8 @@
 // What was done to the bytes of a disk in memory.
 ghost use Rattle.std.specs.Prelude.{◌≡◌, ◌⊎◌, ◌<◌, ◌≤◌, ◌+◌, ◌^◌, vec_capacity, length, take, drop, OnOk, OnErr};
 ghost use Rattle.liq_outside.specs.Disk.{overwritten};
-ghost use Rattle.liq_outside.specs.DiskInMemory.{Synced, Tried, Wrote};
-ghost use Rattle.liq_outside.specs.Made.{IsNotedIn};
+ghost use Rattle.liq_outside.specs.DiskInMemory.{Tried, Wrote};
+ghost use Rattle.liq_outside.specs.Made.{IsNotedIn, step_of};
 
 use std::alloc::{AllocError, Global};
 
@@ -36,29 +36,41 @@ pub fn overwrite(
     let mut over = Vec::new(alloc);
     over.extend_from_slice(&held[at..stop])?;
     held.extend_from_slice(&bytes[inside..])?;
-    if made.push(Made::Wrote(at, bytes.len(), over)).is_err() {
-        held.truncate(len);
-        return Err(AllocError);
+    match note(made, Made::Wrote(at, bytes.len(), over)) {
+        Ok(()) => {
+            replace(held, at, &bytes[..inside]);
+            Ok(())
+        }
+        Err(error) => {
+            held.truncate(len);
+            Err(error)
+        }
     }
-    held[at..stop].copy_from_slice(&bytes[..inside]);
-    Ok(())
+}
+
+// Puts bytes in the place of as many.
+fn replace(held: &mut Vec<u8>, at: usize, bytes: &[u8])
+    requires { at + length bytes.now ≤ length held.old.items }
+    ensures { held.new.items ≡ overwritten held.old.items at bytes.now }
+{
+    held[at..at + bytes.len()].copy_from_slice(bytes);
 }
 
 // Notes a write that failed, where there is room for the note.
 pub fn note_try(made: &mut Vec<Made>, at: usize, count: usize)
     ensures { IsNotedIn made.old.items made.new.items (Tried at count) ⊎ ((made.new.items ≡ made.old.items) × (vec_capacity made.old ≤ length made.old.items)) }
 {
-    let _ = made.push(Made::Tried(at, count));
+    let _ = note(made, Made::Tried(at, count));
 }
 
-// Notes a sync.
-pub fn note_sync(made: &mut Vec<Made>) -> Result<(), AllocError>
-    ensures noted { OnOk result (IsNotedIn made.old.items made.new.items Synced) }
+// Notes what was done, where there is room for the note or memory for more.
+pub fn note(made: &mut Vec<Made>, note: Made) -> Result<(), AllocError>
+    ensures noted { OnOk result (IsNotedIn made.old.items made.new.items (step_of note)) }
     ensures not_noted { OnErr result (made.new.items ≡ made.old.items) }
     ensures full { OnErr result (vec_capacity made.old ≤ length made.old.items) }
 {
-    if made.push(Made::Synced).is_err() {
-        return Err(AllocError);
+    match made.push(note) {
+        Ok(()) => Ok(()),
+        Err(_) => Err(AllocError),
     }
-    Ok(())
 }

@@ -8,7 +8,7 @@ ghost use Rattle.liq_outside.specs.DiskInMemory.{IsNoted, Looks, fresh, left_by,
 use super::crash::tear;
 use super::disk::Disk;
 use super::failed::Failed;
-use super::made::{Made, note_sync, note_try, overwrite};
+use super::made::{Made, note, note_try, overwrite};
 use super::reading::read_part;
 use super::schedule::Schedule;
 use std::alloc::Global;
@@ -162,7 +162,7 @@ impl Disk for MemoryDisk {
             // Nothing is more synced than before.
             return Err(Failed);
         }
-        match note_sync(&mut self.made) {
+        match note(&mut self.made, Made::Synced) {
             Ok(()) => Ok(()),
             Err(_) => {
                 self.schedule.fault();
