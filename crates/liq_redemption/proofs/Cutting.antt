@@ -1,6 +1,6 @@
 -- What a plan takes of sound parts, cut by cut: each cut fits at its moment.
 use Rattle.std.proofs.Common.{◌≡◌, ℕ, ℤ, ◌+◌, ◌-◌, ◌*◌, ◌≤◌, ◌<◌, Bool, true, false, cond, List, [], ◌∷◌, map, refl, sym, ap, ◌∙◌, subst, Some, None, Option, inl, inr, arith, nat_lt, nat_le, fold}
-use Rattle.std.specs.Prelude.{◌≢◌, ◌==◌, not, option_map, filter, filter_map, reverse, IsSome, is_some, unwrap_or, Ok}
+use Rattle.std.specs.Prelude.{◌≢◌, ◌==◌, not, option_map, filter, filter_map, reverse, IsSome, is_some, unwrap_or}
 use Rattle.std.specs.List.{AllByRecursion, cons_option}
 use Rattle.std.proofs.Math.Nat.{mul-le-mul_right, div-mul-le_self}
 use Rattle.std.proofs.lemmas.Bool.{cases_lt, ltb-false, leb-false}
@@ -9,9 +9,8 @@ use Rattle.std.proofs.lemmas.List.Sums.{sum_by-cons}
 use Rattle.liq_types.specs.declared.amounts.TheConstants.{LIM, RESERVE, MIN_NET, MCR}
 use Rattle.liq_types.specs.declared.figures.Trove.{Trove}
 use Rattle.liq_types.specs.declared.figures.Wallet.{Wallet}
-use Rattle.liq_types.specs.declared.replies.Refusal.{Refusal}
 use Rattle.liq_types.specs.Ranked.{Ranked, key_in, without_ranked}
-use Rattle.liq_types.specs.Rules.{Rule, first_refusal, outcome}
+use Rattle.liq_types.specs.Rules.{first_refusal}
 use Rattle.liq_types.specs.State.{surplus_in, with_surplus}
 use Rattle.liq_types.specs.Tables.{Table, at, put, without}
 use Rattle.liq_types.specs.Totals.{is_below_percent, worth, asked}

@@ -3,4 +3,5 @@ pub mod Cutting
 pub mod Following
 pub mod Parts
 pub mod Paying
+pub mod Stepping
 pub mod Taking

@@ -1,12 +1,14 @@
 //! What a planned redemption does.
 
-ghost use Rattle.std.specs.Prelude.{◌≡◌, ◌≤◌, ◌+◌, IsOk, OnOk, count_by, if◌then◌else◌};
+ghost use Rattle.std.specs.Prelude.{◌≡◌, ◌≤◌, ◌+◌, IsOk, OnOk, count_by, length, if◌then◌else◌};
 ghost use Rattle.liq_types.specs.declared.amounts.TheConstants.{LIM};
 ghost use Rattle.liq_types.specs.State.{wallet_in, surplus_in};
 ghost use Rattle.liq_types.specs.WellFormed.{Ascends};
 ghost use Rattle.liq_tables.specs.WithRoom.{HasRoom, KeepsRoom};
 ghost use Rattle.liq_troves.specs.Kept.{Kept};
 ghost use Rattle.liq_order.specs.Listed.{Listed};
+ghost use Rattle.liq_standing.specs.Steps.{TakesFew};
+ghost use Rattle.liq_redemption.specs.Last.{CutTakes, last_entry};
 ghost use Rattle.liq_redemption.specs.Given.{AreSoundParts, IsPlannedOn, HasRoomFor, HasRoomToClose, CutFits};
 ghost use Rattle.liq_redemption.specs.Parts.{parts_of, closed_parts, cut_parts, redeemed_parts, redeemed_wallets};
 
@@ -59,7 +61,8 @@ fn reserve_claim(cut: &Cut, surplus: &mut Surplus) -> Result<(), NoMemory>
 /// debt beside the reserve is taken leaves, its reserve is burned, and its owner may claim what is left of its collateral; any
 /// other one is set to what is left, and moves to its place in the list, where the hint may save a search. The redeemed LUSD
 /// is burned, the account gets what is drawn less the fee, and the fee pool the fee. All other wallets, troves and claims
-/// stay. It takes no memory: there is room for the account's wallet and for what the owners of closed troves may claim.
+/// stay. It takes no memory: there is room for the account's wallet and for what the owners of closed troves may claim. The last
+/// trove alone may move in the list: with a hint that is tight for it there are four steps at most.
 pub fn apply<L: Ledger>(
     plan: &RedeemPlan,
     account: u32,
@@ -81,6 +84,8 @@ pub fn apply<L: Ledger>(
     ensures surplus_room { surplus.new.room ≡ surplus.old.room }
     ensures trove_room { troves.new.table.room ≡ troves.old.table.room }
     ensures order_room { order.new.room ≡ order.old.room + count_by (λ cut. cut.full) plan.now.cuts }
+    ensures few { TakesFew order.new.entries hint.now (last_entry order.new.entries plan.now.cuts) steps.old steps.new }
+    ensures any { steps.new ≤ steps.old + (length order.old.entries + 4) }
 {
     for cut in plan.cuts.as_slice() {
         take_down(cut, hint, pools, surplus, troves, order, steps);
@@ -109,6 +114,7 @@ fn take_down<L: Ledger>(
     ensures surplus_room { surplus.new.room ≡ surplus.old.room }
     ensures trove_room { troves.new.table.room ≡ troves.old.table.room }
     ensures order_room { order.new.room ≡ order.old.room + (if cut.now.full then 1 else 0) }
+    ensures takes { CutTakes cut.now hint.now order.old.entries order.new.entries steps.old steps.new }
 {
     let (coll, debt) = lift(pools, troves, order, cut.account);
     let coll = coll - cut.draw;

@@ -10,6 +10,7 @@ use Rattle.liq_redemption.specs.declared.cut.Cut.{Cut}
 use Rattle.liq_redemption.specs.Parts.{Parts, parts_of, cut_parts}
 use Rattle.liq_redemption.specs.Given.{HasRoomToClose}
 use Rattle.liq_redemption.proofs.Cutting.{CutsFit, planned_covered}
+use Rattle.liq_redemption.proofs.Stepping.{CloseButLast, Spent, close_next, planned_close, spent_none, spent_more}
 use Rattle.liq_redemption.proofs.Paying.{charges, charged_less}
 use Rattle.liq_redemption.proofs.applying.apply.Goals as goal
 
@@ -26,6 +27,8 @@ loop-cut-init g c =
       surplus_room = refl;
       trove_room = refl;
       order_room = ap (λ (l : List Cut). c.args.order.now.room + count_by (λ (cut : Cut). cut.full) l) same;
+      close = subst (λ (l : List Cut). CloseButLast l) (sym same) (planned_close p wallet c.args.plan.now c.requires.planned);
+      spent = subst (λ (l : List Cut). Spent c.args.plan.now.cuts l c.args.hint.now (length c.args.order.now.entries) c.args.order.now.entries c.args.steps.now c.args.steps.now) (sym same) (spent_none c.args.plan.now.cuts c.args.hint.now c.args.order.now.entries c.args.steps.now);
     }
 
 -- the cut that is next, and those behind it
@@ -59,6 +62,8 @@ loop-cut-preserved g c =
     let claims = subst (λ (l : List Cut). AllByRecursion (HasRoomToClose c.args.surplus.now) l) next c.loop-cut.invariant.claims in
     let room = sum_by-cons (λ (x : Cut). cond x.full 1 0) cut (drop (i + 1) items) in
     let rooms = ap (λ (l : List Cut). count_by (λ (x : Cut). x.full) l) next in
+    let close = subst (λ (l : List Cut). CloseButLast l) next c.loop-cut.invariant.close in
+    let spent = subst (λ (l : List Cut). Spent c.args.plan.now.cuts l c.args.hint.now (length c.args.order.now.entries) c.loop-cut.order.entries c.args.steps.now c.loop-cut.steps) next c.loop-cut.invariant.spent in
     record {
       parts =
           ap (λ (q : Parts). fold cut_parts q (drop (i + 1) items)) made
@@ -69,6 +74,8 @@ loop-cut-preserved g c =
       surplus_room = c.take_down.ensures.surplus_room ∙ c.loop-cut.invariant.surplus_room;
       trove_room = c.take_down.ensures.trove_room ∙ c.loop-cut.invariant.trove_room;
       order_room = omega (arith, c.take_down.ensures.order_room, room, rooms, c.loop-cut.invariant.order_room);
+      close = close_next cut (drop (i + 1) items) close;
+      spent = spent_more c.args.plan.now.cuts cut (drop (i + 1) items) c.args.hint.now (length c.args.order.now.entries) c.loop-cut.order.entries c.take_down.new.order.entries c.args.steps.now c.loop-cut.steps c.take_down.new.steps close spent c.take_down.ensures.takes;
     }
 
 -- ---- what is left to do
@@ -113,3 +120,15 @@ pay-requires-clause-lusd g c =
     let same = ap (λ (t : Table Wallet). (wallet_in t c.args.account).lusd) c.in-Ok.ensures.moved in
     let market = c.requires.planned.sound in
     omega (arith, less.lusd, same, market.supply, market.debt)
+
+-- ---- the steps
+
+pub returns-clause-few : goal.returns-clause-few
+returns-clause-few g c =
+    let none = drop_all c.loop-cut.cut-index c.as_slice-cut-items.result.now c.loop-cut-test.false in
+    (subst (λ (l : List Cut). Spent c.args.plan.now.cuts l c.args.hint.now (length c.args.order.now.entries) c.loop-cut.order.entries c.args.steps.now c.loop-cut.steps) none c.loop-cut.invariant.spent).0
+
+pub returns-clause-any : goal.returns-clause-any
+returns-clause-any g c =
+    let none = drop_all c.loop-cut.cut-index c.as_slice-cut-items.result.now c.loop-cut-test.false in
+    (subst (λ (l : List Cut). Spent c.args.plan.now.cuts l c.args.hint.now (length c.args.order.now.entries) c.loop-cut.order.entries c.args.steps.now c.loop-cut.steps) none c.loop-cut.invariant.spent).1

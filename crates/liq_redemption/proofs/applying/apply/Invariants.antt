@@ -1,10 +1,11 @@
-use Rattle.std.proofs.Common.{◌≡◌, ◌+◌, drop, fold}
+use Rattle.std.proofs.Common.{◌≡◌, ◌+◌, drop, fold, length}
 use Rattle.std.specs.Prelude.{count_by}
 use Rattle.std.specs.List.{AllByRecursion}
 use Rattle.liq_redemption.specs.declared.cut.Cut.{Cut}
 use Rattle.liq_redemption.specs.Given.{HasRoomToClose}
 use Rattle.liq_redemption.specs.Parts.{parts_of, cut_parts}
 use Rattle.liq_redemption.proofs.Cutting.{CutsFit}
+use Rattle.liq_redemption.proofs.Stepping.{CloseButLast, Spent}
 use Rattle.liq_redemption.proofs.applying.apply.Given as goal
 
 abbrev pub invariant-loop-cut : goal.invariant-loop-cut
@@ -15,4 +16,6 @@ invariant-loop-cut g l = record {
   surplus_room : l.surplus.room ≡ l.fn.surplus.room;
   trove_room : l.troves.table.room ≡ l.fn.troves.table.room;
   order_room : l.order.room + count_by (λ (cut : Cut). cut.full) (drop l.cut-index l.cut-items) ≡ l.fn.order.room + count_by (λ (cut : Cut). cut.full) l.fn.plan.cuts;
+  close : CloseButLast (drop l.cut-index l.cut-items);
+  spent : Spent l.fn.plan.cuts (drop l.cut-index l.cut-items) l.fn.hint (length l.fn.order.entries) l.order.entries l.fn.steps l.steps;
 }

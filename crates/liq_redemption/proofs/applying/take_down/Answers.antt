@@ -1,5 +1,7 @@
-use Rattle.std.proofs.Common.{◌≡◌, ◌-◌, ◌≤◌, ℕ, Some, Option, sym, ap, ◌∙◌, subst, arith}
-use Rattle.liq_types.specs.declared.amounts.TheConstants.{LIM}
+use Rattle.std.proofs.Common.{◌≡◌, ◌-◌, ℕ, ℤ, Bool, true, false, Some, Option, refl, sym, ap, ◌∙◌, subst, arith}
+use Rattle.std.specs.Prelude.{option_map}
+use Rattle.liq_types.specs.Ranked.{Ranked}
+use Rattle.liq_standing.specs.Steps.{TakesFew}
 use Rattle.liq_troves.proofs.Standing.{lift_stands}
 use Rattle.liq_troves.specs.Standing.{Books, TrovesStand}
 use Rattle.liq_standing.specs.Books.{books_kept}
@@ -48,3 +50,29 @@ returns-else-cut-clause-parts g c =
     placed_is c.lift-coll.new.pools c.place.new.pools c.lift-coll.new.troves c.place.new.troves c.lift-coll.new.order c.place.new.order c.args.surplus.now c.args.cut.now.account coll debt c.place.ensures.books c.place.ensures.rest c.place.ensures.list
     ∙ ap (λ (q : Parts). placed_parts q c.args.cut.now.account coll debt) lifted
     ∙ sym (cut_placed p c.args.cut.now c.lift-coll.result c.lift-coll.ensures.own c.if-cut.false)
+
+-- ---- the steps
+
+pub returns-then-cut-clause-takes : goal.returns-then-cut-clause-takes
+returns-then-cut-clause-takes g c =
+    let next = c.lift-coll.new.order.entries in
+    record {
+      few = subst (λ (o : Option Ranked). TakesFew next c.args.hint.now o c.args.steps.now c.args.steps.now) (sym (ap (option_map (λ (k : ℤ). (k, c.args.cut.now.account))) c.lift-coll.ensures.unlisted)) refl;
+      none = λ full. refl;
+      shorter = λ full. c.lift-coll.ensures.shorter;
+      any = omega arith;
+    }
+
+not_full : (b : Bool) → b ≡ false → b ≡ true → ⊥
+not_full b e f = cc
+
+pub returns-else-cut-clause-takes : goal.returns-else-cut-clause-takes
+returns-else-cut-clause-takes g c =
+    let shorter = c.lift-coll.ensures.shorter in
+    let any = c.place.ensures.any in
+    record {
+      few = c.place.ensures.few;
+      none = λ full. absurd (not_full c.args.cut.now.full c.if-cut.false full);
+      shorter = λ full. absurd (not_full c.args.cut.now.full c.if-cut.false full);
+      any = omega (arith, any, shorter);
+    }
