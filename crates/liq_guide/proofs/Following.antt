@@ -9,13 +9,14 @@ use Rattle.std.specs.declared.cmp.Ordering.TheVariants.{Less, Equal, Greater}
 use Rattle.std.proofs.lemmas.Bool.{eqb-true, eq-eqb}
 use Rattle.std.proofs.lemmas.Cmp.{int_cmp_total, tied_itself}
 use Rattle.liq_types.proofs.Places.{nat_cmp-eq}
+use Rattle.liq_types.proofs.RankedLists.{rank_total, ascending_kept}
 use Rattle.liq_types.specs.Ranked.{Ranked, rank_order, with_ranked, without_ranked}
 use Rattle.liq_types.specs.Views.{View, followed, all_followed}
 use Rattle.liq_types.specs.declared.events.ListChange.{ListChange}
 use Rattle.liq_types.specs.declared.events.ListChange.TheVariants.{Put, Gone, Words}
 use Rattle.liq_guide.specs.Followed.{listed, all_listed}
 use Rattle.liq_guide.specs.Rows.{Places, Keys, place_at, is_marked, row_at, key_at, standing, is_in, is_key, Follows}
-use Rattle.liq_guide.proofs.Members.{rank_total, same_entry, with_is_in, without_is_in, with_ascending, ascending_kept, standing_ascends, standing_is_in, same_list}
+use Rattle.liq_guide.proofs.Members.{same_entry, with_is_in, without_is_in, with_ascending, standing_ascends, standing_is_in, same_list}
 
 -- ---- the list of a view
 

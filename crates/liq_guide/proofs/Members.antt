@@ -1,25 +1,22 @@
 -- What is in a ranked list, and that ascending lists of the same entries are equal.
 use Rattle.std.proofs.Common.{◌≡◌, ℕ, Bool, true, false, cond, List, [], ◌∷◌, refl, sym, ap, ◌∙◌, Some, None, Option}
 use Rattle.std.specs.Prelude.{◌==◌, not, ◌&&◌, ◌||◌, filter, unwrap_or, is_some}
-use Rattle.std.specs.List.{AllByRecursion, list_any}
+use Rattle.std.specs.List.{list_any}
 use Rattle.std.specs.List.Sorted.{IsStrictlySortedBy}
 use Rattle.std.specs.BTreeMap.{is_at}
 use Rattle.std.specs.BTreeSet.{BTreeSet}
-use Rattle.std.specs.Cmp.{IsTotalOrder, eq_by_cmp_equiv}
+use Rattle.std.specs.Cmp.{eq_by_cmp_equiv}
 use Rattle.std.specs.Map.{keys_of, lookup}
 use Rattle.std.specs.Ordering.{int_cmp, nat_cmp, is_eq, match_ordering, ordering_reverse}
 use Rattle.std.specs.declared.cmp.Ordering.{Ordering}
 use Rattle.std.specs.declared.cmp.Ordering.TheVariants.{Less, Equal, Greater}
-use Rattle.std.proofs.lemmas.Cmp.{int_cmp_total, nat_cmp_total, then_total, on_total}
 use Rattle.std.proofs.lemmas.Map.Entries.{option_filter, lookup-filter-values}
 use Rattle.std.proofs.lemmas.Map.Keys.{IsDistinct-from_sorted}
 use Rattle.std.proofs.lemmas.Map.Lookups.{CmpEqualImpliesEq, exact_unsigned, exact_signed, exact_pairs, btree_set_from_contains}
 use Rattle.std.proofs.lemmas.Map.Views.{any-filter_same}
 use Rattle.liq_types.specs.Ranked.{Ranked, rank_order, with_ranked, without_ranked, IsAscending}
+use Rattle.liq_types.proofs.RankedLists.{rank_total, Behind, behind_more, with_behind}
 use Rattle.liq_guide.specs.Rows.{Places, is_marked, place_at, standing, is_in}
-
-pub rank_total : IsTotalOrder rank_order
-rank_total = then_total (on_total (λ (e : Ranked). e.0) int_cmp_total) (on_total (λ (e : Ranked). e.1) nat_cmp_total)
 
 pub exact_rank : CmpEqualImpliesEq rank_order
 exact_rank = exact_pairs int_cmp nat_cmp exact_signed exact_unsigned
@@ -56,21 +53,6 @@ without_is_in list account e =
 
 -- ---- ascending
 
-abbrev Behind : Ranked → List Ranked → Type 0
-Behind e list = AllByRecursion (λ f. rank_order e f ≡ Less) list
-
-behind_more : (e f : Ranked) (list : List Ranked) → rank_order e f ≡ Less → Behind f list → Behind e list
-behind_more e f [] less h = tt
-behind_more e f (g ∷ gs) less h = (rank_total.trans e f g less h.0, behind_more e f gs less h.1)
-
-with_behind : (f : Ranked) (list : List Ranked) (e : Ranked) → rank_order f e ≡ Less → Behind f list → Behind f (with_ranked list e)
-with_behind f [] e less h = (less, tt)
-with_behind f (g ∷ gs) e less h = by (rank_order e g) (with_behind f gs e less h.1) where
-  by : (o : Ordering) → Behind f (with_ranked gs e) → Behind f (match_ordering o (e ∷ g ∷ gs) (e ∷ g ∷ gs) (g ∷ with_ranked gs e))
-  by Less more = (less, h)
-  by Equal more = (less, h)
-  by Greater more = (h.0, more)
-
 head_out : (b c : Bool) → (b || c) ≡ false → b ≡ false
 head_out true c h = h
 head_out false c h = refl
@@ -89,20 +71,6 @@ with_ascending (f ∷ fs) e n h = by (rank_order e f) refl (with_ascending fs e 
   by Less is more = ((is, behind_more e f fs is h.0), h)
   by Equal is more = absurd (clash is)
   by Greater is more = (with_behind f fs e (rank_total.antisymm f e ∙ ap ordering_reverse is) h.0, more)
-
-all_kept : (P : Ranked → Type 0) (q : Ranked → Bool) (list : List Ranked) → AllByRecursion P list → AllByRecursion P (filter q list)
-all_kept P q [] h = tt
-all_kept P q (e ∷ es) h = by (q e) (all_kept P q es h.1) where
-  by : (b : Bool) → AllByRecursion P (filter q es) → AllByRecursion P (cond b (e ∷ filter q es) (filter q es))
-  by true more = (h.0, more)
-  by false more = more
-
-pub ascending_kept : (q : Ranked → Bool) (list : List Ranked) → IsAscending list → IsAscending (filter q list)
-ascending_kept q [] h = tt
-ascending_kept q (e ∷ es) h = by (q e) (ascending_kept q es h.1) where
-  by : (b : Bool) → IsAscending (filter q es) → IsAscending (cond b (e ∷ filter q es) (filter q es))
-  by true more = (all_kept (λ f. rank_order e f ≡ Less) q es h.0, more)
-  by false more = more
 
 -- ---- what stands
 

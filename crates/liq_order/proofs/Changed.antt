@@ -14,9 +14,10 @@ use Rattle.liq_order.specs.declared.places.Node.{Node}
 use Rattle.liq_order.specs.declared.places.NodeNo.{NodeNo}
 use Rattle.liq_order.specs.Nodes.{Memory, memory, nobody, entry_of, entries_at, first_or, last_or, end_or, IsOff, AreApart, AreWithin, Linked, node_of, with_next, with_previous, IsWithin, IsSettled, IsRing}
 use Rattle.liq_order.proofs.Chains.{all_front, all_back, all_both, all_as, all_of, apart_front, apart_in, apart_out, first_append, last_append, first_within, last_within, linked_front, linked_back, joined, Alike, framed, next_at, previous_at, met, met_front, met_back, met_entry, met_off, next_read, previous_read}
-use Rattle.liq_order.proofs.Found.{without_absent, ascending_kept, distinct_kept, distinct_back}
+use Rattle.liq_order.proofs.Found.{without_absent, distinct_kept, distinct_back}
 use Rattle.liq_order.proofs.Placed.{with_distinct}
-use Rattle.liq_order.proofs.Sorting.{rank_total, with_strict}
+use Rattle.liq_order.proofs.Sorting.{with_strict}
+use Rattle.liq_types.proofs.RankedLists.{rank_total, ascending_kept}
 
 -- ---- entries and accounts along places
 

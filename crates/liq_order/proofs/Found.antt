@@ -1,12 +1,12 @@
 -- Where an account is in the list, and what its neighbours are.
 use Rattle.std.proofs.Common.{◌≡◌, ℕ, ℤ, suc, ◌+◌, ◌-◌, ◌<◌, Bool, true, false, cond, List, [], ◌∷◌, ◌++◌, length, get_or, map, refl, sym, ap, ◌∙◌, subst, Some, None, Option, inl, inr, arith, append-nil}
 use Rattle.std.specs.Prelude.{◌≢◌, ◌⊎◌, ◌==◌, not, nat_lt, reverse, filter, find, position, option_map, IsSome, is_some}
-use Rattle.std.specs.List.{AllByRecursion, position_or_len, remove}
+use Rattle.std.specs.List.{position_or_len, remove}
 use Rattle.std.proofs.lemmas.Bool.Decides.{nat_tests}
 use Rattle.std.proofs.lemmas.List.{reverse-append, get_or_append_left, get_or-reverse, length-append, length-reverse, append_assoc}
 use Rattle.std.proofs.lemmas.List.Elements.{filter-append}
-use Rattle.liq_types.specs.Ranked.{Ranked, IsAscending, key_in, without_ranked, before_in, after_account, first_of, rank_order}
-use Rattle.std.specs.declared.cmp.Ordering.TheVariants.{Less}
+use Rattle.liq_types.specs.Ranked.{Ranked, key_in, without_ranked, before_in, after_account, first_of}
+use Rattle.liq_types.proofs.RankedLists.{all_kept}
 use Rattle.liq_order.specs.Listed.{IsAbsent, AreDistinct}
 use Rattle.std.proofs.lemmas.Bool.{eqb-false, ne_eqb, eqb-true}
 
@@ -123,6 +123,15 @@ not_found list account h some = elim (split list account) [
 
 -- ---- without an account
 
+pub absent_middle : (account : ℕ) (front back : List Ranked) (e : Ranked) → IsAbsent account (front ++ e ∷ back) → e.1 ≢ account
+absent_middle account [] back e h = h.0
+absent_middle account (f ∷ fs) back e h = absent_middle account fs back e h.1
+
+-- an entry's account is neither before it nor behind it
+pub distinct_front : (front back : List Ranked) (e : Ranked) → AreDistinct (front ++ e ∷ back) → IsAbsent e.1 front
+distinct_front [] back e h = tt
+distinct_front (f ∷ fs) back e h = ((λ same. absent_middle f.1 fs back e h.0 (sym same)), distinct_front fs back e h.1)
+
 pub distinct_back : (front back : List Ranked) (e : Ranked) → AreDistinct (front ++ e ∷ back) → IsAbsent e.1 back
 distinct_back [] back e h = h.0
 distinct_back (f ∷ fs) back e h = distinct_back fs back e h.1
@@ -149,20 +158,6 @@ removed list account index s h =
     ∙ ap (λ i. remove (s.front ++ s.entry ∷ s.back) i) (sym s.place)
     ∙ removed_middle s.front s.back s.entry
     ∙ sym (ap (λ l. without_ranked l account) s.whole ∙ filter-append (λ (e : Ranked). not (e.1 == account)) s.front (s.entry ∷ s.back) ∙ ap (λ l. l ++ without_ranked (s.entry ∷ s.back) account) front ∙ ap (λ l. s.front ++ l) here)
-
-all_kept : (P : Ranked → Type 0) (q : Ranked → Bool) (list : List Ranked) → AllByRecursion P list → AllByRecursion P (filter q list)
-all_kept P q [] h = tt
-all_kept P q (e ∷ es) h = by (q e) (all_kept P q es h.1) where
-  by : (b : Bool) → AllByRecursion P (filter q es) → AllByRecursion P (cond b (e ∷ filter q es) (filter q es))
-  by true more = (h.0, more)
-  by false more = more
-
-pub ascending_kept : (q : Ranked → Bool) (list : List Ranked) → IsAscending list → IsAscending (filter q list)
-ascending_kept q [] h = tt
-ascending_kept q (e ∷ es) h = by (q e) (ascending_kept q es h.1) where
-  by : (b : Bool) → IsAscending (filter q es) → IsAscending (cond b (e ∷ filter q es) (filter q es))
-  by true more = (all_kept (λ f. rank_order e f ≡ Less) q es h.0, more)
-  by false more = more
 
 pub distinct_kept : (q : Ranked → Bool) (list : List Ranked) → AreDistinct list → AreDistinct (filter q list)
 distinct_kept q [] h = tt

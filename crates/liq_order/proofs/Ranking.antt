@@ -17,8 +17,9 @@ use Rattle.liq_types.proofs.SameRows.{put-back, without-absent}
 use Rattle.liq_troves.specs.Rows.{key_by}
 use Rattle.liq_order.specs.Listed.{IsAbsent, AreDistinct}
 use Rattle.liq_order.specs.Order.{ranks, order_by}
+use Rattle.liq_types.proofs.RankedLists.{rank_total}
 use Rattle.liq_order.proofs.Placed.{with_distinct}
-use Rattle.liq_order.proofs.Sorting.{rank_total, with_absent, with_apart, ranks_apart, AreApart}
+use Rattle.liq_order.proofs.Sorting.{with_absent, with_apart, ranks_apart, AreApart}
 
 -- ---- lists with one more entry
 

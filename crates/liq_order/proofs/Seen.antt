@@ -10,11 +10,12 @@ use Rattle.liq_order.specs.Listed.{IsAbsent, AreDistinct}
 use Rattle.liq_order.specs.declared.places.Gap.{Gap}
 use Rattle.liq_order.specs.declared.places.Node.{Node}
 use Rattle.liq_order.specs.declared.places.NodeNo.{NodeNo}
-use Rattle.liq_order.specs.Nodes.{Memory, memory, Ring, at_place, entries, entry_of, entries_at, first_or, last_or, IsIn, Linked, node_of, Visits, IsBehind, IsAhead, gap_between, account_of_place}
-use Rattle.liq_order.proofs.Chains.{all_back, last_append, ends_with, in_middle, linked_back}
+use Rattle.liq_order.specs.Nodes.{Memory, memory, Ring, at_place, entries, entry_of, entries_at, first_or, last_or, IsIn, Linked, node_of, Visits, IsBehind, IsAhead, gap_between, account_of_place, gap_behind}
+use Rattle.liq_order.proofs.Chains.{last_append, ends_with, in_middle, linked_back}
 use Rattle.liq_order.proofs.Changed.{entries_append, node_split, node_none, node_put}
-use Rattle.liq_order.proofs.Found.{key_absent, key_front, absent_from_key, before_found, IsAt}
-use Rattle.liq_order.proofs.Sorting.{rank_total, equal_accounts}
+use Rattle.liq_order.proofs.Found.{key_absent, key_front, absent_from_key, before_found, distinct_front, IsAt}
+use Rattle.liq_order.proofs.Sorting.{equal_accounts}
+use Rattle.liq_types.proofs.RankedLists.{rank_total}
 
 -- ---- going along
 
@@ -184,11 +185,26 @@ is_less e f h = by (rank_order e f) refl h where
   by Equal is h = cc
   by Greater is h = cc
 
--- ---- tight hints
+-- ---- the gap behind a place
 
-distinct_front : (front back : List Ranked) (e : Ranked) → AreDistinct (front ++ e ∷ back) → IsAbsent e.1 front
-distinct_front [] back e h = tt
-distinct_front (f ∷ fs) back e h = ((λ same. (all_back (λ (g : Ranked). g.1 ≢ f.1) fs (e ∷ back) h.0).0 (sym same)), distinct_front fs back e h.1)
+abbrev ComesBefore : Ring → NodeNo → Ranked → Type 0
+ComesBefore r p e = rank_order (entry_of (at_place r p)) e ≡ Less
+
+pub past_on : (r : Ring) (p : NodeNo) (e : Ranked) (o : Option Gap) (Q : Gap → Type 0) → IfSome o (λ g. (g ≡ gap_behind r p) × ComesBefore r p e) → (ComesBefore r p e → Q (gap_behind r p)) → IfSome o Q
+past_on r p e None Q h k = tt
+past_on r p e (Some g) Q h k = subst Q (sym h.0) (k h.1)
+
+pub past_not : (o : Option Gap) (A B : Type 0) → IfNone o A → (A → B) → IfNone o B
+past_not None A B h k = k h
+past_not (Some g) A B h k = tt
+
+pub past_is : (r : Ring) (p : NodeNo) (e : Ranked) (o : Option Gap) → IfSome o (λ g. (g ≡ gap_behind r p) × ComesBefore r p e) → IfNone o (is_lt (rank_order (entry_of (at_place r p)) e) ≡ false) → ComesBefore r p e → o ≡ Some (gap_behind r p)
+past_is r p e None h n less = absurd (clash (sym (ap is_lt less) ∙ n)) where
+  clash : true ≡ false → ⊥
+  clash e = cc
+past_is r p e (Some g) h n less = ap (λ x. Some x) h.0
+
+-- ---- tight hints
 
 -- the last place of a front half is that of its account
 pub record TightPlace (r : Ring) (front back : List NodeNo) (id : ℕ) : Type 0 where

@@ -3,12 +3,11 @@ use Rattle.std.proofs.Common.{◌≡◌, List, [], ◌∷◌, ◌++◌, refl, sy
 use Rattle.std.specs.Prelude.{◌≢◌, ℕ, fold}
 use Rattle.std.specs.List.{AllByRecursion}
 use Rattle.std.specs.List.Sorted.{IsPermutation}
-use Rattle.std.specs.Cmp.{IsTotalOrder}
 use Rattle.std.specs.Ordering.{int_cmp, match_ordering, ordering_then, ordering_reverse}
 use Rattle.std.proofs.lemmas.Map.Lookups.{exact_unsigned}
 use Rattle.std.specs.declared.cmp.Ordering.{Ordering}
 use Rattle.std.specs.declared.cmp.Ordering.TheVariants.{Less, Equal, Greater}
-use Rattle.std.proofs.lemmas.Cmp.{int_cmp_total, nat_cmp_total, then_total, on_total}
+use Rattle.std.proofs.lemmas.Cmp.{nat_cmp_total}
 use Rattle.std.proofs.lemmas.List.Sorted.{IsPermutation-refl, IsPermutation-cons, IsPermutation-trans, IsPermutation-middle, IsPermutation-append}
 use Rattle.std.specs.Ordering.{nat_cmp}
 use Rattle.std.specs.Map.{keys_of}
@@ -16,11 +15,9 @@ use Rattle.std.specs.List.Sorted.{IsStrictlySortedBy}
 use Rattle.liq_types.specs.declared.figures.Trove.{Trove}
 use Rattle.liq_types.specs.Tables.{Table}
 use Rattle.liq_types.specs.WellFormed.{Ascends}
+use Rattle.liq_types.proofs.RankedLists.{rank_total, behind_more, with_behind}
 use Rattle.liq_order.specs.Listed.{IsAbsent}
 use Rattle.liq_order.specs.Order.{Ranked, rank_order, with_ranked, sorted, IsInOrder, IsAscending, ranks, order_by}
-
-pub rank_total : IsTotalOrder rank_order
-rank_total = then_total (on_total (λ (e : Ranked). e.0) int_cmp_total) (on_total (λ (e : Ranked). e.1) nat_cmp_total)
 
 -- ---- the same entries
 
@@ -112,22 +109,6 @@ with_absent (f ∷ fs) e account n h = by (rank_order e f) (with_absent fs e acc
 pub with_apart : (list : List Ranked) (e : Ranked) (es : List Ranked) → IsAbsent e.1 es → AreApart list es → AreApart (with_ranked list e) es
 with_apart list e [] n h = tt
 with_apart list e (f ∷ fs) n h = (with_absent list e f.1 (λ same. n.0 (sym same)) h.0, h.1, with_apart list e fs n.1 h.2)
-
--- all of a list comes behind an entry
-abbrev Behind : Ranked → List Ranked → Type 0
-Behind e list = AllByRecursion (λ f. rank_order e f ≡ Less) list
-
-behind_more : (e f : Ranked) (list : List Ranked) → rank_order e f ≡ Less → Behind f list → Behind e list
-behind_more e f [] less h = tt
-behind_more e f (g ∷ gs) less h = (rank_total.trans e f g less h.0, behind_more e f gs less h.1)
-
-with_behind : (f : Ranked) (list : List Ranked) (e : Ranked) → rank_order f e ≡ Less → Behind f list → Behind f (with_ranked list e)
-with_behind f [] e less h = (less, tt)
-with_behind f (g ∷ gs) e less h = by (rank_order e g) (with_behind f gs e less h.1) where
-  by : (o : Ordering) → Behind f (with_ranked gs e) → Behind f (match_ordering o (e ∷ g ∷ gs) (e ∷ g ∷ gs) (g ∷ with_ranked gs e))
-  by Less more = (less, h)
-  by Equal more = (less, h)
-  by Greater more = (h.0, more)
 
 pub equal_accounts : (o p : Ordering) → ordering_then o p ≡ Equal → p ≡ Equal
 equal_accounts Less p h = cc

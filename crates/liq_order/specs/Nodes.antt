@@ -94,6 +94,10 @@ Visits r start previous (e ∷ es) =
 abbrev pub gap_between : List NodeNo → List NodeNo → Gap
 gap_between front back = record { previous = last_or None front; next = first_or None back }
 
+-- the gap behind a place
+abbrev pub gap_behind : Ring → NodeNo → Gap
+gap_behind r p = record { previous = Some p; next = (at_place r p).next }
+
 -- an entry comes after all that is before a gap
 pub record IsBehind (r : Ring) (e : Ranked) (gap : Gap) : Type 0 where
   pub front : List NodeNo

@@ -6,6 +6,7 @@ pub mod Lookups
 pub mod MapRows
 pub mod Places
 pub mod Ranges
+pub mod RankedLists
 pub mod Rounding
 pub mod SameRows
 pub mod Sums
