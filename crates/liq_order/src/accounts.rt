@@ -1,7 +1,7 @@
 //! At which place the node of each account is.
 
-ghost use Rattle.std.specs.Prelude.{◌≡◌, ℕ, ◌+◌, ◌≤◌, ◌==◌, None, Some, IsSome, IfOk, IfErr, OnOk, if◌then◌else◌};
-ghost use Rattle.liq_order.specs.Pairs.{IsPaired, IsPairAt, IsGapFor, place_of, is_gone};
+ghost use Rattle.std.specs.Prelude.{◌≡◌, ℕ, ◌+◌, ◌≤◌, ◌==◌, false, None, Some, IsSome, IfSome, IfNone, IfOk, IfErr, OnOk, if◌then◌else◌};
+ghost use Rattle.liq_order.specs.Pairs.{IsPaired, IsPairAt, IsGapFor, IsGoneAt, place_of, is_gone};
 
 use crate::places::NodeNo;
 use liq_types::NoMemory;
@@ -13,7 +13,8 @@ use std::marker::Model;
 #[derive(Drop)]
 pub(crate) struct Pairs {
     rows: Vec<(u32, NodeNo)>,
-    gone: Option<u32>,
+    // Where the pair of the account that left last is.
+    gone: Option<usize>,
 }
 
 impl Model for Pairs {
@@ -53,7 +54,7 @@ impl Pairs {
     pub fn find(&self, account: u32) -> Option<NodeNo>
         ensures { result ≡ place_of self.now account }
     {
-        if self.is_gone(account) {
+        if self.gone_at(account).is_some() {
             return None;
         }
         match self.search(account) {
@@ -69,11 +70,12 @@ impl Pairs {
         ensures places { (a : ℕ) → place_of self.new a ≡ (if account == a then Some place else place_of self.old a) }
         ensures room { self.new.room + 1 ≡ self.old.room }
     {
-        if self.is_gone(account) {
-            self.give_back(account, place);
-        } else {
-            self.forget();
-            self.add(account, place);
+        match self.gone_at(account) {
+            Some(at) => self.give_back(at, account, place),
+            None => {
+                self.forget();
+                self.add(account, place);
+            }
         }
     }
 
@@ -84,19 +86,19 @@ impl Pairs {
         ensures room { self.new.room ≡ self.old.room + 1 }
     {
         self.forget();
-        self.gone = Some(account);
+        match self.search(account) {
+            Ok(at) => self.gone = Some(at),
+            Err(_) => unreachable!(),
+        }
     }
 
     // The pair of the account that left last is used again.
-    fn give_back(&mut self, account: u32, place: NodeNo)
-        requires { self.old.gone ≡ Some account }
+    fn give_back(&mut self, at: usize, account: u32, place: NodeNo)
+        requires { IsGoneAt self.old.rows self.old.gone account at }
         ensures places { (a : ℕ) → place_of self.new a ≡ (if account == a then Some place else place_of self.old a) }
         ensures room { self.new.room + 1 ≡ self.old.room }
     {
-        match self.search(account) {
-            Ok(at) => self.rows[at] = (account, place),
-            Err(_) => unreachable!(),
-        }
+        self.rows[at] = (account, place);
         self.gone = None;
     }
 
@@ -123,23 +125,22 @@ impl Pairs {
         ensures places { (a : ℕ) → place_of self.new a ≡ place_of self.old a }
         ensures room { self.new.room ≡ self.old.room }
     {
-        if let Some(account) = self.gone {
-            match self.search(account) {
-                Ok(at) => {
-                    let _ = self.rows.remove(at);
-                }
-                Err(_) => unreachable!(),
-            }
+        if let Some(at) = self.gone {
+            let _ = self.rows.remove(at);
             self.gone = None;
         }
     }
 
-    fn is_gone(&self, account: u32) -> bool
-        ensures { result ≡ is_gone self.now.gone account }
+    // Where the account's pair is, if the account is the one that left last.
+    fn gone_at(&self, account: u32) -> Option<usize>
+        ensures gone { IfSome result (IsGoneAt self.now.rows self.now.gone account) }
+        ensures not { IfNone result (is_gone self.now.rows self.now.gone account ≡ false) }
     {
-        match self.gone {
-            Some(gone) => gone == account,
-            None => false,
+        let at = self.gone?;
+        if self.rows[at].0 == account {
+            Some(at)
+        } else {
+            None
         }
     }
 

@@ -1,10 +1,11 @@
 //! Nodes that are linked in the order of their entries.
 
-ghost use Rattle.std.specs.Prelude.{◌≡◌, ◌+◌, ◌≤◌, [], ◌++◌, List, Some, None, IsSome, IfSome, IfNone, IsOk, OnOk, length};
+ghost use Rattle.std.specs.Prelude.{◌≡◌, false, ◌+◌, ◌≤◌, [], ◌++◌, List, Some, None, IsSome, IfSome, IfNone, IsOk, OnOk, length};
+ghost use Rattle.std.specs.Ordering.{is_lt};
 ghost use Rattle.std.specs.declared.cmp.Ordering.TheVariants.{Less};
 ghost use Rattle.liq_types.specs.Ranked.{rank_order, with_ranked, without_ranked, key_in, last_account, before_in, IsTight};
 ghost use Rattle.liq_order.specs.declared.places.NodeNo.{NodeNo};
-ghost use Rattle.liq_order.specs.Nodes.{IsBehind, IsAhead, IsGap, IsIn, Visits, memory, at_place, entries, entry_of, first_or, last_or, node_of, gap_between, account_of_place};
+ghost use Rattle.liq_order.specs.Nodes.{IsBehind, IsAhead, IsGap, IsIn, Visits, memory, at_place, entries, entry_of, first_or, last_or, node_of, gap_behind, gap_between, account_of_place};
 
 use crate::accounts::Pairs;
 use crate::places::{Gap, Node, NodeNo, comes_before};
@@ -155,6 +156,16 @@ impl Nodes {
     {
         let _ = &self.first;
         let at = self.at(id, steps)?;
+        self.past(at, entry, steps)
+    }
+
+    // The gap behind a place, where the entry comes after what is there.
+    fn past<L: Ledger>(&self, at: NodeNo, entry: (i128, u32), steps: &mut Steps<L>) -> Option<Gap>
+        requires { IsIn at self.now.order }
+        ensures past { IfSome result (λ g. (g ≡ gap_behind self.now at) × (rank_order (entry_of (at_place self.now at)) entry ≡ Less)) }
+        ensures not { IfNone result (is_lt (rank_order (entry_of (at_place self.now at)) entry) ≡ false) }
+        ensures step { steps.new ≡ steps.old + 1 }
+    {
         let node = self.read(at, steps);
         if comes_before(node.entry(), entry) {
             Some(Gap {
@@ -219,17 +230,7 @@ impl Nodes {
     {
         let _ = &self.first;
         match gap.next {
-            Some(at) => {
-                let node = self.read(at, steps);
-                if comes_before(node.entry(), entry) {
-                    Some(Gap {
-                        previous: Some(at),
-                        next: node.next,
-                    })
-                } else {
-                    None
-                }
-            }
+            Some(at) => self.past(at, entry, steps),
             None => None,
         }
     }

@@ -2,7 +2,7 @@
 
 ghost use Rattle.std.specs.Prelude.{◌≡◌, ◌+◌, ◌≤◌, [], None, IsOk, IsSome, OnOk, length};
 ghost use Rattle.liq_types.specs.Ranked.{with_ranked, without_ranked, last_account, before_in, key_in, IsTight};
-ghost use Rattle.liq_order.specs.Nodes.{Visits, first_or};
+ghost use Rattle.liq_order.specs.Nodes.{Visits, entries, first_or};
 
 use crate::linked::Nodes;
 use liq_types::{Hint, NoMemory, Steps};
@@ -101,7 +101,8 @@ impl Order {
     /// The nodes of the list. Going along from the first one visits just the entries in their order, and each visited node's
     /// previous place is the one that was visited before it.
     pub fn nodes(&self) -> &Nodes
-        ensures { Visits result.now (first_or None result.now.order) None self.now.entries }
+        ensures entries { entries result.now ≡ self.now.entries }
+        ensures visits { Visits result.now (first_or None result.now.order) None self.now.entries }
     {
         self.nodes.visited()
     }

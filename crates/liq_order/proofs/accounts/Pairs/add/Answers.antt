@@ -1,4 +1,4 @@
-use Rattle.std.proofs.Common.{◌≡◌, cond, ◌==◌, Some, None, IfSome, IsSome, ap, sym, ◌∙◌, subst}
+use Rattle.std.proofs.Common.{◌≡◌, ◌<◌, cond, ◌==◌, length, Some, None, IfSome, ap, sym, ◌∙◌, subst}
 use Rattle.liq_order.specs.declared.places.NodeNo.{NodeNo}
 use Rattle.liq_order.specs.Pairs.{Paired, IsStrict, IsGapFor, row_of, place_in}
 use Rattle.liq_order.proofs.Rows.{row_at, strict_insert, more}
@@ -19,7 +19,7 @@ invariant_of-self c =
     let none = ap (λ (p : Paired). p.gone) c.self.view_is ∙ c.requires.none in
     record {
       strict = subst IsStrict (sym c.in-Ok-insert.ensures.items) (strict_insert rows c.args.account c.in-Err.at gap c.args.place c.self.invariant.strict);
-      there = subst (λ g. IfSome g (λ a. IsSome (row_of c.insert.new.self.items a))) (sym none) tt;
+      there = subst (λ g. IfSome g (λ at. at < length c.insert.new.self.items)) (sym none) tt;
     }
 
 pub returns-clause-places : goal.returns-clause-places
