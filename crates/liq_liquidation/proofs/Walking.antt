@@ -11,7 +11,7 @@ use Rattle.liq_types.proofs.Lookups.{at-without_other}
 use Rattle.liq_troves.specs.Rows.{stakes_in}
 use Rattle.liq_order.specs.Listed.{IsAbsent, AreDistinct}
 use Rattle.liq_order.specs.Order.{order_by}
-use Rattle.liq_order.proofs.Found.{before_found, distinct_back, without_absent}
+use Rattle.liq_order.proofs.Found.{before_found, absent_middle, distinct_back, distinct_front, without_absent}
 use Rattle.liq_liquidation.specs.declared.figures.Figures.{Figures}
 use Rattle.liq_liquidation.specs.declared.one.One.{One}
 use Rattle.liq_liquidation.specs.declared.one.Victim.{Victim}
@@ -24,18 +24,9 @@ use Rattle.liq_order.proofs.Ranking.{left_order, order_absent}
 
 -- ---- lists with each account once
 
-absent_middle : (account : ℕ) (front back : List Ranked) (e : Ranked) → IsAbsent account (front ++ e ∷ back) → e.1 ≢ account
-absent_middle account [] back e h = h.0
-absent_middle account (f ∷ fs) back e h = absent_middle account fs back e h.1
-
 absent_back : (account : ℕ) (front back : List Ranked) → IsAbsent account (front ++ back) → IsAbsent account back
 absent_back account [] back h = h
 absent_back account (f ∷ fs) back h = absent_back account fs back h.1
-
--- an entry's account is neither before it nor behind it
-distinct_front : (front back : List Ranked) (e : Ranked) → AreDistinct (front ++ e ∷ back) → IsAbsent e.1 front
-distinct_front [] back e h = tt
-distinct_front (f ∷ fs) back e h = ((λ same. absent_middle f.1 fs back e h.0 (sym same)), distinct_front fs back e h.1)
 
 -- without its last account
 without_last : (front : List Ranked) (e : Ranked) → IsAbsent e.1 front → without_ranked (front ++ e ∷ []) e.1 ≡ front
