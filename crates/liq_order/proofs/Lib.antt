@@ -1,3 +1,4 @@
+pub mod Chained
 pub mod Chains
 pub mod Changed
 pub mod Found
@@ -9,4 +10,5 @@ pub mod Ranking
 pub mod Rising
 pub mod Rows
 pub mod Seen
+pub mod Sorted
 pub mod Sorting

@@ -1,10 +1,9 @@
 -- What is seen of linked nodes: entries and their neighbours, and the gaps between them.
 use Rattle.std.proofs.Common.{◌≡◌, ◌≢◌, ℕ, ℤ, ◌+◌, ◌≤◌, true, false, cond, List, [], ◌∷◌, ◌++◌, map, length, reverse, refl, sym, ap, ◌∙◌, subst, Some, None, Option, IfSome, IfNone, IsSome, option_map, inl, inr, ◌⊎◌, arith, append_assoc, length-append, eq-eqb}
-use Rattle.std.specs.Ordering.{is_lt, ordering_reverse, int_cmp, nat_cmp}
+use Rattle.std.specs.Ordering.{is_lt}
 use Rattle.std.specs.declared.cmp.Ordering.{Ordering}
 use Rattle.std.specs.declared.cmp.Ordering.TheVariants.{Less, Equal, Greater}
 use Rattle.std.proofs.lemmas.List.{reverse-append}
-use Rattle.std.proofs.lemmas.Map.Lookups.{exact_unsigned}
 use Rattle.liq_types.specs.Ranked.{Ranked, rank_order, key_in, last_account, before_in, first_of, account_of, IsTight}
 use Rattle.liq_order.specs.Listed.{IsAbsent, AreDistinct}
 use Rattle.liq_order.specs.declared.places.Gap.{Gap}
@@ -14,8 +13,7 @@ use Rattle.liq_order.specs.Nodes.{Memory, memory, Ring, at_place, entries, entry
 use Rattle.liq_order.proofs.Chains.{last_append, ends_with, in_middle, linked_back}
 use Rattle.liq_order.proofs.Changed.{entries_append, node_split, node_none, node_put}
 use Rattle.liq_order.proofs.Found.{key_absent, key_front, absent_from_key, before_found, distinct_front, IsAt}
-use Rattle.liq_order.proofs.Sorting.{equal_accounts}
-use Rattle.liq_types.proofs.RankedLists.{rank_total}
+use Rattle.liq_order.proofs.Sorting.{not_later}
 
 -- ---- going along
 
@@ -169,14 +167,8 @@ account_in f (x ∷ xs) p account h (inl same) = subst (λ (q : NodeNo). (f q).a
 account_in f (x ∷ xs) p account h (inr i) = account_in f xs p account h.1 i
 
 pub stops : (r : Ring) (e : Ranked) (p : NodeNo) → key_in (entries r) e.1 ≡ None → IsIn p r.order → is_lt (rank_order (entry_of (at_place r p)) e) ≡ false → rank_order e (entry_of (at_place r p)) ≡ Less
-stops r e p none i late = by (rank_order g e) refl late where
-  g : Ranked
-  g = entry_of (at_place r p)
-
-  by : (o : Ordering) → rank_order g e ≡ o → is_lt o ≡ false → rank_order e g ≡ Less
-  by Less is l = cc
-  by Equal is l = absurd (account_in (memory r.nodes) r.order p e.1 (absent_from_key (entries r) e.1 none) i (exact_unsigned g.1 e.1 (equal_accounts (int_cmp g.0 e.0) (nat_cmp g.1 e.1) is)))
-  by Greater is l = rank_total.antisymm e g ∙ ap ordering_reverse is
+stops r e p none i late =
+    not_later (entry_of (at_place r p)) e late (account_in (memory r.nodes) r.order p e.1 (absent_from_key (entries r) e.1 none) i)
 
 pub is_less : (e f : Ranked) → is_lt (rank_order e f) ≡ true → rank_order e f ≡ Less
 is_less e f h = by (rank_order e f) refl h where

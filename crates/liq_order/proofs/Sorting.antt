@@ -1,9 +1,9 @@
 -- Sorting by insertion: the same entries, ascending.
-use Rattle.std.proofs.Common.{◌≡◌, List, [], ◌∷◌, ◌++◌, refl, sym, ap, ◌∙◌, subst, append-nil}
+use Rattle.std.proofs.Common.{◌≡◌, false, List, [], ◌∷◌, ◌++◌, refl, sym, ap, ◌∙◌, subst, append-nil}
 use Rattle.std.specs.Prelude.{◌≢◌, ℕ, fold}
 use Rattle.std.specs.List.{AllByRecursion}
 use Rattle.std.specs.List.Sorted.{IsPermutation}
-use Rattle.std.specs.Ordering.{int_cmp, match_ordering, ordering_then, ordering_reverse}
+use Rattle.std.specs.Ordering.{int_cmp, is_lt, match_ordering, ordering_then, ordering_reverse}
 use Rattle.std.proofs.lemmas.Map.Lookups.{exact_unsigned}
 use Rattle.std.specs.declared.cmp.Ordering.{Ordering}
 use Rattle.std.specs.declared.cmp.Ordering.TheVariants.{Less, Equal, Greater}
@@ -115,6 +115,14 @@ equal_accounts Less p h = cc
 equal_accounts Equal p h = h
 equal_accounts Greater p h = cc
 
+-- what is not before an entry of another account is behind it
+pub not_later : (f e : Ranked) → is_lt (rank_order f e) ≡ false → f.1 ≢ e.1 → rank_order e f ≡ Less
+not_later f e late other = by (rank_order f e) refl late where
+  by : (o : Ordering) → rank_order f e ≡ o → is_lt o ≡ false → rank_order e f ≡ Less
+  by Less is l = cc
+  by Equal is l = absurd (other (exact_unsigned f.1 e.1 (equal_accounts (int_cmp f.0 e.0) (nat_cmp f.1 e.1) is)))
+  by Greater is l = rank_total.antisymm e f ∙ ap ordering_reverse is
+
 pub with_strict : (list : List Ranked) (e : Ranked) → IsAbsent e.1 list → IsAscending list → IsAscending (with_ranked list e)
 with_strict [] e n h = (tt, tt)
 with_strict (f ∷ fs) e n h = by (rank_order e f) refl (with_strict fs e n.1 h.1) where
@@ -126,6 +134,9 @@ with_strict (f ∷ fs) e n h = by (rank_order e f) refl (with_strict fs e n.1 h.
 all_strict : (list entries : List Ranked) → AreApart list entries → IsAscending list → IsAscending (fold with_ranked list entries)
 all_strict list [] a h = h
 all_strict list (e ∷ es) a h = all_strict (with_ranked list e) es (with_apart list e es a.1 a.2) (with_strict list e a.0 h)
+
+pub sorted_ascends : (entries : List Ranked) → AreApart [] entries → IsAscending (sorted entries)
+sorted_ascends entries apart = all_strict [] entries apart tt
 
 -- a table's keys, ranked
 pub ranks_absent : (key : ℕ) (table : Table Trove) → AllByRecursion (λ y. nat_cmp key y ≡ Less) (keys_of table) → IsAbsent key (ranks table)
@@ -142,4 +153,4 @@ ranks_apart [] h = tt
 ranks_apart (row ∷ rows) h = (tt, ranks_absent row.0 rows h.0, ranks_apart rows h.1)
 
 pub order_ascends : (troves : Table Trove) → Ascends troves → IsAscending (order_by troves)
-order_ascends troves h = all_strict [] (ranks troves) (ranks_apart troves h) tt
+order_ascends troves h = sorted_ascends (ranks troves) (ranks_apart troves h)

@@ -1,8 +1,11 @@
 //! At which place the node of each account is.
 
-ghost use Rattle.std.specs.Prelude.{◌≡◌, ℕ, ◌+◌, ◌≤◌, ◌==◌, false, None, Some, IsSome, IfSome, IfNone, IfOk, IfErr, OnOk, if◌then◌else◌};
-ghost use Rattle.liq_order.specs.Pairs.{IsPaired, IsPairAt, IsGapFor, IsGoneAt, place_of, is_gone};
+ghost use Rattle.std.specs.Prelude.{◌≡◌, ℕ, ◌+◌, ◌<◌, ◌≤◌, ◌^◌, ◌==◌, false, length, None, Some, IsSome, IfSome, IfNone, IfOk, IfErr, OnOk, if◌then◌else◌};
+ghost use Rattle.liq_order.specs.Chained.{paired};
+ghost use Rattle.liq_order.specs.Listed.{AreDistinct};
+ghost use Rattle.liq_order.specs.Pairs.{IsPaired, IsPairAt, IsGapFor, IsGoneAt, place_of, is_gone, row_of};
 
+use crate::at_once::rows_of;
 use crate::places::NodeNo;
 use liq_types::NoMemory;
 use std::alloc::Global;
@@ -36,6 +39,17 @@ impl Pairs {
             rows: Vec::new(alloc),
             gone: None,
         }
+    }
+
+    /// The places of these entries' accounts, each of its entry's number. No account stands twice.
+    pub fn of(alloc: Global, entries: &[(i128, u32)]) -> Result<Pairs, NoMemory>
+        requires few { length entries.now < 2 ^ 32 }
+        requires distinct { AreDistinct entries.now }
+        ensures { IfOk result (λ pairs. (account : ℕ) → place_of pairs account ≡ row_of (paired 0 entries.now) account) }
+    {
+        let mut rows = rows_of(alloc, entries)?;
+        rows.sort_unstable_by_key(|&(account, _)| account);
+        Ok(Pairs { rows, gone: None })
     }
 
     /// Room for so many more. The places stay.

@@ -2,6 +2,7 @@
 #![tactic(auto)]
 
 mod accounts;
+mod at_once;
 pub mod examples;
 pub mod laws;
 mod linked;

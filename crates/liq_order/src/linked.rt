@@ -1,13 +1,15 @@
 //! Nodes that are linked in the order of their entries.
 
-ghost use Rattle.std.specs.Prelude.{◌≡◌, false, ◌+◌, ◌≤◌, [], ◌++◌, List, Some, None, IsSome, IfSome, IfNone, IsOk, OnOk, length};
+ghost use Rattle.std.specs.Prelude.{◌≡◌, false, ◌+◌, ◌≤◌, [], ◌++◌, List, Some, None, IsSome, IfSome, IfNone, IfOk, IsOk, OnOk, length};
 ghost use Rattle.std.specs.Ordering.{is_lt};
 ghost use Rattle.std.specs.declared.cmp.Ordering.TheVariants.{Less};
-ghost use Rattle.liq_types.specs.Ranked.{rank_order, with_ranked, without_ranked, key_in, last_account, before_in, IsTight};
+ghost use Rattle.liq_types.specs.Ranked.{IsAscending, rank_order, with_ranked, without_ranked, key_in, last_account, before_in, IsTight};
 ghost use Rattle.liq_order.specs.declared.places.NodeNo.{NodeNo};
-ghost use Rattle.liq_order.specs.Nodes.{IsBehind, IsAhead, IsGap, IsIn, Visits, memory, at_place, entries, entry_of, first_or, last_or, node_of, gap_behind, gap_between, account_of_place};
+ghost use Rattle.liq_order.specs.Listed.{AreDistinct};
+ghost use Rattle.liq_order.specs.Nodes.{entries_at, IsBehind, IsAhead, IsGap, IsIn, Visits, memory, at_place, entries, entry_of, first_or, last_or, node_of, gap_behind, gap_between, account_of_place};
 
 use crate::accounts::Pairs;
+use crate::at_once::{nodes_of, place_before, place_below};
 use crate::places::{Gap, Node, NodeNo, comes_before};
 use crate::writes::{join, settle};
 use liq_types::{Hint, NoMemory, Steps};
@@ -51,6 +53,29 @@ impl Nodes {
             last: None,
             most: 0,
         }
+    }
+
+    /// The nodes of ascending entries, of which no two have the same account.
+    pub(crate) fn of(alloc: Global, entries: &[(i128, u32)]) -> Result<Nodes, NoMemory>
+        requires ascending { IsAscending entries.now }
+        requires distinct { AreDistinct entries.now }
+        ensures { IfOk result (λ nodes. entries_at (memory nodes.nodes) nodes.order ≡ entries.now) }
+    {
+        let most = entries.len();
+        if most > u32::MAX as usize {
+            return Err(NoMemory);
+        }
+        let Ok(free) = Vec::with_capacity(alloc, most) else {
+            return Err(NoMemory);
+        };
+        Ok(Nodes {
+            nodes: nodes_of(alloc, entries)?,
+            free,
+            pairs: Pairs::of(alloc, entries)?,
+            first: place_below(most, 0),
+            last: place_before(most),
+            most,
+        })
     }
 
     /// The place of the first node: `None` exactly where the list is empty.

@@ -1,7 +1,8 @@
 //! The list of troves in the order of their ratios.
 
-ghost use Rattle.std.specs.Prelude.{◌≡◌, ◌+◌, ◌≤◌, [], None, IsOk, IsSome, OnOk, length};
-ghost use Rattle.liq_types.specs.Ranked.{with_ranked, without_ranked, last_account, before_in, key_in, IsTight};
+ghost use Rattle.std.specs.Prelude.{◌≡◌, ◌+◌, ◌≤◌, [], None, IfOk, IsOk, IsSome, OnOk, length};
+ghost use Rattle.liq_types.specs.Ranked.{sorted, with_ranked, without_ranked, last_account, before_in, key_in, IsTight};
+ghost use Rattle.liq_order.specs.Listed.{AreDistinct};
 ghost use Rattle.liq_order.specs.Nodes.{Visits, entries, first_or};
 
 use crate::linked::Nodes;
@@ -40,6 +41,17 @@ impl Order {
         Order {
             nodes: Nodes::new(alloc),
         }
+    }
+
+    /// The list of these keys and accounts, in whatever order they are. No account may be there twice. `NoMemory` where there
+    /// is no memory for them, or where they are more than 2^32 - 1.
+    pub fn from_ranked(alloc: Global, mut pairs: Vec<(i128, u32)>) -> Result<Order, NoMemory>
+        requires { AreDistinct pairs.items }
+        ensures { IfOk result (λ order. order.entries ≡ sorted pairs.items) }
+    {
+        pairs.sort_unstable();
+        let nodes = Nodes::of(alloc, &pairs)?;
+        Ok(Order { nodes })
     }
 
     /// Makes room for so many more entries, so that [`Order::insert`] takes no memory. The list stays, also where there is

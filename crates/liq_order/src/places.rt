@@ -22,6 +22,18 @@ pub struct Node {
 }
 
 impl Node {
+    /// An entry's node between two places.
+    pub(crate) fn of(entry: (i128, u32), previous: Option<NodeNo>, next: Option<NodeNo>) -> Node
+        ensures { result ≡ record { key = entry.0; account = entry.1; previous = previous; next = next } }
+    {
+        Node {
+            key: entry.0,
+            account: entry.1,
+            previous,
+            next,
+        }
+    }
+
     /// The key and the account.
     pub(crate) fn entry(&self) -> (i128, u32)
         ensures key { result.0 ≡ self.now.key }
