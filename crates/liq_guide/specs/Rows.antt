@@ -53,3 +53,9 @@ abbrev pub HasRoom : Places → Keys → ListChange → Type 0
 HasRoom places keys (Put key account) = IsSome (place_at places (key, account)) × IsSome (row_at keys account)
 HasRoom places keys (Gone account) = Unit {0}
 HasRoom places keys (Words snap_stakes snap_coll sum_debt) = Unit {0}
+
+-- the rows that there were are there
+abbrev pub RowsStay : Places → Keys → Places → Keys → Type 0
+RowsStay places keys places' keys' =
+    ((e : Ranked) → IsSome (place_at places e) → IsSome (place_at places' e))
+    × ((a : ℕ) → IsSome (row_at keys a) → IsSome (row_at keys' a))

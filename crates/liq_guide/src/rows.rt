@@ -8,7 +8,7 @@ ghost use Rattle.liq_types.specs.declared.events.ListChange.{ListChange};
 ghost use Rattle.liq_types.specs.declared.events.ListChange.TheVariants.{Put};
 ghost use Rattle.liq_types.specs.Ranked.{Ranked, rank_order, without_ranked};
 ghost use Rattle.liq_guide.specs.Followed.{listed, all_listed};
-ghost use Rattle.liq_guide.specs.Rows.{Places, Keys, Follows, HasRoom, key_at, place_at, row_at};
+ghost use Rattle.liq_guide.specs.Rows.{Places, Keys, Follows, HasRoom, RowsStay, key_at, place_at, row_at};
 
 use liq_types::{ListChange, NoMemory};
 use std::collections::BTreeMap;
@@ -33,10 +33,7 @@ impl Rows {
         ensures room { OnOk result (All (HasRoom self.new.places.entries self.new.keys.entries) changes.now) }
     {
         for change in changes {
-            match self.make_room_for(change, noted) {
-                Ok(()) => {}
-                Err(why) => return Err(why),
-            }
+            self.make_room_for(change, noted)?;
         }
         Ok(())
     }
@@ -48,8 +45,7 @@ impl Rows {
     ) -> Result<(), NoMemory>
         ensures same { (list : List Ranked) → Follows self.old.places.entries self.old.keys.entries list → Follows self.new.places.entries self.new.keys.entries list }
         ensures room { OnOk result (HasRoom self.new.places.entries self.new.keys.entries change.now) }
-        ensures places { (e : Ranked) → IsSome (place_at self.old.places.entries e) → IsSome (place_at self.new.places.entries e) }
-        ensures keys { (a : ℕ) → IsSome (row_at self.old.keys.entries a) → IsSome (row_at self.new.keys.entries a) }
+        ensures stay { RowsStay self.old.places.entries self.old.keys.entries self.new.places.entries self.new.keys.entries }
     {
         match *change {
             ListChange::Put { key, account } => self.make_room_at(key, account, noted),
@@ -66,8 +62,7 @@ impl Rows {
     ) -> Result<(), NoMemory>
         ensures same { (list : List Ranked) → Follows self.old.places.entries self.old.keys.entries list → Follows self.new.places.entries self.new.keys.entries list }
         ensures room { OnOk result (HasRoom self.new.places.entries self.new.keys.entries (Put key account)) }
-        ensures places { (e : Ranked) → IsSome (place_at self.old.places.entries e) → IsSome (place_at self.new.places.entries e) }
-        ensures keys { (a : ℕ) → IsSome (row_at self.old.keys.entries a) → IsSome (row_at self.new.keys.entries a) }
+        ensures stay { RowsStay self.old.places.entries self.old.keys.entries self.new.places.entries self.new.keys.entries }
     {
         self.note_place(account, noted)?;
         note((key, account), noted)?;
@@ -105,8 +100,7 @@ impl Rows {
     fn make_one(&mut self, change: &ListChange)
         requires { HasRoom self.old.places.entries self.old.keys.entries change.now }
         ensures follows { (list : List Ranked) → Follows self.old.places.entries self.old.keys.entries list → Follows self.new.places.entries self.new.keys.entries (listed list change.now) }
-        ensures places { (e : Ranked) → IsSome (place_at self.old.places.entries e) → IsSome (place_at self.new.places.entries e) }
-        ensures keys { (a : ℕ) → IsSome (row_at self.old.keys.entries a) → IsSome (row_at self.new.keys.entries a) }
+        ensures stay { RowsStay self.old.places.entries self.old.keys.entries self.new.places.entries self.new.keys.entries }
     {
         match *change {
             ListChange::Put { key, account } => self.put(key, account),
@@ -118,8 +112,7 @@ impl Rows {
     fn put(&mut self, key: i128, account: u32)
         requires { HasRoom self.old.places.entries self.old.keys.entries (Put key account) }
         ensures follows { (list : List Ranked) → Follows self.old.places.entries self.old.keys.entries list → Follows self.new.places.entries self.new.keys.entries (listed list (Put key account)) }
-        ensures places { (e : Ranked) → IsSome (place_at self.old.places.entries e) → IsSome (place_at self.new.places.entries e) }
-        ensures keys { (a : ℕ) → IsSome (row_at self.old.keys.entries a) → IsSome (row_at self.new.keys.entries a) }
+        ensures stay { RowsStay self.old.places.entries self.old.keys.entries self.new.places.entries self.new.keys.entries }
     {
         self.take(account);
         mark(&mut self.places, (key, account), true);
@@ -129,8 +122,7 @@ impl Rows {
     fn take(&mut self, account: u32)
         ensures follows { (list : List Ranked) → Follows self.old.places.entries self.old.keys.entries list → Follows self.new.places.entries self.new.keys.entries (without_ranked list account) }
         ensures none { key_at self.new.keys.entries account ≡ None }
-        ensures places { (e : Ranked) → IsSome (place_at self.old.places.entries e) → IsSome (place_at self.new.places.entries e) }
-        ensures keys { (a : ℕ) → IsSome (row_at self.old.keys.entries a) → IsSome (row_at self.new.keys.entries a) }
+        ensures stay { RowsStay self.old.places.entries self.old.keys.entries self.new.places.entries self.new.keys.entries }
     {
         if let Some(key) = self.key_of(account) {
             mark(&mut self.places, (key, account), false);

@@ -9,5 +9,5 @@ returns-clause-follows c list h =
     let keyed = simp (to_z-of_z, c.ranges.key) at c.set_key.ensures.row in
     put_in c.take.new.self.places.entries c.mark.new.places.entries c.take.new.self.keys.entries c.set_key.new.keys.entries (without_ranked list c.args.account)
     c.args.account c.args.key c.take.ensures.none c.mark.ensures.ordered
-    (marks (c.take.ensures.places (c.args.key, c.args.account) c.requires.0))
-    (keyed (c.take.ensures.keys c.args.account c.requires.1)) (c.take.ensures.follows list h)
+    (marks (c.take.ensures.stay.0 (c.args.key, c.args.account) c.requires.0))
+    (keyed (c.take.ensures.stay.1 c.args.account c.requires.1)) (c.take.ensures.follows list h)
