@@ -76,7 +76,7 @@ spent_more all cut [] hint listed list next old now new close s t =
     let same : now ≡ old = s.0 in
     let within : length list ≤ listed = s.1 in (
       subst (λ n. TakesFew next hint (last_entry next all) n new) same
-      (subst (λ (o : Option Ranked). TakesFew next hint o now new) (s.2 next) t.few),
+          (subst (λ (o : Option Ranked). TakesFew next hint o now new) (s.2 next) t.few),
       omega (arith, any, same, within),
     )
 spent_more all cut (d ∷ ds) hint listed list next old now new close s t =
