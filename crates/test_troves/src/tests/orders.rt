@@ -4,7 +4,7 @@ ghost use Rattle.std.specs.Prelude.{◌≡◌};
 
 use crate::tests::agreement::{same, shows};
 use liq_order::Order;
-use liq_types::{Hint, Steps};
+use liq_types::{Hint, NoMemory, Steps};
 use std::alloc::Global;
 use std::marker::Brand;
 use std::process::Abort;
@@ -23,7 +23,9 @@ enum Turn {
 
 use Turn::{List, Out, Put};
 
-const FIVE: Turn = List([Some(4), Some(3), Some(9), Some(2), Some(1), None]);
+const ALL_FIVE: [Option<u32>; 6] = [Some(4), Some(3), Some(9), Some(2), Some(1), None];
+
+const FIVE: Turn = List(ALL_FIVE);
 
 const TURNS: [Turn; 28] = [
     List([None; 6]),
@@ -57,6 +59,26 @@ const TURNS: [Turn; 28] = [
     Put(-7, 4, None),
     List([Some(3), Some(5), Some(2), Some(0), Some(4), None]),
 ];
+
+/// The same accounts, along the nodes from the first.
+fn along<R: Abort, L: Ledger>(
+    rt: &R,
+    order: &Order,
+    accounts: &[Option<u32>; 6],
+    steps: &mut Steps<L>,
+) {
+    let nodes = order.nodes();
+    let mut next = nodes.first();
+    for account in accounts.iter().rev() {
+        if let (Some(account), Some(at)) = (*account, next) {
+            same(rt, &nodes.at(account, steps), &next, "its place");
+            let node = nodes.read(at, steps);
+            same(rt, &node.account, &account, "an account");
+            next = node.next;
+        }
+    }
+    shows(rt, "the end", next.is_none());
+}
 
 fn listed<R: Abort>(rt: &R, order: &Order, accounts: &[Option<u32>; 6]) {
     let mut next = order.last();
@@ -100,18 +122,35 @@ fn out<R: Abort>(rt: &R, order: &mut Order, account: u32) {
     same(rt, &order.find(account), &None, "it is gone");
 }
 
+/// The same four and one more, all at once.
+fn made_at_once(alloc: Global) -> Result<Order, NoMemory> {
+    let Ok(pairs) = Vec::from_slice(alloc, &[(40, 4), (25, 9), (10, 1), (30, 3), (20, 2)]) else {
+        return Err(NoMemory);
+    };
+    Order::from_ranked(alloc, pairs)
+}
+
 fn check_turns<R: Abort, L: Ledger>(rt: &R, alloc: Global, blank: Blank)
     requires name { blank.name ≡ L.name }
     requires parts { blank.parts ≡ L.parts }
     requires one { L.parts ≡ 1 }
 {
     let mut steps = Steps::<L>::new(blank);
+    let Ok(order) = made_at_once(alloc) else {
+        shows(rt, "memory", false);
+        return;
+    };
+    listed(rt, &order, &ALL_FIVE);
+    along(rt, &order, &ALL_FIVE, &mut steps);
     let mut order = Order::new(alloc);
     for turn in TURNS {
         match turn {
             Put(key, account, hint) => put(rt, &mut order, key, account, hint, &mut steps),
             Out(account) => out(rt, &mut order, account),
-            List(accounts) => listed(rt, &order, &accounts),
+            List(accounts) => {
+                listed(rt, &order, &accounts);
+                along(rt, &order, &accounts, &mut steps);
+            }
         }
     }
 }
