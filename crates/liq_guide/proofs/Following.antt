@@ -56,7 +56,7 @@ is_eq-reverse Less = refl
 is_eq-reverse Equal = refl
 is_eq-reverse Greater = refl
 
-turned : (e f : Ranked) → is_eq (rank_order e f) ≡ is_eq (rank_order f e)
+pub turned : (e f : Ranked) → is_eq (rank_order e f) ≡ is_eq (rank_order f e)
 turned e f = ap is_eq (rank_total.antisymm e f) ∙ is_eq-reverse (rank_order f e)
 
 eq_turned : (a b : ℕ) → (a == b) ≡ (b == a)

@@ -1,6 +1,6 @@
 -- The rows of a guide: whether an entry stands at a place, and the key of an account. Some only keep room for what is
 -- followed.
-use Rattle.std.specs.Prelude.{◌≡◌, ℕ, ℤ, Bool, false, List, Option, Some, None, unwrap_or, filter, IsSome}
+use Rattle.std.specs.Prelude.{◌≡◌, ◌⊎◌, ◌==◌, ℕ, ℤ, Bool, true, false, List, [], Option, Some, None, unwrap_or, filter, IsSome}
 use Rattle.std.specs.List.{list_any}
 use Rattle.std.specs.List.Sorted.{IsStrictlySortedBy}
 use Rattle.std.specs.BTreeMap.{is_at}
@@ -59,3 +59,25 @@ abbrev pub RowsStay : Places → Keys → Places → Keys → Type 0
 RowsStay places keys places' keys' =
     ((e : Ranked) → IsSome (place_at places e) → IsSome (place_at places' e))
     × ((a : ℕ) → IsSome (row_at keys a) → IsSome (row_at keys' a))
+
+-- whether a list has an entry of an account
+abbrev pub has_account : List Ranked → ℕ → Bool
+has_account list account = list_any (λ (e : Ranked). e.1 == account) list
+
+-- each row that only keeps room is noted, the one of a place and the one of an account
+pub record AreNoted (places : Places) (keys : Keys) (noted : List Ranked) : Type 0 where
+  pub place_noted : (e : Ranked) → place_at places e ≡ Some false → is_in noted e ≡ true
+  pub key_noted : (a : ℕ) → row_at keys a ≡ Some None → has_account noted a ≡ true
+
+-- no row only keeps room
+abbrev pub AreFull : Places → Keys → Type 0
+AreFull places keys = AreNoted places keys []
+
+-- no place but one comes to be a row that only keeps room
+abbrev pub SparesAt : Places → Places → Ranked → Type 0
+SparesAt places other f =
+    (e : Ranked) → place_at other e ≡ Some false → (place_at places e ≡ Some false) ⊎ (is_eq (rank_order f e) ≡ true)
+
+abbrev pub SparesKey : Keys → Keys → ℕ → Type 0
+SparesKey keys other account =
+    (a : ℕ) → row_at other a ≡ Some None → (row_at keys a ≡ Some None) ⊎ (is_eq (nat_cmp account a) ≡ true)

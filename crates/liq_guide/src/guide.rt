@@ -20,13 +20,13 @@ pub struct Guide {
 impl Model for Guide {
     ghost use Rattle.std.specs.Prelude.{List};
     ghost use Rattle.liq_types.specs.Ranked.{Ranked};
-    ghost use Rattle.liq_guide.specs.Rows.{Follows, standing};
+    ghost use Rattle.liq_guide.specs.Rows.{Follows, AreFull, standing};
 
     ghost Value = { List Ranked };
 
     ghost view = { λ g. standing g.rows.places.entries };
 
-    ghost invariant = { λ g. Follows g.rows.places.entries g.rows.keys.entries (standing g.rows.places.entries) };
+    ghost invariant = { λ g. Follows g.rows.places.entries g.rows.keys.entries (standing g.rows.places.entries) × AreFull g.rows.places.entries g.rows.keys.entries };
 }
 
 impl Guide {
@@ -50,10 +50,13 @@ impl Guide {
         ensures list { OnOk result ((v : View) → v.list ≡ self.old → self.new ≡ (all_followed v changes.now).list) }
         ensures err { OnErr result (self.new ≡ self.old) }
     {
-        let mut noted = Vec::new(self.alloc);
+        // Each change notes one place at most where room is made for it, and one where it is made.
+        let Ok(mut noted) = Vec::with_capacity(self.alloc, 2 * changes.len()) else {
+            return Err(NoMemory);
+        };
         match self.rows.make_room(changes, &mut noted) {
             Ok(()) => {
-                self.rows.make(changes);
+                self.rows.make(changes, &mut noted);
                 self.rows.clear(&noted);
                 Ok(self.answer(changes))
             }

@@ -1,5 +1,5 @@
 // The rows of a guide, of which some only keep room while changes are followed.
-ghost use Rattle.std.specs.Prelude.{◌≡◌, ℕ, ◌<◌, Bool, Some, None, List, length, slice_index_or, if◌then◌else◌, IsSome, OnOk};
+ghost use Rattle.std.specs.Prelude.{◌≡◌, ℕ, ◌+◌, ◌<◌, ◌≤◌, true, false, vec_len, vec_capacity, Bool, Some, None, List, length, slice_index_or, if◌then◌else◌, IsSome, OnOk};
 ghost use Rattle.std.specs.List.{All};
 ghost use Rattle.std.specs.List.Sorted.{IsStrictlySortedBy};
 ghost use Rattle.std.specs.Map.{keys_of};
@@ -8,7 +8,7 @@ ghost use Rattle.liq_types.specs.declared.events.ListChange.{ListChange};
 ghost use Rattle.liq_types.specs.declared.events.ListChange.TheVariants.{Put};
 ghost use Rattle.liq_types.specs.Ranked.{Ranked, rank_order, without_ranked};
 ghost use Rattle.liq_guide.specs.Followed.{listed, all_listed};
-ghost use Rattle.liq_guide.specs.Rows.{Places, Keys, Follows, HasRoom, RowsStay, key_at, place_at, row_at};
+ghost use Rattle.liq_guide.specs.Rows.{Places, Keys, Follows, HasRoom, RowsStay, AreNoted, AreFull, SparesAt, SparesKey, key_at, place_at, row_at};
 
 use liq_types::{ListChange, NoMemory};
 use std::collections::BTreeMap;
@@ -23,13 +23,17 @@ pub(crate) struct Rows {
 }
 
 impl Rows {
-    // Makes room for all that the changes put, and notes each place that they may leave without an entry.
+    // Makes room for all that the changes put, and notes each place at which there may be room without an entry.
     pub(crate) fn make_room(
         &mut self,
         changes: &[ListChange],
         noted: &mut Vec<(i128, u32)>,
     ) -> Result<(), NoMemory>
+        requires spare { vec_len noted.old + length changes.now ≤ vec_capacity noted.old }
         ensures same { (list : List Ranked) → Follows self.old.places.entries self.old.keys.entries list → Follows self.new.places.entries self.new.keys.entries list }
+        ensures noted { AreNoted self.old.places.entries self.old.keys.entries noted.old.items → AreNoted self.new.places.entries self.new.keys.entries noted.new.items }
+        ensures len { vec_len noted.new ≤ vec_len noted.old + length changes.now }
+        ensures capacity { vec_capacity noted.new ≡ vec_capacity noted.old }
         ensures room { OnOk result (All (HasRoom self.new.places.entries self.new.keys.entries) changes.now) }
     {
         for change in changes {
@@ -43,14 +47,17 @@ impl Rows {
         change: &ListChange,
         noted: &mut Vec<(i128, u32)>,
     ) -> Result<(), NoMemory>
+        requires spare { vec_len noted.old < vec_capacity noted.old }
         ensures same { (list : List Ranked) → Follows self.old.places.entries self.old.keys.entries list → Follows self.new.places.entries self.new.keys.entries list }
+        ensures noted { AreNoted self.old.places.entries self.old.keys.entries noted.old.items → AreNoted self.new.places.entries self.new.keys.entries noted.new.items }
+        ensures len { vec_len noted.new ≤ vec_len noted.old + 1 }
+        ensures capacity { vec_capacity noted.new ≡ vec_capacity noted.old }
         ensures room { OnOk result (HasRoom self.new.places.entries self.new.keys.entries change.now) }
         ensures stay { RowsStay self.old.places.entries self.old.keys.entries self.new.places.entries self.new.keys.entries }
     {
         match *change {
             ListChange::Put { key, account } => self.make_room_at(key, account, noted),
-            ListChange::Gone { account } => self.note_place(account, noted),
-            ListChange::Words { .. } => Ok(()),
+            ListChange::Gone { .. } | ListChange::Words { .. } => Ok(()),
         }
     }
 
@@ -60,22 +67,17 @@ impl Rows {
         account: u32,
         noted: &mut Vec<(i128, u32)>,
     ) -> Result<(), NoMemory>
+        requires spare { vec_len noted.old < vec_capacity noted.old }
         ensures same { (list : List Ranked) → Follows self.old.places.entries self.old.keys.entries list → Follows self.new.places.entries self.new.keys.entries list }
+        ensures noted { AreNoted self.old.places.entries self.old.keys.entries noted.old.items → AreNoted self.new.places.entries self.new.keys.entries noted.new.items }
+        ensures len { vec_len noted.new ≤ vec_len noted.old + 1 }
+        ensures capacity { vec_capacity noted.new ≡ vec_capacity noted.old }
         ensures room { OnOk result (HasRoom self.new.places.entries self.new.keys.entries (Put key account)) }
         ensures stay { RowsStay self.old.places.entries self.old.keys.entries self.new.places.entries self.new.keys.entries }
     {
-        self.note_place(account, noted)?;
-        note((key, account), noted)?;
+        noted.push_reserved((key, account));
         make_place(&mut self.places, (key, account))?;
         make_key(&mut self.keys, account)
-    }
-
-    // Notes where an account stands, if it does.
-    fn note_place(&self, account: u32, noted: &mut Vec<(i128, u32)>) -> Result<(), NoMemory> {
-        match self.key_of(account) {
-            Some(key) => note((key, account), noted),
-            None => Ok(()),
-        }
     }
 
     fn key_of(&self, account: u32) -> Option<i128>
@@ -87,44 +89,59 @@ impl Rows {
         }
     }
 
-    // Makes the changes, in the rows for which there is room.
-    pub(crate) fn make(&mut self, changes: &[ListChange])
-        requires { All (HasRoom self.old.places.entries self.old.keys.entries) changes.now }
-        ensures { (list : List Ranked) → Follows self.old.places.entries self.old.keys.entries list → Follows self.new.places.entries self.new.keys.entries (all_listed list changes.now) }
+    // Makes the changes, in the rows for which there is room, and notes each place that an entry leaves.
+    pub(crate) fn make(&mut self, changes: &[ListChange], noted: &mut Vec<(i128, u32)>)
+        requires spare { vec_len noted.old + length changes.now ≤ vec_capacity noted.old }
+        requires room { All (HasRoom self.old.places.entries self.old.keys.entries) changes.now }
+        ensures follows { (list : List Ranked) → Follows self.old.places.entries self.old.keys.entries list → Follows self.new.places.entries self.new.keys.entries (all_listed list changes.now) }
+        ensures noted { AreNoted self.old.places.entries self.old.keys.entries noted.old.items → AreNoted self.new.places.entries self.new.keys.entries noted.new.items }
     {
         for change in changes {
-            self.make_one(change);
+            self.make_one(change, noted);
         }
     }
 
-    fn make_one(&mut self, change: &ListChange)
-        requires { HasRoom self.old.places.entries self.old.keys.entries change.now }
+    fn make_one(&mut self, change: &ListChange, noted: &mut Vec<(i128, u32)>)
+        requires spare { vec_len noted.old < vec_capacity noted.old }
+        requires room { HasRoom self.old.places.entries self.old.keys.entries change.now }
         ensures follows { (list : List Ranked) → Follows self.old.places.entries self.old.keys.entries list → Follows self.new.places.entries self.new.keys.entries (listed list change.now) }
+        ensures noted { AreNoted self.old.places.entries self.old.keys.entries noted.old.items → AreNoted self.new.places.entries self.new.keys.entries noted.new.items }
+        ensures len { vec_len noted.new ≤ vec_len noted.old + 1 }
+        ensures capacity { vec_capacity noted.new ≡ vec_capacity noted.old }
         ensures stay { RowsStay self.old.places.entries self.old.keys.entries self.new.places.entries self.new.keys.entries }
     {
         match *change {
-            ListChange::Put { key, account } => self.put(key, account),
-            ListChange::Gone { account } => self.take(account),
+            ListChange::Put { key, account } => self.put(key, account, noted),
+            ListChange::Gone { account } => self.take(account, noted),
             ListChange::Words { .. } => {}
         }
     }
 
-    fn put(&mut self, key: i128, account: u32)
-        requires { HasRoom self.old.places.entries self.old.keys.entries (Put key account) }
+    fn put(&mut self, key: i128, account: u32, noted: &mut Vec<(i128, u32)>)
+        requires spare { vec_len noted.old < vec_capacity noted.old }
+        requires room { HasRoom self.old.places.entries self.old.keys.entries (Put key account) }
         ensures follows { (list : List Ranked) → Follows self.old.places.entries self.old.keys.entries list → Follows self.new.places.entries self.new.keys.entries (listed list (Put key account)) }
+        ensures noted { AreNoted self.old.places.entries self.old.keys.entries noted.old.items → AreNoted self.new.places.entries self.new.keys.entries noted.new.items }
+        ensures len { vec_len noted.new ≤ vec_len noted.old + 1 }
+        ensures capacity { vec_capacity noted.new ≡ vec_capacity noted.old }
         ensures stay { RowsStay self.old.places.entries self.old.keys.entries self.new.places.entries self.new.keys.entries }
     {
-        self.take(account);
+        self.take(account, noted);
         mark(&mut self.places, (key, account), true);
         set_key(&mut self.keys, account, Some(key));
     }
 
-    fn take(&mut self, account: u32)
+    fn take(&mut self, account: u32, noted: &mut Vec<(i128, u32)>)
+        requires spare { vec_len noted.old < vec_capacity noted.old }
         ensures follows { (list : List Ranked) → Follows self.old.places.entries self.old.keys.entries list → Follows self.new.places.entries self.new.keys.entries (without_ranked list account) }
+        ensures noted { AreNoted self.old.places.entries self.old.keys.entries noted.old.items → AreNoted self.new.places.entries self.new.keys.entries noted.new.items }
+        ensures len { vec_len noted.new ≤ vec_len noted.old + 1 }
+        ensures capacity { vec_capacity noted.new ≡ vec_capacity noted.old }
         ensures none { key_at self.new.keys.entries account ≡ None }
         ensures stay { RowsStay self.old.places.entries self.old.keys.entries self.new.places.entries self.new.keys.entries }
     {
         if let Some(key) = self.key_of(account) {
+            noted.push_reserved((key, account));
             mark(&mut self.places, (key, account), false);
             set_key(&mut self.keys, account, None);
         }
@@ -132,7 +149,8 @@ impl Rows {
 
     // Takes out the rows, of those that were noted, that only keep room.
     pub(crate) fn clear(&mut self, noted: &[(i128, u32)])
-        ensures { (list : List Ranked) → Follows self.old.places.entries self.old.keys.entries list → Follows self.new.places.entries self.new.keys.entries list }
+        ensures full { AreNoted self.old.places.entries self.old.keys.entries noted.now → AreFull self.new.places.entries self.new.keys.entries }
+        ensures same { (list : List Ranked) → Follows self.old.places.entries self.old.keys.entries list → Follows self.new.places.entries self.new.keys.entries list }
     {
         for place in noted {
             clear_place(&mut self.places, *place);
@@ -141,17 +159,11 @@ impl Rows {
     }
 }
 
-fn note(place: (i128, u32), noted: &mut Vec<(i128, u32)>) -> Result<(), NoMemory> {
-    match noted.push(place) {
-        Ok(()) => Ok(()),
-        Err(_) => Err(NoMemory),
-    }
-}
-
 fn make_place(places: &mut BTreeMap<(i128, u32), bool>, place: (i128, u32)) -> Result<(), NoMemory>
     ensures same { (keys : Keys) (list : List Ranked) → Follows places.old.entries keys list → Follows places.new.entries keys list }
     ensures room { OnOk result (IsSome (place_at places.new.entries place)) }
     ensures kept { (e : Ranked) → IsSome (place_at places.old.entries e) → IsSome (place_at places.new.entries e) }
+    ensures spare { SparesAt places.old.entries places.new.entries place }
 {
     if places.contains_key(&place) {
         return Ok(());
@@ -166,6 +178,7 @@ fn make_key(keys: &mut BTreeMap<u32, Option<i128>>, account: u32) -> Result<(), 
     ensures same { (places : Places) (list : List Ranked) → Follows places keys.old.entries list → Follows places keys.new.entries list }
     ensures room { OnOk result (IsSome (row_at keys.new.entries account)) }
     ensures kept { (a : ℕ) → IsSome (row_at keys.old.entries a) → IsSome (row_at keys.new.entries a) }
+    ensures spare { SparesKey keys.old.entries keys.new.entries account }
 {
     if keys.contains_key(&account) {
         return Ok(());
@@ -180,6 +193,8 @@ fn make_key(keys: &mut BTreeMap<u32, Option<i128>>, account: u32) -> Result<(), 
 fn mark(places: &mut BTreeMap<(i128, u32), bool>, place: (i128, u32), stands: bool)
     ensures row { IsSome (place_at places.old.entries place) → (e : Ranked) → place_at places.new.entries e ≡ (if is_eq (rank_order place e) then Some stands else place_at places.old.entries e) }
     ensures kept { (e : Ranked) → IsSome (place_at places.old.entries e) → IsSome (place_at places.new.entries e) }
+    ensures spare { SparesAt places.old.entries places.new.entries place }
+    ensures stands { stands ≡ true → (e : Ranked) → place_at places.new.entries e ≡ Some false → place_at places.old.entries e ≡ Some false }
     ensures ordered { IsStrictlySortedBy rank_order (keys_of places.new.entries) }
 {
     if let Some(row) = places.get_mut(&place) {
@@ -190,6 +205,8 @@ fn mark(places: &mut BTreeMap<(i128, u32), bool>, place: (i128, u32), stands: bo
 fn set_key(keys: &mut BTreeMap<u32, Option<i128>>, account: u32, key: Option<i128>)
     ensures row { IsSome (row_at keys.old.entries account) → (a : ℕ) → row_at keys.new.entries a ≡ (if is_eq (nat_cmp account a) then Some key else row_at keys.old.entries a) }
     ensures kept { (a : ℕ) → IsSome (row_at keys.old.entries a) → IsSome (row_at keys.new.entries a) }
+    ensures spare { SparesKey keys.old.entries keys.new.entries account }
+    ensures stands { IsSome key → (a : ℕ) → row_at keys.new.entries a ≡ Some None → row_at keys.old.entries a ≡ Some None }
 {
     if let Some(row) = keys.get_mut(&account) {
         *row = key;
@@ -197,7 +214,8 @@ fn set_key(keys: &mut BTreeMap<u32, Option<i128>>, account: u32, key: Option<i12
 }
 
 fn clear_place(places: &mut BTreeMap<(i128, u32), bool>, place: (i128, u32))
-    ensures { (keys : Keys) (list : List Ranked) → Follows places.old.entries keys list → Follows places.new.entries keys list }
+    ensures gone { (e : Ranked) → place_at places.new.entries e ≡ Some false → (place_at places.old.entries e ≡ Some false) × (is_eq (rank_order place e) ≡ false) }
+    ensures same { (keys : Keys) (list : List Ranked) → Follows places.old.entries keys list → Follows places.new.entries keys list }
 {
     let Some(false) = places.get(&place) else {
         return;
@@ -206,7 +224,8 @@ fn clear_place(places: &mut BTreeMap<(i128, u32), bool>, place: (i128, u32))
 }
 
 fn clear_key(keys: &mut BTreeMap<u32, Option<i128>>, account: u32)
-    ensures { (places : Places) (list : List Ranked) → Follows places keys.old.entries list → Follows places keys.new.entries list }
+    ensures gone { (a : ℕ) → row_at keys.new.entries a ≡ Some None → (row_at keys.old.entries a ≡ Some None) × (is_eq (nat_cmp account a) ≡ false) }
+    ensures same { (places : Places) (list : List Ranked) → Follows places keys.old.entries list → Follows places keys.new.entries list }
 {
     let Some(None) = keys.get(&account) else {
         return;
