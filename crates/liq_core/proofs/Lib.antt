@@ -16,4 +16,5 @@ pub mod Rooms
 pub mod SameContents
 pub mod SoundCores
 pub mod Stands
+pub mod Stepping
 pub mod Telling

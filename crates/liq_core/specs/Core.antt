@@ -3,6 +3,7 @@ use Rattle.std.specs.Prelude.{◌≡◌, ℕ, ◌≤◌, List}
 use Rattle.std.specs.List.{AllByRecursion, Contains}
 use Rattle.liq_types.specs.declared.requests.Call.{Call}
 use Rattle.liq_types.specs.Image.{Image}
+use Rattle.liq_types.specs.Ranked.{Ranked}
 use Rattle.liq_types.specs.State.{State, started}
 use Rattle.liq_types.specs.WellFormed.{IsWellFormed}
 use Rattle.liq_rules.specs.Image.{image}
@@ -33,10 +34,11 @@ pub record IsWithin (some all : Room) : Type 0 where
   pub list : some.list ≤ all.list
   pub finished : some.finished ≤ all.finished
 
--- The image has no row that only keeps room.
+-- The image has no row that only keeps room. The list has the troves in their order.
 pub record Core : Type 0 where
   pub image : Image
   pub records : ℕ
+  pub list : List Ranked
   pub room : Room
 
 -- the state that begins with the core's image
@@ -53,6 +55,7 @@ pub record StandsFor (core : Core) (s : State) : Type 0 where
 pub record SameContent (old new : Core) : Type 0 where
   pub image : new.image ≡ old.image
   pub records : new.records ≡ old.records
+  pub list : new.list ≡ old.list
 
 -- the new core is the old one after a call that is allowed, not yet counted
 pub record Changes (old : Core) (call : Call) (new : Core) : Type 0 where

@@ -43,6 +43,7 @@ core_of p =
         clients = p.clients.rows;
       };
       records = p.records;
+      list = p.order.entries;
       room = record {
         wallets = p.wallets.room;
         troves = p.troves.table.room;

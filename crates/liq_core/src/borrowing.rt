@@ -1,6 +1,6 @@
 //! Borrowing: a trove is opened, adjusted and closed by its owner.
 
-ghost use Rattle.std.specs.Prelude.{◌≡◌, ◌≤◌, ◌<◌, ◌+◌, ℕ, None};
+ghost use Rattle.std.specs.Prelude.{◌≡◌, ◌≤◌, ◌<◌, ◌+◌, ℕ, None, length};
 ghost use Rattle.std.specs.List.{Contains};
 ghost use Rattle.liq_types.specs.declared.events.ListChange.TheVariants.{Put};
 ghost use Rattle.liq_types.specs.declared.hints.HintWords.{HintWords};
@@ -10,6 +10,7 @@ ghost use Rattle.liq_types.specs.Totals.{market_of, or_nothing};
 ghost use Rattle.liq_troves.specs.Rows.{key_by, set_row};
 ghost use Rattle.liq_troves.specs.StakeSums.{entire_of, sums_words};
 ghost use Rattle.liq_borrow.specs.Borrowing.{opening_terms, adjusting_terms, closing_terms};
+ghost use Rattle.liq_standing.specs.Steps.{TakesFew, entry_in};
 ghost use Rattle.liq_core.specs.Core.{Changes, state_of};
 ghost use Rattle.liq_rules.specs.Step.{rules, first_refusal};
 ghost use Rattle.liq_core.specs.Turn.{IsRuled};
@@ -134,7 +135,9 @@ impl Protocol {
         requires wallet { Contains self.old.room.wallets account }
         requires trove { Contains self.old.room.troves account }
         requires list { 1 ≤ self.old.room.list }
-        ensures { (bound : ℕ) → (words : HintWords) → Changes self.old (call.Open account plan.now.coll borrow bound words) self.new }
+        ensures made { (bound : ℕ) → (words : HintWords) → Changes self.old (call.Open account plan.now.coll borrow bound words) self.new }
+        ensures few { TakesFew self.new.list hint.now (entry_in self.new.list account) steps.old steps.new }
+        ensures any { steps.new ≤ steps.old + (length self.old.list + 4) }
     {
         let coll = plan.coll;
         self.wallets.exchange(
@@ -165,7 +168,9 @@ impl Protocol {
         requires terms { plan.now ≡ adjusting_terms (market_of (state_of self.old)) (or_nothing (entire_of (state_of self.old) account)) change.now }
         requires range { account < ACCOUNTS }
         requires room { Contains self.old.room.wallets account }
-        ensures { (bound : ℕ) → (words : HintWords) → Changes self.old (call.Adjust account change.now.coll_in change.now.coll_out change.now.borrow change.now.repay bound words) self.new }
+        ensures made { (bound : ℕ) → (words : HintWords) → Changes self.old (call.Adjust account change.now.coll_in change.now.coll_out change.now.borrow change.now.repay bound words) self.new }
+        ensures few { TakesFew self.new.list hint.now (entry_in self.new.list account) steps.old steps.new }
+        ensures any { steps.new ≤ steps.old + (length self.old.list + 4) }
     {
         self.wallets.exchange(
             account,

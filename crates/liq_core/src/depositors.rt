@@ -1,6 +1,6 @@
 //! The Stability Pool's depositors: LUSD is provided and withdrawn, and a gain moves into its owner's trove.
 
-ghost use Rattle.std.specs.Prelude.{◌≡◌, ◌≤◌, ◌<◌, ◌+◌, is_none, None};
+ghost use Rattle.std.specs.Prelude.{◌≡◌, ◌≤◌, ◌<◌, ◌+◌, is_none, None, length};
 ghost use Rattle.std.specs.List.{Contains};
 ghost use Rattle.liq_types.specs.declared.hints.HintWords.{HintWords};
 ghost use Rattle.liq_types.specs.declared.requests.Call.TheVariants as call;
@@ -12,6 +12,7 @@ ghost use Rattle.liq_troves.specs.StakeSums.{entire_of};
 ghost use Rattle.liq_order.specs.Order.{last_trove};
 ghost use Rattle.liq_stability.specs.Position.{balance_of, gain_of};
 ghost use Rattle.liq_borrow.specs.Borrowing.{gaining_terms};
+ghost use Rattle.liq_standing.specs.Steps.{TakesFew, entry_in};
 ghost use Rattle.liq_core.specs.Core.{Changes, state_of};
 ghost use Rattle.liq_rules.specs.Pool.{trove_under};
 ghost use Rattle.liq_rules.specs.Step.{rules, first_refusal};
@@ -190,7 +191,9 @@ impl Protocol {
         requires allowed { (words : HintWords) × (first_refusal (rules (state_of self.old) (call.GainToTrove account words)) ≡ None) }
         requires terms { plan.now ≡ gaining_terms (market_of (state_of self.old)) (or_nothing (entire_of (state_of self.old) account)) (gain_of (state_of self.old) account) }
         requires range { account < ACCOUNTS }
-        ensures { (words : HintWords) → Changes self.old (call.GainToTrove account words) self.new }
+        ensures made { (words : HintWords) → Changes self.old (call.GainToTrove account words) self.new }
+        ensures few { TakesFew self.new.list hint.now (entry_in self.new.list account) steps.old steps.new }
+        ensures any { steps.new ≤ steps.old + (length self.old.list + 4) }
     {
         match self.pool.withdraw(account, 0) {
             Ok(_) => {}

@@ -1,17 +1,22 @@
 //! The protocol's state, and its steps.
 
-ghost use Rattle.std.specs.Prelude.{◌≡◌, ◌≢◌, ◌≤◌, ◌<◌, ◌+◌, ℕ, false, length, IsOk, IsTrue, OnOk, None};
+ghost use Rattle.std.specs.Prelude.{◌≡◌, ◌≤◌, ◌<◌, ◌+◌, ℕ, false, length, IsOk, IsTrue, OnOk, Some, None};
 ghost use Rattle.std.specs.List.{AllByRecursion, Contains};
 ghost use Rattle.liq_types.specs.declared.requests.Request.TheVariants.{Do, Ask};
 ghost use Rattle.liq_types.specs.declared.replies.Reply.TheVariants.{Said};
 ghost use Rattle.liq_types.specs.State.{State, opening, client_of};
+ghost use Rattle.liq_types.specs.Ranked.{Ranked, IsTight, without_ranked};
+ghost use Rattle.liq_order.specs.Order.{trove_order};
+ghost use Rattle.liq_standing.specs.Steps.{TakesFew};
 ghost use Rattle.liq_stability.specs.Words.{pool_words};
 ghost use Rattle.liq_core.specs.Core.{AreAmong, Changes, IsWithin, StandsFor, SameContent, state_of};
 ghost use Rattle.liq_core.specs.Sound.{IsKeptRow};
+ghost use Rattle.liq_core.specs.Steps.{entry_put, last_put, used_hint, words_of};
 ghost use Rattle.liq_core.specs.Terms.{AreTerms, TermsFit, claimants, closed};
-ghost use Rattle.liq_rules.specs.Verbs.{pays, opens, provides, plans_list, liquidates, no_hint};
+ghost use Rattle.liq_rules.specs.Verbs.{pays, opens, provides, plans_list, liquidates};
 ghost use Rattle.liq_rules.specs.Step.{built, built_call, accounts, rules, first_refusal, noted, step};
 
+use crate::laws::lists_stand;
 use crate::payments::plan_price;
 use crate::ranges::check_accounts;
 use crate::turns::{Forecast, PlanFault, Planned, Terms, Turn};
@@ -373,12 +378,20 @@ impl Protocol {
     }
 
     /// Makes the planned command's step. It takes no memory and cannot fail: the command was planned on this state, and
-    /// its room was reserved. A hint never changes what is seen.
+    /// its room was reserved. A hint changes neither the reply nor the image nor the list. The command's own one is used, where a
+    /// word of it is there, else the given one. Where an account is put into the list, it takes at most four steps with a hint that
+    /// is tight for it, and with any other one as many more as there are troves; where none is put it takes no steps.
     pub fn apply<L: Ledger>(&mut self, planned: Planned, hint: &Hint, steps: &mut Steps<L>) -> Done
         requires planned { IsPlannedOn self.old planned }
         requires room { HasRoom self.old planned }
         ensures state { (s : State) → StandsFor self.old s → StandsFor self.new (step s (Do planned.command)).0 }
         ensures reply { (s : State) → StandsFor self.old s → (step s (Do planned.command)).1 ≡ Said result }
+        ensures list { (s : State) → StandsFor self.old s → self.new.list ≡ trove_order (step s (Do planned.command)).0 }
+        ensures cost { (s : State) → StandsFor self.old s → (e : Ranked) → last_put planned.changes ≡ Some e
+            → IsTight (without_ranked (trove_order (step s (Do planned.command)).0) e.1) e (used_hint (words_of planned.command.call) hint.now).prev (used_hint (words_of planned.command.call) hint.now).next
+            → steps.new ≤ steps.old + 4 }
+        ensures none { last_put planned.changes ≡ None → steps.new ≡ steps.old }
+        ensures any { steps.new ≤ steps.old + (length self.old.list + 4) }
     {
         // Where no field is used, nothing is known of the protocol.
         let _ = &self.records;
@@ -393,6 +406,7 @@ impl Protocol {
                 self.note(&command, done);
             }
         }
+        lists_stand(self);
         done
     }
 
@@ -408,7 +422,9 @@ impl Protocol {
         requires deposits { AllByRecursion (λ account. Contains self.old.room.deposits account) (provides call.now) }
         requires claims { AreAmong (claimants call.now terms.now) self.old.room.surplus }
         requires list { length (opens call.now) ≤ self.old.room.list }
-        ensures { Changes self.old call.now self.new }
+        ensures made { Changes self.old call.now self.new }
+        ensures few { TakesFew self.new.list (used_hint (words_of call.now) hint.now) (entry_put call.now terms.now self.new.list) steps.old steps.new }
+        ensures any { steps.new ≤ steps.old + (length self.old.list + 4) }
     {
         match *call {
             Call::Price(price) => self.set_price(price),
@@ -457,7 +473,8 @@ impl Protocol {
         requires few { self.old.records < RECORDS_MOST }
         requires range { command.now.client < ACCOUNTS }
         requires kept { IsKeptRow (record { last = command.now.number; kept = done }) }
-        ensures { (s : State) → StandsFor self.old s → StandsFor self.new (noted s command.now done) }
+        ensures state { (s : State) → StandsFor self.old s → StandsFor self.new (noted s command.now done) }
+        ensures list { self.new.list ≡ self.old.list }
     {
         self.records += 1;
         let last = command.number;
@@ -504,8 +521,7 @@ pub fn is_built(request: &Request) -> bool
 
 /// The place at which to look first: that of the command's own words, where at least one of them is there, else the given one.
 fn hint_of(words: &HintWords, given: &Hint) -> Hint
-    ensures none { words.now ≡ no_hint → result ≡ given.now }
-    ensures own { words.now ≢ no_hint → (result.prev ≡ words.now.prev) × (result.next ≡ words.now.next) }
+    ensures { result ≡ used_hint words.now given.now }
 {
     if words.prev.is_none() && words.next.is_none() {
         return *given;

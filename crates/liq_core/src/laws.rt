@@ -1,10 +1,11 @@
 //! What holds of every protocol: that it is sound, for which states it stands, and what its depositors are promised. The
 //! functions here do nothing: each is the place where the facts of its contract are proved.
 
-ghost use Rattle.std.specs.Prelude.{ℕ, List};
+ghost use Rattle.std.specs.Prelude.{◌≡◌, ℕ, List};
 ghost use Rattle.liq_types.specs.declared.requests.Request.{Request};
 ghost use Rattle.liq_types.specs.Soundness.{IsSoundImage};
-ghost use Rattle.liq_types.specs.State.{opening};
+ghost use Rattle.liq_types.specs.State.{State, opening};
+ghost use Rattle.liq_order.specs.Order.{trove_order};
 ghost use Rattle.liq_stability.specs.Promise.{IsWithinAllowance};
 ghost use Rattle.liq_core.specs.Core.{StandsFor, state_of};
 ghost use Rattle.liq_rules.specs.Events.{events};
@@ -25,6 +26,13 @@ pub fn protocols_are_sound(protocol: &Protocol)
 /// for which it stands is said of one at least.
 pub fn protocols_stand(protocol: &Protocol)
     ensures { StandsFor protocol.now (state_of protocol.now) }
+{
+    let _ = &protocol.records;
+}
+
+/// The list of every protocol is the trove order of each state for which it stands. So no hint that was ever given can be seen in it.
+pub fn lists_stand(protocol: &Protocol)
+    ensures { (s : State) → StandsFor protocol.now s → protocol.now.list ≡ trove_order s }
 {
     let _ = &protocol.records;
 }

@@ -1,12 +1,14 @@
 //! Redemption: LUSD is given back for the collateral of the last troves of the list.
 
-ghost use Rattle.std.specs.Prelude.{◌≡◌, ◌<◌, ℕ, None, IfOk, map};
+ghost use Rattle.std.specs.Prelude.{◌≡◌, ◌+◌, ◌≤◌, ◌<◌, ℕ, None, IfOk, length, map};
 ghost use Rattle.std.specs.List.{AllByRecursion, Contains};
 ghost use Rattle.liq_types.specs.declared.hints.HintWords.{HintWords};
 ghost use Rattle.liq_types.specs.declared.requests.Call.TheVariants as call;
 ghost use Rattle.liq_types.specs.State.{wallet_of};
 ghost use Rattle.liq_types.specs.Totals.{market_of};
 ghost use Rattle.liq_redemption.specs.Answers.{Answers};
+ghost use Rattle.liq_standing.specs.Steps.{TakesFew};
+ghost use Rattle.liq_redemption.specs.Last.{last_entry};
 ghost use Rattle.liq_redemption.specs.Redemption.{redeeming_terms, visited};
 ghost use Rattle.liq_core.specs.Core.{AreAmong, Changes, state_of};
 ghost use Rattle.liq_rules.specs.Redemption.{cut_told};
@@ -117,8 +119,10 @@ impl Protocol {
         requires range { account < ACCOUNTS }
         requires wallet { Contains self.old.room.wallets account }
         requires claims { AreAmong (closed taken.now.cuts) self.old.room.surplus }
-        ensures { (lusd bound : ℕ) → (words : HintWords) → taken.now ≡ redeeming_terms (market_of (state_of self.old)) (visited (state_of self.old)) lusd
+        ensures made { (lusd bound : ℕ) → (words : HintWords) → taken.now ≡ redeeming_terms (market_of (state_of self.old)) (visited (state_of self.old)) lusd
             → Changes self.old (call.Redeem account lusd bound words) self.new }
+        ensures few { TakesFew self.new.list hint.now (last_entry self.new.list taken.now.cuts) steps.old steps.new }
+        ensures any { steps.new ≤ steps.old + (length self.old.list + 4) }
     {
         self.rate = taken.rate;
         apply(

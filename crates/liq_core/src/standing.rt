@@ -1,12 +1,13 @@
 //! Where a trove stands: in the table, in the pools that hold what it has, and in the list.
 
-ghost use Rattle.std.specs.Prelude.{◌≡◌, ◌≤◌, ◌+◌, IsSome, None};
+ghost use Rattle.std.specs.Prelude.{◌≡◌, ◌≤◌, ◌+◌, IsSome, None, length};
 ghost use Rattle.liq_types.specs.declared.amounts.TheConstants.{MIN_NET};
 ghost use Rattle.liq_types.specs.Tables.{at};
 ghost use Rattle.liq_tables.specs.WithRoom.{HasRoom};
 ghost use Rattle.liq_troves.specs.Standing.{TrovesStand, lift as lifted, place as placed};
 ghost use Rattle.liq_order.specs.Order.{order_by};
 ghost use Rattle.liq_standing.specs.Books.{books_kept, SameOthers};
+ghost use Rattle.liq_standing.specs.Steps.{TakesFew, entry_in};
 ghost use Rattle.liq_core.specs.Held.{AreHeld};
 
 use liq_borrow::Plan;
@@ -28,6 +29,7 @@ pub(crate) fn lift_trove(pools: &mut Pools, troves: &mut Troves, order: &mut Ord
     ensures list { order.new.entries ≡ order_by troves.new.table.rows }
     ensures room { HasRoom troves.new.table account }
     ensures spare { order.new.room ≡ order.old.room + 1 }
+    ensures shorter { length order.new.entries ≤ length order.old.entries }
 {
     lift(pools, troves, order, account);
 }
@@ -55,6 +57,8 @@ pub(crate) fn place_trove<L: Ledger>(
     ensures books { books_kept troves.new pools.new ≡ placed (books_kept troves.old pools.old) account plan.now.coll plan.now.debt }
     ensures others { SameOthers pools.old pools.new }
     ensures list { order.new.entries ≡ order_by troves.new.table.rows }
+    ensures few { TakesFew order.new.entries hint.now (entry_in order.new.entries account) steps.old steps.new }
+    ensures any { steps.new ≤ steps.old + (length order.old.entries + 4) }
 {
     let (coll, debt) = (plan.coll, plan.debt);
     place(pools, troves, order, account, coll, debt, hint, steps);
@@ -79,6 +83,8 @@ pub(crate) fn change_trove<L: Ledger>(
     ensures books { books_kept troves.new pools.new ≡ placed (lifted (books_kept troves.old pools.old) account) account plan.now.coll plan.now.debt }
     ensures others { SameOthers pools.old pools.new }
     ensures list { order.new.entries ≡ order_by troves.new.table.rows }
+    ensures few { TakesFew order.new.entries hint.now (entry_in order.new.entries account) steps.old steps.new }
+    ensures any { steps.new ≤ steps.old + (length order.old.entries + 4) }
 {
     lift_trove(pools, troves, order, account);
     place_trove(pools, troves, order, account, plan, hint, steps);

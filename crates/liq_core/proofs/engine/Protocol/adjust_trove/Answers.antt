@@ -1,4 +1,5 @@
-use Rattle.std.proofs.Common.{arith}
+use Rattle.std.proofs.Common.{arith, ap, length}
+use Rattle.liq_core.specs.Core.{Core}
 use Rattle.liq_core.proofs.Lending.{books_stand, coll_held, debt_held, adjusts_so, adjust_changes, adjust_sound}
 use Rattle.liq_core.proofs.engine.Protocol.adjust_trove.Goals as goal
 
@@ -40,7 +41,13 @@ invariant_of-self g c =
     adjust_sound c.self.inside c.args.self.now c.self.view_is c.self.invariant c.args.account c.requires.range c.args.change.now c.args.plan.now c.requires.terms c.requires.allowed
     c.exchange.new.self c.change_trove.new.pools c.change_trove.new.troves c.change_trove.new.order c.exchange.ensures.rows c.change_trove.ensures.books c.change_trove.ensures.others c.change_trove.ensures.list
 
-pub returns : goal.returns
-returns g c =
+pub returns-clause-made : goal.returns-clause-made
+returns-clause-made g c =
     adjust_changes c.self.inside c.args.self.now c.self.view_is c.self.invariant c.args.account c.requires.range c.args.change.now c.args.plan.now c.requires.terms c.requires.allowed
     c.exchange.new.self c.change_trove.new.pools c.change_trove.new.troves c.change_trove.new.order c.exchange.ensures.rows c.change_trove.ensures.books c.change_trove.ensures.others
+
+pub returns-clause-any : goal.returns-clause-any
+returns-clause-any g c =
+    let any = c.change_trove.ensures.any in
+    let same = ap (λ (core : Core). length core.list) c.self.view_is in
+    omega (arith, any, same)

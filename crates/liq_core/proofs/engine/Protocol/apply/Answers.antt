@@ -1,21 +1,33 @@
-use Rattle.std.proofs.Common.{◌≡◌, ℕ, List, ap, sym, arith, subst, None}
+use Rattle.std.proofs.Common.{◌≡◌, ℕ, List, false, ap, sym, ◌∙◌, arith, subst, None}
 use Rattle.std.specs.Prelude.{IsTrue}
+use Rattle.liq_types.specs.declared.events.ListChange.{ListChange}
+use Rattle.liq_types.specs.declared.hints.Hint.{Hint}
+use Rattle.liq_types.specs.declared.requests.Command.{Command}
+use Rattle.liq_types.specs.Ranked.{Ranked, IsTight, without_ranked}
 use Rattle.liq_types.specs.Rules.{first_refusal}
+use Rattle.liq_types.specs.State.{State}
+use Rattle.liq_order.specs.Order.{trove_order}
+use Rattle.liq_standing.specs.Steps.{TakesFew}
+use Rattle.liq_core.specs.Steps.{entry_put, last_put, used_hint, words_of}
+use Rattle.liq_core.proofs.Stepping.{planned_puts, strikes_none, takes_same, few_cost, few_none}
+use Rattle.liq_rules.specs.Verbs.{liquidates}
 use Rattle.liq_types.specs.Soundness.{IsSoundImage}
 use Rattle.liq_liquidation.specs.declared.one.Victim.{Victim}
 use Rattle.liq_core.specs.declared.turns.Planned.TheInside.{Inside}
 use Rattle.liq_core.specs.Core.{Core, StandsFor, state_of}
-use Rattle.liq_core.specs.Plan.{Plan, IsPlannedOn, IsSoundPlan, HasRoom, plan_of}
+use Rattle.liq_core.specs.Plan.{Plan, IsPlan, IsPlannedOn, IsSoundPlan, HasRoom, plan_of}
 use Rattle.liq_core.specs.Sound.{IsKeptRow}
 use Rattle.liq_core.specs.Terms.{AreTerms, victims_in}
-use Rattle.liq_rules.specs.Step.{after, built_call, rules, effect, noted, after_ruling, ruling}
+use Rattle.liq_types.specs.declared.requests.Request.TheVariants.{Do}
+use Rattle.liq_rules.specs.Step.{Allowed, Ruling, step, after, built_call, rules, effect, noted, after_ruling, ruling}
 use Rattle.liq_rules.proofs.Allowed.{allowed_number, allowed_rules, allowed_few, built-rotates}
 use Rattle.liq_core.proofs.KeptReplies.{kept_reply}
 use Rattle.liq_core.proofs.Liquidating.{IsLiquidation, LiquidatesBy, liquidation_planned}
 use Rattle.liq_core.proofs.Stands.{changed_stands, stepped_stands}
 use Rattle.liq_core.proofs.SoundCores.{sound_stands}
 use Rattle.liq_core.proofs.engine.Protocol.apply.Goals as goal
-use Rattle.liq_core.proofs.engine.Protocol.apply.Goals.{in_default, in-Liquidate2}
+use Rattle.liq_core.proofs.engine.Protocol.apply.Goals.{Joined-forecast-2, in_default, in-Liquidate2}
+use Rattle.liq_core.proofs.engine.Protocol.apply.Given.{Over}
 
 pub change-requires-clause-allowed : goal.change-requires-clause-allowed
 change-requires-clause-allowed g c =
@@ -44,7 +56,7 @@ note-requires-clause-few g c =
     let plan = c.requires.planned (state_of c.args.self.now) (sound_stands c.args.self.now sound) in
     let built = subst (λ (p : Plan). IsTrue (built_call p.command.call)) c.planned.view_is c.planned.invariant.built in
     let few = allowed_few (state_of c.args.self.now) c.args.planned.command plan.allowed (built-rotates c.args.planned.command.call built) in
-    let same = c.change.ensures.records in
+    let same = c.change.ensures.made.records in
     omega (arith, few, same)
 
 pub note-requires-clause-kept : goal.note-requires-clause-kept
@@ -109,8 +121,8 @@ returns-clause-state g c s h =
     elim c.match-command.branch [
       | in_default w ↦
           let call = c.planned.inside.command.call in
-          let changed = changed_stands old w.change.new.self call sound c.planned.invariant.built w.change.ensures s h in
-          let noted_is : StandsFor w.note.new.self (noted (effect s call) c.planned.inside.command c.planned.inside.forecast.done) = w.note.ensures (effect s call) changed in
+          let changed = changed_stands old w.change.new.self call sound c.planned.invariant.built w.change.ensures.made s h in
+          let noted_is : StandsFor w.note.new.self (noted (effect s call) c.planned.inside.command c.planned.inside.forecast.done) = w.note.ensures.state (effect s call) changed in
           let seen : StandsFor w.note.new.self (noted (effect s command.call) command c.args.planned.done) =
           subst (λ (p : Plan). StandsFor w.note.new.self (noted (effect s p.command.call) p.command p.done)) c.planned.view_is noted_is in
           let done : StandsFor w.note.new.self (after s command) = subst (λ d. StandsFor w.note.new.self (noted (effect s command.call) command d)) plan.done seen in
@@ -122,3 +134,55 @@ returns-clause-state g c s h =
           subst (λ (core : Core). StandsFor core (after_ruling s command (ruling s command)).0) (sym w.self-is)
           (stepped_stands old w.liquidate.new.self command sound allowed its s h)
     ]
+
+pub returns-clause-list : goal.returns-clause-list
+returns-clause-list g c s h = c.lists_stand.ensures (step s (Do c.args.planned.command)).0 (returns-clause-state g c s h)
+
+-- ---- the steps
+
+-- what a call that liquidates nothing takes, said of what was planned
+planned_few : (old : Core) → IsSoundImage old.image old.records → (inside : Inside) (plan : Plan) → plan_of inside.command inside.forecast ≡ plan → IsPlan (state_of old) plan → liquidates inside.command.call ≡ false
+    → (made now : List Ranked) → now ≡ made → now ≡ trove_order (effect (state_of old) plan.command.call) → (hint : Hint) (before after : ℕ)
+    → TakesFew made (used_hint (words_of inside.command.call) hint) (entry_put inside.command.call inside.forecast.terms made) before after
+    → TakesFew now (used_hint (words_of plan.command.call) hint) (last_put plan.changes) before after
+planned_few old sound inside plan view is stays made now same stands hint before after few =
+    let s = state_of old in
+    let call = plan.command.call in
+    let used = used_hint (words_of call) hint in
+    let seen = subst (λ (p : Plan). TakesFew made (used_hint (words_of p.command.call) hint) (entry_put p.command.call p.terms made) before after) view few in
+    let moved = subst (λ (l : List Ranked). TakesFew l used (entry_put call plan.terms l) before after) (sym same) seen in
+    let quiet = subst (λ (p : Plan). liquidates p.command.call ≡ false) view stays in
+    subst (λ (changes : List ListChange). TakesFew now used (last_put changes) before after) (sym is.changes)
+    (planned_puts old sound call plan.terms now used before after quiet is.terms stands moved)
+
+-- the list after an allowed command is that after its effect
+after_list : (s : State) (c : Command) → ruling s c ≡ Allowed → trove_order (step s (Do c)).0 ≡ trove_order (effect s c.call)
+after_list s c allowed = ap (λ (r : Ruling). trove_order (after_ruling s c r).0) allowed
+
+few : (g : Over) (c : Joined-forecast-2 g) → TakesFew c.match-command.self.list (used_hint (words_of c.args.planned.command.call) c.args.hint.now) (last_put c.args.planned.changes) c.args.steps.now c.match-command.steps
+few g c =
+    let old = c.args.self.now in
+    let sound = subst (λ (core : Core). IsSoundImage core.image core.records) c.self.view_is c.self.invariant.image in
+    let s = state_of old in
+    let stands = sound_stands old sound in
+    let plan = c.requires.planned s stands in
+    let list = c.match-command.self.list in
+    let used = used_hint (words_of c.args.planned.command.call) c.args.hint.now in
+    let made = c.lists_stand.ensures (step s (Do c.args.planned.command)).0 (returns-clause-state g c s stands) ∙ after_list s c.args.planned.command plan.allowed in
+    elim c.match-command.branch [
+      | in_default w ↦
+          let same = ap (λ (core : Core). core.list) w.self-is ∙ w.note.ensures.list in
+          subst (λ n. TakesFew list used (last_put c.args.planned.changes) c.args.steps.now n) (sym w.steps-is)
+          (planned_few old sound c.planned.inside c.args.planned c.planned.view_is plan (strikes_none c.planned.inside.command.call w.in_default.not-Liquidate w.in_default.not-LiquidateLowest) w.change.new.self.list list same made c.args.hint.now c.args.steps.now w.change.new.steps w.change.ensures.few)
+      | in-Liquidate2 w ↦ takes_same list used (last_put c.args.planned.changes) c.args.steps.now c.match-command.steps w.steps-is
+    ]
+
+pub returns-clause-cost : goal.returns-clause-cost
+returns-clause-cost g c s h e is tight =
+    let used = used_hint (words_of c.args.planned.command.call) c.args.hint.now in
+    few_cost c.match-command.self.list used (last_put c.args.planned.changes) c.args.steps.now c.match-command.steps (few g c) e is
+    (subst (λ (l : List Ranked). IsTight (without_ranked l e.1) e used.prev used.next) (sym (returns-clause-list g c s h)) tight)
+
+pub returns-clause-none : goal.returns-clause-none
+returns-clause-none g c is =
+    few_none c.match-command.self.list (used_hint (words_of c.args.planned.command.call) c.args.hint.now) (last_put c.args.planned.changes) c.args.steps.now c.match-command.steps (few g c) is

@@ -1,4 +1,5 @@
-use Rattle.std.proofs.Common.{◌≡◌, sym, ◌∙◌}
+use Rattle.std.proofs.Common.{◌≡◌, sym, ◌∙◌, ap, arith, length}
+use Rattle.liq_core.specs.Core.{Core}
 use Rattle.std.specs.Prelude.{Result, Ok, Err}
 use Rattle.liq_core.proofs.Depositing.{moves_so, move_answer, move_changes, move_sound}
 use Rattle.liq_core.proofs.Lending.{books_stand, coll_held, debt_held}
@@ -33,7 +34,13 @@ invariant_of-self g c =
     move_sound c.self.inside c.args.self.now c.self.view_is c.self.invariant c.args.account c.args.plan.now c.requires.range c.requires.terms c.requires.allowed
     c.in-Ok.field-0 (sym c.withdraw.ensures.answer ∙ c.in-Ok.is) c.withdraw.new.self c.change_trove.new.pools c.change_trove.new.troves c.change_trove.new.order c.in-Ok.ensures.words c.in-Ok.ensures.finished c.in-Ok.ensures.deposits c.change_trove.ensures.books c.change_trove.ensures.others c.change_trove.ensures.list
 
-pub returns : goal.returns
-returns g c =
+pub returns-clause-made : goal.returns-clause-made
+returns-clause-made g c =
     move_changes c.self.inside c.args.self.now c.self.view_is c.self.invariant c.args.account c.args.plan.now c.requires.range c.requires.terms c.requires.allowed
     c.in-Ok.field-0 (sym c.withdraw.ensures.answer ∙ c.in-Ok.is) c.withdraw.new.self c.change_trove.new.pools c.change_trove.new.troves c.change_trove.new.order c.in-Ok.ensures.words c.in-Ok.ensures.finished c.in-Ok.ensures.deposits c.change_trove.ensures.books c.change_trove.ensures.others
+
+pub returns-clause-any : goal.returns-clause-any
+returns-clause-any g c =
+    let any = c.change_trove.ensures.any in
+    let same = ap (λ (core : Core). length core.list) c.self.view_is in
+    omega (arith, any, same)

@@ -1,4 +1,5 @@
-use Rattle.std.proofs.Common.{arith}
+use Rattle.std.proofs.Common.{arith, ap, length}
+use Rattle.liq_core.specs.Core.{Core}
 use Rattle.liq_core.proofs.Lending.{books_stand, opens_so, open_changes, open_sound}
 use Rattle.liq_core.proofs.engine.Protocol.open_trove.Goals as goal
 
@@ -54,7 +55,13 @@ invariant_of-self g c =
     open_sound c.self.inside c.args.self.now c.self.view_is c.self.invariant c.args.account c.args.borrow c.args.plan.now c.requires.range c.requires.terms c.requires.allowed
     c.exchange.new.self c.place_trove.new.pools c.place_trove.new.troves c.place_trove.new.order c.exchange.ensures.rows c.place_trove.ensures.books c.place_trove.ensures.others c.place_trove.ensures.list
 
-pub returns : goal.returns
-returns g c =
+pub returns-clause-made : goal.returns-clause-made
+returns-clause-made g c =
     open_changes c.self.inside c.args.self.now c.self.view_is c.self.invariant c.args.account c.args.borrow c.args.plan.now c.requires.range c.requires.terms c.requires.allowed
     c.exchange.new.self c.place_trove.new.pools c.place_trove.new.troves c.place_trove.new.order c.exchange.ensures.rows c.place_trove.ensures.books c.place_trove.ensures.others
+
+pub returns-clause-any : goal.returns-clause-any
+returns-clause-any g c =
+    let any = c.place_trove.ensures.any in
+    let same = ap (λ (core : Core). length core.list) c.self.view_is in
+    omega (arith, any, same)

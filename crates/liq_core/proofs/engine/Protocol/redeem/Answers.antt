@@ -1,4 +1,4 @@
-use Rattle.std.proofs.Common.{sym, subst}
+use Rattle.std.proofs.Common.{sym, subst, ap, arith, length}
 use Rattle.std.specs.List.{Contains}
 use Rattle.liq_core.specs.Core.{AreAmong, Core}
 use Rattle.liq_core.specs.Terms.{closed}
@@ -26,7 +26,13 @@ invariant_of-self g c =
     redeem_sound c.self.inside c.args.self.now c.self.view_is c.self.invariant c.args.account c.args.taken.now c.requires.range c.requires.planned
     c.apply.new.wallets c.apply.new.pools c.apply.new.surplus c.apply.new.troves c.apply.new.order c.apply.ensures.wallets c.apply.ensures.parts
 
-pub returns : goal.returns
-returns g c =
+pub returns-clause-made : goal.returns-clause-made
+returns-clause-made g c =
     redeem_changes c.self.inside c.args.self.now c.self.view_is c.self.invariant c.args.account c.args.taken.now c.requires.range c.requires.planned
     c.apply.new.wallets c.apply.new.pools c.apply.new.surplus c.apply.new.troves c.apply.new.order c.apply.ensures.wallets c.apply.ensures.parts
+
+pub returns-clause-any : goal.returns-clause-any
+returns-clause-any g c =
+    let any = c.apply.ensures.any in
+    let same = ap (λ (core : Core). length core.list) c.self.view_is in
+    omega (arith, any, same)
