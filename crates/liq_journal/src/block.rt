@@ -2,32 +2,33 @@
 ghost use Rattle.std.specs.Prelude.{◌≡◌, ◌≤◌, ◌-◌, [], Some, List, ℕ, min, length, take, drop, IfOk, IfSome, OnOk};
 ghost use Rattle.liq_outside.specs.Faults.{HasCause};
 ghost use Rattle.liq_journal.specs.Looked.{Looked};
-ghost use Rattle.liq_journal.specs.Parts.{IsPartOf, bytes_from};
+ghost use Rattle.liq_journal.specs.Parts.{IsPartOf, block_bytes, bytes_from};
 ghost use Rattle.liq_journal.specs.Written.{piece};
 
+use crate::journal::RECORD;
 use liq_outside::{Disk, Failed};
 use std::marker::Model;
 
 // As many bytes as 508 records have.
-const MOST: usize = 65532;
+const BLOCK_BYTES: usize = 508 * RECORD as usize;
 
 /// A part of a disk, read at once, from which records are taken one after the other. A contract sees where it begins, and its bytes.
 #[derive(Drop)]
 pub struct Block {
     at: u64,
     count: usize,
-    bytes: [u8; MOST],
+    bytes: [u8; BLOCK_BYTES],
 }
 
 impl Model for Block {
     ghost use Rattle.std.specs.Prelude.{◌≤◌, take};
-    ghost use Rattle.liq_journal.specs.Parts.{Part};
+    ghost use Rattle.liq_journal.specs.Parts.{Part, block_bytes};
 
     ghost Value = { Part };
 
     ghost view = { λ b. record { at = b.at; bytes = take b.count b.bytes } };
 
-    ghost invariant = { λ b. b.count ≤ 65532 };
+    ghost invariant = { λ b. b.count ≤ block_bytes };
 }
 
 impl Block {
@@ -38,7 +39,7 @@ impl Block {
         Block {
             at: 0,
             count: 0,
-            bytes: [0; MOST],
+            bytes: [0; BLOCK_BYTES],
         }
     }
 
@@ -56,7 +57,7 @@ impl Block {
     // Reads the disk from this place on.
     fn fill<D: Disk>(&mut self, disk: &mut D, at: u64) -> Result<(), Failed>
         ensures at { self.new.at ≡ at }
-        ensures filled { OnOk result (IfSome (D.seen disk.old) (λ held. self.new.bytes ≡ piece at 65532 held)) }
+        ensures filled { OnOk result (IfSome (D.seen disk.old) (λ held. self.new.bytes ≡ piece at block_bytes held)) }
         ensures part { IfSome (D.seen disk.old) (IsPartOf self.new) }
         ensures looked { Looked D.seen D.moment D.left_at disk.old disk.new }
         ensures cause { HasCause (D.faults disk.old) (D.faults disk.new) result }
@@ -69,7 +70,7 @@ impl Block {
 
     // Sees to it that so many bytes from this place on are in the block, or all that the disk has there.
     fn reach<D: Disk>(&mut self, disk: &mut D, at: u64, count: usize) -> Result<(), Failed>
-        requires few { count ≤ 65532 }
+        requires few { count ≤ block_bytes }
         requires part { IfSome (D.seen disk.old) (IsPartOf self.old) }
         ensures reached { OnOk result (IfSome (D.seen disk.old) (λ held. take count (bytes_from at self.new) ≡ piece at count held)) }
         ensures part { IfSome (D.seen disk.old) (IsPartOf self.new) }
@@ -83,13 +84,13 @@ impl Block {
     }
 
     // Reads from a place on into the front of `buf`, as the disk does it, which is read only where the block hasn't all of these bytes.
-    pub fn read_at<D: Disk>(
+    pub(crate) fn read_at<D: Disk>(
         &mut self,
         disk: &mut D,
         at: u64,
         buf: &mut [u8],
     ) -> Result<usize, Failed>
-        requires few { length buf.old ≤ 65532 }
+        requires few { length buf.old ≤ block_bytes }
         requires part { IfSome (D.seen disk.old) (IsPartOf self.old) }
         ensures fits { IfOk result (λ n. n ≤ length buf.old) }
         ensures told { IfOk result (λ n. IfSome (D.seen disk.old) (λ held. (n ≡ min (length buf.old) (length held - at)) × (take n buf.new ≡ take n (drop at held)))) }

@@ -196,7 +196,8 @@ impl<D: Disk> Journal<D> {
 
     /// The command of a record, whose number is from 1 to `records`. The opening has tested it, so its digest is not
     /// worked out again, unless its body is no command. It is read through a block, which is a part of this disk
-    /// or has no bytes, and is filled again where the record isn't in it. The journal and its disk stay as they are.
+    /// or has no bytes, and is filled again where the record isn't in it: a block of another disk, or one from
+    /// before a write to this one, must not be given. The journal and its disk stay as they are.
     ///
     /// `Damaged` comes only where the record's bytes have another digest than the one behind them, or are
     /// no command or a rotation, and never where the disk tells its content and this is the journal.
