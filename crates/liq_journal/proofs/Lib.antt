@@ -2,6 +2,7 @@ pub mod Appending
 mod Bodies
 mod Counting
 mod Creating
+mod Going
 mod HeaderFound
 pub mod Heading
 pub mod Looks

@@ -6,6 +6,7 @@ ghost use Rattle.liq_journal.specs.Parts.{IsPartOf, block_bytes, bytes_from};
 ghost use Rattle.liq_journal.specs.Written.{piece};
 
 use crate::journal::RECORD;
+use crate::reads::read_at;
 use liq_outside::{Disk, Failed};
 use std::marker::Model;
 
@@ -64,7 +65,7 @@ impl Block {
     {
         self.at = at;
         self.count = 0;
-        self.count = disk.read_at(at, &mut self.bytes)?;
+        self.count = read_at(disk, at, &mut self.bytes)?;
         Ok(())
     }
 

@@ -6,6 +6,7 @@ ghost use Rattle.liq_journal.specs.Looked.{Looked};
 ghost use Rattle.liq_journal.specs.Crash.{HasGate, SettleLeaves};
 
 use crate::bytes::write_synced;
+use crate::reads::read_at;
 use liq_outside::{Disk, Failed};
 
 // Whether a shut gate is at the place.
@@ -15,7 +16,7 @@ fn is_shut<D: Disk>(disk: &mut D, place: u64) -> Result<bool, Failed>
     ensures cause { HasCause (D.faults disk.old) (D.faults disk.new) result }
 {
     let mut gate = [1];
-    let count = disk.read_at(place, &mut gate)?;
+    let count = read_at(disk, place, &mut gate)?;
     Ok(count == 1 && gate[0] == 0)
 }
 

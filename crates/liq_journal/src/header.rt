@@ -12,6 +12,7 @@ ghost use Rattle.liq_journal.specs.Written.{is_generation, is_size};
 use crate::answers::LookFault;
 use crate::damage::{Damage, What};
 use crate::head::Head;
+use crate::reads::{count_bytes, read_at};
 use byteorder::{BigEndian, ByteOrder};
 use liq_outside::Disk;
 
@@ -80,7 +81,7 @@ pub fn read_header<D: Disk>(disk: &mut D, odd: bool) -> Result<Option<Head>, Loo
     ensures cause { CountsLook result (D.faults disk.old) (D.faults disk.new) }
 {
     let mut bytes = [0; 57];
-    let count = match disk.read_at(0, &mut bytes) {
+    let count = match read_at(disk, 0, &mut bytes) {
         Ok(count) => count,
         Err(_) => return Err(LookFault::DiskFault),
     };
@@ -94,7 +95,7 @@ pub fn read_header<D: Disk>(disk: &mut D, odd: bool) -> Result<Option<Head>, Loo
         Ok(head) => head,
         Err(place) => return Err(form(place)),
     };
-    let length = match disk.length() {
+    let length = match count_bytes(disk) {
         Ok(length) => length,
         Err(_) => return Err(LookFault::DiskFault),
     };

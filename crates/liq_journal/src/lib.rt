@@ -14,6 +14,7 @@ mod header;
 mod journal;
 mod looking;
 mod open;
+mod reads;
 mod records;
 mod scanned;
 

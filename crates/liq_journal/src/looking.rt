@@ -9,6 +9,7 @@ ghost use Rattle.liq_journal.specs.Written.{header_digest, piece};
 use crate::answers::{Look, LookFault};
 use crate::damage::{Damage, What};
 use crate::header::{HEADER, read_header};
+use crate::reads::read_at;
 use liq_outside::{Disk, Failed};
 use sha2::{Digest, Sha256};
 
@@ -59,7 +60,7 @@ fn digest_behind<D: Disk>(disk: &mut D, fields: &[u8; 24], size: u64) -> Result<
         let mut chunk = [0; 512];
         let want = (size - done).min(512) as usize;
         let part = &mut chunk[..want];
-        let count = disk.read_at(HEADER + done, part)?;
+        let count = read_at(disk, HEADER + done, part)?;
         if count == 0 {
             return Ok(hasher.finalize());
         }

@@ -17,6 +17,7 @@ use crate::digests::header_digest;
 use crate::gate::settle;
 use crate::header::{HEADER, read_header};
 use crate::journal::RECORD;
+use crate::reads::read_at;
 use crate::records::count_records;
 use crate::scanned::Scanned;
 use liq_outside::{Disk, Failed};
@@ -38,7 +39,7 @@ fn read_checkpoint<D: Disk>(alloc: Global, disk: &mut D, size: u64) -> Result<Ve
         let mut chunk = [0; 512];
         let want = (end - at).min(512) as usize;
         let part = &mut chunk[..want];
-        let count = match disk.read_at(at, part) {
+        let count = match read_at(disk, at, part) {
             Ok(count) => count,
             Err(_) => return Err(OpenWhy::DiskFault),
         };
@@ -110,7 +111,7 @@ fn is_unshut<D: Disk>(disk: &mut D) -> Result<bool, Failed>
     ensures cause { HasCause (D.faults disk.old) (D.faults disk.new) result }
 {
     let mut gate = [0];
-    let count = disk.read_at(0, &mut gate)?;
+    let count = read_at(disk, 0, &mut gate)?;
     Ok(count == 1 && gate[0] != 0)
 }
 

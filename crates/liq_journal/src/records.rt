@@ -16,6 +16,7 @@ use crate::answers::LookFault;
 use crate::block::Block;
 use crate::damage::{Damage, What};
 use crate::digests::record_digest;
+use crate::reads::read_at;
 use liq_outside::Disk;
 use liq_types::{Call, Command};
 use liq_wire::decode;
@@ -128,7 +129,7 @@ pub fn read_body<D: Disk>(
     ensures cause { CountsLook result (D.faults disk.old) (D.faults disk.new) }
 {
     let mut bytes = [0; 128];
-    match disk.read_at(place + 1, &mut bytes) {
+    match read_at(disk, place + 1, &mut bytes) {
         Ok(_) => {}
         Err(_) => return Err(LookFault::DiskFault),
     }

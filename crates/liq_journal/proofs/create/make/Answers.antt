@@ -1,9 +1,11 @@
-use Rattle.std.proofs.Common.{◌≡◌, List, ℕ, ◌∷◌, [], Some, option_map, true, rules}
+use Rattle.std.proofs.Common.{◌≡◌, ◌∙◌, List, ℕ, ◌∷◌, [], Some, option_map, true, rules}
 use Rattle.liq_outside.specs.Disk.{overwritten}
 use Rattle.liq_journal.specs.Crash.{Stands, beginning}
 use Rattle.liq_journal.specs.Crash.{is_odd}
 use Rattle.liq_journal.specs.Written.{is_generation}
 use Rattle.liq_journal.proofs.Creating.{on_ok_from, some_is, gate_shut, only_shut, after_shut, after_fill, after_open, made, reads_then}
+use Rattle.liq_outside.proofs.Moments.{joined}
+use Rattle.liq_journal.proofs.Going.{cause_on, telling_on}
 use Rattle.liq_journal.proofs.create.make.Goals as goal
 
 pub returns-in_err-settle-clause-crash : goal.returns-in_err-settle-clause-crash
@@ -28,3 +30,18 @@ returns-in_err-fill-clause-reads g c = reads_then g.D.Disk.moment g.D.Disk.left_
 
 pub returns-clause-reads : goal.returns-clause-reads
 returns-clause-reads g c = reads_then g.D.Disk.moment g.D.Disk.left_at g.D.Disk.seen c.args.disk.now c.write_synced.new.disk c.args.generation c.args.checkpoint.now (g.met.D.Disk.seen_may_stay c.write_synced.new.disk) (returns-clause-crash g c)
+
+pub returns-in_err-fill-clause-telling : goal.returns-in_err-fill-clause-telling
+returns-in_err-fill-clause-telling g c = telling_on (g.D.Disk.seen c.args.disk.now) (g.D.Disk.seen c.settle.new.disk) (g.D.Disk.seen c.fill.new.disk) c.settle.ensures.telling c.fill.ensures.telling
+
+pub returns-in_err-fill-clause-time : goal.returns-in_err-fill-clause-time
+returns-in_err-fill-clause-time g c = joined g.D.Disk.moment g.D.Disk.left_at c.args.disk.now c.settle.new.disk c.fill.new.disk c.settle.ensures.time c.fill.ensures.time
+
+pub returns-clause-telling : goal.returns-clause-telling
+returns-clause-telling g c = telling_on (g.D.Disk.seen c.args.disk.now) (g.D.Disk.seen c.fill.new.disk) (g.D.Disk.seen c.write_synced.new.disk) (telling_on (g.D.Disk.seen c.args.disk.now) (g.D.Disk.seen c.settle.new.disk) (g.D.Disk.seen c.fill.new.disk) c.settle.ensures.telling c.fill.ensures.telling) c.write_synced.ensures.telling
+
+pub returns-clause-time : goal.returns-clause-time
+returns-clause-time g c = joined g.D.Disk.moment g.D.Disk.left_at c.args.disk.now c.fill.new.disk c.write_synced.new.disk (joined g.D.Disk.moment g.D.Disk.left_at c.args.disk.now c.settle.new.disk c.fill.new.disk c.settle.ensures.time c.fill.ensures.time) c.write_synced.ensures.time
+
+pub returns-clause-cause : goal.returns-clause-cause
+returns-clause-cause g c = cause_on (g.D.Disk.faults c.args.disk.now) (g.D.Disk.faults c.fill.new.disk) (g.D.Disk.faults c.write_synced.new.disk) _ (c.in_ok-fill.ensures.cause.ok ∙ c.in_ok-settle.ensures.cause.ok) c.write_synced.ensures.cause

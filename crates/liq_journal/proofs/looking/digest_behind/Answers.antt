@@ -1,6 +1,6 @@
 use Rattle.std.proofs.Common.{◌∙◌, ◌-◌, ◌≤◌, List, ℕ, rules, arith}
 use Rattle.sha2.specs.Hashers.{Holds256}
-use Rattle.liq_journal.proofs.Looks.{looked_on, looked_once, digest_more, digest_done}
+use Rattle.liq_journal.proofs.Looks.{looked_on, digest_more, digest_done}
 use Rattle.liq_journal.proofs.looking.digest_behind.Goals as goal
 
 pub loop-done-preserved : goal.loop-done-preserved
@@ -9,7 +9,7 @@ loop-done-preserved g c =
     let want : c.min-want.result ≤ c.args.size - c.loop-done.done = search rules in
     let more : c.loop-done.done ≤ c.args.size = c.loop-done.invariant.within in
     record {
-      looked = looked_on g.D.Disk.seen g.D.Disk.moment g.D.Disk.left_at c.args.disk.now c.loop-done.disk c.read_at.new.self c.loop-done.invariant.looked (looked_once g.D.Disk.seen g.D.Disk.moment g.D.Disk.left_at c.loop-done.disk c.read_at.new.self c.read_at.ensures.same c.read_at.ensures.crash c.read_at.ensures.keeps c.read_at.ensures.time);
+      looked = looked_on g.D.Disk.seen g.D.Disk.moment g.D.Disk.left_at c.args.disk.now c.loop-done.disk c.read_at.new.disk c.loop-done.invariant.looked c.read_at.ensures.looked;
       still = c.in_ok-count.ensures.cause.ok ∙ c.loop-done.invariant.still;
       within = omega arith;
       read = digest_more (g.D.Disk.seen c.args.disk.now) (g.D.Disk.seen c.loop-done.disk) c.loop-done.invariant.looked.same c.args.size c.loop-done.done c.in_ok-count.count c.args.fields.now c.read_at.new.buf _ (λ (m : List ℕ). Holds256 c.loop-done.hasher m) (λ (m : List ℕ). Holds256 c.update-in-loop-done.new.self m) c.update-in-loop-done.ensures c.in_ok-count.ensures.told c.loop-done.invariant.read;

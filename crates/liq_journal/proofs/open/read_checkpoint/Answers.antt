@@ -1,5 +1,5 @@
 use Rattle.std.proofs.Common.{◌≡◌, ◌∙◌, ◌+◌, ◌-◌, ◌≤◌, length, rules, arith}
-use Rattle.liq_journal.proofs.Looks.{looked_on, looked_once, read_more, grown, sum_within}
+use Rattle.liq_journal.proofs.Looks.{looked_on, read_more, grown, sum_within}
 use Rattle.liq_journal.proofs.open.read_checkpoint.Goals as goal
 
 pub loop-at-preserved : goal.loop-at-preserved
@@ -10,7 +10,7 @@ loop-at-preserved g c =
     let more : c.loop-at.at ≤ 57 + c.args.size = c.loop-at.invariant.within in
     let long : length c.extend_from_slice.new.self.items ≡ length c.loop-at.checkpoint.items + c.in-Ok.count = grown c.loop-at.checkpoint.items c.extend_from_slice.new.self.items c.read_at.new.buf c.in-Ok.count c.in-Ok-extend_from_slice.ensures.items room in
     record {
-      looked = looked_on g.D.Disk.seen g.D.Disk.moment g.D.Disk.left_at c.args.disk.now c.loop-at.disk c.read_at.new.self c.loop-at.invariant.looked (looked_once g.D.Disk.seen g.D.Disk.moment g.D.Disk.left_at c.loop-at.disk c.read_at.new.self c.read_at.ensures.same c.read_at.ensures.crash c.read_at.ensures.keeps c.read_at.ensures.time);
+      looked = looked_on g.D.Disk.seen g.D.Disk.moment g.D.Disk.left_at c.args.disk.now c.loop-at.disk c.read_at.new.disk c.loop-at.invariant.looked c.read_at.ensures.looked;
       still = c.in-Ok.ensures.cause.ok ∙ c.loop-at.invariant.still;
       done = omega (arith, long, c.loop-at.invariant.done);
       within = sum_within c.loop-at.at c.in-Ok.count c.min-want.result (57 + c.args.size) fits want more;

@@ -1,4 +1,4 @@
-use Rattle.std.proofs.Common.{◌+◌, rules}
+use Rattle.std.proofs.Common.{rules}
 use Rattle.liq_journal.proofs.Bodies.{told_command, told_fault}
 use Rattle.liq_journal.proofs.records.read_command.Goals as goal
 

@@ -1,4 +1,4 @@
-use Rattle.std.proofs.Common.{◌≡◌, ◌∙◌, List, ℕ, IfSome, length, take, ap, sym, subst, arith}
+use Rattle.std.proofs.Common.{◌≡◌, IfSome, length, take, ap, arith}
 use Rattle.liq_journal.specs.Parts.{block_bytes, bytes_from}
 use Rattle.liq_journal.specs.Written.{piece}
 use Rattle.liq_journal.proofs.Parting.{told_there, told_begun, on_ok}

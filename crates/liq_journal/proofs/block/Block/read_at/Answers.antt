@@ -1,4 +1,4 @@
-use Rattle.std.proofs.Common.{◌≡◌, ◌∙◌, ◌++◌, List, ℕ, IfSome, length, take, drop, ap, sym, subst, rules, arith}
+use Rattle.std.proofs.Common.{◌≡◌, ◌++◌, List, ℕ, IfSome, length, take, drop, sym, subst, rules}
 use Rattle.liq_journal.specs.Written.{piece}
 use Rattle.liq_journal.proofs.Parting.{copied, front_of}
 use Rattle.liq_journal.proofs.block.Block.read_at.Goals as goal

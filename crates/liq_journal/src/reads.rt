@@ -1,0 +1,25 @@
+// Device calls that look at a disk, and leave it as it is.
+ghost use Rattle.std.specs.Prelude.{◌≡◌, ◌≤◌, ◌-◌, min, length, take, drop, IfOk, IfSome};
+ghost use Rattle.liq_outside.specs.Faults.{HasCause};
+ghost use Rattle.liq_journal.specs.Looked.{Looked};
+
+use liq_outside::{Disk, Failed};
+
+// Reads from a place on into the front of `buf`, and says how many bytes.
+pub fn read_at<D: Disk>(disk: &mut D, at: u64, buf: &mut [u8]) -> Result<usize, Failed>
+    ensures fits { IfOk result (λ n. n ≤ length buf.old) }
+    ensures told { IfOk result (λ n. IfSome (D.seen disk.old) (λ held. (n ≡ min (length buf.old) (length held - at)) × (take n buf.new ≡ take n (drop at held)))) }
+    ensures looked { Looked D.seen D.moment D.left_at disk.old disk.new }
+    ensures cause { HasCause (D.faults disk.old) (D.faults disk.new) result }
+{
+    disk.read_at(at, buf)
+}
+
+// How many bytes the disk has.
+pub fn count_bytes<D: Disk>(disk: &mut D) -> Result<u64, Failed>
+    ensures told { IfOk result (λ n. IfSome (D.seen disk.old) (λ held. n ≡ length held)) }
+    ensures looked { Looked D.seen D.moment D.left_at disk.old disk.new }
+    ensures cause { HasCause (D.faults disk.old) (D.faults disk.new) result }
+{
+    disk.length()
+}
