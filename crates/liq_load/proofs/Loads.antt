@@ -1,9 +1,11 @@
 -- A load goes on: one more command, and what is counted.
-use Rattle.std.proofs.Common.{◌≡◌, ℕ, ◌+◌, ◌*◌, ◌≤◌, List, [], ◌∷◌, ◌++◌, length, drop, Some, None, refl, sym, ap, ap₂, subst, ◌∙◌, append-nil, add-zero, zero-add, add_assoc, length-append, arith}
-use Rattle.std.specs.Prelude.{count_by, cond, if◌then◌else◌}
+use Rattle.std.proofs.Common.{◌≡◌, ℕ, ◌+◌, ◌*◌, ◌^◌, ◌≤◌, Option, List, [], ◌∷◌, ◌++◌, length, drop, Some, None, refl, sym, ap, ap₂, subst, ◌∙◌, append-nil, add-zero, zero-add, add_assoc, length-append, arith}
+use Rattle.std.specs.Prelude.{count_by, cond, unwrap_or, if◌then◌else◌}
+use Rattle.std.proofs.Math.Nat.{min-eq_left}
 use Rattle.std.proofs.lemmas.List.Sums.{count_by-le-length, sum_by-append}
-use Rattle.liq_types.specs.declared.amounts.TheConstants.{LOWEST_MOST}
+use Rattle.liq_types.specs.declared.amounts.TheConstants.{LOWEST_MOST, NUMBER_MOST}
 use Rattle.liq_types.specs.declared.events.PoolEvent.{PoolEvent}
+use Rattle.liq_types.specs.declared.figures.Client.{Client}
 use Rattle.liq_types.specs.declared.replies.Done.{Done}
 use Rattle.liq_types.specs.declared.replies.Refusal.{Refusal}
 use Rattle.liq_types.specs.declared.requests.Call.{Call}
@@ -11,14 +13,18 @@ use Rattle.liq_types.specs.declared.requests.Command.{Command}
 use Rattle.liq_types.specs.declared.requests.Request.{Request}
 use Rattle.liq_types.specs.declared.requests.Request.TheVariants.{Do}
 use Rattle.liq_types.specs.Ranked.{first_of}
-use Rattle.liq_types.specs.State.{State, opening}
+use Rattle.liq_types.specs.Image.{Image}
+use Rattle.liq_types.specs.State.{State, client_of, no_client, opening}
+use Rattle.liq_types.specs.Tables.{at}
+use Rattle.liq_types.proofs.Lookups.{at-put_same}
 use Rattle.liq_stability.specs.declared.words.PoolWords.{PoolWords}
-use Rattle.liq_core.specs.Core.{Core, SameContent, StandsFor}
+use Rattle.liq_core.specs.Core.{Core, StandsFor}
 use Rattle.liq_rules.specs.Events.{events}
+use Rattle.liq_rules.specs.Image.{image}
 use Rattle.liq_rules.specs.Rules.{call_events}
-use Rattle.liq_rules.specs.Step.{Ruling, Refused, Repeated, Allowed, accepted, after, after_ruling, is_allowed, next_number, run, ruling, step}
+use Rattle.liq_rules.specs.Step.{Ruling, Refused, Repeated, Allowed, accepted, after, after_ruling, done_of, effect, is_allowed, next_number, run, ruling, step}
 use Rattle.liq_load.specs.declared.load.Counts.{Counts}
-use Rattle.liq_load.specs.Carrying.{AreWithin, none_yet, plus}
+use Rattle.liq_load.specs.Carrying.{AreWithin, IsNumbered, none_yet, plus}
 use Rattle.liq_load.specs.Load.{counts, is_offset, is_refusal, next_command, requests_of, told}
 
 same_counts : (a b : Counts) → a.accepted ≡ b.accepted → a.refused ≡ b.refused → a.offsets ≡ b.offsets → a ≡ b
@@ -65,6 +71,25 @@ command_of s call number = record { client = 1; number = number; call = call }
 pub next_carries : (s : State) (call : Call) (k : Command) (number : ℕ) (new : Core) (made : List PoolEvent) (n m : Counts) → k ≡ command_of s call number → number ≡ next_number s 1 → ruling s k ≡ Allowed → made ≡ call_events s k.call → StandsFor new (step s (Do k)).0 → m ≡ record { accepted = n.accepted + 1; refused = n.refused; offsets = n.offsets + count_by is_offset made } → StandsFor new (step s (next_command s call)).0 × (m ≡ plus n (counts s (next_command s call ∷ [])))
 next_carries s call k number new made n m k_is number_is is made_is stands m_is =
     subst (λ (c : Command). StandsFor new (step s (Do c)).0 × (m ≡ plus n (counts s (Do c ∷ [])))) (k_is ∙ ap (command_of s call) number_is) (stands, allowed_adds s k made n m is made_is m_is)
+
+-- the client's next command has the number behind those that were accepted
+pub next_is : (core : Core) (n : Counts) (s : State) → AreWithin (2 ^ 32) n → IsNumbered core n → StandsFor core s → n.accepted + 1 ≡ next_number s 1
+next_is core n s few numbered stands =
+    let last : (client_of s 1).last ≡ n.accepted = ap (λ (i : Image). (unwrap_or (at i.clients 1) no_client).last) (sym stands.image) ∙ numbered in
+    let small : (client_of s 1).last + 1 ≤ NUMBER_MOST = omega (arith, last, few.commands) in
+    ap (λ (k : ℕ). k + 1) (sym last) ∙ sym (min-eq_left small)
+
+-- and so it is behind one more
+pub numbered_more : (s : State) (call : Call) (k : Command) (number : ℕ) (new : Core) (n m : Counts) → k ≡ command_of s call number → number ≡ n.accepted + 1 → ruling s k ≡ Allowed → StandsFor new (step s (Do k)).0 → m.accepted ≡ n.accepted + 1 → IsNumbered new m
+numbered_more s call k number new n m k_is number_is is stands m_is =
+    let kept : Client = record { last = k.number; kept = done_of s k.call } in
+    let one : k.client ≡ 1 = ap (λ (c : Command). c.client) k_is in
+    let made = ap (λ (r : Ruling). (after_ruling s k r).0) is in
+    let image_is : new.image ≡ image (after s k) = stands.image ∙ ap image made in
+    let put_is : (client_of (after s k) k.client).last ≡ k.number = ap (λ (o : Option Client). (unwrap_or o no_client).last) (at-put_same (effect s k.call).clients k.client kept) in
+    ap (λ (i : Image). (unwrap_or (at i.clients 1) no_client).last) image_is
+    ∙ ap (λ (client : ℕ). (client_of (after s k) client).last) (sym one)
+    ∙ put_is ∙ ap (λ (c : Command). c.number) k_is ∙ number_is ∙ sym m_is
 
 -- an accepted command makes few offsets
 pub few_more : (s : State) (r : Request) (n m : Counts) (k : ℕ) → m ≡ plus n (counts s (r ∷ [])) → length (events s (accepted s (r ∷ []))) ≤ LOWEST_MOST * length (accepted s (r ∷ [])) → m.accepted ≡ n.accepted + 1 → m.refused ≡ n.refused → AreWithin k n → AreWithin (k + 1) m

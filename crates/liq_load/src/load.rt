@@ -9,7 +9,7 @@ ghost use Rattle.liq_stability.specs.Words.{pool_words};
 ghost use Rattle.liq_core.specs.Core.{StandsFor, state_of};
 ghost use Rattle.liq_rules.specs.Step.{built_call, run, step, next_number};
 ghost use Rattle.liq_words.specs.declared.words.TheConstants.{COUNT_MOST};
-ghost use Rattle.liq_load.specs.Carrying.{AreWithin, plus};
+ghost use Rattle.liq_load.specs.Carrying.{AreWithin, IsNumbered, plus};
 ghost use Rattle.liq_load.specs.Load.{counts, is_offset, load, next_command, told};
 
 use liq_core::laws::protocols_stand;
@@ -69,10 +69,12 @@ impl Load {
     fn carry_out<L: Ledger>(&mut self, call: Call, steps: &mut Steps<L>) -> Result<(), NoMemory>
         requires built { IsTrue (built_call call) }
         requires few { AreWithin (2 ^ 32) self.old.counts }
+        requires numbered { IsNumbered self.old.protocol self.old.counts }
         ensures done { OnOk result ((s : State) → StandsFor self.old.protocol s
             → StandsFor self.new.protocol (step s (next_command s call)).0
             × (self.new.counts ≡ plus self.old.counts (counts s (next_command s call ∷ [])))) }
         ensures few { (n : ℕ) → AreWithin n self.old.counts → AreWithin (n + 1) self.new.counts }
+        ensures numbered { IsNumbered self.new.protocol self.new.counts }
     {
         commands_make_few_events();
         protocols_stand(&self.protocol);
@@ -107,14 +109,13 @@ impl Load {
         self.protocol.query(query)
     }
 
-    /// The number of the client's next command.
+    /// The number of the client's next command, behind those that were accepted.
     fn next_number(&self) -> u64
+        requires few { AreWithin (2 ^ 32) self.now.counts }
+        requires numbered { IsNumbered self.now.protocol self.now.counts }
         ensures { (s : State) → StandsFor self.now.protocol s → result ≡ next_number s CLIENT }
     {
-        match self.answer(&Query::NextNumber(CLIENT)) {
-            Reply::Told(Info::Next { number }) => number,
-            _ => unreachable!(),
-        }
+        self.counts.accepted + 1
     }
 
     /// The debt of all troves, which is all LUSD.

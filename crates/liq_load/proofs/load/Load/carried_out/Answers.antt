@@ -1,6 +1,10 @@
 use Rattle.std.proofs.Common.{◌≡◌, ◌^◌, ◌+◌, ◌∷◌, List, ap, sym, subst, ◌∙◌, length, arith, None}
+use Rattle.std.specs.Prelude.{unwrap_or}
 use Rattle.liq_types.specs.declared.requests.Call.{Call}
+use Rattle.liq_types.specs.Image.{Image}
 use Rattle.liq_types.specs.Ranked.{first_of}
+use Rattle.liq_types.specs.State.{no_client}
+use Rattle.liq_types.specs.Tables.{at}
 use Rattle.liq_sessions.specs.Generated.{generated}
 use Rattle.liq_load.specs.Carrying.{none_yet}
 use Rattle.liq_load.specs.Load.{load}
@@ -18,6 +22,7 @@ loop-call-init g c =
       made = 0;
       made_is = omega (arith, c.generate-calls.ensures.many);
       few = record { commands = omega arith; offsets = omega arith };
+      numbered = ap (λ (i : Image). (unwrap_or (at i.clients 1) no_client).last) c.new.ensures.image;
     }
 
 pub carry_out-requires-clause-built : goal.carry_out-requires-clause-built
@@ -42,6 +47,7 @@ loop-call-preserved g c =
       made = i.made + 1;
       made_is = omega (arith, i.made_is, ap length calls_are);
       few = c.carry_out.ensures.few i.made i.few;
+      numbered = c.carry_out.ensures.numbered;
     }
 
 pub returns : goal.returns

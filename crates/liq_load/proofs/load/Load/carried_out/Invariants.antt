@@ -1,6 +1,6 @@
 use Rattle.std.proofs.Common.{ℕ, ◌≡◌, ◌+◌, length}
 use Rattle.liq_sessions.specs.Generated.{generated, PREAMBLE}
-use Rattle.liq_load.specs.Carrying.{AreWithin}
+use Rattle.liq_load.specs.Carrying.{AreWithin, IsNumbered}
 use Rattle.liq_load.proofs.BuiltLoads.{AreBuilt}
 use Rattle.liq_load.proofs.Loads.{Underway}
 use Rattle.liq_load.proofs.load.Load.carried_out.Given as goal
@@ -12,6 +12,7 @@ invariant-loop-call g l = record {
   made : ℕ;
   made_is : made + length l.calls ≡ PREAMBLE + l.count;
   few : AreWithin made l.done.counts;
+  numbered : IsNumbered l.done.protocol l.done.counts;
 }
 
 abbrev pub decreases-loop-call : goal.decreases-loop-call

@@ -1,8 +1,8 @@
-use Rattle.std.proofs.Common.{ap, refl, ◌+◌, ◌∷◌, [], ◌∙◌}
+use Rattle.std.proofs.Common.{ap, refl, sym, ◌+◌, ◌∷◌, [], ◌∙◌}
 use Rattle.liq_core.specs.Core.{state_of}
 use Rattle.liq_load.specs.Load.{next_command}
 use Rattle.liq_core.proofs.SameContents.{stands_after}
-use Rattle.liq_load.proofs.Loads.{few_more, next_carries}
+use Rattle.liq_load.proofs.Loads.{few_more, next_carries, next_is, numbered_more}
 use Rattle.liq_load.proofs.load.Load.carry_out.Goals as goal
 
 pub returns-in_ok-reserve-in-Ok-New-clause-done : goal.returns-in_ok-reserve-in-Ok-New-clause-done
@@ -19,3 +19,13 @@ returns-in_ok-reserve-in-Ok-New-clause-few g c n h =
     let r = next_command s c.args.call in
     let done = returns-in_ok-reserve-in-Ok-New-clause-done g c s c.protocols_stand.ensures in
     few_more s r c.args.self.now.counts _ n done.1 (c.commands_make_few_events.ensures.run s (r ∷ [])) refl refl h
+
+pub returns-in_ok-reserve-in-Ok-New-clause-numbered : goal.returns-in_ok-reserve-in-Ok-New-clause-numbered
+returns-in_ok-reserve-in-Ok-New-clause-numbered g c =
+    let s = state_of c.args.self.now.protocol in
+    let h = c.protocols_stand.ensures in
+    let after = stands_after c.args.self.now.protocol c.reserve.new.self s c.reserve.ensures.same h in
+    let planned = (rw c.in-Ok-New.field-0-is at c.in-Ok-New.ensures) s h in
+    let n = c.args.self.now.counts in
+    let number_is = c.next_number.ensures s h ∙ sym (next_is c.args.self.now.protocol n s c.requires.few c.requires.numbered h) in
+    numbered_more s c.args.call c.in-Ok-New.planned.command c.next_number.result c.apply.new.self n (record { accepted = n.accepted + 1; refused = n.refused; offsets = n.offsets + c.offsets.result }) planned.0 number_is planned.1.allowed (c.apply.ensures.state s after) refl
