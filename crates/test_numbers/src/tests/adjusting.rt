@@ -244,6 +244,12 @@ const MARKET: Market = Market {
     troves: 2,
 };
 
+fn check<R: Abort>(rt: &R, rows: &[Row]) {
+    for row in rows {
+        same(rt, &adjusted(rt, row), &row.3, "a plan");
+    }
+}
+
 fn adjusted<R: Abort>(rt: &R, row: &Row) -> Told {
     let (total_coll, own, [coll_in, coll_out, borrow, repay, bound], _) = *row;
     let m = Market {
@@ -262,12 +268,8 @@ fn adjusted<R: Abort>(rt: &R, row: &Row) -> Told {
 
 #[test]
 fn adjusts(rt: HostRuntime) {
-    for row in ADJUSTED {
-        same(&rt, &adjusted(&rt, &row), &row.3, "a plan");
-    }
-    for row in LIMITED {
-        same(&rt, &adjusted(&rt, &row), &row.3, "a plan at a limit");
-    }
+    check(&rt, &ADJUSTED);
+    check(&rt, &LIMITED);
     let change = Change {
         coll_in: 0,
         coll_out: 0,
@@ -285,14 +287,18 @@ fn adjusts(rt: HostRuntime) {
 
 #[test]
 fn gains(rt: HostRuntime) {
-    for (total_coll, [coll, debt, gain], want) in GAINED {
+    for (total_coll, [coll, debt, gain], want) in &GAINED {
         let m = Market {
-            total_coll,
+            total_coll: *total_coll,
             ..MARKET
         };
-        shows(&rt, "within the limit", coll <= LIM && gain <= LIM - coll);
-        let plan = plan_gain(&m, Some((coll, debt)), 2, gain);
-        same(&rt, &told(plan), &want, "a plan");
+        shows(
+            &rt,
+            "within the limit",
+            *coll <= LIM && *gain <= LIM - *coll,
+        );
+        let plan = plan_gain(&m, Some((*coll, *debt)), 2, *gain);
+        same(&rt, &told(plan), want, "a plan");
     }
     let plan = plan_gain(&MARKET, None, 2, 0);
     same(

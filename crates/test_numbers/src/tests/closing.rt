@@ -60,24 +60,25 @@ const CLOSED: [Row; 6] = [
 
 #[test]
 fn closes(rt: HostRuntime) {
-    for (total_coll, troves, lusd, want) in CLOSED {
+    for (total_coll, troves, lusd, want) in &CLOSED {
         let m = Market {
             price: 1_000_000_000,
             minute: 0,
             base: 0,
             fee_minute: 0,
-            total_coll,
+            total_coll: *total_coll,
             total_debt: 8_440_000_000,
-            troves,
+            troves: *troves,
         };
-        let wallet = Wallet { coll: 0, lusd };
-        same(
-            &rt,
-            &plan_close(&m, &wallet, Some(HAD), 2),
-            &want,
-            "a trove",
-        );
+        let wallet = Wallet {
+            coll: 0,
+            lusd: *lusd,
+        };
+        let plans = [
+            plan_close(&m, &wallet, Some(HAD), 2),
+            plan_close(&m, &wallet, None, 2),
+        ];
         let none = Err(Refusal::NoTrove { account: 2 });
-        same(&rt, &plan_close(&m, &wallet, None, 2), &none, "no trove");
+        same(&rt, &plans, &[*want, none], "a trove, and none");
     }
 }

@@ -19,36 +19,37 @@ const POWERS: [(u64, u64); 6] = [
 #[test]
 fn quotients_and_powers(rt: HostRuntime) {
     let one = u128::from(ONE);
+    let quotients = [mul_div(one, one - 1, one), mul_div_up(one, 2, 3)];
     same(
         &rt,
-        &mul_div(one, one - 1, one),
-        &999_999_999_999_999_999,
-        "down",
+        &quotients,
+        &[999_999_999_999_999_999, 666_666_666_666_666_667],
+        "down and up",
     );
-    same(&rt, &mul_div_up(one, 2, 3), &666_666_666_666_666_667, "up");
     same(&rt, &dec_mul(HALF, 1), &1, "to the nearest");
-    for (n, want) in POWERS {
-        same(&rt, &dec_pow(999_037_758_833_783_000, n), &want, "decay");
+    for (n, want) in &POWERS {
+        same(&rt, &dec_pow(999_037_758_833_783_000, *n), want, "decay");
     }
 }
 
 #[test]
 fn ratios(rt: HostRuntime) {
     let price = 1_000_000_000;
-    shows(
-        &rt,
-        "just 110 percent",
-        !ratio_below(2_431_000_000, 2_210_000_000, price, 110),
-    );
-    shows(
-        &rt,
-        "below it",
+    let below = [
+        ratio_below(2_431_000_000, 2_210_000_000, price, 110),
         ratio_below(2_430_999_999, 2_210_000_000, price, 110),
-    );
-    shows(&rt, "equal", ratio_cmp(1, 3, 2, 6) == Ordering::Equal);
-    shows(
+    ];
+    same(
         &rt,
-        "less",
-        ratio_cmp(1, 3, u64::MAX, u64::MAX) == Ordering::Less,
+        &below,
+        &[false, true],
+        "just 110 percent, and below it",
+    );
+    let order = [ratio_cmp(1, 3, 2, 6), ratio_cmp(1, 3, u64::MAX, u64::MAX)];
+    same(
+        &rt,
+        &order,
+        &[Ordering::Equal, Ordering::Less],
+        "equal, and less",
     );
 }

@@ -13,24 +13,21 @@ const DECAYS: [(u64, u64); 5] = [
     (u64::MAX - 5, 0),
 ];
 
-fn read(rate: Rate) -> [u64; 2] {
-    [rate.base, rate.minute]
-}
-
 #[test]
 fn decays(rt: HostRuntime) {
     let whole = Rate {
         base: ONE,
         minute: 5,
     };
-    for (minutes, left) in DECAYS {
-        let now = 5_u64.saturating_add(minutes);
-        same(&rt, &whole.decayed(now), &left, "what is left");
+    for (minutes, left) in &DECAYS {
+        let now = 5_u64.saturating_add(*minutes);
+        let rate = whole.on_borrow(now);
+        let got = [whole.decayed(now), rate.base, rate.minute];
         same(
             &rt,
-            &read(whole.on_borrow(now)),
-            &[left, now],
-            "on a borrowing",
+            &got,
+            &[*left, *left, now],
+            "what is left, and on a borrowing",
         );
     }
 }
@@ -55,24 +52,25 @@ const RISES: [[u64; 4]; 3] = [
 #[test]
 fn redemptions(rt: HostRuntime) {
     let none = Rate { base: 0, minute: 0 };
-    for [redeemed, supply, base, fee] in RISES {
-        shows(&rt, "a part", redeemed >= 1 && redeemed <= supply);
-        let rate = none.on_redeem(20_160, redeemed, supply);
-        same(&rt, &read(rate), &[base, 20_160], "on a redemption");
+    for [redeemed, supply, base, fee] in &RISES {
+        shows(&rt, "a part", *redeemed >= 1 && redeemed <= supply);
+        let rate = none.on_redeem(20_160, *redeemed, *supply);
         shows(&rt, "at most one", rate.base <= ONE);
-        same(&rt, &redeem_fee(rate.base, redeemed), &fee, "its fee");
+        let got = [rate.base, rate.minute, redeem_fee(rate.base, *redeemed)];
+        same(
+            &rt,
+            &got,
+            &[*base, 20_160, *fee],
+            "on a redemption, and its fee",
+        );
     }
     let whole = Rate {
         base: ONE,
         minute: 0,
     };
-    same(
-        &rt,
-        &read(whole.on_redeem(0, 1, 1)),
-        &[ONE, 0],
-        "at its greatest",
-    );
-    same(&rt, &redeem_fee(ONE, 7), &7, "all of it");
+    let rate = whole.on_redeem(0, 1, 1);
+    let got = [rate.base, rate.minute, redeem_fee(ONE, 7)];
+    same(&rt, &got, &[ONE, 0, 7], "at its greatest, and all of it");
 }
 
 /// A base rate, micro-LUSD borrowed, and the fee.
@@ -85,8 +83,8 @@ const BORROWINGS: [[u64; 3]; 4] = [
 
 #[test]
 fn borrowings(rt: HostRuntime) {
-    for [base, amount, fee] in BORROWINGS {
-        shows(&rt, "a rate", base <= ONE);
-        same(&rt, &borrow_fee(base, amount), &fee, "a fee");
+    for [base, amount, fee] in &BORROWINGS {
+        shows(&rt, "a rate", *base <= ONE);
+        same(&rt, &borrow_fee(*base, *amount), fee, "a fee");
     }
 }

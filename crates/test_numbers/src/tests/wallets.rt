@@ -27,26 +27,33 @@ fn payments(rt: HostRuntime) {
     let mut wallets = Wallets::new(rt.alloc());
     shows(&rt, "memory", wallets.reserve(1).is_ok());
     check(&rt, &wallets, &[(1, 0, 0)]);
-    same(&rt, &wallets.fund(1, 10), &Ok(()), "funded");
+    let paid = [wallets.fund(1, 10), wallets.take(1, 11), wallets.take(1, 4)];
     let short = Refusal::ShortCollateral { need: 11, have: 10 };
-    same(&rt, &wallets.take(1, 11), &Err(short), "more than there is");
-    same(&rt, &wallets.take(1, 4), &Ok(()), "a part");
+    same(
+        &rt,
+        &paid,
+        &[Ok(()), Err(short), Ok(())],
+        "more than there is is not taken, a part is",
+    );
     check(&rt, &wallets, &[(1, 6, 0)]);
     // What has room already stays.
     shows(&rt, "memory", wallets.reserve(1).is_ok());
     let had = wallets.read(1);
     shows(&rt, "room", had.coll <= 6 && had.lusd == 0);
     wallets.pay(1, 2, 7);
+    let charged = [
+        wallets.charge(1, 9, 8),
+        wallets.charge(1, 8, 8),
+        wallets.charge(1, 8, 0),
+    ];
     let short = Refusal::ShortCollateral { need: 9, have: 8 };
+    let tokens = Refusal::ShortTokens { need: 8, have: 7 };
     same(
         &rt,
-        &wallets.charge(1, 9, 8),
-        &Err(short),
-        "collateral first",
+        &charged,
+        &[Err(short), Err(tokens), Ok(())],
+        "collateral is asked first, then LUSD",
     );
-    let short = Refusal::ShortTokens { need: 8, have: 7 };
-    same(&rt, &wallets.charge(1, 8, 8), &Err(short), "then LUSD");
-    same(&rt, &wallets.charge(1, 8, 0), &Ok(()), "all collateral");
     check(&rt, &wallets, &[(1, 0, 7), (2, 0, 0)]);
 }
 
@@ -54,12 +61,17 @@ fn payments(rt: HostRuntime) {
 fn funds_to_the_limit(rt: HostRuntime) {
     let mut wallets = Wallets::new(rt.alloc());
     shows(&rt, "memory", wallets.reserve(LAST).is_ok());
-    same(&rt, &wallets.fund(LAST, LIM), &Ok(()), "to the limit");
+    let funded = [wallets.fund(LAST, LIM), wallets.fund(LAST, 1)];
     let limit = Refusal::AmountLimit {
         sum: 10_000_000_000_000_000_001,
         limit: LIM,
     };
-    same(&rt, &wallets.fund(LAST, 1), &Err(limit), "past it");
+    same(
+        &rt,
+        &funded,
+        &[Ok(()), Err(limit)],
+        "to the limit, and past it",
+    );
     check(&rt, &wallets, &[(LAST, LIM, 0)]);
 }
 
@@ -108,14 +120,18 @@ fn sends_to_itself(rt: HostRuntime) {
 fn claims(rt: HostRuntime) {
     let mut surplus = Surplus::new(rt.alloc());
     shows(&rt, "memory", surplus.reserve(&[1, LAST]).is_ok());
-    same(&rt, &surplus.read(1), &0, "nothing");
+    let nothing = surplus.read(1);
     surplus.add(1, 5);
     shows(&rt, "room", surplus.read(1) <= 5);
     shows(&rt, "memory", surplus.reserve(&[3, 1]).is_ok());
     surplus.add(1, 7);
-    same(&rt, &surplus.read(1), &12, "both");
-    same(&rt, &surplus.read(LAST), &0, "nothing");
-    same(&rt, &surplus.take(1), &12, "all");
-    same(&rt, &surplus.take(1), &0, "nothing is left");
-    same(&rt, &surplus.take(2), &0, "nothing was");
+    let read = [nothing, surplus.read(1), surplus.read(LAST)];
+    same(&rt, &read, &[0, 12, 0], "nothing, both, and nothing");
+    let taken = [surplus.take(1), surplus.take(1), surplus.take(2)];
+    same(
+        &rt,
+        &taken,
+        &[12, 0, 0],
+        "all, nothing that is left, and nothing that was",
+    );
 }
