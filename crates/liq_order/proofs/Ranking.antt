@@ -148,7 +148,7 @@ filter_away account (e ∷ es) h =
     ap (λ b. cond (not b) (e ∷ without_ranked es account) (without_ranked es account)) h.0
     ∙ ap (λ (list : List Ranked). e ∷ list) (filter_away account es h.1)
 
-filter_here : (list : List Ranked) (e : Ranked) → without_ranked (with_ranked list e) e.1 ≡ without_ranked list e.1
+pub filter_here : (list : List Ranked) (e : Ranked) → without_ranked (with_ranked list e) e.1 ≡ without_ranked list e.1
 filter_here list e = drop_here list where
   own : (e.1 == e.1) ≡ true
   own = eq-eqb e.1 e.1 refl

@@ -9,6 +9,7 @@ use Rattle.liq_types.specs.declared.hints.Hint.{Hint}
 use Rattle.liq_types.specs.Ranked.{Ranked, IsTight, key_in, with_ranked, without_ranked, rank_order}
 use Rattle.liq_order.specs.Listed.{IsAbsent}
 use Rattle.liq_order.proofs.Found.{absent_from_key, without_absent}
+use Rattle.liq_order.proofs.Ranking.{filter_here}
 use Rattle.liq_standing.specs.Steps.{entry_in, TakesFew}
 
 -- ---- its key
@@ -31,21 +32,8 @@ key_with_own list e n = here list n where
 
 -- ---- the list without it
 
-filter_own : (list : List Ranked) (e : Ranked) → without_ranked (with_ranked list e) e.1 ≡ without_ranked list e.1
-filter_own list e = here list where
-  own : (more : List Ranked) → without_ranked (e ∷ more) e.1 ≡ without_ranked more e.1
-  own more = ap (λ b. cond (not b) (e ∷ without_ranked more e.1) (without_ranked more e.1)) (eq-eqb e.1 e.1 refl)
-
-  here : (l : List Ranked) → without_ranked (with_ranked l e) e.1 ≡ without_ranked l e.1
-  here [] = own []
-  here (f ∷ fs) = by (rank_order e f) (here fs) where
-    by : (o : Ordering) → without_ranked (with_ranked fs e) e.1 ≡ without_ranked fs e.1 → without_ranked (match_ordering o (e ∷ f ∷ fs) (e ∷ f ∷ fs) (f ∷ with_ranked fs e)) e.1 ≡ without_ranked (f ∷ fs) e.1
-    by Less more = own (f ∷ fs)
-    by Equal more = own (f ∷ fs)
-    by Greater more = ap (λ (l : List Ranked). cond (not (f.1 == e.1)) (f ∷ l) l) more
-
 pub without_own : (list : List Ranked) (e : Ranked) → IsAbsent e.1 list → without_ranked (with_ranked list e) e.1 ≡ list
-without_own list e n = filter_own list e ∙ without_absent list e.1 n
+without_own list e n = filter_here list e ∙ without_absent list e.1 n
 
 -- ---- what it took
 
