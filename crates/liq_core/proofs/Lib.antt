@@ -2,6 +2,7 @@ pub mod AccountsFirst
 pub mod Cutting
 pub mod Depositing
 pub mod Forecasting
+pub mod FromNothing
 pub mod Images
 pub mod KeptReplies
 pub mod Lending

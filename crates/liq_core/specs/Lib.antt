@@ -1,4 +1,5 @@
 pub mod Core
+pub mod Entries
 pub mod Held
 pub mod Plan
 pub mod Sound

@@ -10,6 +10,7 @@ mod depositors;
 mod engine;
 pub mod laws;
 mod liquidations;
+mod listing;
 mod payments;
 mod queries;
 mod ranges;
