@@ -4,13 +4,17 @@ use Rattle.std.specs.Prelude.{OnOk, OnErr, ◌⊎◌}
 use Rattle.std.proofs.lemmas.List.{take-append-drop}
 use Rattle.liq_outside.specs.declared.failed.Failed.{Failed}
 use Rattle.liq_outside.specs.Faults.{Rose}
-use Rattle.liq_ends.specs.Stops.{Adds, IsFrontOf}
+use Rattle.liq_ends.specs.Stops.{Adds}
 use Rattle.liq_lines.specs.Writing.{Writes, WritesPart}
 use Rattle.liq_lines.proofs.Bytes.{writes_more, writes_nothing}
 
 pub adds_line : (fault : Type 0) (result : Result (Unit {0}) Failed) (line : List ℕ) (before after : Option (List ℕ)) → OnOk result (Writes before line after) → OnErr result (WritesPart before line after) → OnErr result fault → Adds [] line fault before after
 adds_line fault (Ok done) line before after ok err cause = (line, ok, inl refl)
 adds_line fault (Err failed) line before after ok err cause = (take err.0 line, err.2, inr (cause, (drop err.0 line, sym (take-append-drop err.0 line))))
+
+-- the text is a front of the whole
+abbrev IsFrontOf : List ℕ → List ℕ → Type 0
+IsFrontOf front whole = (rest : List ℕ) × (whole ≡ front ++ rest)
 
 pub no_part : (fault : Type 0) (part : List ℕ) → (part ≡ []) ⊎ (fault × IsFrontOf part []) → part ≡ []
 no_part fault part (inl none) = none

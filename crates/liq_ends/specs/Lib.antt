@@ -1,4 +1,4 @@
--- A reader of the top call's clause needs Disks, Output, Requests, Statuses, Stops, Taking and Telling. Causes,
+-- A reader of the top call's clause needs Disks, Output, Requests, Statuses, Stops and Telling. Causes,
 -- Unopened and Unsaid are for the contracts below it.
 pub mod Causes
 pub mod Disks
@@ -6,7 +6,6 @@ pub mod Output
 pub mod Requests
 pub mod Statuses
 pub mod Stops
-pub mod Taking
 pub mod Telling
 pub mod Unopened
 pub mod Unsaid

@@ -1,6 +1,7 @@
 -- Where a run ends, and what it has written by then.
-use Rattle.std.specs.Prelude.{ℕ, ◌≡◌, ◌≢◌, ◌≤◌, ◌+◌, ◌∷◌, [], ◌++◌, ◌⊎◌}
+use Rattle.std.specs.Prelude.{ℕ, ◌≡◌, ◌≢◌, ◌≤◌, ◌∷◌, [], ◌++◌, ◌⊎◌}
 use Rattle.std.specs.Prelude.{List, length, Option, Some, Result, Ok, Err}
+use Rattle.std.specs.List.{AllZip}
 use Rattle.liq_types.specs.declared.amounts.TheConstants.{LINES_MOST}
 use Rattle.liq_types.specs.declared.requests.Request.{Request}
 use Rattle.liq_types.specs.State.{State, opening}
@@ -11,23 +12,14 @@ use Rattle.liq_rules.specs.Step.{run, accepted}
 use Rattle.liq_ends.specs.declared.halts.Halt.{Halt}
 use Rattle.liq_ends.specs.declared.halts.Halt.TheVariants.{BadLine, ReadFault, WriteFault}
 use Rattle.liq_ends.specs.declared.halts.Halt.TheVariants.{DiskFault, Damaged, NoMemory, Limit}
-use Rattle.liq_lines.specs.Lines.{lines_in, ended, IsPartOfLine}
 use Rattle.liq_ends.specs.Disks.{DisksHold, IsUnread}
 use Rattle.liq_ends.specs.Output.{last, lines}
-use Rattle.liq_store.specs.Memory.{TakesMemory}
-use Rattle.liq_ends.specs.Requests.{AreRequests, IsBadLine, BeginsWith, IsNext}
+use Rattle.liq_ends.specs.Requests.{IsNext, IsRequest}
+use Rattle.liq_lines.specs.declared.stops.Stop.TheVariants as stop
+use Rattle.liq_lines.specs.Lines.{lines_in}
 use Rattle.liq_lines.specs.Writing.{Writes}
-
--- the text is a front of the whole
-abbrev pub IsFrontOf : List ℕ → List ℕ → Type 0
-IsFrontOf front whole = (rest : List ℕ) × (whole ≡ front ++ rest)
-
--- a front of the requests' lines that ends within the last of them
-abbrev pub IsCutInLastLine : State → List ℕ → List Request → Type 0
-IsCutInLastLine start part requests =
-    (earlier : List Request) × (request : Request) × (requests ≡ earlier ++ request ∷ [])
-    × IsFrontOf (lines start earlier) part
-    × ((missing : List ℕ) × (missing ≢ []) × (lines start requests ≡ part ++ missing))
+use Rattle.liq_lines.specs.Saying.{BeginsWith, StopsAfter}
+use Rattle.liq_store.specs.Memory.{TakesMemory}
 
 -- Every depositor has its share after these requests from a state, whichever requests led from the opening to one that
 -- is the same in image and count of records: an account's balance and all that it gained are at most its exact share of
@@ -41,42 +33,38 @@ HaveTheirShares start requests =
 -- Why a run from a state ended after these requests of the bytes. `left` is what the source still tells.
 abbrev pub EndsAfter : State → Result (Unit {0}) Halt → List ℕ → Option (List ℕ) → List Request → Type 0
 -- they are those of all lines, and the source is at its end
-EndsAfter start (Ok done) bytes left requests = AreRequests (lines_in bytes) requests × (left ≡ Some [])
--- the next line is the first that is no request
+EndsAfter start (Ok done) bytes left requests = AllZip IsRequest (lines_in bytes) requests × (left ≡ Some [])
 EndsAfter start (Err (BadLine number)) bytes left requests =
-    (number ≡ length requests + 1) × (number ≤ LINES_MOST)
-    × ((line : List ℕ) × IsBadLine line × ((more : List (List ℕ)) × BeginsWith bytes requests (line ∷ more)))
--- they are all whose line ends the source gave
-EndsAfter start (Err ReadFault) bytes left requests =
-    (front : List (List ℕ)) × AreRequests front requests
-    × ((part : List ℕ) × IsPartOfLine (length requests) part
-    × ((rest : List ℕ) × (left ≡ Some rest) × (bytes ≡ ended front ++ part ++ rest)))
-EndsAfter start (Err WriteFault) bytes left requests = (more : List (List ℕ)) × BeginsWith bytes requests more
-EndsAfter start (Err DiskFault) bytes left requests = (more : List (List ℕ)) × BeginsWith bytes requests more
+    StopsAfter IsRequest (stop.BadLine number) bytes left requests
+EndsAfter start (Err ReadFault) bytes left requests = StopsAfter IsRequest stop.ReadFault bytes left requests
+EndsAfter start (Err WriteFault) bytes left requests = (more : List (List ℕ)) × BeginsWith IsRequest bytes requests more
+EndsAfter start (Err DiskFault) bytes left requests = (more : List (List ℕ)) × BeginsWith IsRequest bytes requests more
 -- a run over damaged disks begins nowhere
 EndsAfter start (Err (Damaged side number)) bytes left requests = ⊥
 -- memory is asked for before a line is read, and then only for a command that is allowed or plans a list
 EndsAfter start (Err NoMemory) bytes left requests =
-    let s = (run start requests).0 in
-    ((more : List (List ℕ)) × BeginsWith bytes requests more)
-    × (IsUnread bytes left requests ⊎ ((request : Request) × IsNext bytes requests request × TakesMemory s request))
--- as many lines as one run answers, and a further one begins
+    ((more : List (List ℕ)) × BeginsWith IsRequest bytes requests more)
+    × (IsUnread bytes left requests
+    ⊎ ((request : Request) × IsNext bytes requests request × TakesMemory (run start requests).0 request))
 EndsAfter start (Err (Limit number)) bytes left requests =
-    (number ≡ LINES_MOST) × (length requests ≡ LINES_MOST)
-    × ((line : List ℕ) × ((more : List (List ℕ)) × BeginsWith bytes requests (line ∷ more)))
+    (number ≡ LINES_MOST) × StopsAfter IsRequest stop.Limit bytes left requests
 
 -- Behind what was said the line was written, or a front of it where the sink met a fault.
 abbrev pub Adds : List ℕ → List ℕ → Type 0 → Option (List ℕ) → Option (List ℕ) → Type 0
 Adds said line fault before now =
-    (part : List ℕ) × Writes before (said ++ part) now × ((part ≡ line) ⊎ (fault × IsFrontOf part line))
+    (part : List ℕ) × Writes before (said ++ part) now
+    × ((part ≡ line) ⊎ (fault × ((rest : List ℕ) × (line ≡ part ++ rest))))
 
 -- What a run has written by its end: all replies, and the last line where it stopped. Where the sink met a fault at a
--- reply, the replies are cut within that to the last request.
+-- reply, it is a front of the requests' lines that ends within the last of them.
 abbrev pub WritesUpTo :
     State → Result (Unit {0}) Halt → Type 0 → List Request → Option (List ℕ) → Option (List ℕ) → Type 0
 WritesUpTo start (Ok done) fault requests before now = Writes before (lines start requests) now
 WritesUpTo start (Err WriteFault) fault requests before now =
-    (part : List ℕ) × Writes before part now × IsCutInLastLine start part requests
+    (part : List ℕ) × Writes before part now
+    × ((earlier : List Request) × (request : Request) × (requests ≡ earlier ++ request ∷ [])
+    × ((rest : List ℕ) × (part ≡ lines start earlier ++ rest))
+    × ((missing : List ℕ) × (missing ≢ []) × (lines start requests ≡ part ++ missing)))
 WritesUpTo start (Err halt) fault requests before now = Adds (lines start requests) (last halt) fault before now
 
 -- How a run ends that began with these bytes in its source and with l and r on its disks, for which they stood for this

@@ -2,5 +2,6 @@ pub mod Bytes
 pub mod Few
 pub mod LinesRead
 pub mod Parts
+pub mod Readings
 pub mod Taken
 pub mod Told

@@ -18,11 +18,17 @@ Reads before bytes after = before ≡ option_map (λ rest. bytes ++ rest) after
 
 -- at most so many bytes were read
 abbrev pub ReadsAtMost : ℕ → Option (List ℕ) → Option (List ℕ) → Type 0
-ReadsAtMost most before after = (bytes : List ℕ) × Reads before bytes after × (length bytes ≤ most)
+ReadsAtMost most before after =
+    (bytes : List ℕ) × (before ≡ option_map (λ rest. bytes ++ rest) after) × (length bytes ≤ most)
 
 -- the most that is taken of a source for so many lines: each with its line end, and what one read asks for
 abbrev pub taken_most : ℕ → ℕ
 taken_most lines = lines * (LINE_BYTES + 1) + READ_BYTES
+
+-- at most n lines were read, and no more is held than one read asks for
+pub record ReadsFew (before : Option (List ℕ)) (n : ℕ) (reader : List ℕ) (left : Option (List ℕ)) : Type 0 where
+  pub few : ReadsAtMost (n * (LINE_BYTES + 1)) before (unread reader left)
+  pub held : length reader ≤ READ_BYTES
 
 -- nothing is unread
 abbrev pub IsOver : Option (List ℕ) → Type 0

@@ -2,7 +2,9 @@
 #![tactic(auto)]
 
 mod reader;
+mod stops;
 mod writer;
 
 pub use reader::{LINE_END, LineEnd, READ_BYTES, Reader};
+pub use stops::Stop;
 pub use writer::write_all;

@@ -2,17 +2,20 @@
 use Rattle.std.proofs.Common.{◌≡◌, ◌≢◌, ℕ, ◌<◌, ◌≤◌, List, [], ◌∷◌, ◌++◌, length, take, drop, Option, Err, refl, ap, sym, subst, ◌∙◌, append_assoc, append-nil, length-append, length-drop, arith, inl, inr}
 use Rattle.std.specs.Prelude.{◌⊎◌}
 use Rattle.std.proofs.lemmas.List.{take-append-drop}
+use Rattle.std.specs.List.{AllZip}
 use Rattle.liq_types.specs.declared.amounts.TheConstants.{LINES_MOST}
 use Rattle.liq_types.specs.declared.requests.Request.{Request}
 use Rattle.liq_types.specs.State.{State}
 use Rattle.liq_core.specs.Core.{Core, StandsFor}
 use Rattle.liq_rules.specs.Step.{run, step}
 use Rattle.liq_ends.specs.declared.halts.Halt.TheVariants.{WriteFault}
-use Rattle.liq_ends.specs.Output.{lines, reply_line}
+use Rattle.liq_ends.specs.Output.{lines}
+use Rattle.liq_ends.specs.Requests.{IsRequest}
 use Rattle.liq_run.specs.Progress.{Written, Comes}
-use Rattle.liq_ends.specs.Requests.{AreRequests, BeginsWith}
 use Rattle.liq_lines.specs.Writing.{WritesPart}
 use Rattle.liq_lines.proofs.Bytes.{writes_more}
+use Rattle.liq_lines.specs.Saying.{BeginsWith}
+use Rattle.liq_text.specs.Replies.{reply_line}
 
 -- one front goes on past the other, or it ends within it
 front_split : (xs ys zs ws : List ℕ) → xs ++ ys ≡ zs ++ ws → ((t : List ℕ) × (zs ≡ xs ++ t) × (ys ≡ t ++ ws)) ⊎ ((b : ℕ) × (t : List ℕ) × (xs ≡ zs ++ b ∷ t))
@@ -72,14 +75,14 @@ cut_at s (q ∷ rs) part missing e some =
 
 -- ---- the requests up to the cut
 
-spelled_front : (lines : List (List ℕ)) (xs ys : List Request) → AreRequests lines (xs ++ ys) → (front : List (List ℕ)) × (back : List (List ℕ)) × (lines ≡ front ++ back) × AreRequests front xs
+spelled_front : (lines : List (List ℕ)) (xs ys : List Request) → AllZip IsRequest lines (xs ++ ys) → (front : List (List ℕ)) × (back : List (List ℕ)) × (lines ≡ front ++ back) × AllZip IsRequest front xs
 spelled_front lines [] ys h = ([], lines, refl, tt)
 spelled_front [] (x ∷ xs) ys h = absurd h
 spelled_front (line ∷ lines) (x ∷ xs) ys h =
     let f = spelled_front lines xs ys h.1 in
     (line ∷ f.0, f.1, ap (λ (ls : List (List ℕ)). line ∷ ls) f.2, (h.0, f.3))
 
-begins_front : (bytes : List ℕ) (xs ys : List Request) (more : List (List ℕ)) → BeginsWith bytes (xs ++ ys) more → (later : List (List ℕ)) × BeginsWith bytes xs later
+begins_front : (bytes : List ℕ) (xs ys : List Request) (more : List (List ℕ)) → BeginsWith IsRequest bytes (xs ++ ys) more → (later : List (List ℕ)) × BeginsWith IsRequest bytes xs later
 begins_front bytes xs ys more h =
     let f = spelled_front h.0 xs ys h.1 in
     (f.1 ++ more, (f.0, f.3, h.2 ∙ ap (λ (ls : List (List ℕ)). ls ++ more) f.2 ∙ append_assoc f.0 f.1 more))
@@ -92,13 +95,13 @@ cut_behind : (front part missing whole : List ℕ) → missing ≢ [] → whole 
 cut_behind front part [] whole some is = absurd (some refl)
 cut_behind front part (x ∷ missing) whole some is = omega (arith, ap length is, length-append (front ++ part) (x ∷ missing), length-append front part)
 
-pub cut_comes : (start : State) (core : Core) (kept : State → Request → Type 0) (bytes : List ℕ) (requests : List Request) (left : Option (List ℕ)) (waited waits : List ℕ) (more : List (List ℕ)) (before now after : Option (List ℕ)) → length requests ≤ LINES_MOST → BeginsWith bytes requests more → Written start requests waited before now → StandsFor core (run start requests).0 → WritesPart now waited after → Comes start (Err WriteFault) core kept bytes left waits before after
+pub cut_comes : (start : State) (core : Core) (kept : State → Request → Type 0) (bytes : List ℕ) (requests : List Request) (left : Option (List ℕ)) (waited waits : List ℕ) (more : List (List ℕ)) (before now after : Option (List ℕ)) → length requests ≤ LINES_MOST → BeginsWith IsRequest bytes requests more → Written start requests waited before now → StandsFor core (run start requests).0 → WritesPart now waited after → Comes start (Err WriteFault) core kept bytes left waits before after
 cut_comes start core kept bytes requests left waited waits more before now after few begins written stands part =
     let k = part.0 in
     let all = written.replies ∙ ap (λ (t : List ℕ). written.front ++ t) (sym (take-append-drop k waited)) ∙ sym (append_assoc written.front (take k waited) (drop k waited)) in
     let c = cut_at start requests (written.front ++ take k waited) (drop k waited) all (missing_some k waited part.1) in
     let same = c.split ∙ sym (append_assoc c.earlier (c.request ∷ []) c.later) in
-    let b = begins_front bytes (c.earlier ++ c.request ∷ []) c.later more (subst (λ (rs : List Request). BeginsWith bytes rs more) same begins) in
+    let b = begins_front bytes (c.earlier ++ c.request ∷ []) c.later more (subst (λ (rs : List Request). BeginsWith IsRequest bytes rs more) same begins) in
     record {
       requests = c.earlier ++ c.request ∷ [];
       few = omega (arith, few, ap length same, length-append (c.earlier ++ c.request ∷ []) c.later);

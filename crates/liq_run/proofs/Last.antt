@@ -8,10 +8,10 @@ use Rattle.liq_lines.proofs.Bytes.{writes_more}
 use Rattle.liq_ends.specs.declared.halts.Halt.{Halt}
 use Rattle.liq_ends.specs.declared.halts.Halt.TheVariants.{BadLine, ReadFault, WriteFault, DiskFault, Damaged, NoMemory, Limit}
 use Rattle.liq_ends.specs.Output.{lines, last}
-use Rattle.liq_ends.specs.Stops.{Adds, EndsIn, IsCutInLastLine, WritesUpTo}
+use Rattle.liq_ends.specs.Stops.{Adds, EndsIn, WritesUpTo}
 use Rattle.liq_ends.proofs.EndingLines.{no_part}
 use Rattle.liq_ends.proofs.Shares.{all_shares}
-use Rattle.liq_run.specs.Progress.{GivesBack, WritesReplies}
+use Rattle.liq_run.specs.Progress.{GivesBack, WritesReplies, IsCutInLastLine}
 
 line_behind : (fault : Type 0) (said line : List ℕ) (before now after : Option (List ℕ)) → Writes before said now → Adds [] line fault now after → Adds said line fault before after
 line_behind fault said line before now after h adds = (adds.0, writes_more before now after said adds.0 h adds.1, adds.2)

@@ -6,5 +6,4 @@ mod Last
 mod Leaving
 mod Progressing
 mod Residual
-mod Taking
 mod Turning

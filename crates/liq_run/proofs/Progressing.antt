@@ -1,10 +1,12 @@
 -- One more line, and where a run has come then.
 use Rattle.std.proofs.Common.{◌≡◌, ℕ, List, [], ◌∷◌, ◌++◌, refl, ap, sym, ◌∙◌, append_assoc, append-nil}
+use Rattle.std.specs.List.{AllZip}
 use Rattle.liq_types.specs.declared.requests.Request.{Request}
 use Rattle.liq_types.specs.State.{State}
 use Rattle.liq_rules.specs.Step.{step, run}
-use Rattle.liq_ends.specs.Output.{lines, reply_line}
-use Rattle.liq_ends.specs.Requests.{IsRequest, AreRequests}
+use Rattle.liq_ends.specs.Output.{lines}
+use Rattle.liq_ends.specs.Requests.{IsRequest}
+use Rattle.liq_text.specs.Replies.{reply_line}
 
 pub after-more : (s : State) (rs : List Request) (r : Request) → (run s (rs ++ r ∷ [])).0 ≡ (step (run s rs).0 r).0
 after-more s [] r = refl
@@ -16,7 +18,7 @@ lines-more s (q ∷ rs) r =
     ap (λ (t : List ℕ). reply_line (step s q).1 ++ t) (lines-more (step s q).0 rs r)
     ∙ sym (append_assoc (reply_line (step s q).1) (lines (step s q).0 rs) (reply_line (step (run (step s q).0 rs).0 r).1))
 
-pub requests-more : (front : List (List ℕ)) (rs : List Request) (line : List ℕ) (r : Request) → AreRequests front rs → IsRequest line r → AreRequests (front ++ line ∷ []) (rs ++ r ∷ [])
+pub requests-more : (front : List (List ℕ)) (rs : List Request) (line : List ℕ) (r : Request) → AllZip IsRequest front rs → IsRequest line r → AllZip IsRequest (front ++ line ∷ []) (rs ++ r ∷ [])
 requests-more [] [] line r h k = (k, tt)
 requests-more [] (q ∷ rs) line r h k = absurd h
 requests-more (l ∷ front) [] line r h k = absurd h

@@ -1,6 +1,7 @@
 -- What one line more makes of a run.
 use Rattle.std.proofs.Common.{◌≡◌, ◌≢◌, ℕ, ◌+◌, ◌<◌, ◌≤◌, List, [], ◌∷◌, ◌++◌, Option, Some, None, refl, ap, sym, ap₂, subst, ◌∙◌, append_assoc, append-nil, length-append, arith, length, Ok, Err, inl, inr}
 use Rattle.std.specs.Prelude.{◌⊎◌}
+use Rattle.std.specs.List.{AllZip}
 use Rattle.liq_types.specs.declared.requests.Request.{Request}
 use Rattle.liq_types.specs.declared.requests.Request.TheVariants.{Do, Ask}
 use Rattle.liq_types.specs.declared.amounts.TheConstants.{LINES_MOST}
@@ -9,25 +10,27 @@ use Rattle.liq_core.specs.Core.{Core, StandsFor}
 use Rattle.liq_rules.specs.Step.{step, run}
 use Rattle.liq_ends.specs.declared.halts.Halt.{Halt}
 use Rattle.liq_ends.specs.declared.halts.Halt.TheVariants.{BadLine, ReadFault, WriteFault, DiskFault, Damaged, NoMemory, Limit}
+use Rattle.liq_ends.specs.Output.{lines}
+use Rattle.liq_ends.specs.Requests.{IsRequest}
 use Rattle.liq_lines.specs.Lines.{lines_in, ended, IsWithinLine}
-use Rattle.liq_ends.specs.Output.{lines, reply_line}
-use Rattle.liq_run.specs.Progress.{ReadsRequest, ReadsBad, Written, Answered, Answers, Comes}
 use Rattle.liq_lines.specs.Reading.{unread, Reads, IsOver}
-use Rattle.liq_ends.specs.Requests.{IsRequest, AreRequests, BeginsWith}
+use Rattle.liq_lines.proofs.Bytes.{told_reads, writes_nothing, writes_more}
+use Rattle.liq_lines.proofs.LinesRead.{lines_in-ended, lines_in-unended, lines_in-ended_all, lines_in-some, ended-append, within-append}
+use Rattle.liq_lines.proofs.Told.{empty_end}
+use Rattle.liq_lines.specs.Saying.{BeginsWith}
+use Rattle.liq_run.specs.Progress.{ReadsRequest, ReadsBad, Written, Answered, Answers, Comes}
 use Rattle.liq_run.specs.Calls.{IsCommand}
 use Rattle.liq_run.specs.Writing.{WritesFront}
 use Rattle.liq_run.proofs.BadLines.{first_is_bad}
-use Rattle.liq_lines.proofs.Bytes.{told_reads, writes_nothing, writes_more}
 use Rattle.liq_run.proofs.Cutting.{cut_comes}
-use Rattle.liq_lines.proofs.LinesRead.{lines_in-ended, lines_in-unended, lines_in-ended_all, lines_in-some, ended-append, within-append}
 use Rattle.liq_run.proofs.Progressing.{after-more, lines-more, requests-more}
-use Rattle.liq_lines.proofs.Told.{empty_end}
+use Rattle.liq_text.specs.Replies.{reply_line}
 
 -- what follows the answered lines
 begins : (start : State) (bytes : List ℕ) (n : ℕ) (core : Core) (u : Option (List ℕ)) (w : List ℕ) (before now : Option (List ℕ)) → (a : Answered start bytes n core u w before now) → lines_in bytes ≡ a.front ++ lines_in a.rest
 begins start bytes n core u w before now a = ap lines_in a.bytes_are ∙ lines_in-ended_all a.front a.rest a.within
 
-begins_with : (start : State) (bytes : List ℕ) (n : ℕ) (core : Core) (u : Option (List ℕ)) (w : List ℕ) (before now : Option (List ℕ)) → (a : Answered start bytes n core u w before now) → BeginsWith bytes a.requests (lines_in a.rest)
+begins_with : (start : State) (bytes : List ℕ) (n : ℕ) (core : Core) (u : Option (List ℕ)) (w : List ℕ) (before now : Option (List ℕ)) → (a : Answered start bytes n core u w before now) → BeginsWith IsRequest bytes a.requests (lines_in a.rest)
 begins_with start bytes n core u w before now a = (a.front, a.spelled, begins start bytes n core u w before now a)
 
 -- what the source has left, where it told what was unread
@@ -138,7 +141,7 @@ reading_ends start kept bytes taken n core u left w before now few r over a =
       requests = a.requests;
       few = omega (arith, few, a.count);
       read = (
-        subst (λ (ls : List (List ℕ)). AreRequests ls a.requests) (sym (begins start bytes n core u w before now a ∙ ap (λ (t : List ℕ). a.front ++ lines_in t) done.1 ∙ append-nil a.front)) a.spelled,
+        subst (λ (ls : List (List ℕ)). AllZip IsRequest ls a.requests) (sym (begins start bytes n core u w before now a ∙ ap (λ (t : List ℕ). a.front ++ lines_in t) done.1 ∙ append-nil a.front)) a.spelled,
         done.0,
       );
       more = lines_in a.rest;
@@ -226,7 +229,7 @@ last_answered start kept bytes line taken r n core core' u left w w' before now 
     record {
       requests = a.requests ++ r ∷ [];
       few = omega (arith, few, a.count, length-append a.requests (r ∷ []));
-      read = (subst (λ (ls : List (List ℕ)). AreRequests ls (a.requests ++ r ∷ [])) (sym whole) spelled, done.0);
+      read = (subst (λ (ls : List (List ℕ)). AllZip IsRequest ls (a.requests ++ r ∷ [])) (sym whole) spelled, done.0);
       more = [];
       begins = (a.front ++ line ∷ [], spelled, whole ∙ sym (append-nil (a.front ++ line ∷ [])));
       written = wrote_more start a.requests r w said.1.0 w' before now now' a.written said.1.1 said.1.2 said.1.3;
@@ -314,7 +317,7 @@ limit_halts start kept bytes n byte core u (Some rest) left w before now number 
     record {
       requests = a.requests;
       few = omega (arith, full, a.count);
-      read = (is, a.count ∙ full, (first.0, (first.1, (a.front, a.spelled, whole))));
+      read = (is, (a.count ∙ full, (first.0, (first.1, (a.front, a.spelled, whole)))));
       more = lines_in a.rest;
       begins = begins_with start bytes n core u w before now a;
       written = a.written;

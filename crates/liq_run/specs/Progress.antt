@@ -1,7 +1,7 @@
 -- How far a run has come.
 use Rattle.std.specs.Prelude.{ℕ, ◌≡◌, ◌≢◌, ◌≤◌, ◌<◌, ◌+◌, ◌*◌, [], ◌∷◌, ◌++◌}
 use Rattle.std.specs.Prelude.{List, length, Option, Some, Result, Ok, Err, Bool, true, false}
-use Rattle.std.specs.List.{AllByRecursion}
+use Rattle.std.specs.List.{AllByRecursion, AllZip}
 use Rattle.liq_types.specs.declared.amounts.TheConstants.{LINE_BYTES, LINES_MOST}
 use Rattle.liq_types.specs.declared.requests.Request.{Request}
 use Rattle.liq_types.specs.State.{State}
@@ -9,33 +9,35 @@ use Rattle.liq_core.specs.Core.{Core, StandsFor}
 use Rattle.liq_rules.specs.Step.{run, step}
 use Rattle.liq_ends.specs.declared.halts.Halt.{Halt}
 use Rattle.liq_ends.specs.declared.halts.Halt.TheVariants.{BadLine, ReadFault, WriteFault, DiskFault, NoMemory}
+use Rattle.liq_ends.specs.Output.{lines}
+use Rattle.liq_ends.specs.Disks.{DisksHold}
+use Rattle.liq_ends.specs.Requests.{IsRequest, IsNext}
+use Rattle.liq_ends.specs.Stops.{EndsAfter}
 use Rattle.liq_run.specs.declared.run.Next.{Next}
 use Rattle.liq_run.specs.declared.run.Next.TheVariants.{Line, LastLine, End}
-use Rattle.liq_lines.specs.Lines.{ended, IsWithinLine}
-use Rattle.liq_ends.specs.Output.{lines, reply_line}
-use Rattle.liq_lines.specs.declared.reader.TheConstants.{READ_BYTES}
-use Rattle.liq_lines.specs.Reading.{unread, Reads, ReadsAtMost, IsOver}
-use Rattle.liq_store.specs.Memory.{IsAccepted, TakesMemory}
-use Rattle.liq_ends.specs.Disks.{DisksHold}
-use Rattle.liq_ends.specs.Requests.{IsRequest, IsBadLine, IsNext, AreRequests, BeginsWith}
-use Rattle.liq_ends.specs.Stops.{EndsAfter, IsCutInLastLine}
-use Rattle.liq_lines.specs.Writing.{Writes, WritesPart}
 use Rattle.liq_run.specs.Calls.{IsCommand}
 use Rattle.liq_run.specs.Writing.{WritesFront}
+use Rattle.liq_lines.specs.Lines.{ended, IsWithinLine}
+use Rattle.liq_lines.specs.declared.reader.TheConstants.{READ_BYTES}
+use Rattle.liq_lines.specs.Reading.{unread, Reads, ReadsAtMost, IsOver}
+use Rattle.liq_lines.specs.Writing.{Writes, WritesPart}
+use Rattle.liq_lines.specs.Saying.{IsBadLine, BeginsWith}
+use Rattle.liq_store.specs.Memory.{IsAccepted, TakesMemory}
+use Rattle.liq_text.specs.Replies.{reply_line}
 
 -- a request, or why a line has none
 abbrev pub RequestOn : List ℕ → ℕ → Result Request Halt → Type 0
 RequestOn line number (Ok request) = IsRequest line request
-RequestOn line number (Err halt) = (halt ≡ BadLine number) × IsBadLine line
+RequestOn line number (Err halt) = (halt ≡ BadLine number) × IsBadLine IsRequest line
 
 -- A bad line was read and nothing behind it: with its line end, to the input's end, or to the first byte that is too
 -- many.
 pub data ReadsBad (before after : Option (List ℕ)) : Type 0 where
   with_end :
-      (line : List ℕ) → IsBadLine line → IsWithinLine line → Reads before (line ++ 10 ∷ []) after
+      (line : List ℕ) → IsBadLine IsRequest line → IsWithinLine line → Reads before (line ++ 10 ∷ []) after
       → ReadsBad before after
   without_end :
-      (line : List ℕ) → IsBadLine line → IsWithinLine line → line ≢ [] → Reads before line after
+      (line : List ℕ) → IsBadLine IsRequest line → IsWithinLine line → line ≢ [] → Reads before line after
       → IsOver after → ReadsBad before after
   too_long :
       (line : List ℕ) (byte : ℕ) → IsWithinLine line → byte ≢ 10 → length line ≡ LINE_BYTES
@@ -54,10 +56,12 @@ ReadsRequest before after taken number (Err ReadFault) =
     (part : List ℕ) × IsWithinLine part × Reads before part after × (taken ≡ []) × (length part ≤ LINE_BYTES)
 ReadsRequest before after taken number (Err _) = ⊥
 
--- at most n lines were read, and no more is held than one read asks for
-pub record ReadsFew (before : Option (List ℕ)) (n : ℕ) (reader : List ℕ) (left : Option (List ℕ)) : Type 0 where
-  pub few : ReadsAtMost (n * (LINE_BYTES + 1)) before (unread reader left)
-  pub held : length reader ≤ READ_BYTES
+-- a front of the requests' lines that ends within the last of them
+abbrev pub IsCutInLastLine : State → List ℕ → List Request → Type 0
+IsCutInLastLine start part requests =
+    (earlier : List Request) × (request : Request) × (requests ≡ earlier ++ request ∷ [])
+    × ((rest : List ℕ) × (part ≡ lines start earlier ++ rest))
+    × ((missing : List ℕ) × (missing ≢ []) × (lines start requests ≡ part ++ missing))
 
 -- The replies to these requests are written, but for those that wait. Of the requests whose replies wait none but the
 -- first is a command: wherever the replies are cut behind what is written, the state is the one after them all.
@@ -78,7 +82,7 @@ pub record Answered
   pub requests : List Request
   pub front : List (List ℕ)
   pub rest : List ℕ
-  pub spelled : AreRequests front requests
+  pub spelled : AllZip IsRequest front requests
   pub within : AllByRecursion IsWithinLine front
   pub count : length requests ≡ n
   pub bytes_are : bytes ≡ ended front ++ rest
@@ -127,7 +131,7 @@ pub record Comes
   pub few : length requests ≤ LINES_MOST
   pub read : EndsAfter start end bytes left requests
   pub more : List (List ℕ)
-  pub begins : BeginsWith bytes requests more
+  pub begins : BeginsWith IsRequest bytes requests more
   pub written : WrittenAt start end requests waiting before now
   pub stands : StandsFor core (run start requests).0
   pub halted : HaltsAt end bytes requests waiting (run start requests).0 kept

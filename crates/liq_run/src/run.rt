@@ -2,8 +2,10 @@
 
 ghost use Rattle.std.specs.Prelude.{Contains, length, Err, Option, Some, None, ◌≡◌, ◌≢◌, IsTrue, ◌≤◌, ◌<◌, ◌+◌, [], ℕ, List, Ok, OnOk, OnErr, IfOk, IfErr, vec_capacity};
 ghost use Rattle.liq_types.specs.State.{State};
-ghost use Rattle.liq_types.specs.declared.amounts.TheConstants.{LINE_BYTES};
+ghost use Rattle.liq_types.specs.declared.amounts.TheConstants.{LINE_BYTES, LINES_MOST};
 ghost use Rattle.liq_run.specs.declared.waiting.TheConstants.{WAITING_MOST};
+ghost use Rattle.liq_run.specs.Calls.{IsStopped, KeepsAround};
+ghost use Rattle.liq_run.specs.Progress.{RequestOn, ReadsRequest, Answered, Answers, Turns, Comes, Ends, GivesBack};
 ghost use Rattle.liq_rules.specs.Step.{built};
 ghost use Rattle.liq_core.specs.Core.{StandsFor};
 ghost use Rattle.liq_journal.specs.declared.damage.Damage.{Damage};
@@ -13,12 +15,9 @@ ghost use Rattle.liq_store.specs.Causes.{Faults, counts_of};
 ghost use Rattle.liq_store.specs.Opening.{IsNotOpened, OpensOn};
 ghost use Rattle.liq_store.specs.Keeping.{IsInOrder};
 ghost use Rattle.liq_lines.specs.declared.reader.TheConstants.{READ_BYTES};
-ghost use Rattle.liq_lines.specs.Reading.{unread, ReadsAtMost};
+ghost use Rattle.liq_lines.specs.Reading.{unread, ReadsAtMost, taken_most, ReadsFew};
 ghost use Rattle.liq_ends.specs.Causes.{DiskCause, ReadCause, WriteCause};
 ghost use Rattle.liq_ends.specs.Disks.{EndsDamaged};
-ghost use Rattle.liq_ends.specs.Taking.{TakesFew};
-ghost use Rattle.liq_run.specs.Calls.{IsStopped, KeepsAround};
-ghost use Rattle.liq_run.specs.Progress.{RequestOn, ReadsRequest, Answered, Answers, ReadsFew, Turns, Comes, Ends, GivesBack};
 
 use crate::calls::call;
 use crate::waiting::{WAITING_MOST, catch_up, flush, keep, make_way};
@@ -92,7 +91,7 @@ pub fn answer_input<S: Source, K: Sink, D: Disk>(
     // Over damaged disks nothing is read or written.
     ensures damaged { (l r : List ℕ) → D.seen left ≡ Some l → D.seen right ≡ Some r → (side : Side) (damage : Damage) → state_on l r ≡ Err (side, damage)
         → (input.new ≡ input.old) × (out.new ≡ out.old) × EndsDamaged D.seen side damage result.end result.left result.right }
-    ensures few { TakesFew (S.left input.old) (S.left input.new) }
+    ensures few { ReadsAtMost (taken_most LINES_MOST) (S.left input.old) (S.left input.new) }
     ensures source { ReadCause result.end (S.faults input.old) (S.faults input.new) }
     ensures sink { WriteCause result.end (K.faults out.old) (K.faults out.new) }
     ensures disks { DiskCause result.end (counts_of D.faults left right) (counts_of D.faults result.left result.right) }
@@ -189,7 +188,7 @@ impl<D: Disk> Run<D> {
         requires going { self.old.store.stopped ≡ None }
         ensures run { (start : State) → StandsFor self.old.store.core start → (bytes : List ℕ) → S.left input.old ≡ Some bytes
             → Ends start result self.new.store.core (KeepsAround D.seen self.new.store.left self.new.store.right) bytes (S.left input.new) (K.held out.old) (K.held out.new) }
-        ensures few { TakesFew (S.left input.old) (S.left input.new) }
+        ensures few { ReadsAtMost (taken_most LINES_MOST) (S.left input.old) (S.left input.new) }
         ensures source { ReadCause result (S.faults input.old) (S.faults input.new) }
         ensures sink { WriteCause result (K.faults out.old) (K.faults out.new) }
         ensures stopped { IsStopped result self.new.store.stopped }
@@ -206,7 +205,7 @@ impl<D: Disk> Run<D> {
         requires going { self.old.store.stopped ≡ None }
         ensures run { (start : State) → StandsFor self.old.store.core start → (bytes : List ℕ) → S.left input.old ≡ Some bytes
             → Comes start result self.new.store.core (KeepsAround D.seen self.new.store.left self.new.store.right) bytes (S.left input.new) self.new.waiting.items (K.held out.old) (K.held out.new) }
-        ensures few { TakesFew (S.left input.old) (S.left input.new) }
+        ensures few { ReadsAtMost (taken_most LINES_MOST) (S.left input.old) (S.left input.new) }
         ensures caught_up { result ≡ Err Halt.ReadFault → self.new.waiting.items ≡ [] }
         ensures caught_up_too { result ≡ Err Halt.DiskFault → self.new.waiting.items ≡ [] }
         ensures source { ReadCause result (S.faults input.old) (S.faults input.new) }

@@ -2,9 +2,9 @@
 
 ghost use Rattle.std.specs.Prelude.{◌≡◌, ◌≤◌, ◌<◌, ◌+◌, ◌++◌, ◌⊎◌, [], Contains, OnOk, vec_len, vec_capacity};
 ghost use Rattle.liq_ends.specs.Causes.{WriteCause};
-ghost use Rattle.liq_ends.specs.Output.{reply_line};
 ghost use Rattle.liq_run.specs.Calls.{IsCommand};
 ghost use Rattle.liq_run.specs.Writing.{WritesFront};
+ghost use Rattle.liq_text.specs.Replies.{reply_line};
 
 use liq_ends::Halt;
 use liq_lines::{LINE_END, Reader, write_all};

@@ -3,6 +3,7 @@
 ghost use Rattle.std.specs.Prelude.{◌≡◌, [], List, ℕ, Some, Ok, Err};
 ghost use Rattle.liq_outside.specs.Faults.{Rose};
 ghost use Rattle.liq_types.specs.State.{State};
+ghost use Rattle.liq_types.specs.declared.amounts.TheConstants.{LINES_MOST};
 ghost use Rattle.liq_journal.specs.declared.damage.Damage.{Damage};
 ghost use Rattle.liq_pairs.specs.declared.side.Side.{Side};
 ghost use Rattle.liq_pairs.specs.Pair.{state_on};
@@ -12,7 +13,7 @@ ghost use Rattle.liq_ends.specs.Causes.{DiskCause, LastCause, ReadCause};
 ghost use Rattle.liq_ends.specs.Disks.{EndsDamaged};
 ghost use Rattle.liq_ends.specs.Output.{last};
 ghost use Rattle.liq_ends.specs.Stops.{Adds, EndsIn};
-ghost use Rattle.liq_ends.specs.Taking.{TakesFew};
+ghost use Rattle.liq_lines.specs.Reading.{taken_most, ReadsAtMost};
 
 use crate::run::answer_input;
 use liq_ends::{Ending, write_last};
@@ -35,7 +36,7 @@ pub fn run_on<S: Source, K: Sink, D: Disk>(
         × EndsDamaged D.seen side damage (Err halt) result.left result.right
         × Adds [] (last halt) (Rose (K.faults out.old) (K.faults out.new)) (K.held out.old) (K.held out.new)) }
     // No more is taken from the source than 1,000,000 lines of 201 bytes, and what one read asks for.
-    ensures few { TakesFew (S.left input.old) (S.left input.new) }
+    ensures few { ReadsAtMost (taken_most LINES_MOST) (S.left input.old) (S.left input.new) }
     ensures source { ReadCause result.end (S.faults input.old) (S.faults input.new) }
     ensures sink { LastCause result.end (K.faults out.old) (K.faults out.new) }
     ensures disks { DiskCause result.end (counts_of D.faults left right) (counts_of D.faults result.left result.right) }

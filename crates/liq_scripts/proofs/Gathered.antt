@@ -7,16 +7,17 @@ use Rattle.liq_lines.specs.Reading.{unread, Reads, IsOver}
 use Rattle.liq_lines.proofs.LinesRead.{lines_in-unended, lines_in-ended_all, within-append}
 use Rattle.liq_lines.proofs.Told.{told, told_rest, told_left, over_left, first-begun, first-longer, ended-more}
 use Rattle.liq_sessions.specs.declared.script.Script.{Script}
-use Rattle.liq_scripts.specs.declared.stops.Stop.{Stop}
-use Rattle.liq_scripts.specs.declared.stops.Stop.TheVariants.{BadLine, ReadFault, NoMemory, Limit}
-use Rattle.liq_scripts.specs.Asked.{Asks, AreAsked, IsBadLine, scripts_of}
-use Rattle.liq_scripts.specs.Gathering.{BeginsWith, StopsAfter}
+use Rattle.liq_lines.specs.declared.stops.Stop.{Stop}
+use Rattle.liq_lines.specs.declared.stops.Stop.TheVariants.{BadLine, ReadFault, NoMemory, Limit}
+use Rattle.liq_scripts.specs.Asked.{Asks, scripts_of}
 use Rattle.liq_scripts.specs.Progress.{HasRead, HasGathered, Comes, Keeps}
 use Rattle.liq_scripts.proofs.Bad.{bad_long}
+use Rattle.std.specs.List.{AllZip}
+use Rattle.liq_lines.specs.Saying.{IsBadLine, BeginsWith, StopsAfter}
 
 -- ---- where the source tells its bytes
 
-asked-more : (front : List (List ℕ)) (asked : List (ℕ × Request)) (line : List ℕ) (a : ℕ × Request) → AreAsked front asked → Asks line a → AreAsked (front ++ line ∷ []) (asked ++ a ∷ [])
+asked-more : (front : List (List ℕ)) (asked : List (ℕ × Request)) (line : List ℕ) (a : ℕ × Request) → AllZip Asks front asked → Asks line a → AllZip Asks (front ++ line ∷ []) (asked ++ a ∷ [])
 asked-more [] [] line a h k = (k, tt)
 asked-more [] (b ∷ asked) line a h k = absurd h
 asked-more (l ∷ front) [] line a h k = absurd h
@@ -26,7 +27,7 @@ asked-more (l ∷ front) (b ∷ asked) line a h k = (h.0, asked-more front asked
 begins : (bytes : List ℕ) (asked : List (ℕ × Request)) (u : Option (List ℕ)) → (r : HasRead bytes asked u) → lines_in bytes ≡ r.front ++ lines_in r.rest
 begins bytes asked u r = ap lines_in r.bytes_are ∙ lines_in-ended_all r.front r.rest r.within
 
-begins_with : (bytes : List ℕ) (asked : List (ℕ × Request)) (u : Option (List ℕ)) → (r : HasRead bytes asked u) → (lines : List (List ℕ)) → lines_in r.rest ≡ lines → BeginsWith bytes asked lines
+begins_with : (bytes : List ℕ) (asked : List (ℕ × Request)) (u : Option (List ℕ)) → (r : HasRead bytes asked u) → (lines : List (List ℕ)) → lines_in r.rest ≡ lines → BeginsWith Asks bytes asked lines
 begins_with bytes asked u r lines same = (r.front, r.spelled, begins bytes asked u r ∙ ap (λ (ls : List (List ℕ)). r.front ++ ls) same)
 
 line_read : (bytes line : List ℕ) (asked : List (ℕ × Request)) (a : ℕ × Request) (u u' : Option (List ℕ)) → HasRead bytes asked u → Asks line a → IsWithinLine line → Reads u (line ++ 10 ∷ []) u' → HasRead bytes (asked ++ a ∷ []) u'
@@ -81,7 +82,7 @@ gathered_last x start u left n scripts scripts' line taken few h keeps within so
           let r = h.read bytes is in
           let done = over_left r.rest line taken left (told line u (unread taken left) r.rest r.unread_is reads) over in
           let whole = begins bytes h.asked u r ∙ ap (λ (t : List ℕ). r.front ++ lines_in t) done.1 ∙ ap (λ (ls : List (List ℕ)). r.front ++ ls) (lines_in-unended line within some) in
-          (subst (λ (ls : List (List ℕ)). AreAsked ls (h.asked ++ keeps.0 ∷ [])) (sym whole) (asked-more r.front h.asked line keeps.0 r.spelled keeps.1), done.0);
+          (subst (λ (ls : List (List ℕ)). AllZip Asks ls (h.asked ++ keeps.0 ∷ [])) (sym whole) (asked-more r.front h.asked line keeps.0 r.spelled keeps.1), done.0);
     }
 
 -- ---- reading comes to its end
@@ -96,11 +97,11 @@ ended_well x start u left n scripts taken few h reads over =
           let r = h.read bytes is in
           let done = over_left r.rest [] taken left (told [] u (unread taken left) r.rest r.unread_is reads) over in
           let whole = begins bytes h.asked u r ∙ ap (λ (t : List ℕ). r.front ++ lines_in t) done.1 ∙ append-nil r.front in
-          (subst (λ (ls : List (List ℕ)). AreAsked ls h.asked) (sym whole) r.spelled, done.0);
+          (subst (λ (ls : List (List ℕ)). AllZip Asks ls h.asked) (sym whole) r.spelled, done.0);
     }
 
 -- it stops, for a reason that is shown by what was read
-stopped : {T : Type 0} (stop : Stop) (start u left : Option (List ℕ)) (n : ℕ) (scripts : List Script) → n ≤ LINES_MOST → (h : HasGathered start n scripts u) → ((bytes : List ℕ) → HasRead bytes h.asked u → StopsAfter stop bytes left h.asked) → Comes {T = T} (Err stop) start scripts left
+stopped : {T : Type 0} (stop : Stop) (start u left : Option (List ℕ)) (n : ℕ) (scripts : List Script) → n ≤ LINES_MOST → (h : HasGathered start n scripts u) → ((bytes : List ℕ) → HasRead bytes h.asked u → StopsAfter Asks stop bytes left h.asked) → Comes {T = T} (Err stop) start scripts left
 stopped stop start u left n scripts few h why =
     record {
       asked = h.asked;
@@ -117,7 +118,7 @@ ended_by_fault start u left n scripts part taken few h within reads fresh =
 
 -- what is unread begins with a bad line
 abbrev pub StartsBad : Option (List ℕ) → Type 0
-StartsBad u = (rest : List ℕ) → u ≡ Some rest → (line : List ℕ) × IsBadLine line × ((more : List (List ℕ)) × (lines_in rest ≡ line ∷ more))
+StartsBad u = (rest : List ℕ) → u ≡ Some rest → (line : List ℕ) × IsBadLine Asks line × ((more : List (List ℕ)) × (lines_in rest ≡ line ∷ more))
 
 pub ended_by_bad_line : {T : Type 0} (start u left : Option (List ℕ)) (n at : ℕ) (scripts : List Script) → n < LINES_MOST → at ≡ n + 1 → HasGathered start n scripts u → StartsBad u → Comes {T = T} (Err (BadLine at)) start scripts left
 ended_by_bad_line start u left n at scripts few next h bad =

@@ -4,11 +4,12 @@ use Rattle.std.specs.Prelude.{◌==◌, ◌||◌, map}
 use Rattle.std.specs.List.{flat_map, list_any}
 use Rattle.std.proofs.lemmas.List.FromFn.{get_or-map-range_with_len}
 use Rattle.liq_rules.specs.History.{Entry, own_entries}
-use Rattle.liq_scripts.specs.Output.{heading, reply_line, session_text}
-use Rattle.liq_scripts.specs.Sending.{part_text}
+use Rattle.liq_scripts.specs.Output.{session_text}
+use Rattle.liq_scripts.specs.Sending.{part_text, heading}
 use Rattle.liq_scripts.specs.Sessions.{sessions}
 use Rattle.liq_scripts.specs.declared.output.Part.{Part}
 use Rattle.liq_scripts.specs.declared.output.Part.TheVariants.{ReplyTo}
+use Rattle.liq_text.specs.Replies.{reply_line}
 
 module _ {E : Type 0} (entry : E → Entry) where
   -- what is sent of each

@@ -1,6 +1,5 @@
 -- What the lines of several sessions ask.
 use Rattle.std.specs.Prelude.{ℕ, ◌==◌, List, map, filter, IsTrue}
-use Rattle.std.specs.List.{AllZip}
 use Rattle.liq_types.specs.declared.requests.Request.{Request}
 use Rattle.liq_rules.specs.Step.{built}
 use Rattle.liq_sessions.specs.declared.script.Script.{Script}
@@ -10,13 +9,6 @@ use Rattle.liq_scripts.specs.Sessions.{sessions}
 -- the line spells this session and request, and the protocol answers such requests
 abbrev pub Asks : List ℕ → ℕ × Request → Type 0
 Asks line (session, request) = SpellsInSession line session request × IsTrue (built request)
-
-abbrev pub IsBadLine : List ℕ → Type 0
-IsBadLine line = (asked : ℕ × Request) → Asks line asked → ⊥
-
--- each line asks what stands in its place
-abbrev pub AreAsked : List (List ℕ) → List (ℕ × Request) → Type 0
-AreAsked lines asked = AllZip Asks lines asked
 
 -- what a session asks, in order
 abbrev pub requests_of : List (ℕ × Request) → ℕ → List Request

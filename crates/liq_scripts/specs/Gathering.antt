@@ -1,37 +1,21 @@
 -- Where reading ends, and which scripts it gives.
-use Rattle.std.specs.Prelude.{ℕ, ◌≡◌, ◌≤◌, ◌+◌, List, [], ◌∷◌, ◌++◌, length, Option, Some, Result, Ok, Err, IfOk, Vec}
+use Rattle.std.specs.Prelude.{ℕ, ◌≡◌, ◌≤◌, List, [], length, Option, Some, Result, Ok, Err, IfOk, Vec}
+use Rattle.std.specs.List.{AllZip}
 use Rattle.std.specs.Global.{Global}
 use Rattle.liq_types.specs.declared.amounts.TheConstants.{LINES_MOST}
 use Rattle.liq_types.specs.declared.requests.Request.{Request}
 use Rattle.liq_outside.specs.Faults.{Rose}
-use Rattle.liq_lines.specs.Lines.{lines_in, ended, IsPartOfLine}
+use Rattle.liq_lines.specs.declared.stops.Stop.{Stop}
+use Rattle.liq_lines.specs.declared.stops.Stop.TheVariants.{ReadFault}
+use Rattle.liq_lines.specs.Lines.{lines_in}
+use Rattle.liq_lines.specs.Saying.{StopsAfter}
 use Rattle.liq_sessions.specs.declared.script.Script.{Script}
-use Rattle.liq_scripts.specs.declared.stops.Stop.{Stop}
-use Rattle.liq_scripts.specs.declared.stops.Stop.TheVariants.{BadLine, ReadFault, NoMemory, Limit}
-use Rattle.liq_scripts.specs.Asked.{AreAsked, IsBadLine, scripts_of}
-
--- the text begins with lines that ask this, and these lines follow
-abbrev pub BeginsWith : List ℕ → List (ℕ × Request) → List (List ℕ) → Type 0
-BeginsWith bytes asked more = (lines : List (List ℕ)) × AreAsked lines asked × (lines_in bytes ≡ lines ++ more)
-
--- Why reading the bytes stopped after the lines that ask this. `left` is what the source still tells.
-abbrev pub StopsAfter : Stop → List ℕ → Option (List ℕ) → List (ℕ × Request) → Type 0
--- the next line is the first that asks nothing
-StopsAfter (BadLine number) bytes left asked =
-    (number ≡ length asked + 1) × (number ≤ LINES_MOST)
-    × ((line : List ℕ) × IsBadLine line × ((more : List (List ℕ)) × BeginsWith bytes asked (line ∷ more)))
--- they are all whose line ends the source gave
-StopsAfter ReadFault bytes left asked =
-    (front : List (List ℕ)) × AreAsked front asked × ((part : List ℕ) × IsPartOfLine (length asked) part × ((rest : List ℕ) × (left ≡ Some rest) × (bytes ≡ ended front ++ part ++ rest)))
-StopsAfter NoMemory bytes left asked = (more : List (List ℕ)) × BeginsWith bytes asked more
--- as many lines as are answered, and a further one begins
-StopsAfter Limit bytes left asked =
-    (length asked ≡ LINES_MOST) × ((line : List ℕ) × ((more : List (List ℕ)) × BeginsWith bytes asked (line ∷ more)))
+use Rattle.liq_scripts.specs.Asked.{Asks, scripts_of}
 
 -- How reading the bytes ended after the lines that ask this: they are all, and the source is at its end, or it stopped.
 abbrev pub EndsAfter : {T : Type 0} → Result T Stop → List ℕ → Option (List ℕ) → List (ℕ × Request) → Type 0
-EndsAfter (Ok done) bytes left asked = AreAsked (lines_in bytes) asked × (left ≡ Some [])
-EndsAfter (Err stop) bytes left asked = StopsAfter stop bytes left asked
+EndsAfter (Ok done) bytes left asked = AllZip Asks (lines_in bytes) asked × (left ≡ Some [])
+EndsAfter (Err stop) bytes left asked = StopsAfter Asks stop bytes left asked
 
 -- What was asked is in the scripts, in order. It is what the lines asked, where the source told its bytes.
 pub record Gathers (result : Result (Vec Script Global) Stop) (before left : Option (List ℕ)) : Type 0 where

@@ -1,3 +1,5 @@
+-- A reader of the top call's clause needs Asked, Output and Sessions. Gathering, Progress and Sending are for the
+-- contracts below it.
 pub mod Asked
 pub mod Gathering
 pub mod Output

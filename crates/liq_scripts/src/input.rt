@@ -4,16 +4,16 @@ ghost use Rattle.std.specs.Prelude.{[], ◌≡◌, ◌≤◌, ◌<◌, ◌+◌, 
 ghost use Rattle.liq_types.specs.declared.requests.Request.{Request};
 ghost use Rattle.liq_outside.specs.Faults.{Rose};
 ghost use Rattle.liq_lines.specs.Lines.{lines_in};
-ghost use Rattle.liq_lines.specs.Reading.{unread};
+ghost use Rattle.liq_lines.specs.Reading.{unread, taken_most, ReadsAtMost, ReadsFew};
 ghost use Rattle.liq_scripts.specs.declared.scripts.TheConstants.{SESSIONS};
-ghost use Rattle.liq_scripts.specs.Asked.{AreAsked, scripts_of};
+ghost use Rattle.liq_scripts.specs.Asked.{scripts_of, Asks};
 ghost use Rattle.liq_scripts.specs.Gathering.{Gathers, ReadCause};
 ghost use Rattle.liq_scripts.specs.Progress.{HasGathered, Goes, Keeps, Comes};
+ghost use Rattle.std.specs.List.{AllZip};
 
 use crate::scripts::{add, blank};
-use crate::stops::Stop;
 use liq_core::is_built;
-use liq_lines::{LineEnd, Reader};
+use liq_lines::{LineEnd, Reader, Stop};
 use liq_outside::{Failed, Source};
 use liq_sessions::Script;
 use liq_text::read_session_line;
@@ -24,7 +24,8 @@ use std::alloc::Global;
 /// Reads the source to its end, each line a session and its request, and gives the scripts of the eight sessions, in order. It
 /// stops at the first of these:
 ///
-/// - [`Stop::BadLine`]: the line of this number, counted from 1, asks nothing;
+/// - [`Stop::BadLine`]: the line of this number, counted from 1, asks nothing: it spells no session from 1 to 8 and request, or
+///   one that the protocol has not yet;
 /// - [`Stop::ReadFault`]: the source met a fault;
 /// - [`Stop::NoMemory`]: there was no memory;
 /// - [`Stop::Limit`]: a line behind the last that is answered begins.
@@ -32,10 +33,12 @@ pub fn read_scripts<S: Source>(alloc: Global, input: &mut S) -> Result<Vec<Scrip
     ensures read { Gathers result (S.left input.old) (S.left input.new) }
     // All scripts together have no more requests than there are lines.
     ensures few { IfOk result (λ scripts. sum_by (λ script. length script.requests) scripts.items ≤ LINES_MOST) }
+    // At most as many lines are taken from the source as are read, and what one read asks for.
+    ensures takes { ReadsAtMost (taken_most LINES_MOST) (S.left input.old) (S.left input.new) }
     ensures source { ReadCause result (S.faults input.old) (S.faults input.new) }
 
     // Where each line asks something, none is too many and the source meets no fault, memory alone can be missing.
-    ensures complete { (bytes : List ℕ) → S.left input.old ≡ Some bytes → (asked : List (ℕ × Request)) → AreAsked (lines_in bytes) asked
+    ensures complete { (bytes : List ℕ) → S.left input.old ≡ Some bytes → (asked : List (ℕ × Request)) → AllZip Asks (lines_in bytes) asked
         → length asked ≤ LINES_MOST → (Rose (S.faults input.old) (S.faults input.new) → ⊥) → IsOkUnless result Stop.NoMemory }
 {
     let (mut scripts, mut reader, mut line) = buffers(alloc)?;
@@ -65,6 +68,7 @@ fn read_lines<S: Source>(
     requires blank { scripts.old.items ≡ scripts_of [] }
     ensures read { Comes result (S.left input.old) scripts.new.items (S.left input.new) }
     ensures few { OnOk result (sum_by (λ script. length script.requests) scripts.new.items ≤ LINES_MOST) }
+    ensures takes { ReadsAtMost (taken_most LINES_MOST) (S.left input.old) (S.left input.new) }
     ensures source { ReadCause result (S.faults input.old) (S.faults input.new) }
 {
     for read in 0..LINES_MOST {
@@ -93,6 +97,8 @@ fn read_next<S: Source>(
     requires eight { vec_len scripts.old ≡ SESSIONS }
     ensures goes { (start : Option (List ℕ)) → HasGathered start read scripts.old.items (unread reader.old (S.left input.old))
         → Goes start read scripts.new.items (unread reader.new (S.left input.new)) (S.left input.new) result }
+    ensures takes { (before : Option (List ℕ)) → ReadsFew before read reader.old (S.left input.old)
+        → ReadsFew before (read + 1) reader.new (S.left input.new) }
     ensures room { vec_capacity line.new ≡ vec_capacity line.old }
     ensures eight { vec_len scripts.new ≡ SESSIONS }
     ensures source { ReadCause result (S.faults input.old) (S.faults input.new) }

@@ -7,9 +7,8 @@ mod input;
 mod outbox;
 mod output;
 mod scripts;
-mod stops;
 
 pub use input::read_scripts;
+pub use liq_lines::Stop;
 pub use outbox::Outbox;
 pub use output::{Shown, write_served};
-pub use stops::Stop;

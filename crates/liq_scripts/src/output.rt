@@ -5,8 +5,8 @@ ghost use Rattle.std.specs.List.{flat_map, list_any};
 ghost use Rattle.liq_outside.specs.Faults.{HasCause};
 ghost use Rattle.liq_rules.specs.History.{Entry, own_entries};
 ghost use Rattle.liq_lines.specs.Writing.{Writes, WritesPart};
-ghost use Rattle.liq_scripts.specs.Output.{served, replies_text, session_text, history_text};
-ghost use Rattle.liq_scripts.specs.Sending.{Sends, part_text};
+ghost use Rattle.liq_scripts.specs.Output.{served, session_text};
+ghost use Rattle.liq_scripts.specs.Sending.{Sends, part_text, replies_text, history_text};
 
 use crate::outbox::{Line, Outbox};
 use crate::scripts::SESSIONS;

@@ -1,14 +1,21 @@
 -- Serving an input, as an end of the program.
-use Rattle.std.proofs.Common.{◌≡◌, ℕ, List, Option, Some, None, Result, refl, ap, ap₂, ◌∙◌, inl, inr, lit<}
-use Rattle.std.specs.Prelude.{◌⊎◌}
+use Rattle.std.proofs.Common.{◌≡◌, ◌≢◌, ◌<◌, ℕ, zero, suc, List, [], ◌∷◌, map, length, Option, Some, None, Ok, Err, Result, refl, sym, subst, ap, ap₂, ◌∙◌, inl, inr, lit<, arith}
+use Rattle.std.specs.Prelude.{◌⊎◌, Contains, slice_index_or}
+use Rattle.std.specs.List.{AllZip}
+use Rattle.liq_types.specs.declared.amounts.TheConstants.{LINES_MOST}
 use Rattle.liq_types.specs.State.{State}
-use Rattle.liq_rules.specs.History.{Entry}
 use Rattle.liq_types.specs.declared.requests.Request.{Request}
+use Rattle.liq_rules.specs.History.{Entry}
 use Rattle.liq_journal.specs.declared.damage.Damage.{Damage}
-use Rattle.liq_scripts.specs.declared.stops.Stop.{Stop}
-use Rattle.liq_scripts.specs.declared.stops.Stop.TheVariants as stop
+use Rattle.liq_lines.specs.declared.stops.Stop.{Stop}
+use Rattle.liq_lines.specs.declared.stops.Stop.TheVariants as stop
+use Rattle.liq_lines.specs.Lines.{lines_in}
 use Rattle.liq_scripts.specs.Gathering as scripts
 use Rattle.liq_scripts.specs.Output.{served}
+use Rattle.liq_scripts.specs.Asked.{Asks, requests_of, script_of, scripts_of}
+use Rattle.liq_scripts.specs.Sessions.{sessions}
+use Rattle.liq_sessions.specs.declared.script.Script.{Script}
+use Rattle.liq_serving.specs.Answered.{IsServedWhole, LacksMemory, answered_of}
 use Rattle.liq_serving.specs.declared.input.Finish.{Finish}
 use Rattle.liq_serving.specs.declared.input.Finish.TheVariants as finish
 use Rattle.liq_serving.specs.Input as serving
@@ -20,10 +27,10 @@ use Rattle.liq_ends.specs.declared.halts.Halt.TheVariants.{BadLine, ReadFault, D
 use Rattle.liq_ends.specs.declared.halts.Halt.TheVariants as halts
 use Rattle.liq_ends.specs.Causes.{DiskCause, ReadCause, WriteCause}
 use Rattle.liq_ends.specs.Unsaid.{WritesAll}
-use Rattle.liq_serve.specs.Finishing.{end_of}
-use Rattle.liq_serve.specs.Outside.{Outside}
-use Rattle.liq_serve.specs.Serve.{AnswersAll, OpensNone, StopsReading}
 use Rattle.liq_ends.specs.Statuses.{IsDone, status_of}
+use Rattle.liq_serve.specs.Finishing.{end_of}
+use Rattle.liq_serve.specs.Outside.{Outside, Finds}
+use Rattle.liq_serve.specs.Serve.{Answers, AnswersAll, OpensNone, StopsReading}
 
 -- ---- the counts
 
@@ -107,40 +114,53 @@ same_disks seen left right l r a b found told_l told_r told_a told_b on is =
 
 -- ---- what the finish says
 
+found_in : {X Y : Type 0} (f : X → Y) (xs : List X) (k : ℕ) (y : Y) → k < length (map f xs) → slice_index_or (map f xs) k y ≡ y → (x : X) × Contains xs x × (y ≡ f x)
+found_in f [] k y within is = absurd (omega arith)
+found_in f (x ∷ xs) zero y within is = (x, (0, omega arith, refl), sym is)
+found_in f (x ∷ xs) (suc k) y within is =
+    let later = found_in f xs k y (omega arith) is in
+    (later.0, (suc later.1.0, omega (arith, later.1.1), later.1.2), later.2)
+
+-- a script that lacks replies is that of a session
+lacking : (asked : List (ℕ × Request)) (history : List Entry) → LacksMemory (scripts_of asked) history
+    → (history ≡ []) ⊎ ((length history < LINES_MOST) × ((session : ℕ) × Contains sessions session × (requests_of asked session ≢ answered_of session history)))
+lacking asked history (inl none) = inl none
+lacking asked history (inr some) =
+    let script = some.1.0 in
+    let there = some.1.1 in
+    let of_one = found_in (script_of asked) sessions there.0 script there.1 there.2 in
+    inr (some.0, (of_one.0, of_one.1, subst (λ (s : Script). IsServedWhole history s → ⊥) of_one.2 some.1.2))
+
 module _ {S D : Type 0} (seen : D → Option (List ℕ)) (before after : Outside S D) (asked : List (ℕ × Request)) (history : List Entry) where
+  -- the call that met a disk's fault
+  halted_by : (end : Result (Unit {0}) Halt) (halted : Option (ℕ × Request)) → serving.Answers finish.DiskFault halted asked history
+      → ((l r : List ℕ) (start : State) → Finds seen before l r (Ok start) → serving.HoldsAfter seen finish.DiskFault halted history l r start after.left after.right)
+      → Answers seen before after end asked history (Err DiskFault)
+  halted_by end None h disks = absurd h
+  halted_by end (Some (session, request)) h disks = (session, (request, (h.0, h.1, h.2, disks)))
+
   abbrev pub Came : Result (Unit {0}) Halt → Type 0
   Came end =
       StopsReading seen before after end asked history
-      ⊎ (OpensNone seen before after end asked history ⊎ AnswersAll seen before after end asked history)
+      ⊎ (((bytes : List ℕ) → before.unread ≡ Some bytes → AllZip Asks (lines_in bytes) asked × (after.unread ≡ Some []))
+      × (OpensNone seen before after end asked history ⊎ AnswersAll seen before after end asked history))
 
   pub came_by : (how : Finish) → AnswersInput seen before.unread after.unread before.left before.right (record { left = after.left; right = after.right; finish = how }) asked history
       → ((why_not : Stop) → how ≡ finish.NotRead why_not → (after.left ≡ before.left) × (after.right ≡ before.right)) → Came (end_of how)
-  came_by finish.All a same = inr (inr (record {
-    read = a.read;
-    halted = None;
-    answers = (refl, a.answers);
-    disks = λ l r start found. a.disks l r start found.left found.right found.is;
+  came_by finish.All a same = inr (a.read, inr (record {
+    answers = (a.answers, λ l r start found. a.disks l r start found.left found.right found.is);
     whole = λ l r side damage found. a.damaged l r side damage found.left found.right found.is;
   }))
-  came_by finish.WriteFault a same = inr (inr (record {
-    read = a.read;
-    halted = None;
-    answers = (refl, a.answers);
-    disks = λ l r start found. a.disks l r start found.left found.right found.is;
+  came_by finish.WriteFault a same = inr (a.read, inr (record {
+    answers = (a.answers, λ l r start found. a.disks l r start found.left found.right found.is);
     whole = λ l r side damage found. a.damaged l r side damage found.left found.right found.is;
   }))
-  came_by finish.NoMemory a same = inr (inr (record {
-    read = a.read;
-    halted = None;
-    answers = (refl, a.answers);
-    disks = λ l r start found. a.disks l r start found.left found.right found.is;
+  came_by finish.NoMemory a same = inr (a.read, inr (record {
+    answers = (lacking asked history a.answers, λ l r start found. a.disks l r start found.left found.right found.is);
     whole = λ l r side damage found. a.damaged l r side damage found.left found.right found.is;
   }))
-  came_by finish.DiskFault a same = inr (inr (record {
-    read = a.read;
-    halted = a.halted;
-    answers = a.answers;
-    disks = λ l r start found. a.disks l r start found.left found.right found.is;
+  came_by finish.DiskFault a same = inr (a.read, inr (record {
+    answers = halted_by (Err DiskFault) a.halted a.answers (λ l r start found. a.disks l r start found.left found.right found.is);
     whole = λ l r side damage found. a.damaged l r side damage found.left found.right found.is;
   }))
   came_by (finish.NotRead why_not) a same = inl (record {
@@ -151,23 +171,20 @@ module _ {S D : Type 0} (seen : D → Option (List ℕ)) (before after : Outside
     left_same = (same why_not refl).0;
     right_same = (same why_not refl).1;
   })
-  came_by (finish.NotOpened why.DiskFault) a same = inr (inl (record {
+  came_by (finish.NotOpened why.DiskFault) a same = inr (a.read, inl (record {
     statuses = (0, lit< tt, refl);
-    read = a.read;
     none = a.answers;
     disks = λ l r start found. ((0, lit< tt, refl), a.disks l r start found.left found.right found.is);
     damaged = λ l r side damage found. tt;
   }))
-  came_by (finish.NotOpened why.NoMemory) a same = inr (inl (record {
+  came_by (finish.NotOpened why.NoMemory) a same = inr (a.read, inl (record {
     statuses = (2, lit< tt, refl);
-    read = a.read;
     none = a.answers;
     disks = λ l r start found. ((1, lit< tt, refl), a.disks l r start found.left found.right found.is);
     damaged = λ l r side damage found. a.damaged l r side damage found.left found.right found.is;
   }))
-  came_by (finish.NotOpened (why.Damaged which met)) a same = inr (inl (record {
+  came_by (finish.NotOpened (why.Damaged which met)) a same = inr (a.read, inl (record {
     statuses = (1, lit< tt, refl);
-    read = a.read;
     none = a.answers;
     disks = λ l r start found. absurd (a.disks l r start found.left found.right found.is);
     damaged = λ l r side damage found.

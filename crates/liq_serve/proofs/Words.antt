@@ -2,13 +2,16 @@
 use Rattle.std.proofs.Common.{◌≡◌, ◌≤◌, ℕ, List, [], ◌∷◌, length, Option, Some, Ok, Err, Result, refl, sym, subst, arith, lit<, inl, inr}
 use Rattle.std.specs.Prelude.{◌⊎◌, ◌↔◌, Contains, IfOk}
 use Rattle.std.proofs.lemmas.List.Elements.{All-nil}
+use Rattle.std.specs.List.{AllZip}
 use Rattle.liq_outside.specs.Faults.{Rose}
 use Rattle.liq_types.specs.declared.amounts.TheConstants.{LINES_MOST}
 use Rattle.liq_types.specs.declared.requests.Request.{Request}
 use Rattle.liq_types.specs.State.{State, opening}
 use Rattle.liq_lines.specs.Lines.{lines_in}
-use Rattle.liq_scripts.specs.declared.stops.Stop.TheVariants as stop
-use Rattle.liq_scripts.specs.Asked.{AreAsked}
+use Rattle.liq_lines.specs.declared.stops.Stop.TheVariants as stop
+use Rattle.liq_lines.specs.Reading.{taken_most, ReadsAtMost}
+use Rattle.liq_lines.proofs.Readings.{takes_none}
+use Rattle.liq_scripts.specs.Asked.{Asks}
 use Rattle.liq_journal.specs.declared.damage.Damage.{Damage}
 use Rattle.liq_pairs.specs.declared.side.Side.{Side}
 use Rattle.liq_pairs.specs.Pair.{commands_on, state_on}
@@ -20,25 +23,23 @@ use Rattle.liq_words.specs.declared.words.WordsFault.TheVariants as fault
 use Rattle.liq_words.specs.Words.{Ask}
 use Rattle.liq_ends.specs.declared.halts.Halt.{Halt}
 use Rattle.liq_ends.specs.declared.halts.Halt.TheVariants.{BadLine, ReadFault, WriteFault, DiskFault, Damaged, NoMemory, Limit}
-use Rattle.liq_store.specs.Causes.{Faults}
-use Rattle.liq_tell.specs.Audit.{IsAuditOf}
 use Rattle.liq_ends.specs.Causes.{DiskCause, LastCause, ReadCause}
 use Rattle.liq_ends.specs.Disks.{DisksStay, EndsDamaged}
-use Rattle.liq_load.specs.Load.{load, summary}
 use Rattle.liq_ends.specs.Output.{last, usage}
-use Rattle.liq_serve.specs.Outside.{Outside, DiskRose, Finds, SinkRose, SourceRose}
-use Rattle.liq_serve.specs.Serve.{ServesTo}
-use Rattle.liq_tell.specs.State.{standing}
 use Rattle.liq_ends.specs.Statuses.{IsDone, status_of}
 use Rattle.liq_ends.specs.Stops.{Adds, EndsIn}
-use Rattle.liq_ends.specs.Taking.{TakesFew}
 use Rattle.liq_ends.specs.Telling.{TellsAll}
-use Rattle.liq_serve.specs.Top.{Ends, EndsOverDamage, HasCauses, Loads}
-use Rattle.liq_tell.proofs.Audited.{no_limit}
 use Rattle.liq_ends.proofs.Causes.{disk_causes, sink_causes, source_causes}
-use Rattle.liq_ends.proofs.Few.{takes_none}
 use Rattle.liq_ends.proofs.Opened.{standing_still, state_formed, untouched}
 use Rattle.liq_ends.proofs.Shares.{all_shares}
+use Rattle.liq_store.specs.Causes.{Faults, OneRose}
+use Rattle.liq_tell.specs.Audit.{IsAuditOf}
+use Rattle.liq_tell.specs.State.{standing}
+use Rattle.liq_tell.proofs.Audited.{no_limit}
+use Rattle.liq_load.specs.Load.{load, summary}
+use Rattle.liq_serve.specs.Outside.{Outside, Finds, SinkRose}
+use Rattle.liq_serve.specs.Serve.{ServesTo}
+use Rattle.liq_serve.specs.Top.{Ends, EndsOverDamage, HasCauses, Loads}
 use Rattle.liq_serve.proofs.Served.{same_disks}
 use Rattle.liq_serve.proofs.StatusLaws.{complete, status_known}
 use Rattle.liq_serve.proofs.Telling.{audit_done, disks_unasked, load_done, source_unasked, state_done}
@@ -120,7 +121,7 @@ module _ {S D : Type 0} (seen : D → Option (List ℕ)) (before after : Outside
       → ((bytes l r : List ℕ) → before.unread ≡ Some bytes → seen before.left ≡ Some l → seen before.right ≡ Some r → (start : State) → state_on l r ≡ Ok start
       → EndsIn seen start end bytes l r after.unread (SinkRose before after) before.held after.held after.left after.right)
       → IsOverDamage (status_of end)
-      → TakesFew before.unread after.unread
+      → ReadsAtMost (taken_most LINES_MOST) before.unread after.unread
       → Ends seen before after (status_of end) words
   run_ends words end read counts told damaged few =
       let causes = has_causes end counts in
@@ -138,7 +139,7 @@ module _ {S D : Type 0} (seen : D → Option (List ℕ)) (before after : Outside
         audit = λ asked. absurd (cc (read.only word.Audit asked));
         gen = λ seed count asked. absurd (cc (read.only (word.Gen seed count) asked));
         damaged = λ asked. over_damage (status_of end) damaged;
-        takes = λ other. few;
+        takes = few;
         causes = causes;
       }
 
@@ -149,7 +150,7 @@ module _ {S D : Type 0} (seen : D → Option (List ℕ)) (before after : Outside
       → ((l r : List ℕ) → seen before.left ≡ Some l → seen before.right ≡ Some r → (start : State) → state_on l r ≡ Ok start
       → Contains (0 ∷ 4 ∷ 5 ∷ 7 ∷ []) (status_of end) × TellsAll (standing start) end (SinkRose before after) before.held after.held × DisksStay seen end l r start after.left after.right)
       → IsOverDamage (status_of end)
-      → TakesFew before.unread after.unread
+      → ReadsAtMost (taken_most LINES_MOST) before.unread after.unread
       → Ends seen before after (status_of end) words
   state_ends words end read counts reads told damaged few =
       let causes = has_causes end counts in
@@ -167,7 +168,7 @@ module _ {S D : Type 0} (seen : D → Option (List ℕ)) (before after : Outside
         audit = λ asked. absurd (cc (read.only word.Audit asked));
         gen = λ seed count asked. absurd (cc (read.only (word.Gen seed count) asked));
         damaged = λ asked. over_damage (status_of end) damaged;
-        takes = λ other. few;
+        takes = few;
         causes = causes;
       }
 
@@ -177,10 +178,11 @@ module _ {S D : Type 0} (seen : D → Option (List ℕ)) (before after : Outside
       (words : List (List ℕ)) (end : Result (Unit {0}) Halt) → IsRead words word.Serve → HasCounts end
       → ServesTo seen before after end
       → ((bytes l r : List ℕ) → before.unread ≡ Some bytes → seen before.left ≡ Some l → seen before.right ≡ Some r → (start : State) → state_on l r ≡ Ok start
-      → (asked : List (ℕ × Request)) → AreAsked (lines_in bytes) asked → length asked ≤ LINES_MOST
-      → (SourceRose before after → ⊥) → (SinkRose before after → ⊥) → (DiskRose before after → ⊥) → IsDone (status_of end))
+      → (asked : List (ℕ × Request)) → AllZip Asks (lines_in bytes) asked → length asked ≤ LINES_MOST
+      → (Rose before.source_faults after.source_faults → ⊥) → (SinkRose before after → ⊥) → (OneRose before.disk_faults after.disk_faults → ⊥) → IsDone (status_of end))
+      → ReadsAtMost (taken_most LINES_MOST) before.unread after.unread
       → Ends seen before after (status_of end) words
-  serve_ends words end read counts told done =
+  serve_ends words end read counts told done few =
       record {
         understood = (λ is. absurd (not_usage end is), λ none. absurd (none word.Serve read.asks));
         usage = λ is. absurd (not_usage end is);
@@ -193,7 +195,7 @@ module _ {S D : Type 0} (seen : D → Option (List ℕ)) (before after : Outside
         audit = λ asked. absurd (cc (read.only word.Audit asked));
         gen = λ seed count asked. absurd (cc (read.only (word.Gen seed count) asked));
         damaged = λ asked. absurd (opens_first words word.Serve read (λ e. cc) (λ e. cc) (λ e. cc) asked);
-        takes = λ other. absurd (other read.asks);
+        takes = few;
         causes = has_causes end counts;
       }
 
@@ -206,7 +208,7 @@ module _ {S D : Type 0} (seen : D → Option (List ℕ)) (before after : Outside
       × ((text : List ℕ) × IsAuditOf start (commands_on l r) end text × TellsAll text end (SinkRose before after) before.held after.held)
       × DisksStay seen end l r start after.left after.right)
       → IsOverDamage (status_of end)
-      → TakesFew before.unread after.unread
+      → ReadsAtMost (taken_most LINES_MOST) before.unread after.unread
       → ((l r : List ℕ) (s : State) → state_on l r ≡ Ok s → replay 1 opening (commands_on l r) ≡ Ok s)
       → Ends seen before after (status_of end) words
   audit_ends words end read counts reads told damaged few leads =
@@ -228,7 +230,7 @@ module _ {S D : Type 0} (seen : D → Option (List ℕ)) (before after : Outside
         };
         gen = λ seed count asked. absurd (cc (read.only (word.Gen seed count) asked));
         damaged = λ asked. over_damage (status_of end) damaged;
-        takes = λ other. few;
+        takes = few;
         causes = causes;
       }
 
@@ -271,7 +273,7 @@ module _ {S D : Type 0} (seen : D → Option (List ℕ)) (source : S) (unread : 
               complete = λ none. load_done (status_of end) ends (λ e. none (causes.sink_fault e));
             }));
         damaged = λ asked. absurd (opens_first words (word.Gen seed count) read (λ e. cc) (λ e. cc) (λ e. cc) asked);
-        takes = λ other. takes_none unread;
+        takes = takes_none unread;
         causes = causes;
       }
 
@@ -309,7 +311,7 @@ module _ {S D : Type 0} (seen : D → Option (List ℕ)) (source : S) (unread : 
         audit = λ asked. absurd (none word.Audit asked);
         gen = λ seed count asked. absurd (none (word.Gen seed count) asked);
         damaged = λ asked. absurd (some_asked words none asked);
-        takes = λ other. takes_none unread;
+        takes = takes_none unread;
         causes = record {
           known = (1, lit< tt, refl);
           source_fault = λ is. absurd (omega (arith, is));
@@ -370,7 +372,7 @@ module _ {S D : Type 0} (seen : D → Option (List ℕ)) (source : S) (unread : 
           ends = λ a b told_a told_b. same_disks seen left right l r a b (Err (side, damage)) found.left found.right told_a told_b state_on found.is;
           written = written;
         };
-        takes = λ other. takes_none unread;
+        takes = takes_none unread;
         causes = record {
           known = (7, lit< tt, refl);
           source_fault = λ is. absurd (omega (arith, is));

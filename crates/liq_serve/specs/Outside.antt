@@ -5,7 +5,7 @@ use Rattle.liq_outside.specs.Faults.{Rose}
 use Rattle.liq_journal.specs.declared.damage.Damage.{Damage}
 use Rattle.liq_pairs.specs.declared.side.Side.{Side}
 use Rattle.liq_pairs.specs.Pair.{state_on}
-use Rattle.liq_store.specs.Causes.{Faults, OneRose, counts_of}
+use Rattle.liq_store.specs.Causes.{Faults, counts_of}
 
 pub record Outside (S D : Type 0) : Type 0 where
   -- the source, what it has left, where it tells that, and its count of faults
@@ -43,14 +43,8 @@ pub record Finds
   pub is : state_on l r ≡ found
 
 module _ {S D : Type 0} (before after : Outside S D) where
-  abbrev pub SourceRose : Type 0
-  SourceRose = Rose before.source_faults after.source_faults
-
   abbrev pub SinkRose : Type 0
   SinkRose = Rose before.sink_faults after.sink_faults
-
-  abbrev pub DiskRose : Type 0
-  DiskRose = OneRose before.disk_faults after.disk_faults
 
   -- nothing was read, and the disks are as they were
   pub record IsUntouched : Type 0 where

@@ -1,38 +1,41 @@
 -- What the top call leaves, word by word, and which counts rise.
 use Rattle.std.specs.Prelude.{ℕ, ◌≡◌, ◌≢◌, ◌≤◌, ◌⊎◌, ◌↔◌, ◌∷◌, []}
 use Rattle.std.specs.Prelude.{Contains, List, length, Option, Some, None, Result, Ok, Err}
+use Rattle.std.specs.List.{AllZip}
 use Rattle.liq_types.specs.declared.amounts.TheConstants.{LINES_MOST}
 use Rattle.liq_types.specs.declared.requests.Request.{Request}
 use Rattle.liq_types.specs.State.{State, opening}
 use Rattle.liq_rules.specs.Events.{events}
 use Rattle.liq_journal.specs.declared.damage.Damage.{Damage}
 use Rattle.liq_lines.specs.Lines.{lines_in}
+use Rattle.liq_lines.specs.Reading.{taken_most, ReadsAtMost}
 use Rattle.liq_pairs.specs.declared.side.Side.{Side}
 use Rattle.liq_pairs.specs.Pair.{commands_on}
 use Rattle.liq_review.specs.Limits.{number_above}
-use Rattle.liq_scripts.specs.Asked.{AreAsked}
+use Rattle.liq_scripts.specs.Asked.{Asks}
 use Rattle.liq_words.specs.declared.words.Word.{Word}
 use Rattle.liq_words.specs.declared.words.Word.TheVariants as word
 use Rattle.liq_words.specs.Words.{Ask}
 use Rattle.liq_ends.specs.declared.halts.Halt.{Halt}
-use Rattle.liq_tell.specs.Audit.{IsAuditOf}
 use Rattle.liq_ends.specs.Disks.{DisksStay, EndsDamaged}
-use Rattle.liq_load.specs.Load.{load, summary}
 use Rattle.liq_ends.specs.Output.{last, usage}
-use Rattle.liq_serve.specs.Outside.{Outside, DiskRose, Finds, IsUntouched, SinkRose, SourceRose}
-use Rattle.liq_ends.specs.Requests.{AreRequests}
-use Rattle.liq_serve.specs.Serve.{ServesTo}
-use Rattle.liq_tell.specs.State.{standing}
+use Rattle.liq_ends.specs.Requests.{IsRequest}
 use Rattle.liq_ends.specs.Statuses.{IsDone, status_of}
 use Rattle.liq_ends.specs.Stops.{Adds, EndsIn}
-use Rattle.liq_ends.specs.Taking.{TakesFew}
 use Rattle.liq_ends.specs.Telling.{TellsAll}
+use Rattle.liq_tell.specs.Audit.{IsAuditOf}
+use Rattle.liq_tell.specs.State.{standing}
+use Rattle.liq_load.specs.Load.{load, summary}
+use Rattle.liq_serve.specs.Outside.{Outside, Finds, IsUntouched, SinkRose}
+use Rattle.liq_serve.specs.Serve.{ServesTo}
+use Rattle.liq_outside.specs.Faults.{Rose}
+use Rattle.liq_store.specs.Causes.{OneRose}
 
 module _ {S D : Type 0} (seen : D → Option (List ℕ)) (before after : Outside S D) (status : ℕ) where
   -- neither the sink nor a disk met a fault
   pub record IsCalm : Type 0 where
     pub sink : SinkRose before after → ⊥
-    pub disk : DiskRose before after → ⊥
+    pub disk : OneRose before.disk_faults after.disk_faults → ⊥
 
   -- over disks with this first damage nothing is read, and a last line alone is written
   pub record EndsOverDamage (side : Side) (damage : Damage) : Type 0 where
@@ -53,8 +56,8 @@ module _ {S D : Type 0} (seen : D → Option (List ℕ)) (before after : Outside
     -- where nothing is wrong with lines, streams and disks, all is answered
     pub complete :
         (bytes l r : List ℕ) (start : State) (requests : List Request) → before.unread ≡ Some bytes
-        → Finds seen before l r (Ok start) → AreRequests (lines_in bytes) requests
-        → length requests ≤ LINES_MOST → (SourceRose before after → ⊥) → IsCalm → IsDone status
+        → Finds seen before l r (Ok start) → AllZip IsRequest (lines_in bytes) requests
+        → length requests ≤ LINES_MOST → (Rose before.source_faults after.source_faults → ⊥) → IsCalm → IsDone status
 
   -- `serve`: each session's lines are answered in order, all sessions' at once
   pub record Serves : Type 0 where
@@ -64,8 +67,8 @@ module _ {S D : Type 0} (seen : D → Option (List ℕ)) (before after : Outside
         × ServesTo seen before after end
     pub complete :
         (bytes l r : List ℕ) (start : State) (asked : List (ℕ × Request)) → before.unread ≡ Some bytes
-        → Finds seen before l r (Ok start) → AreAsked (lines_in bytes) asked → length asked ≤ LINES_MOST
-        → (SourceRose before after → ⊥) → IsCalm → IsDone status
+        → Finds seen before l r (Ok start) → AllZip Asks (lines_in bytes) asked → length asked ≤ LINES_MOST
+        → (Rose before.source_faults after.source_faults → ⊥) → IsCalm → IsDone status
 
   -- `state`: nothing is read
   pub record States : Type 0 where
@@ -112,11 +115,11 @@ module _ {S D : Type 0} (seen : D → Option (List ℕ)) (before after : Outside
   -- A fault has its cause, and none is passed over.
   pub record HasCauses : Type 0 where
     pub known : Contains (0 ∷ 1 ∷ 2 ∷ 3 ∷ 4 ∷ 5 ∷ 6 ∷ 7 ∷ 8 ∷ []) status
-    pub source_fault : status ≡ 3 → SourceRose before after
+    pub source_fault : status ≡ 3 → Rose before.source_faults after.source_faults
     pub source_same : status ≢ 3 → after.source_faults ≡ before.source_faults
     pub sink_fault : status ≡ 4 → SinkRose before after
     pub sink_same : status ≡ 0 → after.sink_faults ≡ before.sink_faults
-    pub disk_fault : status ≡ 5 → DiskRose before after
+    pub disk_fault : status ≡ 5 → OneRose before.disk_faults after.disk_faults
     pub disk_same : status ≢ 5 → after.disk_faults ≡ before.disk_faults
 
   -- the clause of the top call, for each list of words
@@ -134,6 +137,6 @@ module _ {S D : Type 0} (seen : D → Option (List ℕ)) (before after : Outside
         Ask words word.Run ⊎ (Ask words word.State ⊎ Ask words word.Audit)
         → (l r : List ℕ) (side : Side) (damage : Damage) → Finds seen before l r (Err (side, damage))
         → EndsOverDamage side damage
-    -- but for `serve`: no more is taken from the source than the lines that one run answers, and what one read asks for
-    pub takes : (Ask words word.Serve → ⊥) → TakesFew before.unread after.unread
+    -- no more is taken from the source than the lines that one run answers, and what one read asks for
+    pub takes : ReadsAtMost (taken_most LINES_MOST) before.unread after.unread
     pub causes : HasCauses

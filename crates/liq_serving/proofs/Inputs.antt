@@ -16,6 +16,7 @@ use Rattle.liq_rules.specs.History as history
 use Rattle.liq_rules.specs.History.{state_after}
 use Rattle.liq_rules.specs.Step.{Ruling, Refused, Repeated, Allowed, after, after_ruling, ruling}
 use Rattle.liq_rules.proofs.Histories.{legal-empty}
+use Rattle.liq_rules.specs.Recorded.{recorded}
 use Rattle.liq_journal.specs.declared.damage.Damage.{Damage}
 use Rattle.liq_pairs.specs.declared.side.Side.{Side}
 use Rattle.liq_pairs.specs.Kept.{IsKept}
@@ -30,15 +31,14 @@ use Rattle.liq_store.specs.Stored.{Stored}
 use Rattle.liq_store.proofs.Recovered.{still_kept}
 use Rattle.liq_sessions.specs.declared.script.Script.{Script}
 use Rattle.liq_lines.specs.Lines.{lines_in}
+use Rattle.liq_lines.specs.declared.stops.Stop.{Stop}
+use Rattle.liq_lines.specs.declared.stops.Stop.TheVariants as stop
 use Rattle.liq_scripts.specs.declared.scripts.TheConstants.{SESSIONS}
-use Rattle.liq_scripts.specs.declared.stops.Stop.{Stop}
-use Rattle.liq_scripts.specs.declared.stops.Stop.TheVariants as stop
 use Rattle.liq_scripts.specs.Asked.{requests_of, script_of, scripts_of}
 use Rattle.liq_scripts.specs.Gathering.{EndsAfter, Gathers}
 use Rattle.liq_scripts.specs.Sessions.{sessions}
 use Rattle.liq_book.specs.declared.items.Halt.{Halt}
 use Rattle.liq_book.specs.Booked.{CausesHalt}
-use Rattle.liq_rules.specs.Recorded.{recorded}
 use Rattle.liq_serving.specs.Answered.{AreServedFrom, IsNextOf, IsServedFrom, IsServedWhole, LacksMemory}
 use Rattle.liq_serving.specs.declared.input.Finish.{Finish}
 use Rattle.liq_serving.specs.declared.input.Finish.TheVariants as finish
@@ -87,6 +87,12 @@ are_numbered asked scripts are = subst AreNumbered (sym are) (numbered_at asked 
 
 pub are_eight : (asked : List (ℕ × Request)) (scripts : List Script) → scripts ≡ scripts_of asked → length scripts ≡ 8
 are_eight asked scripts are = ap length are
+
+-- the session of a script is one of the eight
+in_range : (asked : List (ℕ × Request)) (scripts : List Script) (script : Script) (session : ℕ) → scripts ≡ scripts_of asked → Contains scripts script → script.session ≡ session → (1 ≤ session) × (session ≤ SESSIONS)
+in_range asked scripts script session are there whose =
+    let at : session ≡ there.0 + 1 = sym whose ∙ ap (λ (s : Script). s.session) (sym there.2) ∙ are_numbered asked scripts are there.0 script there.1 in
+    (omega (arith, at), omega (arith, at, there.1, are_eight asked scripts are))
 
 -- ---- a call that met a fault
 
@@ -248,8 +254,9 @@ module _ {D : Type 0} (seen : D → Option (List ℕ)) (faults : D → ℕ) (mom
       (λ is. subst (λ (list : List Script). LacksMemory list entries) are (serves.memory is))
       (λ halt is.
       let next = (rw is at serves.disks).0 in
-      subst (λ (e : End). IsSomeAnd (halted_in e) (λ (call : ℕ × Request). IsNextOf entries call.1 (script_of asked call.0))) (sym is)
-      (next_asked asked scripts entries halt.request next.0 halt.session are next.1 next.2 next.3))
+      let range = in_range asked scripts next.0 halt.session are next.1 next.2 in
+      subst (λ (e : End). Answers finish.DiskFault (halted_in e) asked entries) (sym is)
+      (range.0, range.1, next_asked asked scripts entries halt.request next.0 halt.session are next.1 next.2 next.3))
 
   disks_by : (start : State) → ServesAt start → (how : Finish) → IsFinishOf served.end how → (l r : List ℕ) → HoldsAfter seen how (halted_in served.end) entries l r start served.left served.right
   disks_by start serves how how_is l r =

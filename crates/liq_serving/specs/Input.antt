@@ -17,9 +17,9 @@ use Rattle.liq_pairs.specs.Unfinished.{IsRecovered}
 use Rattle.liq_store.specs.declared.answers.StoreWhy.TheVariants as why
 use Rattle.liq_store.specs.Causes.{CausesWhy, Faults, OneRose}
 use Rattle.liq_lines.specs.Writing.{Writes, WritesPart}
+use Rattle.liq_lines.specs.declared.stops.Stop.{Stop}
+use Rattle.liq_lines.specs.declared.stops.Stop.TheVariants as stop
 use Rattle.liq_scripts.specs.declared.scripts.TheConstants.{SESSIONS}
-use Rattle.liq_scripts.specs.declared.stops.Stop.{Stop}
-use Rattle.liq_scripts.specs.declared.stops.Stop.TheVariants as stop
 use Rattle.liq_scripts.specs.Asked.{script_of, scripts_of}
 use Rattle.liq_scripts.specs.Gathering.{EndsAfter}
 use Rattle.liq_scripts.specs.Output.{served}
@@ -40,13 +40,14 @@ reading_of _ = Ok tt
 -- ---- what was answered
 
 -- All where the output was begun, and none where no store was opened. Where a call met a disk's fault, it is that of
--- the next request of its session.
+-- the next request of its session, which is one of the eight.
 abbrev pub Answers : Finish → Option (ℕ × Request) → List (ℕ × Request) → List Entry → Type 0
 Answers finish.All halted asked history = AreServedWhole asked history
 Answers finish.WriteFault halted asked history = AreServedWhole asked history
 Answers finish.NoMemory halted asked history = LacksMemory (scripts_of asked) history
 Answers finish.DiskFault halted asked history =
-    IsSomeAnd halted (λ (call : ℕ × Request). IsNextOf history call.1 (script_of asked call.0))
+    IsSomeAnd halted (λ (call : ℕ × Request).
+    (1 ≤ call.0) × (call.0 ≤ SESSIONS) × IsNextOf history call.1 (script_of asked call.0))
 Answers _ halted asked history = history ≡ []
 
 -- ---- what was written

@@ -7,7 +7,7 @@ use Rattle.liq_types.specs.State.{State}
 use Rattle.liq_stability.specs.declared.words.PoolWords.{PoolWords}
 use Rattle.liq_stability.specs.Words.{pool_words}
 use Rattle.liq_rules.specs.Step.{step}
-use Rattle.liq_ends.specs.Output.{reply_line}
+use Rattle.liq_text.specs.Replies.{reply_line}
 
 -- the line of the reply to a query
 abbrev pub answer_line : State → Query → List ℕ

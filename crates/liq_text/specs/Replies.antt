@@ -1,5 +1,5 @@
--- The text of a reply, without its line end.
-use Rattle.std.specs.Prelude.{ℕ, ◌<◌, ◌≤◌, ◌^◌, length, List, [], ◌∷◌, map, codes, decimal}
+-- The text of a reply.
+use Rattle.std.specs.Prelude.{ℕ, ◌<◌, ◌≤◌, ◌^◌, length, List, [], ◌∷◌, ◌++◌, map, codes, decimal}
 use Rattle.std.specs.List.{join_with_byte, AllByRecursion}
 use Rattle.liq_types.specs.declared.replies.Reply.{Reply}
 use Rattle.liq_types.specs.declared.replies.Reply.TheVariants.{Said, Told, No}
@@ -22,9 +22,13 @@ reply_words (Said d) = codes "ok" ∷ map decimal (shown_values d)
 reply_words (Told info) = info_words info
 reply_words (No refusal) = codes "no" ∷ map decimal (refusal_numbers refusal)
 
--- the words with one space between two
+-- the words with one space between two, without a line end
 abbrev pub text : Reply → List ℕ
 text reply = join_with_byte 32 (reply_words reply)
+
+-- and with its line end
+abbrev pub reply_line : Reply → List ℕ
+reply_line reply = text reply ++ 10 ∷ []
 
 -- ---- how long a text may be
 

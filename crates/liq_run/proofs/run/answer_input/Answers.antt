@@ -1,10 +1,10 @@
 use Rattle.std.proofs.Common.{sym, subst}
 use Rattle.liq_ends.specs.declared.ending.Ending.{Ending}
 use Rattle.liq_ends.proofs.Opened.{opened_at}
-use Rattle.liq_ends.proofs.Few.{takes_none}
 use Rattle.liq_run.specs.Progress.{GivesBack}
 use Rattle.liq_run.proofs.Leaving.{gives_back, unopened_by}
 use Rattle.liq_run.proofs.run.answer_input.Goals as goal
+use Rattle.liq_lines.proofs.Readings.{takes_none}
 
 pub returns-in-Err-clause-run : goal.returns-in-Err-clause-run
 returns-in-Err-clause-run g c bytes l r told told_l told_r start is =

@@ -1,6 +1,6 @@
 use Rattle.std.proofs.Common.{Result, refl, sym, subst, ◌∙◌}
-use Rattle.liq_scripts.specs.declared.stops.Stop.{Stop}
-use Rattle.liq_scripts.specs.declared.stops.Stop.TheVariants.{NoMemory}
+use Rattle.liq_lines.specs.declared.stops.Stop.{Stop}
+use Rattle.liq_lines.specs.declared.stops.Stop.TheVariants.{NoMemory}
 use Rattle.liq_scripts.specs.Progress.{Keeps}
 use Rattle.liq_scripts.proofs.Bad.{bad_unbuilt}
 use Rattle.liq_scripts.proofs.Residual.{handed_on}

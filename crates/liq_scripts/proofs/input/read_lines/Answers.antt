@@ -1,12 +1,33 @@
-use Rattle.std.proofs.Common.{◌≡◌, [], Result, refl, sym, subst, arith}
+use Rattle.std.proofs.Common.{◌≡◌, ◌+◌, [], ◌∷◌, Result, refl, sym, subst, ◌∙◌, arith, rules}
 use Rattle.liq_types.specs.declared.amounts.TheConstants.{LINES_MOST}
-use Rattle.liq_scripts.specs.declared.stops.Stop.{Stop}
+use Rattle.liq_lines.specs.declared.stops.Stop.{Stop}
 use Rattle.liq_scripts.specs.Progress.{Comes}
+use Rattle.liq_lines.proofs.Readings.{few_begins, few_behind, few_in_all}
 use Rattle.liq_scripts.proofs.Ends.{came_stopped, came_done}
 use Rattle.liq_scripts.proofs.Few.{few_requests}
-use Rattle.liq_scripts.proofs.Gathered.{ended_well, ended_by_fault, ended_by_limit}
+use Rattle.liq_scripts.proofs.Gathered.{ended_well, ended_by_fault, ended_by_limit, opened}
 use Rattle.liq_scripts.proofs.Residual.{handed_on}
 use Rattle.liq_scripts.proofs.input.read_lines.Goals as goal
+
+pub loop-read-init : goal.loop-read-init
+loop-read-init g c = record {
+  gathered = opened c.args.reader.now (g.S.Source.left c.args.input.now) c.args.scripts.now.items c.requires.unread c.requires.blank;
+  takes = few_begins (g.S.Source.left c.args.input.now) c.args.reader.now c.requires.unread;
+  room = c.requires.room;
+  eight = search (rules, c.requires.blank);
+  count = refl;
+}
+
+pub loop-read-preserved : goal.loop-read-preserved
+loop-read-preserved g c =
+    let start = g.S.Source.left c.args.input.now in
+    record {
+      gathered = (rw c.if-not-branch.false at c.in_ok-read_next.ensures.goes) start c.loop-read.invariant.gathered;
+      takes = c.read_next.ensures.takes start c.loop-read.invariant.takes;
+      room = omega (arith, c.read_next.ensures.room, c.loop-read.invariant.room);
+      eight = c.read_next.ensures.eight;
+      count = c.in_ok-read_next.ensures.source ∙ c.loop-read.invariant.count;
+    }
 
 pub returns-in_err-read_next-clause-read : goal.returns-in_err-read_next-clause-read
 returns-in_err-read_next-clause-read g c =
@@ -45,3 +66,29 @@ pub returns-in-Err-clause-read : goal.returns-in-Err-clause-read
 returns-in-Err-clause-read g c =
     let failed = c.in-Err.ensures.failed in
     ended_by_fault _ _ (g.S.Source.left c.next_byte.new.input) c.loop-read.read _ [] c.next_byte.new.self (omega (arith, c.loop-read.auto.read-end)) c.loop-read.invariant.gathered (record { within = tt; short = omega arith; none_behind = λ e. refl }) failed.0 failed.1
+
+-- ---- what is taken
+
+pub returns-then-not-branch-clause-takes : goal.returns-then-not-branch-clause-takes
+returns-then-not-branch-clause-takes g c =
+    few_in_all _ (c.loop-read.read + 1) _ _ (c.read_next.ensures.takes (g.S.Source.left c.args.input.now) c.loop-read.invariant.takes) (omega (arith, c.loop-read-test.true))
+
+pub returns-in_err-read_next-clause-takes : goal.returns-in_err-read_next-clause-takes
+returns-in_err-read_next-clause-takes g c =
+    few_in_all _ (c.loop-read.read + 1) _ _ (c.read_next.ensures.takes (g.S.Source.left c.args.input.now) c.loop-read.invariant.takes) (omega (arith, c.loop-read-test.true))
+
+pub returns-in-Ok-None-clause-takes : goal.returns-in-Ok-None-clause-takes
+returns-in-Ok-None-clause-takes g c =
+    let over = rw c.in-Ok-None.field-0-is at c.in-Ok-None.ensures.byte in
+    few_behind _ c.loop-read.read _ _ c.loop-read.invariant.takes (omega (arith, c.loop-read.auto.read-end)) [] _ _ over.0 (omega (arith, c.next_byte.ensures.held))
+
+pub returns-in-Ok-Some-clause-takes : goal.returns-in-Ok-Some-clause-takes
+returns-in-Ok-Some-clause-takes g c =
+    let read = rw c.in-Ok-Some.field-0-is at c.in-Ok-Some.ensures.byte in
+    let held = rw c.in-Ok-Some.field-0-is at c.in-Ok-Some.ensures.held_with in
+    few_behind _ c.loop-read.read _ _ c.loop-read.invariant.takes (omega (arith, c.loop-read.auto.read-end)) (_ ∷ []) _ _ read (omega (arith, held))
+
+pub returns-in-Err-clause-takes : goal.returns-in-Err-clause-takes
+returns-in-Err-clause-takes g c =
+    let failed = c.in-Err.ensures.failed in
+    few_behind _ c.loop-read.read _ _ c.loop-read.invariant.takes (omega (arith, c.loop-read.auto.read-end)) [] _ _ failed.0 (omega (arith, c.next_byte.ensures.held))

@@ -1,7 +1,8 @@
 use Rattle.std.proofs.Common.{◌+◌, ℕ, List, [], ◌∷◌, ◌++◌, Ok, Err, Bool, false, Result, refl, sym, subst, arith}
 use Rattle.liq_lines.specs.Reading.{unread}
+use Rattle.liq_lines.proofs.Readings.{few_line}
 use Rattle.liq_lines.proofs.Told.{told, first-ended, only-unended}
-use Rattle.liq_scripts.specs.declared.stops.Stop.{Stop}
+use Rattle.liq_lines.specs.declared.stops.Stop.{Stop}
 use Rattle.liq_scripts.specs.Progress.{Keeps, Goes}
 use Rattle.liq_scripts.proofs.Gathered.{gathered, gathered_last, ended_well, ended_by_fault, ended_by_bad_line, starts_too_long, ended_at_line}
 use Rattle.liq_scripts.proofs.Residual.{handed_on}
@@ -56,3 +57,26 @@ returns-in_err-keep-in-Ok-Unended-clause-goes g c start h =
     (ended_at_line stop start _ left c.args.read c.args.scripts.now.items c.keep-in-Ok-Unended.new.scripts.items text c.requires.few h
     (subst (λ (l : List ℕ). Keeps l (c.args.read + 1) c.args.scripts.now.items c.keep-in-Ok-Unended.new.scripts.items (Err stop)) c.deref-in-Ok-Unended.ensures.value c.in_err-keep-in-Ok-Unended.ensures.keeps)
     (λ rest is. ([], only-unended rest text c.next_line.new.self left line.1 line.2 (told text _ _ rest is line.0) line.3)))
+
+-- ---- what is taken
+
+pub returns-in-Err-clause-takes : goal.returns-in-Err-clause-takes
+returns-in-Err-clause-takes g c before h = few_line before c.args.read _ _ h _ _ c.next_line.ensures.few c.next_line.ensures.held
+
+pub returns-in-Ok-Nothing-clause-takes : goal.returns-in-Ok-Nothing-clause-takes
+returns-in-Ok-Nothing-clause-takes g c before h = few_line before c.args.read _ _ h _ _ c.next_line.ensures.few c.next_line.ensures.held
+
+pub returns-in-Ok-TooLong-clause-takes : goal.returns-in-Ok-TooLong-clause-takes
+returns-in-Ok-TooLong-clause-takes g c before h = few_line before c.args.read _ _ h _ _ c.next_line.ensures.few c.next_line.ensures.held
+
+pub returns-in_ok-keep-in-Ok-Ended-clause-takes : goal.returns-in_ok-keep-in-Ok-Ended-clause-takes
+returns-in_ok-keep-in-Ok-Ended-clause-takes g c before h = few_line before c.args.read _ _ h _ _ c.next_line.ensures.few c.next_line.ensures.held
+
+pub returns-in_ok-keep-in-Ok-Unended-clause-takes : goal.returns-in_ok-keep-in-Ok-Unended-clause-takes
+returns-in_ok-keep-in-Ok-Unended-clause-takes g c before h = few_line before c.args.read _ _ h _ _ c.next_line.ensures.few c.next_line.ensures.held
+
+pub returns-in_err-keep-in-Ok-Ended-clause-takes : goal.returns-in_err-keep-in-Ok-Ended-clause-takes
+returns-in_err-keep-in-Ok-Ended-clause-takes g c before h = few_line before c.args.read _ _ h _ _ c.next_line.ensures.few c.next_line.ensures.held
+
+pub returns-in_err-keep-in-Ok-Unended-clause-takes : goal.returns-in_err-keep-in-Ok-Unended-clause-takes
+returns-in_err-keep-in-Ok-Unended-clause-takes g c before h = few_line before c.args.read _ _ h _ _ c.next_line.ensures.few c.next_line.ensures.held

@@ -1,7 +1,6 @@
 use Rattle.std.proofs.Common.{◌<◌, ℕ, List, Ok, Err, ap, sym, subst, ◌∙◌, arith}
 use Rattle.std.specs.Prelude.{map}
-use Rattle.liq_scripts.specs.Output.{replies_text}
-use Rattle.liq_scripts.specs.Sending.{Sends}
+use Rattle.liq_scripts.specs.Sending.{Sends, replies_text}
 use Rattle.liq_scripts.specs.Sessions.{sessions}
 use Rattle.liq_scripts.proofs.Own.{session_part, session-at}
 use Rattle.liq_scripts.proofs.Sent.{each_more, each_cut, sends_fault}

@@ -1,8 +1,8 @@
 use Rattle.std.proofs.Common.{ℕ, List, Ok, Err, sym, subst, ◌∙◌}
 use Rattle.std.specs.List.{flat_map}
 use Rattle.liq_rules.specs.History as history
-use Rattle.liq_scripts.specs.Output.{heading, session_text}
-use Rattle.liq_scripts.specs.Sending.{Sends}
+use Rattle.liq_scripts.specs.Output.{session_text}
+use Rattle.liq_scripts.specs.Sending.{Sends, heading}
 use Rattle.liq_scripts.proofs.Own.{own_line, own-none, own-text, session_part}
 use Rattle.liq_scripts.proofs.Sent.{sends_nothing, sends_more, sends_cut, sends_fault}
 use Rattle.liq_scripts.proofs.output.send_session.Goals as goal

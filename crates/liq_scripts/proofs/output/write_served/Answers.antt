@@ -2,8 +2,8 @@ use Rattle.std.proofs.Common.{◌≡◌, ◌++◌, ◌∷◌, [], ℕ, List, Ok,
 use Rattle.std.specs.Prelude.{map, codes}
 use Rattle.liq_rules.specs.History.{Entry}
 use Rattle.liq_outside.specs.declared.failed.Failed.{Failed}
-use Rattle.liq_scripts.specs.Output.{replies_text, history_text, served}
-use Rattle.liq_scripts.specs.Sending.{Sends}
+use Rattle.liq_scripts.specs.Output.{served}
+use Rattle.liq_scripts.specs.Sending.{Sends, replies_text, history_text}
 use Rattle.liq_scripts.proofs.Sent.{sends_more, sends_cut, sends_fault, all_written, part_written}
 use Rattle.liq_scripts.proofs.output.write_served.Goals as goal
 

@@ -2,11 +2,11 @@ use Rattle.std.proofs.Common.{refl, subst, ap}
 use Rattle.liq_words.specs.declared.words.Word.{Word}
 use Rattle.liq_words.specs.Words.{IsInRange}
 use Rattle.liq_serve.specs.Outside.{outside}
-use Rattle.liq_ends.specs.Statuses.{status_of}
-use Rattle.liq_ends.proofs.Causes.{unread_causes}
-use Rattle.liq_ends.proofs.Few.{takes_none}
 use Rattle.liq_serve.proofs.Words.{IsRead, audit_ends, gen_ends, run_ends, state_ends}
 use Rattle.liq_serve.proofs.top.carry_out.Goals as goal
+use Rattle.liq_ends.specs.Statuses.{status_of}
+use Rattle.liq_ends.proofs.Causes.{unread_causes}
+use Rattle.liq_lines.proofs.Readings.{takes_none}
 
 pub returns-in-Run : goal.returns-in-Run
 returns-in-Run g c words asks only =

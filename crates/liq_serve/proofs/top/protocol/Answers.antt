@@ -18,4 +18,4 @@ returns-then-is_serve g c =
     subst (λ (e : Ended g.row.D.Denot). Ends g.D.Disk.seen before (told ran.new.input ran.new.out e.left e.right) e.status words) (sym c.with_status.ensures)
     (serve_ends g.D.Disk.seen before (told ran.new.input ran.new.out ran.result.left ran.result.right) words ran.result.end read
     (record { source = ran.ensures.source; sink = ran.ensures.sink; disks = ran.ensures.disks })
-    ran.ensures.served ran.ensures.complete)
+    ran.ensures.served ran.ensures.complete ran.ensures.takes)

@@ -5,6 +5,7 @@ use Rattle.liq_rules.specs.Recorded.{recorded}
 use Rattle.liq_serving.specs.Input.{Written}
 use Rattle.liq_serving.proofs.Inputs.{cause_by, completes, serves_input, serves_nothing, serves_unopened}
 use Rattle.liq_serving.proofs.input.serve_input.Goals as goal
+use Rattle.liq_lines.proofs.Readings.{takes_none}
 
 pub returns-in_default-clause-served : goal.returns-in_default-clause-served
 returns-in_default-clause-served g c = serves_nothing g.K.Sink.held g.D.Disk.seen (g.S.Source.left c.args.input.now) c.args.out.now c.args.left c.args.right
@@ -40,3 +41,6 @@ returns-clause-disks g c =
 pub returns-clause-complete : goal.returns-clause-complete
 returns-clause-complete g c bytes l r told told_l told_r start is asked spelled few calm_source calm_sink calm_disks =
     completes c.serve_sessions-left.result.end c.write_end-finish.result _ _ _ _ c.write_end-finish.ensures.finish c.write_end-finish.ensures.cause (returns-clause-disks g c) calm_sink calm_disks
+
+pub returns-in_default-clause-takes : goal.returns-in_default-clause-takes
+returns-in_default-clause-takes g c = takes_none (g.S.Source.left c.args.input.now)

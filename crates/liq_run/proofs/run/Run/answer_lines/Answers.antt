@@ -4,9 +4,9 @@ use Rattle.liq_ends.specs.declared.halts.Halt.{Halt}
 use Rattle.liq_run.specs.Calls.{KeepsAround}
 use Rattle.liq_run.specs.Progress.{Comes}
 use Rattle.liq_run.proofs.Residual.{handed_on}
-use Rattle.liq_run.proofs.Taking.{few_begins, few_behind, few_in_all}
 use Rattle.liq_run.proofs.Turning.{opened, answered_on, answered_cut, reading_fails, reading_ends, limit_halts}
 use Rattle.liq_run.proofs.run.Run.answer_lines.Goals as goal
+use Rattle.liq_lines.proofs.Readings.{few_begins, few_behind, few_in_all}
 
 pub loop-answered-init : goal.loop-answered-init
 loop-answered-init g c = record {

@@ -2,9 +2,9 @@ use Rattle.std.proofs.Common.{◌≡◌, ℕ, List, Some, None}
 use Rattle.liq_types.specs.State.{State}
 use Rattle.liq_core.specs.Core.{StandsFor}
 use Rattle.liq_store.specs.Causes.{counts_of}
-use Rattle.liq_run.specs.Progress.{Answered, ReadsFew}
-use Rattle.liq_lines.specs.Reading.{unread}
+use Rattle.liq_run.specs.Progress.{Answered}
 use Rattle.liq_run.proofs.run.Run.answer_lines.Given as goal
+use Rattle.liq_lines.specs.Reading.{unread, ReadsFew}
 
 -- as many lines are answered as were counted
 abbrev pub invariant-loop-answered : goal.invariant-loop-answered

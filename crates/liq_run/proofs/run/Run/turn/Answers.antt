@@ -4,12 +4,12 @@ use Rattle.liq_rules.specs.Step.{run}
 use Rattle.liq_types.specs.State.{State}
 use Rattle.liq_types.specs.declared.requests.Request.{Request}
 use Rattle.liq_ends.specs.declared.halts.Halt.{Halt}
-use Rattle.liq_run.specs.Progress.{Answered, ReadsFew, Turns, Comes}
-use Rattle.liq_lines.specs.Reading.{unread, Reads}
+use Rattle.liq_run.specs.Progress.{Answered, Turns, Comes}
 use Rattle.liq_run.proofs.Residual.{handed_on}
-use Rattle.liq_run.proofs.Taking.{few_line, few_still}
 use Rattle.liq_run.proofs.Turning.{answered_on, answered_cut, reading_halts, reading_ends, line_answered, last_answered, answering_halts, first_line, last_line}
 use Rattle.liq_run.proofs.run.Run.turn.Goals as goal
+use Rattle.liq_lines.specs.Reading.{unread, Reads, ReadsFew}
+use Rattle.liq_lines.proofs.Readings.{few_line, few_still}
 
 turn_halts : (start : State) (kept : State → Request → Type 0) (bytes : List ℕ) (n : ℕ) (core : Core) (u left : Option (List ℕ)) (w : List ℕ) (before now : Option (List ℕ)) (end : Result Bool Halt) (halt : Halt) → end ≡ Err halt → Comes start (Err halt) core kept bytes left w before now → Turns start kept bytes n core u left w before now end
 turn_halts start kept bytes n core u left w before now end halt is h = subst (λ (e : Result Bool Halt). Turns start kept bytes n core u left w before now e) (sym is) h

@@ -4,21 +4,21 @@ ghost use Rattle.std.specs.Prelude.{◌≡◌};
 
 use liq_types::NoMemory;
 
-/// Why the scripts were not read to the source's end.
+/// Why the lines of a source were not read to its end.
 #[derive(Clone, Copy)]
 pub enum Stop {
-    /// The line of this number asks nothing: it spells no session from 1 to 8 and request, or one that the protocol has not yet.
+    /// The line of this number, counted from 1, says nothing that is asked for.
     BadLine(u64),
     /// The source met a fault.
     ReadFault,
     /// There was no memory.
     NoMemory,
-    /// There are more lines than are answered.
+    /// There are more lines than are read.
     Limit,
 }
 
 impl From<NoMemory> for Stop {
-    ghost use Rattle.liq_scripts.specs.declared.stops.Stop.{Stop};
+    ghost use Rattle.liq_lines.specs.declared.stops.Stop.{Stop};
 
     ghost from_gives = { λ _ stop. stop ≡ Stop.NoMemory };
 
