@@ -147,22 +147,34 @@ module _ {S D : Type 0} (seen : D → Option (List ℕ)) (before after : Outside
 
   pub came_by : (how : Finish) → AnswersInput seen before.unread after.unread before.left before.right (record { left = after.left; right = after.right; finish = how }) asked history
       → ((why_not : Stop) → how ≡ finish.NotRead why_not → (after.left ≡ before.left) × (after.right ≡ before.right)) → Came (end_of how)
-  came_by finish.All a same = inr (a.read, inr (record {
-    answers = (a.answers, λ l r start found. a.disks l r start found.left found.right found.is);
-    whole = λ l r side damage found. a.damaged l r side damage found.left found.right found.is;
-  }))
-  came_by finish.WriteFault a same = inr (a.read, inr (record {
-    answers = (a.answers, λ l r start found. a.disks l r start found.left found.right found.is);
-    whole = λ l r side damage found. a.damaged l r side damage found.left found.right found.is;
-  }))
-  came_by finish.NoMemory a same = inr (a.read, inr (record {
-    answers = (lacking asked history a.answers, λ l r start found. a.disks l r start found.left found.right found.is);
-    whole = λ l r side damage found. a.damaged l r side damage found.left found.right found.is;
-  }))
-  came_by finish.DiskFault a same = inr (a.read, inr (record {
-    answers = halted_by (Err DiskFault) a.halted a.answers (λ l r start found. a.disks l r start found.left found.right found.is);
-    whole = λ l r side damage found. a.damaged l r side damage found.left found.right found.is;
-  }))
+  came_by finish.All a same = inr (
+    a.read,
+    inr (record {
+      answers = (a.answers, λ l r start found. a.disks l r start found.left found.right found.is);
+      whole = λ l r side damage found. a.damaged l r side damage found.left found.right found.is;
+    }),
+  )
+  came_by finish.WriteFault a same = inr (
+    a.read,
+    inr (record {
+      answers = (a.answers, λ l r start found. a.disks l r start found.left found.right found.is);
+      whole = λ l r side damage found. a.damaged l r side damage found.left found.right found.is;
+    }),
+  )
+  came_by finish.NoMemory a same = inr (
+    a.read,
+    inr (record {
+      answers = (lacking asked history a.answers, λ l r start found. a.disks l r start found.left found.right found.is);
+      whole = λ l r side damage found. a.damaged l r side damage found.left found.right found.is;
+    }),
+  )
+  came_by finish.DiskFault a same = inr (
+    a.read,
+    inr (record {
+      answers = halted_by (Err DiskFault) a.halted a.answers (λ l r start found. a.disks l r start found.left found.right found.is);
+      whole = λ l r side damage found. a.damaged l r side damage found.left found.right found.is;
+    }),
+  )
   came_by (finish.NotRead why_not) a same = inl (record {
     stop = why_not;
     end_is = refl;
@@ -171,23 +183,32 @@ module _ {S D : Type 0} (seen : D → Option (List ℕ)) (before after : Outside
     left_same = (same why_not refl).0;
     right_same = (same why_not refl).1;
   })
-  came_by (finish.NotOpened why.DiskFault) a same = inr (a.read, inl (record {
-    statuses = (0, lit< tt, refl);
-    none = a.answers;
-    disks = λ l r start found. ((0, lit< tt, refl), a.disks l r start found.left found.right found.is);
-    damaged = λ l r side damage found. tt;
-  }))
-  came_by (finish.NotOpened why.NoMemory) a same = inr (a.read, inl (record {
-    statuses = (2, lit< tt, refl);
-    none = a.answers;
-    disks = λ l r start found. ((1, lit< tt, refl), a.disks l r start found.left found.right found.is);
-    damaged = λ l r side damage found. a.damaged l r side damage found.left found.right found.is;
-  }))
-  came_by (finish.NotOpened (why.Damaged which met)) a same = inr (a.read, inl (record {
-    statuses = (1, lit< tt, refl);
-    none = a.answers;
-    disks = λ l r start found. absurd (a.disks l r start found.left found.right found.is);
-    damaged = λ l r side damage found.
-        let h = a.damaged l r side damage found.left found.right found.is in
-        (h.0, ap (λ (d : Damage). d.index) h.1, h.2);
-  }))
+  came_by (finish.NotOpened why.DiskFault) a same = inr (
+    a.read,
+    inl (record {
+      statuses = (0, lit< tt, refl);
+      none = a.answers;
+      disks = λ l r start found. ((0, lit< tt, refl), a.disks l r start found.left found.right found.is);
+      damaged = λ l r side damage found. tt;
+    }),
+  )
+  came_by (finish.NotOpened why.NoMemory) a same = inr (
+    a.read,
+    inl (record {
+      statuses = (2, lit< tt, refl);
+      none = a.answers;
+      disks = λ l r start found. ((1, lit< tt, refl), a.disks l r start found.left found.right found.is);
+      damaged = λ l r side damage found. a.damaged l r side damage found.left found.right found.is;
+    }),
+  )
+  came_by (finish.NotOpened (why.Damaged which met)) a same = inr (
+    a.read,
+    inl (record {
+      statuses = (1, lit< tt, refl);
+      none = a.answers;
+      disks = λ l r start found. absurd (a.disks l r start found.left found.right found.is);
+      damaged = λ l r side damage found.
+          let h = a.damaged l r side damage found.left found.right found.is in
+          (h.0, ap (λ (d : Damage). d.index) h.1, h.2);
+    }),
+  )
