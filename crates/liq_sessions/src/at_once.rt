@@ -63,9 +63,9 @@ where
     Ok(lists)
 }
 
-/// Runs the last of the works in a new thread, and those before it in this one. Where there are none before it, or it has
-/// nothing to ask, it runs in this one too. It takes no memory: there is room for the replies of each work, and for what
-/// each comes to.
+/// Runs the last of the works in a new thread, and those before it in this one. Where there are none before it, or it
+/// has nothing to ask, it runs in this one too. It takes no memory: there is room for the replies of each work, and for
+/// what each comes to.
 fn run_all<K: Desk + Sync, G: Gate + Sync, H: Hinter + Drop + Send, R: Threads + Wait + Sync>(
     rt: &R,
     desk: &K,
