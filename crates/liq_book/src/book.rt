@@ -18,9 +18,15 @@ use std::alloc::Global;
 use std::marker::{Model, PhantomData};
 
 /// Entries in their order. Contracts see the list of them.
-#[derive(Drop)]
 pub struct History {
     list: Vec<Entry>,
+}
+
+// Written out, as that of the service is.
+impl Drop for History {
+    fn drop(self) {
+        let History { list: _ } = self;
+    }
 }
 
 impl Model for History {

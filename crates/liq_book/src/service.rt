@@ -17,12 +17,21 @@ use std::marker::PhantomData;
 
 /// A book under a lock, at which each session has a seat. As a desk it answers the requests of sessions at once, each as the protocol for
 /// one thread would along the one history of all their calls.
-#[derive(Drop)]
 pub struct Service<D: Disk, O: Origin> {
     pub(crate) lock: Lock<Book<D, O>>,
     pub(crate) sessions: u8,
     pub ghost seats: { lock_seats lock ≡ sessions },
     pub ghost some: { 0 < sessions },
+}
+
+// Written out, as that of the lock is.
+impl<D: Disk + Drop, O: Origin> Drop for Service<D, O> {
+    fn drop(self) {
+        let Service {
+            lock: _,
+            sessions: _,
+        } = self;
+    }
 }
 
 /// What a service leaves: its store, all entries, and the halt, once there was one.

@@ -22,11 +22,17 @@ const SERVING: usize = 1;
 const ITEMS: usize = 2;
 
 /// A lock round a value with a history.
-#[derive(Drop)]
 pub struct Lock<T: Chronicle> {
     pub(crate) table: Table<Option<T>, View<T::Item>, u32, Turns, Global>,
     pub(crate) seats: u32,
     pub ghost sized: { (table.shared.table_id.words ≡ 3) × (table.shared.table_id.slots ≡ 1) × (table.shared.key ≡ seats) × (0 < seats) },
+}
+
+// Written out, so that who lets a lock go need not look inside it.
+impl<T: Chronicle + Drop> Drop for Lock<T> {
+    fn drop(self) {
+        let Lock { table: _, seats: _ } = self;
+    }
 }
 
 /// A lock that was to be closed while seats were missing, with the seat and the shares that it has. Both are as they were.

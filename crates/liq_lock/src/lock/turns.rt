@@ -88,8 +88,8 @@ impl<T: Chronicle> Lock<T> {
         }
     }
 
-    // Lets other threads run while a turn is taken, so that a ticket is mostly drawn by a thread that can use it at once:
-    // who draws one and doesn't run keeps all later ones waiting.
+    // Lets other threads run while a turn is taken, so that a ticket is mostly drawn by a thread that can use it at
+    // once: who draws one and doesn't run keeps all later ones waiting.
     fn let_pass(&self) {
         let shared = &self.table.shared;
         for _ in 0..LOOKS {
