@@ -8,11 +8,11 @@ use Rattle.liq_types.specs.Image.{Image}
 use Rattle.liq_types.specs.Ranked.{Ranked, IsAscending, rank_order, with_ranked}
 use Rattle.liq_types.specs.State.{State, opening}
 use Rattle.liq_types.specs.Views.{View, all_followed}
-use Rattle.liq_order.specs.Listed.{AreDistinct, IsAbsent}
+use Rattle.liq_order.specs.Listed.{AreDistinct}
 use Rattle.liq_order.specs.declared.places.NodeNo.{NodeNo}
 use Rattle.liq_order.specs.Nodes.{Ring, IsIn, Visits, at_place, entry_of}
 use Rattle.liq_order.proofs.Changed.{Before, placed}
-use Rattle.liq_order.proofs.Found.{without_absent}
+use Rattle.liq_order.proofs.Found.{distinct_front, without_absent}
 use Rattle.liq_order.proofs.Ranking.{order_distinct}
 use Rattle.liq_order.proofs.Sorting.{order_ascends}
 use Rattle.liq_order.specs.Order.{order_by}
@@ -83,13 +83,6 @@ front_before (f ∷ fs) back e h = (first fs h.0, front_before fs back e h.1) wh
   first [] k = k.0
   first (g ∷ gs) k = first gs k.1
 
-front_absent : (front back : List Ranked) (e : Ranked) → AreDistinct (front ++ e ∷ back) → IsAbsent e.1 front
-front_absent [] back e h = tt
-front_absent (f ∷ fs) back e h = ((λ same. away fs h.0 (sym same)), front_absent fs back e h.1) where
-  away : (gs : List Ranked) → IsAbsent f.1 (gs ++ e ∷ back) → e.1 ≡ f.1 → ⊥
-  away [] k = k.0
-  away (g ∷ gs) k = away gs k.1
-
 abbrev with_list : View → List Ranked → View
 with_list v list = record v { list = list }
 
@@ -98,7 +91,7 @@ told_more v front [] asc dis = ap (with_list v) (sym (append-nil front))
 told_more v front (e ∷ es) asc dis =
     let split : (front ++ e ∷ []) ++ es ≡ front ++ e ∷ es = append_assoc front (e ∷ []) es in
     let here : with_ranked front e ≡ front ++ e ∷ [] = sym (ap (λ (l : List Ranked). with_ranked l e) (append-nil front)) ∙ placed front [] e (front_before front es e asc) tt in
-    let put_in = ap (λ (l : List Ranked). with_ranked l e) (without_absent front e.1 (front_absent front es e dis)) ∙ here in
+    let put_in = ap (λ (l : List Ranked). with_ranked l e) (without_absent front e.1 (distinct_front front es e dis)) ∙ here in
     ap (λ (l : List Ranked). all_followed (with_list v l) (map put_entry es)) put_in
     ∙ told_more v (front ++ e ∷ []) es (subst IsAscending (sym split) asc) (subst AreDistinct (sym split) dis)
     ∙ ap (with_list v) split
