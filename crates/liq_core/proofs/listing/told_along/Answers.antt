@@ -16,7 +16,7 @@ loop-next-init g c =
     record {
       previous = None;
       rest = entries;
-      visits = subst (λ (s : Option NodeNo). Visits ring s None entries) (sym c.first-next.ensures) c.nodes-nodes.ensures;
+      visits = subst (λ (s : Option NodeNo). Visits ring s None entries) (sym c.first-next.ensures) c.nodes-nodes.ensures.visits;
       whole = ap (λ (l : List ListChange). l ++ map put_entry entries) first;
     }
 
