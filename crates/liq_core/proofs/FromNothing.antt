@@ -20,7 +20,7 @@ use Rattle.liq_troves.specs.declared.sums.Sums.{Sums}
 use Rattle.liq_core.specs.declared.engine.Protocol.TheInside.{Inside}
 use Rattle.liq_core.specs.Core.{Core, StandsFor}
 use Rattle.liq_core.specs.Sound.{IsSound, core_of}
-use Rattle.liq_core.specs.Entries.{put_entry}
+use Rattle.liq_core.specs.Entries.{put_entry, told_whole}
 use Rattle.liq_rules.specs.View.{view_of}
 
 -- ---- going along
@@ -97,8 +97,8 @@ told_more v front (e ∷ es) asc dis =
     ∙ ap (with_list v) split
 
 -- whoever has seen nothing and follows the words and the entries has the view of them
-pub told_whole : (v : View) → IsAscending v.list → AreDistinct v.list → all_followed (view_of opening) (Words v.snap_stakes v.snap_coll v.sum_debt ∷ map put_entry v.list) ≡ v
-told_whole v asc dis = told_more v [] v.list asc dis
+pub follows_whole : (v : View) → IsAscending v.list → AreDistinct v.list → all_followed (view_of opening) (Words v.snap_stakes v.snap_coll v.sum_debt ∷ map put_entry v.list) ≡ v
+follows_whole v asc dis = told_more v [] v.list asc dis
 
 -- the view of an image
 abbrev pub view_by : Image → View
@@ -112,7 +112,14 @@ told_view p sound sums sums_are items is old view s h =
     let dis = subst AreDistinct (sym sound.order) (order_distinct p.troves.table.rows ascends) in
     ap (all_followed (view_of opening)) is
     ∙ ap (λ (x : Sums). all_followed (view_of opening) (Words x.snap_stakes x.snap_coll x.debt ∷ map put_entry p.order.entries)) sums_are
-    ∙ told_whole v asc dis
+    ∙ follows_whole v asc dis
     ∙ ap (with_list v) sound.order
     ∙ ap (λ (core : Core). view_by core.image) view
     ∙ ap view_by h.image
+
+-- it is the core's own
+pub told_as : (p : Inside) (sums : Sums) → sums ≡ p.troves.sums → (items : List ListChange) → items ≡ Words sums.snap_stakes sums.snap_coll sums.debt ∷ map put_entry p.order.entries → (old : Core) → core_of p ≡ old → items ≡ told_whole old.image old.list
+told_as p sums sums_are items is old view =
+    is
+    ∙ ap (λ (x : Sums). Words x.snap_stakes x.snap_coll x.debt ∷ map put_entry p.order.entries) sums_are
+    ∙ ap (λ (core : Core). told_whole core.image core.list) view

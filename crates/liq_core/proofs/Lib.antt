@@ -3,6 +3,7 @@ pub mod Cutting
 pub mod Depositing
 pub mod Forecasting
 pub mod FromNothing
+pub mod HintsAside
 pub mod Images
 pub mod KeptReplies
 pub mod Lending

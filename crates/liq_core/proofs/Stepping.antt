@@ -6,7 +6,7 @@ use Rattle.liq_types.specs.declared.figures.Trove.{Trove}
 use Rattle.liq_types.specs.declared.hints.Hint.{Hint}
 use Rattle.liq_types.specs.declared.requests.Call.{Call}
 use Rattle.liq_types.specs.declared.requests.Call.TheVariants.{Price, Advance, Fund, Take, Send, Open, Adjust, Close, Provide, Withdraw, GainToTrove, Liquidate, LiquidateLowest, Redeem, Claim, Rotate}
-use Rattle.liq_types.specs.Ranked.{Ranked, IsTight, key_in, without_ranked}
+use Rattle.liq_types.specs.Ranked.{Ranked, key_in}
 use Rattle.liq_types.specs.State.{State}
 use Rattle.liq_types.specs.Tables.{Table, at}
 use Rattle.liq_types.specs.Totals.{market_of}
@@ -120,11 +120,3 @@ pub strikes_none : (call : Call) → ((liquidator account : ℕ) → call ≡ Li
 strikes_none (Liquidate liquidator account) one lowest = absurd (one liquidator account refl)
 strikes_none (LiquidateLowest liquidator count) one lowest = absurd (lowest liquidator count refl)
 strikes_none _ one lowest = refl
-
--- ---- what is said of the steps
-
-pub few_cost : (list : List Ranked) (hint : Hint) (o : Option Ranked) (old new : ℕ) → TakesFew list hint o old new → (e : Ranked) → o ≡ Some e → IsTight (without_ranked list e.1) e hint.prev hint.next → new ≤ old + 4
-few_cost list hint o old new h e is = subst (λ (p : Option Ranked). TakesFew list hint p old new) is h
-
-pub few_none : (list : List Ranked) (hint : Hint) (o : Option Ranked) (old new : ℕ) → TakesFew list hint o old new → o ≡ None → new ≡ old
-few_none list hint o old new h is = subst (λ (p : Option Ranked). TakesFew list hint p old new) is h

@@ -43,11 +43,12 @@ abbrev pub last_put : List ListChange → Option Ranked
 last_put [] = None
 last_put (change ∷ changes) = option_or (last_put changes) (put_of change)
 
+-- the cuts of a redemption
 abbrev pub cuts_in : Terms → List Cut
 cuts_in (terms.Redeem plan) = plan.cuts
 cuts_in _ = []
 
--- the same as it is found in the list that it came into
+-- the entry that a call puts last, as it is found in the list
 abbrev pub entry_put : Call → Terms → List Ranked → Option Ranked
 entry_put (Open account coll borrow bound words) made list = entry_in list account
 entry_put (Adjust account coll_in coll_out borrow repay bound words) made list = entry_in list account

@@ -5,7 +5,6 @@ ghost use Rattle.std.specs.List.{AllByRecursion, Contains};
 ghost use Rattle.liq_types.specs.declared.requests.Request.TheVariants.{Do, Ask};
 ghost use Rattle.liq_types.specs.declared.replies.Reply.TheVariants.{Said};
 ghost use Rattle.liq_types.specs.State.{State, opening, client_of};
-ghost use Rattle.liq_types.specs.Ranked.{Ranked, IsTight, without_ranked};
 ghost use Rattle.liq_order.specs.Order.{trove_order};
 ghost use Rattle.liq_standing.specs.Steps.{TakesFew};
 ghost use Rattle.liq_stability.specs.Words.{pool_words};
@@ -378,19 +377,17 @@ impl Protocol {
     }
 
     /// Makes the planned command's step. It takes no memory and cannot fail: the command was planned on this state, and
-    /// its room was reserved. A hint changes neither the reply nor the image nor the list. The command's own one is used, where a
-    /// word of it is there, else the given one. Where an account is put into the list, it takes at most four steps with a hint that
-    /// is tight for it, and with any other one as many more as there are troves; where none is put it takes no steps.
+    /// its room was reserved. A hint changes neither the reply nor the image nor the list. The command's own one is used,
+    /// where a word of it is there, else the given one. Where an account is put into the list, it takes at most four steps
+    /// with a hint that is tight for it there, and with any other one as many more as there are troves; where none is put
+    /// it takes no steps.
     pub fn apply<L: Ledger>(&mut self, planned: Planned, hint: &Hint, steps: &mut Steps<L>) -> Done
         requires planned { IsPlannedOn self.old planned }
         requires room { HasRoom self.old planned }
         ensures state { (s : State) → StandsFor self.old s → StandsFor self.new (step s (Do planned.command)).0 }
         ensures reply { (s : State) → StandsFor self.old s → (step s (Do planned.command)).1 ≡ Said result }
         ensures list { (s : State) → StandsFor self.old s → self.new.list ≡ trove_order (step s (Do planned.command)).0 }
-        ensures cost { (s : State) → StandsFor self.old s → (e : Ranked) → last_put planned.changes ≡ Some e
-            → IsTight (without_ranked (trove_order (step s (Do planned.command)).0) e.1) e (used_hint (words_of planned.command.call) hint.now).prev (used_hint (words_of planned.command.call) hint.now).next
-            → steps.new ≤ steps.old + 4 }
-        ensures none { last_put planned.changes ≡ None → steps.new ≡ steps.old }
+        ensures few { TakesFew self.new.list (used_hint (words_of planned.command.call) hint.now) (last_put planned.changes) steps.old steps.new }
         ensures any { steps.new ≤ steps.old + (length self.old.list + 4) }
     {
         // Where no field is used, nothing is known of the protocol.

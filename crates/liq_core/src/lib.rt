@@ -8,6 +8,7 @@ mod borrowing;
 mod claims;
 mod depositors;
 mod engine;
+mod hints;
 pub mod laws;
 mod liquidations;
 mod listing;
@@ -20,4 +21,5 @@ mod told;
 mod turns;
 
 pub use engine::{Protocol, is_built};
+pub use hints::unhinted;
 pub use turns::{PlanFault, Planned, Turn};

@@ -5,7 +5,7 @@ ghost use Rattle.liq_types.specs.declared.events.ListChange.{ListChange};
 ghost use Rattle.liq_types.specs.State.{State, opening};
 ghost use Rattle.liq_order.specs.Nodes.{entry_of};
 ghost use Rattle.liq_core.specs.Core.{StandsFor};
-ghost use Rattle.liq_core.specs.Entries.{put_entry};
+ghost use Rattle.liq_core.specs.Entries.{put_entry, told_whole};
 ghost use Rattle.liq_rules.specs.View.{all_followed, view_of};
 
 use crate::engine::Protocol;
@@ -16,10 +16,11 @@ use std::marker::Brand;
 use std::sync::ledger::{Blank, Ledger};
 
 impl Protocol {
-    /// What whoever has seen nothing must follow to have the list of now: the words of which keys are made, and then each trove in
-    /// order. There may be no memory for it.
+    /// What whoever has seen nothing must follow to have the list of now: the words of which keys are made, and then each
+    /// trove in order. There may be no memory for it.
     pub fn list(&self, alloc: Global) -> Result<Vec<ListChange>, NoMemory>
-        ensures { IfOk result (λ changes. (s : State) → StandsFor self.now s → all_followed (view_of opening) changes.items ≡ view_of s) }
+        ensures told { IfOk result (λ changes. changes.items ≡ told_whole self.now.image self.now.list) }
+        ensures followed { IfOk result (λ changes. (s : State) → StandsFor self.now s → all_followed (view_of opening) changes.items ≡ view_of s) }
     {
         let sums = self.troves.sums();
         let words = ListChange::Words {

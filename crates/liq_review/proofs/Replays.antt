@@ -1,5 +1,6 @@
 -- Replays: one more command, and what a whole one is.
-use Rattle.std.proofs.Common.{◌≡◌, ℕ, ◌+◌, ◌<◌, ◌≤◌, List, [], ◌∷◌, ◌++◌, length, get_or, drop, Ok, refl, ap, sym, ◌∙◌, append_assoc, append-nil, inl, inr}
+use Rattle.std.proofs.Common.{◌≡◌, ℕ, ◌+◌, ◌<◌, ◌≤◌, List, [], ◌∷◌, ◌++◌, length, get_or, drop, Ok, Err, refl, ap, sym, subst, ◌∙◌, append_assoc, append-nil, inl, inr}
+use Rattle.std.specs.Prelude.{Result}
 use Rattle.std.proofs.Math.ListN.{drop_of_length-le}
 use Rattle.liq_types.specs.declared.events.PoolEvent.{PoolEvent}
 use Rattle.liq_types.specs.declared.replies.Done.{Done}
@@ -9,7 +10,7 @@ use Rattle.liq_types.specs.State.{State, opening}
 use Rattle.liq_core.specs.Core.{Core, StandsFor}
 use Rattle.liq_rules.specs.Events.{events}
 use Rattle.liq_rules.specs.Rules.{call_events}
-use Rattle.liq_rules.specs.Step.{Refused, Repeated, ruling, after}
+use Rattle.liq_rules.specs.Step.{Refused, Repeated, Ruling, ruling, after}
 use Rattle.liq_types.specs.Codes.{code_of}
 use Rattle.liq_journal.specs.declared.damage.What.TheVariants as what
 use Rattle.liq_pairs.specs.Replay.{replay, replayed}
@@ -67,6 +68,17 @@ module _ (commands : List Command) (i : ℕ) (core : Core) (told : List PoolEven
   unfolding here
   next_stops why (inl none) = inl none
   next_stops why (inr stop) = inr (stop.0, stop.1, replays_here ∙ stop.2 (replay (i + 1 + 1) (after h.state here) (drop (i + 1) commands)))
+
+-- nothing else counts than what the rules say of the command
+stops_same : (s : State) (c d : Command) → ruling s d ≡ ruling s c → (index : ℕ) (why : ReviewFault) → StopsAt s d index why → StopsAt s c index why
+stops_same s c d ruled index why (inl none) = inl none
+stops_same s c d ruled index why (inr stop) =
+    inr (stop.0, stop.1, λ rest. subst (λ (r : Ruling). replayed index r rest ≡ Err stop.0) ruled (stop.2 rest))
+
+pub makes_same : (s : State) (c d : Command) → ruling s d ≡ ruling s c → after s d ≡ after s c → call_events s d.call ≡ call_events s c.call → (index : ℕ) (core : Core) (told now : List PoolEvent) (result : Result (Unit {0}) ReviewFault) → MakesNext s d index core told now result → MakesNext s c index core told now result
+makes_same s c d ruled made said index core told now (Ok done) h =
+    (sym ruled ∙ h.0, subst (StandsFor core) made h.1, h.2 ∙ ap (λ (es : List PoolEvent). told ++ es) said)
+makes_same s c d ruled made said index core told now (Err why) h = stops_same s c d ruled index why h
 
 -- where the rules do not accept it
 pub stops_repeated : (s : State) (c : Command) (index : ℕ) (kept : Done) → ruling s c ≡ Repeated kept → StopsAt s c index (fault.Refused index 0)

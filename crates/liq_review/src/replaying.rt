@@ -9,7 +9,7 @@ ghost use Rattle.liq_rules.specs.Step.{built};
 ghost use Rattle.liq_review.specs.Replaying.{PlansNext, MakesNext, IsReplayed, StopsWithin};
 
 use crate::fault::ReviewFault;
-use liq_core::{PlanFault, Planned, Protocol, Turn};
+use liq_core::{PlanFault, Planned, Protocol, Turn, unhinted};
 use liq_guide::Guide;
 use liq_pairs::code_of;
 use liq_types::{Command, Hint, NoMemory, PoolEvent, Steps};
@@ -53,8 +53,23 @@ pub(crate) fn replayed<L: Ledger>(
     Ok(Made { protocol, events })
 }
 
-/// Makes a command's step. It has this number among the commands. The guide saves steps and changes nothing.
+/// Makes a command's step. It has this number among the commands. Its own hint words are left out: they change nothing.
 fn make<L: Ledger>(
+    protocol: &mut Protocol,
+    guide: &mut Guide,
+    events: &mut Vec<PoolEvent>,
+    command: &Command,
+    index: u64,
+    steps: &mut Steps<L>,
+) -> Result<(), ReviewFault>
+    requires built { IsTrue (built (Do command.now)) }
+    ensures { (s : State) → StandsFor protocol.old s → MakesNext s command.now index protocol.new events.old.items events.new.items result }
+{
+    make_guided(protocol, guide, events, &unhinted(command), index, steps)
+}
+
+/// Makes a command's step with the guide's hint, which saves steps and changes nothing.
+fn make_guided<L: Ledger>(
     protocol: &mut Protocol,
     guide: &mut Guide,
     events: &mut Vec<PoolEvent>,

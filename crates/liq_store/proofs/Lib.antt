@@ -10,4 +10,3 @@ pub mod Opening
 pub mod Recovered
 pub mod Replaying
 pub mod Steps
-pub mod Unhinted

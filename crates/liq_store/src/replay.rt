@@ -6,7 +6,6 @@ ghost use Rattle.liq_types.specs.declared.requests.Request.TheVariants.{Do};
 ghost use Rattle.liq_types.specs.State.{State};
 ghost use Rattle.liq_core.specs.Core.{StandsFor};
 ghost use Rattle.liq_rules.specs.Step.{built};
-ghost use Rattle.liq_rules.specs.Verbs.{unhinted};
 ghost use Rattle.liq_journal.specs.Bodies.{IsJournalOf};
 ghost use Rattle.liq_journal.specs.Looked.{Looked};
 ghost use Rattle.liq_journal.specs.Parts.{IsPartOf};
@@ -18,10 +17,11 @@ use crate::answers::AcceptedFault;
 use crate::guided::Guided;
 use crate::preparing::{Prepared, prepare};
 use crate::reading::tested_command;
+use liq_core::unhinted;
 use liq_journal::{Block, Damage, Journal, What};
 use liq_outside::Disk;
 use liq_pairs::code_of;
-use liq_types::{Call, Command, Hint, HintWords, Steps};
+use liq_types::{Command, Hint, Steps};
 use std::sync::ledger::{Blank, Ledger};
 
 // The record of this number is damaged: the rules refuse its command, with this code; or it is a repetition, and the code is 0.
@@ -30,26 +30,6 @@ fn unaccepted(index: u64, code: u8) -> AcceptedFault
 {
     let what = What::Replay { code };
     AcceptedFault::Damaged(Damage { index, what })
-}
-
-// The command without its hint words. They change nothing, and a place that they no longer name costs a walk.
-fn unhinted(command: &Command) -> Command
-    ensures same { result ≡ unhinted command.now }
-    ensures built { IsTrue (built (Do command.now)) → IsTrue (built (Do result)) }
-{
-    let none = HintWords::NONE;
-    let call = match command.call {
-        Call::Open(account, coll, borrow, bound, _) => {
-            Call::Open(account, coll, borrow, bound, none)
-        }
-        Call::Adjust(account, coll_in, coll_out, borrow, repay, bound, _) => {
-            Call::Adjust(account, coll_in, coll_out, borrow, repay, bound, none)
-        }
-        Call::GainToTrove(account, _) => Call::GainToTrove(account, none),
-        Call::Redeem(account, lusd, bound, _) => Call::Redeem(account, lusd, bound, none),
-        call => call,
-    };
-    Command { call, ..*command }
 }
 
 // Makes the step of the command of the record of this number.

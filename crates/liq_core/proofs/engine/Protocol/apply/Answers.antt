@@ -3,13 +3,13 @@ use Rattle.std.specs.Prelude.{IsTrue}
 use Rattle.liq_types.specs.declared.events.ListChange.{ListChange}
 use Rattle.liq_types.specs.declared.hints.Hint.{Hint}
 use Rattle.liq_types.specs.declared.requests.Command.{Command}
-use Rattle.liq_types.specs.Ranked.{Ranked, IsTight, without_ranked}
+use Rattle.liq_types.specs.Ranked.{Ranked}
 use Rattle.liq_types.specs.Rules.{first_refusal}
 use Rattle.liq_types.specs.State.{State}
 use Rattle.liq_order.specs.Order.{trove_order}
 use Rattle.liq_standing.specs.Steps.{TakesFew}
 use Rattle.liq_core.specs.Steps.{entry_put, last_put, used_hint, words_of}
-use Rattle.liq_core.proofs.Stepping.{planned_puts, strikes_none, takes_same, few_cost, few_none}
+use Rattle.liq_core.proofs.Stepping.{planned_puts, strikes_none, takes_same}
 use Rattle.liq_rules.specs.Verbs.{liquidates}
 use Rattle.liq_types.specs.Soundness.{IsSoundImage}
 use Rattle.liq_liquidation.specs.declared.one.Victim.{Victim}
@@ -26,8 +26,7 @@ use Rattle.liq_core.proofs.Liquidating.{IsLiquidation, LiquidatesBy, liquidation
 use Rattle.liq_core.proofs.Stands.{changed_stands, stepped_stands}
 use Rattle.liq_core.proofs.SoundCores.{sound_stands}
 use Rattle.liq_core.proofs.engine.Protocol.apply.Goals as goal
-use Rattle.liq_core.proofs.engine.Protocol.apply.Goals.{Joined-forecast-2, in_default, in-Liquidate2}
-use Rattle.liq_core.proofs.engine.Protocol.apply.Given.{Over}
+use Rattle.liq_core.proofs.engine.Protocol.apply.Goals.{in_default, in-Liquidate2}
 
 pub change-requires-clause-allowed : goal.change-requires-clause-allowed
 change-requires-clause-allowed g c =
@@ -159,8 +158,8 @@ planned_few old sound inside plan view is stays made now same stands hint before
 after_list : (s : State) (c : Command) → ruling s c ≡ Allowed → trove_order (step s (Do c)).0 ≡ trove_order (effect s c.call)
 after_list s c allowed = ap (λ (r : Ruling). trove_order (after_ruling s c r).0) allowed
 
-few : (g : Over) (c : Joined-forecast-2 g) → TakesFew c.match-command.self.list (used_hint (words_of c.args.planned.command.call) c.args.hint.now) (last_put c.args.planned.changes) c.args.steps.now c.match-command.steps
-few g c =
+pub returns-clause-few : goal.returns-clause-few
+returns-clause-few g c =
     let old = c.args.self.now in
     let sound = subst (λ (core : Core). IsSoundImage core.image core.records) c.self.view_is c.self.invariant.image in
     let s = state_of old in
@@ -176,13 +175,3 @@ few g c =
           (planned_few old sound c.planned.inside c.args.planned c.planned.view_is plan (strikes_none c.planned.inside.command.call w.in_default.not-Liquidate w.in_default.not-LiquidateLowest) w.change.new.self.list list same made c.args.hint.now c.args.steps.now w.change.new.steps w.change.ensures.few)
       | in-Liquidate2 w ↦ takes_same list used (last_put c.args.planned.changes) c.args.steps.now c.match-command.steps w.steps-is
     ]
-
-pub returns-clause-cost : goal.returns-clause-cost
-returns-clause-cost g c s h e is tight =
-    let used = used_hint (words_of c.args.planned.command.call) c.args.hint.now in
-    few_cost c.match-command.self.list used (last_put c.args.planned.changes) c.args.steps.now c.match-command.steps (few g c) e is
-    (subst (λ (l : List Ranked). IsTight (without_ranked l e.1) e used.prev used.next) (sym (returns-clause-list g c s h)) tight)
-
-pub returns-clause-none : goal.returns-clause-none
-returns-clause-none g c is =
-    few_none c.match-command.self.list (used_hint (words_of c.args.planned.command.call) c.args.hint.now) (last_put c.args.planned.changes) c.args.steps.now c.match-command.steps (few g c) is

@@ -1,0 +1,23 @@
+use Rattle.std.proofs.Common.{IsTrue, ap, sym, subst, ◌∙◌}
+use Rattle.liq_types.specs.declared.requests.Call.{Call}
+use Rattle.liq_rules.specs.Rules.{call_events}
+use Rattle.liq_rules.specs.Step.{after, built_call, ruling}
+use Rattle.liq_core.proofs.HintsAside.{after_same, built_same, events_same, ruling_same}
+use Rattle.liq_core.proofs.hints.unhinted.Goals as goal
+
+pub returns-clause-built : goal.returns-clause-built
+returns-clause-built c h =
+    subst (λ (call : Call). IsTrue (built_call call)) (sym c.unhinted_call.ensures) (built_same c.args.command.now.call h)
+
+pub returns-clause-ruling : goal.returns-clause-ruling
+returns-clause-ruling c s =
+    ap (λ (call : Call). ruling s (record { client = c.args.command.now.client; number = c.args.command.now.number; call = call })) c.unhinted_call.ensures
+    ∙ ruling_same s c.args.command.now.client c.args.command.now.number c.args.command.now.call
+
+pub returns-clause-after : goal.returns-clause-after
+returns-clause-after c s =
+    ap (λ (call : Call). after s (record { client = c.args.command.now.client; number = c.args.command.now.number; call = call })) c.unhinted_call.ensures
+    ∙ after_same s c.args.command.now.client c.args.command.now.number c.args.command.now.call
+
+pub returns-clause-events : goal.returns-clause-events
+returns-clause-events c s = ap (call_events s) c.unhinted_call.ensures ∙ events_same s c.args.command.now.call
