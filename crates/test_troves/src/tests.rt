@@ -2,6 +2,7 @@
 
 mod agreement;
 mod audits;
+mod guides;
 mod orders;
 mod pools;
 mod troves;
