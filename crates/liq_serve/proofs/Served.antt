@@ -137,7 +137,7 @@ module _ {S D : Type 0} (seen : D → Option (List ℕ)) (before after : Outside
       → ((l r : List ℕ) (start : State) → Finds seen before l r (Ok start) → serving.HoldsAfter seen finish.DiskFault halted history l r start after.left after.right)
       → Answers seen before after end asked history (Err DiskFault)
   halted_by end None h disks = absurd h
-  halted_by end (Some (session, request)) h disks = (session, (request, (h.0, h.1, h.2, disks)))
+  halted_by end (Some (session, request)) h disks = (session, request, h.0, h.1, h.2, disks)
 
   abbrev pub Came : Result (Unit {0}) Halt → Type 0
   Came end =
