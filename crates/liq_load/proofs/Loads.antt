@@ -24,8 +24,8 @@ use Rattle.liq_rules.specs.Image.{image}
 use Rattle.liq_rules.specs.Rules.{call_events}
 use Rattle.liq_rules.specs.Step.{Ruling, Refused, Repeated, Allowed, accepted, after, after_ruling, done_of, effect, is_allowed, next_number, run, ruling, step}
 use Rattle.liq_load.specs.declared.load.Counts.{Counts}
-use Rattle.liq_load.specs.Carrying.{AreWithin, IsNumbered, none_yet, plus}
-use Rattle.liq_load.specs.Load.{counts, is_offset, is_refusal, next_command, requests_of, told}
+use Rattle.liq_load.specs.Carrying.{AreWithin, IsNumbered, counts, next_command, none_yet, plus, told}
+use Rattle.liq_load.specs.Load.{is_offset, is_refusal, requests_of}
 
 same_counts : (a b : Counts) → a.accepted ≡ b.accepted → a.refused ≡ b.refused → a.offsets ≡ b.offsets → a ≡ b
 same_counts a b accepted refused offsets =

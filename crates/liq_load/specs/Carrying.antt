@@ -1,12 +1,46 @@
 -- A load on its way: what is counted so far, and how its line is written.
-use Rattle.std.specs.Prelude.{ℕ, ◌≡◌, ◌+◌, ◌*◌, ◌≤◌, List, Option, Result, Ok, Err}
+use Rattle.std.specs.Prelude.{ℕ, ◌≡◌, ◌+◌, ◌*◌, ◌≤◌, List, [], ◌∷◌, ◌++◌, length, count_by, codes, decimal}
+use Rattle.std.specs.Prelude.{Option, Result, Ok, Err}
 use Rattle.liq_types.specs.declared.amounts.TheConstants.{LOWEST_MOST}
-use Rattle.liq_types.specs.State.{client_of}
+use Rattle.liq_types.specs.declared.requests.Call.{Call}
+use Rattle.liq_types.specs.declared.requests.Request.{Request}
+use Rattle.liq_types.specs.declared.requests.Request.TheVariants.{Do}
+use Rattle.liq_types.specs.State.{State, client_of}
+use Rattle.liq_stability.specs.declared.words.PoolWords.{PoolWords}
+use Rattle.liq_rules.specs.Events.{events}
+use Rattle.liq_rules.specs.Step.{run, accepted, next_number}
 use Rattle.liq_core.specs.Core.{Core, state_of}
 use Rattle.liq_lines.specs.Writing.{Writes, WritesPart}
 use Rattle.liq_ends.specs.declared.halts.Halt.{Halt}
 use Rattle.liq_ends.specs.declared.halts.Halt.TheVariants.{WriteFault, NoMemory}
 use Rattle.liq_load.specs.declared.load.Counts.{Counts}
+use Rattle.liq_load.specs.Load.{is_offset, is_refusal}
+
+-- client 1's next command, with this call
+abbrev pub next_command : State → Call → Request
+next_command s call = Do (record { client = 1; number = next_number s 1; call = call })
+
+-- what is counted over requests from a state on
+abbrev pub counts : State → List Request → Counts
+counts s requests = record {
+  accepted = length (accepted s requests);
+  refused = count_by is_refusal (run s requests).1;
+  offsets = count_by is_offset (events s (accepted s requests));
+}
+
+-- the line of counts, of the Stability Pool's words and of the debt of all troves
+abbrev pub told : Counts → PoolWords → ℕ → List ℕ
+told counts words supply =
+    codes "accepted " ++ decimal counts.accepted
+    ++ codes " refused " ++ decimal counts.refused
+    ++ codes " offsets " ++ decimal counts.offsets
+    ++ codes " epochs " ++ decimal words.epoch
+    ++ codes " scale " ++ decimal words.scale
+    ++ codes " p " ++ decimal words.p
+    ++ codes " total " ++ decimal words.total
+    ++ codes " coll " ++ decimal words.coll
+    ++ codes " supply " ++ decimal supply
+    ++ 10 ∷ []
 
 abbrev pub none_yet : Counts
 none_yet = record { accepted = 0; refused = 0; offsets = 0 }

@@ -9,8 +9,8 @@ ghost use Rattle.liq_stability.specs.Words.{pool_words};
 ghost use Rattle.liq_core.specs.Core.{StandsFor, state_of};
 ghost use Rattle.liq_rules.specs.Step.{built_call, run, step, next_number};
 ghost use Rattle.liq_words.specs.declared.words.TheConstants.{COUNT_MOST};
-ghost use Rattle.liq_load.specs.Carrying.{AreWithin, IsNumbered, plus};
-ghost use Rattle.liq_load.specs.Load.{counts, is_offset, load, next_command, told};
+ghost use Rattle.liq_load.specs.Carrying.{AreWithin, IsNumbered, counts, next_command, plus, told};
+ghost use Rattle.liq_load.specs.Load.{is_offset, load};
 
 use liq_core::laws::protocols_stand;
 use liq_core::{PlanFault, Protocol, Turn};

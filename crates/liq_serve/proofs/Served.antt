@@ -1,21 +1,27 @@
 -- Serving an input, as an end of the program.
-use Rattle.std.proofs.Common.{◌≡◌, ◌≢◌, ◌<◌, ℕ, zero, suc, List, [], ◌∷◌, map, length, Option, Some, None, Ok, Err, Result, refl, sym, subst, ap, ap₂, ◌∙◌, inl, inr, lit<, arith}
-use Rattle.std.specs.Prelude.{◌⊎◌, Contains, slice_index_or}
+use Rattle.std.proofs.Common.{◌≡◌, ◌<◌, ℕ, zero, suc, List, [], ◌∷◌, map, length, append-nil, Option, Some, None, Ok, Err, Result, refl, sym, subst, ap, ap₂, ◌∙◌, inl, inr, lit<, arith}
+use Rattle.std.specs.Prelude.{◌⊎◌, All, Contains, slice_index_or}
 use Rattle.std.specs.List.{AllZip}
 use Rattle.liq_types.specs.declared.amounts.TheConstants.{LINES_MOST}
 use Rattle.liq_types.specs.State.{State}
+use Rattle.liq_types.specs.declared.requests.Command.{Command}
 use Rattle.liq_types.specs.declared.requests.Request.{Request}
-use Rattle.liq_rules.specs.History.{Entry}
+use Rattle.liq_types.specs.declared.requests.Request.TheVariants.{Do}
+use Rattle.liq_rules.specs.History.{Entry, state_after}
+use Rattle.liq_rules.specs.Step as rule
+use Rattle.liq_rules.specs.Step.{Allowed, ruling}
 use Rattle.liq_journal.specs.declared.damage.Damage.{Damage}
+use Rattle.liq_pairs.specs.declared.side.Side.{Side}
+use Rattle.liq_pairs.specs.Kept.{IsKept}
 use Rattle.liq_lines.specs.declared.stops.Stop.{Stop}
 use Rattle.liq_lines.specs.declared.stops.Stop.TheVariants as stop
 use Rattle.liq_lines.specs.Lines.{lines_in}
 use Rattle.liq_scripts.specs.Gathering as scripts
 use Rattle.liq_scripts.specs.Output.{served}
-use Rattle.liq_scripts.specs.Asked.{Asks, requests_of, script_of, scripts_of}
+use Rattle.liq_scripts.specs.Asked.{Asks, script_of, scripts_of}
 use Rattle.liq_scripts.specs.Sessions.{sessions}
 use Rattle.liq_sessions.specs.declared.script.Script.{Script}
-use Rattle.liq_serving.specs.Answered.{IsServedWhole, LacksMemory, answered_of}
+use Rattle.liq_serving.specs.Answered.{AreServedWhole, IsServedWhole, LacksMemory, answered_of}
 use Rattle.liq_serving.specs.declared.input.Finish.{Finish}
 use Rattle.liq_serving.specs.declared.input.Finish.TheVariants as finish
 use Rattle.liq_serving.specs.Input as serving
@@ -26,11 +32,12 @@ use Rattle.liq_ends.specs.declared.halts.Halt.{Halt}
 use Rattle.liq_ends.specs.declared.halts.Halt.TheVariants.{BadLine, ReadFault, DiskFault, NoMemory, Limit}
 use Rattle.liq_ends.specs.declared.halts.Halt.TheVariants as halts
 use Rattle.liq_ends.specs.Causes.{DiskCause, ReadCause, WriteCause}
+use Rattle.liq_ends.specs.Disks.{OfBoth}
 use Rattle.liq_ends.specs.Unsaid.{WritesAll}
 use Rattle.liq_ends.specs.Statuses.{IsDone, status_of}
 use Rattle.liq_serve.specs.Finishing.{end_of}
 use Rattle.liq_serve.specs.Outside.{Outside, Finds}
-use Rattle.liq_serve.specs.Serve.{Answers, AnswersAll, OpensNone, StopsReading}
+use Rattle.liq_serve.specs.Serve.{Answers, AreLeft, OpensNone, StopsReading}
 
 -- ---- the counts
 
@@ -123,57 +130,73 @@ found_in f (x ∷ xs) (suc k) y within is =
 
 -- a script that lacks replies is that of a session
 lacking : (asked : List (ℕ × Request)) (history : List Entry) → LacksMemory (scripts_of asked) history
-    → (history ≡ []) ⊎ ((length history < LINES_MOST) × ((session : ℕ) × Contains sessions session × (requests_of asked session ≢ answered_of session history)))
+    → (history ≡ []) ⊎ ((length history < LINES_MOST) × ((session : ℕ) × Contains sessions session × (AreLeft asked history session [] → ⊥)))
 lacking asked history (inl none) = inl none
 lacking asked history (inr some) =
     let script = some.1.0 in
     let there = some.1.1 in
     let of_one = found_in (script_of asked) sessions there.0 script there.1 there.2 in
-    inr (some.0, (of_one.0, of_one.1, subst (λ (s : Script). IsServedWhole history s → ⊥) of_one.2 some.1.2))
+    let lacks = subst (λ (s : Script). IsServedWhole history s → ⊥) of_one.2 some.1.2 in
+    inr (some.0, (of_one.0, of_one.1, λ none. lacks (none ∙ append-nil (answered_of of_one.0 history))))
+
+-- nothing is left of what is answered whole
+none_left : (asked : List (ℕ × Request)) (history : List Entry) → AreServedWhole asked history → All (λ session. AreLeft asked history session []) sessions
+none_left asked history whole = λ k d there. whole k d there ∙ sym (append-nil _)
 
 module _ {S D : Type 0} (seen : D → Option (List ℕ)) (before after : Outside S D) (asked : List (ℕ × Request)) (history : List Entry) where
+  abbrev AreWhole : Type 0
+  AreWhole = (l r : List ℕ) (side : Side) (damage : Damage) → Finds seen before l r (Err (side, damage)) → ⊥
+
+  -- disks that are not damaged stood for a state
+  kept :
+      (P : State → List ℕ → List ℕ → Type 0)
+      → ((l r : List ℕ) (start : State) → Finds seen before l r (Ok start) → OfBoth seen after.left after.right (P (state_after start history)))
+      → AreWhole → (l r : List ℕ) (found : Result State (Side × Damage)) → Finds seen before l r found
+      → (start : State) × (found ≡ Ok start) × OfBoth seen after.left after.right (P (state_after start history))
+  kept P disks whole l r (Ok start) found = (start, refl, disks l r start found)
+  kept P disks whole l r (Err (side, damage)) found = absurd (whole l r side damage found)
+
   -- the call that met a disk's fault
-  halted_by : (end : Result (Unit {0}) Halt) (halted : Option (ℕ × Request)) → serving.Answers finish.DiskFault halted asked history
+  halted_by : (halted : Option (ℕ × Request)) → serving.Answers finish.DiskFault halted asked history
       → ((l r : List ℕ) (start : State) → Finds seen before l r (Ok start) → serving.HoldsAfter seen finish.DiskFault halted history l r start after.left after.right)
-      → Answers seen before after end asked history (Err DiskFault)
-  halted_by end None h disks = absurd h
-  halted_by end (Some (session, request)) h disks = (session, request, h.0, h.1, h.2, disks)
+      → AreWhole → Answers seen before after asked history (Err DiskFault)
+  halted_by None h disks whole = absurd h
+  halted_by (Some (session, request)) h disks whole =
+      let held : State → List ℕ → List ℕ → Type 0 = λ s a b. IsKept a b s ⊎ ((c : Command) × (request ≡ Do c) × (ruling s c ≡ Allowed) × IsKept a b (rule.after s c)) in
+      (session, request, h.0, h.1, h.2, kept held disks whole)
 
   abbrev pub Came : Result (Unit {0}) Halt → Type 0
   Came end =
       StopsReading seen before after end asked history
       ⊎ (((bytes : List ℕ) → before.unread ≡ Some bytes → AllZip Asks (lines_in bytes) asked × (after.unread ≡ Some []))
-      × (OpensNone seen before after end asked history ⊎ AnswersAll seen before after end asked history))
+      × (OpensNone seen before after end asked history ⊎ Answers seen before after asked history end))
 
   pub came_by : (how : Finish) → AnswersInput seen before.unread after.unread before.left before.right (record { left = after.left; right = after.right; finish = how }) asked history
       → ((why_not : Stop) → how ≡ finish.NotRead why_not → (after.left ≡ before.left) × (after.right ≡ before.right)) → Came (end_of how)
   came_by finish.All a same = inr (
     a.read,
-    inr (record {
-      answers = (a.answers, λ l r start found. a.disks l r start found.left found.right found.is);
-      whole = λ l r side damage found. a.damaged l r side damage found.left found.right found.is;
-    }),
+    inr (
+      none_left asked history a.answers,
+      kept (λ s a b. IsKept a b s) (λ l r start found. a.disks l r start found.left found.right found.is) (λ l r side damage found. a.damaged l r side damage found.left found.right found.is),
+    ),
   )
   came_by finish.WriteFault a same = inr (
     a.read,
-    inr (record {
-      answers = (a.answers, λ l r start found. a.disks l r start found.left found.right found.is);
-      whole = λ l r side damage found. a.damaged l r side damage found.left found.right found.is;
-    }),
+    inr (
+      none_left asked history a.answers,
+      kept (λ s a b. IsKept a b s) (λ l r start found. a.disks l r start found.left found.right found.is) (λ l r side damage found. a.damaged l r side damage found.left found.right found.is),
+    ),
   )
   came_by finish.NoMemory a same = inr (
     a.read,
-    inr (record {
-      answers = (lacking asked history a.answers, λ l r start found. a.disks l r start found.left found.right found.is);
-      whole = λ l r side damage found. a.damaged l r side damage found.left found.right found.is;
-    }),
+    inr (
+      lacking asked history a.answers,
+      kept (λ s a b. IsKept a b s) (λ l r start found. a.disks l r start found.left found.right found.is) (λ l r side damage found. a.damaged l r side damage found.left found.right found.is),
+    ),
   )
   came_by finish.DiskFault a same = inr (
     a.read,
-    inr (record {
-      answers = halted_by (Err DiskFault) a.halted a.answers (λ l r start found. a.disks l r start found.left found.right found.is);
-      whole = λ l r side damage found. a.damaged l r side damage found.left found.right found.is;
-    }),
+    inr (halted_by a.halted a.answers (λ l r start found. a.disks l r start found.left found.right found.is) (λ l r side damage found. a.damaged l r side damage found.left found.right found.is)),
   )
   came_by (finish.NotRead why_not) a same = inl (record {
     stop = why_not;

@@ -37,7 +37,7 @@ use Rattle.liq_tell.specs.Audit.{IsAuditOf}
 use Rattle.liq_tell.specs.State.{standing}
 use Rattle.liq_tell.proofs.Audited.{no_limit}
 use Rattle.liq_load.specs.Load.{load, summary}
-use Rattle.liq_serve.specs.Outside.{Outside, Finds, SinkRose}
+use Rattle.liq_serve.specs.Outside.{Outside, Finds}
 use Rattle.liq_serve.specs.Serve.{ServesTo}
 use Rattle.liq_serve.specs.Top.{Ends, EndsOverDamage, HasCauses, Loads}
 use Rattle.liq_serve.proofs.Served.{same_disks}
@@ -109,7 +109,7 @@ module _ {S D : Type 0} (seen : D → Option (List ℕ)) (before after : Outside
   abbrev IsOverDamage : ℕ → Type 0
   IsOverDamage status =
       (l r : List ℕ) → seen before.left ≡ Some l → seen before.right ≡ Some r → (side : Side) (damage : Damage) → state_on l r ≡ Err (side, damage)
-      → (after.source ≡ before.source) × ((halt : Halt) × (status ≡ status_of (Err halt)) × EndsDamaged seen side damage (Err halt) after.left after.right × Adds [] (last halt) (SinkRose before after) before.held after.held)
+      → (after.source ≡ before.source) × ((halt : Halt) × (status ≡ status_of (Err halt)) × EndsDamaged seen side damage (Err halt) after.left after.right × Adds [] (last halt) (Rose before.sink_faults after.sink_faults) before.held after.held)
 
   over_damage : (status : ℕ) → IsOverDamage status → (l r : List ℕ) (side : Side) (damage : Damage) → Finds seen before l r (Err (side, damage)) → EndsOverDamage seen before after status side damage
   over_damage status damaged l r side damage found =
@@ -119,7 +119,7 @@ module _ {S D : Type 0} (seen : D → Option (List ℕ)) (before after : Outside
   pub run_ends :
       (words : List (List ℕ)) (end : Result (Unit {0}) Halt) → IsRead words word.Run → HasCounts end
       → ((bytes l r : List ℕ) → before.unread ≡ Some bytes → seen before.left ≡ Some l → seen before.right ≡ Some r → (start : State) → state_on l r ≡ Ok start
-      → EndsIn seen start end bytes l r after.unread (SinkRose before after) before.held after.held after.left after.right)
+      → EndsIn seen start end bytes l r after.unread (Rose before.sink_faults after.sink_faults) before.held after.held after.left after.right)
       → IsOverDamage (status_of end)
       → ReadsAtMost (taken_most LINES_MOST) before.unread after.unread
       → Ends seen before after (status_of end) words
@@ -148,7 +148,7 @@ module _ {S D : Type 0} (seen : D → Option (List ℕ)) (before after : Outside
   pub state_ends :
       (words : List (List ℕ)) (end : Result (Unit {0}) Halt) → IsRead words word.State → HasCounts end → after.source ≡ before.source
       → ((l r : List ℕ) → seen before.left ≡ Some l → seen before.right ≡ Some r → (start : State) → state_on l r ≡ Ok start
-      → Contains (0 ∷ 4 ∷ 5 ∷ 7 ∷ []) (status_of end) × TellsAll (standing start) end (SinkRose before after) before.held after.held × DisksStay seen end l r start after.left after.right)
+      → Contains (0 ∷ 4 ∷ 5 ∷ 7 ∷ []) (status_of end) × TellsAll (standing start) end (Rose before.sink_faults after.sink_faults) before.held after.held × DisksStay seen end l r start after.left after.right)
       → IsOverDamage (status_of end)
       → ReadsAtMost (taken_most LINES_MOST) before.unread after.unread
       → Ends seen before after (status_of end) words
@@ -179,7 +179,7 @@ module _ {S D : Type 0} (seen : D → Option (List ℕ)) (before after : Outside
       → ServesTo seen before after end
       → ((bytes l r : List ℕ) → before.unread ≡ Some bytes → seen before.left ≡ Some l → seen before.right ≡ Some r → (start : State) → state_on l r ≡ Ok start
       → (asked : List (ℕ × Request)) → AllZip Asks (lines_in bytes) asked → length asked ≤ LINES_MOST
-      → (Rose before.source_faults after.source_faults → ⊥) → (SinkRose before after → ⊥) → (OneRose before.disk_faults after.disk_faults → ⊥) → IsDone (status_of end))
+      → (Rose before.source_faults after.source_faults → ⊥) → (Rose before.sink_faults after.sink_faults → ⊥) → (OneRose before.disk_faults after.disk_faults → ⊥) → IsDone (status_of end))
       → ReadsAtMost (taken_most LINES_MOST) before.unread after.unread
       → Ends seen before after (status_of end) words
   serve_ends words end read counts told done few =
@@ -205,7 +205,7 @@ module _ {S D : Type 0} (seen : D → Option (List ℕ)) (before after : Outside
       (words : List (List ℕ)) (end : Result (Unit {0}) Halt) → IsRead words word.Audit → HasCounts end → after.source ≡ before.source
       → ((l r : List ℕ) → seen before.left ≡ Some l → seen before.right ≡ Some r → (start : State) → state_on l r ≡ Ok start
       → Contains (0 ∷ 4 ∷ 5 ∷ 7 ∷ 8 ∷ []) (status_of end)
-      × ((text : List ℕ) × IsAuditOf start (commands_on l r) end text × TellsAll text end (SinkRose before after) before.held after.held)
+      × ((text : List ℕ) × IsAuditOf start (commands_on l r) end text × TellsAll text end (Rose before.sink_faults after.sink_faults) before.held after.held)
       × DisksStay seen end l r start after.left after.right)
       → IsOverDamage (status_of end)
       → ReadsAtMost (taken_most LINES_MOST) before.unread after.unread

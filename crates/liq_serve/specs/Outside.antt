@@ -1,7 +1,6 @@
 -- What the outside is at a moment: the source, the sink and the two disks.
 use Rattle.std.specs.Prelude.{ℕ, ◌≡◌, List, Option, Some, Result}
 use Rattle.liq_types.specs.State.{State}
-use Rattle.liq_outside.specs.Faults.{Rose}
 use Rattle.liq_journal.specs.declared.damage.Damage.{Damage}
 use Rattle.liq_pairs.specs.declared.side.Side.{Side}
 use Rattle.liq_pairs.specs.Pair.{state_on}
@@ -42,12 +41,8 @@ pub record Finds
   pub right : seen before.right ≡ Some r
   pub is : state_on l r ≡ found
 
-module _ {S D : Type 0} (before after : Outside S D) where
-  abbrev pub SinkRose : Type 0
-  SinkRose = Rose before.sink_faults after.sink_faults
-
-  -- nothing was read, and the disks are as they were
-  pub record IsUntouched : Type 0 where
-    pub source : after.source ≡ before.source
-    pub left : after.left ≡ before.left
-    pub right : after.right ≡ before.right
+-- nothing was read, and the disks are as they were
+pub record IsUntouched {S D : Type 0} (before after : Outside S D) : Type 0 where
+  pub source : after.source ≡ before.source
+  pub left : after.left ≡ before.left
+  pub right : after.right ≡ before.right

@@ -1,13 +1,14 @@
 -- The word `serve`: how serving an input ends, and what is written by then.
-use Rattle.std.specs.Prelude.{ℕ, ◌≡◌, ◌≢◌, ◌≤◌, ◌<◌, ◌⊎◌, ◌++◌, [], ◌∷◌, List, length, All, Contains}
+use Rattle.std.specs.Prelude.{ℕ, ◌≡◌, ◌≤◌, ◌<◌, ◌==◌, ◌⊎◌, ◌++◌, [], ◌∷◌, List, length, map, filter, All, Contains}
 use Rattle.std.specs.Prelude.{Option, Some, Result, Ok, Err}
 use Rattle.std.specs.List.{AllZip}
+use Rattle.liq_outside.specs.Faults.{Rose}
 use Rattle.liq_types.specs.declared.amounts.TheConstants.{LINES_MOST}
 use Rattle.liq_types.specs.declared.requests.Command.{Command}
 use Rattle.liq_types.specs.declared.requests.Request.{Request}
 use Rattle.liq_types.specs.declared.requests.Request.TheVariants.{Do}
 use Rattle.liq_types.specs.State.{State}
-use Rattle.liq_rules.specs.History.{Entry, IsLegal, requests_of, state_after}
+use Rattle.liq_rules.specs.History.{Entry, IsLegal, own_entries, requests_of, state_after}
 use Rattle.liq_rules.specs.Step as rule
 use Rattle.liq_rules.specs.Step.{Allowed, ruling}
 use Rattle.liq_journal.specs.declared.damage.Damage.{Damage}
@@ -18,18 +19,16 @@ use Rattle.liq_lines.specs.Saying.{StopsAfter}
 use Rattle.liq_pairs.specs.declared.side.Side.{Side}
 use Rattle.liq_pairs.specs.Kept.{IsKept}
 use Rattle.liq_scripts.specs.declared.scripts.TheConstants.{SESSIONS}
-use Rattle.liq_scripts.specs.Asked as asked_in
 use Rattle.liq_scripts.specs.Asked.{Asks}
 use Rattle.liq_scripts.specs.Output.{served}
 use Rattle.liq_scripts.specs.Sessions.{sessions}
-use Rattle.liq_serving.specs.Answered.{answered_of}
 use Rattle.liq_ends.specs.declared.halts.Halt.{Halt}
 use Rattle.liq_ends.specs.declared.halts.Halt.TheVariants.{BadLine, ReadFault, WriteFault, DiskFault, NoMemory, Limit}
 use Rattle.liq_ends.specs.Disks.{DisksStay, EndsDamaged, OfBoth}
 use Rattle.liq_ends.specs.Statuses.{status_of}
 use Rattle.liq_ends.specs.Stops.{HaveTheirShares}
 use Rattle.liq_ends.specs.Telling.{TellsAll}
-use Rattle.liq_serve.specs.Outside.{Outside, Finds, SinkRose}
+use Rattle.liq_serve.specs.Outside.{Outside, Finds}
 
 -- why a word stops whose input was not read to its end
 abbrev pub halt_at : Stop → Halt
@@ -37,6 +36,12 @@ halt_at (stop.BadLine number) = BadLine number
 halt_at stop.ReadFault = ReadFault
 halt_at stop.NoMemory = NoMemory
 halt_at stop.Limit = Limit LINES_MOST
+
+-- the first requests of the session are answered in the history, in order, and these are left
+abbrev pub AreLeft : List (ℕ × Request) → List Entry → ℕ → List Request → Type 0
+AreLeft asked history session left =
+    map (λ (a : ℕ × Request). a.1) (filter (λ (a : ℕ × Request). a.0 == session) asked)
+    ≡ requests_of (own_entries session history) ++ left
 
 module _
     {S D : Type 0} (seen : D → Option (List ℕ)) (before after : Outside S D) (end : Result (Unit {0}) Halt)
@@ -61,43 +66,37 @@ module _
         (l r : List ℕ) (side : Side) (damage : Damage) → Finds seen before l r (Err (side, damage))
         → EndsDamaged seen side damage end after.left after.right
 
-  -- where the disks stood for a state, this holds of the one after the history and of what they hold then
+module _
+    {S D : Type 0} (seen : D → Option (List ℕ)) (before after : Outside S D) (asked : List (ℕ × Request))
+    (history : List Entry) where
+  -- the disks stood for a state, and this holds of the one after the history and of what they hold then
   abbrev pub Keep : (State → List ℕ → List ℕ → Type 0) → Type 0
   Keep P =
-      (l r : List ℕ) (start : State) → Finds seen before l r (Ok start)
-      → OfBoth seen after.left after.right (P (state_after start history))
+      (l r : List ℕ) (found : Result State (Side × Damage)) → Finds seen before l r found
+      → (start : State) × (found ≡ Ok start) × OfBoth seen after.left after.right (P (state_after start history))
 
-  -- What was answered once a store was open, and what the disks hold then.
+  -- What was answered once a store was open, whose disks are not damaged, and what they hold then.
   abbrev pub Answers : Result (Unit {0}) Halt → Type 0
   -- all, session by session, and they are kept for the state after it
   Answers (Ok done) =
-      All (λ session. asked_in.requests_of asked session ≡ answered_of session history) sessions
-      × Keep (λ s a b. IsKept a b s)
+      All (λ session. AreLeft asked history session []) sessions × Keep (λ s a b. IsKept a b s)
   Answers (Err WriteFault) =
-      All (λ session. asked_in.requests_of asked session ≡ answered_of session history) sessions
-      × Keep (λ s a b. IsKept a b s)
+      All (λ session. AreLeft asked history session []) sessions × Keep (λ s a b. IsKept a b s)
   -- nothing; or not all of some session, and the book had room for it
   Answers (Err NoMemory) =
       ((history ≡ [])
       ⊎ ((length history < LINES_MOST)
-      × ((session : ℕ) × Contains sessions session
-      × (asked_in.requests_of asked session ≢ answered_of session history))))
+      × ((session : ℕ) × Contains sessions session × (AreLeft asked history session [] → ⊥))))
       × Keep (λ s a b. IsKept a b s)
   -- A call met the fault, and it is that of the next request of its session. They are kept for that state, or for the
   -- one after this call's command, if it is accepted there.
   Answers (Err DiskFault) =
       (session : ℕ) × (request : Request) × (1 ≤ session) × (session ≤ SESSIONS)
-      × ((later : List Request)
-      × (asked_in.requests_of asked session ≡ answered_of session history ++ request ∷ later))
+      × ((later : List Request) × AreLeft asked history session (request ∷ later))
       × Keep (λ s a b.
       IsKept a b s
       ⊎ ((c : Command) × (request ≡ Do c) × (ruling s c ≡ Allowed) × IsKept a b (rule.after s c)))
   Answers (Err _) = ⊥
-
-  -- A store was opened, whose disks are not damaged.
-  pub record AnswersAll : Type 0 where
-    pub answers : Answers end
-    pub whole : (l r : List ℕ) (side : Side) (damage : Damage) → Finds seen before l r (Err (side, damage)) → ⊥
 
 module _
     {S D : Type 0} (seen : D → Option (List ℕ)) (before after : Outside S D) (end : Result (Unit {0}) Halt) where
@@ -108,18 +107,16 @@ module _
     pub history : List Entry
     pub few : length asked ≤ LINES_MOST
     -- of each session the first requests, in order
-    pub fronts :
-        All (λ session. (rest : List Request)
-        × (asked_in.requests_of asked session ≡ answered_of session history ++ rest)) sessions
+    pub fronts : All (λ session. (rest : List Request) × AreLeft asked history session rest) sessions
     pub sessions : All (λ (e : Entry). (1 ≤ e.session) × (e.session ≤ SESSIONS)) history
     -- reading stopped; or all lines ask this, and the source is at its end
     pub came :
         StopsReading seen before after end asked history
         ⊎ (((bytes : List ℕ) → before.unread ≡ Some bytes
         → AllZip Asks (lines_in bytes) asked × (after.unread ≡ Some []))
-        × (OpensNone seen before after end asked history ⊎ AnswersAll seen before after end asked history))
+        × (OpensNone seen before after end asked history ⊎ Answers seen before after asked history end))
     pub legal : (l r : List ℕ) (start : State) → Finds seen before l r (Ok start) → IsLegal start history
-    pub written : TellsAll (served history) end (SinkRose before after) before.held after.held
+    pub written : TellsAll (served history) end (Rose before.sink_faults after.sink_faults) before.held after.held
     pub shares :
         (l r : List ℕ) (start : State) → Finds seen before l r (Ok start)
         → HaveTheirShares start (requests_of history)

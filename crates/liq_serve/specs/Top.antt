@@ -1,14 +1,15 @@
 -- What the top call leaves, word by word, and which counts rise.
-use Rattle.std.specs.Prelude.{ℕ, ◌≡◌, ◌≢◌, ◌≤◌, ◌⊎◌, ◌↔◌, ◌∷◌, []}
+use Rattle.std.specs.Prelude.{ℕ, ◌≡◌, ◌≢◌, ◌≤◌, ◌+◌, ◌*◌, ◌⊎◌, ◌↔◌, ◌∷◌, []}
 use Rattle.std.specs.Prelude.{Contains, List, length, Option, Some, None, Result, Ok, Err}
 use Rattle.std.specs.List.{AllZip}
-use Rattle.liq_types.specs.declared.amounts.TheConstants.{LINES_MOST}
+use Rattle.liq_types.specs.declared.amounts.TheConstants.{LINE_BYTES, LINES_MOST}
 use Rattle.liq_types.specs.declared.requests.Request.{Request}
 use Rattle.liq_types.specs.State.{State, opening}
 use Rattle.liq_rules.specs.Events.{events}
 use Rattle.liq_journal.specs.declared.damage.Damage.{Damage}
 use Rattle.liq_lines.specs.Lines.{lines_in}
-use Rattle.liq_lines.specs.Reading.{taken_most, ReadsAtMost}
+use Rattle.liq_lines.specs.declared.reader.TheConstants.{READ_BYTES}
+use Rattle.liq_lines.specs.Reading.{ReadsAtMost}
 use Rattle.liq_pairs.specs.declared.side.Side.{Side}
 use Rattle.liq_pairs.specs.Pair.{commands_on}
 use Rattle.liq_review.specs.Limits.{number_above}
@@ -26,7 +27,7 @@ use Rattle.liq_ends.specs.Telling.{TellsAll}
 use Rattle.liq_tell.specs.Audit.{IsAuditOf}
 use Rattle.liq_tell.specs.State.{standing}
 use Rattle.liq_load.specs.Load.{load, summary}
-use Rattle.liq_serve.specs.Outside.{Outside, Finds, IsUntouched, SinkRose}
+use Rattle.liq_serve.specs.Outside.{Outside, Finds, IsUntouched}
 use Rattle.liq_serve.specs.Serve.{ServesTo}
 use Rattle.liq_outside.specs.Faults.{Rose}
 use Rattle.liq_store.specs.Causes.{OneRose}
@@ -34,7 +35,7 @@ use Rattle.liq_store.specs.Causes.{OneRose}
 module _ {S D : Type 0} (seen : D → Option (List ℕ)) (before after : Outside S D) (status : ℕ) where
   -- neither the sink nor a disk met a fault
   pub record IsCalm : Type 0 where
-    pub sink : SinkRose before after → ⊥
+    pub sink : Rose before.sink_faults after.sink_faults → ⊥
     pub disk : OneRose before.disk_faults after.disk_faults → ⊥
 
   -- over disks with this first damage nothing is read, and a last line alone is written
@@ -43,7 +44,7 @@ module _ {S D : Type 0} (seen : D → Option (List ℕ)) (before after : Outside
     pub halt : Halt
     pub status_is : status ≡ status_of (Err halt)
     pub ends : EndsDamaged seen side damage (Err halt) after.left after.right
-    pub written : Adds [] (last halt) (SinkRose before after) before.held after.held
+    pub written : Adds [] (last halt) (Rose before.sink_faults after.sink_faults) before.held after.held
 
   -- `run`, wherever the source tells its bytes and the disks stand for a state
   pub record Runs : Type 0 where
@@ -51,8 +52,8 @@ module _ {S D : Type 0} (seen : D → Option (List ℕ)) (before after : Outside
     pub ends :
         (bytes l r : List ℕ) (start : State) → before.unread ≡ Some bytes → Finds seen before l r (Ok start)
         → (end : Result (Unit {0}) Halt) × (status ≡ status_of end)
-        × EndsIn seen start end bytes l r after.unread (SinkRose before after) before.held after.held after.left
-        after.right
+        × EndsIn seen start end bytes l r after.unread (Rose before.sink_faults after.sink_faults) before.held
+        after.held after.left after.right
     -- where nothing is wrong with lines, streams and disks, all is answered
     pub complete :
         (bytes l r : List ℕ) (start : State) (requests : List Request) → before.unread ≡ Some bytes
@@ -77,7 +78,7 @@ module _ {S D : Type 0} (seen : D → Option (List ℕ)) (before after : Outside
     pub ends :
         (l r : List ℕ) (start : State) → Finds seen before l r (Ok start)
         → (end : Result (Unit {0}) Halt) × (status ≡ status_of end)
-        × TellsAll (standing start) end (SinkRose before after) before.held after.held
+        × TellsAll (standing start) end (Rose before.sink_faults after.sink_faults) before.held after.held
         × DisksStay seen end l r start after.left after.right
     pub statuses :
         (l r : List ℕ) (start : State) → Finds seen before l r (Ok start)
@@ -93,7 +94,7 @@ module _ {S D : Type 0} (seen : D → Option (List ℕ)) (before after : Outside
         (l r : List ℕ) (start : State) → Finds seen before l r (Ok start)
         → (end : Result (Unit {0}) Halt) × (status ≡ status_of end)
         × ((text : List ℕ) × IsAuditOf start (commands_on l r) end text
-        × TellsAll text end (SinkRose before after) before.held after.held)
+        × TellsAll text end (Rose before.sink_faults after.sink_faults) before.held after.held)
         × DisksStay seen end l r start after.left after.right
     pub statuses :
         (l r : List ℕ) (start : State) → Finds seen before l r (Ok start)
@@ -108,16 +109,16 @@ module _ {S D : Type 0} (seen : D → Option (List ℕ)) (before after : Outside
     -- the load is told by the rules' steps along its requests from the opening
     pub ends :
         (end : Result (Unit {0}) Halt) × (status ≡ status_of end)
-        × TellsAll (summary (load seed count)) end (SinkRose before after) before.held after.held
+        × TellsAll (summary (load seed count)) end (Rose before.sink_faults after.sink_faults) before.held after.held
     pub statuses : Contains (0 ∷ 4 ∷ 7 ∷ []) status
-    pub complete : (SinkRose before after → ⊥) → IsDone status
+    pub complete : (Rose before.sink_faults after.sink_faults → ⊥) → IsDone status
 
   -- A fault has its cause, and none is passed over.
   pub record HasCauses : Type 0 where
     pub known : Contains (0 ∷ 1 ∷ 2 ∷ 3 ∷ 4 ∷ 5 ∷ 6 ∷ 7 ∷ 8 ∷ []) status
     pub source_fault : status ≡ 3 → Rose before.source_faults after.source_faults
     pub source_same : status ≢ 3 → after.source_faults ≡ before.source_faults
-    pub sink_fault : status ≡ 4 → SinkRose before after
+    pub sink_fault : status ≡ 4 → Rose before.sink_faults after.sink_faults
     pub sink_same : status ≡ 0 → after.sink_faults ≡ before.sink_faults
     pub disk_fault : status ≡ 5 → OneRose before.disk_faults after.disk_faults
     pub disk_same : status ≢ 5 → after.disk_faults ≡ before.disk_faults
@@ -126,7 +127,8 @@ module _ {S D : Type 0} (seen : D → Option (List ℕ)) (before after : Outside
   pub record Ends (words : List (List ℕ)) : Type 0 where
     pub understood : (status ≡ 1) ↔ ((word : Word) → Ask words word → ⊥)
     pub usage :
-        status ≡ 1 → IsUntouched before after × Adds [] usage (SinkRose before after) before.held after.held
+        status ≡ 1
+        → IsUntouched before after × Adds [] usage (Rose before.sink_faults after.sink_faults) before.held after.held
     pub run : Ask words word.Run → Runs
     pub serve : Ask words word.Serve → Serves
     pub state : Ask words word.State → States
@@ -137,6 +139,7 @@ module _ {S D : Type 0} (seen : D → Option (List ℕ)) (before after : Outside
         Ask words word.Run ⊎ (Ask words word.State ⊎ Ask words word.Audit)
         → (l r : List ℕ) (side : Side) (damage : Damage) → Finds seen before l r (Err (side, damage))
         → EndsOverDamage side damage
-    -- no more is taken from the source than the lines that one run answers, and what one read asks for
-    pub takes : ReadsAtMost (taken_most LINES_MOST) before.unread after.unread
+    -- no more is taken from the source than the lines that one run answers, each with its line end, and what one read
+    -- asks for
+    pub takes : ReadsAtMost (LINES_MOST * (LINE_BYTES + 1) + READ_BYTES) before.unread after.unread
     pub causes : HasCauses

@@ -4,7 +4,8 @@ ghost use Rattle.std.specs.Prelude.{◌≡◌, ◌≢◌, ◌↔◌, ◌⊎◌, 
 ghost use Rattle.std.specs.String.{string_bytes};
 ghost use Rattle.liq_outside.specs.Faults.{Rose};
 ghost use Rattle.liq_words.specs.declared.words.Word.{Word};
-ghost use Rattle.liq_words.specs.Words.{Ask, IsInRange};
+ghost use Rattle.liq_words.specs.Reading.{IsInRange};
+ghost use Rattle.liq_words.specs.Words.{Ask};
 ghost use Rattle.liq_ends.specs.declared.halts.Halt.{Halt};
 ghost use Rattle.liq_ends.specs.Output.{last, usage};
 ghost use Rattle.liq_ends.specs.Statuses.{status_of};

@@ -16,7 +16,6 @@ use Rattle.liq_review.specs.Reviewed.{review_of, reviewed, unless_above}
 use Rattle.liq_review.specs.Shown.{shown}
 use Rattle.liq_ends.specs.declared.halts.Halt.{Halt}
 use Rattle.liq_ends.specs.declared.halts.Halt.TheVariants.{DiskFault, ReadFault}
-use Rattle.liq_tell.specs.Audit.{HoldTheirShares}
 use Rattle.liq_tell.specs.Reviewing.{halt_on}
 use Rattle.liq_ends.specs.Causes.{WriteCause}
 use Rattle.liq_ends.specs.Disks.{DisksStay}
@@ -63,7 +62,7 @@ no_cause side (review.Refused index code) count = refl
 no_cause side (review.Limit number) count = refl
 no_cause side review.NoMemory count = refl
 
-pub audit_holds : (end : Result (Unit {0}) Halt) (s : State) (commands : List Command) → HoldTheirShares s commands → AuditHolds end s commands
+pub audit_holds : (end : Result (Unit {0}) Halt) (s : State) (commands : List Command) → AuditHolds (Ok tt) s commands → AuditHolds end s commands
 audit_holds (Ok done) s commands h = h
 audit_holds (Err halt) s commands h = tt
 

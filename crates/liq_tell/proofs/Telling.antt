@@ -43,7 +43,7 @@ state_told text (Err (Limit number)) before now h = absurd (cc (h.0))
 
 pub audit_told : (s : State) (commands : List Command) (end : Result (Unit {0}) Halt) (before now : Option (List ℕ)) → WritesText (reviewed commands) end before now → AuditHolds end s commands
     → Contains (0 ∷ 4 ∷ 5 ∷ 7 ∷ 8 ∷ []) (status_of end) × ((text : List ℕ) × IsAuditOf s commands end text × WritesAll text end before now)
-audit_told s commands (Ok done) before now h holds = ((0, lit< tt, refl), (h.0, (h.1, holds), h.2))
+audit_told s commands (Ok done) before now h holds = ((0, lit< tt, refl), (h.0, (h.1, holds.0, holds.1), h.2))
 audit_told s commands (Err (BadLine n)) before now h holds = absurd h
 audit_told s commands (Err ReadFault) before now h holds = absurd h
 audit_told s commands (Err WriteFault) before now h holds = ((1, lit< tt, refl), (h.0, h.1, h.2))

@@ -11,16 +11,14 @@ use Rattle.liq_review.specs.declared.fault.ReviewFault.TheVariants as review
 use Rattle.liq_ends.specs.declared.halts.Halt.{Halt}
 use Rattle.liq_ends.specs.declared.halts.Halt.TheVariants.{Limit, WriteFault}
 
--- Of the commands that lead from the opening to this state: each row encloses the exact share of its account, and what
--- the protocol gives that is within its row.
-pub record HoldTheirShares (s : State) (commands : List Command) : Type 0 where
-  pub enclose : All (EnclosesShare (events opening commands)) (rows_of s (events opening commands))
-  pub within : count_by is_within (rows_of s (events opening commands)) ≡ length (rows_of s (events opening commands))
-
--- The text of an audit that ends so is that of the review, and at its end its rows hold the shares. Or the review
--- passes the limit by this number.
+-- An audit of the commands that lead from the opening to this state ends so, and its text is that of the review. At its
+-- end each row encloses the exact share of its account, and what the protocol gives that is within its row. Or the
+-- review passes the limit by this number.
 abbrev pub IsAuditOf : State → List Command → Result (Unit {0}) Halt → List ℕ → Type 0
-IsAuditOf s commands (Ok done) text = (reviewed commands ≡ Ok text) × HoldTheirShares s commands
+IsAuditOf s commands (Ok done) text =
+    let made = events opening commands in
+    let rows = rows_of s made in
+    (reviewed commands ≡ Ok text) × All (EnclosesShare made) rows × (count_by is_within rows ≡ length rows)
 IsAuditOf s commands (Err WriteFault) text = reviewed commands ≡ Ok text
 IsAuditOf s commands (Err (Limit number)) text = reviewed commands ≡ Err (review.Limit number)
 IsAuditOf s commands (Err _) text = Unit {0}

@@ -1,6 +1,5 @@
 -- What the word `state` tells.
 use Rattle.std.specs.Prelude.{ℕ, List, [], ◌∷◌, ◌++◌, codes, decimal}
-use Rattle.liq_types.specs.declared.requests.Query.{Query}
 use Rattle.liq_types.specs.declared.requests.Query.TheVariants.{Pools, System}
 use Rattle.liq_types.specs.declared.requests.Request.TheVariants.{Ask}
 use Rattle.liq_types.specs.State.{State}
@@ -8,10 +7,6 @@ use Rattle.liq_stability.specs.declared.words.PoolWords.{PoolWords}
 use Rattle.liq_stability.specs.Words.{pool_words}
 use Rattle.liq_rules.specs.Step.{step}
 use Rattle.liq_text.specs.Replies.{reply_line}
-
--- the line of the reply to a query
-abbrev pub answer_line : State → Query → List ℕ
-answer_line s query = reply_line (step s (Ask query)).1
 
 -- the words of the Stability Pool; the journal's generation, and its commands so far
 abbrev pub lines_of : PoolWords → ℕ → ℕ → List ℕ
@@ -27,6 +22,6 @@ lines_of words generation records =
 abbrev pub pool_and_journal : State → List ℕ
 pool_and_journal s = lines_of (pool_words s) s.generation s.records
 
--- what is told of a state
+-- what is told of a state: the replies to `system` and `pools`, and behind them those words
 unfoldable pub standing : State → List ℕ
-standing s = answer_line s System ++ answer_line s Pools ++ pool_and_journal s
+standing s = reply_line (step s (Ask System)).1 ++ reply_line (step s (Ask Pools)).1 ++ pool_and_journal s

@@ -1,13 +1,17 @@
 -- How writing a text of the disks ends, before the last line.
 use Rattle.std.specs.Prelude.{ℕ, ◌≡◌, List, Option, Result, Ok, Err}
+use Rattle.std.specs.Prelude.{All, count_by, length}
 use Rattle.liq_types.specs.declared.requests.Command.{Command}
-use Rattle.liq_types.specs.State.{State}
+use Rattle.liq_types.specs.State.{State, opening}
+use Rattle.liq_audit.specs.Auditable.{EnclosesShare}
+use Rattle.liq_rules.specs.Events.{events}
+use Rattle.liq_review.specs.Engine.{rows_of}
+use Rattle.liq_review.specs.Shown.{is_within}
 use Rattle.liq_lines.specs.Writing.{Writes, WritesPart}
 use Rattle.liq_review.specs.declared.fault.ReviewFault.{ReviewFault}
 use Rattle.liq_review.specs.declared.fault.ReviewFault.TheVariants as review
 use Rattle.liq_ends.specs.declared.halts.Halt.{Halt}
 use Rattle.liq_ends.specs.declared.halts.Halt.TheVariants.{WriteFault, DiskFault, NoMemory, Limit}
-use Rattle.liq_tell.specs.Audit.{HoldTheirShares}
 
 -- The text was written, or the sink met a fault within it. Or nothing was: a limit is passed, there was no memory, or a
 -- disk met a fault.
@@ -20,7 +24,11 @@ WritesText told (Err NoMemory) before now = now ≡ before
 WritesText told (Err DiskFault) before now = now ≡ before
 WritesText told (Err _) before now = ⊥
 
--- the rows of a review that was told hold the shares
+-- each row of a review that was told encloses the exact share of its account, and what the protocol gives that is
+-- within its row
 abbrev pub AuditHolds : Result (Unit {0}) Halt → State → List Command → Type 0
-AuditHolds (Ok done) s commands = HoldTheirShares s commands
+AuditHolds (Ok done) s commands =
+    let made = events opening commands in
+    let rows = rows_of s made in
+    All (EnclosesShare made) rows × (count_by is_within rows ≡ length rows)
 AuditHolds (Err halt) s commands = Unit {0}

@@ -13,9 +13,31 @@ use Rattle.liq_words.specs.declared.words.Word.TheVariants.{Run, Serve, State, A
 use Rattle.liq_words.specs.declared.words.WordsFault.{WordsFault}
 use Rattle.liq_words.specs.declared.words.WordsFault.TheVariants.{Usage, NoMemory}
 use Rattle.liq_words.specs.Line.{line}
-use Rattle.liq_words.specs.Reading.{HasRead}
-use Rattle.liq_words.specs.Words.{Ask, IsInRange, words_of}
+use Rattle.liq_words.specs.Reading.{HasRead, IsInRange}
+use Rattle.liq_words.specs.Words.{Ask}
 use Rattle.liq_words.proofs.Taken.{run_is_taken, run_is_read, serve_is_taken, serve_is_read, state_is_taken, state_is_read, audit_is_taken, audit_is_read, gen_is_taken, gen_is_read, seed_is_read, count_is_read}
+
+-- ---- what words are that ask for something
+
+abbrev words_of : Word → List Text
+words_of Run = codes "run" ∷ []
+words_of Serve = codes "serve" ∷ []
+words_of State = codes "state" ∷ []
+words_of Audit = codes "audit" ∷ []
+words_of (Gen seed count) = codes "gen" ∷ decimal seed ∷ decimal count ∷ []
+
+words_are : (words : List Text) (word : Word) → Ask words word → words ≡ words_of word
+words_are words Run h = h
+words_are words Serve h = h
+words_are words State h = h
+words_are words Audit h = h
+words_are words (Gen seed count) h = h.0
+
+pub in_range : (words : List Text) (word : Word) → Ask words word → IsInRange word
+in_range words (Gen seed count) h = (h.1, h.2, h.3)
+in_range words word h = tt
+
+-- ---- what clap reads
 
 -- how a number begins
 record Begins (text : Text) : Type 0 where
@@ -36,21 +58,21 @@ begins (b ∷ bs) h = record {
 number_begins : (n : ℕ) → n < 2 ^ 64 → Begins (decimal n)
 number_begins n small = begins (decimal n) (decimal_is_IsNumeral n small).0
 
-word_taken : (word : Word) → Ask (words_of word) word → takes line (words_of word) ≡ true
+word_taken : (word : Word) → IsInRange word → takes line (words_of word) ≡ true
 word_taken Run h = run_is_taken
 word_taken Serve h = serve_is_taken
 word_taken State h = state_is_taken
 word_taken Audit h = audit_is_taken
 word_taken (Gen seed count) h =
-    let s = number_begins seed h.0.0 in
-    let c = number_begins count (omega (arith, h.0.2)) in
+    let s = number_begins seed h.0 in
+    let c = number_begins count (omega (arith, h.2)) in
     subst (λ (t : Text). takes line (codes "gen" ∷ t ∷ decimal count ∷ []) ≡ true) (sym s.text_is)
     (subst (λ (t : Text). takes line (codes "gen" ∷ (s.first ∷ s.rest) ∷ t ∷ []) ≡ true) (sym c.text_is)
     (gen_is_taken s.first c.first s.rest c.rest s.no_hyphen c.no_hyphen))
 
 -- clap takes the words
 pub are_taken : (words : List Text) (word : Word) → Ask words word → takes line words ≡ true
-are_taken words word h = ap (takes line) h.1 ∙ word_taken word (h.0, refl)
+are_taken words word h = ap (takes line) (words_are words word h) ∙ word_taken word (in_range words word h)
 
 -- what clap reads of two texts behind `gen`
 abbrev AreRead : Text → Text → Type 0
@@ -66,16 +88,18 @@ are_read seed count s c =
     (subst (λ (t : Text). AreRead (s.first ∷ s.rest) t) (sym c.text_is)
     (gen_is_read s.first c.first s.rest c.rest s.no_hyphen c.no_hyphen, seed_is_read s.first c.first s.rest c.rest s.no_hyphen c.no_hyphen, count_is_read s.first c.first s.rest c.rest s.no_hyphen c.no_hyphen))
 
-word_read : (word : Word) → Ask (words_of word) word → HasRead (subcommand_of line (words_of word)) word
+word_read : (word : Word) → IsInRange word → HasRead (subcommand_of line (words_of word)) word
 word_read Run h = run_is_read
 word_read Serve h = serve_is_read
 word_read State h = state_is_read
 word_read Audit h = audit_is_read
-word_read (Gen seed count) h = are_read (decimal seed) (decimal count) (number_begins seed h.0.0) (number_begins count (omega (arith, h.0.2)))
+word_read (Gen seed count) h = are_read (decimal seed) (decimal count) (number_begins seed h.0) (number_begins count (omega (arith, h.2)))
 
 -- clap reads the word
 pub is_read : (words : List Text) (word : Word) → Ask words word → HasRead (subcommand_of line words) word
-is_read words word h = subst (λ (ws : List Text). HasRead (subcommand_of line ws) word) (sym h.1) (word_read word (h.0, refl))
+is_read words word h =
+    subst (λ (ws : List Text). HasRead (subcommand_of line ws) word) (sym (words_are words word h))
+    (word_read word (in_range words word h))
 
 -- ---- what is answered then
 
@@ -110,4 +134,5 @@ same_word a (Gen other more) h k same = absurd (omega (arith, ap length same))
 same_word a b h k same = ap (λ words. alone_of (get_or words 0 [])) same
 
 pub one_word : (words : List Text) (a b : Word) → Ask words a → Ask words b → a ≡ b
-one_word words a b h k = same_word a b h.0 k.0 (sym h.1 ∙ k.1)
+one_word words a b h k =
+    same_word a b (in_range words a h) (in_range words b k) (sym (words_are words a h) ∙ words_are words b k)

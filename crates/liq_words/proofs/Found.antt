@@ -6,8 +6,8 @@ use Rattle.clap.specs.Words.{Text, Row, first_of, first_value, rows_of}
 use Rattle.clap.proofs.WalkLemmas.{first_value-rows}
 use Rattle.liq_words.specs.declared.words.Word.{Word}
 use Rattle.liq_words.specs.declared.words.Word.TheVariants.{Run, Serve, State, Audit, Gen}
-use Rattle.liq_words.specs.Reading.{HasRead}
-use Rattle.liq_words.specs.Words.{Ask, IsInRange}
+use Rattle.liq_words.specs.Reading.{HasRead, IsInRange}
+use Rattle.liq_words.specs.Words.{Ask}
 
 -- a subcommand's value is that of its rows
 value_found : (found : Option (Text × List Row)) (f : Found) (id text : Text) → Some (rows_of f) ≡ option_map (λ p. p.1) found → option_map (λ p. first_of id p.1) found ≡ Some (Some text) → first_value f id ≡ Some text
@@ -38,7 +38,7 @@ values_found name f found (Gen seed count) is name_is rows_are within read = rec
   count = decimal count;
   seed_is = value_found found f (codes "seed") (decimal seed) rows_are read.1;
   count_is = value_found found f (codes "count") (decimal count) rows_are read.2;
-  ask = (within, refl);
+  ask = (refl, within.0, within.1, within.2);
 }
 
 -- the values that are found ask for the word
@@ -50,8 +50,8 @@ asks f word v seed count seed_is count_is =
 
 -- a word that is read under another name than `gen` stands alone
 pub stands_alone : (name : Text) (found : Option (Text × List Row)) (word : Word) → (name ≡ codes "gen" → ⊥) → Some name ≡ option_map (λ p. p.0) found → HasRead found word → Ask (name ∷ []) word
-stands_alone name found Run apart name_is read = (tt, ap (λ o. unwrap_or o [] ∷ []) (name_is ∙ read))
-stands_alone name found Serve apart name_is read = (tt, ap (λ o. unwrap_or o [] ∷ []) (name_is ∙ read))
-stands_alone name found State apart name_is read = (tt, ap (λ o. unwrap_or o [] ∷ []) (name_is ∙ read))
-stands_alone name found Audit apart name_is read = (tt, ap (λ o. unwrap_or o [] ∷ []) (name_is ∙ read))
+stands_alone name found Run apart name_is read = ap (λ o. unwrap_or o [] ∷ []) (name_is ∙ read)
+stands_alone name found Serve apart name_is read = ap (λ o. unwrap_or o [] ∷ []) (name_is ∙ read)
+stands_alone name found State apart name_is read = ap (λ o. unwrap_or o [] ∷ []) (name_is ∙ read)
+stands_alone name found Audit apart name_is read = ap (λ o. unwrap_or o [] ∷ []) (name_is ∙ read)
 stands_alone name found (Gen seed count) apart name_is read = absurd (apart (ap (λ o. unwrap_or o []) (name_is ∙ read.0)))

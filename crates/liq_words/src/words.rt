@@ -3,8 +3,8 @@
 ghost use Rattle.std.specs.Prelude.{◌≡◌, ◌↔◌, ◌⊎◌, ◌∷◌, [], Err, Ok, Some, IsTrue, IfOk, IfSome, codes, map};
 ghost use Rattle.std.specs.String.{string_bytes};
 ghost use Rattle.clap.specs.Words.{subcommand_rows_of};
-ghost use Rattle.liq_words.specs.Reading.{HasRead};
-ghost use Rattle.liq_words.specs.Words.{Ask, IsInRange, UsesDisks};
+ghost use Rattle.liq_words.specs.Reading.{HasRead, IsInRange};
+ghost use Rattle.liq_words.specs.Words.{Ask, UsesDisks};
 ghost use Rattle.liq_words.specs.declared.words.Word.{Word};
 
 use crate::line::line;

@@ -1,6 +1,6 @@
 use Rattle.std.proofs.Common.{refl, subst, ap}
 use Rattle.liq_words.specs.declared.words.Word.{Word}
-use Rattle.liq_words.specs.Words.{IsInRange}
+use Rattle.liq_words.specs.Reading.{IsInRange}
 use Rattle.liq_serve.specs.Outside.{outside}
 use Rattle.liq_serve.proofs.Words.{IsRead, audit_ends, gen_ends, run_ends, state_ends}
 use Rattle.liq_serve.proofs.top.carry_out.Goals as goal

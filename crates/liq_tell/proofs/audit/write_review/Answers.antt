@@ -14,7 +14,7 @@ pub returns-in-Ok-clause-written : goal.returns-in-Ok-clause-written
 returns-in-Ok-clause-written g c s is =
     let e = c.in-Ok.ensures in (
       text_written (reviewed c.args.commands.now) _ c.write_text.result _ _ (e.text ∙ ap Ok (sym c.deref.ensures.value)) c.write_text.ensures.ok c.write_text.ensures.err,
-      audit_holds c.write_text.result s c.args.commands.now (record { enclose = e.shares s is; within = e.within s is }),
+      audit_holds c.write_text.result s c.args.commands.now (e.shares s is, e.within s is),
     )
 
 pub returns-in-Ok-clause-no_disk : goal.returns-in-Ok-clause-no_disk

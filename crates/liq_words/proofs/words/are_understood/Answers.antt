@@ -1,4 +1,4 @@
-use Rattle.std.proofs.Common.{◌≡◌, ◌∷◌, [], ap, sym, ◌∙◌, length, arith, codes, map}
+use Rattle.std.proofs.Common.{◌≡◌, ◌∷◌, [], ap, sym, subst, ◌∙◌, length, arith, codes, map}
 use Rattle.std.specs.String.{string_bytes}
 use Rattle.liq_words.specs.Words.{Ask}
 use Rattle.liq_words.proofs.Given.{one_word, three_words, same_text, some_such}
@@ -10,7 +10,7 @@ returns-in-len1-clause-asks c holds =
     let word_is = one_word c.args.words.now c.word-item.result one c.word-item.is in
     let texts_are : map string_bytes c.args.words.now ≡ c.deref.result.now ∷ [] = cc (ap (map string_bytes) word_is, c.deref.ensures) in
     let found = some_such c.alone.result (Ask (c.deref.result.now ∷ [])) c.alone.ensures.word (sym c.is_some.ensures ∙ holds) in
-    (found.0, (found.1.0, texts_are ∙ found.1.1))
+    (found.0, subst (λ ws. Ask ws found.0) (sym texts_are) found.1)
 
 pub returns-then-eq-clause-asks : goal.returns-then-eq-clause-asks
 returns-then-eq-clause-asks c holds =
@@ -20,4 +20,4 @@ returns-then-eq-clause-asks c holds =
     let texts_are : map string_bytes c.args.words.now ≡ codes "gen" ∷ c.deref-then-eq.result.now ∷ c.deref-then-eq-2.result.now ∷ [] =
     cc (ap (map string_bytes) words_are, name, c.deref-then-eq.ensures, c.deref-then-eq-2.ensures) in
     let found = some_such c.gen_of.result (Ask (codes "gen" ∷ c.deref-then-eq.result.now ∷ c.deref-then-eq-2.result.now ∷ [])) c.gen_of.ensures.word (sym c.is_some-then-eq.ensures ∙ holds) in
-    (found.0, (found.1.0, texts_are ∙ found.1.1))
+    (found.0, subst (λ ws. Ask ws found.0) (sym texts_are) found.1)

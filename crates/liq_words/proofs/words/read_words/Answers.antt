@@ -6,7 +6,7 @@ use Rattle.liq_words.specs.Words.{Ask}
 use Rattle.liq_words.specs.declared.words.WordsFault.TheVariants.{NoMemory}
 use Rattle.liq_words.specs.Line.{line}
 use Rattle.liq_words.specs.Reading.{HasRead}
-use Rattle.liq_words.proofs.Asked.{are_taken, is_read, no_memory, is_word, one_word}
+use Rattle.liq_words.proofs.Asked.{are_taken, in_range, is_read, no_memory, is_word, one_word}
 use Rattle.liq_words.proofs.Taken.{line_is_simple}
 use Rattle.liq_words.proofs.words.read_words.Goals as goal
 
@@ -35,7 +35,7 @@ answered c =
     let simple = ap is_simple c.in_ok-line.ensures ∙ line_is_simple in
     let found : subcommand_rows_of c.in_ok-matches.matches ≡ subcommand_of line words = (c.in_ok-matches.ensures.matches simple).1 ∙ ap (λ a. subcommand_of a words) c.in_ok-line.ensures in
     let read = subst (λ f. HasRead f asked.0) (sym found) (is_read words asked.0 asked.1) in
-    is_word c.word_of.result asked.0 c.ok_or.result (c.word_of.ensures asked.0 asked.1.0 read) c.ok_or.ensures.value
+    is_word c.word_of.result asked.0 c.ok_or.result (c.word_of.ensures asked.0 (in_range words asked.0 asked.1) read) c.ok_or.ensures.value
 
 pub returns-clause-word : goal.returns-clause-word
 returns-clause-word c =

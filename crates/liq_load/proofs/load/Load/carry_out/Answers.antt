@@ -1,6 +1,6 @@
 use Rattle.std.proofs.Common.{ap, refl, sym, ◌+◌, ◌∷◌, [], ◌∙◌}
 use Rattle.liq_core.specs.Core.{state_of}
-use Rattle.liq_load.specs.Load.{next_command}
+use Rattle.liq_load.specs.Carrying.{next_command}
 use Rattle.liq_core.proofs.SameContents.{stands_after}
 use Rattle.liq_load.proofs.Loads.{few_more, next_carries, next_is, numbered_more}
 use Rattle.liq_load.proofs.load.Load.carry_out.Goals as goal
