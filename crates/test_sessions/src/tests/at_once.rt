@@ -25,18 +25,24 @@ fn serve<R: Threads + Wait + Sync, G: Gate + Sync>(
 ) -> Result<u64, AllocError> {
     let words = vec![in alloc; String::from_str(alloc, "serve")?]?;
     let mut source = MemorySource::new(lines.to_vec(alloc)?, 4_096, Vec::new(alloc));
+    Ok(status_of(rt, alloc, gate, &words, &mut source))
+}
+
+/// Does what the words ask for, over new disks. The status.
+fn status_of<R: Threads + Wait + Sync, G: Gate + Sync>(
+    rt: &R,
+    alloc: Global,
+    gate: &G,
+    words: &[String],
+    source: &mut MemorySource,
+) -> u64 {
     let mut sink = MemorySink::new(alloc, Vec::new(alloc));
-    let ended = protocol(
-        rt,
-        alloc,
-        gate,
-        &words,
-        &mut source,
-        &mut sink,
-        MemoryDisk::new(alloc, Vec::new(alloc), Vec::new(alloc)),
-        MemoryDisk::new(alloc, Vec::new(alloc), Vec::new(alloc)),
-    );
-    Ok(u64::from(ended.status))
+    let (left, right) = (new_disk(alloc), new_disk(alloc));
+    u64::from(protocol(rt, alloc, gate, words, source, &mut sink, left, right).status)
+}
+
+fn new_disk(alloc: Global) -> MemoryDisk {
+    MemoryDisk::new(alloc, Vec::new(alloc), Vec::new(alloc))
 }
 
 /// A session whose first call is held until the first call of another has left is let go by that call, whichever of the two comes

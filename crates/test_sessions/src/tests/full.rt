@@ -1,5 +1,5 @@
 //! Two sessions at a service whose history comes to be full.
-ghost use Rattle.std.specs.Prelude.{◌≡◌, ◌≤◌, None, All, OnOk, length};
+ghost use Rattle.std.specs.Prelude.{◌≡◌, ◌≤◌, None, All, IfOk, OnOk, length};
 ghost use Rattle.liq_sessions.specs.declared.script.TheConstants.{REQUESTS_MOST};
 ghost use Rattle.liq_core.specs.Core.{state_of};
 ghost use Rattle.liq_book.specs.Origin.{IsAtOrigin};
@@ -70,6 +70,28 @@ fn count<D: Disk, O: Origin>(done: &[SessionDone<Service<D, O>, NoHints>]) -> An
     answered
 }
 
+/// The works of two seats, the first one with the first script.
+fn two_works<D: Disk, O: Origin>(
+    alloc: Global,
+    service: &Service<D, O>,
+    seats: Vec<BookSeat<O>>,
+    first: Script,
+    second: Script,
+) -> Result<Vec<Work<Service<D, O>, NoHints>>, Fail>
+    requires seats { All (IsSeatOf service.now) seats.items }
+    requires first { length first.requests ≤ REQUESTS_MOST }
+    requires second { length second.requests ≤ REQUESTS_MOST }
+    ensures works { IfOk result (λ works. All (λ w. IsSeatOf service.now w.seat) works.items) }
+    ensures short { IfOk result (λ works. All (λ w. length w.script.requests ≤ REQUESTS_MOST) works.items) }
+{
+    let (seats, last) = part(service, seats)?;
+    let (_, one) = part(service, seats)?;
+    let mut works = Vec::new(alloc);
+    give(service, one, &mut works, first)?;
+    give(service, last, &mut works, second)?;
+    Ok(works)
+}
+
 /// Two sessions ask one request more than a history has entries.
 fn run_two<D: Disk + Drop + Send, O: Origin + Send + Sync, R: Threads + Wait + Sync>(
     rt: &R,
@@ -79,14 +101,12 @@ fn run_two<D: Disk + Drop + Send, O: Origin + Send + Sync, R: Threads + Wait + S
     requires going { store.stopped ≡ None }
     requires origin { IsAtOrigin D.seen D.faults D.moment D.left_at O.state O.left O.right store }
 {
+    let first = script(alloc, 1, ENTRIES)?;
+    let second = script(alloc, 2, 1)?;
     let Ok((service, seats)) = Service::<D, O>::new(alloc, store, 2) else {
         return Err(Fail::from("no memory"));
     };
-    let (seats, second) = part(&service, seats)?;
-    let (_, first) = part(&service, seats)?;
-    let mut works = Vec::new(alloc);
-    give(&service, first, &mut works, script(alloc, 1, ENTRIES)?)?;
-    give(&service, second, &mut works, script(alloc, 2, 1)?)?;
+    let works = two_works(alloc, &service, seats, first, second)?;
     match run_sessions(rt, alloc, &service, &OpenGate, works) {
         Ok(done) => Ok(count(&done)),
         Err(_) => Err(Fail::from("no memory")),

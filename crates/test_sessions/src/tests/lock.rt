@@ -1,13 +1,14 @@
 //! The lock at a list of entries: a worked row, threads that take and give many times, and a seat that is out.
-ghost use Rattle.std.specs.Prelude.{◌≡◌, All};
+ghost use Rattle.std.specs.Prelude.{◌≡◌, All, IfOk};
 ghost use Rattle.liq_lock.specs.Seats.{lock_id, seat_id};
 
 use crate::tests::checks::{NOWHERE, same, shows};
 use crate::tests::clerk::Clerk;
 use crate::tests::clerk::turns::{at_once, open, turn};
-use crate::tests::ledger::Ledger;
+use crate::tests::ledger::{Entry, Ledger};
 use crate::tests::looks::look_at_once;
-use liq_lock::{Lock, StillShared};
+use liq_lock::{Lock, LockSeat, StillShared};
+use std::alloc::Global;
 use std::sync::Wait;
 use std::test::Fail;
 use std::thread::Threads;
@@ -32,6 +33,21 @@ fn first_odd(ledger: &Ledger) -> u64 {
     }
 }
 
+/// A lock round an empty ledger with room for one entry, and a clerk for each of its two seats, the first one first.
+fn two_clerks(alloc: Global) -> Result<(Lock<Ledger>, Clerk, Clerk), Fail>
+    ensures first { IfOk result (λ made. seat_id made.1.seat ≡ lock_id made.0) }
+    ensures second { IfOk result (λ made. seat_id made.2.seat ≡ lock_id made.0) }
+{
+    let (lock, mut clerks) = open(alloc, 2, 1)?;
+    let Some(first) = clerks.pop() else {
+        return Err(Fail::from("no clerk"));
+    };
+    let Some(second) = clerks.pop() else {
+        return Err(Fail::from("no other clerk"));
+    };
+    Ok((lock, first, second))
+}
+
 /// What is seen of two seats, of which the first made an entry.
 #[derive(Clone, Copy)]
 struct Seen {
@@ -46,6 +62,23 @@ struct Seen {
     count: u32,
 }
 
+/// How many entries both seats have seen once they are joined, and the ledger, where the lock closes then.
+fn close_joined(
+    lock: Lock<Ledger>,
+    left: LockSeat<Entry>,
+    right: LockSeat<Entry>,
+) -> Option<(u64, Ledger)>
+    requires left { seat_id left ≡ lock_id lock }
+    requires right { seat_id right ≡ lock_id lock }
+{
+    let joined = lock.join_seat(left, right);
+    let seen = joined.seen();
+    match lock.close(joined) {
+        Ok(ledger) => Some((seen, ledger)),
+        Err(_) => None,
+    }
+}
+
 /// Both seats of a lock: the first makes an entry, cannot close the lock while the second is out, and can once they are joined.
 fn see_two<R: Wait>(rt: &R, lock: Lock<Ledger>, first: Clerk, second: Clerk) -> Option<Seen>
     requires first { seat_id first.seat ≡ lock_id lock }
@@ -58,11 +91,7 @@ fn see_two<R: Wait>(rt: &R, lock: Lock<Ledger>, first: Clerk, second: Clerk) -> 
     let Err(StillShared { lock, seat, shares }) = lock.close(seat) else {
         return None;
     };
-    let joined = lock.join_seat(other, seat);
-    let together = joined.seen();
-    let Ok(ledger) = lock.close(joined) else {
-        return None;
-    };
+    let (together, ledger) = close_joined(lock, other, seat)?;
     let entry = ledger.entries.first().copied()?;
     Some(Seen {
         first: seen[0],
@@ -77,13 +106,7 @@ fn see_two<R: Wait>(rt: &R, lock: Lock<Ledger>, first: Clerk, second: Clerk) -> 
 
 #[test]
 fn one_entry_and_a_seat_out(rt: HostRuntime) -> Result<(), Fail> {
-    let (lock, mut clerks) = open(rt.alloc(), 2, 1)?;
-    let Some(first) = clerks.pop() else {
-        return Err(Fail::from("no clerk"));
-    };
-    let Some(second) = clerks.pop() else {
-        return Err(Fail::from("no other clerk"));
-    };
+    let (lock, first, second) = two_clerks(rt.alloc())?;
     let Some(seen) = see_two(&rt, lock, first, second) else {
         return Err(Fail::from("closed with a seat out, or still shared"));
     };
@@ -118,19 +141,9 @@ fn look_twice<R: Threads + Wait + Sync>(
 
 #[test]
 fn both_look(rt: HostRuntime) -> Result<(), Fail> {
-    let (lock, mut clerks) = open(rt.alloc(), 2, 1)?;
-    let Some(first) = clerks.pop() else {
-        return Err(Fail::from("no clerk"));
-    };
-    let Some(second) = clerks.pop() else {
-        return Err(Fail::from("no other clerk"));
-    };
-    same(
-        &rt,
-        look_twice(&rt, lock, first, second),
-        1,
-        "seen by both threads",
-    );
+    let (lock, first, second) = two_clerks(rt.alloc())?;
+    let seen = look_twice(&rt, lock, first, second);
+    same(&rt, seen, 1, "seen by both threads");
     Ok(())
 }
 

@@ -72,7 +72,13 @@ struct Seen {
     /// The second's calls, and the entries that it has seen.
     calls: u32,
     entries: u64,
-    /// How many seats were missing where the first alone was to close the service.
+    end: SeenEnd,
+}
+
+/// What is seen of a service that is to be closed with the first seat alone, and then with both.
+#[derive(Clone, Copy)]
+struct SeenEnd {
+    /// How many seats were missing.
     missing: u32,
     is_history: bool,
     is_halted: bool,
@@ -95,6 +101,36 @@ fn is_history(entries: &[Entry]) -> bool {
     }
 }
 
+/// The service does not close without the other seat, and does with it.
+fn close_late<D: Disk + Drop, O: Origin>(
+    service: Service<D, O>,
+    seats: Vec<BookSeat<O>>,
+    other: BookSeat<O>,
+) -> Result<SeenEnd, Fail>
+    requires seats { All (IsSeatOf service) seats.items }
+    requires other { IsSeatOf service other }
+{
+    let Err(
+        StillOut {
+            service,
+            mut seats,
+            missing,
+        },
+    ) = service.close(seats)
+    else {
+        return Err(Fail::from("closed with a seat out"));
+    };
+    seats.push(other)?;
+    let Ok(closed) = service.close(seats) else {
+        return Err(Fail::from("still out"));
+    };
+    Ok(SeenEnd {
+        missing,
+        is_history: is_history(closed.history.as_slice()),
+        is_halted: closed.halt.is_some(),
+    })
+}
+
 /// Two seats over a store: each makes a call; the service does not close without the second.
 fn two_seats<D: Disk + Drop, O: Origin, R: Wait>(
     rt: &R,
@@ -110,30 +146,14 @@ fn two_seats<D: Disk + Drop, O: Origin, R: Wait>(
     let (seats, other) = part(&service, seats)?;
     let (seats, funded) = call_by_last(rt, &service, seats, &FUND)?;
     let (other, looked) = service.call(rt, other, &LOOK, &Hint::NONE);
-    let calls = other.calls();
-    let entries = other.seen();
-    let Err(
-        StillOut {
-            service,
-            mut seats,
-            missing,
-        },
-    ) = service.close(seats)
-    else {
-        return Err(Fail::from("closed with a seat out"));
-    };
-    seats.push(other)?;
-    let Ok(closed) = service.close(seats) else {
-        return Err(Fail::from("still out"));
-    };
+    let (calls, entries) = (other.calls(), other.seen());
+    let end = close_late(service, seats, other)?;
     Ok(Seen {
         is_funded: funded == Answer::Reply(FUNDED),
         is_looked: looked == Answer::Reply(LOOKED),
         calls,
         entries,
-        missing,
-        is_history: is_history(closed.history.as_slice()),
-        is_halted: closed.halt.is_some(),
+        end,
     })
 }
 
@@ -157,8 +177,8 @@ fn a_seat_is_out(rt: HostRuntime) -> Result<(), Fail> {
     shows(&rt, "the second looks", seen.is_looked);
     same(&rt, u64::from(seen.calls), 1, "the second's calls");
     same(&rt, seen.entries, 2, "entries that it has seen");
-    same(&rt, u64::from(seen.missing), 1, "a missing seat");
-    shows(&rt, "the history", seen.is_history);
-    shows(&rt, "no halt", !seen.is_halted);
+    same(&rt, u64::from(seen.end.missing), 1, "a missing seat");
+    shows(&rt, "the history", seen.end.is_history);
+    shows(&rt, "no halt", !seen.end.is_halted);
     Ok(())
 }

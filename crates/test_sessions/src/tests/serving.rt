@@ -3,7 +3,7 @@ ghost use Rattle.std.specs.Prelude.{◌≤◌, ◌*◌};
 ghost use Rattle.liq_book.specs.declared.items.TheConstants.{ENTRIES_MOST};
 
 use crate::tests::checks::{NOWHERE, same, shows};
-use crate::tests::stores::{asked_at, disk, new_store, replayed, scripts, store};
+use crate::tests::stores::{asked_at, failing_store, new_store, replayed, scripts, store};
 use liq_book::Entry;
 use liq_outside::MemoryDisk;
 use liq_serving::{End, Served, serve_sessions};
@@ -23,8 +23,9 @@ fn served<R: Threads + Wait + Sync>(
 ) -> Result<Served<MemoryDisk>, Fail>
     requires { 8 * requests ≤ ENTRIES_MOST }
 {
-    let store = store(alloc, disk(alloc, failing)?, disk(alloc, &[])?)?;
-    Ok(serve_sessions(rt, alloc, &OpenGate, scripts(alloc, requests)?, store))
+    let scripts = scripts(alloc, requests)?;
+    let store = failing_store(alloc, failing)?;
+    Ok(serve_sessions(rt, alloc, &OpenGate, scripts, store))
 }
 
 /// What is seen along a history: the place of the first entry that is odd, and how many entries each session has before it.
@@ -59,19 +60,25 @@ fn see_along(store: &mut Store<MemoryDisk>, history: &[Entry]) -> Seen {
     }
 }
 
-/// The same over a new store.
-fn see(alloc: Global, history: &[Entry]) -> Result<Seen, Fail> {
+/// How eight sessions end, and what is seen along their history with a new store.
+fn see_served<R: Threads + Wait + Sync>(
+    rt: &R,
+    alloc: Global,
+    failing: &[u64],
+    requests: usize,
+) -> Result<(End, Seen), Fail>
+    requires { 8 * requests ≤ ENTRIES_MOST }
+{
     let mut store = new_store(alloc)?;
-    Ok(see_along(&mut store, history))
+    let done = served(rt, alloc, failing, requests)?;
+    Ok((done.end, see_along(&mut store, done.history.as_slice())))
 }
 
 /// Two thousand calls each on one account: all are in the history, once and in order, with the replies of one thread.
 #[test]
 fn eight_sessions(rt: HostRuntime) -> Result<(), Fail> {
-    let alloc = rt.alloc();
-    let done = served(&rt, alloc, &[], 2_000)?;
-    shows(&rt, "all is served", matches!(done.end, End::All));
-    let seen = see(alloc, done.history.as_slice())?;
+    let (end, seen) = see_served(&rt, rt.alloc(), &[], 2_000)?;
+    shows(&rt, "all is served", matches!(end, End::All));
     same(&rt, seen.odd, NOWHERE, "an entry of eight sessions");
     let counts = [0, 2_000, 2_000, 2_000, 2_000, 2_000, 2_000, 2_000, 2_000];
     shows(&rt, "two thousand entries each", seen.counts == counts);
@@ -110,12 +117,10 @@ fn is_halt(end: &End, counts: &[u64; 9]) -> bool {
 /// A device call fails: the halt is the next request of its session, and the replies before it are those of one thread.
 #[test]
 fn disk_faults(rt: HostRuntime) -> Result<(), Fail> {
-    let alloc = rt.alloc();
     for failing in 11..31 {
-        let done = served(&rt, alloc, &[failing], 40)?;
-        let seen = see(alloc, done.history.as_slice())?;
+        let (end, seen) = see_served(&rt, rt.alloc(), &[failing], 40)?;
         same(&rt, seen.odd, NOWHERE, "an entry before a fault");
-        shows(&rt, "the halt", is_halt(&done.end, &seen.counts));
+        shows(&rt, "the halt", is_halt(&end, &seen.counts));
     }
     Ok(())
 }

@@ -46,6 +46,28 @@ fn seat(alloc: Global, session: u8) -> MadeUpSeat {
     }
 }
 
+/// The work of a session with so many requests.
+fn work(
+    alloc: Global,
+    watch: &Arc<Watch>,
+    session: u8,
+    requests: usize,
+) -> Result<Work<MadeUpDesk, CountedHints>, Fail>
+    requires { requests ≤ REQUESTS_MOST }
+    ensures { IfOk result (λ work. length work.script.requests ≤ REQUESTS_MOST) }
+{
+    let hinter = CountedHints {
+        watch: Arc::try_clone(watch)?,
+        session,
+        made: 0,
+    };
+    Ok(Work {
+        script: script(alloc, session, requests)?,
+        seat: seat(alloc, session),
+        hinter,
+    })
+}
+
 /// The works of sessions from 1 on, with so many requests each.
 fn works(
     alloc: Global,
@@ -58,18 +80,7 @@ fn works(
 {
     let mut works = Vec::new(alloc);
     for before in 0..sessions {
-        let session = before + 1;
-        let script = script(alloc, session, requests)?;
-        let hinter = CountedHints {
-            watch: Arc::try_clone(watch)?,
-            session,
-            made: 0,
-        };
-        works.push(Work {
-            script,
-            seat: seat(alloc, session),
-            hinter,
-        })?;
+        works.push(work(alloc, watch, before + 1, requests)?)?;
     }
     Ok(works)
 }
@@ -209,25 +220,43 @@ fn eight_sessions(rt: HostRuntime) -> Result<(), Fail> {
     Ok(())
 }
 
+/// Each trouble, the answer that a session gets, and the request at which its seat met a fault.
+const TROUBLES: [(Trouble, Answer, Option<Request>); 3] = [
+    (Trouble::NoMemory, Answer::NoMemory, None),
+    (
+        Trouble::DiskFault,
+        Answer::DiskFault,
+        Some(Request::Ask(Query::NextNumber(4))),
+    ),
+    (Trouble::Stopped, Answer::Stopped { faults: 1 }, None),
+];
+
+/// Runs two sessions that come to this trouble behind three replies each.
+fn see_trouble<R: Threads + Wait + Sync>(
+    rt: &R,
+    alloc: Global,
+    trouble: Trouble,
+    answer: Answer,
+    faulted: Option<Request>,
+) -> Result<Seen, Fail> {
+    let setting = Setting {
+        sessions: 2,
+        replies: 3,
+        trouble,
+    };
+    let wanted = Wanted {
+        replies: 3,
+        answer: Some(answer),
+        faulted,
+    };
+    see(rt, alloc, &setting, 5, &wanted, 16)
+}
+
 /// A session ends at the first answer that is no reply. That call is left too, and no later one is made.
 #[test]
 fn each_trouble(rt: HostRuntime) -> Result<(), Fail> {
-    for (trouble, answer, faulted) in [
-        (Trouble::NoMemory, Answer::NoMemory, None),
-        (Trouble::DiskFault, Answer::DiskFault, Some(request_at(4))),
-        (Trouble::Stopped, Answer::Stopped { faults: 1 }, None),
-    ] {
-        let setting = Setting {
-            sessions: 2,
-            replies: 3,
-            trouble,
-        };
-        let wanted = Wanted {
-            replies: 3,
-            answer: Some(answer),
-            faulted,
-        };
-        let seen = see(&rt, rt.alloc(), &setting, 5, &wanted, 16)?;
+    for (trouble, answer, faulted) in TROUBLES {
+        let seen = see_trouble(&rt, rt.alloc(), trouble, answer, faulted)?;
         same(&rt, seen.sessions, 2, "sessions in trouble");
         same(&rt, seen.odd, NOWHERE, "a session in trouble");
         shows(&rt, "each step before the trouble", !seen.missed);
@@ -287,14 +316,19 @@ fn are_quiet(done: &[SessionDone<MadeUpDesk, NoHints>]) -> bool {
     }
 }
 
-/// A session with one request and one with none; and no sessions.
+/// A session with one request and one with none.
 #[test]
 fn quiet_sessions(rt: HostRuntime) -> Result<(), Fail> {
     let alloc = rt.alloc();
     let works = vec![in alloc; quiet_work(alloc, 7, 1)?, quiet_work(alloc, 5, 0)?]?;
     let done = run_quiet(&rt, alloc, works)?;
     shows(&rt, "one request and none", are_quiet(&done));
-    let done = run_quiet(&rt, alloc, Vec::new(alloc))?;
+    Ok(())
+}
+
+#[test]
+fn no_sessions(rt: HostRuntime) -> Result<(), Fail> {
+    let done = run_quiet(&rt, rt.alloc(), Vec::new(rt.alloc()))?;
     same(&rt, done.len() as u64, 0, "no sessions");
     Ok(())
 }

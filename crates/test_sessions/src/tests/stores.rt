@@ -12,7 +12,7 @@ use std::alloc::Global;
 use std::test::Fail;
 
 /// An empty disk of which the device calls with these numbers fail.
-pub fn disk(alloc: Global, failing: &[u64]) -> Result<MemoryDisk, Fail> {
+fn disk(alloc: Global, failing: &[u64]) -> Result<MemoryDisk, Fail> {
     Ok(MemoryDisk::new(alloc, Vec::new(alloc), failing.to_vec(alloc)?))
 }
 
@@ -26,11 +26,18 @@ pub fn store(alloc: Global, left: MemoryDisk, right: MemoryDisk) -> Result<Store
     }
 }
 
+/// An opened store over two empty disks, of which some device calls of the left one fail.
+pub fn failing_store(alloc: Global, failing: &[u64]) -> Result<Store<MemoryDisk>, Fail>
+    ensures { IfOk result (λ store. store.stopped ≡ None) }
+{
+    store(alloc, disk(alloc, failing)?, disk(alloc, &[])?)
+}
+
 /// An opened store over two empty disks.
 pub fn new_store(alloc: Global) -> Result<Store<MemoryDisk>, Fail>
     ensures { IfOk result (λ store. store.stopped ≡ None) }
 {
-    store(alloc, disk(alloc, &[])?, disk(alloc, &[])?)
+    failing_store(alloc, &[])
 }
 
 /// What a session asks at each place, counted from 1: the first of ten brings one gwei into the wallet of account 1, the others look
