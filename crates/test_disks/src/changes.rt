@@ -35,65 +35,74 @@ fn find_changed(
     find(alloc, &bytes)
 }
 
+// What is found in these bytes as they are, cut behind two records, with a gate that is none, and with another byte in
+// the third.
+fn find_each(alloc: Global, bytes: &[u8]) -> Result<[(Found, bool); 4], AllocError> {
+    Ok([
+        find(alloc, bytes)?,
+        find(alloc, bytes.get(..400).unwrap_or(bytes))?,
+        find_changed(alloc, bytes, 315, 7)?,
+        find_changed(alloc, bytes, 320, byte_at(bytes, 320) ^ 1)?,
+    ])
+}
+
 #[test]
 fn three_commands(rt: HostRuntime) -> Result<(), Fail> {
-    let alloc = rt.alloc();
-    let bytes = journal(alloc, 3)?;
+    let bytes = journal(rt.alloc(), 3)?;
     same(&rt, bytes.len() as u64, 445, "three accepted commands");
-    let whole = find(alloc, &bytes)?;
+    let [whole, cut, shut, flipped] = find_each(rt.alloc(), &bytes)?;
+    let two = (Found::Records(2), false);
     shows(&rt, "three are found", whole == (Found::Records(3), false));
-    let cut = find(alloc, bytes.get(..400).unwrap_or(&bytes))?;
-    shows(
-        &rt,
-        "two of a cut journal",
-        cut == (Found::Records(2), false),
-    );
-    let shut = find_changed(alloc, &bytes, 315, 7)?;
-    shows(
-        &rt,
-        "two before a shut gate",
-        shut == (Found::Records(2), false),
-    );
-    let flipped = find_changed(alloc, &bytes, 320, byte_at(&bytes, 320) ^ 1)?;
-    shows(
-        &rt,
-        "the third is damaged",
-        flipped == (Found::OtherDigest(3), false),
-    );
+    shows(&rt, "two of a cut journal", cut == two);
+    shows(&rt, "two before a shut gate", shut == two);
+    let third = (Found::OtherDigest(3), false);
+    shows(&rt, "the third is damaged", flipped == third);
     Ok(())
+}
+
+// What an opening leaves: what it found, the lengths of both disks, and the left one's first gate and its last.
+#[derive(Clone, Copy)]
+struct New {
+    found: Found,
+    left: u64,
+    right: u64,
+    gates: (u8, u8),
+}
+
+fn open_new(alloc: Global) -> Result<New, AllocError> {
+    let opened = open_on(alloc, &[], &[])?;
+    let left = opened.left.bytes();
+    Ok(New {
+        found: opened.found,
+        left: left.len() as u64,
+        right: opened.right.bytes().len() as u64,
+        gates: (byte_at(left, 0), byte_at(left, 57)),
+    })
 }
 
 #[test]
 fn no_commands(rt: HostRuntime) -> Result<(), Fail> {
-    let opened = open_on(rt.alloc(), &[], &[])?;
-    let left = opened.left.bytes();
-    shows(
-        &rt,
-        "nothing is accepted",
-        opened.found == Found::Records(0),
-    );
-    same(&rt, left.len() as u64, 58, "a new journal on the left disk");
-    shows(
-        &rt,
-        "open, and shut behind",
-        byte_at(left, 0) == 1 && byte_at(left, 57) == 0,
-    );
-    same(
-        &rt,
-        opened.right.bytes().len() as u64,
-        0,
-        "nothing on the right disk",
-    );
+    let new = open_new(rt.alloc())?;
+    shows(&rt, "nothing is accepted", new.found == Found::Records(0));
+    same(&rt, new.left, 58, "a new journal on the left disk");
+    shows(&rt, "open, and shut behind", new.gates == (1, 0));
+    same(&rt, new.right, 0, "nothing on the right disk");
     Ok(())
+}
+
+// What is found where both disks have the bytes of a journal of one command, and whether the right one says so.
+fn find_on_both(alloc: Global) -> Result<(Found, bool), AllocError> {
+    let bytes = journal(alloc, 1)?;
+    let opened = open_on(alloc, &bytes, &bytes)?;
+    Ok((opened.found, opened.is_right))
 }
 
 // A journal cannot stand on the right disk yet.
 #[test]
 fn the_right_disk_is_damaged(rt: HostRuntime) -> Result<(), Fail> {
-    let bytes = journal(rt.alloc(), 1)?;
-    let opened = open_on(rt.alloc(), &bytes, &bytes)?;
+    let (found, is_right) = find_on_both(rt.alloc())?;
     let expected = Found::NoForm { index: 0, place: 9 };
-    shows(&rt, "the generation is damage", opened.found == expected);
-    shows(&rt, "of the right disk", opened.is_right);
+    shows(&rt, "the generation is damage", found == expected);
+    shows(&rt, "of the right disk", is_right);
     Ok(())
 }

@@ -57,16 +57,22 @@ fn first_odd_change(alloc: Global, bytes: &[u8], places: u64) -> Result<u64, All
     Ok(NOWHERE)
 }
 
+// The first odd cut, change and row.
+fn first_odd(alloc: Global, bytes: &[u8]) -> Result<[u64; 3], AllocError> {
+    Ok([
+        first_odd_cut(alloc, bytes, 446)?,
+        first_odd_change(alloc, bytes, 445)?,
+        first_odd_row(alloc, bytes)?,
+    ])
+}
+
 #[test]
 fn a_journal_is_cut_and_changed_at_each_byte(rt: HostRuntime) -> Result<(), Fail> {
-    let alloc = rt.alloc();
-    let bytes = journal(alloc, 3)?;
+    let bytes = journal(rt.alloc(), 3)?;
     same(&rt, bytes.len() as u64, 445, "three records");
-    let cut = first_odd_cut(alloc, &bytes, 446)?;
+    let [cut, change, row] = first_odd(rt.alloc(), &bytes)?;
     same(&rt, cut, NOWHERE, "cut at each byte");
-    let change = first_odd_change(alloc, &bytes, 445)?;
     same(&rt, change, NOWHERE, "changed at each byte");
-    let row = first_odd_row(alloc, &bytes)?;
     same(&rt, row, NOWHERE, "gates and fields");
     Ok(())
 }

@@ -53,18 +53,19 @@ fn read_whole(alloc: Global, disk: FileDisk, expected: &[u8]) -> Read {
 }
 
 // Makes a journal of two records in a file, and reads it.
-fn read_two<F: Files<File = File>>(files: &F, alloc: Global, expected: &[u8]) -> io::Result<Read> {
+fn read_two<F: Files<File = File>>(files: &F, alloc: Global) -> io::Result<Read> {
     if !make_two(alloc, file(files, "journal.liq")?) {
         return Err(io::Error::from(ErrorKind::Other));
     }
-    Ok(read_whole(alloc, file(files, "journal.liq")?, expected))
+    let disk = file(files, "journal.liq")?;
+    let expected = two_records(alloc)?;
+    Ok(read_whole(alloc, disk, &expected))
 }
 
 #[test]
 fn two_records_in_a_file(rt: HostRuntime) -> Result<(), Fail> {
     let _ = fs::remove_file(&rt, "journal.liq");
-    let expected = two_records(rt.alloc())?;
-    let read = read_two(&rt, rt.alloc(), &expected)?;
+    let read = read_two(&rt, rt.alloc())?;
     shows(
         &rt,
         "two records in a file",
@@ -76,13 +77,20 @@ fn two_records_in_a_file(rt: HostRuntime) -> Result<(), Fail> {
     Ok(())
 }
 
+// Whether a look at the length, a read, a write and a sync fail.
+fn fail(disk: &mut FileDisk) -> [bool; 4] {
+    [
+        disk.length().is_err(),
+        disk.read_at(0, &mut [0; 4]).is_err(),
+        disk.write_at(0, &[1]).is_err(),
+        disk.sync().is_err(),
+    ]
+}
+
 #[test]
 fn no_file_fails_at_every_call(rt: HostRuntime) {
     let mut none = FileDisk::new(None);
-    shows(&rt, "no length", none.length().is_err());
-    shows(&rt, "no read", none.read_at(0, &mut [0; 4]).is_err());
-    shows(&rt, "no write", none.write_at(0, &[1]).is_err());
-    shows(&rt, "no sync", none.sync().is_err());
+    shows(&rt, "each call fails", fail(&mut none) == [true; 4]);
     same(&rt, none.faults(), 4, "faults without a file");
 }
 
@@ -117,18 +125,20 @@ fn try_word(alloc: Global, chunk: u8, failing: u64) -> Result<Tried, AllocError>
     })
 }
 
+// The most that one call takes, the call that fails, whether the word is written and synced, and how many bytes of it
+// are read. By threes the word is four writes, a sync, and four reads with a fifth at the end.
+const TRIALS: [(u8, u64, bool, bool, u64); 6] = [
+    (20, NOWHERE, true, true, 11),
+    (1, NOWHERE, true, true, 11),
+    (3, NOWHERE, true, true, 11),
+    (3, 2, false, true, 6),
+    (3, 4, true, false, 11),
+    (3, 9, true, true, NOWHERE),
+];
+
 #[test]
 fn a_disk_goes_on_where_its_device_ended(rt: HostRuntime) -> Result<(), Fail> {
-    // By threes the word is four writes, a sync, and four reads with a fifth at the end.
-    let trials = [
-        (20, NOWHERE, true, true, 11),
-        (1, NOWHERE, true, true, 11),
-        (3, NOWHERE, true, true, 11),
-        (3, 2, false, true, 6),
-        (3, 4, true, false, 11),
-        (3, 9, true, true, NOWHERE),
-    ];
-    for (chunk, failing, written, synced, read) in trials {
+    for (chunk, failing, written, synced, read) in TRIALS {
         let tried = try_word(rt.alloc(), chunk, failing)?;
         shows(&rt, "the write", tried.written == written);
         shows(&rt, "the sync", tried.synced == synced);
@@ -144,29 +154,30 @@ fn a_disk_goes_on_where_its_device_ended(rt: HostRuntime) -> Result<(), Fail> {
 }
 
 #[test]
-fn the_systems_devices_fail(rt: HostRuntime) -> Result<(), Fail> {
+fn the_full_device_fails(rt: HostRuntime) -> Result<(), Fail> {
     let mut full = file(&rt, "/dev/full")?;
-    shows(
-        &rt,
-        "a write where all is full",
-        full.write_at(0, &[1]).is_err(),
-    );
-    let mut null = file(&rt, "/dev/null")?;
-    shows(
-        &rt,
-        "a write to the null device",
-        null.write_at(0, &[1]).is_ok(),
-    );
-    shows(&rt, "a sync of the null device", null.sync().is_err());
-    // A read that fails is no end of the disk.
-    let mut folder = FileDisk::new(Some(File::open(&rt, ".")?));
-    shows(
-        &rt,
-        "a read of a folder",
-        folder.read_at(0, &mut [0; 4]).is_err(),
-    );
-    same(&rt, folder.faults(), 1, "the folder's faults");
+    let is_full = full.write_at(0, &[1]).is_err();
+    shows(&rt, "a write where all is full", is_full);
     same(&rt, full.faults(), 1, "the full device's faults");
+    Ok(())
+}
+
+#[test]
+fn the_null_device_fails(rt: HostRuntime) -> Result<(), Fail> {
+    let mut null = file(&rt, "/dev/null")?;
+    let is_written = null.write_at(0, &[1]).is_ok();
+    shows(&rt, "a write to the null device", is_written);
+    shows(&rt, "a sync of the null device", null.sync().is_err());
     same(&rt, null.faults(), 1, "the null device's faults");
+    Ok(())
+}
+
+// A read that fails is no end of the disk.
+#[test]
+fn a_folder_fails(rt: HostRuntime) -> Result<(), Fail> {
+    let mut folder = FileDisk::new(Some(File::open(&rt, ".")?));
+    let is_read = folder.read_at(0, &mut [0; 4]).is_ok();
+    shows(&rt, "a read of a folder", !is_read);
+    same(&rt, folder.faults(), 1, "the folder's faults");
     Ok(())
 }

@@ -174,22 +174,33 @@ fn find_body(disk: MemoryDisk, bytes: &[u8; 96]) -> Found {
     }
 }
 
-#[test]
-fn a_body_that_is_no_command(rt: HostRuntime) -> Result<(), Fail> {
-    let found = find_body(disk(rt.alloc(), &[], &[])?, &[0; 96]);
-    let form = |place| Found::NoForm { index: 1, place };
-    shows(&rt, "a body of nothing", found == form(58));
-    let rotation = encode(&Command {
+// Whether a field of the body fits nothing, at this place of the disk.
+fn is_refused(alloc: Global, bytes: &[u8; 96], place: u64) -> Result<bool, AllocError> {
+    let found = find_body(disk(alloc, &[], &[])?, bytes);
+    Ok(found == Found::NoForm { index: 1, place })
+}
+
+fn rotation() -> [u8; 96] {
+    encode(&Command {
         client: 1,
         number: 1,
         call: Call::Rotate,
-    });
-    let found = find_body(disk(rt.alloc(), &[], &[])?, &rotation);
-    shows(&rt, "a rotation", found == form(58));
-    let mut no_account = encode(&fund(1));
-    no_account[23] = 1;
-    let found = find_body(disk(rt.alloc(), &[], &[])?, &no_account);
-    shows(&rt, "an account that is none", found == form(78));
+    })
+}
+
+fn fund_of_no_account() -> [u8; 96] {
+    let mut bytes = encode(&fund(1));
+    bytes[23] = 1;
+    bytes
+}
+
+#[test]
+fn a_body_that_is_no_command(rt: HostRuntime) -> Result<(), Fail> {
+    let alloc = rt.alloc();
+    shows(&rt, "nothing", is_refused(alloc, &[0; 96], 58)?);
+    shows(&rt, "a rotation", is_refused(alloc, &rotation(), 58)?);
+    let is_none = is_refused(alloc, &fund_of_no_account(), 78)?;
+    shows(&rt, "an account that is none", is_none);
     Ok(())
 }
 

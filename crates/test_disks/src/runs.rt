@@ -73,16 +73,21 @@ pub struct Made {
     pub stopped: Option<u64>,
 }
 
+// What the store answers to so many calls.
+fn answers(store: &mut Store<MemoryDisk>, calls: u64) -> [Option<Answer>; 6] {
+    let mut answers = [None; 6];
+    for before in 0..calls.min(CALLS) {
+        let answer = store.call(&funding(before + 1), &Hint::NONE);
+        answers[before as usize] = Some(answer);
+    }
+    answers
+}
+
 /// Opens the store, makes so many calls and closes it.
 pub fn make_calls(alloc: Global, left: MemoryDisk, right: MemoryDisk, calls: u64) -> Made {
-    let mut answers = [None; 6];
     match Store::open(alloc, left, right) {
-        Ok(store) => {
-            let mut store = store;
-            for before in 0..calls.min(CALLS) {
-                let answer = store.call(&funding(before + 1), &Hint::NONE);
-                answers[before as usize] = Some(answer);
-            }
+        Ok(mut store) => {
+            let answers = answers(&mut store, calls);
             let stopped = store.stopped();
             let (left, right) = store.close();
             Made {
@@ -95,7 +100,7 @@ pub fn make_calls(alloc: Global, left: MemoryDisk, right: MemoryDisk, calls: u64
         Err(fault) => Made {
             left: fault.left,
             right: fault.right,
-            answers,
+            answers: [None; 6],
             stopped: None,
         },
     }

@@ -3,7 +3,7 @@
 use crate::checks::{NOWHERE, same, shows};
 use crate::disks::disk;
 use crate::found::Found;
-use crate::journals::{append, create, fund, journal, open};
+use crate::journals::{Left, append, create, fund, journal, open};
 use liq_outside::{Disk, MemoryDisk};
 use std::alloc::{AllocError, Global};
 use std::test::Fail;
@@ -24,23 +24,47 @@ enum Work {
     Open,
 }
 
-// An append whose device call of this number fails, counted from the opening's first: it is there, or not yet.
-fn append_is_right(alloc: Global, call: u64, choice: u64) -> Result<bool, AllocError> {
-    let bytes = journal(alloc, 0)?;
-    let left = append(alloc, disk(alloc, &bytes, &[call])?, &fund(1));
+// What is found before and behind what is done, and whether it was done.
+#[derive(Clone, Copy)]
+struct Wanted {
+    before: Found,
+    behind: Found,
+    made: bool,
+}
+
+// Whether it was done where it is to be, and what it does is found after a crash of this choice, or not yet where it was
+// not done.
+fn is_right(alloc: Global, left: Left<MemoryDisk>, choice: u64, wanted: &Wanted) -> bool {
     let made = left.made;
     let found = after_crash(alloc, left.disk, choice);
-    let is_there = found == Found::Records(1);
-    Ok(made == (call == 9) && (is_there || (!made && found == Found::Records(0))))
+    made == wanted.made && (found == wanted.behind || (!made && found == wanted.before))
+}
+
+// An append to a new journal whose device call of this number fails, counted from the opening's first.
+fn append_failing(alloc: Global, call: u64) -> Result<Left<MemoryDisk>, AllocError> {
+    let bytes = journal(alloc, 0)?;
+    Ok(append(alloc, disk(alloc, &bytes, &[call])?, &fund(1)))
+}
+
+// The record of an append is there, or not yet.
+fn append_is_right(alloc: Global, call: u64, choice: u64) -> Result<bool, AllocError> {
+    let wanted = Wanted {
+        before: Found::Records(0),
+        behind: Found::Records(1),
+        made: call == 9,
+    };
+    Ok(is_right(alloc, append_failing(alloc, call)?, choice, &wanted))
 }
 
 // The creation of a journal: it is there, or there is none.
 fn create_is_right(alloc: Global, call: u64, choice: u64) -> Result<bool, AllocError> {
+    let wanted = Wanted {
+        before: Found::Absent,
+        behind: Found::Records(0),
+        made: call == 8,
+    };
     let left = create(disk(alloc, &[7, 7], &[call])?);
-    let made = left.made;
-    let found = after_crash(alloc, left.disk, choice);
-    let is_there = found == Found::Records(0);
-    Ok(made == (call == 8) && (is_there || (!made && found == Found::Absent)))
+    Ok(is_right(alloc, left, choice, &wanted))
 }
 
 // The opening of a journal of two records whose last byte is missing keeps them.
@@ -51,16 +75,20 @@ fn open_is_right(alloc: Global, call: u64, choice: u64) -> Result<bool, AllocErr
     Ok(after_crash(alloc, left, choice) == Found::Records(2))
 }
 
+// Whether a crash of this choice leaves what it may, where this device call fails.
+fn work_is_right(alloc: Global, work: Work, call: u64, choice: u64) -> Result<bool, AllocError> {
+    match work {
+        Work::Append => append_is_right(alloc, call, choice),
+        Work::Create => create_is_right(alloc, call, choice),
+        Work::Open => open_is_right(alloc, call, choice),
+    }
+}
+
 // The first of these device calls at which something else is found after some crash, tenfold, and that crash's choice.
 fn first_odd(alloc: Global, work: Work, from: u64, end: u64) -> Result<u64, AllocError> {
     for call in from..end {
         for choice in 0..8 {
-            let is_right = match work {
-                Work::Append => append_is_right(alloc, call, choice)?,
-                Work::Create => create_is_right(alloc, call, choice)?,
-                Work::Open => open_is_right(alloc, call, choice)?,
-            };
-            if !is_right {
+            if !work_is_right(alloc, work, call, choice)? {
                 return Ok(call.saturating_mul(10).saturating_add(choice));
             }
         }

@@ -64,6 +64,26 @@ fn first_odd_crash(alloc: Global, failing: u64, said: u64) -> Result<u64, AllocE
     Ok(NOWHERE)
 }
 
+// What a run tells: its answers, the faults at which it stopped, or 0, and those of each disk.
+#[derive(Clone, Copy)]
+struct Told {
+    answers: [Option<Answer>; 6],
+    stopped: u64,
+    left: u64,
+    right: u64,
+}
+
+// A run whose left disk fails at this device call.
+fn run_failing(alloc: Global, failing: u64) -> Result<Told, AllocError> {
+    let made = run(alloc, &[failing], CALLS)?;
+    Ok(Told {
+        answers: made.answers,
+        stopped: made.stopped.unwrap_or(0),
+        left: made.left.faults(),
+        right: made.right.faults(),
+    })
+}
+
 #[test]
 fn the_second_sync_of_the_fifth_call_fails(rt: HostRuntime) -> Result<(), Fail> {
     let alloc = rt.alloc();
@@ -75,20 +95,15 @@ fn the_second_sync_of_the_fifth_call_fails(rt: HostRuntime) -> Result<(), Fail> 
         Some(Answer::DiskFault),
         Some(Answer::Stopped { faults: 1 }),
     ];
-    let made = run(alloc, &[30], CALLS)?;
+    let told = run_failing(alloc, 30)?;
     shows(
         &rt,
         "four accepted, one met the fault, one is stopped",
-        made.answers == answers,
+        told.answers == answers,
     );
-    same(
-        &rt,
-        made.stopped.unwrap_or(0),
-        1,
-        "the faults at which it stopped",
-    );
-    same(&rt, made.left.faults(), 1, "the left disk's faults");
-    same(&rt, made.right.faults(), 0, "the right disk's faults");
+    same(&rt, told.stopped, 1, "the faults at which it stopped");
+    same(&rt, told.left, 1, "the left disk's faults");
+    same(&rt, told.right, 0, "the right disk's faults");
     let odd = first_odd_crash(alloc, 30, 4)?;
     same(&rt, odd, NOWHERE, "four or five are found after a crash");
     Ok(())
@@ -96,15 +111,14 @@ fn the_second_sync_of_the_fifth_call_fails(rt: HostRuntime) -> Result<(), Fail> 
 
 // Whether a run whose left disk fails at this device call is answered as far as it is to be, and what was accepted is found.
 fn failing_is_right(alloc: Global, failing: u64) -> Result<bool, AllocError> {
-    let made = run(alloc, &[failing], CALLS)?;
-    let faults = made.left.faults();
-    let (answered, said) = counts(&made.answers);
+    let told = run_failing(alloc, failing)?;
+    let (answered, said) = counts(&told.answers);
     let expected = if failing < OPENING {
         (0, 0)
     } else {
         (CALLS, ((failing - OPENING) / 4).min(CALLS))
     };
-    let is_met = faults == u64::from(failing < OPENING + 24);
+    let is_met = told.left == u64::from(failing < OPENING + 24);
     Ok((answered, said) == expected && is_met && first_odd_crash(alloc, failing, said)? == NOWHERE)
 }
 
@@ -125,20 +139,22 @@ fn each_device_call_fails(rt: HostRuntime) -> Result<(), Fail> {
     Ok(())
 }
 
+// What is found where the left disk has these bytes and the right one fails, and the faults of both.
+fn find_beside_fault(alloc: Global, bytes: &[u8]) -> Result<(Found, u64, u64), AllocError> {
+    let right = disk(alloc, &[], &[0])?;
+    let opened = open(alloc, disk(alloc, bytes, &[])?, right);
+    Ok((opened.found, opened.left.faults(), opened.right.faults()))
+}
+
 #[test]
 fn the_right_disk_fails(rt: HostRuntime) -> Result<(), Fail> {
-    let alloc = rt.alloc();
     // The right disk is synced although the left one is damaged, and its fault is told.
     for bytes in [[].as_slice(), [1; 57].as_slice()] {
-        let right = disk(alloc, &[], &[0])?;
-        let opened = open(alloc, disk(alloc, bytes, &[])?, right);
-        shows(
-            &rt,
-            "the right disk's fault is told",
-            opened.found == Found::DiskFault,
-        );
-        same(&rt, opened.left.faults(), 0, "faults of the left disk");
-        same(&rt, opened.right.faults(), 1, "faults of the right disk");
+        let (found, left, right) = find_beside_fault(rt.alloc(), bytes)?;
+        let is_told = found == Found::DiskFault;
+        shows(&rt, "the right disk's fault is told", is_told);
+        same(&rt, left, 0, "faults of the left disk");
+        same(&rt, right, 1, "faults of the right disk");
     }
     Ok(())
 }

@@ -111,10 +111,14 @@ fn a_reader_is_a_source(rt: HostRuntime) -> Result<(), Fail> {
     let is_word = gives_the_word(rt.alloc(), &mut source, 4)?;
     shows(&rt, "a reader gives its bytes", is_word);
     same(&rt, source.faults(), 0, "faults of a reader");
+    Ok(())
+}
+
+#[test]
+fn a_broken_reader_is_a_source(rt: HostRuntime) {
     let mut broken = StdSource::new(BrokenReader);
     shows(&rt, "a broken reader", broken.read(&mut [0; 5]).is_err());
     same(&rt, broken.faults(), 1, "faults of a broken reader");
-    Ok(())
 }
 
 #[test]
