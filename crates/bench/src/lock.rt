@@ -34,13 +34,27 @@ where
 {
     for threads in THREADS {
         let each = turns / u64::from(threads);
-        let start = Instant::now(rt)?;
-        let made = locked::run(rt, alloc, threads, each)?;
-        let locked = rate(made, start.elapsed(rt)?);
-        let start = Instant::now(rt)?;
-        let made = plain::run(rt, threads, each);
-        let plain = rate(made, start.elapsed(rt)?);
+        let locked = locked_rate(rt, alloc, threads, each)?;
+        let plain = plain_rate(rt, threads, each)?;
         println!(rt; "{threads} threads: {locked} turns a second, {plain} with a plain mutex")?;
     }
     Ok(())
+}
+
+fn locked_rate<R>(rt: &R, alloc: Global, threads: u32, each: u64) -> io::Result<u128>
+where
+    R: Clock + Threads + Wait + Sync,
+{
+    let start = Instant::now(rt)?;
+    let made = locked::run(rt, alloc, threads, each)?;
+    Ok(rate(made, start.elapsed(rt)?))
+}
+
+fn plain_rate<R>(rt: &R, threads: u32, each: u64) -> io::Result<u128>
+where
+    R: Clock + Threads + Wait + Sync,
+{
+    let start = Instant::now(rt)?;
+    let made = plain::run(rt, threads, each);
+    Ok(rate(made, start.elapsed(rt)?))
 }

@@ -12,6 +12,7 @@ mod serve;
 
 use std::alloc::Global;
 use std::fs::{File, Files};
+use std::rt::Clock;
 use std::sync::Wait;
 use std::thread::Threads;
 use std::time::Duration;
@@ -34,6 +35,21 @@ where
     serve::a_few(rt, alloc)
 }
 
+/// What the word names, so many times.
+fn measure<R>(rt: &R, alloc: Global, word: &str, count: u64) -> io::Result<()>
+where
+    R: Print + Clock + Files<File = File> + Threads + Wait + Sync,
+{
+    match word {
+        "num" => num::measure(rt, count),
+        "journal" => journal::measure(rt, alloc, count),
+        "pool" => pool::measure(rt, alloc, count),
+        "lock" => lock::measure(rt, alloc, count),
+        "serve" => serve::measure(rt, alloc, count),
+        _ => println!(rt; "num, journal, pool, lock or serve, and a count"),
+    }
+}
+
 fn main(rt: HostRuntime) -> io::Result<()> {
     let mut words = env::args(&rt)?.skip(1);
     let Some(word) = words.next() else {
@@ -43,12 +59,5 @@ fn main(rt: HostRuntime) -> io::Result<()> {
         Some(count) => count.parse::<u64>().unwrap_or(0),
         None => 0,
     };
-    match word.as_str() {
-        "num" => num::measure(&rt, count),
-        "journal" => journal::measure(&rt, rt.alloc(), count),
-        "pool" => pool::measure(&rt, rt.alloc(), count),
-        "lock" => lock::measure(&rt, rt.alloc(), count),
-        "serve" => serve::measure(&rt, rt.alloc(), count),
-        _ => println!(rt; "num, journal, pool, lock or serve, and a count"),
-    }
+    measure(&rt, rt.alloc(), word.as_str(), count)
 }

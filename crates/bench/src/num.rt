@@ -37,13 +37,16 @@ pub fn a_few<R: Print>(rt: &R) -> io::Result<()> {
 /// Calls of each a second.
 pub fn measure<R: Print + Clock>(rt: &R, calls: u64) -> io::Result<()> {
     let start = Instant::now(rt)?;
-    let sum = powers(calls);
-    let time = start.elapsed(rt)?;
-    let each = rate(calls, time);
-    println!(rt; "dec_pow at the greatest exponent: {each} calls a second (sum {sum})")?;
+    let sum = u128::from(powers(calls));
+    let each = rate(calls, start.elapsed(rt)?);
+    tell(rt, "dec_pow at the greatest exponent", each, sum)?;
     let start = Instant::now(rt)?;
     let sum = quotients(calls);
-    let time = start.elapsed(rt)?;
-    let each = rate(calls, time);
-    println!(rt; "mul_div: {each} calls a second (sum {sum})")
+    let each = rate(calls, start.elapsed(rt)?);
+    tell(rt, "mul_div", each, sum)
+}
+
+/// A rate, with the sum of what was computed.
+fn tell<R: Print>(rt: &R, what: &str, each: u128, sum: u128) -> io::Result<()> {
+    println!(rt; "{what}: {each} calls a second (sum {sum})")
 }

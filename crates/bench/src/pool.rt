@@ -59,22 +59,33 @@ pub fn a_few<R: Print>(rt: &R, alloc: Global) -> io::Result<()> {
     Ok(())
 }
 
-/// Nanoseconds an offset for each number of deposits, and the greatest of them over the least. Where there is no memory it ends.
+/// Nanoseconds an offset for each number of deposits, and the greatest of them over the least.
 pub fn measure<R: Print + Clock>(rt: &R, alloc: Global, offsets: u64) -> io::Result<()> {
     let mut least = u128::MAX;
     let mut greatest: u128 = 0;
     for deposits in DEPOSITS {
-        let Ok(mut pool) = pool_of(alloc, deposits) else {
-            return Ok(());
-        };
-        let best = best_of(rt, &mut pool, offsets)?;
-        let each = best / u128::from(offsets.max(1));
-        println!(rt; "{deposits} deposits: {each} ns an offset")?;
+        let best = best_with(rt, alloc, deposits, offsets)?;
         least = least.min(best);
         greatest = greatest.max(best);
     }
     let percent = greatest.min(LIM.into()) * 100 / least.max(1);
     println!(rt; "greatest over least: {percent} percent")
+}
+
+/// The least nanoseconds that so many offsets took with so many deposits. Tells those an offset.
+fn best_with<R: Print + Clock>(
+    rt: &R,
+    alloc: Global,
+    deposits: u32,
+    offsets: u64,
+) -> io::Result<u128> {
+    let Ok(mut pool) = pool_of(alloc, deposits) else {
+        return Err(io::ErrorKind::OutOfMemory.into());
+    };
+    let best = best_of(rt, &mut pool, offsets)?;
+    let each = best / u128::from(offsets.max(1));
+    println!(rt; "{deposits} deposits: {each} ns an offset")?;
+    Ok(best)
 }
 
 /// The least nanoseconds that so many offsets took.

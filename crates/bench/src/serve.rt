@@ -9,7 +9,7 @@ use std::io;
 use std::rt::Clock;
 use std::sync::Wait;
 use std::thread::Threads;
-use std::time::Instant;
+use std::time::{Duration, Instant};
 
 const FEW_LINES: u64 = 80;
 
@@ -37,13 +37,20 @@ where
     for sessions in SESSIONS {
         let each = asked / u64::from(sessions);
         for (kind, name) in KINDS {
-            let input = lines(alloc, sessions, each, kind)?;
-            let start = Instant::now(rt)?;
-            let status = status_of(rt, alloc, input);
-            let time = start.elapsed(rt)?;
+            let (status, time) = timed(rt, alloc, lines(alloc, sessions, each, kind)?)?;
             let rate = rate(each * u64::from(sessions), time);
             println!(rt; "{sessions} sessions: {rate} {name} a second, status {status}")?;
         }
     }
     Ok(())
+}
+
+/// The status, and how long it took.
+fn timed<R>(rt: &R, alloc: Global, input: Vec<u8>) -> io::Result<(u8, Duration)>
+where
+    R: Clock + Threads + Wait + Sync,
+{
+    let start = Instant::now(rt)?;
+    let status = status_of(rt, alloc, input);
+    Ok((status, start.elapsed(rt)?))
 }

@@ -23,12 +23,24 @@ pub enum Asked {
 pub fn lines(alloc: Global, sessions: u8, each: u64, asked: Asked) -> Result<Vec<u8>, AllocError> {
     let mut input = Vec::new(alloc);
     for before in 0..each {
-        for session in 0..sessions {
-            let line = line(alloc, session, before, asked)?;
-            input.extend_from_slice(line.as_bytes())?;
-        }
+        push_round(alloc, &mut input, sessions, before, asked)?;
     }
     Ok(input)
+}
+
+/// The lines of all sessions at a place.
+fn push_round(
+    alloc: Global,
+    input: &mut Vec<u8>,
+    sessions: u8,
+    before: u64,
+    asked: Asked,
+) -> Result<(), AllocError> {
+    for session in 0..sessions {
+        let line = line(alloc, session, before, asked)?;
+        input.extend_from_slice(line.as_bytes())?;
+    }
+    Ok(())
 }
 
 /// The line of a session at a place, both counted from 0.
@@ -43,26 +55,36 @@ fn line(alloc: Global, session: u8, before: u64, asked: Asked) -> Result<String,
 
 /// Serves the lines over new disks.
 pub fn status_of<R: Threads + Wait + Sync>(rt: &R, alloc: Global, input: Vec<u8>) -> u8 {
+    match words(alloc) {
+        Ok(words) => status_with(rt, alloc, &words, input),
+        Err(_) => 7,
+    }
+}
+
+fn words(alloc: Global) -> Result<Vec<String>, AllocError> {
+    Ok(vec![in alloc; String::from_str(alloc, "serve")?]?)
+}
+
+fn status_with<R>(rt: &R, alloc: Global, words: &[String], input: Vec<u8>) -> u8
+where
+    R: Threads + Wait + Sync,
+{
     let mut source = MemorySource::new(input, CHUNK, Vec::new(alloc));
     let mut sink = MemorySink::new(alloc, Vec::new(alloc));
-    let mut words = Vec::new(alloc);
-    let Ok(word) = String::from_str(alloc, "serve") else {
-        return 7;
-    };
-    if words.push(word).is_err() {
-        return 7;
-    }
-    let left = MemoryDisk::new(alloc, Vec::new(alloc), Vec::new(alloc));
-    let right = MemoryDisk::new(alloc, Vec::new(alloc), Vec::new(alloc));
+    let (left, right) = (new_disk(alloc), new_disk(alloc));
     protocol(
         rt,
         alloc,
         &OpenGate,
-        &words,
+        words,
         &mut source,
         &mut sink,
         left,
         right,
     )
     .status
+}
+
+fn new_disk(alloc: Global) -> MemoryDisk {
+    MemoryDisk::new(alloc, Vec::new(alloc), Vec::new(alloc))
 }
