@@ -1,14 +1,12 @@
 //! The cases of a file.
 
 use crate::counting::{Block, counted};
-use crate::disks::{change, holding, is_change};
+use crate::disks::{Disks, is_change};
 use crate::misread::{Misread, number};
 use crate::performing::{Stage, perform};
-use crate::run::{ALL, READ, Run, Start, put_words};
+use crate::run::{Run, put_words, side_of};
 use crate::settings::set;
 use crate::told::Told;
-use liq_outside::MemoryDisk;
-use liq_serve::Ended;
 use std::alloc::{AllocError, Global};
 use std::sync::Wait;
 use std::thread::Threads;
@@ -20,38 +18,56 @@ pub fn tell_file<R: Threads + Wait + Sync>(
     name: String,
     text: &str,
 ) -> Result<String, AllocError> {
+    let mut told = Told::new(alloc, name);
+    tell_cases(rt, alloc, &mut told, text)?;
+    told.end()
+}
+
+/// Makes the runs of a text, and tells what differs.
+fn tell_cases<R: Threads + Wait + Sync>(
+    rt: &R,
+    alloc: Global,
+    told: &mut Told,
+    text: &str,
+) -> Result<(), AllocError> {
     let mut cases = Cases {
         alloc,
-        told: Told::new(alloc, name),
+        told,
         run: None,
         block: None,
         broken: false,
-        left: holding(alloc, Vec::new(alloc)),
-        right: holding(alloc, Vec::new(alloc)),
+        disks: Disks::new(alloc),
     };
-    for (place, line) in text.lines().enumerate() {
-        cases.take(rt, place.saturating_add(1), line.trim())?;
-    }
-    cases.end_case(rt)?;
-    cases.told.end()
+    cases.take_lines(rt, text)
 }
 
 /// How far a file is read.
 #[derive(Drop)]
-struct Cases {
+struct Cases<'a> {
     alloc: Global,
-    told: Told,
+    told: &'a mut Told,
     /// The run that is being read.
     run: Option<Run>,
     /// The lines that are being read to be repeated.
     block: Option<Block>,
     /// Whether a line of the case was not understood.
     broken: bool,
-    left: MemoryDisk,
-    right: MemoryDisk,
+    disks: Disks,
 }
 
-impl Cases {
+impl Cases<'_> {
+    /// Takes all lines of a file.
+    fn take_lines<R: Threads + Wait + Sync>(
+        &mut self,
+        rt: &R,
+        text: &str,
+    ) -> Result<(), AllocError> {
+        for (place, line) in text.lines().enumerate() {
+            self.take(rt, place.saturating_add(1), line.trim())?;
+        }
+        self.end_case(rt)
+    }
+
     /// Takes a line. One that is not understood is told, and the rest of its case is not made.
     fn take<R: Threads + Wait + Sync>(
         &mut self,
@@ -94,8 +110,7 @@ impl Cases {
         self.end_case(rt)?;
         self.told.cases = self.told.cases.saturating_add(1);
         self.broken = false;
-        self.left = holding(self.alloc, Vec::new(self.alloc));
-        self.right = holding(self.alloc, Vec::new(self.alloc));
+        self.disks = Disks::new(self.alloc);
         self.begin_run(line, &["run"])
     }
 
@@ -118,29 +133,22 @@ impl Cases {
 
     /// Makes the run that was read.
     fn perform<R: Threads + Wait + Sync>(&mut self, rt: &R) -> Result<(), AllocError> {
-        let Some(mut run) = self.run.take() else {
-            return Ok(());
-        };
-        if run.reads.is_empty() {
-            run.reads.push(READ)?;
+        match self.run.take() {
+            Some(run) => self.make(rt, run),
+            None => Ok(()),
         }
-        if run.writes.is_empty() {
-            run.writes.push(ALL)?;
-        }
-        let start = Start {
-            left: self.left.bytes().to_vec(self.alloc)?,
-            right: self.right.bytes().to_vec(self.alloc)?,
-        };
+    }
+
+    fn make<R: Threads + Wait + Sync>(&mut self, rt: &R, run: Run) -> Result<(), AllocError> {
+        let mut run = run;
+        run.fill()?;
+        let start = self.disks.start(self.alloc)?;
         let stage = Stage {
             alloc: self.alloc,
             run: &run,
             start: &start,
         };
-        if let Some(Ended { left, right, .. }) = perform(rt, &stage, &mut self.told)? {
-            self.left = left;
-            self.right = right;
-        }
-        Ok(())
+        perform(rt, &stage, self.told, &mut self.disks)
     }
 
     fn understand<R: Threads + Wait + Sync>(
@@ -180,11 +188,16 @@ impl Cases {
     fn repeat(&mut self, block: &Block) -> Result<(), Misread> {
         for turn in 0..block.times {
             for (line, text) in &block.lines {
-                let text = counted(self.alloc, text, turn)?;
-                self.take_line(*line, text.as_str())?;
+                self.take_counted(*line, text, turn)?;
             }
         }
         Ok(())
+    }
+
+    /// Takes a line of a block, its numbers counted up so many times.
+    fn take_counted(&mut self, line: usize, text: &str, turn: u64) -> Result<(), Misread> {
+        let text = counted(self.alloc, text, turn)?;
+        self.take_line(line, text.as_str())
     }
 
     /// Takes a setting.
@@ -195,19 +208,35 @@ impl Cases {
         setting: &str,
     ) -> Result<(), Misread> {
         let words: Vec<&str> = setting.split_whitespace().collect(self.alloc)?;
-        match words.as_slice() {
+        self.take_words(rt, line, words.as_slice())
+    }
+
+    /// Takes the words of a setting.
+    fn take_words<R: Threads + Wait + Sync>(
+        &mut self,
+        rt: &R,
+        line: usize,
+        words: &[&str],
+    ) -> Result<(), Misread> {
+        match words {
             ["again"] => self.again(rt, line, &["run"]),
             ["again", words @ ..] => self.again(rt, line, words),
-            ["times", times] => self.repeat_next(line, times, "1"),
-            ["times", times, "of", lines] => self.repeat_next(line, times, lines),
+            ["times", times @ ..] => self.take_times(line, times),
             words => self.set_here(line, words),
         }
     }
 
+    /// Takes how often lines are to be repeated, and how many, or one.
+    fn take_times(&mut self, line: usize, words: &[&str]) -> Result<(), Misread> {
+        match words {
+            [times] => self.repeat_next(line, number(times)?, 1),
+            [times, "of", lines] => self.repeat_next(line, number(times)?, number(lines)?),
+            _ => Err(Misread::NotUnderstood),
+        }
+    }
+
     /// Begins to read so many lines, to be repeated so many times.
-    fn repeat_next(&mut self, line: usize, times: &str, lines: &str) -> Result<(), Misread> {
-        let times = number(times)?;
-        let missing = number(lines)?;
+    fn repeat_next(&mut self, line: usize, times: u64, missing: u64) -> Result<(), Misread> {
         if times == 0 || missing == 0 {
             return Err(Misread::NotUnderstood);
         }
@@ -222,15 +251,14 @@ impl Cases {
 
     /// Takes a setting of the disks, or of the run that is being read.
     fn set_here(&mut self, line: usize, words: &[&str]) -> Result<(), Misread> {
-        match (&mut self.run, words) {
-            (None, _) => Err(Misread::NotUnderstood),
-            (Some(_), ["left", word, ..]) if is_change(word) => {
-                change(self.alloc, &mut self.left, words)
+        let Some(run) = &mut self.run else {
+            return Err(Misread::NotUnderstood);
+        };
+        match words {
+            [disk, how, ..] if is_change(how) && side_of(disk).is_ok() => {
+                self.disks.change(self.alloc, side_of(disk)?, words)
             }
-            (Some(_), ["right", word, ..]) if is_change(word) => {
-                change(self.alloc, &mut self.right, words)
-            }
-            (Some(run), words) => set(self.alloc, run, line, words),
+            words => set(self.alloc, run, line, words),
         }
     }
 

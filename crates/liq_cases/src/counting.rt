@@ -28,7 +28,6 @@ fn put_counted(line: &mut String, part: &str, turn: u64) -> Result<(), Misread> 
 }
 
 /// Lines that are to be repeated, once all have come.
-#[derive(Drop)]
 pub struct Block {
     /// The line of the file that asks for it.
     pub line: usize,
@@ -36,6 +35,17 @@ pub struct Block {
     /// How many lines are still to come.
     pub missing: u64,
     pub lines: Vec<(usize, String)>,
+}
+
+impl Drop for Block {
+    fn drop(self) {
+        let Block {
+            line: _,
+            times: _,
+            missing: _,
+            lines: _,
+        } = self;
+    }
 }
 
 impl Block {

@@ -5,6 +5,8 @@ ghost use Rattle.std.specs.String.{string_bytes};
 ghost use Rattle.liq_words.specs.declared.words.Word.{Word};
 ghost use Rattle.liq_words.specs.Words.{Ask};
 
+use crate::disks::crash;
+use crate::run::Side;
 use crate::sink::SmallSink;
 use liq_outside::{MemoryDisk, MemorySource};
 use liq_serve::{Ended, OpenGate, protocol, without_threads};
@@ -12,7 +14,8 @@ use std::alloc::{AllocError, Global};
 use std::sync::Wait;
 use std::thread::Threads;
 
-/// What a run meets: its words, its input, how many bytes a read gives and a write takes, what the disks hold, and which calls fail.
+/// What a run meets: its words, its input, how many bytes a read gives and a write takes, what the disks hold, and
+/// which calls fail.
 #[derive(Clone, Copy)]
 pub struct Devices<'a> {
     pub words: &'a [String],
@@ -28,18 +31,62 @@ pub struct Devices<'a> {
 }
 
 /// What a run leaves.
-#[derive(Drop)]
 pub struct Outcome {
     pub ended: Ended<MemoryDisk>,
     pub source: MemorySource,
     pub sink: SmallSink,
 }
 
+impl Drop for Outcome {
+    fn drop(self) {
+        let Outcome {
+            ended: _,
+            source: _,
+            sink: _,
+        } = self;
+    }
+}
+
+impl Outcome {
+    /// The exit status.
+    pub fn status(&self) -> u64 {
+        u64::from(self.ended.status)
+    }
+
+    /// All that went out.
+    pub fn output(&self) -> &[u8] {
+        &self.sink.bytes
+    }
+
+    /// What no read has taken.
+    pub fn unread(&self) -> &[u8] {
+        self.source.left()
+    }
+
+    /// What the disk of a side holds.
+    pub fn held(&self, side: Side) -> &[u8] {
+        match side {
+            Side::Left => self.ended.left.bytes(),
+            Side::Right => self.ended.right.bytes(),
+        }
+    }
+
+    /// Crashes both disks, that of a side by this choice and the other one by choice 0.
+    pub fn crash(&mut self, alloc: Global, side: Side, choice: u64) {
+        let (left, right) = match side {
+            Side::Left => (choice, 0),
+            Side::Right => (0, choice),
+        };
+        crash(alloc, &mut self.ended.left, left);
+        crash(alloc, &mut self.ended.right, right);
+    }
+}
+
 /// The streams and the disks of a run: its source and its sink, its left disk and its right one.
 type Made = (MemorySource, SmallSink, MemoryDisk, MemoryDisk);
 
 /// A disk that holds these bytes, and whose calls of these numbers fail.
-pub fn disk(alloc: Global, bytes: &[u8], failing: &[u64]) -> Result<MemoryDisk, AllocError> {
+fn disk(alloc: Global, bytes: &[u8], failing: &[u64]) -> Result<MemoryDisk, AllocError> {
     Ok(MemoryDisk::new(alloc, bytes.to_vec(alloc)?, failing.to_vec(alloc)?))
 }
 

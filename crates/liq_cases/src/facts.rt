@@ -2,7 +2,7 @@
 
 use crate::devices::Outcome;
 use crate::misread::{Misread, number};
-use crate::run::{Run, Start};
+use crate::run::{Run, Side, Start};
 use crate::told::{At, Told};
 use crate::written::hex_bytes;
 use std::alloc::Global;
@@ -17,8 +17,7 @@ pub struct Fact {
 /// What a fact says.
 #[derive(Drop)]
 pub enum Says {
-    Left(Held),
-    Right(Held),
+    Disk(Side, Held),
     Unread(u64),
     SourceFaults(u64),
     SinkFaults(u64),
@@ -38,10 +37,18 @@ pub enum Held {
 pub fn read_held(alloc: Global, words: &[&str]) -> Result<Held, Misread> {
     match words {
         ["has", count] => Ok(Held::Count(number(count)?)),
-        ["begins", digits] => Ok(Held::Begins(hex_bytes(alloc, digits)?)),
-        ["ends", digits] => Ok(Held::Ends(hex_bytes(alloc, digits)?)),
         ["is", "as", "before"] => Ok(Held::AsBefore),
-        ["is", digits] => Ok(Held::Is(hex_bytes(alloc, digits)?)),
+        [place, digits] => held_bytes(place, hex_bytes(alloc, digits)?),
+        _ => Err(Misread::NotUnderstood),
+    }
+}
+
+/// That a disk holds these bytes at a place.
+fn held_bytes(place: &str, bytes: Vec<u8>) -> Result<Held, Misread> {
+    match place {
+        "begins" => Ok(Held::Begins(bytes)),
+        "ends" => Ok(Held::Ends(bytes)),
+        "is" => Ok(Held::Is(bytes)),
         _ => Err(Misread::NotUnderstood),
     }
 }
@@ -51,17 +58,18 @@ pub fn check_facts(told: &mut Told, run: &Run, start: &Start, outcome: &Outcome)
     for fact in &run.facts {
         told.facts = told.facts.saturating_add(1);
         told.at = At::line(fact.line);
-        match &fact.says {
-            Says::Left(held) => check_held(told, held, &start.left, outcome.ended.left.bytes()),
-            Says::Right(held) => check_held(told, held, &start.right, outcome.ended.right.bytes()),
-            Says::Unread(count) => {
-                told.number("unread", *count, outcome.source.left().len() as u64)
-            }
-            Says::SourceFaults(count) => {
-                told.number("source faults", *count, outcome.source.faults())
-            }
-            Says::SinkFaults(count) => told.number("sink faults", *count, outcome.sink.faults),
+        check_fact(told, &fact.says, start, outcome);
+    }
+}
+
+fn check_fact(told: &mut Told, says: &Says, start: &Start, outcome: &Outcome) {
+    match says {
+        Says::Disk(side, held) => check_held(told, held, start.held(*side), outcome.held(*side)),
+        Says::Unread(count) => told.number("unread", *count, outcome.unread().len() as u64),
+        Says::SourceFaults(count) => {
+            told.number("source faults", *count, outcome.source.faults())
         }
+        Says::SinkFaults(count) => told.number("sink faults", *count, outcome.sink.faults),
     }
 }
 

@@ -26,6 +26,13 @@ pub fn number(word: &str) -> Result<u64, Misread> {
     word.parse::<u64>().ok().ok_or(Misread::NotUnderstood)
 }
 
+/// The byte that a word spells.
+pub fn byte(word: &str) -> Result<u8, Misread> {
+    u8::try_from(number(word)?)
+        .ok()
+        .ok_or(Misread::NotUnderstood)
+}
+
 /// The numbers that words spell, at least one.
 pub fn put_numbers(numbers: &mut Vec<u64>, words: &[&str]) -> Result<(), Misread> {
     if words.is_empty() {

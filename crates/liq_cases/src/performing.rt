@@ -1,6 +1,7 @@
 //! A run as it is written, made and compared.
 
 use crate::devices::{Devices, Outcome, are_serve};
+use crate::disks::Disks;
 use crate::facts::check_facts;
 use crate::lines::Lines;
 use crate::run::{Asked, Run, Start};
@@ -8,8 +9,6 @@ use crate::runs::run_by_both;
 use crate::sessions::check_served;
 use crate::sweeps::{sweep_disk, sweep_sink, sweep_source};
 use crate::told::{At, Told};
-use liq_outside::MemoryDisk;
-use liq_serve::Ended;
 use std::alloc::{AllocError, Global};
 use std::sync::Wait;
 use std::thread::Threads;
@@ -22,29 +21,51 @@ pub struct Stage<'a> {
     pub start: &'a Start,
 }
 
-/// Makes a run's sweeps, and then the run for each of its sizes. The disks are those that the last size left.
+/// Makes a run's sweeps, and then the run for each of its sizes. The disks become those that the last size leaves.
 pub fn perform<R: Threads + Wait + Sync>(
     rt: &R,
     stage: &Stage<'_>,
     told: &mut Told,
-) -> Result<Option<Ended<MemoryDisk>>, AllocError> {
+    disks: &mut Disks,
+) -> Result<(), AllocError> {
     for asked in &stage.run.sweeps {
-        match *asked {
-            Asked::Source => sweep_source(rt, stage, told)?,
-            Asked::Sink => sweep_sink(rt, stage, told)?,
-            Asked::Disk(side, first, last) => sweep_disk(rt, stage, told, side, first, last)?,
-        }
+        sweep(rt, stage, told, *asked)?;
     }
     told.replies = told.replies.saturating_add(stage.run.lines.replies);
-    let mut last = None;
     for read in &stage.run.reads {
         for write in &stage.run.writes {
-            let outcome = make_once(rt, stage, told, *read, *write)?;
-            check_facts(told, stage.run, stage.start, &outcome);
-            last = Some(outcome.ended);
+            make(rt, stage, told, disks, *read, *write)?;
         }
     }
-    Ok(last)
+    Ok(())
+}
+
+fn sweep<R: Threads + Wait + Sync>(
+    rt: &R,
+    stage: &Stage<'_>,
+    told: &mut Told,
+    asked: Asked,
+) -> Result<(), AllocError> {
+    match asked {
+        Asked::Source => sweep_source(rt, stage, told),
+        Asked::Sink => sweep_sink(rt, stage, told),
+        Asked::Disk(side, first, last) => sweep_disk(rt, stage, told, side, first, last),
+    }
+}
+
+/// Makes the run at a read and a write of these sizes, and takes the disks that it leaves.
+fn make<R: Threads + Wait + Sync>(
+    rt: &R,
+    stage: &Stage<'_>,
+    told: &mut Told,
+    disks: &mut Disks,
+    read: u64,
+    write: u64,
+) -> Result<(), AllocError> {
+    let mut outcome = make_once(rt, stage, told, read, write)?;
+    check_facts(told, stage.run, stage.start, &outcome);
+    disks.take(&mut outcome);
+    Ok(())
 }
 
 /// What a run at a read and a write of these sizes leaves, once it is compared with what stands in the file.
@@ -75,11 +96,11 @@ pub fn check<R: Threads + Wait + Sync>(
 ) -> Result<(), AllocError> {
     let run = stage.run;
     let status = run.status.unwrap_or(0);
-    told.number("status", u64::from(status), u64::from(outcome.ended.status));
+    told.number("status", u64::from(status), outcome.status());
     if status == 0 && are_serve(&run.words) {
         check_served(rt, stage, told, outcome)
     } else {
-        check_output(told, &run.lines, &outcome.sink.bytes);
+        check_output(told, &run.lines, outcome.output());
         Ok(())
     }
 }

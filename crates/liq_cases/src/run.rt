@@ -3,6 +3,7 @@
 use crate::devices::Devices;
 use crate::facts::Fact;
 use crate::lines::Lines;
+use crate::misread::Misread;
 use std::alloc::{AllocError, Global};
 
 /// How many bytes a read gives at most, where no other number is written.
@@ -12,7 +13,6 @@ pub const READ: u64 = 16_384;
 pub const ALL: u64 = 1 << 32;
 
 /// A run as it is written.
-#[derive(Drop)]
 pub struct Run {
     /// The line of the file at which it begins.
     pub line: usize,
@@ -28,6 +28,23 @@ pub struct Run {
     pub facts: Vec<Fact>,
     pub sweeps: Vec<Asked>,
     pub legal: bool,
+}
+
+impl Drop for Run {
+    fn drop(self) {
+        let Run {
+            line: _,
+            words: _,
+            lines: _,
+            status: _,
+            reads: _,
+            writes: _,
+            failing: _,
+            facts: _,
+            sweeps: _,
+            legal: _,
+        } = self;
+    }
 }
 
 /// Which calls fail, counted from 0.
@@ -54,11 +71,35 @@ pub enum Side {
     Right,
 }
 
+/// The side that a word names.
+pub fn side_of(word: &str) -> Result<Side, Misread> {
+    match word {
+        "left" => Ok(Side::Left),
+        "right" => Ok(Side::Right),
+        _ => Err(Misread::NotUnderstood),
+    }
+}
+
 /// What both disks hold where a run begins.
-#[derive(Drop)]
 pub struct Start {
     pub left: Vec<u8>,
     pub right: Vec<u8>,
+}
+
+impl Drop for Start {
+    fn drop(self) {
+        let Start { left: _, right: _ } = self;
+    }
+}
+
+impl Start {
+    /// What the disk of a side holds.
+    pub fn held(&self, side: Side) -> &[u8] {
+        match side {
+            Side::Left => self.left.as_slice(),
+            Side::Right => self.right.as_slice(),
+        }
+    }
 }
 
 impl Run {
@@ -81,6 +122,17 @@ impl Run {
             sweeps: Vec::new(alloc),
             legal: false,
         }
+    }
+
+    /// Takes the sizes that hold where no others are written.
+    pub fn fill(&mut self) -> Result<(), AllocError> {
+        if self.reads.is_empty() {
+            self.reads.push(READ)?;
+        }
+        if self.writes.is_empty() {
+            self.writes.push(ALL)?;
+        }
+        Ok(())
     }
 
     /// What it meets at reads and writes of the first sizes.

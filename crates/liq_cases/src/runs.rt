@@ -1,13 +1,15 @@
 //! A run by both calls.
 
 use crate::devices::{Devices, Outcome, are_serve, by_one_thread, by_protocol};
+use crate::run::{Side, put_words};
 use crate::told::Told;
 use liq_outside::Disk;
 use std::alloc::{AllocError, Global};
 use std::sync::Wait;
 use std::thread::Threads;
 
-/// A run by the call with threads. Where the other call leaves anything else over equal devices, that is told; sessions have no other call.
+/// A run by the call with threads. Where the other call leaves anything else over equal devices, that is told;
+/// sessions have no other call.
 pub fn run_by_both<R: Threads + Wait + Sync>(
     rt: &R,
     alloc: Global,
@@ -24,32 +26,37 @@ pub fn run_by_both<R: Threads + Wait + Sync>(
     Ok(outcome)
 }
 
+/// A run by both calls of this word, whatever words the devices have.
+pub fn run_word<R: Threads + Wait + Sync>(
+    rt: &R,
+    alloc: Global,
+    told: &mut Told,
+    word: &str,
+    devices: &Devices<'_>,
+) -> Result<Outcome, AllocError> {
+    let mut words = Vec::new(alloc);
+    put_words(alloc, &mut words, &[word])?;
+    let devices = Devices {
+        words: &words,
+        ..*devices
+    };
+    run_by_both(rt, alloc, told, &devices)
+}
+
 /// Tells where status, output, what is unread and both disks differ.
 fn compare(told: &mut Told, outcome: &Outcome, other: &Outcome) {
-    told.number(
-        "status without threads",
-        u64::from(outcome.ended.status),
-        u64::from(other.ended.status),
-    );
-    told.bytes(
-        "output without threads",
-        &outcome.sink.bytes,
-        &other.sink.bytes,
-    );
-    told.bytes(
-        "unread without threads",
-        outcome.source.left(),
-        other.source.left(),
-    );
+    told.number("status without threads", outcome.status(), other.status());
+    told.bytes("output without threads", outcome.output(), other.output());
+    told.bytes("unread without threads", outcome.unread(), other.unread());
     told.bytes(
         "left disk without threads",
-        outcome.ended.left.bytes(),
-        other.ended.left.bytes(),
+        outcome.held(Side::Left),
+        other.held(Side::Left),
     );
     told.bytes(
         "right disk without threads",
-        outcome.ended.right.bytes(),
-        other.ended.right.bytes(),
+        outcome.held(Side::Right),
+        other.held(Side::Right),
     );
 }
 

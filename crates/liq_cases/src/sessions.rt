@@ -3,8 +3,8 @@
 use crate::devices::{Devices, Outcome};
 use crate::lines::{Lines, ends_line};
 use crate::performing::Stage;
-use crate::run::put_words;
-use crate::runs::run_by_both;
+use crate::run::Side;
+use crate::runs::run_word;
 use crate::told::Told;
 use liq_text::read_number;
 use std::alloc::{AllocError, Global};
@@ -12,10 +12,18 @@ use std::sync::Wait;
 use std::thread::Threads;
 
 /// Texts of eight sessions, those of one behind those of another, and where each session's begin and end.
-#[derive(Drop)]
 struct BySession<'a> {
     texts: Vec<&'a [u8]>,
     ranges: [(usize, usize); 9],
+}
+
+impl Drop for BySession<'_> {
+    fn drop(self) {
+        let BySession {
+            texts: _,
+            ranges: _,
+        } = self;
+    }
 }
 
 impl<'a> BySession<'a> {
@@ -35,6 +43,18 @@ impl<'a> BySession<'a> {
                 range.0 = here;
             }
             range.1 = here.saturating_add(1);
+        }
+        Ok(())
+    }
+
+    /// Takes the lines that a session asks.
+    fn take(&mut self, session: u8, input: &'a [u8]) -> Result<(), AllocError> {
+        for line in input.split(ends_line) {
+            if let [digit, b' ', request @ ..] = line
+                && session_of(*digit) == session
+            {
+                self.push(session, request)?;
+            }
         }
         Ok(())
     }
@@ -85,12 +105,72 @@ impl Counts {
 }
 
 /// What was written: the replies, and the sessions of the entries in the order of the history.
-#[derive(Drop)]
 struct Output<'a> {
     replies: BySession<'a>,
     history: Vec<u8>,
     /// How many entries do not count their session's calls in order.
     out_of_order: u64,
+}
+
+impl Drop for Output<'_> {
+    fn drop(self) {
+        let Output {
+            replies: _,
+            history: _,
+            out_of_order: _,
+        } = self;
+    }
+}
+
+/// How far an output is read: the session of the heading, whether the history has begun, and the calls in it.
+#[derive(Drop)]
+struct Reading {
+    session: u8,
+    in_history: bool,
+    counts: Counts,
+}
+
+impl<'a> Output<'a> {
+    /// Takes a line.
+    fn take(&mut self, reading: &mut Reading, line: &'a [u8]) -> Result<(), AllocError> {
+        match line {
+            [] => Ok(()),
+            b"history" => {
+                reading.in_history = true;
+                Ok(())
+            }
+            [digit, b' ', index @ ..] if reading.in_history => {
+                self.take_entry(&mut reading.counts, session_of(*digit), index)
+            }
+            line => self.take_reply(reading, line),
+        }
+    }
+
+    /// Takes an entry of the history.
+    fn take_entry(
+        &mut self,
+        counts: &mut Counts,
+        caller: u8,
+        index: &[u8],
+    ) -> Result<(), AllocError> {
+        let before = counts.next(caller);
+        if read_number(index) != Some((before as u64).saturating_add(1)) {
+            self.out_of_order = self.out_of_order.saturating_add(1);
+        }
+        self.history.push(caller)?;
+        Ok(())
+    }
+
+    /// Takes the heading of a session, or a reply to it.
+    fn take_reply(&mut self, reading: &mut Reading, line: &'a [u8]) -> Result<(), AllocError> {
+        match line.strip_prefix(b"session ") {
+            Some([digit]) => {
+                reading.session = session_of(*digit);
+                Ok(())
+            }
+            _ => self.replies.push(reading.session, line),
+        }
+    }
 }
 
 /// The session of a digit.
@@ -102,13 +182,7 @@ fn session_of(digit: u8) -> u8 {
 fn asked(alloc: Global, input: &[u8]) -> Result<BySession<'_>, AllocError> {
     let mut lines = BySession::new(alloc);
     for session in 1..9u8 {
-        for line in input.split(ends_line) {
-            if let [digit, b' ', request @ ..] = line
-                && session_of(*digit) == session
-            {
-                lines.push(session, request)?;
-            }
-        }
+        lines.take(session, input)?;
     }
     Ok(lines)
 }
@@ -120,24 +194,13 @@ fn taken_apart(alloc: Global, output: &[u8]) -> Result<Output<'_>, AllocError> {
         history: Vec::new(alloc),
         out_of_order: 0,
     };
-    let mut counts = Counts { counts: [0; 9] };
-    let mut session = 0;
-    let mut in_history = false;
+    let mut reading = Reading {
+        session: 0,
+        in_history: false,
+        counts: Counts { counts: [0; 9] },
+    };
     for line in output.split(ends_line) {
-        match line {
-            [] => {}
-            b"history" => in_history = true,
-            [digit, b' ', index @ ..] if in_history => {
-                let caller = session_of(*digit);
-                let before = counts.next(caller);
-                if read_number(index) != Some((before as u64).saturating_add(1)) {
-                    parts.out_of_order = parts.out_of_order.saturating_add(1);
-                }
-                parts.history.push(caller)?;
-            }
-            [b's', b'e', b's', b's', b'i', b'o', b'n', b' ', digit] => session = session_of(*digit),
-            reply => parts.replies.push(session, reply)?,
-        }
+        parts.take(&mut reading, line)?;
     }
     Ok(parts)
 }
@@ -149,31 +212,30 @@ fn put_together(alloc: Global, parts: &Output<'_>) -> Result<Vec<u8>, AllocError
         parts.replies.put_session(&mut text, session)?;
     }
     text.extend_from_slice(b"history\n")?;
+    put_history(alloc, &mut text, &parts.history)?;
+    Ok(text)
+}
+
+/// Appends the entries of a history.
+fn put_history(alloc: Global, text: &mut Vec<u8>, history: &[u8]) -> Result<(), AllocError> {
     let mut counts = Counts { counts: [0; 9] };
-    for session in &parts.history {
+    for session in history {
         let index = counts.next(*session).saturating_add(1);
         let entry = format!(in alloc; "{session} {index}\n")?;
         text.extend_from_slice(entry.as_bytes())?;
     }
-    Ok(text)
+    Ok(())
 }
 
-/// Tells where the output of sessions is not what it must be: each session's replies, and a history that has each line once.
+/// Tells where the output of sessions is not what it must be: each session's replies, and a history that has each
+/// line once.
 pub fn check_served<R: Threads + Wait + Sync>(
     rt: &R,
     stage: &Stage<'_>,
     told: &mut Told,
     served: &Outcome,
 ) -> Result<(), AllocError> {
-    let output = served.sink.bytes.as_slice();
-    let lines = asked(stage.alloc, &stage.run.lines.input)?;
-    let parts = taken_apart(stage.alloc, output)?;
-    told.bytes("form", &put_together(stage.alloc, &parts)?, output);
-    let count = lines.texts.len() as u64;
-    told.number("entries of the history", count, parts.history.len() as u64);
-    told.number("entries out of order", 0, parts.out_of_order);
-    told.number("replies", count, parts.replies.texts.len() as u64);
-    check_legal(rt, stage, told, &lines, &parts, served)?;
+    check_history(rt, stage, told, served)?;
     if stage.run.legal {
         told.number(
             "bytes of replies that nothing compares",
@@ -182,7 +244,30 @@ pub fn check_served<R: Threads + Wait + Sync>(
         );
         return Ok(());
     }
-    check_replies(stage.alloc, told, &stage.run.lines, output)
+    check_replies(stage.alloc, told, &stage.run.lines, served.output())
+}
+
+/// Tells where the history does not have each line once, or is not one that one session can have.
+fn check_history<R: Threads + Wait + Sync>(
+    rt: &R,
+    stage: &Stage<'_>,
+    told: &mut Told,
+    served: &Outcome,
+) -> Result<(), AllocError> {
+    let lines = asked(stage.alloc, &stage.run.lines.input)?;
+    let parts = taken_apart(stage.alloc, served.output())?;
+    let form = put_together(stage.alloc, &parts)?;
+    told.bytes("form", &form, served.output());
+    check_counts(told, lines.texts.len() as u64, &parts);
+    let merged = merge(stage.alloc, &lines, &parts)?;
+    check_legal(rt, stage, told, &merged, served)
+}
+
+/// Tells where there are not as many entries and replies as lines.
+fn check_counts(told: &mut Told, lines: u64, parts: &Output<'_>) {
+    told.number("entries of the history", lines, parts.history.len() as u64);
+    told.number("entries out of order", 0, parts.out_of_order);
+    told.number("replies", lines, parts.replies.texts.len() as u64);
 }
 
 /// Tells where the replies above the history are others.
@@ -193,10 +278,7 @@ fn check_replies(
     output: &[u8],
 ) -> Result<(), AllocError> {
     let mut wanted = Vec::new(alloc);
-    for session in b'1'..b'9' {
-        lines.put_session(&mut wanted, session)?;
-    }
-    wanted.extend_from_slice(b"history\n")?;
+    put_replies(&mut wanted, lines)?;
     told.bytes(
         "output",
         &wanted,
@@ -205,11 +287,35 @@ fn check_replies(
     Ok(())
 }
 
+/// Appends what must go out above the history, with the line that begins it.
+fn put_replies(wanted: &mut Vec<u8>, lines: &Lines) -> Result<(), AllocError> {
+    for session in b'1'..b'9' {
+        lines.put_session(wanted, session)?;
+    }
+    wanted.extend_from_slice(b"history\n")
+}
+
 /// The lines along a history, and the replies to them.
-#[derive(Drop)]
 struct Merged {
     lines: Vec<u8>,
     replies: Vec<u8>,
+}
+
+impl Drop for Merged {
+    fn drop(self) {
+        let Merged {
+            lines: _,
+            replies: _,
+        } = self;
+    }
+}
+
+impl Merged {
+    /// Takes a line and the reply to it.
+    fn take(&mut self, line: Option<&[u8]>, reply: Option<&[u8]>) -> Result<(), AllocError> {
+        put(&mut self.lines, line)?;
+        put(&mut self.replies, reply)
+    }
 }
 
 fn merge(alloc: Global, lines: &BySession<'_>, parts: &Output<'_>) -> Result<Merged, AllocError> {
@@ -220,8 +326,7 @@ fn merge(alloc: Global, lines: &BySession<'_>, parts: &Output<'_>) -> Result<Mer
     let mut counts = Counts { counts: [0; 9] };
     for session in &parts.history {
         let place = counts.next(*session);
-        put(&mut merged.lines, lines.at(*session, place))?;
-        put(&mut merged.replies, parts.replies.at(*session, place))?;
+        merged.take(lines.at(*session, place), parts.replies.at(*session, place))?;
     }
     Ok(merged)
 }
@@ -232,44 +337,40 @@ fn put(text: &mut Vec<u8>, line: Option<&[u8]>) -> Result<(), AllocError> {
     text.extend_from_slice(b"\n")
 }
 
-/// Tells where one session that asks the lines along the history, over the disks with which the run began, gets other replies, or
-/// leaves other disks than the run did.
+/// Tells where one session that asks the lines along the history, over the disks with which the run began, gets other
+/// replies, or leaves other disks than the run did.
 fn check_legal<R: Threads + Wait + Sync>(
     rt: &R,
     stage: &Stage<'_>,
     told: &mut Told,
-    lines: &BySession<'_>,
-    parts: &Output<'_>,
+    merged: &Merged,
     served: &Outcome,
 ) -> Result<(), AllocError> {
-    let merged = merge(stage.alloc, lines, parts)?;
-    let mut words = Vec::new(stage.alloc);
-    put_words(stage.alloc, &mut words, &["run"])?;
     let devices = Devices {
-        words: &words,
         input: &merged.lines,
         ..stage.run.unfailing(stage.start)
     };
-    let outcome = run_by_both(rt, stage.alloc, told, &devices)?;
-    told.number(
-        "status along the history",
-        0,
-        u64::from(outcome.ended.status),
-    );
+    let outcome = run_word(rt, stage.alloc, told, "run", &devices)?;
+    told.number("status along the history", 0, outcome.status());
     told.bytes(
         "replies along the history",
         &merged.replies,
-        &outcome.sink.bytes,
+        outcome.output(),
     );
+    compare_disks(told, &outcome, served);
+    Ok(())
+}
+
+/// Tells where one session leaves other disks than the run did.
+fn compare_disks(told: &mut Told, outcome: &Outcome, served: &Outcome) {
     told.bytes(
         "left disk along the history",
-        outcome.ended.left.bytes(),
-        served.ended.left.bytes(),
+        outcome.held(Side::Left),
+        served.held(Side::Left),
     );
     told.bytes(
         "right disk along the history",
-        outcome.ended.right.bytes(),
-        served.ended.right.bytes(),
+        outcome.held(Side::Right),
+        served.held(Side::Right),
     );
-    Ok(())
 }

@@ -1,8 +1,8 @@
 //! The settings of a run.
 
 use crate::facts::{Fact, Says, read_held};
-use crate::misread::{Misread, number, put_numbers};
-use crate::run::{Asked, Failing, Run, Side, put_words};
+use crate::misread::{Misread, byte, number, put_numbers};
+use crate::run::{Asked, Failing, Run, put_words, side_of};
 use std::alloc::Global;
 
 /// Takes the words of a setting, which stands in this line.
@@ -11,22 +11,42 @@ pub fn set(alloc: Global, run: &mut Run, line: usize, words: &[&str]) -> Result<
         ["words", words @ ..] => {
             run.words.clear();
             put_words(alloc, &mut run.words, words)?;
+            Ok(())
         }
-        ["status", status] if run.status.is_none() => {
-            let status = u8::try_from(number(status)?).ok();
-            run.status = Some(status.ok_or(Misread::NotUnderstood)?);
+        ["status", status] => set_status(run, status),
+        ["reads", sizes @ ..] => put_numbers(&mut run.reads, sizes),
+        ["writes", sizes @ ..] => put_numbers(&mut run.writes, sizes),
+        ["legal"] => {
+            run.legal = true;
+            Ok(())
         }
-        ["reads", sizes @ ..] => put_numbers(&mut run.reads, sizes)?,
-        ["writes", sizes @ ..] => put_numbers(&mut run.writes, sizes)?,
-        ["legal"] => run.legal = true,
-        [device, "fails", calls @ ..] => put_numbers(failing(&mut run.failing, device)?, calls)?,
-        [device, "sweep", calls @ ..] => run.sweeps.push(sweep(device, calls)?)?,
+        words => set_of_device(alloc, run, line, words),
+    }
+}
+
+/// Takes the status that must come, which is written once.
+fn set_status(run: &mut Run, status: &str) -> Result<(), Misread> {
+    if run.status.is_some() {
+        return Err(Misread::NotUnderstood);
+    }
+    run.status = Some(byte(status)?);
+    Ok(())
+}
+
+/// Takes calls that fail, a sweep, or a fact.
+fn set_of_device(alloc: Global, run: &mut Run, line: usize, words: &[&str]) -> Result<(), Misread> {
+    match words {
+        [device, "fails", calls @ ..] => put_numbers(failing(&mut run.failing, device)?, calls),
+        [device, "sweep", calls @ ..] => {
+            run.sweeps.push(sweep(device, calls)?)?;
+            Ok(())
+        }
         words => {
             let says = says(alloc, words)?;
             run.facts.push(Fact { line, says })?;
+            Ok(())
         }
     }
-    Ok(())
 }
 
 /// The calls of a device that fail.
@@ -42,11 +62,18 @@ fn failing<'a>(failing: &'a mut Failing, device: &str) -> Result<&'a mut Vec<u64
 
 /// The sweep over a device's calls.
 fn sweep(device: &str, calls: &[&str]) -> Result<Asked, Misread> {
-    match (device, calls) {
-        ("source", []) => Ok(Asked::Source),
-        ("sink", []) => Ok(Asked::Sink),
-        ("left", [first, last]) => Ok(Asked::Disk(Side::Left, number(first)?, number(last)?)),
-        ("right", [first, last]) => Ok(Asked::Disk(Side::Right, number(first)?, number(last)?)),
+    match calls {
+        [] => stream_sweep(device),
+        [first, last] => Ok(Asked::Disk(side_of(device)?, number(first)?, number(last)?)),
+        _ => Err(Misread::NotUnderstood),
+    }
+}
+
+/// The sweep over a stream's calls.
+fn stream_sweep(stream: &str) -> Result<Asked, Misread> {
+    match stream {
+        "source" => Ok(Asked::Source),
+        "sink" => Ok(Asked::Sink),
         _ => Err(Misread::NotUnderstood),
     }
 }
@@ -54,11 +81,18 @@ fn sweep(device: &str, calls: &[&str]) -> Result<Asked, Misread> {
 /// What a fact says.
 fn says(alloc: Global, words: &[&str]) -> Result<Says, Misread> {
     match words {
-        ["left", words @ ..] => Ok(Says::Left(read_held(alloc, words)?)),
-        ["right", words @ ..] => Ok(Says::Right(read_held(alloc, words)?)),
         ["unread", count] => Ok(Says::Unread(number(count)?)),
-        ["source", "faults", count] => Ok(Says::SourceFaults(number(count)?)),
-        ["sink", "faults", count] => Ok(Says::SinkFaults(number(count)?)),
+        [stream, "faults", count] => faults(stream, number(count)?),
+        [disk, held @ ..] => Ok(Says::Disk(side_of(disk)?, read_held(alloc, held)?)),
+        [] => Err(Misread::NotUnderstood),
+    }
+}
+
+/// That so many calls of a stream failed.
+fn faults(stream: &str, count: u64) -> Result<Says, Misread> {
+    match stream {
+        "source" => Ok(Says::SourceFaults(count)),
+        "sink" => Ok(Says::SinkFaults(count)),
         _ => Err(Misread::NotUnderstood),
     }
 }

@@ -2,10 +2,9 @@
 
 use crate::devices::{Devices, Outcome, are_serve};
 use crate::performing::{Stage, check, make_once};
-use crate::run::{Side, put_words};
-use crate::runs::run_by_both;
+use crate::run::Side;
+use crate::runs::{run_by_both, run_word};
 use crate::told::{At, Told};
-use liq_serve::Ended;
 use std::alloc::AllocError;
 use std::sync::Wait;
 use std::thread::Threads;
@@ -22,24 +21,41 @@ const CRASHES: u64 = 8;
 /// No call has this number.
 const NONE: u64 = u64::MAX;
 
+/// A call of a disk that fails.
+#[derive(Clone, Copy)]
+struct DiskCall {
+    side: Side,
+    call: u64,
+}
+
 /// Each read fails in turn, and then one that is never made.
 pub fn sweep_source<R: Threads + Wait + Sync>(
     rt: &R,
     stage: &Stage<'_>,
     told: &mut Told,
 ) -> Result<(), AllocError> {
-    let bytes = stage.run.lines.input.len() as u64;
     for read in &stage.run.reads {
-        // The last read finds the end.
-        let reads = bytes.div_ceil((*read).max(1)).saturating_add(1);
-        for call in 0..reads {
-            let outcome = fail_read(rt, stage, told, *read, call)?;
-            check_failed_read(stage, told, read.saturating_mul(call), &outcome);
-        }
-        let outcome = fail_read(rt, stage, told, *read, reads)?;
-        check(rt, stage, told, &outcome)?;
+        sweep_reads(rt, stage, told, *read)?;
     }
     Ok(())
+}
+
+/// The same at reads of this size.
+fn sweep_reads<R: Threads + Wait + Sync>(
+    rt: &R,
+    stage: &Stage<'_>,
+    told: &mut Told,
+    read: u64,
+) -> Result<(), AllocError> {
+    let bytes = stage.run.lines.input.len() as u64;
+    // The last read finds the end.
+    let reads = bytes.div_ceil(read.max(1)).saturating_add(1);
+    for call in 0..reads {
+        let outcome = fail_read(rt, stage, told, read, call)?;
+        check_failed_read(stage, told, read.saturating_mul(call), &outcome);
+    }
+    let outcome = fail_read(rt, stage, told, read, reads)?;
+    check(rt, stage, told, &outcome)
 }
 
 /// The run where a read fails.
@@ -65,17 +81,21 @@ fn fail_read<R: Threads + Wait + Sync>(
 
 /// Each line is answered that had ended among so many bytes, which came before the read that failed.
 fn check_failed_read(stage: &Stage<'_>, told: &mut Told, bytes: u64, outcome: &Outcome) {
-    let bytes = if are_serve(&stage.run.words) {
+    let answered = stage.run.lines.answered(answering(stage, bytes as usize));
+    let output = outcome.output();
+    let (replies, last) = output.split_at(answered.len().min(output.len()));
+    told.number("status", 3, outcome.status());
+    told.bytes("replies", answered, replies);
+    told.bytes("last line", READ_FAULT, last);
+}
+
+/// How many of so many bytes bring an answer where a device fails: none do for sessions.
+fn answering(stage: &Stage<'_>, bytes: usize) -> usize {
+    if are_serve(&stage.run.words) {
         0
     } else {
         bytes
-    };
-    let answered = stage.run.lines.answered(bytes as usize);
-    let output = outcome.sink.bytes.as_slice();
-    let (replies, last) = output.split_at(answered.len().min(output.len()));
-    told.number("status", 3, u64::from(outcome.ended.status));
-    told.bytes("replies", answered, replies);
-    told.bytes("last line", READ_FAULT, last);
+    }
 }
 
 /// Each call of the sink fails in turn.
@@ -86,8 +106,7 @@ pub fn sweep_sink<R: Threads + Wait + Sync>(
 ) -> Result<(), AllocError> {
     for read in &stage.run.reads {
         for write in &stage.run.writes {
-            let whole = make_once(rt, stage, told, *read, *write)?;
-            sweep_writes(rt, stage, told, &whole, *read, *write)?;
+            sweep_writes(rt, stage, told, *read, *write)?;
         }
     }
     Ok(())
@@ -98,26 +117,38 @@ fn sweep_writes<R: Threads + Wait + Sync>(
     rt: &R,
     stage: &Stage<'_>,
     told: &mut Told,
-    whole: &Outcome,
     read: u64,
     write: u64,
 ) -> Result<(), AllocError> {
+    let whole = make_once(rt, stage, told, read, write)?;
     for call in 0..whole.sink.taken.len() {
-        told.at = At {
-            line: stage.run.line,
-            sweep: "write",
-            call: call as u64,
-        };
-        let devices = Devices {
-            read,
-            write,
-            sink_fails: &[call as u64],
-            ..stage.run.devices(stage.start)
-        };
-        let outcome = run_by_both(rt, stage.alloc, told, &devices)?;
-        check_failed_write(stage, told, whole, call, &outcome);
+        let outcome = fail_write(rt, stage, told, read, write, call as u64)?;
+        check_failed_write(stage, told, &whole, call, &outcome);
     }
     Ok(())
+}
+
+/// The run where a write fails.
+fn fail_write<R: Threads + Wait + Sync>(
+    rt: &R,
+    stage: &Stage<'_>,
+    told: &mut Told,
+    read: u64,
+    write: u64,
+    call: u64,
+) -> Result<Outcome, AllocError> {
+    told.at = At {
+        line: stage.run.line,
+        sweep: "write",
+        call,
+    };
+    let devices = Devices {
+        read,
+        write,
+        sink_fails: &[call],
+        ..stage.run.devices(stage.start)
+    };
+    run_by_both(rt, stage.alloc, told, &devices)
 }
 
 /// What the writes before it took is there, and the status says whether replies are cut.
@@ -130,10 +161,10 @@ fn check_failed_write(
 ) {
     let taken = whole.sink.taken_by(call);
     let wanted = stage.run.status.unwrap_or(0);
-    let cut = taken.len() < replies(wanted, &whole.sink.bytes);
+    let cut = taken.len() < replies(wanted, whole.output());
     let status = if cut { 4 } else { wanted };
-    told.bytes("output", taken, &outcome.sink.bytes);
-    told.number("status", u64::from(status), u64::from(outcome.ended.status));
+    told.bytes("output", taken, outcome.output());
+    told.number("status", u64::from(status), outcome.status());
 }
 
 /// How many bytes of an output are replies: a last line behind them says why a run ended, where it did not end well.
@@ -152,8 +183,8 @@ fn replies(status: u8, output: &[u8]) -> usize {
     replies
 }
 
-/// These calls of a disk fail in turn: a beginning of the replies goes out, and what was answered is found after each crash. Then one
-/// behind the last of them fails, which is never made.
+/// These calls of a disk fail in turn: a beginning of the replies goes out, and what was answered is found after each
+/// crash. Then one behind the last of them fails, which is never made.
 pub fn sweep_disk<R: Threads + Wait + Sync>(
     rt: &R,
     stage: &Stage<'_>,
@@ -162,13 +193,12 @@ pub fn sweep_disk<R: Threads + Wait + Sync>(
     first: u64,
     last: u64,
 ) -> Result<(), AllocError> {
-    for call in first..last.saturating_add(1) {
-        let answered = check_failed_call(rt, stage, told, side, call)?;
-        if !are_serve(&stage.run.words) {
-            check_crashes(rt, stage, told, side, call, answered)?;
-        }
+    let behind = last.saturating_add(1);
+    for call in first..behind {
+        check_failed_call(rt, stage, told, DiskCall { side, call })?;
     }
-    let outcome = fail_call(rt, stage, told, side, last.saturating_add(1))?;
+    let unmade = DiskCall { side, call: behind };
+    let outcome = fail_call(rt, stage, told, unmade)?;
     check(rt, stage, told, &outcome)
 }
 
@@ -177,9 +207,9 @@ fn fail_call<R: Threads + Wait + Sync>(
     rt: &R,
     stage: &Stage<'_>,
     told: &mut Told,
-    side: Side,
-    call: u64,
+    failing: DiskCall,
 ) -> Result<Outcome, AllocError> {
+    let DiskCall { side, call } = failing;
     told.at = At {
         line: stage.run.line,
         sweep: "call of a disk",
@@ -197,27 +227,31 @@ fn fail_call<R: Threads + Wait + Sync>(
     run_by_both(rt, stage.alloc, told, &devices)
 }
 
-/// How many lines are answered where a call of a disk fails.
+/// Where a call of a disk fails, a beginning of the replies goes out, and is found after each crash.
 fn check_failed_call<R: Threads + Wait + Sync>(
     rt: &R,
     stage: &Stage<'_>,
     told: &mut Told,
-    side: Side,
-    call: u64,
-) -> Result<usize, AllocError> {
-    let outcome = fail_call(rt, stage, told, side, call)?;
-    let output = outcome.sink.bytes.as_slice();
+    failing: DiskCall,
+) -> Result<(), AllocError> {
+    let outcome = fail_call(rt, stage, told, failing)?;
+    let answered = check_replies(stage, told, &outcome);
+    if are_serve(&stage.run.words) {
+        return Ok(());
+    }
+    check_crashes(rt, stage, told, failing, answered)
+}
+
+/// How many lines are answered where a call of a disk fails.
+fn check_replies(stage: &Stage<'_>, told: &mut Told, outcome: &Outcome) -> usize {
+    let output = outcome.output();
     let (replies, last) = output.split_at(output.len().saturating_sub(DISK_FAULT.len()));
-    let bytes = if are_serve(&stage.run.words) {
-        0
-    } else {
-        replies.len()
-    };
+    let bytes = answering(stage, replies.len());
     let (lines, answered) = stage.run.lines.answered_by(bytes);
-    told.number("status", 5, u64::from(outcome.ended.status));
+    told.number("status", 5, outcome.status());
     told.bytes("replies", answered, replies);
     told.bytes("last line", DISK_FAULT, last);
-    Ok(lines)
+    lines
 }
 
 /// After each crash what `state` tells is what it tells after so many lines or after one more.
@@ -225,19 +259,23 @@ fn check_crashes<R: Threads + Wait + Sync>(
     rt: &R,
     stage: &Stage<'_>,
     told: &mut Told,
-    side: Side,
-    call: u64,
+    failing: DiskCall,
     lines: usize,
 ) -> Result<(), AllocError> {
     let before = state_after(rt, stage, told, lines)?;
     let after = state_after(rt, stage, told, lines.saturating_add(1))?;
     for choice in 0..CRASHES {
-        let found = state_after_crash(rt, stage, told, side, call, choice)?;
-        if found.as_slice() != after.as_slice() {
-            told.bytes("state after a crash", &before, &found);
-        }
+        let found = state_after_crash(rt, stage, told, failing, choice)?;
+        check_state(told, &before, &after, &found);
     }
     Ok(())
+}
+
+/// Tells where a state after a crash is neither of the two that may be.
+fn check_state(told: &mut Told, before: &[u8], after: &[u8], found: &[u8]) {
+    if found != after {
+        told.bytes("state after a crash", before, found);
+    }
 }
 
 /// What `state` tells after the failing run and a crash of this choice on the disk that failed.
@@ -245,17 +283,12 @@ fn state_after_crash<R: Threads + Wait + Sync>(
     rt: &R,
     stage: &Stage<'_>,
     told: &mut Told,
-    side: Side,
-    call: u64,
+    failing: DiskCall,
     choice: u64,
 ) -> Result<Vec<u8>, AllocError> {
-    let Outcome { ended, .. } = fail_call(rt, stage, told, side, call)?;
-    let Ended { left, right, .. } = ended;
-    let (left, right) = match side {
-        Side::Left => (left.crash(choice), right.crash(0)),
-        Side::Right => (left.crash(0), right.crash(choice)),
-    };
-    state_over(rt, stage, told, left.bytes(), right.bytes())
+    let mut outcome = fail_call(rt, stage, told, failing)?;
+    outcome.crash(stage.alloc, failing.side, choice);
+    state_over(rt, stage, told, &outcome)
 }
 
 /// What `state` tells after the first so many lines.
@@ -269,26 +302,22 @@ fn state_after<R: Threads + Wait + Sync>(
         input: stage.run.lines.input_of(lines),
         ..stage.run.unfailing(stage.start)
     };
-    let Outcome { ended, .. } = run_by_both(rt, stage.alloc, told, &devices)?;
-    state_over(rt, stage, told, ended.left.bytes(), ended.right.bytes())
+    let outcome = run_by_both(rt, stage.alloc, told, &devices)?;
+    state_over(rt, stage, told, &outcome)
 }
 
-/// What `state` tells over disks that hold these bytes.
+/// What `state` tells over the disks that a run left.
 fn state_over<R: Threads + Wait + Sync>(
     rt: &R,
     stage: &Stage<'_>,
     told: &mut Told,
-    left: &[u8],
-    right: &[u8],
+    left_behind: &Outcome,
 ) -> Result<Vec<u8>, AllocError> {
-    let mut words = Vec::new(stage.alloc);
-    put_words(stage.alloc, &mut words, &["state"])?;
     let devices = Devices {
-        words: &words,
-        left,
-        right,
+        left: left_behind.held(Side::Left),
+        right: left_behind.held(Side::Right),
         ..stage.run.unfailing(stage.start)
     };
-    let outcome = run_by_both(rt, stage.alloc, told, &devices)?;
-    outcome.sink.bytes.to_vec(stage.alloc)
+    let outcome = run_word(rt, stage.alloc, told, "state", &devices)?;
+    outcome.output().to_vec(stage.alloc)
 }

@@ -55,39 +55,47 @@ impl Told {
     /// A line that is not understood.
     pub fn misread(&mut self, line: usize, text: &str) {
         self.at = At::line(line);
-        let written = self.begin();
-        self.lost |= written.is_err() || writeln!(self.text, "not understood: \"{text}\"").is_err();
+        self.begin();
+        let written = writeln!(self.text, "not understood: \"{text}\"");
+        self.lost |= written.is_err();
     }
 
     /// Two numbers that should be the same.
     pub fn number(&mut self, what: &str, wanted: u64, came: u64) {
         if wanted != came {
-            let written = self.begin();
-            self.lost |= written.is_err()
-                || writeln!(self.text, "{what}: wanted {wanted}, came {came}").is_err();
+            self.begin();
+            let written = writeln!(self.text, "{what}: wanted {wanted}, came {came}");
+            self.lost |= written.is_err();
         }
     }
 
     /// Bytes that should be the same.
     pub fn bytes(&mut self, what: &str, wanted: &[u8], came: &[u8]) {
         if wanted != came {
-            let written = self.begin();
+            self.begin();
             let wanted = wanted.escape_ascii();
             let came = came.escape_ascii();
-            self.lost |= written.is_err()
-                || writeln!(self.text, "{what}: wanted \"{wanted}\", came \"{came}\"").is_err();
+            let written = writeln!(self.text, "{what}: wanted \"{wanted}\", came \"{came}\"");
+            self.lost |= written.is_err();
         }
     }
 
     /// The beginning of a line.
-    fn begin(&mut self) -> Result<(), AllocError> {
+    fn begin(&mut self) {
         let file = self.file.as_str();
-        let At { line, sweep, call } = self.at;
-        if sweep.is_empty() {
-            write!(self.text, "{file}:{line}: ")
-        } else {
-            write!(self.text, "{file}:{line}: {sweep} {call} fails: ")
+        let line = self.at.line;
+        let written = write!(self.text, "{file}:{line}: ");
+        self.lost |= written.is_err();
+        if !self.at.sweep.is_empty() {
+            self.name_call();
         }
+    }
+
+    /// The call that fails.
+    fn name_call(&mut self) {
+        let At { sweep, call, .. } = self.at;
+        let written = write!(self.text, "{sweep} {call} fails: ");
+        self.lost |= written.is_err();
     }
 
     /// All that is told, with the counts as the last line.
