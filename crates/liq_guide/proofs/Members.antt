@@ -89,7 +89,7 @@ standing_ascends (p ∷ ps) h = by p.1 (standing_ascends ps h.1) where
   by true more = (behind_standing p.0 ps h.0, more)
   by false more = more
 
-any_keys : {K X : Type 0} (test : K → Bool) (es : List (K × X)) → list_any test (keys_of es) ≡ is_some (lookup test es)
+pub any_keys : {K X : Type 0} (test : K → Bool) (es : List (K × X)) → list_any test (keys_of es) ≡ is_some (lookup test es)
 any_keys test [] = refl
 any_keys {K} {X} test (e ∷ es) = by (test e.0) (any_keys test es) where
   by : (b : Bool) → list_any test (keys_of es) ≡ is_some (lookup test es) → (b || list_any test (keys_of es)) ≡ is_some (cond b (Some e.1) (lookup test es))

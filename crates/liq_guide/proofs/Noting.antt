@@ -6,7 +6,7 @@ use Rattle.std.specs.BTreeMap.{is_at}
 use Rattle.std.specs.Ordering.{nat_cmp, is_eq}
 use Rattle.liq_types.proofs.Places.{nat_cmp-eq}
 use Rattle.liq_types.specs.Ranked.{Ranked, rank_order}
-use Rattle.liq_guide.specs.Rows.{Places, Keys, place_at, row_at, is_in, has_account, AreNoted, SparesAt, SparesKey}
+use Rattle.liq_guide.specs.Rows.{Places, Keys, place_at, row_at, is_in, has_account, AreNoted, AreFull, SparesAt, SparesKey}
 use Rattle.liq_guide.proofs.Following.{turned}
 use Rattle.liq_guide.proofs.Members.{same_entry}
 
@@ -51,6 +51,15 @@ noted_less places other keys after f noted gone gone_key h =
       place_noted = λ e is. let g = gone e is in ap (λ b. b || is_in noted e) (sym (turned e f ∙ g.1)) ∙ h.place_noted e g.0;
       key_noted = λ a is. let g = gone_key a is in ap (λ b. b || has_account noted a) (sym (sym (nat_cmp-eq f.1 a) ∙ g.1)) ∙ h.key_noted a g.0;
     }
+
+-- where no row only keeps room none has to be noted, and the other way round
+pub none_noted : (places : Places) (keys : Keys) → AreFull places keys → AreNoted places keys []
+none_noted places keys h = record { place_noted = λ e is. absurd (h.all_stand e is); key_noted = λ a is. absurd (h.all_keyed a is) }
+
+pub full_rows : (places : Places) (keys : Keys) → AreNoted places keys [] → AreFull places keys
+full_rows places keys h = record { all_stand = λ e is. clash (h.place_noted e is); all_keyed = λ a is. clash (h.key_noted a is) } where
+  clash : false ≡ true → ⊥
+  clash is = cc
 
 -- ---- what an edit of one row leaves
 

@@ -1,7 +1,7 @@
 -- The rows of a guide: whether an entry stands at a place, and the key of an account. Some only keep room for what is
 -- followed.
-use Rattle.std.specs.Prelude.{◌≡◌, ◌⊎◌, ◌==◌, ℕ, ℤ, Bool, true, false, List, [], Option, Some, None, unwrap_or, filter, IsSome}
-use Rattle.std.specs.List.{list_any}
+use Rattle.std.specs.Prelude.{◌≡◌, ◌≢◌, ◌⊎◌, ◌==◌, ℕ, ℤ, Bool, true, false, List, [], ◌∷◌, Option, Some, None, unwrap_or, filter, IsSome}
+use Rattle.std.specs.List.{AllByRecursion, list_any}
 use Rattle.std.specs.List.Sorted.{IsStrictlySortedBy}
 use Rattle.std.specs.BTreeMap.{is_at}
 use Rattle.std.specs.Map.{keys_of, lookup}
@@ -69,9 +69,10 @@ pub record AreNoted (places : Places) (keys : Keys) (noted : List Ranked) : Type
   pub place_noted : (e : Ranked) → place_at places e ≡ Some false → is_in noted e ≡ true
   pub key_noted : (a : ℕ) → row_at keys a ≡ Some None → has_account noted a ≡ true
 
--- no row only keeps room
-abbrev pub AreFull : Places → Keys → Type 0
-AreFull places keys = AreNoted places keys []
+-- no row only keeps room: at each place that has a row an entry stands, and each account that has a row has a key
+pub record AreFull (places : Places) (keys : Keys) : Type 0 where
+  pub all_stand : (e : Ranked) → place_at places e ≢ Some false
+  pub all_keyed : (a : ℕ) → row_at keys a ≢ Some None
 
 -- no place but one comes to be a row that only keeps room
 abbrev pub SparesAt : Places → Places → Ranked → Type 0
@@ -81,3 +82,8 @@ SparesAt places other f =
 abbrev pub SparesKey : Keys → Keys → ℕ → Type 0
 SparesKey keys other account =
     (a : ℕ) → row_at other a ≡ Some None → (row_at keys a ≡ Some None) ⊎ (is_eq (nat_cmp account a) ≡ true)
+
+-- no account stands twice
+abbrev pub StandOnce : List Ranked → Type 0
+StandOnce [] = Unit {0}
+StandOnce (e ∷ es) = AllByRecursion (λ (f : Ranked). f.1 ≢ e.1) es × StandOnce es

@@ -1,14 +1,16 @@
 //! The entries of the ordered list, which follow its changes.
 
-ghost use Rattle.std.specs.Prelude.{◌≡◌, [], OnOk, OnErr};
+ghost use Rattle.std.specs.Prelude.{◌≡◌, ℤ, ◌<ℤ◌, [], OnOk, OnErr, IfOk};
+ghost use Rattle.liq_types.specs.Ranked.{neighbours, key_in};
 ghost use Rattle.liq_types.specs.Views.{View, all_followed};
+ghost use Rattle.liq_guide.specs.Followed.{last_put, hint_of_last};
 
 use crate::rows::Rows;
+use crate::sides::{account_after, account_before, first_account};
 use liq_types::{Hint, ListChange, NoMemory};
 use std::alloc::Global;
 use std::collections::BTreeMap;
 use std::marker::Model;
-use std::ops::Bound;
 
 /// The entries of the ordered list, and the key of each account. Contracts see the list.
 #[derive(Drop)]
@@ -48,6 +50,7 @@ impl Guide {
     /// After `NoMemory` all is as before.
     pub fn follow(&mut self, changes: &[ListChange]) -> Result<Option<Hint>, NoMemory>
         ensures list { OnOk result ((v : View) → v.list ≡ self.old → self.new ≡ (all_followed v changes.now).list) }
+        ensures hint { IfOk result (λ hint. hint ≡ hint_of_last self.new changes.now) }
         ensures err { OnErr result (self.new ≡ self.old) }
     {
         // Each change notes one place at most where room is made for it, and one where it is made.
@@ -58,7 +61,7 @@ impl Guide {
             Ok(()) => {
                 self.rows.make(changes, &mut noted);
                 self.rows.clear(&noted);
-                Ok(self.answer(changes))
+                Ok(self.hint(changes))
             }
             Err(_) => {
                 self.rows.clear(&noted);
@@ -67,20 +70,46 @@ impl Guide {
         }
     }
 
-    // The accounts before and after the one that the changes put last.
-    fn answer(&self, changes: &[ListChange]) -> Option<Hint> {
-        let place = last_put(changes)?;
-        let before = (Bound::Unbounded, Bound::Excluded(place));
-        let after = (Bound::Excluded(place), Bound::Unbounded);
+    // Between whom the entry stands that the changes put last.
+    fn hint(&self, changes: &[ListChange]) -> Option<Hint>
+        ensures { result ≡ hint_of_last self.now changes.now }
+    {
+        let (key, account) = last_put(changes)?;
+        let (prev, next) = self.neighbours(key, account);
         Some(Hint {
-            prev: account_of(self.rows.places.range(before).next_back()),
-            next: account_of(self.rows.places.range(after).next()),
+            prev,
+            next,
             version: 0,
         })
     }
+
+    /// The accounts between which an entry of this key and account stands or would stand, the account itself aside.
+    pub fn neighbours(&self, key: i128, account: u32) -> (Option<u32>, Option<u32>)
+        ensures { result ≡ neighbours self.now (key, account) }
+    {
+        let place = (key, account);
+        let places = &self.rows.places;
+        (account_before(places, place), account_after(places, place))
+    }
+
+    /// The same where the key is below all that an `i128` can be.
+    pub fn neighbours_below_all(&self, account: u32) -> (Option<u32>, Option<u32>)
+        ensures { (key : ℤ) → key <ℤ i128.MIN → result ≡ neighbours self.now (key, account) }
+    {
+        (None, first_account(&self.rows.places, account))
+    }
+
+    /// The key under which an account stands, if it does.
+    pub fn key_of(&self, account: u32) -> Option<i128>
+        ensures { result ≡ key_in self.now account }
+    {
+        self.rows.key_of(account)
+    }
 }
 
-fn last_put(changes: &[ListChange]) -> Option<(i128, u32)> {
+fn last_put(changes: &[ListChange]) -> Option<(i128, u32)>
+    ensures { result ≡ last_put changes.now }
+{
     let mut put = None;
     for change in changes {
         if let ListChange::Put { key, account } = *change {
@@ -88,11 +117,4 @@ fn last_put(changes: &[ListChange]) -> Option<(i128, u32)> {
         }
     }
     put
-}
-
-fn account_of(row: Option<(&(i128, u32), &bool)>) -> Option<u32> {
-    match row {
-        Some(((_, account), _)) => Some(*account),
-        None => None,
-    }
 }

@@ -3,5 +3,6 @@
 
 mod guide;
 mod rows;
+mod sides;
 
 pub use guide::Guide;

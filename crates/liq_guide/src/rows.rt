@@ -80,7 +80,7 @@ impl Rows {
         make_key(&mut self.keys, account)
     }
 
-    fn key_of(&self, account: u32) -> Option<i128>
+    pub(crate) fn key_of(&self, account: u32) -> Option<i128>
         ensures { result ≡ key_at self.now.keys.entries account }
     {
         match self.keys.get(&account) {

@@ -1,0 +1,245 @@
+-- What stands next to a place in an ascending list, and next to it without an account.
+use Rattle.std.proofs.Common.{◌≡◌, ℕ, ℤ, Bool, true, false, cond, List, [], ◌∷◌, ◌++◌, refl, sym, ap, ◌∙◌, Some, None, Option, subst, arith}
+use Rattle.std.specs.Prelude.{◌==◌, ◌≢◌, ◌<ℤ◌, not, reverse, filter, unwrap_or, IfSome}
+use Rattle.std.specs.List.{AllByRecursion}
+use Rattle.std.specs.Ordering.{nat_cmp, int_cmp, is_lt, ordering_then, ordering_reverse, MatchOrdering}
+use Rattle.std.specs.declared.cmp.Ordering.{Ordering}
+use Rattle.std.specs.declared.cmp.Ordering.TheVariants.{Less, Equal, Greater}
+use Rattle.std.proofs.lemmas.Bool.{eqb-true, eq-eqb}
+use Rattle.std.proofs.lemmas.Cmp.{tied_itself, int_ranked}
+use Rattle.std.proofs.lemmas.Int.{ints}
+use Rattle.std.proofs.lemmas.List.Elements.{filter-append}
+use Rattle.std.proofs.lemmas.List.{reverse-append, append-nil}
+use Rattle.liq_types.proofs.RankedLists.{rank_total, Behind, behind_more, all_kept}
+use Rattle.liq_types.specs.Ranked.{Ranked, rank_order, IsAscending, first_of, account_of, without_ranked}
+use Rattle.liq_guide.specs.Rows.{StandOnce}
+use Rattle.liq_guide.specs.Sides.{entry_before, entry_after, prev_aside, next_aside}
+
+-- ---- filters
+
+all_pass : (q : Ranked → Bool) (list : List Ranked) → AllByRecursion (λ f. q f ≡ true) list → filter q list ≡ list
+all_pass q [] h = refl
+all_pass q (g ∷ gs) h = by (q g) h.0 (all_pass q gs h.1) where
+  by : (b : Bool) → b ≡ true → filter q gs ≡ gs → cond b (g ∷ filter q gs) (filter q gs) ≡ g ∷ gs
+  by true is more = ap (λ (l : List Ranked). g ∷ l) more
+  by false is more = cc
+
+none_pass : (q : Ranked → Bool) (list : List Ranked) → AllByRecursion (λ f. q f ≡ false) list → filter q list ≡ []
+none_pass q [] h = refl
+none_pass q (g ∷ gs) h = by (q g) h.0 (none_pass q gs h.1) where
+  by : (b : Bool) → b ≡ false → filter q gs ≡ [] → cond b (g ∷ filter q gs) (filter q gs) ≡ []
+  by true is more = cc
+  by false is more = more
+
+first_passes : (q : Ranked → Bool) (list : List Ranked) (h : Ranked) → first_of (filter q list) ≡ Some h → q h ≡ true
+first_passes q [] h is = cc
+first_passes q (g ∷ gs) h is = by (q g) refl is (first_passes q gs h) where
+  by : (b : Bool) → q g ≡ b → first_of (cond b (g ∷ filter q gs) (filter q gs)) ≡ Some h → (first_of (filter q gs) ≡ Some h → q h ≡ true) → q h ≡ true
+  by true t here more = ap q (ap (λ (o : Option Ranked). unwrap_or o g) (sym here)) ∙ t
+  by false t later more = more later
+
+first_last : (e : Ranked) (list : List Ranked) → reverse (e ∷ list) ≡ reverse list ++ e ∷ []
+first_last e list = reverse-append (e ∷ []) list
+
+reverse_filter : (q : Ranked → Bool) (list : List Ranked) → reverse (filter q list) ≡ filter q (reverse list)
+reverse_filter q [] = refl
+reverse_filter q (g ∷ gs) =
+    by (q g) refl (reverse_filter q gs) ∙ sym (filter-append q (reverse gs) (g ∷ [])) ∙ ap (λ (l : List Ranked). filter q l) (sym (first_last g gs)) where
+      by : (b : Bool) → q g ≡ b → reverse (filter q gs) ≡ filter q (reverse gs) → reverse (cond b (g ∷ filter q gs) (filter q gs)) ≡ filter q (reverse gs) ++ filter q (g ∷ [])
+      by true is more =
+          first_last g (filter q gs)
+          ∙ ap (λ (l : List Ranked). l ++ g ∷ []) more
+          ∙ ap (λ b. filter q (reverse gs) ++ cond b (g ∷ []) []) (sym is)
+      by false is more = more ∙ sym (append-nil (filter q (reverse gs))) ∙ ap (λ b. filter q (reverse gs) ++ cond b (g ∷ []) []) (sym is)
+
+-- ---- along a list in one direction
+
+-- R a b: b lies beyond a
+record Lies (R : Ranked → Ranked → Bool) : Type 0 where
+  on : (a b c : Ranked) → R a b ≡ true → R b c ≡ true → R a c ≡ true
+  apart : (a : Ranked) → R a a ≡ false
+
+abbrev Goes : (Ranked → Ranked → Bool) → List Ranked → Type 0
+Goes R [] = Unit {0}
+Goes R (g ∷ gs) = AllByRecursion (λ (f : Ranked). (R g f ≡ true) × (f.1 ≢ g.1)) gs × Goes R gs
+
+-- the account of what was found, or of what comes next where that is the account's own entry
+abbrev stepped : (Ranked → Option Ranked) → Ranked → Option Ranked → Option ℕ
+stepped next e None = None
+stepped next e (Some g) = cond (g.1 == e.1) (account_of (next g)) (Some g.1)
+
+abbrev beyond : (Ranked → Ranked → Bool) → List Ranked → Ranked → Option Ranked
+beyond R list e = first_of (filter (R e) list)
+
+each : (P Q : Ranked → Type 0) → ((f : Ranked) → P f → Q f) → (list : List Ranked) → AllByRecursion P list → AllByRecursion Q list
+each P Q so [] h = tt
+each P Q so (g ∷ gs) h = (so g h.0, each P Q so gs h.1)
+
+not_equal : (a b : ℕ) → a ≢ b → (a == b) ≡ false
+not_equal a b n = by (a == b) refl where
+  by : (t : Bool) → (a == b) ≡ t → t ≡ false
+  by true is = absurd (n (eqb-true a b is))
+  by false is = refl
+
+not_beyond : (R : Ranked → Ranked → Bool) → Lies R → (e g h : Ranked) → R e g ≡ false → R e h ≡ true → R h g ≡ false
+not_beyond R o e g h before beyond = by (R h g) refl where
+  by : (t : Bool) → R h g ≡ t → t ≡ false
+  by true is = sym (o.on e h g beyond is) ∙ before
+  by false is = refl
+
+past_own : (R : Ranked → Ranked → Bool) → Lies R → (list : List Ranked) (e : Ranked) → Goes R list → account_of (beyond R (without_ranked list e.1) e) ≡ stepped (beyond R list) e (beyond R list e)
+past_own R o [] e h = refl
+past_own R o (g ∷ gs) e h = by (R e g) refl (g.1 == e.1) refl (past_own R o gs e h.1) where
+  rest : List Ranked
+  rest = without_ranked gs e.1
+
+  -- an entry of the account's comes last of all that are not beyond, or is passed
+  own : (g.1 == e.1) ≡ true → R e g ≡ true → account_of (beyond R rest e) ≡ cond (g.1 == e.1) (account_of (beyond R (g ∷ gs) g)) (Some g.1)
+  own same is =
+      let others = all_pass (λ (f : Ranked). not (f.1 == e.1)) gs (each (λ (f : Ranked). (R g f ≡ true) × (f.1 ≢ g.1)) (λ (f : Ranked). not (f.1 == e.1) ≡ true) (λ f k. ap not (not_equal f.1 e.1 (λ s. k.1 (s ∙ sym (eqb-true g.1 e.1 same))))) gs h.0) in
+      let from = all_pass (R e) gs (each (λ (f : Ranked). (R g f ≡ true) × (f.1 ≢ g.1)) (λ (f : Ranked). R e f ≡ true) (λ f k. o.on e g f is k.0) gs h.0) in
+      let own = all_pass (R g) gs (each (λ (f : Ranked). (R g f ≡ true) × (f.1 ≢ g.1)) (λ (f : Ranked). R g f ≡ true) (λ f k. k.0) gs h.0) in
+      ap (λ (l : List Ranked). account_of (first_of (filter (R e) l))) others
+      ∙ ap (λ (l : List Ranked). account_of (first_of l)) (from ∙ sym own)
+      ∙ ap (λ t. account_of (first_of (cond t (g ∷ filter (R g) gs) (filter (R g) gs)))) (sym (o.apart g))
+      ∙ ap (λ t. cond t (account_of (beyond R (g ∷ gs) g)) (Some g.1)) (sym same)
+
+  wider : (x : Option Ranked) → ((f : Ranked) → x ≡ Some f → R e f ≡ true) → R e g ≡ false → stepped (beyond R gs) e x ≡ stepped (beyond R (g ∷ gs)) e x
+  wider None there is = refl
+  wider (Some f) there is =
+      ap (λ t. cond (f.1 == e.1) (account_of (first_of (cond t (g ∷ filter (R f) gs) (filter (R f) gs)))) (Some f.1)) (sym (not_beyond R o e g f is (there f refl)))
+
+  by : (b : Bool) → R e g ≡ b → (c : Bool) → (g.1 == e.1) ≡ c → account_of (beyond R rest e) ≡ stepped (beyond R gs) e (beyond R gs e) → account_of (beyond R (cond (not c) (g ∷ rest) rest) e) ≡ stepped (beyond R (g ∷ gs)) e (first_of (cond b (g ∷ filter (R e) gs) (filter (R e) gs)))
+  by true is true same more = own same is
+  by true is false other more =
+      ap (λ t. account_of (first_of (cond t (g ∷ filter (R e) rest) (filter (R e) rest)))) is ∙ ap (λ t. cond t (account_of (beyond R (g ∷ gs) g)) (Some g.1)) (sym other)
+  by false is true same more = more ∙ wider (beyond R gs e) (first_passes (R e) gs) is
+  by false is false other more =
+      ap (λ t. account_of (first_of (cond t (g ∷ filter (R e) rest) (filter (R e) rest)))) is ∙ more ∙ wider (beyond R gs e) (first_passes (R e) gs) is
+
+stepped_same : (next other : Ranked → Option Ranked) → ((g : Ranked) → next g ≡ other g) → (e : Ranked) (x y : Option Ranked) → x ≡ y → stepped next e x ≡ stepped other e y
+stepped_same next other same e x y is = by x ∙ ap (λ (o : Option Ranked). stepped other e o) is where
+  by : (o : Option Ranked) → stepped next e o ≡ stepped other e o
+  by None = refl
+  by (Some g) = ap (λ (o : Option Ranked). cond (g.1 == e.1) (account_of o) (Some g.1)) (same g)
+
+stepped_own : (next : Ranked → Option Ranked) (e g : Ranked) (x : Option Ranked) → x ≡ Some g → g.1 ≡ e.1 → stepped next e x ≡ account_of (next g)
+stepped_own next e g x is own = ap (λ (o : Option Ranked). stepped next e o) is ∙ ap (λ t. cond t (account_of (next g)) (Some g.1)) (eq-eqb g.1 e.1 own)
+
+stepped_other : (next : Ranked → Option Ranked) (e g : Ranked) (x : Option Ranked) → x ≡ Some g → g.1 ≢ e.1 → stepped next e x ≡ Some g.1
+stepped_other next e g x is other = ap (λ (o : Option Ranked). stepped next e o) is ∙ ap (λ t. cond t (account_of (next g)) (Some g.1)) (not_equal g.1 e.1 other)
+
+-- ---- to the end
+
+is_less : (o : Ordering) → is_lt o ≡ true → o ≡ Less
+is_less Less h = refl
+is_less Equal h = cc
+is_less Greater h = cc
+
+lies_after : Lies (λ (a b : Ranked). is_lt (rank_order a b))
+lies_after = record {
+  on = λ a b c h k. ap is_lt (rank_total.trans a b c (is_less (rank_order a b) h) (is_less (rank_order b c) k));
+  apart = λ a. ap is_lt (tied_itself rank_total a);
+}
+
+both : (e : Ranked) (list : List Ranked) → Behind e list → AllByRecursion (λ (f : Ranked). f.1 ≢ e.1) list → AllByRecursion (λ (f : Ranked). (is_lt (rank_order e f) ≡ true) × (f.1 ≢ e.1)) list
+both e [] h k = tt
+both e (f ∷ fs) h k = ((ap is_lt h.0, k.0), both e fs h.1 k.1)
+
+goes_after : (list : List Ranked) → IsAscending list → StandOnce list → Goes (λ (a b : Ranked). is_lt (rank_order a b)) list
+goes_after [] h k = tt
+goes_after (e ∷ es) h k = (both e es h.0 k.0, goes_after es h.1 k.1)
+
+next_is : (list : List Ranked) (e : Ranked) → IsAscending list → StandOnce list → next_aside list e ≡ stepped (λ g. entry_after list g) e (entry_after list e)
+next_is list e h k = past_own (λ (a b : Ranked). is_lt (rank_order a b)) lies_after list e (goes_after list h k)
+
+pub next_past_own : (list : List Ranked) (e g : Ranked) → IsAscending list → StandOnce list → entry_after list e ≡ Some g → g.1 ≡ e.1 → next_aside list e ≡ account_of (entry_after list g)
+next_past_own list e g h k is own = next_is list e h k ∙ stepped_own (λ f. entry_after list f) e g (entry_after list e) is own
+
+pub next_of_other : (list : List Ranked) (e g : Ranked) → IsAscending list → StandOnce list → entry_after list e ≡ Some g → g.1 ≢ e.1 → next_aside list e ≡ Some g.1
+next_of_other list e g h k is other = next_is list e h k ∙ stepped_other (λ f. entry_after list f) e g (entry_after list e) is other
+
+pub next_of_none : (list : List Ranked) (e : Ranked) → IsAscending list → StandOnce list → entry_after list e ≡ None → next_aside list e ≡ None
+next_of_none list e h k is = next_is list e h k ∙ ap (λ (o : Option Ranked). stepped (λ f. entry_after list f) e o) is
+
+-- ---- to the front
+
+lies_before : Lies (λ (a b : Ranked). is_lt (rank_order b a))
+lies_before = record {
+  on = λ a b c h k. ap is_lt (rank_total.trans c b a (is_less (rank_order c b) k) (is_less (rank_order b a) h));
+  apart = λ a. ap is_lt (tied_itself rank_total a);
+}
+
+all_last : (P : Ranked → Type 0) (list : List Ranked) (x : Ranked) → AllByRecursion P list → P x → AllByRecursion P (list ++ x ∷ [])
+all_last P [] x h k = (k, tt)
+all_last P (f ∷ fs) x h k = (h.0, all_last P fs x h.1 k)
+
+all_reverse : (P : Ranked → Type 0) (list : List Ranked) → AllByRecursion P list → AllByRecursion P (reverse list)
+all_reverse P [] h = tt
+all_reverse P (f ∷ fs) h = subst (AllByRecursion P) (sym (first_last f fs)) (all_last P (reverse fs) f (all_reverse P fs h.1) h.0)
+
+goes_last : (R : Ranked → Ranked → Bool) (list : List Ranked) (x : Ranked) → Goes R list → AllByRecursion (λ (f : Ranked). (R f x ≡ true) × (x.1 ≢ f.1)) list → Goes R (list ++ x ∷ [])
+goes_last R [] x h k = (tt, tt)
+goes_last R (f ∷ fs) x h k = (all_last (λ (g : Ranked). (R f g ≡ true) × (g.1 ≢ f.1)) fs x h.0 k.0, goes_last R fs x h.1 k.1)
+
+goes_before : (list : List Ranked) → IsAscending list → StandOnce list → Goes (λ (a b : Ranked). is_lt (rank_order b a)) (reverse list)
+goes_before [] h k = tt
+goes_before (e ∷ es) h k =
+    subst (λ (l : List Ranked). Goes (λ (a b : Ranked). is_lt (rank_order b a)) l) (sym (first_last e es)) (goes_last (λ (a b : Ranked). is_lt (rank_order b a)) (reverse es) e (goes_before es h.1 k.1)
+    (all_reverse (λ (f : Ranked). (is_lt (rank_order e f) ≡ true) × (e.1 ≢ f.1)) es
+    (each (λ (f : Ranked). (is_lt (rank_order e f) ≡ true) × (f.1 ≢ e.1)) (λ (f : Ranked). (is_lt (rank_order e f) ≡ true) × (e.1 ≢ f.1)) (λ f t. (t.0, λ s. t.1 (sym s))) es (both e es h.0 k.0))))
+
+prev_is : (list : List Ranked) (e : Ranked) → IsAscending list → StandOnce list → prev_aside list e ≡ stepped (λ g. entry_before list g) e (entry_before list e)
+prev_is list e h k =
+    ap (λ (l : List Ranked). account_of (first_of l)) (reverse_filter (R e) (without_ranked list e.1) ∙ ap (λ (l : List Ranked). filter (R e) l) (reverse_filter (λ (f : Ranked). not (f.1 == e.1)) list))
+    ∙ past_own R lies_before (reverse list) e (goes_before list h k)
+    ∙ stepped_same (beyond R (reverse list)) (λ g. entry_before list g) same e (beyond R (reverse list) e) (entry_before list e) (same e) where
+      R : Ranked → Ranked → Bool
+      R a b = is_lt (rank_order b a)
+
+      same : (g : Ranked) → beyond R (reverse list) g ≡ entry_before list g
+      same g = ap (λ (l : List Ranked). first_of l) (sym (reverse_filter (R g) list))
+
+pub prev_past_own : (list : List Ranked) (e g : Ranked) → IsAscending list → StandOnce list → entry_before list e ≡ Some g → g.1 ≡ e.1 → prev_aside list e ≡ account_of (entry_before list g)
+prev_past_own list e g h k is own = prev_is list e h k ∙ stepped_own (λ f. entry_before list f) e g (entry_before list e) is own
+
+pub prev_of_other : (list : List Ranked) (e g : Ranked) → IsAscending list → StandOnce list → entry_before list e ≡ Some g → g.1 ≢ e.1 → prev_aside list e ≡ Some g.1
+prev_of_other list e g h k is other = prev_is list e h k ∙ stepped_other (λ f. entry_before list f) e g (entry_before list e) is other
+
+pub prev_of_none : (list : List Ranked) (e : Ranked) → IsAscending list → StandOnce list → entry_before list e ≡ None → prev_aside list e ≡ None
+prev_of_none list e h k is = prev_is list e h k ∙ ap (λ (o : Option Ranked). stepped (λ f. entry_before list f) e o) is
+
+-- ---- before all
+
+-- an entry before the first comes before all
+before_all : (list : List Ranked) (e : Ranked) → IsAscending list → ((f : Ranked) → first_of list ≡ Some f → rank_order e f ≡ Less) → Behind e list
+before_all [] e h first = tt
+before_all (f ∷ fs) e h first = (first f refl, behind_more e f fs (first f refl) h.0)
+
+first_after : (list : List Ranked) (e : Ranked) → Behind e list → entry_after list e ≡ first_of list
+first_after list e h =
+    ap (λ (l : List Ranked). first_of l) (all_pass (λ (f : Ranked). is_lt (rank_order e f)) list (each (λ (f : Ranked). rank_order e f ≡ Less) (λ (f : Ranked). is_lt (rank_order e f) ≡ true) (λ f k. ap is_lt k) list h))
+
+pub none_before : (list : List Ranked) (e : Ranked) → Behind e list → prev_aside list e ≡ None
+none_before list e h =
+    ap (λ (l : List Ranked). account_of (first_of (reverse l))) (none_pass (λ (f : Ranked). is_lt (rank_order f e)) (without_ranked list e.1) (each (λ (f : Ranked). rank_order e f ≡ Less) (λ (f : Ranked). is_lt (rank_order f e) ≡ false) (λ f k. ap is_lt (rank_total.antisymm f e) ∙ turn (rank_order e f) k) (without_ranked list e.1) (all_kept (λ (f : Ranked). rank_order e f ≡ Less) (λ (f : Ranked). not (f.1 == e.1)) list h))) where
+      turn : (o : Ordering) → o ≡ Less → is_lt (ordering_reverse o) ≡ false
+      turn Less k = refl
+      turn Equal k = refl
+      turn Greater k = cc
+
+-- a lower key comes before
+lower_key : (e f : Ranked) → e.0 <ℤ f.0 → rank_order e f ≡ Less
+lower_key e f h = ap (λ o. ordering_then o (nat_cmp e.1 f.1)) (lower (int_cmp e.0 f.0) (int_ranked e.0 f.0 (int_cmp e.0 f.0) refl)) where
+  lower : (o : Ordering) → MatchOrdering o (e.0 <ℤ f.0) (e.0 ≡ f.0) (f.0 <ℤ e.0) → o ≡ Less
+  lower Less k = refl
+  lower Equal k = absurd (omega (arith, ints, h, k))
+  lower Greater k = absurd (omega (arith, ints, h, k))
+
+-- a key below the first, if there is one, is below all
+pub below_all : (list : List Ranked) (key : ℤ) (account : ℕ) (first : Option Ranked) → first ≡ first_of list → IfSome first (λ f. key <ℤ f.0) → IsAscending list → Behind (key, account) list
+below_all list key account first is least h =
+    before_all list (key, account) h (λ f here. lower_key (key, account) f (subst (λ (o : Option Ranked). IfSome o (λ g. key <ℤ g.0)) (is ∙ here) least))
+
+pub after_all : (list : List Ranked) (key : ℤ) (account : ℕ) (first : Option Ranked) → first ≡ first_of list → IfSome first (λ f. key <ℤ f.0) → IsAscending list → entry_after list (key, account) ≡ first
+after_all list key account first is least h = first_after list (key, account) (below_all list key account first is least h) ∙ sym is
