@@ -1,14 +1,14 @@
 -- Where there are no neighbours.
 use Rattle.std.proofs.Common.{◌≡◌, Bool, true, false, cond, List, [], ◌∷◌, refl, sym, ap, ◌∙◌, None}
 use Rattle.std.specs.Prelude.{◌==◌, ◌↔◌, not, reverse}
-use Rattle.std.specs.Ordering.{is_lt, is_eq, ordering_reverse}
+use Rattle.std.specs.Ordering.{int_cmp, nat_cmp, is_lt, ordering_reverse}
 use Rattle.std.specs.declared.cmp.Ordering.{Ordering}
 use Rattle.std.specs.declared.cmp.Ordering.TheVariants.{Less, Equal, Greater}
 use Rattle.std.proofs.lemmas.Bool.{eq-eqb}
 use Rattle.std.proofs.lemmas.List.{reverse-reverse}
+use Rattle.std.proofs.lemmas.Map.Lookups.{exact_pairs, exact_signed, exact_unsigned}
 use Rattle.liq_types.proofs.RankedLists.{rank_total}
 use Rattle.liq_types.specs.Ranked.{Ranked, rank_order, first_of, account_of, without_ranked, before_entry, after_entry, neighbours}
-use Rattle.liq_guide.proofs.Members.{same_entry}
 
 nobody : (list : List Ranked) → account_of (first_of list) ≡ None → list ≡ []
 nobody [] h = refl
@@ -22,7 +22,7 @@ sided : (e f : Ranked) → (f.1 == e.1) ≡ false → is_lt (rank_order f e) ≡
 sided e f other = by (rank_order f e) refl where
   tied : rank_order f e ≡ Equal → ⊥
   tied is =
-      let same : f ≡ e = same_entry f e (ap is_eq is) in
+      let same : f ≡ e = exact_pairs int_cmp nat_cmp exact_signed exact_unsigned f e is in
       let clash : false ≡ true = sym other ∙ eq-eqb f.1 e.1 (ap (λ (g : Ranked). g.1) same) in cc
 
   by : (o : Ordering) → rank_order f e ≡ o → is_lt o ≡ false → is_lt (rank_order e f) ≡ false → ⊥
