@@ -1,5 +1,5 @@
 -- A session on its way: what its seat knows after the first requests of its script.
-use Rattle.std.proofs.Common.{ℕ, suc, ◌<◌, ◌≤◌, ◌≡◌, List, [], ◌∷◌, ◌++◌, length, get_or, drop, zip, Option, refl, sym, ap, ◌∙◌, arith}
+use Rattle.std.proofs.Common.{ℕ, suc, ◌+◌, ◌<◌, ◌≤◌, ◌≡◌, List, [], ◌∷◌, ◌++◌, length, get_or, drop, zip, Option, refl, sym, ap, ◌∙◌, arith}
 use Rattle.std.specs.Prelude.{All, Vec}
 use Rattle.std.specs.Global.{Global}
 use Rattle.std.specs.List.{AllZip}
@@ -23,6 +23,14 @@ zip-snoc [] ys y d short = absurd (omega arith)
 zip-snoc (x ∷ []) [] y d short = refl
 zip-snoc (x ∷ x' ∷ xs) [] y d short = refl
 zip-snoc (x ∷ xs) (y' ∷ ys) y d short = ap (λ r. (x, y') ∷ r) (zip-snoc xs ys y d (omega arith))
+
+-- the first of those that are left stands at its place
+pub head_at : {A : Type 0} → (xs : List A) (i : ℕ) (x : A) (left : List A) → i < length xs → drop i xs ≡ x ∷ left → (get_or xs i x ≡ x) × (drop (i + 1) xs ≡ left)
+head_at xs i x left short at =
+    let parts : x ∷ left ≡ get_or xs i x ∷ drop (suc i) xs = sym at ∙ drop-cons xs i x short in
+    let more : drop (suc i) xs ≡ left = cc in
+    let one : i + 1 ≡ suc i = omega arith in
+    (cc, ap (λ k. drop k xs) one ∙ more)
 
 pub zip-nil : {A B : Type 0} → (xs : List A) → zip {K = A} {X = B} xs [] ≡ []
 zip-nil [] = refl
@@ -60,19 +68,20 @@ module _ {S : Type 0} (Belongs : S → Type 0) (number_of : S → ℕ) (own_of :
     faulted = refl;
   }
 
-  pub goes_on : (requests : List Request) (first seat seat' : S) (replies : List Reply) (i : ℕ) (d : Request) (a : Answer) (reply : Reply)
-      → length replies ≡ i → i < length requests
+  pub goes_on : (requests : List Request) (first seat seat' : S) (replies : List Reply) (i : ℕ) (request : Request) (left : List Request) (a : Answer) (reply : Reply)
+      → length replies ≡ i → i < length requests → drop i requests ≡ request ∷ left
       → Belongs seat' → number_of seat' ≡ number_of seat
-      → own_of seat' ≡ own_after (own_of seat) (get_or requests i d) a
-      → faulted_of seat' ≡ faulted_after (faulted_of seat) (get_or requests i d) a
+      → own_of seat' ≡ own_after (own_of seat) request a
+      → faulted_of seat' ≡ faulted_after (faulted_of seat) request a
       → a ≡ answer.Reply reply
       → IsUnderway Belongs number_of own_of faulted_of requests first seat replies
       → IsUnderway Belongs number_of own_of faulted_of requests first seat' (replies ++ reply ∷ [])
-  goes_on requests first seat seat' replies i d a reply at short here number own faulted is so =
-      let request : Request = get_or requests i d in
+  goes_on requests first seat seat' replies i request left a reply at short next here number own faulted is so =
       let call : own_of seat' ≡ own_of seat ++ (request, reply) ∷ [] = own ∙ ap (λ b. own_after (own_of seat) request b) is in
       let same : faulted_of seat' ≡ faulted_of seat = faulted ∙ ap (λ b. faulted_after (faulted_of seat) request b) is in
-      let pairs : zip requests (replies ++ reply ∷ []) ≡ zip requests replies ++ (request, reply) ∷ [] = rw (← at) (zip-snoc requests replies reply d (rw at short)) in
+      let asked : get_or requests i request ≡ request = (head_at requests i request left short next).0 in
+      let pair : zip requests (replies ++ reply ∷ []) ≡ zip requests replies ++ (get_or requests i request, reply) ∷ [] = rw (← at) (zip-snoc requests replies reply request (rw at short)) in
+      let pairs : zip requests (replies ++ reply ∷ []) ≡ zip requests replies ++ (request, reply) ∷ [] = pair ∙ ap (λ r. zip requests replies ++ (r, reply) ∷ []) asked in
       record {
         belongs = here;
         number = number ∙ so.number;
@@ -81,46 +90,46 @@ module _ {S : Type 0} (Belongs : S → Type 0) (number_of : S → ℕ) (own_of :
       }
 
   -- the script is asked to its end
-  pub ends_all : {K H : Type 0} (KnowsEnd : S → Type 0) (work : Work K H S) (done : SessionDone K H S) (requests : List Request) (replies : List Reply)
-      → requests ≡ work.script.requests → done.replies ≡ replies → done.session ≡ work.script.session → done.end ≡ end.All
-      → length replies ≡ length requests
-      → IsUnderway Belongs number_of own_of faulted_of requests work.seat done.seat replies
+  pub ends_all : {K H : Type 0} (KnowsEnd : S → Type 0) (work : Work K H S) (done : SessionDone K H S) (replies : List Reply)
+      → done.replies ≡ replies → done.session ≡ work.script.session → done.end ≡ end.All
+      → length replies ≡ length work.script.requests
+      → IsUnderway Belongs number_of own_of faulted_of work.script.requests work.seat done.seat replies
       → HasRun Belongs number_of own_of KnowsEnd faulted_of work done
-  ends_all KnowsEnd work done requests replies script these session all whole so =
-      let n : length done.replies ≡ length work.script.requests = ap length these ∙ (whole ∙ ap length script) in
+  ends_all KnowsEnd work done replies these session all whole so =
+      let n : length done.replies ≡ length work.script.requests = ap length these ∙ whole in
       let left : drop (length done.replies) work.script.requests ≡ [] = drop_all (length done.replies) work.script.requests (omega (arith, n)) in
       record {
         session = session;
         belongs = so.belongs;
         number = so.number;
         within = omega (arith, n);
-        own = rw (← script, these) so.own;
+        own = rw these so.own;
         ends = rw (left, all) refl;
         faulted = rw left so.faulted;
       }
 
   -- a request got an answer that is no reply
-  pub ends_at : {K H : Type 0} (KnowsEnd : S → Type 0) (work : Work K H S) (done : SessionDone K H S) (requests : List Request) (replies : List Reply) (seat : S) (i : ℕ) (d : Request) (a : Answer)
-      → requests ≡ work.script.requests → done.replies ≡ replies → done.session ≡ work.script.session → done.end ≡ end.Fault a
-      → length replies ≡ i → i < length requests
+  pub ends_at : {K H : Type 0} (KnowsEnd : S → Type 0) (work : Work K H S) (done : SessionDone K H S) (replies : List Reply) (seat : S) (i : ℕ) (request : Request) (later : List Request) (a : Answer)
+      → done.replies ≡ replies → done.session ≡ work.script.session → done.end ≡ end.Fault a
+      → length replies ≡ i → i < length work.script.requests → drop i work.script.requests ≡ request ∷ later
       → Belongs done.seat → number_of done.seat ≡ number_of seat
-      → own_of done.seat ≡ own_after (own_of seat) (get_or requests i d) a
-      → faulted_of done.seat ≡ faulted_after (faulted_of seat) (get_or requests i d) a
+      → own_of done.seat ≡ own_after (own_of seat) request a
+      → faulted_of done.seat ≡ faulted_after (faulted_of seat) request a
       → EndsKnown (KnowsEnd done.seat) a
       → ((reply : Reply) → a ≡ answer.Reply reply → ⊥)
-      → IsUnderway Belongs number_of own_of faulted_of requests work.seat seat replies
+      → IsUnderway Belongs number_of own_of faulted_of work.script.requests work.seat seat replies
       → HasRun Belongs number_of own_of KnowsEnd faulted_of work done
-  ends_at KnowsEnd work done requests replies seat i d a script these session end at short here number own faulted known none so =
+  ends_at KnowsEnd work done replies seat i request later a these session end at short next here number own faulted known none so =
       let n : length done.replies ≡ i = ap length these ∙ at in
-      let left : drop (length done.replies) work.script.requests ≡ get_or requests i d ∷ drop (suc i) requests = rw (n, ← script) (drop-cons requests i d short) in
+      let left : drop (length done.replies) work.script.requests ≡ request ∷ later = rw n next in
       record {
         session = session;
         belongs = here;
         number = number ∙ so.number;
-        within = omega (arith, n, ap length script);
-        own = rw (← script, these) (own ∙ (own_stays (own_of seat) (get_or requests i d) a none ∙ so.own));
+        within = omega (arith, n);
+        own = rw these (own ∙ (own_stays (own_of seat) request a none ∙ so.own));
         ends = rw (left, end) ((λ e. cc), no_reply a none, known);
-        faulted = rw (left, end) (faulted ∙ ap (λ f. faulted_after f (get_or requests i d) a) so.faulted);
+        faulted = rw (left, end) (faulted ∙ ap (λ f. faulted_after f request a) so.faulted);
       }
 
 -- each session may run where its seat is one of the desk, its script is short enough and its list has room

@@ -1,6 +1,6 @@
 //! What a session asks.
 
-ghost use Rattle.std.specs.Prelude.{◌≡◌, [], ◌∷◌, ◌++◌, ◌↔◌, IsTrue, length, OnOk, OnErr};
+ghost use Rattle.std.specs.Prelude.{◌≡◌, [], ◌∷◌, ◌++◌, ◌↔◌, IsTrue, length, MatchOption, OnOk, OnErr};
 
 use liq_types::{NoMemory, Request};
 use std::alloc::Global;
@@ -59,11 +59,43 @@ impl Requests {
         self.list.is_empty()
     }
 
-    /// The requests.
-    pub fn as_slice(&self) -> &[Request]
-        ensures { result.now ≡ self.now }
+    /// The requests, to be asked one after the other.
+    pub(crate) fn asked(self) -> Asked
+        ensures { result ≡ self }
     {
-        self.list.as_slice()
+        let Requests { mut list } = self;
+        list.reverse();
+        Asked { later: list }
+    }
+}
+
+/// Requests that are asked one after the other. Contracts see the list of those that are left.
+#[derive(Drop)]
+pub(crate) struct Asked {
+    // The next one is the last.
+    later: Vec<Request>,
+}
+
+impl Model for Asked {
+    ghost use Rattle.std.specs.Prelude.{List, reverse};
+    ghost use Rattle.liq_types.specs.declared.requests.Request.{Request};
+
+    ghost Value = { List Request };
+
+    ghost view = { λ a. reverse a.later.items };
+}
+
+impl Asked {
+    /// The next request, which is left no more. Each time half of the memory is free it is given back.
+    pub(crate) fn next(&mut self) -> Option<Request>
+        ensures { MatchOption result ((self.old ≡ []) × (self.new ≡ [])) (λ request. self.old ≡ request ∷ self.new) }
+    {
+        let request = self.later.pop()?;
+        let left = self.later.len();
+        if left <= self.later.capacity() / 2 {
+            self.later.shrink_to(left);
+        }
+        Some(request)
     }
 }
 

@@ -27,11 +27,16 @@ where
         mut seat,
         mut hinter,
     } = work;
-    for (before, request) in requests.as_slice().iter().enumerate() {
+    let count = requests.len();
+    let mut asked = requests.asked();
+    for before in 0..count {
+        let Some(request) = asked.next() else {
+            unreachable!();
+        };
         let index = before as u32 + 1;
         gate.enter(session, index);
-        let hint = hinter.hint_for(request);
-        let (back, answer) = desk.call(rt, seat, request, &hint);
+        let hint = hinter.hint_for(&request);
+        let (back, answer) = desk.call(rt, seat, &request, &hint);
         gate.leave(session, index, &hint);
         seat = back;
         match answer {
