@@ -41,11 +41,13 @@ pub(crate) fn replayed<L: Ledger>(
     let mut guide = Guide::new(alloc);
     let mut events = Vec::new(alloc);
     for (i, command) in commands.iter().enumerate() {
+        // Its own hint words change nothing.
+        let command = unhinted(command);
         make(
             &mut protocol,
             &mut guide,
             &mut events,
-            command,
+            &command,
             i as u64 + 1,
             &mut steps,
         )?;
@@ -53,23 +55,8 @@ pub(crate) fn replayed<L: Ledger>(
     Ok(Made { protocol, events })
 }
 
-/// Makes a command's step. It has this number among the commands. Its own hint words are left out: they change nothing.
+/// Makes a command's step, which has this number among the commands. The guide's hint saves steps and changes nothing.
 fn make<L: Ledger>(
-    protocol: &mut Protocol,
-    guide: &mut Guide,
-    events: &mut Vec<PoolEvent>,
-    command: &Command,
-    index: u64,
-    steps: &mut Steps<L>,
-) -> Result<(), ReviewFault>
-    requires built { IsTrue (built (Do command.now)) }
-    ensures { (s : State) → StandsFor protocol.old s → MakesNext s command.now index protocol.new events.old.items events.new.items result }
-{
-    make_guided(protocol, guide, events, &unhinted(command), index, steps)
-}
-
-/// Makes a command's step with the guide's hint, which saves steps and changes nothing.
-fn make_guided<L: Ledger>(
     protocol: &mut Protocol,
     guide: &mut Guide,
     events: &mut Vec<PoolEvent>,
