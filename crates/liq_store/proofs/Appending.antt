@@ -2,6 +2,7 @@
 use Rattle.std.proofs.Common.{◌≡◌, ◌⊎◌, ◌↔◌, inl, inr, ⊎_elim, ℕ, ◌+◌, ◌≤◌, List, [], ◌∷◌, length, Bool, IsTrue, Option, Some, None, Ok, IfSome, IsSome, refl, sym, ◌∙◌, ap, subst, arith, length-append}
 use Rattle.liq_outside.specs.Disk.{LeavesOnly, LeftNow, Only}
 use Rattle.liq_outside.proofs.Moments.{at_last, started}
+use Rattle.liq_types.specs.declared.events.ListChange.{ListChange}
 use Rattle.liq_types.specs.declared.requests.Command.{Command}
 use Rattle.liq_types.specs.declared.requests.Request.{Request}
 use Rattle.liq_types.specs.declared.requests.Request.TheVariants.{Do}
@@ -67,19 +68,19 @@ around_has generation start count held image c is (inr (inr stands)) =
     one_record (is_odd generation) generation start count image (and_then is.written c) refl stands.found is.generation_is is.start_is (let n = length-append is.written.commands (c ∷ []) in omega (arith, is.count_is, n))
 
 -- where nothing is written, what a crash leaves is as it was
-pub written_never : {D : Type 0} (seen : D → Option (List ℕ)) (moment : D → ℕ) (left_at : D → ℕ → List ℕ → Type 0) (side : Side) (taken : JournalOn D) (b : D) (core then : Core) (stopped : Option ℕ) → IsWithin seen moment left_at side taken b core stopped
-    → (old : Stored D) → stored side taken b core stopped ≡ old → old.stopped ≡ None → (held : List ℕ) (w : Written) (c : Command) → seen (taken_disk old) ≡ Some held → found_on (has_odd old.side) held ≡ Open w
-    → LeavesOnly moment left_at (taken_disk old) (taken_disk (stored side taken b then stopped)) (BeforeOrAfter (has_odd old.side) w c)
-written_never {D} seen moment left_at side taken b core then stopped within old same none held w c told found =
+pub written_never : {D : Type 0} {changes : List ListChange} (seen : D → Option (List ℕ)) (moment : D → ℕ) (left_at : D → ℕ → List ℕ → Type 0) (side : Side) (taken : JournalOn D) (b : D) (core then : Core) (stopped : Option ℕ) → IsWithin seen moment left_at side taken b core stopped changes
+    → (old : Stored D) → stored side taken b core stopped changes ≡ old → old.stopped ≡ None → (held : List ℕ) (w : Written) (c : Command) → seen (taken_disk old) ≡ Some held → found_on (has_odd old.side) held ≡ Open w
+    → LeavesOnly moment left_at (taken_disk old) (taken_disk (stored side taken b then stopped [])) (BeforeOrAfter (has_odd old.side) w c)
+written_never {D} {changes} seen moment left_at side taken b core then stopped within old same none held w c told found =
     let P : Stored D → Type 0 = λ o. o.stopped ≡ None → seen (taken_disk o) ≡ Some held → found_on (has_odd o.side) held ≡ Open w
-    → LeavesOnly moment left_at (taken_disk o) (taken_disk (stored side taken b then stopped)) (BeforeOrAfter (has_odd o.side) w c) in
+    → LeavesOnly moment left_at (taken_disk o) (taken_disk (stored side taken b then stopped [])) (BeforeOrAfter (has_odd o.side) w c) in
     subst P same here none told found
   where
     here : stopped ≡ None → seen (on side (on side taken.disk b) (on side b taken.disk)) ≡ Some held → found_on (has_odd side) held ≡ Open w
         → LeavesOnly moment left_at (on side (on side taken.disk b) (on side b taken.disk)) (on side (on side taken.disk b) (on side b taken.disk)) (BeforeOrAfter (has_odd side) w c)
     here none t f =
         let told_here : seen taken.disk ≡ Some held = ap seen (sym (taken_is side taken.disk b)) ∙ t in
-        let going = going_by seen moment left_at side taken b core stopped none within.order in
+        let going = going_by seen moment left_at changes side taken b core stopped none within.order in
         let is : IsSettled taken.generation taken.start taken.count held = subst (λ (o : Option (List ℕ)). IfSome o (IsSettled taken.generation taken.start taken.count)) told_here (within.settled none) in
         let stands : Stands (has_odd side) held is.written = subst (λ (o : Bool). Stands o held is.written) within.parity_is is.stands in
         let opens : Open is.written ≡ Open w = sym stands.found ∙ f in
@@ -99,16 +100,16 @@ pub record Appends {D : Type 0} (seen : D → Option (List ℕ)) (moment : D →
   pub crash : (held : List ℕ) (w : Written) (command : Command) → seen taken.disk ≡ Some held → Only held (LeftNow moment left_at taken.disk) → Stands (is_odd taken.generation) held w → IsBodyOf body command
       → LeavesOnly moment left_at taken.disk new.disk (BeforeOrAfter (is_odd taken.generation) w command)
 
-pub appends : {D : Type 0} (seen : D → Option (List ℕ)) (moment : D → ℕ) (left_at : D → ℕ → List ℕ → Type 0) (side : Side) (taken new : JournalOn D) (b : D) (core : Core) (stopped : Option ℕ) (c : Command) (body : List ℕ) (plan : Plan)
-    → stopped ≡ None → IsWithin seen moment left_at side taken b core stopped → IsTrue (built_call c.call) → command_of body ≡ Ok (record c { call = heard c.call })
+pub appends : {D : Type 0} {changes : List ListChange} (seen : D → Option (List ℕ)) (moment : D → ℕ) (left_at : D → ℕ → List ℕ → Type 0) (side : Side) (taken new : JournalOn D) (b : D) (core : Core) (stopped : Option ℕ) (c : Command) (body : List ℕ) (plan : Plan)
+    → stopped ≡ None → IsWithin seen moment left_at side taken b core stopped changes → IsTrue (built_call c.call) → command_of body ≡ Ok (record c { call = heard c.call })
     → ((s : State) → StandsFor core s → (plan.command ≡ c) × IsPlan s plan)
     → (IsSome (seen new.disk) ↔ IsSome (seen taken.disk))
     → ((held : List ℕ) (w : Written) (command : Command) → seen taken.disk ≡ Some held → Only held (LeftNow moment left_at taken.disk) → Stands (is_odd taken.generation) held w → IsBodyOf body command
     → LeavesOnly moment left_at taken.disk new.disk (BeforeOrAfter (is_odd taken.generation) w command))
     → Appends seen moment left_at side taken new b core c body
-appends seen moment left_at side taken new b core stopped c body plan none within is_built read planned telling crash = record {
+appends {D} {changes} seen moment left_at side taken new b core stopped c body plan none within is_built read planned telling crash = record {
   of = record { spelled = read; no_rotation = heard_rotate c ∙ built_stays c.call is_built };
-  going = going_by seen moment left_at side taken b core stopped none within.order;
+  going = going_by seen moment left_at changes side taken b core stopped none within.order;
   parity = within.parity_is;
   settled = within.settled none;
   allowed = λ s stands. planned_allowed s c plan (planned s stands);
@@ -170,7 +171,7 @@ module _ {D : Type 0} (seen : D → Option (List ℕ)) (moment : D → ℕ) (lef
 
   -- ---- as the call says it, of the store before it
 
-  pub kept_from : (old : Stored D) (stopped : Option ℕ) → stored side taken b core stopped ≡ old → (l r : List ℕ) (s : State) → seen old.left ≡ Some l → seen old.right ≡ Some r → StandsFor old.core s → (request : Request) → request ≡ Do c
+  pub kept_from : {changes : List ListChange} (old : Stored D) (stopped : Option ℕ) → stored side taken b core stopped changes ≡ old → (l r : List ℕ) (s : State) → seen old.left ≡ Some l → seen old.right ≡ Some r → StandsFor old.core s → (request : Request) → request ≡ Do c
       → LeavesPairs moment left_at old.left old.right (on side new.disk b) (on side b new.disk) (IsKeptAround s request)
   kept_from old stopped same l r s tl tr stands request is =
       let P : Stored D → Type 0 = λ o. (l r : List ℕ) (s : State) → seen o.left ≡ Some l → seen o.right ≡ Some r → StandsFor o.core s
@@ -178,14 +179,14 @@ module _ {D : Type 0} (seen : D → Option (List ℕ)) (moment : D → ℕ) (lef
       subst (λ (q : Request). LeavesPairs moment left_at old.left old.right (on side new.disk b) (on side b new.disk) (IsKeptAround s q)) (sym is)
       (subst P same (λ x y t tx ty so. told_by seen side taken.disk b (λ u v. LeavesPairs moment left_at (on side taken.disk b) (on side b taken.disk) (on side new.disk b) (on side b new.disk) (IsKeptAround t (Do c))) (λ held other th to. kept_pairs held other th to t so) x y tx ty) l r s tl tr stands)
 
-  pub written_from : (old : Stored D) (stopped later : Option ℕ) (then : Core) → stored side taken b core stopped ≡ old → (held : List ℕ) (w : Written) (k : Command) (request : Request) → seen (taken_disk old) ≡ Some held → found_on (has_odd old.side) held ≡ Open w → request ≡ Do c → request ≡ Do k
-      → LeavesOnly moment left_at (taken_disk old) (taken_disk (stored side new b then later)) (BeforeOrAfter (has_odd old.side) w (read_back k))
+  pub written_from : {changes : List ListChange} (old : Stored D) (stopped later : Option ℕ) (then : Core) → stored side taken b core stopped changes ≡ old → (held : List ℕ) (w : Written) (k : Command) (request : Request) → seen (taken_disk old) ≡ Some held → found_on (has_odd old.side) held ≡ Open w → request ≡ Do c → request ≡ Do k
+      → LeavesOnly moment left_at (taken_disk old) (taken_disk (stored side new b then later [])) (BeforeOrAfter (has_odd old.side) w (read_back k))
   written_from old stopped later then same held w k request told found is_c is_k =
       let both : Do c ≡ Do k = sym is_c ∙ is_k in
       let one : c ≡ k = cc (both) in
       let P : Stored D → Type 0 = λ o. seen (taken_disk o) ≡ Some held → found_on (has_odd o.side) held ≡ Open w
-      → LeavesOnly moment left_at (taken_disk o) (taken_disk (stored side new b then later)) (BeforeOrAfter (has_odd o.side) w (read_back c)) in
-      subst (λ (d : Command). LeavesOnly moment left_at (taken_disk old) (taken_disk (stored side new b then later)) (BeforeOrAfter (has_odd old.side) w (read_back d))) one
+      → LeavesOnly moment left_at (taken_disk o) (taken_disk (stored side new b then later [])) (BeforeOrAfter (has_odd o.side) w (read_back c)) in
+      subst (λ (d : Command). LeavesOnly moment left_at (taken_disk old) (taken_disk (stored side new b then later [])) (BeforeOrAfter (has_odd old.side) w (read_back d))) one
       (subst P same here told found)
     where
       here : seen (on side (on side taken.disk b) (on side b taken.disk)) ≡ Some held → found_on (has_odd side) held ≡ Open w

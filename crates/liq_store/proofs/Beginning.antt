@@ -32,7 +32,7 @@ use Rattle.liq_store.proofs.OneDisk.{parity_of, some_same, told_too}
 
 -- what holds of a store that begins
 pub within_of : {D : Type 0} (seen : D → Option (List ℕ)) (moment : D → ℕ) (left_at : D → ℕ → List ℕ → Type 0) (side : Side) (taken : JournalOn D) (b : D) (core : Core) → Going seen moment left_at side taken.disk b core
-    → is_odd taken.generation ≡ has_odd side → HasCounts taken.generation taken.count core → IfSome (seen taken.disk) (IsSettled taken.generation taken.start taken.count) → IsWithin seen moment left_at side taken b core None
+    → is_odd taken.generation ≡ has_odd side → HasCounts taken.generation taken.count core → IfSome (seen taken.disk) (IsSettled taken.generation taken.start taken.count) → IsWithin seen moment left_at side taken b core None []
 within_of seen moment left_at side taken b core going parity counts settled = record {
   order = order_going seen moment left_at side taken b core going;
   generation_is = counts.generation_is;
@@ -66,7 +66,7 @@ module _ {D : Type 0} (seen : D → Option (List ℕ)) (moment : D → ℕ) (lef
     parity : is_odd taken.generation ≡ true
     parity = (parity_of true taken.generation left.counted.0).1
 
-    pub begins : IsWithin seen moment left_at Left taken b core None
+    pub begins : IsWithin seen moment left_at Left taken b core None []
     begins = within_of seen moment left_at Left taken b core
         (record {
           taken_rests = left.rests;
@@ -93,7 +93,7 @@ module _ {D : Type 0} (seen : D → Option (List ℕ)) (moment : D → ℕ) (lef
         )
 
     -- the store that goes on with the left disk's journal
-    pub begins_opened : (faults : D → ℕ) → OpensOn seen faults taken.disk b (stored Left taken b core None)
+    pub begins_opened : (faults : D → ℕ) → OpensOn seen faults taken.disk b (stored Left taken b core None [])
     begins_opened faults = record {
       state = begins_for;
       commands = λ l r now tl tr tn.
@@ -125,7 +125,7 @@ module _ {D : Type 0} (seen : D → Option (List ℕ)) (moment : D → ℕ) (lef
       → (IsSome (seen taken.disk) ↔ IsSome (seen old))
       → ((held : List ℕ) → seen old ≡ Some held → (now : List ℕ) × (seen taken.disk ≡ Some now) × Stands true now (beginning 1 []))
       → IfSome (seen taken.disk) (IsSettled taken.generation taken.start taken.count) → IsAtRest seen moment left_at taken.disk → IsAtRest seen moment left_at b → IfSome (seen b) (λ now. IsUnshut now → ⊥)
-      → IsWithin seen moment left_at Left taken b core None
+      → IsWithin seen moment left_at Left taken b core None []
   begins_anew old b taken core one none stands telling created settled rests beside_rests closed =
       within_of seen moment left_at Left taken b core
       (record {
@@ -156,7 +156,7 @@ module _ {D : Type 0} (seen : D → Option (List ℕ)) (moment : D → ℕ) (lef
   pub anew_opened : (faults : D → ℕ) (old b : D) (taken : JournalOn D) (core : Core) → StandsFor core opening → faults taken.disk ≡ faults old → taken.start ≡ 57 + 0
       → ((held : List ℕ) → seen old ≡ Some held → (now : List ℕ) × (seen taken.disk ≡ Some now) × Stands true now (beginning 1 []))
       → IfSome (seen old) (λ now. IsUnshut now → ⊥) → IfSome (seen b) (λ now. IsUnshut now → ⊥)
-      → OpensOn seen faults old b (stored Left taken b core None)
+      → OpensOn seen faults old b (stored Left taken b core None [])
   anew_opened faults old b taken core stands count start created shut shut_beside = record {
     state = λ l r tl tr. none_for l r core (shut_so old l tl shut) (shut_so b r tr shut_beside) stands;
     commands = λ l r now tl tr tn.

@@ -1,5 +1,5 @@
 -- What an accepted command that is no rotation leaves of the counters: its generation, and one record more.
-use Rattle.std.proofs.Common.{◌≡◌, ◌+◌, Bool, false, cond, refl, sym, ◌∙◌, ap}
+use Rattle.std.proofs.Common.{◌≡◌, ◌+◌, Bool, false, cond, sym, ◌∙◌, ap}
 use Rattle.liq_types.specs.declared.requests.Command.{Command}
 use Rattle.liq_types.specs.Image.{Image}
 use Rattle.liq_types.specs.State.{State}

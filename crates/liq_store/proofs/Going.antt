@@ -1,6 +1,7 @@
 -- A store by its side: the disk that is taken, and the one beside it.
 use Rattle.std.proofs.Common.{◌≡◌, inl, ℕ, List, Option, Some, None, IfSome, refl, sym, ◌∙◌, ap, subst, arith}
 use Rattle.liq_outside.specs.Disk.{LeftNow, LeftSince, Only}
+use Rattle.liq_types.specs.declared.events.ListChange.{ListChange}
 use Rattle.liq_types.specs.declared.requests.Request.{Request}
 use Rattle.liq_types.specs.Image.{Image}
 use Rattle.liq_types.specs.State.{State}
@@ -28,28 +29,38 @@ told_by seen Right t b P h l r tl tr = h r l tr tl
 module _ {D : Type 0} (seen : D → Option (List ℕ)) (moment : D → ℕ) (left_at : D → ℕ → List ℕ → Type 0) where
   -- ---- what is told of another protocol of the same content
 
-  pub order_same : (side : Side) (taken : JournalOn D) (b : D) (old new : Core) (stopped : Option ℕ) → SameContent old new → IsInOrder seen moment left_at (stored side taken b old stopped)
-      → IsInOrder seen moment left_at (stored side taken b new stopped)
-  order_same side taken b old new None same order = record {
+  pub order_same : (before now : List ListChange) (side : Side) (taken : JournalOn D) (b : D) (old new : Core) (stopped : Option ℕ) → SameContent old new → IsInOrder seen moment left_at (stored side taken b old stopped before)
+      → IsInOrder seen moment left_at (stored side taken b new stopped now)
+  order_same before now side taken b old new None same order = record {
     left = order.left;
     right = order.right;
     settled = λ l r tl tr s stands. order.settled l r tl tr s (stands_before old new s same stands);
   }
-  order_same side taken b old new (Some sum) same order = record {
+  order_same before now side taken b old new (Some sum) same order = record {
     read = λ l r tl tr s stands. order.read l r tl tr s (stands_before old new s same stands);
     left_so = λ l r x y tl tr lx ly s stands. order.left_so l r x y tl tr lx ly s (stands_before old new s same stands);
   }
 
-  pub within_same : (side : Side) (taken : JournalOn D) (b : D) (old new : Core) (stopped : Option ℕ) → SameContent old new → IsWithin seen moment left_at side taken b old stopped
-      → IsWithin seen moment left_at side taken b new stopped
-  within_same side taken b old new stopped same within = record {
-    order = order_same side taken b old new stopped same within.order;
+  pub within_same : {before now : List ListChange} (side : Side) (taken : JournalOn D) (b : D) (old new : Core) (stopped : Option ℕ) → SameContent old new → IsWithin seen moment left_at side taken b old stopped before
+      → IsWithin seen moment left_at side taken b new stopped now
+  within_same {before} {now} side taken b old new stopped same within = record {
+    order = order_same before now side taken b old new stopped same within.order;
     generation_is = within.generation_is ∙ sym (ap (λ (i : Image). i.generation) same.image);
     parity_is = within.parity_is;
     count_is = within.count_is ∙ sym same.records;
     told = within.told;
     settled = within.settled;
   }
+
+  -- ---- and with other changes
+
+  pub order_told : (before now : List ListChange) (side : Side) (taken : JournalOn D) (b : D) (core : Core) (stopped : Option ℕ) → IsInOrder seen moment left_at (stored side taken b core stopped before)
+      → IsInOrder seen moment left_at (stored side taken b core stopped now)
+  order_told before now side taken b core stopped order = order_same before now side taken b core core stopped (record { image = refl; records = refl; list = refl }) order
+
+  pub within_told : {before now : List ListChange} (side : Side) (taken : JournalOn D) (b : D) (core : Core) (stopped : Option ℕ) → IsWithin seen moment left_at side taken b core stopped before
+      → IsWithin seen moment left_at side taken b core stopped now
+  within_told side taken b core stopped within = within_same side taken b core core stopped (record { image = refl; records = refl; list = refl }) within
 
   -- ---- what a crash leaves of a disk at rest
 
@@ -90,22 +101,22 @@ module _ {D : Type 0} (seen : D → Option (List ℕ)) (moment : D → ℕ) (lef
     pub beside_rests : IsAtRest seen moment left_at b
     pub settled : (held other : List ℕ) → seen t ≡ Some held → seen b ≡ Some other → (s : State) → StandsFor core s → IsSettledFor side (on side held other) (on side other held) s
 
-  pub going_by : (side : Side) (taken : JournalOn D) (b : D) (core : Core) (stopped : Option ℕ) → stopped ≡ None → IsInOrder seen moment left_at (stored side taken b core stopped) → Going side taken.disk b core
-  going_by Left taken b core stopped none order =
-      let is = going_of (stored Left taken b core stopped) none order in
+  pub going_by : (changes : List ListChange) (side : Side) (taken : JournalOn D) (b : D) (core : Core) (stopped : Option ℕ) → stopped ≡ None → IsInOrder seen moment left_at (stored side taken b core stopped changes) → Going side taken.disk b core
+  going_by changes Left taken b core stopped none order =
+      let is = going_of (stored Left taken b core stopped changes) none order in
       record { taken_rests = is.left; beside_rests = is.right; settled = is.settled }
-  going_by Right taken b core stopped none order =
-      let is = going_of (stored Right taken b core stopped) none order in
+  going_by changes Right taken b core stopped none order =
+      let is = going_of (stored Right taken b core stopped changes) none order in
       record { taken_rests = is.right; beside_rests = is.left; settled = λ held other th to s stands. is.settled other held to th s stands }
 
-  pub order_going : (side : Side) (taken : JournalOn D) (b : D) (core : Core) → Going side taken.disk b core → IsInOrder seen moment left_at (stored side taken b core None)
+  pub order_going : {changes : List ListChange} (side : Side) (taken : JournalOn D) (b : D) (core : Core) → Going side taken.disk b core → IsInOrder seen moment left_at (stored side taken b core None changes)
   order_going Left taken b core going = record { left = going.taken_rests; right = going.beside_rests; settled = going.settled }
   order_going Right taken b core going = record { left = going.beside_rests; right = going.taken_rests; settled = λ l r tl tr s stands. going.settled r l tr tl s stands }
 
   -- what a crash now may leave of both, and so what they tell
-  pub order_halted : (side : Side) (taken : JournalOn D) (b : D) (core : Core) (sum : ℕ) → ((disk : D) (held : List ℕ) → seen disk ≡ Some held → LeftNow moment left_at disk held)
+  pub order_halted : {changes : List ListChange} (side : Side) (taken : JournalOn D) (b : D) (core : Core) (sum : ℕ) → ((disk : D) (held : List ℕ) → seen disk ≡ Some held → LeftNow moment left_at disk held)
       → ((held other x y : List ℕ) → seen taken.disk ≡ Some held → seen b ≡ Some other → LeftNow moment left_at taken.disk x → LeftNow moment left_at b y → (s : State) → StandsFor core s → IsKeptNear s (on side x y) (on side y x))
-      → IsInOrder seen moment left_at (stored side taken b core (Some sum))
+      → IsInOrder seen moment left_at (stored side taken b core (Some sum) changes)
   order_halted Left taken b core sum stays near = record {
     read = λ l r tl tr s stands. near l r l r tl tr (stays taken.disk l tl) (stays b r tr) s stands;
     left_so = λ l r x y tl tr lx ly s stands. near l r x y tl tr lx ly s stands;

@@ -1,6 +1,7 @@
 pub mod Appending
 pub mod Beginning
 pub mod Built
+pub mod Following
 pub mod Generations
 pub mod Going
 pub mod Listing

@@ -2,6 +2,7 @@
 use Rattle.std.proofs.Common.{◌≡◌, inl, ℕ, ◌+◌, ◌≤◌, List, length, take, Option, Some, None, IfSome, Bool, refl, sym, ◌∙◌, ap, subst, arith}
 use Rattle.std.proofs.lemmas.List.{take_all}
 use Rattle.liq_outside.specs.Disk.{LeftNow, Only}
+use Rattle.liq_types.specs.declared.events.ListChange.{ListChange}
 use Rattle.liq_types.specs.declared.requests.Command.{Command}
 use Rattle.liq_types.specs.State.{State}
 use Rattle.liq_core.specs.Core.{Core, StandsFor}
@@ -27,21 +28,21 @@ settled_same o generation start count generation' start' count' a b c is =
 
 module _ {D : Type 0} (seen : D → Option (List ℕ)) (moment : D → ℕ) (left_at : D → ℕ → List ℕ → Type 0) (stays : (disk : D) (held : List ℕ) → seen disk ≡ Some held → LeftNow moment left_at disk held) where
   -- what a crash now may leave of a store is kept for its state, or for it with one command more
-  near_of : (side : Side) (taken : JournalOn D) (b : D) (core : Core) (stopped : Option ℕ) → IsInOrder seen moment left_at (stored side taken b core stopped)
+  near_of : (changes : List ListChange) (side : Side) (taken : JournalOn D) (b : D) (core : Core) (stopped : Option ℕ) → IsInOrder seen moment left_at (stored side taken b core stopped changes)
       → (held other x y : List ℕ) → seen taken.disk ≡ Some held → seen b ≡ Some other → LeftNow moment left_at taken.disk x → LeftNow moment left_at b y → (s : State) → StandsFor core s → IsKeptNear s (on side x y) (on side y x)
-  near_of side taken b core None order held other x y th to lx ly s stands =
-      let going = going_by seen moment left_at side taken b core None refl order in
+  near_of changes side taken b core None order held other x y th to lx ly s stands =
+      let going = going_by seen moment left_at changes side taken b core None refl order in
       let ex = rest_now seen moment left_at taken.disk held th going.taken_rests x lx in
       let ey = rest_now seen moment left_at b other to going.beside_rests y ly in
       let kept = settled_kept side (on side held other) (on side other held) s (going.settled held other th to s stands) in
       inl (subst (λ (m : List ℕ). IsKept (on side m y) (on side y m) s) (sym ex) (subst (λ (n : List ℕ). IsKept (on side held n) (on side n held) s) (sym ey) kept))
-  near_of Left taken b core (Some sum) order held other x y th to lx ly s stands = order.left_so held other x y th to lx ly s stands
-  near_of Right taken b core (Some sum) order held other x y th to lx ly s stands = order.left_so other held y x to th ly lx s stands
+  near_of changes Left taken b core (Some sum) order held other x y th to lx ly s stands = order.left_so held other x y th to lx ly s stands
+  near_of changes Right taken b core (Some sum) order held other x y th to lx ly s stands = order.left_so other held y x to th ly lx s stands
 
   module _ (side : Side) (taken new : JournalOn D) (b : D) (core : Core) (looked : Looked seen moment left_at taken.disk new.disk) where
-    pub halted_looked : (stopped : Option ℕ) → IsInOrder seen moment left_at (stored side taken b core stopped) → (sum : ℕ) → IsInOrder seen moment left_at (stored side new b core (Some sum))
-    halted_looked stopped order sum = order_halted seen moment left_at side new b core sum stays
-        (λ held other x y th to lx ly s stands. near_of side taken b core stopped order held other x y (sym looked.same ∙ th) to (looked.within x lx) ly s stands)
+    pub halted_looked : (before : List ListChange) {now : List ListChange} (stopped : Option ℕ) → IsInOrder seen moment left_at (stored side taken b core stopped before) → (sum : ℕ) → IsInOrder seen moment left_at (stored side new b core (Some sum) now)
+    halted_looked before stopped order sum = order_halted seen moment left_at side new b core sum stays
+        (λ held other x y th to lx ly s stands. near_of before side taken b core stopped order held other x y (sym looked.same ∙ th) to (looked.within x lx) ly s stands)
 
     going_looked : Going seen moment left_at side taken.disk b core → Going seen moment left_at side new.disk b core
     going_looked going = record {
@@ -54,12 +55,12 @@ module _ {D : Type 0} (seen : D → Option (List ℕ)) (moment : D → ℕ) (lef
         rests None none is = subst (λ (o : Option (List ℕ)). IfSome o (λ l. Only l (LeftNow moment left_at new.disk))) (sym (looked.same ∙ none)) tt
         rests (Some held) told is = subst (λ (o : Option (List ℕ)). IfSome o (λ l. Only l (LeftNow moment left_at new.disk))) (sym (looked.same ∙ told)) (λ image left. is image (looked.within image left))
 
-    pub order_looked : (stopped : Option ℕ) → IsInOrder seen moment left_at (stored side taken b core stopped) → IsInOrder seen moment left_at (stored side new b core stopped)
-    order_looked None order = order_going seen moment left_at side new b core (going_looked (going_by seen moment left_at side taken b core None refl order))
-    order_looked (Some sum) order = halted_looked (Some sum) order sum
+    pub order_looked : (before now : List ListChange) (stopped : Option ℕ) → IsInOrder seen moment left_at (stored side taken b core stopped before) → IsInOrder seen moment left_at (stored side new b core stopped now)
+    order_looked before now None order = order_going seen moment left_at side new b core (going_looked (going_by seen moment left_at before side taken b core None refl order))
+    order_looked before now (Some sum) order = halted_looked before (Some sum) order sum
 
     -- the same journal, by which a store that goes on, or one that stops, keeps what it kept
-    pub within_looked : (stopped later : Option ℕ) → new ≡ record taken { disk = new.disk } → IsWithin seen moment left_at side taken b core stopped → IsInOrder seen moment left_at (stored side new b core later) → (later ≡ None → stopped ≡ None) → IsWithin seen moment left_at side new b core later
+    pub within_looked : {before now : List ListChange} (stopped later : Option ℕ) → new ≡ record taken { disk = new.disk } → IsWithin seen moment left_at side taken b core stopped before → IsInOrder seen moment left_at (stored side new b core later now) → (later ≡ None → stopped ≡ None) → IsWithin seen moment left_at side new b core later now
     within_looked stopped later same within order goes =
         let generation : new.generation ≡ taken.generation = ap (λ (j : JournalOn D). j.generation) same in
         let start : new.start ≡ taken.start = ap (λ (j : JournalOn D). j.start) same in
@@ -76,11 +77,11 @@ module _ {D : Type 0} (seen : D → Option (List ℕ)) (moment : D → ℕ) (lef
         }
 
 -- while it is not stopped, the commands that are counted are all
-pub all_read : {D : Type 0} (seen : D → Option (List ℕ)) (moment : D → ℕ) (left_at : D → ℕ → List ℕ → Type 0) (side : Side) (taken : JournalOn D) (b : D) (core : Core) (stopped : Option ℕ) → IsWithin seen moment left_at side taken b core stopped
-    → (old : Stored D) → stored side taken b core stopped ≡ old → (items : List Command)
+pub all_read : {D : Type 0} {changes : List ListChange} (seen : D → Option (List ℕ)) (moment : D → ℕ) (left_at : D → ℕ → List ℕ → Type 0) (side : Side) (taken : JournalOn D) (b : D) (core : Core) (stopped : Option ℕ) → IsWithin seen moment left_at side taken b core stopped changes
+    → (old : Stored D) → stored side taken b core stopped changes ≡ old → (items : List Command)
     → ((held : List ℕ) (w : Written) → seen taken.disk ≡ Some held → IsJournalOf taken.generation taken.start held w → taken.count ≤ length w.commands → items ≡ take taken.count w.commands)
     → old.stopped ≡ None → (held : List ℕ) (w : Written) → seen (taken_disk old) ≡ Some held → found_on (has_odd old.side) held ≡ Open w → items ≡ w.commands
-all_read {D} seen moment left_at side taken b core stopped within old same items read none held w told found =
+all_read {D} {changes} seen moment left_at side taken b core stopped within old same items read none held w told found =
     let P : Stored D → Type 0 = λ o. o.stopped ≡ None → seen (taken_disk o) ≡ Some held → found_on (has_odd o.side) held ≡ Open w → items ≡ w.commands in
     subst P same here none told found
   where

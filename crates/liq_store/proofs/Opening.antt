@@ -26,7 +26,7 @@ use Rattle.liq_store.specs.declared.answers.AcceptedFault.TheVariants as fault
 use Rattle.liq_store.specs.declared.standing.StandFault.{StandFault}
 use Rattle.liq_store.specs.declared.standing.Stood.{Stood}
 use Rattle.liq_store.specs.declared.standing.Stood.TheVariants.{Nothing, Holding}
-use Rattle.liq_store.specs.Beginning.{BeginsLeft, Creates, IsStanding, IsStoodOn}
+use Rattle.liq_store.specs.Beginning.{BeginsLeft, Creates, IsStanding, IsStoodOn, IsUnbegun, IsUnbegunBy}
 use Rattle.liq_store.specs.Causes.{CausesWhy, Faults, OneRose, counts_of}
 use Rattle.liq_store.specs.Judging.{IsDamagedBy, IsFine, IsJudged, MetFault, disk_of}
 use Rattle.liq_store.specs.Reading.{CountsFault}
@@ -208,19 +208,35 @@ module _ {D : Type 0} (seen : D → Option (List ℕ)) (moment : D → ℕ) (lef
     pub begun_not : (left right : D) (stood_left stood_right : Stood D) → StandsAs seen moment left_at true left (Ok stood_left) → StandsAs seen moment left_at false right (Ok stood_right)
         → CountsStand (Ok stood_left) (faults left) (faults (disk_in (Ok stood_left))) → CountsStand (Ok stood_right) (faults right) (faults (disk_in (Ok stood_right)))
         → (result : Result (Stored D) (StoreFault D)) → BeginsLeft seen moment left_at stood_left stood_right (left_after result) → right_after result ≡ disk_of stood_right
-        → IfErr result (λ e. e.why ≡ why.DiskFault) → IfErr result (λ e. Counted (faults (disk_of stood_left)) (faults e.left)) → IfErr result (IsNotOpened seen faults left right)
-    begun_not left right stood_left stood_right sl sr cl cr (Ok store) begins same fault counted = tt
-    begun_not left right stood_left stood_right sl sr cl cr (Err e) begins same fault counted =
-        let left_is : faults (disk_of stood_left) ≡ faults left = ap faults (sym (disk_same stood_left)) ∙ cl in
-        let right_is : faults e.right ≡ faults right = ap faults (same ∙ sym (disk_same stood_right)) ∙ cr in
-        let rose : Counted (faults left) (faults e.left) = subst (λ (n : ℕ). Counted n (faults e.left)) left_is counted in
-        let one : OneRose (counts_of faults left right) (counts_of faults e.left e.right) = record { left = rose.later; right = omega arith; rose = inl rose.rose } in
-        record {
-          cause = subst (λ (y : StoreWhy). CausesWhy y (counts_of faults left right) (counts_of faults e.left e.right)) (sym fault) one;
-          is_why = λ l r tl tr. subst (λ (y : StoreWhy). IsWhyOf l r y) (sym fault) tt;
-          stays = λ other. absurd (other fault);
-          reads = λ l r x y s tl tr kept tx ty. begun_recovered left right stood_left stood_right e.left e.right sl sr begins same l r x y s tl tr kept tx ty;
-        }
+        → IfErr result (IsUnbegun seen faults (disk_of stood_left) (disk_of stood_right)) → IfErr result (IsNotOpened seen faults left right)
+    begun_not left right stood_left stood_right sl sr cl cr (Ok store) begins same unbegun = tt
+    begun_not left right stood_left stood_right sl sr cl cr (Err e) begins same unbegun = by e.why refl unbegun
+      where
+        reads_kept : (l r x y : List ℕ) (s : State) → seen left ≡ Some l → seen right ≡ Some r → IsKept l r s → seen e.left ≡ Some x → seen e.right ≡ Some y → IsRecovered l r s x y
+        reads_kept = begun_recovered left right stood_left stood_right e.left e.right sl sr begins same
+
+        by : (y : StoreWhy) → e.why ≡ y → IsUnbegunBy seen faults (disk_of stood_left) (disk_of stood_right) e y → IsNotOpened seen faults left right e
+        by why.DiskFault fault counted =
+            let left_is : faults (disk_of stood_left) ≡ faults left = ap faults (sym (disk_same stood_left)) ∙ cl in
+            let right_is : faults e.right ≡ faults right = ap faults (same ∙ sym (disk_same stood_right)) ∙ cr in
+            let rose : Counted (faults left) (faults e.left) = subst (λ (n : ℕ). Counted n (faults e.left)) left_is counted in
+            let one : OneRose (counts_of faults left right) (counts_of faults e.left e.right) = record { left = rose.later; right = omega arith; rose = inl rose.rose } in
+            record {
+              cause = subst (λ (y : StoreWhy). CausesWhy y (counts_of faults left right) (counts_of faults e.left e.right)) (sym fault) one;
+              is_why = λ l r tl tr. subst (λ (y : StoreWhy). IsWhyOf l r y) (sym fault) tt;
+              stays = λ other. absurd (other fault);
+              reads = reads_kept;
+            }
+        by (why.Damaged side damage) fault unbegun = absurd unbegun
+        by why.NoMemory fault still =
+            record {
+              cause = subst (λ (y : StoreWhy). CausesWhy y (counts_of faults left right) (counts_of faults e.left e.right)) (sym fault) (still.counts ∙ same_counts left right stood_left stood_right cl cr);
+              is_why = λ l r tl tr. subst (λ (y : StoreWhy). IsWhyOf l r y) (sym fault) tt;
+              stays = λ other l r x y tl tr tx ty.
+                  still_before left right (Ok stood_left) (Ok stood_right) sl sr tt tt x y
+                  (λ m n tm tn. still.stays m n x y (ap seen (sym (disk_same stood_left)) ∙ tm) (ap seen (sym (disk_same stood_right)) ∙ tn) tx ty) l r tl tr;
+              reads = reads_kept;
+            }
 
 -- ---- why nothing is opened
 

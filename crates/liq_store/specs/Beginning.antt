@@ -1,12 +1,18 @@
 -- Two disks with which nothing is wrong, and the store that begins on them.
-use Rattle.std.specs.Prelude.{◌≡◌, ◌⊎◌, ◌↔◌, ℕ, List, [], Option, IfSome, IsSome, Bool}
+use Rattle.std.specs.Prelude.{◌≡◌, ◌⊎◌, ◌↔◌, ℕ, List, [], Option, Some, IfSome, IsSome, Bool}
 use Rattle.liq_outside.specs.Disk.{GoesOn}
+use Rattle.liq_journal.specs.Causes.{Counted}
 use Rattle.liq_journal.specs.Crash.{CrashOfCreate, ReadsOfCreate}
 use Rattle.liq_journal.specs.Opened.{IsUnshut}
 use Rattle.liq_journal.specs.Settled.{IsSettled}
+use Rattle.liq_pairs.specs.Pair.{state_on}
+use Rattle.liq_store.specs.Causes.{counts_of}
 use Rattle.liq_store.specs.Judging.{disk_of}
 use Rattle.liq_store.specs.Keeping.{IsAtRest}
 use Rattle.liq_store.specs.Standing.{IsCounted, IsHeldOn}
+use Rattle.liq_store.specs.declared.answers.StoreFault.{StoreFault}
+use Rattle.liq_store.specs.declared.answers.StoreWhy.{StoreWhy}
+use Rattle.liq_store.specs.declared.answers.StoreWhy.TheVariants as why
 use Rattle.liq_store.specs.declared.standing.Stood.{Stood}
 use Rattle.liq_store.specs.declared.standing.Stood.TheVariants.{Nothing, Holding}
 
@@ -35,3 +41,17 @@ pub record Creates {D : Type 0} (seen : D → Option (List ℕ)) (moment : D →
 -- The left disk stays, or where both hold nothing the first generation is created on it.
 abbrev pub BeginsLeft : {D : Type 0} → (D → Option (List ℕ)) → (D → ℕ) → (D → ℕ → List ℕ → Type 0) → Stood D → Stood D → D → Type 0
 BeginsLeft seen moment left_at left right now = (now ≡ disk_of left) ⊎ (IsNothing left × IsNothing right × Creates seen moment left_at (disk_of left) now)
+
+-- no device call failed, and two disks stand for what they stood for
+pub record StandsStill {D : Type 0} (seen : D → Option (List ℕ)) (faults : D → ℕ) (left right now_left now_right : D) : Type 0 where
+  pub counts : counts_of faults now_left now_right ≡ counts_of faults left right
+  pub stays : (l r a b : List ℕ) → seen left ≡ Some l → seen right ≡ Some r → seen now_left ≡ Some a → seen now_right ≡ Some b → state_on a b ≡ state_on l r
+
+-- Why no store begins: a fault was met at the first generation, or there is no memory for what others follow from nothing.
+abbrev pub IsUnbegunBy : {D : Type 0} → (D → Option (List ℕ)) → (D → ℕ) → (left right : D) → StoreFault D → StoreWhy → Type 0
+IsUnbegunBy seen faults left right e why.DiskFault = Counted (faults left) (faults e.left)
+IsUnbegunBy seen faults left right e (why.Damaged side damage) = ⊥
+IsUnbegunBy seen faults left right e why.NoMemory = StandsStill seen faults left right e.left e.right
+
+abbrev pub IsUnbegun : {D : Type 0} → (D → Option (List ℕ)) → (D → ℕ) → (left right : D) → StoreFault D → Type 0
+IsUnbegun seen faults left right e = IsUnbegunBy seen faults left right e e.why

@@ -10,4 +10,5 @@ pub mod Reading
 pub mod Replays
 pub mod Standing
 pub mod Stored
+pub mod Telling
 pub mod Within

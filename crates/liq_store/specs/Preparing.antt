@@ -1,5 +1,5 @@
 -- What comes of a command before anything is written.
-use Rattle.std.specs.Prelude.{◌≡◌, ◌<◌}
+use Rattle.std.specs.Prelude.{◌≡◌, ◌<◌, ◌≤◌, ◌+◌, ℕ, length}
 use Rattle.liq_types.specs.declared.amounts.TheConstants.{RECORDS_MOST}
 use Rattle.liq_types.specs.declared.requests.Command.{Command}
 use Rattle.liq_types.specs.declared.requests.Request.TheVariants.{Do}
@@ -22,3 +22,8 @@ IsPrepared s c NoMemory = TakesMemory s (Do c)
 abbrev pub IsReady : Command → Core → Prepared → Type 0
 IsReady c core (Ready plan) = (plan.command ≡ c) × HasRoom core plan × (core.records < RECORDS_MOST)
 IsReady c core _ = Unit {0}
+
+-- behind so many changes there is room for those of what is planned
+abbrev pub HasRoomBehind : (count capacity : ℕ) → Prepared → Type 0
+HasRoomBehind count capacity (Ready plan) = count + length plan.changes ≤ capacity
+HasRoomBehind count capacity _ = Unit {0}

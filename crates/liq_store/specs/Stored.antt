@@ -1,5 +1,6 @@
 -- A store as contracts see it.
-use Rattle.std.specs.Prelude.{ℕ, Option}
+use Rattle.std.specs.Prelude.{List, ℕ, Option}
+use Rattle.liq_types.specs.declared.events.ListChange.{ListChange}
 use Rattle.liq_core.specs.Core.{Core}
 use Rattle.liq_pairs.specs.declared.side.Side.{Side}
 use Rattle.liq_pairs.specs.Sides.{beside, on}
@@ -15,6 +16,8 @@ pub record Stored (D : Type 0) : Type 0 where
   pub core : Core
   -- the sum of both counts of faults after the first call that met one
   pub stopped : Option ℕ
+  -- what the calls did to the ordered list since the changes were last cleared, behind what the opening told
+  pub changes : List ListChange
 
 -- the disk on which the journal goes on
 abbrev pub taken_disk : {D : Type 0} → Stored D → D

@@ -10,6 +10,7 @@ mod reading;
 mod replay;
 mod standing;
 mod store;
+mod telling;
 
 pub use answers::{AcceptedFault, StoreFault, StoreWhy};
 pub use liq_pairs::Side;

@@ -1,5 +1,5 @@
 // A command, before it is written and after.
-ghost use Rattle.std.specs.Prelude.{◌≡◌, ◌+◌, false, IsTrue};
+ghost use Rattle.std.specs.Prelude.{◌≡◌, ◌+◌, false, IsTrue, vec_capacity, vec_len};
 ghost use Rattle.liq_types.specs.State.{State};
 ghost use Rattle.liq_types.specs.declared.replies.Reply.TheVariants.{Said};
 ghost use Rattle.liq_types.specs.declared.requests.Request.TheVariants.{Do};
@@ -7,12 +7,12 @@ ghost use Rattle.liq_core.specs.Core.{SameContent, StandsFor, state_of};
 ghost use Rattle.liq_core.specs.Plan.{HasRoom, IsPlannedOn};
 ghost use Rattle.liq_rules.specs.Step.{built, step};
 ghost use Rattle.liq_journal.specs.Written.{is_rotate};
-ghost use Rattle.liq_store.specs.Preparing.{IsPrepared, IsReady};
+ghost use Rattle.liq_store.specs.Preparing.{HasRoomBehind, IsPrepared, IsReady};
 
 use crate::guided::Guided;
 use liq_core::laws::protocols_stand;
 use liq_core::{PlanFault, Planned, Turn};
-use liq_types::{Command, Done, Hint, Refusal, Steps};
+use liq_types::{Command, Done, Hint, ListChange, Refusal, Steps};
 use std::sync::ledger::{Blank, Ledger};
 
 // What comes of a command before anything is written.
@@ -27,12 +27,14 @@ pub enum Prepared {
     NoMemory,
 }
 
-// Plans a command, and makes room for it. What is seen of the protocol stays.
-pub fn prepare(protocol: &mut Guided, command: &Command) -> Prepared
+// Plans a command, and makes room for it, also behind the changes that others follow. What is seen of these and of the protocol stays.
+pub fn prepare(protocol: &mut Guided, changes: &mut Vec<ListChange>, command: &Command) -> Prepared
     requires { IsTrue (built (Do command.now)) }
     ensures same { SameContent protocol.old protocol.new }
+    ensures changes { changes.new.items ≡ changes.old.items }
     ensures prepared { (s : State) → StandsFor protocol.old s → IsPrepared s command.now result }
     ensures ready { IsReady command.now protocol.new result }
+    ensures room { HasRoomBehind (vec_len changes.new) (vec_capacity changes.new) result }
     ensures stands { StandsFor protocol.old (state_of protocol.old) }
 {
     protocols_stand(protocol.protocol());
@@ -41,6 +43,10 @@ pub fn prepare(protocol: &mut Guided, command: &Command) -> Prepared
         Ok(Turn::Again(done)) => return Prepared::Again(done),
         Err(PlanFault::No(refusal)) => return Prepared::No(refusal),
         Err(PlanFault::NoMemory) => return Prepared::NoMemory,
+    };
+    // The guide follows what is planned, so this is the last for which there may be no memory.
+    let Ok(()) = changes.try_reserve(planned.list_changes().len()) else {
+        return Prepared::NoMemory;
     };
     match protocol.reserve(&planned) {
         Ok(()) => Prepared::Ready(planned),

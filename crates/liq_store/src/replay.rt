@@ -15,9 +15,9 @@ ghost use Rattle.liq_store.specs.Replays.{IsOutcome, Replays};
 
 use crate::answers::AcceptedFault;
 use crate::guided::Guided;
-use crate::preparing::{Prepared, prepare};
 use crate::reading::tested_command;
-use liq_core::unhinted;
+use liq_core::laws::protocols_stand;
+use liq_core::{PlanFault, Turn, unhinted};
 use liq_journal::{Block, Damage, Journal, What};
 use liq_outside::Disk;
 use liq_pairs::code_of;
@@ -45,14 +45,19 @@ fn redo<L: Ledger>(
     ensures generation { OnOk result (protocol.new.image.generation ≡ protocol.old.image.generation) }
     ensures no_device { result ≢ Err AcceptedFault.DiskFault }
 {
-    match prepare(protocol, command) {
-        Prepared::Ready(planned) => {
+    protocols_stand(protocol.protocol());
+    let planned = match protocol.plan(command) {
+        Ok(Turn::New(planned)) => planned,
+        Ok(Turn::Again(_)) => return Err(unaccepted(index, 0)),
+        Err(PlanFault::No(refusal)) => return Err(unaccepted(index, code_of(&refusal))),
+        Err(PlanFault::NoMemory) => return Err(AcceptedFault::NoMemory),
+    };
+    match protocol.reserve(&planned) {
+        Ok(()) => {
             let _ = protocol.apply(planned, &Hint::NONE, steps);
             Ok(())
         }
-        Prepared::Again(_) => Err(unaccepted(index, 0)),
-        Prepared::No(refusal) => Err(unaccepted(index, code_of(&refusal))),
-        Prepared::NoMemory => Err(AcceptedFault::NoMemory),
+        Err(_) => Err(AcceptedFault::NoMemory),
     }
 }
 

@@ -1,13 +1,15 @@
 // The protocol over two disks.
-ghost use Rattle.std.specs.Prelude.{◌≡◌, ◌↔◌, ◌+◌, min, Some, None, Ok, Err, List, ℕ, false, length, take, IfOk, IfErr, IfSome, IsSome, IsTrue, true};
+ghost use Rattle.std.specs.Prelude.{◌≡◌, ◌↔◌, ◌+◌, ◌++◌, [], min, Some, None, Ok, Err, List, ℕ, false, length, take, IfOk, IfErr, IfSome, IsSome, IsTrue, true};
 ghost use Rattle.std.specs.List.{All};
 ghost use Rattle.liq_outside.specs.Disk.{GoesOn, LeavesOnly, LeftNow, Only};
 ghost use Rattle.liq_outside.specs.Faults.{count_most};
 ghost use Rattle.liq_types.specs.declared.requests.Command.{Command};
 ghost use Rattle.liq_types.specs.declared.requests.Request.TheVariants.{Do};
-ghost use Rattle.liq_types.specs.State.{State};
+ghost use Rattle.liq_types.specs.State.{State, opening};
 ghost use Rattle.liq_core.specs.Core.{StandsFor};
+ghost use Rattle.liq_core.specs.Entries.{told_whole};
 ghost use Rattle.liq_rules.specs.Step.{built};
+ghost use Rattle.liq_rules.specs.View.{all_followed, view_of};
 ghost use Rattle.liq_journal.specs.declared.damage.Damage.{Damage};
 ghost use Rattle.liq_journal.specs.Causes.{Counted};
 ghost use Rattle.liq_journal.specs.Crash.{BeforeOrAfter};
@@ -20,13 +22,14 @@ ghost use Rattle.liq_pairs.specs.Pair.{state_on};
 ghost use Rattle.liq_pairs.specs.Sides.{has_odd, other};
 ghost use Rattle.liq_pairs.specs.Unfinished.{IsRecovered, LeftLeaves};
 ghost use Rattle.liq_store.specs.Answering.{Answers, IsReadable, IsUnreadable, read_back};
-ghost use Rattle.liq_store.specs.Beginning.{BeginsLeft, Creates, IsStoodOn};
+ghost use Rattle.liq_store.specs.Beginning.{BeginsLeft, Creates, IsStoodOn, IsUnbegun};
 ghost use Rattle.liq_store.specs.Causes.{CausesAccepted, CausesAnswer, stopped_after, stopped_after_reading};
 ghost use Rattle.liq_store.specs.Judging.{disk_of};
 ghost use Rattle.liq_store.specs.Keeping.{IsAtRest, IsInOrder, IsKeptAround, LeavesPairs};
 ghost use Rattle.liq_store.specs.Memory.{IsAccepted};
 ghost use Rattle.liq_store.specs.Opening.{OpensOn, left_after, right_after};
 ghost use Rattle.liq_store.specs.Stored.{disk_beside, taken_disk};
+ghost use Rattle.liq_store.specs.Telling.{told};
 ghost use Rattle.liq_store.specs.Within.{IsWithin, stored};
 
 use crate::answers::{AcceptedFault, StoreFault, StoreWhy};
@@ -35,11 +38,12 @@ use crate::judging::{judge, later_side};
 use crate::preparing::{Prepared, make, prepare};
 use crate::reading::read_commands;
 use crate::standing::{Stood, stand};
+use crate::telling::note;
 use liq_core::Protocol;
 use liq_journal::Journal;
 use liq_outside::Disk;
 use liq_pairs::Side;
-use liq_types::{Answer, Command, Hint, Reply, Request};
+use liq_types::{Answer, Command, Hint, ListChange, Reply, Request};
 use liq_wire::encode;
 use std::alloc::Global;
 use std::marker::{Brand, Model};
@@ -53,13 +57,16 @@ fn sum_of_faults<D: Disk>(taken: &Journal<D>, beside: &D) -> u64
 }
 
 /// The protocol over two disks. A contract sees the disks, the side on which the journal goes on and where its records begin, the
-/// protocol, and, once a call met a disk's fault, the sum of both counts of faults then.
+/// protocol, the changes of the ordered list that nobody has followed yet, and, once a call met a disk's fault, the sum of both
+/// counts of faults then.
 pub struct Store<D: Disk> {
     alloc: Global,
     taken: Journal<D>,
     beside: D,
     side: Side,
     protocol: Guided,
+    // What nobody has followed yet.
+    changes: Vec<ListChange>,
     stopped: Option<u64>,
 }
 
@@ -72,6 +79,7 @@ impl<D: Disk + Drop> Drop for Store<D> {
             beside: _,
             side: _,
             protocol: _,
+            changes: _,
             stopped: _,
         } = self;
     }
@@ -83,9 +91,9 @@ impl<D: Disk> Model for Store<D> {
 
     ghost Value = { Stored D };
 
-    ghost view = { λ s. stored s.side s.taken s.beside s.protocol s.stopped };
+    ghost view = { λ s. stored s.side s.taken s.beside s.protocol s.stopped s.changes.items };
 
-    ghost invariant = { λ s. IsWithin D.seen D.moment D.left_at s.side s.taken s.beside s.protocol s.stopped };
+    ghost invariant = { λ s. IsWithin D.seen D.moment D.left_at s.side s.taken s.beside s.protocol s.stopped s.changes.items };
 }
 
 impl<D: Disk> Store<D> {
@@ -95,12 +103,15 @@ impl<D: Disk> Store<D> {
     /// shut; then the records of the one that is taken are replayed. Where neither is open, generation 1 is created on the left one.
     ///
     /// `DiskFault` comes exactly where a disk's count rose. `Damaged` has the first damage, the left disk's coming first: nothing is
-    /// opened then, and the damage stays.
+    /// opened then, and the damage stays. The changes then tell the list to whoever has seen nothing.
     pub fn open(alloc: Global, left: D, right: D) -> Result<Store<D>, StoreFault<D>>
         // The state is the one for which the disks stand; where there is none, nothing is opened. Either way the counts tell the cause.
         ensures opened { IfOk result (OpensOn D.seen D.faults left right) }
         ensures not_opened { IfErr result (IsNotOpened D.seen D.faults left right) }
         ensures order { IfOk result (IsInOrder D.seen D.moment D.left_at) }
+        // The words of which keys are made, and then each trove in the list's order: who follows them from nothing has the list.
+        ensures told { IfOk result (λ store. store.changes ≡ told_whole store.core.image store.core.list) }
+        ensures followed { IfOk result (λ store. (s : State) → StandsFor store.core s → all_followed (view_of opening) store.changes ≡ view_of s) }
         // A disk on which none is open has no other byte than 0 at place 0, if it has one.
         ensures shut { IfOk result (λ store. IfSome (D.seen (disk_beside store)) (λ now. found_on (has_odd (other store.side)) now ≡ Absent → IsUnshut now → ⊥)) }
 
@@ -124,7 +135,7 @@ impl<D: Disk> Store<D> {
         let left = stand(alloc, left, true);
         let right = stand(alloc, right, false);
         match judge(left, right) {
-            Ok((left, right)) => begin(alloc, left, right),
+            Ok((left, right)) => begin_told(alloc, left, right),
             Err(fault) => Err(fault),
         }
     }
@@ -143,6 +154,9 @@ impl<D: Disk> Store<D> {
         ensures step { self.old.stopped ≡ None → (s : State) → StandsFor self.old.core s → Answers s request.now result self.new.core }
 
         ensures stops { self.new.stopped ≡ stopped_after self.old.stopped result (record { left = D.faults self.new.left; right = D.faults self.new.right }) }
+        // An accepted command that is answered tells its changes, and nothing else tells any.
+        ensures told { (s : State) → StandsFor self.old.core s → self.new.changes ≡ self.old.changes ++ told s request.now result }
+
         ensures cause { CausesAnswer result (record { left = D.faults self.old.left; right = D.faults self.old.right }) (record { left = D.faults self.new.left; right = D.faults self.new.right }) }
 
         // Only an accepted command is written, on the disk that was taken.
@@ -168,7 +182,7 @@ impl<D: Disk> Store<D> {
             Request::Do(command) => command,
             Request::Ask(query) => return Answer::Reply(self.protocol.query(query)),
         };
-        let planned = match prepare(&mut self.protocol, command) {
+        let planned = match prepare(&mut self.protocol, &mut self.changes, command) {
             Prepared::Ready(planned) => planned,
             Prepared::Again(done) => return Answer::Reply(Reply::Said(done)),
             Prepared::No(refusal) => return Answer::Reply(Reply::No(refusal)),
@@ -181,6 +195,7 @@ impl<D: Disk> Store<D> {
                 return Answer::DiskFault;
             }
         }
+        note(&mut self.changes, planned.list_changes());
         let done = make::<Brand>(&mut self.protocol, planned, hint, Blank::new(1));
         Answer::Reply(Reply::Said(done))
     }
@@ -223,6 +238,7 @@ impl<D: Disk> Store<D> {
         ensures side { self.new.side ≡ self.old.side }
         ensures start { self.new.start ≡ self.old.start }
         ensures core { self.new.core ≡ self.old.core }
+        ensures changes { self.new.changes ≡ self.old.changes }
         ensures stops { self.new.stopped ≡ stopped_after_reading self.old.stopped result (record { left = D.faults self.new.left; right = D.faults self.new.right }) }
         ensures cause { CausesAccepted result (record { left = D.faults self.old.left; right = D.faults self.old.right }) (record { left = D.faults self.new.left; right = D.faults self.new.right }) }
         ensures order { IsInOrder D.seen D.moment D.left_at self.new }
@@ -239,6 +255,22 @@ impl<D: Disk> Store<D> {
         }
     }
 
+    /// The changes of the ordered list by the calls since they were last cleared, in order, behind those that told the list at the
+    /// opening, if they were not cleared since.
+    pub fn changes(&self) -> &[ListChange]
+        ensures { result.now ≡ self.now.changes }
+    {
+        &self.changes
+    }
+
+    /// Lets the changes go, with their memory. All else stays.
+    pub fn clear_changes(&mut self)
+        ensures cleared { self.new ≡ record self.old { changes = [] } }
+        ensures order { IsInOrder D.seen D.moment D.left_at self.new }
+    {
+        self.changes = Vec::new(self.alloc);
+    }
+
     /// The disks, as they are.
     pub fn close(self) -> (D, D)
         ensures left { result.0 ≡ self.left }
@@ -251,12 +283,58 @@ impl<D: Disk> Store<D> {
             beside,
             side,
             protocol: _,
+            changes: _,
             stopped: _,
         } = self;
         let taken = taken.close();
         match side {
             Side::Left => (taken, beside),
             Side::Right => (beside, taken),
+        }
+    }
+}
+
+// The store of two disks with which nothing is wrong, and its list as others follow it from nothing.
+fn begin_told<D: Disk>(
+    alloc: Global,
+    left: Stood<D>,
+    right: Stood<D>,
+) -> Result<Store<D>, StoreFault<D>>
+    requires left { IsStoodOn D.seen D.moment D.left_at true left }
+    requires right { IsStoodOn D.seen D.moment D.left_at false right }
+    ensures opened { IfOk result (OpensOn D.seen D.faults (disk_of left) (disk_of right)) }
+    ensures order { IfOk result (IsInOrder D.seen D.moment D.left_at) }
+    ensures told { IfOk result (λ store. store.changes ≡ told_whole store.core.image store.core.list) }
+    ensures followed { IfOk result (λ store. (s : State) → StandsFor store.core s → all_followed (view_of opening) store.changes ≡ view_of s) }
+    ensures shut { IfOk result (λ store. IfSome (D.seen (disk_beside store)) (λ now. found_on (has_odd (other store.side)) now ≡ Absent → IsUnshut now → ⊥)) }
+    ensures left { BeginsLeft D.seen D.moment D.left_at left right (left_after result) }
+    ensures right { right_after result ≡ disk_of right }
+    ensures cause { IfErr result (IsUnbegun D.seen D.faults (disk_of left) (disk_of right)) }
+{
+    match begin(alloc, left, right) {
+        Ok(store) => with_list(store),
+        Err(fault) => Err(fault),
+    }
+}
+
+// The store, with its list as others follow it from nothing. Where there is no memory for that, its disks.
+fn with_list<D: Disk>(store: Store<D>) -> Result<Store<D>, StoreFault<D>>
+    ensures store { IfOk result (λ listed. listed ≡ record store { changes = listed.changes }) }
+    ensures order { IfOk result (IsInOrder D.seen D.moment D.left_at) }
+    ensures told { IfOk result (λ listed. listed.changes ≡ told_whole store.core.image store.core.list) }
+    ensures followed { IfOk result (λ listed. (s : State) → StandsFor store.core s → all_followed (view_of opening) listed.changes ≡ view_of s) }
+    ensures err { IfErr result (λ e. (e.left ≡ store.left) × (e.right ≡ store.right) × (e.why ≡ StoreWhy.NoMemory)) }
+{
+    let mut store = store;
+    match store.protocol().list(store.alloc) {
+        Ok(changes) => {
+            store.changes = changes;
+            Ok(store)
+        }
+        Err(_) => {
+            let (left, right) = store.close();
+            let why = StoreWhy::NoMemory;
+            Err(StoreFault { left, right, why })
         }
     }
 }
@@ -299,8 +377,8 @@ fn begin_on<D: Disk>(
     beside: D,
     protocol: Guided,
 ) -> Store<D>
-    requires { IsWithin D.seen D.moment D.left_at side taken beside protocol None }
-    ensures { result ≡ stored side taken beside protocol None }
+    requires { IsWithin D.seen D.moment D.left_at side taken beside protocol None [] }
+    ensures { result ≡ stored side taken beside protocol None [] }
 {
     Store {
         alloc,
@@ -308,6 +386,7 @@ fn begin_on<D: Disk>(
         beside,
         side,
         protocol,
+        changes: Vec::new(alloc),
         stopped: None,
     }
 }

@@ -1,7 +1,7 @@
 use Rattle.std.proofs.Common.{◌∙◌, ℕ, Option, Some, sym, ap, subst, arith}
 use Rattle.liq_store.specs.Within.{stored}
 use Rattle.liq_types.specs.Image.{Image}
-use Rattle.liq_core.specs.Core.{state_of}
+use Rattle.liq_core.specs.Core.{StandsFor, state_of}
 use Rattle.liq_journal.specs.Crash.{is_odd}
 use Rattle.liq_store.specs.Answering.{read_back}
 use Rattle.liq_store.specs.Keeping.{IsInOrder}
@@ -9,7 +9,7 @@ use Rattle.liq_store.specs.Stored.{Stored}
 use Rattle.liq_store.proofs.Appending.{all_has, appends, has_same, kept_from, kept_near, some_isnt_none, still_has, went_on, written_from, written_never}
 use Rattle.liq_store.proofs.Going.{going_of, order_going, order_halted, order_same, pairs_at_rest, unchanged_pairs, within_same}
 use Rattle.liq_core.proofs.SameContents.{stands_after}
-use Rattle.liq_store.proofs.Steps.{stepped}
+use Rattle.liq_store.proofs.Steps.{replied, stepped}
 use Rattle.liq_store.proofs.store.Store.call.Goals as goal
 
 pub returns-in-Ask-clause-kept : goal.returns-in-Ask-clause-kept
@@ -26,25 +26,25 @@ pub invariant_of-self-in-NoMemory : goal.invariant_of-self-in-NoMemory
 invariant_of-self-in-NoMemory g c = within_same g.D.Disk.seen g.D.Disk.moment g.D.Disk.left_at c.self.inside.side c.self.inside.taken c.self.inside.beside c.self.inside.protocol c.prepare.new.protocol c.self.inside.stopped c.prepare.ensures.same c.self.invariant
 
 pub returns-in-Again-clause-order : goal.returns-in-Again-clause-order
-returns-in-Again-clause-order g c = order_same g.D.Disk.seen g.D.Disk.moment g.D.Disk.left_at c.self.inside.side c.self.inside.taken c.self.inside.beside c.self.inside.protocol c.prepare.new.protocol c.self.inside.stopped c.prepare.ensures.same c.self.invariant.order
+returns-in-Again-clause-order g c = order_same g.D.Disk.seen g.D.Disk.moment g.D.Disk.left_at c.self.inside.changes.items _ c.self.inside.side c.self.inside.taken c.self.inside.beside c.self.inside.protocol c.prepare.new.protocol c.self.inside.stopped c.prepare.ensures.same c.self.invariant.order
 
 pub returns-in-No-clause-order : goal.returns-in-No-clause-order
-returns-in-No-clause-order g c = order_same g.D.Disk.seen g.D.Disk.moment g.D.Disk.left_at c.self.inside.side c.self.inside.taken c.self.inside.beside c.self.inside.protocol c.prepare.new.protocol c.self.inside.stopped c.prepare.ensures.same c.self.invariant.order
+returns-in-No-clause-order g c = order_same g.D.Disk.seen g.D.Disk.moment g.D.Disk.left_at c.self.inside.changes.items _ c.self.inside.side c.self.inside.taken c.self.inside.beside c.self.inside.protocol c.prepare.new.protocol c.self.inside.stopped c.prepare.ensures.same c.self.invariant.order
 
 pub returns-in-NoMemory-clause-order : goal.returns-in-NoMemory-clause-order
-returns-in-NoMemory-clause-order g c = order_same g.D.Disk.seen g.D.Disk.moment g.D.Disk.left_at c.self.inside.side c.self.inside.taken c.self.inside.beside c.self.inside.protocol c.prepare.new.protocol c.self.inside.stopped c.prepare.ensures.same c.self.invariant.order
+returns-in-NoMemory-clause-order g c = order_same g.D.Disk.seen g.D.Disk.moment g.D.Disk.left_at c.self.inside.changes.items _ c.self.inside.side c.self.inside.taken c.self.inside.beside c.self.inside.protocol c.prepare.new.protocol c.self.inside.stopped c.prepare.ensures.same c.self.invariant.order
 
 pub returns-in-Again-clause-kept : goal.returns-in-Again-clause-kept
 returns-in-Again-clause-kept g c none l r s tl tr stands =
-    unchanged_pairs g.D.Disk.seen g.D.Disk.moment g.D.Disk.left_at c.args.self.now (stored c.self.inside.side c.self.inside.taken c.self.inside.beside c.self.inside.protocol c.self.inside.stopped) c.self.view_is c.self.invariant.order none l r s tl tr stands c.args.request.now
+    unchanged_pairs g.D.Disk.seen g.D.Disk.moment g.D.Disk.left_at c.args.self.now (stored c.self.inside.side c.self.inside.taken c.self.inside.beside c.self.inside.protocol c.self.inside.stopped c.self.inside.changes.items) c.self.view_is c.self.invariant.order none l r s tl tr stands c.args.request.now
 
 pub returns-in-No-clause-kept : goal.returns-in-No-clause-kept
 returns-in-No-clause-kept g c none l r s tl tr stands =
-    unchanged_pairs g.D.Disk.seen g.D.Disk.moment g.D.Disk.left_at c.args.self.now (stored c.self.inside.side c.self.inside.taken c.self.inside.beside c.self.inside.protocol c.self.inside.stopped) c.self.view_is c.self.invariant.order none l r s tl tr stands c.args.request.now
+    unchanged_pairs g.D.Disk.seen g.D.Disk.moment g.D.Disk.left_at c.args.self.now (stored c.self.inside.side c.self.inside.taken c.self.inside.beside c.self.inside.protocol c.self.inside.stopped c.self.inside.changes.items) c.self.view_is c.self.invariant.order none l r s tl tr stands c.args.request.now
 
 pub returns-in-NoMemory-clause-kept : goal.returns-in-NoMemory-clause-kept
 returns-in-NoMemory-clause-kept g c none l r s tl tr stands =
-    unchanged_pairs g.D.Disk.seen g.D.Disk.moment g.D.Disk.left_at c.args.self.now (stored c.self.inside.side c.self.inside.taken c.self.inside.beside c.self.inside.protocol c.self.inside.stopped) c.self.view_is c.self.invariant.order none l r s tl tr stands c.args.request.now
+    unchanged_pairs g.D.Disk.seen g.D.Disk.moment g.D.Disk.left_at c.args.self.now (stored c.self.inside.side c.self.inside.taken c.self.inside.beside c.self.inside.protocol c.self.inside.stopped c.self.inside.changes.items) c.self.view_is c.self.invariant.order none l r s tl tr stands c.args.request.now
 
 pub append-requires-clause-few : goal.append-requires-clause-few
 append-requires-clause-few g c =
@@ -54,7 +54,7 @@ pub invariant_of-self-in-Err : goal.invariant_of-self-in-Err
 invariant_of-self-in-Err g c =
     let a = appends g.D.Disk.seen g.D.Disk.moment g.D.Disk.left_at c.self.inside.side c.self.inside.taken c.append.new.self c.self.inside.beside c.self.inside.protocol c.self.inside.stopped c.in-Do.command c.encode.result c.in-Ready.planned c.in_default.is c.self.invariant (rw c.in-Do.is at c.requires.built) c.encode.ensures.read c.in-Ready.ensures.prepared c.append.ensures.telling c.append.ensures.crash in
     record {
-      order = order_same g.D.Disk.seen g.D.Disk.moment g.D.Disk.left_at c.self.inside.side c.append.new.self c.self.inside.beside c.self.inside.protocol c.prepare.new.protocol (Some c.sum_of_faults.result) c.prepare.ensures.same (order_halted g.D.Disk.seen g.D.Disk.moment g.D.Disk.left_at c.self.inside.side c.append.new.self c.self.inside.beside c.self.inside.protocol c.sum_of_faults.result g.met.D.Disk.seen_may_stay (kept_near g.D.Disk.seen g.D.Disk.moment g.D.Disk.left_at c.self.inside.side c.self.inside.taken c.append.new.self c.self.inside.beside c.self.inside.protocol c.in-Do.command c.encode.result a));
+      order = order_same g.D.Disk.seen g.D.Disk.moment g.D.Disk.left_at c.self.inside.changes.items _ c.self.inside.side c.append.new.self c.self.inside.beside c.self.inside.protocol c.prepare.new.protocol (Some c.sum_of_faults.result) c.prepare.ensures.same (order_halted g.D.Disk.seen g.D.Disk.moment g.D.Disk.left_at c.self.inside.side c.append.new.self c.self.inside.beside c.self.inside.protocol c.sum_of_faults.result g.met.D.Disk.seen_may_stay (kept_near g.D.Disk.seen g.D.Disk.moment g.D.Disk.left_at c.self.inside.side c.self.inside.taken c.append.new.self c.self.inside.beside c.self.inside.protocol c.in-Do.command c.encode.result a));
       generation_is = c.append.ensures.generation ∙ c.self.invariant.generation_is ∙ sym (ap (λ (i : Image). i.generation) c.prepare.ensures.same.image);
       parity_is = ap is_odd c.append.ensures.generation ∙ c.self.invariant.parity_is;
       count_is = c.in-Err.ensures.no_more ∙ c.self.invariant.count_is ∙ sym c.prepare.ensures.same.records;
@@ -75,7 +75,7 @@ returns-in-Err-clause-kept g c none l r s tl tr stands =
 pub returns-in-Err-clause-order : goal.returns-in-Err-clause-order
 returns-in-Err-clause-order g c =
     let a = appends g.D.Disk.seen g.D.Disk.moment g.D.Disk.left_at c.self.inside.side c.self.inside.taken c.append.new.self c.self.inside.beside c.self.inside.protocol c.self.inside.stopped c.in-Do.command c.encode.result c.in-Ready.planned c.in_default.is c.self.invariant (rw c.in-Do.is at c.requires.built) c.encode.ensures.read c.in-Ready.ensures.prepared c.append.ensures.telling c.append.ensures.crash in
-    order_same g.D.Disk.seen g.D.Disk.moment g.D.Disk.left_at c.self.inside.side c.append.new.self c.self.inside.beside c.self.inside.protocol c.prepare.new.protocol (Some c.sum_of_faults.result) c.prepare.ensures.same (order_halted g.D.Disk.seen g.D.Disk.moment g.D.Disk.left_at c.self.inside.side c.append.new.self c.self.inside.beside c.self.inside.protocol c.sum_of_faults.result g.met.D.Disk.seen_may_stay (kept_near g.D.Disk.seen g.D.Disk.moment g.D.Disk.left_at c.self.inside.side c.self.inside.taken c.append.new.self c.self.inside.beside c.self.inside.protocol c.in-Do.command c.encode.result a))
+    order_same g.D.Disk.seen g.D.Disk.moment g.D.Disk.left_at c.self.inside.changes.items _ c.self.inside.side c.append.new.self c.self.inside.beside c.self.inside.protocol c.prepare.new.protocol (Some c.sum_of_faults.result) c.prepare.ensures.same (order_halted g.D.Disk.seen g.D.Disk.moment g.D.Disk.left_at c.self.inside.side c.append.new.self c.self.inside.beside c.self.inside.protocol c.sum_of_faults.result g.met.D.Disk.seen_may_stay (kept_near g.D.Disk.seen g.D.Disk.moment g.D.Disk.left_at c.self.inside.side c.self.inside.taken c.append.new.self c.self.inside.beside c.self.inside.protocol c.in-Do.command c.encode.result a))
 
 pub make-done-requires-clause-room : goal.make-done-requires-clause-room
 make-done-requires-clause-room g c =
@@ -86,7 +86,7 @@ invariant_of-self-2 g c =
     let a = appends g.D.Disk.seen g.D.Disk.moment g.D.Disk.left_at c.self.inside.side c.self.inside.taken c.append.new.self c.self.inside.beside c.self.inside.protocol c.self.inside.stopped c.in-Do.command c.encode.result c.in-Ready.planned c.in_default.is c.self.invariant (rw c.in-Do.is at c.requires.built) c.encode.ensures.read c.in-Ready.ensures.prepared c.append.ensures.telling c.append.ensures.crash in
     let settled = c.in-Ok.ensures.settled (read_back c.in-Do.command) a.of in
     record {
-      order = subst (λ (o : Option ℕ). IsInOrder g.D.Disk.seen g.D.Disk.moment g.D.Disk.left_at (stored c.self.inside.side c.append.new.self c.self.inside.beside c.make-done.new.protocol o)) (sym c.in_default.is) (order_going g.D.Disk.seen g.D.Disk.moment g.D.Disk.left_at c.self.inside.side c.append.new.self c.self.inside.beside c.make-done.new.protocol (went_on g.D.Disk.seen g.D.Disk.moment g.D.Disk.left_at c.self.inside.side c.self.inside.taken c.append.new.self c.self.inside.beside c.self.inside.protocol c.in-Do.command c.encode.result a c.make-done.new.protocol (state_of c.self.inside.protocol) c.prepare.ensures.stands (λ t so. let is = c.in-Ready.ensures.prepared t so in stepped c.make-done.new.protocol t c.in-Do.command c.in-Ready.planned is (c.make-done.ensures.state t (stands_after c.self.inside.protocol c.prepare.new.protocol t c.prepare.ensures.same so))) c.in-Ok.ensures.durable c.in-Ok.ensures.appended));
+      order = subst (λ (o : Option ℕ). IsInOrder g.D.Disk.seen g.D.Disk.moment g.D.Disk.left_at (stored c.self.inside.side c.append.new.self c.self.inside.beside c.make-done.new.protocol o c.note.new.changes.items)) (sym c.in_default.is) (order_going g.D.Disk.seen g.D.Disk.moment g.D.Disk.left_at c.self.inside.side c.append.new.self c.self.inside.beside c.make-done.new.protocol (went_on g.D.Disk.seen g.D.Disk.moment g.D.Disk.left_at c.self.inside.side c.self.inside.taken c.append.new.self c.self.inside.beside c.self.inside.protocol c.in-Do.command c.encode.result a c.make-done.new.protocol (state_of c.self.inside.protocol) c.prepare.ensures.stands (λ t so. let is = c.in-Ready.ensures.prepared t so in stepped c.make-done.new.protocol t c.in-Do.command c.in-Ready.planned is (c.make-done.ensures.state t (stands_after c.self.inside.protocol c.prepare.new.protocol t c.prepare.ensures.same so))) c.in-Ok.ensures.durable c.in-Ok.ensures.appended));
       generation_is = c.append.ensures.generation ∙ c.self.invariant.generation_is ∙ sym (ap (λ (i : Image). i.generation) c.prepare.ensures.same.image) ∙ sym c.make-done.ensures.generation;
       parity_is = ap is_odd c.append.ensures.generation ∙ c.self.invariant.parity_is;
       count_is = omega (arith, c.in-Ok.ensures.one_more, c.self.invariant.count_is, c.prepare.ensures.same.records, c.make-done.ensures.counted);
@@ -107,7 +107,7 @@ returns-clause-kept g c none l r s tl tr stands =
 pub returns-clause-order : goal.returns-clause-order
 returns-clause-order g c =
     let a = appends g.D.Disk.seen g.D.Disk.moment g.D.Disk.left_at c.self.inside.side c.self.inside.taken c.append.new.self c.self.inside.beside c.self.inside.protocol c.self.inside.stopped c.in-Do.command c.encode.result c.in-Ready.planned c.in_default.is c.self.invariant (rw c.in-Do.is at c.requires.built) c.encode.ensures.read c.in-Ready.ensures.prepared c.append.ensures.telling c.append.ensures.crash in
-    subst (λ (o : Option ℕ). IsInOrder g.D.Disk.seen g.D.Disk.moment g.D.Disk.left_at (stored c.self.inside.side c.append.new.self c.self.inside.beside c.make-done.new.protocol o)) (sym c.in_default.is) (order_going g.D.Disk.seen g.D.Disk.moment g.D.Disk.left_at c.self.inside.side c.append.new.self c.self.inside.beside c.make-done.new.protocol (went_on g.D.Disk.seen g.D.Disk.moment g.D.Disk.left_at c.self.inside.side c.self.inside.taken c.append.new.self c.self.inside.beside c.self.inside.protocol c.in-Do.command c.encode.result a c.make-done.new.protocol (state_of c.self.inside.protocol) c.prepare.ensures.stands (λ t so. let is = c.in-Ready.ensures.prepared t so in stepped c.make-done.new.protocol t c.in-Do.command c.in-Ready.planned is (c.make-done.ensures.state t (stands_after c.self.inside.protocol c.prepare.new.protocol t c.prepare.ensures.same so))) c.in-Ok.ensures.durable c.in-Ok.ensures.appended))
+    subst (λ (o : Option ℕ). IsInOrder g.D.Disk.seen g.D.Disk.moment g.D.Disk.left_at (stored c.self.inside.side c.append.new.self c.self.inside.beside c.make-done.new.protocol o c.note.new.changes.items)) (sym c.in_default.is) (order_going g.D.Disk.seen g.D.Disk.moment g.D.Disk.left_at c.self.inside.side c.append.new.self c.self.inside.beside c.make-done.new.protocol (went_on g.D.Disk.seen g.D.Disk.moment g.D.Disk.left_at c.self.inside.side c.self.inside.taken c.append.new.self c.self.inside.beside c.self.inside.protocol c.in-Do.command c.encode.result a c.make-done.new.protocol (state_of c.self.inside.protocol) c.prepare.ensures.stands (λ t so. let is = c.in-Ready.ensures.prepared t so in stepped c.make-done.new.protocol t c.in-Do.command c.in-Ready.planned is (c.make-done.ensures.state t (stands_after c.self.inside.protocol c.prepare.new.protocol t c.prepare.ensures.same so))) c.in-Ok.ensures.durable c.in-Ok.ensures.appended))
 
 pub returns-in-Again-clause-written : goal.returns-in-Again-clause-written
 returns-in-Again-clause-written g c none held w k told found is =
@@ -120,3 +120,9 @@ returns-in-No-clause-written g c none held w k told found is =
 pub returns-in-NoMemory-clause-written : goal.returns-in-NoMemory-clause-written
 returns-in-NoMemory-clause-written g c none held w k told found is =
     written_never g.D.Disk.seen g.D.Disk.moment g.D.Disk.left_at c.self.inside.side c.self.inside.taken c.self.inside.beside c.self.inside.protocol c.prepare.new.protocol c.self.inside.stopped c.self.invariant c.args.self.now c.self.view_is none held w (read_back k) told found
+
+pub returns-clause-step : goal.returns-clause-step
+returns-clause-step g c none s stands =
+    let here : StandsFor c.self.inside.protocol s = subst (λ (o : Stored g.row.D.Denot). StandsFor o.core s) (sym c.self.view_is) stands in
+    let there = stands_after c.self.inside.protocol c.prepare.new.protocol s c.prepare.ensures.same here in
+    replied c.make-done.new.protocol s c.in-Do.command c.in-Ready.planned c.args.request.now c.make-done.result c.in-Do.is (c.in-Ready.ensures.prepared s here).0 (c.make-done.ensures.state s there) (c.make-done.ensures.reply s there)

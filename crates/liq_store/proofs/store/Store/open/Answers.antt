@@ -7,16 +7,16 @@ use Rattle.liq_store.specs.Opening.{left_after, right_after}
 use Rattle.liq_store.proofs.Opening.{StandsAs, begun_not, begun_opened, begun_reads_kept, judged_not, left_begun, left_opened, right_opened, same_disk, stood_on}
 use Rattle.liq_store.proofs.store.Store.open.Goals as goal
 
-pub begin-requires-clause-left : goal.begin-requires-clause-left
-begin-requires-clause-left g c =
+pub begin_told-requires-clause-left : goal.begin_told-requires-clause-left
+begin_told-requires-clause-left g c =
     let sl : StandsAs g.D.Disk.seen g.D.Disk.moment g.D.Disk.left_at true c.args.left c.stand-left.result = (record { found = c.stand-left.ensures.found; left = c.stand-left.ensures.left; same = c.stand-left.ensures.same; rest = c.stand-left.ensures.rest; journal = c.stand-left.ensures.journal; crash = c.stand-left.ensures.crash; reads = c.stand-left.ensures.reads; telling = c.stand-left.ensures.telling }) in
     let sr : StandsAs g.D.Disk.seen g.D.Disk.moment g.D.Disk.left_at false c.args.right c.stand-right.result = (record { found = c.stand-right.ensures.found; left = c.stand-right.ensures.left; same = c.stand-right.ensures.same; rest = c.stand-right.ensures.rest; journal = c.stand-right.ensures.journal; crash = c.stand-right.ensures.crash; reads = c.stand-right.ensures.reads; telling = c.stand-right.ensures.telling }) in
     let ol = subst (λ (y : Result (Stood g.row.D.Denot) (StandFault g.row.D.Denot)). StandsAs g.D.Disk.seen g.D.Disk.moment g.D.Disk.left_at true c.args.left y) c.in-Ok.ensures.fine.0 sl in
     let or = subst (λ (y : Result (Stood g.row.D.Denot) (StandFault g.row.D.Denot)). StandsAs g.D.Disk.seen g.D.Disk.moment g.D.Disk.left_at false c.args.right y) c.in-Ok.ensures.fine.1 sr in
     stood_on g.D.Disk.seen g.D.Disk.moment g.D.Disk.left_at true c.args.left c.in-Ok.left ol
 
-pub begin-requires-clause-right : goal.begin-requires-clause-right
-begin-requires-clause-right g c =
+pub begin_told-requires-clause-right : goal.begin_told-requires-clause-right
+begin_told-requires-clause-right g c =
     let sl : StandsAs g.D.Disk.seen g.D.Disk.moment g.D.Disk.left_at true c.args.left c.stand-left.result = (record { found = c.stand-left.ensures.found; left = c.stand-left.ensures.left; same = c.stand-left.ensures.same; rest = c.stand-left.ensures.rest; journal = c.stand-left.ensures.journal; crash = c.stand-left.ensures.crash; reads = c.stand-left.ensures.reads; telling = c.stand-left.ensures.telling }) in
     let sr : StandsAs g.D.Disk.seen g.D.Disk.moment g.D.Disk.left_at false c.args.right c.stand-right.result = (record { found = c.stand-right.ensures.found; left = c.stand-right.ensures.left; same = c.stand-right.ensures.same; rest = c.stand-right.ensures.rest; journal = c.stand-right.ensures.journal; crash = c.stand-right.ensures.crash; reads = c.stand-right.ensures.reads; telling = c.stand-right.ensures.telling }) in
     let ol = subst (λ (y : Result (Stood g.row.D.Denot) (StandFault g.row.D.Denot)). StandsAs g.D.Disk.seen g.D.Disk.moment g.D.Disk.left_at true c.args.left y) c.in-Ok.ensures.fine.0 sl in
@@ -29,7 +29,7 @@ returns-in-Ok-clause-left_leaves g c l r tl tr only =
     let sr : StandsAs g.D.Disk.seen g.D.Disk.moment g.D.Disk.left_at false c.args.right c.stand-right.result = (record { found = c.stand-right.ensures.found; left = c.stand-right.ensures.left; same = c.stand-right.ensures.same; rest = c.stand-right.ensures.rest; journal = c.stand-right.ensures.journal; crash = c.stand-right.ensures.crash; reads = c.stand-right.ensures.reads; telling = c.stand-right.ensures.telling }) in
     let ol = subst (λ (y : Result (Stood g.row.D.Denot) (StandFault g.row.D.Denot)). StandsAs g.D.Disk.seen g.D.Disk.moment g.D.Disk.left_at true c.args.left y) c.in-Ok.ensures.fine.0 sl in
     let or = subst (λ (y : Result (Stood g.row.D.Denot) (StandFault g.row.D.Denot)). StandsAs g.D.Disk.seen g.D.Disk.moment g.D.Disk.left_at false c.args.right y) c.in-Ok.ensures.fine.1 sr in
-    left_begun g.D.Disk.seen g.D.Disk.moment g.D.Disk.left_at c.args.left c.args.right c.in-Ok.left c.in-Ok.right (left_after c.begin.result) ol or c.begin.ensures.left l r tl tr only
+    left_begun g.D.Disk.seen g.D.Disk.moment g.D.Disk.left_at c.args.left c.args.right c.in-Ok.left c.in-Ok.right (left_after c.begin_told.result) ol or c.begin_told.ensures.left l r tl tr only
 
 pub returns-in-Ok-clause-recovers : goal.returns-in-Ok-clause-recovers
 returns-in-Ok-clause-recovers g c l r s tl tr only_l only_r kept x y lx ly =
@@ -37,8 +37,8 @@ returns-in-Ok-clause-recovers g c l r s tl tr only_l only_r kept x y lx ly =
     let sr : StandsAs g.D.Disk.seen g.D.Disk.moment g.D.Disk.left_at false c.args.right c.stand-right.result = (record { found = c.stand-right.ensures.found; left = c.stand-right.ensures.left; same = c.stand-right.ensures.same; rest = c.stand-right.ensures.rest; journal = c.stand-right.ensures.journal; crash = c.stand-right.ensures.crash; reads = c.stand-right.ensures.reads; telling = c.stand-right.ensures.telling }) in
     let ol = subst (λ (y : Result (Stood g.row.D.Denot) (StandFault g.row.D.Denot)). StandsAs g.D.Disk.seen g.D.Disk.moment g.D.Disk.left_at true c.args.left y) c.in-Ok.ensures.fine.0 sl in
     let or = subst (λ (y : Result (Stood g.row.D.Denot) (StandFault g.row.D.Denot)). StandsAs g.D.Disk.seen g.D.Disk.moment g.D.Disk.left_at false c.args.right y) c.in-Ok.ensures.fine.1 sr in
-    recovered l r x y s kept ((left_begun g.D.Disk.seen g.D.Disk.moment g.D.Disk.left_at c.args.left c.args.right c.in-Ok.left c.in-Ok.right (left_after c.begin.result) ol or c.begin.ensures.left l r tl tr only_l).each x lx)
-    ((right_opened g.D.Disk.seen g.D.Disk.moment g.D.Disk.left_at c.args.left c.args.right (Ok c.in-Ok.left) (Ok c.in-Ok.right) ol or r tr only_r (right_after c.begin.result) (same_disk g.D.Disk.seen g.D.Disk.moment g.D.Disk.left_at c.in-Ok.right (right_after c.begin.result) c.begin.ensures.right)).each y ly)
+    recovered l r x y s kept ((left_begun g.D.Disk.seen g.D.Disk.moment g.D.Disk.left_at c.args.left c.args.right c.in-Ok.left c.in-Ok.right (left_after c.begin_told.result) ol or c.begin_told.ensures.left l r tl tr only_l).each x lx)
+    ((right_opened g.D.Disk.seen g.D.Disk.moment g.D.Disk.left_at c.args.left c.args.right (Ok c.in-Ok.left) (Ok c.in-Ok.right) ol or r tr only_r (right_after c.begin_told.result) (same_disk g.D.Disk.seen g.D.Disk.moment g.D.Disk.left_at c.in-Ok.right (right_after c.begin_told.result) c.begin_told.ensures.right)).each y ly)
 
 pub returns-in-Err-clause-left_leaves : goal.returns-in-Err-clause-left_leaves
 returns-in-Err-clause-left_leaves g c l r tl tr only =
@@ -60,7 +60,7 @@ returns-in-Ok-clause-opened g c =
     let or = subst (λ (y : Result (Stood g.row.D.Denot) (StandFault g.row.D.Denot)). StandsAs g.D.Disk.seen g.D.Disk.moment g.D.Disk.left_at false c.args.right y) c.in-Ok.ensures.fine.1 sr in
     let cl = subst (λ (y : Result (Stood g.row.D.Denot) (StandFault g.row.D.Denot)). CountsStand y (g.D.Disk.faults c.args.left) (g.D.Disk.faults (disk_in y))) c.in-Ok.ensures.fine.0 c.stand-left.ensures.cause in
     let cr = subst (λ (y : Result (Stood g.row.D.Denot) (StandFault g.row.D.Denot)). CountsStand y (g.D.Disk.faults c.args.right) (g.D.Disk.faults (disk_in y))) c.in-Ok.ensures.fine.1 c.stand-right.ensures.cause in
-    begun_opened g.D.Disk.seen g.D.Disk.moment g.D.Disk.left_at g.D.Disk.faults c.args.left c.args.right c.in-Ok.left c.in-Ok.right ol or cl cr c.begin.result c.begin.ensures.opened
+    begun_opened g.D.Disk.seen g.D.Disk.moment g.D.Disk.left_at g.D.Disk.faults c.args.left c.args.right c.in-Ok.left c.in-Ok.right ol or cl cr c.begin_told.result c.begin_told.ensures.opened
 
 pub returns-in-Ok-clause-not_opened : goal.returns-in-Ok-clause-not_opened
 returns-in-Ok-clause-not_opened g c =
@@ -70,7 +70,7 @@ returns-in-Ok-clause-not_opened g c =
     let or = subst (λ (y : Result (Stood g.row.D.Denot) (StandFault g.row.D.Denot)). StandsAs g.D.Disk.seen g.D.Disk.moment g.D.Disk.left_at false c.args.right y) c.in-Ok.ensures.fine.1 sr in
     let cl = subst (λ (y : Result (Stood g.row.D.Denot) (StandFault g.row.D.Denot)). CountsStand y (g.D.Disk.faults c.args.left) (g.D.Disk.faults (disk_in y))) c.in-Ok.ensures.fine.0 c.stand-left.ensures.cause in
     let cr = subst (λ (y : Result (Stood g.row.D.Denot) (StandFault g.row.D.Denot)). CountsStand y (g.D.Disk.faults c.args.right) (g.D.Disk.faults (disk_in y))) c.in-Ok.ensures.fine.1 c.stand-right.ensures.cause in
-    begun_not g.D.Disk.seen g.D.Disk.moment g.D.Disk.left_at g.D.Disk.faults c.args.left c.args.right c.in-Ok.left c.in-Ok.right ol or cl cr c.begin.result c.begin.ensures.left c.begin.ensures.right c.begin.ensures.fault c.begin.ensures.cause
+    begun_not g.D.Disk.seen g.D.Disk.moment g.D.Disk.left_at g.D.Disk.faults c.args.left c.args.right c.in-Ok.left c.in-Ok.right ol or cl cr c.begin_told.result c.begin_told.ensures.left c.begin_told.ensures.right c.begin_told.ensures.cause
 
 pub returns-in-Ok-clause-reads : goal.returns-in-Ok-clause-reads
 returns-in-Ok-clause-reads g c =
@@ -78,7 +78,7 @@ returns-in-Ok-clause-reads g c =
     let sr : StandsAs g.D.Disk.seen g.D.Disk.moment g.D.Disk.left_at false c.args.right c.stand-right.result = (record { found = c.stand-right.ensures.found; left = c.stand-right.ensures.left; same = c.stand-right.ensures.same; rest = c.stand-right.ensures.rest; journal = c.stand-right.ensures.journal; crash = c.stand-right.ensures.crash; reads = c.stand-right.ensures.reads; telling = c.stand-right.ensures.telling }) in
     let ol = subst (λ (y : Result (Stood g.row.D.Denot) (StandFault g.row.D.Denot)). StandsAs g.D.Disk.seen g.D.Disk.moment g.D.Disk.left_at true c.args.left y) c.in-Ok.ensures.fine.0 sl in
     let or = subst (λ (y : Result (Stood g.row.D.Denot) (StandFault g.row.D.Denot)). StandsAs g.D.Disk.seen g.D.Disk.moment g.D.Disk.left_at false c.args.right y) c.in-Ok.ensures.fine.1 sr in
-    begun_reads_kept g.D.Disk.seen g.D.Disk.moment g.D.Disk.left_at c.args.left c.args.right c.in-Ok.left c.in-Ok.right ol or c.begin.result c.begin.ensures.left c.begin.ensures.right
+    begun_reads_kept g.D.Disk.seen g.D.Disk.moment g.D.Disk.left_at c.args.left c.args.right c.in-Ok.left c.in-Ok.right ol or c.begin_told.result c.begin_told.ensures.left c.begin_told.ensures.right
 
 pub returns-in-Err-clause-not_opened : goal.returns-in-Err-clause-not_opened
 returns-in-Err-clause-not_opened g c =

@@ -1,0 +1,69 @@
+-- What a call tells of the ordered list, and what an opening tells.
+use Rattle.std.proofs.Common.{◌≡◌, ◌∙◌, ℕ, List, Option, Result, Ok, Err, IfOk, IfErr, sym, ap, ap₂, subst}
+use Rattle.liq_types.specs.declared.events.ListChange.{ListChange}
+use Rattle.liq_types.specs.declared.requests.Command.{Command}
+use Rattle.liq_types.specs.declared.requests.Request.TheVariants.{Do}
+use Rattle.liq_types.specs.State.{State}
+use Rattle.liq_core.specs.Plan.{Plan, IsPlan}
+use Rattle.liq_rules.specs.Rules.{call_changes}
+use Rattle.liq_rules.specs.Step.{Ruling}
+use Rattle.liq_journal.specs.Causes.{Counted}
+use Rattle.liq_store.specs.declared.answers.StoreFault.{StoreFault}
+use Rattle.liq_store.specs.declared.answers.StoreWhy.TheVariants as why
+use Rattle.liq_store.specs.Beginning.{IsUnbegun, IsUnbegunBy}
+use Rattle.liq_store.specs.Causes.{counts_of}
+use Rattle.liq_store.specs.Opening.{OpensOn, left_after, right_after}
+use Rattle.liq_store.specs.Stored.{Stored}
+use Rattle.liq_store.specs.Telling.{told_by, told_of}
+use Rattle.liq_store.proofs.Steps.{planned_allowed}
+
+-- what is planned is told
+pub tells_planned : (s : State) (c : Command) (plan : Plan) → (plan.command ≡ c) × IsPlan s plan → plan.changes ≡ told_of s (Do c)
+tells_planned s c plan is =
+    is.1.changes ∙ ap (λ (k : Command). call_changes s k.call) is.0 ∙ sym (ap (λ (r : Ruling). told_by r (call_changes s c.call)) (planned_allowed s c plan is))
+
+-- ---- the store that begins, with its list
+
+-- the same store but for its changes, or its disks
+module _ {D : Type 0} (store : Stored D) (result : Result (Stored D) (StoreFault D)) (same : IfOk result (λ listed. listed ≡ record store { changes = listed.changes }))
+    (refused : IfErr result (λ e. (e.left ≡ store.left) × (e.right ≡ store.right) × (e.why ≡ why.NoMemory))) where
+  pub still_so : (P : Stored D → Type 0) → ((changes : List ListChange) → P (record store { changes = changes })) → IfOk result P
+  still_so P is = by result same
+    where
+      by : (r : Result (Stored D) (StoreFault D)) → IfOk r (λ listed. listed ≡ record store { changes = listed.changes }) → IfOk r P
+      by (Ok listed) so = subst P (sym so) (is listed.changes)
+      by (Err e) so = tt
+
+  pub left_still : left_after result ≡ store.left
+  left_still = by result same refused
+    where
+      by : (r : Result (Stored D) (StoreFault D)) → IfOk r (λ listed. listed ≡ record store { changes = listed.changes })
+          → IfErr r (λ e. (e.left ≡ store.left) × (e.right ≡ store.right) × (e.why ≡ why.NoMemory)) → left_after r ≡ store.left
+      by (Ok listed) so refuses = ap (λ (s : Stored D). s.left) so
+      by (Err e) so refuses = refuses.0
+
+  pub right_still : right_after result ≡ store.right
+  right_still = by result same refused
+    where
+      by : (r : Result (Stored D) (StoreFault D)) → IfOk r (λ listed. listed ≡ record store { changes = listed.changes })
+          → IfErr r (λ e. (e.left ≡ store.left) × (e.right ≡ store.right) × (e.why ≡ why.NoMemory)) → right_after r ≡ store.right
+      by (Ok listed) so refuses = ap (λ (s : Stored D). s.right) so
+      by (Err e) so refuses = refuses.1
+
+  module _ (seen : D → Option (List ℕ)) (faults : D → ℕ) (left right : D) (opened : OpensOn seen faults left right store) where
+    pub listed_opened : IfOk result (OpensOn seen faults left right)
+    listed_opened = still_so (OpensOn seen faults left right)
+        (λ changes. record { state = opened.state; commands = opened.commands; going = opened.going; counts = opened.counts; stays = opened.stays })
+
+    pub unlisted : IfErr result (IsUnbegun seen faults left right)
+    unlisted = by result refused
+      where
+        by : (r : Result (Stored D) (StoreFault D)) → IfErr r (λ e. (e.left ≡ store.left) × (e.right ≡ store.right) × (e.why ≡ why.NoMemory)) → IfErr r (IsUnbegun seen faults left right)
+        by (Ok listed) refuses = tt
+        by (Err e) refuses = subst (IsUnbegunBy seen faults left right e) (sym refuses.2) (record {
+          counts = ap₂ (counts_of faults) refuses.0 refuses.1 ∙ opened.counts;
+          stays = λ l r a b tl tr ta tb. opened.stays l r a b tl tr (ap seen (sym refuses.0) ∙ ta) (ap seen (sym refuses.1) ∙ tb);
+        })
+
+pub uncreated : {D : Type 0} (seen : D → Option (List ℕ)) (faults : D → ℕ) (left right : D) (e : StoreFault D) → e.why ≡ why.DiskFault → Counted (faults left) (faults e.left) → IsUnbegun seen faults left right e
+uncreated seen faults left right e fault counted = subst (IsUnbegunBy seen faults left right e) (sym fault) counted
