@@ -1,5 +1,5 @@
 -- What waits at a run's end, written or cut.
-use Rattle.std.proofs.Common.{◌≡◌, ℕ, ◌+◌, List, [], ◌++◌, Option, Ok, Err, Result, refl, ap, sym, subst, ◌∙◌, append-nil}
+use Rattle.std.proofs.Common.{◌≡◌, ℕ, List, [], ◌++◌, Option, Ok, Err, Result, refl, ap, sym, subst, ◌∙◌, append-nil}
 use Rattle.liq_types.specs.State.{State}
 use Rattle.liq_types.specs.declared.requests.Request.{Request}
 use Rattle.liq_core.specs.Core.{Core}

@@ -1,4 +1,5 @@
 mod BadLines
+mod Cleared
 mod Closing
 mod Cutting
 mod Faulted

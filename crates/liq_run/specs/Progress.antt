@@ -1,5 +1,5 @@
 -- How far a run has come.
-use Rattle.std.specs.Prelude.{ℕ, ◌≡◌, ◌≢◌, ◌≤◌, ◌<◌, ◌+◌, ◌*◌, [], ◌∷◌, ◌++◌}
+use Rattle.std.specs.Prelude.{ℕ, ◌≡◌, ◌≢◌, ◌≤◌, ◌<◌, ◌+◌, [], ◌∷◌, ◌++◌}
 use Rattle.std.specs.Prelude.{List, length, Option, Some, Result, Ok, Err, Bool, true, false}
 use Rattle.std.specs.List.{AllByRecursion, AllZip}
 use Rattle.liq_types.specs.declared.amounts.TheConstants.{LINE_BYTES, LINES_MOST}
@@ -18,8 +18,7 @@ use Rattle.liq_run.specs.declared.run.Next.TheVariants.{Line, LastLine, End}
 use Rattle.liq_run.specs.Calls.{IsCommand}
 use Rattle.liq_run.specs.Writing.{WritesFront}
 use Rattle.liq_lines.specs.Lines.{ended, IsWithinLine}
-use Rattle.liq_lines.specs.declared.reader.TheConstants.{READ_BYTES}
-use Rattle.liq_lines.specs.Reading.{unread, Reads, ReadsAtMost, IsOver}
+use Rattle.liq_lines.specs.Reading.{unread, Reads, IsOver}
 use Rattle.liq_lines.specs.Writing.{Writes, WritesPart}
 use Rattle.liq_lines.specs.Saying.{IsBadLine, BeginsWith}
 use Rattle.liq_store.specs.Memory.{IsAccepted, TakesMemory}

@@ -1,6 +1,6 @@
 //! One request after another, as the store answers them.
 
-ghost use Rattle.std.specs.Prelude.{◌≡◌, ◌≢◌, Some, None, Err, List, ℕ, IsTrue};
+ghost use Rattle.std.specs.Prelude.{◌≡◌, ◌≢◌, [], Some, None, Err, List, ℕ, IsTrue};
 ghost use Rattle.liq_types.specs.State.{State};
 ghost use Rattle.liq_core.specs.Core.{StandsFor};
 ghost use Rattle.liq_rules.specs.Step.{built};
@@ -22,12 +22,16 @@ pub fn call<D: Disk>(store: &mut Store<D>, request: &Request) -> Result<Reply, H
     ensures no_sink { result ≢ Err Halt.WriteFault }
     ensures command { result ≡ Err Halt.DiskFault → IsCommand request.now }
     ensures stopped { IsStopped result store.new.stopped }
+    // Nobody follows the list here.
+    ensures untold { store.new.changes ≡ [] }
     // Where a disk met a fault, both keep the state before the request or after it.
     ensures kept { result ≡ Err Halt.DiskFault → (s : State) → StandsFor store.old.core s → KeepsAround D.seen store.new.left store.new.right s request.now }
     ensures cause { DiskCause result (record { left = D.faults store.old.left; right = D.faults store.old.right }) (record { left = D.faults store.new.left; right = D.faults store.new.right }) }
 {
     protocols_stand(store.protocol());
-    match store.call(request, &Hint::NONE) {
+    let answer = store.call(request, &Hint::NONE);
+    store.clear_changes();
+    match answer {
         Answer::Reply(reply) => Ok(reply),
         Answer::NoMemory => Err(Halt::NoMemory),
         Answer::DiskFault => Err(Halt::DiskFault),

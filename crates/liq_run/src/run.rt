@@ -156,12 +156,16 @@ impl<D: Disk> Run<D> {
             }
         };
         match Store::open(alloc, left, right) {
-            Ok(store) => Ok(Run {
-                store,
-                reader,
-                line,
-                waiting,
-            }),
+            Ok(mut store) => {
+                // Nobody follows the list here.
+                store.clear_changes();
+                Ok(Run {
+                    store,
+                    reader,
+                    line,
+                    waiting,
+                })
+            }
             Err(fault) => Err(fault),
         }
     }

@@ -1,4 +1,4 @@
-use Rattle.std.proofs.Common.{[], Err, Result, sym, subst}
+use Rattle.std.proofs.Common.{[], Result, sym, subst}
 use Rattle.liq_outside.specs.Faults.{Rose}
 use Rattle.liq_ends.specs.declared.halts.Halt.{Halt}
 use Rattle.liq_ends.specs.Disks.{EndsDamaged}
