@@ -1,5 +1,6 @@
 -- What payments, price and time make of a protocol.
-use Rattle.std.proofs.Common.{◌≡◌, ℕ, ◌+◌, ◌-◌, ◌<◌, refl, ap, sym, subst, ◌∙◌, None}
+use Rattle.std.proofs.Common.{◌≡◌, ℕ, ◌+◌, ◌-◌, ◌<◌, ◌≤◌, refl, ap, sym, subst, ◌∙◌, None, rules as usual, tests}
+use Rattle.std.specs.Prelude.{Ok}
 use Rattle.liq_types.specs.declared.amounts.TheConstants.{ACCOUNTS}
 use Rattle.liq_types.specs.declared.figures.Wallet.{Wallet}
 use Rattle.liq_types.specs.declared.requests.Call.{Call}
@@ -9,12 +10,13 @@ use Rattle.liq_types.specs.Rules.{first_refusal}
 use Rattle.liq_types.specs.Soundness.{IsSoundImage}
 use Rattle.liq_types.specs.Tables.{Table}
 use Rattle.liq_tables.specs.WithRoom.{WithRoom}
+use Rattle.liq_ledger.specs.Refusals.{charging, ruled}
 use Rattle.liq_core.specs.declared.engine.Protocol.TheInside.{Inside}
 use Rattle.liq_core.specs.Core.{Core, Changes, state_of}
 use Rattle.liq_rules.specs.Image.{image}
 use Rattle.liq_rules.specs.Rules.{rules, effect}
 use Rattle.liq_core.specs.Sound.{IsSound, core_of}
-use Rattle.liq_soundness.proofs.SoundCalls.{fund_leaves, take_leaves, send_leaves}
+use Rattle.liq_soundness.proofs.SoundCalls.{advance_leaves, fund_leaves, take_leaves, send_leaves}
 use Rattle.liq_core.proofs.SoundCores.{core_finds, plain_image, sound_after}
 use Rattle.liq_soundness.proofs.SoundFacts.{Finds}
 
@@ -40,6 +42,10 @@ module _ (p : Inside) (old : Core) (view : core_of p ≡ old) (sound : IsSound p
   pub passed : (minutes : ℕ) → Changes old (Advance minutes) (core_of (record p { minute = p.minute + minutes }))
   passed minutes = plain (Advance minutes) p.price (p.minute + minutes) p.brought p.wallets p.wallets.rows refl refl
 
+  pub passed_sound : (minutes : ℕ) → first_refusal (rules (state_of old) (Advance minutes)) ≡ None → IsSound (record p { minute = p.minute + minutes })
+  passed_sound minutes none =
+      sound_after p (record p { minute = p.minute + minutes }) old (Advance minutes) view sound (advance_leaves (state_of old) finds_old minutes none) (passed minutes) sound.order
+
   module _ (account coll : ℕ) (wallets : WithRoom Wallet) where
     pub funded : wallets.rows ≡ credited_in p.wallets.rows account coll 0 → Changes old (Fund account coll) (core_of (record p { brought = p.brought + coll; wallets = wallets }))
     funded moved = plain (Fund account coll) p.price p.minute (p.brought + coll) wallets (credited_in p.wallets.rows account coll 0) moved refl
@@ -62,3 +68,7 @@ module _ (p : Inside) (old : Core) (view : core_of p ≡ old) (sound : IsSound p
     pub sent_sound : from < ACCOUNTS → to < ACCOUNTS → first_refusal (rules (state_of old) (Send from to lusd)) ≡ None → wallets.rows ≡ credited_in (charged_in p.wallets.rows from 0 lusd) to 0 lusd → IsSound (record p { wallets = wallets })
     sent_sound first second none moved =
         sound_after p (record p { wallets = wallets }) old (Send from to lusd) view sound (send_leaves (state_of old) finds_old from to lusd first second none) (sent moved) sound.order
+
+-- a wallet that has enough is charged
+pub charge_passes : (had : Wallet) (coll lusd : ℕ) → coll ≤ had.coll → lusd ≤ had.lusd → ruled (charging had coll lusd) ≡ Ok tt
+charge_passes had coll lusd first second = search (usual, tests)

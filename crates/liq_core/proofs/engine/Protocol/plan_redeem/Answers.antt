@@ -1,5 +1,5 @@
 use Rattle.std.proofs.Common.{◌≡◌, ℕ, List, [], ◌∷◌, Some, None, Option, refl, ap, sym, ◌∙◌, subst}
-use Rattle.std.specs.Prelude.{map, Ok}
+use Rattle.std.specs.Prelude.{map, Ok, Err}
 use Rattle.std.specs.List.{AllByRecursion}
 use Rattle.liq_types.specs.declared.figures.Market.{Market}
 use Rattle.liq_types.specs.declared.figures.Wallet.{Wallet}
@@ -10,6 +10,7 @@ use Rattle.liq_types.specs.Soundness.{IsSoundImage}
 use Rattle.liq_types.specs.State.{wallet_of}
 use Rattle.liq_types.specs.Totals.{market_of}
 use Rattle.liq_redemption.specs.declared.cut.Cut.{Cut}
+use Rattle.liq_redemption.specs.Answers.{Answers}
 use Rattle.liq_redemption.specs.Redemption.{RedeemTerms, Visit, asking_rules, first_net, redeem_plan, redeem_rules, redeeming_terms, taking_rules, visited}
 use Rattle.liq_core.specs.Core.{Core, state_of}
 use Rattle.liq_rules.specs.Redemption.{cut_told}
@@ -17,7 +18,7 @@ use Rattle.liq_soundness.specs.SoundState.{CutIsCovered}
 use Rattle.liq_rules.specs.Step.{rules}
 use Rattle.liq_rules.specs.Verbs.{no_hint}
 use Rattle.liq_core.proofs.Cutting.{redeem_told}
-use Rattle.liq_core.proofs.Reading.{allowed_so}
+use Rattle.liq_core.proofs.Reading.{allowed_so, refused_so}
 use Rattle.liq_core.proofs.SoundCores.{core_finds}
 use Rattle.liq_rules.proofs.Ruled.{some_first}
 use Rattle.liq_soundness.proofs.SoundRedeem.{cuts_covered}
@@ -64,3 +65,15 @@ pub returns-in-Err : goal.returns-in-Err
 returns-in-Err c hint =
     let s = state_of c.args.self.now in
     (refl, asked (market_of s) (wallet_of s c.args.account) (visited s) c.args.lusd c.args.bound c.in-Ok.taken c.in-Ok.ensures)
+
+pub returns-in-Err-No : goal.returns-in-Err-No
+returns-in-Err-No c hint =
+    let s = state_of c.args.self.now in
+    let refused = subst (Answers (market_of s) (wallet_of s c.args.account) (visited s) c.args.lusd c.args.bound) (c.in-Err-No.is ∙ ap Err c.in-Err-No.field-0-is) c.redemption.ensures in
+    refused_so (redeem_rules (market_of s) (wallet_of s c.args.account) (visited s) c.args.lusd c.args.bound) (redeeming_terms (market_of s) (visited s) c.args.lusd) c.in-Err-No.refusal refused
+
+pub returns-in-Err-NoMemory : goal.returns-in-Err-NoMemory
+returns-in-Err-NoMemory c hint =
+    let s = state_of c.args.self.now in
+    let passed = subst (Answers (market_of s) (wallet_of s c.args.account) (visited s) c.args.lusd c.args.bound) (c.in-Err-NoMemory.is ∙ ap Err c.in-Err-NoMemory.field-0-is) c.redemption.ensures in
+    (refl, passed)

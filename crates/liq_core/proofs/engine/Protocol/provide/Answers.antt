@@ -25,3 +25,6 @@ pub returns : goal.returns
 returns c =
     provide_changes c.self.inside c.args.self.now c.self.view_is c.self.invariant c.args.account c.args.lusd c.requires.range c.requires.allowed c.provide-gain.result c.provide-gain.ensures.gain
     c.provide-gain.new.self c.exchange.new.self c.provide-gain.ensures.words c.provide-gain.ensures.finished c.provide-gain.ensures.deposits c.exchange.ensures.rows
+
+pub provide-gain-requires-clause-some : goal.provide-gain-requires-clause-some
+provide-gain-requires-clause-some c = (provides_so c.self.inside c.args.self.now c.self.view_is c.self.invariant c.args.account c.args.lusd c.requires.range c.requires.allowed (position_at c.self.inside.pool c.args.account).1 refl).some

@@ -1,5 +1,9 @@
+use Rattle.std.proofs.Common.{subst, sym, arith}
+use Rattle.std.specs.Prelude.{◌≤◌}
+use Rattle.liq_types.specs.State.{wallet_in}
+use Rattle.liq_core.specs.Core.{Core}
 use Rattle.liq_core.specs.Sound.{core_of}
-use Rattle.liq_core.proofs.Paying.{sent, sent_sound}
+use Rattle.liq_core.proofs.Paying.{charge_passes, sent, sent_sound}
 use Rattle.liq_core.proofs.SoundCores.{sent_within}
 use Rattle.liq_core.proofs.engine.Protocol.send.Goals as goal
 
@@ -12,3 +16,9 @@ invariant_of-self c =
 
 pub returns : goal.returns
 returns c = sent c.self.inside c.args.self.now c.self.view_is c.self.invariant c.args.from c.args.to c.args.lusd _ c.in-Ok.ensures.moved
+
+pub unreachable-requires : goal.unreachable-requires
+unreachable-requires c =
+    let enough = subst (λ (core : Core). c.args.lusd ≤ (wallet_in core.image.wallets c.args.from).lusd) (sym c.self.view_is) c.requires.enough in
+    let passes = charge_passes (wallet_in c.self.inside.wallets.rows c.args.from) 0 c.args.lusd (omega arith) enough in
+    cc (c.send.ensures.refused, c.in-Err.is)

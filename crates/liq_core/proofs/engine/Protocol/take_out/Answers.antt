@@ -3,7 +3,7 @@ use Rattle.std.specs.Prelude.{◌≤◌}
 use Rattle.liq_types.specs.State.{wallet_in}
 use Rattle.liq_core.specs.Core.{Core}
 use Rattle.liq_core.specs.Sound.{core_of}
-use Rattle.liq_core.proofs.Paying.{taken, taken_sound}
+use Rattle.liq_core.proofs.Paying.{charge_passes, taken, taken_sound}
 use Rattle.liq_core.proofs.SoundCores.{wallet_coll}
 use Rattle.liq_core.proofs.engine.Protocol.take_out.Goals as goal
 
@@ -19,3 +19,9 @@ invariant_of-self c =
 
 pub returns : goal.returns
 returns c = taken c.self.inside c.args.self.now c.self.view_is c.self.invariant c.args.account c.args.coll _ c.in-Ok.ensures.moved
+
+pub unreachable-requires : goal.unreachable-requires
+unreachable-requires c =
+    let enough = subst (λ (core : Core). c.args.coll ≤ (wallet_in core.image.wallets c.args.account).coll) (sym c.self.view_is) c.requires.enough in
+    let passes = charge_passes (wallet_in c.self.inside.wallets.rows c.args.account) c.args.coll 0 enough (omega arith) in
+    cc (c.take.ensures.refused, c.in-Err.is)

@@ -1,5 +1,8 @@
-use Rattle.std.proofs.Common.{subst}
+use Rattle.std.proofs.Common.{List, ap, ◌∙◌, subst}
+use Rattle.std.proofs.lemmas.List.{take_all}
+use Rattle.liq_liquidation.specs.declared.one.Victim.{Victim}
 use Rattle.liq_core.specs.Core.{Core, state_of}
+use Rattle.liq_rules.specs.Liquidation.{offset_events, victim_changes}
 use Rattle.liq_soundness.specs.SoundState.{IsSoundState}
 use Rattle.liq_soundness.proofs.SoundStart.{started_with}
 use Rattle.liq_victims.proofs.ToldVictims.{next_at, others_at, course_at, events_at, changes_at}
@@ -31,3 +34,11 @@ loop-victim-preserved c =
       events = events_at s sound vs v few i within c.loop-victim.course h.course c.pass-event.result c.pass-event.ensures.event c.loop-victim.told.events.items c.add.new.self.events.items h.events c.in_ok-add.ensures.events;
       changes = changes_at s sound vs v few i within c.pass-event.new.self later c.list_words.result c.list_words.ensures c.loop-victim.told.changes.items c.add.new.self.changes.items h.changes c.in_ok-add.ensures.changes;
     }
+
+pub returns-clause-events : goal.returns-clause-events
+returns-clause-events c =
+    c.loop-victim.invariant.events ∙ ap (λ (vs : List Victim). offset_events (state_of c.args.self.now) vs) (take_all c.loop-victim.victim-index c.args.victims.now c.loop-victim-test.false)
+
+pub returns-clause-changes : goal.returns-clause-changes
+returns-clause-changes c =
+    c.loop-victim.invariant.changes ∙ ap (λ (vs : List Victim). victim_changes (state_of c.args.self.now) vs) (take_all c.loop-victim.victim-index c.args.victims.now c.loop-victim-test.false)
