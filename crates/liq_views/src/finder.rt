@@ -1,0 +1,18 @@
+//! Who looks for hints.
+
+ghost use Rattle.std.specs.Prelude.{◌≤◌};
+ghost use Rattle.liq_views.specs.Windows.{number_or};
+
+use crate::pane::Pane;
+use crate::window::Window;
+
+mod hinter;
+mod looks;
+
+/// Looks for hints at a window, and keeps the number of the version that it saw last.
+#[derive(Drop)]
+pub struct Finder<V: Window + Drop = Pane> {
+    pub(crate) window: V,
+    last: u64,
+    ghost reached: { last ≤ number_or (V.shown window) last },
+}

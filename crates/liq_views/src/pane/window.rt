@@ -1,0 +1,20 @@
+//! A pane as a window.
+
+ghost use Rattle.std.specs.Prelude.{Some};
+ghost use Rattle.liq_views.specs.Batches.{version_after};
+ghost use Rattle.liq_views.specs.Panes.{seen_by};
+
+use super::Pane;
+use crate::window::{Shut, Window};
+use liq_types::Hint;
+use liq_version::Ask;
+
+impl Window for Pane {
+    ghost shown = { λ p. Some (version_after (seen_by p)) };
+
+    ghost shut = { λ p. p.shut };
+
+    fn look(&mut self, ask: &Ask) -> Result<Hint, Shut> {
+        self.look(ask)
+    }
+}

@@ -1,0 +1,54 @@
+//! Where a finder looks.
+
+ghost use Rattle.std.specs.Prelude.{◌≡◌, ℕ, Option, Some, IfOk, IfSome, OnOk, OnErr};
+ghost use Rattle.liq_version.specs.Versions.{Numbered, answer_of};
+ghost use Rattle.liq_views.specs.Windows.{GoesOn, Rose};
+
+use liq_types::Hint;
+use liq_version::{Ask, Version};
+
+/// The window is shut: nothing was seen.
+#[derive(Clone, Copy)]
+pub struct Shut;
+
+/// Something through which one version after the other is shown.
+pub trait Window {
+    /// The version last shown, where that is told.
+    ghost shown: { Self → Option Numbered };
+
+    /// How many looks were shut, as far as a count of 64 bits goes.
+    ghost shut: { Self → ℕ };
+
+    /// Asks the version that is then shown. Its number isn't below that of the one shown before. `Shut` comes only where
+    /// the count of shut looks rose in this call, and leaves what was last shown.
+    fn look(&mut self, ask: &Ask) -> Result<Hint, Shut>
+        ensures told { IfOk result (λ hint. IfSome (shown self.new) (λ v. hint ≡ answer_of v ask.now)) }
+        ensures later { GoesOn (shown self.old) (shown self.new) }
+        ensures stays { OnErr result (shown self.new ≡ shown self.old) }
+        ensures open { OnOk result (shut self.new ≡ shut self.old) }
+        ensures cause { OnErr result (Rose (shut self.old) (shut self.new)) };
+}
+
+/// A window at which one version stands. It is never shut.
+#[derive(Drop)]
+pub struct Shown {
+    version: Version,
+}
+
+impl Shown {
+    pub fn new(version: Version) -> Shown
+        ensures { result.version ≡ version }
+    {
+        Shown { version }
+    }
+}
+
+impl Window for Shown {
+    ghost shown = { λ s. Some s.version };
+
+    ghost shut = { λ _. 0 };
+
+    fn look(&mut self, ask: &Ask) -> Result<Hint, Shut> {
+        Ok(self.version.answer(ask))
+    }
+}
