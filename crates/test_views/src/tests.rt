@@ -1,0 +1,5 @@
+//! The tests.
+
+mod at_once;
+mod checks;
+mod row;
