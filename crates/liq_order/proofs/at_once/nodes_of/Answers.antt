@@ -1,4 +1,5 @@
-use Rattle.std.proofs.Common.{◌≡◌, ◌+◌, ◌<◌, suc, Option, [], ◌∷◌, ◌++◌, length, get_or, take, pos, ap, ◌∙◌, arith}
+use Rattle.std.proofs.Common.{◌≡◌, ◌+◌, ◌<◌, suc, Option, List, [], ◌∷◌, ◌++◌, length, get_or, take, pos, ap, ◌∙◌, arith}
+use Rattle.std.proofs.lemmas.List.{take_all}
 use Rattle.liq_types.specs.Ranked.{Ranked}
 use Rattle.liq_order.specs.Chained.{before, below, chained, chained_node}
 use Rattle.liq_order.specs.declared.places.NodeNo.{NodeNo}
@@ -25,3 +26,8 @@ loop-at-preserved c =
       count = omega (arith, c.push_reserved.ensures.len, c.loop-at.invariant.count);
       room = omega (arith, c.push_reserved.ensures.capacity, c.loop-at.invariant.room);
     }
+
+pub returns-clause-nodes : goal.returns-clause-nodes
+returns-clause-nodes c =
+    let all = c.args.entries.now in
+    c.loop-at.invariant.nodes ∙ ap (λ (es : List Ranked). chained (length all) 0 es) (take_all c.loop-at.at all (omega (arith, c.loop-at-test.false, c.loop-at.auto.at-end)))

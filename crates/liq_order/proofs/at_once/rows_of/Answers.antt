@@ -1,5 +1,7 @@
 use Rattle.std.proofs.Common.{◌<◌, List, [], ◌∷◌, ◌++◌, length, get_or, pos, ap, ◌∙◌, arith}
+use Rattle.std.proofs.lemmas.List.{take_all}
 use Rattle.liq_types.specs.Ranked.{Ranked}
+use Rattle.liq_order.specs.Chained.{paired}
 use Rattle.liq_order.specs.Pairs.{Row}
 use Rattle.liq_order.proofs.Chained.{paired_next}
 use Rattle.liq_order.proofs.at_once.rows_of.Goals as goal
@@ -18,3 +20,6 @@ loop-at-preserved c =
       count = omega (arith, c.push_reserved.ensures.len, c.loop-at.invariant.count);
       room = omega (arith, c.push_reserved.ensures.capacity, c.loop-at.invariant.room);
     }
+
+pub returns : goal.returns
+returns c = c.loop-at.invariant.rows ∙ ap (λ (es : List Ranked). paired 0 es) (take_all c.loop-at.at c.args.entries.now (omega (arith, c.loop-at-test.false, c.loop-at.auto.at-end)))
