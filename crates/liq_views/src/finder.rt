@@ -13,6 +13,7 @@ mod looks;
 #[derive(Drop)]
 pub struct Finder<V: Window + Drop = Pane> {
     pub(crate) window: V,
+    /// The number of the version that was seen last; 0 before any.
     last: u64,
     ghost reached: { last ≤ number_or (V.shown window) last },
 }

@@ -10,6 +10,8 @@ mod window;
 /// A window at what a publisher published last.
 #[derive(Drop)]
 pub struct Pane {
+    /// None where no reader was to be had.
     reader: Option<Reader<Shelf, Sight, Published>>,
+    /// How many looks were shut.
     shut: u64,
 }

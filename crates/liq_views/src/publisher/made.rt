@@ -47,7 +47,7 @@ impl Publisher {
         Finder::new(Pane::over(self.writer.factory().reader().ok()))
     }
 
-    /// Ends it. What waits is not published. The looks of finders are shut from now on.
+    /// Ends it. What waits is not published. A finder's look may be shut afterwards. Takes no memory.
     pub fn close<R: Wait>(self, rt: &R) {
         let Publisher { alloc: _, writer } = self;
         writer.take(rt);
