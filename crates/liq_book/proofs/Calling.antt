@@ -1,10 +1,11 @@
 -- What a call of the store leaves of a book.
-use Rattle.std.proofs.Common.{◌≡◌, ℕ, ◌+◌, ◌≤◌, ◌<◌, List, [], ◌∷◌, ◌++◌, map, length, Option, Some, None, Bool, false, true, ◌==◌, sym, refl, ap, ◌∙◌, subst, arith, length-append}
+use Rattle.std.proofs.Common.{◌≡◌, ℕ, ◌+◌, ◌≤◌, ◌<◌, List, [], ◌∷◌, ◌++◌, map, length, Option, Some, None, Bool, ◌==◌, sym, refl, ap, ◌∙◌, subst, arith, length-append}
 use Rattle.std.specs.Prelude.{◌↔◌, IsSome}
-use Rattle.std.specs.Option.{option_map}
+use Rattle.std.specs.Option.{IsSomeAnd, option_map}
 use Rattle.std.proofs.lemmas.List.{length-map, map-append}
 use Rattle.std.proofs.lemmas.List.Sums.{count_by-le-length, length-filter}
 use Rattle.liq_outside.specs.Disk.{GoesOn, LeftNow}
+use Rattle.liq_types.specs.declared.events.ListChange.{ListChange}
 use Rattle.liq_types.specs.declared.replies.Answer.{Answer}
 use Rattle.liq_types.specs.declared.replies.Answer.TheVariants as answer
 use Rattle.liq_types.specs.declared.replies.Reply.{Reply}
@@ -26,6 +27,7 @@ use Rattle.liq_types.specs.declared.entries.Entry.{Entry}
 use Rattle.liq_book.specs.declared.items.Halt.{Halt}
 use Rattle.liq_book.specs.declared.items.TheConstants.{ENTRIES_MOST}
 use Rattle.liq_book.specs.Booked.{IsBook, KeepsDisks}
+use Rattle.liq_book.specs.Entered.{Enters, IsTestedFirst}
 use Rattle.liq_rules.specs.Recorded.{recorded}
 use Rattle.liq_book.specs.Origin.{DiskAt, GoesOnFrom, IsAtOrigin}
 use Rattle.liq_types.proofs.Tests.{value_of}
@@ -45,6 +47,11 @@ goes (Some sum) some = absurd (some sum refl)
 pub no_halt : (halt : Option Halt) (stopped : Option ℕ) → stopped ≡ option_map (λ h. h.faults) halt → stopped ≡ None → halt ≡ None
 no_halt None stopped is none = refl
 no_halt (Some halt) stopped is none = absurd (let e : Some halt.faults ≡ None = sym is ∙ none in cc)
+
+-- one whose store is stopped has a halt, with the faults that are told
+a_halt : (halt : Option Halt) (stopped : Option ℕ) (sum : ℕ) → stopped ≡ option_map (λ h. h.faults) halt → stopped ≡ Some sum → IsSomeAnd halt (λ h. h.faults ≡ sum)
+a_halt None stopped sum is some = absurd (let e : Some sum ≡ None = sym some ∙ is in cc)
+a_halt (Some halt) stopped sum is some = let e : Some halt.faults ≡ Some sum = sym is ∙ some in cc
 
 module _ {D : Type 0} (seen : D → Option (List ℕ)) (faults : D → ℕ) (moment : D → ℕ) (left_at : D → ℕ → List ℕ → Type 0) where
   abbrev pub faults_in : Stored D → Faults
@@ -111,6 +118,24 @@ module _ {D : Type 0} (seen : D → Option (List ℕ)) (faults : D → ℕ) (mom
       left = at.left.time;
       right = at.right.time;
     }
+
+    -- the same with other changes
+    pub forgets : (old new : Stored D) (entries : List Entry) (halt : Option Halt) (changes : List ListChange) → new ≡ record old { changes = changes } → Booking old entries halt → Booking new entries halt
+    forgets old new entries halt changes same b = subst (λ (s : Stored D). Booking s entries halt) (sym same) (record {
+      few = b.few;
+      legal = b.legal;
+      state = b.state;
+      halt = b.halt;
+      keeps = other b.keeps;
+      cause = b.cause;
+      left = b.left;
+      right = b.right;
+    }) where
+      other : KeepsDisks seen moment left_at halt (state_after base (map recorded entries)) old → KeepsDisks seen moment left_at halt (state_after base (map recorded entries)) (record old { changes = changes })
+      other keeps = at halt keeps where
+        at : (h : Option Halt) → KeepsDisks seen moment left_at h (state_after base (map recorded entries)) old → KeepsDisks seen moment left_at h (state_after base (map recorded entries)) (record old { changes = changes })
+        at None k = k
+        at (Some h) k = k
 
     -- a reply is entered
     pub enters : (old new : Stored D) (entries : List Entry) (halt : Option Halt) (request : Request) (reply : Reply) (session calls : ℕ)
@@ -201,3 +226,22 @@ module _ {D : Type 0} (seen : D → Option (List ℕ)) (faults : D → ℕ) (mom
       by_stop : (o : Option ℕ) → old.stopped ≡ o → Booking new entries halt
       by_stop None is = going_on a refl is
       by_stop (Some sum) is = rw ((c.stopped sum is).1) b
+
+    -- what any other answer says of the book
+    pub others_answer : (first old new : Stored D) (entries : List Entry) (halt : Option Halt) (request : Request) (a : Answer) (session calls : ℕ)
+        → Booking old entries halt → Calls old request a new → length entries < ENTRIES_MOST
+        → ((reply : Reply) → a ≡ answer.Reply reply → ⊥) → (a ≡ answer.DiskFault → ⊥)
+        → Enters base session calls request a (record { store = first; entries = entries; halt = halt }) (record { store = new; entries = entries; halt = halt }) × IsTestedFirst entries a
+    others_answer first old new entries halt request a session calls b c few no_reply no_fault = by_stop old.stopped refl where
+      going_on : (a' : Answer) → a ≡ a' → old.stopped ≡ None
+          → Enters base session calls request a' (record { store = first; entries = entries; halt = halt }) (record { store = new; entries = entries; halt = halt }) × IsTestedFirst entries a'
+      going_on (answer.Reply reply) is going = absurd (no_reply reply is)
+      going_on answer.NoMemory is going = ((refl, refl), few)
+      going_on answer.DiskFault is going = absurd (no_fault is)
+      going_on (answer.Stopped faults) is going = absurd (rw is at (c.step_is going (state_after base (map recorded entries)) b.state))
+      going_on (answer.HistoryFull most) is going = absurd (rw is at (c.step_is going (state_after base (map recorded entries)) b.state))
+
+      by_stop : (o : Option ℕ) → old.stopped ≡ o
+          → Enters base session calls request a (record { store = first; entries = entries; halt = halt }) (record { store = new; entries = entries; halt = halt }) × IsTestedFirst entries a
+      by_stop None is = going_on a refl is
+      by_stop (Some sum) is = rw ((c.stopped sum is).0) (((refl, refl), a_halt halt old.stopped sum b.halt is), few)

@@ -37,7 +37,7 @@ ends_in book faults some = at book.halt refl some where
   at None is some = absurd some
   at (Some halt) is some = (map item.Entry book.entries, (halt, (ap (chronicle book.entries) is, some)))
 
-same_items : {D : Type 0} (old new : Booked D) → (new.entries ≡ old.entries) × (new.halt ≡ old.halt) → items_in new ≡ items_in old
+pub same_items : {D : Type 0} (old new : Booked D) → (new.entries ≡ old.entries) × (new.halt ≡ old.halt) → items_in new ≡ items_in old
 same_items old new same = ap (λ entries. chronicle entries new.halt) same.0 ∙ ap (chronicle old.entries) same.1
 
 -- one more entry is the last item
@@ -150,3 +150,7 @@ faults_after base session calls request answer.DiskFault before after a =
     rw (a.2.1, faulted_in-append session (before ++ a.0) (item.Halt (record { session = session; request = request; faults = a.2.0 }) ∷ []), same_session session) refl
 faults_after base session calls request (answer.Stopped faults) before after a = faulted_behind session after before a.0
 faults_after base session calls request (answer.HistoryFull entries) before after a = faulted_behind session after before a.0
+
+-- items of others leave a session's calls
+pub calls_behind : (session : ℕ) (after before : List Item) → Behind session_of after (session ∷ []) before → calls_of session after ≡ calls_of session before
+calls_behind session after before b = ap (map (λ (e : history.Entry). (e.request, e.reply))) (own_behind session after before b)

@@ -1,4 +1,6 @@
+pub mod Batches
 pub mod Calling
 pub mod Chronicles
 pub mod Gathering
 pub mod Learning
+pub mod Telling

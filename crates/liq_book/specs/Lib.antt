@@ -4,4 +4,5 @@ pub mod Closing
 pub mod Entered
 pub mod Items
 pub mod Origin
+pub mod Publishing
 pub mod Seats

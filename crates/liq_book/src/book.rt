@@ -1,21 +1,28 @@
-//! The value behind the lock of a service: a store, and all that was entered.
+//! The value behind the lock of a service: a store, all that was entered, and the publisher of the list.
 
-ghost use Rattle.std.specs.Prelude.{◌≡◌, ◌≤◌, map, length, [], None};
+ghost use Rattle.std.specs.Prelude.{◌≡◌, ◌≤◌, ◌⊎◌, ◌++◌, MatchResult, map, length, [], ◌∷◌, None};
 ghost use Rattle.std.specs.Option.{option_map};
+ghost use Rattle.liq_types.specs.State.{opening};
 ghost use Rattle.liq_rules.specs.History.{IsLegal, own_entries};
 ghost use Rattle.liq_rules.specs.Recorded.{recorded};
+ghost use Rattle.liq_rules.specs.View.{all_followed, view_of};
+ghost use Rattle.liq_store.specs.Keeping.{IsInOrder};
+ghost use Rattle.liq_views.specs.Publishers.{published, waiting};
 ghost use Rattle.liq_book.specs.Items.{chronicle, session_of};
 
 use crate::items::{ENTRIES_MOST, Halt, Item};
 use crate::origin::Origin;
 use crate::service::Closed;
 use liq_core::is_built;
+use liq_core::laws::protocols_are_sound;
 use liq_lock::Chronicle;
 use liq_outside::Disk;
 use liq_store::Store;
-use liq_types::{Answer, Entry, Hint, Request};
+use liq_types::{Answer, Entry, Hint, NoMemory, Request};
+use liq_views::Publisher;
 use std::alloc::Global;
 use std::marker::{Model, PhantomData};
+use std::sync::Wait;
 
 /// Entries in their order. Contracts see the list of them.
 pub struct History {
@@ -56,29 +63,33 @@ impl History {
     }
 }
 
-/// A store with the history of its calls. Contracts see the store, the entries, and the halt, once a call met a disk's fault.
-#[derive(Drop)]
+/// A store with the history of its calls, and the publisher of its list. Contracts see the store, the entries, the halt, once a call
+/// met a disk's fault, and the batches that were published or wait. It is not `Drop`: end it by `close`.
 pub struct Book<D: Disk, O: Origin> {
     pub(crate) store: Store<D>,
+    pub(crate) publisher: Publisher,
     pub(crate) entries: Vec<Entry>,
     pub(crate) halt: Option<Halt>,
     pub(crate) of: PhantomData<O>,
 }
 
 impl<D: Disk, O: Origin> Model for Book<D, O> {
-    ghost use Rattle.liq_book.specs.Booked.{Booked, IsBook};
+    ghost use Rattle.liq_views.specs.Publishers.{published, waiting};
+    ghost use Rattle.liq_book.specs.Booked.{IsBook};
+    ghost use Rattle.liq_book.specs.Publishing.{IsPublishing, OpenBook, open_book};
 
-    ghost Value = { Booked D };
+    ghost Value = { OpenBook D };
 
-    ghost view = { λ b. record { store = b.store; entries = b.entries.items; halt = b.halt } };
+    ghost view = { λ b. open_book b.store b.entries.items b.halt (published b.publisher) (waiting b.publisher) };
 
-    ghost invariant = { λ b. IsBook D.seen D.faults D.moment D.left_at O.state O.left O.right (record { store = b.store; entries = b.entries.items; halt = b.halt }) };
+    ghost invariant = { λ b. IsBook D.seen D.faults D.moment D.left_at O.state O.left O.right (record { store = b.store; entries = b.entries.items; halt = b.halt })
+        × IsPublishing O.state (open_book b.store b.entries.items b.halt (published b.publisher) (waiting b.publisher)) };
 }
 
 impl<D: Disk, O: Origin> Chronicle for Book<D, O> {
     type Item = Item;
 
-    ghost history = { λ b. chronicle b.entries b.halt };
+    ghost history = { λ b. chronicle b.book.entries b.book.halt };
 
     ghost maker = { session_of };
 
@@ -94,43 +105,57 @@ impl<D: Disk, O: Origin> Chronicle for Book<D, O> {
 impl<D: Disk, O: Origin> Book<D, O> {
     ghost use Rattle.liq_book.specs.Booked.{IsBook};
     ghost use Rattle.liq_book.specs.Closing.{booked_by};
-    ghost use Rattle.liq_book.specs.Entered.{Enters, IsTestedFirst};
+    ghost use Rattle.liq_book.specs.Entered.{Enters, IsAsBefore, IsTestedFirst};
     ghost use Rattle.liq_book.specs.Origin.{IsAtOrigin};
+    ghost use Rattle.liq_book.specs.Publishing.{batch_of, open_book};
 
-    /// A book without entries, over a store that was never stopped.
-    pub(crate) fn new(alloc: Global, store: Store<D>) -> Book<D, O>
+    /// A book without entries, over a store that was never stopped, whose opened list was published.
+    pub(crate) fn new(alloc: Global, store: Store<D>, publisher: Publisher) -> Book<D, O>
         requires going { store.stopped ≡ None }
         requires origin { IsAtOrigin D.seen D.faults D.moment D.left_at O.state O.left O.right store }
-        ensures { result ≡ record { store = store; entries = []; halt = None } }
+        requires listed { all_followed (view_of opening) store.changes ≡ view_of O.state }
+        requires published { published publisher ≡ record { changes = store.changes; number = 0 } ∷ [] }
+        requires waiting { waiting publisher ≡ [] }
+        ensures { result ≡ open_book store [] None (published publisher) (waiting publisher) }
     {
         // What holds of a store is told by its calls alone.
         let _ = store.stopped();
         Book {
             store,
+            publisher,
             entries: Vec::new(alloc),
             halt: None,
             of: PhantomData,
         }
     }
 
-    /// The store, of a book that is not used.
-    pub(crate) fn into_store(self) -> Store<D>
-        ensures { result ≡ self.store }
-    {
-        self.store
-    }
-
-    /// What the book has.
-    pub(crate) fn close(self) -> Closed<D, O>
-        ensures same { booked_by result ≡ self }
-        ensures book { IsBook D.seen D.faults D.moment D.left_at O.state O.left O.right self }
+    /// The store and the publisher, of a book that is not used.
+    pub(crate) fn into_parts(self) -> (Store<D>, Publisher)
+        ensures { result.0 ≡ self.book.store }
     {
         let Book {
             store,
+            publisher,
+            entries: _,
+            halt: _,
+            of: _,
+        } = self;
+        (store, publisher)
+    }
+
+    /// What the book has. Nothing is published from now on.
+    pub(crate) fn close<W: Wait>(self, rt: &W) -> Closed<D, O>
+        ensures same { booked_by result ≡ self.book }
+        ensures book { IsBook D.seen D.faults D.moment D.left_at O.state O.left O.right self.book }
+    {
+        let Book {
+            store,
+            publisher,
             entries,
             halt,
             of,
         } = self;
+        publisher.close(rt);
         Closed {
             store,
             history: History { list: entries },
@@ -142,11 +167,11 @@ impl<D: Disk, O: Origin> Book<D, O> {
     /// Answers a session's request, of which so many calls got a reply before, and enters it with its reply. With any other
     /// answer the entries stay. At the limit nothing is asked of the store. After a disk's fault there is a halt.
     pub(crate) fn call(&mut self, session: u8, calls: u32, request: &Request, hint: &Hint) -> Answer
-        requires calls { length (own_entries session (map recorded self.old.entries)) ≡ calls }
-        ensures enters { Enters O.state session calls request.now result self.old self.new }
-        ensures first { IsTestedFirst self.old.entries result }
-        ensures legal { IsLegal O.state (map recorded self.new.entries) }
-        ensures few { length self.new.entries ≤ ENTRIES_MOST }
+        requires calls { length (own_entries session (map recorded self.old.book.entries)) ≡ calls }
+        ensures enters { Enters O.state session calls request.now result self.old.book self.new.book }
+        ensures first { IsTestedFirst self.old.book.entries result }
+        ensures legal { IsLegal O.state (map recorded self.new.book.entries) }
+        ensures few { length self.new.book.entries ≤ ENTRIES_MOST }
     {
         if self.entries.len() == ENTRIES_MOST {
             let entries = ENTRIES_MOST as u64;
@@ -156,6 +181,8 @@ impl<D: Disk, O: Origin> Book<D, O> {
         if !is_built(request) || self.entries.try_reserve(1).is_err() {
             return Answer::NoMemory;
         }
+        forget_opening(&mut self.store, self.entries.as_slice());
+        protocols_are_sound(self.store.protocol());
         match self.store.call(request, hint) {
             Answer::Reply(reply) => {
                 self.entries.push_reserved(Entry {
@@ -172,6 +199,39 @@ impl<D: Disk, O: Origin> Book<D, O> {
             }
             other => other,
         }
+    }
+
+    /// Publishes what the calls since the last publication changed in the list, as the version after all entries. Without memory what
+    /// is told is kept, and goes out with the next publication.
+    pub(crate) fn publish<W: Wait>(&mut self, rt: &W) -> Result<(), NoMemory>
+        ensures same { IsAsBefore self.old.book self.new.book }
+        ensures sent { MatchResult result
+            (λ _. (self.new.published ≡ self.old.published ++ (self.old.waiting ++ batch_of self.old.book ∷ [])) × (self.new.waiting ≡ [])
+            × (self.new.book ≡ record self.old.book { store = record self.old.book.store { changes = [] } }))
+            (λ _. (self.new.published ≡ self.old.published) × (self.new.book ≡ self.old.book)
+            × ((self.new.waiting ≡ self.old.waiting) ⊎ (self.new.waiting ≡ self.old.waiting ++ batch_of self.old.book ∷ []))) }
+    {
+        let number = self.entries.len() as u64;
+        match self.publisher.publish(rt, self.store.changes(), number) {
+            Ok(()) => {
+                self.store.clear_changes();
+                Ok(())
+            }
+            Err(NoMemory) => Err(NoMemory),
+        }
+    }
+}
+
+/// Before the first entry there is nothing to tell: the list as it was opened was published when the book was made.
+fn forget_opening<D: Disk>(store: &mut Store<D>, entries: &[Entry])
+    ensures store { store.new ≡ record store.old { changes = store.new.changes } }
+    ensures changes { (store.new.changes ≡ store.old.changes) ⊎ ((entries.now ≡ []) × (store.new.changes ≡ [])) }
+    ensures order { IsInOrder D.seen D.moment D.left_at store.new }
+{
+    if entries.is_empty() {
+        store.clear_changes();
+    } else {
+        let _ = store.stopped();
     }
 }
 

@@ -5,6 +5,7 @@
 mod book;
 mod items;
 mod origin;
+mod publishing;
 mod seat;
 mod service;
 
@@ -12,5 +13,6 @@ pub use book::{Book, History};
 pub use items::{ENTRIES_MOST, Halt, Item};
 pub use liq_types::Entry;
 pub use origin::Origin;
+pub use publishing::Publishing;
 pub use seat::BookSeat;
 pub use service::{Closed, Service, StillOut};

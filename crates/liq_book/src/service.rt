@@ -5,6 +5,7 @@ ghost use Rattle.liq_lock.specs.Seats.{lock_seats};
 mod calls;
 mod ends;
 mod made;
+mod publications;
 
 use crate::book::{Book, History};
 use crate::items::Halt;
@@ -16,22 +17,12 @@ use liq_store::Store;
 use std::marker::PhantomData;
 
 /// A book under a lock, at which each session has a seat. As a desk it answers the requests of sessions at once, each as the protocol for
-/// one thread would along the one history of all their calls.
+/// one thread would along the one history of all their calls. It is not `Drop`: end it by `close`.
 pub struct Service<D: Disk, O: Origin> {
     pub(crate) lock: Lock<Book<D, O>>,
     pub(crate) sessions: u8,
     pub ghost seats: { lock_seats lock ≡ sessions },
     pub ghost some: { 0 < sessions },
-}
-
-// Written out, as that of the lock is.
-impl<D: Disk + Drop, O: Origin> Drop for Service<D, O> {
-    fn drop(self) {
-        let Service {
-            lock: _,
-            sessions: _,
-        } = self;
-    }
 }
 
 /// What a service leaves: its store, all entries, and the halt, once there was one.
@@ -44,7 +35,6 @@ pub struct Closed<D: Disk, O: Origin> {
 }
 
 /// A service that was to be closed while seats were missing, with the seats that were there. All are as they were.
-#[derive(Drop)]
 pub struct StillOut<D: Disk, O: Origin> {
     pub service: Service<D, O>,
     pub seats: Vec<BookSeat<O>>,

@@ -14,11 +14,16 @@ use crate::origin::Origin;
 use crate::seat::BookSeat;
 use liq_lock::{Lock, LockSeat};
 use liq_outside::Disk;
+use std::sync::Wait;
 
 impl<D: Disk, O: Origin> Service<D, O> {
-    /// Ends the service with its seats. What it leaves begins with what each seat has seen, and has of each session just the items
+    /// Ends the service with its seats, and nothing is published from now on. What it leaves begins with what each seat has seen, and has of each session just the items
     /// that its seat made; nothing is there of a session that has no seat. `StillOut` comes exactly where seats are missing.
-    pub fn close(self, mut seats: Vec<BookSeat<O>>) -> Result<Closed<D, O>, StillOut<D, O>>
+    pub fn close<W: Wait>(
+        self,
+        rt: &W,
+        mut seats: Vec<BookSeat<O>>,
+    ) -> Result<Closed<D, O>, StillOut<D, O>>
         requires own { All (IsSeatOf self) seats.items }
         ensures count { MatchResult result (λ closed. sessions_of self ≤ length seats.items) (λ out. length seats.items < sessions_of self) }
         ensures out { MatchResult result (λ closed. Unit {0}) (λ out. (out.service ≡ self) × (out.seats.items ≡ seats.items) × (out.missing ≡ sessions_of self - length seats.items)) }
@@ -42,7 +47,7 @@ impl<D: Disk, O: Origin> Service<D, O> {
         let Service { lock, sessions: _ } = self;
         let seat = gathered(&lock, seat, seats);
         match lock.close(seat) {
-            Ok(book) => Ok(book.close()),
+            Ok(book) => Ok(book.close(rt)),
             Err(_) => unreachable!(),
         }
     }

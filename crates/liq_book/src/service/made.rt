@@ -1,5 +1,7 @@
 //! A service is made, with its seats.
 ghost use Rattle.std.specs.Prelude.{◌≡◌, ◌≤◌, None, IfOk, IfErr, [], length, vec_capacity};
+ghost use Rattle.liq_types.specs.State.{opening};
+ghost use Rattle.liq_rules.specs.View.{all_followed, view_of};
 ghost use Rattle.liq_lock.specs.Seats.{AreFresh, lock_id};
 ghost use Rattle.liq_book.specs.Origin.{IsAtOrigin};
 ghost use Rattle.liq_book.specs.Seats.{AreNewSeats, AreSeated, sessions_of};
@@ -12,34 +14,54 @@ use crate::seat::BookSeat;
 use liq_lock::{Lock, LockSeat};
 use liq_outside::Disk;
 use liq_store::Store;
+use liq_views::{Finder, Pane, Publisher};
 use std::alloc::Global;
 use std::marker::PhantomData;
+use std::sync::Wait;
 
 impl<D: Disk, O: Origin> Service<D, O> {
-    /// A service over a store that is at its origin, with a seat for each session from 1 on, in their order. `Err` gives the store
-    /// back where there was no memory.
-    pub fn new(
+    /// A service over a store that is at its origin, whose changes tell its list from nothing, with a seat and a finder for each
+    /// session from 1 on, in their order. The list is published as version 0. `Err` gives the store back where there was no memory.
+    pub fn new<W: Wait>(
+        rt: &W,
         alloc: Global,
         store: Store<D>,
         sessions: u8,
-    ) -> Result<(Service<D, O>, Vec<BookSeat<O>>), Store<D>>
+    ) -> Result<(Service<D, O>, Vec<BookSeat<O>>, Vec<Finder<Pane>>), Store<D>>
         requires some { 1 ≤ sessions }
         requires going { store.stopped ≡ None }
         requires origin { IsAtOrigin D.seen D.faults D.moment D.left_at O.state O.left O.right store }
+        requires listed { all_followed (view_of opening) store.changes ≡ view_of O.state }
         ensures sessions { IfOk result (λ made. sessions_of made.0 ≡ sessions) }
         ensures count { IfOk result (λ made. length made.1.items ≡ sessions) }
         ensures seats { IfOk result (λ made. AreNewSeats made.0 made.1.items) }
+        ensures finders { IfOk result (λ made. length made.2.items ≡ sessions) }
         ensures err { IfErr result (λ back. back ≡ store) }
     {
         let Ok(room) = Vec::with_capacity(alloc, sessions as usize) else {
             return Err(store);
         };
-        match Lock::new(alloc, Book::new(alloc, store), u32::from(sessions)) {
+        let Ok((mut publisher, finders)) = Publisher::new(alloc, u32::from(sessions)) else {
+            return Err(store);
+        };
+        let Ok(()) = publisher.publish(rt, store.changes(), 0) else {
+            publisher.close(rt);
+            return Err(store);
+        };
+        match Lock::new(
+            alloc,
+            Book::new(alloc, store, publisher),
+            u32::from(sessions),
+        ) {
             Ok((lock, seats)) => {
                 let seats = seated(&lock, seats, room);
-                Ok((Service { lock, sessions }, seats))
+                Ok((Service { lock, sessions }, seats, finders))
             }
-            Err(book) => Err(book.into_store()),
+            Err(book) => {
+                let (store, publisher) = book.into_parts();
+                publisher.close(rt);
+                Err(store)
+            }
         }
     }
 }

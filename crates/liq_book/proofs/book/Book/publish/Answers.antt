@@ -1,0 +1,27 @@
+use Rattle.std.proofs.Common.{◌≡◌, ◌≤◌, ◌++◌, [], length, ap, arith, subst, sym}
+use Rattle.liq_store.specs.Stored.{Stored}
+use Rattle.liq_views.specs.Batches.{last_from}
+use Rattle.liq_views.specs.Publishers.{published, waiting}
+use Rattle.liq_book.proofs.Calling.{forgets}
+use Rattle.liq_book.proofs.Telling.{goes_out, not_below, waits}
+use Rattle.liq_book.proofs.book.Book.publish.Goals as goal
+
+pub publish-requires : goal.publish-requires
+publish-requires g c =
+    subst (λ n. last_from 0 (published c.self.inside.publisher ++ waiting c.self.inside.publisher) ≤ n) (sym (omega (arith, c.len-number.ensures, c.self.inside.entries.ok.0)))
+    (not_below _ c.self.inside.store _ c.self.inside.halt _ _ c.self.invariant.1)
+
+pub invariant_of-self : goal.invariant_of-self
+invariant_of-self g c =
+    let count : c.len-number.result ≡ length c.self.inside.entries.items = omega (arith, c.len-number.ensures, c.self.inside.entries.ok.0) in
+    let cleared : c.clear_changes.new.self.changes ≡ [] = ap (λ (s : Stored g.row.D.Denot). s.changes) c.clear_changes.ensures.cleared in (
+      forgets _ _ _ _ _ _ _ _ _ _ _ _ c.clear_changes.ensures.cleared c.self.invariant.0,
+      goes_out _ c.self.inside.store c.clear_changes.new.self _ c.self.inside.halt _ _ _ _ c.self.invariant.1 (rw (c.changes.ensures, count) at c.in-Ok.ensures.sent.0) c.in-Ok.ensures.sent.1 cleared,
+    )
+
+pub invariant_of-self-in-Err : goal.invariant_of-self-in-Err
+invariant_of-self-in-Err g c =
+    let count : c.len-number.result ≡ length c.self.inside.entries.items = omega (arith, c.len-number.ensures, c.self.inside.entries.ok.0) in (
+      c.self.invariant.0,
+      waits _ c.self.inside.store _ c.self.inside.halt _ _ _ _ c.self.invariant.1 c.in-Err.ensures.sent.0 (rw (c.changes.ensures, count) at c.in-Err.ensures.sent.1),
+    )

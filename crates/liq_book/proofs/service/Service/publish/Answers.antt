@@ -1,0 +1,24 @@
+use Rattle.std.proofs.Common.{[], length, sym, ap, ◌∙◌, append-nil}
+use Rattle.liq_lock.specs.Seats.{seen_in, seen_of}
+use Rattle.liq_lock.proofs.Histories.{nothing_in_nil}
+use Rattle.liq_book.proofs.Chronicles.{own_behind}
+use Rattle.liq_book.proofs.Learning.{items_in, same_items}
+use Rattle.liq_book.proofs.service.Service.publish.Goals as goal
+
+pub give-requires-clause-grows : goal.give-requires-clause-grows
+give-requires-clause-grows g c =
+    ([], same_items c.take-held.result.1.book c.publish-sent.new.self.book c.publish-sent.ensures.same ∙ c.take-held.ensures.value ∙ sym (append-nil (seen_in c.take-held.result.0)), λ i there. absurd (nothing_in_nil i there))
+
+pub invariant_of-seat : goal.invariant_of-seat
+invariant_of-seat g c = record {
+  numbered = c.give.ensures.number ∙ (c.take-held.ensures.number ∙ c.args.seat.numbered);
+  stands = c.give.ensures.stands ∙ (c.take-held.ensures.stands ∙ c.args.seat.stands);
+  share = c.give.ensures.shares ∙ (c.take-held.ensures.shares ∙ c.args.seat.share);
+  counted =
+      rw (c.give.ensures.seen, same_items c.take-held.result.1.book c.publish-sent.new.self.book c.publish-sent.ensures.same)
+      (ap length (own_behind c.args.seat.session (items_in c.take-held.result.1.book) (seen_of c.args.seat.seat) (rw c.args.seat.stands at c.take-held.ensures.behind)) ∙ c.args.seat.counted);
+}
+
+pub returns-clause-others : goal.returns-clause-others
+returns-clause-others g c =
+    rw (c.give.ensures.seen, same_items c.take-held.result.1.book c.publish-sent.new.self.book c.publish-sent.ensures.same) (rw c.args.seat.stands at c.take-held.ensures.behind)
