@@ -1,9 +1,9 @@
 -- The lines of a text, as they are read from its front.
 use Rattle.std.proofs.Common.{◌≡◌, ◌≢◌, ℕ, Bool, true, false, cond, List, [], ◌∷◌, ◌++◌, refl, ap, sym, ◌∙◌, append_assoc, arith}
 use Rattle.std.specs.Prelude.{◌==◌}
-use Rattle.std.specs.List.{AllByRecursion}
+use Rattle.std.specs.List.{onto_first, AllByRecursion}
 use Rattle.std.proofs.lemmas.Bool.Decides.{nat_tests}
-use Rattle.liq_lines.specs.Lines.{lines_in, onto_first, ended, IsWithinLine}
+use Rattle.liq_lines.specs.Lines.{lines_in, ended, IsWithinLine}
 
 not_end : (byte : ℕ) → byte ≢ 10 → (byte == 10) ≡ false
 not_end byte h = grind (arith, nat_tests, h)

@@ -1,12 +1,8 @@
 -- The lines of a text.
 use Rattle.std.specs.Prelude.{ℕ, ◌≡◌, ◌≢◌, ◌≤◌, ◌==◌, if◌then◌else◌}
 use Rattle.std.specs.Prelude.{List, [], ◌∷◌, ◌++◌, length}
-use Rattle.std.specs.List.{flat_map, AllByRecursion}
+use Rattle.std.specs.List.{flat_map, onto_first, AllByRecursion}
 use Rattle.liq_types.specs.declared.amounts.TheConstants.{LINE_BYTES, LINES_MOST}
-
-abbrev pub onto_first : ℕ → List (List ℕ) → List (List ℕ)
-onto_first byte [] = (byte ∷ []) ∷ []
-onto_first byte (line ∷ lines) = (byte ∷ line) ∷ lines
 
 -- The lines, each ended by a line end; the last may lack it.
 abbrev pub lines_in : List ℕ → List (List ℕ)

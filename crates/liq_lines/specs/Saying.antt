@@ -8,9 +8,6 @@ use Rattle.liq_lines.specs.declared.stops.Stop.TheVariants.{BadLine, ReadFault, 
 use Rattle.liq_lines.specs.Lines.{lines_in, IsPartOfLine}
 
 module _ {X : Type 0} (Says : List ℕ → X → Type 0) where
-  abbrev pub IsBadLine : List ℕ → Type 0
-  IsBadLine line = (x : X) → Says line x → ⊥
-
   -- the text begins with lines that say this, each what stands in its place, and these lines follow
   abbrev pub BeginsWith : List ℕ → List X → List (List ℕ) → Type 0
   BeginsWith bytes said more = (lines : List (List ℕ)) × AllZip Says lines said × (lines_in bytes ≡ lines ++ more)
@@ -20,7 +17,8 @@ module _ {X : Type 0} (Says : List ℕ → X → Type 0) where
   -- the next line is the first that says nothing
   StopsAfter (BadLine number) bytes left said =
       (number ≡ length said + 1) × (number ≤ LINES_MOST)
-      × ((line : List ℕ) × IsBadLine line × ((more : List (List ℕ)) × BeginsWith bytes said (line ∷ more)))
+      × ((line : List ℕ) × ((x : X) → Says line x → ⊥)
+      × ((more : List (List ℕ)) × BeginsWith bytes said (line ∷ more)))
   -- they are all whose line ends the source gave
   StopsAfter ReadFault bytes left said =
       (front : List (List ℕ)) × AllZip Says front said
@@ -31,3 +29,7 @@ module _ {X : Type 0} (Says : List ℕ → X → Type 0) where
   StopsAfter Limit bytes left said =
       (length said ≡ LINES_MOST)
       × ((line : List ℕ) × ((more : List (List ℕ)) × BeginsWith bytes said (line ∷ more)))
+
+  -- for the contracts of the crates above: a line that says nothing
+  abbrev pub IsBadLine : List ℕ → Type 0
+  IsBadLine line = (x : X) → Says line x → ⊥
