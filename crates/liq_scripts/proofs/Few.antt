@@ -5,7 +5,7 @@ use Rattle.std.proofs.lemmas.List.Sums.{sum_by-cons}
 use Rattle.liq_types.specs.declared.amounts.TheConstants.{LINES_MOST}
 use Rattle.liq_types.specs.declared.requests.Request.{Request}
 use Rattle.liq_sessions.specs.declared.script.Script.{Script}
-use Rattle.liq_scripts.specs.Asked.{requests_of, script_of, scripts_of}
+use Rattle.liq_scripts.specs.BySession.{requests_of, script_of, scripts_of}
 use Rattle.liq_scripts.specs.Sessions.{sessions}
 
 -- one where it is the session's, else none

@@ -9,7 +9,8 @@ use Rattle.liq_lines.proofs.Told.{told, told_rest, told_left, over_left, first-b
 use Rattle.liq_sessions.specs.declared.script.Script.{Script}
 use Rattle.liq_lines.specs.declared.stops.Stop.{Stop}
 use Rattle.liq_lines.specs.declared.stops.Stop.TheVariants.{BadLine, ReadFault, NoMemory, Limit}
-use Rattle.liq_scripts.specs.Asked.{Asks, scripts_of}
+use Rattle.liq_scripts.specs.Asked.{Asks}
+use Rattle.liq_scripts.specs.BySession.{scripts_of}
 use Rattle.liq_scripts.specs.Progress.{HasRead, HasGathered, Comes, Keeps}
 use Rattle.liq_scripts.proofs.Bad.{bad_long}
 use Rattle.std.specs.List.{AllZip}

@@ -1,22 +1,9 @@
--- What the lines of several sessions ask.
-use Rattle.std.specs.Prelude.{ℕ, ◌==◌, List, map, filter, IsTrue}
+-- What a line asks in its session.
+use Rattle.std.specs.Prelude.{ℕ, List, IsTrue}
 use Rattle.liq_types.specs.declared.requests.Request.{Request}
 use Rattle.liq_rules.specs.Step.{built}
-use Rattle.liq_sessions.specs.declared.script.Script.{Script}
 use Rattle.liq_text.specs.Spelling.{SpellsInSession}
-use Rattle.liq_scripts.specs.Sessions.{sessions}
 
 -- the line spells this session and request, and the protocol answers such requests
 abbrev pub Asks : List ℕ → ℕ × Request → Type 0
 Asks line (session, request) = SpellsInSession line session request × IsTrue (built request)
-
--- what a session asks, in order
-abbrev pub requests_of : List (ℕ × Request) → ℕ → List Request
-requests_of asked session = map (λ (a : ℕ × Request). a.1) (filter (λ (a : ℕ × Request). a.0 == session) asked)
-
-abbrev pub script_of : List (ℕ × Request) → ℕ → Script
-script_of asked session = record { session = session; requests = requests_of asked session }
-
--- the scripts of the eight sessions
-abbrev pub scripts_of : List (ℕ × Request) → List Script
-scripts_of asked = map (script_of asked) sessions

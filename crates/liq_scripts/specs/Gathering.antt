@@ -10,11 +10,14 @@ use Rattle.liq_lines.specs.declared.stops.Stop.TheVariants.{ReadFault}
 use Rattle.liq_lines.specs.Lines.{lines_in}
 use Rattle.liq_lines.specs.Saying.{StopsAfter}
 use Rattle.liq_sessions.specs.declared.script.Script.{Script}
-use Rattle.liq_scripts.specs.Asked.{Asks, scripts_of}
+use Rattle.liq_scripts.specs.Asked.{Asks}
+use Rattle.liq_scripts.specs.BySession.{scripts_of}
 
--- How reading the bytes ended after the lines that ask this: they are all, and the source is at its end, or it stopped.
+-- how reading the bytes ended after the lines that ask this
 abbrev pub EndsAfter : {T : Type 0} → Result T Stop → List ℕ → Option (List ℕ) → List (ℕ × Request) → Type 0
+-- they are all, and the source is at its end
 EndsAfter (Ok done) bytes left asked = AllZip Asks (lines_in bytes) asked × (left ≡ Some [])
+-- it stopped
 EndsAfter (Err stop) bytes left asked = StopsAfter Asks stop bytes left asked
 
 -- What was asked is in the scripts, in order. It is what the lines asked, where the source told its bytes.

@@ -1,6 +1,7 @@
--- A reader of the top call's clause needs Asked, Output and Sessions. Gathering, Progress and Sending are for the
--- contracts below it.
+-- A reader of the top call's clause needs Asked, Output and Sessions. BySession, Gathering, Progress and Sending are for
+-- the contracts below it.
 pub mod Asked
+pub mod BySession
 pub mod Gathering
 pub mod Output
 pub mod Progress

@@ -8,7 +8,8 @@ use Rattle.liq_lines.specs.Lines.{ended, IsWithinLine}
 use Rattle.liq_sessions.specs.declared.script.Script.{Script}
 use Rattle.liq_lines.specs.declared.stops.Stop.{Stop}
 use Rattle.liq_lines.specs.declared.stops.Stop.TheVariants.{BadLine, NoMemory}
-use Rattle.liq_scripts.specs.Asked.{Asks, scripts_of}
+use Rattle.liq_scripts.specs.Asked.{Asks}
+use Rattle.liq_scripts.specs.BySession.{scripts_of}
 use Rattle.liq_scripts.specs.Gathering.{EndsAfter}
 use Rattle.liq_lines.specs.Saying.{IsBadLine}
 

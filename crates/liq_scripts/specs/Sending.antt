@@ -10,7 +10,7 @@ use Rattle.liq_rules.specs.History.{own_entries}
 use Rattle.liq_scripts.specs.declared.output.Part.{Part}
 use Rattle.liq_scripts.specs.declared.output.Part.TheVariants.{ReplyTo, Call}
 use Rattle.liq_text.specs.Replies.{reply_line}
-use Rattle.liq_scripts.specs.Output.{entry_line, session_text}
+use Rattle.liq_scripts.specs.Output.{session_text}
 use Rattle.liq_scripts.specs.Sessions.{sessions}
 
 -- the line in front of a session's replies
@@ -21,10 +21,6 @@ heading session = codes "session " ++ decimal session ++ 10 ∷ []
 abbrev pub replies_text : List history.Entry → List ℕ
 replies_text entries = flat_map (λ session. session_text session (own_entries session entries)) sessions
 
--- the line of each entry, in the order of the history
-abbrev pub history_text : List history.Entry → List ℕ
-history_text entries = flat_map entry_line entries
-
 abbrev pub line_text : Line → List ℕ
 line_text (Session session) = heading session
 line_text (Reply reply) = reply_line reply
@@ -34,7 +30,11 @@ line_text (Entry session index) = decimal session ++ 32 ∷ decimal index ++ 10 
 -- what is sent of an entry
 abbrev pub part_text : Part → history.Entry → List ℕ
 part_text (ReplyTo session) e = if e.session == session then reply_line e.reply else []
-part_text Call e = entry_line e
+part_text Call e = line_text (Entry e.session e.index)
+
+-- the line of each entry, in the order of the history
+abbrev pub history_text : List history.Entry → List ℕ
+history_text entries = flat_map (part_text Call) entries
 
 -- The bytes went behind those that waited: a front of these is written, and the rest waits. Or the sink met a fault,
 -- and a part of these is written.

@@ -2,7 +2,7 @@
 
 ghost use Rattle.std.specs.Prelude.{◌≡◌, ◌≤◌, ◌∷◌, [], ◌++◌, ℕ, List, IfOk, OnOk, vec_len};
 ghost use Rattle.liq_types.specs.declared.requests.Request.{Request};
-ghost use Rattle.liq_scripts.specs.Asked.{scripts_of};
+ghost use Rattle.liq_scripts.specs.BySession.{scripts_of};
 
 use liq_sessions::{Requests, Script};
 use liq_types::{NoMemory, Request};

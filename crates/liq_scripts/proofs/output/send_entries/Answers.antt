@@ -1,6 +1,7 @@
 use Rattle.std.proofs.Common.{ℕ, List, sym, subst}
 use Rattle.std.proofs.lemmas.List.Folds.{flat_map-map}
-use Rattle.liq_scripts.specs.Output.{entry_line}
+use Rattle.liq_scripts.specs.declared.output.Part.TheVariants.{Call}
+use Rattle.liq_scripts.specs.Sending.{part_text}
 use Rattle.liq_scripts.specs.Sending.{Sends}
 use Rattle.liq_scripts.proofs.output.send_entries.Goals as goal
 
@@ -8,4 +9,4 @@ pub returns-clause-sends : goal.returns-clause-sends
 returns-clause-sends g c =
     let held = g.K.Sink.held in
     subst (λ (t : List ℕ). Sends c.send_each.result c.args.outbox.now t c.send_each.new.outbox (held c.args.out.now) (held c.send_each.new.out))
-    (sym (flat_map-map entry_line g.E.Shown.entry c.args.entries.now)) c.send_each.ensures.sends
+    (sym (flat_map-map (part_text Call) g.E.Shown.entry c.args.entries.now)) c.send_each.ensures.sends

@@ -4,7 +4,7 @@ use Rattle.std.specs.List.{range_with_len}
 use Rattle.std.proofs.lemmas.List.FromFn.{map-range_with_len_more}
 use Rattle.liq_sessions.specs.declared.script.Script.{Script}
 use Rattle.liq_types.specs.declared.requests.Request.{Request}
-use Rattle.liq_scripts.specs.Asked.{script_of}
+use Rattle.liq_scripts.specs.BySession.{script_of}
 use Rattle.liq_scripts.proofs.scripts.blank.Goals as goal
 
 pub loop-before-preserved : goal.loop-before-preserved

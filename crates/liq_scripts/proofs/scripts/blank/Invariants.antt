@@ -1,7 +1,7 @@
 use Rattle.std.proofs.Common.{◌≡◌, []}
 use Rattle.std.specs.Prelude.{map}
 use Rattle.std.specs.List.{range_with_len}
-use Rattle.liq_scripts.specs.Asked.{script_of}
+use Rattle.liq_scripts.specs.BySession.{script_of}
 use Rattle.liq_scripts.proofs.scripts.blank.Given as goal
 
 -- the scripts of the first sessions
