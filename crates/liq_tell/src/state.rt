@@ -3,15 +3,18 @@
 ghost use Rattle.std.specs.Prelude.{◌≡◌, ◌≢◌, ◌++◌, [], ◌∷◌, Contains, List, ℕ, Some, Ok, Err, OnOk, IfOk};
 ghost use Rattle.std.specs.String.{string_bytes};
 ghost use Rattle.liq_outside.specs.Faults.{Rose};
+ghost use Rattle.liq_types.specs.declared.requests.Query.TheVariants.{Pools, System};
+ghost use Rattle.liq_types.specs.declared.requests.Request.TheVariants.{Ask};
 ghost use Rattle.liq_types.specs.State.{State};
 ghost use Rattle.liq_core.specs.Core.{StandsFor};
+ghost use Rattle.liq_rules.specs.Step.{step};
 ghost use Rattle.liq_journal.specs.declared.damage.Damage.{Damage};
 ghost use Rattle.liq_pairs.specs.declared.side.Side.{Side};
 ghost use Rattle.liq_pairs.specs.Pair.{state_on};
 ghost use Rattle.liq_store.specs.Causes.{counts_of};
 ghost use Rattle.liq_ends.specs.Causes.{DiskCause, LastCause, WriteCause};
 ghost use Rattle.liq_ends.specs.Disks.{DisksStay, EndsDamaged};
-ghost use Rattle.liq_tell.specs.State.{pool_and_journal, standing};
+ghost use Rattle.liq_tell.specs.State.{standing};
 ghost use Rattle.liq_ends.specs.Output.{last};
 ghost use Rattle.liq_text.specs.Replies.{reply_line};
 ghost use Rattle.liq_ends.specs.Stops.{Adds};
@@ -74,9 +77,10 @@ fn text_of(alloc: Global, protocol: &Protocol) -> Result<Vec<u8>, NoMemory>
     Ok(text)
 }
 
-/// The lines of the Stability Pool's words and of the journal.
+/// The lines of the Stability Pool's words and of the journal, which stand behind the two replies.
 fn pool_and_journal(alloc: Global, protocol: &Protocol) -> Result<String, AllocError>
-    ensures { IfOk result (λ lines. (s : State) → StandsFor protocol.now s → string_bytes lines ≡ pool_and_journal s) }
+    ensures { IfOk result (λ lines. (s : State) → StandsFor protocol.now s
+        → reply_line (step s (Ask System)).1 ++ reply_line (step s (Ask Pools)).1 ++ string_bytes lines ≡ standing s) }
 {
     let words = protocol.pool_words();
     let (p, scale, epoch, sum) = (words.p, words.scale, words.epoch, words.sum);
