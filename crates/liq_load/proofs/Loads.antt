@@ -18,6 +18,7 @@ use Rattle.liq_types.specs.State.{State, client_of, no_client, opening}
 use Rattle.liq_types.specs.Tables.{at}
 use Rattle.liq_types.proofs.Lookups.{at-put_same}
 use Rattle.liq_stability.specs.declared.words.PoolWords.{PoolWords}
+use Rattle.liq_audit.specs.Auditable.{is_offset, offsets_in}
 use Rattle.liq_core.specs.Core.{Core, StandsFor}
 use Rattle.liq_rules.specs.Events.{events}
 use Rattle.liq_rules.specs.Image.{image}
@@ -25,7 +26,7 @@ use Rattle.liq_rules.specs.Rules.{call_events}
 use Rattle.liq_rules.specs.Step.{Ruling, Refused, Repeated, Allowed, accepted, after, after_ruling, done_of, effect, is_allowed, next_number, run, ruling, step}
 use Rattle.liq_load.specs.declared.load.Counts.{Counts}
 use Rattle.liq_load.specs.Carrying.{AreWithin, IsNumbered, counts, next_command, none_yet, plus, told}
-use Rattle.liq_load.specs.Load.{is_offset, is_refusal, requests_of}
+use Rattle.liq_load.specs.Load.{is_refusal, load}
 
 same_counts : (a b : Counts) → a.accepted ≡ b.accepted → a.refused ≡ b.refused → a.offsets ≡ b.offsets → a ≡ b
 same_counts a b accepted refused offsets =
@@ -42,7 +43,7 @@ added s c r =
     record {
       accepted = length made;
       refused = count_by is_refusal ((after_ruling s c r).1 ∷ []);
-      offsets = count_by is_offset (events s made);
+      offsets = offsets_in (events s made);
     }
 
 added_is : (s : State) (c : Command) → counts s (Do c ∷ []) ≡ added s c (ruling s c)
@@ -58,17 +59,17 @@ refused_adds s c refusal n m is m_is =
     let one = added_is s c ∙ ap (added s c) is in
     same_counts m (plus n (counts s (Do c ∷ []))) (omega (arith, ap (λ (k : Counts). k.accepted) m_is, ap (λ (k : Counts). k.accepted) one)) (omega (arith, ap (λ (k : Counts). k.refused) m_is, ap (λ (k : Counts). k.refused) one)) (omega (arith, ap (λ (k : Counts). k.offsets) m_is, ap (λ (k : Counts). k.offsets) one))
 
-pub allowed_adds : (s : State) (c : Command) (made : List PoolEvent) (n m : Counts) → ruling s c ≡ Allowed → made ≡ call_events s c.call → m ≡ record { accepted = n.accepted + 1; refused = n.refused; offsets = n.offsets + count_by is_offset made } → m ≡ plus n (counts s (Do c ∷ []))
+pub allowed_adds : (s : State) (c : Command) (made : List PoolEvent) (n m : Counts) → ruling s c ≡ Allowed → made ≡ call_events s c.call → m ≡ record { accepted = n.accepted + 1; refused = n.refused; offsets = n.offsets + offsets_in made } → m ≡ plus n (counts s (Do c ∷ []))
 allowed_adds s c made n m is made_is m_is =
     let one = added_is s c ∙ ap (added s c) is in
-    let offsets = ap (λ (k : Counts). k.offsets) one ∙ ap (count_by is_offset) (append-nil (call_events s c.call) ∙ sym made_is) in
+    let offsets = ap (λ (k : Counts). k.offsets) one ∙ ap offsets_in (append-nil (call_events s c.call) ∙ sym made_is) in
     same_counts m (plus n (counts s (Do c ∷ []))) (omega (arith, ap (λ (k : Counts). k.accepted) m_is, ap (λ (k : Counts). k.accepted) one)) (omega (arith, ap (λ (k : Counts). k.refused) m_is, ap (λ (k : Counts). k.refused) one)) (omega (arith, ap (λ (k : Counts). k.offsets) m_is, offsets))
 
 abbrev command_of : State → Call → ℕ → Command
 command_of s call number = record { client = 1; number = number; call = call }
 
 -- the next command was made, and is counted
-pub next_carries : (s : State) (call : Call) (k : Command) (number : ℕ) (new : Core) (made : List PoolEvent) (n m : Counts) → k ≡ command_of s call number → number ≡ next_number s 1 → ruling s k ≡ Allowed → made ≡ call_events s k.call → StandsFor new (step s (Do k)).0 → m ≡ record { accepted = n.accepted + 1; refused = n.refused; offsets = n.offsets + count_by is_offset made } → StandsFor new (step s (next_command s call)).0 × (m ≡ plus n (counts s (next_command s call ∷ [])))
+pub next_carries : (s : State) (call : Call) (k : Command) (number : ℕ) (new : Core) (made : List PoolEvent) (n m : Counts) → k ≡ command_of s call number → number ≡ next_number s 1 → ruling s k ≡ Allowed → made ≡ call_events s k.call → StandsFor new (step s (Do k)).0 → m ≡ record { accepted = n.accepted + 1; refused = n.refused; offsets = n.offsets + offsets_in made } → StandsFor new (step s (next_command s call)).0 × (m ≡ plus n (counts s (next_command s call ∷ [])))
 next_carries s call k number new made n m k_is number_is is made_is stands m_is =
     subst (λ (c : Command). StandsFor new (step s (Do c)).0 × (m ≡ plus n (counts s (Do c ∷ [])))) (k_is ∙ ap (command_of s call) number_is) (stands, allowed_adds s k made n m is made_is m_is)
 
@@ -95,9 +96,9 @@ numbered_more s call k number new n m k_is number_is is stands m_is =
 pub few_more : (s : State) (r : Request) (n m : Counts) (k : ℕ) → m ≡ plus n (counts s (r ∷ [])) → length (events s (accepted s (r ∷ []))) ≤ LOWEST_MOST * length (accepted s (r ∷ [])) → m.accepted ≡ n.accepted + 1 → m.refused ≡ n.refused → AreWithin k n → AreWithin (k + 1) m
 few_more s r n m k m_is few one same h =
     let made = events s (accepted s (r ∷ [])) in
-    let fewer : count_by is_offset made ≤ length made = count_by-le-length is_offset made in
+    let fewer : offsets_in made ≤ length made = count_by-le-length is_offset made in
     let accepted_is : m.accepted ≡ n.accepted + length (accepted s (r ∷ [])) = ap (λ (c : Counts). c.accepted) m_is in
-    let offsets_are : m.offsets ≡ n.offsets + count_by is_offset made = ap (λ (c : Counts). c.offsets) m_is in
+    let offsets_are : m.offsets ≡ n.offsets + offsets_in made = ap (λ (c : Counts). c.offsets) m_is in
     let only : length (accepted s (r ∷ [])) ≡ 1 = omega (arith, accepted_is, one) in
     let at_most : length made ≤ LOWEST_MOST * 1 = subst (λ (x : ℕ). length made ≤ LOWEST_MOST * x) only few in
     record { commands = omega (arith, h.commands, one, same); offsets = omega (arith, h.offsets, offsets_are, fewer, at_most, one) }
@@ -118,7 +119,7 @@ counts-next s c rs =
     same_counts _ _
     (length-append one more ∙ ap (λ (cs : List Command). length cs + length more) (sym (append-nil one)))
     (sum_by-append (λ reply. cond (is_refusal reply) 1 0) ((after_ruling s c r).1 ∷ []) (run (step s (Do c)).0 rs).1)
-    (ap (count_by is_offset) (events-after s c r more) ∙ sum_by-append (λ event. cond (is_offset event) 1 0) (events s (one ++ [])) (events (step s (Do c)).0 more))
+    (ap offsets_in (events-after s c r more) ∙ sum_by-append (λ event. cond (is_offset event) 1 0) (events s (one ++ [])) (events (step s (Do c)).0 more))
 
 -- ---- where a load has come to
 
@@ -126,8 +127,8 @@ counts-next s c rs =
 pub record Underway (core : Core) (n : Counts) (calls all : List Call) : Type 0 where
   pub now : State
   pub stands : StandsFor core now
-  pub counted : plus n (counts now (requests_of now calls)) ≡ counts opening (requests_of opening all)
-  pub ends : (run now (requests_of now calls)).0 ≡ (run opening (requests_of opening all)).0
+  pub counted : plus n (counts now (load now calls)) ≡ counts opening (load opening all)
+  pub ends : (run now (load now calls)).0 ≡ (run opening (load opening all)).0
 
 pub begun : (core : Core) (all : List Call) → StandsFor core opening → Underway core none_yet all all
 begun core all stands = record {
@@ -141,11 +142,12 @@ plus-plus : (a b c : Counts) → plus (plus a b) c ≡ plus a (plus b c)
 plus-plus a b c = same_counts _ _ (add_assoc a.accepted b.accepted c.accepted) (add_assoc a.refused b.refused c.refused) (add_assoc a.offsets b.offsets c.offsets)
 
 pub gone_on : (core new : Core) (n m : Counts) (call : Call) (calls all : List Call) (u : Underway core n (call ∷ calls) all) → StandsFor new (step u.now (next_command u.now call)).0 → m ≡ plus n (counts u.now (next_command u.now call ∷ [])) → Underway new m calls all
+unfolding load
 gone_on core new n m call calls all u stands m_is =
     let s = u.now in
     let c = command_of s call (next_number s 1) in
     let later = (step s (Do c)).0 in
-    let rest = requests_of later calls in
+    let rest = load later calls in
     record {
       now = later;
       stands = stands;
@@ -153,7 +155,8 @@ gone_on core new n m call calls all u stands m_is =
       ends = u.ends;
     }
 
-pub come_to_end : (core : Core) (n : Counts) (all : List Call) → Underway core n [] all → StandsFor core (run opening (requests_of opening all)).0 × (n ≡ counts opening (requests_of opening all))
+pub come_to_end : (core : Core) (n : Counts) (all : List Call) → Underway core n [] all → StandsFor core (run opening (load opening all)).0 × (n ≡ counts opening (load opening all))
+unfolding load
 come_to_end core n all u =
     (subst (StandsFor core) u.ends u.stands, same_counts n (plus n none_yet) (sym (add-zero _)) (sym (add-zero _)) (sym (add-zero _)) ∙ u.counted)
 

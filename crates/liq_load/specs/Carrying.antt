@@ -7,6 +7,7 @@ use Rattle.liq_types.specs.declared.requests.Request.{Request}
 use Rattle.liq_types.specs.declared.requests.Request.TheVariants.{Do}
 use Rattle.liq_types.specs.State.{State, client_of}
 use Rattle.liq_stability.specs.declared.words.PoolWords.{PoolWords}
+use Rattle.liq_audit.specs.Auditable.{offsets_in}
 use Rattle.liq_rules.specs.Events.{events}
 use Rattle.liq_rules.specs.Step.{run, accepted, next_number}
 use Rattle.liq_core.specs.Core.{Core, state_of}
@@ -14,7 +15,7 @@ use Rattle.liq_lines.specs.Writing.{Writes, WritesPart}
 use Rattle.liq_ends.specs.declared.halts.Halt.{Halt}
 use Rattle.liq_ends.specs.declared.halts.Halt.TheVariants.{WriteFault, NoMemory}
 use Rattle.liq_load.specs.declared.load.Counts.{Counts}
-use Rattle.liq_load.specs.Load.{is_offset, is_refusal}
+use Rattle.liq_load.specs.Load.{is_refusal}
 
 -- client 1's next command, with this call
 abbrev pub next_command : State → Call → Request
@@ -25,7 +26,7 @@ abbrev pub counts : State → List Request → Counts
 counts s requests = record {
   accepted = length (accepted s requests);
   refused = count_by is_refusal (run s requests).1;
-  offsets = count_by is_offset (events s (accepted s requests));
+  offsets = offsets_in (events s (accepted s requests));
 }
 
 -- the line of counts, of the Stability Pool's words and of the debt of all troves
@@ -58,7 +59,7 @@ pub record AreWithin (n : ℕ) (c : Counts) : Type 0 where
   pub commands : c.accepted + c.refused ≤ n
   pub offsets : c.offsets ≤ LOWEST_MOST * c.accepted
 
--- each accepted command was client 1's next one
+-- client 1's last number is how many commands were accepted
 abbrev pub IsNumbered : Core → Counts → Type 0
 IsNumbered core c = (client_of (state_of core) 1).last ≡ c.accepted
 

@@ -1,7 +1,5 @@
 -- The generated load, carried out, and the line that tells where it leads.
 use Rattle.std.specs.Prelude.{ℕ, Bool, true, false, List, [], ◌∷◌, ◌++◌, length, count_by, codes, decimal}
-use Rattle.liq_types.specs.declared.events.PoolEvent.{PoolEvent}
-use Rattle.liq_types.specs.declared.events.PoolEvent.TheVariants.{Own, Offset}
 use Rattle.liq_types.specs.declared.replies.Reply.{Reply}
 use Rattle.liq_types.specs.declared.replies.Reply.TheVariants.{No}
 use Rattle.liq_types.specs.declared.requests.Call.{Call}
@@ -10,28 +8,20 @@ use Rattle.liq_types.specs.declared.requests.Request.TheVariants.{Do}
 use Rattle.liq_types.specs.State.{State, opening}
 use Rattle.liq_types.specs.Totals.{total_debt}
 use Rattle.liq_stability.specs.Words.{pool_words}
+use Rattle.liq_audit.specs.Auditable.{offsets_in}
 use Rattle.liq_rules.specs.Events.{events}
 use Rattle.liq_rules.specs.Step.{step, run, accepted, next_number}
-use Rattle.liq_sessions.specs.Generated.{generated}
 
 -- the calls as client 1's commands from a state on: each is its next one when its turn comes
-abbrev pub requests_of : State → List Call → List Request
-requests_of s [] = []
-requests_of s (call ∷ calls) =
+unfoldable pub load : State → List Call → List Request
+load s [] = []
+load s (call ∷ calls) =
     let request = Do (record { client = 1; number = next_number s 1; call = call }) in
-    request ∷ requests_of (step s request).0 calls
+    request ∷ load (step s request).0 calls
 
 abbrev pub is_refusal : Reply → Bool
 is_refusal (No refusal) = true
 is_refusal _ = false
-
-abbrev pub is_offset : PoolEvent → Bool
-is_offset (Offset debt coll total rise) = true
-is_offset (Own account put paid gain amount) = false
-
--- the requests of a seed's load, from the opening
-unfoldable pub load : ℕ → ℕ → List Request
-load seed count = requests_of opening (generated seed count)
 
 -- the line of requests from the opening: their counts, the Stability Pool's words, and the debt of all troves
 unfoldable pub summary : List Request → List ℕ
@@ -40,7 +30,7 @@ summary requests =
     let words = pool_words s in
     codes "accepted " ++ decimal (length (accepted opening requests))
     ++ codes " refused " ++ decimal (count_by is_refusal (run opening requests).1)
-    ++ codes " offsets " ++ decimal (count_by is_offset (events opening (accepted opening requests)))
+    ++ codes " offsets " ++ decimal (offsets_in (events opening (accepted opening requests)))
     ++ codes " epochs " ++ decimal words.epoch
     ++ codes " scale " ++ decimal words.scale
     ++ codes " p " ++ decimal words.p

@@ -1,16 +1,18 @@
 //! A generated load, carried out on a protocol of its own.
 
-ghost use Rattle.std.specs.Prelude.{◌≡◌, ◌≤◌, ◌+◌, ◌^◌, ◌∷◌, [], ℕ, IfOk, OnOk, IsTrue, count_by};
+ghost use Rattle.std.specs.Prelude.{◌≡◌, ◌≤◌, ◌+◌, ◌^◌, ◌∷◌, [], ℕ, IfOk, OnOk, IsTrue};
 ghost use Rattle.std.specs.String.{string_bytes};
 ghost use Rattle.liq_types.specs.declared.requests.Request.TheVariants.{Ask};
 ghost use Rattle.liq_types.specs.State.{State, opening};
 ghost use Rattle.liq_types.specs.Totals.{total_debt};
 ghost use Rattle.liq_stability.specs.Words.{pool_words};
+ghost use Rattle.liq_audit.specs.Auditable.{offsets_in};
 ghost use Rattle.liq_core.specs.Core.{StandsFor, state_of};
 ghost use Rattle.liq_rules.specs.Step.{built_call, run, step, next_number};
+ghost use Rattle.liq_sessions.specs.Generated.{generated};
 ghost use Rattle.liq_words.specs.declared.words.TheConstants.{COUNT_MOST};
 ghost use Rattle.liq_load.specs.Carrying.{AreWithin, IsNumbered, counts, next_command, plus, told};
-ghost use Rattle.liq_load.specs.Load.{is_offset, load};
+ghost use Rattle.liq_load.specs.Load.{load};
 
 use liq_core::laws::protocols_stand;
 use liq_core::{PlanFault, Protocol, Turn};
@@ -48,7 +50,8 @@ impl Load {
         steps: &mut Steps<L>,
     ) -> Result<Load, NoMemory>
         requires { count ≤ COUNT_MOST }
-        ensures { IfOk result (λ done. StandsFor done.protocol (run opening (load seed count)).0 × (done.counts ≡ counts opening (load seed count))) }
+        ensures { IfOk result (λ done. StandsFor done.protocol (run opening (load opening (generated seed count))).0
+            × (done.counts ≡ counts opening (load opening (generated seed count)))) }
     {
         let mut done = Load {
             protocol: Protocol::new(alloc),
@@ -150,7 +153,7 @@ impl Load {
 
 /// How many of the events are offsets.
 fn offsets(events: &[PoolEvent]) -> u64
-    ensures { result ≡ count_by is_offset events.now }
+    ensures { result ≡ offsets_in events.now }
 {
     events
         .iter()

@@ -2,6 +2,8 @@
 
 ghost use Rattle.std.specs.Prelude.{◌≡◌, ◌≤◌, [], ◌∷◌, Contains};
 ghost use Rattle.liq_outside.specs.Faults.{Rose};
+ghost use Rattle.liq_types.specs.State.{opening};
+ghost use Rattle.liq_sessions.specs.Generated.{generated};
 ghost use Rattle.liq_ends.specs.Causes.{LastCause, WriteCause};
 ghost use Rattle.liq_ends.specs.Statuses.{status_of};
 ghost use Rattle.liq_ends.specs.Telling.{TellsAll};
@@ -28,7 +30,7 @@ pub fn tell_load<L: Ledger, K: Sink>(
     requires name { blank.name ≡ L.name }
     requires parts { blank.parts ≡ L.parts }
     requires one { L.parts ≡ 1 }
-    ensures told { TellsAll (summary (load seed count)) result (Rose (K.faults out.old) (K.faults out.new)) (K.held out.old) (K.held out.new) }
+    ensures told { TellsAll (summary (load opening (generated seed count))) result (Rose (K.faults out.old) (K.faults out.new)) (K.held out.old) (K.held out.new) }
     ensures ends { Contains (0 ∷ 4 ∷ 7 ∷ []) (status_of result) }
     ensures sink { LastCause result (K.faults out.old) (K.faults out.new) }
 {
@@ -48,7 +50,7 @@ fn write_load<K: Sink, L: Ledger>(
     steps: &mut Steps<L>,
 ) -> Result<(), Halt>
     requires { count ≤ COUNT_MOST }
-    ensures written { WritesLine (summary (load seed count)) result (K.held out.old) (K.held out.new) }
+    ensures written { WritesLine (summary (load opening (generated seed count))) result (K.held out.old) (K.held out.new) }
     ensures sink { WriteCause result (K.faults out.old) (K.faults out.new) }
 {
     let line = Load::carried_out(alloc, seed, count, steps)?.line(alloc)?;

@@ -1,3 +1,5 @@
+use Rattle.liq_types.specs.State.{opening}
+use Rattle.liq_sessions.specs.Generated.{generated}
 use Rattle.liq_load.specs.Load.{load, summary}
 use Rattle.liq_ends.proofs.Causes.{write_no_fewer}
 use Rattle.liq_load.proofs.Told.{line_told}
@@ -5,7 +7,7 @@ use Rattle.liq_load.proofs.telling.tell_load.Goals as goal
 
 pub returns-clause-told : goal.returns-clause-told
 returns-clause-told g c =
-    let line = summary (load c.args.seed c.args.count) in
+    let line = summary (load opening (generated c.args.seed c.args.count)) in
     let ran = c.write_load-end in
     let told = line_told line ran.result (g.K.Sink.held c.args.out.now) (g.K.Sink.held ran.new.out) ran.ensures.written in
     c.tell_last.ensures.told line (g.K.Sink.held c.args.out.now) (g.K.Sink.faults c.args.out.now) (write_no_fewer ran.result _ _ ran.ensures.sink) told.1
@@ -13,4 +15,4 @@ returns-clause-told g c =
 pub returns-clause-ends : goal.returns-clause-ends
 returns-clause-ends g c =
     let ran = c.write_load-end in
-    (line_told (summary (load c.args.seed c.args.count)) ran.result (g.K.Sink.held c.args.out.now) (g.K.Sink.held ran.new.out) ran.ensures.written).0
+    (line_told (summary (load opening (generated c.args.seed c.args.count))) ran.result (g.K.Sink.held c.args.out.now) (g.K.Sink.held ran.new.out) ran.ensures.written).0

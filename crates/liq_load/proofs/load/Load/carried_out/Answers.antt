@@ -7,7 +7,6 @@ use Rattle.liq_types.specs.State.{no_client}
 use Rattle.liq_types.specs.Tables.{at}
 use Rattle.liq_sessions.specs.Generated.{generated}
 use Rattle.liq_load.specs.Carrying.{none_yet}
-use Rattle.liq_load.specs.Load.{load}
 use Rattle.liq_load.proofs.BuiltLoads.{AreBuilt, generated_built}
 use Rattle.liq_load.proofs.Loads.{Underway, begun, gone_on, come_to_end, some_left, none_left, within_more}
 use Rattle.liq_load.proofs.load.Load.carried_out.Goals as goal
@@ -51,7 +50,6 @@ loop-call-preserved g c =
     }
 
 pub returns : goal.returns
-unfolding load
 returns g c =
     let all = generated c.args.seed c.args.count in
     let none : first_of c.loop-call.calls ≡ None = sym c.in_default.ensures.first in
