@@ -18,6 +18,8 @@ mod disks;
 #[cfg(test)]
 mod files;
 #[cfg(test)]
+mod followed;
+#[cfg(test)]
 mod found;
 #[cfg(test)]
 mod full_journal;
