@@ -8,14 +8,13 @@ ghost use Rattle.liq_rules.specs.Recorded.{recorded};
 ghost use Rattle.liq_rules.specs.View.{all_followed, view_of};
 ghost use Rattle.liq_store.specs.Keeping.{IsInOrder};
 ghost use Rattle.liq_views.specs.Publishers.{published, waiting};
-ghost use Rattle.liq_book.specs.Items.{chronicle, session_of};
+ghost use Rattle.liq_book.specs.Items.{chronicle};
 
-use crate::items::{ENTRIES_MOST, Halt, Item};
+use crate::items::{ENTRIES_MOST, Halt};
 use crate::origin::Origin;
 use crate::service::Closed;
 use liq_core::is_built;
 use liq_core::laws::protocols_are_sound;
-use liq_lock::Chronicle;
 use liq_outside::Disk;
 use liq_store::Store;
 use liq_types::{Answer, Entry, Hint, NoMemory, Request};
@@ -86,22 +85,6 @@ impl<D: Disk, O: Origin> Model for Book<D, O> {
         × IsPublishing O.state (open_book b.store b.entries.items b.halt (published b.publisher) (waiting b.publisher)) };
 }
 
-impl<D: Disk, O: Origin> Chronicle for Book<D, O> {
-    type Item = Item;
-
-    ghost history = { λ b. chronicle b.book.entries b.book.halt };
-
-    ghost maker = { session_of };
-
-    fn entries(&self) -> u64 {
-        let entries = self.entries.len() as u64;
-        match self.halt {
-            None => entries,
-            Some(_) => entries + 1,
-        }
-    }
-}
-
 impl<D: Disk, O: Origin> Book<D, O> {
     ghost use Rattle.liq_book.specs.Booked.{IsBook};
     ghost use Rattle.liq_book.specs.Closing.{booked_by};
@@ -126,6 +109,17 @@ impl<D: Disk, O: Origin> Book<D, O> {
             entries: Vec::new(alloc),
             halt: None,
             of: PhantomData,
+        }
+    }
+
+    /// How many items the chronicle has.
+    pub(crate) fn entries(&self) -> u64
+        ensures { result ≡ length (chronicle self.now.book.entries self.now.book.halt) }
+    {
+        let entries = self.entries.len() as u64;
+        match self.halt {
+            None => entries,
+            Some(_) => entries + 1,
         }
     }
 

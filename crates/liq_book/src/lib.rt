@@ -3,6 +3,7 @@
 #![tactic(auto)]
 
 mod book;
+mod boxed;
 mod items;
 mod origin;
 mod publishing;

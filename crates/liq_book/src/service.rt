@@ -7,7 +7,8 @@ mod ends;
 mod made;
 mod publications;
 
-use crate::book::{Book, History};
+use crate::book::History;
+use crate::boxed::BoxedBook;
 use crate::items::Halt;
 use crate::origin::Origin;
 use crate::seat::BookSeat;
@@ -19,7 +20,7 @@ use std::marker::PhantomData;
 /// A book under a lock, at which each session has a seat. As a desk it answers the requests of sessions at once, each as the protocol for
 /// one thread would along the one history of all their calls. It is not `Drop`: end it by `close`.
 pub struct Service<D: Disk, O: Origin> {
-    pub(crate) lock: Lock<Book<D, O>>,
+    pub(crate) lock: Lock<BoxedBook<D, O>>,
     pub(crate) sessions: u8,
     pub ghost seats: { lock_seats lock ≡ sessions },
     pub ghost some: { 0 < sessions },

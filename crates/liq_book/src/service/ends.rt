@@ -8,7 +8,7 @@ ghost use Rattle.liq_book.specs.Items.{session_of};
 ghost use Rattle.liq_book.specs.Seats.{IsSeatOf, items_seen, session_at, sessions_of};
 
 use super::{Closed, Service, StillOut};
-use crate::book::Book;
+use crate::boxed::BoxedBook;
 use crate::items::Item;
 use crate::origin::Origin;
 use crate::seat::BookSeat;
@@ -55,7 +55,7 @@ impl<D: Disk, O: Origin> Service<D, O> {
 
 /// All seats joined into one.
 fn gathered<D: Disk, O: Origin>(
-    lock: &Lock<Book<D, O>>,
+    lock: &Lock<BoxedBook<D, O>>,
     joined: LockSeat<Item>,
     mut seats: Vec<BookSeat<O>>,
 ) -> LockSeat<Item>

@@ -8,6 +8,7 @@ ghost use Rattle.liq_book.specs.Seats.{AreNewSeats, AreSeated, sessions_of};
 
 use super::Service;
 use crate::book::Book;
+use crate::boxed::BoxedBook;
 use crate::items::Item;
 use crate::origin::Origin;
 use crate::seat::BookSeat;
@@ -48,27 +49,32 @@ impl<D: Disk, O: Origin> Service<D, O> {
             publisher.close(rt);
             return Err(store);
         };
-        match Lock::new(
-            alloc,
-            Book::new(alloc, store, publisher),
-            u32::from(sessions),
-        ) {
+        let book = match BoxedBook::new(alloc, Book::new(alloc, store, publisher)) {
+            Ok(book) => book,
+            Err(book) => return Err(unused(rt, book)),
+        };
+        match Lock::new(alloc, book, u32::from(sessions)) {
             Ok((lock, seats)) => {
                 let seats = seated(&lock, seats, room);
                 Ok((Service { lock, sessions }, seats, finders))
             }
-            Err(book) => {
-                let (store, publisher) = book.into_parts();
-                publisher.close(rt);
-                Err(store)
-            }
+            Err(book) => Err(unused(rt, book.into_book())),
         }
     }
 }
 
+/// The store of a book that is not used.
+fn unused<D: Disk, O: Origin, W: Wait>(rt: &W, book: Book<D, O>) -> Store<D>
+    ensures { result ≡ book.book.store }
+{
+    let (store, publisher) = book.into_parts();
+    publisher.close(rt);
+    store
+}
+
 /// A seat of the book for each of the lock's, in their order.
 fn seated<D: Disk, O: Origin>(
-    lock: &Lock<Book<D, O>>,
+    lock: &Lock<BoxedBook<D, O>>,
     mut seats: Vec<LockSeat<Item>>,
     room: Vec<BookSeat<O>>,
 ) -> Vec<BookSeat<O>>

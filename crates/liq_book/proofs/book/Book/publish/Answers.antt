@@ -1,5 +1,4 @@
-use Rattle.std.proofs.Common.{◌≡◌, ◌≤◌, ◌++◌, [], length, ap, arith, subst, sym}
-use Rattle.liq_store.specs.Stored.{Stored}
+use Rattle.std.proofs.Common.{◌≡◌, ◌≤◌, ◌++◌, [], length, arith, refl, subst, sym}
 use Rattle.liq_views.specs.Batches.{last_from}
 use Rattle.liq_views.specs.Publishers.{published, waiting}
 use Rattle.liq_book.proofs.Calling.{forgets}
@@ -14,7 +13,7 @@ publish-requires g c =
 pub invariant_of-self : goal.invariant_of-self
 invariant_of-self g c =
     let count : c.len-number.result ≡ length c.self.inside.entries.items = omega (arith, c.len-number.ensures, c.self.inside.entries.ok.0) in
-    let cleared : c.clear_changes.new.self.changes ≡ [] = ap (λ (s : Stored g.row.D.Denot). s.changes) c.clear_changes.ensures.cleared in (
+    let cleared : c.clear_changes.new.self.changes ≡ [] = rw c.clear_changes.ensures.cleared refl in (
       forgets _ _ _ _ _ _ _ _ _ _ _ _ c.clear_changes.ensures.cleared c.self.invariant.0,
       goes_out _ c.self.inside.store c.clear_changes.new.self _ c.self.inside.halt _ _ _ _ c.self.invariant.1 (rw (c.changes.ensures, count) at c.in-Ok.ensures.sent.0) c.in-Ok.ensures.sent.1 cleared,
     )

@@ -1,0 +1,83 @@
+//! A book behind one pointer.
+
+ghost use Rattle.std.specs.Prelude.{◌≡◌, ◌≤◌, IfErr, IfOk, length, map};
+ghost use Rattle.liq_rules.specs.History.{IsLegal, own_entries};
+ghost use Rattle.liq_rules.specs.Recorded.{recorded};
+ghost use Rattle.liq_book.specs.Booked.{IsBook};
+ghost use Rattle.liq_book.specs.Closing.{booked_by};
+ghost use Rattle.liq_book.specs.Entered.{Enters, IsAsBefore, IsTestedFirst};
+ghost use Rattle.liq_book.specs.Items.{chronicle, session_of};
+
+use crate::book::Book;
+use crate::items::{ENTRIES_MOST, Item};
+use crate::origin::Origin;
+use crate::service::Closed;
+use liq_lock::Chronicle;
+use liq_outside::Disk;
+use liq_types::{Answer, Hint, NoMemory, Request};
+use std::alloc::Global;
+use std::sync::Wait;
+
+/// A book behind one pointer, which is all that a turn at the lock moves.
+pub struct BoxedBook<D: Disk, O: Origin> {
+    pub(crate) boxed: Box<Book<D, O>>,
+}
+
+impl<D: Disk, O: Origin> Chronicle for BoxedBook<D, O> {
+    type Item = Item;
+
+    ghost history = { λ b. chronicle b.boxed.value.book.entries b.boxed.value.book.halt };
+
+    ghost maker = { session_of };
+
+    fn entries(&self) -> u64 {
+        self.boxed.entries()
+    }
+}
+
+impl<D: Disk, O: Origin> BoxedBook<D, O> {
+    /// The book behind a pointer, or the book as it was where there was no memory for that.
+    pub(crate) fn new(alloc: Global, book: Book<D, O>) -> Result<BoxedBook<D, O>, Book<D, O>>
+        ensures ok { IfOk result (λ b. b.boxed.value ≡ book) }
+        ensures err { IfErr result (λ back. back ≡ book) }
+    {
+        match Box::new(alloc, book) {
+            Ok(boxed) => Ok(BoxedBook { boxed }),
+            Err(refused) => Err(refused.value),
+        }
+    }
+
+    /// The book.
+    pub(crate) fn into_book(self) -> Book<D, O>
+        ensures { result ≡ self.boxed.value }
+    {
+        let BoxedBook { boxed } = self;
+        Box::into_inner(boxed)
+    }
+
+    /// What the book has. Nothing is published from now on.
+    pub(crate) fn close<W: Wait>(self, rt: &W) -> Closed<D, O>
+        ensures same { booked_by result ≡ self.boxed.value.book }
+        ensures book { IsBook D.seen D.faults D.moment D.left_at O.state O.left O.right self.boxed.value.book }
+    {
+        self.into_book().close(rt)
+    }
+
+    /// As [`Book::call`].
+    pub(crate) fn call(&mut self, session: u8, calls: u32, request: &Request, hint: &Hint) -> Answer
+        requires calls { length (own_entries session (map recorded self.old.boxed.value.book.entries)) ≡ calls }
+        ensures enters { Enters O.state session calls request.now result self.old.boxed.value.book self.new.boxed.value.book }
+        ensures first { IsTestedFirst self.old.boxed.value.book.entries result }
+        ensures legal { IsLegal O.state (map recorded self.new.boxed.value.book.entries) }
+        ensures few { length self.new.boxed.value.book.entries ≤ ENTRIES_MOST }
+    {
+        self.boxed.call(session, calls, request, hint)
+    }
+
+    /// As [`Book::publish`].
+    pub(crate) fn publish<W: Wait>(&mut self, rt: &W) -> Result<(), NoMemory>
+        ensures { IsAsBefore self.old.boxed.value.book self.new.boxed.value.book }
+    {
+        self.boxed.publish(rt)
+    }
+}
