@@ -3,7 +3,7 @@ use Rattle.std.proofs.Common.{ℕ, inl, inr, ⊎_elim, List, map, Option, ◌∙
 use Rattle.liq_types.specs.declared.requests.Request.{Request}
 use Rattle.liq_types.specs.State.{State}
 use Rattle.liq_rules.specs.History as history
-use Rattle.liq_rules.specs.History.{IsLegal, requests_of, state_after}
+use Rattle.liq_rules.specs.History.{IsLegal, requests_of}
 use Rattle.liq_rules.proofs.AlikeReads.{Alike}
 use Rattle.liq_rules.proofs.AlikeReplies.{replies_alike, run_alike, step_alike}
 use Rattle.liq_pairs.proofs.Alike.{kept_alike, settled_alike}

@@ -2,7 +2,6 @@
 use Rattle.std.proofs.Common.{ℕ, zero, suc, ◌+◌, ◌<◌, ◌≤◌, ◌≡◌, ◌⊎◌, inl, inr, List, [], ◌∷◌, map, length, Option, Some, None, Result, Ok, Err, refl, sym, ap, ap₂, ◌∙◌, subst, arith}
 use Rattle.std.specs.Prelude.{All, Contains, Vec, slice_index_or}
 use Rattle.std.specs.List.{AllByRecursion}
-use Rattle.std.specs.Option.{IsSomeAnd}
 use Rattle.std.proofs.lemmas.List.Elements.{All-map}
 use Rattle.std.specs.Global.{Global}
 use Rattle.liq_outside.specs.Faults.{Rose}
@@ -34,7 +33,7 @@ use Rattle.liq_lines.specs.Lines.{lines_in}
 use Rattle.liq_lines.specs.declared.stops.Stop.{Stop}
 use Rattle.liq_lines.specs.declared.stops.Stop.TheVariants as stop
 use Rattle.liq_scripts.specs.declared.scripts.TheConstants.{SESSIONS}
-use Rattle.liq_scripts.specs.Asked.{requests_of, script_of, scripts_of}
+use Rattle.liq_scripts.specs.BySession.{requests_of, script_of, scripts_of}
 use Rattle.liq_scripts.specs.Gathering.{EndsAfter, Gathers}
 use Rattle.liq_scripts.specs.Sessions.{sessions}
 use Rattle.liq_book.specs.declared.items.Halt.{Halt}

@@ -3,7 +3,7 @@ use Rattle.std.specs.Prelude.{ℕ, ◌≡◌, ◌⊎◌, ◌++◌, ◌<◌, List
 use Rattle.liq_types.specs.declared.requests.Request.{Request}
 use Rattle.liq_rules.specs.History.{Entry, own_entries, requests_of}
 use Rattle.liq_sessions.specs.declared.script.Script.{Script}
-use Rattle.liq_scripts.specs.Asked.{script_of}
+use Rattle.liq_scripts.specs.BySession.{script_of}
 use Rattle.liq_scripts.specs.Sessions.{sessions}
 use Rattle.liq_book.specs.declared.items.TheConstants.{ENTRIES_MOST}
 

@@ -20,7 +20,7 @@ use Rattle.liq_lines.specs.Writing.{Writes, WritesPart}
 use Rattle.liq_lines.specs.declared.stops.Stop.{Stop}
 use Rattle.liq_lines.specs.declared.stops.Stop.TheVariants as stop
 use Rattle.liq_scripts.specs.declared.scripts.TheConstants.{SESSIONS}
-use Rattle.liq_scripts.specs.Asked.{script_of, scripts_of}
+use Rattle.liq_scripts.specs.BySession.{script_of, scripts_of}
 use Rattle.liq_scripts.specs.Gathering.{EndsAfter}
 use Rattle.liq_scripts.specs.Output.{served}
 use Rattle.liq_serving.specs.declared.input.Finish.{Finish}

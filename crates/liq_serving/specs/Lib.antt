@@ -1,4 +1,4 @@
--- A reader of the top call's clause needs Answered. The others are for the contracts below it.
+-- A reader of the top call's clause needs none of these: they are for the contracts below it.
 pub mod Answered
 pub mod Ends
 pub mod Input
