@@ -18,7 +18,8 @@ use Rattle.liq_lines.specs.declared.stops.Stop.TheVariants as stop
 use Rattle.liq_lines.specs.Lines.{lines_in}
 use Rattle.liq_scripts.specs.Gathering as scripts
 use Rattle.liq_scripts.specs.Output.{served}
-use Rattle.liq_scripts.specs.Asked.{Asks, script_of, scripts_of}
+use Rattle.liq_scripts.specs.Asked.{Asks}
+use Rattle.liq_scripts.specs.BySession.{script_of, scripts_of}
 use Rattle.liq_scripts.specs.Sessions.{sessions}
 use Rattle.liq_sessions.specs.declared.script.Script.{Script}
 use Rattle.liq_serving.specs.Answered.{AreServedWhole, IsServedWhole, LacksMemory, answered_of}
@@ -29,8 +30,7 @@ use Rattle.liq_serving.specs.Input.{AnswersInput, IsAllButForMemory, Written, re
 use Rattle.liq_store.specs.declared.answers.StoreWhy.TheVariants as why
 use Rattle.liq_store.specs.Causes.{Faults}
 use Rattle.liq_ends.specs.declared.halts.Halt.{Halt}
-use Rattle.liq_ends.specs.declared.halts.Halt.TheVariants.{BadLine, ReadFault, DiskFault, NoMemory, Limit}
-use Rattle.liq_ends.specs.declared.halts.Halt.TheVariants as halts
+use Rattle.liq_ends.specs.declared.halts.Halt.TheVariants.{DiskFault}
 use Rattle.liq_ends.specs.Causes.{DiskCause, ReadCause, WriteCause}
 use Rattle.liq_ends.specs.Disks.{OfBoth}
 use Rattle.liq_ends.specs.Unsaid.{WritesAll}

@@ -36,10 +36,11 @@ use Rattle.liq_store.specs.Causes.{Faults, OneRose}
 use Rattle.liq_tell.specs.Audit.{IsAuditOf}
 use Rattle.liq_tell.specs.State.{standing}
 use Rattle.liq_tell.proofs.Audited.{no_limit}
+use Rattle.liq_sessions.specs.Generated.{generated}
 use Rattle.liq_load.specs.Load.{load, summary}
-use Rattle.liq_serve.specs.Outside.{Outside, Finds}
+use Rattle.liq_serve.specs.Outside.{Outside}
 use Rattle.liq_serve.specs.Serve.{ServesTo}
-use Rattle.liq_serve.specs.Top.{Ends, EndsOverDamage, HasCauses, Loads}
+use Rattle.liq_serve.specs.Top.{Ends, HasCauses, Loads}
 use Rattle.liq_serve.proofs.Served.{same_disks}
 use Rattle.liq_serve.proofs.StatusLaws.{complete, status_known}
 use Rattle.liq_serve.proofs.Telling.{audit_done, disks_unasked, load_done, source_unasked, state_done}
@@ -111,11 +112,6 @@ module _ {S D : Type 0} (seen : D → Option (List ℕ)) (before after : Outside
       (l r : List ℕ) → seen before.left ≡ Some l → seen before.right ≡ Some r → (side : Side) (damage : Damage) → state_on l r ≡ Err (side, damage)
       → (after.source ≡ before.source) × ((halt : Halt) × (status ≡ status_of (Err halt)) × EndsDamaged seen side damage (Err halt) after.left after.right × Adds [] (last halt) (Rose before.sink_faults after.sink_faults) before.held after.held)
 
-  over_damage : (status : ℕ) → IsOverDamage status → (l r : List ℕ) (side : Side) (damage : Damage) → Finds seen before l r (Err (side, damage)) → EndsOverDamage seen before after status side damage
-  over_damage status damaged l r side damage found =
-      let h = damaged l r found.left found.right side damage found.is in
-      record { reads = h.0; halt = h.1.0; status_is = h.1.1; ends = h.1.2; written = h.1.3 }
-
   pub run_ends :
       (words : List (List ℕ)) (end : Result (Unit {0}) Halt) → IsRead words word.Run → HasCounts end
       → ((bytes l r : List ℕ) → before.unread ≡ Some bytes → seen before.left ≡ Some l → seen before.right ≡ Some r → (start : State) → state_on l r ≡ Ok start
@@ -138,7 +134,7 @@ module _ {S D : Type 0} (seen : D → Option (List ℕ)) (before after : Outside
         state = λ asked. absurd (cc (read.only word.State asked));
         audit = λ asked. absurd (cc (read.only word.Audit asked));
         gen = λ seed count asked. absurd (cc (read.only (word.Gen seed count) asked));
-        damaged = λ asked. over_damage (status_of end) damaged;
+        damaged = λ asked l r side damage found. damaged l r found.left found.right side damage found.is;
         takes = few;
         causes = causes;
       }
@@ -167,7 +163,7 @@ module _ {S D : Type 0} (seen : D → Option (List ℕ)) (before after : Outside
         };
         audit = λ asked. absurd (cc (read.only word.Audit asked));
         gen = λ seed count asked. absurd (cc (read.only (word.Gen seed count) asked));
-        damaged = λ asked. over_damage (status_of end) damaged;
+        damaged = λ asked l r side damage found. damaged l r found.left found.right side damage found.is;
         takes = few;
         causes = causes;
       }
@@ -229,7 +225,7 @@ module _ {S D : Type 0} (seen : D → Option (List ℕ)) (before after : Outside
               so.0 (λ e. calm.sink (causes.sink_fault e)) (λ e. calm.disk (causes.disk_fault e));
         };
         gen = λ seed count asked. absurd (cc (read.only (word.Gen seed count) asked));
-        damaged = λ asked. over_damage (status_of end) damaged;
+        damaged = λ asked l r side damage found. damaged l r found.left found.right side damage found.is;
         takes = few;
         causes = causes;
       }
@@ -247,7 +243,7 @@ module _ {S D : Type 0} (seen : D → Option (List ℕ)) (source : S) (unread : 
 
   pub gen_ends :
       (words : List (List ℕ)) (end : Result (Unit {0}) Halt) (seed count : ℕ) → IsRead words (word.Gen seed count)
-      → TellsAll (summary (load seed count)) end (Rose sink sink_now) held now → Contains (0 ∷ 4 ∷ 7 ∷ []) (status_of end) → LastCause end sink sink_now → EndsWriting (status_of end) words
+      → TellsAll (summary (load opening (generated seed count))) end (Rose sink sink_now) held now → Contains (0 ∷ 4 ∷ 7 ∷ []) (status_of end) → LastCause end sink sink_now → EndsWriting (status_of end) words
   gen_ends words end seed count read told ends cause =
       let causes = has_causes seen (with_sink held sink) (with_sink now sink_now) end (record {
         source = source_unasked end source_faults ends;
@@ -365,13 +361,15 @@ module _ {S D : Type 0} (seen : D → Option (List ℕ)) (source : S) (unread : 
           statuses = (2, lit< tt, refl);
           complete = λ none. inr refl;
         };
-        damaged = λ asked l r side damage found. record {
-          reads = refl;
-          halt = NoMemory;
-          status_is = refl;
-          ends = λ a b told_a told_b. same_disks seen left right l r a b (Err (side, damage)) found.left found.right told_a told_b state_on found.is;
-          written = written;
-        };
+        damaged = λ asked l r side damage found. (
+          refl,
+          (
+            NoMemory,
+            refl,
+            λ a b told_a told_b. same_disks seen left right l r a b (Err (side, damage)) found.left found.right told_a told_b state_on found.is,
+            written,
+          ),
+        );
         takes = takes_none unread;
         causes = record {
           known = (7, lit< tt, refl);

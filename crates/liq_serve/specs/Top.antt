@@ -1,6 +1,6 @@
 -- What the top call leaves, word by word, and which counts rise.
-use Rattle.std.specs.Prelude.{ℕ, ◌≡◌, ◌≢◌, ◌≤◌, ◌+◌, ◌*◌, ◌⊎◌, ◌↔◌, ◌∷◌, []}
-use Rattle.std.specs.Prelude.{Contains, List, length, Option, Some, None, Result, Ok, Err}
+use Rattle.std.specs.Prelude.{ℕ, ◌≡◌, ◌≢◌, ◌≤◌, ◌+◌, ◌*◌, ◌⊎◌, ◌↔◌, ◌∷◌, [], ◌++◌}
+use Rattle.std.specs.Prelude.{Contains, List, length, Option, option_map, Some, None, Result, Ok, Err}
 use Rattle.std.specs.List.{AllZip}
 use Rattle.liq_types.specs.declared.amounts.TheConstants.{LINE_BYTES, LINES_MOST}
 use Rattle.liq_types.specs.declared.requests.Request.{Request}
@@ -9,10 +9,10 @@ use Rattle.liq_rules.specs.Events.{events}
 use Rattle.liq_journal.specs.declared.damage.Damage.{Damage}
 use Rattle.liq_lines.specs.Lines.{lines_in}
 use Rattle.liq_lines.specs.declared.reader.TheConstants.{READ_BYTES}
-use Rattle.liq_lines.specs.Reading.{ReadsAtMost}
 use Rattle.liq_pairs.specs.declared.side.Side.{Side}
 use Rattle.liq_pairs.specs.Pair.{commands_on}
 use Rattle.liq_review.specs.Limits.{number_above}
+use Rattle.liq_sessions.specs.Generated.{generated}
 use Rattle.liq_scripts.specs.Asked.{Asks}
 use Rattle.liq_words.specs.declared.words.Word.{Word}
 use Rattle.liq_words.specs.declared.words.Word.TheVariants as word
@@ -37,14 +37,6 @@ module _ {S D : Type 0} (seen : D → Option (List ℕ)) (before after : Outside
   pub record IsCalm : Type 0 where
     pub sink : Rose before.sink_faults after.sink_faults → ⊥
     pub disk : OneRose before.disk_faults after.disk_faults → ⊥
-
-  -- over disks with this first damage nothing is read, and a last line alone is written
-  pub record EndsOverDamage (side : Side) (damage : Damage) : Type 0 where
-    pub reads : after.source ≡ before.source
-    pub halt : Halt
-    pub status_is : status ≡ status_of (Err halt)
-    pub ends : EndsDamaged seen side damage (Err halt) after.left after.right
-    pub written : Adds [] (last halt) (Rose before.sink_faults after.sink_faults) before.held after.held
 
   -- `run`, wherever the source tells its bytes and the disks stand for a state
   pub record Runs : Type 0 where
@@ -106,10 +98,11 @@ module _ {S D : Type 0} (seen : D → Option (List ℕ)) (before after : Outside
   -- `gen`: nothing is read, and the disks stay
   pub record Loads (seed count : ℕ) : Type 0 where
     pub untouched : IsUntouched before after
-    -- the load is told by the rules' steps along its requests from the opening
+    -- the seed's load is told by the rules' steps along its requests from the opening
     pub ends :
         (end : Result (Unit {0}) Halt) × (status ≡ status_of end)
-        × TellsAll (summary (load seed count)) end (Rose before.sink_faults after.sink_faults) before.held after.held
+        × TellsAll (summary (load opening (generated seed count))) end (Rose before.sink_faults after.sink_faults)
+        before.held after.held
     pub statuses : Contains (0 ∷ 4 ∷ 7 ∷ []) status
     pub complete : (Rose before.sink_faults after.sink_faults → ⊥) → IsDone status
 
@@ -134,12 +127,17 @@ module _ {S D : Type 0} (seen : D → Option (List ℕ)) (before after : Outside
     pub state : Ask words word.State → States
     pub audit : Ask words word.Audit → Audits
     pub gen : (seed count : ℕ) → Ask words (word.Gen seed count) → Loads seed count
-    -- each word that opens the disks before it reads
+    -- of each word that opens the disks before it reads: over disks with this first damage nothing is read, and a last
+    -- line alone is written
     pub damaged :
         Ask words word.Run ⊎ (Ask words word.State ⊎ Ask words word.Audit)
         → (l r : List ℕ) (side : Side) (damage : Damage) → Finds seen before l r (Err (side, damage))
-        → EndsOverDamage side damage
-    -- no more is taken from the source than the lines that one run answers, each with its line end, and what one read
-    -- asks for
-    pub takes : ReadsAtMost (LINES_MOST * (LINE_BYTES + 1) + READ_BYTES) before.unread after.unread
+        → (after.source ≡ before.source)
+        × ((halt : Halt) × (status ≡ status_of (Err halt)) × EndsDamaged seen side damage (Err halt) after.left after.right
+        × Adds [] (last halt) (Rose before.sink_faults after.sink_faults) before.held after.held)
+    -- the bytes that are taken from the source: no more than the lines that one run answers, each with its line end, and
+    -- what one read asks for
+    pub takes :
+        (bytes : List ℕ) × (before.unread ≡ option_map (λ rest. bytes ++ rest) after.unread)
+        × (length bytes ≤ LINES_MOST * (LINE_BYTES + 1) + READ_BYTES)
     pub causes : HasCauses
