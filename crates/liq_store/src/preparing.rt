@@ -44,7 +44,7 @@ pub fn prepare(protocol: &mut Guided, changes: &mut Vec<ListChange>, command: &C
         Err(PlanFault::No(refusal)) => return Prepared::No(refusal),
         Err(PlanFault::NoMemory) => return Prepared::NoMemory,
     };
-    // The guide follows what is planned, so this is the last for which there may be no memory.
+    // Before the protocol's room: there the guide follows what is planned, and nothing may be refused behind it.
     let Ok(()) = changes.try_reserve(planned.list_changes().len()) else {
         return Prepared::NoMemory;
     };
