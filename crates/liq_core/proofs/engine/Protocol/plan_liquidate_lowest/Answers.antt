@@ -2,7 +2,7 @@ use Rattle.std.proofs.Common.{◌<◌, ◌≤◌, ◌^◌, List, length, refl, a
 use Rattle.std.specs.Prelude.{sum_by}
 use Rattle.liq_types.specs.declared.amounts.TheConstants.{LOWEST_MOST}
 use Rattle.liq_liquidation.specs.declared.one.Victim.{Victim}
-use Rattle.liq_liquidation.specs.Lowest.{lowest, lowest_plan, lowest_rules}
+use Rattle.liq_liquidation.specs.Lowest.{lowest_plan}
 use Rattle.liq_liquidation.specs.Moment.{IsFaultOf}
 use Rattle.liq_core.specs.Core.{Core, state_of}
 use Rattle.liq_rules.specs.Liquidation.{lowest_values, offset_events, victim_changes}
@@ -10,7 +10,6 @@ use Rattle.liq_rules.specs.Rules.{six}
 use Rattle.liq_soundness.specs.SoundState.{IsSoundState}
 use Rattle.liq_victims.specs.Victims.{AreVictims}
 use Rattle.liq_core.proofs.Planning.{lowest_fits, lowest_made, lowest_passes, lowest_ruled, lowest_tests}
-use Rattle.liq_core.proofs.Reading.{refused_so}
 use Rattle.liq_soundness.proofs.SoundStart.{started_with}
 use Rattle.liq_core.proofs.engine.Protocol.plan_liquidate_lowest.Goals as goal
 
@@ -65,9 +64,3 @@ pub returns-in-Err : goal.returns-in-Err
 returns-in-Err c =
     let s = state_of c.args.self.now in
     (refl, lowest_tests s c.args.count (omega (arith, c.if-count-eq0.false)) (omega (arith, c.if-count-gt-LOWEST_MOST.false)) ∙ (lowest_made s c.args.count c.in-Ok.victims.items c.in-Ok.ensures).0)
-
-pub returns-in-Err-No : goal.returns-in-Err-No
-returns-in-Err-No c =
-    let s = state_of c.args.self.now in
-    let fault = subst (IsFaultOf (lowest_plan s c.args.count)) c.in-Err-No.field-0-is c.in-Err-No.ensures in
-    lowest_tests s c.args.count (omega (arith, c.if-count-eq0.false)) (omega (arith, c.if-count-gt-LOWEST_MOST.false)) ∙ refused_so (lowest_rules s) (lowest s c.args.count) c.in-Err-No.refusal fault
