@@ -1,7 +1,8 @@
 -- Where a book begins: a state, and two disks at a moment.
 use Rattle.std.specs.Prelude.{ℕ, ◌≡◌, ◌≤◌, List, Option, None}
-use Rattle.liq_types.specs.State.{State}
+use Rattle.liq_types.specs.State.{State, opening}
 use Rattle.liq_core.specs.Core.{StandsFor}
+use Rattle.liq_rules.specs.View.{all_followed, view_of}
 use Rattle.liq_store.specs.Causes.{Faults}
 use Rattle.liq_store.specs.Stored.{Stored}
 
@@ -45,3 +46,7 @@ faults_at left right = record { left = left.faults; right = right.faults }
 -- a disk of which nothing is told
 abbrev pub nowhere : DiskAt
 nowhere = record { seen = None; faults = 0; moment = 0; left_at = λ k image. Unit {0} }
+
+-- whoever has seen nothing and follows the store's changes has the view of each state for which it stands
+abbrev pub TellsList : {D : Type 0} → Stored D → Type 0
+TellsList store = (s : State) → StandsFor store.core s → all_followed (view_of opening) store.changes ≡ view_of s

@@ -2,10 +2,8 @@
 
 ghost use Rattle.std.specs.Prelude.{◌≡◌, ◌≤◌, ◌⊎◌, ◌++◌, MatchResult, map, length, [], ◌∷◌, None};
 ghost use Rattle.std.specs.Option.{option_map};
-ghost use Rattle.liq_types.specs.State.{opening};
 ghost use Rattle.liq_rules.specs.History.{IsLegal, own_entries};
 ghost use Rattle.liq_rules.specs.Recorded.{recorded};
-ghost use Rattle.liq_rules.specs.View.{all_followed, view_of};
 ghost use Rattle.liq_store.specs.Keeping.{IsInOrder};
 ghost use Rattle.liq_views.specs.Publishers.{published, waiting};
 ghost use Rattle.liq_book.specs.Items.{chronicle};
@@ -89,14 +87,14 @@ impl<D: Disk, O: Origin> Book<D, O> {
     ghost use Rattle.liq_book.specs.Booked.{IsBook};
     ghost use Rattle.liq_book.specs.Closing.{booked_by};
     ghost use Rattle.liq_book.specs.Entered.{Enters, IsAsBefore, IsTestedFirst};
-    ghost use Rattle.liq_book.specs.Origin.{IsAtOrigin};
+    ghost use Rattle.liq_book.specs.Origin.{IsAtOrigin, TellsList};
     ghost use Rattle.liq_book.specs.Publishing.{batch_of, open_book};
 
     /// A book without entries, over a store that was never stopped, whose opened list was published.
     pub(crate) fn new(alloc: Global, store: Store<D>, publisher: Publisher) -> Book<D, O>
         requires going { store.stopped ≡ None }
         requires origin { IsAtOrigin D.seen D.faults D.moment D.left_at O.state O.left O.right store }
-        requires listed { all_followed (view_of opening) store.changes ≡ view_of O.state }
+        requires listed { TellsList store }
         requires published { published publisher ≡ record { changes = store.changes; number = 0 } ∷ [] }
         requires waiting { waiting publisher ≡ [] }
         ensures { result ≡ open_book store [] None (published publisher) (waiting publisher) }

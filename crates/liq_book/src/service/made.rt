@@ -1,9 +1,7 @@
 //! A service is made, with its seats.
 ghost use Rattle.std.specs.Prelude.{◌≡◌, ◌≤◌, None, IfOk, IfErr, [], length, vec_capacity};
-ghost use Rattle.liq_types.specs.State.{opening};
-ghost use Rattle.liq_rules.specs.View.{all_followed, view_of};
 ghost use Rattle.liq_lock.specs.Seats.{AreFresh, lock_id};
-ghost use Rattle.liq_book.specs.Origin.{IsAtOrigin};
+ghost use Rattle.liq_book.specs.Origin.{IsAtOrigin, TellsList};
 ghost use Rattle.liq_book.specs.Seats.{AreNewSeats, AreSeated, sessions_of};
 
 use super::Service;
@@ -32,7 +30,7 @@ impl<D: Disk, O: Origin> Service<D, O> {
         requires some { 1 ≤ sessions }
         requires going { store.stopped ≡ None }
         requires origin { IsAtOrigin D.seen D.faults D.moment D.left_at O.state O.left O.right store }
-        requires listed { all_followed (view_of opening) store.changes ≡ view_of O.state }
+        requires listed { TellsList store }
         ensures sessions { IfOk result (λ made. sessions_of made.0 ≡ sessions) }
         ensures count { IfOk result (λ made. length made.1.items ≡ sessions) }
         ensures seats { IfOk result (λ made. AreNewSeats made.0 made.1.items) }
