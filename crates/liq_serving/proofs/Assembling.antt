@@ -3,6 +3,7 @@ use Rattle.std.proofs.Common.{ℕ, suc, ◌+◌, ◌≤◌, ◌<◌, ◌≡◌, 
 use Rattle.std.specs.Prelude.{◌↔◌, All, Contains, IsTrue, slice_index_or, sum_by}
 use Rattle.std.specs.List.{AllByRecursion, AllZip}
 use Rattle.std.proofs.lemmas.List.{length-map}
+use Rattle.std.proofs.lemmas.Slice.Zip.{AllZip-long}
 use Rattle.std.proofs.lemmas.List.Elements.{Contains-append_left, Contains-append_right}
 use Rattle.liq_types.specs.State.{State}
 use Rattle.liq_rules.specs.History as history
@@ -17,7 +18,6 @@ use Rattle.liq_sessions.specs.declared.done.SessionEnd.{SessionEnd}
 use Rattle.liq_sessions.specs.declared.done.SessionEnd.TheVariants as session_end
 use Rattle.liq_sessions.specs.declared.done.Work.{Work}
 use Rattle.liq_sessions.specs.declared.script.Script.{Script}
-use Rattle.liq_sessions.specs.declared.script.TheConstants.{REQUESTS_MOST}
 use Rattle.liq_sessions.specs.Ran.{EndsAt, faulted_at}
 use Rattle.liq_sessions.specs.Sessions.{HasRun}
 use Rattle.liq_store.specs.Keeping.{IsInOrder}
@@ -40,8 +40,9 @@ use Rattle.liq_serving.specs.declared.served.End.TheVariants as end
 use Rattle.liq_serving.specs.declared.served.Served.{Served}
 use Rattle.liq_serving.specs.Ends.{end_of, halt_of}
 use Rattle.liq_serving.specs.Leaves.{Leaves, chronicle_of}
+use Rattle.liq_serving.specs.Running.{ComesTo}
 use Rattle.liq_serving.specs.Serves.{AreNumbered, LeavesDisks, Serves}
-use Rattle.liq_serving.proofs.Counting.{each_short, has_room, none_left}
+use Rattle.liq_serving.proofs.Counting.{has_room, none_left}
 use Rattle.liq_serving.proofs.Leaving.{settles}
 use Rattle.liq_serving.proofs.Told.{IsTold, all_from, all_mapped, all_so, all_to, all_unmap, answered_none, front_told, next_told, script_of, short_told, told_by, told_none, whole_told}
 
@@ -259,16 +260,7 @@ module _ {T K H O : Type 0} {o : Ghosts O} (lock : Lock T Item) (works : List (W
       → AreSeated lock new_seats → AreNumbered scripts → AllByRecursion (IsSet lock) works
   set_of seats_are scripts_are new numbered = all_set lock (λ k. k + 1) works (rw seats_are new) (rw scripts_are numbered)
 
-  pub works_belong : AllByRecursion (IsSet lock) works → All (λ (w : Work K H (BookSeat O o)). seat_id w.seat.seat ≡ lock_id lock) works
-  works_belong set = all_to (λ (w : Work K H (BookSeat O o)). seat_id w.seat.seat ≡ lock_id lock) works (all_so (IsSet lock) (λ (w : Work K H (BookSeat O o)). seat_id w.seat.seat ≡ lock_id lock) (λ w set. set.own) works set)
-
 module _ {K H O : Type 0} {o : Ghosts O} (works : List (Work K H (BookSeat O o))) (scripts : List Script) (scripts_are : map (λ (w : Work K H (BookSeat O o)). w.script) works ≡ scripts) where
-  pub works_short : sum_by (λ (script : Script). length script.requests) scripts ≤ ENTRIES_MOST → All (λ (w : Work K H (BookSeat O o)). length w.script.requests ≤ REQUESTS_MOST) works
-  works_short total =
-      all_to (λ (w : Work K H (BookSeat O o)). length w.script.requests ≤ REQUESTS_MOST) works
-      (all_unmap (λ (script : Script). length script.requests ≤ REQUESTS_MOST) (λ (w : Work K H (BookSeat O o)). w.script) works
-      (all_from (λ (script : Script). length script.requests ≤ REQUESTS_MOST) (map (λ (w : Work K H (BookSeat O o)). w.script) works) (rw scripts_are (each_short scripts total))))
-
   pub works_many : length works ≡ length scripts
   works_many = sym (length-map works (λ (w : Work K H (BookSeat O o)). w.script)) ∙ ap length scripts_are
 
@@ -327,3 +319,49 @@ module _ {D : Type 0} (seen : D → Option (List ℕ)) (faults : D → ℕ) (mom
       total
       (λ not_all. inl (subst (AllByRecursion (λ (script : Script). answered_of script.session (entries_of left) ≡ [])) scripts_are
       (all_mapped (λ (script : Script). answered_of script.session (entries_of left) ≡ []) (λ (w : Work K H (BookSeat O o)). w.script) works (none_answered left lock works set back))))
+
+-- ---- what running at the seats comes to
+
+abbrev pub Came : (K H : Type 0) {O : Type 0} {o : Ghosts O} → (BookSeat O o → Type 0) → (BookSeat O o → Type 0) → List Script → (seats back : List (BookSeat O o)) → Bool → Type 0
+Came K H Belongs KnowsEnd = ComesTo K H Belongs session_at (λ seat. calls_of (session_at seat) (items_seen seat)) KnowsEnd (λ seat. faulted_in (session_at seat) (items_seen seat))
+
+-- a work for each script, with the seat at its place
+set_up : {S : Type 0} (scripts : List Script) (seats : List S) → length seats ≡ length scripts
+    → (works : List (Work (Unit {0}) (Unit {0}) S)) × (map (λ (w : Work (Unit {0}) (Unit {0}) S). w.script) works ≡ scripts) × (map (λ (w : Work (Unit {0}) (Unit {0}) S). w.seat) works ≡ seats)
+set_up [] [] same = ([], refl, refl)
+set_up [] (seat ∷ seats) same = absurd (omega (arith, same))
+set_up (script ∷ scripts) [] same = absurd (omega (arith, same))
+set_up (script ∷ scripts) (seat ∷ seats) same =
+    let rest = set_up scripts seats (omega (arith, same)) in
+    (record { script = script; seat = seat; hinter = tt } ∷ rest.0, ap (λ (l : List Script). script ∷ l) rest.1, ap (λ l. seat ∷ l) rest.2)
+
+module _ {K H O : Type 0} {o : Ghosts O} (Belongs KnowsEnd : BookSeat O o → Type 0) (scripts : List Script) (seats back : List (BookSeat O o)) (whole : Bool) where
+  -- the seats that came back are the desk's, and as many
+  pub came_own : Came K H Belongs KnowsEnd scripts seats back whole → All Belongs seats → All Belongs back
+  came_own (inl run) own = done_belong Belongs KnowsEnd run.works run.done back run.ran run.back_are
+  came_own (inr none) own = subst (All Belongs) (sym none.0) own
+
+  pub came_many : Came K H Belongs KnowsEnd scripts seats back whole → length seats ≡ length scripts → length back ≡ length scripts
+  came_many (inl run) same =
+      let works = works_many run.works scripts run.scripts_are in
+      let done = AllZip-long _ run.works run.done run.ran in
+      let seats_are = ap length run.back_are ∙ length-map run.done (λ (d : SessionDone K H (BookSeat O o)). d.seat) in
+      omega (arith, works, done, seats_are)
+  came_many (inr none) same = ap length none.0 ∙ same
+
+  module _ {D : Type 0} (seen : D → Option (List ℕ)) (faults : D → ℕ) (moment : D → ℕ) (left_at : D → ℕ → List ℕ → Type 0) (base : State) (left_origin right_origin : DiskAt) where
+    pub serves_came : {T : Type 0} (lock : Lock T Item) (most : ℕ) (served : Served D)
+        → AreNumbered scripts → AreSeated lock seats → length seats ≡ length scripts
+        → sum_by (λ (script : Script). length script.requests) scripts ≤ ENTRIES_MOST
+        → most ≡ length scripts
+        → Leaves seen faults moment left_at base left_origin right_origin most whole back served
+        → Came K H Belongs KnowsEnd scripts seats back whole
+        → Serves seen faults moment left_at base left_origin right_origin scripts served
+    serves_came lock most served numbered new same total most_is l (inl run) =
+        serves_done seen faults moment left_at base left_origin right_origin scripts lock Belongs KnowsEnd run.works run.done back most whole served
+        run.scripts_are numbered (set_of lock run.works seats scripts run.seats_are run.scripts_are new numbered) run.ran run.back_are run.ends total most_is l
+    serves_came lock most served numbered new same total most_is l (inr none) =
+        let set = set_up scripts seats same in
+        serves_works seen faults moment left_at base left_origin right_origin scripts lock set.0 back most served
+        set.1 numbered (set_of lock set.0 seats scripts set.2 set.1 new numbered) (none.0 ∙ sym set.2) total most_is
+        (subst (λ b. Leaves seen faults moment left_at base left_origin right_origin most b back served) none.1 l)

@@ -3,4 +3,5 @@ pub mod Answered
 pub mod Ends
 pub mod Input
 pub mod Leaves
+pub mod Running
 pub mod Serves

@@ -5,17 +5,17 @@ ghost use Rattle.liq_types.specs.State.{State};
 ghost use Rattle.liq_core.specs.Core.{StandsFor};
 ghost use Rattle.liq_store.specs.Keeping.{IsInOrder};
 ghost use Rattle.liq_book.specs.declared.items.TheConstants.{ENTRIES_MOST};
-ghost use Rattle.liq_book.specs.Origin.{IsAtOrigin};
+ghost use Rattle.liq_book.specs.Origin.{IsAtOrigin, TellsList};
 ghost use Rattle.liq_book.specs.Seats.{IsSeatOf, sessions_of};
 ghost use Rattle.liq_serving.specs.Leaves.{Leaves};
 ghost use Rattle.liq_serving.specs.Serves.{AreNumbered, Serves, disk_at};
 
-use crate::seats::{at_seats, seats_back, seats_of};
+use crate::seats::run_at;
 use crate::served::{End, Served, ended};
-use liq_book::{BookSeat, History, Origin, Service};
+use liq_book::{BookSeat, History, Origin, Publishing, Service};
 use liq_core::laws::protocols_stand;
 use liq_outside::Disk;
-use liq_sessions::{Gate, Script, run_sessions};
+use liq_sessions::{Gate, Script};
 use liq_store::Store;
 use std::alloc::Global;
 use std::marker::Brand;
@@ -23,7 +23,8 @@ use std::sync::Wait;
 use std::thread::Threads;
 
 /// Serves the scripts of the sessions from 1 on, all at once, over a store that is open: a book is made with a seat for each, the
-/// sessions run, all seats come back, and the book is closed. All scripts together have at most [`liq_book::ENTRIES_MOST`]
+/// sessions run, each asking a finder of its own for a hint before a call and publishing the list behind one that changed it, all seats
+/// come back, and the book is closed. All scripts together have at most [`liq_book::ENTRIES_MOST`]
 /// requests, so that the book is never full.
 ///
 /// The history is legal from each state for which the store's protocol stands. A disk's count rose exactly where the end
@@ -40,6 +41,7 @@ pub fn serve_sessions<D: Disk + Send, G: Gate + Sync, R: Threads + Wait + Sync>(
     requires numbered { AreNumbered scripts.items }
     requires total { sum_by (λ script. length script.requests) scripts.items ≤ ENTRIES_MOST }
     requires going { store.stopped ≡ None }
+    requires listed { TellsList store }
     ensures { (s : State) → StandsFor store.core s → Serves D.seen D.faults D.moment D.left_at s (disk_at D.seen D.faults D.moment D.left_at store.left) (disk_at D.seen D.faults D.moment D.left_at store.right) scripts.items result }
 {
     protocols_stand(store.protocol());
@@ -60,31 +62,22 @@ fn serve_from<D: Disk + Send, O: Origin + Send + Sync, G: Gate + Sync, R: Thread
     requires total { sum_by (λ script. length script.requests) scripts.items ≤ ENTRIES_MOST }
     requires going { store.stopped ≡ None }
     requires origin { IsAtOrigin D.seen D.faults D.moment D.left_at O.state O.left O.right store }
+    requires listed { TellsList store }
     ensures { Serves D.seen D.faults D.moment D.left_at O.state O.left O.right scripts.items result }
 {
-    let count = scripts.len();
-    let Ok(room) = Vec::with_capacity(alloc, count) else {
-        return unserved(alloc, store);
-    };
-    let Ok(back) = Vec::with_capacity(alloc, count) else {
-        return unserved(alloc, store);
-    };
-    let (service, seats) = match Service::<D, O>::new(alloc, store, count as u8) {
+    let count = scripts.len() as u8;
+    let (service, seats, finders) = match Service::<D, O>::new(rt, alloc, store, count) {
         Ok(made) => made,
         Err(store) => return unserved(alloc, store),
     };
-    let works = at_seats(scripts, seats, room);
-    match run_sessions(rt, alloc, &service, gate, works) {
-        Ok(done) => {
-            let (seats, whole) = seats_back(done, back);
-            finished(service, seats, whole)
-        }
-        Err(works) => finished(service, seats_of(works, back), false),
-    }
+    let desk = Publishing::new(&service);
+    let (seats, whole) = run_at(rt, alloc, &desk, gate, scripts, seats, finders);
+    finished(rt, service, seats, whole)
 }
 
 /// Closes the book with all its seats.
-fn finished<D: Disk, O: Origin>(
+fn finished<D: Disk, O: Origin, W: Wait>(
+    rt: &W,
     service: Service<D, O>,
     seats: Vec<BookSeat<O>>,
     whole: bool,
@@ -93,7 +86,7 @@ fn finished<D: Disk, O: Origin>(
     requires all { sessions_of service ≤ length seats.items }
     ensures { Leaves D.seen D.faults D.moment D.left_at O.state O.left O.right (sessions_of service) whole seats.items result }
 {
-    match service.close(seats) {
+    match service.close(rt, seats) {
         Ok(closed) => ended(closed, whole),
         Err(_) => unreachable!(),
     }
