@@ -15,7 +15,7 @@ use Rattle.liq_views.specs.Shelves.{opening, after, after_all}
 use Rattle.liq_views.proofs.Numbers.{count_from, last_snoc, rise_later, rise_snoc, version_is}
 
 -- a beginning of the log that makes the same shelf is the whole log
-whole : (seen rest : List Given) → after_all (seen ++ rest) ≡ after_all seen → seen ++ rest ≡ seen
+pub whole : (seen rest : List Given) → after_all (seen ++ rest) ≡ after_all seen → seen ++ rest ≡ seen
 whole seen rest same =
     let long = count_from opening (seen ++ rest) in
     let short = count_from opening seen in

@@ -6,6 +6,7 @@
 
 mod batch;
 mod finder;
+pub mod laws;
 mod pane;
 mod publisher;
 mod rule;

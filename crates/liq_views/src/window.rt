@@ -19,11 +19,15 @@ pub trait Window {
     /// How many looks were shut, as far as a count of 64 bits goes.
     ghost shut: { Self → ℕ };
 
+    /// How what was shown before a look leads to what is shown after it.
+    ghost leads: { Self → Self → Type 0 };
+
     /// Asks the version that is then shown. Its number isn't below that of the one shown before. `Shut` comes only where
     /// the count of shut looks rose in this call, and leaves what was last shown.
     fn look(&mut self, ask: &Ask) -> Result<Hint, Shut>
         ensures told { IfOk result (λ hint. IfSome (shown self.new) (λ v. hint ≡ answer_of v ask.now)) }
         ensures later { GoesOn (shown self.old) (shown self.new) }
+        ensures leads { leads self.old self.new }
         ensures stays { OnErr result (shown self.new ≡ shown self.old) }
         ensures open { OnOk result (shut self.new ≡ shut self.old) }
         ensures cause { OnErr result (Rose (shut self.old) (shut self.new)) };
@@ -47,6 +51,8 @@ impl Window for Shown {
     ghost shown = { λ s. Some s.version };
 
     ghost shut = { λ _. 0 };
+
+    ghost leads = { λ s t. t.version ≡ s.version };
 
     fn look(&mut self, ask: &Ask) -> Result<Hint, Shut> {
         Ok(self.version.answer(ask))

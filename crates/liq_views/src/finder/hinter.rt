@@ -41,6 +41,7 @@ impl<V: Window + Drop> Hinter for Finder<V> {
             ((V.shown self.new.window ≡ V.shown self.old.window) × (result ≡ absent self.old.last)) }
         ensures last { self.new.last ≡ result.version }
         ensures later { GoesOn (V.shown self.old.window) (V.shown self.new.window) }
+        ensures leads { V.leads self.old.window self.new.window }
         ensures rising { IsSome (V.shown self.old.window) → self.old.last ≤ self.new.last }
     {
         match sought_by(request) {

@@ -37,6 +37,7 @@ impl<V: Window + Drop> Finder<V> {
         ensures stays { IfNone result (V.shown self.new.window ≡ V.shown self.old.window) }
         ensures last { MatchOption result (self.new.last ≡ self.old.last) (λ hint. self.new.last ≡ hint.version) }
         ensures later { GoesOn (V.shown self.old.window) (V.shown self.new.window) }
+        ensures leads { V.leads self.old.window self.new.window }
         ensures rising { IsSome (V.shown self.old.window) → self.old.last ≤ self.new.last }
     {
         self.look(&Ask::At { key, id }).ok()
@@ -52,6 +53,7 @@ impl<V: Window + Drop> Finder<V> {
             ((V.shown self.new.window ≡ V.shown self.old.window) × (result ≡ self.old.last)) }
         ensures last { self.new.last ≡ result }
         ensures later { GoesOn (V.shown self.old.window) (V.shown self.new.window) }
+        ensures leads { V.leads self.old.window self.new.window }
         ensures rising { IsSome (V.shown self.old.window) → self.old.last ≤ self.new.last }
     {
         match self.look(&NUMBER_ALONE) {
@@ -68,6 +70,7 @@ impl<V: Window + Drop> Finder<V> {
         ensures stays { OnErr result (V.shown self.new.window ≡ V.shown self.old.window) }
         ensures last { MatchResult result (λ hint. self.new.last ≡ hint.version) (λ _. self.new.last ≡ self.old.last) }
         ensures later { GoesOn (V.shown self.old.window) (V.shown self.new.window) }
+        ensures leads { V.leads self.old.window self.new.window }
         ensures rising { IsSome (V.shown self.old.window) → self.old.last ≤ self.new.last }
     {
         let hint = self.window.look(ask)?;

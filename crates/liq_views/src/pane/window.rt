@@ -1,7 +1,7 @@
 //! A pane as a window.
 
 ghost use Rattle.std.specs.Prelude.{Some};
-ghost use Rattle.liq_views.specs.Batches.{version_after};
+ghost use Rattle.liq_views.specs.Batches.{StartsWith, version_after};
 ghost use Rattle.liq_views.specs.Panes.{seen_by};
 
 use super::Pane;
@@ -13,6 +13,8 @@ impl Window for Pane {
     ghost shown = { λ p. Some (version_after (seen_by p)) };
 
     ghost shut = { λ p. p.shut };
+
+    ghost leads = { λ p q. StartsWith (seen_by q) (seen_by p) };
 
     fn look(&mut self, ask: &Ask) -> Result<Hint, Shut> {
         self.look(ask)
