@@ -135,7 +135,7 @@ impl<D: Disk, O: Origin> Book<D, O> {
         (store, publisher)
     }
 
-    /// What the book has. Nothing is published from now on.
+    /// What the book has. Its publisher is ended.
     pub(crate) fn close<W: Wait>(self, rt: &W) -> Closed<D, O>
         ensures same { booked_by result ≡ self.book }
         ensures book { IsBook D.seen D.faults D.moment D.left_at O.state O.left O.right self.book }

@@ -7,7 +7,7 @@ use left_right::reader::Reader;
 mod look;
 mod window;
 
-/// A window at what a publisher published last.
+/// A window at what a publisher publishes.
 #[derive(Drop)]
 pub struct Pane {
     /// None where no reader was to be had.

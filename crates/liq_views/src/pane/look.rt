@@ -23,9 +23,8 @@ impl Pane {
         Pane { reader, shut: 0 }
     }
 
-    /// Asks the version that was published last. What is then seen begins with all batches that were seen before, and
-    /// makes that version. `Shut` leaves what was seen, and is counted; it comes where the publisher has ended or no
-    /// reader was to be had.
+    /// Asks the version that is shown. What is then seen begins with all batches that were seen before, and makes that
+    /// version. `Shut` leaves what was seen, and is counted.
     pub fn look(&mut self, ask: &Ask) -> Result<Hint, Shut>
         ensures begins { StartsWith (seen_by self.new) (seen_by self.old) }
         ensures later { last_from 0 (seen_by self.old) ≤ last_from 0 (seen_by self.new) }

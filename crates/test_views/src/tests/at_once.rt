@@ -8,10 +8,14 @@ use liq_types::{Hint, ListChange};
 use liq_views::{Finder, Publisher};
 use std::alloc::Global;
 use std::sync::Wait;
+use std::sync::atomic::{AtomicU32, Ordering};
 use std::thread;
 use std::thread::Threads;
 
 const PUBLICATIONS: u64 = 10_000;
+
+/// At this one the publisher stays until each finder has seen a version.
+const MIDDLE: u64 = 5_000;
 
 const FINDERS: u32 = 4;
 
@@ -65,10 +69,15 @@ struct Watcher {
 }
 
 impl Watcher {
-    /// Looks until the last version is there.
-    fn watch(&mut self) {
+    /// Looks until the last version is there. The first time that it sees a version while there is more to publish, it is counted.
+    fn watch(&mut self, met: &AtomicU32) {
+        let mut is_met = false;
         for _ in 0..LOOKS {
             self.look();
+            if !is_met && self.seen > 0 && self.seen <= MIDDLE {
+                is_met = true;
+                met.fetch_add(1, Ordering::SeqCst);
+            }
             if self.seen == PUBLICATIONS {
                 break;
             }
@@ -85,8 +94,19 @@ impl Watcher {
     }
 }
 
-/// Publishes all versions; answers how many were refused.
-fn publish_all<R: Wait>(rt: &R, publisher: &mut Publisher) -> u32
+/// Stays until each finder has seen a version. Answers whether it gave up.
+fn gave_up(met: &AtomicU32) -> bool {
+    for _ in 0..LOOKS {
+        if met.load(Ordering::SeqCst) == FINDERS {
+            return false;
+        }
+        thread::yield_now();
+    }
+    true
+}
+
+/// Publishes all versions; answers how many were refused, or not waited for.
+fn publish_all<R: Wait>(rt: &R, publisher: &mut Publisher, met: &AtomicU32) -> u32
     requires { last_from 0 (published publisher.old ++ waiting publisher.old) ≤ 0 }
 {
     let mut refused: u32 = 0;
@@ -94,11 +114,14 @@ fn publish_all<R: Wait>(rt: &R, publisher: &mut Publisher) -> u32
         if publisher.publish(rt, &changes_of(number), number).is_err() {
             refused = refused.saturating_add(1);
         }
+        if number == MIDDLE && gave_up(met) {
+            refused = refused.saturating_add(1);
+        }
     }
     refused
 }
 
-/// What was seen: refused publications, odd looks, and how many finders see the last version at the end.
+/// What was seen: refused publications (and finders that did not look in between), odd looks, and how many finders see the last version at the end.
 #[derive(Clone, Copy)]
 struct Seen {
     refused: u32,
@@ -114,16 +137,17 @@ fn at_once<R: Threads + Wait + Sync>(
 ) -> Seen
     requires { last_from 0 (published publisher.old ++ waiting publisher.old) ≤ 0 }
 {
+    let met = AtomicU32::new(0);
     let (refused, _) = thread::join(
         rt,
         || -> u32
             requires { last_from 0 (published publisher.now ++ waiting publisher.now) ≤ 0 }
-        { publish_all(rt, publisher) },
+        { publish_all(rt, publisher, &met) },
         || thread::for_each_mut(
             rt,
             watchers,
             FINDERS as usize,
-            &|_, watcher| watcher.watch(),
+            &|_, watcher| watcher.watch(&met),
         ),
     );
     let mut seen = Seen {
@@ -161,7 +185,11 @@ fn run_all<R: Threads + Wait + Sync>(rt: &R, alloc: Global) -> Option<Seen> {
 fn each_look_is_of_one_version(rt: HostRuntime) {
     match run_all(&rt, rt.alloc()) {
         Some(seen) => {
-            shows(&rt, "each publication had memory", seen.refused == 0);
+            shows(
+                &rt,
+                "each publication had memory, and finders looked in between",
+                seen.refused == 0,
+            );
             shows(
                 &rt,
                 "each look is that of its version, and none goes back",
