@@ -15,3 +15,4 @@ mod seats;
 mod serving;
 mod sessions;
 mod stores;
+mod versions;

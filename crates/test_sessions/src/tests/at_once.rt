@@ -17,7 +17,7 @@ const EIGHT: &[u8] =
     b"1 ? pools\n2 ? pools\n3 ? pools\n4 ? pools\n5 ? pools\n6 ? pools\n7 ? pools\n8 ? pools\n";
 
 /// Serves the lines through the gate. The status.
-fn serve<R: Threads + Wait + Sync, G: Gate + Sync>(
+pub fn serve<R: Threads + Wait + Sync, G: Gate + Sync>(
     rt: &R,
     alloc: Global,
     gate: &G,

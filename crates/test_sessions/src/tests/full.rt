@@ -1,12 +1,12 @@
 //! Two sessions at a service whose history comes to be full.
-ghost use Rattle.std.specs.Prelude.{◌≡◌, ◌≤◌, None, All, IfOk, OnOk, length};
+ghost use Rattle.std.specs.Prelude.{◌≡◌, ◌≤◌, None, All, length, map};
 ghost use Rattle.liq_sessions.specs.declared.script.TheConstants.{REQUESTS_MOST};
 ghost use Rattle.liq_core.specs.Core.{state_of};
-ghost use Rattle.liq_book.specs.Origin.{IsAtOrigin};
+ghost use Rattle.liq_book.specs.Origin.{IsAtOrigin, TellsList};
 ghost use Rattle.liq_book.specs.Seats.{IsSeatOf};
 
 use crate::tests::checks::same;
-use crate::tests::seats::part;
+use crate::tests::seats::{part, put_back};
 use crate::tests::sessions::script;
 use crate::tests::stores::new_store;
 use liq_book::{BookSeat, Origin, Service};
@@ -17,6 +17,7 @@ use liq_store::Store;
 use liq_types::Answer;
 use std::alloc::Global;
 use std::marker::Brand;
+use std::process::Abort;
 use std::sync::Wait;
 use std::test::Fail;
 use std::thread::Threads;
@@ -24,27 +25,31 @@ use std::thread::Threads;
 /// How many entries a history has at the most.
 const ENTRIES: usize = 1_000_000;
 
-/// A seat gets a script.
+/// A seat gets a script. The test stops where there is no memory for it.
 fn give<D: Disk, O: Origin>(
+    rt: &impl Abort,
     service: &Service<D, O>,
     seat: BookSeat<O>,
     works: &mut Vec<Work<Service<D, O>, NoHints>>,
     script: Script,
-) -> Result<(), Fail>
+)
     requires seat { IsSeatOf service.now seat }
     requires works { All (λ w. IsSeatOf service.now w.seat) works.old.items }
     requires short { length script.requests ≤ REQUESTS_MOST }
     requires all_short { All (λ w. length w.script.requests ≤ REQUESTS_MOST) works.old.items }
-    ensures works { OnOk result (All (λ w. IsSeatOf service.now w.seat) works.new.items) }
-    ensures all_short { OnOk result (All (λ w. length w.script.requests ≤ REQUESTS_MOST) works.new.items) }
+    ensures works { All (λ w. IsSeatOf service.now w.seat) works.new.items }
+    ensures all_short { All (λ w. length w.script.requests ≤ REQUESTS_MOST) works.new.items }
 {
     let _service = service;
-    works.push(Work {
+    let work = Work {
         script,
         seat,
         hinter: NoHints,
-    })?;
-    Ok(())
+    };
+    match works.push(work) {
+        Ok(()) => {}
+        Err(_) => panic!(rt; "no memory"),
+    }
 }
 
 /// How sessions were answered: the replies of all, and how many of them were answered that the history is full.
@@ -72,54 +77,91 @@ fn count<D: Disk, O: Origin>(done: &[SessionDone<Service<D, O>, NoHints>]) -> An
 
 /// The works of two seats, the first one with the first script.
 fn two_works<D: Disk, O: Origin>(
+    rt: &impl Abort,
     alloc: Global,
     service: &Service<D, O>,
     seats: Vec<BookSeat<O>>,
     first: Script,
     second: Script,
-) -> Result<Vec<Work<Service<D, O>, NoHints>>, Fail>
+) -> Vec<Work<Service<D, O>, NoHints>>
     requires seats { All (IsSeatOf service.now) seats.items }
     requires first { length first.requests ≤ REQUESTS_MOST }
     requires second { length second.requests ≤ REQUESTS_MOST }
-    ensures works { IfOk result (λ works. All (λ w. IsSeatOf service.now w.seat) works.items) }
-    ensures short { IfOk result (λ works. All (λ w. length w.script.requests ≤ REQUESTS_MOST) works.items) }
+    ensures works { All (λ w. IsSeatOf service.now w.seat) result.items }
+    ensures short { All (λ w. length w.script.requests ≤ REQUESTS_MOST) result.items }
 {
-    let (seats, last) = part(service, seats)?;
-    let (_, one) = part(service, seats)?;
+    let (seats, last) = part(rt, service, seats);
+    let (_, one) = part(rt, service, seats);
     let mut works = Vec::new(alloc);
-    give(service, one, &mut works, first)?;
-    give(service, last, &mut works, second)?;
-    Ok(works)
+    give(rt, service, one, &mut works, first);
+    give(rt, service, last, &mut works, second);
+    works
+}
+
+/// The seats of sessions that have ended.
+fn seats_back<D: Disk, O: Origin>(
+    rt: &impl Abort,
+    alloc: Global,
+    mut done: Vec<SessionDone<Service<D, O>, NoHints>>,
+) -> Vec<BookSeat<O>>
+    ensures { result.items ≡ map (λ d. d.seat) done.items }
+{
+    let Some(last) = done.pop() else {
+        return Vec::new(alloc);
+    };
+    let mut seats = seats_back(rt, alloc, done);
+    put_back(rt, &mut seats, last.seat);
+    seats
+}
+
+/// Ends a service with all its seats.
+fn end<D: Disk + Drop, O: Origin, R: Abort + Wait>(
+    rt: &R,
+    service: Service<D, O>,
+    seats: Vec<BookSeat<O>>,
+)
+    requires { All (IsSeatOf service) seats.items }
+{
+    match service.close(rt, seats) {
+        Ok(_) => {}
+        Err(_) => panic!(rt; "still out"),
+    }
 }
 
 /// Two sessions ask one request more than a history has entries.
-fn run_two<D: Disk + Drop + Send, O: Origin + Send + Sync, R: Threads + Wait + Sync>(
+fn run_two<D: Disk + Drop + Send, O: Origin + Send + Sync, R: Abort + Threads + Wait + Sync>(
     rt: &R,
     alloc: Global,
     store: Store<D>,
 ) -> Result<Answered, Fail>
     requires going { store.stopped ≡ None }
     requires origin { IsAtOrigin D.seen D.faults D.moment D.left_at O.state O.left O.right store }
+    requires listed { TellsList store }
 {
     let first = script(alloc, 1, ENTRIES)?;
     let second = script(alloc, 2, 1)?;
-    let Ok((service, seats)) = Service::<D, O>::new(alloc, store, 2) else {
+    let Ok((service, seats, _)) = Service::<D, O>::new(rt, alloc, store, 2) else {
         return Err(Fail::from("no memory"));
     };
-    let works = two_works(alloc, &service, seats, first, second)?;
+    let works = two_works(rt, alloc, &service, seats, first, second);
     match run_sessions(rt, alloc, &service, &OpenGate, works) {
-        Ok(done) => Ok(count(&done)),
-        Err(_) => Err(Fail::from("no memory")),
+        Ok(done) => {
+            let answered = count(&done);
+            end(rt, service, seats_back(rt, alloc, done));
+            Ok(answered)
+        }
+        Err(_) => panic!(rt; "no memory"),
     }
 }
 
 /// The same, from where the store is.
-fn run_two_over<D: Disk + Drop + Send, R: Threads + Wait + Sync>(
+fn run_two_over<D: Disk + Drop + Send, R: Abort + Threads + Wait + Sync>(
     rt: &R,
     alloc: Global,
     store: Store<D>,
 ) -> Result<Answered, Fail>
-    requires { store.stopped ≡ None }
+    requires going { store.stopped ≡ None }
+    requires listed { TellsList store }
 {
     protocols_stand(store.protocol());
     run_two::<D, Brand, R>(rt, alloc, store)

@@ -1,7 +1,7 @@
 //! Two seats of a service, one of which is out when it is to be closed.
-ghost use Rattle.std.specs.Prelude.{◌≡◌, None, All, IfOk};
+ghost use Rattle.std.specs.Prelude.{◌≡◌, ◌++◌, [], ◌∷◌, None, All};
 ghost use Rattle.liq_core.specs.Core.{state_of};
-ghost use Rattle.liq_book.specs.Origin.{IsAtOrigin};
+ghost use Rattle.liq_book.specs.Origin.{IsAtOrigin, TellsList};
 ghost use Rattle.liq_book.specs.Seats.{IsSeatOf};
 
 use crate::tests::checks::{same, shows};
@@ -13,6 +13,7 @@ use liq_store::Store;
 use liq_types::{Answer, Call, Command, Done, Hint, Info, Query, Reply, Request};
 use std::alloc::Global;
 use std::marker::Brand;
+use std::process::Abort;
 use std::sync::Wait;
 use std::test::Fail;
 
@@ -32,36 +33,47 @@ const LOOK: Request = Request::Ask(Query::Wallet(1));
 
 const LOOKED: Reply = Reply::Told(Info::Wallet { coll: 5, lusd: 0 });
 
-/// The last seat, beside the others.
+/// The last seat, beside the others. A service that has lost a seat can't be ended, so the test stops where there is none.
 pub fn part<D: Disk, O: Origin>(
+    rt: &impl Abort,
     service: &Service<D, O>,
     mut seats: Vec<BookSeat<O>>,
-) -> Result<(Vec<BookSeat<O>>, BookSeat<O>), Fail>
+) -> (Vec<BookSeat<O>>, BookSeat<O>)
     requires { All (IsSeatOf service.now) seats.items }
-    ensures others { IfOk result (λ parted. All (IsSeatOf service.now) parted.0.items) }
-    ensures last { IfOk result (λ parted. IsSeatOf service.now parted.1) }
+    ensures others { All (IsSeatOf service.now) result.0.items }
+    ensures last { IsSeatOf service.now result.1 }
 {
     let _service = service;
     let Some(seat) = seats.pop() else {
-        return Err(Fail::from("no seat"));
+        panic!(rt; "no seat");
     };
-    Ok((seats, seat))
+    (seats, seat)
+}
+
+/// A seat is put behind the others. The test stops where there is no memory for it.
+pub fn put_back<O: Origin>(rt: &impl Abort, seats: &mut Vec<BookSeat<O>>, seat: BookSeat<O>)
+    ensures { seats.new.items ≡ seats.old.items ++ seat ∷ [] }
+{
+    match seats.push(seat) {
+        Ok(()) => {}
+        Err(_) => panic!(rt; "no memory"),
+    }
 }
 
 /// The last seat makes a call. The seats, and its answer.
-fn call_by_last<D: Disk, O: Origin, R: Wait>(
+fn call_by_last<D: Disk, O: Origin, R: Abort + Wait>(
     rt: &R,
     service: &Service<D, O>,
     seats: Vec<BookSeat<O>>,
     request: &Request,
-) -> Result<(Vec<BookSeat<O>>, Answer), Fail>
+) -> (Vec<BookSeat<O>>, Answer)
     requires { All (IsSeatOf service.now) seats.items }
-    ensures { IfOk result (λ made. All (IsSeatOf service.now) made.0.items) }
+    ensures { All (IsSeatOf service.now) result.0.items }
 {
-    let (mut seats, seat) = part(service, seats)?;
+    let (mut seats, seat) = part(rt, service, seats);
     let (seat, answer) = service.call(rt, seat, request, &Hint::NONE);
-    seats.push(seat)?;
-    Ok((seats, answer))
+    put_back(rt, &mut seats, seat);
+    (seats, answer)
 }
 
 /// What is seen of two seats, of which the first funds a wallet and then the second looks at it.
@@ -102,52 +114,52 @@ fn is_history(entries: &[Entry]) -> bool {
 }
 
 /// The service does not close without the other seat, and does with it.
-fn close_late<D: Disk + Drop, O: Origin>(
+fn close_late<D: Disk + Drop, O: Origin, R: Abort + Wait>(
+    rt: &R,
     service: Service<D, O>,
     seats: Vec<BookSeat<O>>,
     other: BookSeat<O>,
-) -> Result<SeenEnd, Fail>
+) -> SeenEnd
     requires seats { All (IsSeatOf service) seats.items }
     requires other { IsSeatOf service other }
 {
-    let Err(
-        StillOut {
-            service,
-            mut seats,
-            missing,
-        },
-    ) = service.close(seats)
-    else {
-        return Err(Fail::from("closed with a seat out"));
-    };
-    seats.push(other)?;
-    let Ok(closed) = service.close(seats) else {
-        return Err(Fail::from("still out"));
-    };
-    Ok(SeenEnd {
+    let StillOut {
+        service,
+        mut seats,
         missing,
-        is_history: is_history(closed.history.as_slice()),
-        is_halted: closed.halt.is_some(),
-    })
+    } = match service.close(rt, seats) {
+        Err(out) => out,
+        Ok(_) => panic!(rt; "closed with a seat out"),
+    };
+    put_back(rt, &mut seats, other);
+    match service.close(rt, seats) {
+        Ok(closed) => SeenEnd {
+            missing,
+            is_history: is_history(closed.history.as_slice()),
+            is_halted: closed.halt.is_some(),
+        },
+        Err(_) => panic!(rt; "still out"),
+    }
 }
 
 /// Two seats over a store: each makes a call; the service does not close without the second.
-fn two_seats<D: Disk + Drop, O: Origin, R: Wait>(
+fn two_seats<D: Disk + Drop, O: Origin, R: Abort + Wait>(
     rt: &R,
     alloc: Global,
     store: Store<D>,
 ) -> Result<Seen, Fail>
     requires going { store.stopped ≡ None }
     requires origin { IsAtOrigin D.seen D.faults D.moment D.left_at O.state O.left O.right store }
+    requires listed { TellsList store }
 {
-    let Ok((service, seats)) = Service::<D, O>::new(alloc, store, 2) else {
+    let Ok((service, seats, _)) = Service::<D, O>::new(rt, alloc, store, 2) else {
         return Err(Fail::from("no memory"));
     };
-    let (seats, other) = part(&service, seats)?;
-    let (seats, funded) = call_by_last(rt, &service, seats, &FUND)?;
+    let (seats, other) = part(rt, &service, seats);
+    let (seats, funded) = call_by_last(rt, &service, seats, &FUND);
     let (other, looked) = service.call(rt, other, &LOOK, &Hint::NONE);
     let (calls, entries) = (other.calls(), other.seen());
-    let end = close_late(service, seats, other)?;
+    let end = close_late(rt, service, seats, other);
     Ok(Seen {
         is_funded: funded == Answer::Reply(FUNDED),
         is_looked: looked == Answer::Reply(LOOKED),
@@ -158,12 +170,13 @@ fn two_seats<D: Disk + Drop, O: Origin, R: Wait>(
 }
 
 /// The same, from where the store is.
-fn two_seats_over<D: Disk + Drop, R: Wait>(
+fn two_seats_over<D: Disk + Drop, R: Abort + Wait>(
     rt: &R,
     alloc: Global,
     store: Store<D>,
 ) -> Result<Seen, Fail>
-    requires { store.stopped ≡ None }
+    requires going { store.stopped ≡ None }
+    requires listed { TellsList store }
 {
     protocols_stand(store.protocol());
     two_seats::<D, Brand, R>(rt, alloc, store)

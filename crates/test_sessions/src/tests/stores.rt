@@ -1,6 +1,7 @@
 //! Stores over disks in memory, and what sessions ask of them.
 ghost use Rattle.std.specs.Prelude.{◌≡◌, ◌≤◌, ◌*◌, None, IfOk, length, sum_by};
 ghost use Rattle.liq_book.specs.declared.items.TheConstants.{ENTRIES_MOST};
+ghost use Rattle.liq_book.specs.Origin.{TellsList};
 ghost use Rattle.liq_serving.specs.Serves.{AreNumbered};
 
 use liq_core::is_built;
@@ -18,7 +19,8 @@ fn disk(alloc: Global, failing: &[u64]) -> Result<MemoryDisk, Fail> {
 
 /// An opened store.
 pub fn store(alloc: Global, left: MemoryDisk, right: MemoryDisk) -> Result<Store<MemoryDisk>, Fail>
-    ensures { IfOk result (λ store. store.stopped ≡ None) }
+    ensures going { IfOk result (λ store. store.stopped ≡ None) }
+    ensures listed { IfOk result TellsList }
 {
     match Store::open(alloc, left, right) {
         Ok(store) => Ok(store),
@@ -28,14 +30,16 @@ pub fn store(alloc: Global, left: MemoryDisk, right: MemoryDisk) -> Result<Store
 
 /// An opened store over two empty disks, of which some device calls of the left one fail.
 pub fn failing_store(alloc: Global, failing: &[u64]) -> Result<Store<MemoryDisk>, Fail>
-    ensures { IfOk result (λ store. store.stopped ≡ None) }
+    ensures going { IfOk result (λ store. store.stopped ≡ None) }
+    ensures listed { IfOk result TellsList }
 {
     store(alloc, disk(alloc, failing)?, disk(alloc, &[])?)
 }
 
 /// An opened store over two empty disks.
 pub fn new_store(alloc: Global) -> Result<Store<MemoryDisk>, Fail>
-    ensures { IfOk result (λ store. store.stopped ≡ None) }
+    ensures going { IfOk result (λ store. store.stopped ≡ None) }
+    ensures listed { IfOk result TellsList }
 {
     failing_store(alloc, &[])
 }

@@ -4,4 +4,4 @@ use Rattle.test_sessions.proofs.tests.seats.call_by_last.Goals as goal
 
 pub returns : goal.returns
 returns g c =
-    all_with (IsSeatOf c.args.service.now) _ _ _ c.in_ok-push.ensures.items c.in_ok-seats.ensures.others c.call-seat.ensures.own
+    all_with (IsSeatOf c.args.service.now) _ _ _ c.put_back.ensures c.part-seats.ensures.others c.call-seat.ensures.own
