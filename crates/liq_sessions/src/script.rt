@@ -59,6 +59,13 @@ impl Requests {
         self.list.is_empty()
     }
 
+    /// The requests.
+    pub fn as_slice(&self) -> &[Request]
+        ensures { result.now ≡ self.now }
+    {
+        self.list.as_slice()
+    }
+
     /// The requests, to be asked one after the other.
     pub(crate) fn asked(self) -> Asked
         ensures { result ≡ self }
