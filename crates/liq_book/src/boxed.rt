@@ -1,12 +1,13 @@
 //! A book behind one pointer.
 
-ghost use Rattle.std.specs.Prelude.{◌≡◌, ◌≤◌, IfErr, IfOk, length, map};
+ghost use Rattle.std.specs.Prelude.{◌≡◌, ◌≤◌, ◌⊎◌, ◌++◌, [], ◌∷◌, MatchResult, IfErr, IfOk, length, map};
 ghost use Rattle.liq_rules.specs.History.{IsLegal, own_entries};
 ghost use Rattle.liq_rules.specs.Recorded.{recorded};
 ghost use Rattle.liq_book.specs.Booked.{IsBook};
 ghost use Rattle.liq_book.specs.Closing.{booked_by};
 ghost use Rattle.liq_book.specs.Entered.{Enters, IsAsBefore, IsTestedFirst};
 ghost use Rattle.liq_book.specs.Items.{chronicle, session_of};
+ghost use Rattle.liq_book.specs.Publishing.{batch_of};
 
 use crate::book::Book;
 use crate::items::{ENTRIES_MOST, Item};
@@ -76,7 +77,12 @@ impl<D: Disk, O: Origin> BoxedBook<D, O> {
 
     /// As [`Book::publish`].
     pub(crate) fn publish<W: Wait>(&mut self, rt: &W) -> Result<(), NoMemory>
-        ensures { IsAsBefore self.old.boxed.value.book self.new.boxed.value.book }
+        ensures same { IsAsBefore self.old.boxed.value.book self.new.boxed.value.book }
+        ensures sent { MatchResult result
+            (λ _. (self.new.boxed.value.published ≡ self.old.boxed.value.published ++ (self.old.boxed.value.waiting ++ batch_of self.old.boxed.value.book ∷ [])) × (self.new.boxed.value.waiting ≡ [])
+            × (self.new.boxed.value.book ≡ record self.old.boxed.value.book { store = record self.old.boxed.value.book.store { changes = [] } }))
+            (λ _. (self.new.boxed.value.published ≡ self.old.boxed.value.published) × (self.new.boxed.value.book ≡ self.old.boxed.value.book)
+            × ((self.new.boxed.value.waiting ≡ self.old.boxed.value.waiting) ⊎ (self.new.boxed.value.waiting ≡ self.old.boxed.value.waiting ++ batch_of self.old.boxed.value.book ∷ []))) }
     {
         self.boxed.publish(rt)
     }

@@ -1,5 +1,7 @@
 //! A desk that publishes the list behind each call that changed it.
-ghost use Rattle.std.specs.Prelude.{◌≡◌};
+ghost use Rattle.std.specs.Prelude.{◌≡◌, ◌==◌};
+ghost use Rattle.std.specs.List.{list_any};
+ghost use Rattle.liq_rules.specs.View.{list_kinds};
 ghost use Rattle.liq_types.specs.Desks.{own_after, faulted_after, EndsKnown};
 ghost use Rattle.liq_book.specs.Items.{ShowsEnd, calls_of, faulted_in};
 ghost use Rattle.liq_book.specs.Seats.{IsSeatOf, items_seen, session_at};
@@ -13,6 +15,13 @@ use std::sync::Wait;
 
 /// The kinds of accepted commands that change the ordered list.
 const LIST_KINDS: [u8; 7] = [6, 7, 8, 11, 12, 13, 14];
+
+/// Whether an accepted command of this kind may have changed the ordered list.
+fn changes_list(kind: u8) -> bool
+    ensures { result ≡ list_any (λ k. k == kind) list_kinds }
+{
+    LIST_KINDS.contains(&kind)
+}
 
 /// A service as a desk that publishes the list behind each accepted command that may have changed it. A publication for which there
 /// is no memory is passed over: the next one makes up for it.
@@ -52,7 +61,7 @@ impl<'a, D: Disk, O: Origin> Desk for Publishing<'a, D, O> {
     ) -> (BookSeat<O>, Answer) {
         let (seat, answer) = Desk::call(self.service, rt, seat, request, hint);
         match answer {
-            Answer::Reply(Reply::Said(done)) if LIST_KINDS.contains(&done.kind) => {
+            Answer::Reply(Reply::Said(done)) if changes_list(done.kind) => {
                 let (seat, _) = self.service.publish(rt, seat);
                 (seat, answer)
             }

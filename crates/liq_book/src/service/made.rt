@@ -1,8 +1,10 @@
 //! A service is made, with its seats.
-ghost use Rattle.std.specs.Prelude.{◌≡◌, ◌≤◌, None, IfOk, IfErr, [], length, vec_capacity};
+ghost use Rattle.std.specs.Prelude.{◌≡◌, ◌≤◌, All, None, IfOk, IfErr, [], length, vec_capacity};
 ghost use Rattle.liq_lock.specs.Seats.{AreFresh, lock_id};
 ghost use Rattle.liq_book.specs.Origin.{IsAtOrigin, TellsList};
 ghost use Rattle.liq_book.specs.Seats.{AreNewSeats, AreSeated, sessions_of};
+ghost use Rattle.liq_views.specs.Publishers.{IsFresh};
+ghost use Rattle.liq_views.specs.declared.publisher.Publisher.{Publisher};
 
 use super::Service;
 use crate::book::Book;
@@ -35,6 +37,7 @@ impl<D: Disk, O: Origin> Service<D, O> {
         ensures count { IfOk result (λ made. length made.1.items ≡ sessions) }
         ensures seats { IfOk result (λ made. AreNewSeats made.0 made.1.items) }
         ensures finders { IfOk result (λ made. length made.2.items ≡ sessions) }
+        ensures fresh { IfOk result (λ made. (p : Publisher) × All (λ f. IsFresh p f.window × (f.last ≡ 0)) made.2.items) }
         ensures err { IfErr result (λ back. back ≡ store) }
     {
         let Ok(room) = Vec::with_capacity(alloc, sessions as usize) else {

@@ -7,7 +7,7 @@ use Rattle.liq_book.proofs.service.Service.publish.Goals as goal
 
 pub give-requires-clause-grows : goal.give-requires-clause-grows
 give-requires-clause-grows g c =
-    ([], same_items c.take-held.result.1.boxed.value.book c.publish-sent.new.self.boxed.value.book c.publish-sent.ensures ∙ c.take-held.ensures.value ∙ sym (append-nil (seen_in c.take-held.result.0)), λ i there. absurd (nothing_in_nil i there))
+    ([], same_items c.take-held.result.1.boxed.value.book c.publish-sent.new.self.boxed.value.book c.publish-sent.ensures.same ∙ c.take-held.ensures.value ∙ sym (append-nil (seen_in c.take-held.result.0)), λ i there. absurd (nothing_in_nil i there))
 
 pub invariant_of-seat : goal.invariant_of-seat
 invariant_of-seat g c = record {
@@ -15,10 +15,10 @@ invariant_of-seat g c = record {
   stands = c.give.ensures.stands ∙ (c.take-held.ensures.stands ∙ c.args.seat.stands);
   share = c.give.ensures.shares ∙ (c.take-held.ensures.shares ∙ c.args.seat.share);
   counted =
-      rw (c.give.ensures.seen, same_items c.take-held.result.1.boxed.value.book c.publish-sent.new.self.boxed.value.book c.publish-sent.ensures)
+      rw (c.give.ensures.seen, same_items c.take-held.result.1.boxed.value.book c.publish-sent.new.self.boxed.value.book c.publish-sent.ensures.same)
       (ap length (own_behind c.args.seat.session (items_in c.take-held.result.1.boxed.value.book) (seen_of c.args.seat.seat) (rw c.args.seat.stands at c.take-held.ensures.behind)) ∙ c.args.seat.counted);
 }
 
 pub returns-clause-others : goal.returns-clause-others
 returns-clause-others g c =
-    rw (c.give.ensures.seen, same_items c.take-held.result.1.boxed.value.book c.publish-sent.new.self.boxed.value.book c.publish-sent.ensures) (rw c.args.seat.stands at c.take-held.ensures.behind)
+    rw (c.give.ensures.seen, same_items c.take-held.result.1.boxed.value.book c.publish-sent.new.self.boxed.value.book c.publish-sent.ensures.same) (rw c.args.seat.stands at c.take-held.ensures.behind)
