@@ -14,7 +14,7 @@ use liq_core::laws::protocols_stand;
 use liq_outside::Disk;
 use liq_sessions::{NoHints, OpenGate, Script, SessionDone, SessionEnd, Work, run_sessions};
 use liq_store::Store;
-use liq_types::Answer;
+use liq_types::{Answer, Desk};
 use std::alloc::Global;
 use std::marker::Brand;
 use std::process::Abort;
@@ -98,12 +98,14 @@ fn two_works<D: Disk, O: Origin>(
     works
 }
 
-/// The seats of sessions that have ended.
-fn seats_back<D: Disk, O: Origin>(
+/// The seats of sessions that have ended, at any desk.
+fn seats_back<K: Desk>(
     rt: &impl Abort,
     alloc: Global,
-    mut done: Vec<SessionDone<Service<D, O>, NoHints>>,
-) -> Vec<BookSeat<O>>
+    mut done: Vec<SessionDone<K, NoHints>>,
+) -> Vec<K::Seat>
+where
+    K::Seat: Drop,
     ensures { result.items ≡ map (λ d. d.seat) done.items }
 {
     let Some(last) = done.pop() else {

@@ -51,7 +51,7 @@ pub fn part<D: Disk, O: Origin>(
 }
 
 /// A seat is put behind the others. The test stops where there is no memory for it.
-pub fn put_back<O: Origin>(rt: &impl Abort, seats: &mut Vec<BookSeat<O>>, seat: BookSeat<O>)
+pub fn put_back<S: Drop>(rt: &impl Abort, seats: &mut Vec<S>, seat: S)
     ensures { seats.new.items ≡ seats.old.items ++ seat ∷ [] }
 {
     match seats.push(seat) {
