@@ -133,10 +133,11 @@ module _ {S D : Type 0} (seen : D → Option (List ℕ)) (before after : Outside
         Ask words word.Run ⊎ (Ask words word.State ⊎ Ask words word.Audit)
         → (l r : List ℕ) (side : Side) (damage : Damage) → Finds seen before l r (Err (side, damage))
         → (after.source ≡ before.source)
-        × ((halt : Halt) × (status ≡ status_of (Err halt)) × EndsDamaged seen side damage (Err halt) after.left after.right
+        × ((halt : Halt) × (status ≡ status_of (Err halt))
+        × EndsDamaged seen side damage (Err halt) after.left after.right
         × Adds [] (last halt) (Rose before.sink_faults after.sink_faults) before.held after.held)
-    -- the bytes that are taken from the source: no more than the lines that one run answers, each with its line end, and
-    -- what one read asks for
+    -- the bytes that are taken from the source: no more than the lines that one run answers, each with its line end,
+    -- and what one read asks for
     pub takes :
         (bytes : List ℕ) × (before.unread ≡ option_map (λ rest. bytes ++ rest) after.unread)
         × (length bytes ≤ LINES_MOST * (LINE_BYTES + 1) + READ_BYTES)
