@@ -1,15 +1,14 @@
 -- The finished sums stay in the order of their places, none is 0, and all their places have been left.
-use Rattle.std.proofs.Common.{◌≡◌, ℕ, ◌≤◌, Bool, true, false, cond, List, [], ◌∷◌, refl, ap, ◌∙◌, arith}
+use Rattle.std.proofs.Common.{◌≡◌, ℕ, ◌≤◌, Bool, true, false, cond, List, [], ◌∷◌, refl}
 use Rattle.std.specs.Prelude.{fold, ◌==◌}
 use Rattle.std.specs.BTreeMap.{insert_entry}
 use Rattle.std.specs.Cmp.{IsTotalOrder, nat_cmp_total, then_total, on_total}
 use Rattle.std.specs.List.{AllByRecursion}
 use Rattle.std.specs.List.Sorted.{IsStrictlySortedBy}
 use Rattle.std.specs.Map.{keys_of, values_of}
-use Rattle.std.specs.Ordering.{match_ordering, ordering_reverse}
+use Rattle.std.specs.Ordering.{match_ordering}
 use Rattle.std.specs.declared.cmp.Ordering.{Ordering}
 use Rattle.std.specs.declared.cmp.Ordering.TheVariants.{Less, Equal, Greater}
-use Rattle.std.proofs.lemmas.Bool.Decides.{nat_tests}
 use Rattle.liq_types.specs.Image.{Image, Place}
 use Rattle.liq_types.specs.Product.{place_of, place_order, prod, start_words, sumat, places_left, with_finished, finished_sums}
 use Rattle.liq_types.specs.State.{PoolOffset}

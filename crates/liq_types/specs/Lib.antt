@@ -2,6 +2,8 @@ pub mod Allowance
 pub mod Codes
 pub mod Desks
 pub mod Image
+pub mod ImageRows
+pub mod Length
 pub mod Payments
 pub mod PlainLedger
 pub mod Product

@@ -1,6 +1,6 @@
 -- The rules that every image meets, in the order in which they are tested, and the form of its tables. Beside the image
 -- stands the count of its records, which a checkpoint has as 0.
-use Rattle.std.specs.Prelude.{◌≡◌, ◌≢◌, ℕ, ◌+◌, ◌-◌, ◌*◌, ◌≤◌, Bool, true, false, not, ◌&&◌, ◌||◌, ◌==◌, nat_lt, nat_le, List, [], ◌∷◌, length, sum, sum_by, map, drop, Option, Some, None, option_map, if◌then◌else◌}
+use Rattle.std.specs.Prelude.{◌≡◌, ℕ, ◌+◌, ◌-◌, ◌*◌, ◌≤◌, Bool, true, not, ◌&&◌, ◌||◌, ◌==◌, nat_lt, nat_le, List, [], ◌∷◌, length, sum, sum_by, drop, Option, Some, None, if◌then◌else◌}
 use Rattle.std.specs.List.{list_all, AllByRecursion}
 use Rattle.std.specs.List.Sorted.{IsStrictlySortedBy}
 use Rattle.std.specs.Map.{keys_of, values_of}
@@ -12,15 +12,15 @@ use Rattle.liq_types.specs.declared.figures.Deposit.{Deposit}
 use Rattle.liq_types.specs.Codes.{value_count}
 use Rattle.liq_types.specs.Image.{Image, Place}
 use Rattle.liq_types.specs.Product.{place_order, start_sum}
-use Rattle.liq_types.specs.State.{is_used_wallet, is_used_client}
+use Rattle.liq_types.specs.State.{is_used_wallet}
 use Rattle.liq_types.specs.Tables.{Table}
 use Rattle.liq_types.specs.WellFormed.{Ascends}
 
 -- ---- 1: ranges
 
--- the most collateral inside, and the most LUSD
+-- the most collateral inside, and the most LUSD: a number of the image, of which the first rule lets one value be
 abbrev pub limit_in : Image → ℕ
-limit_in i = LIM
+limit_in i = i.limit
 
 abbrev pub has_ranges : Image → ℕ → Bool
 has_ranges i records =
@@ -30,6 +30,7 @@ has_ranges i records =
     && nat_le i.base ONE
     && nat_le 1 i.generation && nat_le i.generation GENERATIONS_MOST
     && nat_le records RECORDS_MOST
+    && i.limit == LIM
     && nat_le i.brought (limit_in i)
 
 -- ---- 2: accounts and clients

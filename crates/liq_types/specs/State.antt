@@ -1,11 +1,12 @@
 -- The rule state: what the rules speak of, whatever the code keeps. What offsets and redistributions have done is not a
 -- number here but their list.
 use Rattle.std.specs.Prelude.{ℕ, Bool, not, ◌==◌, ◌&&◌, List, [], replicate, unwrap_or, if◌then◌else◌}
+use Rattle.liq_types.specs.declared.amounts.TheConstants.{LIM}
 use Rattle.liq_types.specs.declared.figures.Wallet.{Wallet}
 use Rattle.liq_types.specs.declared.figures.Client.{Client}
 use Rattle.liq_types.specs.declared.figures.Trove.{Trove}
 use Rattle.liq_types.specs.declared.figures.Deposit.{Deposit}
-use Rattle.liq_types.specs.Image.{Image, opening_image}
+use Rattle.liq_types.specs.Image.{Image, opening_image_with}
 use Rattle.liq_types.specs.Tables.{Table, at, put, without, map_rows}
 
 -- ---- marks
@@ -67,6 +68,8 @@ pub record State : Type 0 where
   pub generation : ℕ
   -- commands accepted since the opening or the last rotation
   pub records : ℕ
+  -- the most collateral that may be inside, and the most LUSD
+  pub limit : ℕ
   -- collateral inside: what was brought in less what was taken out
   pub brought : ℕ
   pub active_coll : ℕ
@@ -112,6 +115,7 @@ started i =
       fee_minute = i.fee_minute;
       generation = i.generation;
       records = 0;
+      limit = i.limit;
       brought = i.brought;
       active_coll = i.active_coll;
       active_debt = i.active_debt;
@@ -135,8 +139,12 @@ started i =
       clients = i.clients;
     }
 
+-- before any command, under a limit
+abbrev pub opening_with : ℕ → State
+opening_with limit = started (opening_image_with limit)
+
 abbrev pub opening : State
-opening = started opening_image
+opening = opening_with LIM
 
 -- ---- rows of wallets, surplus and clients
 

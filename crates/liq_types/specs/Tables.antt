@@ -7,6 +7,10 @@ use Rattle.std.specs.Ordering.{nat_cmp}
 abbrev pub Table : Type 0 → Type 0
 Table X = List (ℕ × X)
 
+-- an epoch and a scale: where the Stability Pool's sum is counted
+abbrev pub Place : Type 0
+Place = ℕ × ℕ
+
 -- what the table has at a key
 abbrev pub at : {X : Type 0} → Table X → ℕ → Option X
 at table key = lookup (is_at (nat_cmp key)) table

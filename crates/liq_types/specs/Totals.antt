@@ -2,7 +2,7 @@
 use Rattle.std.specs.Prelude.{ℕ, ◌+◌, ◌-◌, ◌*◌, Bool, not, nat_lt, nat_le, length, sum_by, Option, unwrap_or}
 use Rattle.std.specs.Map.{values_of}
 use Rattle.liq_num.specs.declared.ratio.TheConstants.{GWEI_PER_ETH}
-use Rattle.liq_types.specs.declared.amounts.TheConstants.{CCR, LIM}
+use Rattle.liq_types.specs.declared.amounts.TheConstants.{CCR}
 use Rattle.liq_types.specs.declared.figures.Market.{Market}
 use Rattle.liq_types.specs.State.{State, TroveEntry, PoolOffset}
 
@@ -58,6 +58,7 @@ market_of s =
       minute = s.minute;
       base = s.base;
       fee_minute = s.fee_minute;
+      limit = s.limit;
       total_coll = total_coll s;
       total_debt = total_debt s;
       troves = trove_count s;
@@ -65,7 +66,7 @@ market_of s =
 
 -- the most collateral inside, and the most LUSD
 abbrev pub limit_of : Market → ℕ
-limit_of m = LIM
+limit_of m = m.limit
 
 -- ---- the mode
 

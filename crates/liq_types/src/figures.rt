@@ -27,6 +27,8 @@ pub struct Market {
     pub base: u64,
     /// The minute of the last fee.
     pub fee_minute: u64,
+    /// The most collateral that may be inside, and the most LUSD.
+    pub limit: u64,
     /// Active and default collateral, in gwei.
     pub total_coll: u64,
     /// Active and default debt, in micro-LUSD.

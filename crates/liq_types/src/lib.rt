@@ -10,6 +10,7 @@ pub mod entries;
 pub mod events;
 pub mod figures;
 pub mod hints;
+pub mod image;
 pub mod laws;
 pub mod replies;
 pub mod requests;
@@ -20,5 +21,9 @@ pub use entries::Entry;
 pub use events::{ListChange, PoolEvent};
 pub use figures::{Client, Deposit, Market, Trove, Wallet};
 pub use hints::{Hint, HintWords};
+pub use image::{
+    ClientRow, ClientRows, DepositRow, DepositRows, FinishedRows, FinishedSum, Image, SurplusRow,
+    SurplusRows, TroveRow, TroveRows, WalletRow, WalletRows,
+};
 pub use replies::{Answer, Done, Info, NoMemory, Refusal, Reply};
 pub use requests::{Call, Command, Query, Request};

@@ -1,0 +1,42 @@
+-- How many bytes a checkpoint of an image has: its words, a count before each table, and the tables' rows. An account or a
+-- client has 4 bytes, a product or a sum 16, a verb's place 1, and every other number 8.
+use Rattle.std.specs.Prelude.{ℕ, ◌+◌, ◌*◌, length}
+use Rattle.liq_types.specs.Image.{Image}
+
+-- a name of eight bytes; 21 numbers, 2 sums per stake, the product and its sum; and six counts
+abbrev pub words_length : ℕ
+words_length = 8 + 8 * 21 + 16 * 4 + 8 * 6
+
+-- collateral and LUSD
+abbrev pub wallet_length : ℕ
+wallet_length = 4 + 8 * 2
+
+-- collateral, debt and stake, and two sums
+abbrev pub trove_length : ℕ
+trove_length = 4 + 8 * 3 + 16 * 2
+
+-- collateral
+abbrev pub surplus_length : ℕ
+surplus_length = 4 + 8
+
+-- a place and its sum
+abbrev pub finished_length : ℕ
+finished_length = 8 * 2 + 16
+
+-- the amount, a product and a sum, and their place
+abbrev pub deposit_length : ℕ
+deposit_length = 4 + 8 + 16 * 2 + 8 * 2
+
+-- the last number, and the kept reply
+abbrev pub client_length : ℕ
+client_length = 4 + 8 + 1 + 8 * 6
+
+abbrev pub checkpoint_length : Image → ℕ
+checkpoint_length i =
+    words_length
+    + wallet_length * length i.wallets
+    + trove_length * length i.troves
+    + surplus_length * length i.surplus_rows
+    + finished_length * length i.finished
+    + deposit_length * length i.deposits
+    + client_length * length i.clients
