@@ -47,7 +47,7 @@ pub fn plan_adjust(
     let net = had.1.saturating_sub(RESERVE).saturating_sub(change.repay);
     checks::net_debt(change.repay > 0, u128::from(net))?;
     let sum = u128::from(m.total_debt) + u128::from(change.borrow) + u128::from(fee);
-    checks::supply(sum)?;
+    checks::supply(sum, m.limit)?;
     let coll = had.0 + change.coll_in - change.coll_out;
     let debt = (had.1 + change.borrow + fee).saturating_sub(change.repay);
     checks::ratio(!recovery || borrows, coll, debt, m.price, least_ratio(m))?;

@@ -11,7 +11,7 @@ ghost use Rattle.liq_borrow.specs.Checks.{Tells};
 use crate::change::Change;
 use liq_num::GWEI_PER_ETH;
 use liq_types::Refusal;
-use liq_types::amounts::{CCR, LIM, MIN_NET, ONE};
+use liq_types::amounts::{CCR, MIN_NET, ONE};
 
 /// `FeeBound`: the bound is above the whole or below the least rate.
 pub fn bound(applies: bool, bound: u64, least: u64) -> Result<(), Refusal>
@@ -79,11 +79,11 @@ pub fn net_debt(applies: bool, net: u128) -> Result<(), Refusal>
 }
 
 /// `AmountLimit`: there would be more LUSD (micro-LUSD) than there may be.
-pub fn supply(sum: u128) -> Result<(), Refusal>
-    ensures { Tells (where_above sum LIM refused.AmountLimit) result }
+pub fn supply(sum: u128, limit: u64) -> Result<(), Refusal>
+    ensures { Tells (where_above sum limit refused.AmountLimit) result }
 {
-    if sum > u128::from(LIM) {
-        return Err(Refusal::AmountLimit { sum, limit: LIM });
+    if sum > u128::from(limit) {
+        return Err(Refusal::AmountLimit { sum, limit });
     }
     Ok(())
 }

@@ -34,7 +34,7 @@ pub fn plan_open(
     checks::bound(true, bound, least_bound(m))?;
     checks::fee(fee, borrow, bound)?;
     checks::net_debt(true, net)?;
-    checks::supply(sum)?;
+    checks::supply(sum, m.limit)?;
     checks::collateral(coll, wallet.coll)?;
     let debt = borrow + fee + RESERVE;
     checks::ratio(true, coll, debt, m.price, least_ratio(m))?;

@@ -11,11 +11,11 @@ use Rattle.std.specs.declared.cmp.Ordering.{Ordering}
 use Rattle.std.specs.declared.cmp.Ordering.TheVariants.{Less, Equal, Greater}
 use Rattle.std.proofs.lemmas.Bool.{cases_lt}
 use Rattle.std.proofs.lemmas.List.Sorted.{searchable_from_sorted}
-use Rattle.liq_types.specs.Image.{Place}
+use Rattle.liq_types.specs.Tables.{Place}
 use Rattle.liq_types.specs.Product.{place_order, is_place}
 use Rattle.liq_types.specs.WellFormed.{IsBefore}
 use Rattle.liq_types.proofs.Places.{IsUpTo, order-place, after_not_place, before_up_to, is_place-itself, is_place-turned, is_place-same}
-use Rattle.liq_stability.specs.declared.words.FinishedSum.{FinishedSum}
+use Rattle.liq_types.specs.declared.image.FinishedSum.{FinishedSum}
 use Rattle.liq_stability.specs.Kept.{finished_rows}
 
 abbrev pub Finished : Type 0

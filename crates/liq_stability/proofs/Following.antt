@@ -2,10 +2,9 @@
 use Rattle.std.proofs.Common.{◌≡◌, ℕ, ◌+◌, ◌-◌, Bool, true, false, cond, List, refl, ap, sym, ◌∙◌, Some, None, Option, length}
 use Rattle.std.specs.Prelude.{◌==◌, option_map}
 use Rattle.liq_types.specs.declared.figures.Deposit.{Deposit}
-use Rattle.liq_types.specs.Image.{Place}
 use Rattle.liq_types.specs.Product.{sumat}
 use Rattle.liq_types.specs.State.{State, DepositEntry, PoolMark, After}
-use Rattle.liq_types.specs.Tables.{Table, at, put, without, map_rows}
+use Rattle.liq_types.specs.Tables.{Place, Table, at, put, without, map_rows}
 use Rattle.liq_types.specs.Totals.{pool_total, pool_coll}
 use Rattle.liq_types.specs.WellFormed.{AreFinished, DepositsAreMarked, IsMoment, IsPoolCovered}
 use Rattle.liq_types.proofs.MapRows.{at-map, map-put, map-without, map-cong}

@@ -9,11 +9,11 @@ use Rattle.std.proofs.lemmas.Bool.Decides.{nat_tests}
 use Rattle.std.proofs.lemmas.List.{map-append}
 use Rattle.liq_types.specs.declared.amounts.TheConstants.{LIM, OFFSET_MOST, P_OPENING, RISES_MOST}
 use Rattle.liq_types.specs.declared.figures.Deposit.{Deposit}
-use Rattle.liq_types.specs.Image.{Place}
+use Rattle.liq_types.specs.ImageRows.{finished_row}
 use Rattle.liq_types.specs.Product.{ScaledProduct, after_offset, place_of, is_place, place_order, sum_growth}
 use Rattle.liq_types.specs.Soundness.{is_product, is_sum_beside}
 use Rattle.liq_types.specs.State.{PoolOffset}
-use Rattle.liq_types.specs.Tables.{Table, at, put, without}
+use Rattle.liq_types.specs.Tables.{Place, Table, at, put, without}
 use Rattle.liq_types.proofs.Ascending.{none-ascends}
 use Rattle.liq_types.proofs.Lookups.{all-at}
 use Rattle.liq_types.proofs.MapRows.{all-put, all-without, all-weaken}
@@ -23,8 +23,8 @@ use Rattle.liq_types.proofs.Sums.{leaves_part, takes_all, sum_stays, sum_finishe
 use Rattle.liq_tables.specs.Rows.{is_used_deposit}
 use Rattle.liq_tables.specs.WithRoom.{written}
 use Rattle.liq_stability.specs.declared.words.PoolWords.{PoolWords}
-use Rattle.liq_stability.specs.declared.words.FinishedSum.{FinishedSum}
-use Rattle.liq_stability.specs.Kept.{IsSoundPool, IsDepositOf, finished_row, finished_rows, is_sound_sum, with_last, sum_at, left_in}
+use Rattle.liq_types.specs.declared.image.FinishedSum.{FinishedSum}
+use Rattle.liq_stability.specs.Kept.{IsSoundPool, IsDepositOf, finished_rows, is_sound_sum, with_last, sum_at, left_in}
 use Rattle.liq_stability.specs.Position.{deposit_now}
 use Rattle.liq_stability.specs.Words.{words_in, offset_in, sum_with, words_after, finished_by, finished_with}
 use Rattle.liq_stability.proofs.Finishing.{Finished, AreBefore, put_last, all_last, sorted_last, sum_in, none_in, other_last, same_last}

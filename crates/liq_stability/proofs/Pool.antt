@@ -5,10 +5,9 @@ use Rattle.std.specs.BTreeMap.{insert_entry}
 use Rattle.std.proofs.Math.Seq.{take-length}
 use Rattle.std.proofs.lemmas.List.{take-append-le}
 use Rattle.std.proofs.lemmas.List.Sums.{sum_by-append, fold-append}
-use Rattle.liq_types.specs.Image.{Place}
 use Rattle.liq_types.specs.Product.{ScaledProduct, after_offset, sumat, start_words, place_of, is_place, place_order, mark_after, with_finished, finished_sums}
 use Rattle.liq_types.specs.State.{State, PoolMark, Mark, AtStart, After, DepositEntry, PoolOffset}
-use Rattle.liq_types.specs.Tables.{Table, at, put, without}
+use Rattle.liq_types.specs.Tables.{Place, Table, at, put, without}
 use Rattle.liq_types.specs.Totals.{pool_total, pool_coll}
 use Rattle.liq_types.specs.WellFormed.{IsMoment, AreFinished, DepositsAreMarked, IsPoolCovered, Ascends}
 use Rattle.liq_types.proofs.Ascending.{none-ascends}

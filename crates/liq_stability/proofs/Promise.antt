@@ -9,11 +9,10 @@ use Rattle.liq_num.specs.Quotient.{ceiling_of}
 use Rattle.liq_types.specs.declared.amounts.TheConstants.{OFFSET_MOST, P_OPENING, RISES_MOST}
 use Rattle.liq_types.specs.declared.events.PoolEvent.{PoolEvent}
 use Rattle.liq_types.specs.Allowance.{weight_of, balance_allowance, gain_allowance}
-use Rattle.liq_types.specs.Image.{Place}
 use Rattle.liq_types.specs.PlainLedger.{no_share, exact_share, den_of, offsets_coll, gains_paid_to, own_events_of, AreOwnedBelow, over_accounts}
 use Rattle.liq_types.specs.Product.{is_place}
 use Rattle.liq_types.specs.State.{DepositEntry, opening}
-use Rattle.liq_types.specs.Tables.{at}
+use Rattle.liq_types.specs.Tables.{Place, at}
 use Rattle.liq_types.specs.Totals.{pool_total, pool_coll}
 use Rattle.liq_types.proofs.Accounts.{over-none, above_with, owned_with, under_with}
 use Rattle.liq_types.proofs.Watching.{no_watch, watched, weight_is, own_events_are}

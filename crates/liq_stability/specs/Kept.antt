@@ -7,16 +7,16 @@ use Rattle.liq_types.specs.declared.amounts.TheConstants.{LIM, OFFSET_MOST, P_OP
 use Rattle.liq_types.specs.declared.figures.Deposit.{Deposit}
 use Rattle.liq_types.specs.declared.replies.Refusal.{Refusal}
 use Rattle.liq_types.specs.declared.replies.Refusal.TheVariants.{NoDeposit}
-use Rattle.liq_types.specs.Image.{Place}
+use Rattle.liq_types.specs.ImageRows.{finished_row}
 use Rattle.liq_types.specs.Product.{place_order, is_place, finished_sums}
 use Rattle.liq_types.specs.Rules.{Rule, first_refusal, outcome}
 use Rattle.liq_types.specs.Soundness.{is_product, is_sum_beside, is_before, is_sound_deposit}
 use Rattle.liq_types.specs.State.{State}
-use Rattle.liq_types.specs.Tables.{Table, at, put, without}
+use Rattle.liq_types.specs.Tables.{Place, Table, at, put, without}
 use Rattle.liq_types.specs.WellFormed.{Ascends}
 use Rattle.liq_tables.specs.WithRoom.{WithRoom}
 use Rattle.liq_stability.specs.declared.words.PoolWords.{PoolWords}
-use Rattle.liq_stability.specs.declared.words.FinishedSum.{FinishedSum}
+use Rattle.liq_types.specs.declared.image.FinishedSum.{FinishedSum}
 use Rattle.liq_stability.specs.Position.{position_by, deposit_now, deposit_rows}
 use Rattle.liq_stability.specs.Words.{pool_words}
 
@@ -29,9 +29,6 @@ pub record Kept : Type 0 where
   pub spare : ℕ
 
 -- ---- finished sums
-
-abbrev pub finished_row : FinishedSum → Place × ℕ
-finished_row f = ((f.epoch, f.scale), f.sum)
 
 abbrev pub finished_rows : List FinishedSum → List (Place × ℕ)
 finished_rows sums = map finished_row sums

@@ -2,7 +2,7 @@
 use Rattle.std.specs.Prelude.{ℕ, ◌+◌, ◌-◌, ◌*◌, ◌/◌, ◌%◌, ◌^◌, ◌==◌, nat_le, List, [], ◌∷◌, fold, take, if◌then◌else◌}
 use Rattle.liq_num.specs.Quotient.{ceiling_of}
 use Rattle.liq_types.specs.declared.amounts.TheConstants.{P_LEAST}
-use Rattle.liq_types.specs.Image.{Place}
+use Rattle.liq_types.specs.Tables.{Place}
 use Rattle.liq_types.specs.Product.{ScaledProduct, STEPS_TRIED, opening_words, least_from, after_offset, place_of, is_place}
 use Rattle.liq_types.specs.State.{State, PoolOffset, PoolMark}
 use Rattle.liq_stability.specs.Position.{balance_by, gain_by}

@@ -1,12 +1,12 @@
 -- The words of the Stability Pool: what an offset makes of them, and what they are in a state.
 use Rattle.std.specs.Prelude.{ℕ, ◌+◌, ◌-◌, ◌||◌, ◌==◌, List, Option, Some, None, if◌then◌else◌}
 use Rattle.std.specs.BTreeMap.{insert_entry}
-use Rattle.liq_types.specs.Image.{Place}
+use Rattle.liq_types.specs.Tables.{Place}
 use Rattle.liq_types.specs.Product.{ScaledProduct, after_offset, prod, sumat, sum_growth, place_of, is_place, place_order}
 use Rattle.liq_types.specs.State.{State, PoolOffset}
 use Rattle.liq_types.specs.Totals.{pool_total, pool_coll}
 use Rattle.liq_stability.specs.declared.words.PoolWords.{PoolWords}
-use Rattle.liq_stability.specs.declared.words.FinishedSum.{FinishedSum}
+use Rattle.liq_types.specs.declared.image.FinishedSum.{FinishedSum}
 
 -- ---- over the words as they are kept
 

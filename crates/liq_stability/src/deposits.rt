@@ -17,10 +17,10 @@ ghost use Rattle.liq_stability.specs.Kept.{IsSoundPool, IsDepositOf, finished_ro
 
 use crate::offsets::offset_words;
 use crate::positions::position;
-use crate::words::{FinishedSum, PoolWords};
+use crate::words::PoolWords;
 use liq_tables::Reserved;
 use liq_types::amounts::{LIM, OFFSET_MOST, P_OPENING};
-use liq_types::{Deposit, NoMemory, Refusal};
+use liq_types::{Deposit, FinishedSum, NoMemory, Refusal};
 use std::alloc::Global;
 use std::marker::Model;
 

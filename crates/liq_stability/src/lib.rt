@@ -9,7 +9,7 @@ mod positions;
 mod words;
 
 pub use deposits::Stability;
-pub use liq_types::Deposit;
+pub use liq_types::{Deposit, FinishedSum};
 pub use offsets::offset_words;
 pub use positions::position;
-pub use words::{FinishedSum, PoolWords};
+pub use words::PoolWords;

@@ -5,8 +5,9 @@ ghost use Rattle.liq_types.specs.Product.{product_after, rise_of, after_offset};
 ghost use Rattle.liq_types.specs.Soundness.{is_product, is_sum_beside};
 ghost use Rattle.liq_stability.specs.Words.{words_in, offset_in, words_after, finished_by};
 
-use crate::words::{FinishedSum, PoolWords};
+use crate::words::PoolWords;
 use liq_num::mul_div;
+use liq_types::FinishedSum;
 use liq_types::amounts::{LIM, OFFSET_MOST, P_LEAST, P_OPENING, RISES_MOST};
 
 /// By one step of the scale the product is raised so many times.

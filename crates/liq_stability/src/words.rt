@@ -16,11 +16,3 @@ pub struct PoolWords {
     /// Collateral in the pool.
     pub coll: u64,
 }
-
-/// The sum of an epoch and a scale that are over.
-#[derive(Clone, Copy)]
-pub struct FinishedSum {
-    pub epoch: u64,
-    pub scale: u64,
-    pub sum: u128,
-}

@@ -4,7 +4,7 @@ use Rattle.std.specs.Map.{lookup}
 use Rattle.std.specs.declared.cmp.Ordering.TheVariants.{Equal}
 use Rattle.std.proofs.lemmas.List.Sorted.{answers_always}
 use Rattle.liq_types.specs.declared.amounts.TheConstants.{OFFSET_MOST, P_OPENING}
-use Rattle.liq_types.specs.Image.{Place}
+use Rattle.liq_types.specs.Tables.{Place}
 use Rattle.liq_types.specs.Product.{is_place, place_order}
 use Rattle.liq_stability.proofs.Finishing.{key, found, not_parted, sum_within, IsParted}
 use Rattle.liq_stability.proofs.Keeping.{sums_within}

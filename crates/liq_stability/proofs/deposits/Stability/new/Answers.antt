@@ -2,7 +2,7 @@ use Rattle.std.proofs.Common.{sym, subst, [], List}
 use Rattle.liq_types.specs.declared.amounts.TheConstants.{P_OPENING}
 use Rattle.liq_types.specs.declared.figures.Deposit.{Deposit}
 use Rattle.liq_types.specs.Tables.{Table}
-use Rattle.liq_stability.specs.declared.words.FinishedSum.{FinishedSum}
+use Rattle.liq_types.specs.declared.image.FinishedSum.{FinishedSum}
 use Rattle.liq_stability.specs.Kept.{IsSoundPool, finished_rows}
 use Rattle.liq_stability.proofs.Keeping.{opening_sound}
 use Rattle.liq_stability.proofs.deposits.Stability.new.Goals as goal

@@ -1,7 +1,7 @@
 use Rattle.std.proofs.Common.{◌≡◌, ◌+◌, ◌≤◌, sym, ap, ◌∙◌, subst, arith, Some, None, Option}
 use Rattle.std.specs.Prelude.{vec_len, vec_capacity}
 use Rattle.liq_types.specs.declared.amounts.TheConstants.{LIM}
-use Rattle.liq_stability.specs.declared.words.FinishedSum.{FinishedSum}
+use Rattle.liq_types.specs.declared.image.FinishedSum.{FinishedSum}
 use Rattle.liq_stability.specs.Kept.{Kept, IsSoundPool, finished_rows, with_last, room_for}
 use Rattle.liq_stability.specs.Words.{finished_by, finished_with}
 use Rattle.liq_stability.proofs.Keeping.{offset_sound, finished_last}
