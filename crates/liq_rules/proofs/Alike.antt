@@ -8,10 +8,10 @@ use Rattle.liq_num.specs.Quotient.{floor_of}
 use Rattle.liq_types.specs.declared.amounts.TheConstants.{ONE}
 use Rattle.liq_types.specs.declared.figures.Trove.{Trove}
 use Rattle.liq_types.specs.declared.figures.Deposit.{Deposit}
-use Rattle.liq_types.specs.Image.{Image, Place}
+use Rattle.liq_types.specs.declared.image.Image.{Image}
 use Rattle.liq_types.specs.Product.{ScaledProduct, after_offset, prod, sumat, start_sum, sum_growth, place_of, mark_after}
 use Rattle.liq_types.specs.State.{State, PoolMark, After, TroveEntry, DepositEntry, PoolOffset, Redistribution}
-use Rattle.liq_types.specs.Tables.{Table, at, put, without, map_rows}
+use Rattle.liq_types.specs.Tables.{Place, Table, at, put, without, map_rows}
 use Rattle.liq_types.specs.Totals.{stakes_of, pool_total, pool_coll}
 use Rattle.liq_troves.specs.StakeSums.{trove_row, pending, coll_growth, debt_growth}
 use Rattle.liq_troves.specs.Own.{lifted_entry, lifted, placed, stake_for, redistributed}

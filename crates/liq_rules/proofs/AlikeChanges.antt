@@ -2,7 +2,7 @@
 use Rattle.std.proofs.Common.{◌≡◌, ℕ, ◌+◌, ◌-◌, ◌≤◌, [], ◌∷◌, ◌++◌, refl, ap, sym, ◌∙◌, arith, Some, None, Option, length}
 use Rattle.std.specs.Prelude.{unwrap_or, sum_by}
 use Rattle.std.proofs.lemmas.List.Sums.{sum_by-append}
-use Rattle.liq_types.specs.Image.{Image}
+use Rattle.liq_types.specs.declared.image.Image.{Image}
 use Rattle.liq_types.specs.Payments.{credited, charged, surplus_added, surplus_taken}
 use Rattle.liq_types.specs.State.{State, TroveEntry, PoolOffset, Redistribution, no_wallet, with_wallet, with_surplus}
 use Rattle.liq_types.specs.Tables.{Table, at}

@@ -1,7 +1,7 @@
 -- What is read of two states with the same image is the same.
 use Rattle.std.proofs.Common.{◌≡◌, ℕ, ◌+◌, ◌-◌, refl, ap, sym, ◌∙◌, Some, None, Option, length}
 use Rattle.std.specs.Prelude.{option_map, unwrap_or, is_some, is_none}
-use Rattle.liq_types.specs.Image.{Image}
+use Rattle.liq_types.specs.declared.image.Image.{Image}
 use Rattle.liq_types.specs.State.{State, no_wallet, no_client, wallet_of, client_of, surplus_of}
 use Rattle.liq_types.specs.Tables.{at}
 use Rattle.liq_types.specs.Totals.{market_of, total_debt, trove_count, stakes_of, pool_total, pool_coll}
@@ -39,7 +39,7 @@ module _ {s t : State} (h : Alike s t) where
 
   pub market_alike : market_of s ≡ market_of t
   market_alike =
-      ap (λ (i : Image). record { price = i.price; minute = i.minute; base = i.base; fee_minute = i.fee_minute; total_coll = i.active_coll + i.default_coll; total_debt = i.active_debt + i.default_debt; troves = trove_count s }) h.image
+      ap (λ (i : Image). record { price = i.price; minute = i.minute; base = i.base; fee_minute = i.fee_minute; limit = i.limit; total_coll = i.active_coll + i.default_coll; total_debt = i.active_debt + i.default_debt; troves = trove_count s }) h.image
       ∙ ap (λ n. record (market_of t) { troves = n }) count_alike
 
   pub total_debt_alike : total_debt s ≡ total_debt t

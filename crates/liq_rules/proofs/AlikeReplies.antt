@@ -1,7 +1,7 @@
 -- States with the same image and records give the same reply to every request, also over whole runs.
 use Rattle.std.proofs.Common.{◌≡◌, ℕ, ◌+◌, Bool, true, false, List, [], ◌∷◌, ◌++◌, refl, ap, sym, ◌∙◌, subst, Some, None, Option, nat_lt, nat_le}
 use Rattle.std.specs.Prelude.{is_some, is_none, option_map, min, map, ◌==◌, ◌&&◌, not, if◌then◌else◌}
-use Rattle.liq_types.specs.declared.amounts.TheConstants.{MCR, LOWEST_MOST, LIM, MINUTE_MOST, GENERATIONS_MOST, RECORDS_MOST, CHECKPOINT_BYTES_MOST, NUMBER_MOST}
+use Rattle.liq_types.specs.declared.amounts.TheConstants.{MCR, LOWEST_MOST, MINUTE_MOST, GENERATIONS_MOST, RECORDS_MOST, CHECKPOINT_BYTES_MOST, NUMBER_MOST}
 use Rattle.liq_types.specs.declared.figures.Client.{Client}
 use Rattle.liq_types.specs.declared.figures.Market.{Market}
 use Rattle.liq_types.specs.declared.figures.Trove.{Trove}
@@ -19,7 +19,7 @@ use Rattle.liq_types.specs.declared.requests.Query.{Query}
 use Rattle.liq_types.specs.declared.requests.Query.TheVariants as query
 use Rattle.liq_types.specs.declared.requests.Request.{Request}
 use Rattle.liq_types.specs.declared.requests.Request.TheVariants.{Do, Ask}
-use Rattle.liq_types.specs.Image.{Image}
+use Rattle.liq_types.specs.declared.image.Image.{Image}
 use Rattle.liq_types.specs.Rules.{Rule, where_below, where_short, where_above, first_refusal, last_trove_stays}
 use Rattle.liq_types.specs.State.{State, wallet_of, client_of, TroveEntry, DepositEntry}
 use Rattle.liq_types.specs.Tables.{at, put}
@@ -32,7 +32,7 @@ use Rattle.liq_borrow.specs.Borrowing.{or_nothing, open_rules, adjust_rules, clo
 use Rattle.liq_liquidation.specs.Lowest.{refusal_of, first_of_lowest}
 use Rattle.liq_redemption.specs.Redemption.{redeem_rules, visited, Visit}
 use Rattle.liq_rules.specs.Image.{image}
-use Rattle.liq_rules.specs.Length.{checkpoint_length}
+use Rattle.liq_types.specs.Length.{checkpoint_length}
 use Rattle.liq_rules.specs.Queries.{trove_info, deposit_info, pools, system, answer, unless_out_of_range}
 use Rattle.liq_rules.specs.Pool.{no_deposit, trove_under}
 use Rattle.liq_rules.specs.Row.{not_zero}
@@ -67,7 +67,7 @@ redeem_rules_alike {s} {t} h account amount bound =
 pub rules_alike : {s t : State} → Alike s t → (call : Call) → rules s call ≡ rules t call
 rules_alike h (Price price) = refl
 rules_alike h (Advance minutes) = ap (λ (i : Image). not_zero minutes ∷ where_above (i.minute + minutes) MINUTE_MOST AmountLimit ∷ []) h.image
-rules_alike h (Fund account coll) = ap (λ (i : Image). not_zero coll ∷ where_above (i.brought + coll) LIM AmountLimit ∷ []) h.image
+rules_alike h (Fund account coll) = ap (λ (i : Image). not_zero coll ∷ where_above (i.brought + coll) i.limit AmountLimit ∷ []) h.image
 rules_alike h (Take account coll) = ap (λ (w : Wallet). not_zero coll ∷ where_short coll w.coll ShortCollateral ∷ []) (wallet_alike h account)
 rules_alike h (Send from to lusd) = ap (λ (w : Wallet). not_zero lusd ∷ where_short lusd w.lusd ShortTokens ∷ []) (wallet_alike h from)
 rules_alike {s} {t} h (Open account coll borrow bound hint) =

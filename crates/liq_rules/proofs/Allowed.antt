@@ -2,7 +2,7 @@
 use Rattle.std.proofs.Common.{◌≡◌, ℕ, ◌+◌, ◌-◌, ◌≤◌, Bool, true, false, nat_lt, cond, List, [], ◌∷◌, ◌++◌, Some, None, Option, refl, ap, subst, ◌<◌, nat_le, ◌∙◌, arith}
 use Rattle.std.specs.Prelude.{IsTrue, map, ◌==◌, fold}
 use Rattle.std.proofs.lemmas.Bool.Decides.{nat_tests}
-use Rattle.liq_types.specs.declared.amounts.TheConstants.{LIM, RESERVE, MINUTE_MOST, RECORDS_MOST, GENERATIONS_MOST, CHECKPOINT_BYTES_MOST}
+use Rattle.liq_types.specs.declared.amounts.TheConstants.{RESERVE, MINUTE_MOST, RECORDS_MOST, GENERATIONS_MOST, CHECKPOINT_BYTES_MOST}
 use Rattle.liq_types.specs.declared.replies.Done.{Done}
 use Rattle.liq_types.specs.declared.replies.Refusal.{Refusal}
 use Rattle.liq_types.specs.declared.replies.Refusal.TheVariants.{AmountZero, AmountLimit, ShortCollateral, ShortTokens, JournalFull}
@@ -11,7 +11,7 @@ use Rattle.liq_types.specs.declared.requests.Call.TheVariants.{Price, Advance, F
 use Rattle.liq_types.specs.declared.requests.Command.{Command}
 use Rattle.liq_types.specs.Rules.{Rule, first_refusal, where_above}
 use Rattle.liq_rules.specs.Image.{image}
-use Rattle.liq_rules.specs.Length.{checkpoint_length}
+use Rattle.liq_types.specs.Length.{checkpoint_length}
 use Rattle.liq_types.specs.Payments.{credited, charged}
 use Rattle.liq_types.specs.State.{State, TroveEntry, wallet_of, client_of}
 use Rattle.liq_types.specs.Tables.{at}
@@ -87,9 +87,9 @@ allowed_few s c h stays =
 pub second_false : (first second : Rule) → first_refusal (first ∷ second ∷ []) ≡ None → second.0 ≡ false
 second_false first second h = (none_first second [] (none_first first (second ∷ []) h).1).0
 
-pub fund_within : (s : State) (account coll : ℕ) → first_refusal (rules s (Fund account coll)) ≡ None → s.brought + coll ≤ LIM
+pub fund_within : (s : State) (account coll : ℕ) → first_refusal (rules s (Fund account coll)) ≡ None → s.brought + coll ≤ s.limit
 fund_within s account coll h =
-    let fits : nat_lt LIM (s.brought + coll) ≡ false = second_false (coll == 0, AmountZero) (nat_lt LIM (s.brought + coll), AmountLimit (s.brought + coll) LIM) h in
+    let fits : nat_lt s.limit (s.brought + coll) ≡ false = second_false (coll == 0, AmountZero) (nat_lt s.limit (s.brought + coll), AmountLimit (s.brought + coll) s.limit) h in
     grind (arith, nat_tests, fits)
 
 pub take_enough : (s : State) (account coll : ℕ) → first_refusal (rules s (Take account coll)) ≡ None → coll ≤ (wallet_of s account).coll

@@ -3,7 +3,7 @@ use Rattle.std.proofs.Common.{◌≡◌, ℕ, ◌+◌, ◌-◌, ◌≤◌, false
 use Rattle.std.specs.Prelude.{length, is_some, unwrap_or, sum_by}
 use Rattle.std.specs.Map.{values_of}
 use Rattle.std.proofs.lemmas.Bool.Decides.{nat_tests}
-use Rattle.liq_types.specs.declared.amounts.TheConstants.{LIM, MIN_NET}
+use Rattle.liq_types.specs.declared.amounts.TheConstants.{MIN_NET}
 use Rattle.liq_types.specs.declared.replies.Refusal.TheVariants.{TroveExists, NetDebtLow, AmountLimit, ShortCollateral}
 use Rattle.liq_types.specs.Payments.{charged}
 use Rattle.liq_types.specs.Rules.{Rule, first_refusal, where_below, where_above, where_short}
@@ -80,7 +80,7 @@ opens s account coll borrow bound r =
     let m = market_of s in
     let terms = opening_terms m coll borrow in
     let have = (wallet_of s account).coll in
-    let found = sixth (is_some (at s.troves account), TroveExists account) (fee_bound bound (least_bound m)) (fee_over terms.fee borrow bound) (where_below (borrow + terms.fee) MIN_NET NetDebtLow) (where_above (m.total_debt + terms.debt) LIM AmountLimit) (where_short coll have ShortCollateral)
+    let found = sixth (is_some (at s.troves account), TroveExists account) (fee_bound bound (least_bound m)) (fee_over terms.fee borrow bound) (where_below (borrow + terms.fee) MIN_NET NetDebtLow) (where_above (m.total_debt + terms.debt) m.limit AmountLimit) (where_short coll have ShortCollateral)
     (ratio_low m (least_ratio m) coll terms.debt ∷ system_ratio_low m (m.total_coll + coll) (m.total_debt + terms.debt) ∷ []) r in
     let enough : nat_lt have coll ≡ false = found.1 in
     (missing (at s.troves account) found.0, grind (arith, nat_tests, enough))

@@ -9,7 +9,7 @@ use Rattle.liq_types.specs.declared.replies.Refusal.TheVariants.{AccountRange, A
 use Rattle.liq_types.specs.declared.requests.Command.{Command}
 use Rattle.liq_types.specs.Rules.{Rule, first_refusal, where_above}
 use Rattle.liq_rules.specs.Image.{image}
-use Rattle.liq_rules.specs.Length.{checkpoint_length}
+use Rattle.liq_types.specs.Length.{checkpoint_length}
 use Rattle.liq_rules.specs.Step.{after}
 use Rattle.liq_rules.specs.Verbs.{rotates}
 use Rattle.liq_types.specs.State.{State, client_of}

@@ -9,7 +9,7 @@ use Rattle.std.specs.declared.cmp.Ordering.TheVariants.{Less, Equal, Greater}
 use Rattle.std.proofs.lemmas.Bool.Decides.{nat_tests}
 use Rattle.liq_types.specs.declared.amounts.TheConstants.{RESERVE, RECORDS_MOST, ACCOUNTS}
 use Rattle.liq_types.specs.declared.figures.Client.{Client}
-use Rattle.liq_types.specs.Image.{Image}
+use Rattle.liq_types.specs.declared.image.Image.{Image}
 use Rattle.liq_types.specs.Soundness.{has_ranges, has_accounts, has_keys_in_range, has_coll_at_home, has_lusd_at_home, has_surplus_at_home, has_sound_troves, has_troves_added_up, is_backed, has_sound_words, has_sound_deposits, has_sound_clients, is_sound_client, coll_homes, lusd_homes, places_most, soundness, first_failing, HasTables, IsClientRow, IsSoundImage}
 use Rattle.liq_types.specs.Tables.{Table, put}
 use Rattle.liq_types.proofs.Ascending.{put-ascends}
@@ -144,10 +144,10 @@ module _ {X : Type 0} where
 
 -- ---- a command that is counted, and its reply kept
 
-middle : (x y z v : Bool) → ((x && y) && z) ≡ true → v ≡ true → ((x && v) && z) ≡ true
-middle x true z v h k = ap (λ b. (x && b) && z) k ∙ h
-middle true false z v h k = cc
-middle false false z v h k = cc
+middle : (w x y z v : Bool) → (((w && x) && y) && z) ≡ true → v ≡ true → (((w && v) && y) && z) ≡ true
+middle w true y z v h k = ap (λ b. ((w && b) && y) && z) k ∙ h
+middle true false y z v h k = cc
+middle false false y z v h k = cc
 
 module _ (i : Image) (records client : ℕ) (row : Client) (sound : IsSoundImage i records) (inside : client < ACCOUNTS) (few : records < RECORDS_MOST) (kept : IsClientRow row) (shown : is_sound_client row ≡ true) where
   noted : Image
@@ -180,7 +180,7 @@ module _ (i : Image) (records client : ℕ) (row : Client) (sound : IsSoundImage
   unfolding noted
   counted_rules =
       record {
-        ranges = middle _ _ _ _ before.ranges counted;
+        ranges = middle _ _ _ _ _ before.ranges counted;
         accounts = other_second _ _ _ before.accounts (put_in_range i.clients client row inside (both_second _ _ before.accounts));
         coll = before.coll;
         lusd = before.lusd;

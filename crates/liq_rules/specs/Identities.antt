@@ -7,7 +7,7 @@ use Rattle.liq_types.specs.WellFormed.{Ascends}
 use Rattle.liq_types.specs.declared.requests.Call.{Call}
 use Rattle.liq_types.specs.declared.requests.Call.TheVariants.{Price, Advance, Fund, Take, Send, Provide, Withdraw, Claim, Rotate}
 use Rattle.liq_types.specs.declared.figures.Trove.{Trove}
-use Rattle.liq_types.specs.Image.{Image}
+use Rattle.liq_types.specs.declared.image.Image.{Image}
 use Rattle.liq_types.specs.Soundness.{coll_homes, lusd_homes}
 use Rattle.liq_types.specs.State.{State}
 use Rattle.liq_rules.specs.Image.{image}

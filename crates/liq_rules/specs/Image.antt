@@ -1,7 +1,7 @@
 -- The image of a state: words and tables, as the lists have made them. States with one image and as many records
 -- count as the same, whatever their lists were.
 use Rattle.std.specs.Prelude.{◌≡◌}
-use Rattle.liq_types.specs.Image.{Image}
+use Rattle.liq_types.specs.declared.image.Image.{Image}
 use Rattle.liq_types.specs.Product.{sumat, place_of, finished_sums}
 use Rattle.liq_types.specs.State.{State}
 use Rattle.liq_types.specs.Tables.{map_rows}
@@ -17,6 +17,7 @@ image s =
       base = s.base;
       fee_minute = s.fee_minute;
       generation = s.generation;
+      limit = s.limit;
       brought = s.brought;
       active_coll = s.active_coll;
       active_debt = s.active_debt;

@@ -6,7 +6,6 @@ pub mod Examples
 pub mod History
 pub mod Identities
 pub mod Image
-pub mod Length
 pub mod LimitExamples
 pub mod Liquidation
 pub mod ListChanges

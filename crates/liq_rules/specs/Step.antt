@@ -19,7 +19,7 @@ use Rattle.liq_rules.specs.Verbs.{rotates}
 pub use Rattle.liq_rules.specs.Rules.{rules, effect, done_of}
 pub use Rattle.liq_rules.specs.Queries.{answer, next_number}
 use Rattle.liq_rules.specs.Image.{image}
-use Rattle.liq_rules.specs.Length.{checkpoint_length}
+use Rattle.liq_types.specs.Length.{checkpoint_length}
 
 -- ---- client numbers
 

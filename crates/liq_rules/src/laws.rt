@@ -15,7 +15,8 @@ ghost use Rattle.liq_types.specs.declared.requests.Query.{Query};
 ghost use Rattle.liq_types.specs.declared.requests.Request.{Request};
 ghost use Rattle.liq_types.specs.declared.requests.Request.TheVariants.{Do, Ask};
 ghost use Rattle.liq_types.specs.Codes.{value_count};
-ghost use Rattle.liq_types.specs.Image.{Image, opening_image};
+ghost use Rattle.liq_types.specs.declared.image.Image.{Image};
+ghost use Rattle.liq_types.specs.Image.{opening_image};
 ghost use Rattle.liq_types.specs.Soundness.{IsSoundImage};
 ghost use Rattle.liq_types.specs.State.{State, opening, started, wallet_of, client_of};
 ghost use Rattle.liq_types.specs.Payments.{credited, charged};
@@ -24,7 +25,7 @@ ghost use Rattle.liq_rules.specs.History.{Entry, IsLegal, GoesOn, requests_of, s
 ghost use Rattle.liq_rules.specs.Identities.{IsAtHome, IsConserved, WalletsAscend, touches_no_trove, wallets_coll, wallets_lusd};
 ghost use Rattle.liq_rules.specs.Events.{events};
 ghost use Rattle.liq_rules.specs.Image.{image, IsSameState};
-ghost use Rattle.liq_rules.specs.Length.{checkpoint_length};
+ghost use Rattle.liq_types.specs.Length.{checkpoint_length};
 ghost use Rattle.liq_rules.specs.Rules.{values, call_events, call_changes};
 ghost use Rattle.liq_rules.specs.Step.{Refused, Repeated, ruling, after, step, run, accepted, rules, effect, first_refusal};
 ghost use Rattle.liq_rules.specs.Verbs.{kind, unhinted};

@@ -5,7 +5,7 @@ use Rattle.liq_types.specs.declared.replies.Refusal.TheVariants.{AmountLimit}
 use Rattle.liq_types.specs.declared.requests.Call.TheVariants.{Rotate}
 use Rattle.liq_types.specs.declared.requests.Command.{Command}
 use Rattle.liq_rules.specs.Image.{image}
-use Rattle.liq_rules.specs.Length.{checkpoint_length}
+use Rattle.liq_types.specs.Length.{checkpoint_length}
 use Rattle.liq_rules.specs.Step.{after}
 use Rattle.liq_rules.proofs.Ruled.{refused_room}
 use Rattle.liq_rules.proofs.laws.long_checkpoints_refuse_rotation.Goals as goal
