@@ -60,8 +60,8 @@ borrowed_in_range s h borrow = by (is_normal (market_of s) && nat_lt 0 borrow) w
   by true = let less = decayed_within s.base s.fee_minute s.minute in record { base = omega (arith, less, h.base); minute = omega arith }
   by false = record { base = h.base; minute = h.fee_minute }
 
-pub ranges_with : (s t : State) → InRange s → (r : Rate) → RateInRange s r → t.price ≡ s.price → t.minute ≡ s.minute → t.fee_minute ≡ r.minute → t.base ≡ r.base → t.generation ≡ s.generation → InRange t
-ranges_with s t h r k price minute fee_minute base generation =
+pub ranges_with : (s t : State) → InRange s → (r : Rate) → RateInRange s r → t.price ≡ s.price → t.minute ≡ s.minute → t.fee_minute ≡ r.minute → t.base ≡ r.base → t.generation ≡ s.generation → t.limit ≡ s.limit → InRange t
+ranges_with s t h r k price minute fee_minute base generation limit =
     record {
       price_least = omega (arith, price, h.price_least);
       price_most = omega (arith, price, h.price_most);
@@ -70,6 +70,7 @@ ranges_with s t h r k price minute fee_minute base generation =
       base = omega (arith, base, k.base);
       first_generation = omega (arith, generation, h.first_generation);
       last_generation = omega (arith, generation, h.last_generation);
+      limit = limit ∙ h.limit;
     }
 
 -- ---- a trove that is there
@@ -134,7 +135,7 @@ some_percent m debt h = by (is_recovery m) where
 pub record OpenAllows (s : State) (account coll borrow : ℕ) : Type 0 where
   pub absent : at s.troves account ≡ None
   pub enough : coll ≤ (wallet_of s account).coll
-  pub limit : s.active_debt + s.default_debt + (opening_terms (market_of s) coll borrow).debt ≤ LIM
+  pub limit : s.active_debt + s.default_debt + (opening_terms (market_of s) coll borrow).debt ≤ s.limit
   pub some : 1 ≤ coll
   pub least : RESERVE + MIN_NET ≤ (opening_terms (market_of s) coll borrow).debt
 
@@ -168,8 +169,8 @@ open_leaves s f account coll borrow bound hint k h =
     let conserved = opening_conserves s account coll borrow bound (in_order s f.stands) h (conserved_by s f.stands f.balanced.homes) in
     record {
       stands = placed_stands (record lent { reserve = lent.reserve + RESERVE }) account coll plan.debt k a.absent a.some a.least (reserve_stands lent (lent.reserve + RESERVE) moved);
-      rest = rest_in_place s (opened s account borrow plan) (homes_of _ conserved) f.balanced.coll_limit (omega (arith, a.limit))
-          (ranges_with s (opened s account borrow plan) f.ranges plan.rate (borrowed_in_range s f.ranges borrow) refl refl refl refl refl) refl refl refl refl refl
+      rest = rest_in_place s (opened s account borrow plan) (homes_of _ conserved) f.balanced.coll_limit (omega (arith, a.limit, f.ranges.limit))
+          (ranges_with s (opened s account borrow plan) f.ranges plan.rate (borrowed_in_range s f.ranges borrow) refl refl refl refl refl refl) refl refl refl refl refl
           (λ h. all-put (λ (x : TroveEntry). IsSetSince x.mark) s.troves account (record { coll = coll; debt = plan.debt; stake = stake_for (record lent { reserve = lent.reserve + RESERVE }) coll; mark = After (length s.redistributions) }) tt h);
     }
 
@@ -181,7 +182,7 @@ pub record Allows (s : State) (account coll debt : ℕ) (change : Change) (plan 
   pub coll_out : change.coll_out ≤ coll
   pub repay : change.repay ≤ (wallet_of s account).lusd
   pub repays_part : change.repay ≤ debt
-  pub limit : s.active_debt + s.default_debt + change.borrow + plan.fee ≤ LIM
+  pub limit : s.active_debt + s.default_debt + change.borrow + plan.fee ≤ s.limit
   pub coll_is : plan.coll ≡ coll + change.coll_in - change.coll_out
   pub debt_is : plan.debt ≡ debt + change.borrow + plan.fee - change.repay
   pub some : 1 ≤ plan.coll
@@ -256,8 +257,8 @@ module _ (s : State) (f : Finds s) (account coll debt : ℕ) (change : Change) (
         surplus = c.surplus;
       } in
       subst (λ (o : Option TroveEntry). Rest 0 s (placed (lifted_entry moved account o) account plan.coll plan.debt)) (sym has.there)
-      (rest_in_place s made homes f.balanced.coll_limit (omega (arith, a.limit, has.debt_is, w.debt, w.pending_debt))
-      (ranges_with s made f.ranges plan.rate (borrowed_in_range s f.ranges change.borrow) refl refl refl refl refl) refl refl refl refl refl
+      (rest_in_place s made homes f.balanced.coll_limit (omega (arith, a.limit, f.ranges.limit, has.debt_is, w.debt, w.pending_debt))
+      (ranges_with s made f.ranges plan.rate (borrowed_in_range s f.ranges change.borrow) refl refl refl refl refl refl) refl refl refl refl refl
       (λ n. all-put (λ (x : TroveEntry). IsSetSince x.mark) (without s.troves account) account (record { coll = plan.coll; debt = plan.debt; stake = stake_for moved plan.coll; mark = After (length s.redistributions) }) tt (all-without (λ (x : TroveEntry). IsSetSince x.mark) s.troves account n)))
 
 -- the same, of the account's entire amounts
@@ -311,7 +312,7 @@ module _ (s : State) (f : Finds s) (account coll debt : ℕ) (there : entire_of 
       } in
       let limit = f.balanced.debt_limit in
       subst (λ (o : Option TroveEntry). Rest 0 s (lifted_entry burned account o)) (sym has.there)
-      (rest_in_place s left homes f.balanced.coll_limit (omega (arith, limit)) (same_range s f left refl refl refl refl refl) refl refl refl refl refl
+      (rest_in_place s left homes f.balanced.coll_limit (omega (arith, limit)) (same_range s f left refl refl refl refl refl refl) refl refl refl refl refl
       (λ n. all-without (λ (x : TroveEntry). IsSetSince x.mark) s.troves account n))
 
 pub close_leaves : (s : State) → Finds s → (account : ℕ) → account < ACCOUNTS → first_refusal (close_rules (market_of s) (wallet_of s account) (entire_of s account) account) ≡ None → Leaves 0 s (closed s account (closing_terms (or_nothing (entire_of s account))).0 (closing_terms (or_nothing (entire_of s account))).1)
@@ -361,7 +362,7 @@ module _ (s : State) (f : Finds s) (account coll debt : ℕ) (there : entire_of 
       } in
       subst (λ (o : Option TroveEntry). Rest 0 s (placed (lifted_entry pooled account o) account (coll + gain) debt)) (sym has.there)
       (rest_in_place s made homes f.balanced.coll_limit (omega (arith, limit, has.debt_is, w.debt, w.pending_debt))
-      (same_range s f made refl refl refl refl refl) refl refl refl refl refl
+      (same_range s f made refl refl refl refl refl refl) refl refl refl refl refl
       (λ n. all-put (λ (x : TroveEntry). IsSetSince x.mark) (without s.troves account) account (record { coll = coll + gain; debt = debt; stake = stake_for pooled (coll + gain); mark = After (length s.redistributions) }) tt (all-without (λ (x : TroveEntry). IsSetSince x.mark) s.troves account n)))
 
 pub gain_leaves : (s : State) → Finds s → (account : ℕ) → account < ACCOUNTS → is_none (entire_of s account) ≡ false → Leaves 0 s (set_trove (owned s account 0 0) account ((or_nothing (entire_of s account)).0 + gain_of s account) (or_nothing (entire_of s account)).1)

@@ -15,11 +15,10 @@ use Rattle.liq_types.specs.declared.requests.Call.{Call}
 use Rattle.liq_types.specs.declared.requests.Command.{Command}
 use Rattle.liq_types.specs.declared.requests.Request.{Request}
 use Rattle.liq_types.specs.declared.requests.Request.TheVariants.{Do, Ask}
-use Rattle.liq_types.specs.Image.{Place}
 use Rattle.liq_types.specs.Product.{is_place, place_of, sumat, IsWithinRange, TakesPartUpTo, product_after, rise_of}
 use Rattle.liq_types.specs.Rules.{first_refusal}
 use Rattle.liq_types.specs.State.{State, Mark, AtStart, After, StakeSums, TroveEntry, DepositEntry, Redistribution, opening, wallet_of, surplus_of, no_wallet}
-use Rattle.liq_types.specs.Tables.{Table, at, map_rows}
+use Rattle.liq_types.specs.Tables.{Place, Table, at, map_rows}
 use Rattle.liq_types.specs.Totals.{pool_total}
 use Rattle.liq_types.specs.WellFormed.{IsWellFormed}
 use Rattle.liq_types.proofs.Lookups.{all-at, length-without}

@@ -1,5 +1,5 @@
 -- The verbs that touch no trove leave what stands.
-use Rattle.std.proofs.Common.{◌≡◌, ℕ, ◌+◌, ◌-◌, ◌≤◌, ◌<◌, false, refl, sym, subst, arith, nat_lt, None}
+use Rattle.std.proofs.Common.{◌≡◌, ℕ, ◌+◌, ◌-◌, ◌≤◌, ◌<◌, false, refl, sym, ◌∙◌, subst, arith, nat_lt, None}
 use Rattle.std.specs.Prelude.{◌||◌, min}
 use Rattle.std.proofs.lemmas.Bool.Decides.{nat_tests}
 use Rattle.liq_types.specs.declared.amounts.TheConstants.{ACCOUNTS, LIM, PRICE_LEAST, PRICE_MOST, MINUTE_MOST}
@@ -30,8 +30,8 @@ module _ (s : State) (f : Finds s) where
       let limit = f.balanced.debt_limit in
       rest_in_place s t (homes_of t c) coll (omega (arith, active, default, limit)) r w g n k snap (λ h. subst AreSetSince (sym troves) h)
 
-  pub same_range : (t : State) → t.price ≡ s.price → t.minute ≡ s.minute → t.fee_minute ≡ s.fee_minute → t.base ≡ s.base → t.generation ≡ s.generation → InRange t
-  same_range t price minute fee_minute base generation =
+  pub same_range : (t : State) → t.price ≡ s.price → t.minute ≡ s.minute → t.fee_minute ≡ s.fee_minute → t.base ≡ s.base → t.generation ≡ s.generation → t.limit ≡ s.limit → InRange t
+  same_range t price minute fee_minute base generation limit =
       let r = f.ranges in
       record {
         price_least = omega (arith, price, r.price_least);
@@ -41,6 +41,7 @@ module _ (s : State) (f : Finds s) where
         base = omega (arith, base, r.base);
         first_generation = omega (arith, generation, r.first_generation);
         last_generation = omega (arith, generation, r.last_generation);
+        limit = limit ∙ r.limit;
       }
 
   price_range : (price : ℕ) → first_refusal (rules s (Price price)) ≡ None → (PRICE_LEAST ≤ price) × (price ≤ PRICE_MOST)
@@ -55,7 +56,7 @@ module _ (s : State) (f : Finds s) where
       record {
         stands = words_stand s price s.minute s.brought f.stands;
         rest = plain_rest (Price price) (effect s (Price price)) refl (call_conserves s (Price price) refl f.stands.formed (in_order s f.stands) h (conserved_by s f.stands f.balanced.homes)) f.balanced.coll_limit (omega arith) (omega arith)
-            (record { price_least = within.0; price_most = within.1; minute = r.minute; fee_minute = r.fee_minute; base = r.base; first_generation = r.first_generation; last_generation = r.last_generation }) refl refl refl refl refl refl;
+            (record { price_least = within.0; price_most = within.1; minute = r.minute; fee_minute = r.fee_minute; base = r.base; first_generation = r.first_generation; last_generation = r.last_generation; limit = r.limit }) refl refl refl refl refl refl;
       }
 
   pub advance_leaves : (minutes : ℕ) → first_refusal (rules s (Advance minutes)) ≡ None → Leaves 0 s (effect s (Advance minutes))
@@ -66,15 +67,16 @@ module _ (s : State) (f : Finds s) where
       record {
         stands = words_stand s s.price (s.minute + minutes) s.brought f.stands;
         rest = plain_rest (Advance minutes) (effect s (Advance minutes)) refl (call_conserves s (Advance minutes) refl f.stands.formed (in_order s f.stands) h (conserved_by s f.stands f.balanced.homes)) f.balanced.coll_limit (omega arith) (omega arith)
-            (record { price_least = r.price_least; price_most = r.price_most; minute = within; fee_minute = omega (arith, r.fee_minute); base = r.base; first_generation = r.first_generation; last_generation = r.last_generation }) refl refl refl refl refl refl;
+            (record { price_least = r.price_least; price_most = r.price_most; minute = within; fee_minute = omega (arith, r.fee_minute); base = r.base; first_generation = r.first_generation; last_generation = r.last_generation; limit = r.limit }) refl refl refl refl refl refl;
       }
 
   pub fund_leaves : (account coll : ℕ) → account < ACCOUNTS → first_refusal (rules s (Fund account coll)) ≡ None → Leaves 0 s (effect s (Fund account coll))
   fund_leaves account coll k h =
+      let within = fund_within s account coll h in
       record {
         stands = words_stand (credited s account coll 0) s.price s.minute (s.brought + coll) (paid_stands s account k f.stands coll 0);
-        rest = plain_rest (Fund account coll) (effect s (Fund account coll)) refl (call_conserves s (Fund account coll) refl f.stands.formed (in_order s f.stands) h (conserved_by s f.stands f.balanced.homes)) (fund_within s account coll h) (omega arith) (omega arith)
-            (same_range (effect s (Fund account coll)) refl refl refl refl refl) refl refl refl refl refl refl;
+        rest = plain_rest (Fund account coll) (effect s (Fund account coll)) refl (call_conserves s (Fund account coll) refl f.stands.formed (in_order s f.stands) h (conserved_by s f.stands f.balanced.homes)) (omega (arith, within, f.ranges.limit)) (omega arith) (omega arith)
+            (same_range (effect s (Fund account coll)) refl refl refl refl refl refl) refl refl refl refl refl refl;
       }
 
   pub take_leaves : (account coll : ℕ) → account < ACCOUNTS → first_refusal (rules s (Take account coll)) ≡ None → Leaves 0 s (effect s (Take account coll))
@@ -83,7 +85,7 @@ module _ (s : State) (f : Finds s) where
       record {
         stands = words_stand (charged s account coll 0) s.price s.minute (s.brought - coll) (charged_stands s account k f.stands coll 0);
         rest = plain_rest (Take account coll) (effect s (Take account coll)) refl (call_conserves s (Take account coll) refl f.stands.formed (in_order s f.stands) h (conserved_by s f.stands f.balanced.homes)) (omega (arith, limit)) (omega arith) (omega arith)
-            (same_range (effect s (Take account coll)) refl refl refl refl refl) refl refl refl refl refl refl;
+            (same_range (effect s (Take account coll)) refl refl refl refl refl refl) refl refl refl refl refl refl;
       }
 
   pub send_leaves : (from to lusd : ℕ) → from < ACCOUNTS → to < ACCOUNTS → first_refusal (rules s (Send from to lusd)) ≡ None → Leaves 0 s (effect s (Send from to lusd))
@@ -91,7 +93,7 @@ module _ (s : State) (f : Finds s) where
       record {
         stands = paid_stands (charged s from 0 lusd) to m (charged_stands s from k f.stands 0 lusd) 0 lusd;
         rest = plain_rest (Send from to lusd) (effect s (Send from to lusd)) refl (call_conserves s (Send from to lusd) refl f.stands.formed (in_order s f.stands) h (conserved_by s f.stands f.balanced.homes)) f.balanced.coll_limit (omega arith) (omega arith)
-            (same_range (effect s (Send from to lusd)) refl refl refl refl refl) refl refl refl refl refl refl;
+            (same_range (effect s (Send from to lusd)) refl refl refl refl refl refl) refl refl refl refl refl refl;
       }
 
   pub claim_leaves : (account : ℕ) → account < ACCOUNTS → first_refusal (rules s (Claim account)) ≡ None → Leaves 0 s (effect s (Claim account))
@@ -99,7 +101,7 @@ module _ (s : State) (f : Finds s) where
       record {
         stands = paid_stands (surplus_taken s account) account k (taken_stands s account k f.stands) (surplus_of s account) 0;
         rest = plain_rest (Claim account) (effect s (Claim account)) refl (call_conserves s (Claim account) refl f.stands.formed (in_order s f.stands) h (conserved_by s f.stands f.balanced.homes)) f.balanced.coll_limit (omega arith) (omega arith)
-            (same_range (effect s (Claim account)) refl refl refl refl refl) refl refl refl refl refl refl;
+            (same_range (effect s (Claim account)) refl refl refl refl refl refl) refl refl refl refl refl refl;
       }
 
   -- what is in a wallet and what is in the pool are together within the limit
@@ -119,7 +121,7 @@ module _ (s : State) (f : Finds s) where
       record {
         stands = paid_stands (charged (owned s account lusd 0) account 0 lusd) account k (charged_stands (owned s account lusd 0) account k own 0 lusd) (gain_of s account) 0;
         rest = plain_rest (Provide account lusd) (effect s (Provide account lusd)) refl (call_conserves s (Provide account lusd) refl f.stands.formed (in_order s f.stands) h (conserved_by s f.stands f.balanced.homes)) f.balanced.coll_limit (omega arith) (omega arith)
-            (same_range (effect s (Provide account lusd)) refl refl refl refl refl) refl refl refl refl refl refl;
+            (same_range (effect s (Provide account lusd)) refl refl refl refl refl refl) refl refl refl refl refl refl;
       }
 
   pub withdraw_leaves : (account lusd : ℕ) → account < ACCOUNTS → first_refusal (rules s (Withdraw account lusd)) ≡ None → Leaves 0 s (effect s (Withdraw account lusd))
@@ -131,5 +133,5 @@ module _ (s : State) (f : Finds s) where
       record {
         stands = paid_stands (owned s account 0 out) account k own (gain_of s account) out;
         rest = plain_rest (Withdraw account lusd) (effect s (Withdraw account lusd)) refl (call_conserves s (Withdraw account lusd) refl f.stands.formed (in_order s f.stands) h (conserved_by s f.stands f.balanced.homes)) f.balanced.coll_limit (omega arith) (omega arith)
-            (same_range (effect s (Withdraw account lusd)) refl refl refl refl refl) refl refl refl refl refl refl;
+            (same_range (effect s (Withdraw account lusd)) refl refl refl refl refl refl) refl refl refl refl refl refl;
       }

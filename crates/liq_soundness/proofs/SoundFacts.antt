@@ -143,6 +143,7 @@ pub record InRange (s : State) : Type 0 where
   pub base : s.base ≤ ONE
   pub first_generation : 1 ≤ s.generation
   pub last_generation : s.generation ≤ GENERATIONS_MOST
+  pub limit : s.limit ≡ LIM
 
 -- what a call finds
 pub record Finds (s : State) : Type 0 where

@@ -202,8 +202,8 @@ module _ (s : State) (f : Finds s) (liquidator : ℕ) (k : liquidator < ACCOUNTS
       rewarded_stands (snapped (redistributed left made.spread_coll made.spread_debt)) (snapped_stands (redistributed left made.spread_coll made.spread_debt) some_left shared)
 
   same_ranges : (b : Bool) → InRange (after b)
-  same_ranges true = let r = f.ranges in record { price_least = r.price_least; price_most = r.price_most; minute = r.minute; fee_minute = r.fee_minute; base = r.base; first_generation = r.first_generation; last_generation = r.last_generation }
-  same_ranges false = let r = f.ranges in record { price_least = r.price_least; price_most = r.price_most; minute = r.minute; fee_minute = r.fee_minute; base = r.base; first_generation = r.first_generation; last_generation = r.last_generation }
+  same_ranges true = let r = f.ranges in record { price_least = r.price_least; price_most = r.price_most; minute = r.minute; fee_minute = r.fee_minute; base = r.base; first_generation = r.first_generation; last_generation = r.last_generation; limit = r.limit }
+  same_ranges false = let r = f.ranges in record { price_least = r.price_least; price_most = r.price_most; minute = r.minute; fee_minute = r.fee_minute; base = r.base; first_generation = r.first_generation; last_generation = r.last_generation; limit = r.limit }
 
   after_rest : (b : Bool) → (made.offset_debt == 0) ≡ b → Rest 3 s (after b)
   after_rest true e =

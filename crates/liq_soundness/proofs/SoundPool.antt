@@ -11,10 +11,11 @@ use Rattle.std.specs.declared.cmp.Ordering.TheVariants.{Equal, Greater}
 use Rattle.std.proofs.lemmas.Bool.Decides.{nat_tests}
 use Rattle.liq_types.specs.declared.amounts.TheConstants.{P_OPENING, P_LEAST, OFFSET_MOST, RISES_MOST}
 use Rattle.liq_types.specs.declared.figures.Deposit.{Deposit}
-use Rattle.liq_types.specs.Image.{Image, Place, opening_image}
+use Rattle.liq_types.specs.declared.image.Image.{Image}
+use Rattle.liq_types.specs.Image.{opening_image}
 use Rattle.liq_types.specs.Product.{ScaledProduct, IsWithinRange, TakesPartUpTo, after_offset, place_of, is_place, place_order, sum_growth, start_sum, start_words, sumat}
 use Rattle.liq_types.specs.State.{State, PoolOffset, PoolMark, After, DepositEntry}
-use Rattle.liq_types.specs.Tables.{Table, put, without, map_rows}
+use Rattle.liq_types.specs.Tables.{Place, Table, put, without, map_rows}
 use Rattle.liq_types.specs.Totals.{pool_total}
 use Rattle.liq_types.specs.WellFormed.{IsBefore, IsMoment, IsWellFormed, Ascends}
 use Rattle.liq_types.proofs.Ascending.{none-ascends}

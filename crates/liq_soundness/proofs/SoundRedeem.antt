@@ -13,7 +13,7 @@ use Rattle.liq_types.specs.declared.amounts.TheConstants.{ACCOUNTS, LIM, RESERVE
 use Rattle.liq_types.specs.declared.figures.Client.{Client}
 use Rattle.liq_types.specs.declared.figures.Trove.{Trove}
 use Rattle.liq_types.specs.declared.figures.Wallet.{Wallet}
-use Rattle.liq_types.specs.Image.{Image}
+use Rattle.liq_types.specs.declared.image.Image.{Image}
 use Rattle.liq_types.specs.Payments.{credited, charged, surplus_added}
 use Rattle.liq_types.specs.Product.{ScaledProduct}
 use Rattle.liq_types.specs.Ranked.{Ranked, from_last}
@@ -122,13 +122,14 @@ pub record Untouched : Type 0 where
   pub fee_coll : ℕ
   pub words : ScaledProduct
   pub generation : ℕ
+  pub limit : ℕ
   pub records : ℕ
   pub clients : Table Client
   pub snap : ℕ
 
 abbrev pub untouched : State → Untouched
 untouched t =
-    record { wallets = t.wallets; brought = t.brought; price = t.price; minute = t.minute; fee_coll = t.fee_coll; words = words_of t; generation = t.generation; records = t.records; clients = t.clients; snap = t.snap_coll }
+    record { wallets = t.wallets; brought = t.brought; price = t.price; minute = t.minute; fee_coll = t.fee_coll; words = words_of t; generation = t.generation; limit = t.limit; records = t.records; clients = t.clients; snap = t.snap_coll }
 
 -- the state after the cuts so far, in which so much collateral and LUSD has left its home
 pub record Cutting (s t : State) (coll lusd : ℕ) : Type 0 where
@@ -361,6 +362,7 @@ module _ (s : State) (f : Finds s) (account amount bound : ℕ) (h : first_refus
       let fee_coll : t.fee_coll ≡ s.fee_coll = ap (λ (u : Untouched). u.fee_coll) c.same in
       let words : words_of t ≡ words_of s = ap (λ (u : Untouched). u.words) c.same in
       let generation : t.generation ≡ s.generation = ap (λ (u : Untouched). u.generation) c.same in
+      let limit : t.limit ≡ s.limit = ap (λ (u : Untouched). u.limit) c.same in
       let records : t.records ≡ s.records = ap (λ (u : Untouched). u.records) c.same in
       let clients : t.clients ≡ s.clients = ap (λ (u : Untouched). u.clients) c.same in
       let snap : t.snap_coll ≡ s.snap_coll = ap (λ (u : Untouched). u.snap) c.same in
@@ -374,7 +376,7 @@ module _ (s : State) (f : Finds s) (account amount bound : ℕ) (h : first_refus
       record {
         stands = fees_stand given terms.rate.base terms.rate.minute (s.fee_coll + terms.fee) given.fee_lusd moved;
         rest = rest_in_place s (redeemed_by s account terms) homes (omega (arith, brought, f.balanced.coll_limit)) (omega (arith, c.less, f.balanced.debt_limit))
-            (ranges_with s (redeemed_by s account terms) r terms.rate rate price minute refl refl generation) words generation records clients snap c.marks;
+            (ranges_with s (redeemed_by s account terms) r terms.rate rate price minute refl refl generation limit) words generation records clients snap c.marks;
       }
     where
       fee_below : (drawn fee : ℕ) → nat_le drawn fee ≡ false → fee < drawn

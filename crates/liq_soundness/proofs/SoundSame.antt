@@ -6,7 +6,7 @@ use Rattle.liq_types.specs.declared.amounts.TheConstants.{ACCOUNTS}
 use Rattle.liq_types.specs.declared.figures.Deposit.{Deposit}
 use Rattle.liq_types.specs.declared.figures.Trove.{Trove}
 use Rattle.liq_types.specs.declared.requests.Request.{Request}
-use Rattle.liq_types.specs.Image.{Image}
+use Rattle.liq_types.specs.declared.image.Image.{Image}
 use Rattle.liq_types.specs.PlainLedger.{den_of, gains_paid_to, over_accounts}
 use Rattle.liq_types.specs.Product.{start_sum}
 use Rattle.liq_types.specs.State.{State, DepositEntry, opening}

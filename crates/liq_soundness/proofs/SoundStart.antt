@@ -1,7 +1,9 @@
 -- The opening is sound, and so is a state that begins with a sound image.
 use Rattle.std.proofs.Common.{ℕ, List, [], ◌∷◌, refl, subst, sym}
 use Rattle.std.specs.List.{AllByRecursion}
-use Rattle.liq_types.specs.Image.{Image, Place, opening_image}
+use Rattle.liq_types.specs.declared.image.Image.{Image}
+use Rattle.liq_types.specs.Image.{opening_image}
+use Rattle.liq_types.specs.Tables.{Place}
 use Rattle.liq_types.specs.Soundness.{IsSoundImage}
 use Rattle.liq_types.specs.State.{opening, started}
 use Rattle.liq_types.specs.WellFormed.{AreFinished, IsBefore}

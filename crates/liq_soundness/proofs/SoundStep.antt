@@ -23,7 +23,7 @@ use Rattle.liq_stability.specs.Position.{words_of}
 use Rattle.liq_liquidation.specs.declared.one.One.{One}
 use Rattle.liq_liquidation.specs.One.{one}
 use Rattle.liq_rules.specs.Image.{image}
-use Rattle.liq_rules.specs.Length.{checkpoint_length}
+use Rattle.liq_types.specs.Length.{checkpoint_length}
 use Rattle.liq_rules.specs.Liquidation.{one_values}
 use Rattle.liq_rules.specs.Rules.{rules, effect, values, done_of, six}
 use Rattle.liq_soundness.specs.SoundState.{IsSoundState}
@@ -193,7 +193,7 @@ noted_facts s t c records f client number few scale epoch =
         coll_limit = f.balanced.coll_limit;
         debt_limit = f.balanced.debt_limit;
       };
-      ranges = record { price_least = r.price_least; price_most = r.price_most; minute = r.minute; fee_minute = r.fee_minute; base = r.base; first_generation = r.first_generation; last_generation = r.last_generation };
+      ranges = record { price_least = r.price_least; price_most = r.price_most; minute = r.minute; fee_minute = r.fee_minute; base = r.base; first_generation = r.first_generation; last_generation = r.last_generation; limit = r.limit };
       records = few;
       scale = scale;
       epoch = epoch;
@@ -219,7 +219,7 @@ rotated s h room =
         coll_limit = h.balanced.coll_limit;
         debt_limit = h.balanced.debt_limit;
       };
-      ranges = record { price_least = r.price_least; price_most = r.price_most; minute = r.minute; fee_minute = r.fee_minute; base = r.base; first_generation = omega arith; last_generation = room };
+      ranges = record { price_least = r.price_least; price_most = r.price_most; minute = r.minute; fee_minute = r.fee_minute; base = r.base; first_generation = omega arith; last_generation = room; limit = r.limit };
     }
 
 abbrev noted_as : State → Command → Bool → Call → State

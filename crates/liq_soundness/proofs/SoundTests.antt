@@ -9,10 +9,10 @@ use Rattle.liq_types.specs.declared.figures.Wallet.{Wallet}
 use Rattle.liq_types.specs.declared.figures.Client.{Client}
 use Rattle.liq_types.specs.declared.figures.Trove.{Trove}
 use Rattle.liq_types.specs.declared.figures.Deposit.{Deposit}
-use Rattle.liq_types.specs.Image.{Image, Place}
+use Rattle.liq_types.specs.declared.image.Image.{Image}
 use Rattle.liq_types.specs.Soundness.{has_ranges, has_keys_in_range, is_sound_trove, has_sound_words, is_sound_deposit, is_sound_client, is_before, places_most, HasTables, IsSoundImage, IsClientRow}
 use Rattle.liq_types.specs.State.{State, is_used_wallet}
-use Rattle.liq_types.specs.Tables.{Table}
+use Rattle.liq_types.specs.Tables.{Place, Table}
 use Rattle.liq_types.specs.WellFormed.{stakes_in}
 use Rattle.liq_types.proofs.MapRows.{map-length}
 use Rattle.std.proofs.lemmas.Map.Made.{keys_of-map_values}
@@ -167,6 +167,7 @@ module _ (s : State) (f : IsSoundState s) where
       base = grind (arith, nat_tests, h);
       first_generation = grind (arith, nat_tests, h);
       last_generation = grind (arith, nat_tests, h);
+      limit = grind (arith, nat_tests, h);
     },
     grind (arith, nat_tests, h),
     grind (arith, nat_tests, h),
@@ -240,10 +241,12 @@ module _ (s : State) (f : IsSoundState s) where
   homes_facts : Homes s × (s.active_debt + s.default_debt ≤ LIM)
   homes_facts =
       let reserve = and_parts _ (s.reserve == RESERVE * length (image s).troves) p.lusd in
-      let lusd = and_parts (nat_le (s.active_debt + s.default_debt) LIM) _ reserve.0 in
+      let lusd = and_parts (nat_le (s.active_debt + s.default_debt) s.limit) _ reserve.0 in
+      let most = leb-true (s.active_debt + s.default_debt) s.limit lusd.0 in
+      let limit = (range_facts p.ranges).0.limit in
       let count = map-length (trove_row s) s.troves in
       let kept : s.reserve ≡ RESERVE * length (image s).troves = eqb-true _ _ reserve.1 in
-      (record { coll = eqb-true _ _ p.coll; lusd = eqb-true _ _ lusd.1; reserve = omega (arith, kept, count); surplus = eqb-true _ _ p.surplus }, leb-true _ LIM lusd.0)
+      (record { coll = eqb-true _ _ p.coll; lusd = eqb-true _ _ lusd.1; reserve = omega (arith, kept, count); surplus = eqb-true _ _ p.surplus }, omega (arith, most, limit))
 
   pub sound_facts : SoundFacts s
   sound_facts =
@@ -274,9 +277,10 @@ module _ (s : State) (f : SoundFacts s) where
       let places = places_most s.generation s.records in
       record {
         ranges =
-            and_from _ _ (and_from _ _ (and_from _ _ (and_from _ _ (and_from _ _ (and_from _ _ (and_from _ _ (and_from _ _
+            and_from _ _ (and_from _ _ (and_from _ _ (and_from _ _ (and_from _ _ (and_from _ _ (and_from _ _ (and_from _ _ (and_from _ _
             (le-leb PRICE_LEAST s.price r.price_least) (le-leb s.price PRICE_MOST r.price_most)) (le-leb s.minute MINUTE_MOST r.minute)) (le-leb s.fee_minute s.minute r.fee_minute)) (le-leb s.base ONE r.base))
-            (le-leb 1 s.generation r.first_generation)) (le-leb s.generation GENERATIONS_MOST r.last_generation)) (le-leb s.records RECORDS_MOST f.records)) (le-leb s.brought LIM f.balanced.coll_limit);
+            (le-leb 1 s.generation r.first_generation)) (le-leb s.generation GENERATIONS_MOST r.last_generation)) (le-leb s.records RECORDS_MOST f.records)) (eq-eqb s.limit LIM r.limit))
+            (le-leb s.brought s.limit (omega (arith, f.balanced.coll_limit, r.limit)));
         accounts =
             and_from _ _ (and_from _ _ (and_from _ _ (and_from _ _ (pass_keys s.wallets h.wallets.keys)
             (pass_keys i.troves (subst (λ (keys : List ℕ). AllByRecursion (λ key. key < ACCOUNTS) keys) (sym (keys_of-map_values (trove_row s) s.troves)) h.trove_keys)))
@@ -284,7 +288,7 @@ module _ (s : State) (f : SoundFacts s) where
             (pass_keys i.deposits (subst (λ (keys : List ℕ). AllByRecursion (λ key. key < ACCOUNTS) keys) (sym (keys_of-map_values (deposit_row s) s.deposits)) h.deposit_keys)))
             (pass_keys s.clients h.clients.keys);
         coll = eq-eqb _ _ c.coll;
-        lusd = and_from _ _ (and_from _ _ (le-leb _ LIM f.balanced.debt_limit) (eq-eqb _ _ c.lusd)) (eq-eqb s.reserve (RESERVE * length i.troves) (omega (arith, c.reserve, count)));
+        lusd = and_from _ _ (and_from _ _ (le-leb _ s.limit (omega (arith, f.balanced.debt_limit, r.limit))) (eq-eqb _ _ c.lusd)) (eq-eqb s.reserve (RESERVE * length i.troves) (omega (arith, c.reserve, count)));
         surplus = eq-eqb _ _ c.surplus;
         troves = and_from _ _ (and_from _ _ (pass_rows (is_sound_trove i.sum_coll i.sum_debt) (TroveStands i.sum_coll i.sum_debt) (true_trove i.sum_coll i.sum_debt) i.troves t.each) (le-leb i.sum_coll SUM_MOST t.sum_coll)) (le-leb i.sum_debt SUM_MOST t.sum_debt);
         added =

@@ -6,11 +6,10 @@ use Rattle.std.specs.Map.{values_of}
 use Rattle.liq_types.specs.declared.amounts.TheConstants.{ONE, LIM, CAP_WORTH, OFFSET_MOST, P_OPENING, P_LEAST}
 use Rattle.liq_types.specs.declared.amounts.TheConstants.{SUM_MOST, RESERVE, MIN_NET}
 use Rattle.liq_types.specs.declared.figures.Wallet.{Wallet}
-use Rattle.liq_types.specs.Image.{Place}
 use Rattle.liq_types.specs.Product.{IsWithinRange, place_of, sumat}
 use Rattle.liq_types.specs.Soundness.{IsSoundImage, places_most}
 use Rattle.liq_types.specs.State.{State, Mark, AtStart, After, StakeSums, TroveEntry, DepositEntry, PoolOffset}
-use Rattle.liq_types.specs.Tables.{Table}
+use Rattle.liq_types.specs.Tables.{Place, Table}
 use Rattle.liq_types.specs.Totals.{total_coll, total_debt, pool_total, pool_coll, stakes_of}
 use Rattle.liq_types.specs.WellFormed.{IsWellFormed, TablesAscend}
 use Rattle.liq_troves.specs.Standing.{HadStakes, TrovesStand, books_of}
