@@ -239,6 +239,7 @@ const MARKET: Market = Market {
     minute: 720,
     base: ONE,
     fee_minute: 0,
+    limit: LIM,
     total_coll: ALL,
     total_debt: 8_440_000_000,
     troves: 2,

@@ -2,6 +2,7 @@
 
 use crate::tests::agreement::same;
 use liq_borrow::plan_close;
+use liq_types::amounts::LIM;
 use liq_types::{Market, Refusal, Wallet};
 
 /// The second of two troves, with 300 percent.
@@ -66,6 +67,7 @@ fn closes(rt: HostRuntime) {
             minute: 0,
             base: 0,
             fee_minute: 0,
+            limit: LIM,
             total_coll: *total_coll,
             total_debt: 8_440_000_000,
             troves: *troves,
