@@ -1,5 +1,5 @@
 -- Keys with room: those at which a map has a row, used or not.
-use Rattle.std.proofs.Common.{◌≡◌, ℕ, Bool, true, false, cond, [], ◌∷◌, refl, ap, sym, subst, ◌∙◌, Some, None, Option, arith, List, Bor}
+use Rattle.std.proofs.Common.{◌≡◌, ℕ, Bool, true, false, cond, [], ◌∷◌, refl, ap, sym, subst, ◌∙◌, ◌≤◌, Some, None, Option, arith, List, Bor}
 use Rattle.std.specs.Prelude.{◌==◌, IsSome}
 use Rattle.std.specs.Option.{is_some, option_copied}
 use Rattle.std.specs.BTreeMap.{is_at}
@@ -16,9 +16,12 @@ use Rattle.std.proofs.lemmas.Map.Entries.{option_filter, none_below_head}
 use Rattle.std.proofs.lemmas.Map.Keys.{sorted_tail}
 use Rattle.std.proofs.lemmas.Map.Views.{Contains-keys_from_lookup, IsSome-lookup_from_Contains}
 use Rattle.liq_types.proofs.Lookups.{at-put_same, at-put_other, same_key}
-use Rattle.liq_types.proofs.UsedRows.{at-rows, rows-put}
+use Rattle.liq_types.proofs.UsedRows.{at-rows, rows-put, rows-ascends}
 use Rattle.liq_types.specs.Tables.{Table, at, put, without, rows}
+use Rattle.liq_types.specs.WellFormed.{Ascends}
+use Rattle.liq_tables.specs.Pages.{listed}
 use Rattle.liq_tables.specs.WithRoom.{written}
+use Rattle.liq_tables.proofs.Listed.{listed_whole}
 use Rattle.liq_types.proofs.Tests.{some}
 
 module _ {X : Type 0} where
@@ -91,3 +94,9 @@ module _ {X : Type 0} where
   pub replaced-keys : (table after : Table X) (key : ℕ) (x y : X) → IsStrictlySortedBy nat_cmp (keys_of table) → after ≡ cond (is_some (at table key)) (put table key x) table → at table key ≡ Some y → keys_of after ≡ keys_of table
   replaced-keys table after key x y s h there =
       ap (λ (t : Table X). keys_of t) (replaced-put table after key x y h there) ∙ keys-put table key x s (some (at table key) y there)
+
+  -- all that is seen is found below a key that is above those of all rows
+  pub all_seen : (used : X → Bool) (table seen : Table X) (end : ℕ) → rows used table ≡ seen → Ascends table → ((key : ℕ) → end ≤ key → at table key ≡ None) → listed (at seen) 0 end ≡ seen
+  all_seen used table seen end view s above =
+      listed_whole seen end (subst Ascends view (rows-ascends used table s))
+      (λ key past. ap (λ (t : Table X). at t key) (sym view) ∙ read used table key None s (above key past))

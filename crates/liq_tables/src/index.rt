@@ -1,6 +1,6 @@
 //! Rows by key.
 
-ghost use Rattle.std.specs.Prelude.{◌≡◌, [], None, IsSome, OnOk, OnErr, option_copied, is_some, if◌then◌else◌};
+ghost use Rattle.std.specs.Prelude.{◌≡◌, ◌≤◌, ◌^◌, ℕ, [], None, IsSome, OnOk, OnErr, option_copied, is_some, if◌then◌else◌};
 ghost use Rattle.liq_types.specs.Tables.{at, put};
 ghost use Rattle.liq_types.specs.WellFormed.{Ascends};
 
@@ -36,6 +36,15 @@ impl<X: Copy> Index<X> {
             places: Places::new(alloc),
             rows: Vec::new(alloc),
         }
+    }
+
+    /// A number above the keys of all rows.
+    pub(crate) fn end(&self) -> u64
+        ensures above { (key : ℕ) → result ≤ key → at self.now key ≡ None }
+        ensures few { result ≤ 2 ^ 32 }
+        ensures ascend { Ascends self.now }
+    {
+        self.places.end()
     }
 
     /// The row at a key, if there is one.

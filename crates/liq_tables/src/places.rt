@@ -1,6 +1,6 @@
 //! Where the row of each key stands.
 
-ghost use Rattle.std.specs.Prelude.{◌≡◌, ◌≢◌, ◌≤◌, ◌<◌, ℕ, [], OnOk, OnErr, length, get_or, set};
+ghost use Rattle.std.specs.Prelude.{◌≡◌, ◌≢◌, ◌≤◌, ◌<◌, ◌*◌, ◌^◌, ℕ, [], OnOk, OnErr, length, get_or, set};
 ghost use Rattle.liq_tables.specs.Pages.{place, HasPage};
 
 use liq_types::NoMemory;
@@ -13,6 +13,9 @@ pub(crate) const NONE: u32 = 4_294_967_295;
 /// The keys of a page.
 pub(crate) const KEYS: u32 = 1_024;
 
+/// The most pages that there are: each key has one.
+pub(crate) const PAGES: usize = 4_194_304;
+
 /// A number for each key, in pages of [`KEYS`] keys. A page is made where the first of its keys gets a number.
 #[derive(Drop)]
 pub(crate) struct Places {
@@ -20,11 +23,14 @@ pub(crate) struct Places {
 }
 
 impl Model for Places {
-    ghost use Rattle.std.specs.Prelude.{ℕ, List, map};
+    ghost use Rattle.std.specs.Prelude.{ℕ, List, map, ◌≤◌};
+    ghost use Rattle.liq_tables.specs.declared.places.TheConstants.{PAGES};
 
     ghost Value = { List (List ℕ) };
 
     ghost view = { λ p. map (λ page. page.items) p.pages.items };
+
+    ghost invariant = { λ p. p.pages.len ≤ PAGES };
 }
 
 impl Places {
@@ -35,6 +41,14 @@ impl Places {
         Places {
             pages: Vec::new(alloc),
         }
+    }
+
+    /// A number above all keys that have a page.
+    pub(crate) fn end(&self) -> u64
+        ensures end { result ≡ KEYS * length self.now }
+        ensures few { result ≤ 2 ^ 32 }
+    {
+        u64::from(KEYS) * self.pages.len() as u64
     }
 
     /// The number at a key.
@@ -62,6 +76,7 @@ impl Places {
 
     /// Makes pages up to one with this index, which may have no places yet. All numbers stay.
     fn reach(&mut self, index: usize) -> Result<(), NoMemory>
+        requires few { index < PAGES }
         ensures kept { (k : ℕ) → place self.new k ≡ place self.old k }
         ensures there { OnOk result (index < length self.new) }
     {

@@ -1,6 +1,6 @@
 //! A table with room.
 
-ghost use Rattle.std.specs.Prelude.{◌≡◌, [], true, IsOk, IfOk, OnOk, OnErr, OnSome, option_copied};
+ghost use Rattle.std.specs.Prelude.{◌≡◌, [], true, IsOk, IfOk, OnOk, OnErr, OnSome, option_copied, length};
 ghost use Rattle.liq_types.specs.Tables.{at, rows, without};
 ghost use Rattle.liq_types.specs.WellFormed.{Ascends};
 ghost use Rattle.liq_tables.specs.WithRoom.{HasRoom, KeepsRoom, written};
@@ -53,6 +53,32 @@ impl<X: Row> Reserved<X> {
             table.write(row.0, row.1);
         }
         Ok(table)
+    }
+
+    /// The rows, in ascending keys.
+    pub fn rows(&self, alloc: Global) -> Result<Vec<(u32, X)>, NoMemory>
+        ensures { IfOk result (λ found. found.items ≡ self.now.rows) }
+    {
+        let mut found = Vec::new(alloc);
+        for key in 0..self.index.end() {
+            if let Some(row) = self.get(key as u32) {
+                let Ok(()) = found.push((key as u32, *row)) else {
+                    return Err(NoMemory);
+                };
+            }
+        }
+        Ok(found)
+    }
+
+    /// How many rows there are.
+    pub fn count(&self) -> u64
+        ensures { result ≡ length self.now.rows }
+    {
+        let mut count = 0;
+        for key in 0..self.index.end() {
+            count += u64::from(self.get(key as u32).is_some());
+        }
+        count
     }
 
     /// The row at a key, if there is one. Where it is, there is room.

@@ -1,0 +1,7 @@
+use Rattle.std.proofs.Common.{◌≡◌}
+use Rattle.liq_types.specs.Tables.{at}
+use Rattle.liq_tables.specs.Pages.{listed}
+use Rattle.liq_tables.proofs.reserved.Reserved.rows.Given as goal
+
+abbrev pub invariant-loop-key : goal.invariant-loop-key
+invariant-loop-key g l = l.found.items ≡ listed (at l.fn.self.rows) 0 l.key
