@@ -1,14 +1,14 @@
 //! What owners may claim.
 
-ghost use Rattle.std.specs.Prelude.{◌≡◌, ◌≤◌, ◌+◌, [], IsOk, OnOk};
+ghost use Rattle.std.specs.Prelude.{◌≡◌, ◌≤◌, ◌+◌, [], IsOk, IfOk, OnOk, length};
 ghost use Rattle.std.specs.List.{All};
 ghost use Rattle.liq_types.specs.Payments.{surplus_added_in, surplus_taken_in};
 ghost use Rattle.liq_types.specs.State.{surplus_in};
 ghost use Rattle.liq_tables.specs.WithRoom.{HasRoom, KeepsRoom};
 
 use liq_tables::Reserved;
-use liq_types::NoMemory;
 use liq_types::amounts::LIM;
+use liq_types::{NoMemory, SurplusRow, SurplusRows};
 use std::alloc::Global;
 use std::marker::Model;
 
@@ -35,6 +35,25 @@ impl Surplus {
         Surplus {
             table: Reserved::new(alloc),
         }
+    }
+
+    /// What may be claimed, in ascending accounts.
+    pub fn rows(&self, alloc: Global) -> Result<SurplusRows, NoMemory>
+        ensures { IfOk result (λ rows. rows ≡ self.now.rows) }
+    {
+        let surplus = self.table.rows(alloc)?;
+        let mut rows = SurplusRows::new(alloc);
+        for &(account, coll) in &surplus {
+            rows.push(SurplusRow { account, coll })?;
+        }
+        Ok(rows)
+    }
+
+    /// How many accounts may claim anything.
+    pub fn count(&self) -> u64
+        ensures { result ≡ length self.now.rows }
+    {
+        self.table.count()
     }
 
     /// Makes room for these accounts. What may be claimed stays, also where there is no memory, and so does all room that

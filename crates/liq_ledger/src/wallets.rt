@@ -1,6 +1,6 @@
 //! The wallets of all accounts.
 
-ghost use Rattle.std.specs.Prelude.{◌≡◌, ◌≤◌, ◌+◌, [], true, IsOk, OnOk, OnErr, IsTrue};
+ghost use Rattle.std.specs.Prelude.{◌≡◌, ◌≤◌, ◌+◌, [], true, IsOk, IfOk, OnOk, OnErr, IsTrue, length};
 ghost use Rattle.liq_types.specs.Payments.{credited_in, charged_in};
 ghost use Rattle.liq_types.specs.State.{is_used_wallet, wallet_in};
 ghost use Rattle.liq_types.specs.WellFormed.{Ascends};
@@ -9,7 +9,7 @@ ghost use Rattle.liq_ledger.specs.Refusals.{funding, charging, ruled};
 
 use liq_tables::Reserved;
 use liq_types::amounts::LIM;
-use liq_types::{NoMemory, Refusal, Wallet};
+use liq_types::{NoMemory, Refusal, Wallet, WalletRow, WalletRows};
 use std::alloc::Global;
 use std::marker::Model;
 
@@ -36,6 +36,29 @@ impl Wallets {
         Wallets {
             table: Reserved::new(alloc),
         }
+    }
+
+    /// The wallets that hold anything, in ascending accounts.
+    pub fn rows(&self, alloc: Global) -> Result<WalletRows, NoMemory>
+        ensures { IfOk result (λ rows. rows ≡ self.now.rows) }
+    {
+        let wallets = self.table.rows(alloc)?;
+        let mut rows = WalletRows::new(alloc);
+        for &(account, Wallet { coll, lusd }) in &wallets {
+            rows.push(WalletRow {
+                account,
+                coll,
+                lusd,
+            })?;
+        }
+        Ok(rows)
+    }
+
+    /// How many wallets hold anything.
+    pub fn count(&self) -> u64
+        ensures { result ≡ length self.now.rows }
+    {
+        self.table.count()
     }
 
     /// Makes room for an account's wallet. What the accounts have stays, and so does all room that there was. Where there is
