@@ -12,7 +12,7 @@ use crate::amounts::{raised, stake_for};
 use crate::sums::Sums;
 use liq_tables::Reserved;
 use liq_types::amounts::{LIM, SUM_MOST};
-use liq_types::{NoMemory, Refusal, Trove};
+use liq_types::{NoMemory, Refusal, Trove, TroveRow, TroveRows};
 use std::alloc::Global;
 use std::marker::Model;
 
@@ -80,6 +80,25 @@ impl Troves {
         ensures { result ≡ length self.now.table.rows }
     {
         self.count
+    }
+
+    /// The troves, in ascending accounts.
+    pub fn rows(&self, alloc: Global) -> Result<TroveRows, NoMemory>
+        ensures { IfOk result (λ rows. rows ≡ self.now.table.rows) }
+    {
+        let troves = self.table.rows(alloc)?;
+        let mut rows = TroveRows::new(alloc);
+        for &(account, trove) in &troves {
+            rows.push(TroveRow {
+                account,
+                coll: trove.coll,
+                debt: trove.debt,
+                stake: trove.stake,
+                mark_coll: trove.mark_coll,
+                mark_debt: trove.mark_debt,
+            })?;
+        }
+        Ok(rows)
     }
 
     /// The sums, which are within their limit, and the stakes of all troves.
