@@ -1,6 +1,6 @@
 //! The Stability Pool of all depositors.
 
-ghost use Rattle.std.specs.Prelude.{◌≡◌, ◌+◌, ◌-◌, ◌*◌, ◌^◌, ◌≤◌, ◌<◌, [], ◌∷◌, map, IsTrue, IfSome, IfOk, IsOk, OnOk, OnErr, OnSome, slice_get, option_copied, option_map, unwrap_or, vec_len, vec_capacity};
+ghost use Rattle.std.specs.Prelude.{◌≡◌, ◌+◌, ◌-◌, ◌*◌, ◌^◌, ◌≤◌, ◌<◌, [], ◌∷◌, map, IsTrue, IfSome, IfOk, IsOk, OnOk, OnErr, OnSome, slice_get, option_copied, option_map, unwrap_or, vec_len, vec_capacity, length};
 ghost use Rattle.std.specs.List.{AllByRecursion};
 ghost use Rattle.std.specs.List.Sorted.{IsStrictlySortedBy};
 ghost use Rattle.std.specs.Map.{keys_of, lookup};
@@ -20,7 +20,7 @@ use crate::positions::position;
 use crate::words::PoolWords;
 use liq_tables::Reserved;
 use liq_types::amounts::{LIM, OFFSET_MOST, P_OPENING};
-use liq_types::{Deposit, FinishedSum, NoMemory, Refusal};
+use liq_types::{Deposit, DepositRow, DepositRows, FinishedRows, FinishedSum, NoMemory, Refusal};
 use std::alloc::Global;
 use std::marker::Model;
 
@@ -191,6 +191,50 @@ impl Stability {
         let (words, finished) = offset_words(&self.words, debt, coll);
         self.words = words;
         keep(&mut self.finished, finished);
+    }
+
+    /// The finished sums, in ascending places.
+    pub fn finished_sums(&self, alloc: Global) -> Result<FinishedRows, NoMemory>
+        ensures { IfOk result (λ rows. rows ≡ self.now.finished) }
+    {
+        let mut rows = FinishedRows::new(alloc);
+        for sum in &self.finished {
+            rows.push(*sum)?;
+        }
+        Ok(rows)
+    }
+
+    /// How many sums are finished.
+    pub fn finished_count(&self) -> u64
+        ensures { result ≡ length self.now.finished }
+    {
+        self.finished.len() as u64
+    }
+
+    /// The deposits, in ascending accounts.
+    pub fn rows(&self, alloc: Global) -> Result<DepositRows, NoMemory>
+        ensures { IfOk result (λ rows. rows ≡ self.now.deposits.rows) }
+    {
+        let deposits = self.deposits.rows(alloc)?;
+        let mut rows = DepositRows::new(alloc);
+        for &(account, deposit) in &deposits {
+            rows.push(DepositRow {
+                account,
+                amount: deposit.amount,
+                p: deposit.p,
+                sum: deposit.sum,
+                scale: deposit.scale,
+                epoch: deposit.epoch,
+            })?;
+        }
+        Ok(rows)
+    }
+
+    /// How many accounts have a deposit.
+    pub fn count(&self) -> u64
+        ensures { result ≡ length self.now.deposits.rows }
+    {
+        self.deposits.count()
     }
 
     /// The finished sum at an index, from 0, in ascending places: `None` exactly past the last.
