@@ -4,6 +4,9 @@ ghost use Rattle.std.specs.Prelude.{◌≡◌, ◌≤◌, ◌+◌, [], IsOk, IfO
 ghost use Rattle.std.specs.List.{All};
 ghost use Rattle.liq_types.specs.Payments.{surplus_added_in, surplus_taken_in};
 ghost use Rattle.liq_types.specs.State.{surplus_in};
+ghost use Rattle.liq_types.specs.Tables.{rows};
+ghost use Rattle.liq_types.specs.WellFormed.{Ascends};
+ghost use Rattle.liq_tables.specs.Rows.{is_used_amount};
 ghost use Rattle.liq_tables.specs.WithRoom.{HasRoom, KeepsRoom};
 
 use liq_tables::Reserved;
@@ -35,6 +38,15 @@ impl Surplus {
         Surplus {
             table: Reserved::new(alloc),
         }
+    }
+
+    /// Just these amounts, in ascending accounts. Nothing is none.
+    pub fn from_rows(alloc: Global, amounts: Vec<(u32, u64)>) -> Result<Surplus, NoMemory>
+        requires { Ascends amounts.items }
+        ensures { IfOk result (λ made. made.rows ≡ rows is_used_amount amounts.items) }
+    {
+        let table = Reserved::filled(alloc, &amounts)?;
+        Ok(Surplus { table })
     }
 
     /// What may be claimed, in ascending accounts.

@@ -3,6 +3,7 @@
 ghost use Rattle.std.specs.Prelude.{◌≡◌, ◌≤◌, ◌+◌, [], true, IsOk, IfOk, OnOk, OnErr, IsTrue, length};
 ghost use Rattle.liq_types.specs.Payments.{credited_in, charged_in};
 ghost use Rattle.liq_types.specs.State.{is_used_wallet, wallet_in};
+ghost use Rattle.liq_types.specs.Tables.{rows};
 ghost use Rattle.liq_types.specs.WellFormed.{Ascends};
 ghost use Rattle.liq_tables.specs.WithRoom.{HasRoom, KeepsRoom};
 ghost use Rattle.liq_ledger.specs.Refusals.{funding, charging, ruled};
@@ -36,6 +37,15 @@ impl Wallets {
         Wallets {
             table: Reserved::new(alloc),
         }
+    }
+
+    /// Just these wallets, in ascending accounts. One of nothing is none.
+    pub fn from_rows(alloc: Global, wallets: Vec<(u32, Wallet)>) -> Result<Wallets, NoMemory>
+        requires { Ascends wallets.items }
+        ensures { IfOk result (λ made. made.rows ≡ rows is_used_wallet wallets.items) }
+    {
+        let table = Reserved::filled(alloc, &wallets)?;
+        Ok(Wallets { table })
     }
 
     /// The wallets that hold anything, in ascending accounts.
