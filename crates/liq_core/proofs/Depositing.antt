@@ -8,14 +8,14 @@ use Rattle.liq_types.specs.declared.figures.Wallet.{Wallet}
 use Rattle.liq_types.specs.declared.hints.HintWords.{HintWords}
 use Rattle.liq_types.specs.declared.requests.Call.{Call}
 use Rattle.liq_types.specs.declared.requests.Call.TheVariants.{Provide, Withdraw, GainToTrove, Claim}
-use Rattle.liq_types.specs.Image.{Image, Place}
+use Rattle.liq_types.specs.declared.image.Image.{Image}
 use Rattle.liq_types.specs.Payments.{credited_in, charged_in, surplus_taken_in}
 use Rattle.liq_types.specs.declared.replies.Refusal.{Refusal}
 use Rattle.liq_types.specs.declared.replies.Refusal.TheVariants.{NoDeposit}
 use Rattle.liq_types.specs.Rules.{first_refusal, outcome}
 use Rattle.liq_types.proofs.MapRows.{at-map}
 use Rattle.liq_types.specs.State.{State, wallet_in, wallet_of, surplus_in}
-use Rattle.liq_types.specs.Tables.{Table, at}
+use Rattle.liq_types.specs.Tables.{Place, Table, at}
 use Rattle.liq_types.specs.Totals.{market_of, or_nothing}
 use Rattle.liq_tables.specs.WithRoom.{WithRoom}
 use Rattle.liq_ledger.specs.declared.pools.Pools.{Pools}

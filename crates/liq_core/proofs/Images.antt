@@ -1,9 +1,9 @@
 -- Images by their parts: what an image has of a part, and an image with another one.
 use Rattle.std.specs.Prelude.{ℕ, List}
 use Rattle.liq_types.specs.declared.figures.Deposit.{Deposit}
-use Rattle.liq_types.specs.Image.{Image, Place}
+use Rattle.liq_types.specs.declared.image.Image.{Image}
 use Rattle.liq_types.specs.State.{started}
-use Rattle.liq_types.specs.Tables.{Table}
+use Rattle.liq_types.specs.Tables.{Place, Table}
 use Rattle.liq_ledger.specs.declared.pools.Pools.{Pools}
 use Rattle.liq_troves.specs.declared.sums.Sums.{Sums}
 use Rattle.liq_standing.specs.Books.{pools_of}

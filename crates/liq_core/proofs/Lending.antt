@@ -10,7 +10,7 @@ use Rattle.liq_types.specs.declared.figures.Wallet.{Wallet}
 use Rattle.liq_types.specs.declared.hints.HintWords.{HintWords}
 use Rattle.liq_types.specs.declared.requests.Call.{Call}
 use Rattle.liq_types.specs.declared.requests.Call.TheVariants.{Open, Adjust, Close}
-use Rattle.liq_types.specs.Image.{Image}
+use Rattle.liq_types.specs.declared.image.Image.{Image}
 use Rattle.liq_types.specs.Payments.{credited, charged, credited_in, charged_in}
 use Rattle.liq_types.specs.Rules.{first_refusal}
 use Rattle.liq_types.specs.Soundness.{coll_homes, lusd_homes}

@@ -12,13 +12,13 @@ use Rattle.liq_types.specs.declared.replies.Refusal.{Refusal}
 use Rattle.liq_types.specs.declared.requests.Call.{Call}
 use Rattle.liq_types.specs.declared.requests.Call.TheVariants.{Liquidate, LiquidateLowest}
 use Rattle.liq_types.specs.declared.requests.Command.{Command}
-use Rattle.liq_types.specs.Image.{Image, Place}
+use Rattle.liq_types.specs.declared.image.Image.{Image}
 use Rattle.liq_types.specs.Payments.{surplus_added}
 use Rattle.liq_types.specs.Product.{finished_sums}
 use Rattle.liq_types.specs.Rules.{first_refusal}
 use Rattle.liq_types.specs.Soundness.{IsSoundImage}
 use Rattle.liq_types.specs.State.{State, TroveEntry, is_used_client}
-use Rattle.liq_types.specs.Tables.{Table, at, put}
+use Rattle.liq_types.specs.Tables.{Place, Table, at, put}
 use Rattle.liq_tables.specs.WithRoom.{WithRoom, written}
 use Rattle.liq_ledger.specs.declared.pools.Pools.{Pools}
 use Rattle.liq_troves.specs.declared.sums.Sums.{Sums}

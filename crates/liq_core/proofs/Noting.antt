@@ -6,7 +6,7 @@ use Rattle.liq_types.specs.declared.amounts.TheConstants.{ACCOUNTS, RECORDS_MOST
 use Rattle.liq_types.specs.declared.figures.Client.{Client}
 use Rattle.liq_types.specs.declared.replies.Done.{Done}
 use Rattle.liq_types.specs.declared.requests.Command.{Command}
-use Rattle.liq_types.specs.Image.{Image}
+use Rattle.liq_types.specs.declared.image.Image.{Image}
 use Rattle.liq_types.specs.Soundness.{IsSoundImage}
 use Rattle.liq_types.specs.State.{State, is_used_client}
 use Rattle.liq_types.specs.Tables.{Table, put, without}

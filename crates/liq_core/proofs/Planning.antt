@@ -10,7 +10,7 @@ use Rattle.liq_types.specs.declared.requests.Call.TheVariants.{Liquidate, Liquid
 use Rattle.liq_types.specs.Rules.{first_refusal, outcome, where_above}
 use Rattle.liq_types.specs.declared.figures.Market.{Market}
 use Rattle.liq_types.specs.declared.figures.Trove.{Trove}
-use Rattle.liq_types.specs.Image.{Image}
+use Rattle.liq_types.specs.declared.image.Image.{Image}
 use Rattle.liq_types.specs.State.{State}
 use Rattle.liq_types.specs.Tables.{Table, at}
 use Rattle.liq_types.specs.Totals.{market_of, pool_total}

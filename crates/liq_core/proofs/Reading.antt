@@ -10,7 +10,7 @@ use Rattle.liq_types.specs.declared.events.ListChange.TheVariants.{Put}
 use Rattle.liq_types.specs.declared.figures.Trove.{Trove}
 use Rattle.liq_types.specs.declared.figures.Wallet.{Wallet}
 use Rattle.liq_types.specs.declared.replies.Refusal.{Refusal}
-use Rattle.liq_types.specs.Image.{Image}
+use Rattle.liq_types.specs.declared.image.Image.{Image}
 use Rattle.liq_types.specs.Rules.{Rule, first_refusal, outcome}
 use Rattle.liq_types.specs.Soundness.{IsSoundImage}
 use Rattle.liq_types.specs.State.{State, TroveEntry, After, wallet_of}

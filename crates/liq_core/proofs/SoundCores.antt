@@ -13,11 +13,12 @@ use Rattle.liq_types.specs.declared.figures.Deposit.{Deposit}
 use Rattle.liq_types.specs.declared.figures.Trove.{Trove}
 use Rattle.liq_types.specs.declared.figures.Wallet.{Wallet}
 use Rattle.liq_types.specs.declared.requests.Call.{Call}
-use Rattle.liq_types.specs.Image.{Image, opening_image, Place}
+use Rattle.liq_types.specs.declared.image.Image.{Image}
+use Rattle.liq_types.specs.Image.{opening_image}
 use Rattle.liq_types.specs.Payments.{charged_in}
 use Rattle.liq_types.specs.Soundness.{IsSoundImage, HasTables, is_before}
 use Rattle.liq_types.specs.State.{State, wallet_in}
-use Rattle.liq_types.specs.Tables.{Table, at}
+use Rattle.liq_types.specs.Tables.{Place, Table, at}
 use Rattle.liq_types.specs.WellFormed.{IsBefore}
 use Rattle.liq_order.specs.Order.{order_by}
 use Rattle.liq_troves.specs.declared.sums.Sums.{Sums}
@@ -118,6 +119,9 @@ module _ (core : Core) (h : IsSoundImage core.image core.records) where
       let part = sum_by-remove_entry (λ (w : Wallet). w.coll) (is_at (nat_cmp account)) table in
       let had = read_or (λ (w : Wallet). w.coll) refl (at table account) in
       omega (arith, home, part, had)
+
+  pub limit_is : core.image.limit ≡ LIM
+  limit_is = core_facts.ranges.limit
 
   pub brought_within : core.image.brought ≤ LIM
   brought_within = core_facts.balanced.coll_limit

@@ -15,6 +15,7 @@ core_of p =
         base = p.rate.base;
         fee_minute = p.rate.minute;
         generation = p.generation;
+        limit = p.limit;
         brought = p.brought;
         active_coll = p.pools.active_coll;
         active_debt = p.pools.active_debt;

@@ -27,7 +27,7 @@ use liq_redemption::RedeemPlan;
 use liq_stability::{PoolWords, Stability};
 use liq_tables::Reserved;
 use liq_troves::Troves;
-use liq_types::amounts::{ACCOUNTS, PRICE_OPENING, RECORDS_MOST};
+use liq_types::amounts::{ACCOUNTS, LIM, PRICE_OPENING, RECORDS_MOST};
 use liq_types::{
     Call, Client, Command, Done, Hint, HintWords, NoMemory, Query, Refusal, Reply, Request, Steps,
 };
@@ -43,6 +43,8 @@ pub struct Protocol {
     pub(crate) minute: u64,
     pub(crate) rate: Rate,
     pub(crate) generation: u64,
+    /// The most collateral that may be inside, and the most LUSD.
+    pub(crate) limit: u64,
     pub(crate) records: u64,
     pub(crate) brought: u64,
     pub(crate) pools: Pools,
@@ -63,6 +65,7 @@ impl Drop for Protocol {
             minute: _,
             rate: _,
             generation: _,
+            limit: _,
             records: _,
             brought: _,
             pools: _,
@@ -123,6 +126,7 @@ impl Protocol {
             minute: 0,
             rate: Rate { base: 0, minute: 0 },
             generation: 1,
+            limit: LIM,
             records: 0,
             brought: 0,
             pools: NO_POOLS,

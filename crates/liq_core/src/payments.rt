@@ -10,7 +10,7 @@ ghost use Rattle.liq_core.specs.Turn.{IsRuled};
 
 use crate::engine::Protocol;
 use crate::turns::Forecast;
-use liq_types::amounts::{ACCOUNTS, LIM, MINUTE_MOST, PRICE_LEAST, PRICE_MOST};
+use liq_types::amounts::{ACCOUNTS, MINUTE_MOST, PRICE_LEAST, PRICE_MOST};
 use liq_types::{Done, Refusal, Wallet};
 
 impl Protocol {
@@ -44,8 +44,9 @@ impl Protocol {
             return Err(Refusal::AmountZero);
         }
         let sum = u128::from(self.brought) + u128::from(coll);
-        if sum > u128::from(LIM) {
-            return Err(Refusal::AmountLimit { sum, limit: LIM });
+        let limit = self.limit;
+        if sum > u128::from(limit) {
+            return Err(Refusal::AmountLimit { sum, limit });
         }
         Ok(Forecast::plain(done(3)))
     }
@@ -98,7 +99,7 @@ impl Protocol {
         requires allowed { first_refusal (rules (state_of self.old) (call.Fund account coll)) ≡ None }
         requires range { account < ACCOUNTS }
         requires room { Contains self.old.room.wallets account }
-        requires limit { self.old.image.brought + coll ≤ LIM }
+        requires limit { self.old.image.brought + coll ≤ self.old.image.limit }
         ensures { Changes self.old (call.Fund account coll) self.new }
     {
         self.brought += coll;

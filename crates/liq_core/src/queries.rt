@@ -125,6 +125,7 @@ impl Protocol {
             minute: self.minute,
             base: self.rate.base,
             fee_minute: self.rate.minute,
+            limit: self.limit,
             total_coll: self.pools.active_coll + self.pools.default_coll,
             total_debt: self.pools.active_debt + self.pools.default_debt,
             troves: self.troves.count(),

@@ -1,5 +1,5 @@
 use Rattle.std.proofs.Common.{sym, ap, ◌∙◌}
-use Rattle.liq_types.specs.Image.{Image}
+use Rattle.liq_types.specs.declared.image.Image.{Image}
 use Rattle.liq_order.specs.Order.{order_by}
 use Rattle.liq_core.specs.Core.{Core}
 use Rattle.liq_core.proofs.laws.lists_stand.Goals as goal

@@ -1,5 +1,5 @@
 use Rattle.std.proofs.Common.{ap, sym, subst, ◌∙◌}
-use Rattle.liq_types.specs.Image.{Image}
+use Rattle.liq_types.specs.declared.image.Image.{Image}
 use Rattle.liq_types.specs.Soundness.{IsSoundImage}
 use Rattle.liq_order.specs.Order.{order_by}
 use Rattle.liq_core.proofs.SoundCores.{opened_image, opening_image_sound}

@@ -1,7 +1,7 @@
 use Rattle.std.proofs.Common.{ap, sym, ◌∙◌, [], ◌∷◌}
 use Rattle.liq_types.specs.declared.replies.Info.{Info}
 use Rattle.liq_types.specs.declared.replies.Info.TheVariants as info
-use Rattle.liq_types.specs.Image.{Image}
+use Rattle.liq_types.specs.declared.image.Image.{Image}
 use Rattle.liq_stability.specs.declared.words.PoolWords.{PoolWords}
 use Rattle.liq_core.specs.Core.{Core, state_of}
 use Rattle.liq_rules.specs.Queries.{pools}
