@@ -9,11 +9,10 @@ use Rattle.liq_types.specs.declared.amounts.TheConstants.{ACCOUNTS, RESERVE, LOW
 use Rattle.liq_types.specs.declared.figures.Deposit.{Deposit}
 use Rattle.liq_types.specs.declared.figures.Trove.{Trove}
 use Rattle.liq_types.specs.declared.figures.Wallet.{Wallet}
-use Rattle.liq_types.specs.Image.{Place}
 use Rattle.liq_types.specs.Payments.{credited_in, surplus_added_in}
 use Rattle.liq_types.specs.Ranked.{Ranked, key_in, without_ranked}
 use Rattle.liq_types.specs.State.{State, TroveEntry, wallet_in, surplus_in}
-use Rattle.liq_types.specs.Tables.{Table, at}
+use Rattle.liq_types.specs.Tables.{Place, Table, at}
 use Rattle.liq_types.specs.Totals.{market_of, pool_total}
 use Rattle.liq_types.specs.WellFormed.{IsWellFormed}
 use Rattle.liq_types.proofs.MapRows.{at-map, map-length}
@@ -30,7 +29,7 @@ use Rattle.liq_order.specs.Order.{trove_order}
 use Rattle.liq_order.proofs.Present.{order_has_each}
 use Rattle.liq_stability.specs.Kept as stability
 use Rattle.liq_stability.specs.Kept.{room_for}
-use Rattle.liq_stability.specs.declared.words.FinishedSum.{FinishedSum}
+use Rattle.liq_types.specs.declared.image.FinishedSum.{FinishedSum}
 use Rattle.liq_stability.specs.declared.words.PoolWords.{PoolWords}
 use Rattle.liq_stability.specs.Own.{offset}
 use Rattle.liq_stability.specs.Position.{words_of, deposit_rows}
