@@ -1,0 +1,4 @@
+pub mod Capped
+pub mod Places
+pub mod Rows
+pub mod Searching
