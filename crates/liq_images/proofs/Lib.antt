@@ -1,4 +1,3 @@
-pub mod Capped
 pub mod Places
 pub mod Rows
 pub mod Searching

@@ -5,6 +5,7 @@
 
 mod clients;
 mod conserved;
+pub mod entries;
 mod finished;
 mod pool;
 mod ranges;
