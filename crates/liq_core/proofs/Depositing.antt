@@ -40,7 +40,8 @@ use Rattle.liq_rules.specs.Image.{image}
 use Rattle.liq_rules.specs.Rules.{rules, effect}
 use Rattle.liq_core.specs.Sound.{IsSound, core_of}
 use Rattle.liq_rules.proofs.AlikeReads.{none-map}
-use Rattle.liq_core.proofs.Images.{with_pool, words_by}
+use Rattle.liq_core.specs.Parts.{words_by}
+use Rattle.liq_core.proofs.Images.{with_pool}
 use Rattle.liq_core.proofs.Lending.{IsWithin, within, with_books, same_others, set_image, books_are, rows_are, there_row, pay_within, charged-ascends}
 use Rattle.liq_soundness.proofs.SoundBorrow.{gain_allows, gain_leaves, has_trove, told}
 use Rattle.liq_soundness.proofs.SoundBounds.{surplus_covered}

@@ -1,6 +1,9 @@
 -- Images by their parts: what an image has of a part, and an image with another one.
-use Rattle.std.specs.Prelude.{ℕ, List}
+use Rattle.std.proofs.Common.{◌≡◌, ℕ, List, ap, ◌∙◌}
+use Rattle.liq_types.specs.declared.figures.Client.{Client}
 use Rattle.liq_types.specs.declared.figures.Deposit.{Deposit}
+use Rattle.liq_types.specs.declared.figures.Trove.{Trove}
+use Rattle.liq_types.specs.declared.figures.Wallet.{Wallet}
 use Rattle.liq_types.specs.declared.image.Image.{Image}
 use Rattle.liq_types.specs.State.{started}
 use Rattle.liq_types.specs.Tables.{Place, Table}
@@ -8,6 +11,8 @@ use Rattle.liq_ledger.specs.declared.pools.Pools.{Pools}
 use Rattle.liq_troves.specs.declared.sums.Sums.{Sums}
 use Rattle.liq_standing.specs.Books.{pools_of}
 use Rattle.liq_stability.specs.declared.words.PoolWords.{PoolWords}
+use Rattle.liq_rules.proofs.AlikeReads.{sums_by}
+use Rattle.liq_core.specs.Parts.{words_by}
 
 abbrev pub pools_by : Image → Pools
 pools_by i = pools_of (started i)
@@ -36,9 +41,6 @@ with_sums i sums =
     }
 
 -- the Stability Pool's words, finished sums and deposits
-abbrev pub words_by : Image → PoolWords
-words_by i = record { p = i.p; scale = i.scale; epoch = i.epoch; sum = i.sum; total = i.total; coll = i.pool_coll }
-
 abbrev pub with_pool : Image → PoolWords → List (Place × ℕ) → Table Deposit → Image
 with_pool i words finished deposits =
     record i {
@@ -51,3 +53,25 @@ with_pool i words finished deposits =
       finished = finished;
       deposits = deposits;
     }
+
+-- an image with other parts
+abbrev pub made_of : Image → Table Wallet → Table Trove → Sums → PoolWords → List (Place × ℕ) → Table Deposit → Table ℕ → Table Client → Image
+made_of i wallets troves sums words finished deposits surplus clients =
+    record (with_pool (with_sums i sums) words finished deposits) {
+      wallets = wallets;
+      troves = troves;
+      surplus_rows = surplus;
+      clients = clients;
+    }
+
+-- with its own parts it is itself
+pub made_again : (i : Image) (wallets : Table Wallet) (troves : Table Trove) (sums : Sums) (words : PoolWords) (finished : List (Place × ℕ)) (deposits : Table Deposit) (surplus : Table ℕ) (clients : Table Client) → wallets ≡ i.wallets → troves ≡ i.troves → sums ≡ sums_by i → words ≡ words_by i → finished ≡ i.finished → deposits ≡ i.deposits → surplus ≡ i.surplus_rows → clients ≡ i.clients → made_of i wallets troves sums words finished deposits surplus clients ≡ i
+made_again i wallets troves sums words finished deposits surplus clients w t u p f d s c =
+    ap (λ (ws : Table Wallet). made_of i ws troves sums words finished deposits surplus clients) w
+    ∙ ap (λ (ts : Table Trove). made_of i i.wallets ts sums words finished deposits surplus clients) t
+    ∙ ap (λ (us : Sums). made_of i i.wallets i.troves us words finished deposits surplus clients) u
+    ∙ ap (λ (ps : PoolWords). made_of i i.wallets i.troves (sums_by i) ps finished deposits surplus clients) p
+    ∙ ap (λ (fs : List (Place × ℕ)). made_of i i.wallets i.troves (sums_by i) (words_by i) fs deposits surplus clients) f
+    ∙ ap (λ (ds : Table Deposit). made_of i i.wallets i.troves (sums_by i) (words_by i) i.finished ds surplus clients) d
+    ∙ ap (λ (ss : Table ℕ). made_of i i.wallets i.troves (sums_by i) (words_by i) i.finished i.deposits ss clients) s
+    ∙ ap (λ (cs : Table Client). made_of i i.wallets i.troves (sums_by i) (words_by i) i.finished i.deposits i.surplus_rows cs) c

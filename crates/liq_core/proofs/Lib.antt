@@ -1,4 +1,5 @@
 pub mod AccountsFirst
+pub mod Beginning
 pub mod Cutting
 pub mod Depositing
 pub mod Forecasting

@@ -44,7 +44,7 @@ use Rattle.liq_core.specs.Turn.{IsRuled}
 use Rattle.liq_soundness.specs.SoundState.{IsSoundState}
 use Rattle.liq_victims.specs.Victims.{AreVictims, course_of}
 use Rattle.liq_rules.proofs.AlikeReads.{sums_by}
-use Rattle.liq_core.proofs.Images.{words_by}
+use Rattle.liq_core.specs.Parts.{words_by}
 use Rattle.liq_core.proofs.SoundCores.{core_finds, image_back}
 use Rattle.liq_rules.proofs.Counting.{lowest_count}
 use Rattle.liq_soundness.proofs.SoundFacts.{Finds}

@@ -1,5 +1,5 @@
 -- A sound core: what is read of it, and what a change leaves of it.
-use Rattle.std.proofs.Common.{◌≡◌, ℕ, ◌+◌, ◌≤◌, true, nat_le, List, [], ◌∷◌, refl, ap, sym, subst, ◌∙◌, arith}
+use Rattle.std.proofs.Common.{◌≡◌, ℕ, ◌+◌, ◌≤◌, true, nat_le, List, [], ◌∷◌, refl, ap, sym, subst, arith}
 use Rattle.std.specs.Prelude.{◌&&◌, sum_by}
 use Rattle.std.specs.BTreeMap.{is_at}
 use Rattle.std.specs.List.{AllByRecursion, list_all}
@@ -7,10 +7,7 @@ use Rattle.std.specs.List.Sorted.{IsStrictlySortedBy}
 use Rattle.std.specs.Map.{values_of}
 use Rattle.std.specs.Ordering.{nat_cmp}
 use Rattle.std.proofs.lemmas.Map.Entries.{sum_by-remove_entry}
-use Rattle.liq_types.specs.declared.amounts.TheConstants.{LIM, P_OPENING}
-use Rattle.liq_types.specs.declared.figures.Client.{Client}
-use Rattle.liq_types.specs.declared.figures.Deposit.{Deposit}
-use Rattle.liq_types.specs.declared.figures.Trove.{Trove}
+use Rattle.liq_types.specs.declared.amounts.TheConstants.{LIM}
 use Rattle.liq_types.specs.declared.figures.Wallet.{Wallet}
 use Rattle.liq_types.specs.declared.requests.Call.{Call}
 use Rattle.liq_types.specs.declared.image.Image.{Image}
@@ -21,8 +18,6 @@ use Rattle.liq_types.specs.State.{State, wallet_in}
 use Rattle.liq_types.specs.Tables.{Place, Table, at}
 use Rattle.liq_types.specs.WellFormed.{IsBefore}
 use Rattle.liq_order.specs.Order.{order_by}
-use Rattle.liq_troves.specs.declared.sums.Sums.{Sums}
-use Rattle.liq_stability.specs.declared.words.PoolWords.{PoolWords}
 use Rattle.liq_core.specs.declared.engine.Protocol.TheInside.{Inside}
 use Rattle.liq_core.specs.Core.{Core, Changes, StandsFor, state_of}
 use Rattle.liq_rules.specs.Image.{image}
@@ -31,7 +26,6 @@ use Rattle.liq_core.specs.Sound.{IsSound, core_of}
 use Rattle.liq_rules.proofs.Moving.{read_or, charged_lusd}
 use Rattle.liq_soundness.proofs.SoundFacts.{Finds, Leaves}
 use Rattle.liq_rules.proofs.SoundRules.{both_first, both_second}
-use Rattle.liq_core.proofs.Images.{with_pool, with_sums}
 use Rattle.liq_soundness.proofs.SoundStart.{started_with, finished_before}
 use Rattle.liq_soundness.proofs.SoundTests.{SoundFacts, sound_facts, facts_sound, stakes_added}
 use Rattle.liq_rules.proofs.Started.{started_image, started_formed}
@@ -58,33 +52,6 @@ opening_tables =
 
 pub opening_image_sound : IsSoundImage opening_image 0
 opening_image_sound = record { rules = refl; tables = opening_tables }
-
-abbrev no_sums : Sums
-no_sums = record { coll = 0; debt = 0; stakes = 0; snap_stakes = 0; snap_coll = 0 }
-
-abbrev no_words : PoolWords
-no_words = record { p = P_OPENING; scale = 0; epoch = 0; sum = 0; total = 0; coll = 0 }
-
-abbrev kept_of : Table Wallet → Table Trove → Sums → PoolWords → List (Place × ℕ) → Table Deposit → Table ℕ → Table Client → Image
-kept_of wallets troves sums words finished deposits surplus clients =
-    record (with_pool (with_sums opening_image sums) words finished deposits) {
-      wallets = wallets;
-      troves = troves;
-      surplus_rows = surplus;
-      clients = clients;
-    }
-
--- what is kept of nothing is the opening image
-pub opened_image : (wallets : Table Wallet) (troves : Table Trove) (sums : Sums) (words : PoolWords) (finished : List (Place × ℕ)) (deposits : Table Deposit) (surplus : Table ℕ) (clients : Table Client) → wallets ≡ [] → troves ≡ [] → sums ≡ no_sums → words ≡ no_words → finished ≡ [] → deposits ≡ [] → surplus ≡ [] → clients ≡ [] → kept_of wallets troves sums words finished deposits surplus clients ≡ opening_image
-opened_image wallets troves sums words finished deposits surplus clients w t u p f d s c =
-    ap (λ (ws : Table Wallet). kept_of ws troves sums words finished deposits surplus clients) w
-    ∙ ap (λ (ts : Table Trove). kept_of [] ts sums words finished deposits surplus clients) t
-    ∙ ap (λ (us : Sums). kept_of [] [] us words finished deposits surplus clients) u
-    ∙ ap (λ (ps : PoolWords). kept_of [] [] no_sums ps finished deposits surplus clients) p
-    ∙ ap (λ (fs : List (Place × ℕ)). kept_of [] [] no_sums no_words fs deposits surplus clients) f
-    ∙ ap (λ (ds : Table Deposit). kept_of [] [] no_sums no_words [] ds surplus clients) d
-    ∙ ap (λ (ss : Table ℕ). kept_of [] [] no_sums no_words [] [] ss clients) s
-    ∙ ap (λ (cs : Table Client). kept_of [] [] no_sums no_words [] [] [] cs) c
 
 -- ---- the state that begins with a sound image
 

@@ -1,5 +1,5 @@
 -- What a planned command puts into the list, and the steps that it takes.
-use Rattle.std.proofs.Common.{◌≡◌, ℕ, ◌+◌, ◌≤◌, arith, List, [], ◌∷◌, map, refl, sym, ap, subst, ◌∙◌, Some, None, Option}
+use Rattle.std.proofs.Common.{◌≡◌, ℕ, arith, List, [], ◌∷◌, map, refl, sym, ap, subst, ◌∙◌, Some, None, Option}
 use Rattle.std.specs.Prelude.{false, option_map}
 use Rattle.std.specs.Option.{option_or}
 use Rattle.liq_types.specs.declared.figures.Trove.{Trove}

@@ -1,6 +1,7 @@
 pub mod Core
 pub mod Entries
 pub mod Held
+pub mod Parts
 pub mod Plan
 pub mod Sound
 pub mod Steps

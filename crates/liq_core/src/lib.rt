@@ -9,6 +9,7 @@ mod claims;
 mod depositors;
 mod engine;
 mod hints;
+mod image;
 pub mod laws;
 mod liquidations;
 mod listing;
@@ -22,4 +23,5 @@ mod turns;
 
 pub use engine::{Protocol, is_built};
 pub use hints::unhinted;
+pub use image::ImageFault;
 pub use turns::{PlanFault, Planned, Turn};

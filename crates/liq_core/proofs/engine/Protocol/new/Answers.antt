@@ -2,7 +2,9 @@ use Rattle.std.proofs.Common.{ap, sym, subst, ◌∙◌}
 use Rattle.liq_types.specs.declared.image.Image.{Image}
 use Rattle.liq_types.specs.Soundness.{IsSoundImage}
 use Rattle.liq_order.specs.Order.{order_by}
-use Rattle.liq_core.proofs.SoundCores.{opened_image, opening_image_sound}
+use Rattle.liq_types.specs.Image.{opening_image}
+use Rattle.liq_core.proofs.Images.{made_again}
+use Rattle.liq_core.proofs.SoundCores.{opening_image_sound}
 use Rattle.liq_core.proofs.engine.Protocol.new.Goals as goal
 
 pub invariant_of-result : goal.invariant_of-result
@@ -10,7 +12,7 @@ invariant_of-result c =
     record {
       image =
           subst (λ (i : Image). IsSoundImage i 0)
-          (sym (opened_image c.new.result.rows c.new-2.result.table.rows c.new-2.result.sums c.new-4.result.words c.new-4.result.finished c.new-4.result.deposits.rows c.new-5.result.rows c.new-6.result.rows c.new.ensures c.new-2.ensures.rows c.new-2.ensures.sums c.new-4.ensures.words c.new-4.ensures.finished c.new-4.ensures.deposits c.new-5.ensures c.new-6.ensures))
+          (sym (made_again opening_image c.new.result.rows c.new-2.result.table.rows c.new-2.result.sums c.new-4.result.words c.new-4.result.finished c.new-4.result.deposits.rows c.new-5.result.rows c.new-6.result.rows c.new.ensures c.new-2.ensures.rows c.new-2.ensures.sums c.new-4.ensures.words c.new-4.ensures.finished c.new-4.ensures.deposits c.new-5.ensures c.new-6.ensures))
           opening_image_sound;
       order = c.new-3.ensures ∙ sym (ap order_by c.new-2.ensures.rows);
     }
