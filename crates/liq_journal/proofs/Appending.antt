@@ -14,10 +14,11 @@ use Rattle.liq_journal.specs.Settled.{JournalOn, IsSettled}
 use Rattle.liq_outside.proofs.Steps.{torn_whole}
 use Rattle.liq_journal.specs.declared.damage.What.TheVariants.{Digest, Form}
 use Rattle.liq_journal.specs.Records.{records}
-use Rattle.liq_journal.specs.Written.{Written, Open, piece, found_records, most_records, found_on, end_of, EndsWith, and_then, opened, record_on, record_digest, command_from}
+use Rattle.liq_journal.specs.Layout.{piece}
+use Rattle.liq_journal.specs.Written.{Written, Open, found_records, most_records, found_on, start_of, end_of, EndsWith, and_then, opened, record_on, record_digest, command_from}
 use Rattle.liq_journal.specs.Crash.{Stands, BeforeOrAfter, GatedLeaves, IsBodyOf, gated, is_odd}
 use Rattle.liq_journal.proofs.Reading.{records_whole, records_none, records_alike, is_whole, isnt_open, front_behind, byte_alike}
-use Rattle.liq_journal.proofs.Heading.{is_open, headed_alike, found_behind_it, of_records, found_more}
+use Rattle.liq_journal.proofs.Heading.{is_open, header_decides, of_records, found_more}
 
 -- a body, a digest and a 0, written over zeros
 pub record_is : (body digest : List ℕ) → length body ≡ 96 → length digest ≡ 32 → take 96 (body ++ drop (0 + length body) (replicate 129 0)) ++ digest ++ drop (96 + length digest) (body ++ drop (0 + length body) (replicate 129 0)) ≡ (body ++ digest) ++ 0 ∷ []
@@ -50,7 +51,7 @@ read_record generation index place body digest command size stored of =
 
 module _ (odd : Bool) (held : List ℕ) (w : Written) (found : found_on odd held ≡ Open w) where
   abbrev start : ℕ
-  start = 57 + length w.checkpoint
+  start = start_of w
 
   abbrev count : ℕ
   count = length w.commands
@@ -64,10 +65,9 @@ module _ (odd : Bool) (held : List ℕ) (w : Written) (found : found_on odd held
   -- what is found where the same bytes stand up to the end
   read_on : (image : List ℕ) (most : ℕ) → most_records ≡ count + most → end_of w ≤ length held → take (end_of w) image ≡ take (end_of w) held → found_on odd image ≡ found_records w.generation w.checkpoint 1 start (raws ++ records most (drop (end_of w) image))
   read_on image most fuel there alike =
-      let headed = headed_alike odd held image w.generation w.checkpoint start (end_of w) (is_open odd held w found).headed (omega arith) alike there in
       let more = records_alike count most_records most (drop start held) (drop start image) fuel counted (front_behind start (129 * count) held image alike) in
       let at : drop (129 * count) (drop start image) ≡ drop (end_of w) image = drop-drop (129 * count) start image in
-      found_behind_it odd image w.generation w.checkpoint start headed
+      header_decides odd held image w (end_of w) found (omega arith) there alike
       ∙ ap (found_records w.generation w.checkpoint 1 start) (more ∙ ap (λ (l : List ℕ). raws ++ records most l) at)
 
   gate_at : (image : List ℕ) → get_or (drop (end_of w) image) 0 0 ≡ get_or image (end_of w) 0
@@ -249,7 +249,7 @@ length-record_digest generation index body = length-sha256 _
 -- what is known of the journal is what stands on the disk
 pub record Agrees (generation start count : ℕ) (w : Written) : Type 0 where
   pub generation_is : w.generation ≡ generation
-  pub start_is : 57 + length w.checkpoint ≡ start
+  pub start_is : start_of w ≡ start
   pub count_is : length w.commands ≡ count
 
 agrees : (generation start count : ℕ) (held : List ℕ) (w : Written) → IsSettled generation start count held → Stands (is_odd generation) held w → Agrees generation start count w

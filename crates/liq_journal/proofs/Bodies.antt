@@ -1,5 +1,5 @@
 -- How the body of a record is read, and that it is the accepted one.
-use Rattle.std.proofs.Common.{◌≡◌, inl, inr, ℕ, zero, suc, ◌+◌, ◌*◌, ◌-◌, ◌<◌, ◌≤◌, min, List, ◌∷◌, ◌++◌, length, take, drop, slice_get, Option, Some, IfSome, Result, Ok, Err, Bool, true, false, not, if◌then◌else◌, refl, sym, ◌∙◌, ap, subst, arith, length-take, length-drop, take-append-drop}
+use Rattle.std.proofs.Common.{◌≡◌, inl, inr, ℕ, zero, suc, ◌+◌, ◌*◌, ◌-◌, ◌<◌, ◌≤◌, List, ◌∷◌, ◌++◌, length, take, drop, slice_get, Option, Some, IfSome, Result, Ok, Err, Bool, true, false, not, if◌then◌else◌, refl, sym, ◌∙◌, ap, subst, arith, length-take, length-drop, take-append-drop}
 use Rattle.std.specs.Result.{MatchResult}
 use Rattle.std.specs.Str.{bytes_eq}
 use Rattle.std.proofs.lemmas.List.{take-take, take_at, drop-drop, take_all}
@@ -14,10 +14,12 @@ use Rattle.liq_journal.specs.Crash.{IsBodyOf, is_odd}
 use Rattle.liq_journal.specs.Records.{records, begins_whole}
 use Rattle.liq_journal.specs.Settled.{JournalOn}
 use Rattle.liq_journal.specs.Tested.{IsBodyRead, IsFaultRead}
-use Rattle.liq_journal.specs.Written.{Written, Open, piece, record_on, record_digest, command_from, is_rotate, found_records, most_records}
+use Rattle.liq_journal.specs.Looked.{IsRead}
+use Rattle.liq_journal.specs.Layout.{piece}
+use Rattle.liq_journal.specs.Written.{Written, Open, record_on, record_digest, command_from, is_rotate, found_records, most_records}
 use Rattle.liq_journal.proofs.Reading.{records_whole, records_none, records_zero, whole_long}
 use Rattle.liq_journal.proofs.Heading.{is_open, of_records, record_open}
-use Rattle.liq_journal.proofs.Testing.{if_some}
+use Rattle.liq_journal.proofs.Told.{if_some}
 use Rattle.std.proofs.lemmas.Bool.{cases_Bool}
 
 -- a record that is read as a command holds its body
@@ -50,11 +52,11 @@ spells generation index place body stored (Ok command) size is = body_spells gen
 spells generation index place body stored (Err what) size is = is
 
 -- 128 bytes that were read at a place
-module _ (told : Option (List ℕ)) (generation index place n : ℕ) (bytes body stored : List ℕ) (read : IfSome told (λ held. (n ≡ min 128 (length held - (place + 1))) × (take n bytes ≡ take n (drop (place + 1) held)))) (size : length bytes ≡ 128) (front : body ≡ take 96 bytes) (behind : stored ≡ drop 96 bytes) where
+module _ (told : Option (List ℕ)) (generation index place n : ℕ) (bytes body stored : List ℕ) (read : IfSome told (IsRead (place + 1) 128 n bytes)) (size : length bytes ≡ 128) (front : body ≡ take 96 bytes) (behind : stored ≡ drop 96 bytes) where
   whole : body ++ stored ≡ bytes
   whole = (λ i. front i ++ behind i) ∙ take-append-drop 96 bytes
 
-  raw_is : (held : List ℕ) → (n ≡ min 128 (length held - (place + 1))) × (take n bytes ≡ take n (drop (place + 1) held)) → place + 129 ≤ length held → bytes ≡ piece (place + 1) 128 held
+  raw_is : (held : List ℕ) → IsRead (place + 1) 128 n bytes held → place + 129 ≤ length held → bytes ≡ piece (place + 1) 128 held
   raw_is held (count, same) long =
       let all : n ≡ 128 = omega arith in
       sym (take_all 128 bytes (omega arith)) ∙ subst (λ (k : ℕ). take k bytes ≡ take k (drop (place + 1) held)) all same
@@ -63,17 +65,17 @@ module _ (told : Option (List ℕ)) (generation index place n : ℕ) (bytes body
   first_96 l = take-take 96 128 l (omega arith)
 
   pub told_body : (command : Command) → record_on generation index (place + 1) (body ++ stored) ≡ Ok command → IfSome told (λ held. place + 129 ≤ length held → IsBodyRead generation index (place + 1) held body)
-  told_body command is = if_some told (λ held. (n ≡ min 128 (length held - (place + 1))) × (take n bytes ≡ take n (drop (place + 1) held))) (λ held. place + 129 ≤ length held → IsBodyRead generation index (place + 1) held body)
+  told_body command is = if_some told (IsRead (place + 1) 128 n bytes) (λ held. place + 129 ≤ length held → IsBodyRead generation index (place + 1) held body)
       (λ held r long.
       let e = raw_is held r long in
       (front ∙ ap (take 96) e ∙ first_96 (drop (place + 1) held), (command, ap (record_on generation index (place + 1)) (sym (whole ∙ e)) ∙ is))) read
 
   pub told_fault : (what : What) → record_on generation index (place + 1) (body ++ stored) ≡ Err what → IfSome told (λ held. place + 129 ≤ length held → IsFaultRead generation index (place + 1) held (fault.Damaged (record { index = index; what = what })))
-  told_fault what is = if_some told (λ held. (n ≡ min 128 (length held - (place + 1))) × (take n bytes ≡ take n (drop (place + 1) held))) (λ held. place + 129 ≤ length held → IsFaultRead generation index (place + 1) held (fault.Damaged (record { index = index; what = what })))
+  told_fault what is = if_some told (IsRead (place + 1) 128 n bytes) (λ held. place + 129 ≤ length held → IsFaultRead generation index (place + 1) held (fault.Damaged (record { index = index; what = what })))
       (λ held r long. (refl, ap (record_on generation index (place + 1)) (sym (whole ∙ raw_is held r long)) ∙ is)) read
 
   pub told_command : (command : Command) → IsBodyOf body command → IfSome told (λ held. place + 129 ≤ length held → IsBodyOf (piece (place + 1) 96 held) command)
-  told_command command is = if_some told (λ held. (n ≡ min 128 (length held - (place + 1))) × (take n bytes ≡ take n (drop (place + 1) held))) (λ held. place + 129 ≤ length held → IsBodyOf (piece (place + 1) 96 held) command)
+  told_command command is = if_some told (IsRead (place + 1) 128 n bytes) (λ held. place + 129 ≤ length held → IsBodyOf (piece (place + 1) 96 held) command)
       (λ held r long. subst (λ (l : List ℕ). IsBodyOf l command) (front ∙ ap (take 96) (raw_is held r long) ∙ first_96 (drop (place + 1) held)) is) read
 
 -- the record number k behind these, counted from 0

@@ -5,7 +5,8 @@ use Rattle.std.proofs.lemmas.Bool.Decides.{nat_tests}
 use Rattle.liq_types.specs.declared.requests.Command.{Command}
 use Rattle.liq_journal.specs.declared.damage.What.{What}
 use Rattle.liq_journal.specs.Records.{records}
-use Rattle.liq_journal.specs.Written.{version_1, piece, generation_on, size_on, start_on, checkpoint_on, header_digest, is_generation, is_size, first_fault, header_tests, is_absent, record_on, Written, Found, Absent, Damaged, Open, with_command, found_record, found_records, found_behind, most_records, found_on, and_then}
+use Rattle.liq_journal.specs.Layout.{Layout, version_1, fields_size, header_size, least_header, piece, generation_on, size_on, start_on, checkpoint_on, header_digest}
+use Rattle.liq_journal.specs.Written.{is_generation, is_size, first_fault, header_tests, is_absent, record_on, Written, Found, Absent, Damaged, Open, with_command, found_record, found_records, found_behind, most_records, found_in, found_on, and_then, start_of}
 use Rattle.liq_journal.proofs.Reading.{piece_alike, byte_alike, length_alike, number_alike}
 
 abbrev pub AreFalse : List (Bool × What) → Type 0
@@ -24,23 +25,24 @@ pub no_fault : (tests : List (Bool × What)) → AreFalse tests → first_fault 
 no_fault [] false_all = refl
 no_fault (test ∷ tests) (first, rest) = ap (λ (b : Bool). if b then Some test.1 else first_fault tests) first ∙ no_fault tests rest
 
--- an open header with no fault
-pub record Headed (odd : Bool) (bytes : List ℕ) (generation : ℕ) (checkpoint : List ℕ) (start : ℕ) : Type 0 where
+-- an open header of this version with no fault
+pub record Headed (layout : Layout) (odd : Bool) (bytes : List ℕ) (generation : ℕ) (checkpoint : List ℕ) (start : ℕ) : Type 0 where
   pub gate : is_absent bytes ≡ false
-  pub tests : first_fault (header_tests version_1 odd bytes) ≡ None
+  pub tests : first_fault (header_tests layout odd bytes) ≡ None
   pub generation_is : generation_on bytes ≡ generation
-  pub checkpoint_is : checkpoint_on version_1 bytes ≡ checkpoint
-  pub start_is : start_on version_1 bytes ≡ start
+  pub checkpoint_is : checkpoint_on layout bytes ≡ checkpoint
+  pub start_is : start_on layout bytes ≡ start
   pub long : start ≤ length bytes
 
-pub found_behind_it : (odd : Bool) (bytes : List ℕ) (generation : ℕ) (checkpoint : List ℕ) (start : ℕ) → Headed odd bytes generation checkpoint start → found_on odd bytes ≡ found_records generation checkpoint 1 start (records most_records (drop start bytes))
+found_headed : (layout : Layout) (odd : Bool) (bytes : List ℕ) (generation : ℕ) (checkpoint : List ℕ) (start : ℕ) → Headed layout odd bytes generation checkpoint start → found_in layout odd bytes ≡ found_records generation checkpoint 1 start (records most_records (drop start bytes))
+found_headed layout odd bytes generation checkpoint start h =
+    ap (λ (b : Bool). if b then Absent else found_behind layout bytes (first_fault (header_tests layout odd bytes))) h.gate
+    ∙ ap (found_behind layout bytes) h.tests
+    ∙ (λ i. found_records (h.generation_is i) (h.checkpoint_is i) 1 (h.start_is i) (records most_records (drop (h.start_is i) bytes)))
+
+pub found_behind_it : (odd : Bool) (bytes : List ℕ) (generation : ℕ) (checkpoint : List ℕ) (start : ℕ) → Headed version_1 odd bytes generation checkpoint start → found_on odd bytes ≡ found_records generation checkpoint 1 start (records most_records (drop start bytes))
 unfolding found_on
-found_behind_it odd bytes generation checkpoint start h =
-    ap (λ (b : Bool). if b then Absent else found_behind version_1 bytes (first_fault (header_tests version_1 odd bytes))) h.gate
-    ∙ ap (λ (o : Option What). found_behind version_1 bytes o) h.tests
-    ∙ ap (λ (g : ℕ). found_records g (checkpoint_on version_1 bytes) 1 (start_on version_1 bytes) (records most_records (drop (start_on version_1 bytes) bytes))) h.generation_is
-    ∙ ap (λ (l : List ℕ). found_records generation l 1 (start_on version_1 bytes) (records most_records (drop (start_on version_1 bytes) bytes))) h.checkpoint_is
-    ∙ ap (λ (s : ℕ). found_records generation checkpoint 1 s (records most_records (drop s bytes))) h.start_is
+found_behind_it odd bytes generation checkpoint start headed = found_headed version_1 odd bytes generation checkpoint start headed
 
 -- what was found open
 pub record RecordOpen (index : ℕ) (read : Result Command What) (rest : Found) (w : Written) : Type 0 where
@@ -86,84 +88,110 @@ found_more generation checkpoint index place (first ∷ raws) raw w command is r
     let rest = found_more generation checkpoint (index + 1) (place + 129) raws raw o.others command o.behind here in
     ap (λ (r : Result Command What). found_record index r (found_records generation checkpoint (index + 1) (place + 129) (raws ++ raw ∷ []))) o.is ∙ ap (with_command o.command) rest ∙ ap (λ (v : Written). Open (and_then v command)) (sym o.together)
 
-found_cases : (b : Bool) (fault : Option What) (odd : Bool) (bytes : List ℕ) (w : Written) → (if b then Absent else found_behind version_1 bytes fault) ≡ Open w → (b ≡ false) × (fault ≡ None)
-found_cases true fault odd bytes w is = absurd (cc)
-found_cases false (Some what) odd bytes w is = absurd (cc)
-found_cases false None odd bytes w is = (refl, refl)
+pub record IsOpen (layout : Layout) (odd : Bool) (bytes : List ℕ) (w : Written) (start : ℕ) : Type 0 where
+  pub headed : Headed layout odd bytes w.generation w.checkpoint start
+  pub behind : found_records w.generation w.checkpoint 1 start (records most_records (drop start bytes)) ≡ Open w
 
-pub record IsOpen (odd : Bool) (bytes : List ℕ) (w : Written) : Type 0 where
-  pub headed : Headed odd bytes w.generation w.checkpoint (57 + length w.checkpoint)
-  pub behind : found_records w.generation w.checkpoint 1 (57 + length w.checkpoint) (records most_records (drop (57 + length w.checkpoint) bytes)) ≡ Open w
+module _ (layout : Layout) (odd : Bool) (bytes : List ℕ) (w : Written) where
+  found_cases : (b : Bool) (fault : Option What) → (if b then Absent else found_behind layout bytes fault) ≡ Open w → (b ≡ false) × ((fault ≡ None) × (found_behind layout bytes None ≡ Open w))
+  found_cases true fault is = absurd (cc)
+  found_cases false (Some what) is = absurd (cc)
+  found_cases false None is = (refl, (refl, is))
 
-pub is_open : (odd : Bool) (bytes : List ℕ) (w : Written) → found_on odd bytes ≡ Open w → IsOpen odd bytes w
+  open_in : found_in layout odd bytes ≡ Open w → IsOpen layout odd bytes w (header_size layout + length w.checkpoint)
+  open_in is =
+      let cases = found_cases (is_absent bytes) (first_fault (header_tests layout odd bytes)) is in
+      let all = are_false (header_tests layout odd bytes) cases.1.0 in
+      let long : start_on layout bytes ≤ length bytes = let e = all.1.1.1.1.0 in grind (arith, nat_tests) in
+      let of = of_records (generation_on bytes) (checkpoint_on layout bytes) 1 (start_on layout bytes) (records most_records (drop (start_on layout bytes) bytes)) w cases.1.1 in
+      let size : length w.checkpoint ≡ size_on bytes = ap length of.checkpoint_is ∙ length-take (size_on bytes) (drop (header_size layout) bytes) ∙ (let l = length-drop (header_size layout) bytes in omega (arith, l, long)) in
+      let start : start_on layout bytes ≡ header_size layout + length w.checkpoint = ap (λ (n : ℕ). header_size layout + n) (sym size) in
+      record {
+        headed = record {
+          gate = cases.0;
+          tests = cases.1.0;
+          generation_is = sym of.generation_is;
+          checkpoint_is = sym of.checkpoint_is;
+          start_is = start;
+          long = subst (λ (n : ℕ). n ≤ length bytes) start long;
+        };
+        behind = (λ i. found_records (of.generation_is i) (of.checkpoint_is i) 1 (sym start i) (records most_records (drop (sym start i) bytes))) ∙ cases.1.1;
+      }
+
+pub is_open : (odd : Bool) (bytes : List ℕ) (w : Written) → found_on odd bytes ≡ Open w → IsOpen version_1 odd bytes w (start_of w)
 unfolding found_on
-is_open odd bytes w is =
-    let cases = found_cases (is_absent bytes) (first_fault (header_tests version_1 odd bytes)) odd bytes w is in
-    let all = are_false (header_tests version_1 odd bytes) cases.1 in
-    let long : start_on version_1 bytes ≤ length bytes = let e = all.1.1.1.0 in grind (arith, nat_tests) in
-    let rest : found_records (generation_on bytes) (checkpoint_on version_1 bytes) 1 (start_on version_1 bytes) (records most_records (drop (start_on version_1 bytes) bytes)) ≡ Open w =
-    sym (ap (λ (b : Bool). if b then Absent else found_behind version_1 bytes (first_fault (header_tests version_1 odd bytes))) cases.0 ∙ ap (λ (o : Option What). found_behind version_1 bytes o) cases.1) ∙ is in
-    let of = of_records (generation_on bytes) (checkpoint_on version_1 bytes) 1 (start_on version_1 bytes) (records most_records (drop (start_on version_1 bytes) bytes)) w rest in
-    let size : length w.checkpoint ≡ size_on bytes = ap length of.checkpoint_is ∙ length-take (size_on bytes) (drop 57 bytes) ∙ (let l = length-drop 57 bytes in omega (arith, l, long)) in
-    let start : start_on version_1 bytes ≡ 57 + length w.checkpoint = ap (λ (n : ℕ). 57 + n) (sym size) in
-    let headed : Headed odd bytes w.generation w.checkpoint (57 + length w.checkpoint) = record { gate = cases.0; tests = cases.1; generation_is = sym of.generation_is; checkpoint_is = sym of.checkpoint_is; start_is = start; long = omega (arith, start, long) } in
-    record { headed = headed; behind = sym (found_behind_it odd bytes w.generation w.checkpoint (57 + length w.checkpoint) headed) ∙ is }
+is_open odd bytes w is = open_in version_1 odd bytes w is
+
+-- an open disk's generation is one that it may have
+pub has_generation : (odd : Bool) (bytes : List ℕ) (w : Written) → found_on odd bytes ≡ Open w → is_generation odd w.generation ≡ true
+has_generation odd bytes w found =
+    let headed = (is_open odd bytes w found).headed in
+    let all = are_false (header_tests version_1 odd bytes) headed.tests in
+    ap (is_generation odd) (sym headed.generation_is) ∙ is_true (is_generation odd (generation_on bytes)) all.1.0
+  where
+    is_true : (b : Bool) → not b ≡ false → b ≡ true
+    is_true true is = refl
+    is_true false is = absurd (cc (is))
+
+pub absent_found : (odd : Bool) (bytes : List ℕ) → is_absent bytes ≡ true → found_on odd bytes ≡ Absent
+unfolding found_on
+absent_found odd bytes is = ap (λ (b : Bool). if b then Absent else found_behind version_1 bytes (first_fault (header_tests version_1 odd bytes))) is
 
 -- the same bytes up to its end are the same header
-module _ (odd : Bool) (held image : List ℕ) (generation : ℕ) (checkpoint : List ℕ) (start m : ℕ) (h : Headed odd held generation checkpoint start) (within : start ≤ m) (alike : take m image ≡ take m held) (there : m ≤ length held) where
-  at_least : 57 ≤ start
-  at_least = omega (arith, h.start_is)
+module _ (layout : Layout) (odd : Bool) (held image : List ℕ) (generation : ℕ) (checkpoint : List ℕ) (start m : ℕ) (h : Headed layout odd held generation checkpoint start) (within : start ≤ m) (alike : take m image ≡ take m held) (there : m ≤ length held) where
+  at_least : header_size layout ≤ m
+  at_least = omega (arith, h.start_is, within)
+
+  same_piece : (place count : ℕ) → place + count ≤ header_size layout → piece place count image ≡ piece place count held
+  same_piece place count fits = piece_alike m held image alike place count (omega (arith, at_least, fits))
 
   same_generation : generation_on image ≡ generation_on held
-  same_generation = number_alike m held image alike 9 8 (omega (arith, at_least, within))
+  same_generation = number_alike m held image alike 9 8 (omega (arith, at_least))
 
   same_size : size_on image ≡ size_on held
-  same_size = number_alike m held image alike 17 8 (omega (arith, at_least, within))
+  same_size = number_alike m held image alike 17 8 (omega (arith, at_least))
 
-  same_start : start_on version_1 image ≡ start
-  same_start = ap (λ (n : ℕ). 57 + n) same_size ∙ h.start_is
+  same_start : start_on layout image ≡ start
+  same_start = ap (λ (n : ℕ). header_size layout + n) same_size ∙ h.start_is
 
-  same_checkpoint : checkpoint_on version_1 image ≡ checkpoint_on version_1 held
-  same_checkpoint = ap (λ (n : ℕ). piece 57 n image) same_size ∙ piece_alike m held image alike 57 (size_on held) (omega (arith, h.start_is, within))
+  same_checkpoint : checkpoint_on layout image ≡ checkpoint_on layout held
+  same_checkpoint = ap (λ (n : ℕ). piece (header_size layout) n image) same_size ∙ piece_alike m held image alike (header_size layout) (size_on held) (omega (arith, h.start_is, within))
 
   long_image : m ≤ length image
   long_image = length_alike m held image alike there
 
   same_absent : is_absent image ≡ false
   same_absent =
-      let gate = byte_alike m held image alike 0 (omega (arith, at_least, within)) in
+      let gate = byte_alike m held image alike 0 (omega (arith, at_least)) in
       let was = h.gate in
-      let long : 57 ≤ length image = omega (arith, long_image, at_least, within) in
+      let long : least_header ≤ length image = omega (arith, long_image, at_least) in
       grind (arith, nat_tests)
 
-  same_tests : first_fault (header_tests version_1 odd image) ≡ None
+  same_tests : first_fault (header_tests layout odd image) ≡ None
   same_tests =
-      let all = are_false (header_tests version_1 odd held) h.tests in
-      let name = piece_alike m held image alike 1 8 (omega (arith, at_least, within)) in
-      let fields = piece_alike m held image alike 1 24 (omega (arith, at_least, within)) in
-      let stored = piece_alike m held image alike 25 32 (omega (arith, at_least, within)) in
-      let long : nat_lt (length image) (start_on version_1 image) ≡ false = let e = same_start in let l = long_image in grind (arith, nat_tests) in
-      no_fault (header_tests version_1 odd image) (
-        ap (λ (l : List ℕ). not (bytes_eq l version_1.name)) name ∙ all.0,
+      let all = are_false (header_tests layout odd held) h.tests in
+      let long : nat_lt (length image) (start_on layout image) ≡ false = let e = same_start in let l = long_image in grind (arith, nat_tests) in
+      no_fault (header_tests layout odd image) (
+        ap (λ (l : List ℕ). not (bytes_eq l layout.name)) (same_piece 1 8 (omega arith)) ∙ all.0,
         (
           ap (λ (g : ℕ). not (is_generation odd g)) same_generation ∙ all.1.0,
           (
-            ap (λ (g : ℕ). not (is_size g (size_on image))) same_generation ∙ ap (λ (n : ℕ). not (is_size (generation_on held) n)) same_size ∙ all.1.1.0,
+            (λ i. not (is_size (same_generation i) (same_size i))) ∙ all.1.1.0,
             (
-              long,
+              ap (λ (l : List ℕ). not (bytes_eq l layout.own)) (same_piece 25 (length layout.own) (omega arith)) ∙ all.1.1.1.0,
               (
-                ap (λ (l : List ℕ). not (bytes_eq l (header_digest (piece 1 24 image) (checkpoint_on version_1 image)))) stored
-                    ∙ ap (λ (l : List ℕ). not (bytes_eq (piece 25 32 held) (header_digest l (checkpoint_on version_1 image)))) fields
-                    ∙ ap (λ (l : List ℕ). not (bytes_eq (piece 25 32 held) (header_digest (piece 1 24 held) l))) same_checkpoint
-                    ∙ all.1.1.1.1.0,
-                tt,
+                long,
+                (
+                  (λ i. not (bytes_eq (same_piece (1 + fields_size layout) 32 (omega arith) i) (header_digest (same_piece 1 (fields_size layout) (omega arith) i) (same_checkpoint i)))) ∙ all.1.1.1.1.1.0,
+                  tt,
+                ),
               ),
             ),
           ),
         ),
       )
 
-  pub headed_alike : Headed odd image generation checkpoint start
+  headed_alike : Headed layout odd image generation checkpoint start
   headed_alike = record {
     gate = same_absent;
     tests = same_tests;
@@ -172,3 +200,9 @@ module _ (odd : Bool) (held image : List ℕ) (generation : ℕ) (checkpoint : L
     start_is = same_start;
     long = omega (arith, long_image, within);
   }
+
+-- so they decide it
+pub header_decides : (odd : Bool) (held image : List ℕ) (w : Written) (m : ℕ) → found_on odd held ≡ Open w → start_of w ≤ m → m ≤ length held → take m image ≡ take m held → found_on odd image ≡ found_records w.generation w.checkpoint 1 (start_of w) (records most_records (drop (start_of w) image))
+header_decides odd held image w m found within there alike =
+    found_behind_it odd image w.generation w.checkpoint (start_of w)
+    (headed_alike version_1 odd held image w.generation w.checkpoint (start_of w) m (is_open odd held w found).headed within alike there)

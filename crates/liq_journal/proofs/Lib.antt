@@ -12,3 +12,4 @@ pub mod Reading
 mod Scanning
 mod Settling
 mod Testing
+mod Told

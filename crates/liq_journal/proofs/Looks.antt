@@ -1,11 +1,11 @@
 -- How looks at a disk go on.
-use Rattle.std.proofs.Common.{◌≡◌, ℕ, ◌+◌, ◌-◌, ◌≤◌, min, List, ◌++◌, length, take, drop, Option, Some, None, IfSome, ◌∙◌, sym, ap, subst, arith, refl, take-append-drop, append_assoc, length-append, length-take}
+use Rattle.std.proofs.Common.{◌≡◌, ℕ, ◌+◌, ◌-◌, ◌≤◌, List, ◌++◌, length, take, drop, Option, Some, None, IfSome, ◌∙◌, sym, ap, subst, arith, refl, take-append-drop, append_assoc, length-append, length-take}
 use Rattle.std.proofs.lemmas.List.{take-take, drop-take, drop-drop}
 use Rattle.sha2.specs.Sha256.{sha256}
-use Rattle.liq_journal.specs.Written.{header_digest, piece}
+use Rattle.liq_journal.specs.Layout.{header_digest, piece}
 use Rattle.liq_outside.specs.Disk.{LeftNow, Within, Elapses}
 use Rattle.liq_outside.proofs.Moments.{chained, weaker, call, started}
-use Rattle.liq_journal.specs.Looked.{Looked}
+use Rattle.liq_journal.specs.Looked.{IsRead, Looked}
 
 module _ {D : Type 0} (seen : D → Option (List ℕ)) (moment : D → ℕ) (left_at : D → ℕ → List ℕ → Type 0) where
   pub looked_none : (old : D) → Looked seen moment left_at old old
@@ -30,13 +30,17 @@ piece_more place n m bytes =
     let second : take m (drop (place + n) bytes) ≡ drop n (take (n + m) l) = ap (take m) (sym (drop-drop n place bytes)) ∙ sym (drop-take n m l) in
     (λ i. first i ++ second i) ∙ take-append-drop n (take (n + m) l)
 
-pub read_more : (told now : Option (List ℕ)) → now ≡ told → (size at n : ℕ) (old new part buf : List ℕ) → at ≡ 57 + length old → n ≤ length buf → length new ≡ length old + n → new ≡ old ++ take n part → IfSome now (λ held. (n ≡ min (length buf) (length held - at)) × (take n part ≡ take n (drop at held))) → IfSome told (λ held. 57 + size ≤ length held → old ≡ piece 57 (length old) held) → IfSome told (λ held. 57 + size ≤ length held → new ≡ piece 57 (length new) held)
-read_more told now same size at n old new part buf is within long grows read so_far = go told (subst (λ (o : Option (List ℕ)). IfSome o (λ held. (n ≡ min (length buf) (length held - at)) × (take n part ≡ take n (drop at held)))) same read) so_far
+-- the piece from a place on, as far as it was read
+abbrev pub HasPart : ℕ → ℕ → List ℕ → List ℕ → Type 0
+HasPart place size part held = place + size ≤ length held → part ≡ piece place (length part) held
+
+pub read_more : (told now : Option (List ℕ)) → now ≡ told → (place size at n : ℕ) (old new part buf : List ℕ) → at ≡ place + length old → length new ≡ length old + n → new ≡ old ++ take n part → IfSome now (IsRead at (length buf) n part) → IfSome told (HasPart place size old) → IfSome told (HasPart place size new)
+read_more told now same place size at n old new part buf is long grows read so_far = go told (subst (λ (o : Option (List ℕ)). IfSome o (IsRead at (length buf) n part)) same read) so_far
   where
-    go : (o : Option (List ℕ)) → IfSome o (λ held. (n ≡ min (length buf) (length held - at)) × (take n part ≡ take n (drop at held))) → IfSome o (λ held. 57 + size ≤ length held → old ≡ piece 57 (length old) held) → IfSome o (λ held. 57 + size ≤ length held → new ≡ piece 57 (length new) held)
+    go : (o : Option (List ℕ)) → IfSome o (IsRead at (length buf) n part) → IfSome o (HasPart place size old) → IfSome o (HasPart place size new)
     go None r s = tt
     go (Some held) r s = λ room.
-        grows ∙ (λ i. s room i ++ r.1 i) ∙ ap (λ (k : ℕ). piece 57 (length old) held ++ take n (drop k held)) is ∙ piece_more 57 (length old) n held ∙ ap (λ (k : ℕ). piece 57 k held) (sym long)
+        grows ∙ (λ i. s room i ++ r.1 i) ∙ ap (λ (k : ℕ). piece place (length old) held ++ take n (drop k held)) is ∙ piece_more place (length old) n held ∙ ap (λ (k : ℕ). piece place k held) (sym long)
 
 pub grown : (old new part : List ℕ) (n : ℕ) → new ≡ old ++ take n part → n ≤ length part → length new ≡ length old + n
 grown old new part n is within = ap length is ∙ length-append old (take n part) ∙ ap (λ (k : ℕ). length old + k) (length-take n part ∙ omega arith)
@@ -44,19 +48,23 @@ grown old new part n is within = ap length is ∙ length-append old (take n part
 pub sum_within : (at n want end : ℕ) → n ≤ want → want ≤ end - at → at ≤ end → at + n ≤ end
 sum_within at n want end fits room within = omega arith
 
--- a piece of the checkpoint more is digested
-pub digest_more : (told now : Option (List ℕ)) → now ≡ told → (size done n : ℕ) (fields part buf : List ℕ) (Holds HoldsMore : List ℕ → Type 0) → ((m : List ℕ) → Holds m → HoldsMore (m ++ take n part)) → IfSome now (λ held. (n ≡ min (length buf) (length held - (57 + done))) × (take n part ≡ take n (drop (57 + done) held))) → IfSome told (λ held. 57 + size ≤ length held → Holds (fields ++ piece 57 done held)) → IfSome told (λ held. 57 + size ≤ length held → HoldsMore (fields ++ piece 57 (done + n) held))
-digest_more told now same size done n fields part buf Holds HoldsMore update read so_far = go told (subst (λ (o : Option (List ℕ)). IfSome o (λ held. (n ≡ min (length buf) (length held - (57 + done))) × (take n part ≡ take n (drop (57 + done) held)))) same read) so_far
+-- the fields and so many bytes of the checkpoint are digested
+abbrev pub HasDigested : (List ℕ → Type 0) → ℕ → ℕ → List ℕ → ℕ → List ℕ → Type 0
+HasDigested Holds place size fields done held = place + size ≤ length held → Holds (fields ++ piece place done held)
+
+-- a piece of the checkpoint more
+pub digest_more : (told now : Option (List ℕ)) → now ≡ told → (place size done n : ℕ) (fields part buf : List ℕ) (Holds HoldsMore : List ℕ → Type 0) → ((m : List ℕ) → Holds m → HoldsMore (m ++ take n part)) → IfSome now (IsRead (place + done) (length buf) n part) → IfSome told (HasDigested Holds place size fields done) → IfSome told (HasDigested HoldsMore place size fields (done + n))
+digest_more told now same place size done n fields part buf Holds HoldsMore update read so_far = go told (subst (λ (o : Option (List ℕ)). IfSome o (IsRead (place + done) (length buf) n part)) same read) so_far
   where
-    go : (o : Option (List ℕ)) → IfSome o (λ held. (n ≡ min (length buf) (length held - (57 + done))) × (take n part ≡ take n (drop (57 + done) held))) → IfSome o (λ held. 57 + size ≤ length held → Holds (fields ++ piece 57 done held)) → IfSome o (λ held. 57 + size ≤ length held → HoldsMore (fields ++ piece 57 (done + n) held))
+    go : (o : Option (List ℕ)) → IfSome o (IsRead (place + done) (length buf) n part) → IfSome o (HasDigested Holds place size fields done) → IfSome o (HasDigested HoldsMore place size fields (done + n))
     go None r s = tt
-    go (Some held) r s = λ room. subst HoldsMore (append_assoc fields (piece 57 done held) (take n part) ∙ ap (λ (l : List ℕ). fields ++ (piece 57 done held ++ l)) r.1 ∙ ap (λ (l : List ℕ). fields ++ l) (piece_more 57 done n held)) (update (fields ++ piece 57 done held) (s room))
+    go (Some held) r s = λ room. subst HoldsMore (append_assoc fields (piece place done held) (take n part) ∙ ap (λ (l : List ℕ). fields ++ (piece place done held ++ l)) r.1 ∙ ap (λ (l : List ℕ). fields ++ l) (piece_more place done n held)) (update (fields ++ piece place done held) (s room))
 
 pub header_digest_is : (fields checkpoint : List ℕ) → sha256 (fields ++ checkpoint) ≡ header_digest fields checkpoint
 unfolding header_digest
 header_digest_is fields checkpoint = refl
 
 -- all of it is
-pub digest_done : (told : Option (List ℕ)) (size done : ℕ) → done ≡ size → (fields digest : List ℕ) (Holds : List ℕ → Type 0) → ((m : List ℕ) → Holds m → digest ≡ sha256 m) → IfSome told (λ held. 57 + size ≤ length held → Holds (fields ++ piece 57 done held)) → IfSome told (λ held. 57 + size ≤ length held → digest ≡ header_digest fields (piece 57 size held))
-digest_done None size done all fields digest Holds finalize so_far = tt
-digest_done (Some held) size done all fields digest Holds finalize so_far = λ room. finalize (fields ++ piece 57 done held) (so_far room) ∙ header_digest_is fields (piece 57 done held) ∙ ap (λ (n : ℕ). header_digest fields (piece 57 n held)) all
+pub digest_done : (told : Option (List ℕ)) (place size done : ℕ) → done ≡ size → (fields digest : List ℕ) (Holds : List ℕ → Type 0) → ((m : List ℕ) → Holds m → digest ≡ sha256 m) → IfSome told (HasDigested Holds place size fields done) → IfSome told (λ held. place + size ≤ length held → digest ≡ header_digest fields (piece place size held))
+digest_done None place size done all fields digest Holds finalize so_far = tt
+digest_done (Some held) place size done all fields digest Holds finalize so_far = λ room. finalize (fields ++ piece place done held) (so_far room) ∙ header_digest_is fields (piece place done held) ∙ ap (λ (n : ℕ). header_digest fields (piece place n held)) all

@@ -1,35 +1,35 @@
 -- What an opening leaves and finds afterwards.
-use Rattle.std.proofs.Common.{◌≡◌, inl, inr, ⊎_elim, ℕ, ◌+◌, ◌*◌, ◌-◌, ◌≤◌, List, length, take, drop, Option, Some, None, IfSome, IsSome, ◌↔◌, true, false, not, ◌&&◌, ◌==◌, rules, Result, Ok, Err, IfOk, Bool, refl, sym, ◌∙◌, ap, subst, arith, length-drop}
+use Rattle.std.proofs.Common.{◌≡◌, inl, inr, ⊎_elim, ℕ, ◌+◌, ◌*◌, ◌-◌, ◌≤◌, List, length, take, drop, Option, Some, None, IfSome, IsSome, ◌↔◌, true, false, rules, Bool, refl, sym, ◌∙◌, ap, subst, arith, length-drop}
 use Rattle.liq_outside.specs.Disk.{LeavesOnly}
 use Rattle.liq_outside.proofs.Moments.{weaker}
 use Rattle.liq_journal.specs.Records.{records}
 use Rattle.liq_journal.specs.declared.scanned.Scanned.{Scanned}
-use Rattle.liq_journal.specs.Written.{Written, Open, Absent, most_records, found_on, end_of, header_tests, version_1}
+use Rattle.liq_journal.specs.Written.{Written, Open, Absent, most_records, found_on, start_of, end_of, is_generation}
 use Rattle.liq_journal.specs.Crash.{HasGate, SettleLeaves, Stands, is_odd}
 use Rattle.liq_journal.specs.Settled.{IsSettled}
 use Rattle.std.proofs.lemmas.Bool.Decides.{nat_tests}
 use Rattle.liq_journal.specs.Opened.{IsOpened, IsScanOf, OpenLeaves, AbsentLeaves}
 use Rattle.liq_journal.proofs.Reading.{records_long, records_few}
-use Rattle.liq_journal.proofs.Heading.{is_open, of_records, are_false}
+use Rattle.liq_journal.proofs.Heading.{has_generation, is_open, of_records}
 use Rattle.liq_journal.proofs.Appending.{held_on}
 
 module _ (odd : Bool) (held : List ℕ) (w : Written) (found : found_on odd held ≡ Open w) where
   abbrev raws : List (List ℕ)
-  raws = records most_records (drop (57 + length w.checkpoint) held)
+  raws = records most_records (drop (start_of w) held)
 
   counted : length raws ≡ length w.commands
-  counted = (of_records w.generation w.checkpoint 1 (57 + length w.checkpoint) raws w (is_open odd held w found).behind).count
+  counted = (of_records w.generation w.checkpoint 1 (start_of w) raws w (is_open odd held w found).behind).count
 
   pub ends_inside : end_of w ≤ length held
   ends_inside =
-      let long = records_long most_records (drop (57 + length w.checkpoint) held) in
-      let d = length-drop (57 + length w.checkpoint) held in
+      let long = records_long most_records (drop (start_of w) held) in
+      let d = length-drop (start_of w) held in
       let c = counted in
       let s = (is_open odd held w found).headed.long in
       omega arith
 
   few : length w.commands ≤ 1000001
-  few = let f = records_few most_records (drop (57 + length w.checkpoint) held) in let c = counted in omega arith
+  few = let f = records_few most_records (drop (start_of w) held) in let c = counted in omega arith
 
   pub stands_settled : (after : List ℕ) → take (end_of w) after ≡ take (end_of w) held → HasGate (end_of w) after → Stands odd after w
   stands_settled after front gate = record {
@@ -66,19 +66,12 @@ module _ {D : Type 0} (moment : D → ℕ) (left_at : D → ℕ → List ℕ →
   leaves_absent found leaves = weaker moment left_at old new (AbsentLeaves held) (OpenLeaves odd held) leaves
       (λ image l. ⊎_elim (λ same. inl same) (λ byte. inr (0, inr (found, refl, byte.0), byte.1)) l)
 
-pub if_ok_map : {T E : Type 0} (r : Result T E) (P Q : T → Type 0) → ((x : T) → P x → Q x) → IfOk r P → IfOk r Q
-if_ok_map (Ok x) P Q f p = f x p
-if_ok_map (Err e) P Q f p = tt
-
-by_parity : (odd : Bool) (g : ℕ) → not (odd && (g == 1)) ≡ false → is_odd g ≡ odd
+by_parity : (odd : Bool) (g : ℕ) → is_generation odd g ≡ true → is_odd g ≡ odd
 by_parity false g is = absurd (cc (is))
 by_parity true g is = let one : g ≡ 1 = grind (arith, nat_tests) in ap is_odd one
 
 parity : (odd : Bool) (held : List ℕ) (w : Written) → found_on odd held ≡ Open w → is_odd w.generation ≡ odd
-parity odd held w found =
-    let h = (is_open odd held w found).headed in
-    let all = are_false (header_tests version_1 odd held) h.tests in
-    by_parity odd w.generation (ap (λ (n : ℕ). not (odd && (n == 1))) (sym h.generation_is) ∙ all.1.0)
+parity odd held w found = by_parity odd w.generation (has_generation odd held w found)
 
 pub told_opened : (told : Option (List ℕ)) (odd : Bool) (s : Scanned) → IfSome told (λ held. IsScanOf odd held s) → IfSome told (λ held. IsOpened odd held s.generation s.start s.count s.checkpoint.items)
 told_opened None odd s scan = tt

@@ -1,17 +1,17 @@
 -- How bytes are taken from a part of a disk.
-use Rattle.std.proofs.Common.{◌≡◌, inl, inr, ℕ, zero, suc, ◌+◌, ◌-◌, ◌≤◌, min, List, [], ◌++◌, length, take, drop, Option, IfSome, Result, Ok, Err, OnOk, Bool, false, nat_lt, if◌then◌else◌, refl, sym, ◌∙◌, ap, arith, length-take, length-drop}
+use Rattle.std.proofs.Common.{◌≡◌, inl, inr, ℕ, zero, suc, ◌+◌, ◌-◌, ◌≤◌, min, List, [], ◌++◌, length, take, drop, Option, IfSome, Bool, false, nat_lt, if◌then◌else◌, refl, sym, ◌∙◌, ap, arith, length-take, length-drop}
 use Rattle.std.proofs.lemmas.Bool.{cases_Bool}
 use Rattle.std.proofs.lemmas.Bool.Decides.{nat_tests}
 use Rattle.std.proofs.lemmas.List.{take-take, take_at, take_min, drop-drop}
-use Rattle.liq_outside.specs.declared.failed.Failed.{Failed}
+use Rattle.liq_journal.specs.Looked.{IsRead}
 use Rattle.liq_journal.specs.Parts.{Part, IsPartOf, bytes_from}
-use Rattle.liq_journal.specs.Written.{piece}
+use Rattle.liq_journal.specs.Layout.{piece}
 use Rattle.liq_journal.proofs.Reading.{piece_alike}
-use Rattle.liq_journal.proofs.Testing.{if_some}
+use Rattle.liq_journal.proofs.Told.{if_some}
 
 -- what was read is all that is there, or as much of it as was asked for
-pub read_all : (told : Option (List ℕ)) (at n size most : ℕ) (buf : List ℕ) → size ≡ most → IfSome told (λ held. (n ≡ min size (length held - at)) × (take n buf ≡ take n (drop at held))) → IfSome told (λ held. take n buf ≡ piece at most held)
-read_all told at n size most buf is read = if_some told (λ held. (n ≡ min size (length held - at)) × (take n buf ≡ take n (drop at held))) (λ held. take n buf ≡ piece at most held)
+pub read_all : (told : Option (List ℕ)) (at n size most : ℕ) (buf : List ℕ) → size ≡ most → IfSome told (IsRead at size n buf) → IfSome told (λ held. take n buf ≡ piece at most held)
+read_all told at n size most buf is read = if_some told (IsRead at size n buf) (λ held. take n buf ≡ piece at most held)
     (λ held r. r.1 ∙ ap (λ (k : ℕ). take k (drop at held)) (r.0 ∙ (λ i. min (is i) (sym (length-drop at held) i))) ∙ take_min most (drop at held)) read
 
 from_here : (at count : ℕ) (part : Part) (held : List ℕ) → part.at ≤ at → IsPartOf part held → suc count ≤ length (drop (at - part.at) part.bytes) → take (suc count) (drop (at - part.at) part.bytes) ≡ piece at (suc count) held
@@ -52,18 +52,14 @@ told_there told at count part enough is = if_some told (IsPartOf part) (λ held.
 pub told_begun : (told : Option (List ℕ)) (at count most : ℕ) (part : Part) → part.at ≡ at → count ≤ most → IfSome told (λ held. part.bytes ≡ piece at most held) → IfSome told (λ held. take count (bytes_from at part) ≡ piece at count held)
 told_begun told at count most part here few whole = if_some told (λ held. part.bytes ≡ piece at most held) (λ held. take count (bytes_from at part) ≡ piece at count held) (λ held p. begins_there at count most part held here few p) whole
 
-pub on_ok : (result : Result (Unit {0}) Failed) (P Q : Type 0) → (P → Q) → OnOk result P → OnOk result Q
-on_ok (Ok done) P Q f p = f p
-on_ok (Err why) P Q f p = tt
-
 pub front_of : (n : ℕ) (bytes buf copy : List ℕ) → n ≡ min (length bytes) (length buf) → copy ≡ take n bytes → take n (copy ++ drop n buf) ≡ take n bytes
 front_of n bytes buf copy is same =
     let size : length copy ≡ n = ap length same ∙ length-take n bytes ∙ omega (arith, is) in
     take_at copy (drop n buf) n size ∙ same
 
 -- what is copied from its front
-pub copied : (told : Option (List ℕ)) (at n : ℕ) (bytes buf new : List ℕ) → n ≡ min (length bytes) (length buf) → take n new ≡ take n bytes → IfSome told (λ held. take (length buf) bytes ≡ piece at (length buf) held) → IfSome told (λ held. (n ≡ min (length buf) (length held - at)) × (take n new ≡ take n (drop at held)))
-copied told at n bytes buf new is same reached = if_some told (λ held. take (length buf) bytes ≡ piece at (length buf) held) (λ held. (n ≡ min (length buf) (length held - at)) × (take n new ≡ take n (drop at held)))
+pub copied : (told : Option (List ℕ)) (at n : ℕ) (bytes buf new : List ℕ) → n ≡ min (length bytes) (length buf) → take n new ≡ take n bytes → IfSome told (λ held. take (length buf) bytes ≡ piece at (length buf) held) → IfSome told (IsRead at (length buf) n new)
+copied told at n bytes buf new is same reached = if_some told (λ held. take (length buf) bytes ≡ piece at (length buf) held) (IsRead at (length buf) n new)
     (λ held r.
     let m = length buf in
     let size = sym (length-take m bytes) ∙ ap length r ∙ length-take m (drop at held) in

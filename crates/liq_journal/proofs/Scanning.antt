@@ -1,8 +1,8 @@
 -- What a whole disk is found to be.
-use Rattle.std.proofs.Common.{◌≡◌, ◌⊎◌, inl, ℕ, ◌+◌, ◌≤◌, List, length, drop, Option, Some, None, IfSome, Result, Ok, Err, Bool, true, false, not, nat_lt, refl, sym, ◌∙◌, ap, subst, arith, length-take, length-drop}
+use Rattle.std.proofs.Common.{◌≡◌, ◌⊎◌, inl, ℕ, ◌+◌, ◌≤◌, List, length, drop, Option, Some, None, IfSome, Result, Ok, Err, Bool, true, false, not, nat_lt, if◌then◌else◌, refl, sym, ◌∙◌, ap, subst, arith, length-take, length-drop}
 use Rattle.std.specs.Str.{bytes_eq}
 use Rattle.std.proofs.lemmas.Bool.Decides.{nat_tests}
-use Rattle.liq_journal.specs.declared.damage.What.TheVariants.{Digest}
+use Rattle.liq_journal.specs.declared.damage.What.TheVariants.{Digest, Form}
 use Rattle.liq_journal.specs.declared.head.Head.{Head}
 use Rattle.liq_journal.specs.declared.scanned.Scanned.{Scanned}
 use Rattle.liq_journal.specs.declared.answers.LookFault.{LookFault}
@@ -11,123 +11,130 @@ use Rattle.liq_journal.specs.declared.answers.OpenWhy.TheVariants as why
 use Rattle.liq_journal.specs.Header.{IsHeadOf, MaybeHeadOf, IsDamageOf}
 use Rattle.liq_journal.specs.Opened.{IsScanOf, IsWhyOf, why_of}
 use Rattle.liq_journal.specs.Counted.{AreRecords, IsFaultIn}
-use Rattle.liq_journal.specs.Written.{version_1, piece, generation_on, size_on, start_on, checkpoint_on, header_digest, is_generation, is_size, header_tests}
-use Rattle.liq_journal.proofs.Heading.{Headed, no_fault, found_behind_it}
-use Rattle.liq_journal.proofs.HeaderFound.{early_false, found_absent, found_damaged, look_damaged, look_open, fifth}
+use Rattle.liq_journal.specs.Layout.{Layout, version_1, header_size, piece, start_on, digest_on, checkpoint_on, header_digest}
+use Rattle.liq_journal.specs.Written.{first_fault, header_tests, place_tests, last_tests}
+use Rattle.liq_journal.proofs.Heading.{Headed, found_behind_it}
+use Rattle.liq_journal.proofs.HeaderFound.{forms_fit, found_absent, found_damaged, look_damaged, look_open}
+use Rattle.liq_journal.proofs.Told.{if_some, if_both}
 use Rattle.liq_journal.specs.Look.{look_on}
 use Rattle.liq_journal.specs.declared.answers.Look.{Look}
 use Rattle.liq_journal.specs.declared.answers.Look.TheVariants as answer
 
+-- the checkpoint was read, where the bytes behind the header are there
+abbrev pub IsReadBehind : Layout → Head → List ℕ → List ℕ → Type 0
+IsReadBehind layout head checkpoint held = header_size layout + head.size ≤ length held → checkpoint ≡ piece (header_size layout) head.size held
+
+-- a header whose digest was worked out
+module _ (layout : Layout) (odd : Bool) (head : Head) (checkpoint computed : List ℕ) (is : computed ≡ header_digest head.fields checkpoint) (held : List ℕ) (h : IsHeadOf layout odd held head) (read : IsReadBehind layout head checkpoint held) where
+  start : start_on layout held ≡ header_size layout + head.size
+  start = ap (λ (k : ℕ). header_size layout + k) (sym h.fields.size)
+
+  long : header_size layout + head.size ≤ length held
+  long = let l = h.long in let s = start in omega arith
+
+  same_checkpoint : checkpoint_on layout held ≡ checkpoint
+  same_checkpoint = ap (λ (k : ℕ). piece (header_size layout) k held) (sym h.fields.size) ∙ sym (read long)
+
+  digest_is : digest_on layout held ≡ computed
+  digest_is = (λ i. header_digest (sym h.fields.fields i) (same_checkpoint i)) ∙ sym is
+
+  first_is : first_fault (header_tests layout odd held) ≡ (if not (bytes_eq head.stored computed) then Some (Digest head.stored computed) else None)
+  first_is =
+      let l : nat_lt (length held) (start_on layout held) ≡ false = let e = h.long in grind (arith, nat_tests) in
+      forms_fit (place_tests layout odd held) (last_tests layout held) h.places
+      ∙ ap (λ (b : Bool). if b then Some (Form (length held)) else first_fault (drop 1 (last_tests layout held))) l
+      ∙ (λ i. if not (bytes_eq (sym h.fields.stored i) (digest_is i)) then Some (Digest (sym h.fields.stored i) (digest_is i)) else None)
+
+  first_damaged : not (bytes_eq head.stored computed) ≡ true → first_fault (header_tests layout odd held) ≡ Some (Digest head.stored computed)
+  first_damaged differs = first_is ∙ ap (λ (b : Bool). if b then Some (Digest head.stored computed) else None) differs
+
+  headed : not (bytes_eq head.stored computed) ≡ false → Headed layout odd held head.generation checkpoint (header_size layout + head.size)
+  headed same = record {
+    gate = h.gate;
+    tests = first_is ∙ ap (λ (b : Bool). if b then Some (Digest head.stored computed) else None) same;
+    generation_is = sym h.fields.generation;
+    checkpoint_is = same_checkpoint;
+    start_is = start;
+    long = long;
+  }
+
+  size_is : length checkpoint ≡ head.size
+  size_is = ap length (read long) ∙ length-take head.size (drop (header_size layout) held) ∙ (let d = length-drop (header_size layout) held in let l = long in omega arith)
+
 module _ (odd : Bool) (head : Head) (checkpoint computed : List ℕ) (is : computed ≡ header_digest head.fields checkpoint) where
-  module _ (held : List ℕ) (h : IsHeadOf odd held head) (read : 57 + head.size ≤ length held → checkpoint ≡ piece 57 head.size held) where
-    start : start_on version_1 held ≡ 57 + head.size
-    start = ap (λ (k : ℕ). 57 + k) (sym h.fields.size)
+  damaged_digest : (held : List ℕ) → IsHeadOf version_1 odd held head → IsReadBehind version_1 head checkpoint held → not (bytes_eq head.stored computed) ≡ true → look_on odd held ≡ Err (look.Damaged (record { index = 0; what = Digest head.stored computed }))
+  damaged_digest held h read differs = look_damaged odd held (Digest head.stored computed) h.gate (first_damaged version_1 odd head checkpoint computed is held h read differs)
 
-    long : 57 + head.size ≤ length held
-    long = let l = h.long in let s = start in grind (arith, nat_tests)
-
-    same_checkpoint : checkpoint_on version_1 held ≡ checkpoint
-    same_checkpoint = ap (λ (k : ℕ). piece 57 k held) (sym h.fields.size) ∙ sym (read long)
-
-    digest_is : header_digest (piece 1 24 held) (checkpoint_on version_1 held) ≡ computed
-    digest_is = (λ i. header_digest (sym h.fields.fields i) (same_checkpoint i)) ∙ sym is
-
-    test_is : not (bytes_eq (piece 25 32 held) (header_digest (piece 1 24 held) (checkpoint_on version_1 held))) ≡ not (bytes_eq head.stored computed)
-    test_is = λ i. not (bytes_eq (sym h.fields.stored i) (digest_is i))
-
-    pub damaged_digest : not (bytes_eq head.stored computed) ≡ true → look_on odd held ≡ Err (look.Damaged (record { index = 0; what = Digest head.stored computed }))
-    damaged_digest differs =
-        let e = early_false (not (bytes_eq (piece 1 8 held) version_1.name)) (not (is_generation odd (generation_on held))) (not (is_size (generation_on held) (size_on held))) h.places in
-        look_damaged odd held (Digest head.stored computed) h.gate
-        (fifth (not (bytes_eq (piece 1 8 held) version_1.name)) (not (is_generation odd (generation_on held))) (not (is_size (generation_on held) (size_on held))) (nat_lt (length held) (start_on version_1 held)) (not (bytes_eq (piece 25 32 held) (header_digest (piece 1 24 held) (checkpoint_on version_1 held)))) (length held) (Digest (piece 25 32 held) (header_digest (piece 1 24 held) (checkpoint_on version_1 held))) e.0 e.1.0 e.1.1 h.long (test_is ∙ differs)
-        ∙ (λ i. Some (Digest (sym h.fields.stored i) (digest_is i))))
-
-    pub headed : not (bytes_eq head.stored computed) ≡ false → Headed odd held head.generation checkpoint (57 + head.size)
-    headed same =
-        let e = early_false (not (bytes_eq (piece 1 8 held) version_1.name)) (not (is_generation odd (generation_on held))) (not (is_size (generation_on held) (size_on held))) h.places in
-        record {
-          gate = h.gate;
-          tests = no_fault (header_tests version_1 odd held) (e.0, (e.1.0, (e.1.1, (h.long, (test_is ∙ same, tt)))));
-          generation_is = sym h.fields.generation;
-          checkpoint_is = same_checkpoint;
-          start_is = start;
-          long = long;
-        }
-
-    size_is : length checkpoint ≡ head.size
-    size_is = ap length (read long) ∙ length-take head.size (drop 57 held) ∙ (let d = length-drop 57 held in let l = long in omega arith)
-
-  module _ (told : Option (List ℕ)) (heads : IfSome told (λ held. MaybeHeadOf odd held (Some head))) (reads : IfSome told (λ held. 57 + head.size ≤ length held → checkpoint ≡ piece 57 head.size held)) where
+  module _ (told : Option (List ℕ)) (heads : IfSome told (λ held. MaybeHeadOf odd held (Some head))) (reads : IfSome told (IsReadBehind version_1 head checkpoint)) where
     pub told_digest : not (bytes_eq head.stored computed) ≡ true → IfSome told (λ held. IsWhyOf odd held (why.Damaged (record { index = 0; what = Digest head.stored computed })))
-    told_digest differs = go told heads reads
-      where
-        go : (o : Option (List ℕ)) → IfSome o (λ held. MaybeHeadOf odd held (Some head)) → IfSome o (λ held. 57 + head.size ≤ length held → checkpoint ≡ piece 57 head.size held) → IfSome o (λ held. IsWhyOf odd held (why.Damaged (record { index = 0; what = Digest head.stored computed })))
-        go None h r = tt
-        go (Some held) h r = found_damaged odd held (record { index = 0; what = Digest head.stored computed }) (damaged_digest held h r differs)
+    told_digest differs = if_both told (λ held. MaybeHeadOf odd held (Some head)) (IsReadBehind version_1 head checkpoint) (λ held. IsWhyOf odd held (why.Damaged (record { index = 0; what = Digest head.stored computed })))
+        (λ held h r. found_damaged odd held (record { index = 0; what = Digest head.stored computed }) (damaged_digest held h r differs)) heads reads
 
     module _ (same : not (bytes_eq head.stored computed) ≡ false) (now : Option (List ℕ)) (still : now ≡ told) where
-      pub told_scan : (s : Scanned) → s.generation ≡ head.generation → s.start ≡ 57 + head.size → s.checkpoint.items ≡ checkpoint → IfSome now (λ held. AreRecords head.generation (57 + head.size) held s.count) → IfSome told (λ held. IsScanOf odd held s)
-      told_scan s generation start_2 bytes records_2 = go told heads reads (subst (λ (o : Option (List ℕ)). IfSome o (λ held. AreRecords head.generation (57 + head.size) held s.count)) still records_2)
+      headed_1 : IfSome told (λ held. Headed version_1 odd held head.generation checkpoint (header_size version_1 + head.size) × (length checkpoint ≡ head.size))
+      headed_1 = if_both told (λ held. MaybeHeadOf odd held (Some head)) (IsReadBehind version_1 head checkpoint) (λ held. Headed version_1 odd held head.generation checkpoint (header_size version_1 + head.size) × (length checkpoint ≡ head.size))
+          (λ held h r. (headed version_1 odd head checkpoint computed is held h r same, size_is version_1 odd head checkpoint computed is held h r)) heads reads
+
+      pub told_scan : (s : Scanned) → s.generation ≡ head.generation → s.start ≡ header_size version_1 + head.size → s.checkpoint.items ≡ checkpoint → IfSome now (λ held. AreRecords head.generation (header_size version_1 + head.size) held s.count) → IfSome told (λ held. IsScanOf odd held s)
+      told_scan s generation start_2 bytes records_2 =
+          if_both told (λ held. Headed version_1 odd held head.generation checkpoint (header_size version_1 + head.size) × (length checkpoint ≡ head.size)) (λ held. AreRecords head.generation (header_size version_1 + head.size) held s.count) (λ held. IsScanOf odd held s) scan_of headed_1
+          (subst (λ (o : Option (List ℕ)). IfSome o (λ held. AreRecords head.generation (header_size version_1 + head.size) held s.count)) still records_2)
         where
-          scan_of : (held : List ℕ) → IsHeadOf odd held head → (57 + head.size ≤ length held → checkpoint ≡ piece 57 head.size held) → AreRecords head.generation (57 + head.size) held s.count → IsScanOf odd held s
-          scan_of held h r a = record {
+          scan_of : (held : List ℕ) → Headed version_1 odd held head.generation checkpoint (header_size version_1 + head.size) × (length checkpoint ≡ head.size) → AreRecords head.generation (header_size version_1 + head.size) held s.count → IsScanOf odd held s
+          scan_of held (h, size) a = record {
             written = record { generation = head.generation; checkpoint = checkpoint; commands = a.commands };
-            found = found_behind_it odd held head.generation checkpoint (57 + head.size) (headed held h r same) ∙ a.found checkpoint;
+            found = found_behind_it odd held head.generation checkpoint (header_size version_1 + head.size) h ∙ a.found checkpoint;
             generation_is = sym generation;
             checkpoint_is = sym bytes;
-            start_is = ap (λ (k : ℕ). 57 + k) (size_is held h r) ∙ sym start_2;
+            start_is = ap (λ (k : ℕ). header_size version_1 + k) size ∙ sym start_2;
             count_is = a.counted;
           }
 
-          go : (o : Option (List ℕ)) → IfSome o (λ held. MaybeHeadOf odd held (Some head)) → IfSome o (λ held. 57 + head.size ≤ length held → checkpoint ≡ piece 57 head.size held) → IfSome o (λ held. AreRecords head.generation (57 + head.size) held s.count) → IfSome o (λ held. IsScanOf odd held s)
-          go None h r a = tt
-          go (Some held) h r a = scan_of held h r a
-
-      pub told_record_fault : (y : LookFault) → IfSome now (λ held. IsFaultIn head.generation (57 + head.size) held y) → IfSome told (λ held. IsWhyOf odd held (why_of y))
-      told_record_fault y fault_2 = go y told heads reads (subst (λ (o : Option (List ℕ)). IfSome o (λ held. IsFaultIn head.generation (57 + head.size) held y)) still fault_2)
+      pub told_record_fault : (y : LookFault) → IfSome now (λ held. IsFaultIn head.generation (header_size version_1 + head.size) held y) → IfSome told (λ held. IsWhyOf odd held (why_of y))
+      told_record_fault y fault_2 =
+          if_both told (λ held. Headed version_1 odd held head.generation checkpoint (header_size version_1 + head.size) × (length checkpoint ≡ head.size)) (λ held. IsFaultIn head.generation (header_size version_1 + head.size) held y) (λ held. IsWhyOf odd held (why_of y)) (why_is y) headed_1
+          (subst (λ (o : Option (List ℕ)). IfSome o (λ held. IsFaultIn head.generation (header_size version_1 + head.size) held y)) still fault_2)
         where
-          go : (v : LookFault) (o : Option (List ℕ)) → IfSome o (λ held. MaybeHeadOf odd held (Some head)) → IfSome o (λ held. 57 + head.size ≤ length held → checkpoint ≡ piece 57 head.size held) → IfSome o (λ held. IsFaultIn head.generation (57 + head.size) held v) → IfSome o (λ held. IsWhyOf odd held (why_of v))
-          go v None h r f = tt
-          go look.DiskFault (Some held) h r f = tt
-          go (look.Damaged damage) (Some held) h r f = found_behind_it odd held head.generation checkpoint (57 + head.size) (headed held h r same) ∙ f checkpoint
+          why_is : (v : LookFault) (held : List ℕ) → Headed version_1 odd held head.generation checkpoint (header_size version_1 + head.size) × (length checkpoint ≡ head.size) → IsFaultIn head.generation (header_size version_1 + head.size) held v → IsWhyOf odd held (why_of v)
+          why_is look.DiskFault held h f = tt
+          why_is (look.Damaged damage) held (h, size) f = found_behind_it odd held head.generation checkpoint (header_size version_1 + head.size) h ∙ f checkpoint
 
 -- what a header that isn't open or is damaged is found to be
 pub told_absent_header : (odd : Bool) (told : Option (List ℕ)) → IfSome told (λ held. MaybeHeadOf odd held None) → IfSome told (λ held. IsWhyOf odd held why.Absent)
-told_absent_header odd None is = tt
-told_absent_header odd (Some held) is = found_absent odd held is
+told_absent_header odd told is = if_some told (λ held. MaybeHeadOf odd held None) (λ held. IsWhyOf odd held why.Absent) (found_absent odd) is
 
 pub told_header_fault : (odd : Bool) (told : Option (List ℕ)) (y : LookFault) → IfSome told (λ held. IsDamageOf odd held y) → IfSome told (λ held. IsWhyOf odd held (why_of y))
-told_header_fault odd None y is = tt
-told_header_fault odd (Some held) look.DiskFault is = tt
-told_header_fault odd (Some held) (look.Damaged damage) is = found_damaged odd held damage is
+told_header_fault odd told y is = if_some told (λ held. IsDamageOf odd held y) (λ held. IsWhyOf odd held (why_of y)) (why_is y) is
+  where
+    why_is : (v : LookFault) (held : List ℕ) → IsDamageOf odd held v → IsWhyOf odd held (why_of v)
+    why_is look.DiskFault held d = tt
+    why_is (look.Damaged damage) held d = found_damaged odd held damage d
 
 -- what a look at an open disk tells
 module _ (odd : Bool) (head : Head) (computed : List ℕ) where
   abbrev checkpoint_of : List ℕ → List ℕ
-  checkpoint_of held = piece 57 head.size held
+  checkpoint_of held = piece (header_size version_1) head.size held
 
-  head_long : (held : List ℕ) → IsHeadOf odd held head → 57 + head.size ≤ length held
-  head_long held h = let l = h.long in let s : start_on version_1 held ≡ 57 + head.size = ap (λ (k : ℕ). 57 + k) (sym h.fields.size) in grind (arith, nat_tests)
+  abbrev IsDigestOf : List ℕ → Type 0
+  IsDigestOf held = header_size version_1 + head.size ≤ length held → computed ≡ header_digest head.fields (checkpoint_of held)
 
-  module _ (told now : Option (List ℕ)) (same : now ≡ told) (heads : IfSome told (λ held. MaybeHeadOf odd held (Some head))) (reads : IfSome now (λ held. 57 + head.size ≤ length held → computed ≡ header_digest head.fields (piece 57 head.size held))) where
-    reads_told : IfSome told (λ held. 57 + head.size ≤ length held → computed ≡ header_digest head.fields (piece 57 head.size held))
-    reads_told = subst (λ (o : Option (List ℕ)). IfSome o (λ held. 57 + head.size ≤ length held → computed ≡ header_digest head.fields (piece 57 head.size held))) same reads
+  digest_there : (held : List ℕ) → IsHeadOf version_1 odd held head → IsDigestOf held → computed ≡ header_digest head.fields (checkpoint_of held)
+  digest_there held h r = r (let l = h.long in let s : start_on version_1 held ≡ header_size version_1 + head.size = ap (λ (k : ℕ). header_size version_1 + k) (sym h.fields.size) in omega arith)
 
-    pub told_look_damaged : not (bytes_eq head.stored computed) ≡ true → IfSome told (λ held. (Err (look.Damaged (record { index = 0; what = Digest head.stored computed })) ≡ look_on odd held) ⊎ (◌≡◌ {A = Result Look LookFault} (Err (look.Damaged (record { index = 0; what = Digest head.stored computed }))) (Err look.DiskFault)))
-    told_look_damaged differs = go told heads reads_told
-      where
-        go : (o : Option (List ℕ)) → IfSome o (λ held. MaybeHeadOf odd held (Some head)) → IfSome o (λ held. 57 + head.size ≤ length held → computed ≡ header_digest head.fields (piece 57 head.size held)) → IfSome o (λ held. (Err (look.Damaged (record { index = 0; what = Digest head.stored computed })) ≡ look_on odd held) ⊎ (◌≡◌ {A = Result Look LookFault} (Err (look.Damaged (record { index = 0; what = Digest head.stored computed }))) (Err look.DiskFault)))
-        go None h r = tt
-        go (Some held) h r = inl (sym (damaged_digest odd head (checkpoint_of held) computed (r (head_long held h)) held h (λ room. refl) differs))
+  module _ (told now : Option (List ℕ)) (same : now ≡ told) (heads : IfSome told (λ held. MaybeHeadOf odd held (Some head))) (reads : IfSome now IsDigestOf) where
+    reads_told : IfSome told IsDigestOf
+    reads_told = subst (λ (o : Option (List ℕ)). IfSome o IsDigestOf) same reads
 
-    pub told_look_open : not (bytes_eq head.stored computed) ≡ false → IfSome told (λ held. (Ok (answer.Open head.generation) ≡ look_on odd held) ⊎ (◌≡◌ {A = Result Look LookFault} (Ok (answer.Open head.generation)) (Err look.DiskFault)))
-    told_look_open equal = go told heads reads_told
-      where
-        open_of : (held : List ℕ) → IsHeadOf odd held head → (57 + head.size ≤ length held → computed ≡ header_digest head.fields (piece 57 head.size held)) → look_on odd held ≡ Ok (answer.Open head.generation)
-        open_of held h r =
-            let d = headed odd head (checkpoint_of held) computed (r (head_long held h)) held h (λ room. refl) equal in
-            look_open odd held d.gate d.tests ∙ ap (λ (g : ℕ). Ok (answer.Open g)) d.generation_is
+    -- the answer is what a look tells, or there is none
+    abbrev Tells : Result Look LookFault → List ℕ → Type 0
+    Tells answer_is held = (answer_is ≡ look_on odd held) ⊎ (answer_is ≡ Err look.DiskFault)
 
-        go : (o : Option (List ℕ)) → IfSome o (λ held. MaybeHeadOf odd held (Some head)) → IfSome o (λ held. 57 + head.size ≤ length held → computed ≡ header_digest head.fields (piece 57 head.size held)) → IfSome o (λ held. (Ok (answer.Open head.generation) ≡ look_on odd held) ⊎ (◌≡◌ {A = Result Look LookFault} (Ok (answer.Open head.generation)) (Err look.DiskFault)))
-        go None h r = tt
-        go (Some held) h r = inl (sym (open_of held h r))
+    pub told_look_damaged : not (bytes_eq head.stored computed) ≡ true → IfSome told (Tells (Err (look.Damaged (record { index = 0; what = Digest head.stored computed }))))
+    told_look_damaged differs = if_both told (λ held. MaybeHeadOf odd held (Some head)) IsDigestOf (Tells (Err (look.Damaged (record { index = 0; what = Digest head.stored computed }))))
+        (λ held h r. inl (sym (damaged_digest odd head (checkpoint_of held) computed (digest_there held h r) held h (λ room. refl) differs))) heads reads_told
+
+    pub told_look_open : not (bytes_eq head.stored computed) ≡ false → IfSome told (Tells (Ok (answer.Open head.generation)))
+    told_look_open equal = if_both told (λ held. MaybeHeadOf odd held (Some head)) IsDigestOf (Tells (Ok (answer.Open head.generation)))
+        (λ held h r.
+        let d = headed version_1 odd head (checkpoint_of held) computed (digest_there held h r) held h (λ room. refl) equal in
+        inl (sym (look_open odd held d.gate d.tests ∙ ap (λ (g : ℕ). Ok (answer.Open g)) d.generation_is))) heads reads_told

@@ -1,5 +1,5 @@
 -- What one record is read as.
-use Rattle.std.proofs.Common.{◌≡◌, ℕ, ◌+◌, ◌-◌, ◌≤◌, min, List, ◌++◌, length, take, drop, get_or, Option, Some, None, IfSome, Result, Ok, Err, Bool, true, false, not, if◌then◌else◌, refl, sym, ◌∙◌, ap, subst, arith, length-drop, take-append-drop}
+use Rattle.std.proofs.Common.{◌≡◌, ℕ, ◌+◌, ◌-◌, ◌≤◌, List, ◌++◌, length, take, drop, get_or, Option, Some, IfSome, Result, Ok, Err, Bool, true, false, not, if◌then◌else◌, refl, sym, ◌∙◌, ap, subst, arith, length-drop, take-append-drop}
 use Rattle.std.specs.Str.{bytes_eq}
 use Rattle.std.proofs.lemmas.List.{take-take, drop-take, take_at, drop_at, drop-drop}
 use Rattle.liq_types.specs.declared.requests.Command.{Command}
@@ -11,16 +11,15 @@ use Rattle.liq_journal.specs.declared.damage.What.TheVariants.{Digest, Form}
 use Rattle.liq_journal.specs.declared.answers.LookFault.TheVariants as fault
 use Rattle.liq_journal.specs.Tested.{IsTested, IsFaultOf}
 use Rattle.liq_journal.specs.Records.{begins_whole}
-use Rattle.liq_journal.specs.Written.{piece, record_on, record_digest, command_from, is_rotate}
+use Rattle.liq_journal.specs.Looked.{IsRead}
+use Rattle.liq_journal.specs.Layout.{piece}
+use Rattle.liq_journal.specs.Written.{record_on, record_digest, command_from, is_rotate}
 use Rattle.liq_journal.proofs.Reading.{is_whole, piece_alike, byte_alike}
+use Rattle.liq_journal.proofs.Told.{if_some}
 
 pub not_rotate : (call : Call) → (call ≡ Rotate → ⊥) → is_rotate call ≡ false
 not_rotate Rotate isnt = absurd (isnt refl)
 not_rotate _ isnt = refl
-
-pub if_some : (o : Option (List ℕ)) (P Q : List ℕ → Type 0) → ((held : List ℕ) → P held → Q held) → IfSome o P → IfSome o Q
-if_some None P Q f p = tt
-if_some (Some held) P Q f p = f held p
 
 module _ (generation index place : ℕ) (body stored computed : List ℕ) (size : length body ≡ 96) (is : computed ≡ record_digest generation index body) where
   front : take 96 (body ++ stored) ≡ body
@@ -69,11 +68,11 @@ module _ (held bytes : List ℕ) (place : ℕ) (alike : take 129 bytes ≡ take 
       (λ i. first i ++ second i) ∙ take-append-drop 96 (take 128 l) ∙ part_there 1 128 (omega arith)
 
 -- what a read of a whole record tells
-module _ (told : Option (List ℕ)) (generation index place n : ℕ) (bytes body stored : List ℕ) (long : 129 ≤ n) (read : IfSome told (λ held. (n ≡ min 129 (length held - place)) × (take n bytes ≡ take n (drop place held)))) (gate : get_or bytes 0 0 ≡ 1) (body_is : body ≡ take 96 (drop 1 bytes)) (stored_is : stored ≡ take 32 (drop 97 bytes)) where
+module _ (told : Option (List ℕ)) (generation index place n : ℕ) (bytes body stored : List ℕ) (long : 129 ≤ n) (read : IfSome told (IsRead place 129 n bytes)) (gate : get_or bytes 0 0 ≡ 1) (body_is : body ≡ take 96 (drop 1 bytes)) (stored_is : stored ≡ take 32 (drop 97 bytes)) where
   abbrev Reading : List ℕ → Type 0
   Reading held = (begins_whole (drop place held) ≡ true) × ((body ≡ piece (place + 1) 96 held) × (body ++ stored ≡ piece (place + 1) 128 held))
 
-  reading : (held : List ℕ) → (n ≡ min 129 (length held - place)) × (take n bytes ≡ take n (drop place held)) → Reading held
+  reading : (held : List ℕ) → IsRead place 129 n bytes held → Reading held
   reading held (count, same) =
       let all : n ≡ 129 = omega arith in
       let room : 129 ≤ length held - place = omega arith in
@@ -81,9 +80,9 @@ module _ (told : Option (List ℕ)) (generation index place n : ℕ) (bytes body
       (whole_there held bytes place alike room gate, (body_is ∙ body_there held bytes place alike room, (λ i. body_is i ++ stored_is i) ∙ raw_there held bytes place alike room))
 
   pub tested_whole : (command : Command) → record_on generation index (place + 1) (body ++ stored) ≡ Ok command → IfSome told (λ held. IsTested generation index place held (Some body))
-  tested_whole command is = if_some told (λ held. (n ≡ min 129 (length held - place)) × (take n bytes ≡ take n (drop place held))) (λ held. IsTested generation index place held (Some body))
+  tested_whole command is = if_some told (IsRead place 129 n bytes) (λ held. IsTested generation index place held (Some body))
       (λ held r. let e = reading held r in (e.0, (e.1.0, (command, ap (record_on generation index (place + 1)) (sym e.1.1) ∙ is)))) read
 
   pub tested_fault : (what : What) → record_on generation index (place + 1) (body ++ stored) ≡ Err what → IfSome told (λ held. IsFaultOf generation index place held (fault.Damaged (record { index = index; what = what })))
-  tested_fault what is = if_some told (λ held. (n ≡ min 129 (length held - place)) × (take n bytes ≡ take n (drop place held))) (λ held. IsFaultOf generation index place held (fault.Damaged (record { index = index; what = what })))
+  tested_fault what is = if_some told (IsRead place 129 n bytes) (λ held. IsFaultOf generation index place held (fault.Damaged (record { index = index; what = what })))
       (λ held r. let e = reading held r in (e.0, (refl, ap (record_on generation index (place + 1)) (sym e.1.1) ∙ is))) read

@@ -3,14 +3,15 @@ use Rattle.std.specs.Prelude.{◌≡◌, ℕ, ◌+◌, ◌*◌, ◌-◌, List, l
 use Rattle.liq_types.specs.declared.requests.Command.{Command}
 use Rattle.liq_journal.specs.declared.answers.LookFault.{LookFault}
 use Rattle.liq_journal.specs.declared.answers.LookFault.TheVariants as fault
-use Rattle.liq_journal.specs.Written.{Written, Open, found_on, piece, record_on}
+use Rattle.liq_journal.specs.Layout.{piece}
+use Rattle.liq_journal.specs.Written.{Written, Open, found_on, record_on, start_of}
 use Rattle.liq_journal.specs.Crash.{IsBodyOf, is_odd}
 
 -- the journal of this generation whose records begin at this place
 pub record IsJournalOf (generation start : ℕ) (bytes : List ℕ) (w : Written) : Type 0 where
   pub found : found_on (is_odd generation) bytes ≡ Open w
   pub generation_is : w.generation ≡ generation
-  pub start_is : 57 + length w.checkpoint ≡ start
+  pub start_is : start_of w ≡ start
 
 -- where the body of a record stands, the records being numbered from 1
 abbrev pub body_at : ℕ → ℕ → ℕ

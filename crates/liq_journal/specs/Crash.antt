@@ -3,7 +3,8 @@ use Rattle.std.specs.Prelude.{◌≡◌, ◌⊎◌, ℕ, ◌+◌, ◌<◌, List,
 use Rattle.liq_outside.specs.Disk.{LeavesOnly, LeftNow, Only, Torn, overwritten}
 use Rattle.liq_types.specs.declared.requests.Command.{Command}
 use Rattle.liq_wire.specs.Fields.{command_of}
-use Rattle.liq_journal.specs.Written.{header_of, is_generation, Written, Open, found_on, EndsWith, and_then, end_of, is_rotate, opened}
+use Rattle.liq_journal.specs.Layout.{Layout, header_size, header_of, least_header}
+use Rattle.liq_journal.specs.Written.{is_generation, Written, Open, found_on, EndsWith, and_then, end_of, is_rotate, opened}
 
 -- open with this, and a 0 behind the last record
 pub record Stands (odd : Bool) (bytes : List ℕ) (w : Written) : Type 0 where
@@ -26,7 +27,7 @@ pub record IsBodyOf (body : List ℕ) (command : Command) : Type 0 where
 
 -- no journal is open on it
 abbrev pub IsClosed : List ℕ → Type 0
-IsClosed bytes = (length bytes < 57) ⊎ ((0 < length bytes) × (get_or bytes 0 0 ≡ 0))
+IsClosed bytes = (length bytes < least_header) ⊎ ((0 < length bytes) × (get_or bytes 0 0 ≡ 0))
 
 -- these bytes with some byte at the place
 abbrev pub HasByteAt : ℕ → List ℕ → List ℕ → Type 0
@@ -55,8 +56,11 @@ abbrev pub IsShut : List ℕ → Type 0
 IsShut bytes = take 1 bytes ≡ 0 ∷ []
 
 -- header, checkpoint and a shut gate written behind the gate at place 0
-abbrev pub filled : ℕ → List ℕ → List ℕ → List ℕ
-filled generation checkpoint held = overwritten (overwritten (overwritten held 1 (header_of generation checkpoint)) 57 checkpoint) (57 + length checkpoint) (0 ∷ [])
+abbrev pub filled : Layout → ℕ → List ℕ → List ℕ → List ℕ
+filled layout generation checkpoint held =
+    let with_header = overwritten held 1 (header_of layout generation checkpoint) in
+    let with_checkpoint = overwritten with_header (header_size layout) checkpoint in
+    overwritten with_checkpoint (header_size layout + length checkpoint) (0 ∷ [])
 
 -- the parity of a generation
 abbrev pub is_odd : ℕ → Bool

@@ -5,12 +5,19 @@ use Rattle.liq_journal.specs.declared.answers.Look.{Look}
 use Rattle.liq_journal.specs.declared.answers.Look.TheVariants.{Absent, Open}
 use Rattle.liq_journal.specs.declared.answers.LookFault.{LookFault}
 use Rattle.liq_journal.specs.declared.answers.LookFault.TheVariants.{Damaged}
-use Rattle.liq_journal.specs.Written.{version_1, generation_on, first_fault, header_tests, is_absent}
+use Rattle.liq_journal.specs.Layout.{Layout, version_1, generation_on}
+use Rattle.liq_journal.specs.Written.{first_fault, header_tests, is_absent}
 
 -- by the first fault of the header of a disk whose gate is open
 abbrev pub look_behind : List ℕ → Option What → Result Look LookFault
 look_behind bytes None = Ok (Open (generation_on bytes))
 look_behind bytes (Some what) = Err (Damaged (record { index = 0; what = what }))
 
+-- by the tests of this version
+abbrev pub look_in : Layout → Bool → List ℕ → Result Look LookFault
+look_in layout odd bytes =
+    let fault = first_fault (header_tests layout odd bytes) in
+    if is_absent bytes then Ok Absent else look_behind bytes fault
+
 unfoldable pub look_on : Bool → List ℕ → Result Look LookFault
-look_on odd bytes = if is_absent bytes then Ok Absent else look_behind bytes (first_fault (header_tests version_1 odd bytes))
+look_on odd bytes = look_in version_1 odd bytes

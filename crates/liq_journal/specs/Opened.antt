@@ -1,12 +1,12 @@
 -- What an opening finds, and what it leaves.
-use Rattle.std.specs.Prelude.{◌≡◌, ◌⊎◌, ◌+◌, ◌<◌, ℕ, List, length, get_or, Bool, Option, Some}
+use Rattle.std.specs.Prelude.{◌≡◌, ◌⊎◌, ◌<◌, ℕ, List, length, get_or, Bool, Option, Some}
 use Rattle.liq_outside.specs.Disk.{LeavesOnly, LeftNow, Only}
 use Rattle.liq_journal.specs.declared.answers.LookFault.{LookFault}
 use Rattle.liq_journal.specs.declared.answers.LookFault.TheVariants as look
 use Rattle.liq_journal.specs.declared.answers.OpenWhy.{OpenWhy}
 use Rattle.liq_journal.specs.declared.answers.OpenWhy.TheVariants as why
 use Rattle.liq_journal.specs.declared.scanned.Scanned.{Scanned}
-use Rattle.liq_journal.specs.Written.{Written, Absent, Damaged, Open, found_on, end_of}
+use Rattle.liq_journal.specs.Written.{Written, Absent, Damaged, Open, found_on, start_of, end_of}
 use Rattle.liq_journal.specs.Crash.{HasByteAt, HasGate}
 
 -- a look's fault as an opening's
@@ -20,7 +20,7 @@ pub record IsScanOf (odd : Bool) (held : List ℕ) (scanned : Scanned) : Type 0 
   pub found : found_on odd held ≡ Open written
   pub generation_is : written.generation ≡ scanned.generation
   pub checkpoint_is : written.checkpoint ≡ scanned.checkpoint.items
-  pub start_is : 57 + length written.checkpoint ≡ scanned.start
+  pub start_is : start_of written ≡ scanned.start
   pub count_is : length written.commands ≡ scanned.count
 
 -- why nothing was opened
@@ -68,7 +68,7 @@ pub record IsOpened (odd : Bool) (held : List ℕ) (generation start count : ℕ
   pub written : Written
   pub found : found_on odd held ≡ Open written
   pub generation_is : written.generation ≡ generation
-  pub start_is : 57 + length written.checkpoint ≡ start
+  pub start_is : start_of written ≡ start
   pub count_is : length written.commands ≡ count
   pub checkpoint_is : written.checkpoint ≡ checkpoint
 

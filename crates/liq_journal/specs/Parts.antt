@@ -1,9 +1,5 @@
 -- A part of a disk that was read at once.
-use Rattle.std.specs.Prelude.{◌≡◌, ℕ, ◌-◌, ◌*◌, List, [], length, take, drop, nat_lt, if◌then◌else◌}
-
--- the most bytes of it: those of 508 records
-abbrev pub block_bytes : ℕ
-block_bytes = 508 * 129
+use Rattle.std.specs.Prelude.{◌≡◌, ℕ, ◌-◌, List, [], length, take, drop, nat_lt, if◌then◌else◌}
 
 -- where it begins, and its bytes
 pub record Part : Type 0 where

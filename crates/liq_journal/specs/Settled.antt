@@ -1,6 +1,6 @@
 -- A journal as contracts see it.
-use Rattle.std.specs.Prelude.{◌≡◌, ℕ, ◌+◌, List, length}
-use Rattle.liq_journal.specs.Written.{Written}
+use Rattle.std.specs.Prelude.{◌≡◌, ℕ, List, length}
+use Rattle.liq_journal.specs.Written.{Written, start_of}
 use Rattle.liq_journal.specs.Crash.{Stands, is_odd}
 
 -- a disk, and what is known of the journal on it
@@ -17,5 +17,5 @@ pub record IsSettled (generation start count : ℕ) (bytes : List ℕ) : Type 0 
   pub written : Written
   pub stands : Stands (is_odd generation) bytes written
   pub generation_is : written.generation ≡ generation
-  pub start_is : 57 + length written.checkpoint ≡ start
+  pub start_is : start_of written ≡ start
   pub count_is : length written.commands ≡ count

@@ -1,51 +1,18 @@
 -- What one disk is: absent, damaged, or open with its generation, its checkpoint and its commands.
-use Rattle.std.specs.Prelude.{◌≡◌, ℕ, ◌+◌, ◌*◌, ◌-◌, ◌<◌, List, [], ◌∷◌, ◌++◌, length, take, drop, get_or, Option, Some, None, Result, Ok, Err, Bool, true, false, not, ◌||◌, ◌&&◌, ◌==◌, nat_lt, if◌then◌else◌}
+use Rattle.std.specs.Prelude.{◌≡◌, ℕ, ◌+◌, ◌*◌, ◌<◌, List, [], ◌∷◌, ◌++◌, length, take, drop, get_or, Option, Some, None, Result, Ok, Err, Bool, true, false, not, ◌||◌, ◌&&◌, ◌==◌, nat_lt, if◌then◌else◌}
 use Rattle.std.specs.Str.{bytes_eq}
 use Rattle.byteorder.specs.Endian.{big_bytes}
 use Rattle.sha2.specs.Sha256.{sha256}
 use Rattle.liq_types.specs.declared.requests.Command.{Command}
 use Rattle.liq_types.specs.declared.requests.Call.{Call}
 use Rattle.liq_types.specs.declared.requests.Call.TheVariants.{Rotate}
-use Rattle.liq_wire.specs.Fields.{number_at, command_of}
+use Rattle.liq_wire.specs.Fields.{command_of}
 use Rattle.liq_outside.specs.Disk.{overwritten}
 use Rattle.liq_journal.specs.declared.damage.Damage.{Damage}
 use Rattle.liq_journal.specs.declared.damage.What.{What}
 use Rattle.liq_journal.specs.declared.damage.What.TheVariants.{Digest, Form}
+use Rattle.liq_journal.specs.Layout.{Layout, version_1, header_size, least_header, name_on, generation_on, size_on, own_on, stored_on, checkpoint_on, start_on, digest_on}
 use Rattle.liq_journal.specs.Records.{records}
-
--- what stands where in a header: the name from place 1 on, and the digest, behind which the checkpoint begins
-pub record Layout : Type 0 where
-  pub name : List ℕ
-  pub digest : ℕ
-
--- LIQJRNL1
-abbrev pub version_1 : Layout
-version_1 = record { name = 76 ∷ 73 ∷ 81 ∷ 74 ∷ 82 ∷ 78 ∷ 76 ∷ 49 ∷ []; digest = 25 }
-
-abbrev pub header_size : Layout → ℕ
-header_size layout = layout.digest + 32
-
--- so many bytes from a place on
-abbrev pub piece : ℕ → ℕ → List ℕ → List ℕ
-piece place count bytes = take count (drop place bytes)
-
-abbrev pub generation_on : List ℕ → ℕ
-generation_on bytes = number_at 9 8 bytes
-
--- the checkpoint's length
-abbrev pub size_on : List ℕ → ℕ
-size_on bytes = number_at 17 8 bytes
-
--- where the records begin
-abbrev pub start_on : Layout → List ℕ → ℕ
-start_on layout bytes = header_size layout + size_on bytes
-
-abbrev pub checkpoint_on : Layout → List ℕ → List ℕ
-checkpoint_on layout bytes = piece (header_size layout) (size_on bytes) bytes
-
--- of the fields in front of it and the checkpoint
-unfoldable pub header_digest : List ℕ → List ℕ → List ℕ
-header_digest fields checkpoint = sha256 (fields ++ checkpoint)
 
 unfoldable pub record_digest : ℕ → ℕ → List ℕ → List ℕ
 record_digest generation index body = sha256 (big_bytes 8 generation ++ big_bytes 8 index ++ body)
@@ -63,22 +30,36 @@ abbrev pub first_fault : List (Bool × What) → Option What
 first_fault [] = None
 first_fault (test ∷ tests) = if test.0 then Some test.1 else first_fault tests
 
--- what an open disk's header has to be, in the order of the places
-abbrev pub header_tests : Layout → Bool → List ℕ → List (Bool × What)
-header_tests layout odd bytes =
-    (not (bytes_eq (piece 1 8 bytes) layout.name), Form 1)
-    ∷ (not (is_generation odd (generation_on bytes)), Form 9)
-    ∷ (not (is_size (generation_on bytes) (size_on bytes)), Form 17)
-    ∷ (nat_lt (length bytes) (start_on layout bytes), Form (length bytes))
-    ∷ (
-      not (bytes_eq (piece layout.digest 32 bytes) (header_digest (piece 1 (layout.digest - 1) bytes) (checkpoint_on layout bytes))),
-      Digest (piece layout.digest 32 bytes) (header_digest (piece 1 (layout.digest - 1) bytes) (checkpoint_on layout bytes)),
-    )
+-- what the fields of an open disk's header have to be, in the order of their places
+abbrev pub place_tests : Layout → Bool → List ℕ → List (Bool × ℕ)
+place_tests layout odd bytes =
+    (not (bytes_eq (name_on bytes) layout.name), 1)
+    ∷ (not (is_generation odd (generation_on bytes)), 9)
+    ∷ (not (is_size (generation_on bytes) (size_on bytes)), 17)
+    ∷ (not (bytes_eq (own_on layout bytes) layout.own), 25)
     ∷ []
+
+-- these tests and then others: the field at the place has a wrong form
+abbrev pub forms_then : List (Bool × ℕ) → List (Bool × What) → List (Bool × What)
+forms_then [] rest = rest
+forms_then (test ∷ tests) rest = (test.0, Form test.1) ∷ forms_then tests rest
+
+-- what has to be behind them: the bytes up to the records have to be there, then the digest has to be right
+abbrev pub last_tests : Layout → List ℕ → List (Bool × What)
+last_tests layout bytes =
+    let stored = stored_on layout bytes in
+    let right = digest_on layout bytes in
+    (nat_lt (length bytes) (start_on layout bytes), Form (length bytes))
+    ∷ (not (bytes_eq stored right), Digest stored right)
+    ∷ []
+
+-- what an open disk's header has to be
+abbrev pub header_tests : Layout → Bool → List ℕ → List (Bool × What)
+header_tests layout odd bytes = forms_then (place_tests layout odd bytes) (last_tests layout bytes)
 
 -- fewer bytes than a header's, or a gate that isn't open
 abbrev pub is_absent : List ℕ → Bool
-is_absent bytes = nat_lt (length bytes) 57 || not (get_or bytes 0 0 == 1)
+is_absent bytes = nat_lt (length bytes) least_header || not (get_or bytes 0 0 == 1)
 
 abbrev pub is_rotate : Call → Bool
 is_rotate Rotate = true
@@ -134,12 +115,22 @@ found_behind layout bytes (Some what) = Damaged (record { index = 0; what = what
 found_behind layout bytes None =
     found_records (generation_on bytes) (checkpoint_on layout bytes) 1 (start_on layout bytes) (records most_records (drop (start_on layout bytes) bytes))
 
+-- by the tests of this version
+abbrev pub found_in : Layout → Bool → List ℕ → Found
+found_in layout odd bytes =
+    let fault = first_fault (header_tests layout odd bytes) in
+    if is_absent bytes then Absent else found_behind layout bytes fault
+
 unfoldable pub found_on : Bool → List ℕ → Found
-found_on odd bytes = if is_absent bytes then Absent else found_behind version_1 bytes (first_fault (header_tests version_1 odd bytes))
+found_on odd bytes = found_in version_1 odd bytes
+
+-- the place behind the checkpoint, where the first record's gate stands
+abbrev pub start_of : Written → ℕ
+start_of w = header_size version_1 + length w.checkpoint
 
 -- the place behind the last record, where the next one's gate stands
 abbrev pub end_of : Written → ℕ
-end_of w = header_size version_1 + length w.checkpoint + 129 * length w.commands
+end_of w = start_of w + 129 * length w.commands
 
 -- that byte is there, and is this
 pub record EndsWith (byte : ℕ) (bytes : List ℕ) (w : Written) : Type 0 where
@@ -153,11 +144,3 @@ and_then w command = record w { commands = w.commands ++ command ∷ [] }
 -- with an open gate at the place
 abbrev pub opened : ℕ → List ℕ → List ℕ
 opened place bytes = overwritten bytes place (1 ∷ [])
-
--- the fields of a header in front of its digest
-abbrev pub fields_of : ℕ → ℕ → List ℕ
-fields_of generation size = version_1.name ++ big_bytes 8 generation ++ big_bytes 8 size
-
--- a header behind its gate
-abbrev pub header_of : ℕ → List ℕ → List ℕ
-header_of generation checkpoint = fields_of generation (length checkpoint) ++ header_digest (fields_of generation (length checkpoint)) checkpoint

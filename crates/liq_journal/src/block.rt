@@ -1,9 +1,9 @@
 // A part of a disk that was read at once.
-ghost use Rattle.std.specs.Prelude.{◌≡◌, ◌≤◌, ◌-◌, [], Some, List, ℕ, min, length, take, drop, IfOk, IfSome, OnOk};
+ghost use Rattle.std.specs.Prelude.{◌≡◌, ◌≤◌, [], length, take, IfOk, IfSome, OnOk};
 ghost use Rattle.liq_outside.specs.Faults.{HasCause};
-ghost use Rattle.liq_journal.specs.Looked.{Looked};
-ghost use Rattle.liq_journal.specs.Parts.{IsPartOf, block_bytes, bytes_from};
-ghost use Rattle.liq_journal.specs.Written.{piece};
+ghost use Rattle.liq_journal.specs.Looked.{IsRead, Looked};
+ghost use Rattle.liq_journal.specs.Parts.{IsPartOf, bytes_from};
+ghost use Rattle.liq_journal.specs.Layout.{piece};
 
 use crate::journal::RECORD;
 use crate::reads::read_at;
@@ -23,13 +23,14 @@ pub struct Block {
 
 impl Model for Block {
     ghost use Rattle.std.specs.Prelude.{◌≤◌, take};
-    ghost use Rattle.liq_journal.specs.Parts.{Part, block_bytes};
+    ghost use Rattle.liq_journal.specs.Parts.{Part};
+    ghost use Rattle.liq_journal.specs.declared.block.TheConstants.{BLOCK_BYTES};
 
     ghost Value = { Part };
 
     ghost view = { λ b. record { at = b.at; bytes = take b.count b.bytes } };
 
-    ghost invariant = { λ b. b.count ≤ block_bytes };
+    ghost invariant = { λ b. b.count ≤ BLOCK_BYTES };
 }
 
 impl Block {
@@ -58,7 +59,7 @@ impl Block {
     // Reads the disk from this place on.
     fn fill<D: Disk>(&mut self, disk: &mut D, at: u64) -> Result<(), Failed>
         ensures at { self.new.at ≡ at }
-        ensures filled { OnOk result (IfSome (D.seen disk.old) (λ held. self.new.bytes ≡ piece at block_bytes held)) }
+        ensures filled { OnOk result (IfSome (D.seen disk.old) (λ held. self.new.bytes ≡ piece at BLOCK_BYTES held)) }
         ensures part { IfSome (D.seen disk.old) (IsPartOf self.new) }
         ensures looked { Looked D.seen D.moment D.left_at disk.old disk.new }
         ensures cause { HasCause (D.faults disk.old) (D.faults disk.new) result }
@@ -71,7 +72,7 @@ impl Block {
 
     // Sees to it that so many bytes from this place on are in the block, or all that the disk has there.
     fn reach<D: Disk>(&mut self, disk: &mut D, at: u64, count: usize) -> Result<(), Failed>
-        requires few { count ≤ block_bytes }
+        requires few { count ≤ BLOCK_BYTES }
         requires part { IfSome (D.seen disk.old) (IsPartOf self.old) }
         ensures reached { OnOk result (IfSome (D.seen disk.old) (λ held. take count (bytes_from at self.new) ≡ piece at count held)) }
         ensures part { IfSome (D.seen disk.old) (IsPartOf self.new) }
@@ -84,17 +85,17 @@ impl Block {
         self.fill(disk, at)
     }
 
-    // Reads from a place on into the front of `buf`, as the disk does it, which is read only where the block hasn't all of these bytes.
-    pub(crate) fn read_at<D: Disk>(
+    // Copies its bytes from a place on into the front of `buf`: what a read of the disk gives, which comes only where it hasn't all of them.
+    pub(crate) fn copy<D: Disk>(
         &mut self,
         disk: &mut D,
         at: u64,
         buf: &mut [u8],
     ) -> Result<usize, Failed>
-        requires few { length buf.old ≤ block_bytes }
+        requires few { length buf.old ≤ BLOCK_BYTES }
         requires part { IfSome (D.seen disk.old) (IsPartOf self.old) }
         ensures fits { IfOk result (λ n. n ≤ length buf.old) }
-        ensures told { IfOk result (λ n. IfSome (D.seen disk.old) (λ held. (n ≡ min (length buf.old) (length held - at)) × (take n buf.new ≡ take n (drop at held)))) }
+        ensures told { IfOk result (λ n. IfSome (D.seen disk.old) (IsRead at (length buf.old) n buf.new)) }
         ensures part { IfSome (D.seen disk.old) (IsPartOf self.new) }
         ensures looked { Looked D.seen D.moment D.left_at disk.old disk.new }
         ensures cause { HasCause (D.faults disk.old) (D.faults disk.new) result }

@@ -1,7 +1,8 @@
 // The digests of a journal, and the bytes of a record.
 ghost use Rattle.std.specs.Prelude.{◌≡◌, ◌≤◌, ◌+◌, ◌++◌, ◌∷◌, [], length, take, drop};
 ghost use Rattle.byteorder.specs.Endian.{big_bytes};
-ghost use Rattle.liq_journal.specs.Written.{fields_of, header_digest, header_of, record_digest};
+ghost use Rattle.liq_journal.specs.Layout.{fields_of, header_digest, header_of, version_1};
+ghost use Rattle.liq_journal.specs.Written.{record_digest};
 
 use byteorder::{BigEndian, ByteOrder};
 use sha2::{Digest, Sha256};
@@ -43,7 +44,7 @@ pub fn put(bytes: &mut [u8], at: usize, part: &[u8])
 
 // The fields of a header in front of its digest, from place 1 on.
 pub fn header_fields(generation: u64, size: u64) -> [u8; 24]
-    ensures { result ≡ fields_of generation size }
+    ensures { result ≡ fields_of version_1 generation size }
 {
     let mut bytes = [
         76, 73, 81, 74, 82, 78, 76, 49, 0, 0, 0, 0, 0, 0, 0, 0, 0, 0, 0, 0, 0, 0, 0, 0,
@@ -65,7 +66,7 @@ pub fn header_digest(fields: &[u8; 24], checkpoint: &[u8]) -> [u8; 32]
 
 // A header behind the gate at place 0.
 pub fn header_bytes(generation: u64, checkpoint: &[u8]) -> [u8; 56]
-    ensures { result ≡ header_of generation checkpoint.now }
+    ensures { result ≡ header_of version_1 generation checkpoint.now }
 {
     let fields = header_fields(generation, checkpoint.len() as u64);
     let mut bytes = [0; 56];

@@ -3,11 +3,12 @@ ghost use Rattle.std.specs.Prelude.{◌≡◌, ◌≤◌, ◌+◌, ◌==◌, ◌
 ghost use Rattle.std.specs.Result.{MatchResult};
 ghost use Rattle.liq_wire.specs.Fields.{first_place, number_at};
 ghost use Rattle.liq_journal.specs.Causes.{CountsLook};
-ghost use Rattle.liq_journal.specs.Header.{HasFields, IsDamageOf, MaybeHeadOf, place_tests};
+ghost use Rattle.liq_journal.specs.Header.{HasFields, IsDamageOf, MaybeHeadOf};
 ghost use Rattle.liq_journal.specs.declared.damage.What.TheVariants.{Form};
 ghost use Rattle.liq_journal.specs.declared.answers.LookFault.TheVariants.{Damaged};
 ghost use Rattle.liq_journal.specs.Looked.{Looked};
-ghost use Rattle.liq_journal.specs.Written.{is_generation, is_size};
+ghost use Rattle.liq_journal.specs.Layout.{version_1};
+ghost use Rattle.liq_journal.specs.Written.{is_generation, is_size, place_tests};
 
 use crate::answers::LookFault;
 use crate::damage::{Damage, What};
@@ -21,7 +22,7 @@ pub const HEADER: u64 = 57;
 
 // The places of a header, or the first whose field is wrong.
 fn placed(bytes: &[u8; 57], odd: bool) -> Result<Head, u64>
-    ensures { MatchResult result (λ head. (first_place (place_tests odd bytes.now) ≡ None) × HasFields head bytes.now × (head.size ≤ 68719476736) × (is_generation odd head.generation ≡ true)) (λ place. first_place (place_tests odd bytes.now) ≡ Some place) }
+    ensures { MatchResult result (λ head. (first_place (place_tests version_1 odd bytes.now) ≡ None) × HasFields version_1 head bytes.now × (head.size ≤ 68719476736) × (is_generation odd head.generation ≡ true)) (λ place. first_place (place_tests version_1 odd bytes.now) ≡ Some place) }
 {
     let generation = u64_at(bytes, 9);
     let size = u64_at(bytes, 17);

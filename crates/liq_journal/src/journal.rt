@@ -11,7 +11,7 @@ ghost use Rattle.liq_journal.specs.Looked.{Looked};
 ghost use Rattle.liq_journal.specs.Opened.{CrashOfOpen, IsAtRest, IsKept, IsOpened, IsUnshut, IsWhyOf, ReadsOfOpen};
 ghost use Rattle.liq_journal.specs.Parts.{IsPartOf};
 ghost use Rattle.liq_journal.specs.Settled.{IsSettled};
-ghost use Rattle.liq_journal.specs.Written.{Open, Written, and_then, found_on, is_generation, is_size};
+ghost use Rattle.liq_journal.specs.Written.{Open, Written, and_then, found_on, is_generation, is_size, start_of};
 
 use crate::answers::{CreateFault, DiskFault, LookFault, OpenFault, OpenWhy};
 use crate::block::Block;
@@ -43,6 +43,7 @@ pub struct Journal<D> {
 impl<D> Model for Journal<D> {
     ghost use Rattle.std.specs.Prelude.{◌≤◌};
     ghost use Rattle.liq_journal.specs.Opened.{CrashOfOpen, IsAtRest, IsKept, IsOpened, IsUnshut, IsWhyOf, ReadsOfOpen};
+    ghost use Rattle.liq_journal.specs.Layout.{start_most};
     ghost use Rattle.liq_journal.specs.Settled.{JournalOn};
 
     ghost Value = { JournalOn D };
@@ -50,7 +51,7 @@ impl<D> Model for Journal<D> {
     ghost view = { λ j. record { disk = j.disk; generation = j.generation; start = j.start; count = j.count } };
 
     // The records begin behind a header and at most 2^36 bytes; a scan counts one record past the last that may be.
-    ghost invariant = { λ j. (j.start ≤ 68719476793) × (j.count ≤ 1000001) };
+    ghost invariant = { λ j. (j.start ≤ start_most) × (j.count ≤ 1000001) };
 }
 
 impl<D: Disk> Journal<D> {
@@ -64,7 +65,7 @@ impl<D: Disk> Journal<D> {
         requires limit { length checkpoint.now ≤ 2 ^ 36 }
         requires size { is_size generation (length checkpoint.now) ≡ true }
 
-        ensures known { IfOk result (λ j. (j.generation ≡ generation) × (j.start ≡ 57 + length checkpoint.now) × (j.count ≡ 0)) }
+        ensures known { IfOk result (λ j. (j.generation ≡ generation) × (j.start ≡ start_of (beginning generation checkpoint.now)) × (j.count ≡ 0)) }
         ensures created { IfOk result (λ j. (held : List ℕ) → D.seen disk ≡ Some held → is_generation (is_odd generation) generation ≡ true
             → (after : List ℕ) × (D.seen j.disk ≡ Some after) × Stands (is_odd generation) after (beginning generation checkpoint.now)) }
         ensures settled { IfOk result (λ j. is_generation (is_odd generation) generation ≡ true → IfSome (D.seen j.disk) (IsSettled j.generation j.start j.count)) }

@@ -8,7 +8,7 @@ ghost use Rattle.liq_journal.specs.declared.answers.Look.TheVariants as Look;
 ghost use Rattle.liq_journal.specs.declared.answers.LookFault.TheVariants.{Damaged};
 ghost use Rattle.liq_journal.specs.Look.{look_on};
 ghost use Rattle.liq_journal.specs.Written as Found;
-ghost use Rattle.liq_journal.specs.Written.{Open, Written, end_of, found_on, found_records, most_records};
+ghost use Rattle.liq_journal.specs.Written.{Open, Written, end_of, found_on, found_records, most_records, start_of};
 
 /// A front of whole records that other bytes have too is read there too, and then what stands behind it.
 pub fn a_front_is_read()
@@ -17,7 +17,7 @@ pub fn a_front_is_read()
 
 /// The bytes up to a header's end decide the header.
 pub fn a_header_is_decided()
-    ensures { (odd : Bool) (held image : List ℕ) (w : Written) (m : ℕ) → found_on odd held ≡ Open w → 57 + length w.checkpoint ≤ m → m ≤ length held → take m image ≡ take m held → found_on odd image ≡ found_records w.generation w.checkpoint 1 (57 + length w.checkpoint) (records most_records (drop (57 + length w.checkpoint) image)) }
+    ensures { (odd : Bool) (held image : List ℕ) (w : Written) (m : ℕ) → found_on odd held ≡ Open w → start_of w ≤ m → m ≤ length held → take m image ≡ take m held → found_on odd image ≡ found_records w.generation w.checkpoint 1 (start_of w) (records most_records (drop (start_of w) image)) }
 {}
 
 /// Any part of a write behind the closed gate at the end leaves what is found.

@@ -1,10 +1,10 @@
 // A disk looked at: its header, and the digest over the checkpoint, without memory.
-ghost use Rattle.std.specs.Prelude.{◌≡◌, ◌≤◌, ◌+◌, ◌⊎◌, Err, length, IfOk, IfSome};
+ghost use Rattle.std.specs.Prelude.{◌≡◌, ◌≤◌, ◌+◌, ◌^◌, ◌⊎◌, Err, length, IfOk, IfSome};
 ghost use Rattle.liq_outside.specs.Faults.{HasCause};
 ghost use Rattle.liq_journal.specs.Causes.{CountsLook};
 ghost use Rattle.liq_journal.specs.Look.{look_on};
 ghost use Rattle.liq_journal.specs.Looked.{Looked};
-ghost use Rattle.liq_journal.specs.Written.{header_digest, piece};
+ghost use Rattle.liq_journal.specs.Layout.{header_digest, piece};
 
 use crate::answers::{Look, LookFault};
 use crate::damage::{Damage, What};
@@ -28,7 +28,7 @@ pub fn look<D: Disk>(disk: &mut D, odd: bool) -> Result<Look, LookFault>
         Ok(None) => return Ok(Look::Absent),
         Err(why) => return Err(why),
     };
-    let computed = match digest_behind(disk, &head.fields, head.size) {
+    let computed = match digest_behind(disk, &head.fields, HEADER, head.size) {
         Ok(computed) => computed,
         Err(_) => return Err(LookFault::DiskFault),
     };
@@ -46,11 +46,16 @@ pub fn look<D: Disk>(disk: &mut D, odd: bool) -> Result<Look, LookFault>
     })
 }
 
-// The digest of a header's fields and of the checkpoint behind it, which is read piece by piece.
-fn digest_behind<D: Disk>(disk: &mut D, fields: &[u8; 24], size: u64) -> Result<[u8; 32], Failed>
-    requires { size ≤ 68719476736 }
+// The digest of a header's fields and of the checkpoint, which stands at the place and is read piece by piece.
+fn digest_behind<D: Disk>(
+    disk: &mut D,
+    fields: &[u8; 24],
+    place: u64,
+    size: u64,
+) -> Result<[u8; 32], Failed>
+    requires { place + size ≤ 2 ^ 40 }
     ensures looked { Looked D.seen D.moment D.left_at disk.old disk.new }
-    ensures told { IfOk result (λ digest. IfSome (D.seen disk.old) (λ held. 57 + size ≤ length held → digest ≡ header_digest fields.now (piece 57 size held))) }
+    ensures told { IfOk result (λ digest. IfSome (D.seen disk.old) (λ held. place + size ≤ length held → digest ≡ header_digest fields.now (piece place size held))) }
     ensures cause { HasCause (D.faults disk.old) (D.faults disk.new) result }
 {
     let mut hasher = Sha256::new();
@@ -60,7 +65,7 @@ fn digest_behind<D: Disk>(disk: &mut D, fields: &[u8; 24], size: u64) -> Result<
         let mut chunk = [0; 512];
         let want = (size - done).min(512) as usize;
         let part = &mut chunk[..want];
-        let count = read_at(disk, HEADER + done, part)?;
+        let count = read_at(disk, place + done, part)?;
         if count == 0 {
             return Ok(hasher.finalize());
         }

@@ -8,7 +8,8 @@ ghost use Rattle.liq_journal.specs.Causes.{CountsOpen};
 ghost use Rattle.liq_journal.specs.declared.damage.Damage.{Damage};
 ghost use Rattle.liq_journal.specs.Looked.{Looked};
 ghost use Rattle.liq_journal.specs.Opened.{AbsentLeaves, IsAtRest, IsKept, IsScanOf, IsUnshut, IsWhyOf, OpenLeaves, why_of};
-ghost use Rattle.liq_journal.specs.Written.{Open, Written, found_on, is_generation, piece};
+ghost use Rattle.liq_journal.specs.Layout.{piece, start_most};
+ghost use Rattle.liq_journal.specs.Written.{Open, Written, found_on, is_generation};
 
 use crate::answers::{LookFault, OpenWhy};
 use crate::bytes::write_synced;
@@ -23,18 +24,23 @@ use crate::scanned::Scanned;
 use liq_outside::{Disk, Failed};
 use std::alloc::{AllocError, Global};
 
-// The bytes of the checkpoint behind the header. A disk whose content is told has them all.
-fn read_checkpoint<D: Disk>(alloc: Global, disk: &mut D, size: u64) -> Result<Vec<u8>, OpenWhy>
-    requires { size ≤ 68719476736 }
+// The bytes of the checkpoint, which stands at the place. A disk whose content is told has them all.
+fn read_checkpoint<D: Disk>(
+    alloc: Global,
+    disk: &mut D,
+    place: u64,
+    size: u64,
+) -> Result<Vec<u8>, OpenWhy>
+    requires { place + size ≤ 2 ^ 40 }
     ensures looked { Looked D.seen D.moment D.left_at disk.old disk.new }
-    ensures read { IfOk result (λ bytes. IfSome (D.seen disk.old) (λ held. 57 + size ≤ length held → bytes.items ≡ piece 57 size held)) }
+    ensures read { IfOk result (λ bytes. IfSome (D.seen disk.old) (λ held. place + size ≤ length held → bytes.items ≡ piece place size held)) }
     ensures cause { CountsOpen result (D.faults disk.old) (D.faults disk.new) }
     ensures absent { result ≡ Err OpenWhy.Absent → ⊥ }
     ensures damaged { (damage : Damage) → result ≡ Err (OpenWhy.Damaged damage) → ⊥ }
 {
     let mut checkpoint = Vec::new(alloc);
-    let end = HEADER + size;
-    let mut at = HEADER;
+    let end = place + size;
+    let mut at = place;
     while at < end {
         let mut chunk = [0; 512];
         let want = (end - at).min(512) as usize;
@@ -67,7 +73,7 @@ fn why_of(why: LookFault) -> OpenWhy
 // Reads and tests all of a disk, in the order of its faults.
 fn scan<D: Disk>(alloc: Global, disk: &mut D, odd: bool) -> Result<Scanned, OpenWhy>
     ensures looked { Looked D.seen D.moment D.left_at disk.old disk.new }
-    ensures bounds { IfOk result (λ s. (s.start ≤ 68719476793) × (s.count ≤ 1000001)) }
+    ensures bounds { IfOk result (λ s. (s.start ≤ start_most) × (s.count ≤ 1000001)) }
     ensures generation { IfOk result (λ s. is_generation odd s.generation ≡ true) }
     ensures found { IfOk result (λ s. IfSome (D.seen disk.old) (λ held. IsScanOf odd held s)) }
     ensures why { IfErr result (λ why. IfSome (D.seen disk.old) (λ held. IsWhyOf odd held why)) }
@@ -78,7 +84,7 @@ fn scan<D: Disk>(alloc: Global, disk: &mut D, odd: bool) -> Result<Scanned, Open
         Ok(None) => return Err(OpenWhy::Absent),
         Err(why) => return Err(why_of(why)),
     };
-    let checkpoint = match read_checkpoint(alloc, disk, head.size) {
+    let checkpoint = match read_checkpoint(alloc, disk, HEADER, head.size) {
         Ok(checkpoint) => checkpoint,
         Err(why) => return Err(why),
     };
@@ -136,7 +142,7 @@ fn settle_scanned<D: Disk>(
     odd: bool,
     found: Result<Scanned, OpenWhy>,
 ) -> Result<Scanned, OpenWhy>
-    requires found { MatchResult found (λ s. IfSome (D.seen disk.old) (λ held. IsScanOf odd held s) × ((s.start ≤ 68719476793) × (s.count ≤ 1000001))) (λ why. IfSome (D.seen disk.old) (λ held. IsWhyOf odd held why)) }
+    requires found { MatchResult found (λ s. IfSome (D.seen disk.old) (λ held. IsScanOf odd held s) × ((s.start ≤ start_most) × (s.count ≤ 1000001))) (λ why. IfSome (D.seen disk.old) (λ held. IsWhyOf odd held why)) }
     ensures same { MatchResult result (λ s. found ≡ Ok s) (λ why. (found ≡ Err why) ⊎ (why ≡ OpenWhy.DiskFault)) }
     ensures stands { IfOk result (λ _. (held : List ℕ) (w : Written) → D.seen disk.old ≡ Some held → found_on odd held ≡ Open w → IfSome (D.seen disk.new) (λ after. Stands odd after w)) }
     ensures durable { IfOk result (λ _. (held : List ℕ) → D.seen disk.old ≡ Some held → Only held (LeftNow D.moment D.left_at disk.old) → IfSome (D.seen disk.new) (λ after. Only after (LeftNow D.moment D.left_at disk.new))) }
@@ -166,7 +172,7 @@ fn settle_scanned<D: Disk>(
 
 // Opens the journal of a disk: syncs it, reads and tests all of it, and shuts the byte that is to be shut.
 pub fn open_on<D: Disk>(alloc: Global, disk: &mut D, odd: bool) -> Result<Scanned, OpenWhy>
-    ensures bounds { IfOk result (λ s. (s.start ≤ 68719476793) × (s.count ≤ 1000001)) }
+    ensures bounds { IfOk result (λ s. (s.start ≤ start_most) × (s.count ≤ 1000001)) }
     ensures generation { IfOk result (λ s. is_generation odd s.generation ≡ true) }
     ensures found { IfOk result (λ s. IfSome (D.seen disk.old) (λ held. IsScanOf odd held s)) }
     ensures stands { IfOk result (λ _. (held : List ℕ) (w : Written) → D.seen disk.old ≡ Some held → found_on odd held ≡ Open w → IfSome (D.seen disk.new) (λ after. Stands odd after w)) }

@@ -1,14 +1,14 @@
 // Device calls that look at a disk, and leave it as it is.
-ghost use Rattle.std.specs.Prelude.{◌≡◌, ◌≤◌, ◌-◌, min, length, take, drop, IfOk, IfSome};
+ghost use Rattle.std.specs.Prelude.{◌≡◌, ◌≤◌, length, IfOk, IfSome};
 ghost use Rattle.liq_outside.specs.Faults.{HasCause};
-ghost use Rattle.liq_journal.specs.Looked.{Looked};
+ghost use Rattle.liq_journal.specs.Looked.{IsRead, Looked};
 
 use liq_outside::{Disk, Failed};
 
 // Reads from a place on into the front of `buf`, and says how many bytes.
 pub fn read_at<D: Disk>(disk: &mut D, at: u64, buf: &mut [u8]) -> Result<usize, Failed>
     ensures fits { IfOk result (λ n. n ≤ length buf.old) }
-    ensures told { IfOk result (λ n. IfSome (D.seen disk.old) (λ held. (n ≡ min (length buf.old) (length held - at)) × (take n buf.new ≡ take n (drop at held)))) }
+    ensures told { IfOk result (λ n. IfSome (D.seen disk.old) (IsRead at (length buf.old) n buf.new)) }
     ensures looked { Looked D.seen D.moment D.left_at disk.old disk.new }
     ensures cause { HasCause (D.faults disk.old) (D.faults disk.new) result }
 {

@@ -10,7 +10,8 @@ ghost use Rattle.liq_journal.specs.Parts.{IsPartOf};
 ghost use Rattle.liq_journal.specs.Records.{begins_whole};
 ghost use Rattle.liq_journal.specs.Crash.{IsBodyOf};
 ghost use Rattle.liq_journal.specs.Tested.{IsBodyRead, IsFaultOf, IsFaultRead, IsTested};
-ghost use Rattle.liq_journal.specs.Written.{piece, record_on};
+ghost use Rattle.liq_journal.specs.Layout.{piece, start_most};
+ghost use Rattle.liq_journal.specs.Written.{record_on};
 
 use crate::answers::LookFault;
 use crate::block::Block;
@@ -85,7 +86,7 @@ fn read_record<D: Disk>(
     ensures cause { CountsLook result (D.faults disk.old) (D.faults disk.new) }
 {
     let mut bytes = [0; 129];
-    let count = match block.read_at(disk, place, &mut bytes) {
+    let count = match block.copy(disk, place, &mut bytes) {
         Ok(count) => count,
         Err(_) => return Err(LookFault::DiskFault),
     };
@@ -159,7 +160,7 @@ pub fn read_command<D: Disk>(
     ensures cause { CountsLook result (D.faults disk.old) (D.faults disk.new) }
 {
     let mut bytes = [0; 128];
-    match block.read_at(disk, place + 1, &mut bytes) {
+    match block.copy(disk, place + 1, &mut bytes) {
         Ok(_) => {}
         Err(_) => return Err(LookFault::DiskFault),
     }
@@ -173,7 +174,7 @@ pub fn read_command<D: Disk>(
 // How many whole records there are from the place on, one more at most than a journal may have, each
 // tested; or the first fault of them.
 pub fn count_records<D: Disk>(disk: &mut D, generation: u64, start: u64) -> Result<u64, LookFault>
-    requires { start ≤ 68719476793 }
+    requires { start ≤ start_most }
     ensures looked { Looked D.seen D.moment D.left_at disk.old disk.new }
     ensures most { IfOk result (λ count. count ≤ 1000001) }
     ensures counted { IfOk result (λ count. IfSome (D.seen disk.old) (λ held. AreRecords generation start held count)) }

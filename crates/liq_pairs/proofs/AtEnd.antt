@@ -7,7 +7,7 @@ use Rattle.liq_outside.specs.Disk.{overwritten}
 use Rattle.liq_journal.specs.Crash.{HasGate, IsPending, Stands}
 use Rattle.liq_journal.specs.Opened.{OpenLeaves}
 use Rattle.liq_journal.specs.Records.{records}
-use Rattle.liq_journal.specs.Written.{EndsWith, Open, Written, and_then, end_of, found_on, most_records, opened}
+use Rattle.liq_journal.specs.Written.{EndsWith, Open, Written, and_then, end_of, found_on, most_records, opened, start_of}
 use Rattle.liq_journal.proofs.Appending.{held_on}
 use Rattle.liq_journal.proofs.Heading.{is_open, of_records}
 use Rattle.liq_journal.proofs.Reading.{records_few}
@@ -23,8 +23,8 @@ end_of_more w c = let n = length-append w.commands (c ∷ []) in omega arith
 room : (odd : Bool) (bytes : List ℕ) (w : Written) → found_on odd bytes ≡ Open w → most_records ≡ length w.commands + (most_records - length w.commands)
 room odd bytes w found =
     let o = is_open odd bytes w found in
-    let n = (of_records w.generation w.checkpoint 1 (57 + length w.checkpoint) (records most_records (drop (57 + length w.checkpoint) bytes)) w o.behind).count in
-    let few = records_few most_records (drop (57 + length w.checkpoint) bytes) in
+    let n = (of_records w.generation w.checkpoint 1 (start_of w) (records most_records (drop (start_of w) bytes)) w o.behind).count in
+    let few = records_few most_records (drop (start_of w) bytes) in
     omega arith
 
 -- a byte there that is no open gate leaves what is found

@@ -5,8 +5,9 @@ use Rattle.liq_types.specs.State.{State}
 use Rattle.liq_outside.specs.Disk.{overwritten}
 use Rattle.liq_journal.specs.Crash.{IsClosed, HasGate, Stands}
 use Rattle.liq_journal.specs.Opened.{IsUnshut, OpenLeaves}
-use Rattle.liq_journal.specs.Written.{Absent, Open, Written, end_of, first_fault, found_behind, found_on, generation_on, header_tests, is_absent, is_generation, opened, version_1}
-use Rattle.liq_journal.proofs.Heading.{are_false, is_open}
+use Rattle.liq_journal.specs.Layout.{least_header}
+use Rattle.liq_journal.specs.Written.{Absent, Open, Written, end_of, found_on, is_absent, is_generation, opened}
+use Rattle.liq_journal.proofs.Heading.{absent_found, has_generation, is_open}
 use Rattle.liq_pairs.specs.Kept.{IsFirst, IsOlder}
 use Rattle.liq_pairs.specs.Pair.{standing}
 use Rattle.liq_pairs.specs.Replay.{outcome}
@@ -23,15 +24,11 @@ gate_open_or_not bytes = by (get_or bytes 0 0)
     by (suc zero) = inl refl
     by (suc (suc n)) = inr (λ is. absurd (omega arith))
 
-absent_is : (odd : Bool) (bytes : List ℕ) → is_absent bytes ≡ true → found_on odd bytes ≡ Absent
-unfolding found_on
-absent_is odd bytes is = ap (λ (b : Bool). if b then Absent else found_behind version_1 bytes (first_fault (header_tests version_1 odd bytes))) is
-
-pub short_absent : (odd : Bool) (bytes : List ℕ) → length bytes < 57 → found_on odd bytes ≡ Absent
-short_absent odd bytes short = absent_is odd bytes (grind (arith, nat_tests))
+pub short_absent : (odd : Bool) (bytes : List ℕ) → length bytes < least_header → found_on odd bytes ≡ Absent
+short_absent odd bytes short = absent_found odd bytes (grind (arith, nat_tests))
 
 pub unopened_absent : (odd : Bool) (bytes : List ℕ) → (get_or bytes 0 0 ≡ 1 → ⊥) → found_on odd bytes ≡ Absent
-unopened_absent odd bytes unopened = absent_is odd bytes (grind (arith, nat_tests))
+unopened_absent odd bytes unopened = absent_found odd bytes (grind (arith, nat_tests))
 
 pub closed_absent : (odd : Bool) (bytes : List ℕ) → IsClosed bytes → found_on odd bytes ≡ Absent
 closed_absent odd bytes (inl short) = short_absent odd bytes short
@@ -50,7 +47,7 @@ closed_where (suc n ∷ bytes) shut = absurd (shut (record { there = omega arith
 pub gate_is_open : (odd : Bool) (bytes : List ℕ) (w : Written) → found_on odd bytes ≡ Open w → get_or bytes 0 0 ≡ 1
 gate_is_open odd bytes w found = let gate = (is_open odd bytes w found).headed.gate in grind (arith, nat_tests)
 
-pub long_enough : (odd : Bool) (bytes : List ℕ) (w : Written) → found_on odd bytes ≡ Open w → 57 ≤ length bytes
+pub long_enough : (odd : Bool) (bytes : List ℕ) (w : Written) → found_on odd bytes ≡ Open w → least_header ≤ length bytes
 long_enough odd bytes w found = let long = (is_open odd bytes w found).headed.long in omega arith
 
 pub opened_already : (bytes : List ℕ) → get_or bytes 0 0 ≡ 1 → opened 0 bytes ≡ bytes
@@ -135,16 +132,6 @@ open_older odd bytes w s generation stands came less = record {
 }
 
 -- ---- generation 1
-
-has_generation : (odd : Bool) (bytes : List ℕ) (w : Written) → found_on odd bytes ≡ Open w → is_generation odd w.generation ≡ true
-has_generation odd bytes w found =
-    let headed = (is_open odd bytes w found).headed in
-    let all = are_false (header_tests version_1 odd bytes) headed.tests in
-    ap (is_generation odd) (sym headed.generation_is) ∙ is_true (is_generation odd (generation_on bytes)) all.1.0
-  where
-    is_true : (b : Bool) → not b ≡ false → b ≡ true
-    is_true true is = refl
-    is_true false is = absurd (cc (is))
 
 -- the right disk has no generation 1
 pub first_is_left : (bytes : List ℕ) → IsFirst false bytes → ⊥

@@ -3,9 +3,9 @@ use Rattle.liq_outside.specs.Disk.{overwritten}
 use Rattle.liq_journal.specs.Crash.{Stands, beginning}
 use Rattle.liq_journal.specs.Crash.{is_odd}
 use Rattle.liq_journal.specs.Written.{is_generation}
-use Rattle.liq_journal.proofs.Creating.{on_ok_from, some_is, gate_shut, only_shut, after_shut, after_fill, after_open, made, reads_then}
+use Rattle.liq_journal.proofs.Creating.{some_is, gate_shut, only_shut, after_shut, after_fill, after_open, made, reads_then}
 use Rattle.liq_outside.proofs.Moments.{joined}
-use Rattle.liq_journal.proofs.Going.{cause_on, telling_on}
+use Rattle.liq_journal.proofs.Going.{cause_on, on_ok_from, telling_on}
 use Rattle.liq_journal.proofs.create.make.Goals as goal
 
 pub returns-in_err-settle-clause-crash : goal.returns-in_err-settle-clause-crash

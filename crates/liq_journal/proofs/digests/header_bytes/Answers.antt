@@ -1,11 +1,11 @@
 use Rattle.std.proofs.Common.{◌≡◌, ◌∙◌, ap, List, ℕ, ◌+◌, ◌++◌, length, take, drop, rules}
-use Rattle.liq_journal.specs.Written.{fields_of, header_digest}
+use Rattle.liq_journal.specs.Layout.{fields_of, header_digest, version_1}
 use Rattle.liq_journal.proofs.Creating.{header_is}
 use Rattle.liq_journal.proofs.digests.header_bytes.Goals as goal
 
 pub returns : goal.returns
 returns c =
-    let fields : c.header_fields-fields.result ≡ fields_of c.args.generation (length c.args.checkpoint.now) = c.header_fields-fields.ensures in
+    let fields : c.header_fields-fields.result ≡ fields_of version_1 c.args.generation (length c.args.checkpoint.now) = c.header_fields-fields.ensures in
     c.put-2.ensures ∙ ap (λ (l : List ℕ). take 24 l ++ c.header_digest.result ++ drop (24 + length c.header_digest.result) l) c.put.ensures
     ∙ header_is c.header_fields-fields.result c.header_digest.result (search rules) (search rules)
     ∙ ap (λ (d : List ℕ). c.header_fields-fields.result ++ d) c.header_digest.ensures

@@ -5,7 +5,7 @@ use Rattle.liq_journal.specs.declared.scanned.Scanned.{Scanned}
 use Rattle.liq_journal.specs.Crash.{Stands}
 use Rattle.liq_journal.specs.Opened.{OpenLeaves}
 use Rattle.liq_journal.specs.Written.{Written, Open, found_on}
-use Rattle.liq_journal.proofs.Opening.{if_ok_map}
+use Rattle.liq_journal.proofs.Going.{if_ok_map}
 use Rattle.liq_journal.proofs.open.open_on.Goals as goal
 
 pub returns-clause-stands : goal.returns-clause-stands

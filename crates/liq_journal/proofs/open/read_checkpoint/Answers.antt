@@ -6,13 +6,13 @@ pub loop-at-preserved : goal.loop-at-preserved
 loop-at-preserved g c =
     let room : c.in-Ok.count ≤ length c.read_at.new.buf = search rules in
     let fits : c.in-Ok.count ≤ c.min-want.result = search rules in
-    let want : c.min-want.result ≤ (57 + c.args.size) - c.loop-at.at = search rules in
-    let more : c.loop-at.at ≤ 57 + c.args.size = c.loop-at.invariant.within in
+    let want : c.min-want.result ≤ (c.args.place + c.args.size) - c.loop-at.at = search rules in
+    let more : c.loop-at.at ≤ c.args.place + c.args.size = c.loop-at.invariant.within in
     let long : length c.extend_from_slice.new.self.items ≡ length c.loop-at.checkpoint.items + c.in-Ok.count = grown c.loop-at.checkpoint.items c.extend_from_slice.new.self.items c.read_at.new.buf c.in-Ok.count c.in-Ok-extend_from_slice.ensures.items room in
     record {
       looked = looked_on g.D.Disk.seen g.D.Disk.moment g.D.Disk.left_at c.args.disk.now c.loop-at.disk c.read_at.new.disk c.loop-at.invariant.looked c.read_at.ensures.looked;
       still = c.in-Ok.ensures.cause.ok ∙ c.loop-at.invariant.still;
       done = omega (arith, long, c.loop-at.invariant.done);
-      within = sum_within c.loop-at.at c.in-Ok.count c.min-want.result (57 + c.args.size) fits want more;
-      read = read_more (g.D.Disk.seen c.args.disk.now) (g.D.Disk.seen c.loop-at.disk) c.loop-at.invariant.looked.same c.args.size c.loop-at.at c.in-Ok.count c.loop-at.checkpoint.items c.extend_from_slice.new.self.items c.read_at.new.buf _ c.loop-at.invariant.done c.in-Ok.ensures.fits long c.in-Ok-extend_from_slice.ensures.items c.in-Ok.ensures.told c.loop-at.invariant.read;
+      within = sum_within c.loop-at.at c.in-Ok.count c.min-want.result (c.args.place + c.args.size) fits want more;
+      read = read_more (g.D.Disk.seen c.args.disk.now) (g.D.Disk.seen c.loop-at.disk) c.loop-at.invariant.looked.same c.args.place c.args.size c.loop-at.at c.in-Ok.count c.loop-at.checkpoint.items c.extend_from_slice.new.self.items c.read_at.new.buf _ c.loop-at.invariant.done long c.in-Ok-extend_from_slice.ensures.items c.in-Ok.ensures.told c.loop-at.invariant.read;
     }

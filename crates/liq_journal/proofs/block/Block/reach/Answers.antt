@@ -1,7 +1,9 @@
 use Rattle.std.proofs.Common.{◌≡◌, IfSome, length, take, ap, arith}
-use Rattle.liq_journal.specs.Parts.{block_bytes, bytes_from}
-use Rattle.liq_journal.specs.Written.{piece}
-use Rattle.liq_journal.proofs.Parting.{told_there, told_begun, on_ok}
+use Rattle.liq_journal.specs.declared.block.TheConstants.{BLOCK_BYTES}
+use Rattle.liq_journal.specs.Parts.{bytes_from}
+use Rattle.liq_journal.specs.Layout.{piece}
+use Rattle.liq_journal.proofs.Going.{on_ok_from}
+use Rattle.liq_journal.proofs.Parting.{told_there, told_begun}
 use Rattle.liq_journal.proofs.block.Block.reach.Goals as goal
 
 pub returns-then-count-from-clause-reached : goal.returns-then-count-from-clause-reached
@@ -10,5 +12,5 @@ returns-then-count-from-clause-reached g c =
 
 pub returns-clause-reached : goal.returns-clause-reached
 returns-clause-reached g c =
-    on_ok c.fill.result (IfSome (g.D.Disk.seen c.args.disk.now) (λ held. c.fill.new.self.bytes ≡ piece c.args.at block_bytes held)) (IfSome (g.D.Disk.seen c.args.disk.now) (λ held. take c.args.count (bytes_from c.args.at c.fill.new.self) ≡ piece c.args.at c.args.count held))
-    (told_begun (g.D.Disk.seen c.args.disk.now) c.args.at c.args.count block_bytes c.fill.new.self c.fill.ensures.at c.requires.few) c.fill.ensures.filled
+    on_ok_from c.fill.result (IfSome (g.D.Disk.seen c.args.disk.now) (λ held. c.fill.new.self.bytes ≡ piece c.args.at BLOCK_BYTES held)) (IfSome (g.D.Disk.seen c.args.disk.now) (λ held. take c.args.count (bytes_from c.args.at c.fill.new.self) ≡ piece c.args.at c.args.count held))
+    (told_begun (g.D.Disk.seen c.args.disk.now) c.args.at c.args.count BLOCK_BYTES c.fill.new.self c.fill.ensures.at c.requires.few) c.fill.ensures.filled

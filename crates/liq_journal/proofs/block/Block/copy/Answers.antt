@@ -1,7 +1,7 @@
 use Rattle.std.proofs.Common.{◌≡◌, ◌++◌, List, ℕ, IfSome, length, take, drop, sym, subst, rules}
-use Rattle.liq_journal.specs.Written.{piece}
+use Rattle.liq_journal.specs.Layout.{piece}
 use Rattle.liq_journal.proofs.Parting.{copied, front_of}
-use Rattle.liq_journal.proofs.block.Block.read_at.Goals as goal
+use Rattle.liq_journal.proofs.block.Block.copy.Goals as goal
 
 pub returns-clause-told : goal.returns-clause-told
 returns-clause-told g c =
