@@ -1,8 +1,8 @@
 // A new journal on a disk: the gate at place 0 is shut, all behind it is written, and then it is opened.
-ghost use Rattle.std.specs.Prelude.{◌≡◌, ◌≤◌, ◌<◌, ◌+◌, ◌^◌, ◌↔◌, ◌⊎◌, ◌++◌, ◌∷◌, [], Some, true, List, ℕ, length, take, option_map, OnOk, OnErr, IfOk, IfErr, IfSome, IsSome};
+ghost use Rattle.std.specs.Prelude.{◌≡◌, ◌≤◌, ◌+◌, ◌^◌, ◌↔◌, Some, true, List, ℕ, length, option_map, OnOk, IfSome, IsSome};
 ghost use Rattle.liq_outside.specs.Disk.{GoesOn, LeavesOnly, LeftNow, Only, overwritten};
 ghost use Rattle.liq_outside.specs.Faults.{HasCause};
-ghost use Rattle.liq_journal.specs.Crash.{CreateLeaves, ReadsOfCreate, HasByteAt, IsShut, Stands, beginning, filled, is_odd};
+ghost use Rattle.liq_journal.specs.Crash.{CreateLeaves, ReadsOfCreate, IsShut, Stands, beginning, filled, is_odd};
 ghost use Rattle.liq_journal.specs.Layout.{version_1};
 ghost use Rattle.liq_journal.specs.Written.{is_generation, is_size};
 

@@ -1,5 +1,5 @@
 // A header read and tested.
-ghost use Rattle.std.specs.Prelude.{◌≡◌, ◌≤◌, ◌+◌, ◌==◌, ◌&&◌, Some, None, Err, true, IfOk, IfErr, IfSome, length, nat_lt, if◌then◌else◌};
+ghost use Rattle.std.specs.Prelude.{◌≡◌, ◌≤◌, ◌+◌, Some, None, true, IfOk, IfErr, IfSome, length};
 ghost use Rattle.std.specs.Result.{MatchResult};
 ghost use Rattle.liq_wire.specs.Fields.{first_place, number_at};
 ghost use Rattle.liq_journal.specs.Causes.{CountsLook};

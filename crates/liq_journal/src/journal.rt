@@ -1,5 +1,5 @@
 // A journal that is open.
-ghost use Rattle.std.specs.Prelude.{◌≡◌, ◌≤◌, ◌<◌, ◌+◌, ◌*◌, ◌^◌, ◌↔◌, Some, List, ℕ, true, length, OnOk, OnErr, IfOk, IfErr, IfSome, IsSome};
+ghost use Rattle.std.specs.Prelude.{◌≡◌, ◌≤◌, ◌<◌, ◌+◌, ◌^◌, ◌↔◌, Some, List, ℕ, true, length, OnOk, OnErr, IfOk, IfErr, IfSome, IsSome};
 ghost use Rattle.std.specs.Result.{MatchResult};
 ghost use Rattle.liq_types.specs.declared.requests.Command.{Command};
 ghost use Rattle.liq_outside.specs.Disk.{GoesOn, LeavesOnly, LeftNow, Only};

@@ -1,7 +1,7 @@
 // A journal opened: all of its disk tested, and the byte behind it shut.
-ghost use Rattle.std.specs.Prelude.{◌≡◌, ◌≤◌, ◌<◌, ◌+◌, ◌^◌, ◌⊎◌, ◌↔◌, Some, IsTrue, true, Ok, Err, List, ℕ, length, drop, take, OnOk, OnErr, IfOk, IfErr, IfSome, IsSome};
+ghost use Rattle.std.specs.Prelude.{◌≡◌, ◌≤◌, ◌+◌, ◌^◌, ◌⊎◌, ◌↔◌, Some, IsTrue, true, Ok, Err, List, ℕ, length, OnOk, IfOk, IfErr, IfSome, IsSome};
 ghost use Rattle.std.specs.Result.{MatchResult};
-ghost use Rattle.liq_journal.specs.Crash.{HasGate, SettleLeaves, Stands};
+ghost use Rattle.liq_journal.specs.Crash.{Stands};
 ghost use Rattle.liq_outside.specs.Disk.{GoesOn, LeavesOnly, LeftNow, Only};
 ghost use Rattle.liq_outside.specs.Faults.{HasCause};
 ghost use Rattle.liq_journal.specs.Causes.{CountsOpen};
@@ -22,7 +22,7 @@ use crate::reads::read_at;
 use crate::records::count_records;
 use crate::scanned::Scanned;
 use liq_outside::{Disk, Failed};
-use std::alloc::{AllocError, Global};
+use std::alloc::Global;
 
 // The bytes of the checkpoint, which stands at the place. A disk whose content is told has them all.
 fn read_checkpoint<D: Disk>(

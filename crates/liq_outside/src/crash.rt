@@ -1,6 +1,6 @@
 // What a crash leaves of a disk in memory.
-ghost use Rattle.std.specs.Prelude.{◌≡◌, ◌≤◌, length};
-ghost use Rattle.liq_outside.specs.DiskInMemory.{AreWrites, MayBeLeft, StaysLeft, synced_length};
+ghost use Rattle.std.specs.Prelude.{◌≡◌, length};
+ghost use Rattle.liq_outside.specs.DiskInMemory.{AreWrites, MayBeLeft, StaysLeft};
 ghost use Rattle.liq_outside.specs.Made.{steps_of};
 
 use super::made::Made;

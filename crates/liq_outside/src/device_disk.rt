@@ -1,5 +1,5 @@
 // A device as a disk: each of its calls is made again until all is done. As such it tells no content, and any image may be left.
-ghost use Rattle.std.specs.Prelude.{◌≡◌, ◌≤◌, ◌+◌, ◌-◌, ◌^◌, None, Some, List, ℕ, is_some, length, min, take, drop, option_and_then, IfOk, IfSome, OnOk, OnErr};
+ghost use Rattle.std.specs.Prelude.{◌≡◌, ◌≤◌, ◌+◌, ◌-◌, ◌^◌, None, Some, List, ℕ, is_some, length, min, take, drop, option_and_then, IfOk, IfSome, OnOk};
 ghost use Rattle.liq_outside.specs.Adapters.{AnyImage, CountsFailure};
 ghost use Rattle.liq_outside.specs.Devices.{IsCall, TellsFailure};
 ghost use Rattle.liq_outside.specs.Disk.{Follows, Torn, overwritten};

@@ -1,5 +1,5 @@
 // A file as a device, and the disk over it. As such it tells no content: only faults are told.
-ghost use Rattle.std.specs.Prelude.{◌≡◌, ◌≤ℤ◌, ◌^◌, ◌≤◌, ◌+◌, Some, None, pos, length, IfSome};
+ghost use Rattle.std.specs.Prelude.{◌≡◌, ◌≤ℤ◌, ◌≤◌, Some, None, pos, IfSome};
 ghost use Rattle.std.specs.Fd.{file_raw_fd};
 ghost use Rattle.std.specs.declared.fs.File.{File};
 

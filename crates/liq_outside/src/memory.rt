@@ -1,5 +1,5 @@
 // A source and a sink in memory, whose calls fail where they are told to.
-ghost use Rattle.std.specs.Prelude.{◌≡◌, ◌≤◌, ◌<◌, ◌↔◌, ◌⊎◌, ◌++◌, [], Some, length, take, drop, option_map, IfOk, OnOk, OnErr, IsErr};
+ghost use Rattle.std.specs.Prelude.{◌≡◌, ◌≤◌, ◌<◌, ◌↔◌, ◌⊎◌, ◌++◌, [], Some, length, take, drop, IfOk, OnOk, OnErr, IsErr};
 ghost use Rattle.liq_outside.specs.Calls.{FailsNext, not_begun};
 ghost use Rattle.liq_outside.specs.Faults.{HasCause};
 ghost use Rattle.liq_outside.specs.Memory.{after_failed_read, after_failed_write, after_read, after_write, count_taken};

@@ -1,5 +1,5 @@
 // A device in memory, whose reads and writes do a part of what they are asked, and whose calls fail where they are told to.
-ghost use Rattle.std.specs.Prelude.{◌≡◌, ◌≤◌, ◌<◌, ◌↔◌, ◌⊎◌, ◌+◌, ◌-◌, ◌++◌, ◌^◌, [], Ok, Some, length, take, drop, min, IfOk, OnOk, OnErr, IsErr};
+ghost use Rattle.std.specs.Prelude.{◌≡◌, ◌≤◌, ◌<◌, ◌↔◌, ◌+◌, ◌-◌, ◌++◌, ◌^◌, [], Ok, Some, length, take, drop, min, IfOk, OnOk, OnErr, IsErr};
 ghost use Rattle.liq_outside.specs.Calls.{FailsNext, not_begun};
 ghost use Rattle.liq_outside.specs.Devices.{after_asking, after_failure, after_syncing, after_writing};
 

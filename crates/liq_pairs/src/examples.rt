@@ -1,7 +1,7 @@
 //! Worked examples: what two disks stand for, and what a replay comes to. The functions here do nothing; each is the place
 //! where the facts of its contract are proved.
 
-ghost use Rattle.std.specs.Prelude.{◌≡◌, ℕ, List, [], ◌∷◌, Ok, Err};
+ghost use Rattle.std.specs.Prelude.{◌≡◌, List, [], ◌∷◌, Ok, Err};
 ghost use Rattle.liq_types.specs.declared.requests.Command.{Command};
 ghost use Rattle.liq_types.specs.State.{State, opening};
 ghost use Rattle.liq_rules.specs.Step.{after};
