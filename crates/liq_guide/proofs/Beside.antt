@@ -5,7 +5,7 @@ use Rattle.std.specs.List.{AllByRecursion}
 use Rattle.std.specs.Ordering.{nat_cmp, int_cmp, is_lt, ordering_then, ordering_reverse, MatchOrdering}
 use Rattle.std.specs.declared.cmp.Ordering.{Ordering}
 use Rattle.std.specs.declared.cmp.Ordering.TheVariants.{Less, Equal, Greater}
-use Rattle.std.proofs.lemmas.Bool.{eqb-true, eq-eqb}
+use Rattle.std.proofs.lemmas.Bool.{eqb-true}
 use Rattle.std.proofs.lemmas.Cmp.{tied_itself, int_ranked}
 use Rattle.std.proofs.lemmas.Int.{ints}
 use Rattle.std.proofs.lemmas.List.Elements.{filter-append}
@@ -13,7 +13,9 @@ use Rattle.std.proofs.lemmas.List.{reverse-append, append-nil}
 use Rattle.liq_types.proofs.RankedLists.{rank_total, Behind, behind_more, all_kept}
 use Rattle.liq_types.specs.Ranked.{Ranked, rank_order, IsAscending, first_of, account_of, without_ranked}
 use Rattle.liq_guide.specs.Rows.{StandOnce}
-use Rattle.liq_guide.specs.Sides.{entry_before, entry_after, prev_aside, next_aside}
+use Rattle.liq_guide.specs.Sides.{account_aside, entry_after, entry_before, entry_beside, past_own}
+use Rattle.liq_guide.specs.declared.sides.Side.{Side}
+use Rattle.liq_guide.specs.declared.sides.Side.TheVariants.{Before, After}
 
 -- ---- filters
 
@@ -87,9 +89,9 @@ not_beyond R o e g h before beyond = by (R h g) refl where
   by true is = sym (o.on e h g beyond is) ∙ before
   by false is = refl
 
-past_own : (R : Ranked → Ranked → Bool) → Lies R → (list : List Ranked) (e : Ranked) → Goes R list → account_of (beyond R (without_ranked list e.1) e) ≡ stepped (beyond R list) e (beyond R list e)
-past_own R o [] e h = refl
-past_own R o (g ∷ gs) e h = by (R e g) refl (g.1 == e.1) refl (past_own R o gs e h.1) where
+passed : (R : Ranked → Ranked → Bool) → Lies R → (list : List Ranked) (e : Ranked) → Goes R list → account_of (beyond R (without_ranked list e.1) e) ≡ stepped (beyond R list) e (beyond R list e)
+passed R o [] e h = refl
+passed R o (g ∷ gs) e h = by (R e g) refl (g.1 == e.1) refl (passed R o gs e h.1) where
   rest : List Ranked
   rest = without_ranked gs e.1
 
@@ -123,12 +125,6 @@ stepped_same next other same e x y is = by x ∙ ap (λ (o : Option Ranked). ste
   by None = refl
   by (Some g) = ap (λ (o : Option Ranked). cond (g.1 == e.1) (account_of o) (Some g.1)) (same g)
 
-stepped_own : (next : Ranked → Option Ranked) (e g : Ranked) (x : Option Ranked) → x ≡ Some g → g.1 ≡ e.1 → stepped next e x ≡ account_of (next g)
-stepped_own next e g x is own = ap (λ (o : Option Ranked). stepped next e o) is ∙ ap (λ t. cond t (account_of (next g)) (Some g.1)) (eq-eqb g.1 e.1 own)
-
-stepped_other : (next : Ranked → Option Ranked) (e g : Ranked) (x : Option Ranked) → x ≡ Some g → g.1 ≢ e.1 → stepped next e x ≡ Some g.1
-stepped_other next e g x is other = ap (λ (o : Option Ranked). stepped next e o) is ∙ ap (λ t. cond t (account_of (next g)) (Some g.1)) (not_equal g.1 e.1 other)
-
 -- ---- to the end
 
 is_less : (o : Ordering) → is_lt o ≡ true → o ≡ Less
@@ -150,17 +146,8 @@ goes_after : (list : List Ranked) → IsAscending list → StandOnce list → Go
 goes_after [] h k = tt
 goes_after (e ∷ es) h k = (both e es h.0 k.0, goes_after es h.1 k.1)
 
-next_is : (list : List Ranked) (e : Ranked) → IsAscending list → StandOnce list → next_aside list e ≡ stepped (λ g. entry_after list g) e (entry_after list e)
-next_is list e h k = past_own (λ (a b : Ranked). is_lt (rank_order a b)) lies_after list e (goes_after list h k)
-
-pub next_past_own : (list : List Ranked) (e g : Ranked) → IsAscending list → StandOnce list → entry_after list e ≡ Some g → g.1 ≡ e.1 → next_aside list e ≡ account_of (entry_after list g)
-next_past_own list e g h k is own = next_is list e h k ∙ stepped_own (λ f. entry_after list f) e g (entry_after list e) is own
-
-pub next_of_other : (list : List Ranked) (e g : Ranked) → IsAscending list → StandOnce list → entry_after list e ≡ Some g → g.1 ≢ e.1 → next_aside list e ≡ Some g.1
-next_of_other list e g h k is other = next_is list e h k ∙ stepped_other (λ f. entry_after list f) e g (entry_after list e) is other
-
-pub next_of_none : (list : List Ranked) (e : Ranked) → IsAscending list → StandOnce list → entry_after list e ≡ None → next_aside list e ≡ None
-next_of_none list e h k is = next_is list e h k ∙ ap (λ (o : Option Ranked). stepped (λ f. entry_after list f) e o) is
+next_is : (list : List Ranked) (e : Ranked) → IsAscending list → StandOnce list → account_aside After list e ≡ stepped (λ g. entry_after list g) e (entry_after list e)
+next_is list e h k = passed (λ (a b : Ranked). is_lt (rank_order a b)) lies_after list e (goes_after list h k)
 
 -- ---- to the front
 
@@ -189,10 +176,10 @@ goes_before (e ∷ es) h k =
     (all_reverse (λ (f : Ranked). (is_lt (rank_order e f) ≡ true) × (e.1 ≢ f.1)) es
     (each (λ (f : Ranked). (is_lt (rank_order e f) ≡ true) × (f.1 ≢ e.1)) (λ (f : Ranked). (is_lt (rank_order e f) ≡ true) × (e.1 ≢ f.1)) (λ f t. (t.0, λ s. t.1 (sym s))) es (both e es h.0 k.0))))
 
-prev_is : (list : List Ranked) (e : Ranked) → IsAscending list → StandOnce list → prev_aside list e ≡ stepped (λ g. entry_before list g) e (entry_before list e)
+prev_is : (list : List Ranked) (e : Ranked) → IsAscending list → StandOnce list → account_aside Before list e ≡ stepped (λ g. entry_before list g) e (entry_before list e)
 prev_is list e h k =
     ap (λ (l : List Ranked). account_of (first_of l)) (reverse_filter (R e) (without_ranked list e.1) ∙ ap (λ (l : List Ranked). filter (R e) l) (reverse_filter (λ (f : Ranked). not (f.1 == e.1)) list))
-    ∙ past_own R lies_before (reverse list) e (goes_before list h k)
+    ∙ passed R lies_before (reverse list) e (goes_before list h k)
     ∙ stepped_same (beyond R (reverse list)) (λ g. entry_before list g) same e (beyond R (reverse list) e) (entry_before list e) (same e) where
       R : Ranked → Ranked → Bool
       R a b = is_lt (rank_order b a)
@@ -200,14 +187,17 @@ prev_is list e h k =
       same : (g : Ranked) → beyond R (reverse list) g ≡ entry_before list g
       same g = ap (λ (l : List Ranked). first_of l) (sym (reverse_filter (R g) list))
 
-pub prev_past_own : (list : List Ranked) (e g : Ranked) → IsAscending list → StandOnce list → entry_before list e ≡ Some g → g.1 ≡ e.1 → prev_aside list e ≡ account_of (entry_before list g)
-prev_past_own list e g h k is own = prev_is list e h k ∙ stepped_own (λ f. entry_before list f) e g (entry_before list e) is own
+-- ---- on either side
 
-pub prev_of_other : (list : List Ranked) (e g : Ranked) → IsAscending list → StandOnce list → entry_before list e ≡ Some g → g.1 ≢ e.1 → prev_aside list e ≡ Some g.1
-prev_of_other list e g h k is other = prev_is list e h k ∙ stepped_other (λ f. entry_before list f) e g (entry_before list e) is other
-
-pub prev_of_none : (list : List Ranked) (e : Ranked) → IsAscending list → StandOnce list → entry_before list e ≡ None → prev_aside list e ≡ None
-prev_of_none list e h k is = prev_is list e h k ∙ ap (λ (o : Option Ranked). stepped (λ f. entry_before list f) e o) is
+pub aside_is : (side : Side) (list : List Ranked) (e : Ranked) → IsAscending list → StandOnce list → account_aside side list e ≡ past_own side list e.1 (entry_beside side list e)
+aside_is Before list e h k = prev_is list e h k ∙ by (entry_before list e) where
+  by : (o : Option Ranked) → stepped (λ g. entry_before list g) e o ≡ past_own Before list e.1 o
+  by None = refl
+  by (Some g) = refl
+aside_is After list e h k = next_is list e h k ∙ by (entry_after list e) where
+  by : (o : Option Ranked) → stepped (λ g. entry_after list g) e o ≡ past_own After list e.1 o
+  by None = refl
+  by (Some g) = refl
 
 -- ---- before all
 
@@ -220,7 +210,7 @@ first_after : (list : List Ranked) (e : Ranked) → Behind e list → entry_afte
 first_after list e h =
     ap (λ (l : List Ranked). first_of l) (all_pass (λ (f : Ranked). is_lt (rank_order e f)) list (each (λ (f : Ranked). rank_order e f ≡ Less) (λ (f : Ranked). is_lt (rank_order e f) ≡ true) (λ f k. ap is_lt k) list h))
 
-pub none_before : (list : List Ranked) (e : Ranked) → Behind e list → prev_aside list e ≡ None
+pub none_before : (list : List Ranked) (e : Ranked) → Behind e list → account_aside Before list e ≡ None
 none_before list e h =
     ap (λ (l : List Ranked). account_of (first_of (reverse l))) (none_pass (λ (f : Ranked). is_lt (rank_order f e)) (without_ranked list e.1) (each (λ (f : Ranked). rank_order e f ≡ Less) (λ (f : Ranked). is_lt (rank_order f e) ≡ false) (λ f k. ap is_lt (rank_total.antisymm f e) ∙ turn (rank_order e f) k) (without_ranked list e.1) (all_kept (λ (f : Ranked). rank_order e f ≡ Less) (λ (f : Ranked). not (f.1 == e.1)) list h))) where
       turn : (o : Ordering) → o ≡ Less → is_lt (ordering_reverse o) ≡ false
@@ -241,5 +231,11 @@ pub below_all : (list : List Ranked) (key : ℤ) (account : ℕ) (first : Option
 below_all list key account first is least h =
     before_all list (key, account) h (λ f here. lower_key (key, account) f (subst (λ (o : Option Ranked). IfSome o (λ g. key <ℤ g.0)) (is ∙ here) least))
 
-pub after_all : (list : List Ranked) (key : ℤ) (account : ℕ) (first : Option Ranked) → first ≡ first_of list → IfSome first (λ f. key <ℤ f.0) → IsAscending list → entry_after list (key, account) ≡ first
+after_all : (list : List Ranked) (key : ℤ) (account : ℕ) (first : Option Ranked) → first ≡ first_of list → IfSome first (λ f. key <ℤ f.0) → IsAscending list → entry_after list (key, account) ≡ first
 after_all list key account first is least h = first_after list (key, account) (below_all list key account first is least h) ∙ sym is
+
+-- the account after a key that is below all
+pub first_is : (list : List Ranked) (key : ℤ) (account : ℕ) (first : Option Ranked) → first ≡ first_of list → IfSome first (λ f. key <ℤ f.0) → IsAscending list → StandOnce list → past_own After list account first ≡ account_aside After list (key, account)
+first_is list key account first is least h k =
+    ap (λ (o : Option Ranked). past_own After list account o) (sym (after_all list key account first is least h))
+    ∙ sym (aside_is After list (key, account) h k)

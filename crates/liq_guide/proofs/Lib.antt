@@ -1,6 +1,7 @@
 pub mod Beside
 pub mod Following
+pub mod Holding
 pub mod Members
-pub mod Noting
 pub mod Ranges
 pub mod Standing
+pub mod Stands

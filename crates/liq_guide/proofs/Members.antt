@@ -1,22 +1,17 @@
 -- What is in a ranked list, and that ascending lists of the same entries are equal.
-use Rattle.std.proofs.Common.{◌≡◌, ℕ, Bool, true, false, cond, List, [], ◌∷◌, refl, sym, ap, ◌∙◌, Some, None, Option}
-use Rattle.std.specs.Prelude.{◌==◌, not, ◌&&◌, ◌||◌, filter, unwrap_or, is_some}
-use Rattle.std.specs.List.{list_any}
+use Rattle.std.proofs.Common.{◌≡◌, ℕ, Bool, true, false, List, [], ◌∷◌, refl, sym, ap, ◌∙◌}
+use Rattle.std.specs.Prelude.{◌==◌, not, ◌&&◌, ◌||◌}
 use Rattle.std.specs.List.Sorted.{IsStrictlySortedBy}
 use Rattle.std.specs.BTreeMap.{is_at}
 use Rattle.std.specs.BTreeSet.{BTreeSet}
-use Rattle.std.specs.Cmp.{eq_by_cmp_equiv}
-use Rattle.std.specs.Map.{keys_of, lookup}
 use Rattle.std.specs.Ordering.{int_cmp, nat_cmp, is_eq, match_ordering, ordering_reverse}
 use Rattle.std.specs.declared.cmp.Ordering.{Ordering}
 use Rattle.std.specs.declared.cmp.Ordering.TheVariants.{Less, Equal, Greater}
-use Rattle.std.proofs.lemmas.Map.Entries.{option_filter, lookup-filter-values}
-use Rattle.std.proofs.lemmas.Map.Keys.{IsDistinct-from_sorted}
 use Rattle.std.proofs.lemmas.Map.Lookups.{CmpEqualImpliesEq, exact_unsigned, exact_signed, exact_pairs, btree_set_from_contains}
 use Rattle.std.proofs.lemmas.Map.Views.{any-filter_same}
 use Rattle.liq_types.specs.Ranked.{Ranked, rank_order, with_ranked, without_ranked, IsAscending}
-use Rattle.liq_types.proofs.RankedLists.{rank_total, Behind, behind_more, with_behind}
-use Rattle.liq_guide.specs.Rows.{Places, is_marked, place_at, standing, is_in}
+use Rattle.liq_types.proofs.RankedLists.{rank_total, behind_more, with_behind}
+use Rattle.liq_guide.specs.Rows.{is_in}
 
 pub exact_rank : CmpEqualImpliesEq rank_order
 exact_rank = exact_pairs int_cmp nat_cmp exact_signed exact_unsigned
@@ -72,41 +67,6 @@ with_ascending (f ∷ fs) e n h = by (rank_order e f) refl (with_ascending fs e 
   by Equal is more = absurd (clash is)
   by Greater is more = (with_behind f fs e (rank_total.antisymm f e ∙ ap ordering_reverse is) h.0, more)
 
--- ---- what stands
-
-behind_standing : (e : Ranked) (places : Places) → Behind e (keys_of places) → Behind e (standing places)
-behind_standing e [] h = tt
-behind_standing e (p ∷ ps) h = by p.1 (behind_standing e ps h.1) where
-  by : (b : Bool) → Behind e (standing ps) → Behind e (keys_of (cond b (p ∷ filter (λ (row : Ranked × Bool). row.1) ps) (filter (λ (row : Ranked × Bool). row.1) ps)))
-  by true more = (h.0, more)
-  by false more = more
-
-pub standing_ascends : (places : Places) → IsStrictlySortedBy rank_order (keys_of places) → IsAscending (standing places)
-unfolding IsStrictlySortedBy
-standing_ascends [] h = tt
-standing_ascends (p ∷ ps) h = by p.1 (standing_ascends ps h.1) where
-  by : (b : Bool) → IsAscending (standing ps) → IsAscending (keys_of (cond b (p ∷ filter (λ (row : Ranked × Bool). row.1) ps) (filter (λ (row : Ranked × Bool). row.1) ps)))
-  by true more = (behind_standing p.0 ps h.0, more)
-  by false more = more
-
-pub any_keys : {K X : Type 0} (test : K → Bool) (es : List (K × X)) → list_any test (keys_of es) ≡ is_some (lookup test es)
-any_keys test [] = refl
-any_keys {K} {X} test (e ∷ es) = by (test e.0) (any_keys test es) where
-  by : (b : Bool) → list_any test (keys_of es) ≡ is_some (lookup test es) → (b || list_any test (keys_of es)) ≡ is_some (cond b (Some e.1) (lookup test es))
-  by true more = refl
-  by false more = more
-
-some_marked : (o : Option Bool) → is_some (option_filter (λ (b : Bool). b) o) ≡ unwrap_or o false
-some_marked None = refl
-some_marked (Some true) = refl
-some_marked (Some false) = refl
-
-pub standing_is_in : (places : Places) (e : Ranked) → IsStrictlySortedBy rank_order (keys_of places) → is_in (standing places) e ≡ is_marked places e
-standing_is_in places e s =
-    any_keys (is_at (rank_order e)) (filter (λ (row : Ranked × Bool). row.1) places)
-    ∙ ap (λ (o : Option Bool). is_some o) (lookup-filter-values (eq_by_cmp_equiv rank_total) (λ (b : Bool). b) e places (IsDistinct-from_sorted rank_order (keys_of places) s))
-    ∙ some_marked (place_at places e)
-
 -- ---- the same entries
 
 strict : (list : List Ranked) → IsAscending list → IsStrictlySortedBy rank_order list
@@ -119,3 +79,8 @@ same_list list more a b same =
     let one : BTreeSet Ranked = record { keys = list } in
     let other : BTreeSet Ranked = record { keys = more } in
     btree_set_from_contains rank_total one other (strict list a) (strict more b) same exact_rank
+
+pub ascends : (list : List Ranked) → IsStrictlySortedBy rank_order list → IsAscending list
+unfolding IsStrictlySortedBy
+ascends [] h = tt
+ascends (e ∷ es) h = (h.0, ascends es h.1)

@@ -1,44 +1,21 @@
--- What rows show where none only keeps room: the list itself, in which no account stands twice, and the key of each account.
-use Rattle.std.proofs.Common.{◌≡◌, ℕ, ℤ, Bool, true, false, cond, List, [], ◌∷◌, refl, sym, ap, ◌∙◌, Some, None, Option, subst}
-use Rattle.std.specs.Prelude.{◌==◌, ◌≢◌, ◌||◌, unwrap_or, is_some, find, option_map}
+-- What is known of a list by the key of each account: no account stands in it twice, and where each does.
+use Rattle.std.proofs.Common.{◌≡◌, ℕ, ℤ, Bool, true, false, cond, List, [], ◌∷◌, refl, sym, ap, ◌∙◌, Some, None, Option}
+use Rattle.std.specs.Prelude.{◌==◌, ◌≢◌, ◌||◌, unwrap_or, find, option_map}
 use Rattle.std.specs.List.{AllByRecursion}
-use Rattle.std.specs.List.Sorted.{IsStrictlySortedBy}
-use Rattle.std.specs.BTreeMap.{is_at}
-use Rattle.std.specs.Map.{keys_of}
-use Rattle.std.specs.Ordering.{int_cmp, is_eq}
+use Rattle.std.specs.Ordering.{is_eq}
 use Rattle.std.specs.declared.cmp.Ordering.TheVariants.{Less, Equal}
 use Rattle.std.proofs.lemmas.Bool.{eqb-true, eq-eqb}
 use Rattle.std.proofs.lemmas.Cmp.{int_cmp_total, tied_itself}
-use Rattle.std.proofs.lemmas.Map.Lookups.{exact_signed}
 use Rattle.liq_types.proofs.RankedLists.{rank_total, Behind}
 use Rattle.liq_types.specs.Ranked.{Ranked, rank_order, IsAscending, key_in}
-use Rattle.liq_guide.specs.Rows.{Places, Keys, place_at, key_at, standing, is_in, is_key, Follows, AreFull, StandOnce}
-use Rattle.liq_guide.proofs.Members.{is_tied, same_entry, same_list, standing_ascends, standing_is_in, any_keys}
-
--- ---- the list
-
-ascends : (list : List Ranked) → IsStrictlySortedBy rank_order list → IsAscending list
-unfolding IsStrictlySortedBy
-ascends [] h = tt
-ascends (e ∷ es) h = (h.0, ascends es h.1)
-
-all_standing : (places : Places) (keys : Keys) → IsStrictlySortedBy rank_order (keys_of places) → AreFull places keys → standing places ≡ keys_of places
-all_standing places keys s full =
-    same_list (standing places) (keys_of places) (standing_ascends places s) (ascends (keys_of places) s)
-    (λ e. standing_is_in places e s ∙ by (place_at places e) (full.all_stand e) ∙ sym (any_keys (is_at (rank_order e)) places)) where
-      by : (o : Option Bool) → (o ≡ Some false → ⊥) → unwrap_or o false ≡ is_some o
-      by None n = refl
-      by (Some true) n = refl
-      by (Some false) n = absurd (n refl)
+use Rattle.liq_guide.specs.Rows.{is_in, is_key, Follows, StandOnce}
+use Rattle.liq_guide.proofs.Holding.{key_is}
+use Rattle.liq_guide.proofs.Members.{same_entry}
 
 -- ---- no account twice
 
-key_is : (o : Option ℤ) (key : ℤ) → is_key o key ≡ true → o ≡ Some key
-key_is None key h = cc
-key_is (Some k) key h = ap (λ (z : ℤ). Some z) (sym (exact_signed key k (is_tied (int_cmp key k) h)))
-
-abbrev Keyed : Keys → List Ranked → Type 0
-Keyed keys list = AllByRecursion (λ (e : Ranked). key_at keys e.1 ≡ Some e.0) list
+abbrev Keyed : (ℕ → Option ℤ) → List Ranked → Type 0
+Keyed key list = AllByRecursion (λ (e : Ranked). key e.1 ≡ Some e.0) list
 
 first_is_in : (e : Ranked) (es : List Ranked) → is_in (e ∷ es) e ≡ true
 first_is_in e es = ap (λ o. is_eq o || is_in es e) (tied_itself rank_total e)
@@ -49,38 +26,27 @@ later_is_in e f es h = by (is_eq (rank_order f e)) where
   by true = refl
   by false = h
 
-keyed : (keys : Keys) (list : List Ranked) → ((e : Ranked) → is_in list e ≡ true → key_at keys e.1 ≡ Some e.0) → Keyed keys list
-keyed keys [] h = tt
-keyed keys (e ∷ es) h = (h e (first_is_in e es), keyed keys es (λ f there. h f (later_is_in e f es there)))
+keyed : (key : ℕ → Option ℤ) (list : List Ranked) → ((e : Ranked) → is_in list e ≡ true → key e.1 ≡ Some e.0) → Keyed key list
+keyed key [] h = tt
+keyed key (e ∷ es) h = (h e (first_is_in e es), keyed key es (λ f there. h f (later_is_in e f es there)))
 
-others : (keys : Keys) (e : Ranked) (es : List Ranked) → key_at keys e.1 ≡ Some e.0 → Behind e es → Keyed keys es → AllByRecursion (λ (f : Ranked). f.1 ≢ e.1) es
-others keys e [] own behind h = tt
-others keys e (f ∷ fs) own behind h = (apart, others keys e fs own behind.1 h.1) where
+others : (key : ℕ → Option ℤ) (e : Ranked) (es : List Ranked) → key e.1 ≡ Some e.0 → Behind e es → Keyed key es → AllByRecursion (λ (f : Ranked). f.1 ≢ e.1) es
+others key e [] own behind h = tt
+others key e (f ∷ fs) own behind h = (apart, others key e fs own behind.1 h.1) where
   apart : f.1 ≢ e.1
   apart same =
-      let keys_are : f.0 ≡ e.0 = ap (λ (o : Option ℤ). unwrap_or o f.0) (sym h.0 ∙ ap (λ a. key_at keys a) same ∙ own) in
-      let entries : f ≡ e = ap (λ (key : ℤ). (key, f.1)) keys_are ∙ ap (λ (a : ℕ). (e.0, a)) same in
+      let keys_are : f.0 ≡ e.0 = ap (λ (o : Option ℤ). unwrap_or o f.0) (sym h.0 ∙ ap (λ a. key a) same ∙ own) in
+      let entries : f ≡ e = ap (λ (k : ℤ). (k, f.1)) keys_are ∙ ap (λ (a : ℕ). (e.0, a)) same in
       clash (sym behind.0 ∙ ap (λ (g : Ranked). rank_order e g) entries ∙ tied_itself rank_total e) where
         clash : Less ≡ Equal → ⊥
         clash is = cc
 
-once : (keys : Keys) (list : List Ranked) → IsAscending list → Keyed keys list → StandOnce list
-once keys [] h k = tt
-once keys (e ∷ es) h k = (others keys e es k.0 h.0 k.1, once keys es h.1 k.1)
+once : (key : ℕ → Option ℤ) (list : List Ranked) → IsAscending list → Keyed key list → StandOnce list
+once key [] h k = tt
+once key (e ∷ es) h k = (others key e es k.0 h.0 k.1, once key es h.1 k.1)
 
-stand_once : (places : Places) (keys : Keys) (list : List Ranked) → Follows places keys list → StandOnce list
-stand_once places keys list h = once keys list h.ascending (keyed keys list (λ e there. key_is (key_at keys e.1) e.0 (sym (h.keyed e) ∙ there)))
-
--- ---- the rows' places are the list
-
-pub keys_are : (places : Places) (keys : Keys) → Follows places keys (standing places) → AreFull places keys → keys_of places ≡ standing places
-keys_are places keys h full = sym (all_standing places keys h.ordered full)
-
-pub keys_ascend : (places : Places) (keys : Keys) → Follows places keys (standing places) → IsAscending (keys_of places)
-keys_ascend places keys h = ascends (keys_of places) h.ordered
-
-pub keys_stand_once : (places : Places) (keys : Keys) → Follows places keys (standing places) → AreFull places keys → StandOnce (keys_of places)
-keys_stand_once places keys h full = subst StandOnce (all_standing places keys h.ordered full) (stand_once places keys (standing places) h)
+pub stand_once : (key : ℕ → Option ℤ) (list : List Ranked) → Follows key list → StandOnce list
+stand_once key list h = once key list h.ascending (keyed key list (λ e there. key_is (key e.1) e.0 (sym (h.keyed e) ∙ there)))
 
 -- ---- keys
 
@@ -104,15 +70,15 @@ found (e ∷ es) account f h = by (e.1 == account) refl h (found es account f) w
       (ap (λ (g : Ranked). g.1 == account) (sym same) ∙ is, ap (λ (g : Ranked). is_in (e ∷ es) g) (sym same) ∙ first_is_in e es)
   by false is later more = ((more later).0, later_is_in e f es (more later).1)
 
-pub key_found : (places : Places) (keys : Keys) (list : List Ranked) (account : ℕ) → Follows places keys list → key_at keys account ≡ key_in list account
-key_found places keys list account h = by (find (λ (e : Ranked). e.1 == account) list) refl where
-  none : find (λ (e : Ranked). e.1 == account) list ≡ None → (o : Option ℤ) → key_at keys account ≡ o → o ≡ None
+pub key_found : (key : ℕ → Option ℤ) (list : List Ranked) (account : ℕ) → Follows key list → key account ≡ key_in list account
+key_found key list account h = by (find (λ (e : Ranked). e.1 == account) list) refl where
+  none : find (λ (e : Ranked). e.1 == account) list ≡ None → (o : Option ℤ) → key account ≡ o → o ≡ None
   none n None is = refl
-  none n (Some key) is =
-      let clash : false ≡ true = sym (none_found list account key n) ∙ h.keyed (key, account) ∙ ap (λ k. is_key k key) is ∙ ap is_eq (tied_itself int_cmp_total key) in cc
+  none n (Some k) is =
+      let clash : false ≡ true = sym (none_found list account k n) ∙ h.keyed (k, account) ∙ ap (λ o. is_key o k) is ∙ ap is_eq (tied_itself int_cmp_total k) in cc
 
-  by : (o : Option Ranked) → find (λ (e : Ranked). e.1 == account) list ≡ o → key_at keys account ≡ option_map (λ (e : Ranked). e.0) o
-  by None is = none is (key_at keys account) refl
+  by : (o : Option Ranked) → find (λ (e : Ranked). e.1 == account) list ≡ o → key account ≡ option_map (λ (e : Ranked). e.0) o
+  by None is = none is (key account) refl
   by (Some f) is =
       let there = found list account f is in
-      ap (λ a. key_at keys a) (sym (eqb-true f.1 account there.0)) ∙ key_is (key_at keys f.1) f.0 (sym (h.keyed f) ∙ there.1)
+      ap (λ a. key a) (sym (eqb-true f.1 account there.0)) ∙ key_is (key f.1) f.0 (sym (h.keyed f) ∙ there.1)

@@ -1,38 +1,51 @@
--- The rows of a guide: whether an entry stands at a place, and the key of an account. Some only keep room for what is
+-- The rows of a guide: the entries of the list, and for each account its key, and its key after the changes that are being
 -- followed.
-use Rattle.std.specs.Prelude.{◌≡◌, ◌≢◌, ◌⊎◌, ◌==◌, ℕ, ℤ, Bool, true, false, List, [], ◌∷◌, Option, Some, None, unwrap_or, filter, IsSome}
+use Rattle.std.specs.Prelude.{◌≡◌, ◌≢◌, ◌==◌, ◌||◌, ℕ, ℤ, Bool, true, false, List, [], ◌∷◌, Option, Some, None, unwrap_or, is_some, if◌then◌else◌}
 use Rattle.std.specs.List.{AllByRecursion, list_any}
-use Rattle.std.specs.List.Sorted.{IsStrictlySortedBy}
 use Rattle.std.specs.BTreeMap.{is_at}
-use Rattle.std.specs.Map.{keys_of, lookup}
-use Rattle.std.specs.Ordering.{int_cmp, nat_cmp, is_eq}
+use Rattle.std.specs.Ordering.{int_cmp, is_eq}
 use Rattle.liq_types.specs.declared.events.ListChange.{ListChange}
 use Rattle.liq_types.specs.declared.events.ListChange.TheVariants.{Put, Gone, Words}
 use Rattle.liq_types.specs.Ranked.{Ranked, rank_order, IsAscending}
+use Rattle.liq_types.specs.Tables.{Table, at}
+use Rattle.liq_guide.specs.declared.rows.Stand.{Stand}
 
-abbrev pub Places : Type 0
-Places = List (Ranked × Bool)
+-- ---- an account
 
-abbrev pub Keys : Type 0
-Keys = List (ℕ × Option ℤ)
+abbrev pub nowhere : Stand
+nowhere = record { key = None; next = None }
 
--- the row of a place, and whether an entry stands there
-abbrev pub place_at : Places → Ranked → Option Bool
-place_at places e = lookup (is_at (rank_order e)) places
+abbrev pub is_used_stand : Stand → Bool
+is_used_stand s = is_some s.key || is_some s.next
 
-abbrev pub is_marked : Places → Ranked → Bool
-is_marked places e = unwrap_or (place_at places e) false
+abbrev pub stand_at : Table Stand → ℕ → Stand
+stand_at stands account = unwrap_or (at stands account) nowhere
 
--- the row of an account, and its key
-abbrev pub row_at : Keys → ℕ → Option (Option ℤ)
-row_at keys account = lookup (is_at (nat_cmp account)) keys
+abbrev pub key_at : Table Stand → ℕ → Option ℤ
+key_at stands account = (stand_at stands account).key
 
-abbrev pub key_at : Keys → ℕ → Option ℤ
-key_at keys account = unwrap_or (row_at keys account) None
+abbrev pub next_at : Table Stand → ℕ → Option ℤ
+next_at stands account = (stand_at stands account).next
 
--- the entries that stand
-abbrev pub standing : Places → List Ranked
-standing places = keys_of (filter (λ (row : Ranked × Bool). row.1) places)
+-- the next key, or the key as it is
+abbrev pub side_at : Bool → Table Stand → ℕ → Option ℤ
+side_at made stands account = if made then next_at stands account else key_at stands account
+
+-- whether a change moves an account, and whether any of a list does
+abbrev pub named_by : ℕ → ListChange → Bool
+named_by account (Put key a) = a == account
+named_by account (Gone a) = a == account
+named_by account (Words snap_stakes snap_coll sum_debt) = false
+
+abbrev pub names : List ListChange → ℕ → Bool
+names changes account = list_any (named_by account) changes
+
+-- an account that no change moves stands where it will
+abbrev pub AreSettledBeside : Table Stand → List ListChange → Type 0
+AreSettledBeside stands changes =
+    (account : ℕ) → names changes account ≡ false → next_at stands account ≡ key_at stands account
+
+-- ---- entries
 
 abbrev pub is_in : List Ranked → Ranked → Bool
 is_in list e = list_any (is_at (rank_order e)) list
@@ -41,47 +54,16 @@ abbrev pub is_key : Option ℤ → ℤ → Bool
 is_key None key = false
 is_key (Some k) key = is_eq (int_cmp key k)
 
--- the rows say of each entry whether the list has it
-pub record Follows (places : Places) (keys : Keys) (list : List Ranked) : Type 0 where
-  pub ordered : IsStrictlySortedBy rank_order (keys_of places)
+-- each account that has a key stands in the list, under its key, and no other does
+pub record Follows (key : ℕ → Option ℤ) (list : List Ranked) : Type 0 where
   pub ascending : IsAscending list
-  pub keyed : (e : Ranked) → is_in list e ≡ is_key (key_at keys e.1) e.0
-  pub marked : (e : Ranked) → is_marked places e ≡ is_in list e
+  pub keyed : (e : Ranked) → is_in list e ≡ is_key (key e.1) e.0
 
--- there are rows for what a change puts
-abbrev pub HasRoom : Places → Keys → ListChange → Type 0
-HasRoom places keys (Put key account) = IsSome (place_at places (key, account)) × IsSome (row_at keys account)
-HasRoom places keys (Gone account) = Unit {0}
-HasRoom places keys (Words snap_stakes snap_coll sum_debt) = Unit {0}
-
--- the rows that there were are there
-abbrev pub RowsStay : Places → Keys → Places → Keys → Type 0
-RowsStay places keys places' keys' =
-    ((e : Ranked) → IsSome (place_at places e) → IsSome (place_at places' e))
-    × ((a : ℕ) → IsSome (row_at keys a) → IsSome (row_at keys' a))
-
--- whether a list has an entry of an account
-abbrev pub has_account : List Ranked → ℕ → Bool
-has_account list account = list_any (λ (e : Ranked). e.1 == account) list
-
--- each row that only keeps room is noted, the one of a place and the one of an account
-pub record AreNoted (places : Places) (keys : Keys) (noted : List Ranked) : Type 0 where
-  pub place_noted : (e : Ranked) → place_at places e ≡ Some false → is_in noted e ≡ true
-  pub key_noted : (a : ℕ) → row_at keys a ≡ Some None → has_account noted a ≡ true
-
--- no row only keeps room: at each place that has a row an entry stands, and each account that has a row has a key
-pub record AreFull (places : Places) (keys : Keys) : Type 0 where
-  pub all_stand : (e : Ranked) → place_at places e ≢ Some false
-  pub all_keyed : (a : ℕ) → row_at keys a ≢ Some None
-
--- no place but one comes to be a row that only keeps room
-abbrev pub SparesAt : Places → Places → Ranked → Type 0
-SparesAt places other f =
-    (e : Ranked) → place_at other e ≡ Some false → (place_at places e ≡ Some false) ⊎ (is_eq (rank_order f e) ≡ true)
-
-abbrev pub SparesKey : Keys → Keys → ℕ → Type 0
-SparesKey keys other account =
-    (a : ℕ) → row_at other a ≡ Some None → (row_at keys a ≡ Some None) ⊎ (is_eq (nat_cmp account a) ≡ true)
+-- each account stands under the key that it keeps, and at most under the one that it gives up too
+pub record Holds (keeps : ℕ → Option ℤ) (gives : ℕ → Option ℤ) (places : List Ranked) : Type 0 where
+  pub ascending : IsAscending places
+  pub held : (e : Ranked) → is_key (keeps e.1) e.0 ≡ true → is_in places e ≡ true
+  pub only : (e : Ranked) → is_in places e ≡ true → (is_key (keeps e.1) e.0 || is_key (gives e.1) e.0) ≡ true
 
 -- no account stands twice
 abbrev pub StandOnce : List Ranked → Type 0

@@ -1,6 +1,8 @@
 -- What stands on either side of a place in the ordered list.
-use Rattle.std.specs.Prelude.{ℕ, List, reverse, Option}
+use Rattle.std.specs.Prelude.{◌==◌, ℕ, List, reverse, Option, Some, None, if◌then◌else◌}
 use Rattle.liq_types.specs.Ranked.{Ranked, first_of, account_of, without_ranked, before_entry, after_entry}
+use Rattle.liq_guide.specs.declared.sides.Side.{Side}
+use Rattle.liq_guide.specs.declared.sides.Side.TheVariants.{Before, After}
 
 -- the entry next before a place, and the one next after it
 abbrev pub entry_before : List Ranked → Ranked → Option Ranked
@@ -9,9 +11,15 @@ entry_before list e = first_of (reverse (before_entry list e))
 abbrev pub entry_after : List Ranked → Ranked → Option Ranked
 entry_after list e = first_of (after_entry list e)
 
--- their accounts, with that of the place itself left out
-abbrev pub prev_aside : List Ranked → Ranked → Option ℕ
-prev_aside list e = account_of (entry_before (without_ranked list e.1) e)
+abbrev pub entry_beside : Side → List Ranked → Ranked → Option Ranked
+entry_beside Before list e = entry_before list e
+entry_beside After list e = entry_after list e
 
-abbrev pub next_aside : List Ranked → Ranked → Option ℕ
-next_aside list e = account_of (entry_after (without_ranked list e.1) e)
+-- its account, with that of the place itself left out
+abbrev pub account_aside : Side → List Ranked → Ranked → Option ℕ
+account_aside side list e = account_of (entry_beside side (without_ranked list e.1) e)
+
+-- the account of an entry, or of the next one on that side where it is one's own
+abbrev pub past_own : Side → List Ranked → ℕ → Option Ranked → Option ℕ
+past_own side list own None = None
+past_own side list own (Some e) = if e.1 == own then account_of (entry_beside side list e) else Some e.1

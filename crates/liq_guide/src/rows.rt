@@ -1,234 +1,237 @@
-// The rows of a guide, of which some only keep room while changes are followed.
-ghost use Rattle.std.specs.Prelude.{◌≡◌, ℕ, ◌+◌, ◌<◌, ◌≤◌, true, false, vec_len, vec_capacity, Bool, Some, None, List, length, slice_index_or, if◌then◌else◌, IsSome, OnOk};
-ghost use Rattle.std.specs.List.{All};
-ghost use Rattle.std.specs.List.Sorted.{IsStrictlySortedBy};
-ghost use Rattle.std.specs.Map.{keys_of};
-ghost use Rattle.std.specs.Ordering.{nat_cmp, is_eq};
-ghost use Rattle.liq_types.specs.declared.events.ListChange.{ListChange};
-ghost use Rattle.liq_types.specs.declared.events.ListChange.TheVariants.{Put};
-ghost use Rattle.liq_types.specs.Ranked.{Ranked, rank_order, without_ranked};
+// The entries of the ordered list, and where each account stands.
+ghost use Rattle.std.specs.Prelude.{◌≡◌, ◌==◌, ℕ, ℤ, true, false, [], Some, None, List, is_some, is_ok, not, refl, if◌then◌else◌, OnOk, MatchOption};
+ghost use Rattle.std.specs.Ordering.{is_eq};
+ghost use Rattle.liq_types.specs.Ranked.{Ranked, rank_order, IsAscending};
+ghost use Rattle.liq_types.specs.WellFormed.{Ascends};
+ghost use Rattle.liq_tables.specs.WithRoom.{HasRoom};
 ghost use Rattle.liq_guide.specs.Followed.{listed, all_listed};
-ghost use Rattle.liq_guide.specs.Rows.{Places, Keys, Follows, HasRoom, RowsStay, AreNoted, AreFull, SparesAt, SparesKey, key_at, place_at, row_at};
+ghost use Rattle.liq_guide.specs.Rows.{Follows, Holds, AreSettledBeside, names, named_by, key_at, next_at, side_at, stand_at, nowhere, is_used_stand, is_in, is_key};
 
+use liq_tables::{Reserved, Row};
 use liq_types::{ListChange, NoMemory};
-use std::collections::BTreeMap;
+use std::alloc::Global;
+use std::collections::BTreeSet;
 
-// The entries of the ordered list, by key and account, and the key of each account.
+// Where an account stands.
+#[derive(Clone, Copy)]
+pub(crate) struct Stand {
+    // Its key, if it stands in the list.
+    pub(crate) key: Option<i128>,
+    // Its key after the changes that are being followed. While none are it is the key.
+    pub(crate) next: Option<i128>,
+}
+
+impl Stand {
+    // The key that is kept and the one that is given up, where the changes are made and where they are not.
+    fn sides(self, made: bool) -> (Option<i128>, Option<i128>)
+        ensures { result ≡ (if made then (self.next, self.key) else (self.key, self.next)) }
+    {
+        if made {
+            (self.next, self.key)
+        } else {
+            (self.key, self.next)
+        }
+    }
+}
+
+impl Row for Stand {
+    ghost used = { is_used_stand };
+
+    ghost nothing = { nowhere };
+
+    fn is_used(&self) -> bool {
+        self.key.is_some() || self.next.is_some()
+    }
+
+    fn nothing() -> Stand {
+        Stand {
+            key: None,
+            next: None,
+        }
+    }
+
+    ghost is_unused = { refl };
+}
+
+// The entries of the ordered list, by key and account, and where each account stands.
 #[derive(Drop)]
 pub(crate) struct Rows {
-    // Whether an entry stands there. Where none does the row keeps room for one.
-    pub(crate) places: BTreeMap<(i128, u32), bool>,
-    // The account's key. Where it has none the row keeps room for one.
-    pub(crate) keys: BTreeMap<u32, Option<i128>>,
+    pub(crate) places: BTreeSet<(i128, u32)>,
+    pub(crate) stands: Reserved<Stand>,
 }
 
 impl Rows {
-    // Makes room for all that the changes put, and notes each place at which there may be room without an entry.
-    pub(crate) fn make_room(
-        &mut self,
-        changes: &[ListChange],
-        noted: &mut Vec<(i128, u32)>,
-    ) -> Result<(), NoMemory>
-        requires spare { vec_len noted.old + length changes.now ≤ vec_capacity noted.old }
-        ensures same { (list : List Ranked) → Follows self.old.places.entries self.old.keys.entries list → Follows self.new.places.entries self.new.keys.entries list }
-        ensures noted { AreNoted self.old.places.entries self.old.keys.entries noted.old.items → AreNoted self.new.places.entries self.new.keys.entries noted.new.items }
-        ensures len { vec_len noted.new ≤ vec_len noted.old + length changes.now }
-        ensures capacity { vec_capacity noted.new ≡ vec_capacity noted.old }
-        ensures room { OnOk result (All (HasRoom self.new.places.entries self.new.keys.entries) changes.now) }
+    pub(crate) fn new(alloc: Global) -> Rows
+        ensures places { result.places.keys ≡ [] }
+        ensures stands { result.stands.rows ≡ [] }
+    {
+        Rows {
+            places: BTreeSet::new(alloc),
+            stands: Reserved::new(alloc),
+        }
+    }
+
+    // Where an account stands.
+    pub(crate) fn stand(&self, account: u32) -> Stand
+        ensures stand { result ≡ stand_at self.now.stands.rows account }
+        ensures room { is_used_stand result ≡ true → HasRoom self.now.stands account }
+        ensures ascend { Ascends self.now.stands.rows }
+    {
+        match self.stands.get(account) {
+            Some(stand) => *stand,
+            None => Stand::nothing(),
+        }
+    }
+
+    // Writes where an account stands, for which there is room.
+    fn set(&mut self, account: u32, stand: Stand)
+        requires room { is_used_stand stand ≡ true → HasRoom self.old.stands account }
+        requires ascend { Ascends self.old.stands.rows }
+        ensures places { self.new.places.keys ≡ self.old.places.keys }
+        ensures stands { (a : ℕ) → stand_at self.new.stands.rows a ≡ (if a == account then stand else stand_at self.old.stands.rows a) }
+    {
+        let _ = self.stands.write(account, stand);
+    }
+
+    // Makes ready for changes: notes where each account will stand, and puts in the entries that will. None is taken out.
+    pub(crate) fn prepare(&mut self, changes: &[ListChange]) -> Result<(), NoMemory>
+        ensures key { (a : ℕ) → key_at self.new.stands.rows a ≡ key_at self.old.stands.rows a }
+        ensures next { OnOk result ((list : List Ranked) → Follows (next_at self.old.stands.rows) list → Follows (next_at self.new.stands.rows) (all_listed list changes.now)) }
+        ensures settled { AreSettledBeside self.old.stands.rows [] → AreSettledBeside self.new.stands.rows changes.now }
+        ensures holds { AreSettledBeside self.old.stands.rows [] → Holds (key_at self.old.stands.rows) (next_at self.old.stands.rows) self.old.places.keys
+            → Holds (side_at (is_ok result) self.new.stands.rows) (side_at (not (is_ok result)) self.new.stands.rows) self.new.places.keys }
+    {
+        self.aim(changes)?;
+        self.enter(changes)
+    }
+
+    // Notes where each account will stand.
+    fn aim(&mut self, changes: &[ListChange]) -> Result<(), NoMemory>
+        ensures places { self.new.places.keys ≡ self.old.places.keys }
+        ensures key { (a : ℕ) → key_at self.new.stands.rows a ≡ key_at self.old.stands.rows a }
+        ensures next { OnOk result ((list : List Ranked) → Follows (next_at self.old.stands.rows) list → Follows (next_at self.new.stands.rows) (all_listed list changes.now)) }
+        ensures others { (a : ℕ) → names changes.now a ≡ false → stand_at self.new.stands.rows a ≡ stand_at self.old.stands.rows a }
     {
         for change in changes {
-            self.make_room_for(change, noted)?;
+            self.aim_one(change)?;
         }
         Ok(())
     }
 
-    fn make_room_for(
-        &mut self,
-        change: &ListChange,
-        noted: &mut Vec<(i128, u32)>,
-    ) -> Result<(), NoMemory>
-        requires spare { vec_len noted.old < vec_capacity noted.old }
-        ensures same { (list : List Ranked) → Follows self.old.places.entries self.old.keys.entries list → Follows self.new.places.entries self.new.keys.entries list }
-        ensures noted { AreNoted self.old.places.entries self.old.keys.entries noted.old.items → AreNoted self.new.places.entries self.new.keys.entries noted.new.items }
-        ensures len { vec_len noted.new ≤ vec_len noted.old + 1 }
-        ensures capacity { vec_capacity noted.new ≡ vec_capacity noted.old }
-        ensures room { OnOk result (HasRoom self.new.places.entries self.new.keys.entries change.now) }
-        ensures stay { RowsStay self.old.places.entries self.old.keys.entries self.new.places.entries self.new.keys.entries }
+    fn aim_one(&mut self, change: &ListChange) -> Result<(), NoMemory>
+        ensures places { self.new.places.keys ≡ self.old.places.keys }
+        ensures key { (a : ℕ) → key_at self.new.stands.rows a ≡ key_at self.old.stands.rows a }
+        ensures next { OnOk result ((list : List Ranked) → Follows (next_at self.old.stands.rows) list → Follows (next_at self.new.stands.rows) (listed list change.now)) }
+        ensures others { (a : ℕ) → named_by a change.now ≡ false → stand_at self.new.stands.rows a ≡ stand_at self.old.stands.rows a }
     {
         match *change {
-            ListChange::Put { key, account } => self.make_room_at(key, account, noted),
-            ListChange::Gone { .. } | ListChange::Words { .. } => Ok(()),
-        }
-    }
-
-    fn make_room_at(
-        &mut self,
-        key: i128,
-        account: u32,
-        noted: &mut Vec<(i128, u32)>,
-    ) -> Result<(), NoMemory>
-        requires spare { vec_len noted.old < vec_capacity noted.old }
-        ensures same { (list : List Ranked) → Follows self.old.places.entries self.old.keys.entries list → Follows self.new.places.entries self.new.keys.entries list }
-        ensures noted { AreNoted self.old.places.entries self.old.keys.entries noted.old.items → AreNoted self.new.places.entries self.new.keys.entries noted.new.items }
-        ensures len { vec_len noted.new ≤ vec_len noted.old + 1 }
-        ensures capacity { vec_capacity noted.new ≡ vec_capacity noted.old }
-        ensures room { OnOk result (HasRoom self.new.places.entries self.new.keys.entries (Put key account)) }
-        ensures stay { RowsStay self.old.places.entries self.old.keys.entries self.new.places.entries self.new.keys.entries }
-    {
-        noted.push_reserved((key, account));
-        make_place(&mut self.places, (key, account))?;
-        make_key(&mut self.keys, account)
-    }
-
-    pub(crate) fn key_of(&self, account: u32) -> Option<i128>
-        ensures { result ≡ key_at self.now.keys.entries account }
-    {
-        match self.keys.get(&account) {
-            Some(key) => *key,
-            None => None,
-        }
-    }
-
-    // Makes the changes, in the rows for which there is room, and notes each place that an entry leaves.
-    pub(crate) fn make(&mut self, changes: &[ListChange], noted: &mut Vec<(i128, u32)>)
-        requires spare { vec_len noted.old + length changes.now ≤ vec_capacity noted.old }
-        requires room { All (HasRoom self.old.places.entries self.old.keys.entries) changes.now }
-        ensures follows { (list : List Ranked) → Follows self.old.places.entries self.old.keys.entries list → Follows self.new.places.entries self.new.keys.entries (all_listed list changes.now) }
-        ensures noted { AreNoted self.old.places.entries self.old.keys.entries noted.old.items → AreNoted self.new.places.entries self.new.keys.entries noted.new.items }
-    {
-        for change in changes {
-            self.make_one(change, noted);
-        }
-    }
-
-    fn make_one(&mut self, change: &ListChange, noted: &mut Vec<(i128, u32)>)
-        requires spare { vec_len noted.old < vec_capacity noted.old }
-        requires room { HasRoom self.old.places.entries self.old.keys.entries change.now }
-        ensures follows { (list : List Ranked) → Follows self.old.places.entries self.old.keys.entries list → Follows self.new.places.entries self.new.keys.entries (listed list change.now) }
-        ensures noted { AreNoted self.old.places.entries self.old.keys.entries noted.old.items → AreNoted self.new.places.entries self.new.keys.entries noted.new.items }
-        ensures len { vec_len noted.new ≤ vec_len noted.old + 1 }
-        ensures capacity { vec_capacity noted.new ≡ vec_capacity noted.old }
-        ensures stay { RowsStay self.old.places.entries self.old.keys.entries self.new.places.entries self.new.keys.entries }
-    {
-        match *change {
-            ListChange::Put { key, account } => self.put(key, account, noted),
-            ListChange::Gone { account } => self.take(account, noted),
+            ListChange::Put { key, account } => {
+                self.stands.reserve(account)?;
+                self.send(account, Some(key));
+            }
+            ListChange::Gone { account } => self.send(account, None),
             ListChange::Words { .. } => {}
         }
+        Ok(())
     }
 
-    fn put(&mut self, key: i128, account: u32, noted: &mut Vec<(i128, u32)>)
-        requires spare { vec_len noted.old < vec_capacity noted.old }
-        requires room { HasRoom self.old.places.entries self.old.keys.entries (Put key account) }
-        ensures follows { (list : List Ranked) → Follows self.old.places.entries self.old.keys.entries list → Follows self.new.places.entries self.new.keys.entries (listed list (Put key account)) }
-        ensures noted { AreNoted self.old.places.entries self.old.keys.entries noted.old.items → AreNoted self.new.places.entries self.new.keys.entries noted.new.items }
-        ensures len { vec_len noted.new ≤ vec_len noted.old + 1 }
-        ensures capacity { vec_capacity noted.new ≡ vec_capacity noted.old }
-        ensures stay { RowsStay self.old.places.entries self.old.keys.entries self.new.places.entries self.new.keys.entries }
+    // Notes where an account will stand. There is room for one that will.
+    fn send(&mut self, account: u32, next: Option<i128>)
+        requires { is_some next ≡ true → HasRoom self.old.stands account }
+        ensures places { self.new.places.keys ≡ self.old.places.keys }
+        ensures key { (a : ℕ) → key_at self.new.stands.rows a ≡ key_at self.old.stands.rows a }
+        ensures next { (a : ℕ) → next_at self.new.stands.rows a ≡ (if a == account then next else next_at self.old.stands.rows a) }
+        ensures others { (a : ℕ) → (a == account) ≡ false → stand_at self.new.stands.rows a ≡ stand_at self.old.stands.rows a }
     {
-        self.take(account, noted);
-        mark(&mut self.places, (key, account), true);
-        set_key(&mut self.keys, account, Some(key));
+        let key = self.stand(account).key;
+        self.set(account, Stand { key, next });
     }
 
-    fn take(&mut self, account: u32, noted: &mut Vec<(i128, u32)>)
-        requires spare { vec_len noted.old < vec_capacity noted.old }
-        ensures follows { (list : List Ranked) → Follows self.old.places.entries self.old.keys.entries list → Follows self.new.places.entries self.new.keys.entries (without_ranked list account) }
-        ensures noted { AreNoted self.old.places.entries self.old.keys.entries noted.old.items → AreNoted self.new.places.entries self.new.keys.entries noted.new.items }
-        ensures len { vec_len noted.new ≤ vec_len noted.old + 1 }
-        ensures capacity { vec_capacity noted.new ≡ vec_capacity noted.old }
-        ensures none { key_at self.new.keys.entries account ≡ None }
-        ensures stay { RowsStay self.old.places.entries self.old.keys.entries self.new.places.entries self.new.keys.entries }
+    // Puts in the entries that will stand. None is taken out.
+    fn enter(&mut self, changes: &[ListChange]) -> Result<(), NoMemory>
+        ensures stands { self.new.stands.rows ≡ self.old.stands.rows }
+        ensures holds { Holds (key_at self.old.stands.rows) (next_at self.old.stands.rows) self.old.places.keys → Holds (key_at self.old.stands.rows) (next_at self.old.stands.rows) self.new.places.keys }
+        ensures entered { Holds (key_at self.old.stands.rows) (next_at self.old.stands.rows) self.old.places.keys
+            → OnOk result ((e : Ranked) → names changes.now e.1 ≡ true → is_key (next_at self.old.stands.rows e.1) e.0 ≡ true → is_in self.new.places.keys e ≡ true) }
     {
-        if let Some(key) = self.key_of(account) {
-            noted.push_reserved((key, account));
-            mark(&mut self.places, (key, account), false);
-            set_key(&mut self.keys, account, None);
+        for change in changes {
+            if let Some(account) = account_of(change) {
+                self.enter_one(account)?;
+            }
+        }
+        Ok(())
+    }
+
+    fn enter_one(&mut self, account: u32) -> Result<(), NoMemory>
+        ensures stands { self.new.stands.rows ≡ self.old.stands.rows }
+        ensures holds { Holds (key_at self.old.stands.rows) (next_at self.old.stands.rows) self.old.places.keys → Holds (key_at self.old.stands.rows) (next_at self.old.stands.rows) self.new.places.keys }
+        ensures kept { (e : Ranked) → is_in self.old.places.keys e ≡ true → is_in self.new.places.keys e ≡ true }
+        ensures entered { Holds (key_at self.old.stands.rows) (next_at self.old.stands.rows) self.old.places.keys
+            → OnOk result ((e : Ranked) → (account == e.1) ≡ true → is_key (next_at self.old.stands.rows e.1) e.0 ≡ true → is_in self.new.places.keys e ≡ true) }
+    {
+        let Stand { key, next } = self.stand(account);
+        match next {
+            Some(place) if key != next => {
+                let Ok(_) = self.places.insert((place, account)) else {
+                    return Err(NoMemory);
+                };
+                Ok(())
+            }
+            _ => Ok(()),
         }
     }
 
-    // Takes out the rows, of those that were noted, that only keep room.
-    pub(crate) fn clear(&mut self, noted: &[(i128, u32)])
-        ensures full { AreNoted self.old.places.entries self.old.keys.entries noted.now → AreFull self.new.places.entries self.new.keys.entries }
-        ensures same { (list : List Ranked) → Follows self.old.places.entries self.old.keys.entries list → Follows self.new.places.entries self.new.keys.entries list }
+    // Ends what was made ready: each account stands where it will, or, where the changes are not made, where it stood.
+    pub(crate) fn settle(&mut self, changes: &[ListChange], made: bool)
+        ensures same { (a : ℕ) → side_at made self.new.stands.rows a ≡ side_at made self.old.stands.rows a }
+        ensures settled { AreSettledBeside self.old.stands.rows changes.now → AreSettledBeside self.new.stands.rows [] }
+        ensures holds { Holds (side_at made self.old.stands.rows) (side_at (not made) self.old.stands.rows) self.old.places.keys
+            → Holds (side_at made self.new.stands.rows) (side_at (not made) self.new.stands.rows) self.new.places.keys }
     {
-        for place in noted {
-            clear_place(&mut self.places, *place);
-            clear_key(&mut self.keys, place.1);
+        for change in changes {
+            if let Some(account) = account_of(change) {
+                self.settle_one(account, made);
+            }
+        }
+    }
+
+    fn settle_one(&mut self, account: u32, made: bool)
+        ensures same { (a : ℕ) → side_at made self.new.stands.rows a ≡ side_at made self.old.stands.rows a }
+        ensures settled { next_at self.new.stands.rows account ≡ key_at self.new.stands.rows account }
+        ensures others { (a : ℕ) → (account == a) ≡ false → stand_at self.new.stands.rows a ≡ stand_at self.old.stands.rows a }
+        ensures holds { Holds (side_at made self.old.stands.rows) (side_at (not made) self.old.stands.rows) self.old.places.keys
+            → Holds (side_at made self.new.stands.rows) (side_at (not made) self.new.stands.rows) self.new.places.keys }
+    {
+        let (stays, goes) = self.stand(account).sides(made);
+        if stays == goes {
+            return;
+        }
+        self.clear(account, goes);
+        let settled = Stand {
+            key: stays,
+            next: stays,
+        };
+        self.set(account, settled);
+    }
+
+    // Takes out the entry of an account under a key, if there is a key.
+    fn clear(&mut self, account: u32, key: Option<i128>)
+        ensures stands { self.new.stands ≡ self.old.stands }
+        ensures none { key ≡ None → self.new.places.keys ≡ self.old.places.keys }
+        ensures some { (k : ℤ) → key ≡ Some k → IsAscending self.new.places.keys × ((e : Ranked) → is_in self.new.places.keys e ≡ (if is_eq (rank_order (k, account) e) then false else is_in self.old.places.keys e)) }
+    {
+        if let Some(key) = key {
+            let _ = self.places.remove(&(key, account));
         }
     }
 }
 
-fn make_place(places: &mut BTreeMap<(i128, u32), bool>, place: (i128, u32)) -> Result<(), NoMemory>
-    ensures same { (keys : Keys) (list : List Ranked) → Follows places.old.entries keys list → Follows places.new.entries keys list }
-    ensures room { OnOk result (IsSome (place_at places.new.entries place)) }
-    ensures kept { (e : Ranked) → IsSome (place_at places.old.entries e) → IsSome (place_at places.new.entries e) }
-    ensures spare { SparesAt places.old.entries places.new.entries place }
+// The account that a change moves, if it moves any.
+fn account_of(change: &ListChange) -> Option<u32>
+    ensures { MatchOption result ((a : ℕ) → named_by a change.now ≡ false) (λ account. (a : ℕ) → named_by a change.now ≡ (account == a)) }
 {
-    if places.contains_key(&place) {
-        return Ok(());
+    match *change {
+        ListChange::Put { account, .. } | ListChange::Gone { account } => Some(account),
+        ListChange::Words { .. } => None,
     }
-    let Ok(_) = places.insert(place, false) else {
-        return Err(NoMemory);
-    };
-    Ok(())
-}
-
-fn make_key(keys: &mut BTreeMap<u32, Option<i128>>, account: u32) -> Result<(), NoMemory>
-    ensures same { (places : Places) (list : List Ranked) → Follows places keys.old.entries list → Follows places keys.new.entries list }
-    ensures room { OnOk result (IsSome (row_at keys.new.entries account)) }
-    ensures kept { (a : ℕ) → IsSome (row_at keys.old.entries a) → IsSome (row_at keys.new.entries a) }
-    ensures spare { SparesKey keys.old.entries keys.new.entries account }
-{
-    if keys.contains_key(&account) {
-        return Ok(());
-    }
-    let Ok(_) = keys.insert(account, None) else {
-        return Err(NoMemory);
-    };
-    Ok(())
-}
-
-// Marks a place for which there is room.
-fn mark(places: &mut BTreeMap<(i128, u32), bool>, place: (i128, u32), stands: bool)
-    ensures row { IsSome (place_at places.old.entries place) → (e : Ranked) → place_at places.new.entries e ≡ (if is_eq (rank_order place e) then Some stands else place_at places.old.entries e) }
-    ensures kept { (e : Ranked) → IsSome (place_at places.old.entries e) → IsSome (place_at places.new.entries e) }
-    ensures spare { SparesAt places.old.entries places.new.entries place }
-    ensures stands { stands ≡ true → (e : Ranked) → place_at places.new.entries e ≡ Some false → place_at places.old.entries e ≡ Some false }
-    ensures ordered { IsStrictlySortedBy rank_order (keys_of places.new.entries) }
-{
-    if let Some(row) = places.get_mut(&place) {
-        *row = stands;
-    }
-}
-
-fn set_key(keys: &mut BTreeMap<u32, Option<i128>>, account: u32, key: Option<i128>)
-    ensures row { IsSome (row_at keys.old.entries account) → (a : ℕ) → row_at keys.new.entries a ≡ (if is_eq (nat_cmp account a) then Some key else row_at keys.old.entries a) }
-    ensures kept { (a : ℕ) → IsSome (row_at keys.old.entries a) → IsSome (row_at keys.new.entries a) }
-    ensures spare { SparesKey keys.old.entries keys.new.entries account }
-    ensures stands { IsSome key → (a : ℕ) → row_at keys.new.entries a ≡ Some None → row_at keys.old.entries a ≡ Some None }
-{
-    if let Some(row) = keys.get_mut(&account) {
-        *row = key;
-    }
-}
-
-fn clear_place(places: &mut BTreeMap<(i128, u32), bool>, place: (i128, u32))
-    ensures gone { (e : Ranked) → place_at places.new.entries e ≡ Some false → (place_at places.old.entries e ≡ Some false) × (is_eq (rank_order place e) ≡ false) }
-    ensures same { (keys : Keys) (list : List Ranked) → Follows places.old.entries keys list → Follows places.new.entries keys list }
-{
-    let Some(false) = places.get(&place) else {
-        return;
-    };
-    let _ = places.remove(&place);
-}
-
-fn clear_key(keys: &mut BTreeMap<u32, Option<i128>>, account: u32)
-    ensures gone { (a : ℕ) → row_at keys.new.entries a ≡ Some None → (row_at keys.old.entries a ≡ Some None) × (is_eq (nat_cmp account a) ≡ false) }
-    ensures same { (places : Places) (list : List Ranked) → Follows places keys.old.entries list → Follows places keys.new.entries list }
-{
-    let Some(None) = keys.get(&account) else {
-        return;
-    };
-    let _ = keys.remove(&account);
 }

@@ -1,85 +1,79 @@
-// What stands on either side of a place, in rows of which each is an entry's.
-ghost use Rattle.std.specs.Prelude.{◌≡◌, ℤ, ◌<ℤ◌, None, IfSome, option_map};
-ghost use Rattle.std.specs.Map.{keys_of};
-ghost use Rattle.std.specs.Map.Iter.{deref_pair};
+// What stands on either side of a place.
+ghost use Rattle.std.specs.Prelude.{◌≡◌, ℤ, ◌<ℤ◌, None, IfSome};
 ghost use Rattle.liq_types.specs.Ranked as ranked;
 ghost use Rattle.liq_types.specs.Ranked.{IsAscending};
+ghost use Rattle.liq_guide.specs.declared.sides.Side.TheVariants.{Before, After};
 ghost use Rattle.liq_guide.specs.Rows.{StandOnce};
-ghost use Rattle.liq_guide.specs.Sides.{entry_before, entry_after, prev_aside, next_aside};
+ghost use Rattle.liq_guide.specs.Sides.{account_aside, entry_after, entry_before, entry_beside, past_own};
 
-use std::collections::BTreeMap;
+use std::collections::BTreeSet;
 use std::ops::Bound;
 
-pub(crate) type Places = BTreeMap<(i128, u32), bool>;
+pub(crate) type Places = BTreeSet<(i128, u32)>;
 
-// The account that stands next before a place, its own aside.
-pub(crate) fn account_before(places: &Places, place: (i128, u32)) -> Option<u32>
-    requires ascending { IsAscending (keys_of places.now.entries) }
-    requires once { StandOnce (keys_of places.now.entries) }
-    ensures { result ≡ prev_aside (keys_of places.now.entries) place }
-{
-    match entry_before(places, place) {
-        Some(own) if own.1 == place.1 => account_of(entry_before(places, own)),
-        Some(other) => Some(other.1),
-        None => None,
-    }
+#[derive(Clone, Copy)]
+pub(crate) enum Side {
+    Before,
+    After,
 }
 
-// The account that stands next after a place, its own aside.
-pub(crate) fn account_after(places: &Places, place: (i128, u32)) -> Option<u32>
-    requires ascending { IsAscending (keys_of places.now.entries) }
-    requires once { StandOnce (keys_of places.now.entries) }
-    ensures { result ≡ next_aside (keys_of places.now.entries) place }
+// The account that stands next to a place, its own aside.
+pub(crate) fn account_aside(places: &Places, place: (i128, u32), side: Side) -> Option<u32>
+    requires ascending { IsAscending places.now.keys }
+    requires once { StandOnce places.now.keys }
+    ensures { result ≡ account_aside side places.now.keys place }
 {
-    match entry_after(places, place) {
-        Some(own) if own.1 == place.1 => account_of(entry_after(places, own)),
-        Some(other) => Some(other.1),
-        None => None,
-    }
+    past_own(places, entry_beside(places, place, side), place.1, side)
 }
 
 // The first account of all but one.
 pub(crate) fn first_account(places: &Places, aside: u32) -> Option<u32>
-    requires ascending { IsAscending (keys_of places.now.entries) }
-    requires once { StandOnce (keys_of places.now.entries) }
-    ensures prev { (key : ℤ) → key <ℤ i128.MIN → prev_aside (keys_of places.now.entries) (key, aside) ≡ None }
-    ensures next { (key : ℤ) → key <ℤ i128.MIN → result ≡ next_aside (keys_of places.now.entries) (key, aside) }
+    requires ascending { IsAscending places.now.keys }
+    requires once { StandOnce places.now.keys }
+    ensures prev { (key : ℤ) → key <ℤ i128.MIN → account_aside Before places.now.keys (key, aside) ≡ None }
+    ensures next { (key : ℤ) → key <ℤ i128.MIN → result ≡ account_aside After places.now.keys (key, aside) }
 {
-    match first_entry(places) {
-        Some(own) if own.1 == aside => account_of(entry_after(places, own)),
-        Some(other) => Some(other.1),
-        None => None,
+    past_own(places, first_entry(places), aside, Side::After)
+}
+
+// The account of an entry that was found, or, where that is one's own, of the next one on that side.
+fn past_own(places: &Places, found: Option<(i128, u32)>, own: u32, side: Side) -> Option<u32>
+    ensures { result ≡ past_own side places.now.keys own found }
+{
+    match found {
+        Some(entry) if entry.1 == own => account_of(entry_beside(places, entry, side)),
+        other => account_of(other),
+    }
+}
+
+fn entry_beside(places: &Places, place: (i128, u32), side: Side) -> Option<(i128, u32)>
+    ensures { result ≡ entry_beside side places.now.keys place }
+{
+    match side {
+        Side::Before => entry_before(places, place),
+        Side::After => entry_after(places, place),
     }
 }
 
 fn entry_before(places: &Places, place: (i128, u32)) -> Option<(i128, u32)>
-    ensures { result ≡ entry_before (keys_of places.now.entries) place }
+    ensures { result ≡ entry_before places.now.keys place }
 {
     let range = (Bound::Unbounded, Bound::Excluded(place));
-    place_of(places.range(range).next_back())
+    places.range(range).next_back().copied()
 }
 
 fn entry_after(places: &Places, place: (i128, u32)) -> Option<(i128, u32)>
-    ensures { result ≡ entry_after (keys_of places.now.entries) place }
+    ensures { result ≡ entry_after places.now.keys place }
 {
     let range = (Bound::Excluded(place), Bound::Unbounded);
-    place_of(places.range(range).next())
+    places.range(range).next().copied()
 }
 
 fn first_entry(places: &Places) -> Option<(i128, u32)>
-    ensures first { result ≡ ranked.first_of (keys_of places.now.entries) }
+    ensures first { result ≡ ranked.first_of places.now.keys }
     ensures least { (key : ℤ) → key <ℤ i128.MIN → IfSome result (λ e. key <ℤ e.0) }
 {
-    place_of(places.first_key_value())
-}
-
-fn place_of(row: Option<(&(i128, u32), &bool)>) -> Option<(i128, u32)>
-    ensures { result ≡ option_map (λ r. (deref_pair r).0) row.entry }
-{
-    match row {
-        Some((place, _)) => Some(*place),
-        None => None,
-    }
+    places.first().copied()
 }
 
 fn account_of(entry: Option<(i128, u32)>) -> Option<u32>

@@ -70,8 +70,9 @@ fn make<L: Ledger>(
     let planned = plan(protocol, command, index)?;
     append(events, planned.events())?;
     protocol.reserve(&planned)?;
-    let hint = guide.follow(planned.list_changes())?;
-    protocol.apply(planned, &hint.unwrap_or(Hint::NONE), steps);
+    guide.follow(planned.list_changes())?;
+    let hint = guide.hint(planned.list_changes()).unwrap_or(Hint::NONE);
+    protocol.apply(planned, &hint, steps);
     Ok(())
 }
 

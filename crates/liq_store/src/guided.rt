@@ -86,7 +86,8 @@ impl Guided {
         ensures room { OnOk result (HasRoom self.new planned.now) }
     {
         self.protocol.reserve(planned)?;
-        self.hint = self.guide.follow(planned.list_changes())?;
+        self.guide.follow(planned.list_changes())?;
+        self.hint = self.guide.hint(planned.list_changes());
         Ok(())
     }
 

@@ -56,7 +56,7 @@ impl Version {
         ensures ok { OnOk result (self.new ≡ folded self.old changes.now number) }
         ensures err { OnErr result (self.new ≡ self.old) }
     {
-        let _ = self.guide.follow(changes)?;
+        self.guide.follow(changes)?;
         self.words = self.words.after(changes);
         self.number = number;
         Ok(())

@@ -86,7 +86,10 @@ fn check<R: Abort>(rt: &R, alloc: Global) {
     let mut guide = Guide::new(alloc);
     for (changes, told) in &TOLD {
         match guide.follow(changes) {
-            Ok(hint) => same(rt, &hint.map(neighbours), told, "its neighbours"),
+            Ok(()) => {
+                let hint = guide.hint(changes);
+                same(rt, &hint.map(neighbours), told, "its neighbours")
+            }
             Err(_) => shows(rt, "memory", false),
         }
     }

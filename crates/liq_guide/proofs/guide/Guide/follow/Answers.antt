@@ -1,43 +1,30 @@
-use Rattle.std.proofs.Common.{List, sym, ap, ◌∙◌, subst}
-use Rattle.liq_types.specs.Ranked.{Ranked}
-use Rattle.liq_guide.specs.Followed.{all_listed}
-use Rattle.liq_guide.specs.Rows.{Follows, AreNoted, standing}
-use Rattle.liq_guide.proofs.Following.{seen_list, list_of_views}
-use Rattle.liq_guide.proofs.Noting.{none_noted}
+use Rattle.std.proofs.Common.{[], sym, subst}
+use Rattle.std.specs.Prelude.{not}
+use Rattle.liq_guide.specs.Rows.{AreSettledBeside, Holds, key_at, next_at, side_at}
+use Rattle.liq_guide.proofs.Holding.{begun}
+use Rattle.liq_guide.proofs.Stands.{IsEnded, followed, kept_if_err, listed_if_ok}
 use Rattle.liq_guide.proofs.guide.Guide.follow.Goals as goal
 
+rests : (c : goal.After-settle) → AreSettledBeside c.settle.new.self.stands.rows []
+rests c = c.settle.ensures.settled (c.prepare-ready.ensures.settled c.self.invariant.1)
+
+ends : (c : goal.After-settle) → IsEnded c.prepare-ready.result c.settle.new.self.stands.rows c.self.inside.rows.places.keys c.settle.new.self.places.keys c.args.changes.now
+ends c =
+    let stands = c.self.inside.rows.stands.rows in
+    let list = c.self.inside.rows.places.keys in
+    let ready = c.prepare-ready.new.self.stands.rows in
+    let made = subst (λ b. Holds (side_at b ready) (side_at (not b) ready) c.prepare-ready.new.self.places.keys) (sym c.is_ok.ensures.value)
+    (c.prepare-ready.ensures.holds c.self.invariant.1 (begun (key_at stands) (next_at stands) list c.self.invariant.0)) in
+    followed c.is_ok.result stands ready c.settle.new.self.stands.rows list c.settle.new.self.places.keys c.args.changes.now
+    c.prepare-ready.result c.is_ok.ensures.value c.self.invariant.0 c.self.invariant.1 c.prepare-ready.ensures.key c.prepare-ready.ensures.next c.settle.ensures.same (rests c) (c.settle.ensures.holds made)
+
 pub invariant_of-self : goal.invariant_of-self
-invariant_of-self c =
-    let old = standing c.self.inside.rows.places.entries in
-    let places = c.clear.new.self.places.entries in
-    let keys = c.clear.new.self.keys.entries in
-    let new = all_listed old c.args.changes.now in
-    let follows = c.clear.ensures.same new (c.make.ensures.follows old (c.make_room.ensures.same old c.self.invariant.0)) in
-    let noted = c.make_room.ensures.noted (subst (AreNoted c.self.inside.rows.places.entries c.self.inside.rows.keys.entries) (sym c.in-Ok.ensures.items) (none_noted c.self.inside.rows.places.entries c.self.inside.rows.keys.entries c.self.invariant.1)) in
-    (subst (Follows places keys) (sym (seen_list places keys new follows)) follows, c.clear.ensures.full (subst (AreNoted c.make.new.self.places.entries c.make.new.self.keys.entries) (sym c.deref.ensures.value) (c.make.ensures.noted noted)))
+invariant_of-self c = ((ends c).1, rests c)
 
-pub returns-in-Ok-make_room-clause-list : goal.returns-in-Ok-make_room-clause-list
-returns-in-Ok-make_room-clause-list c v same =
-    let old = standing c.self.inside.rows.places.entries in
-    let places = c.clear.new.self.places.entries in
-    let keys = c.clear.new.self.keys.entries in
-    let new = all_listed old c.args.changes.now in
-    let follows = c.clear.ensures.same new (c.make.ensures.follows old (c.make_room.ensures.same old c.self.invariant.0)) in
-    seen_list places keys new follows
-    ∙ ap (λ (l : List Ranked). all_listed l c.args.changes.now) (c.self.view_is ∙ sym same)
-    ∙ sym (list_of_views v c.args.changes.now)
-
-pub invariant_of-self-in-Err : goal.invariant_of-self-in-Err
-invariant_of-self-in-Err c =
-    let old = standing c.self.inside.rows.places.entries in
-    let places = c.clear-in-Err.new.self.places.entries in
-    let keys = c.clear-in-Err.new.self.keys.entries in
-    let follows = c.clear-in-Err.ensures.same old (c.make_room.ensures.same old c.self.invariant.0) in
-    let noted = c.make_room.ensures.noted (subst (AreNoted c.self.inside.rows.places.entries c.self.inside.rows.keys.entries) (sym c.in-Ok.ensures.items) (none_noted c.self.inside.rows.places.entries c.self.inside.rows.keys.entries c.self.invariant.1)) in
-    (subst (Follows places keys) (sym (seen_list places keys old follows)) follows, c.clear-in-Err.ensures.full (subst (AreNoted c.make_room.new.self.places.entries c.make_room.new.self.keys.entries) (sym c.deref-in-Err.ensures.value) noted))
+pub returns-clause-list : goal.returns-clause-list
+returns-clause-list c =
+    listed_if_ok c.prepare-ready.result c.self.inside.rows.places.keys c.settle.new.self.places.keys c.args.self.now c.args.changes.now c.self.view_is (ends c).0
 
 pub returns-clause-err : goal.returns-clause-err
 returns-clause-err c =
-    let old = standing c.self.inside.rows.places.entries in
-    let follows = c.clear-in-Err.ensures.same old (c.make_room.ensures.same old c.self.invariant.0) in
-    seen_list c.clear-in-Err.new.self.places.entries c.clear-in-Err.new.self.keys.entries old follows ∙ c.self.view_is
+    kept_if_err c.prepare-ready.result c.self.inside.rows.places.keys c.settle.new.self.places.keys c.args.self.now c.args.changes.now c.self.view_is (ends c).0
