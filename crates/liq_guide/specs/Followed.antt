@@ -25,7 +25,10 @@ put_by (Words snap_stakes snap_coll sum_debt) = None
 abbrev pub last_put : List ListChange → Option Ranked
 last_put changes = first_of (filter_map put_by (reverse changes))
 
--- between whom it stands in a list, if there is one
+-- between whom an entry stands in a list
+abbrev pub hint_at : List Ranked → Ranked → Hint
+hint_at list e = record { prev = (neighbours list e).0; next = (neighbours list e).1; version = 0 }
+
+-- between whom that one stands which is put last, if any is put
 abbrev pub hint_of_last : List Ranked → List ListChange → Option Hint
-hint_of_last list changes =
-    option_map (λ (e : Ranked). record { prev = (neighbours list e).0; next = (neighbours list e).1; version = 0 }) (last_put changes)
+hint_of_last list changes = option_map (hint_at list) (last_put changes)

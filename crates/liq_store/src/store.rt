@@ -38,7 +38,7 @@ use crate::judging::{judge, later_side};
 use crate::preparing::{Prepared, make, prepare};
 use crate::reading::read_commands;
 use crate::standing::{Stood, stand};
-use crate::telling::note;
+use crate::telling::{clear, note};
 use liq_core::Protocol;
 use liq_journal::Journal;
 use liq_outside::Disk;
@@ -263,12 +263,12 @@ impl<D: Disk> Store<D> {
         &self.changes
     }
 
-    /// Lets the changes go, with their memory. All else stays.
+    /// Lets the changes go, but for room for a few later ones. All else stays.
     pub fn clear_changes(&mut self)
         ensures cleared { self.new ≡ record self.old { changes = [] } }
         ensures order { IsInOrder D.seen D.moment D.left_at self.new }
     {
-        self.changes = Vec::new(self.alloc);
+        clear(self.alloc, &mut self.changes);
     }
 
     /// The disks, as they are.

@@ -1,7 +1,11 @@
 // The changes of the ordered list, as others follow them.
-ghost use Rattle.std.specs.Prelude.{◌≡◌, ◌≤◌, ◌+◌, ◌++◌, length, vec_capacity, vec_len};
+ghost use Rattle.std.specs.Prelude.{◌≡◌, ◌≤◌, ◌+◌, ◌++◌, [], length, vec_capacity, vec_len};
 
 use liq_types::ListChange;
+use std::alloc::Global;
+
+// Room for so many changes is kept from call to call. Few calls make more, and an opening tells the whole list.
+const KEPT: usize = 64;
 
 // Notes what a command changes, for which there is room.
 pub fn note(changes: &mut Vec<ListChange>, more: &[ListChange])
@@ -11,4 +15,15 @@ pub fn note(changes: &mut Vec<ListChange>, more: &[ListChange])
     let Ok(()) = changes.extend_from_slice(more) else {
         unreachable!()
     };
+}
+
+// Lets the changes go. Room for more than a few is given back.
+pub fn clear(alloc: Global, changes: &mut Vec<ListChange>)
+    ensures { changes.new.items ≡ [] }
+{
+    if changes.capacity() <= KEPT {
+        changes.clear();
+    } else {
+        *changes = Vec::new(alloc);
+    }
 }
