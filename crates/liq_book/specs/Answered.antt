@@ -34,7 +34,8 @@ Answered base session calls request answer.DiskFault before after =
     (record { session = session; request = request; faults = faults }) ∷ []))
 Answered base session calls request (answer.Stopped faults) before after =
     SeesOthers session before after
-    × ((earlier : List Item) × ((halt : Halt) × ((after ≡ earlier ++ item.Halt halt ∷ []) × (halt.faults ≡ faults))))
+    × ((earlier : List Item) × ((halt : Halt)
+    × ((after ≡ earlier ++ item.Halt halt ∷ []) × (halt.faults ≡ faults))))
 Answered base session calls request (answer.HistoryFull entries) before after =
     SeesOthers session before after × (entries ≡ ENTRIES_MOST)
 

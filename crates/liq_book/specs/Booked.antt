@@ -30,12 +30,15 @@ abbrev pub CausesHalt : Option Halt → Faults → Faults → Type 0
 CausesHalt None before after = after ≡ before
 CausesHalt (Some halt) before after = OneRose before after
 
-module _ {D : Type 0} (seen : D → Option (List ℕ)) (moment : D → ℕ) (left_at : D → ℕ → List ℕ → Type 0) where
+module _
+    {D : Type 0} (seen : D → Option (List ℕ)) (moment : D → ℕ)
+    (left_at : D → ℕ → List ℕ → Type 0) where
   -- What both disks read, where both tell it, is kept for the state; and behind a halt what they read, and all that a
   -- crash may now leave of the one beside all of the other, is kept for the state or for the one after the halt's
   -- request.
   abbrev pub KeepsDisks : Option Halt → State → Stored D → Type 0
-  KeepsDisks None s store = (l r : List ℕ) → seen store.left ≡ Some l → seen store.right ≡ Some r → IsKept l r s
+  KeepsDisks None s store =
+      (l r : List ℕ) → seen store.left ≡ Some l → seen store.right ≡ Some r → IsKept l r s
   KeepsDisks (Some halt) s store =
       (l r : List ℕ) → seen store.left ≡ Some l → seen store.right ≡ Some r
       → IsKeptAround s halt.request l r
@@ -45,7 +48,8 @@ module _ {D : Type 0} (seen : D → Option (List ℕ)) (moment : D → ℕ) (lef
 -- What holds of every book: the entries are a legal history from its base, and the store's protocol is in the state
 -- after them. A halt is there exactly where the store is stopped, with the faults that it then tells.
 pub record IsBook
-    {D : Type 0} (seen : D → Option (List ℕ)) (faults : D → ℕ) (moment : D → ℕ) (left_at : D → ℕ → List ℕ → Type 0)
+    {D : Type 0} (seen : D → Option (List ℕ)) (faults : D → ℕ) (moment : D → ℕ)
+    (left_at : D → ℕ → List ℕ → Type 0)
     (base : State) (left_origin right_origin : DiskAt) (book : Booked D) : Type 0 where
   pub few : length book.entries ≤ ENTRIES_MOST
   pub legal : IsLegal base (map recorded book.entries)

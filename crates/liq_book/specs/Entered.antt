@@ -28,7 +28,8 @@ Enters base session calls request answer.DiskFault old new =
     × ((faults : ℕ) × (new.halt ≡ Some (record { session = session; request = request; faults = faults })))
 Enters base session calls request (answer.Stopped faults) old new =
     IsAsBefore old new × IsSomeAnd old.halt (λ h. h.faults ≡ faults)
-Enters base session calls request (answer.HistoryFull entries) old new = IsAsBefore old new × (entries ≡ ENTRIES_MOST)
+Enters base session calls request (answer.HistoryFull entries) old new =
+    IsAsBefore old new × (entries ≡ ENTRIES_MOST)
 
 -- the limit is answered exactly where it is reached, whatever else there is
 abbrev pub IsTestedFirst : List Entry → Answer → Type 0

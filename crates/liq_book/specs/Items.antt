@@ -1,5 +1,6 @@
 -- A book's chronicle, and what is read from it.
-use Rattle.std.specs.Prelude.{ℕ, ◌≡◌, ◌++◌, List, [], ◌∷◌, map, length, Option, Some, None, ◌==◌, if◌then◌else◌, ◌⊎◌}
+use Rattle.std.specs.Prelude.{ℕ, ◌≡◌, ◌==◌, ◌⊎◌, if◌then◌else◌}
+use Rattle.std.specs.Prelude.{◌++◌, List, [], ◌∷◌, map, length, Option, Some, None}
 use Rattle.liq_types.specs.declared.replies.Reply.{Reply}
 use Rattle.liq_types.specs.declared.requests.Request.{Request}
 use Rattle.liq_rules.specs.History as history

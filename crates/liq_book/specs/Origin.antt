@@ -17,7 +17,8 @@ pub record DiskAt : Type 1 where
 
 -- The law of moments from there on: time goes on, and what a crash may have left up to that moment stays what it was.
 pub record GoesOnFrom
-    {D : Type 0} (origin : DiskAt) (moment_of : D → ℕ) (left_by : D → ℕ → List ℕ → Type 0) (disk : D) : Type 0 where
+    {D : Type 0} (origin : DiskAt) (moment_of : D → ℕ) (left_by : D → ℕ → List ℕ → Type 0)
+    (disk : D) : Type 0 where
   pub later : origin.moment ≤ moment_of disk
   pub past : (k : ℕ) (image : List ℕ) → k ≤ origin.moment → left_by disk k image → origin.left_at k image
   pub kept : (k : ℕ) (image : List ℕ) → k ≤ origin.moment → origin.left_at k image → left_by disk k image

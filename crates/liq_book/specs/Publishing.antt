@@ -16,7 +16,8 @@ pub record OpenBook (D : Type 0) : Type 0 where
   pub published : List Given
   pub waiting : List Given
 
-abbrev pub open_book : {D : Type 0} → Stored D → List Entry → Option Halt → (published waiting : List Given) → OpenBook D
+abbrev pub open_book : {D : Type 0}
+    → Stored D → List Entry → Option Halt → (published waiting : List Given) → OpenBook D
 open_book store entries halt published waiting =
     record { book = record { store = store; entries = entries; halt = halt }; published = published; waiting = waiting }
 
@@ -27,10 +28,11 @@ all_batches b = b.published ++ b.waiting
 abbrev pub AreViews : State → List history.Entry → List Given → Type 0
 AreViews base entries batches =
     (before after : List Given) (b : Given) → batches ≡ before ++ b ∷ after
-    → (b.number ≤ length entries) × ((version_after (before ++ b ∷ [])).view ≡ view_after base entries b.number)
+    → (b.number ≤ length entries)
+    × ((version_after (before ++ b ∷ [])).view ≡ view_after base entries b.number)
 
--- What holds of what every book publishes: the first version is that of the opened list, under number 0; each is the view after
--- as many entries as its number says; and the store's changes lead on from the last one to the view of now.
+-- What holds of what every book publishes: the first version is that of the opened list, under number 0; each is the
+-- view after as many entries as its number says; and the store's changes lead on from the last one to the view of now.
 pub record IsPublishing {D : Type 0} (base : State) (b : OpenBook D) : Type 0 where
   pub first : (opened : Given) × (more : List Given) × (b.published ≡ opened ∷ more) × (opened.number ≡ 0)
   pub each : AreViews base (map recorded b.book.entries) (all_batches b)
