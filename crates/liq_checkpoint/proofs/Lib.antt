@@ -1,0 +1,4 @@
+pub mod Fields
+pub mod Loop
+pub mod Rows
+pub mod Images

@@ -1,0 +1,117 @@
+//! An image read from its bytes.
+
+ghost use Rattle.std.specs.Prelude.{◌≡◌, Ok, IfOk, length};
+ghost use Rattle.liq_types.specs.declared.image.Image.{Image};
+ghost use Rattle.liq_checkpoint.specs.Reading.{Gives, words_at, image_at};
+ghost use Rattle.liq_checkpoint.specs.Spelling.{HasCheckpoint, spelling};
+
+use crate::image_bytes::ImageBytes;
+use crate::numbers::{bad, limit_at, numbers_at, u128_at};
+use crate::tables::{clients_at, deposits_at, sums_at, surpluses_at, troves_at, wallets_at};
+use liq_types::{ClientRows, DepositRows, FinishedRows, Image, SurplusRows, TroveRows, WalletRows};
+use std::alloc::Global;
+
+/// The image that a checkpoint's bytes spell, all of them. `Bad` tells the place of the first field that fits no
+/// checkpoint, of the end where bytes are missing, or of the first byte that follows. A field is tested by its own number
+/// and by what stands before it.
+pub fn decode(alloc: Global, bytes: &[u8]) -> Result<Image, ImageBytes>
+    // What is read is spelled so.
+    ensures found { IfOk result (λ i. HasCheckpoint i × (bytes.now ≡ spelling i)) }
+    // What is spelled so is read, unless memory runs out.
+    ensures only { (i : Image) → HasCheckpoint i → bytes.now ≡ spelling i → Gives (λ j. j) result (Ok i) }
+    // Which fault it is.
+    ensures exact { Gives (λ i. i) result (image_at (length bytes.now) bytes.now) }
+{
+    image_at(alloc, bytes.len() as u64, bytes)
+}
+
+#[tactic(auto, unfolding(crate::specs::Reading::image_at))]
+fn image_at(alloc: Global, end: u64, at: &[u8]) -> Result<Image, ImageBytes>
+    ensures { Gives (λ i. i) result (image_at end at.now) }
+{
+    let (limit, at) = limit_at(end, at)?;
+    let (words, at) = words_at(alloc, end, limit, at)?;
+    let (wallets, at) = wallets_at(alloc, end, at)?;
+    let (troves, at) = troves_at(alloc, end, at)?;
+    let (surplus_rows, at) = surpluses_at(alloc, end, at)?;
+    let (finished, at) = sums_at(alloc, end, at)?;
+    let (deposits, at) = deposits_at(alloc, end, at)?;
+    let (clients, at) = clients_at(alloc, end, at)?;
+    if !at.is_empty() {
+        return Err(bad(end, at));
+    }
+    Ok(Image {
+        wallets,
+        troves,
+        surplus_rows,
+        finished,
+        deposits,
+        clients,
+        ..words
+    })
+}
+
+// An image without rows.
+#[tactic(auto, unfolding(crate::specs::Reading::words_at))]
+fn words_at(alloc: Global, end: u64, limit: u64, at: &[u8]) -> Result<(Image, &[u8]), ImageBytes>
+    ensures { Gives (λ x. (x.0, x.1.now)) result (words_at end limit at.now) }
+{
+    let (times, at) = numbers_at::<6>(end, at)?;
+    let (pools, at) = numbers_at::<8>(end, at)?;
+    let (sum_coll, at) = u128_at(end, at)?;
+    let (sum_debt, at) = u128_at(end, at)?;
+    let (stakes, at) = numbers_at::<3>(end, at)?;
+    let (p, at) = u128_at(end, at)?;
+    let (place, at) = numbers_at::<2>(end, at)?;
+    let (sum, at) = u128_at(end, at)?;
+    let (deposited, at) = numbers_at::<2>(end, at)?;
+    let [price, minute, base, fee_minute, generation, brought] = times;
+    let [
+        active_coll,
+        active_debt,
+        default_coll,
+        default_debt,
+        reserve,
+        surplus,
+        fee_coll,
+        fee_lusd,
+    ] = pools;
+    let [stakes, snap_stakes, snap_coll] = stakes;
+    let [scale, epoch] = place;
+    let [total, pool_coll] = deposited;
+    let image = Image {
+        price,
+        minute,
+        base,
+        fee_minute,
+        generation,
+        limit,
+        brought,
+        active_coll,
+        active_debt,
+        default_coll,
+        default_debt,
+        reserve,
+        surplus,
+        fee_coll,
+        fee_lusd,
+        sum_coll,
+        sum_debt,
+        stakes,
+        snap_stakes,
+        snap_coll,
+        p,
+        scale,
+        epoch,
+        sum,
+        total,
+        pool_coll,
+        wallets: WalletRows::new(alloc),
+        troves: TroveRows::new(alloc),
+        surplus_rows: SurplusRows::new(alloc),
+        finished: FinishedRows::new(alloc),
+        deposits: DepositRows::new(alloc),
+        clients: ClientRows::new(alloc),
+    };
+    Ok((image, at))
+}

@@ -1,0 +1,24 @@
+//! Why bytes gave no image.
+
+ghost use Rattle.std.specs.Prelude.{◌≡◌};
+ghost use Rattle.liq_checkpoint.specs.declared.image_bytes.ImageBytes.TheVariants.{NoMemory};
+
+use thiserror::Error;
+
+/// The bytes are no checkpoint, or there was no memory for what they hold.
+#[derive(Clone, Copy, Debug, Error)]
+pub enum ImageBytes {
+    /// Where the first field begins that fits no checkpoint, where bytes are missing, or where bytes follow.
+    #[error("byte {place} begins what fits no checkpoint")]
+    Bad { place: u64 },
+    #[error("no memory for the image of a checkpoint")]
+    NoMemory,
+}
+
+impl From<liq_types::NoMemory> for ImageBytes {
+    ghost from_gives = { λ _ e. e ≡ NoMemory };
+
+    fn from(_: liq_types::NoMemory) -> ImageBytes {
+        ImageBytes::NoMemory
+    }
+}
