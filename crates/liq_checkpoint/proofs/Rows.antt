@@ -1,5 +1,5 @@
 -- Rows one after the other: what is read is spelled so, and what is spelled so is read.
-use Rattle.std.proofs.Common.{◌≡◌, ℕ, zero, suc, ◌^◌, ◌<◌, ◌≤◌, Bool, true, false, List, [], ◌∷◌, ◌++◌, length, map, Option, Some, None, Result, Ok, Err, refl, sym, ap, subst, ◌∙◌, append_assoc, arith}
+use Rattle.std.proofs.Common.{◌≡◌, ℕ, zero, suc, Bool, true, List, [], ◌∷◌, ◌++◌, length, Option, Some, None, Result, Ok, refl, sym, ap, subst, ◌∙◌, append_assoc}
 use Rattle.std.specs.Cmp.{IsTotalOrder}
 use Rattle.std.specs.List.{flat_map, AllByRecursion}
 use Rattle.std.specs.List.Sorted.{IsStrictlySortedBy}
@@ -8,7 +8,7 @@ use Rattle.std.specs.Ordering.{is_lt}
 use Rattle.std.specs.declared.cmp.Ordering.{Ordering}
 use Rattle.std.specs.declared.cmp.Ordering.TheVariants.{Less, Equal, Greater}
 use Rattle.liq_types.proofs.Ascending.{below_more}
-use Rattle.liq_checkpoint.specs.Spelling.{Field, bytes_of, spelled, Fit, table}
+use Rattle.liq_checkpoint.specs.Spelling.{Field, spelled, Fit, table}
 use Rattle.liq_checkpoint.specs.Reading.{◌>>=◌, number_at, rows_at, table_at}
 use Rattle.liq_checkpoint.proofs.Fields.{IsBytes, bind_ok, ok_is, Takes, Takes-none, Takes-then, spelled-append, Fit-front, Fit-back, number_takes, number_again}
 

@@ -1,7 +1,7 @@
 -- Reading from left to right. A fault is told by its place: that of the first field that fits no checkpoint, which is
 -- tested by its own number and by what stands before it; the end, where bytes are missing; or where bytes follow. `end` is
 -- how many bytes there are in all, and `at` are those that are still to be read.
-use Rattle.std.specs.Prelude.{◌≡◌, ℕ, zero, suc, ◌-◌, ◌<◌, List, [], ◌∷◌, length, take, drop, get_or, Option, Some, None, Result, Ok, Err, Bool, true, not, ◌==◌, ◌&&◌, ◌||◌, nat_lt, nat_le, if◌then◌else◌}
+use Rattle.std.specs.Prelude.{◌≡◌, ℕ, zero, suc, ◌-◌, List, [], ◌∷◌, length, take, drop, get_or, Option, Some, None, Result, Ok, Err, Bool, true, not, ◌==◌, ◌&&◌, nat_lt, nat_le, if◌then◌else◌}
 use Rattle.std.specs.Str.{bytes_eq}
 use Rattle.byteorder.specs.Endian.{big_number}
 use Rattle.liq_types.specs.declared.amounts.TheConstants.{LIM}

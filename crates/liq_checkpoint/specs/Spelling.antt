@@ -27,6 +27,11 @@ spelled fields = flat_map bytes_of fields
 abbrev pub Fit : List Field → Type 0
 Fit fields = AllByRecursion (λ (field : Field). field.1 < 256 ^ field.0) fields
 
+-- fields were put behind the old bytes, and each number had room
+pub record Puts (old new : List ℕ) (fields : List Field) : Type 0 where
+  pub items : new ≡ old ++ spelled fields
+  pub fit : Fit fields
+
 -- numbers of eight bytes each
 abbrev pub eights : List ℕ → List Field
 eights numbers = map (λ n. (8, n)) numbers

@@ -49,14 +49,12 @@ pub fn wallet_at(end: u64, last: Option<u32>, at: &[u8]) -> Result<(WalletRow, &
     if coll == 0 && lusd == 0 {
         return Err(bad(end, at));
     }
-    Ok((
-        WalletRow {
-            account,
-            coll,
-            lusd,
-        },
-        rest,
-    ))
+    let row = WalletRow {
+        account,
+        coll,
+        lusd,
+    };
+    Ok((row, rest))
 }
 
 #[tactic(auto, unfolding(crate::specs::Reading::trove_at))]

@@ -1,0 +1,8 @@
+use Rattle.std.proofs.Common.{◌∷◌, length, map, take}
+use Rattle.std.specs.List.{flat_map}
+use Rattle.liq_types.specs.ImageRows.{finished_row}
+use Rattle.liq_checkpoint.specs.Spelling.{Puts, finished}
+use Rattle.liq_checkpoint.proofs.tables_out.put_sums.Given as goal
+
+abbrev pub invariant-loop-row : goal.invariant-loop-row
+invariant-loop-row l = Puts l.fn.out.items l.out.items ((8, length l.rows) ∷ flat_map finished (map finished_row (take l.row-index l.rows)))

@@ -1,0 +1,92 @@
+//! An image written to its bytes.
+
+ghost use Rattle.std.specs.Prelude.{◌≡◌, ◌∷◌, [], Ok, IfOk, OnOk, length, map};
+ghost use Rattle.liq_types.specs.declared.amounts.TheConstants.{LIM};
+ghost use Rattle.liq_types.specs.Length.{checkpoint_length};
+ghost use Rattle.liq_types.specs.Soundness.{HasTables};
+ghost use Rattle.liq_checkpoint.specs.Reading.{image_at};
+ghost use Rattle.liq_checkpoint.specs.Spelling.{Puts, contents, words, tables, name, spelling};
+
+use crate::numbers_out::{put_numbers, put_u128};
+use crate::tables_out::{
+    put_clients, put_deposits, put_sums, put_surpluses, put_troves, put_wallets,
+};
+use liq_types::amounts::CHECKPOINT_BYTES_MOST;
+use liq_types::{Image, NoMemory};
+use std::alloc::{AllocError, Global};
+
+/// The bytes of an image's checkpoint. They are read back as that image, under the limit for which their name stands.
+pub fn encode(alloc: Global, image: &Image) -> Result<Vec<u8>, NoMemory>
+    requires tables { HasTables image.now }
+    ensures spelled { IfOk result (λ b. b.items ≡ spelling image.now) }
+    ensures length { IfOk result (λ b. length b.items ≡ checkpoint_length image.now) }
+    ensures read { IfOk result (λ b. image_at (length b.items) b.items ≡ Ok (record image.now { limit = LIM })) }
+    ensures back { image.now.limit ≡ LIM → IfOk result (λ b. image_at (length b.items) b.items ≡ Ok image.now) }
+{
+    written(alloc, image)
+}
+
+fn written(alloc: Global, image: &Image) -> Result<Vec<u8>, NoMemory>
+    ensures { IfOk result (λ b. Puts name b.items (contents image.now)) }
+{
+    let room = length_of(image).min(CHECKPOINT_BYTES_MOST as u128);
+    let mut out = Vec::with_capacity(alloc, room as usize)?;
+    out.extend_from_slice(b"LIQSTAT1")?;
+    put_words(&mut out, image)?;
+    put_tables(&mut out, image)?;
+    Ok(out)
+}
+
+// How many bytes it has.
+fn length_of(image: &Image) -> u128
+    ensures { result ≡ checkpoint_length image.now }
+{
+    288 + 20 * image.wallets.rows().len() as u128
+        + 60 * image.troves.rows().len() as u128
+        + 12 * image.surplus_rows.rows().len() as u128
+        + 32 * image.finished.rows().len() as u128
+        + 60 * image.deposits.rows().len() as u128
+        + 61 * image.clients.rows().len() as u128
+}
+
+fn put_words(out: &mut Vec<u8>, image: &Image) -> Result<(), AllocError>
+    ensures { OnOk result (Puts out.old.items out.new.items (words image.now)) }
+{
+    let i = image;
+    put_numbers(
+        out,
+        &[
+            i.price,
+            i.minute,
+            i.base,
+            i.fee_minute,
+            i.generation,
+            i.brought,
+        ],
+    )?;
+    put_numbers(
+        out,
+        &[i.active_coll, i.active_debt, i.default_coll, i.default_debt],
+    )?;
+    put_numbers(out, &[i.reserve, i.surplus, i.fee_coll, i.fee_lusd])?;
+    put_u128(out, i.sum_coll)?;
+    put_u128(out, i.sum_debt)?;
+    put_numbers(out, &[i.stakes, i.snap_stakes, i.snap_coll])?;
+    put_u128(out, i.p)?;
+    put_numbers(out, &[i.scale, i.epoch])?;
+    put_u128(out, i.sum)?;
+    put_numbers(out, &[i.total, i.pool_coll])?;
+    Ok(())
+}
+
+fn put_tables(out: &mut Vec<u8>, image: &Image) -> Result<(), AllocError>
+    ensures { OnOk result (Puts out.old.items out.new.items (tables image.now)) }
+{
+    put_wallets(out, &image.wallets)?;
+    put_troves(out, &image.troves)?;
+    put_surpluses(out, &image.surplus_rows)?;
+    put_sums(out, &image.finished)?;
+    put_deposits(out, &image.deposits)?;
+    put_clients(out, &image.clients)?;
+    Ok(())
+}
