@@ -1,5 +1,7 @@
 -- Reading the words of a line from left to right.
-use Rattle.std.specs.Prelude.{ℕ, List, [], ◌∷◌, Option, Some, None, option_and_then, codes, decimal, nat_lt, nat_le, ◌==◌, ◌&&◌, ◌^◌, if◌then◌else◌, Bool, true, false}
+use Rattle.std.specs.Prelude.{ℕ, ◌^◌, nat_lt, nat_le, List, [], ◌∷◌, codes, decimal}
+use Rattle.std.specs.Prelude.{Option, Some, None, option_and_then, Bool, true, false}
+use Rattle.std.specs.Prelude.{◌==◌, ◌&&◌, if◌then◌else◌}
 use Rattle.std.specs.List.{slice_split}
 use Rattle.std.specs.Str.{bytes_eq}
 use Rattle.std.specs.Str.Parse.{digits_value}
@@ -25,13 +27,17 @@ pieces_of line = slice_split (λ b. b == 32) line
 
 -- a word that is exactly how its number is written
 unfoldable pub number_of : List ℕ → Option ℕ
-number_of piece = if nat_lt (digits_value 10 piece) (2 ^ 64) && bytes_eq piece (decimal (digits_value 10 piece)) then Some (digits_value 10 piece) else None
+number_of piece =
+    if nat_lt (digits_value 10 piece) (2 ^ 64) && bytes_eq piece (decimal (digits_value 10 piece))
+    then Some (digits_value 10 piece) else None
 
 unfoldable pub account_of : List ℕ → Option ℕ
 account_of piece = number_of piece >>= λ n. if nat_lt n (2 ^ 32) then Some n else None
 
 unfoldable pub hint_of : List ℕ → Option (Option ℕ)
-hint_of piece = if bytes_eq piece (codes "-") then Some None else account_of piece >>= λ a. if a == 4294967295 then Some None else Some (Some a)
+hint_of piece =
+    if bytes_eq piece (codes "-") then Some None
+    else account_of piece >>= λ a. if a == 4294967295 then Some None else Some (Some a)
 
 -- what a word behind a verb may be
 pub data Kind : Type 0 where
@@ -81,7 +87,8 @@ verb_kinds verbs.Fund = an_account ∷ a_number ∷ []
 verb_kinds verbs.Take = an_account ∷ a_number ∷ []
 verb_kinds verbs.Send = an_account ∷ an_account ∷ a_number ∷ []
 verb_kinds verbs.Open = an_account ∷ a_number ∷ a_number ∷ a_number ∷ a_hint ∷ a_hint ∷ []
-verb_kinds verbs.Adjust = an_account ∷ a_number ∷ a_number ∷ a_number ∷ a_number ∷ a_number ∷ a_hint ∷ a_hint ∷ []
+verb_kinds verbs.Adjust =
+    an_account ∷ a_number ∷ a_number ∷ a_number ∷ a_number ∷ a_number ∷ a_hint ∷ a_hint ∷ []
 verb_kinds verbs.Close = an_account ∷ []
 verb_kinds verbs.Provide = an_account ∷ a_number ∷ []
 verb_kinds verbs.Withdraw = an_account ∷ a_number ∷ []
@@ -98,15 +105,19 @@ call_with verbs.Advance = calls.Advance
 call_with verbs.Fund = calls.Fund
 call_with verbs.Take = calls.Take
 call_with verbs.Send = calls.Send
-call_with verbs.Open = λ owner coll borrow bound prev next. calls.Open owner coll borrow bound (record { prev = prev; next = next })
-call_with verbs.Adjust = λ owner coll_in coll_out borrow repay bound prev next. calls.Adjust owner coll_in coll_out borrow repay bound (record { prev = prev; next = next })
+call_with verbs.Open =
+    λ owner coll borrow bound prev next. calls.Open owner coll borrow bound (record { prev = prev; next = next })
+call_with verbs.Adjust =
+    λ owner coll_in coll_out borrow repay bound prev next.
+    calls.Adjust owner coll_in coll_out borrow repay bound (record { prev = prev; next = next })
 call_with verbs.Close = calls.Close
 call_with verbs.Provide = calls.Provide
 call_with verbs.Withdraw = calls.Withdraw
 call_with verbs.GainToTrove = λ owner prev next. calls.GainToTrove owner (record { prev = prev; next = next })
 call_with verbs.Liquidate = calls.Liquidate
 call_with verbs.LiquidateLowest = calls.LiquidateLowest
-call_with verbs.Redeem = λ owner lusd bound prev next. calls.Redeem owner lusd bound (record { prev = prev; next = next })
+call_with verbs.Redeem =
+    λ owner lusd bound prev next. calls.Redeem owner lusd bound (record { prev = prev; next = next })
 call_with verbs.Claim = calls.Claim
 call_with verbs.Rotate = calls.Rotate
 
@@ -143,10 +154,12 @@ query_of pieces = first topic_of pieces >>= λ topic. subject_of topic (others p
 unfoldable pub request_of : List (List ℕ) → Option Request
 request_of pieces = first Some pieces >>= λ word. if bytes_eq word (codes "?")
     then (query_of (others pieces) >>= λ query. Some (Ask query))
-    else (account_of word >>= λ client. first number_of (others pieces) >>= λ number. call_of (others (others pieces)) >>= λ call. Some (Do (record { client = client; number = number; call = call })))
+    else (account_of word >>= λ client. first number_of (others pieces) >>= λ number.
+    call_of (others (others pieces)) >>= λ call. Some (Do (record { client = client; number = number; call = call })))
 
 unfoldable pub session_of : List ℕ → Option ℕ
 session_of piece = number_of piece >>= λ n. if nat_le 1 n && nat_le n 8 then Some n else None
 
 unfoldable pub session_request_of : List (List ℕ) → Option (ℕ × Request)
-session_request_of pieces = first session_of pieces >>= λ session. request_of (others pieces) >>= λ request. Some (session, request)
+session_request_of pieces =
+    first session_of pieces >>= λ session. request_of (others pieces) >>= λ request. Some (session, request)

@@ -1,5 +1,6 @@
 -- Which bytes are the line of a request.
-use Rattle.std.specs.Prelude.{◌≡◌, ℕ, ◌<◌, ◌≤◌, ◌^◌, ◌⊎◌, List, [], ◌∷◌, ◌++◌, Option, Some, None, IfSome, codes, decimal}
+use Rattle.std.specs.Prelude.{◌≡◌, ℕ, ◌<◌, ◌≤◌, ◌^◌, ◌⊎◌, List, [], ◌∷◌, ◌++◌}
+use Rattle.std.specs.Prelude.{Option, Some, None, IfSome, codes, decimal}
 use Rattle.std.specs.List.{join_with_byte, AllByRecursion}
 use Rattle.liq_types.specs.declared.requests.Request.{Request}
 use Rattle.liq_types.specs.declared.requests.Request.TheVariants.{Do, Ask}
@@ -37,15 +38,22 @@ call_words (calls.Advance minutes) = text (codes "advance") ∷ number minutes �
 call_words (calls.Fund owner coll) = text (codes "fund") ∷ account owner ∷ number coll ∷ []
 call_words (calls.Take owner coll) = text (codes "take") ∷ account owner ∷ number coll ∷ []
 call_words (calls.Send from to lusd) = text (codes "send") ∷ account from ∷ account to ∷ number lusd ∷ []
-call_words (calls.Open owner coll borrow bound h) = text (codes "open") ∷ account owner ∷ number coll ∷ number borrow ∷ number bound ∷ hint h.prev ∷ hint h.next ∷ []
-call_words (calls.Adjust owner coll_in coll_out borrow repay bound h) = text (codes "adjust") ∷ account owner ∷ number coll_in ∷ number coll_out ∷ number borrow ∷ number repay ∷ number bound ∷ hint h.prev ∷ hint h.next ∷ []
+call_words (calls.Open owner coll borrow bound h) =
+    text (codes "open") ∷ account owner ∷ number coll ∷ number borrow ∷ number bound
+    ∷ hint h.prev ∷ hint h.next ∷ []
+call_words (calls.Adjust owner coll_in coll_out borrow repay bound h) =
+    text (codes "adjust") ∷ account owner ∷ number coll_in ∷ number coll_out
+    ∷ number borrow ∷ number repay ∷ number bound ∷ hint h.prev ∷ hint h.next ∷ []
 call_words (calls.Close owner) = text (codes "close") ∷ account owner ∷ []
 call_words (calls.Provide owner lusd) = text (codes "provide") ∷ account owner ∷ number lusd ∷ []
 call_words (calls.Withdraw owner lusd) = text (codes "withdraw") ∷ account owner ∷ number lusd ∷ []
-call_words (calls.GainToTrove owner h) = text (codes "gain_to_trove") ∷ account owner ∷ hint h.prev ∷ hint h.next ∷ []
+call_words (calls.GainToTrove owner h) =
+    text (codes "gain_to_trove") ∷ account owner ∷ hint h.prev ∷ hint h.next ∷ []
 call_words (calls.Liquidate liquidator owner) = text (codes "liquidate") ∷ account liquidator ∷ account owner ∷ []
-call_words (calls.LiquidateLowest liquidator count) = text (codes "liquidate_lowest") ∷ account liquidator ∷ number count ∷ []
-call_words (calls.Redeem owner lusd bound h) = text (codes "redeem") ∷ account owner ∷ number lusd ∷ number bound ∷ hint h.prev ∷ hint h.next ∷ []
+call_words (calls.LiquidateLowest liquidator count) =
+    text (codes "liquidate_lowest") ∷ account liquidator ∷ number count ∷ []
+call_words (calls.Redeem owner lusd bound h) =
+    text (codes "redeem") ∷ account owner ∷ number lusd ∷ number bound ∷ hint h.prev ∷ hint h.next ∷ []
 call_words (calls.Claim owner) = text (codes "claim") ∷ account owner ∷ []
 call_words calls.Rotate = text (codes "rotate") ∷ []
 
@@ -71,7 +79,8 @@ Spells line request = IsLineOf line (request_words request)
 
 -- the same behind a session's number and a space
 abbrev pub SpellsInSession : List ℕ → ℕ → Request → Type 0
-SpellsInSession line session request = (1 ≤ session) × (session ≤ 8) × IsLineOf line (number session ∷ request_words request)
+SpellsInSession line session request =
+    (1 ≤ session) × (session ≤ 8) × IsLineOf line (number session ∷ request_words request)
 
 -- The greatest account word stands for no hint, so an account of that number cannot be spelled as one.
 abbrev pub CanBeHint : Word → Type 0

@@ -10,7 +10,8 @@ Ask words Serve = words ≡ codes "serve" ∷ []
 Ask words State = words ≡ codes "state" ∷ []
 Ask words Audit = words ≡ codes "audit" ∷ []
 Ask words (Gen seed count) =
-    (words ≡ codes "gen" ∷ decimal seed ∷ decimal count ∷ []) × (seed < 2 ^ 64) × (1 ≤ count) × (count ≤ 1000000)
+    (words ≡ codes "gen" ∷ decimal seed ∷ decimal count ∷ [])
+    × (seed < 2 ^ 64) × (1 ≤ count) × (count ≤ 1000000)
 
 -- it uses the disks
 abbrev pub UsesDisks : Word → Type 0
