@@ -31,15 +31,13 @@ module _ {D : Type 0} (seen : D → Option (List ℕ)) where
   -- After a disk's fault they are kept for that state, or for it after the next line's command, if it is accepted
   -- there. Or the opening failed, and left what it may leave of disks that were kept.
   DisksHold (Err DiskFault) bytes unread l r start left right requests =
-      let s = (run start requests).0 in
-      OfBoth left right (λ a b.
+      let s = (run start requests).0 in OfBoth left right (λ a b.
       (IsUnread bytes unread requests × (IsKept l r start → IsRecovered l r start a b))
       ⊎ (IsKept a b s
       ⊎ ((c : Command) × IsNext bytes requests (Do c) × (ruling s c ≡ Allowed) × IsKept a b (after s c))))
   -- Where memory may have been wanted for the opening they stand for that state, and stay kept.
   DisksHold (Err NoMemory) bytes unread l r start left right requests =
-      let s = (run start requests).0 in
-      OfBoth left right (λ a b.
+      let s = (run start requests).0 in OfBoth left right (λ a b.
       StandFor a b s × ((IsUnread bytes unread requests → IsKept l r start) → IsKept a b s))
   DisksHold _ bytes unread l r start left right requests =
       OfBoth left right (λ a b. IsKept a b (run start requests).0)

@@ -34,11 +34,8 @@ HaveTheirShares start requests =
 abbrev pub EndsAfter : State → Result (Unit {0}) Halt → List ℕ → Option (List ℕ) → List Request → Type 0
 -- they are those of all lines, and the source is at its end
 EndsAfter start (Ok done) bytes left requests = AllZip IsRequest (lines_in bytes) requests × (left ≡ Some [])
-EndsAfter start (Err (BadLine number)) bytes left requests =
-    StopsAfter IsRequest (stop.BadLine number) bytes left requests
+EndsAfter start (Err (BadLine n)) bytes left requests = StopsAfter IsRequest (stop.BadLine n) bytes left requests
 EndsAfter start (Err ReadFault) bytes left requests = StopsAfter IsRequest stop.ReadFault bytes left requests
-EndsAfter start (Err WriteFault) bytes left requests = (more : List (List ℕ)) × BeginsWith IsRequest bytes requests more
-EndsAfter start (Err DiskFault) bytes left requests = (more : List (List ℕ)) × BeginsWith IsRequest bytes requests more
 -- a run over damaged disks begins nowhere
 EndsAfter start (Err (Damaged side number)) bytes left requests = ⊥
 -- memory is asked for before a line is read, and then only for a command that is allowed or plans a list
@@ -46,8 +43,10 @@ EndsAfter start (Err NoMemory) bytes left requests =
     ((more : List (List ℕ)) × BeginsWith IsRequest bytes requests more)
     × (IsUnread bytes left requests
     ⊎ ((request : Request) × IsNext bytes requests request × TakesMemory (run start requests).0 request))
-EndsAfter start (Err (Limit number)) bytes left requests =
-    (number ≡ LINES_MOST) × StopsAfter IsRequest stop.Limit bytes left requests
+EndsAfter start (Err (Limit n)) bytes left requests =
+    (n ≡ LINES_MOST) × StopsAfter IsRequest stop.Limit bytes left requests
+-- the sink or a disk met a fault
+EndsAfter start (Err _) bytes left requests = (more : List (List ℕ)) × BeginsWith IsRequest bytes requests more
 
 -- Behind what was said the line was written, or a front of it where the sink met a fault.
 abbrev pub Adds : List ℕ → List ℕ → Type 0 → Option (List ℕ) → Option (List ℕ) → Type 0

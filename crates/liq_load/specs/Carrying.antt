@@ -1,6 +1,6 @@
 -- A load on its way: what is counted so far, and how its line is written.
-use Rattle.std.specs.Prelude.{ℕ, ◌≡◌, ◌+◌, ◌*◌, ◌≤◌, List, [], ◌∷◌, ◌++◌, length, count_by, codes, decimal}
-use Rattle.std.specs.Prelude.{Option, Result, Ok, Err}
+use Rattle.std.specs.Prelude.{ℕ, ◌≡◌, ◌+◌, ◌*◌, ◌≤◌, List, [], ◌∷◌, ◌++◌}
+use Rattle.std.specs.Prelude.{length, count_by, codes, decimal, Option, Result, Ok, Err}
 use Rattle.liq_types.specs.declared.amounts.TheConstants.{LOWEST_MOST}
 use Rattle.liq_types.specs.declared.requests.Call.{Call}
 use Rattle.liq_types.specs.declared.requests.Request.{Request}
@@ -35,13 +35,9 @@ told counts words supply =
     codes "accepted " ++ decimal counts.accepted
     ++ codes " refused " ++ decimal counts.refused
     ++ codes " offsets " ++ decimal counts.offsets
-    ++ codes " epochs " ++ decimal words.epoch
-    ++ codes " scale " ++ decimal words.scale
-    ++ codes " p " ++ decimal words.p
-    ++ codes " total " ++ decimal words.total
-    ++ codes " coll " ++ decimal words.coll
-    ++ codes " supply " ++ decimal supply
-    ++ 10 ∷ []
+    ++ codes " epochs " ++ decimal words.epoch ++ codes " scale " ++ decimal words.scale
+    ++ codes " p " ++ decimal words.p ++ codes " total " ++ decimal words.total
+    ++ codes " coll " ++ decimal words.coll ++ codes " supply " ++ decimal supply ++ 10 ∷ []
 
 abbrev pub none_yet : Counts
 none_yet = record { accepted = 0; refused = 0; offsets = 0 }

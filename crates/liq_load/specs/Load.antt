@@ -31,10 +31,6 @@ summary requests =
     codes "accepted " ++ decimal (length (accepted opening requests))
     ++ codes " refused " ++ decimal (count_by is_refusal (run opening requests).1)
     ++ codes " offsets " ++ decimal (offsets_in (events opening (accepted opening requests)))
-    ++ codes " epochs " ++ decimal words.epoch
-    ++ codes " scale " ++ decimal words.scale
-    ++ codes " p " ++ decimal words.p
-    ++ codes " total " ++ decimal words.total
-    ++ codes " coll " ++ decimal words.coll
-    ++ codes " supply " ++ decimal (total_debt s)
-    ++ 10 ∷ []
+    ++ codes " epochs " ++ decimal words.epoch ++ codes " scale " ++ decimal words.scale
+    ++ codes " p " ++ decimal words.p ++ codes " total " ++ decimal words.total
+    ++ codes " coll " ++ decimal words.coll ++ codes " supply " ++ decimal (total_debt s) ++ 10 ∷ []

@@ -14,7 +14,8 @@ use Rattle.liq_scripts.specs.Asked.{Asks}
 use Rattle.liq_scripts.specs.BySession.{scripts_of}
 
 -- how reading the bytes ended after the lines that ask this
-abbrev pub EndsAfter : {T : Type 0} → Result T Stop → List ℕ → Option (List ℕ) → List (ℕ × Request) → Type 0
+abbrev pub EndsAfter :
+    {T : Type 0} → Result T Stop → List ℕ → Option (List ℕ) → List (ℕ × Request) → Type 0
 -- they are all, and the source is at its end
 EndsAfter (Ok done) bytes left asked = AllZip Asks (lines_in bytes) asked × (left ≡ Some [])
 -- it stopped

@@ -49,6 +49,8 @@ pub record Comes
   pub read : (bytes : List ℕ) → start ≡ Some bytes → EndsAfter end bytes left asked
 
 -- one more line was read, or reading comes to its end
-abbrev pub Goes : Option (List ℕ) → ℕ → List Script → Option (List ℕ) → Option (List ℕ) → Result Bool Stop → Type 0
+abbrev pub Goes :
+    Option (List ℕ) → ℕ → List Script → Option (List ℕ) → Option (List ℕ) → Result Bool Stop
+    → Type 0
 Goes start n scripts unread left (Ok true) = HasGathered start (n + 1) scripts unread
 Goes start n scripts unread left end = Comes end start scripts left

@@ -1,5 +1,6 @@
 -- Lines on their way to a sink.
-use Rattle.std.specs.Prelude.{ℕ, ◌≡◌, List, [], ◌∷◌, ◌++◌, ◌==◌, Option, Result, Ok, Err, codes, decimal, if◌then◌else◌}
+use Rattle.std.specs.Prelude.{ℕ, ◌≡◌, ◌==◌, if◌then◌else◌, List, [], ◌∷◌, ◌++◌}
+use Rattle.std.specs.Prelude.{Option, Result, Ok, Err, codes, decimal}
 use Rattle.liq_outside.specs.declared.failed.Failed.{Failed}
 use Rattle.liq_lines.specs.Writing.{Writes, WritesPart}
 use Rattle.liq_scripts.specs.declared.outbox.Line.{Line}
@@ -39,7 +40,8 @@ history_text entries = flat_map (part_text Call) entries
 -- The bytes went behind those that waited: a front of these is written, and the rest waits. Or the sink met a fault,
 -- and a part of these is written.
 abbrev pub Sends :
-    Result (Unit {0}) Failed → List ℕ → List ℕ → List ℕ → Option (List ℕ) → Option (List ℕ) → Type 0
+    Result (Unit {0}) Failed → List ℕ → List ℕ → List ℕ → Option (List ℕ) → Option (List ℕ)
+    → Type 0
 Sends (Ok done) waited bytes waits before after =
     (front : List ℕ) × Writes before front after × (waited ++ bytes ≡ front ++ waits)
 Sends (Err fault) waited bytes waits before after = WritesPart before (waited ++ bytes) after

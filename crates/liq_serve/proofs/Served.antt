@@ -1,6 +1,6 @@
 -- Serving an input, as an end of the program.
 use Rattle.std.proofs.Common.{◌≡◌, ◌<◌, ℕ, zero, suc, List, [], ◌∷◌, map, length, append-nil, Option, Some, None, Ok, Err, Result, refl, sym, subst, ap, ap₂, ◌∙◌, inl, inr, lit<, arith}
-use Rattle.std.specs.Prelude.{◌⊎◌, All, Contains, slice_index_or}
+use Rattle.std.specs.Prelude.{◌⊎◌, All, Contains, slice_index_or, IfOk, IsOkAnd, MatchResult}
 use Rattle.std.specs.List.{AllZip}
 use Rattle.liq_types.specs.declared.amounts.TheConstants.{LINES_MOST}
 use Rattle.liq_types.specs.State.{State}
@@ -13,9 +13,11 @@ use Rattle.liq_rules.specs.Step.{Allowed, ruling}
 use Rattle.liq_journal.specs.declared.damage.Damage.{Damage}
 use Rattle.liq_pairs.specs.declared.side.Side.{Side}
 use Rattle.liq_pairs.specs.Kept.{IsKept}
+use Rattle.liq_pairs.specs.Pair.{state_on}
 use Rattle.liq_lines.specs.declared.stops.Stop.{Stop}
 use Rattle.liq_lines.specs.declared.stops.Stop.TheVariants as stop
 use Rattle.liq_lines.specs.Lines.{lines_in}
+use Rattle.liq_lines.specs.Saying.{StopsAfter}
 use Rattle.liq_scripts.specs.Gathering as scripts
 use Rattle.liq_scripts.specs.Output.{served}
 use Rattle.liq_scripts.specs.Asked.{Asks}
@@ -26,7 +28,7 @@ use Rattle.liq_serving.specs.Answered.{AreServedWhole, IsServedWhole, LacksMemor
 use Rattle.liq_serving.specs.declared.input.Finish.{Finish}
 use Rattle.liq_serving.specs.declared.input.Finish.TheVariants as finish
 use Rattle.liq_serving.specs.Input as serving
-use Rattle.liq_serving.specs.Input.{AnswersInput, IsAllButForMemory, Written, reading_of}
+use Rattle.liq_serving.specs.Input.{AnswersInput, Written, reading_of}
 use Rattle.liq_store.specs.declared.answers.StoreWhy.TheVariants as why
 use Rattle.liq_store.specs.Causes.{Faults}
 use Rattle.liq_ends.specs.declared.halts.Halt.{Halt}
@@ -34,10 +36,9 @@ use Rattle.liq_ends.specs.declared.halts.Halt.TheVariants.{DiskFault}
 use Rattle.liq_ends.specs.Causes.{DiskCause, ReadCause, WriteCause}
 use Rattle.liq_ends.specs.Disks.{OfBoth}
 use Rattle.liq_ends.specs.Unsaid.{WritesAll}
-use Rattle.liq_ends.specs.Statuses.{IsDone, status_of}
 use Rattle.liq_serve.specs.Finishing.{end_of}
-use Rattle.liq_serve.specs.Outside.{Outside, Finds}
-use Rattle.liq_serve.specs.Serve.{Answers, AreLeft, OpensNone, StopsReading}
+use Rattle.liq_serve.specs.Outside.{Outside}
+use Rattle.liq_serve.specs.Serve.{Answers, AreLeft, Keep, OpensNone, halt_at}
 
 -- ---- the counts
 
@@ -96,22 +97,7 @@ all_served held history before now (finish.NotOpened why.NoMemory) wrote = ap he
 all_served held history before now finish.NoMemory wrote = ap held wrote
 all_served held history before now finish.DiskFault wrote = ap held wrote
 
--- ---- the status
-
-pub is_done : (how : Finish) → IsAllButForMemory how → IsDone (status_of (end_of how))
-is_done finish.All all = inl refl
-is_done (finish.NotRead (stop.BadLine number)) all = absurd all
-is_done (finish.NotRead stop.ReadFault) all = absurd all
-is_done (finish.NotRead stop.NoMemory) all = inr refl
-is_done (finish.NotRead stop.Limit) all = absurd all
-is_done (finish.NotOpened why.DiskFault) all = absurd all
-is_done (finish.NotOpened (why.Damaged side damage)) all = absurd all
-is_done (finish.NotOpened why.NoMemory) all = inr refl
-is_done finish.NoMemory all = inr refl
-is_done finish.DiskFault all = absurd all
-is_done finish.WriteFault all = absurd all
-
--- ---- disks that nobody touched
+-- ---- the disks
 
 pub same_disks : {E : Type 0} {D : Type 0} (seen : D → Option (List ℕ)) (left right : D) (l r a b : List ℕ) (found : Result State E) → seen left ≡ Some l → seen right ≡ Some r → seen left ≡ Some a → seen right ≡ Some b → (on : List ℕ → List ℕ → Result State E) → on l r ≡ found → on a b ≡ found
 same_disks seen left right l r a b found told_l told_r told_a told_b on is =
@@ -143,22 +129,35 @@ lacking asked history (inr some) =
 none_left : (asked : List (ℕ × Request)) (history : List Entry) → AreServedWhole asked history → All (λ session. AreLeft asked history session []) sessions
 none_left asked history whole = λ k d there. whole k d there ∙ sym (append-nil _)
 
-module _ {S D : Type 0} (seen : D → Option (List ℕ)) (before after : Outside S D) (asked : List (ℕ × Request)) (history : List Entry) where
+-- ---- disks that stood for a state, or were damaged
+
+-- what is found, by cases
+pub by_found : {T A B : Type 0} (found : Result T (A × B)) (P : T → Type 0) (Q : A × B → Type 0) → ((x : T) → found ≡ Ok x → P x) → ((a : A) (b : B) → found ≡ Err (a, b) → Q (a, b)) → MatchResult found P Q
+by_found (Ok x) P Q good bad = good x refl
+by_found (Err (a, b)) P Q good bad = bad a b refl
+
+pub if_found : {T E : Type 0} (found : Result T E) (P : T → Type 0) → ((x : T) → found ≡ Ok x → P x) → IfOk found P
+if_found (Ok x) P good = good x refl
+if_found (Err e) P good = tt
+
+is_found : {T A B : Type 0} (found : Result T (A × B)) (P : T → Type 0) → ((x : T) → found ≡ Ok x → P x) → ((a : A) (b : B) → found ≡ Err (a, b) → ⊥) → IsOkAnd found P
+is_found (Ok x) P good bad = good x refl
+is_found (Err (a, b)) P good bad = absurd (bad a b refl)
+
+module _ {S K D : Type 0} (unread : S → Option (List ℕ)) (seen : D → Option (List ℕ)) (before after : Outside S K D) (asked : List (ℕ × Request)) (history : List Entry) where
   abbrev AreWhole : Type 0
-  AreWhole = (l r : List ℕ) (side : Side) (damage : Damage) → Finds seen before l r (Err (side, damage)) → ⊥
+  AreWhole = (l r : List ℕ) (side : Side) (damage : Damage) → seen before.left ≡ Some l → seen before.right ≡ Some r → state_on l r ≡ Err (side, damage) → ⊥
 
   -- disks that are not damaged stood for a state
   kept :
       (P : State → List ℕ → List ℕ → Type 0)
-      → ((l r : List ℕ) (start : State) → Finds seen before l r (Ok start) → OfBoth seen after.left after.right (P (state_after start history)))
-      → AreWhole → (l r : List ℕ) (found : Result State (Side × Damage)) → Finds seen before l r found
-      → (start : State) × (found ≡ Ok start) × OfBoth seen after.left after.right (P (state_after start history))
-  kept P disks whole l r (Ok start) found = (start, refl, disks l r start found)
-  kept P disks whole l r (Err (side, damage)) found = absurd (whole l r side damage found)
+      → ((l r : List ℕ) (start : State) → seen before.left ≡ Some l → seen before.right ≡ Some r → state_on l r ≡ Ok start → OfBoth seen after.left after.right (P (state_after start history)))
+      → AreWhole → Keep seen before after asked history P
+  kept P disks whole = λ l r told_l told_r. is_found (state_on l r) _ (λ start is. disks l r start told_l told_r is) (λ side damage is. whole l r side damage told_l told_r is)
 
   -- the call that met a disk's fault
   halted_by : (halted : Option (ℕ × Request)) → serving.Answers finish.DiskFault halted asked history
-      → ((l r : List ℕ) (start : State) → Finds seen before l r (Ok start) → serving.HoldsAfter seen finish.DiskFault halted history l r start after.left after.right)
+      → ((l r : List ℕ) (start : State) → seen before.left ≡ Some l → seen before.right ≡ Some r → state_on l r ≡ Ok start → serving.HoldsAfter seen finish.DiskFault halted history l r start after.left after.right)
       → AreWhole → Answers seen before after asked history (Err DiskFault)
   halted_by None h disks whole = absurd h
   halted_by (Some (session, request)) h disks whole =
@@ -167,52 +166,24 @@ module _ {S D : Type 0} (seen : D → Option (List ℕ)) (before after : Outside
 
   abbrev pub Came : Result (Unit {0}) Halt → Type 0
   Came end =
-      StopsReading seen before after end asked history
-      ⊎ (((bytes : List ℕ) → before.unread ≡ Some bytes → AllZip Asks (lines_in bytes) asked × (after.unread ≡ Some []))
-      × (OpensNone seen before after end asked history ⊎ Answers seen before after asked history end))
+      ((why_not : Stop) × (end ≡ Err (halt_at why_not)) × (history ≡ []) × (after.left ≡ before.left) × (after.right ≡ before.right)
+      × ((bytes : List ℕ) → unread before.source ≡ Some bytes → StopsAfter Asks why_not bytes (unread after.source) asked))
+      ⊎ (((bytes : List ℕ) → unread before.source ≡ Some bytes → AllZip Asks (lines_in bytes) asked × (unread after.source ≡ Some []))
+      × (OpensNone seen before after asked history end ⊎ Answers seen before after asked history end))
 
-  pub came_by : (how : Finish) → AnswersInput seen before.unread after.unread before.left before.right (record { left = after.left; right = after.right; finish = how }) asked history
+  pub came_by : (how : Finish) → AnswersInput seen (unread before.source) (unread after.source) before.left before.right (record { left = after.left; right = after.right; finish = how }) asked history
       → ((why_not : Stop) → how ≡ finish.NotRead why_not → (after.left ≡ before.left) × (after.right ≡ before.right)) → Came (end_of how)
-  came_by finish.All a same = inr (
-    a.read,
-    inr (
-      none_left asked history a.answers,
-      kept (λ s a b. IsKept a b s) (λ l r start found. a.disks l r start found.left found.right found.is) (λ l r side damage found. a.damaged l r side damage found.left found.right found.is),
-    ),
-  )
-  came_by finish.WriteFault a same = inr (
-    a.read,
-    inr (
-      none_left asked history a.answers,
-      kept (λ s a b. IsKept a b s) (λ l r start found. a.disks l r start found.left found.right found.is) (λ l r side damage found. a.damaged l r side damage found.left found.right found.is),
-    ),
-  )
-  came_by finish.NoMemory a same = inr (
-    a.read,
-    inr (
-      lacking asked history a.answers,
-      kept (λ s a b. IsKept a b s) (λ l r start found. a.disks l r start found.left found.right found.is) (λ l r side damage found. a.damaged l r side damage found.left found.right found.is),
-    ),
-  )
-  came_by finish.DiskFault a same = inr (
-    a.read,
-    inr (halted_by a.halted a.answers (λ l r start found. a.disks l r start found.left found.right found.is) (λ l r side damage found. a.damaged l r side damage found.left found.right found.is)),
-  )
-  came_by (finish.NotRead why_not) a same = inl (record {
-    stop = why_not;
-    end_is = refl;
-    read = a.read;
-    none = a.answers;
-    left_same = (same why_not refl).0;
-    right_same = (same why_not refl).1;
-  })
+  came_by finish.All a same = inr (a.read, inr (none_left asked history a.answers, kept (λ s a b. IsKept a b s) a.disks a.damaged))
+  came_by finish.WriteFault a same = inr (a.read, inr (none_left asked history a.answers, kept (λ s a b. IsKept a b s) a.disks a.damaged))
+  came_by finish.NoMemory a same = inr (a.read, inr (lacking asked history a.answers, kept (λ s a b. IsKept a b s) a.disks a.damaged))
+  came_by finish.DiskFault a same = inr (a.read, inr (halted_by a.halted a.answers a.disks a.damaged))
+  came_by (finish.NotRead why_not) a same = inl (why_not, refl, a.answers, (same why_not refl).0, (same why_not refl).1, a.read)
   came_by (finish.NotOpened why.DiskFault) a same = inr (
     a.read,
     inl (record {
       statuses = (0, lit< tt, refl);
       none = a.answers;
-      disks = λ l r start found. ((0, lit< tt, refl), a.disks l r start found.left found.right found.is);
-      damaged = λ l r side damage found. tt;
+      disks = λ l r told_l told_r. by_found (state_on l r) _ _ (λ start is. ((λ e. omega (arith, e)), a.disks l r start told_l told_r is)) (λ side damage is. tt);
     }),
   )
   came_by (finish.NotOpened why.NoMemory) a same = inr (
@@ -220,8 +191,7 @@ module _ {S D : Type 0} (seen : D → Option (List ℕ)) (before after : Outside
     inl (record {
       statuses = (2, lit< tt, refl);
       none = a.answers;
-      disks = λ l r start found. ((1, lit< tt, refl), a.disks l r start found.left found.right found.is);
-      damaged = λ l r side damage found. a.damaged l r side damage found.left found.right found.is;
+      disks = λ l r told_l told_r. by_found (state_on l r) _ _ (λ start is. ((λ e. omega (arith, e)), a.disks l r start told_l told_r is)) (λ side damage is. a.damaged l r side damage told_l told_r is);
     }),
   )
   came_by (finish.NotOpened (why.Damaged which met)) a same = inr (
@@ -229,9 +199,8 @@ module _ {S D : Type 0} (seen : D → Option (List ℕ)) (before after : Outside
     inl (record {
       statuses = (1, lit< tt, refl);
       none = a.answers;
-      disks = λ l r start found. absurd (a.disks l r start found.left found.right found.is);
-      damaged = λ l r side damage found.
-          let h = a.damaged l r side damage found.left found.right found.is in
-          (h.0, ap (λ (d : Damage). d.index) h.1, h.2);
+      disks = λ l r told_l told_r. by_found (state_on l r) _ _ (λ start is. absurd (a.disks l r start told_l told_r is)) (λ side damage is.
+          let h = a.damaged l r side damage told_l told_r is in
+          (h.0, ap (λ (d : Damage). d.index) h.1, h.2));
     }),
   )

@@ -1,21 +1,17 @@
 -- How each word ends, put together to the clause of the top call.
-use Rattle.std.proofs.Common.{◌≡◌, ◌≤◌, ℕ, List, [], ◌∷◌, length, Option, Some, Ok, Err, Result, refl, sym, subst, arith, lit<, inl, inr}
+use Rattle.std.proofs.Common.{◌≡◌, ◌≢◌, ℕ, List, [], ◌∷◌, Option, Some, Ok, Err, Result, refl, sym, subst, arith, lit<, inl, inr}
 use Rattle.std.specs.Prelude.{◌⊎◌, ◌↔◌, Contains, IfOk}
 use Rattle.std.proofs.lemmas.List.Elements.{All-nil}
-use Rattle.std.specs.List.{AllZip}
 use Rattle.liq_outside.specs.Faults.{Rose}
 use Rattle.liq_types.specs.declared.amounts.TheConstants.{LINES_MOST}
-use Rattle.liq_types.specs.declared.requests.Request.{Request}
-use Rattle.liq_types.specs.State.{State, opening}
+use Rattle.liq_types.specs.State.{State}
 use Rattle.liq_lines.specs.Lines.{lines_in}
 use Rattle.liq_lines.specs.declared.stops.Stop.TheVariants as stop
 use Rattle.liq_lines.specs.Reading.{taken_most, ReadsAtMost}
 use Rattle.liq_lines.proofs.Readings.{takes_none}
-use Rattle.liq_scripts.specs.Asked.{Asks}
 use Rattle.liq_journal.specs.declared.damage.Damage.{Damage}
 use Rattle.liq_pairs.specs.declared.side.Side.{Side}
-use Rattle.liq_pairs.specs.Pair.{commands_on, state_on}
-use Rattle.liq_pairs.specs.Replay.{replay}
+use Rattle.liq_pairs.specs.Pair.{state_on}
 use Rattle.liq_words.specs.declared.words.Word.{Word}
 use Rattle.liq_words.specs.declared.words.Word.TheVariants as word
 use Rattle.liq_words.specs.declared.words.WordsFault.{WordsFault}
@@ -24,26 +20,19 @@ use Rattle.liq_words.specs.Words.{Ask}
 use Rattle.liq_ends.specs.declared.halts.Halt.{Halt}
 use Rattle.liq_ends.specs.declared.halts.Halt.TheVariants.{BadLine, ReadFault, WriteFault, DiskFault, Damaged, NoMemory, Limit}
 use Rattle.liq_ends.specs.Causes.{DiskCause, LastCause, ReadCause}
-use Rattle.liq_ends.specs.Disks.{DisksStay, EndsDamaged}
+use Rattle.liq_ends.specs.Disks.{EndsDamaged}
 use Rattle.liq_ends.specs.Output.{last, usage}
-use Rattle.liq_ends.specs.Statuses.{IsDone, status_of}
-use Rattle.liq_ends.specs.Stops.{Adds, EndsIn}
-use Rattle.liq_ends.specs.Telling.{TellsAll}
-use Rattle.liq_ends.proofs.Causes.{disk_causes, sink_causes, source_causes}
+use Rattle.liq_ends.specs.Statuses.{status_of}
+use Rattle.liq_ends.specs.Stops.{Adds}
+use Rattle.liq_ends.proofs.Causes.{disk_causes, sink_causes, source_causes, unread_causes}
 use Rattle.liq_ends.proofs.Opened.{standing_still, state_formed, untouched}
 use Rattle.liq_ends.proofs.Shares.{all_shares}
-use Rattle.liq_store.specs.Causes.{Faults, OneRose}
-use Rattle.liq_tell.specs.Audit.{IsAuditOf}
-use Rattle.liq_tell.specs.State.{standing}
-use Rattle.liq_tell.proofs.Audited.{no_limit}
-use Rattle.liq_sessions.specs.Generated.{generated}
-use Rattle.liq_load.specs.Load.{load, summary}
+use Rattle.liq_store.specs.Causes.{counts_of}
 use Rattle.liq_serve.specs.Outside.{Outside}
 use Rattle.liq_serve.specs.Serve.{ServesTo}
-use Rattle.liq_serve.specs.Top.{Ends, HasCauses, Loads}
-use Rattle.liq_serve.proofs.Served.{same_disks}
-use Rattle.liq_serve.proofs.StatusLaws.{complete, status_known}
-use Rattle.liq_serve.proofs.Telling.{audit_done, disks_unasked, load_done, source_unasked, state_done}
+use Rattle.liq_serve.specs.Top.{Ends, Leaves, OpensFirst, Tells}
+use Rattle.liq_serve.proofs.Served.{by_found, if_found, same_disks}
+use Rattle.liq_serve.proofs.StatusLaws.{status_known}
 
 -- ---- the words ask for one thing
 
@@ -60,17 +49,6 @@ is_read words found read is asks only =
       by other (inl same) = cc
       by other (inr none) = absurd cc
 
--- they ask for no word that opens the disks before it reads
-opens_first : (words : List (List ℕ)) (read : Word) → IsRead words read → (read ≡ word.Run → ⊥) → (read ≡ word.State → ⊥) → (read ≡ word.Audit → ⊥) → Ask words word.Run ⊎ (Ask words word.State ⊎ Ask words word.Audit) → ⊥
-opens_first words read is run state audit (inl asked) = run (is.only word.Run asked)
-opens_first words read is run state audit (inr (inl asked)) = state (is.only word.State asked)
-opens_first words read is run state audit (inr (inr asked)) = audit (is.only word.Audit asked)
-
-some_asked : (words : List (List ℕ)) → ((word : Word) → Ask words word → ⊥) → Ask words word.Run ⊎ (Ask words word.State ⊎ Ask words word.Audit) → ⊥
-some_asked words none (inl asked) = none word.Run asked
-some_asked words none (inr (inl asked)) = none word.State asked
-some_asked words none (inr (inr asked)) = none word.Audit asked
-
 -- no end of a word has the status of words that ask for nothing
 not_usage : (end : Result (Unit {0}) Halt) → status_of end ≡ 1 → ⊥
 not_usage (Ok done) is = omega (arith, is)
@@ -82,19 +60,30 @@ not_usage (Err (Damaged side number)) is = omega (arith, is)
 not_usage (Err NoMemory) is = omega (arith, is)
 not_usage (Err (Limit number)) is = omega (arith, is)
 
-module _ {S D : Type 0} (seen : D → Option (List ℕ)) (before after : Outside S D) where
+module _
+    {S K D : Type 0} (unread : S → Option (List ℕ)) (source_faults : S → ℕ) (held : K → Option (List ℕ)) (sink_faults : K → ℕ) (seen : D → Option (List ℕ))
+    (disk_faults : D → ℕ) (before after : Outside S K D) where
   -- the counts of a word's end
   pub record HasCounts (end : Result (Unit {0}) Halt) : Type 0 where
-    pub source : ReadCause end before.source_faults after.source_faults
-    pub sink : LastCause end before.sink_faults after.sink_faults
-    pub disks : DiskCause end before.disk_faults after.disk_faults
+    pub source : ReadCause end (source_faults before.source) (source_faults after.source)
+    pub sink : LastCause end (sink_faults before.sink) (sink_faults after.sink)
+    pub disks : DiskCause end (counts_of disk_faults before.left before.right) (counts_of disk_faults after.left after.right)
 
-  has_causes : (end : Result (Unit {0}) Halt) → HasCounts end → HasCauses seen before after (status_of end)
-  has_causes end h =
-      let source = source_causes end before.source_faults after.source_faults h.source in
-      let sink = sink_causes end before.sink_faults after.sink_faults h.sink in
-      let disks = disk_causes end before.disk_faults after.disk_faults h.disks in
+  -- a word that was read, and came to this end
+  pub word_ends :
+      (words : List (List ℕ)) (read : Word) (end : Result (Unit {0}) Halt) → IsRead words read
+      → Leaves unread source_faults held sink_faults seen disk_faults before after read end → HasCounts end
+      → ReadsAtMost (taken_most LINES_MOST) (unread before.source) (unread after.source)
+      → Ends unread source_faults held sink_faults seen disk_faults before after (status_of end) words
+  word_ends words read end is leaves counts few =
+      let source = source_causes end (source_faults before.source) (source_faults after.source) counts.source in
+      let sink = sink_causes end (sink_faults before.sink) (sink_faults after.sink) counts.sink in
+      let disks = disk_causes end (counts_of disk_faults before.left before.right) (counts_of disk_faults after.left after.right) counts.disks in
       record {
+        understood = (λ e. absurd (not_usage end e), λ none. absurd (none read is.asks));
+        usage = λ e. absurd (not_usage end e);
+        ends = λ other asked. (end, refl, subst (λ (w : Word). Leaves unread source_faults held sink_faults seen disk_faults before after w end) (is.only other asked) leaves);
+        takes = few;
         known = status_known end;
         source_fault = source.0;
         source_same = source.1;
@@ -104,178 +93,72 @@ module _ {S D : Type 0} (seen : D → Option (List ℕ)) (before after : Outside
         disk_same = disks.1;
       }
 
-  -- ---- `run`
+  -- the last line of a word over damaged disks
+  last_told : (side : Side) (damage : Damage) (halt : Halt) → EndsDamaged seen side damage (Err halt) after.left after.right
+      → Adds [] (last halt) (Rose (sink_faults before.sink) (sink_faults after.sink)) (held before.sink) (held after.sink)
+      → Tells unread source_faults held sink_faults seen disk_faults before after [] (Err halt)
+  last_told side damage (BadLine n) ends told = absurd ends
+  last_told side damage ReadFault ends told = absurd ends
+  last_told side damage WriteFault ends told = absurd ends
+  last_told side damage DiskFault ends told = told
+  last_told side damage (Damaged which number) ends told = told
+  last_told side damage NoMemory ends told = told
+  last_told side damage (Limit number) ends told = absurd ends
 
-  -- what is said of damaged disks
-  abbrev IsOverDamage : ℕ → Type 0
-  IsOverDamage status =
-      (l r : List ℕ) → seen before.left ≡ Some l → seen before.right ≡ Some r → (side : Side) (damage : Damage) → state_on l r ≡ Err (side, damage)
-      → (after.source ≡ before.source) × ((halt : Halt) × (status ≡ status_of (Err halt)) × EndsDamaged seen side damage (Err halt) after.left after.right × Adds [] (last halt) (Rose before.sink_faults after.sink_faults) before.held after.held)
+  -- a word that opens the disks before it reads
+  pub opens_first :
+      (end : Result (Unit {0}) Halt) (P : List ℕ → List ℕ → State → Type 0)
+      → ((l r : List ℕ) → seen before.left ≡ Some l → seen before.right ≡ Some r → (start : State) → state_on l r ≡ Ok start → P l r start)
+      → ((l r : List ℕ) → seen before.left ≡ Some l → seen before.right ≡ Some r → (side : Side) (damage : Damage) → state_on l r ≡ Err (side, damage)
+      → (after.source ≡ before.source) × ((halt : Halt) × (end ≡ Err halt) × EndsDamaged seen side damage (Err halt) after.left after.right
+      × Adds [] (last halt) (Rose (sink_faults before.sink) (sink_faults after.sink)) (held before.sink) (held after.sink)))
+      → OpensFirst unread source_faults held sink_faults seen disk_faults before after end P
+  opens_first end P stood damaged l r told_l told_r =
+      by_found (state_on l r) _ _ (λ start is. stood l r told_l told_r start is) (λ side damage is.
+      let found = damaged l r told_l told_r side damage is in
+      let so = found.1 in
+      let ends = subst (λ (e : Result (Unit {0}) Halt). EndsDamaged seen side damage e after.left after.right × Tells unread source_faults held sink_faults seen disk_faults before after [] e)
+      (sym so.1) (so.2, last_told side damage so.0 so.2 so.3) in
+      (found.0, ends.0, ends.1))
 
-  pub run_ends :
-      (words : List (List ℕ)) (end : Result (Unit {0}) Halt) → IsRead words word.Run → HasCounts end
-      → ((bytes l r : List ℕ) → before.unread ≡ Some bytes → seen before.left ≡ Some l → seen before.right ≡ Some r → (start : State) → state_on l r ≡ Ok start
-      → EndsIn seen start end bytes l r after.unread (Rose before.sink_faults after.sink_faults) before.held after.held after.left after.right)
-      → IsOverDamage (status_of end)
-      → ReadsAtMost (taken_most LINES_MOST) before.unread after.unread
-      → Ends seen before after (status_of end) words
-  run_ends words end read counts told damaged few =
-      let causes = has_causes end counts in
-      record {
-        understood = (λ is. absurd (not_usage end is), λ none. absurd (none word.Run read.asks));
-        usage = λ is. absurd (not_usage end is);
-        run = λ asked. record {
-          ends = λ bytes l r start unread found. (end, refl, told bytes l r unread found.left found.right start found.is);
-          complete = λ bytes l r start requests unread found all few source calm.
-              let ran = told bytes l r unread found.left found.right start found.is in
-              complete start bytes after.unread requests all few end (λ e. source (causes.source_fault e)) (λ e. calm.sink (causes.sink_fault e)) (λ e. calm.disk (causes.disk_fault e)) ran.requests ran.read;
-        };
-        serve = λ asked. absurd (cc (read.only word.Serve asked));
-        state = λ asked. absurd (cc (read.only word.State asked));
-        audit = λ asked. absurd (cc (read.only word.Audit asked));
-        gen = λ seed count asked. absurd (cc (read.only (word.Gen seed count) asked));
-        damaged = λ asked l r side damage found. damaged l r found.left found.right side damage found.is;
-        takes = few;
-        causes = causes;
-      }
+  -- a word that reads nothing, and tells of the disks
+  pub telling_ends :
+      (words : List (List ℕ)) (read : Word) (end : Result (Unit {0}) Halt) (P : List ℕ → List ℕ → State → Type 0) → IsRead words read
+      → ((after.source ≡ before.source) × OpensFirst unread source_faults held sink_faults seen disk_faults before after end P
+      → Leaves unread source_faults held sink_faults seen disk_faults before after read end)
+      → after.source ≡ before.source
+      → ((l r : List ℕ) → seen before.left ≡ Some l → seen before.right ≡ Some r → (start : State) → state_on l r ≡ Ok start → P l r start)
+      → ((l r : List ℕ) → seen before.left ≡ Some l → seen before.right ≡ Some r → (side : Side) (damage : Damage) → state_on l r ≡ Err (side, damage)
+      → (halt : Halt) × (end ≡ Err halt) × EndsDamaged seen side damage (Err halt) after.left after.right
+      × Adds [] (last halt) (Rose (sink_faults before.sink) (sink_faults after.sink)) (held before.sink) (held after.sink))
+      → end ≢ Err ReadFault → LastCause end (sink_faults before.sink) (sink_faults after.sink)
+      → DiskCause end (counts_of disk_faults before.left before.right) (counts_of disk_faults after.left after.right)
+      → Ends unread source_faults held sink_faults seen disk_faults before after (status_of end) words
+  telling_ends words read end P is leaves same told damaged no_source sink disks =
+      word_ends words read end is (leaves (same, opens_first end P told (λ l r told_l told_r side damage at. (same, damaged l r told_l told_r side damage at))))
+      (record {
+        source = subst (λ (s : S). ReadCause end (source_faults before.source) (source_faults s)) (sym same) (unread_causes end (source_faults before.source) no_source);
+        sink = sink;
+        disks = disks;
+      })
+      (subst (λ (s : S). ReadsAtMost (taken_most LINES_MOST) (unread before.source) (unread s)) (sym same) (takes_none (unread before.source)))
 
-  -- ---- `state`
+-- ---- words that were not read
 
-  pub state_ends :
-      (words : List (List ℕ)) (end : Result (Unit {0}) Halt) → IsRead words word.State → HasCounts end → after.source ≡ before.source
-      → ((l r : List ℕ) → seen before.left ≡ Some l → seen before.right ≡ Some r → (start : State) → state_on l r ≡ Ok start
-      → Contains (0 ∷ 4 ∷ 5 ∷ 7 ∷ []) (status_of end) × TellsAll (standing start) end (Rose before.sink_faults after.sink_faults) before.held after.held × DisksStay seen end l r start after.left after.right)
-      → IsOverDamage (status_of end)
-      → ReadsAtMost (taken_most LINES_MOST) before.unread after.unread
-      → Ends seen before after (status_of end) words
-  state_ends words end read counts reads told damaged few =
-      let causes = has_causes end counts in
-      record {
-        understood = (λ is. absurd (not_usage end is), λ none. absurd (none word.State read.asks));
-        usage = λ is. absurd (not_usage end is);
-        run = λ asked. absurd (cc (read.only word.Run asked));
-        serve = λ asked. absurd (cc (read.only word.Serve asked));
-        state = λ asked. record {
-          reads = reads;
-          ends = λ l r start found. let so = told l r found.left found.right start found.is in (end, refl, so.1, so.2);
-          statuses = λ l r start found. (told l r found.left found.right start found.is).0;
-          complete = λ l r start found calm. state_done (status_of end) (told l r found.left found.right start found.is).0 (λ e. calm.sink (causes.sink_fault e)) (λ e. calm.disk (causes.disk_fault e));
-        };
-        audit = λ asked. absurd (cc (read.only word.Audit asked));
-        gen = λ seed count asked. absurd (cc (read.only (word.Gen seed count) asked));
-        damaged = λ asked l r side damage found. damaged l r found.left found.right side damage found.is;
-        takes = few;
-        causes = causes;
-      }
-
-  -- ---- `serve`
-
-  pub serve_ends :
-      (words : List (List ℕ)) (end : Result (Unit {0}) Halt) → IsRead words word.Serve → HasCounts end
-      → ServesTo seen before after end
-      → ((bytes l r : List ℕ) → before.unread ≡ Some bytes → seen before.left ≡ Some l → seen before.right ≡ Some r → (start : State) → state_on l r ≡ Ok start
-      → (asked : List (ℕ × Request)) → AllZip Asks (lines_in bytes) asked → length asked ≤ LINES_MOST
-      → (Rose before.source_faults after.source_faults → ⊥) → (Rose before.sink_faults after.sink_faults → ⊥) → (OneRose before.disk_faults after.disk_faults → ⊥) → IsDone (status_of end))
-      → ReadsAtMost (taken_most LINES_MOST) before.unread after.unread
-      → Ends seen before after (status_of end) words
-  serve_ends words end read counts told done few =
-      record {
-        understood = (λ is. absurd (not_usage end is), λ none. absurd (none word.Serve read.asks));
-        usage = λ is. absurd (not_usage end is);
-        run = λ asked. absurd (cc (read.only word.Run asked));
-        serve = λ asked. record {
-          ends = (end, refl, told);
-          complete = λ bytes l r start asked unread found all few source calm. done bytes l r unread found.left found.right start found.is asked all few source calm.sink calm.disk;
-        };
-        state = λ asked. absurd (cc (read.only word.State asked));
-        audit = λ asked. absurd (cc (read.only word.Audit asked));
-        gen = λ seed count asked. absurd (cc (read.only (word.Gen seed count) asked));
-        damaged = λ asked. absurd (opens_first words word.Serve read (λ e. cc) (λ e. cc) (λ e. cc) asked);
-        takes = few;
-        causes = has_causes end counts;
-      }
-
-  -- ---- `audit`
-
-  pub audit_ends :
-      (words : List (List ℕ)) (end : Result (Unit {0}) Halt) → IsRead words word.Audit → HasCounts end → after.source ≡ before.source
-      → ((l r : List ℕ) → seen before.left ≡ Some l → seen before.right ≡ Some r → (start : State) → state_on l r ≡ Ok start
-      → Contains (0 ∷ 4 ∷ 5 ∷ 7 ∷ 8 ∷ []) (status_of end)
-      × ((text : List ℕ) × IsAuditOf start (commands_on l r) end text × TellsAll text end (Rose before.sink_faults after.sink_faults) before.held after.held)
-      × DisksStay seen end l r start after.left after.right)
-      → IsOverDamage (status_of end)
-      → ReadsAtMost (taken_most LINES_MOST) before.unread after.unread
-      → ((l r : List ℕ) (s : State) → state_on l r ≡ Ok s → replay 1 opening (commands_on l r) ≡ Ok s)
-      → Ends seen before after (status_of end) words
-  audit_ends words end read counts reads told damaged few leads =
-      let causes = has_causes end counts in
-      record {
-        understood = (λ is. absurd (not_usage end is), λ none. absurd (none word.Audit read.asks));
-        usage = λ is. absurd (not_usage end is);
-        run = λ asked. absurd (cc (read.only word.Run asked));
-        serve = λ asked. absurd (cc (read.only word.Serve asked));
-        state = λ asked. absurd (cc (read.only word.State asked));
-        audit = λ asked. record {
-          reads = reads;
-          ends = λ l r start found. let so = told l r found.left found.right start found.is in (end, refl, so.1, so.2);
-          statuses = λ l r start found. (told l r found.left found.right start found.is).0;
-          complete = λ l r start found within calm.
-              let so = told l r found.left found.right start found.is in
-              audit_done start (commands_on l r) end so.1.0 so.1.1 (λ number limit. no_limit (commands_on l r) start number (leads l r start found.is) within limit)
-              so.0 (λ e. calm.sink (causes.sink_fault e)) (λ e. calm.disk (causes.disk_fault e));
-        };
-        gen = λ seed count asked. absurd (cc (read.only (word.Gen seed count) asked));
-        damaged = λ asked l r side damage found. damaged l r found.left found.right side damage found.is;
-        takes = few;
-        causes = causes;
-      }
-
--- ---- words that write alone
-
-module _ {S D : Type 0} (seen : D → Option (List ℕ)) (source : S) (unread : Option (List ℕ)) (source_faults : ℕ) (left right : D) (disk_faults : Faults) (held now : Option (List ℕ)) (sink sink_now : ℕ) where
-  -- the outside, with what the sink holds and its count
-  abbrev with_sink : Option (List ℕ) → ℕ → Outside S D
-  with_sink holds count =
-      record { source = source; unread = unread; source_faults = source_faults; held = holds; sink_faults = count; left = left; right = right; disk_faults = disk_faults }
+module _
+    {S K D : Type 0} (unread : S → Option (List ℕ)) (source_faults : S → ℕ) (held : K → Option (List ℕ)) (sink_faults : K → ℕ) (seen : D → Option (List ℕ))
+    (disk_faults : D → ℕ) (before : Outside S K D) (now : K) where
+  -- nothing but the sink changes
+  abbrev after : Outside S K D
+  after = record before { sink = now }
 
   abbrev EndsWriting : ℕ → List (List ℕ) → Type 0
-  EndsWriting status words = Ends seen (with_sink held sink) (with_sink now sink_now) status words
+  EndsWriting status words = Ends unread source_faults held sink_faults seen disk_faults before after status words
 
-  pub gen_ends :
-      (words : List (List ℕ)) (end : Result (Unit {0}) Halt) (seed count : ℕ) → IsRead words (word.Gen seed count)
-      → TellsAll (summary (load opening (generated seed count))) end (Rose sink sink_now) held now → Contains (0 ∷ 4 ∷ 7 ∷ []) (status_of end) → LastCause end sink sink_now → EndsWriting (status_of end) words
-  gen_ends words end seed count read told ends cause =
-      let causes = has_causes seen (with_sink held sink) (with_sink now sink_now) end (record {
-        source = source_unasked end source_faults ends;
-        sink = cause;
-        disks = disks_unasked end disk_faults ends;
-      }) in
-      record {
-        understood = (λ is. absurd (not_usage end is), λ none. absurd (none (word.Gen seed count) read.asks));
-        usage = λ is. absurd (not_usage end is);
-        run = λ asked. absurd (cc (read.only word.Run asked));
-        serve = λ asked. absurd (cc (read.only word.Serve asked));
-        state = λ asked. absurd (cc (read.only word.State asked));
-        audit = λ asked. absurd (cc (read.only word.Audit asked));
-        gen = λ other more asked.
-            let same = read.only (word.Gen other more) asked in
-            let seeds : seed ≡ other = cc in
-            let counts : count ≡ more = cc in
-            subst (λ (n : ℕ). Loads seen (with_sink held sink) (with_sink now sink_now) (status_of end) n more) seeds
-            (subst (λ (n : ℕ). Loads seen (with_sink held sink) (with_sink now sink_now) (status_of end) seed n) counts (record {
-              untouched = record { source = refl; left = refl; right = refl };
-              ends = (end, refl, told);
-              statuses = ends;
-              complete = λ none. load_done (status_of end) ends (λ e. none (causes.sink_fault e));
-            }));
-        damaged = λ asked. absurd (opens_first words (word.Gen seed count) read (λ e. cc) (λ e. cc) (λ e. cc) asked);
-        takes = takes_none unread;
-        causes = causes;
-      }
+  abbrev Writes : List ℕ → Type 0
+  Writes line = Adds [] line (Rose (sink_faults before.sink) (sink_faults now)) (held before.sink) (held now)
 
-  -- ---- words that were not read
-
-  serves_nothing : Adds [] (last NoMemory) (Rose sink sink_now) held now → ServesTo seen (with_sink held sink) (with_sink now sink_now) (Err NoMemory)
+  serves_nothing : Writes (last NoMemory) → ServesTo unread held sink_faults seen before after (Err NoMemory)
   serves_nothing written =
       record {
         asked = [];
@@ -283,114 +166,77 @@ module _ {S D : Type 0} (seen : D → Option (List ℕ)) (source : S) (unread : 
         few = omega arith;
         fronts = λ k d has. ([], refl);
         sessions = All-nil _;
-        came = inl (record {
-          stop = stop.NoMemory;
-          end_is = refl;
-          read = λ bytes told. (lines_in bytes, ([], tt, refl));
-          none = refl;
-          left_same = refl;
-          right_same = refl;
-        });
-        legal = λ l r start found. record { replies = refl; indices = λ session. refl };
+        came = inl (stop.NoMemory, refl, refl, refl, refl, λ bytes told. (lines_in bytes, ([], tt, refl)));
         written = written;
-        shares = λ l r start found. all_shares start [] (state_formed l r start found.is);
+        lawful = λ l r told_l told_r. if_found (state_on l r) _ (λ start is. (record { replies = refl; indices = λ session. refl }, all_shares start [] (state_formed l r start is)));
       }
 
-  misused : (words : List (List ℕ)) → ((word : Word) → Ask words word → ⊥) → Adds [] usage (Rose sink sink_now) held now → EndsWriting 1 words
-  misused words none written =
-      record {
-        understood = (λ is. none, λ other. refl);
-        usage = λ is. (record { source = refl; left = refl; right = refl }, written);
-        run = λ asked. absurd (none word.Run asked);
-        serve = λ asked. absurd (none word.Serve asked);
-        state = λ asked. absurd (none word.State asked);
-        audit = λ asked. absurd (none word.Audit asked);
-        gen = λ seed count asked. absurd (none (word.Gen seed count) asked);
-        damaged = λ asked. absurd (some_asked words none asked);
-        takes = takes_none unread;
-        causes = record {
-          known = (1, lit< tt, refl);
-          source_fault = λ is. absurd (omega (arith, is));
-          source_same = λ other. refl;
-          sink_fault = λ is. absurd (omega (arith, is));
-          sink_same = λ is. absurd (omega (arith, is));
-          disk_fault = λ is. absurd (omega (arith, is));
-          disk_same = λ other. refl;
-        };
-      }
+  -- the disks are as they were
+  still : (side : Side) (damage : Damage) (l r : List ℕ) → seen before.left ≡ Some l → seen before.right ≡ Some r → state_on l r ≡ Err (side, damage)
+      → EndsDamaged seen side damage (Err NoMemory) before.left before.right
+  still side damage l r told_l told_r is a b told_a told_b = same_disks seen before.left before.right l r a b (Err (side, damage)) told_l told_r told_a told_b state_on is
 
-  wordless : (words : List (List ℕ)) → (((word : Word) → Ask words word → ⊥) → ⊥) → Adds [] (last NoMemory) (Rose sink sink_now) held now → EndsWriting 7 words
-  wordless words some written =
+  -- whatever the words ask for
+  nothing_done : Writes (last NoMemory) → (read : Word) → Leaves unread source_faults held sink_faults seen disk_faults before after read (Err NoMemory)
+  nothing_done written word.Run =
+      λ l r told_l told_r. by_found (state_on l r) _ _
+      (λ start is bytes told. record {
+        requests = [];
+        few = omega arith;
+        read = ((lines_in bytes, ([], tt, refl)), inl (refl, told));
+        written = written;
+        disks = standing_still seen before.left before.right bytes l r (unread before.source) start told is (untouched seen before.left before.right l r start told_l told_r is);
+        shares = all_shares start [] (state_formed l r start is);
+      })
+      (λ side damage is. (refl, still side damage l r told_l told_r is, written))
+  nothing_done written word.Serve = serves_nothing written
+  nothing_done written word.State = (
+    refl,
+    λ l r told_l told_r. by_found (state_on l r) _ _
+        (λ start is. ((3, lit< tt, refl), written, untouched seen before.left before.right l r start told_l told_r is))
+        (λ side damage is. (refl, still side damage l r told_l told_r is, written)),
+  )
+  nothing_done written word.Audit = (
+    refl,
+    λ l r told_l told_r. by_found (state_on l r) _ _
+        (λ start is. ((3, lit< tt, refl), ([], tt, written), untouched seen before.left before.right l r start told_l told_r is))
+        (λ side damage is. (refl, still side damage l r told_l told_r is, written)),
+  )
+  nothing_done written (word.Gen seed count) = (refl, (2, lit< tt, refl), written)
+
+  -- the status is that of neither a fault nor an end
+  writes_alone :
+      (status : ℕ) (words : List (List ℕ)) → Contains (0 ∷ 1 ∷ 2 ∷ 3 ∷ 4 ∷ 5 ∷ 6 ∷ 7 ∷ 8 ∷ []) status → status ≢ 0 → status ≢ 3 → status ≢ 4 → status ≢ 5
+      → ((status ≡ 1) ↔ ((word : Word) → Ask words word → ⊥)) → (status ≡ 1 → Writes usage)
+      → ((word : Word) → Ask words word → (status ≡ 7) × Writes (last NoMemory)) → EndsWriting status words
+  writes_alone status words known no_end no_source no_sink no_disk understood misused wordless =
       record {
-        understood = (λ is. absurd (omega (arith, is)), λ none. absurd (some none));
-        usage = λ is. absurd (omega (arith, is));
-        run = λ asked. record {
-          ends = λ bytes l r start told found. (
-            Err NoMemory,
-            refl,
-            record {
-              requests = [];
-              few = omega arith;
-              read = ((lines_in bytes, ([], tt, refl)), inl (refl, told));
-              written = written;
-              disks = standing_still seen left right bytes l r unread start told found.is (untouched seen left right l r start found.left found.right found.is);
-              shares = all_shares start [] (state_formed l r start found.is);
-            },
-          );
-          complete = λ bytes l r start requests told found all few source calm. inr refl;
-        };
-        serve = λ asked. record {
-          ends = (Err NoMemory, refl, serves_nothing written);
-          complete = λ bytes l r start asked told found all few source calm. inr refl;
-        };
-        state = λ asked. record {
-          reads = refl;
-          ends = λ l r start found. (Err NoMemory, refl, written, untouched seen left right l r start found.left found.right found.is);
-          statuses = λ l r start found. (3, lit< tt, refl);
-          complete = λ l r start found calm. inr refl;
-        };
-        audit = λ asked. record {
-          reads = refl;
-          ends = λ l r start found. (Err NoMemory, refl, ([], tt, written), untouched seen left right l r start found.left found.right found.is);
-          statuses = λ l r start found. (3, lit< tt, refl);
-          complete = λ l r start found within calm. inr refl;
-        };
-        gen = λ seed count asked. record {
-          untouched = record { source = refl; left = refl; right = refl };
-          ends = (Err NoMemory, refl, written);
-          statuses = (2, lit< tt, refl);
-          complete = λ none. inr refl;
-        };
-        damaged = λ asked l r side damage found. (
-          refl,
-          (
-            NoMemory,
-            refl,
-            λ a b told_a told_b. same_disks seen left right l r a b (Err (side, damage)) found.left found.right told_a told_b state_on found.is,
-            written,
-          ),
-        );
-        takes = takes_none unread;
-        causes = record {
-          known = (7, lit< tt, refl);
-          source_fault = λ is. absurd (omega (arith, is));
-          source_same = λ other. refl;
-          sink_fault = λ is. absurd (omega (arith, is));
-          sink_same = λ is. absurd (omega (arith, is));
-          disk_fault = λ is. absurd (omega (arith, is));
-          disk_same = λ other. refl;
-        };
+        understood = understood;
+        usage = λ one. (refl, misused one);
+        ends = λ word asked. let none = wordless word asked in (Err NoMemory, none.0, nothing_done none.1 word);
+        takes = takes_none (unread before.source);
+        known = known;
+        source_fault = λ is. absurd (no_source is);
+        source_same = λ other. refl;
+        sink_fault = λ is. absurd (no_sink is);
+        sink_same = λ is. absurd (no_end is);
+        disk_fault = λ is. absurd (no_disk is);
+        disk_same = λ other. refl;
       }
 
   pub unread_ends :
       (words : List (List ℕ)) (why : WordsFault) (status : ℕ)
-      → (why ≡ fault.NoMemory → (status ≡ 7) × Adds [] (last NoMemory) (Rose sink sink_now) held now)
-      → (why ≡ fault.Usage → (status ≡ 1) × Adds [] usage (Rose sink sink_now) held now)
+      → (why ≡ fault.NoMemory → (status ≡ 7) × Writes (last NoMemory))
+      → (why ≡ fault.Usage → (status ≡ 1) × Writes usage)
       → (let r : Result Word WordsFault = Err why in (r ≡ Err fault.Usage) ↔ ((word : Word) → Ask words word → ⊥))
       → EndsWriting status words
   unread_ends words fault.Usage status memory usage only =
       let ended = usage refl in
-      subst (λ (n : ℕ). EndsWriting n words) (sym ended.0) (misused words (only.0 refl) ended.1)
+      subst (λ (n : ℕ). EndsWriting n words) (sym ended.0)
+      (writes_alone 1 words (1, lit< tt, refl) (λ is. omega (arith, is)) (λ is. omega (arith, is)) (λ is. omega (arith, is)) (λ is. omega (arith, is))
+      ((λ is. only.0 refl), (λ none. refl)) (λ is. ended.1) (λ word asked. absurd (only.0 refl word asked)))
   unread_ends words fault.NoMemory status memory usage only =
       let ended = memory refl in
-      subst (λ (n : ℕ). EndsWriting n words) (sym ended.0) (wordless words (λ none. cc (only.1 none)) ended.1)
+      subst (λ (n : ℕ). EndsWriting n words) (sym ended.0)
+      (writes_alone 7 words (7, lit< tt, refl) (λ is. omega (arith, is)) (λ is. omega (arith, is)) (λ is. omega (arith, is)) (λ is. omega (arith, is))
+      ((λ is. absurd (omega (arith, is))), (λ none. absurd (cc (only.1 none)))) (λ is. absurd (omega (arith, is))) (λ word asked. (refl, ended.1)))

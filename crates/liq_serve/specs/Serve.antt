@@ -1,6 +1,7 @@
 -- The word `serve`: how serving an input ends, and what is written by then.
-use Rattle.std.specs.Prelude.{ℕ, ◌≡◌, ◌≤◌, ◌<◌, ◌==◌, ◌⊎◌, ◌++◌, [], ◌∷◌, List, length, map, filter, All, Contains}
-use Rattle.std.specs.Prelude.{Option, Some, Result, Ok, Err}
+use Rattle.std.specs.Prelude.{ℕ, ◌≡◌, ◌≢◌, ◌≤◌, ◌<◌, ◌==◌, ◌⊎◌}
+use Rattle.std.specs.Prelude.{List, [], ◌∷◌, ◌++◌, length}
+use Rattle.std.specs.Prelude.{map, filter, All, Contains, Option, Some, Result, Ok, Err, IfOk, IsOkAnd, MatchResult}
 use Rattle.std.specs.List.{AllZip}
 use Rattle.liq_outside.specs.Faults.{Rose}
 use Rattle.liq_types.specs.declared.amounts.TheConstants.{LINES_MOST}
@@ -11,13 +12,12 @@ use Rattle.liq_types.specs.State.{State}
 use Rattle.liq_rules.specs.History.{Entry, IsLegal, own_entries, requests_of, state_after}
 use Rattle.liq_rules.specs.Step as rule
 use Rattle.liq_rules.specs.Step.{Allowed, ruling}
-use Rattle.liq_journal.specs.declared.damage.Damage.{Damage}
 use Rattle.liq_lines.specs.declared.stops.Stop.{Stop}
 use Rattle.liq_lines.specs.declared.stops.Stop.TheVariants as stop
 use Rattle.liq_lines.specs.Lines.{lines_in}
 use Rattle.liq_lines.specs.Saying.{StopsAfter}
-use Rattle.liq_pairs.specs.declared.side.Side.{Side}
 use Rattle.liq_pairs.specs.Kept.{IsKept}
+use Rattle.liq_pairs.specs.Pair.{state_on}
 use Rattle.liq_scripts.specs.declared.scripts.TheConstants.{SESSIONS}
 use Rattle.liq_scripts.specs.Asked.{Asks}
 use Rattle.liq_scripts.specs.Output.{served}
@@ -28,7 +28,7 @@ use Rattle.liq_ends.specs.Disks.{DisksStay, EndsDamaged, OfBoth}
 use Rattle.liq_ends.specs.Statuses.{status_of}
 use Rattle.liq_ends.specs.Stops.{HaveTheirShares}
 use Rattle.liq_ends.specs.Telling.{TellsAll}
-use Rattle.liq_serve.specs.Outside.{Outside, Finds}
+use Rattle.liq_serve.specs.Outside.{Outside}
 
 -- why a word stops whose input was not read to its end
 abbrev pub halt_at : Stop → Halt
@@ -44,44 +44,29 @@ AreLeft asked history session left =
     ≡ requests_of (own_entries session history) ++ left
 
 module _
-    {S D : Type 0} (seen : D → Option (List ℕ)) (before after : Outside S D) (end : Result (Unit {0}) Halt)
-    (asked : List (ℕ × Request)) (history : List Entry) where
-  -- Reading stopped behind what was asked. Nothing was opened, and the disks are as they were.
-  pub record StopsReading : Type 0 where
-    pub stop : Stop
-    pub end_is : end ≡ Err (halt_at stop)
-    pub read : (bytes : List ℕ) → before.unread ≡ Some bytes → StopsAfter Asks stop bytes after.unread asked
-    pub none : history ≡ []
-    pub left_same : after.left ≡ before.left
-    pub right_same : after.right ≡ before.right
-
+    {S K D : Type 0} (seen : D → Option (List ℕ)) (before after : Outside S K D) (asked : List (ℕ × Request))
+    (history : List Entry) where
   -- No store was opened: for a disk's fault, the disks' damage or want of memory.
-  pub record OpensNone : Type 0 where
+  pub record OpensNone (end : Result (Unit {0}) Halt) : Type 0 where
     pub statuses : Contains (5 ∷ 6 ∷ 7 ∷ []) (status_of end)
     pub none : history ≡ []
     pub disks :
-        (l r : List ℕ) (start : State) → Finds seen before l r (Ok start)
-        → Contains (5 ∷ 7 ∷ []) (status_of end) × DisksStay seen end l r start after.left after.right
-    pub damaged :
-        (l r : List ℕ) (side : Side) (damage : Damage) → Finds seen before l r (Err (side, damage))
-        → EndsDamaged seen side damage end after.left after.right
+        OfBoth seen before.left before.right (λ l r.
+        MatchResult (state_on l r)
+        (λ start. (status_of end ≢ 6) × DisksStay seen end l r start after.left after.right)
+        (λ first. EndsDamaged seen first.0 first.1 end after.left after.right))
 
-module _
-    {S D : Type 0} (seen : D → Option (List ℕ)) (before after : Outside S D) (asked : List (ℕ × Request))
-    (history : List Entry) where
   -- the disks stood for a state, and this holds of the one after the history and of what they hold then
   abbrev pub Keep : (State → List ℕ → List ℕ → Type 0) → Type 0
   Keep P =
-      (l r : List ℕ) (found : Result State (Side × Damage)) → Finds seen before l r found
-      → (start : State) × (found ≡ Ok start) × OfBoth seen after.left after.right (P (state_after start history))
+      OfBoth seen before.left before.right (λ l r.
+      IsOkAnd (state_on l r) (λ start. OfBoth seen after.left after.right (P (state_after start history))))
 
   -- What was answered once a store was open, whose disks are not damaged, and what they hold then.
   abbrev pub Answers : Result (Unit {0}) Halt → Type 0
   -- all, session by session, and they are kept for the state after it
-  Answers (Ok done) =
-      All (λ session. AreLeft asked history session []) sessions × Keep (λ s a b. IsKept a b s)
-  Answers (Err WriteFault) =
-      All (λ session. AreLeft asked history session []) sessions × Keep (λ s a b. IsKept a b s)
+  Answers (Ok done) = All (λ s. AreLeft asked history s []) sessions × Keep (λ s a b. IsKept a b s)
+  Answers (Err WriteFault) = All (λ s. AreLeft asked history s []) sessions × Keep (λ s a b. IsKept a b s)
   -- nothing; or not all of some session, and the book had room for it
   Answers (Err NoMemory) =
       ((history ≡ [])
@@ -99,24 +84,31 @@ module _
   Answers (Err _) = ⊥
 
 module _
-    {S D : Type 0} (seen : D → Option (List ℕ)) (before after : Outside S D) (end : Result (Unit {0}) Halt) where
-  -- Along one history a part of what the lines asked was answered, and it was written, as far as the end says; and
-  -- after it no depositor has more than its share, or less by more than is allowed.
-  pub record ServesTo : Type 0 where
+    {S K D : Type 0} (unread : S → Option (List ℕ)) (held : K → Option (List ℕ)) (faults : K → ℕ)
+    (seen : D → Option (List ℕ)) (before after : Outside S K D) where
+  -- Along one history a part of what the lines asked was answered, and it was written, as far as the end says.
+  pub record ServesTo (end : Result (Unit {0}) Halt) : Type 0 where
     pub asked : List (ℕ × Request)
     pub history : List Entry
     pub few : length asked ≤ LINES_MOST
     -- of each session the first requests, in order
     pub fronts : All (λ session. (rest : List Request) × AreLeft asked history session rest) sessions
     pub sessions : All (λ (e : Entry). (1 ≤ e.session) × (e.session ≤ SESSIONS)) history
-    -- reading stopped; or all lines ask this, and the source is at its end
+    -- Reading stopped behind what was asked, nothing was opened, and the disks are as they were. Or all lines ask this,
+    -- and the source is at its end.
     pub came :
-        StopsReading seen before after end asked history
-        ⊎ (((bytes : List ℕ) → before.unread ≡ Some bytes
-        → AllZip Asks (lines_in bytes) asked × (after.unread ≡ Some []))
-        × (OpensNone seen before after end asked history ⊎ Answers seen before after asked history end))
-    pub legal : (l r : List ℕ) (start : State) → Finds seen before l r (Ok start) → IsLegal start history
-    pub written : TellsAll (served history) end (Rose before.sink_faults after.sink_faults) before.held after.held
-    pub shares :
-        (l r : List ℕ) (start : State) → Finds seen before l r (Ok start)
-        → HaveTheirShares start (requests_of history)
+        ((why : Stop) × (end ≡ Err (halt_at why)) × (history ≡ [])
+        × (after.left ≡ before.left) × (after.right ≡ before.right)
+        × ((bytes : List ℕ) → unread before.source ≡ Some bytes
+        → StopsAfter Asks why bytes (unread after.source) asked))
+        ⊎ (((bytes : List ℕ) → unread before.source ≡ Some bytes
+        → AllZip Asks (lines_in bytes) asked × (unread after.source ≡ Some []))
+        × (OpensNone seen before after asked history end ⊎ Answers seen before after asked history end))
+    pub written :
+        TellsAll (served history) end (Rose (faults before.sink) (faults after.sink)) (held before.sink)
+        (held after.sink)
+    -- it is legal from the state for which the disks stood, and after it no depositor has more than its share, or less
+    -- by more than is allowed
+    pub lawful :
+        OfBoth seen before.left before.right (λ l r.
+        IfOk (state_on l r) (λ start. IsLegal start history × HaveTheirShares start (requests_of history)))

@@ -1,6 +1,7 @@
 //! The top call: from the words and the bytes that come in to the bytes that go out.
 #![tactic(auto)]
 
+pub mod laws;
 mod serve;
 mod top;
 

@@ -10,14 +10,12 @@ ghost use Rattle.liq_ends.specs.declared.halts.Halt.{Halt};
 ghost use Rattle.liq_ends.specs.Output.{last, usage};
 ghost use Rattle.liq_ends.specs.Statuses.{status_of};
 ghost use Rattle.liq_ends.specs.Stops.{Adds};
-ghost use Rattle.liq_serve.specs.Outside.{outside};
 ghost use Rattle.liq_serve.specs.Top.{Ends};
 
 use crate::serve::serve_on;
 use liq_ends::{Ending, Halt, status, write_last, write_usage};
 use liq_load::tell_load;
 use liq_outside::{Disk, Sink, Source};
-use liq_pairs::laws::commands_lead_to_the_state;
 use liq_run::run_on;
 use liq_sessions::Gate;
 use liq_tell::{audit_on, stand_on};
@@ -53,9 +51,9 @@ pub fn protocol<S: Source, K: Sink, D: Disk + Send, G: Gate + Sync, R: Threads +
     left: D,
     right: D,
 ) -> Ended<D>
-    ensures { Ends D.seen
-        (outside S.left S.faults K.held K.faults D.faults input.old out.old left right)
-        (outside S.left S.faults K.held K.faults D.faults input.new out.new result.left result.right)
+    ensures { Ends S.left S.faults K.held K.faults D.seen D.faults
+        (record { source = input.old; sink = out.old; left = left; right = right })
+        (record { source = input.new; sink = out.new; left = result.left; right = result.right })
         result.status (map string_bytes words.now) }
 {
     let read = read_words(alloc, words);
@@ -101,9 +99,9 @@ pub fn without_threads<S: Source, K: Sink, D: Disk>(
 ) -> Ended<D>
     // The words are not just `serve`.
     requires { Ask (map string_bytes words.now) Word.Serve → ⊥ }
-    ensures { Ends D.seen
-        (outside S.left S.faults K.held K.faults D.faults input.old out.old left right)
-        (outside S.left S.faults K.held K.faults D.faults input.new out.new result.left result.right)
+    ensures { Ends S.left S.faults K.held K.faults D.seen D.faults
+        (record { source = input.old; sink = out.old; left = left; right = right })
+        (record { source = input.new; sink = out.new; left = result.left; right = result.right })
         result.status (map string_bytes words.now) }
 {
     let read = read_words(alloc, words);
@@ -125,9 +123,9 @@ fn answered<S: Source, K: Sink, D: Disk>(
     requires word { IfOk read (Ask (map string_bytes _words.now)) }
     requires only { (word : Word) → Ask (map string_bytes _words.now) word → (read ≡ Ok word) ⊎ (read ≡ Err WordsFault.NoMemory) }
     requires usage { (read ≡ Err WordsFault.Usage) ↔ ((word : Word) → Ask (map string_bytes _words.now) word → ⊥) }
-    ensures { Ends D.seen
-        (outside S.left S.faults K.held K.faults D.faults input.old out.old left right)
-        (outside S.left S.faults K.held K.faults D.faults input.new out.new result.left result.right)
+    ensures { Ends S.left S.faults K.held K.faults D.seen D.faults
+        (record { source = input.old; sink = out.old; left = left; right = right })
+        (record { source = input.new; sink = out.new; left = result.left; right = result.right })
         result.status (map string_bytes _words.now) }
 {
     match read {
@@ -155,19 +153,16 @@ fn carry_out<S: Source, K: Sink, D: Disk>(
     requires range { IsInRange word }
     requires other { word ≢ Word.Serve }
     ensures { (words : List (List ℕ)) → Ask words word → ((other : Word) → Ask words other → word ≡ other)
-        → Ends D.seen
-        (outside S.left S.faults K.held K.faults D.faults input.old out.old left right)
-        (outside S.left S.faults K.held K.faults D.faults input.new out.new result.left result.right)
+        → Ends S.left S.faults K.held K.faults D.seen D.faults
+        (record { source = input.old; sink = out.old; left = left; right = right })
+        (record { source = input.new; sink = out.new; left = result.left; right = result.right })
         (status_of result.end) words }
 {
     match word {
         Word::Run => run_on(alloc, input, out, left, right),
         Word::Serve => unreachable!(),
         Word::State => stand_on(alloc, out, left, right),
-        Word::Audit => {
-            commands_lead_to_the_state();
-            audit_on(alloc, out, left, right)
-        }
+        Word::Audit => audit_on(alloc, out, left, right),
         Word::Gen { seed, count } => {
             let end = tell_load::<Brand, K>(alloc, seed, count, out, Blank::new(1));
             Ending { end, left, right }

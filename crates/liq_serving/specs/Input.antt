@@ -1,5 +1,6 @@
 -- What serving an input comes to.
-use Rattle.std.specs.Prelude.{ℕ, ◌≡◌, ◌≤◌, ◌⊎◌, List, [], length, All, Option, Some, Result, Ok, Err}
+use Rattle.std.specs.Prelude.{ℕ, ◌≡◌, ◌≤◌, ◌⊎◌, List, [], length, All}
+use Rattle.std.specs.Prelude.{Option, Some, Result, Ok, Err}
 use Rattle.std.specs.Option.{IsSomeAnd}
 use Rattle.liq_outside.specs.Faults.{Rose}
 use Rattle.liq_types.specs.declared.amounts.TheConstants.{LINES_MOST}
@@ -61,9 +62,11 @@ Written held _ history before now = now ≡ before
 -- ---- what the disks hold
 
 -- Where both disks tell their bytes, these stand for the state; and they are kept for it, if l and r were.
-abbrev pub StayFor : {D : Type 0} → (D → Option (List ℕ)) → List ℕ → List ℕ → State → D → D → Type 0
+abbrev pub StayFor :
+    {D : Type 0} → (D → Option (List ℕ)) → List ℕ → List ℕ → State → D → D → Type 0
 StayFor seen l r s left right =
-    (a b : List ℕ) → seen left ≡ Some a → seen right ≡ Some b → (state_on a b ≡ Ok s) × (IsKept l r s → IsKept a b s)
+    (a b : List ℕ) → seen left ≡ Some a → seen right ≡ Some b
+    → (state_on a b ≡ Ok s) × (IsKept l r s → IsKept a b s)
 
 module _ {D : Type 0} (seen : D → Option (List ℕ)) where
   -- They are kept for the state after the history. After a call's fault they are kept for it, or for it after that
@@ -78,7 +81,8 @@ module _ {D : Type 0} (seen : D → Option (List ℕ)) where
       ⊎ ((c : Command) × IsSomeAnd halted (λ (call : ℕ × Request). call.1 ≡ Do c) × (ruling s c ≡ Allowed)
       × IsKept a b (after s c))
   HoldsAfter (finish.NotOpened why.DiskFault) halted history l r start left right =
-      IsKept l r start → (a b : List ℕ) → seen left ≡ Some a → seen right ≡ Some b → IsRecovered l r start a b
+      IsKept l r start → (a b : List ℕ) → seen left ≡ Some a → seen right ≡ Some b
+      → IsRecovered l r start a b
   HoldsAfter (finish.NotOpened (why.Damaged side damage)) halted history l r start left right = ⊥
   HoldsAfter (finish.NotOpened why.NoMemory) halted history l r start left right = StayFor seen l r start left right
   HoldsAfter (finish.NotRead why_not) halted history l r start left right = StayFor seen l r start left right
@@ -115,7 +119,8 @@ pub record AnswersInput
   pub legal :
       (l r : List ℕ) (start : State) → seen left ≡ Some l → seen right ≡ Some r → state_on l r ≡ Ok start
       → IsLegal start history
-  pub disks : (l r : List ℕ) (start : State) → seen left ≡ Some l → seen right ≡ Some r → state_on l r ≡ Ok start
+  pub disks :
+      (l r : List ℕ) (start : State) → seen left ≡ Some l → seen right ≡ Some r → state_on l r ≡ Ok start
       → HoldsAfter seen finished.finish halted history l r start finished.left finished.right
   pub damaged :
       (l r : List ℕ) (side : Side) (damage : Damage) → seen left ≡ Some l → seen right ≡ Some r

@@ -20,7 +20,9 @@ use Rattle.liq_serving.specs.Serves.{AreKeptAround, AreSettled}
 abbrev pub chronicle_of : {D : Type 0} → Served D → List Item
 chronicle_of served = chronicle served.history (halt_of served.end)
 
-module _ {D : Type 0} (seen : D → Option (List ℕ)) (moment : D → ℕ) (left_at : D → ℕ → List ℕ → Type 0) where
+module _
+    {D : Type 0} (seen : D → Option (List ℕ)) (moment : D → ℕ)
+    (left_at : D → ℕ → List ℕ → Type 0) where
   abbrev pub KeepsBehind : Option Halt → State → D → D → Type 0
   KeepsBehind None s left right = AreSettled seen moment left_at s left right
   KeepsBehind (Some halt) s left right = AreKeptAround seen moment left_at s halt.request left right
@@ -28,8 +30,8 @@ module _ {D : Type 0} (seen : D → Option (List ℕ)) (moment : D → ℕ) (lef
 -- The seats are those with which it was closed.
 pub record Leaves
     {D O : Type 0} {o : Ghosts O} (seen : D → Option (List ℕ)) (faults : D → ℕ) (moment : D → ℕ)
-    (left_at : D → ℕ → List ℕ → Type 0) (base : State) (left_origin right_origin : DiskAt) (most : ℕ) (all : Bool)
-    (seats : List (BookSeat O o)) (served : Served D) : Type 0 where
+    (left_at : D → ℕ → List ℕ → Type 0) (base : State) (left_origin right_origin : DiskAt) (most : ℕ)
+    (all : Bool) (seats : List (BookSeat O o)) (served : Served D) : Type 0 where
   pub legal : IsLegal base (map recorded served.history)
   pub end : served.end ≡ end_of (halt_of served.end) all
   pub within : Within session_of most (chronicle_of served)

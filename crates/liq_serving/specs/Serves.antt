@@ -1,5 +1,6 @@
 -- What serving scripts leaves.
-use Rattle.std.specs.Prelude.{ℕ, ◌≡◌, ◌≤◌, List, map, length, slice_index_or, All, Contains, ◌<◌, ◌+◌, Option, Some}
+use Rattle.std.specs.Prelude.{ℕ, ◌≡◌, ◌≤◌, ◌<◌, ◌+◌, List, map, length, slice_index_or}
+use Rattle.std.specs.Prelude.{All, Contains, Option, Some}
 use Rattle.liq_outside.specs.Disk.{LeftNow}
 use Rattle.liq_types.specs.declared.requests.Request.{Request}
 use Rattle.liq_types.specs.State.{State}
@@ -24,7 +25,9 @@ AreNumbered scripts = (k : ℕ) (d : Script) → k < length scripts → (slice_i
 
 -- ---- disks at the end
 
-module _ {D : Type 0} (seen : D → Option (List ℕ)) (moment : D → ℕ) (left_at : D → ℕ → List ℕ → Type 0) where
+module _
+    {D : Type 0} (seen : D → Option (List ℕ)) (moment : D → ℕ)
+    (left_at : D → ℕ → List ℕ → Type 0) where
   -- Nothing is pending, and what both disks tell is settled for the state.
   pub record AreSettled (s : State) (left right : D) : Type 0 where
     pub left_rests : IsAtRest seen moment left_at left
@@ -38,7 +41,8 @@ module _ {D : Type 0} (seen : D → Option (List ℕ)) (moment : D → ℕ) (lef
   AreKeptAround s request left right =
       (l r : List ℕ) → seen left ≡ Some l → seen right ≡ Some r
       → IsKeptAround s request l r
-      × ((a b : List ℕ) → LeftNow moment left_at left a → LeftNow moment left_at right b → IsKeptAround s request a b)
+      × ((a b : List ℕ) → LeftNow moment left_at left a → LeftNow moment left_at right b
+      → IsKeptAround s request a b)
 
   -- Settled; or, after a fault, kept with one request more, which is the next one of the session whose call met it.
   abbrev pub LeavesDisks : List Script → List history.Entry → State → End → D → D → Type 0
@@ -53,8 +57,9 @@ module _ {D : Type 0} (seen : D → Option (List ℕ)) (moment : D → ℕ) (lef
 -- of its script, in order, and all of them where the service ended with all; no other session is in it. It ended so, or
 -- by a fault, unless memory was wanted.
 pub record Serves
-    {D : Type 0} (seen : D → Option (List ℕ)) (faults : D → ℕ) (moment : D → ℕ) (left_at : D → ℕ → List ℕ → Type 0)
-    (base : State) (left_origin right_origin : DiskAt) (scripts : List Script) (served : Served D) : Type 0 where
+    {D : Type 0} (seen : D → Option (List ℕ)) (faults : D → ℕ) (moment : D → ℕ)
+    (left_at : D → ℕ → List ℕ → Type 0) (base : State) (left_origin right_origin : DiskAt)
+    (scripts : List Script) (served : Served D) : Type 0 where
   pub legal : IsLegal base (map recorded served.history)
   pub fronts : All (IsServedFrom (map recorded served.history)) scripts
   pub whole : served.end ≡ end.All → All (IsServedWhole (map recorded served.history)) scripts
@@ -70,6 +75,8 @@ pub record Serves
   pub right_time : GoesOnFrom right_origin moment left_at served.right
 
 -- a disk as it is
-abbrev pub disk_at : {D : Type 0} → (D → Option (List ℕ)) → (D → ℕ) → (D → ℕ) → (D → ℕ → List ℕ → Type 0) → D → DiskAt
+abbrev pub disk_at :
+    {D : Type 0} → (D → Option (List ℕ)) → (D → ℕ) → (D → ℕ) → (D → ℕ → List ℕ → Type 0)
+    → D → DiskAt
 disk_at seen faults moment left_at disk =
     record { seen = seen disk; faults = faults disk; moment = moment disk; left_at = left_at disk }

@@ -1,63 +1,52 @@
-use Rattle.std.proofs.Common.{refl, subst, ap}
+use Rattle.std.proofs.Common.{◌≡◌, Some, refl, subst, ap}
 use Rattle.liq_words.specs.declared.words.Word.{Word}
+use Rattle.liq_words.specs.declared.words.Word.TheVariants as word
 use Rattle.liq_words.specs.Reading.{IsInRange}
-use Rattle.liq_serve.specs.Outside.{outside}
-use Rattle.liq_serve.proofs.Words.{IsRead, audit_ends, gen_ends, run_ends, state_ends}
+use Rattle.liq_serve.specs.Outside.{Outside}
+use Rattle.liq_serve.proofs.Words.{IsRead, opens_first, telling_ends, word_ends}
 use Rattle.liq_serve.proofs.top.carry_out.Goals as goal
-use Rattle.liq_ends.specs.Statuses.{status_of}
-use Rattle.liq_ends.proofs.Causes.{unread_causes}
 use Rattle.liq_lines.proofs.Readings.{takes_none}
+use Rattle.liq_serve.proofs.Telling.{disks_unasked, source_unasked}
 
 pub returns-in-Run : goal.returns-in-Run
 returns-in-Run g c words asks only =
-    let told = outside g.S.Source.left g.S.Source.faults g.K.Sink.held g.K.Sink.faults g.D.Disk.faults in
-    let before = told c.args.input.now c.args.out.now c.args.left c.args.right in
     let ran = c.run_on in
+    let before : Outside g.row.S.Denot g.row.K.Denot g.row.D.Denot = record { source = c.args.input.now; sink = c.args.out.now; left = c.args.left; right = c.args.right } in
+    let after : Outside g.row.S.Denot g.row.K.Denot g.row.D.Denot = record { source = ran.new.input; sink = ran.new.out; left = ran.result.left; right = ran.result.right } in
     let read = subst (λ (w : Word). IsRead words w) c.in-Run.is (record { asks = asks; only = only }) in
-    run_ends g.D.Disk.seen before (told ran.new.input ran.new.out ran.result.left ran.result.right) words ran.result.end read
-    (record { source = ran.ensures.source; sink = ran.ensures.sink; disks = ran.ensures.disks })
-    ran.ensures.run
-    (λ l r told_l told_r side damage is.
-    let found = ran.ensures.damaged l r told_l told_r side damage is in
-    (found.0, (found.1.0, ap status_of found.1.1, found.1.2, found.1.3)))
-    ran.ensures.few
+    word_ends g.S.Source.left g.S.Source.faults g.K.Sink.held g.K.Sink.faults g.D.Disk.seen g.D.Disk.faults before after words word.Run ran.result.end read
+    (opens_first g.S.Source.left g.S.Source.faults g.K.Sink.held g.K.Sink.faults g.D.Disk.seen g.D.Disk.faults before after ran.result.end _
+    (λ l r told_l told_r start is bytes told. ran.ensures.run bytes l r told told_l told_r start is) ran.ensures.damaged)
+    (record { source = ran.ensures.source; sink = ran.ensures.sink; disks = ran.ensures.disks }) ran.ensures.few
 
 pub returns-in-State : goal.returns-in-State
 returns-in-State g c words asks only =
-    let told = outside g.S.Source.left g.S.Source.faults g.K.Sink.held g.K.Sink.faults g.D.Disk.faults in
-    let before = told c.args.input.now c.args.out.now c.args.left c.args.right in
     let ran = c.stand_on in
+    let before : Outside g.row.S.Denot g.row.K.Denot g.row.D.Denot = record { source = c.args.input.now; sink = c.args.out.now; left = c.args.left; right = c.args.right } in
+    let after : Outside g.row.S.Denot g.row.K.Denot g.row.D.Denot = record { source = c.args.input.now; sink = ran.new.out; left = ran.result.left; right = ran.result.right } in
     let read = subst (λ (w : Word). IsRead words w) c.in-State.is (record { asks = asks; only = only }) in
-    state_ends g.D.Disk.seen before (told c.args.input.now ran.new.out ran.result.left ran.result.right) words ran.result.end read
-    (record { source = unread_causes ran.result.end _ ran.ensures.no_source; sink = ran.ensures.sink; disks = ran.ensures.disks })
-    refl
-    ran.ensures.told
-    (λ l r told_l told_r side damage is.
-    let found = ran.ensures.damaged l r told_l told_r side damage is in
-    (refl, (found.0, ap status_of found.1, found.2, found.3)))
-    (takes_none (g.S.Source.left c.args.input.now))
+    telling_ends g.S.Source.left g.S.Source.faults g.K.Sink.held g.K.Sink.faults g.D.Disk.seen g.D.Disk.faults before after words word.State ran.result.end _ read
+    (λ leaves. leaves) refl ran.ensures.told ran.ensures.damaged ran.ensures.no_source ran.ensures.sink ran.ensures.disks
 
 pub returns-in-Audit : goal.returns-in-Audit
 returns-in-Audit g c words asks only =
-    let told = outside g.S.Source.left g.S.Source.faults g.K.Sink.held g.K.Sink.faults g.D.Disk.faults in
-    let before = told c.args.input.now c.args.out.now c.args.left c.args.right in
     let ran = c.audit_on in
+    let before : Outside g.row.S.Denot g.row.K.Denot g.row.D.Denot = record { source = c.args.input.now; sink = c.args.out.now; left = c.args.left; right = c.args.right } in
+    let after : Outside g.row.S.Denot g.row.K.Denot g.row.D.Denot = record { source = c.args.input.now; sink = ran.new.out; left = ran.result.left; right = ran.result.right } in
     let read = subst (λ (w : Word). IsRead words w) c.in-Audit.is (record { asks = asks; only = only }) in
-    audit_ends g.D.Disk.seen before (told c.args.input.now ran.new.out ran.result.left ran.result.right) words ran.result.end read
-    (record { source = unread_causes ran.result.end _ ran.ensures.no_source; sink = ran.ensures.sink; disks = ran.ensures.disks })
-    refl
-    ran.ensures.told
-    (λ l r told_l told_r side damage is.
-    let found = ran.ensures.damaged l r told_l told_r side damage is in
-    (refl, (found.0, ap status_of found.1, found.2, found.3)))
-    (takes_none (g.S.Source.left c.args.input.now))
-    c.commands_lead_to_the_state.ensures
+    telling_ends g.S.Source.left g.S.Source.faults g.K.Sink.held g.K.Sink.faults g.D.Disk.seen g.D.Disk.faults before after words word.Audit ran.result.end _ read
+    (λ leaves. leaves) refl ran.ensures.told ran.ensures.damaged ran.ensures.no_source ran.ensures.sink ran.ensures.disks
 
 pub returns-in-Gen : goal.returns-in-Gen
 returns-in-Gen g c words asks only =
     let ran = c.tell_load-end in
+    let before : Outside g.row.S.Denot g.row.K.Denot g.row.D.Denot = record { source = c.args.input.now; sink = c.args.out.now; left = c.args.left; right = c.args.right } in
+    let after : Outside g.row.S.Denot g.row.K.Denot g.row.D.Denot = record { source = c.args.input.now; sink = ran.new.out; left = c.args.left; right = c.args.right } in
     let read = subst (λ (w : Word). IsRead words w) c.in-Gen.is (record { asks = asks; only = only }) in
-    gen_ends g.D.Disk.seen _ _ _ _ _ _ _ _ _ _ words ran.result c.in-Gen.seed c.in-Gen.count read ran.ensures.told ran.ensures.ends ran.ensures.sink
+    word_ends g.S.Source.left g.S.Source.faults g.K.Sink.held g.K.Sink.faults g.D.Disk.seen g.D.Disk.faults before after words (word.Gen c.in-Gen.seed c.in-Gen.count) ran.result read
+    (refl, ran.ensures.ends, ran.ensures.told)
+    (record { source = source_unasked ran.result _ ran.ensures.ends; sink = ran.ensures.sink; disks = disks_unasked ran.result _ ran.ensures.ends })
+    (takes_none (g.S.Source.left c.args.input.now))
 
 pub tell_load-end-requires-clause-few : goal.tell_load-end-requires-clause-few
 tell_load-end-requires-clause-few g c = (subst (λ (w : Word). IsInRange w) c.in-Gen.is c.requires.range).2

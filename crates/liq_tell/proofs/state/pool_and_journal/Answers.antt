@@ -10,16 +10,6 @@ use Rattle.liq_text.specs.Replies.{reply_line}
 use Rattle.liq_tell.specs.State.{standing}
 use Rattle.liq_tell.proofs.state.pool_and_journal.Goals as goal
 
-abbrev lines_of : PoolWords → ℕ → ℕ → List ℕ
-lines_of words generation records =
-    codes "pool " ++ decimal words.p
-    ++ codes " " ++ decimal words.scale
-    ++ codes " " ++ decimal words.epoch
-    ++ codes " " ++ decimal words.sum
-    ++ codes "\njournal " ++ decimal generation
-    ++ codes " " ++ decimal records
-    ++ 10 ∷ []
-
 -- the lines, behind what stands in front of them
 abbrev behind : List ℕ → PoolWords → ℕ → ℕ → List ℕ
 behind front words generation records =
@@ -30,6 +20,9 @@ behind front words generation records =
     ++ codes "\njournal " ++ decimal generation
     ++ codes " " ++ decimal records
     ++ 10 ∷ []
+
+abbrev lines_of : PoolWords → ℕ → ℕ → List ℕ
+lines_of = behind []
 
 lined : (words now : PoolWords) (generation g records r : ℕ) (line text : List ℕ) → line ≡ text → text ≡ lines_of words generation records → words ≡ now → generation ≡ g → records ≡ r → line ≡ lines_of now g r
 lined words now generation g records r line text line_is text_is words_are generation_is records_are =

@@ -1,0 +1,58 @@
+-- Where nothing is wrong with lines, streams and disks a word is done.
+use Rattle.std.specs.Prelude.{ℕ, ◌≡◌, ◌≤◌, List, length, Option, Some, None, Ok}
+use Rattle.std.specs.List.{AllZip}
+use Rattle.liq_outside.specs.Faults.{Rose}
+use Rattle.liq_types.specs.declared.amounts.TheConstants.{LINES_MOST}
+use Rattle.liq_types.specs.declared.requests.Request.{Request}
+use Rattle.liq_types.specs.State.{State, opening}
+use Rattle.liq_rules.specs.Events.{events}
+use Rattle.liq_lines.specs.Lines.{lines_in}
+use Rattle.liq_pairs.specs.Pair.{commands_on, state_on}
+use Rattle.liq_review.specs.Limits.{number_above}
+use Rattle.liq_scripts.specs.Asked.{Asks}
+use Rattle.liq_store.specs.Causes.{OneRose, counts_of}
+use Rattle.liq_words.specs.declared.words.Word.TheVariants as word
+use Rattle.liq_words.specs.Words.{Ask}
+use Rattle.liq_ends.specs.Requests.{IsRequest}
+use Rattle.liq_ends.specs.Statuses.{IsDone}
+use Rattle.liq_serve.specs.Outside.{Outside}
+
+-- The arguments are those of `Ends`.
+module _
+    {S K D : Type 0} (unread : S → Option (List ℕ)) (source_faults : S → ℕ) (held : K → Option (List ℕ))
+    (sink_faults : K → ℕ) (seen : D → Option (List ℕ)) (disk_faults : D → ℕ)
+    (before after : Outside S K D) where
+  -- the source met no fault
+  abbrev pub IsReadWell : Type 0
+  IsReadWell = Rose (source_faults before.source) (source_faults after.source) → ⊥
+
+  -- neither the sink nor a disk met one
+  pub record IsCalm : Type 0 where
+    pub sink : Rose (sink_faults before.sink) (sink_faults after.sink) → ⊥
+    pub disk :
+        OneRose (counts_of disk_faults before.left before.right) (counts_of disk_faults after.left after.right) → ⊥
+
+  -- both disks tell these bytes, and stand for this state
+  pub record StoodFor (l r : List ℕ) (start : State) : Type 0 where
+    pub left : seen before.left ≡ Some l
+    pub right : seen before.right ≡ Some r
+    pub is : state_on l r ≡ Ok start
+
+  -- each word is done then, unless there was no memory
+  pub record IsComplete (status : ℕ) (words : List (List ℕ)) : Type 0 where
+    pub run :
+        Ask words word.Run → (bytes l r : List ℕ) (start : State) (requests : List Request)
+        → unread before.source ≡ Some bytes → StoodFor l r start → AllZip IsRequest (lines_in bytes) requests
+        → length requests ≤ LINES_MOST → IsReadWell → IsCalm → IsDone status
+    pub serve :
+        Ask words word.Serve → (bytes l r : List ℕ) (start : State) (asked : List (ℕ × Request))
+        → unread before.source ≡ Some bytes → StoodFor l r start → AllZip Asks (lines_in bytes) asked
+        → length asked ≤ LINES_MOST → IsReadWell → IsCalm → IsDone status
+    pub state :
+        Ask words word.State → (l r : List ℕ) (start : State) → StoodFor l r start → IsCalm → IsDone status
+    pub audit :
+        Ask words word.Audit → (l r : List ℕ) (start : State) → StoodFor l r start
+        → number_above (events opening (commands_on l r)) ≡ None → IsCalm → IsDone status
+    pub gen :
+        (seed count : ℕ) → Ask words (word.Gen seed count)
+        → (Rose (sink_faults before.sink) (sink_faults after.sink) → ⊥) → IsDone status
