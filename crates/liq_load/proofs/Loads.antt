@@ -13,7 +13,7 @@ use Rattle.liq_types.specs.declared.requests.Command.{Command}
 use Rattle.liq_types.specs.declared.requests.Request.{Request}
 use Rattle.liq_types.specs.declared.requests.Request.TheVariants.{Do}
 use Rattle.liq_types.specs.Ranked.{first_of}
-use Rattle.liq_types.specs.Image.{Image}
+use Rattle.liq_types.specs.declared.image.Image.{Image}
 use Rattle.liq_types.specs.State.{State, client_of, no_client, opening}
 use Rattle.liq_types.specs.Tables.{at}
 use Rattle.liq_types.proofs.Lookups.{at-put_same}

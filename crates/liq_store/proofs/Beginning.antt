@@ -1,6 +1,6 @@
 -- The store that begins on two disks.
 use Rattle.std.proofs.Common.{◌+◌, length, ◌≡◌, inl, ◌↔◌, ℕ, List, [], Option, Some, None, IfSome, IsSome, Bool, true, false, Ok, refl, sym, ◌∙◌, ap, ap₂, subst}
-use Rattle.liq_types.specs.Image.{Image}
+use Rattle.liq_types.specs.declared.image.Image.{Image}
 use Rattle.liq_types.specs.State.{State, opening}
 use Rattle.liq_core.specs.Core.{Core, StandsFor}
 use Rattle.liq_journal.specs.Crash.{IsClosed, Stands, beginning, is_odd}

@@ -1,7 +1,7 @@
 -- What an accepted command that is no rotation leaves of the counters: its generation, and one record more.
 use Rattle.std.proofs.Common.{◌≡◌, ◌+◌, Bool, false, cond, sym, ◌∙◌, ap}
 use Rattle.liq_types.specs.declared.requests.Command.{Command}
-use Rattle.liq_types.specs.Image.{Image}
+use Rattle.liq_types.specs.declared.image.Image.{Image}
 use Rattle.liq_types.specs.State.{State}
 use Rattle.liq_core.specs.Core.{Core, StandsFor}
 use Rattle.liq_rules.specs.Step.{after, effect}

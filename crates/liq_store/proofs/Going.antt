@@ -3,7 +3,7 @@ use Rattle.std.proofs.Common.{◌≡◌, inl, ℕ, List, Option, Some, None, IfS
 use Rattle.liq_outside.specs.Disk.{LeftNow, LeftSince, Only}
 use Rattle.liq_types.specs.declared.events.ListChange.{ListChange}
 use Rattle.liq_types.specs.declared.requests.Request.{Request}
-use Rattle.liq_types.specs.Image.{Image}
+use Rattle.liq_types.specs.declared.image.Image.{Image}
 use Rattle.liq_types.specs.State.{State}
 use Rattle.liq_core.specs.Core.{Core, SameContent, StandsFor}
 use Rattle.liq_journal.specs.Settled.{JournalOn}

@@ -3,7 +3,7 @@ use Rattle.std.proofs.Common.{◌≡◌, List, ℕ, Option, Ok, inl, inr, sym, a
 use Rattle.std.specs.Prelude.{unwrap_or}
 use Rattle.liq_types.specs.declared.figures.Client.{Client}
 use Rattle.liq_types.specs.declared.requests.Command.{Command}
-use Rattle.liq_types.specs.Image.{Image}
+use Rattle.liq_types.specs.declared.image.Image.{Image}
 use Rattle.liq_types.specs.State.{State, client_of, no_client}
 use Rattle.liq_types.specs.Tables.{at}
 use Rattle.liq_types.proofs.Lookups.{at-put_same}

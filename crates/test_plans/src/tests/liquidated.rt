@@ -78,6 +78,7 @@ fn liquidate<R: Abort>(rt: &R, world: &mut World, homes: &mut Homes, price: u64)
         minute: 0,
         base: 0,
         fee_minute: 0,
+        limit: LIM,
         total_coll: 21_100_000_000,
         total_debt: 8_440_000_000,
         troves: 2,

@@ -12,7 +12,7 @@ use liq_ledger::{Pools, Surplus, Wallets};
 use liq_order::Order;
 use liq_redemption::{apply, plan, reserve};
 use liq_troves::{Trove, Troves};
-use liq_types::amounts::ONE;
+use liq_types::amounts::{LIM, ONE};
 use liq_types::{Hint, Market, NoMemory, Steps};
 use std::alloc::Global;
 use std::process::Abort;
@@ -23,6 +23,7 @@ const MARKET: Market = Market {
     minute: 20_160,
     base: 0,
     fee_minute: 0,
+    limit: LIM,
     total_coll: 21_100_000_000,
     total_debt: 8_440_000_000,
     troves: 2,

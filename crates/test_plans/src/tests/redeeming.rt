@@ -91,6 +91,7 @@ fn planned<R: Abort>(rt: &R, alloc: Global, troves: &Troves, order: &Order, case
         minute: case.minute,
         base: case.base,
         fee_minute: case.fee_minute,
+        limit: LIM,
         total_coll: case.total_coll,
         total_debt: 8_440_000_000,
         troves: case.troves,

@@ -11,6 +11,7 @@ ghost use Rattle.test_plans.specs.World.{AreFresh, IsSmall, fresh, fresh_sums};
 use liq_ledger::Pools;
 use liq_order::Order;
 use liq_troves::{Trove, Troves, key};
+use liq_types::amounts::LIM;
 use liq_types::{Hint, Market, NoMemory, Steps};
 use std::alloc::Global;
 use std::sync::ledger::Ledger;
@@ -42,13 +43,14 @@ pub struct World {
 
 /// A market before any minute has passed, in which no fee was taken.
 pub fn market(price: u64, total_coll: u64, total_debt: u64, troves: u64) -> Market
-    ensures { result ≡ record { price = price; minute = 0; base = 0; fee_minute = 0; total_coll = total_coll; total_debt = total_debt; troves = troves } }
+    ensures { result ≡ record { price = price; minute = 0; base = 0; fee_minute = 0; limit = LIM; total_coll = total_coll; total_debt = total_debt; troves = troves } }
 {
     Market {
         price,
         minute: 0,
         base: 0,
         fee_minute: 0,
+        limit: LIM,
         total_coll,
         total_debt,
         troves,

@@ -1,7 +1,7 @@
 use Rattle.std.proofs.Common.{◌≡◌, ◌^◌, ◌+◌, ◌∷◌, List, ap, sym, subst, ◌∙◌, length, arith, None}
 use Rattle.std.specs.Prelude.{unwrap_or}
 use Rattle.liq_types.specs.declared.requests.Call.{Call}
-use Rattle.liq_types.specs.Image.{Image}
+use Rattle.liq_types.specs.declared.image.Image.{Image}
 use Rattle.liq_types.specs.Ranked.{first_of}
 use Rattle.liq_types.specs.State.{no_client}
 use Rattle.liq_types.specs.Tables.{at}

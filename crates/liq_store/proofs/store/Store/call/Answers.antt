@@ -1,6 +1,6 @@
 use Rattle.std.proofs.Common.{◌∙◌, ℕ, Option, Some, sym, ap, subst, arith}
 use Rattle.liq_store.specs.Within.{stored}
-use Rattle.liq_types.specs.Image.{Image}
+use Rattle.liq_types.specs.declared.image.Image.{Image}
 use Rattle.liq_core.specs.Core.{StandsFor, state_of}
 use Rattle.liq_journal.specs.Crash.{is_odd}
 use Rattle.liq_store.specs.Answering.{read_back}

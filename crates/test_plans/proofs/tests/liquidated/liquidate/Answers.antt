@@ -1,7 +1,7 @@
 use Rattle.std.proofs.Common.{◌≡◌, ℕ, ◌+◌, ◌≤◌, length, [], ◌∷◌, ap, sym, subst, ◌∙◌, refl, arith}
 use Rattle.std.specs.Prelude.{Ok}
 use Rattle.std.specs.List.Sorted.{IsStrictlySortedBy}
-use Rattle.liq_types.specs.declared.amounts.TheConstants.{RESERVE, MIN_NET}
+use Rattle.liq_types.specs.declared.amounts.TheConstants.{LIM, RESERVE, MIN_NET}
 use Rattle.liq_types.specs.declared.figures.Market.{Market}
 use Rattle.liq_types.specs.declared.figures.Trove.{Trove}
 use Rattle.liq_types.specs.Tables.{Table, at}
@@ -50,7 +50,7 @@ stands =
 
 pub apply_one-requires-clause-planned : goal.apply_one-requires-clause-planned
 apply_one-requires-clause-planned g c =
-    let m : Market = record { price = c.args.price; minute = 0; base = 0; fee_minute = 0; total_coll = 21100000000; total_debt = 8440000000; troves = 2 } in
+    let m : Market = record { price = c.args.price; minute = 0; base = 0; fee_minute = 0; limit = LIM; total_coll = 21100000000; total_debt = 8440000000; troves = 2 } in
     let sums = c.args.world.now.troves.sums in
     let rows = c.args.world.now.troves.table.rows in
     let total = c.args.homes.now.stability.words.total in

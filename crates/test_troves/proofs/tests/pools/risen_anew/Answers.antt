@@ -2,7 +2,7 @@ use Rattle.std.proofs.Common.{[], ◌∷◌, List, sym, subst, refl, arith}
 use Rattle.std.specs.List.Sorted.{IsStrictlySortedBy}
 use Rattle.liq_types.specs.declared.figures.Deposit.{Deposit}
 use Rattle.liq_types.specs.Tables.{Table}
-use Rattle.liq_stability.specs.declared.words.FinishedSum.{FinishedSum}
+use Rattle.liq_types.specs.declared.image.FinishedSum.{FinishedSum}
 use Rattle.liq_stability.specs.Kept.{IsSoundPool, IsSoundDeposit, finished_rows}
 use Rattle.test_troves.specs.declared.tests.pools.TheConstants.{RISEN, RISEN_SUM, RISEN_FIRST, RISEN_SECOND}
 use Rattle.test_troves.proofs.tests.pools.risen_anew.Goals as goal
