@@ -1,0 +1,5 @@
+//! The tests, and what they share.
+
+mod parts;
+mod rules;
+mod turns;

@@ -1,0 +1,258 @@
+//! What an image is made of, with rows that can be changed.
+
+use liq_types::{
+    ClientRow, ClientRows, DepositRow, DepositRows, FinishedRows, FinishedSum, Image, NoMemory,
+    SurplusRow, SurplusRows, TroveRow, TroveRows, WalletRow, WalletRows,
+};
+use std::alloc::Global;
+
+/// The words and the rows of an image.
+#[derive(Clone, Copy)]
+pub struct Parts {
+    pub price: u64,
+    pub minute: u64,
+    pub base: u64,
+    pub fee_minute: u64,
+    pub generation: u64,
+    pub limit: u64,
+    pub brought: u64,
+    pub active_coll: u64,
+    pub active_debt: u64,
+    pub default_coll: u64,
+    pub default_debt: u64,
+    pub reserve: u64,
+    pub surplus: u64,
+    pub fee_coll: u64,
+    pub fee_lusd: u64,
+    pub sum_coll: u128,
+    pub sum_debt: u128,
+    pub stakes: u64,
+    pub snap_stakes: u64,
+    pub snap_coll: u64,
+    pub p: u128,
+    pub scale: u64,
+    pub epoch: u64,
+    pub sum: u128,
+    pub total: u64,
+    pub pool_coll: u64,
+    pub wallets: [WalletRow; 2],
+    pub troves: [TroveRow; 2],
+    pub surplus_rows: [SurplusRow; 2],
+    pub finished: [FinishedSum; 3],
+    pub deposits: [DepositRow; 3],
+    pub clients: [ClientRow; 2],
+}
+
+/// A sound image, of which many numbers are the greatest that its rules let them be: what is pending is all of the default
+/// pool, the sum is the most beside its product, and so are a finished sum, a deposit's amount and each deposit's mark.
+pub const SOUND: Parts = Parts {
+    price: 1_000_000_000,
+    minute: 100,
+    base: 5_000_000_000_000_000,
+    fee_minute: 60,
+    generation: 2,
+    limit: 10_000_000_000_000_000_000,
+    brought: 42_650_000_000,
+    active_coll: 30_000_000_000,
+    active_debt: 10_220_000_000,
+    default_coll: 3_800_000_000,
+    default_debt: 650_000_000,
+    reserve: 400_000_000,
+    surplus: 800_000_000,
+    fee_coll: 50_000_000,
+    fee_lusd: 20_000_000,
+    sum_coll: 200_000_000_000_000_000,
+    sum_debt: 50_000_000_000_000_000,
+    stakes: 29_000_000_000,
+    snap_stakes: 25_000_000_000,
+    snap_coll: 30_000_000_000,
+    p: 500_000_000_000_000_000,
+    scale: 1,
+    epoch: 1,
+    sum: 5_500_000_000_000_000_000,
+    total: 5_000_000_000,
+    pool_coll: 1_000_000_000,
+    wallets: [
+        WalletRow {
+            account: 1,
+            coll: 7_000_000_000,
+            lusd: 5_000_000_000,
+        },
+        WalletRow {
+            account: 3,
+            coll: 0,
+            lusd: 450_000_000,
+        },
+    ],
+    troves: [
+        TroveRow {
+            account: 1,
+            coll: 10_000_000_000,
+            debt: 4_220_000_000,
+            stake: 9_000_000_000,
+            mark_coll: 0,
+            mark_debt: 0,
+        },
+        TroveRow {
+            account: 4,
+            coll: 20_000_000_000,
+            debt: 6_000_000_000,
+            stake: 20_000_000_000,
+            mark_coll: 100_000_000_000_000_000,
+            mark_debt: 40_000_000_000_000_000,
+        },
+    ],
+    surplus_rows: [
+        SurplusRow {
+            account: 2,
+            coll: 500_000_000,
+        },
+        SurplusRow {
+            account: 5,
+            coll: 300_000_000,
+        },
+    ],
+    finished: [
+        FinishedSum {
+            epoch: 0,
+            scale: 0,
+            sum: 7,
+        },
+        FinishedSum {
+            epoch: 0,
+            scale: 3,
+            sum: 11_000_000_000_000_000_000,
+        },
+        FinishedSum {
+            epoch: 1,
+            scale: 0,
+            sum: 100,
+        },
+    ],
+    deposits: [
+        DepositRow {
+            account: 1,
+            amount: 10_000_000_000_000_000_000,
+            p: 1_000_000_000_000_000_000,
+            sum: 7,
+            scale: 0,
+            epoch: 0,
+        },
+        DepositRow {
+            account: 2,
+            amount: 1_000,
+            p: 1_000_000_000,
+            sum: 100,
+            scale: 0,
+            epoch: 1,
+        },
+        DepositRow {
+            account: 6,
+            amount: 5,
+            p: 500_000_000_000_000_000,
+            sum: 5_500_000_000_000_000_000,
+            scale: 1,
+            epoch: 1,
+        },
+    ],
+    clients: [
+        ClientRow {
+            client: 0,
+            last: 3,
+            kind: 6,
+            values: [4_220_000_000, 20_000_000, 0, 0, 0, 0],
+        },
+        ClientRow {
+            client: 9,
+            last: 1,
+            kind: 12,
+            values: [1, 2, 3, 4, 5, 6],
+        },
+    ],
+};
+
+/// The image of these parts.
+pub fn image_of(alloc: Global, parts: &Parts) -> Result<Image, NoMemory> {
+    Ok(Image {
+        price: parts.price,
+        minute: parts.minute,
+        base: parts.base,
+        fee_minute: parts.fee_minute,
+        generation: parts.generation,
+        limit: parts.limit,
+        brought: parts.brought,
+        active_coll: parts.active_coll,
+        active_debt: parts.active_debt,
+        default_coll: parts.default_coll,
+        default_debt: parts.default_debt,
+        reserve: parts.reserve,
+        surplus: parts.surplus,
+        fee_coll: parts.fee_coll,
+        fee_lusd: parts.fee_lusd,
+        sum_coll: parts.sum_coll,
+        sum_debt: parts.sum_debt,
+        stakes: parts.stakes,
+        snap_stakes: parts.snap_stakes,
+        snap_coll: parts.snap_coll,
+        p: parts.p,
+        scale: parts.scale,
+        epoch: parts.epoch,
+        sum: parts.sum,
+        total: parts.total,
+        pool_coll: parts.pool_coll,
+        wallets: wallets(alloc, &parts.wallets)?,
+        troves: troves(alloc, &parts.troves)?,
+        surplus_rows: surplus_rows(alloc, &parts.surplus_rows)?,
+        finished: finished(alloc, &parts.finished)?,
+        deposits: deposits(alloc, &parts.deposits)?,
+        clients: clients(alloc, &parts.clients)?,
+    })
+}
+
+fn wallets(alloc: Global, rows: &[WalletRow]) -> Result<WalletRows, NoMemory> {
+    let mut table = WalletRows::new(alloc);
+    for row in rows {
+        table.push(*row)?;
+    }
+    Ok(table)
+}
+
+fn troves(alloc: Global, rows: &[TroveRow]) -> Result<TroveRows, NoMemory> {
+    let mut table = TroveRows::new(alloc);
+    for row in rows {
+        table.push(*row)?;
+    }
+    Ok(table)
+}
+
+fn surplus_rows(alloc: Global, rows: &[SurplusRow]) -> Result<SurplusRows, NoMemory> {
+    let mut table = SurplusRows::new(alloc);
+    for row in rows {
+        table.push(*row)?;
+    }
+    Ok(table)
+}
+
+fn finished(alloc: Global, rows: &[FinishedSum]) -> Result<FinishedRows, NoMemory> {
+    let mut table = FinishedRows::new(alloc);
+    for row in rows {
+        table.push(*row)?;
+    }
+    Ok(table)
+}
+
+fn deposits(alloc: Global, rows: &[DepositRow]) -> Result<DepositRows, NoMemory> {
+    let mut table = DepositRows::new(alloc);
+    for row in rows {
+        table.push(*row)?;
+    }
+    Ok(table)
+}
+
+fn clients(alloc: Global, rows: &[ClientRow]) -> Result<ClientRows, NoMemory> {
+    let mut table = ClientRows::new(alloc);
+    for row in rows {
+        table.push(*row)?;
+    }
+    Ok(table)
+}
