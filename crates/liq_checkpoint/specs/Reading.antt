@@ -1,7 +1,9 @@
 -- Reading from left to right. A fault is told by its place: that of the first field that fits no checkpoint, which is
--- tested by its own number and by what stands before it; the end, where bytes are missing; or where bytes follow. `end` is
--- how many bytes there are in all, and `at` are those that are still to be read.
-use Rattle.std.specs.Prelude.{◌≡◌, ℕ, zero, suc, ◌-◌, List, [], ◌∷◌, length, take, drop, get_or, Option, Some, None, Result, Ok, Err, Bool, true, not, ◌==◌, ◌&&◌, nat_lt, nat_le, if◌then◌else◌}
+-- tested by its own number and by what stands before it; the end, where bytes are missing; or where bytes follow.
+-- `end` is how many bytes there are in all, and `at` are those that are still to be read.
+use Rattle.std.specs.Prelude.{◌≡◌, ℕ, zero, suc, ◌-◌, List, [], ◌∷◌, length, take, drop, get_or}
+use Rattle.std.specs.Prelude.{Option, Some, None, Result, Ok, Err, if◌then◌else◌}
+use Rattle.std.specs.Prelude.{Bool, true, not, ◌==◌, ◌&&◌, nat_lt, nat_le}
 use Rattle.std.specs.Str.{bytes_eq}
 use Rattle.byteorder.specs.Endian.{big_number}
 use Rattle.liq_types.specs.declared.amounts.TheConstants.{LIM}
@@ -82,7 +84,19 @@ trove_at end last at = do
   stake ← number_at end 8 debt.1
   mark_coll ← number_at end 16 stake.1
   mark_debt ← number_at end 16 mark_coll.1
-  Ok ((account.0, record { coll = coll.0; debt = debt.0; stake = stake.0; mark_coll = mark_coll.0; mark_debt = mark_debt.0 }), mark_debt.1)
+  Ok (
+    (
+      account.0,
+      record {
+        coll = coll.0;
+        debt = debt.0;
+        stake = stake.0;
+        mark_coll = mark_coll.0;
+        mark_debt = mark_debt.0;
+      },
+    ),
+    mark_debt.1,
+  )
 
 unfoldable pub surplus_at : ℕ → Option ℕ → List ℕ → Result ((ℕ × ℕ) × List ℕ) ℕ
 surplus_at end last at = do
@@ -134,14 +148,18 @@ client_at end last at = do
 -- ---- tables
 
 -- so many rows, the first of them behind a key
-unfoldable pub rows_at : {K X : Type 0} → (Option K → List ℕ → Result ((K × X) × List ℕ) ℕ) → ℕ → Option K → List ℕ → Result (List (K × X) × List ℕ) ℕ
+unfoldable pub rows_at :
+    {K X : Type 0} → (Option K → List ℕ → Result ((K × X) × List ℕ) ℕ)
+    → ℕ → Option K → List ℕ → Result (List (K × X) × List ℕ) ℕ
 rows_at row_at zero last at = Ok ([], at)
 rows_at row_at (suc n) last at = do
   row ← row_at last at
   others ← rows_at row_at n (Some row.0.0) row.1
   Ok (row.0 ∷ others.0, others.1)
 
-unfoldable pub table_at : {K X : Type 0} → (Option K → List ℕ → Result ((K × X) × List ℕ) ℕ) → ℕ → List ℕ → Result (List (K × X) × List ℕ) ℕ
+unfoldable pub table_at :
+    {K X : Type 0} → (Option K → List ℕ → Result ((K × X) × List ℕ) ℕ)
+    → ℕ → List ℕ → Result (List (K × X) × List ℕ) ℕ
 table_at row_at end at = do
   count ← number_at end 8 at
   rows_at row_at count.0 None count.1

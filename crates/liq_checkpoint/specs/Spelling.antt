@@ -43,7 +43,10 @@ wallet row = (4, row.0) ∷ (8, row.1.coll) ∷ (8, row.1.lusd) ∷ []
 
 abbrev pub trove : ℕ × Trove → List Field
 trove row =
-    (4, row.0) ∷ (8, row.1.coll) ∷ (8, row.1.debt) ∷ (8, row.1.stake) ∷ (16, row.1.mark_coll) ∷ (16, row.1.mark_debt) ∷ []
+    (4, row.0)
+    ∷ (8, row.1.coll) ∷ (8, row.1.debt) ∷ (8, row.1.stake)
+    ∷ (16, row.1.mark_coll) ∷ (16, row.1.mark_debt)
+    ∷ []
 
 abbrev pub surplus : ℕ × ℕ → List Field
 surplus row = (4, row.0) ∷ (8, row.1) ∷ []
@@ -53,7 +56,10 @@ finished row = (8, row.0.0) ∷ (8, row.0.1) ∷ (16, row.1) ∷ []
 
 abbrev pub deposit : ℕ × Deposit → List Field
 deposit row =
-    (4, row.0) ∷ (8, row.1.amount) ∷ (16, row.1.p) ∷ (16, row.1.sum) ∷ (8, row.1.scale) ∷ (8, row.1.epoch) ∷ []
+    (4, row.0)
+    ∷ (8, row.1.amount)
+    ∷ (16, row.1.p) ∷ (16, row.1.sum) ∷ (8, row.1.scale) ∷ (8, row.1.epoch)
+    ∷ []
 
 abbrev pub client : ℕ × Client → List Field
 client row = (4, row.0) ∷ (8, row.1.last) ∷ (1, row.1.kept.kind) ∷ eights row.1.kept.values
@@ -89,7 +95,8 @@ contents i = words i ++ tables i
 unfoldable pub spelling : Image → List ℕ
 spelling i = name ++ spelled (contents i)
 
--- What has a checkpoint: numbers that have room in their fields, tables in order, and the limit that the name stands for.
+-- What has a checkpoint: numbers that have room in their fields, tables in order, and the limit for which the name
+-- stands.
 pub record HasCheckpoint (i : Image) : Type 0 where
   pub numbers : Fit (contents i)
   pub tables : HasTables i

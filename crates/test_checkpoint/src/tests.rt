@@ -1,0 +1,137 @@
+use crate::NOWHERE;
+use crate::tables::{FIELDS, LENGTH, TURNED, WRITTEN};
+use liq_checkpoint::{ImageBytes, decode, encode};
+use liq_types::{Image, NoMemory};
+use std::alloc::{AllocError, Global};
+use std::process::Abort;
+use std::test::Fail;
+
+// Stops the test where the number is not the one that is wanted.
+fn same(rt: &impl Abort, got: u64, want: u64, what: &str) {
+    assert_eq!(rt; got, want, "{what}");
+}
+
+// The place that is told of the bytes.
+fn place_in(alloc: Global, bytes: &[u8]) -> u64 {
+    match decode(alloc, bytes) {
+        Ok(_) => NOWHERE,
+        Err(ImageBytes::Bad { place }) => place,
+        Err(ImageBytes::NoMemory) => NOWHERE - 1,
+    }
+}
+
+// The checkpoint of the tables.
+fn checkpoint(alloc: Global) -> Result<Vec<u8>, AllocError> {
+    let mut out = Vec::from_slice(alloc, b"LIQSTAT1")?;
+    for (width, number) in FIELDS {
+        let digits = number.to_be_bytes();
+        out.extend_from_slice(
+            digits
+                .get(16usize.saturating_sub(width as usize)..)
+                .unwrap_or(&[]),
+        )?;
+    }
+    Ok(out)
+}
+
+// The first place that a cut doesn't tell.
+fn first_odd_cut(alloc: Global, bytes: &[u8]) -> u64 {
+    for at in 0..bytes.len() {
+        if place_in(alloc, &bytes[..at]) != at as u64 {
+            return at as u64;
+        }
+    }
+    NOWHERE
+}
+
+// The place that is told where a byte's bits are turned.
+fn turned_at(at: u64) -> u64 {
+    for (end, place) in TURNED {
+        if at < end {
+            return place;
+        }
+    }
+    NOWHERE
+}
+
+// The first byte of which another place is told where its bits are turned.
+fn first_odd_turn(alloc: Global, bytes: &mut [u8]) -> u64 {
+    for at in 0..bytes.len() {
+        bytes[at] ^= 255;
+        let place = place_in(alloc, bytes);
+        bytes[at] ^= 255;
+        if place != turned_at(at as u64) {
+            return at as u64;
+        }
+    }
+    NOWHERE
+}
+
+// Writes a number of so many bytes.
+fn write(bytes: &mut [u8], at: u64, width: u64, number: u64) {
+    let digits = number.to_be_bytes();
+    for i in 0..width {
+        let digit = digits.get(i.wrapping_sub(width).wrapping_add(8) as usize);
+        if let Some(byte) = bytes.get_mut(at.saturating_add(i) as usize) {
+            *byte = *digit.unwrap_or(&0);
+        }
+    }
+}
+
+// The first place where another number lets another place be told.
+fn first_odd_number(alloc: Global, bytes: &[u8]) -> Result<u64, AllocError> {
+    for (at, width, number, place) in WRITTEN {
+        let mut written = Vec::from_slice(alloc, bytes)?;
+        write(&mut written, at, width, number);
+        if place_in(alloc, &written) != place {
+            return Ok(at);
+        }
+    }
+    Ok(NOWHERE)
+}
+
+// What tells an image from others: a word, the last row's last number, and how many bytes its checkpoint has that differ.
+fn seen_of(alloc: Global, bytes: &[u8]) -> Result<[u64; 3], NoMemory> {
+    let image = match decode(alloc, bytes) {
+        Ok(image) => image,
+        Err(_) => return Ok([0; 3]),
+    };
+    let last = match image.clients.rows().last() {
+        Some(row) => row.values[5],
+        None => 0,
+    };
+    let again = encode(alloc, &image)?;
+    let odd = if again.as_slice() == bytes { 0 } else { 1 };
+    Ok([image.generation, last, odd])
+}
+
+#[test]
+fn a_checkpoint_is_written_and_read(rt: HostRuntime) -> Result<(), Fail> {
+    let mut bytes = checkpoint(rt.alloc())?;
+    same(&rt, bytes.len() as u64, LENGTH, "its length");
+    let [generation, last, odd] = match seen_of(rt.alloc(), &bytes) {
+        Ok(seen) => seen,
+        Err(_) => [0; 3],
+    };
+    same(&rt, generation, 2, "the generation");
+    same(&rt, last, 7, "the last client's last value");
+    same(&rt, odd, 0, "the bytes that are written");
+    same(
+        &rt,
+        first_odd_cut(rt.alloc(), &bytes),
+        NOWHERE,
+        "cut at each byte",
+    );
+    let turned = first_odd_turn(rt.alloc(), bytes.as_mut_slice());
+    same(&rt, turned, NOWHERE, "each byte turned");
+    same(
+        &rt,
+        first_odd_number(rt.alloc(), &bytes)?,
+        NOWHERE,
+        "other numbers",
+    );
+    same(&rt, place_in(rt.alloc(), &[0; 3]), 3, "three bytes that begin no name");
+    bytes.push(0)?;
+    same(&rt, place_in(rt.alloc(), &bytes), LENGTH, "a byte behind");
+    Ok(())
+}
