@@ -46,7 +46,10 @@ EndsAfter start (Err NoMemory) bytes left requests =
 EndsAfter start (Err (Limit n)) bytes left requests =
     (n ≡ LINES_MOST) × StopsAfter IsRequest stop.Limit bytes left requests
 -- the sink or a disk met a fault
-EndsAfter start (Err _) bytes left requests = (more : List (List ℕ)) × BeginsWith IsRequest bytes requests more
+EndsAfter start (Err WriteFault) bytes left requests =
+    (more : List (List ℕ)) × BeginsWith IsRequest bytes requests more
+EndsAfter start (Err DiskFault) bytes left requests =
+    (more : List (List ℕ)) × BeginsWith IsRequest bytes requests more
 
 -- Behind what was said the line was written, or a front of it where the sink met a fault.
 abbrev pub Adds : List ℕ → List ℕ → Type 0 → Option (List ℕ) → Option (List ℕ) → Type 0

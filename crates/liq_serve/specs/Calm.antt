@@ -1,4 +1,4 @@
--- Where nothing is wrong with lines, streams and disks a word is done.
+-- Where nothing is wrong with lines, streams and disks a word is done, unless there was no memory.
 use Rattle.std.specs.Prelude.{ℕ, ◌≡◌, ◌≤◌, List, length, Option, Some, None, Ok}
 use Rattle.std.specs.List.{AllZip}
 use Rattle.liq_outside.specs.Faults.{Rose}

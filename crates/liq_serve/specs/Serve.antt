@@ -54,6 +54,7 @@ module _
         OfBoth seen before.left before.right (λ l r.
         MatchResult (state_on l r)
         (λ start. (status_of end ≢ 6) × DisksStay seen end l r start after.left after.right)
+        -- a side and its first damage
         (λ first. EndsDamaged seen first.0 first.1 end after.left after.right))
 
   -- the disks stood for a state, and this holds of the one after the history and of what they hold then
@@ -65,8 +66,9 @@ module _
   -- What was answered once a store was open, whose disks are not damaged, and what they hold then.
   abbrev pub Answers : Result (Unit {0}) Halt → Type 0
   -- all, session by session, and they are kept for the state after it
-  Answers (Ok done) = All (λ s. AreLeft asked history s []) sessions × Keep (λ s a b. IsKept a b s)
-  Answers (Err WriteFault) = All (λ s. AreLeft asked history s []) sessions × Keep (λ s a b. IsKept a b s)
+  Answers (Ok done) = All (λ session. AreLeft asked history session []) sessions × Keep (λ s a b. IsKept a b s)
+  Answers (Err WriteFault) =
+      All (λ session. AreLeft asked history session []) sessions × Keep (λ s a b. IsKept a b s)
   -- nothing; or not all of some session, and the book had room for it
   Answers (Err NoMemory) =
       ((history ≡ [])
@@ -107,8 +109,8 @@ module _
     pub written :
         TellsAll (served history) end (Rose (faults before.sink) (faults after.sink)) (held before.sink)
         (held after.sink)
-    -- it is legal from the state for which the disks stood, and after it no depositor has more than its share, or less
-    -- by more than is allowed
+    -- its replies are those of the rules from where the disks stood, and after it no depositor has more than its share,
+    -- or less by more than is allowed
     pub lawful :
         OfBoth seen before.left before.right (λ l r.
         IfOk (state_on l r) (λ start. IsLegal start history × HaveTheirShares start (requests_of history)))

@@ -36,8 +36,8 @@ module _
   abbrev pub Tells : List ℕ → Result (Unit {0}) Halt → Type 0
   Tells text end = TellsAll text end SinkFails (held before.sink) (held after.sink)
 
-  -- A word that opens the disks before it reads. From what both tell and the state for which they stand it leaves this.
-  -- Over disks that are damaged nothing is read, and a last line alone is written.
+  -- A word that opens the disks before it reads. Of what both tell and of the state for which they stand it leaves P.
+  -- Over disks of which one has a first damage nothing is read, and a last line alone is written.
   abbrev pub OpensFirst : Result (Unit {0}) Halt → (List ℕ → List ℕ → State → Type 0) → Type 0
   OpensFirst end P =
       OfBoth seen before.left before.right (λ l r.

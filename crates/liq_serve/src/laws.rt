@@ -8,8 +8,8 @@ ghost use Rattle.liq_serve.specs.Top.{Ends};
 use liq_outside::{Disk, Sink, Source};
 use liq_pairs::laws::commands_lead_to_the_state;
 
-/// Where nothing is wrong with lines, streams and disks a word is done, unless there was no memory. It follows from the clause of
-/// the top call.
+/// Where nothing is wrong with lines, streams and disks a word is done, unless there was no memory. It follows from the
+/// clause of the top call.
 pub fn calm_ends_are_done<S: Source, K: Sink, D: Disk>()
     ensures { (before after : Outside S K D) (status : ℕ) (words : List (List ℕ))
         → Ends S.left S.faults K.held K.faults D.seen D.faults before after status words
