@@ -130,7 +130,12 @@ fn a_checkpoint_is_written_and_read(rt: HostRuntime) -> Result<(), Fail> {
         NOWHERE,
         "other numbers",
     );
-    same(&rt, place_in(rt.alloc(), &[0; 3]), 3, "three bytes that begin no name");
+    same(
+        &rt,
+        place_in(rt.alloc(), &[0; 3]),
+        3,
+        "three bytes that begin no name",
+    );
     bytes.push(0)?;
     same(&rt, place_in(rt.alloc(), &bytes), LENGTH, "a byte behind");
     Ok(())
