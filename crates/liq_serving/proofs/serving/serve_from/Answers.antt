@@ -26,3 +26,6 @@ returns g c =
     let same : length c.in-Ok.made.1.items ≡ length c.args.scripts.items = omega (arith, c.in-Ok.ensures.count, c.len-count.ensures, c.args.scripts.ok.0) in
     serves_came _ _ c.args.scripts.items c.in-Ok.made.1.items c.run_at-seats.result.0.items c.run_at-seats.result.1 _ _ _ _ _ _ _ c.in-Ok.made.0.lock _ c.finished.result
     c.requires.numbered c.in-Ok.ensures.seats same c.requires.total (omega (arith, c.in-Ok.ensures.sessions, c.len-count.ensures, c.args.scripts.ok.0)) c.finished.ensures c.run_at-seats.ensures
+
+pub run_at-seats-requires-clause-belong : goal.run_at-seats-requires-clause-belong
+run_at-seats-requires-clause-belong g c κs within k d less = rw c.new-desk.ensures ((c.in-Ok.ensures.seats k d less).own)
