@@ -17,8 +17,6 @@ module _ (i : Image) (bytes : List ℕ) where
   pub is_long : HasTables i → Puts name bytes (contents i) → length bytes ≡ checkpoint_length i
   is_long tables put = ap length (is_spelled put) ∙ spelling_is_long i tables
 
-  pub reads : HasTables i → Puts name bytes (contents i) → image_at (length bytes) bytes ≡ Ok (record i { limit = LIM })
-  reads tables put = ap (image_at (length bytes)) (is_spelled put) ∙ image_again i tables put.fit (length bytes)
-
-  pub reads_back : HasTables i → Puts name bytes (contents i) → i.limit ≡ LIM → image_at (length bytes) bytes ≡ Ok i
-  reads_back tables put limit = reads tables put ∙ ap (λ (l : ℕ). Ok (record i { limit = l })) (sym limit)
+  pub reads : HasTables i → Puts name bytes (contents i) → i.limit ≡ LIM → image_at (length bytes) bytes ≡ Ok i
+  reads tables put limit =
+      ap (image_at (length bytes)) (is_spelled put) ∙ image_again i tables put.fit (length bytes) ∙ ap (λ (l : ℕ). Ok (record i { limit = l })) (sym limit)

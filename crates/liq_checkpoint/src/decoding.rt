@@ -11,9 +11,8 @@ use crate::tables::{clients_at, deposits_at, sums_at, surpluses_at, troves_at, w
 use liq_types::{ClientRows, DepositRows, FinishedRows, Image, SurplusRows, TroveRows, WalletRows};
 use std::alloc::Global;
 
-/// The image that a checkpoint's bytes spell, all of them. `Bad` tells the place of the first field that fits no
-/// checkpoint, of the end where bytes are missing, or of the first byte that follows. A field is tested by its own number
-/// and by what stands before it.
+/// The image that a checkpoint's bytes spell, all of them. `Bad` tells where the first field begins that cannot stand where it
+/// does, by its own number and by what stands before it; the end, where bytes are missing; or the first byte that follows.
 pub fn decode(alloc: Global, bytes: &[u8]) -> Result<Image, ImageBytes>
     // What is read is spelled so.
     ensures found { IfOk result (λ i. HasCheckpoint i × (bytes.now ≡ spelling i)) }

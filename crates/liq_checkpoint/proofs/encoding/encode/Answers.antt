@@ -1,5 +1,5 @@
 use Rattle.std.proofs.lemmas.Result.{IfOk-weaker}
-use Rattle.liq_checkpoint.proofs.Encoded.{is_spelled, is_long, reads, reads_back}
+use Rattle.liq_checkpoint.proofs.Encoded.{is_spelled, is_long, reads}
 use Rattle.liq_checkpoint.proofs.encoding.encode.Goals as goal
 
 pub returns-clause-spelled : goal.returns-clause-spelled
@@ -9,7 +9,4 @@ pub returns-clause-length : goal.returns-clause-length
 returns-clause-length c = IfOk-weaker c.written.result _ _ (λ b put. is_long c.args.image.now b.items c.requires.tables put) c.written.ensures
 
 pub returns-clause-read : goal.returns-clause-read
-returns-clause-read c = IfOk-weaker c.written.result _ _ (λ b put. reads c.args.image.now b.items c.requires.tables put) c.written.ensures
-
-pub returns-clause-back : goal.returns-clause-back
-returns-clause-back c = λ limit. IfOk-weaker c.written.result _ _ (λ b put. reads_back c.args.image.now b.items c.requires.tables put limit) c.written.ensures
+returns-clause-read c = IfOk-weaker c.written.result _ _ (λ b put. reads c.args.image.now b.items c.requires.tables put c.requires.limit) c.written.ensures
