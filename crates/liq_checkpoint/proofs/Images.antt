@@ -39,12 +39,11 @@ some_takes end count at x fits e =
 some_then : {Y P : Type 0} (end count : ℕ) (at : List ℕ) (f : ℕ × List ℕ → Result Y ℕ) (y : Y) → IsBytes at → (some_at end count at >>= f) ≡ Ok y → ((n : ℕ) (rest : List ℕ) → Takes at ((count, n) ∷ []) rest → 1 ≤ n → f (n, rest) ≡ Ok y → P) → P
 some_then end count at f y fits e on = let a = bind_ok (some_at end count at) f y e in let t = some_takes end count at a.0 fits a.1 in on a.0.0 a.0.1 t.0 t.1 a.2
 
-isnt_none : (n : ℕ) → 1 ≤ n → not (n == 0) ≡ true
-isnt_none n h = grind (arith, nat_tests)
-
 some_again : (end count n : ℕ) (more : List Field) (rest : List ℕ) → n < 256 ^ count → 1 ≤ n → some_at end count (spelled ((count, n) ∷ more) ++ rest) ≡ Ok (n, spelled more ++ rest)
 unfolding some_at
-some_again end count n more rest small some = rw (number_again end count n more rest small, isnt_none n some) refl
+some_again end count n more rest small some =
+    let not_none : not (n == 0) ≡ true = grind (arith, nat_tests, some) in
+    rw (number_again end count n more rest small, not_none) refl
 
 key_takes : (end : ℕ) (last : Option ℕ) (at : List ℕ) (x : ℕ × List ℕ) → IsBytes at → key_at end last at ≡ Ok x → Takes at ((4, x.0) ∷ []) x.1 × (follows last x.0 ≡ true)
 unfolding key_at
