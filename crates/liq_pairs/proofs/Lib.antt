@@ -1,13 +1,17 @@
 pub mod Alike
 pub mod Around
 pub mod AtEnd
+pub mod Basing
 pub mod Beginning
+pub mod Checkpoints
 pub mod Commands
 pub mod FirstPlace
 pub mod Formed
+pub mod Generations
 pub mod Hints
 pub mod Keeping
 pub mod OneByte
 pub mod Recovering
 pub mod Replaying
 pub mod Standings
+pub mod Turning
