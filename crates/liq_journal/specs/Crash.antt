@@ -1,12 +1,13 @@
 -- What a crash may leave of a journal.
-use Rattle.std.specs.Prelude.{◌≡◌, ◌⊎◌, ℕ, ◌+◌, ◌<◌, ◌%◌, ◌==◌, Bool, true, false}
+use Rattle.std.specs.Prelude.{◌≡◌, ◌⊎◌, ℕ, ◌+◌, ◌<◌, Bool, false}
 use Rattle.std.specs.Prelude.{List, [], ◌∷◌, length, take, get_or, Option, Some, Ok}
 use Rattle.liq_outside.specs.Disk.{LeavesOnly, LeftNow, Only, Torn, overwritten}
 use Rattle.liq_types.specs.declared.requests.Command.{Command}
 use Rattle.liq_wire.specs.Fields.{command_of}
 use Rattle.liq_journal.specs.Layout.{Layout, header_size, header_of, least_header}
-use Rattle.liq_journal.specs.Written.{is_generation, is_rotate, Written, Open, found_on, opened}
+use Rattle.liq_journal.specs.Written.{is_rotate, Written, Open, found_on, opened}
 use Rattle.liq_journal.specs.Written.{EndsWith, and_then, end_of}
+pub use Rattle.liq_journal.specs.Written.{is_odd}
 
 -- open with this, and a 0 behind the last record
 pub record Stands (odd : Bool) (bytes : List ℕ) (w : Written) : Type 0 where
@@ -65,17 +66,12 @@ filled layout generation checkpoint held =
     let with_checkpoint = overwritten with_header (header_size layout) checkpoint in
     overwritten with_checkpoint (header_size layout + length checkpoint) (0 ∷ [])
 
--- the parity of a generation
-abbrev pub is_odd : ℕ → Bool
-is_odd n = (n % 2) == 1
-
 -- what a crash may leave of a disk on which a journal is created, whose content is told and on the disk
 abbrev pub CrashOfCreate : {D : Type 0}
     → (D → Option (List ℕ)) → (D → ℕ) → (D → ℕ → List ℕ → Type 0)
     → D → D → ℕ → List ℕ → Type 0
 CrashOfCreate seen moment left_at old new generation checkpoint =
     (held : List ℕ) → seen old ≡ Some held → Only held (LeftNow moment left_at old)
-    → is_generation (is_odd generation) generation ≡ true
     → LeavesOnly moment left_at old new (CreateLeaves (is_odd generation) held (beginning generation checkpoint))
 
 -- what it reads afterwards, if nothing was pending
@@ -84,7 +80,7 @@ abbrev pub ReadsOfCreate : {D : Type 0}
     → D → D → ℕ → List ℕ → Type 0
 ReadsOfCreate seen moment left_at old new generation checkpoint =
     (held after : List ℕ) → seen old ≡ Some held → Only held (LeftNow moment left_at old)
-    → is_generation (is_odd generation) generation ≡ true → seen new ≡ Some after
+    → seen new ≡ Some after
     → CreateLeaves (is_odd generation) held (beginning generation checkpoint) after
 
 -- these bytes behind a gate, which is opened

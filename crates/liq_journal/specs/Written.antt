@@ -1,7 +1,7 @@
 -- What one disk is: absent, damaged, or open with its generation, its checkpoint and its commands.
-use Rattle.std.specs.Prelude.{◌≡◌, ℕ, ◌+◌, ◌*◌, ◌<◌, Option, Some, None, Result, Ok, Err}
+use Rattle.std.specs.Prelude.{◌≡◌, ℕ, ◌+◌, ◌*◌, ◌%◌, ◌<◌, Option, Some, None, Result, Ok, Err}
 use Rattle.std.specs.Prelude.{List, [], ◌∷◌, ◌++◌, length, take, drop, get_or}
-use Rattle.std.specs.Prelude.{Bool, true, false, not, ◌||◌, ◌&&◌, ◌==◌, nat_lt, if◌then◌else◌}
+use Rattle.std.specs.Prelude.{Bool, true, false, not, ◌||◌, ◌&&◌, ◌==◌, nat_lt, nat_le, if◌then◌else◌}
 use Rattle.std.specs.Str.{bytes_eq}
 use Rattle.byteorder.specs.Endian.{big_bytes}
 use Rattle.sha2.specs.Sha256.{sha256}
@@ -20,9 +20,13 @@ use Rattle.liq_journal.specs.Records.{records}
 unfoldable pub record_digest : ℕ → ℕ → List ℕ → List ℕ
 record_digest generation index body = sha256 (big_bytes 8 generation ++ big_bytes 8 index ++ body)
 
--- The generations that a disk may have. Until there is rotation, the left one has generation 1, and the right one none.
+-- the parity of a generation
+abbrev pub is_odd : ℕ → Bool
+is_odd n = (n % 2) == 1
+
+-- The generations that a disk may have, from 1 on: the odd ones, or the even ones.
 abbrev pub is_generation : Bool → ℕ → Bool
-is_generation odd generation = odd && (generation == 1)
+is_generation odd generation = nat_le 1 generation && (if odd then is_odd generation else not (is_odd generation))
 
 -- The first generation begins with the opening state and has no checkpoint, every other has one.
 abbrev pub is_size : ℕ → ℕ → Bool

@@ -67,9 +67,9 @@ impl<D: Disk> Journal<D> {
         requires size { is_size generation (length checkpoint.now) ≡ true }
 
         ensures known { IfOk result (λ j. (j.generation ≡ generation) × (j.start ≡ start_of (beginning generation checkpoint.now)) × (j.count ≡ 0)) }
-        ensures created { IfOk result (λ j. (held : List ℕ) → D.seen disk ≡ Some held → is_generation (is_odd generation) generation ≡ true
+        ensures created { IfOk result (λ j. (held : List ℕ) → D.seen disk ≡ Some held
             → (after : List ℕ) × (D.seen j.disk ≡ Some after) × Stands (is_odd generation) after (beginning generation checkpoint.now)) }
-        ensures settled { IfOk result (λ j. is_generation (is_odd generation) generation ≡ true → IfSome (D.seen j.disk) (IsSettled j.generation j.start j.count)) }
+        ensures settled { IfOk result (λ j. IfSome (D.seen j.disk) (IsSettled j.generation j.start j.count)) }
         ensures durable { IfOk result (λ j. IfSome (D.seen j.disk) (λ after. Only after (LeftNow D.moment D.left_at j.disk))) }
         ensures telling { MatchResult result (λ j. IsSome (D.seen j.disk) ↔ IsSome (D.seen disk)) (λ e. IsSome (D.seen e.disk) ↔ IsSome (D.seen disk)) }
         ensures crash { MatchResult result (λ j. CrashOfCreate D.seen D.moment D.left_at disk j.disk generation checkpoint.now) (λ e. CrashOfCreate D.seen D.moment D.left_at disk e.disk generation checkpoint.now) }
@@ -110,11 +110,10 @@ impl<D: Disk> Journal<D> {
 
         // The disk that was beside is the journal's at `Ok`, and still beside after a fault.
         ensures created { OnOk result ((held : List ℕ) → D.seen beside.old ≡ Some held
-            → is_generation (is_odd (self.old.generation + 1)) (self.old.generation + 1) ≡ true
             → (after : List ℕ) × (D.seen self.new.disk ≡ Some after)
             × Stands (is_odd (self.old.generation + 1)) after (beginning (self.old.generation + 1) checkpoint.now)) }
-        ensures settled { OnOk result (is_generation (is_odd (self.old.generation + 1)) (self.old.generation + 1) ≡ true
-            → IfSome (D.seen self.new.disk) (IsSettled self.new.generation self.new.start self.new.count)) }
+        ensures settled { OnOk result (IfSome (D.seen self.new.disk)
+            (IsSettled self.new.generation self.new.start self.new.count)) }
         ensures durable { OnOk result (IfSome (D.seen self.new.disk)
             (λ after. Only after (LeftNow D.moment D.left_at self.new.disk))) }
         ensures telling { MatchResult result
