@@ -16,6 +16,7 @@ pub mod Pooling
 pub mod Reading
 pub mod Redeeming
 pub mod Rooms
+pub mod Rotating
 pub mod SameContents
 pub mod SoundCores
 pub mod Stands
