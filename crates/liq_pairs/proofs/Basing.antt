@@ -1,6 +1,6 @@
 -- The state with which a journal begins.
-use Rattle.std.proofs.Common.{◌≡◌, inl, inr, ℕ, List, [], ◌∷◌, length, Option, Some, None, Result, Ok, Err, Bool, true, false, refl, sym, ◌∙◌, ap, arith, if◌then◌else◌}
-use Rattle.std.specs.Prelude.{◌*◌, ◌==◌, ◌&&◌, ◌||◌, nat_le, nat_lt}
+use Rattle.std.proofs.Common.{◌≡◌, ℕ, List, [], ◌∷◌, length, Option, Some, None, Result, Ok, Err, Bool, true, false, refl, sym, ◌∙◌, ap, arith, if◌then◌else◌}
+use Rattle.std.specs.Prelude.{◌*◌, ◌==◌, ◌&&◌, nat_le}
 use Rattle.std.specs.List.{AllByRecursion, list_all}
 use Rattle.std.proofs.lemmas.Bool.{and_parts, eq-eqb, eqb-true, ne_eqb}
 use Rattle.std.proofs.lemmas.Bool.Decides.{nat_tests}
@@ -125,13 +125,7 @@ words_sound : (i : Image) → first_unsound i 0 ≡ None → has_sound_words i 0
 words_sound i sound = let all = none_fails (soundness i 0) sound in all.1.1.1.1.1.1.1.1.0
 
 is_earlier : (a b : Place) → is_before a b ≡ true → IsBefore a b
-is_earlier a b is = by (nat_lt a.0 b.0) refl is
-  where
-    by : (less : Bool) → nat_lt a.0 b.0 ≡ less → (less || (a.0 == b.0 && nat_lt a.1 b.1)) ≡ true → IsBefore a b
-    by true less is = inl (grind (arith, nat_tests, less))
-    by false less is =
-        let both = and_parts (a.0 == b.0) (nat_lt a.1 b.1) is in
-        inr (grind (arith, nat_tests, both.0), grind (arith, nat_tests, both.1))
+is_earlier a b is = grind (arith, nat_tests, is)
 
 abbrev is_finished : Place → Place × ℕ → Bool
 is_finished now row = nat_le row.1 (OFFSET_MOST * P_OPENING) && is_before row.0 now
