@@ -74,7 +74,8 @@ pub data Begins (w : Written) (s : State) : Type 0 where
   starts : (i : Image) → image_at (length w.checkpoint) w.checkpoint ≡ Ok i → IsStarted w.generation i s → Begins w s
 
 module _ (generation : ℕ) (i : Image) (s : State) where
-  by_generation : (same : Bool) → first_unsound i 0 ≡ None → (i.generation == generation) ≡ same → started_or same i ≡ Ok s → IsStarted generation i s
+  by_generation : (same : Bool) → first_unsound i 0 ≡ None → (i.generation == generation) ≡ same
+      → started_or same i ≡ Ok s → IsStarted generation i s
   by_generation true sound same came = record {
     sound = sound;
     generation_is = eqb-true i.generation generation same;
@@ -82,11 +83,13 @@ module _ (generation : ℕ) (i : Image) (s : State) where
   }
   by_generation false sound same came = absurd (cc (came))
 
-  by_rules : (fails : Option ℕ) → first_unsound i 0 ≡ fails → sound_base generation i fails ≡ Ok s → IsStarted generation i s
+  by_rules : (fails : Option ℕ) → first_unsound i 0 ≡ fails → sound_base generation i fails ≡ Ok s
+      → IsStarted generation i s
   by_rules (Some rule) is came = absurd (cc (came))
   by_rules None is came = by_generation (i.generation == generation) is refl came
 
-begins_read : (w : Written) (s : State) (read : Result Image ℕ) → image_at (length w.checkpoint) w.checkpoint ≡ read → read_base w.generation read ≡ Ok s → Begins w s
+begins_read : (w : Written) (s : State) (read : Result Image ℕ) → image_at (length w.checkpoint) w.checkpoint ≡ read
+    → read_base w.generation read ≡ Ok s → Begins w s
 begins_read w s (Err place) is came = absurd (cc (came))
 begins_read w s (Ok i) is came = starts i is (by_rules w.generation i s (first_unsound i 0) refl came)
 
@@ -130,7 +133,8 @@ is_earlier a b is = grind (arith, nat_tests, is)
 abbrev is_finished : Place → Place × ℕ → Bool
 is_finished now row = nat_le row.1 (OFFSET_MOST * P_OPENING) && is_before row.0 now
 
-rows_earlier : (now : Place) (rows : List (Place × ℕ)) → list_all (is_finished now) rows ≡ true → AllByRecursion (λ (row : Place × ℕ). IsBefore row.0 now) rows
+rows_earlier : (now : Place) (rows : List (Place × ℕ)) → list_all (is_finished now) rows ≡ true
+    → AllByRecursion (λ (row : Place × ℕ). IsBefore row.0 now) rows
 rows_earlier now [] is = tt
 rows_earlier now (row ∷ rows) is =
     let all = and_parts (is_finished now row) (list_all (is_finished now) rows) is in
