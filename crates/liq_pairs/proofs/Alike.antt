@@ -56,7 +56,8 @@ module _ {s t : State} (alike : Alike s t) where
         same = record { image = rotation.same.image ∙ further.image; records = rotation.same.records ∙ further.records };
       }
 
-  beside_alike : (side : Side) (l r : List ℕ) (w : Written) → StandsBesideRotation side l r w s → StandsBesideRotation side l r w t
+  beside_alike : (side : Side) (l r : List ℕ) (w : Written) → StandsBesideRotation side l r w s
+      → StandsBesideRotation side l r w t
   beside_alike side l r w stands = record {
     ended = stands.ended;
     command = stands.command;

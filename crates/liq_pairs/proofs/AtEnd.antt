@@ -96,7 +96,8 @@ module _ (odd : Bool) (held : List ℕ) (w : Written) (s : State) (found : found
   left_at_end bytes (inr (place, inr none, has)) = absurd (absent_isnt_open odd held w none.0 found)
 
 -- an opening leaves a journal with a 0 at its end as it was
-pub stands_still : (odd : Bool) (held bytes : List ℕ) (w : Written) → Stands odd held w → OpenLeaves odd held bytes → bytes ≡ held
+pub stands_still : (odd : Bool) (held bytes : List ℕ) (w : Written) → Stands odd held w → OpenLeaves odd held bytes
+    → bytes ≡ held
 stands_still odd held bytes w stands (inl same) = same
 stands_still odd held bytes w stands (inr (place, inl some, has)) =
     let both : Open some.0 ≡ Open w = sym some.1 ∙ stands.found in

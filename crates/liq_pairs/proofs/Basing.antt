@@ -1,6 +1,6 @@
 -- The state with which a journal begins.
-use Rattle.std.proofs.Common.{◌≡◌, inl, inr, ℕ, List, [], ◌∷◌, length, Option, Some, None, Result, Ok, Err, Bool, true, false, refl, sym, ◌∙◌, ap, arith, if◌then◌else◌}
-use Rattle.std.specs.Prelude.{◌*◌, ◌==◌, ◌&&◌, ◌||◌, nat_le, nat_lt}
+use Rattle.std.proofs.Common.{◌≡◌, ℕ, List, [], ◌∷◌, length, Option, Some, None, Result, Ok, Err, Bool, true, false, refl, sym, ◌∙◌, ap, arith, if◌then◌else◌}
+use Rattle.std.specs.Prelude.{◌*◌, ◌==◌, ◌&&◌, nat_le}
 use Rattle.std.specs.List.{AllByRecursion, list_all}
 use Rattle.std.proofs.lemmas.Bool.{and_parts, eq-eqb, eqb-true, ne_eqb}
 use Rattle.std.proofs.lemmas.Bool.Decides.{nat_tests}
@@ -74,7 +74,8 @@ pub data Begins (w : Written) (s : State) : Type 0 where
   starts : (i : Image) → image_at (length w.checkpoint) w.checkpoint ≡ Ok i → IsStarted w.generation i s → Begins w s
 
 module _ (generation : ℕ) (i : Image) (s : State) where
-  by_generation : (same : Bool) → first_unsound i 0 ≡ None → (i.generation == generation) ≡ same → started_or same i ≡ Ok s → IsStarted generation i s
+  by_generation : (same : Bool) → first_unsound i 0 ≡ None → (i.generation == generation) ≡ same
+      → started_or same i ≡ Ok s → IsStarted generation i s
   by_generation true sound same came = record {
     sound = sound;
     generation_is = eqb-true i.generation generation same;
@@ -82,11 +83,13 @@ module _ (generation : ℕ) (i : Image) (s : State) where
   }
   by_generation false sound same came = absurd (cc (came))
 
-  by_rules : (fails : Option ℕ) → first_unsound i 0 ≡ fails → sound_base generation i fails ≡ Ok s → IsStarted generation i s
+  by_rules : (fails : Option ℕ) → first_unsound i 0 ≡ fails → sound_base generation i fails ≡ Ok s
+      → IsStarted generation i s
   by_rules (Some rule) is came = absurd (cc (came))
   by_rules None is came = by_generation (i.generation == generation) is refl came
 
-begins_read : (w : Written) (s : State) (read : Result Image ℕ) → image_at (length w.checkpoint) w.checkpoint ≡ read → read_base w.generation read ≡ Ok s → Begins w s
+begins_read : (w : Written) (s : State) (read : Result Image ℕ) → image_at (length w.checkpoint) w.checkpoint ≡ read
+    → read_base w.generation read ≡ Ok s → Begins w s
 begins_read w s (Err place) is came = absurd (cc (came))
 begins_read w s (Ok i) is came = starts i is (by_rules w.generation i s (first_unsound i 0) refl came)
 
@@ -125,18 +128,13 @@ words_sound : (i : Image) → first_unsound i 0 ≡ None → has_sound_words i 0
 words_sound i sound = let all = none_fails (soundness i 0) sound in all.1.1.1.1.1.1.1.1.0
 
 is_earlier : (a b : Place) → is_before a b ≡ true → IsBefore a b
-is_earlier a b is = by (nat_lt a.0 b.0) refl is
-  where
-    by : (less : Bool) → nat_lt a.0 b.0 ≡ less → (less || (a.0 == b.0 && nat_lt a.1 b.1)) ≡ true → IsBefore a b
-    by true less is = inl (grind (arith, nat_tests, less))
-    by false less is =
-        let both = and_parts (a.0 == b.0) (nat_lt a.1 b.1) is in
-        inr (grind (arith, nat_tests, both.0), grind (arith, nat_tests, both.1))
+is_earlier a b is = grind (arith, nat_tests, is)
 
 abbrev is_finished : Place → Place × ℕ → Bool
 is_finished now row = nat_le row.1 (OFFSET_MOST * P_OPENING) && is_before row.0 now
 
-rows_earlier : (now : Place) (rows : List (Place × ℕ)) → list_all (is_finished now) rows ≡ true → AllByRecursion (λ (row : Place × ℕ). IsBefore row.0 now) rows
+rows_earlier : (now : Place) (rows : List (Place × ℕ)) → list_all (is_finished now) rows ≡ true
+    → AllByRecursion (λ (row : Place × ℕ). IsBefore row.0 now) rows
 rows_earlier now [] is = tt
 rows_earlier now (row ∷ rows) is =
     let all = and_parts (is_finished now row) (list_all (is_finished now) rows) is in

@@ -7,7 +7,8 @@ use Rattle.liq_pairs.specs.declared.side.Side.{Side}
 use Rattle.liq_pairs.specs.Pair.{Nothing, commands_on, pair_commands, pair_state, standing, standing_after, standing_of, state_on}
 use Rattle.liq_pairs.specs.Replay.{outcome, replay}
 use Rattle.liq_pairs.proofs.Basing.{ends_in, outcome_first}
-use Rattle.liq_pairs.proofs.Generations.{HaveNoRotation, found_no_rotation, outcome_generation}
+use Rattle.liq_pairs.proofs.Generations.{outcome_generation}
+use Rattle.liq_pairs.proofs.NoRotation.{HaveNoRotation, found_no_rotation}
 use Rattle.liq_pairs.proofs.Replaying.{replay_none}
 use Rattle.liq_pairs.proofs.Standings.{pair_ends}
 
@@ -50,20 +51,25 @@ has_no_rotation odd bytes = by (found_on odd bytes) refl
     by (Open w) is = found_no_rotation odd bytes w is
 
 -- a state of generation 1 comes from the opening
-from_opening : (w : Written) (s : State) → HaveNoRotation w.commands → s.generation ≡ 1 → outcome w ≡ Ok s → replay 1 opening w.commands ≡ Ok s
+from_opening : (w : Written) (s : State) → HaveNoRotation w.commands → s.generation ≡ 1 → outcome w ≡ Ok s
+    → replay 1 opening w.commands ≡ Ok s
 from_opening w s none first came = sym (outcome_first w (sym (outcome_generation w s none came) ∙ first)) ∙ came
 
 -- two open disks
 abbrev chosen : Bool → State → State → Result State (Side × Damage)
 chosen b s t = Ok (if b then t else s)
 
-of_two : (b : Bool) (w later : Written) (s t end : State) → HaveNoRotation w.commands → HaveNoRotation later.commands → end.generation ≡ 1
-    → outcome w ≡ Ok s → outcome later ≡ Ok t → chosen b s t ≡ Ok end → replay 1 opening (if b then later.commands else w.commands) ≡ Ok end
+of_two : (b : Bool) (w later : Written) (s t end : State) → HaveNoRotation w.commands → HaveNoRotation later.commands
+    → end.generation ≡ 1
+    → outcome w ≡ Ok s → outcome later ≡ Ok t → chosen b s t ≡ Ok end
+    → replay 1 opening (if b then later.commands else w.commands) ≡ Ok end
 of_two true w later s t end none none_later first came came_later is = from_opening later end none_later first (came_later ∙ same_end t end is)
 of_two false w later s t end none none_later first came came_later is = from_opening w end none first (came ∙ same_end s end is)
 
-both : (w later : Written) (r t : Result State Damage) (end : State) → HaveNoRotation w.commands → HaveNoRotation later.commands → end.generation ≡ 1
-    → outcome w ≡ r → outcome later ≡ t → pair_state (standing_after w.generation r) (standing_after later.generation t) ≡ Ok end
+both : (w later : Written) (r t : Result State Damage) (end : State) → HaveNoRotation w.commands
+    → HaveNoRotation later.commands → end.generation ≡ 1
+    → outcome w ≡ r → outcome later ≡ t
+    → pair_state (standing_after w.generation r) (standing_after later.generation t) ≡ Ok end
     → replay 1 opening (pair_commands (Open w) (Open later)) ≡ Ok end
 both w later (Ok s) (Ok t) end none none_later first came came_later is =
     of_two (nat_lt w.generation later.generation) w later s t end none none_later first came came_later is
@@ -84,6 +90,7 @@ found_lead (Open w) (Damaged damage) s none none_right first is = damaged_beside
     damaged_beside generation (Err first) is = absurd (cc (is))
 found_lead (Open w) (Open later) s none none_later first is = both w later (outcome w) (outcome later) s none none_later first refl refl is
 
-pub commands_lead : (l r : List ℕ) (s : State) → state_on l r ≡ Ok s → s.generation ≡ 1 → replay 1 opening (commands_on l r) ≡ Ok s
+pub commands_lead : (l r : List ℕ) (s : State) → state_on l r ≡ Ok s → s.generation ≡ 1
+    → replay 1 opening (commands_on l r) ≡ Ok s
 unfolding state_on standing commands_on
 commands_lead l r s is first = found_lead (found_on true l) (found_on false r) s (has_no_rotation true l) (has_no_rotation false r) first is

@@ -81,7 +81,8 @@ first_with odd bytes byte is = record {
 }
 
 -- one that opens no gate
-pub rotation_with : (odd : Bool) (bytes : List ℕ) (s : State) (c : Command) (byte : ℕ) → HoldsRotation odd bytes s c → (byte ≡ 1 → ⊥)
+pub rotation_with : (odd : Bool) (bytes : List ℕ) (s : State) (c : Command) (byte : ℕ) → HoldsRotation odd bytes s c
+    → (byte ≡ 1 → ⊥)
     → HoldsRotation odd (overwritten bytes 0 (byte ∷ [])) s c
 rotation_with odd bytes s c byte is unopened = record {
   written = is.written;
@@ -134,13 +135,15 @@ aside_left odd held bytes generation aside (inr (place, inr none, has)) =
     (⊎_elim (λ closed. inl (closed_with held has.0 closed (unshut_no_gate held none.2))) (λ older_one. inr (older_with odd held generation has.0 older_one)) aside)
 
 -- a creation on it that a stop cut short leaves it so, where nothing of it is seen
-pub aside_settled : (odd : Bool) (held bytes : List ℕ) (generation : ℕ) → IsAside odd held generation → SettleLeaves 0 held bytes → IsAside odd bytes generation
+pub aside_settled : (odd : Bool) (held bytes : List ℕ) (generation : ℕ) → IsAside odd held generation
+    → SettleLeaves 0 held bytes → IsAside odd bytes generation
 aside_settled odd held bytes generation aside (inl same) = subst (λ (l : List ℕ). IsAside odd l generation) (sym same) aside
 aside_settled odd held bytes generation aside (inr (unshut, has)) = subst (λ (l : List ℕ). IsAside odd l generation) (sym has.1)
     (⊎_elim (λ closed. inl (closed_with held has.0 closed unshut)) (λ older_one. inr (older_with odd held generation has.0 older_one)) aside)
 
 -- one that holds a rotation is none
-pub rotation_behind : (odd : Bool) (bytes : List ℕ) (generation : ℕ) (s : State) (c : Command) → HoldsRotation odd bytes s c → IsBehind generation (standing odd bytes)
+pub rotation_behind : (odd : Bool) (bytes : List ℕ) (generation : ℕ) (s : State) (c : Command)
+    → HoldsRotation odd bytes s c → IsBehind generation (standing odd bytes)
 rotation_behind odd bytes generation s c is = nothing (standing_absent odd bytes (unopened_absent odd bytes is.shut))
 
 -- an undamaged open disk of a smaller generation, with a 0 behind its records

@@ -16,7 +16,8 @@ use Rattle.liq_pairs.specs.Pair.{StandFor, standing}
 use Rattle.liq_pairs.specs.Replay.{outcome}
 use Rattle.liq_pairs.specs.Sides.{beside, has_odd, on, other}
 use Rattle.liq_pairs.proofs.FirstPlace.{IsAside, closed_absent, gate_open_or_not, is_behind, opened_already, unopened_absent}
-use Rattle.liq_pairs.proofs.Generations.{found_no_rotation, found_parity, outcome_generation}
+use Rattle.liq_pairs.proofs.Generations.{found_parity, outcome_generation}
+use Rattle.liq_pairs.proofs.NoRotation.{found_no_rotation}
 use Rattle.liq_pairs.proofs.Replaying.{opening_formed, outcome_formed, outcome_none, outcome_then}
 use Rattle.liq_pairs.proofs.Standings.{IsBehind, outcome_taken, pair_ends, state_none, state_taken}
 
@@ -29,7 +30,8 @@ pub record LeadsTo (w : Written) (s : State) : Type 0 where
   pub alike : Alike state s
 
 -- a pair stands for the state to which the journal on its taken disk leads
-pub stand_before : (side : Side) (l r : List ℕ) (w : Written) (s : State) → LeadsTo w s → found_on (has_odd side) (on side l r) ≡ Open w
+pub stand_before : (side : Side) (l r : List ℕ) (w : Written) (s : State) → LeadsTo w s
+    → found_on (has_odd side) (on side l r) ≡ Open w
     → IsBehind w.generation (standing (has_odd (other side)) (beside side l r)) → StandFor l r s
 stand_before side l r w s leads found behind = record {
   state = leads.state;
@@ -38,10 +40,13 @@ stand_before side l r w s leads found behind = record {
   formed = leads.alike.right;
 }
 
-pub stand_for : (side : Side) (l r : List ℕ) (w : Written) (s : State) → LeadsTo w s → found_on (has_odd side) (on side l r) ≡ Open w → IsAside (has_odd (other side)) (beside side l r) w.generation → StandFor l r s
+pub stand_for : (side : Side) (l r : List ℕ) (w : Written) (s : State) → LeadsTo w s
+    → found_on (has_odd side) (on side l r) ≡ Open w → IsAside (has_odd (other side)) (beside side l r) w.generation
+    → StandFor l r s
 stand_for side l r w s leads found aside = stand_before side l r w s leads found (is_behind (has_odd (other side)) (beside side l r) w.generation aside)
 
-pub leads_before : (side : Side) (l r : List ℕ) (w : Written) (s : State) → StandFor l r s → found_on (has_odd side) (on side l r) ≡ Open w
+pub leads_before : (side : Side) (l r : List ℕ) (w : Written) (s : State) → StandFor l r s
+    → found_on (has_odd side) (on side l r) ≡ Open w
     → IsBehind w.generation (standing (has_odd (other side)) (beside side l r)) → LeadsTo w s
 leads_before side l r w s stands found behind =
     let came = outcome_taken side l r w stands.state found behind stands.is in
@@ -51,11 +56,14 @@ leads_before side l r w s stands found behind =
       alike = record { image = stands.same.image; records = stands.same.records; left = outcome_formed w stands.state came; right = stands.formed };
     }
 
-pub leads_to : (side : Side) (l r : List ℕ) (w : Written) (s : State) → StandFor l r s → found_on (has_odd side) (on side l r) ≡ Open w → IsAside (has_odd (other side)) (beside side l r) w.generation → LeadsTo w s
+pub leads_to : (side : Side) (l r : List ℕ) (w : Written) (s : State) → StandFor l r s
+    → found_on (has_odd side) (on side l r) ≡ Open w → IsAside (has_odd (other side)) (beside side l r) w.generation
+    → LeadsTo w s
 leads_to side l r w s stands found aside = leads_before side l r w s stands found (is_behind (has_odd (other side)) (beside side l r) w.generation aside)
 
 -- its generation is the state's
-pub leads_generation : (odd : Bool) (bytes : List ℕ) (w : Written) (s : State) → found_on odd bytes ≡ Open w → LeadsTo w s → w.generation ≡ s.generation
+pub leads_generation : (odd : Bool) (bytes : List ℕ) (w : Written) (s : State) → found_on odd bytes ≡ Open w
+    → LeadsTo w s → w.generation ≡ s.generation
 leads_generation odd bytes w s found leads =
     sym (outcome_generation w leads.state (found_no_rotation odd bytes w found) leads.came) ∙ ap (λ (i : Image). i.generation) leads.alike.image
 
@@ -75,11 +83,13 @@ module _ (side : Side) (l r : List ℕ) (w : Written) (s : State) (leads : Leads
   settled_by stands = record { stands = stand_for side l r w s leads stands.found aside; written = w; open_on = stands; others = aside }
 
 -- of a settled pair, that of the taken disk's journal
-pub settled_leads : (side : Side) (l r : List ℕ) (s : State) → (settled : IsSettledFor side l r s) → LeadsTo settled.written s
+pub settled_leads : (side : Side) (l r : List ℕ) (s : State) → (settled : IsSettledFor side l r s)
+    → LeadsTo settled.written s
 settled_leads side l r s settled = leads_to side l r settled.written s settled.stands settled.open_on.found settled.others
 
 -- the side is that of the state's generation
-pub settled_parity : (side : Side) (l r : List ℕ) (s : State) → IsSettledFor side l r s → has_odd side ≡ is_odd s.generation
+pub settled_parity : (side : Side) (l r : List ℕ) (s : State) → IsSettledFor side l r s
+    → has_odd side ≡ is_odd s.generation
 settled_parity side l r s settled =
     let odd = has_odd side in
     let found = settled.open_on.found in
@@ -172,7 +182,8 @@ none_kept : (l r : List ℕ) (s : State) → Alike opening s → IsUnbegun true 
 none_kept l r s alike left right = record { stands = none_stand l r s alike left.0 right.0; rests = inr (left, right) }
 
 -- the first generation without records, open
-pub first_settled : (l r : List ℕ) (w : Written) (s : State) → Alike opening s → Stands true l w → w.generation ≡ 1 → w.commands ≡ [] → IsClosed r → IsSettledFor Left l r s
+pub first_settled : (l r : List ℕ) (w : Written) (s : State) → Alike opening s → Stands true l w → w.generation ≡ 1
+    → w.commands ≡ [] → IsClosed r → IsSettledFor Left l r s
 first_settled l r w s alike stands first none closed = settled_by Left l r w s (first_leads w s first none alike) (inl closed) stands
 
 -- the first generation without records, open or not, or a closed disk, beside a closed one

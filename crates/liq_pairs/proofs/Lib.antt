@@ -10,6 +10,7 @@ pub mod Formed
 pub mod Generations
 pub mod Hints
 pub mod Keeping
+pub mod NoRotation
 pub mod OneByte
 pub mod Recovering
 pub mod Replaying

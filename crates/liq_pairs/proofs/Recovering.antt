@@ -31,7 +31,8 @@ by_end side l r a b w s leads aside (finished c was allowed stands) =
     inr (c, (side, inl was), settled_kept side a b (after s c) (settled_by side a b (and_then w c) (after s c) (leads_further w c s leads allowed) aside stands))
 
 -- beside a rotation that isn't open
-unfinished : (side : Side) (l r : List ℕ) (s : State) (c : Command) → IsUnfinishedRotation (has_odd (other side)) (beside side l r) s c → HoldsUnfinished l r s c
+unfinished : (side : Side) (l r : List ℕ) (s : State) (c : Command)
+    → IsUnfinishedRotation (has_odd (other side)) (beside side l r) s c → HoldsUnfinished l r s c
 unfinished Left l r s c is = (Right, inr is)
 unfinished Right l r s c is = (Left, inr is)
 
@@ -42,7 +43,8 @@ module _ (side : Side) (l r a b : List ℕ) (w : Written) (s : State) (leads : L
       (subst (λ (x : List ℕ). HoldsRotation (has_odd (other side)) x s kept.command) (sym same) kept.holds)
 
   -- a byte is at place 0, where no 0 was: an open gate finishes it
-  by_gate : IsUnshut (beside side l r) → (byte : ℕ) → beside side a b ≡ overwritten (beside side l r) 0 (byte ∷ []) → IsRecovered l r s a b
+  by_gate : IsUnshut (beside side l r) → (byte : ℕ) → beside side a b ≡ overwritten (beside side l r) 0 (byte ∷ [])
+      → IsRecovered l r s a b
   by_gate unshut byte is = ⊎_elim
       (λ one. inr (
         kept.command,
@@ -134,7 +136,8 @@ recovered l r a b s kept left right = by kept.rests left
 
 -- ---- of a settled pair
 
-settled_left : (side : Side) (l r a b : List ℕ) (s : State) → IsSettledFor side l r s → OpenLeaves (has_odd side) (on side l r) (on side a b)
+settled_left : (side : Side) (l r a b : List ℕ) (s : State) → IsSettledFor side l r s
+    → OpenLeaves (has_odd side) (on side l r) (on side a b)
     → OpenLeaves (has_odd (other side)) (beside side l r) (beside side a b) → IsSettledFor side a b s
 settled_left side l r a b s settled taken_left beside_left =
     let w = settled.written in
@@ -144,14 +147,16 @@ settled_left side l r a b s settled taken_left beside_left =
     (subst (λ (x : List ℕ). Stands odd x w) (sym (stands_still odd (on side l r) (on side a b) w settled.open_on taken_left)) settled.open_on)
 
 -- an opening leaves it settled for its state, on its side
-pub settled_again : (side : Side) (l r a b : List ℕ) (s : State) → IsSettledFor side l r s → LeftLeaves l r a → OpenLeaves false r b → IsSettledFor side a b s
+pub settled_again : (side : Side) (l r a b : List ℕ) (s : State) → IsSettledFor side l r s → LeftLeaves l r a
+    → OpenLeaves false r b → IsSettledFor side a b s
 settled_again Left l r a b s settled (inl opened) right = settled_left Left l r a b s settled opened right
 settled_again Left l r a b s settled (inr created) right = absurd (absent_isnt_open true l settled.written created.0 settled.open_on.found)
 settled_again Right l r a b s settled (inl opened) right = settled_left Right l r a b s settled right opened
 settled_again Right l r a b s settled (inr created) right = absurd (absent_isnt_open false r settled.written created.1 settled.open_on.found)
 
 -- and it stands for no other
-pub settled_state : (side : Side) (l r : List ℕ) (s t : State) → IsSettledFor side l r s → state_on l r ≡ Ok t → IsSameState t s
+pub settled_state : (side : Side) (l r : List ℕ) (s t : State) → IsSettledFor side l r s → state_on l r ≡ Ok t
+    → IsSameState t s
 settled_state side l r s t settled is =
     let both : pair_ends settled.stands.state ≡ Ok t = sym settled.stands.is ∙ is in
     let same : settled.stands.state ≡ t = cc (both) in

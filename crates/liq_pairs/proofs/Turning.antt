@@ -29,7 +29,8 @@ use Rattle.liq_pairs.proofs.Replaying.{outcome_formed, outcome_from, replay_none
 pub after_formed : (s : State) (c : Command) → IsWellFormed s → IsWellFormed (after s c)
 after_formed s c formed = (after_alike (alike_itself s formed) c).left
 
-pub rotation_leads : (s : State) (w : Written) (c : Command) → IsWellFormed s → IsRotationOf s w c → LeadsTo w (after s c)
+pub rotation_leads : (s : State) (w : Written) (c : Command) → IsWellFormed s → IsRotationOf s w c
+    → LeadsTo w (after s c)
 rotation_leads s w c formed rotation = record {
   state = rotation.state;
   came = rotation.came;
@@ -44,20 +45,23 @@ rotation_leads s w c formed rotation = record {
 -- ---- on the other disk
 
 -- the journal there is taken, where the one on this side is older
-pub turned : (side : Side) (l r : List ℕ) (w : Written) (s : State) → LeadsTo w s → IsOlder (has_odd side) (on side l r) w.generation
+pub turned : (side : Side) (l r : List ℕ) (w : Written) (s : State) → LeadsTo w s
+    → IsOlder (has_odd side) (on side l r) w.generation
     → Stands (has_odd (other side)) (beside side l r) w → IsSettledFor (other side) l r s
 turned Left l r w s leads older stands = settled_by Right l r w s leads (inr older) stands
 turned Right l r w s leads older stands = settled_by Left l r w s leads (inr older) stands
 
 -- the rotation is of a greater generation
-next_later : (side : Side) (l r : List ℕ) (w : Written) (s : State) (c : Command) (next : Written) → LeadsTo w s → Stands (has_odd side) (on side l r) w → IsRotationOf s next c → w.generation < next.generation
+next_later : (side : Side) (l r : List ℕ) (w : Written) (s : State) (c : Command) (next : Written) → LeadsTo w s
+    → Stands (has_odd side) (on side l r) w → IsRotationOf s next c → w.generation < next.generation
 next_later side l r w s c next leads stands rotation =
     let now = leads_generation (has_odd side) (on side l r) w s stands.found leads in
     let then = rotation.generation_is in
     omega (arith, now, then)
 
 -- it holds the rotation, and isn't open
-pub turning_kept : (side : Side) (l r : List ℕ) (w : Written) (s : State) (c : Command) → LeadsTo w s → Stands (has_odd side) (on side l r) w
+pub turning_kept : (side : Side) (l r : List ℕ) (w : Written) (s : State) (c : Command) → LeadsTo w s
+    → Stands (has_odd side) (on side l r) w
     → HoldsRotation (has_odd (other side)) (beside side l r) s c → IsKept l r s
 turning_kept side l r w s c leads stands holds = record {
   stands = stand_before side l r w s leads stands.found (rotation_behind (has_odd (other side)) (beside side l r) w.generation s c holds);
@@ -93,7 +97,8 @@ module _ (side : Side) (l r a b : List ℕ) (s : State) (c : Command) (w : Writt
   still aside = settled_kept side a b s (settled_by side a b settled.written s old_leads aside old_stands)
 
   -- A stop in its creation leaves a pair that is kept for the state, or for the state after it.
-  pub rotation_kept : w.commands ≡ [] → CreateLeaves (has_odd (other side)) (beside side l r) w (beside side a b) → IsKept a b s ⊎ IsKept a b (after s c)
+  pub rotation_kept : w.commands ≡ [] → CreateLeaves (has_odd (other side)) (beside side l r) w (beside side a b)
+      → IsKept a b s ⊎ IsKept a b (after s c)
   rotation_kept none (inl closed) = inl (still (inl closed))
   rotation_kept none (inr (inl left)) = inl (still (aside_settled (has_odd (other side)) (beside side l r) (beside side a b) settled.written.generation settled.others left))
   rotation_kept none (inr (inr made)) = ⊎_elim
@@ -107,8 +112,10 @@ module _ (side : Side) (l r a b : List ℕ) (s : State) (c : Command) (w : Writt
 
 -- A checkpoint that spells the image after a rotation makes the state's rotation, if it is read back as this image, which
 -- breaks no rule.
-pub made_rotation : (s : State) (c : Command) (checkpoint : List ℕ) → IsWellFormed s → 1 ≤ s.generation → c.call ≡ Rotate → ruling s c ≡ Allowed
-    → checkpoint ≡ spelling (image (after s c)) → image_at (length checkpoint) checkpoint ≡ Ok (image (after s c)) → first_unsound (image (after s c)) 0 ≡ None
+pub made_rotation : (s : State) (c : Command) (checkpoint : List ℕ) → IsWellFormed s → 1 ≤ s.generation
+    → c.call ≡ Rotate → ruling s c ≡ Allowed
+    → checkpoint ≡ spelling (image (after s c)) → image_at (length checkpoint) checkpoint ≡ Ok (image (after s c))
+    → first_unsound (image (after s c)) 0 ≡ None
     → IsRotationOf s (beginning (s.generation + 1) checkpoint) c
 made_rotation s c checkpoint formed begun rotates allowed spelled read sound =
     let w = beginning (s.generation + 1) checkpoint in
