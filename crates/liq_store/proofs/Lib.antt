@@ -1,4 +1,5 @@
 pub mod Appending
+pub mod Basing
 pub mod Beginning
 pub mod Built
 pub mod Following
@@ -8,6 +9,7 @@ pub mod Listing
 pub mod Looking
 pub mod OneDisk
 pub mod Opening
+pub mod Places
 pub mod Recovered
 pub mod Replaying
 pub mod Steps

@@ -1,5 +1,5 @@
 // A protocol, and beside it the guide of its ordered list.
-ghost use Rattle.std.specs.Prelude.{◌≡◌, OnOk, IsTrue};
+ghost use Rattle.std.specs.Prelude.{◌≡◌, IfOk, OnOk, IsTrue};
 ghost use Rattle.liq_types.specs.State.{State, opening};
 ghost use Rattle.liq_types.specs.declared.replies.Reply.TheVariants.{Said};
 ghost use Rattle.liq_types.specs.declared.requests.Request.TheVariants.{Do, Ask};
@@ -53,6 +53,19 @@ impl Guided {
             guide: Guide::new(alloc),
             hint: None,
         }
+    }
+
+    // A protocol, with a guide of its list. There may be no memory for that.
+    pub fn of(alloc: Global, protocol: Protocol) -> Result<Guided, NoMemory>
+        ensures { IfOk result (λ guided. guided ≡ protocol) }
+    {
+        let mut guide = Guide::new(alloc);
+        guide.follow(&protocol.list(alloc)?)?;
+        Ok(Guided {
+            protocol,
+            guide,
+            hint: None,
+        })
     }
 
     pub fn protocol(&self) -> &Protocol

@@ -3,6 +3,7 @@
 #![tactic(auto)]
 
 mod answers;
+mod checkpoint;
 mod guided;
 mod judging;
 mod preparing;

@@ -19,22 +19,23 @@ ghost use Rattle.liq_journal.specs.Written.{Absent, Open, Written, found_on};
 ghost use Rattle.liq_pairs.specs.declared.side.Side.{Side};
 ghost use Rattle.liq_pairs.specs.Kept.{IsKept};
 ghost use Rattle.liq_pairs.specs.Pair.{state_on};
-ghost use Rattle.liq_pairs.specs.Sides.{has_odd, other};
+ghost use Rattle.liq_pairs.specs.Sides.{has_odd, on, other};
 ghost use Rattle.liq_pairs.specs.Unfinished.{IsRecovered, LeftLeaves};
 ghost use Rattle.liq_store.specs.Answering.{Answers, IsReadable, IsUnreadable, read_back};
-ghost use Rattle.liq_store.specs.Beginning.{BeginsLeft, Creates, IsStoodOn, IsUnbegun};
+ghost use Rattle.liq_store.specs.Beginning.{BeginsLeft, Creates, IsEarlier, IsStoodOn, IsUnbegun};
 ghost use Rattle.liq_store.specs.Causes.{CausesAccepted, CausesAnswer, stopped_after, stopped_after_reading};
 ghost use Rattle.liq_store.specs.Judging.{disk_of};
 ghost use Rattle.liq_store.specs.Keeping.{IsAtRest, IsInOrder, IsKeptAround, LeavesPairs};
 ghost use Rattle.liq_store.specs.Memory.{IsAccepted};
 ghost use Rattle.liq_store.specs.Opening.{OpensOn, left_after, right_after};
+ghost use Rattle.liq_store.specs.declared.standing.Stood.TheVariants.{Holding};
 ghost use Rattle.liq_store.specs.Stored.{disk_beside, taken_disk};
 ghost use Rattle.liq_store.specs.Telling.{told};
 ghost use Rattle.liq_store.specs.Within.{IsWithin, stored};
 
 use crate::answers::{AcceptedFault, StoreFault, StoreWhy};
 use crate::guided::Guided;
-use crate::judging::{judge, later_side};
+use crate::judging::{disk_of, judge, later_side};
 use crate::preparing::{Prepared, make, prepare};
 use crate::reading::read_commands;
 use crate::standing::{Stood, stand};
@@ -356,20 +357,51 @@ fn begin<D: Disk>(alloc: Global, left: Stood<D>, right: Stood<D>) -> Result<Stor
         Stood::Nothing(left) => match right {
             Stood::Nothing(right) => begin_anew(alloc, left, right),
             Stood::Holding(taken, protocol) => {
-                Ok(begin_on(alloc, Side::Right, taken, left, protocol))
+                let aside = Stood::Nothing(left);
+                Ok(go_on(alloc, Side::Right, taken, protocol, aside))
             }
         },
         Stood::Holding(taken, protocol) => match right {
-            Stood::Nothing(right) => Ok(begin_on(alloc, Side::Left, taken, right, protocol)),
+            Stood::Nothing(right) => {
+                let aside = Stood::Nothing(right);
+                Ok(go_on(alloc, Side::Left, taken, protocol, aside))
+            }
             Stood::Holding(other, later) => match later_side(&protocol, &later) {
-                Side::Right => Ok(begin_on(alloc, Side::Right, other, taken.close(), later)),
-                Side::Left => Ok(begin_on(alloc, Side::Left, taken, other.close(), protocol)),
+                Side::Right => {
+                    let aside = Stood::Holding(taken, protocol);
+                    Ok(go_on(alloc, Side::Right, other, later, aside))
+                }
+                Side::Left => {
+                    let aside = Stood::Holding(other, later);
+                    Ok(go_on(alloc, Side::Left, taken, protocol, aside))
+                }
             },
         },
     }
 }
 
-// The store that goes on with this journal.
+// The store that goes on with the journal of this side's disk, beside which no later one is.
+fn go_on<D: Disk>(
+    alloc: Global,
+    side: Side,
+    taken: Journal<D>,
+    protocol: Guided,
+    aside: Stood<D>,
+) -> Store<D>
+    requires taken { IsStoodOn D.seen D.moment D.left_at (has_odd side) (Holding taken protocol) }
+    requires aside { IsStoodOn D.seen D.moment D.left_at (has_odd (other side)) aside }
+    requires earlier { IsEarlier taken.generation aside }
+    ensures store { result ≡ stored side taken (disk_of aside) protocol None [] }
+    ensures opened { OpensOn D.seen D.faults
+        (on side taken.disk (disk_of aside)) (on side (disk_of aside) taken.disk) result }
+    ensures order { IsInOrder D.seen D.moment D.left_at result }
+    ensures shut { IfSome (D.seen (disk_beside result))
+        (λ now. found_on (has_odd (other side)) now ≡ Absent → IsUnshut now → ⊥) }
+{
+    begin_on(alloc, side, taken, disk_of(aside), protocol)
+}
+
+// The store of this journal and the disk beside it.
 fn begin_on<D: Disk>(
     alloc: Global,
     side: Side,
