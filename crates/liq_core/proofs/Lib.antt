@@ -11,6 +11,7 @@ pub mod Lending
 pub mod Liquidating
 pub mod Noting
 pub mod Paying
+pub mod Placing
 pub mod Planning
 pub mod Pooling
 pub mod Reading
