@@ -1,8 +1,10 @@
 -- How the body of a record is read, and that it is the accepted one.
-use Rattle.std.proofs.Common.{◌≡◌, inl, inr, ℕ, zero, suc, ◌+◌, ◌*◌, ◌-◌, ◌<◌, ◌≤◌, List, ◌∷◌, ◌++◌, length, take, drop, slice_get, Option, Some, IfSome, Result, Ok, Err, Bool, true, false, not, if◌then◌else◌, refl, sym, ◌∙◌, ap, subst, arith, length-take, length-drop, take-append-drop}
+use Rattle.std.proofs.Common.{◌≡◌, inl, inr, ℕ, zero, suc, ◌+◌, ◌*◌, ◌-◌, ◌<◌, ◌≤◌, List, [], ◌∷◌, ◌++◌, length, take, drop, slice_get, Option, Some, IfSome, Result, Ok, Err, Bool, true, false, not, if◌then◌else◌, refl, sym, ◌∙◌, ap, subst, arith, length-take, length-drop, take-append-drop}
 use Rattle.std.specs.Result.{MatchResult}
 use Rattle.std.specs.Str.{bytes_eq}
+use Rattle.std.specs.Prelude.{All}
 use Rattle.std.proofs.lemmas.List.{take-take, take_at, drop-drop, take_all}
+use Rattle.std.proofs.lemmas.List.Elements.{All-cons, All-nil}
 use Rattle.liq_types.specs.declared.requests.Command.{Command}
 use Rattle.liq_wire.specs.Fields.{command_of}
 use Rattle.liq_journal.specs.declared.damage.What.{What}
@@ -16,7 +18,7 @@ use Rattle.liq_journal.specs.Settled.{JournalOn}
 use Rattle.liq_journal.specs.Tested.{IsBodyRead, IsFaultRead}
 use Rattle.liq_journal.specs.Looked.{IsRead}
 use Rattle.liq_journal.specs.Layout.{piece}
-use Rattle.liq_journal.specs.Written.{Written, Open, record_on, record_digest, command_from, is_rotate, found_records, most_records}
+use Rattle.liq_journal.specs.Written.{Written, Open, record_on, record_digest, command_from, is_rotate, found_on, found_records, most_records, start_of}
 use Rattle.liq_journal.proofs.Reading.{records_whole, records_none, records_zero, whole_long}
 use Rattle.liq_journal.proofs.Heading.{is_open, of_records, record_open}
 use Rattle.liq_journal.proofs.Told.{if_some}
@@ -38,12 +40,31 @@ by_digest : (differs : Bool) (what : What) (place : ℕ) (read : Result Command 
 by_digest true what place read command is = absurd (cc (is))
 by_digest false what place read command is = is
 
-pub body_spells : (generation index place : ℕ) (body stored : List ℕ) (command : Command) → length body ≡ 96 → record_on generation index place (body ++ stored) ≡ Ok command → IsBodyOf body command
+-- a record that is read spells its command, which is no rotation
+read_from : (generation index place : ℕ) (raw : List ℕ) (command : Command) → record_on generation index place raw ≡ Ok command → (command_of (take 96 raw) ≡ Ok command) × (is_rotate command.call ≡ false)
 unfolding record_on
+read_from generation index place raw command is =
+    from_command place (command_of (take 96 raw)) command (by_digest (not (bytes_eq (drop 96 raw) (record_digest generation index (take 96 raw)))) (Digest (drop 96 raw) (record_digest generation index (take 96 raw))) place (command_of (take 96 raw)) command is)
+
+no_rotations : (generation : ℕ) (checkpoint : List ℕ) (index place : ℕ) (raws : List (List ℕ)) (w : Written) → found_records generation checkpoint index place raws ≡ Open w → All (λ (c : Command). is_rotate c.call ≡ false) w.commands
+no_rotations generation checkpoint index place [] w is =
+    let e : record { generation = generation; checkpoint = checkpoint; commands = [] } ≡ w = cc in
+    subst (λ (v : Written). All (λ (c : Command). is_rotate c.call ≡ false) v.commands) e (All-nil (λ (c : Command). is_rotate c.call ≡ false))
+no_rotations generation checkpoint index place (raw ∷ raws) w is =
+    let o = record_open index (record_on generation index (place + 1) raw) (found_records generation checkpoint (index + 1) (place + 129) raws) w is in
+    let rest = no_rotations generation checkpoint (index + 1) (place + 129) raws o.others o.behind in
+    subst (λ (v : Written). All (λ (c : Command). is_rotate c.call ≡ false) v.commands) (sym o.together)
+    (All-cons (λ (c : Command). is_rotate c.call ≡ false) o.command o.others.commands (read_from generation index (place + 1) raw o.command o.is).1 rest)
+
+-- so no record of an open disk is one
+pub found_no_rotation : (odd : Bool) (bytes : List ℕ) (w : Written) → found_on odd bytes ≡ Open w → All (λ (c : Command). is_rotate c.call ≡ false) w.commands
+found_no_rotation odd bytes w found = no_rotations w.generation w.checkpoint 1 (start_of w) (records most_records (drop (start_of w) bytes)) w (is_open odd bytes w found).behind
+
+pub body_spells : (generation index place : ℕ) (body stored : List ℕ) (command : Command) → length body ≡ 96 → record_on generation index place (body ++ stored) ≡ Ok command → IsBodyOf body command
 body_spells generation index place body stored command size is =
     let raw = body ++ stored in
     let front : take 96 raw ≡ body = take_at body stored 96 size in
-    let from = from_command place (command_of (take 96 raw)) command (by_digest (not (bytes_eq (drop 96 raw) (record_digest generation index (take 96 raw)))) (Digest (drop 96 raw) (record_digest generation index (take 96 raw))) place (command_of (take 96 raw)) command is) in
+    let from = read_from generation index place raw command is in
     record { spelled = ap command_of (sym front) ∙ from.0; no_rotation = from.1 }
 
 -- the command that is read spells its body

@@ -317,4 +317,4 @@ module _ {D : Type 0} (moment : D → ℕ) (left_at : D → ℕ → List ℕ →
 
   -- what is read at the end is what a crash may leave then
   pub reads_then : (seen : D → Option (List ℕ)) (old new : D) (generation : ℕ) (checkpoint : List ℕ) → ((held : List ℕ) → seen new ≡ Some held → LeftNow moment left_at new held) → CrashOfCreate seen moment left_at old new generation checkpoint → ReadsOfCreate seen moment left_at old new generation checkpoint
-  reads_then seen old new generation checkpoint stays crash held after told only fits told_after = at_last moment left_at old new (CreateLeaves (is_odd generation) held (beginning generation checkpoint)) (crash held told only fits) after (stays after told_after)
+  reads_then seen old new generation checkpoint stays crash held after told only told_after = at_last moment left_at old new (CreateLeaves (is_odd generation) held (beginning generation checkpoint)) (crash held told only) after (stays after told_after)

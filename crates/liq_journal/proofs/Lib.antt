@@ -7,6 +7,7 @@ mod HeaderFound
 pub mod Heading
 pub mod Looks
 mod Opening
+pub mod Parity
 mod Parting
 pub mod Reading
 mod Scanning

@@ -1,17 +1,17 @@
 -- What an opening leaves and finds afterwards.
-use Rattle.std.proofs.Common.{◌≡◌, inl, inr, ⊎_elim, ℕ, ◌+◌, ◌*◌, ◌-◌, ◌≤◌, List, length, take, drop, Option, Some, None, IfSome, IsSome, ◌↔◌, true, false, rules, Bool, refl, sym, ◌∙◌, ap, subst, arith, length-drop}
+use Rattle.std.proofs.Common.{◌≡◌, inl, inr, ⊎_elim, ℕ, ◌+◌, ◌*◌, ◌-◌, ◌≤◌, List, length, take, drop, Option, Some, None, IfSome, IsSome, ◌↔◌, rules, Bool, refl, sym, ◌∙◌, ap, subst, arith, length-drop}
 use Rattle.liq_outside.specs.Disk.{LeavesOnly}
 use Rattle.liq_outside.proofs.Moments.{weaker}
 use Rattle.liq_journal.specs.Records.{records}
 use Rattle.liq_journal.specs.declared.scanned.Scanned.{Scanned}
-use Rattle.liq_journal.specs.Written.{Written, Open, Absent, most_records, found_on, start_of, end_of, is_generation}
+use Rattle.liq_journal.specs.Written.{Written, Open, Absent, most_records, found_on, start_of, end_of}
 use Rattle.liq_journal.specs.Crash.{HasGate, SettleLeaves, Stands, is_odd}
 use Rattle.liq_journal.specs.Settled.{IsSettled}
-use Rattle.std.proofs.lemmas.Bool.Decides.{nat_tests}
 use Rattle.liq_journal.specs.Opened.{IsOpened, IsScanOf, OpenLeaves, AbsentLeaves}
 use Rattle.liq_journal.proofs.Reading.{records_long, records_few}
 use Rattle.liq_journal.proofs.Heading.{has_generation, is_open, of_records}
 use Rattle.liq_journal.proofs.Appending.{held_on}
+use Rattle.liq_journal.proofs.Parity.{parity_of}
 
 module _ (odd : Bool) (held : List ℕ) (w : Written) (found : found_on odd held ≡ Open w) where
   abbrev raws : List (List ℕ)
@@ -66,12 +66,8 @@ module _ {D : Type 0} (moment : D → ℕ) (left_at : D → ℕ → List ℕ →
   leaves_absent found leaves = weaker moment left_at old new (AbsentLeaves held) (OpenLeaves odd held) leaves
       (λ image l. ⊎_elim (λ same. inl same) (λ byte. inr (0, inr (found, refl, byte.0), byte.1)) l)
 
-by_parity : (odd : Bool) (g : ℕ) → is_generation odd g ≡ true → is_odd g ≡ odd
-by_parity false g is = absurd (cc (is))
-by_parity true g is = let one : g ≡ 1 = grind (arith, nat_tests) in ap is_odd one
-
 parity : (odd : Bool) (held : List ℕ) (w : Written) → found_on odd held ≡ Open w → is_odd w.generation ≡ odd
-parity odd held w found = by_parity odd w.generation (has_generation odd held w found)
+parity odd held w found = parity_of odd w.generation (has_generation odd held w found)
 
 pub told_opened : (told : Option (List ℕ)) (odd : Bool) (s : Scanned) → IfSome told (λ held. IsScanOf odd held s) → IfSome told (λ held. IsOpened odd held s.generation s.start s.count s.checkpoint.items)
 told_opened None odd s scan = tt

@@ -10,9 +10,13 @@ use Rattle.liq_journal.specs.Written.{Open, Damaged, found_records, most_records
 pub record AreRecords (generation start : ℕ) (held : List ℕ) (count : ℕ) : Type 0 where
   pub commands : List Command
   pub counted : length commands ≡ count
-  pub found : (checkpoint : List ℕ) → found_records generation checkpoint 1 start (records most_records (drop start held)) ≡ Open (record { generation = generation; checkpoint = checkpoint; commands = commands })
+  pub found : (checkpoint : List ℕ)
+      → found_records generation checkpoint 1 start (records most_records (drop start held))
+      ≡ Open (record { generation = generation; checkpoint = checkpoint; commands = commands })
 
 -- the first fault of them
 abbrev pub IsFaultIn : ℕ → ℕ → List ℕ → LookFault → Type 0
 IsFaultIn generation start held fault.DiskFault = Unit {0}
-IsFaultIn generation start held (fault.Damaged damage) = (checkpoint : List ℕ) → found_records generation checkpoint 1 start (records most_records (drop start held)) ≡ Damaged damage
+IsFaultIn generation start held (fault.Damaged damage) =
+    (checkpoint : List ℕ)
+    → found_records generation checkpoint 1 start (records most_records (drop start held)) ≡ Damaged damage

@@ -1,10 +1,13 @@
 -- What a crash may leave of a journal.
-use Rattle.std.specs.Prelude.{◌≡◌, ◌⊎◌, ℕ, ◌+◌, ◌<◌, List, [], ◌∷◌, length, take, get_or, Bool, true, false, Option, Some, Ok, ◌%◌, ◌==◌}
+use Rattle.std.specs.Prelude.{◌≡◌, ◌⊎◌, ℕ, ◌+◌, ◌<◌, Bool, false}
+use Rattle.std.specs.Prelude.{List, [], ◌∷◌, length, take, get_or, Option, Some, Ok}
 use Rattle.liq_outside.specs.Disk.{LeavesOnly, LeftNow, Only, Torn, overwritten}
 use Rattle.liq_types.specs.declared.requests.Command.{Command}
 use Rattle.liq_wire.specs.Fields.{command_of}
 use Rattle.liq_journal.specs.Layout.{Layout, header_size, header_of, least_header}
-use Rattle.liq_journal.specs.Written.{is_generation, Written, Open, found_on, EndsWith, and_then, end_of, is_rotate, opened}
+use Rattle.liq_journal.specs.Written.{is_rotate, Written, Open, found_on, opened}
+use Rattle.liq_journal.specs.Written.{EndsWith, and_then, end_of}
+pub use Rattle.liq_journal.specs.Written.{is_odd}
 
 -- open with this, and a 0 behind the last record
 pub record Stands (odd : Bool) (bytes : List ℕ) (w : Written) : Type 0 where
@@ -18,7 +21,8 @@ pub record IsPending (odd : Bool) (bytes : List ℕ) (w : Written) (command : Co
   pub ended : EndsWith 0 bytes (and_then w command)
 
 abbrev pub BeforeOrAfter : Bool → Written → Command → List ℕ → Type 0
-BeforeOrAfter odd w command bytes = Stands odd bytes w ⊎ (IsPending odd bytes w command ⊎ Stands odd bytes (and_then w command))
+BeforeOrAfter odd w command bytes =
+    Stands odd bytes w ⊎ (IsPending odd bytes w command ⊎ Stands odd bytes (and_then w command))
 
 -- the body spells this command, which is no rotation
 pub record IsBodyOf (body : List ℕ) (command : Command) : Type 0 where
@@ -46,8 +50,8 @@ SettleLeaves place held bytes = (bytes ≡ held) ⊎ ((HasGate place held → �
 abbrev pub beginning : ℕ → List ℕ → Written
 beginning generation checkpoint = record { generation = generation; checkpoint = checkpoint; commands = [] }
 
--- A stop within a creation leaves nothing that is open, or what was there, with some byte at place 0 where no 0 is, or what is made,
--- with any byte there.
+-- A stop within a creation leaves nothing that is open, or what was there, with some byte at place 0 where no 0 is, or
+-- what is made, with any byte there.
 abbrev pub CreateLeaves : Bool → List ℕ → Written → List ℕ → Type 0
 CreateLeaves odd held w bytes = IsClosed bytes ⊎ (SettleLeaves 0 held bytes ⊎ Stands odd (opened 0 bytes) w)
 
@@ -62,20 +66,21 @@ filled layout generation checkpoint held =
     let with_checkpoint = overwritten with_header (header_size layout) checkpoint in
     overwritten with_checkpoint (header_size layout + length checkpoint) (0 ∷ [])
 
--- the parity of a generation
-abbrev pub is_odd : ℕ → Bool
-is_odd n = (n % 2) == 1
-
 -- what a crash may leave of a disk on which a journal is created, whose content is told and on the disk
-abbrev pub CrashOfCreate : {D : Type 0} → (D → Option (List ℕ)) → (D → ℕ) → (D → ℕ → List ℕ → Type 0) → D → D → ℕ → List ℕ → Type 0
+abbrev pub CrashOfCreate : {D : Type 0}
+    → (D → Option (List ℕ)) → (D → ℕ) → (D → ℕ → List ℕ → Type 0)
+    → D → D → ℕ → List ℕ → Type 0
 CrashOfCreate seen moment left_at old new generation checkpoint =
-    (held : List ℕ) → seen old ≡ Some held → Only held (LeftNow moment left_at old) → is_generation (is_odd generation) generation ≡ true
+    (held : List ℕ) → seen old ≡ Some held → Only held (LeftNow moment left_at old)
     → LeavesOnly moment left_at old new (CreateLeaves (is_odd generation) held (beginning generation checkpoint))
 
 -- what it reads afterwards, if nothing was pending
-abbrev pub ReadsOfCreate : {D : Type 0} → (D → Option (List ℕ)) → (D → ℕ) → (D → ℕ → List ℕ → Type 0) → D → D → ℕ → List ℕ → Type 0
+abbrev pub ReadsOfCreate : {D : Type 0}
+    → (D → Option (List ℕ)) → (D → ℕ) → (D → ℕ → List ℕ → Type 0)
+    → D → D → ℕ → List ℕ → Type 0
 ReadsOfCreate seen moment left_at old new generation checkpoint =
-    (held after : List ℕ) → seen old ≡ Some held → Only held (LeftNow moment left_at old) → is_generation (is_odd generation) generation ≡ true → seen new ≡ Some after
+    (held after : List ℕ) → seen old ≡ Some held → Only held (LeftNow moment left_at old)
+    → seen new ≡ Some after
     → CreateLeaves (is_odd generation) held (beginning generation checkpoint) after
 
 -- these bytes behind a gate, which is opened
@@ -84,4 +89,5 @@ gated gate bytes held = overwritten (overwritten held (gate + 1) bytes) gate (1 
 
 -- any part of the bytes behind the gate, or all of them and any gate
 abbrev pub GatedLeaves : ℕ → List ℕ → List ℕ → List ℕ → Type 0
-GatedLeaves gate held bytes image = Torn (gate + 1) (length bytes) held image ⊎ Torn gate 1 (overwritten held (gate + 1) bytes) image
+GatedLeaves gate held bytes image =
+    Torn (gate + 1) (length bytes) held image ⊎ Torn gate 1 (overwritten held (gate + 1) bytes) image

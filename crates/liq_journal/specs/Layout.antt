@@ -1,6 +1,7 @@
 -- What stands where in a header. The gate is at place 0, the name from place 1 on, the generation at place 9, and the
 -- checkpoint's length at place 17. Then come the fields that only one version has, the digest, and the checkpoint.
-use Rattle.std.specs.Prelude.{◌≡◌, ◌≤◌, ℕ, ◌+◌, ◌^◌, List, [], ◌∷◌, ◌++◌, length, take, drop}
+use Rattle.std.specs.Prelude.{◌≡◌, ◌≤◌, ℕ, ◌+◌, ◌^◌}
+use Rattle.std.specs.Prelude.{List, [], ◌∷◌, ◌++◌, length, take, drop}
 use Rattle.byteorder.specs.Endian.{big_bytes}
 use Rattle.sha2.specs.Sha256.{sha256}
 use Rattle.liq_wire.specs.Fields.{number_at}
@@ -29,7 +30,8 @@ least_header = 57
 abbrev pub start_most : ℕ
 start_most = header_size version_1 + 2 ^ 36
 
--- What a version has to meet: its name fills the places up to the generation, and its fields end within the least header.
+-- What a version has to meet: its name fills the places up to the generation, and its fields end within the least
+-- header.
 pub record IsVersion (layout : Layout) : Type 0 where
   pub named : length layout.name ≡ 8
   pub fields : 1 + fields_size layout ≤ least_header

@@ -44,7 +44,8 @@ IsUnsettled odd held place =
 
 -- An opening leaves the bytes as they were, or with some byte where it shuts one.
 abbrev pub OpenLeaves : Bool → List ℕ → List ℕ → Type 0
-OpenLeaves odd held bytes = (bytes ≡ held) ⊎ ((place : ℕ) × IsUnsettled odd held place × HasByteAt place held bytes)
+OpenLeaves odd held bytes =
+    (bytes ≡ held) ⊎ ((place : ℕ) × IsUnsettled odd held place × HasByteAt place held bytes)
 
 abbrev pub AbsentLeaves : List ℕ → List ℕ → Type 0
 AbsentLeaves held bytes = (bytes ≡ held) ⊎ (IsUnshut held × HasByteAt 0 held bytes)
@@ -73,9 +74,14 @@ pub record IsOpened (odd : Bool) (held : List ℕ) (generation start count : ℕ
   pub checkpoint_is : written.checkpoint ≡ checkpoint
 
 -- what a crash may leave of a disk that is opened, whose content is told and on the disk
-abbrev pub CrashOfOpen : {D : Type 0} → (D → Option (List ℕ)) → (D → ℕ) → (D → ℕ → List ℕ → Type 0) → D → D → Bool → Type 0
-CrashOfOpen seen moment left_at old new odd = (held : List ℕ) → seen old ≡ Some held → Only held (LeftNow moment left_at old) → LeavesOnly moment left_at old new (OpenLeaves odd held)
+abbrev pub CrashOfOpen : {D : Type 0}
+    → (D → Option (List ℕ)) → (D → ℕ) → (D → ℕ → List ℕ → Type 0)
+    → D → D → Bool → Type 0
+CrashOfOpen seen moment left_at old new odd =
+    (held : List ℕ) → seen old ≡ Some held → Only held (LeftNow moment left_at old)
+    → LeavesOnly moment left_at old new (OpenLeaves odd held)
 
 -- what it reads afterwards, whatever was pending
 abbrev pub ReadsOfOpen : {D : Type 0} → (D → Option (List ℕ)) → D → D → Bool → Type 0
-ReadsOfOpen seen old new odd = (held after : List ℕ) → seen old ≡ Some held → seen new ≡ Some after → OpenLeaves odd held after
+ReadsOfOpen seen old new odd =
+    (held after : List ℕ) → seen old ≡ Some held → seen new ≡ Some after → OpenLeaves odd held after

@@ -1,5 +1,6 @@
 -- The records behind a header, as bytes.
-use Rattle.std.specs.Prelude.{ℕ, zero, suc, List, [], ◌∷◌, length, take, drop, get_or, Bool, ◌&&◌, ◌==◌, nat_lt, if◌then◌else◌}
+use Rattle.std.specs.Prelude.{ℕ, zero, suc, List, [], ◌∷◌, length, take, drop, get_or}
+use Rattle.std.specs.Prelude.{Bool, ◌&&◌, ◌==◌, nat_lt, if◌then◌else◌}
 
 -- a record begins here: an open gate, and its 128 bytes are there
 abbrev pub begins_whole : List ℕ → Bool

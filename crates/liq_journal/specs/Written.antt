@@ -1,5 +1,7 @@
 -- What one disk is: absent, damaged, or open with its generation, its checkpoint and its commands.
-use Rattle.std.specs.Prelude.{◌≡◌, ℕ, ◌+◌, ◌*◌, ◌<◌, List, [], ◌∷◌, ◌++◌, length, take, drop, get_or, Option, Some, None, Result, Ok, Err, Bool, true, false, not, ◌||◌, ◌&&◌, ◌==◌, nat_lt, if◌then◌else◌}
+use Rattle.std.specs.Prelude.{◌≡◌, ℕ, ◌+◌, ◌*◌, ◌%◌, ◌<◌, Option, Some, None, Result, Ok, Err}
+use Rattle.std.specs.Prelude.{List, [], ◌∷◌, ◌++◌, length, take, drop, get_or}
+use Rattle.std.specs.Prelude.{Bool, true, false, not, ◌||◌, ◌&&◌, ◌==◌, nat_lt, nat_le, if◌then◌else◌}
 use Rattle.std.specs.Str.{bytes_eq}
 use Rattle.byteorder.specs.Endian.{big_bytes}
 use Rattle.sha2.specs.Sha256.{sha256}
@@ -11,15 +13,20 @@ use Rattle.liq_outside.specs.Disk.{overwritten}
 use Rattle.liq_journal.specs.declared.damage.Damage.{Damage}
 use Rattle.liq_journal.specs.declared.damage.What.{What}
 use Rattle.liq_journal.specs.declared.damage.What.TheVariants.{Digest, Form}
-use Rattle.liq_journal.specs.Layout.{Layout, version_1, header_size, least_header, name_on, generation_on, size_on, own_on, stored_on, checkpoint_on, start_on, digest_on}
+use Rattle.liq_journal.specs.Layout.{Layout, version_1, header_size, least_header, name_on, generation_on, size_on}
+use Rattle.liq_journal.specs.Layout.{own_on, stored_on, checkpoint_on, start_on, digest_on}
 use Rattle.liq_journal.specs.Records.{records}
 
 unfoldable pub record_digest : ℕ → ℕ → List ℕ → List ℕ
 record_digest generation index body = sha256 (big_bytes 8 generation ++ big_bytes 8 index ++ body)
 
--- The generations that a disk may have. Until there is rotation, the left one has generation 1, and the right one none.
+-- the parity of a generation
+abbrev pub is_odd : ℕ → Bool
+is_odd n = (n % 2) == 1
+
+-- The generations that a disk may have, from 1 on: the odd ones, or the even ones.
 abbrev pub is_generation : Bool → ℕ → Bool
-is_generation odd generation = odd && (generation == 1)
+is_generation odd generation = nat_le 1 generation && (if odd then is_odd generation else not (is_odd generation))
 
 -- The first generation begins with the opening state and has no checkpoint, every other has one.
 abbrev pub is_size : ℕ → ℕ → Bool
@@ -102,9 +109,11 @@ found_record index (Err what) rest = Damaged (record { index = index; what = wha
 
 -- the records from this one on, whose gate stands at the place
 abbrev pub found_records : ℕ → List ℕ → ℕ → ℕ → List (List ℕ) → Found
-found_records generation checkpoint index place [] = Open (record { generation = generation; checkpoint = checkpoint; commands = [] })
+found_records generation checkpoint index place [] =
+    Open (record { generation = generation; checkpoint = checkpoint; commands = [] })
 found_records generation checkpoint index place (raw ∷ raws) =
-    found_record index (record_on generation index (place + 1) raw) (found_records generation checkpoint (index + 1) (place + 129) raws)
+    found_record index (record_on generation index (place + 1) raw)
+    (found_records generation checkpoint (index + 1) (place + 129) raws)
 
 -- one record more than a replay accepts
 abbrev pub most_records : ℕ
@@ -113,7 +122,8 @@ most_records = 1000001
 abbrev pub found_behind : Layout → List ℕ → Option What → Found
 found_behind layout bytes (Some what) = Damaged (record { index = 0; what = what })
 found_behind layout bytes None =
-    found_records (generation_on bytes) (checkpoint_on layout bytes) 1 (start_on layout bytes) (records most_records (drop (start_on layout bytes) bytes))
+    found_records (generation_on bytes) (checkpoint_on layout bytes) 1 (start_on layout bytes)
+    (records most_records (drop (start_on layout bytes) bytes))
 
 -- by the tests of this version
 abbrev pub found_in : Layout → Bool → List ℕ → Found

@@ -2,9 +2,9 @@
 ghost use Rattle.std.specs.Prelude.{◌≡◌, ◌≤◌, ◌+◌, ◌^◌, ◌↔◌, Some, true, List, ℕ, length, option_map, OnOk, IfSome, IsSome};
 ghost use Rattle.liq_outside.specs.Disk.{GoesOn, LeavesOnly, LeftNow, Only, overwritten};
 ghost use Rattle.liq_outside.specs.Faults.{HasCause};
-ghost use Rattle.liq_journal.specs.Crash.{CreateLeaves, ReadsOfCreate, IsShut, Stands, beginning, filled, is_odd};
+ghost use Rattle.liq_journal.specs.Crash.{CrashOfCreate, ReadsOfCreate, IsShut, Stands, beginning, filled, is_odd};
 ghost use Rattle.liq_journal.specs.Layout.{version_1};
-ghost use Rattle.liq_journal.specs.Written.{is_generation, is_size};
+ghost use Rattle.liq_journal.specs.Written.{is_size};
 
 use crate::bytes::write_synced;
 use crate::digests::header_bytes;
@@ -48,14 +48,14 @@ pub fn fill<D: Disk>(disk: &mut D, generation: u64, checkpoint: &[u8]) -> Result
 
 // The three parts of a creation, of at most four device calls each.
 pub fn make<D: Disk>(disk: &mut D, generation: u64, checkpoint: &[u8]) -> Result<(), Failed>
+    requires from_one { 1 ≤ generation }
     requires limit { length checkpoint.now ≤ 2 ^ 36 }
     requires size { is_size generation (length checkpoint.now) ≡ true }
-    ensures created { OnOk result ((held : List ℕ) → D.seen disk.old ≡ Some held → is_generation (is_odd generation) generation ≡ true
+    ensures created { OnOk result ((held : List ℕ) → D.seen disk.old ≡ Some held
         → (after : List ℕ) × (D.seen disk.new ≡ Some after) × Stands (is_odd generation) after (beginning generation checkpoint.now)) }
     ensures durable { OnOk result (IfSome (D.seen disk.new) (λ after. Only after (LeftNow D.moment D.left_at disk.new))) }
     ensures telling { IsSome (D.seen disk.new) ↔ IsSome (D.seen disk.old) }
-    ensures crash { (held : List ℕ) → D.seen disk.old ≡ Some held → Only held (LeftNow D.moment D.left_at disk.old) → is_generation (is_odd generation) generation ≡ true
-        → LeavesOnly D.moment D.left_at disk.old disk.new (CreateLeaves (is_odd generation) held (beginning generation checkpoint.now)) }
+    ensures crash { CrashOfCreate D.seen D.moment D.left_at disk.old disk.new generation checkpoint.now }
     ensures reads { ReadsOfCreate D.seen D.moment D.left_at disk.old disk.new generation checkpoint.now }
     ensures time { GoesOn D.moment D.left_at disk.old disk.new }
     ensures cause { HasCause (D.faults disk.old) (D.faults disk.new) result }

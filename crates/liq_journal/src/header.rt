@@ -55,11 +55,11 @@ fn u64_at(bytes: &[u8], at: usize) -> u64
     BigEndian::read_u64(&bytes[at..])
 }
 
-// Until there is rotation only the left disk, which has the odd generations, has one, and it is 1.
+// Whether a disk has this generation, of the odd ones or of the even ones.
 fn may_have(odd: bool, generation: u64) -> bool
     ensures { result ≡ is_generation odd generation }
 {
-    odd && generation == 1
+    generation >= 1 && (generation % 2 == 1) == odd
 }
 
 fn may_be_long(generation: u64, size: u64) -> bool

@@ -26,6 +26,7 @@ use liq_outside::Disk;
 use liq_types::Command;
 use std::alloc::Global;
 use std::marker::Model;
+use std::mem;
 
 // A gate byte, 96 bytes of a command and 32 of their digest.
 pub const RECORD: u64 = 129;
@@ -66,9 +67,9 @@ impl<D: Disk> Journal<D> {
         requires size { is_size generation (length checkpoint.now) ≡ true }
 
         ensures known { IfOk result (λ j. (j.generation ≡ generation) × (j.start ≡ start_of (beginning generation checkpoint.now)) × (j.count ≡ 0)) }
-        ensures created { IfOk result (λ j. (held : List ℕ) → D.seen disk ≡ Some held → is_generation (is_odd generation) generation ≡ true
+        ensures created { IfOk result (λ j. (held : List ℕ) → D.seen disk ≡ Some held
             → (after : List ℕ) × (D.seen j.disk ≡ Some after) × Stands (is_odd generation) after (beginning generation checkpoint.now)) }
-        ensures settled { IfOk result (λ j. is_generation (is_odd generation) generation ≡ true → IfSome (D.seen j.disk) (IsSettled j.generation j.start j.count)) }
+        ensures settled { IfOk result (λ j. IfSome (D.seen j.disk) (IsSettled j.generation j.start j.count)) }
         ensures durable { IfOk result (λ j. IfSome (D.seen j.disk) (λ after. Only after (LeftNow D.moment D.left_at j.disk))) }
         ensures telling { MatchResult result (λ j. IsSome (D.seen j.disk) ↔ IsSome (D.seen disk)) (λ e. IsSome (D.seen e.disk) ↔ IsSome (D.seen disk)) }
         ensures crash { MatchResult result (λ j. CrashOfCreate D.seen D.moment D.left_at disk j.disk generation checkpoint.now) (λ e. CrashOfCreate D.seen D.moment D.left_at disk e.disk generation checkpoint.now) }
@@ -89,6 +90,62 @@ impl<D: Disk> Journal<D> {
             }),
             Err(_) => Err(CreateFault { disk }),
         }
+    }
+
+    /// Begins the next generation on the other disk, with this checkpoint and without records. That disk is then this
+    /// journal's, and `beside` is the one that the journal had, as it was. The checkpoint has at most 2^36 bytes, and
+    /// none exactly in generation 1.
+    ///
+    /// After `DiskFault` the journal is as it was, on its own disk. A crash leaves of the other disk what one in `create`
+    /// leaves.
+    pub fn turn(&mut self, beside: &mut D, checkpoint: &[u8]) -> Result<(), DiskFault>
+        requires more { self.old.generation + 1 < 2 ^ 64 }
+        requires limit { length checkpoint.now ≤ 2 ^ 36 }
+        requires size { is_size (self.old.generation + 1) (length checkpoint.now) ≡ true }
+
+        ensures exchanged { OnOk result (beside.new ≡ self.old.disk) }
+        ensures kept { OnErr result (self.new ≡ self.old) }
+        ensures known { OnOk result ((self.new.generation ≡ self.old.generation + 1)
+            × (self.new.start ≡ start_of (beginning (self.old.generation + 1) checkpoint.now)) × (self.new.count ≡ 0)) }
+
+        // The disk that was beside is the journal's at `Ok`, and still beside after a fault.
+        ensures created { OnOk result ((held : List ℕ) → D.seen beside.old ≡ Some held
+            → (after : List ℕ) × (D.seen self.new.disk ≡ Some after)
+            × Stands (is_odd (self.old.generation + 1)) after (beginning (self.old.generation + 1) checkpoint.now)) }
+        ensures settled { OnOk result (IfSome (D.seen self.new.disk)
+            (IsSettled self.new.generation self.new.start self.new.count)) }
+        ensures durable { OnOk result (IfSome (D.seen self.new.disk)
+            (λ after. Only after (LeftNow D.moment D.left_at self.new.disk))) }
+        ensures telling { MatchResult result
+            (λ _. IsSome (D.seen self.new.disk) ↔ IsSome (D.seen beside.old))
+            (λ _. IsSome (D.seen beside.new) ↔ IsSome (D.seen beside.old)) }
+        ensures crash { MatchResult result
+            (λ _. CrashOfCreate D.seen D.moment D.left_at beside.old self.new.disk
+            (self.old.generation + 1) checkpoint.now)
+            (λ _. CrashOfCreate D.seen D.moment D.left_at beside.old beside.new
+            (self.old.generation + 1) checkpoint.now) }
+
+        // What is read afterwards, after a fault too.
+        ensures reads { MatchResult result
+            (λ _. ReadsOfCreate D.seen D.moment D.left_at beside.old self.new.disk
+            (self.old.generation + 1) checkpoint.now)
+            (λ _. ReadsOfCreate D.seen D.moment D.left_at beside.old beside.new
+            (self.old.generation + 1) checkpoint.now) }
+
+        ensures time { MatchResult result
+            (λ _. GoesOn D.moment D.left_at beside.old self.new.disk)
+            (λ _. GoesOn D.moment D.left_at beside.old beside.new) }
+        ensures cause { MatchResult result
+            (λ _. D.faults self.new.disk ≡ D.faults beside.old)
+            (λ _. Counted (D.faults beside.old) (D.faults beside.new)) }
+    {
+        let generation = self.generation + 1;
+        make(beside, generation, checkpoint)?;
+        mem::swap(&mut self.disk, beside);
+        self.generation = generation;
+        self.start = HEADER + checkpoint.len() as u64;
+        self.count = 0;
+        Ok(())
     }
 
     /// Opens the journal of a disk, and gives the checkpoint's bytes; `odd` says whether this disk has the
@@ -225,6 +282,13 @@ impl<D: Disk> Journal<D> {
     {
         let gate = self.start + RECORD * (index - 1);
         read_command(&mut self.disk, block, self.generation, index, gate)
+    }
+
+    /// The generation, from 1.
+    pub fn generation(&self) -> u64
+        ensures { result ≡ self.now.generation }
+    {
+        self.generation
     }
 
     /// How many records there are.

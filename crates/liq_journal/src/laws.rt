@@ -1,5 +1,5 @@
 //! Laws of a journal's bytes.
-ghost use Rattle.std.specs.Prelude.{◌≡◌, ◌+◌, ◌*◌, ◌++◌, ◌<◌, ◌≤◌, Ok, Err, Bool, List, ℕ, length, take, drop};
+ghost use Rattle.std.specs.Prelude.{◌≡◌, ◌+◌, ◌*◌, ◌++◌, ◌<◌, ◌≤◌, All, Ok, Err, Bool, false, List, ℕ, length, take, drop};
 ghost use Rattle.liq_journal.specs.Records.{records};
 ghost use Rattle.liq_journal.specs.Crash.{Stands};
 ghost use Rattle.liq_outside.specs.Disk.{Torn};
@@ -8,7 +8,8 @@ ghost use Rattle.liq_journal.specs.declared.answers.Look.TheVariants as Look;
 ghost use Rattle.liq_journal.specs.declared.answers.LookFault.TheVariants.{Damaged};
 ghost use Rattle.liq_journal.specs.Look.{look_on};
 ghost use Rattle.liq_journal.specs.Written as Found;
-ghost use Rattle.liq_journal.specs.Written.{Open, Written, end_of, found_on, found_records, most_records, start_of};
+ghost use Rattle.liq_journal.specs.Written.{Open, Written, end_of, found_on, is_rotate, start_of};
+ghost use Rattle.liq_journal.specs.Written.{found_records, most_records};
 
 /// A front of whole records that other bytes have too is read there too, and then what stands behind it.
 pub fn a_front_is_read()
@@ -23,6 +24,12 @@ pub fn a_header_is_decided()
 /// Any part of a write behind the closed gate at the end leaves what is found.
 pub fn behind_the_gate_nothing_counts()
     ensures { (odd : Bool) (held image : List ℕ) (w : Written) (n : ℕ) → Stands odd held w → length w.commands < 1000000 → Torn (end_of w + 1) n held image → Stands odd image w }
+{}
+
+/// No record of an open disk is a rotation.
+pub fn no_record_is_a_rotation()
+    ensures { (odd : Bool) (bytes : List ℕ) (w : Written) → found_on odd bytes ≡ Open w
+        → All (λ c. is_rotate c.call ≡ false) w.commands }
 {}
 
 /// A look agrees with an opening: the same damage of the header, none open on both, or the generation.

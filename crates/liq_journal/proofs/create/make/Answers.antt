@@ -1,26 +1,26 @@
-use Rattle.std.proofs.Common.{◌≡◌, ◌∙◌, List, ℕ, ◌∷◌, [], Some, option_map, true, rules}
+use Rattle.std.proofs.Common.{◌≡◌, ◌∙◌, List, ℕ, ◌∷◌, [], Some, option_map, rules}
 use Rattle.liq_outside.specs.Disk.{overwritten}
 use Rattle.liq_journal.specs.Crash.{Stands, beginning}
 use Rattle.liq_journal.specs.Crash.{is_odd}
-use Rattle.liq_journal.specs.Written.{is_generation}
 use Rattle.liq_journal.proofs.Creating.{some_is, gate_shut, only_shut, after_shut, after_fill, after_open, made, reads_then}
+use Rattle.liq_journal.proofs.Parity.{of_its_parity}
 use Rattle.liq_outside.proofs.Moments.{joined}
 use Rattle.liq_journal.proofs.Going.{cause_on, on_ok_from, telling_on}
 use Rattle.liq_journal.proofs.create.make.Goals as goal
 
 pub returns-in_err-settle-clause-crash : goal.returns-in_err-settle-clause-crash
-returns-in_err-settle-clause-crash g c = λ held told only fits. after_shut g.D.Disk.moment g.D.Disk.left_at g.D.Disk.seen c.args.disk.now c.settle.new.disk c.settle.new.disk c.settle.new.disk held c.args.generation c.args.checkpoint.now (c.settle.ensures.crash held told only)
+returns-in_err-settle-clause-crash g c = λ held told only. after_shut g.D.Disk.moment g.D.Disk.left_at g.D.Disk.seen c.args.disk.now c.settle.new.disk c.settle.new.disk c.settle.new.disk held c.args.generation c.args.checkpoint.now (c.settle.ensures.crash held told only)
 
 pub returns-in_err-fill-clause-crash : goal.returns-in_err-fill-clause-crash
-returns-in_err-fill-clause-crash g c = λ held told only fits. after_fill g.D.Disk.moment g.D.Disk.left_at g.D.Disk.seen c.args.disk.now c.settle.new.disk c.fill.new.disk c.fill.new.disk held c.args.generation c.args.checkpoint.now (c.settle.ensures.crash held told only) (c.fill.ensures.crash (only_shut g.D.Disk.moment g.D.Disk.left_at c.settle.new.disk (g.D.Disk.seen c.settle.new.disk) (gate_shut (g.D.Disk.seen c.settle.new.disk) c.in_ok-settle.ensures.settled) (c.in_ok-settle.ensures.durable held told only) (c.settle.ensures.telling.1 (some_is (g.D.Disk.seen c.args.disk.now) held told))))
+returns-in_err-fill-clause-crash g c = λ held told only. after_fill g.D.Disk.moment g.D.Disk.left_at g.D.Disk.seen c.args.disk.now c.settle.new.disk c.fill.new.disk c.fill.new.disk held c.args.generation c.args.checkpoint.now (c.settle.ensures.crash held told only) (c.fill.ensures.crash (only_shut g.D.Disk.moment g.D.Disk.left_at c.settle.new.disk (g.D.Disk.seen c.settle.new.disk) (gate_shut (g.D.Disk.seen c.settle.new.disk) c.in_ok-settle.ensures.settled) (c.in_ok-settle.ensures.durable held told only) (c.settle.ensures.telling.1 (some_is (g.D.Disk.seen c.args.disk.now) held told))))
 
 pub returns-clause-crash : goal.returns-clause-crash
-returns-clause-crash g c = λ held told only fits. after_open g.D.Disk.moment g.D.Disk.left_at g.D.Disk.seen c.args.disk.now c.settle.new.disk c.fill.new.disk c.write_synced.new.disk held c.args.generation c.args.checkpoint.now (search rules) (search rules) fits c.requires.size (gate_shut (g.D.Disk.seen c.settle.new.disk) c.in_ok-settle.ensures.settled) (c.settle.ensures.telling.1 (some_is (g.D.Disk.seen c.args.disk.now) held told)) c.in_ok-fill.ensures.filled (after_fill g.D.Disk.moment g.D.Disk.left_at g.D.Disk.seen c.args.disk.now c.settle.new.disk c.fill.new.disk c.write_synced.new.disk held c.args.generation c.args.checkpoint.now (c.settle.ensures.crash held told only) (c.fill.ensures.crash (only_shut g.D.Disk.moment g.D.Disk.left_at c.settle.new.disk (g.D.Disk.seen c.settle.new.disk) (gate_shut (g.D.Disk.seen c.settle.new.disk) c.in_ok-settle.ensures.settled) (c.in_ok-settle.ensures.durable held told only) (c.settle.ensures.telling.1 (some_is (g.D.Disk.seen c.args.disk.now) held told))))) c.in_ok-fill.ensures.durable c.write_synced.ensures.crash
+returns-clause-crash g c = λ held told only. after_open g.D.Disk.moment g.D.Disk.left_at g.D.Disk.seen c.args.disk.now c.settle.new.disk c.fill.new.disk c.write_synced.new.disk held c.args.generation c.args.checkpoint.now (search rules) (search rules) (of_its_parity c.args.generation c.requires.from_one) c.requires.size (gate_shut (g.D.Disk.seen c.settle.new.disk) c.in_ok-settle.ensures.settled) (c.settle.ensures.telling.1 (some_is (g.D.Disk.seen c.args.disk.now) held told)) c.in_ok-fill.ensures.filled (after_fill g.D.Disk.moment g.D.Disk.left_at g.D.Disk.seen c.args.disk.now c.settle.new.disk c.fill.new.disk c.write_synced.new.disk held c.args.generation c.args.checkpoint.now (c.settle.ensures.crash held told only) (c.fill.ensures.crash (only_shut g.D.Disk.moment g.D.Disk.left_at c.settle.new.disk (g.D.Disk.seen c.settle.new.disk) (gate_shut (g.D.Disk.seen c.settle.new.disk) c.in_ok-settle.ensures.settled) (c.in_ok-settle.ensures.durable held told only) (c.settle.ensures.telling.1 (some_is (g.D.Disk.seen c.args.disk.now) held told))))) c.in_ok-fill.ensures.durable c.write_synced.ensures.crash
 
 pub returns-clause-created : goal.returns-clause-created
 returns-clause-created g c = on_ok_from c.write_synced.result (g.D.Disk.seen c.write_synced.new.disk ≡ option_map (λ (l : List ℕ). overwritten l 0 (1 ∷ [])) (g.D.Disk.seen c.fill.new.disk))
-    ((held : List ℕ) → g.D.Disk.seen c.args.disk.now ≡ Some held → is_generation (is_odd c.args.generation) c.args.generation ≡ true → (x : List ℕ) × (g.D.Disk.seen c.write_synced.new.disk ≡ Some x) × Stands (is_odd c.args.generation) x (beginning c.args.generation c.args.checkpoint.now))
-    (λ gate held told fits. made g.D.Disk.moment g.D.Disk.left_at g.D.Disk.seen c.args.disk.now c.settle.new.disk c.fill.new.disk c.write_synced.new.disk held c.args.generation c.args.checkpoint.now (search rules) (search rules) fits c.requires.size (gate_shut (g.D.Disk.seen c.settle.new.disk) c.in_ok-settle.ensures.settled) (c.settle.ensures.telling.1 (some_is (g.D.Disk.seen c.args.disk.now) held told)) c.in_ok-fill.ensures.filled gate) c.write_synced.ensures.written
+    ((held : List ℕ) → g.D.Disk.seen c.args.disk.now ≡ Some held → (x : List ℕ) × (g.D.Disk.seen c.write_synced.new.disk ≡ Some x) × Stands (is_odd c.args.generation) x (beginning c.args.generation c.args.checkpoint.now))
+    (λ gate held told. made g.D.Disk.moment g.D.Disk.left_at g.D.Disk.seen c.args.disk.now c.settle.new.disk c.fill.new.disk c.write_synced.new.disk held c.args.generation c.args.checkpoint.now (search rules) (search rules) (of_its_parity c.args.generation c.requires.from_one) c.requires.size (gate_shut (g.D.Disk.seen c.settle.new.disk) c.in_ok-settle.ensures.settled) (c.settle.ensures.telling.1 (some_is (g.D.Disk.seen c.args.disk.now) held told)) c.in_ok-fill.ensures.filled gate) c.write_synced.ensures.written
 
 pub returns-in_err-settle-clause-reads : goal.returns-in_err-settle-clause-reads
 returns-in_err-settle-clause-reads g c = reads_then g.D.Disk.moment g.D.Disk.left_at g.D.Disk.seen c.args.disk.now c.settle.new.disk c.args.generation c.args.checkpoint.now (g.met.D.Disk.seen_may_stay c.settle.new.disk) (returns-in_err-settle-clause-crash g c)

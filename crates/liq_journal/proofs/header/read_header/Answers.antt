@@ -1,7 +1,7 @@
 use Rattle.std.proofs.Common.{rules, arith, inl, inr, IfSome, sym, subst}
 use Rattle.liq_journal.specs.declared.answers.LookFault.{LookFault}
 use Rattle.liq_journal.specs.Header.{IsDamageOf}
-use Rattle.liq_journal.proofs.HeaderFound.{told_absent, told_misplaced, told_head}
+use Rattle.liq_journal.proofs.HeaderFound.{told_absent, told_misplaced, told_short, told_head}
 use Rattle.liq_journal.proofs.Looks.{looked_on}
 use Rattle.liq_journal.proofs.header.read_header.Goals as goal
 
@@ -13,6 +13,9 @@ returns-then-bytes-ne1-clause-read g c = let no = c.if-bytes-ne1.true in told_ab
 
 pub returns-in-Err-placed-clause-fault : goal.returns-in-Err-placed-clause-fault
 returns-in-Err-placed-clause-fault g c = subst (λ (why : LookFault). IfSome (g.D.Disk.seen c.args.disk.now) (λ held. IsDamageOf c.args.odd held why)) (sym c.form.ensures) (told_misplaced (g.D.Disk.seen c.args.disk.now) c.args.odd c.in-Ok.count c.read_at.new.buf c.in-Ok.ensures.told (omega arith) (search rules) c.in-Err-placed.place c.in-Err-placed.ensures)
+
+pub returns-then-length-head-clause-fault : goal.returns-then-length-head-clause-fault
+returns-then-length-head-clause-fault g c = subst (λ (why : LookFault). IfSome (g.D.Disk.seen c.args.disk.now) (λ held. IsDamageOf c.args.odd held why)) (sym c.form-then-length-head.ensures) (told_short (g.D.Disk.seen c.args.disk.now) c.args.odd c.in-Ok.count c.read_at.new.buf c.in-Ok.ensures.told (omega arith) (search rules) c.in-Ok-placed.head c.in-Ok-placed.ensures.0 c.in-Ok-placed.ensures.1 (g.D.Disk.seen c.read_at.new.disk) c.read_at.ensures.looked.same c.in-Ok-count_bytes.length c.in-Ok-count_bytes.ensures.told (omega arith))
 
 pub returns-clause-read : goal.returns-clause-read
 returns-clause-read g c = told_head (g.D.Disk.seen c.args.disk.now) c.args.odd c.in-Ok.count c.read_at.new.buf c.in-Ok.ensures.told (omega arith) (search rules) c.in-Ok-placed.head c.in-Ok-placed.ensures.0 c.in-Ok-placed.ensures.1 (g.D.Disk.seen c.read_at.new.disk) c.read_at.ensures.looked.same c.in-Ok-count_bytes.length c.in-Ok-count_bytes.ensures.told (omega arith)

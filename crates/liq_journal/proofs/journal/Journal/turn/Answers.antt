@@ -1,0 +1,9 @@
+use Rattle.std.proofs.lemmas.Result.{err_from_is_err_and}
+use Rattle.liq_journal.proofs.journal.Journal.turn.Goals as goal
+
+pub returns-in_err-make-clause-reads : goal.returns-in_err-make-clause-reads
+returns-in_err-make-clause-reads g c =
+    let p = err_from_is_err_and c.from_residual.result c.from_residual.ensures.1 in rw (p.1, ← c.self.view_is) c.make.ensures.reads
+
+pub returns-clause-reads : goal.returns-clause-reads
+returns-clause-reads g c = rw (c.swap.ensures.x_after, ← c.self.view_is) c.make.ensures.reads
