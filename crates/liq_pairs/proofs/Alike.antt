@@ -1,15 +1,17 @@
 -- A pair that stands for a state, or is kept for it, does so for each state that is the same.
-use Rattle.std.proofs.Common.{inl, inr, ⊎_elim, List, ℕ, Bool, sym, ◌∙◌}
+use Rattle.std.proofs.Common.{inl, inr, ⊎_elim, List, ℕ, ◌+◌, Bool, ap, sym, ◌∙◌}
 use Rattle.liq_types.specs.declared.requests.Command.{Command}
 use Rattle.liq_types.specs.State.{State}
 use Rattle.liq_types.specs.WellFormed.{IsWellFormed}
 use Rattle.liq_core.specs.Core.{Core, StandsFor}
 use Rattle.liq_rules.specs.Image.{IsSameState}
+use Rattle.liq_types.specs.declared.image.Image.{Image}
 use Rattle.liq_rules.proofs.AlikeReads.{Alike}
-use Rattle.liq_rules.proofs.AlikeReplies.{ruling_alike}
+use Rattle.liq_rules.proofs.AlikeReplies.{after_alike, ruling_alike}
+use Rattle.liq_checkpoint.specs.Spelling.{spelling}
 use Rattle.liq_journal.specs.Written.{Written}
 use Rattle.liq_pairs.specs.declared.side.Side.{Side}
-use Rattle.liq_pairs.specs.Kept.{HoldsRecord, IsKept, IsKeptOn, IsSettledFor}
+use Rattle.liq_pairs.specs.Kept.{HoldsRecord, IsKept, IsKeptOn, IsRotationOf, IsSettledFor, StandsBesideRotation}
 use Rattle.liq_pairs.specs.Pair.{StandFor}
 
 -- the states for which a protocol stands
@@ -41,12 +43,46 @@ module _ {s t : State} (alike : Alike s t) where
   record_alike : (odd : Bool) (bytes : List ℕ) (w : Written) (c : Command) → HoldsRecord odd bytes w s c → HoldsRecord odd bytes w t c
   record_alike odd bytes w c holds = record { pending = holds.pending; allowed = sym (ruling_alike alike c) ∙ holds.allowed }
 
+  pub rotation_alike : (w : Written) (c : Command) → IsRotationOf s w c → IsRotationOf t w c
+  rotation_alike w c rotation =
+      let further = after_alike alike c in
+      record {
+        rotates = rotation.rotates;
+        allowed = sym (ruling_alike alike c) ∙ rotation.allowed;
+        generation_is = rotation.generation_is ∙ ap (λ (i : Image). i.generation + 1) alike.image;
+        checkpoint_is = rotation.checkpoint_is ∙ ap spelling further.image;
+        state = rotation.state;
+        came = rotation.came;
+        same = record {
+          image = rotation.same.image ∙ further.image;
+          records = rotation.same.records ∙ further.records;
+        };
+      }
+
+  beside_alike : (side : Side) (l r : List ℕ) (w : Written) → StandsBesideRotation side l r w s
+      → StandsBesideRotation side l r w t
+  beside_alike side l r w stands = record {
+    ended = stands.ended;
+    command = stands.command;
+    holds = record {
+      written = stands.holds.written;
+      stands = stands.holds.stands;
+      none = stands.holds.none;
+      rotation = rotation_alike stands.holds.written stands.command stands.holds.rotation;
+      shut = stands.holds.shut;
+    };
+    later = stands.later;
+  }
+
   kept_on_alike : (side : Side) (l r : List ℕ) → IsKeptOn side l r s → IsKeptOn side l r t
   kept_on_alike side l r kept = record {
     written = kept.written;
     found = kept.found;
     end = ⊎_elim (λ is. inl is) (λ more. inr (more.0, record_alike _ _ kept.written more.0 more.1)) kept.end;
-    others = ⊎_elim (λ closed. inl closed) (λ more. inr (⊎_elim (λ older. inl older) (λ rotated. absurd (rotated.1.1.rotation)) more)) kept.others;
+    others = ⊎_elim
+        (λ closed. inl closed)
+        (λ more. inr (⊎_elim (λ older. inl older) (λ turning. inr (beside_alike side l r kept.written turning)) more))
+        kept.others;
   }
 
   pub kept_alike : (l r : List ℕ) → IsKept l r s → IsKept l r t

@@ -66,7 +66,7 @@ pub data LeftAtEnd (odd : Bool) (held : List ℕ) (w : Written) (s : State) (byt
   pends : (c : Command) → HoldsRecord odd bytes w s c → LeftAtEnd odd held w s bytes
   finished : (c : Command) → IsUnfinishedRecord odd held s c → ruling s c ≡ Allowed → Stands odd bytes (and_then w c) → LeftAtEnd odd held w s bytes
 
-byte_open_or_not : (n : ℕ) → (n ≡ 1) ⊎ (n ≡ 1 → ⊥)
+pub byte_open_or_not : (n : ℕ) → (n ≡ 1) ⊎ (n ≡ 1 → ⊥)
 byte_open_or_not zero = inr (λ is. absurd (omega arith))
 byte_open_or_not (suc zero) = inl refl
 byte_open_or_not (suc (suc n)) = inr (λ is. absurd (omega arith))
@@ -94,3 +94,16 @@ module _ (odd : Bool) (held : List ℕ) (w : Written) (s : State) (found : found
       let is : bytes ≡ overwritten held (end_of w) (has.0 ∷ []) = has.1 ∙ ap (λ (n : ℕ). overwritten held n (has.0 ∷ [])) at in
       subst (λ (l : List ℕ). LeftAtEnd odd held w s l) (sym is) (with_byte has.0 (subst (λ (n : ℕ). HasGate n held → ⊥) at some.3))
   left_at_end bytes (inr (place, inr none, has)) = absurd (absent_isnt_open odd held w none.0 found)
+
+-- an opening leaves a journal with a 0 at its end as it was
+pub stands_still : (odd : Bool) (held bytes : List ℕ) (w : Written) → Stands odd held w → OpenLeaves odd held bytes
+    → bytes ≡ held
+stands_still odd held bytes w stands (inl same) = same
+stands_still odd held bytes w stands (inr (place, inl some, has)) =
+    let both : Open some.0 ≡ Open w = sym some.1 ∙ stands.found in
+    let written : some.0 ≡ w = cc (both) in
+    let at : place ≡ end_of w = some.2 ∙ ap end_of written in
+    let gate : HasGate (end_of w) held = record { there = stands.ended.there; shut = stands.ended.is } in
+    absurd (some.3 (subst (λ (n : ℕ). HasGate n held) (sym at) gate))
+stands_still odd held bytes w stands (inr (place, inr none, has)) =
+    absurd (absent_isnt_open odd held w none.0 stands.found)

@@ -10,7 +10,7 @@ use Rattle.liq_pairs.specs.declared.side.Side.TheVariants.{Left, Right}
 use Rattle.liq_pairs.specs.Pair.{Faulty, Holding, Nothing, standing, state_on}
 use Rattle.liq_pairs.proofs.FirstPlace.{absent_isnt_open, closed_absent, closed_where}
 use Rattle.liq_pairs.proofs.Standings.{nothing, standing_absent, state_by, state_none, state_taken}
-use Rattle.liq_pairs.proofs.Replaying.{replay_none}
+use Rattle.liq_pairs.proofs.Replaying.{outcome_none}
 
 -- ---- damage
 
@@ -32,7 +32,9 @@ still_absent odd bytes shut = closed_absent odd bytes (closed_where bytes shut)
 -- the first generation, created where none was open
 pub created_state : (l r a b : List ℕ) → found_on true l ≡ Absent → found_on false r ≡ Absent → Stands true a (beginning 1 []) → found_on false b ≡ Absent → state_on a b ≡ state_on l r
 created_state l r a b left right stands absent =
-    state_taken Left a b (beginning 1 []) opening stands.found (replay_none 1 opening) (nothing (standing_absent false b absent)) ∙ sym (state_none l r left right)
+    state_taken Left a b (beginning 1 []) opening stands.found (outcome_none (beginning 1 []) refl refl)
+    (nothing (standing_absent false b absent))
+    ∙ sym (state_none l r left right)
 
 -- What a creation leaves of a disk that was settled before it leaves of the disk before that.
 pub created_from : (l m image : List ℕ) (w : Written) → found_on true l ≡ Absent → OpenLeaves true l m → (IsUnshut m → ⊥) → CreateLeaves true m w image → CreateLeaves true l w image

@@ -1,17 +1,18 @@
 -- The gate at place 0: what it decides, and what any byte there leaves.
-use Rattle.std.proofs.Common.{◌≡◌, ◌⊎◌, inl, inr, ⊎_elim, ℕ, zero, suc, ◌<◌, ◌≤◌, List, [], ◌∷◌, length, get_or, Ok, Bool, true, false, not, if◌then◌else◌, refl, sym, ◌∙◌, ap, subst, arith}
+use Rattle.std.proofs.Common.{◌≡◌, ◌⊎◌, inl, inr, ⊎_elim, ℕ, zero, suc, ◌<◌, ◌≤◌, List, [], ◌∷◌, length, get_or, Ok, Bool, true, false, refl, sym, ◌∙◌, ap, subst, arith}
 use Rattle.std.proofs.lemmas.Bool.Decides.{nat_tests}
+use Rattle.liq_types.specs.declared.requests.Command.{Command}
 use Rattle.liq_types.specs.State.{State}
 use Rattle.liq_outside.specs.Disk.{overwritten}
-use Rattle.liq_journal.specs.Crash.{IsClosed, HasGate, Stands}
+use Rattle.liq_journal.specs.Crash.{IsClosed, HasGate, SettleLeaves, Stands}
 use Rattle.liq_journal.specs.Opened.{IsUnshut, OpenLeaves}
 use Rattle.liq_journal.specs.Layout.{least_header}
-use Rattle.liq_journal.specs.Written.{Absent, Open, Written, end_of, found_on, is_absent, is_generation, opened}
+use Rattle.liq_journal.specs.Written.{Absent, Open, Written, end_of, found_on, is_generation, opened}
 use Rattle.liq_journal.proofs.Heading.{absent_found, has_generation, is_open}
-use Rattle.liq_pairs.specs.Kept.{IsFirst, IsOlder}
+use Rattle.liq_pairs.specs.Kept.{HoldsRotation, IsFirst, IsOlder}
 use Rattle.liq_pairs.specs.Pair.{standing}
 use Rattle.liq_pairs.specs.Replay.{outcome}
-use Rattle.liq_pairs.proofs.OneByte.{written_again}
+use Rattle.liq_pairs.proofs.OneByte.{byte_there, written_again}
 use Rattle.liq_pairs.proofs.Standings.{IsBehind, nothing, older, standing_absent, standing_open}
 
 -- ---- the gate
@@ -79,6 +80,18 @@ first_with odd bytes byte is = record {
   none = is.none;
 }
 
+-- one that opens no gate
+pub rotation_with : (odd : Bool) (bytes : List ℕ) (s : State) (c : Command) (byte : ℕ) → HoldsRotation odd bytes s c
+    → (byte ≡ 1 → ⊥)
+    → HoldsRotation odd (overwritten bytes 0 (byte ∷ [])) s c
+rotation_with odd bytes s c byte is unopened = record {
+  written = is.written;
+  stands = subst (λ (l : List ℕ). Stands odd l is.written) (sym (opened_again byte bytes)) is.stands;
+  none = is.none;
+  rotation = is.rotation;
+  shut = λ gate. unopened (sym (byte_there 0 byte bytes (omega arith)) ∙ gate);
+}
+
 -- where no 0 is there
 pub closed_with : (bytes : List ℕ) (byte : ℕ) → IsClosed bytes → (HasGate 0 bytes → ⊥) → IsClosed (overwritten bytes 0 (byte ∷ []))
 closed_with [] byte closed unshut = inl (omega arith)
@@ -120,6 +133,22 @@ aside_left odd held bytes generation aside (inr (place, inr none, has)) =
     let is : bytes ≡ overwritten held 0 (has.0 ∷ []) = has.1 ∙ ap (λ (n : ℕ). overwritten held n (has.0 ∷ [])) none.1 in
     subst (λ (l : List ℕ). IsAside odd l generation) (sym is)
     (⊎_elim (λ closed. inl (closed_with held has.0 closed (unshut_no_gate held none.2))) (λ older_one. inr (older_with odd held generation has.0 older_one)) aside)
+
+-- a creation on it that a stop cut short leaves it so, where nothing of it is seen
+pub aside_settled : (odd : Bool) (held bytes : List ℕ) (generation : ℕ) → IsAside odd held generation
+    → SettleLeaves 0 held bytes → IsAside odd bytes generation
+aside_settled odd held bytes generation aside (inl same) =
+    subst (λ (l : List ℕ). IsAside odd l generation) (sym same) aside
+aside_settled odd held bytes generation aside (inr (unshut, has)) =
+    subst (λ (l : List ℕ). IsAside odd l generation) (sym has.1) (⊎_elim
+    (λ closed. inl (closed_with held has.0 closed unshut))
+    (λ older_one. inr (older_with odd held generation has.0 older_one))
+    aside)
+
+-- one that holds a rotation is none
+pub rotation_behind : (odd : Bool) (bytes : List ℕ) (generation : ℕ) (s : State) (c : Command)
+    → HoldsRotation odd bytes s c → IsBehind generation (standing odd bytes)
+rotation_behind odd bytes generation s c is = nothing (standing_absent odd bytes (unopened_absent odd bytes is.shut))
 
 -- an undamaged open disk of a smaller generation, with a 0 behind its records
 pub open_older : (odd : Bool) (bytes : List ℕ) (w : Written) (s : State) (generation : ℕ) → Stands odd bytes w → outcome w ≡ Ok s → w.generation < generation → IsOlder odd bytes generation

@@ -1,22 +1,25 @@
 -- Which pairs are kept for a state.
-use Rattle.std.proofs.Common.{◌≡◌, ◌⊎◌, inl, inr, ⊎_elim, ℕ, List, [], Ok, true, false, sym, ◌∙◌, ap, subst}
+use Rattle.std.proofs.Common.{◌≡◌, ◌⊎◌, inl, inr, ⊎_elim, ℕ, List, [], Ok, Bool, true, false, sym, ◌∙◌, ap, subst}
+use Rattle.liq_types.specs.declared.image.Image.{Image}
 use Rattle.liq_types.specs.declared.requests.Command.{Command}
 use Rattle.liq_types.specs.State.{State, opening}
 use Rattle.liq_types.specs.WellFormed.{IsWellFormed}
 use Rattle.liq_rules.specs.Step.{Allowed, after, ruling}
 use Rattle.liq_rules.proofs.AlikeReads.{Alike}
 use Rattle.liq_rules.proofs.AlikeReplies.{after_alike, ruling_alike}
-use Rattle.liq_journal.specs.Crash.{BeforeOrAfter, IsClosed, Stands}
+use Rattle.liq_journal.specs.Crash.{BeforeOrAfter, IsClosed, Stands, is_odd}
 use Rattle.liq_journal.specs.Written.{Absent, Open, Written, and_then, found_on}
 use Rattle.liq_pairs.specs.declared.side.Side.{Side}
 use Rattle.liq_pairs.specs.declared.side.Side.TheVariants.{Left}
 use Rattle.liq_pairs.specs.Kept.{HoldsRecord, IsFirst, IsKept, IsSettledFor, IsUnbegun}
-use Rattle.liq_pairs.specs.Pair.{StandFor}
-use Rattle.liq_pairs.specs.Replay.{outcome, replay}
+use Rattle.liq_pairs.specs.Pair.{StandFor, standing}
+use Rattle.liq_pairs.specs.Replay.{outcome}
 use Rattle.liq_pairs.specs.Sides.{beside, has_odd, on, other}
 use Rattle.liq_pairs.proofs.FirstPlace.{IsAside, closed_absent, gate_open_or_not, is_behind, opened_already, unopened_absent}
-use Rattle.liq_pairs.proofs.Replaying.{opening_formed, outcome_formed, outcome_then, replay_none}
-use Rattle.liq_pairs.proofs.Standings.{outcome_taken, pair_ends, state_none, state_taken}
+use Rattle.liq_pairs.proofs.Generations.{found_parity, outcome_generation}
+use Rattle.liq_pairs.proofs.NoRotation.{found_no_rotation}
+use Rattle.liq_pairs.proofs.Replaying.{opening_formed, outcome_formed, outcome_none, outcome_then}
+use Rattle.liq_pairs.proofs.Standings.{IsBehind, outcome_taken, pair_ends, state_none, state_taken}
 
 -- ---- the state
 
@@ -27,22 +30,45 @@ pub record LeadsTo (w : Written) (s : State) : Type 0 where
   pub alike : Alike state s
 
 -- a pair stands for the state to which the journal on its taken disk leads
-pub stand_for : (side : Side) (l r : List ℕ) (w : Written) (s : State) → LeadsTo w s → found_on (has_odd side) (on side l r) ≡ Open w → IsAside (has_odd (other side)) (beside side l r) w.generation → StandFor l r s
-stand_for side l r w s leads found aside = record {
+pub stand_before : (side : Side) (l r : List ℕ) (w : Written) (s : State) → LeadsTo w s
+    → found_on (has_odd side) (on side l r) ≡ Open w
+    → IsBehind w.generation (standing (has_odd (other side)) (beside side l r)) → StandFor l r s
+stand_before side l r w s leads found behind = record {
   state = leads.state;
-  is = state_taken side l r w leads.state found leads.came (is_behind (has_odd (other side)) (beside side l r) w.generation aside);
+  is = state_taken side l r w leads.state found leads.came behind;
   same = record { image = leads.alike.image; records = leads.alike.records };
   formed = leads.alike.right;
 }
 
-pub leads_to : (side : Side) (l r : List ℕ) (w : Written) (s : State) → StandFor l r s → found_on (has_odd side) (on side l r) ≡ Open w → IsAside (has_odd (other side)) (beside side l r) w.generation → LeadsTo w s
-leads_to side l r w s stands found aside =
-    let came = outcome_taken side l r w stands.state found (is_behind (has_odd (other side)) (beside side l r) w.generation aside) stands.is in
+pub stand_for : (side : Side) (l r : List ℕ) (w : Written) (s : State) → LeadsTo w s
+    → found_on (has_odd side) (on side l r) ≡ Open w → IsAside (has_odd (other side)) (beside side l r) w.generation
+    → StandFor l r s
+stand_for side l r w s leads found aside =
+    stand_before side l r w s leads found (is_behind (has_odd (other side)) (beside side l r) w.generation aside)
+
+pub leads_before : (side : Side) (l r : List ℕ) (w : Written) (s : State) → StandFor l r s
+    → found_on (has_odd side) (on side l r) ≡ Open w
+    → IsBehind w.generation (standing (has_odd (other side)) (beside side l r)) → LeadsTo w s
+leads_before side l r w s stands found behind =
+    let came = outcome_taken side l r w stands.state found behind stands.is in
     record {
       state = stands.state;
       came = came;
       alike = record { image = stands.same.image; records = stands.same.records; left = outcome_formed w stands.state came; right = stands.formed };
     }
+
+pub leads_to : (side : Side) (l r : List ℕ) (w : Written) (s : State) → StandFor l r s
+    → found_on (has_odd side) (on side l r) ≡ Open w → IsAside (has_odd (other side)) (beside side l r) w.generation
+    → LeadsTo w s
+leads_to side l r w s stands found aside =
+    leads_before side l r w s stands found (is_behind (has_odd (other side)) (beside side l r) w.generation aside)
+
+-- its generation is the state's
+pub leads_generation : (odd : Bool) (bytes : List ℕ) (w : Written) (s : State) → found_on odd bytes ≡ Open w
+    → LeadsTo w s → w.generation ≡ s.generation
+leads_generation odd bytes w s found leads =
+    sym (outcome_generation w leads.state (found_no_rotation odd bytes w found) leads.came)
+    ∙ ap (λ (i : Image). i.generation) leads.alike.image
 
 -- one accepted command more
 pub leads_further : (w : Written) (c : Command) (s : State) → LeadsTo w s → ruling s c ≡ Allowed → LeadsTo (and_then w c) (after s c)
@@ -58,6 +84,21 @@ module _ (side : Side) (l r : List ℕ) (w : Written) (s : State) (leads : Leads
   -- with a 0 at its end
   pub settled_by : Stands (has_odd side) (on side l r) w → IsSettledFor side l r s
   settled_by stands = record { stands = stand_for side l r w s leads stands.found aside; written = w; open_on = stands; others = aside }
+
+-- of a settled pair, that of the taken disk's journal
+pub settled_leads : (side : Side) (l r : List ℕ) (s : State) → (settled : IsSettledFor side l r s)
+    → LeadsTo settled.written s
+settled_leads side l r s settled =
+    leads_to side l r settled.written s settled.stands settled.open_on.found settled.others
+
+-- the side is that of the state's generation
+pub settled_parity : (side : Side) (l r : List ℕ) (s : State) → IsSettledFor side l r s
+    → has_odd side ≡ is_odd s.generation
+settled_parity side l r s settled =
+    let odd = has_odd side in
+    let found = settled.open_on.found in
+    found_parity odd (on side l r) settled.written found
+    ∙ ap is_odd (leads_generation odd (on side l r) settled.written s found (settled_leads side l r s settled))
 
 -- a settled pair is kept
 pub settled_kept : (side : Side) (l r : List ℕ) (s : State) → IsSettledFor side l r s → IsKept l r s
@@ -97,7 +138,7 @@ pub append_kept : (side : Side) (l r a b : List ℕ) (s : State) (c : Command) (
     → beside side a b ≡ beside side l r → BeforeOrAfter (has_odd side) settled.written c (on side a b) → IsKept a b s ⊎ IsKept a b (after s c)
 append_kept side l r a b s c settled allowed same left =
     let w = settled.written in
-    let leads = leads_to side l r w s settled.stands settled.open_on.found settled.others in
+    let leads = settled_leads side l r s settled in
     let aside : IsAside (has_odd (other side)) (beside side a b) w.generation = subst (λ (x : List ℕ). IsAside (has_odd (other side)) x w.generation) (sym same) settled.others in
     ⊎_elim
     (λ before. inl (settled_kept side a b s (settled_by side a b w s leads aside before)))
@@ -112,14 +153,14 @@ pub append_settled : (side : Side) (l r a b : List ℕ) (s : State) (c : Command
     → beside side a b ≡ beside side l r → Stands (has_odd side) (on side a b) (and_then settled.written c) → IsSettledFor side a b (after s c)
 append_settled side l r a b s c settled allowed same stands =
     let w = settled.written in
-    let leads = leads_to side l r w s settled.stands settled.open_on.found settled.others in
+    let leads = settled_leads side l r s settled in
     let aside : IsAside (has_odd (other side)) (beside side a b) w.generation = subst (λ (x : List ℕ). IsAside (has_odd (other side)) x w.generation) (sym same) settled.others in
     settled_by side a b (and_then w c) (after s c) (leads_further w c s leads allowed) aside stands
 
 -- ---- none begun
 
-pub first_leads : (w : Written) (s : State) → w.commands ≡ [] → Alike opening s → LeadsTo w s
-first_leads w s none alike = record { state = opening; came = ap (λ (cs : List Command). replay 1 opening cs) none ∙ replay_none 1 opening; alike = alike }
+pub first_leads : (w : Written) (s : State) → w.generation ≡ 1 → w.commands ≡ [] → Alike opening s → LeadsTo w s
+first_leads w s first none alike = record { state = opening; came = outcome_none w first none; alike = alike }
 
 -- the state for which two disks without a journal stand
 pub none_alike : (l r : List ℕ) (s : State) → StandFor l r s → found_on true l ≡ Absent → found_on false r ≡ Absent → Alike opening s
@@ -145,13 +186,15 @@ none_kept : (l r : List ℕ) (s : State) → Alike opening s → IsUnbegun true 
 none_kept l r s alike left right = record { stands = none_stand l r s alike left.0 right.0; rests = inr (left, right) }
 
 -- the first generation without records, open
-pub first_settled : (l r : List ℕ) (w : Written) (s : State) → Alike opening s → Stands true l w → w.commands ≡ [] → IsClosed r → IsSettledFor Left l r s
-first_settled l r w s alike stands none closed = settled_by Left l r w s (first_leads w s none alike) (inl closed) stands
+pub first_settled : (l r : List ℕ) (w : Written) (s : State) → Alike opening s → Stands true l w → w.generation ≡ 1
+    → w.commands ≡ [] → IsClosed r → IsSettledFor Left l r s
+first_settled l r w s alike stands first none closed =
+    settled_by Left l r w s (first_leads w s first none alike) (inl closed) stands
 
 -- the first generation without records, open or not, or a closed disk, beside a closed one
 pub begun_kept : (l r : List ℕ) (s : State) → Alike opening s → IsClosed l ⊎ IsFirst true l → IsClosed r → IsKept l r s
 begun_kept l r s alike (inl left) closed = none_kept l r s alike (closed_absent true l left, inl left) (closed_absent false r closed, inl closed)
 begun_kept l r s alike (inr first) closed = ⊎_elim
-    (λ gate. settled_kept Left l r s (first_settled l r first.written s alike (subst (λ (x : List ℕ). Stands true x first.written) (opened_already l gate) first.stands) first.none closed))
+    (λ gate. settled_kept Left l r s (first_settled l r first.written s alike (subst (λ (x : List ℕ). Stands true x first.written) (opened_already l gate) first.stands) first.first first.none closed))
     (λ shut. none_kept l r s alike (unopened_absent true l shut, inr first) (closed_absent false r closed, inl closed))
     (gate_open_or_not l)

@@ -1,5 +1,5 @@
 -- What a replay comes to, record by record.
-use Rattle.std.proofs.Common.{◌≡◌, ℕ, ◌+◌, List, [], ◌∷◌, ◌++◌, Result, Ok, refl, sym, ◌∙◌, ap, subst, arith}
+use Rattle.std.proofs.Common.{◌≡◌, ℕ, ◌+◌, List, [], ◌∷◌, ◌++◌, Result, Ok, Err, refl, sym, ◌∙◌, ap, subst, arith}
 use Rattle.liq_types.specs.declared.requests.Command.{Command}
 use Rattle.liq_types.specs.State.{State, opening}
 use Rattle.liq_types.specs.WellFormed.{IsWellFormed}
@@ -7,7 +7,8 @@ use Rattle.liq_rules.specs.Step.{Ruling, Refused, Repeated, Allowed, after, ruli
 use Rattle.liq_rules.proofs.AlikeReplies.{alike_itself, after_alike}
 use Rattle.liq_journal.specs.declared.damage.Damage.{Damage}
 use Rattle.liq_journal.specs.Written.{Written, and_then}
-use Rattle.liq_pairs.specs.Replay.{outcome, replay, replayed}
+use Rattle.liq_pairs.specs.Replay.{base_of, outcome, replay, replay_from, replayed}
+use Rattle.liq_pairs.proofs.Basing.{Begins, base_then, begins, ok_same, opens, outcome_first, sound_formed, starts}
 
 -- ---- one record
 
@@ -37,12 +38,6 @@ first_accepted index s end c cs came = accepts index s end c cs (ruling s c) ref
 
 -- ---- one record more at the end
 
-abbrev ends_in : State → Result State Damage
-ends_in s = Ok s
-
-ok_same : (a b : State) → ends_in a ≡ Ok b → a ≡ b
-ok_same a b is = cc
-
 pub replay_then : (index : ℕ) (s end : State) (cs : List Command) (c : Command) → replay index s cs ≡ Ok end → ruling end c ≡ Allowed → replay index s (cs ++ c ∷ []) ≡ Ok (after end c)
 replay_then index s end [] c came allowed =
     let same : s ≡ end = ok_same s end (sym (replay_none index s) ∙ came) in
@@ -51,13 +46,46 @@ replay_then index s end (first ∷ cs) c came allowed =
     let a = first_accepted index s end first cs came in
     replay_allowed index s first (cs ++ c ∷ []) a.allowed ∙ replay_then (index + 1) (after s first) end cs c a.rest allowed
 
+-- ---- with its beginning
+
+-- a journal that leads to this state begins with one from which its commands lead there
+pub record LeadsFrom (w : Written) (end : State) : Type 0 where
+  pub base : State
+  pub begun : base_of w ≡ Ok base
+  pub came : replay 1 base w.commands ≡ Ok end
+
+pub leads_from : (w : Written) (end : State) → outcome w ≡ Ok end → LeadsFrom w end
+leads_from w end came = by (base_of w) refl came
+  where
+    by : (base : Result State Damage) → base_of w ≡ base → replay_from base w.commands ≡ Ok end → LeadsFrom w end
+    by (Ok s) begun came = record { base = s; begun = begun; came = came }
+    by (Err damage) begun came = absurd (cc (came))
+
+pub outcome_from : (w : Written) (base : State) → base_of w ≡ Ok base → outcome w ≡ replay 1 base w.commands
+outcome_from w base begun = ap (λ (r : Result State Damage). replay_from r w.commands) begun
+
+-- the first generation without records
+pub outcome_none : (w : Written) → w.generation ≡ 1 → w.commands ≡ [] → outcome w ≡ Ok opening
+outcome_none w first none =
+    outcome_first w first ∙ ap (λ (cs : List Command). replay 1 opening cs) none ∙ replay_none 1 opening
+
 pub outcome_then : (w : Written) (c : Command) (end : State) → outcome w ≡ Ok end → ruling end c ≡ Allowed → outcome (and_then w c) ≡ Ok (after end c)
-outcome_then w c end came allowed = replay_then 1 opening end w.commands c came allowed
+outcome_then w c end came allowed =
+    let from = leads_from w end came in
+    outcome_from (and_then w c) from.base (base_then w c ∙ from.begun)
+    ∙ replay_then 1 from.base end w.commands c from.came allowed
 
 -- ---- well-formed states
 
 pub opening_formed : IsWellFormed opening
 opening_formed = (tt, tt, tt, (omega arith, omega arith))
+
+pub base_formed : (w : Written) (s : State) → base_of w ≡ Ok s → IsWellFormed s
+base_formed w s came = by (begins w s came)
+  where
+    by : Begins w s → IsWellFormed s
+    by (opens first is) = subst (λ (t : State). IsWellFormed t) (sym is) opening_formed
+    by (starts i read is) = subst (λ (t : State). IsWellFormed t) (sym is.state_is) (sound_formed i is.sound)
 
 pub replay_formed : (index : ℕ) (s end : State) (cs : List Command) → IsWellFormed s → replay index s cs ≡ Ok end → IsWellFormed end
 replay_formed index s end [] formed came = subst (λ (t : State). IsWellFormed t) (ok_same s end (sym (replay_none index s) ∙ came)) formed
@@ -66,4 +94,6 @@ replay_formed index s end (c ∷ cs) formed came =
     replay_formed (index + 1) (after s c) end cs (after_alike (alike_itself s formed) c).left a.rest
 
 pub outcome_formed : (w : Written) (end : State) → outcome w ≡ Ok end → IsWellFormed end
-outcome_formed w end came = replay_formed 1 opening end w.commands opening_formed came
+outcome_formed w end came =
+    let from = leads_from w end came in
+    replay_formed 1 from.base end w.commands (base_formed w from.base from.begun) from.came

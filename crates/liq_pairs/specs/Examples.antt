@@ -1,7 +1,11 @@
 -- Commands and bytes of the worked examples.
 use Rattle.std.specs.Prelude.{ℕ, List, [], ◌∷◌, replicate}
-use Rattle.liq_types.specs.declared.requests.Call.TheVariants.{Price, Fund}
+use Rattle.liq_types.specs.declared.image.Image.{Image}
+use Rattle.liq_types.specs.declared.requests.Call.TheVariants.{Price, Fund, Rotate}
 use Rattle.liq_types.specs.declared.requests.Command.{Command}
+use Rattle.liq_types.specs.State.{opening}
+use Rattle.liq_rules.specs.Image.{image}
+use Rattle.liq_rules.specs.Step.{after}
 use Rattle.liq_journal.specs.Written.{Found, Open}
 
 abbrev pub fund : Command
@@ -21,3 +25,10 @@ unnamed = 1 ∷ replicate 56 0
 -- a journal of this generation with these commands
 abbrev pub open_with : ℕ → List Command → Found
 open_with generation commands = Open (record { generation = generation; checkpoint = []; commands = commands })
+
+abbrev pub rotate : Command
+rotate = record { client = 1; number = 1; call = Rotate }
+
+-- the image after a rotation of the opening, which is of generation 2, with this price
+abbrev pub rotated_at : ℕ → Image
+rotated_at price = record (image (after opening rotate)) { price = price }

@@ -1,12 +1,42 @@
--- The replay of a journal: what its records make of the state with which it begins.
-use Rattle.std.specs.Prelude.{ℕ, ◌+◌, List, [], ◌∷◌, Result, Ok, Err}
+-- The replay of a journal: the state with which it begins, and what its records make of it.
+use Rattle.std.specs.Prelude.{ℕ, ◌+◌, ◌==◌, List, [], ◌∷◌, length, Option, Some, None, Result, Ok, Err, if◌then◌else◌}
+use Rattle.liq_types.specs.declared.image.Image.{Image}
 use Rattle.liq_types.specs.declared.requests.Command.{Command}
 use Rattle.liq_types.specs.Codes.{code_of}
-use Rattle.liq_types.specs.State.{State, opening}
+use Rattle.liq_types.specs.Soundness.{first_unsound}
+use Rattle.liq_types.specs.State.{State, opening, started}
 use Rattle.liq_rules.specs.Step.{Ruling, Refused, Repeated, Allowed, ruling, after}
+use Rattle.liq_checkpoint.specs.Reading.{image_at}
 use Rattle.liq_journal.specs.declared.damage.Damage.{Damage}
 use Rattle.liq_journal.specs.declared.damage.What.TheVariants as what
+use Rattle.liq_journal.specs.Layout.{header_size, version_1}
 use Rattle.liq_journal.specs.Written.{Written}
+
+-- ---- where it begins
+
+-- a checkpoint's damage, by its place in the checkpoint, which stands behind the header
+abbrev pub bad_checkpoint : ℕ → Result State Damage
+bad_checkpoint place = Err (record { index = 0; what = what.Form (header_size version_1 + place) })
+
+-- An image that breaks no rule begins a state, if it is of the journal's generation.
+abbrev pub sound_base : ℕ → Image → Option ℕ → Result State Damage
+sound_base generation i (Some rule) = bad_checkpoint 0
+sound_base generation i None = if i.generation == generation then Ok (started i) else bad_checkpoint 0
+
+-- what was read as a checkpoint of this generation, or the place at which it is none
+abbrev pub read_base : ℕ → Result Image ℕ → Result State Damage
+read_base generation (Err place) = bad_checkpoint place
+read_base generation (Ok i) = sound_base generation i (first_unsound i 0)
+
+-- The state with which a journal begins: the first generation with the opening, each later one with the image in its
+-- checkpoint.
+unfoldable pub base_of : Written → Result State Damage
+base_of w =
+    if w.generation == 1
+    then Ok opening
+    else read_base w.generation (image_at (length w.checkpoint) w.checkpoint)
+
+-- ---- what follows
 
 -- A record is damaged where the rules refuse its command, or find it a repetition; else the replay goes on.
 abbrev pub replayed : ℕ → Ruling → Result State Damage → Result State Damage
@@ -14,14 +44,11 @@ replayed index (Refused refusal) rest = Err (record { index = index; what = what
 replayed index (Repeated kept) rest = Err (record { index = index; what = what.Replay 0 })
 replayed index Allowed rest = rest
 
--- the state after these commands, the first being the record of this number; or the first one's damage that is not accepted
+-- the state after these commands, the first being the record of this number; or the damage of the first that is not
+-- accepted
 unfoldable pub replay : ℕ → State → List Command → Result State Damage
 replay index s [] = Ok s
 replay index s (c ∷ cs) = replayed index (ruling s c) (replay (index + 1) (after s c) cs)
-
--- The state with which a journal begins. Until there is rotation no disk has a checkpoint, and each begins with the opening.
-abbrev pub base_of : Written → Result State Damage
-base_of w = Ok opening
 
 abbrev pub replay_from : Result State Damage → List Command → Result State Damage
 replay_from (Ok s) commands = replay 1 s commands

@@ -1,20 +1,24 @@
 //! Laws of a pair of disks, over their bytes alone. The functions here do nothing: each is the place where the facts of its
 //! contract are proved.
 
-ghost use Rattle.std.specs.Prelude.{◌≡◌, ◌⊎◌, List, ◌∷◌, [], ◌++◌, ℕ, Ok, true, false};
+ghost use Rattle.std.specs.Prelude.{◌≡◌, ◌≤◌, ◌⊎◌, ◌+◌, List, ◌∷◌, [], ◌++◌, length, ℕ, None, Ok, Bool, true, false};
+ghost use Rattle.liq_types.specs.declared.requests.Call.TheVariants.{Rotate};
 ghost use Rattle.liq_types.specs.declared.requests.Command.{Command};
+ghost use Rattle.liq_types.specs.Soundness.{first_unsound};
 ghost use Rattle.liq_types.specs.State.{State, opening};
 ghost use Rattle.liq_types.specs.WellFormed.{IsWellFormed};
-ghost use Rattle.liq_rules.specs.Image.{IsSameState};
+ghost use Rattle.liq_rules.specs.Image.{IsSameState, image};
 ghost use Rattle.liq_rules.specs.Step.{Allowed, after, ruling};
-ghost use Rattle.liq_journal.specs.Crash.{BeforeOrAfter, Stands};
+ghost use Rattle.liq_checkpoint.specs.Reading.{image_at};
+ghost use Rattle.liq_checkpoint.specs.Spelling.{spelling};
+ghost use Rattle.liq_journal.specs.Crash.{BeforeOrAfter, CreateLeaves, Stands, beginning, is_odd};
 ghost use Rattle.liq_journal.specs.Opened.{OpenLeaves};
-ghost use Rattle.liq_journal.specs.Written.{and_then, found_on};
+ghost use Rattle.liq_journal.specs.Written.{Open, Written, and_then, found_on};
 ghost use Rattle.liq_pairs.specs.declared.side.Side.{Side};
-ghost use Rattle.liq_pairs.specs.Kept.{IsKept, IsSettledFor};
+ghost use Rattle.liq_pairs.specs.Kept.{IsKept, IsRotationOf, IsSettledFor};
 ghost use Rattle.liq_pairs.specs.Pair.{commands_on, state_on};
-ghost use Rattle.liq_pairs.specs.Replay.{replay};
-ghost use Rattle.liq_pairs.specs.Sides.{beside, has_odd, on};
+ghost use Rattle.liq_pairs.specs.Replay.{base_of, outcome, replay};
+ghost use Rattle.liq_pairs.specs.Sides.{beside, has_odd, on, other};
 ghost use Rattle.liq_pairs.specs.Unfinished.{IsRecovered, LeftLeaves};
 
 /// What is found on two disks decides the state for which they stand, or their first damage, and the commands.
@@ -28,10 +32,30 @@ pub fn states_on_disks_are_well_formed()
     ensures { (l r : List ℕ) → (s : State) → state_on l r ≡ Ok s → IsWellFormed s }
 {}
 
-/// The commands of two disks lead from the opening, with which every journal begins until there is rotation, to the state for which
-/// they stand.
+/// The state with which a journal begins is well formed and of the journal's generation. The first generation begins
+/// with the opening, so its outcome is the replay from there.
+pub fn journals_begin_with_their_generation()
+    ensures formed { (w : Written) → (s : State) → base_of w ≡ Ok s → IsWellFormed s }
+    ensures generation { (w : Written) → (s : State) → base_of w ≡ Ok s → s.generation ≡ w.generation }
+    ensures first { (w : Written) → w.generation ≡ 1 → outcome w ≡ replay 1 opening w.commands }
+{}
+
+/// An open journal leads to a state of its own generation, which is odd on the left disk and even on the right one.
+/// So the side on which a pair is settled is that of the state's generation.
+pub fn generations_have_their_sides()
+    ensures state { (odd : Bool) → (bytes : List ℕ) → (w : Written) → (s : State) → found_on odd bytes ≡ Open w
+        → outcome w ≡ Ok s → s.generation ≡ w.generation }
+    ensures parity { (odd : Bool) → (bytes : List ℕ) → (w : Written) → found_on odd bytes ≡ Open w
+        → odd ≡ is_odd w.generation }
+    ensures settled { (side : Side) → (l r : List ℕ) → (s : State) → IsSettledFor side l r s
+        → has_odd side ≡ is_odd s.generation }
+{}
+
+/// The commands of two disks lead from the opening to the state for which they stand, where that is of generation 1.
+/// A later generation begins with a checkpoint, and the commands before it are gone.
 pub fn commands_lead_to_the_state()
-    ensures { (l r : List ℕ) → (s : State) → state_on l r ≡ Ok s → replay 1 opening (commands_on l r) ≡ Ok s }
+    ensures { (l r : List ℕ) → (s : State) → state_on l r ≡ Ok s → s.generation ≡ 1
+        → replay 1 opening (commands_on l r) ≡ Ok s }
 {}
 
 /// A replay that ends in a state goes on to the next command that this state accepts.
@@ -58,8 +82,40 @@ pub fn appends_keep_pairs()
         → Stands (has_odd side) (on side a b) (and_then settled.written c) → IsSettledFor side a b (after s c) }
 {}
 
-/// Of a pair that is kept for a state an opening leaves, at each moment, one that is kept for it, or for it after the command that the
-/// pair held unfinished.
+/// A journal of the next generation is the state's rotation, if its checkpoint spells the image after a rotation that
+/// the state accepts and is read back as this image, which breaks no rule.
+pub fn checkpoints_make_rotations()
+    ensures { (s : State) → (c : Command) → (checkpoint : List ℕ) → IsWellFormed s → 1 ≤ s.generation
+        → c.call ≡ Rotate → ruling s c ≡ Allowed → checkpoint ≡ spelling (image (after s c))
+        → image_at (length checkpoint) checkpoint ≡ Ok (image (after s c)) → first_unsound (image (after s c)) 0 ≡ None
+        → IsRotationOf s (beginning (s.generation + 1) checkpoint) c }
+{}
+
+/// A stop in a rotation of a settled pair, which creates the next generation on the other disk, leaves one that is
+/// kept for the state, or for the state after the rotation; once that generation stands the pair is settled for the
+/// state after it, on the other side.
+pub fn rotations_keep_pairs()
+    ensures kept { (side : Side) → (l r a b : List ℕ) → (s : State) → (c : Command) → (w : Written)
+        → IsSettledFor side l r s → IsRotationOf s w c → on side a b ≡ on side l r → w.commands ≡ []
+        → CreateLeaves (has_odd (other side)) (beside side l r) w (beside side a b)
+        → IsKept a b s ⊎ IsKept a b (after s c) }
+    ensures settled { (side : Side) → (l r a b : List ℕ) → (s : State) → (c : Command) → (w : Written)
+        → IsSettledFor side l r s → IsRotationOf s w c → on side a b ≡ on side l r
+        → Stands (has_odd (other side)) (beside side a b) w → IsSettledFor (other side) a b (after s c) }
+{}
+
+/// Of a pair that is kept for a state an opening leaves, at each moment, one that is kept for it, or for it after the
+/// command that the pair held unfinished: a record, or a rotation.
 pub fn openings_recover_pairs()
     ensures { (l r a b : List ℕ) → (s : State) → IsKept l r s → LeftLeaves l r a → OpenLeaves false r b → IsRecovered l r s a b }
+{}
+
+/// The state for which a pair is settled is the one that the next opening has, on both sides and of whatever
+/// generation: the pair stands for no other, and what the opening leaves of it, at each moment, is settled for this
+/// state on this side.
+pub fn settled_pairs_are_opened_again()
+    ensures state { (side : Side) → (l r : List ℕ) → (s t : State) → IsSettledFor side l r s → state_on l r ≡ Ok t
+        → IsSameState t s }
+    ensures settled { (side : Side) → (l r a b : List ℕ) → (s : State) → IsSettledFor side l r s
+        → LeftLeaves l r a → OpenLeaves false r b → IsSettledFor side a b s }
 {}
