@@ -3,12 +3,12 @@ use Rattle.std.proofs.Common.{◌≡◌, ℕ, List, [], Result, Ok, Err, Bool, t
 use Rattle.liq_types.specs.State.{State, opening}
 use Rattle.liq_journal.specs.declared.damage.Damage.{Damage}
 use Rattle.liq_journal.specs.Written.{Found, Absent, Damaged, Open, Written, found_on}
+use Rattle.liq_journal.proofs.Bodies.{found_no_rotation}
 use Rattle.liq_pairs.specs.declared.side.Side.{Side}
 use Rattle.liq_pairs.specs.Pair.{Nothing, commands_on, pair_commands, pair_state, standing, standing_after, standing_of, state_on}
 use Rattle.liq_pairs.specs.Replay.{outcome, replay}
 use Rattle.liq_pairs.proofs.Basing.{ends_in, outcome_first}
-use Rattle.liq_pairs.proofs.Generations.{outcome_generation}
-use Rattle.liq_pairs.proofs.NoRotation.{HaveNoRotation, found_no_rotation}
+use Rattle.liq_pairs.proofs.Generations.{HaveNoRotation, outcome_generation}
 use Rattle.liq_pairs.proofs.Replaying.{replay_none}
 use Rattle.liq_pairs.proofs.Standings.{pair_ends}
 

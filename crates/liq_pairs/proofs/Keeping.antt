@@ -9,6 +9,7 @@ use Rattle.liq_rules.proofs.AlikeReads.{Alike}
 use Rattle.liq_rules.proofs.AlikeReplies.{after_alike, ruling_alike}
 use Rattle.liq_journal.specs.Crash.{BeforeOrAfter, IsClosed, Stands, is_odd}
 use Rattle.liq_journal.specs.Written.{Absent, Open, Written, and_then, found_on}
+use Rattle.liq_journal.proofs.Bodies.{found_no_rotation}
 use Rattle.liq_pairs.specs.declared.side.Side.{Side}
 use Rattle.liq_pairs.specs.declared.side.Side.TheVariants.{Left}
 use Rattle.liq_pairs.specs.Kept.{HoldsRecord, IsFirst, IsKept, IsSettledFor, IsUnbegun}
@@ -17,7 +18,6 @@ use Rattle.liq_pairs.specs.Replay.{outcome}
 use Rattle.liq_pairs.specs.Sides.{beside, has_odd, on, other}
 use Rattle.liq_pairs.proofs.FirstPlace.{IsAside, closed_absent, gate_open_or_not, is_behind, opened_already, unopened_absent}
 use Rattle.liq_pairs.proofs.Generations.{found_parity, outcome_generation}
-use Rattle.liq_pairs.proofs.NoRotation.{found_no_rotation}
 use Rattle.liq_pairs.proofs.Replaying.{opening_formed, outcome_formed, outcome_none, outcome_then}
 use Rattle.liq_pairs.proofs.Standings.{IsBehind, outcome_taken, pair_ends, state_none, state_taken}
 
