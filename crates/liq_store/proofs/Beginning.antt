@@ -1,5 +1,6 @@
 -- The store that begins on two disks.
-use Rattle.std.proofs.Common.{◌+◌, length, ◌≡◌, inl, ◌↔◌, ℕ, List, [], Option, Some, None, IfSome, IsSome, Bool, true, false, Ok, refl, sym, ◌∙◌, ap, ap₂, subst}
+use Rattle.std.proofs.Common.{◌+◌, ◌<◌, ◌≤◌, length, ◌≡◌, inl, inr, ⊎_elim, ◌↔◌, ℕ, List, [], Option, Some, None, IfSome, IsSome, Bool, true, false, nat_lt, if◌then◌else◌, Ok, refl, sym, ◌∙◌, ap, ap₂, subst, arith}
+use Rattle.std.proofs.lemmas.Bool.Decides.{nat_tests}
 use Rattle.liq_types.specs.declared.image.Image.{Image}
 use Rattle.liq_types.specs.State.{State, opening}
 use Rattle.liq_core.specs.Core.{Core, StandsFor}
@@ -7,28 +8,32 @@ use Rattle.liq_journal.specs.Crash.{IsClosed, Stands, beginning, is_odd}
 use Rattle.liq_journal.specs.Opened.{IsUnshut}
 use Rattle.liq_journal.specs.Settled.{IsSettled, JournalOn}
 use Rattle.liq_journal.specs.Written.{Absent, Open, Written, found_on}
+use Rattle.liq_journal.proofs.Parity.{parity_of}
 use Rattle.liq_pairs.specs.declared.side.Side.{Side}
-use Rattle.liq_pairs.specs.declared.side.Side.TheVariants.{Left}
-use Rattle.liq_pairs.specs.Pair.{state_on}
-use Rattle.liq_pairs.specs.Sides.{has_odd}
+use Rattle.liq_pairs.specs.declared.side.Side.TheVariants.{Left, Right}
+use Rattle.liq_pairs.specs.Kept.{IsSettledFor}
+use Rattle.liq_pairs.specs.Pair.{commands_on, state_on}
+use Rattle.liq_pairs.specs.Replay.{outcome}
+use Rattle.liq_pairs.specs.Sides.{beside, has_odd, on, other}
 use Rattle.liq_pairs.proofs.Alike.{core_alike}
 use Rattle.liq_pairs.proofs.Beginning.{created_state}
 use Rattle.liq_pairs.proofs.Commands.{commands_by}
-use Rattle.liq_pairs.proofs.FirstPlace.{closed_absent, closed_where}
-use Rattle.liq_pairs.proofs.Keeping.{first_settled, settled_by}
-use Rattle.liq_pairs.proofs.Standings.{nothing, standing_absent, state_none, state_taken}
+use Rattle.liq_pairs.proofs.FirstPlace.{IsAside, absent_isnt_open, closed_absent, closed_where, gate_open_or_not, is_behind, open_older, opened_already, unopened_absent}
+use Rattle.liq_pairs.proofs.Keeping.{LeadsTo, first_settled, settled_by}
+use Rattle.liq_pairs.proofs.Standings.{state_none, state_taken}
 use Rattle.liq_store.specs.declared.standing.Stood.{Stood}
 use Rattle.liq_store.specs.declared.standing.Stood.TheVariants.{Nothing, Holding}
-use Rattle.liq_store.specs.Beginning.{IsStanding, IsStoodOn}
+use Rattle.liq_store.specs.Beginning.{IsEarlier, IsStanding, IsStoodOn}
 use Rattle.liq_store.specs.Causes.{counts_of}
-use Rattle.liq_store.specs.Judging.{disk_of}
+use Rattle.liq_store.specs.Judging.{disk_of, later_side}
 use Rattle.liq_store.specs.Keeping.{IsAtRest}
-use Rattle.liq_store.specs.Opening.{OpensOn}
-use Rattle.liq_store.specs.Standing.{HasCounts, IsHeldOn}
+use Rattle.liq_store.specs.Opening.{HoldsCommands, OpensOn}
+use Rattle.liq_store.specs.Standing.{HasCounts, IsCounted, IsHeldOn}
+use Rattle.liq_store.specs.Stored.{disk_beside}
 use Rattle.liq_store.specs.Within.{IsWithin, stored}
 use Rattle.liq_store.proofs.Appending.{all_has}
-use Rattle.liq_store.proofs.Going.{Going, order_going}
-use Rattle.liq_store.proofs.OneDisk.{parity_of, some_same, told_too}
+use Rattle.liq_store.proofs.Going.{Going, order_going, taken_is, told_by}
+use Rattle.liq_store.proofs.OneDisk.{some_same, told_too}
 
 -- what holds of a store that begins
 pub within_of : {D : Type 0} (seen : D → Option (List ℕ)) (moment : D → ℕ) (left_at : D → ℕ → List ℕ → Type 0) (side : Side) (taken : JournalOn D) (b : D) (core : Core) → Going seen moment left_at side taken.disk b core
@@ -54,61 +59,172 @@ stood : (odd : Bool) (held : List ℕ) (generation start count : ℕ) (core : Co
 stood odd held generation start count core parity is holds =
     subst (λ (o : Bool). Stands o held holds.written) parity (subst (λ (w : Written). Stands (is_odd generation) held w) (one_journal odd held generation start count core parity is holds) is.stands)
 
+-- ---- by the side of the disk that is taken
+
+pub beside_is : {D : Type 0} (side : Side) (t b : D) → beside side (on side t b) (on side b t) ≡ b
+beside_is Left t b = refl
+beside_is Right t b = refl
+
+settled_with : (side : Side) (held now : List ℕ) (w : Written) (s : State) → LeadsTo w s
+    → IsAside (has_odd (other side)) now w.generation → Stands (has_odd side) held w
+    → IsSettledFor side (on side held now) (on side now held) s
+settled_with Left held now w s leads aside stands = settled_by Left held now w s leads aside stands
+settled_with Right held now w s leads aside stands = settled_by Right now held w s leads aside stands
+
+state_with : (side : Side) (held now : List ℕ) (w : Written) (s : State) → found_on (has_odd side) held ≡ Open w → outcome w ≡ Ok s
+    → IsAside (has_odd (other side)) now w.generation → state_on (on side held now) (on side now held) ≡ Ok s
+state_with Left held now w s found came aside = state_taken Left held now w s found came (is_behind false now w.generation aside)
+state_with Right held now w s found came aside = state_taken Right now held w s found came (is_behind true now w.generation aside)
+
+-- what is found on a disk beside: nothing, or a journal of a smaller generation
+data FoundAside (odd : Bool) (bytes : List ℕ) (generation : ℕ) : Type 0 where
+  not_open : found_on odd bytes ≡ Absent → FoundAside odd bytes generation
+  open_earlier : (w : Written) → found_on odd bytes ≡ Open w → w.generation < generation → FoundAside odd bytes generation
+
+found_aside : (odd : Bool) (bytes : List ℕ) (generation : ℕ) → IsAside odd bytes generation → FoundAside odd bytes generation
+found_aside odd bytes generation (inl closed) = not_open (closed_absent odd bytes closed)
+found_aside odd bytes generation (inr is) = ⊎_elim
+    (λ gate. open_earlier is.written (ap (found_on odd) (sym (opened_already bytes gate)) ∙ is.stands.found) is.smaller)
+    (λ shut. not_open (unopened_absent odd bytes shut))
+    (gate_open_or_not bytes)
+
+commands_with : (side : Side) (held now : List ℕ) (w : Written) → found_on (has_odd side) held ≡ Open w
+    → FoundAside (has_odd (other side)) now w.generation → commands_on (on side held now) (on side now held) ≡ w.commands
+commands_with Left held now w found (not_open absent) = commands_by held now (Open w) Absent found absent
+commands_with Left held now w found (open_earlier v found_beside less) =
+    commands_by held now (Open w) (Open v) found found_beside
+    ∙ ap (λ (b : Bool). if b then v.commands else w.commands) (not_less w.generation v.generation less)
+  where
+    not_less : (n m : ℕ) → m < n → nat_lt n m ≡ false
+    not_less n m less = grind (arith, nat_tests)
+commands_with Right held now w found (not_open absent) = commands_by now held Absent (Open w) absent found
+commands_with Right held now w found (open_earlier v found_beside less) =
+    commands_by now held (Open v) (Open w) found_beside found
+    ∙ ap (λ (b : Bool). if b then w.commands else v.commands) (is_less v.generation w.generation less)
+  where
+    is_less : (n m : ℕ) → n < m → nat_lt n m ≡ true
+    is_less n m less = grind (arith, nat_tests)
+
+-- an undamaged disk beside a journal of this generation
+aside_of : {D : Type 0} (odd : Bool) (aside : Stood D) (now : List ℕ) (generation : ℕ) → IsCounted odd aside → IsEarlier generation aside
+    → IsStanding odd now aside → IsAside odd now generation
+aside_of odd (Nothing disk) now generation counted earlier_one standing = inl (closed_where now standing)
+aside_of odd (Holding journal core) now generation counted earlier_one standing =
+    let here = standing.1 in
+    let stands = stood odd now journal.generation journal.start journal.count core (parity_of odd journal.generation counted.0) standing.0 here in
+    inr (open_older odd now here.written here.state generation stands here.came (omega (arith, here.generation_is, earlier_one)))
+
+shut_on : {D : Type 0} (odd : Bool) (now : List ℕ) (aside : Stood D) → IsStanding odd now aside → found_on odd now ≡ Absent → IsUnshut now → ⊥
+shut_on odd now (Nothing disk) standing absent unshut = standing unshut
+shut_on odd now (Holding journal core) standing absent unshut = absent_isnt_open odd now standing.1.written absent standing.1.found
+
+-- ---- which of two goes on
+
+apart : (m n : ℕ) → is_odd m ≡ true → is_odd n ≡ false → n ≤ m → n < m
+apart m n odd even le =
+    let unlike : m ≡ n → ⊥ = λ same. (let no : true ≡ false = sym odd ∙ ap is_odd same ∙ even in absurd (cc (no))) in
+    omega (arith, unlike)
+
+later_of : (left right : ℕ) (side : Side) → is_odd left ≡ true → is_odd right ≡ false → later_side left right ≡ side
+    → on side right left < on side left right
+later_of left right side odd even is = by (nat_lt left right) refl side is
+  where
+    by : (b : Bool) → nat_lt left right ≡ b → (side : Side) → later_side left right ≡ side → on side right left < on side left right
+    by true less Right is = grind (arith, nat_tests)
+    by true less Left is = let no : Right ≡ Left = sym (ap (λ (b : Bool). if b then Right else Left) less) ∙ is in absurd (cc (no))
+    by false less Right is = let no : Left ≡ Right = sym (ap (λ (b : Bool). if b then Right else Left) less) ∙ is in absurd (cc (no))
+    by false less Left is = apart left right odd even (at_most less)
+      where
+        at_most : nat_lt left right ≡ false → right ≤ left
+        at_most h = grind (arith, nat_tests)
+
+-- of two journals the one that is not taken is of a smaller generation
+pub later_than : {D : Type 0} (left right : JournalOn D) (core later : Core) (side : Side) → IsCounted true (Holding left core)
+    → IsCounted false (Holding right later) → later_side core.image.generation later.image.generation ≡ side
+    → on side right.generation left.generation < on side left.generation right.generation
+later_than left right core later side counted counted_right is =
+    later_of left.generation right.generation side (parity_of true left.generation counted.0) (parity_of false right.generation counted_right.0)
+    (ap₂ later_side counted.1.generation_is counted_right.1.generation_is ∙ is)
+
 module _ {D : Type 0} (seen : D → Option (List ℕ)) (moment : D → ℕ) (left_at : D → ℕ → List ℕ → Type 0) where
   told_on : (odd : Bool) (stood : Stood D) → IsStoodOn seen moment left_at odd stood → (now : List ℕ) → seen (disk_of stood) ≡ Some now → IsStanding odd now stood
   told_on odd stood is now told = subst (λ (o : Option (List ℕ)). IfSome o (λ l. IsStanding odd l stood)) told is.told
 
-  -- the right disk has no journal, until there is rotation
-  pub right_never : (journal : JournalOn D) (core : Core) → IsStoodOn seen moment left_at false (Holding journal core) → ⊥
-  right_never journal core is = let no = is.counted.0 in absurd (cc (no))
+  -- ---- a journal that goes on, beside which no later one is
 
-  module _ (taken : JournalOn D) (b : D) (core : Core) (left : IsStoodOn seen moment left_at true (Holding taken core)) (right : IsStoodOn seen moment left_at false (Nothing b)) where
-    parity : is_odd taken.generation ≡ true
-    parity = (parity_of true taken.generation left.counted.0).1
+  module _ (side : Side) (taken : JournalOn D) (core : Core) (aside : Stood D)
+      (is : IsStoodOn seen moment left_at (has_odd side) (Holding taken core)) (is_beside : IsStoodOn seen moment left_at (has_odd (other side)) aside)
+      (earlier_one : IsEarlier taken.generation aside) where
+    parity : is_odd taken.generation ≡ has_odd side
+    parity = parity_of (has_odd side) taken.generation is.counted.0
 
-    pub begins : IsWithin seen moment left_at Left taken b core None []
-    begins = within_of seen moment left_at Left taken b core
+    here_on : (held : List ℕ) → seen taken.disk ≡ Some held → IsStanding (has_odd side) held (Holding taken core)
+    here_on held told = told_on (has_odd side) (Holding taken core) is held told
+
+    aside_on : (held now : List ℕ) (told : seen taken.disk ≡ Some held) → seen (disk_of aside) ≡ Some now
+        → IsAside (has_odd (other side)) now (here_on held told).1.written.generation
+    aside_on held now told told_beside =
+        subst (λ (n : ℕ). IsAside (has_odd (other side)) now n) (sym (here_on held told).1.generation_is)
+        (aside_of (has_odd (other side)) aside now taken.generation is_beside.counted earlier_one (told_on (has_odd (other side)) aside is_beside now told_beside))
+
+    pub begins : IsWithin seen moment left_at side taken (disk_of aside) core None []
+    begins = within_of seen moment left_at side taken (disk_of aside) core
         (record {
-          taken_rests = left.rests;
-          beside_rests = right.rests;
-          settled = λ held aside th ta s stands.
-              let here = told_on true (Holding taken core) left held th in
-              let closed = closed_where aside (told_on false (Nothing b) right aside ta) in
-              settled_by Left held aside here.1.written s (record { state = here.1.state; came = here.1.came; alike = core_alike core here.1.state s here.1.stands stands }) (inl closed)
-              (stood true held taken.generation taken.start taken.count core parity here.0 here.1);
+          taken_rests = is.rests;
+          beside_rests = is_beside.rests;
+          settled = λ held now th ta s stands.
+              let here = here_on held th in
+              settled_with side held now here.1.written s (record { state = here.1.state; came = here.1.came; alike = core_alike core here.1.state s here.1.stands stands })
+              (aside_on held now th ta) (stood (has_odd side) held taken.generation taken.start taken.count core parity here.0 here.1);
         })
-        parity left.counted.1 (settled_told (seen taken.disk) left.told)
+        parity is.counted.1 (settled_told (seen taken.disk) is.told)
       where
-        settled_told : (o : Option (List ℕ)) → IfSome o (λ now. IsStanding true now (Holding taken core)) → IfSome o (IsSettled taken.generation taken.start taken.count)
-        settled_told None is = tt
-        settled_told (Some now) is = is.0
+        settled_told : (o : Option (List ℕ)) → IfSome o (λ now. IsStanding (has_odd side) now (Holding taken core)) → IfSome o (IsSettled taken.generation taken.start taken.count)
+        settled_told None none_told = tt
+        settled_told (Some now) standing = standing.0
 
-    begins_for : (l r : List ℕ) → seen taken.disk ≡ Some l → seen b ≡ Some r → (s : State) × (state_on l r ≡ Ok s) × StandsFor core s
-    begins_for l r tl tr =
-        let here = told_on true (Holding taken core) left l tl in
-        let closed = closed_where r (told_on false (Nothing b) right r tr) in (
-          here.1.state,
-          state_taken Left l r here.1.written here.1.state here.1.found here.1.came (nothing (standing_absent false r (closed_absent false r closed))),
-          here.1.stands,
-        )
+    begins_for : (held now : List ℕ) → seen taken.disk ≡ Some held → seen (disk_of aside) ≡ Some now
+        → (s : State) × (state_on (on side held now) (on side now held) ≡ Ok s) × StandsFor core s
+    begins_for held now th ta =
+        let here = (here_on held th).1 in
+        (here.state, state_with side held now here.written here.state here.found here.came (aside_on held now th ta), here.stands)
 
-    -- the store that goes on with the left disk's journal
-    pub begins_opened : (faults : D → ℕ) → OpensOn seen faults taken.disk b (stored Left taken b core None [])
+    holds_for : (held now : List ℕ) → seen taken.disk ≡ Some held → seen (disk_of aside) ≡ Some now
+        → HoldsCommands (has_odd side) held taken.start (commands_on (on side held now) (on side now held))
+    holds_for held now th ta =
+        let here = here_on held th in
+        let w = here.1.written in
+        record {
+          written = w;
+          found = here.1.found;
+          begins = ap (λ (v : Written). 57 + length v.checkpoint) (sym (one_journal (has_odd side) held taken.generation taken.start taken.count core parity here.0 here.1)) ∙ here.0.start_is;
+          are = sym (commands_with side held now w here.1.found (found_aside (has_odd (other side)) now w.generation (aside_on held now th ta)));
+        }
+
+    -- the store that goes on with it
+    pub begins_opened : (faults : D → ℕ) → OpensOn seen faults (on side taken.disk (disk_of aside)) (on side (disk_of aside) taken.disk) (stored side taken (disk_of aside) core None [])
     begins_opened faults = record {
-      state = begins_for;
+      state = told_by seen side taken.disk (disk_of aside) (λ l r. (s : State) × (state_on l r ≡ Ok s) × StandsFor core s) begins_for;
       commands = λ l r now tl tr tn.
-          let here = told_on true (Holding taken core) left l tl in
-          let closed = closed_where r (told_on false (Nothing b) right r tr) in
-          record {
-            written = here.1.written;
-            found = ap (found_on true) (some_same now l (seen taken.disk) tn tl) ∙ here.1.found;
-            begins = ap (λ (w : Written). 57 + length w.checkpoint) (sym (one_journal true l taken.generation taken.start taken.count core parity here.0 here.1)) ∙ here.0.start_is;
-            are = sym (commands_by l r (Open here.1.written) Absent here.1.found (closed_absent false r closed));
-          };
+          told_by seen side taken.disk (disk_of aside) (λ x y. seen taken.disk ≡ Some now → HoldsCommands (has_odd side) now taken.start (commands_on x y))
+          (λ held other_held th ta told. let same = some_same held now (seen taken.disk) th told in
+          subst (λ (m : List ℕ). HoldsCommands (has_odd side) m taken.start (commands_on (on side held other_held) (on side other_held held))) same (holds_for held other_held th ta))
+          l r tl tr (ap seen (sym (taken_is side taken.disk (disk_of aside))) ∙ tn);
       going = refl;
       counts = refl;
-      stays = λ l r x y tl tr tx ty. ap₂ state_on (some_same x l (seen taken.disk) tx tl) (some_same y r (seen b) ty tr);
+      stays = λ l r x y tl tr tx ty.
+          ap₂ state_on (some_same x l (seen (on side taken.disk (disk_of aside))) tx tl) (some_same y r (seen (on side (disk_of aside) taken.disk)) ty tr);
     }
+
+    -- where none is open beside it, the gate there is shut
+    pub begins_shut : IfSome (seen (disk_beside (stored side taken (disk_of aside) core None []))) (λ now. found_on (has_odd (other side)) now ≡ Absent → IsUnshut now → ⊥)
+    begins_shut =
+        subst (λ (d : D). IfSome (seen d) (λ now. found_on (has_odd (other side)) now ≡ Absent → IsUnshut now → ⊥)) (sym (beside_is side taken.disk (disk_of aside)))
+        (by (seen (disk_of aside)) is_beside.told)
+      where
+        by : (o : Option (List ℕ)) → IfSome o (λ now. IsStanding (has_odd (other side)) now aside) → IfSome o (λ now. found_on (has_odd (other side)) now ≡ Absent → IsUnshut now → ⊥)
+        by None none_told = tt
+        by (Some now) standing = shut_on (has_odd (other side)) now aside standing
 
   -- ---- the first generation
 
@@ -136,7 +252,7 @@ module _ {D : Type 0} (seen : D → Option (List ℕ)) (moment : D → ℕ) (lef
             let made = created before.0 before.1 in
             let same : made.0 ≡ held = some_same made.0 held (seen taken.disk) made.1 th in
             let shut : IsClosed aside = closed_where aside (subst (λ (o : Option (List ℕ)). IfSome o (λ now. IsUnshut now → ⊥)) ta closed) in
-            first_settled held aside (beginning 1 []) s (core_alike core opening s stands so) (subst (λ (l : List ℕ). Stands true l (beginning 1 [])) same made.2) refl shut;
+            first_settled held aside (beginning 1 []) s (core_alike core opening s stands so) (subst (λ (l : List ℕ). Stands true l (beginning 1 [])) same made.2) refl refl shut;
       })
       (ap is_odd one) (counts_first core taken.generation taken.count one none stands) settled
 

@@ -1,26 +1,48 @@
 -- What one disk is found to be, by its opening and its replay.
-use Rattle.std.proofs.Common.{◌≡◌, ◌∙◌, ◌↔◌, ℕ, List, length, Option, Some, None, IfSome, IsSome, Bool, true, false, Result, Ok, Err, refl, sym, ap, subst, rules, arith}
-use Rattle.std.proofs.lemmas.Bool.Decides.{nat_tests}
-use Rattle.liq_types.specs.State.{opening}
-use Rattle.liq_core.specs.Core.{Core}
+use Rattle.std.proofs.Common.{◌≡◌, ◌∙◌, ◌↔◌, ℕ, List, length, Option, Some, None, IfSome, IsSome, Bool, true, Result, Ok, Err, refl, sym, ap, subst, rules}
+use Rattle.liq_types.specs.State.{State}
+use Rattle.liq_core.specs.Core.{Core, StandsFor}
 use Rattle.liq_journal.specs.Bodies.{IsJournalOf}
-use Rattle.liq_journal.specs.Crash.{Stands, is_odd}
+use Rattle.liq_journal.specs.Crash.{Stands}
 use Rattle.liq_journal.specs.Opened.{IsOpened}
 use Rattle.liq_journal.specs.Settled.{JournalOn}
 use Rattle.liq_journal.specs.Written.{Open, Written, found_on, is_generation}
+use Rattle.liq_journal.specs.declared.damage.Damage.{Damage}
+use Rattle.liq_journal.proofs.Parity.{parity_of}
+use Rattle.liq_pairs.specs.Replay.{base_of, outcome, replay_from}
 use Rattle.liq_pairs.proofs.Standings.{standing_faulty}
 use Rattle.liq_store.specs.declared.answers.AcceptedFault.{AcceptedFault}
 use Rattle.liq_store.specs.declared.answers.AcceptedFault.TheVariants.{DiskFault, Damaged, NoMemory}
 use Rattle.liq_store.specs.declared.standing.StandFault.{StandFault}
 use Rattle.liq_store.specs.declared.standing.Stood.{Stood}
 use Rattle.liq_store.specs.declared.standing.Stood.TheVariants.{Nothing, Holding}
-use Rattle.liq_store.specs.Replays.{Replays}
+use Rattle.liq_store.specs.Reading.{CountsFault}
+use Rattle.liq_store.specs.Replays.{BeginsTo, Replays}
 use Rattle.liq_store.specs.Standing.{Continues, FailsTo, HoldsTo, IsFoundOn, IsWhyOn}
 
-pub fails_to : (w : Written) (core : Core) (why : AcceptedFault) → Replays opening w.commands core (Err why) → FailsTo w why
-fails_to w core DiskFault h = tt
-fails_to w core (Damaged damage) h = h
-fails_to w core NoMemory h = tt
+-- ---- from its beginning
+
+-- where it has none, or the damage of its checkpoint
+pub base_fails : (w : Written) (why : AcceptedFault) → BeginsTo (base_of w) (Err why) → FailsTo w why
+base_fails w DiskFault h = tt
+base_fails w (Damaged damage) h = ap (λ (base : Result State Damage). replay_from base w.commands) h
+base_fails w NoMemory h = tt
+
+pub leads_on : (w : Written) (s : State) (core : Core) → base_of w ≡ Ok s → Replays s w.commands core (Ok tt) → (t : State) × (outcome w ≡ Ok t) × StandsFor core t
+leads_on w s core begins h = (h.0, ap (λ (base : Result State Damage). replay_from base w.commands) begins ∙ h.1, h.2)
+
+pub fails_on : (w : Written) (s : State) (core : Core) (why : AcceptedFault) → base_of w ≡ Ok s → Replays s w.commands core (Err why) → FailsTo w why
+fails_on w s core DiskFault begins h = tt
+fails_on w s core (Damaged damage) begins h = ap (λ (base : Result State Damage). replay_from base w.commands) begins ∙ h
+fails_on w s core NoMemory begins h = tt
+
+-- no fault is counted where no device was asked
+pub uncounted : (why : AcceptedFault) (before after : ℕ) → (why ≡ DiskFault → ⊥) → after ≡ before → CountsFault why before after
+uncounted DiskFault before after none same = absurd (none refl)
+uncounted (Damaged damage) before after none same = same
+uncounted NoMemory before after none same = same
+
+-- ---- its bytes
 
 -- what is told before is told after
 pub told_too : (old new : Option (List ℕ)) → (IsSome new ↔ IsSome old) → (held : List ℕ) → old ≡ Some held → (after : List ℕ) × (new ≡ Some after)
@@ -38,26 +60,20 @@ told_too old (Some after) telling held told = (after, refl)
 pub some_same : (a b : List ℕ) (o : Option (List ℕ)) → o ≡ Some a → o ≡ Some b → a ≡ b
 some_same a b o first second = let both : Some a ≡ Some b = sym first ∙ second in cc
 
--- the parity of a generation that a disk may have is the disk's
-pub parity_of : (odd : Bool) (generation : ℕ) → is_generation odd generation ≡ true → (generation ≡ 1) × (is_odd generation ≡ odd)
-parity_of false generation is = cc
-parity_of true generation is =
-    let one : generation ≡ 1 = grind (arith, nat_tests) in
-    (one, ap is_odd one)
-
 -- what an opening left is the journal that it found
-pub record OpenedAs (odd : Bool) (held after : List ℕ) (generation start count : ℕ) : Type 0 where
+pub record OpenedAs (odd : Bool) (held after : List ℕ) (generation start count : ℕ) (checkpoint : List ℕ) : Type 0 where
   pub written : Written
   pub found : found_on odd held ≡ Open written
   pub stands : Stands odd after written
   pub journal : IsJournalOf generation start after written
   pub generation_is : written.generation ≡ generation
   pub count_is : length written.commands ≡ count
+  pub checkpoint_is : written.checkpoint ≡ checkpoint
 
 pub opened_as : (old new : Option (List ℕ)) (odd : Bool) (generation start count : ℕ) (checkpoint : List ℕ) → (IsSome new ↔ IsSome old) → is_generation odd generation ≡ true
     → IfSome old (λ held. IsOpened odd held generation start count checkpoint)
     → ((held : List ℕ) (w : Written) → old ≡ Some held → found_on odd held ≡ Open w → IfSome new (λ after. Stands odd after w))
-    → (held : List ℕ) → old ≡ Some held → (after : List ℕ) × (new ≡ Some after) × OpenedAs odd held after generation start count
+    → (held : List ℕ) → old ≡ Some held → (after : List ℕ) × (new ≡ Some after) × OpenedAs odd held after generation start count checkpoint
 opened_as old new odd generation start count checkpoint telling may opened stands held told =
     let here = told_too old new telling held told in
     let is : IsOpened odd held generation start count checkpoint = subst (λ (o : Option (List ℕ)). IfSome o (λ l. IsOpened odd l generation start count checkpoint)) told opened in
@@ -69,12 +85,13 @@ opened_as old new odd generation start count checkpoint telling may opened stand
         found = is.found;
         stands = left;
         journal = record {
-          found = subst (λ (b : Bool). found_on b here.0 ≡ Open is.written) (sym (parity_of odd generation may).1) left.found;
+          found = subst (λ (b : Bool). found_on b here.0 ≡ Open is.written) (sym (parity_of odd generation may)) left.found;
           generation_is = is.generation_is;
           start_is = is.start_is;
         };
         generation_is = is.generation_is;
         count_is = is.count_is;
+        checkpoint_is = is.checkpoint_is;
       },
     )
 

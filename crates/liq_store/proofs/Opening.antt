@@ -130,12 +130,12 @@ module _ {D : Type 0} (seen : D → Option (List ℕ)) (moment : D → ℕ) (lef
         let m = told_too (seen left) (seen dl) sl.telling l tl in
         chained moment left_at left dl now (LeftLeaves l r)
         (weaker moment left_at left dl (OpenLeaves true l) (LeftLeaves l r) (sl.crash l tl only) (λ image opened. inl opened))
-        (weaker moment left_at dl now (CreateLeaves true m.0 (beginning 1 [])) (LeftLeaves l r) (creates.crash m.0 m.1 (only_it m.0 m.1) refl) (λ image made. from_old l r m.0 image tl tr m.1 made))
+        (weaker moment left_at dl now (CreateLeaves true m.0 (beginning 1 [])) (LeftLeaves l r) (creates.crash m.0 m.1 (only_it m.0 m.1)) (λ image made. from_old l r m.0 image tl tr m.1 made))
 
     pub created_reads : (l r x : List ℕ) → seen left ≡ Some l → seen right ≡ Some r → seen now ≡ Some x → LeftLeaves l r x
     created_reads l r x tl tr tx =
         let m = told_too (seen left) (seen dl) sl.telling l tl in
-        from_old l r m.0 x tl tr m.1 (creates.reads m.0 x m.1 (only_it m.0 m.1) refl tx)
+        from_old l r m.0 x tl tr m.1 (creates.reads m.0 x m.1 (only_it m.0 m.1) tx)
 
   -- ---- whichever it is
 

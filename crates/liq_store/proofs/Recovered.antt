@@ -17,7 +17,7 @@ use Rattle.liq_pairs.specs.Unfinished.{HoldsUnfinished, IsRecovered}
 -- what was unfinished is accepted
 pub unfinished_is_allowed : (l r : List ℕ) (s : State) (c : Command) → HoldsUnfinished l r s c → ruling s c ≡ Allowed
 unfinished_is_allowed l r s c (side, inl unfinished) = unfinished.record_is.allowed
-unfinished_is_allowed l r s c (side, inr rotated) = absurd rotated.rotation.rotation
+unfinished_is_allowed l r s c (side, inr rotated) = rotated.rotation.rotation.allowed
 
 -- a command that is accepted changes the image, since its client's last number goes up
 accepted_changes : (s : State) (c : Command) → ruling s c ≡ Allowed → image s ≡ image (after s c) → ⊥

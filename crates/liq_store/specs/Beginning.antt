@@ -1,5 +1,5 @@
 -- Two disks with which nothing is wrong, and the store that begins on them.
-use Rattle.std.specs.Prelude.{◌≡◌, ◌⊎◌, ◌↔◌, ℕ, List, [], Option, Some, IfSome, IsSome, Bool}
+use Rattle.std.specs.Prelude.{◌≡◌, ◌⊎◌, ◌↔◌, ◌<◌, ℕ, List, [], Option, Some, IfSome, IsSome, Bool}
 use Rattle.liq_outside.specs.Disk.{GoesOn}
 use Rattle.liq_journal.specs.Causes.{Counted}
 use Rattle.liq_journal.specs.Crash.{CrashOfCreate, ReadsOfCreate}
@@ -26,6 +26,11 @@ pub record IsStoodOn {D : Type 0} (seen : D → Option (List ℕ)) (moment : D �
   pub counted : IsCounted odd stood
   pub rests : IsAtRest seen moment left_at (disk_of stood)
   pub told : IfSome (seen (disk_of stood)) (λ now. IsStanding odd now stood)
+
+-- no journal is open on it, or one of a smaller generation
+abbrev pub IsEarlier : {D : Type 0} → ℕ → Stood D → Type 0
+IsEarlier generation (Nothing disk) = Unit {0}
+IsEarlier generation (Holding journal core) = journal.generation < generation
 
 abbrev pub IsNothing : {D : Type 0} → Stood D → Type 0
 IsNothing (Nothing disk) = Unit {0}

@@ -74,11 +74,11 @@ abbrev pub IsCounted : {D : Type 0} → Bool → Stood D → Type 0
 IsCounted odd (Nothing disk) = Unit {0}
 IsCounted odd (Holding journal core) = (is_generation odd journal.generation ≡ true) × HasCounts journal.generation journal.count core
 
--- the same journal, all of whose records were made again from the first generation's beginning
+-- the same journal, all of whose records were made again
 pub record Replayed {D : Type 0} (old new : JournalOn D) (core : Core) : Type 0 where
   pub same : new ≡ record old { disk = new.disk }
   pub count_is : core.records ≡ old.count
-  pub generation_is : core.image.generation ≡ 1
+  pub generation_is : core.image.generation ≡ old.generation
 
 abbrev pub Continues : {D : Type 0} → JournalOn D → Result (Stood D) (StandFault D) → Type 0
 Continues old (Ok (Nothing disk)) = ⊥

@@ -9,7 +9,7 @@ use crate::standing::{StandFault, Stood};
 use liq_outside::Disk;
 use liq_pairs::Side;
 
-fn disk_of<D: Disk>(stood: Stood<D>) -> D
+pub fn disk_of<D: Disk>(stood: Stood<D>) -> D
     ensures { result ≡ disk_of stood }
 {
     match stood {

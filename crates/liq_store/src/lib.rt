@@ -3,11 +3,13 @@
 #![tactic(auto)]
 
 mod answers;
+mod checkpoint;
 mod guided;
 mod judging;
 mod preparing;
 mod reading;
 mod replay;
+mod rotating;
 mod standing;
 mod store;
 mod telling;

@@ -9,6 +9,7 @@ ghost use Rattle.liq_store.specs.Keeping.{IsAtRest};
 ghost use Rattle.liq_store.specs.Standing.{Continues, CountsStand, HoldsTo, IsCounted, IsFaultless, IsFoundOn, IsLeftOn, disk_in};
 
 use crate::answers::AcceptedFault;
+use crate::checkpoint::base;
 use crate::guided::Guided;
 use crate::replay::replay;
 use liq_journal::{Journal, OpenFault, OpenWhy};
@@ -33,15 +34,31 @@ pub struct StandFault<D> {
     pub why: AcceptedFault,
 }
 
-// Makes the commands of an opened journal again, from the opening state.
-fn hold<D: Disk>(alloc: Global, journal: Journal<D>) -> Result<Stood<D>, StandFault<D>>
+// Makes the commands of an opened journal again, on the protocol with which it begins.
+fn hold<D: Disk>(
+    alloc: Global,
+    journal: Journal<D>,
+    checkpoint: Vec<u8>,
+) -> Result<Stood<D>, StandFault<D>>
     ensures looked { Looked D.seen D.moment D.left_at journal.disk (disk_in result) }
-    ensures holds { (held : List ℕ) (w : Written) → D.seen journal.disk ≡ Some held → IsJournalOf journal.generation journal.start held w → length w.commands ≡ journal.count → HoldsTo w result }
+    ensures holds { (held : List ℕ) (w : Written) → D.seen journal.disk ≡ Some held
+        → IsJournalOf journal.generation journal.start held w → w.checkpoint ≡ checkpoint.items
+        → length w.commands ≡ journal.count → HoldsTo w result }
     ensures journal { Continues journal result }
     ensures cause { CountsStand result (D.faults journal.disk) (D.faults (disk_in result)) }
 {
     let mut journal = journal;
-    let mut protocol = Guided::new(alloc);
+    let mut protocol = match base(alloc, journal.generation(), &checkpoint) {
+        Ok(protocol) => protocol,
+        Err(why) => {
+            return Err(StandFault {
+                disk: journal.close(),
+                why,
+            });
+        }
+    };
+    // It is not kept beside the replay.
+    drop(checkpoint);
     match replay::<D, Brand>(&mut protocol, &mut journal, Blank::new(1)) {
         Ok(()) => Ok(Stood::Holding(journal, protocol)),
         Err(why) => Err(StandFault {
@@ -67,7 +84,7 @@ pub fn stand<D: Disk>(alloc: Global, disk: D, odd: bool) -> Result<Stood<D>, Sta
     ensures cause { CountsStand result (D.faults disk) (D.faults (disk_in result)) }
 {
     match Journal::open(alloc, disk, odd) {
-        Ok((journal, _)) => hold(alloc, journal),
+        Ok((journal, checkpoint)) => hold(alloc, journal, checkpoint),
         Err(OpenFault { disk, why }) => match why {
             OpenWhy::Absent => Ok(Stood::Nothing(disk)),
             OpenWhy::DiskFault => Err(StandFault {

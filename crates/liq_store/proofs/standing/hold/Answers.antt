@@ -1,9 +1,19 @@
-use Rattle.liq_types.specs.State.{opening}
-use Rattle.liq_store.proofs.OneDisk.{fails_to}
+use Rattle.std.proofs.Common.{◌∙◌, Err, ap, sym}
+use Rattle.liq_store.proofs.OneDisk.{base_fails, fails_on, leads_on, uncounted}
 use Rattle.liq_store.proofs.standing.hold.Goals as goal
 
-pub returns-in-Ok-clause-holds : goal.returns-in-Ok-clause-holds
-returns-in-Ok-clause-holds g c held w told journal counted = c.in-Ok.ensures.replayed held w opening told journal counted c.new-protocol.ensures
-
 pub returns-in-Err-clause-holds : goal.returns-in-Err-clause-holds
-returns-in-Err-clause-holds g c held w told journal counted = fails_to w c.replay.new.protocol c.in-Err.why (c.in-Err.ensures.replayed held w opening told journal counted c.new-protocol.ensures)
+returns-in-Err-clause-holds g c held w told journal checkpoint counted = base_fails w c.in-Err.why (c.in-Err.ensures.begins w (journal.generation_is ∙ sym c.generation.ensures) (checkpoint ∙ sym c.deref.ensures.value))
+
+pub returns-in-Ok-replay-clause-holds : goal.returns-in-Ok-replay-clause-holds
+returns-in-Ok-replay-clause-holds g c held w told journal checkpoint counted =
+    let begun = c.in-Ok.ensures.begins w (journal.generation_is ∙ sym c.generation.ensures) (checkpoint ∙ sym c.deref.ensures.value) in
+    leads_on w begun.0 c.replay.new.protocol begun.1 (c.in-Ok-replay.ensures.replayed held w begun.0 told journal counted begun.2)
+
+pub returns-in-Err-replay-clause-holds : goal.returns-in-Err-replay-clause-holds
+returns-in-Err-replay-clause-holds g c held w told journal checkpoint counted =
+    let begun = c.in-Ok.ensures.begins w (journal.generation_is ∙ sym c.generation.ensures) (checkpoint ∙ sym c.deref.ensures.value) in
+    fails_on w begun.0 c.replay.new.protocol c.in-Err-replay.why begun.1 (c.in-Err-replay.ensures.replayed held w begun.0 told journal counted begun.2)
+
+pub returns-in-Err-clause-cause : goal.returns-in-Err-clause-cause
+returns-in-Err-clause-cause g c = uncounted c.in-Err.why _ _ (λ is. c.in-Err.ensures.no_device (λ i. Err (is i))) (ap g.D.Disk.faults c.close.ensures)

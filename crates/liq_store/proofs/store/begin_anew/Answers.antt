@@ -1,15 +1,15 @@
-use Rattle.std.proofs.Common.{refl, sym, subst}
+use Rattle.std.proofs.Common.{sym, subst}
 use Rattle.liq_store.specs.Beginning.{Creates}
 use Rattle.liq_store.specs.Stored.{Stored}
 use Rattle.liq_store.proofs.Beginning.{anew_opened, begins_anew}
 use Rattle.liq_store.proofs.store.begin_anew.Goals as goal
 
 pub begin_on-requires : goal.begin_on-requires
-begin_on-requires g c = begins_anew g.D.Disk.seen g.D.Disk.moment g.D.Disk.left_at c.args.left c.args.right c.in-Ok.taken c.new-protocol.result c.in-Ok.ensures.known.0 c.in-Ok.ensures.known.2 c.new-protocol.ensures c.in-Ok.ensures.telling (λ held told. c.in-Ok.ensures.created held told refl) (c.in-Ok.ensures.settled refl) c.in-Ok.ensures.durable c.requires.rests c.requires.right
+begin_on-requires g c = begins_anew g.D.Disk.seen g.D.Disk.moment g.D.Disk.left_at c.args.left c.args.right c.in-Ok.taken c.new-protocol.result c.in-Ok.ensures.known.0 c.in-Ok.ensures.known.2 c.new-protocol.ensures c.in-Ok.ensures.telling c.in-Ok.ensures.created c.in-Ok.ensures.settled c.in-Ok.ensures.durable c.requires.rests c.requires.right
 
 pub returns-in-Ok-clause-opened : goal.returns-in-Ok-clause-opened
 returns-in-Ok-clause-opened g c =
-    rw c.begin_on.ensures (anew_opened g.D.Disk.seen g.D.Disk.moment g.D.Disk.left_at g.D.Disk.faults c.args.left c.args.right c.in-Ok.taken c.new-protocol.result c.new-protocol.ensures c.in-Ok.ensures.cause c.in-Ok.ensures.known.1 (λ held told. c.in-Ok.ensures.created held told refl) c.requires.left c.requires.right)
+    rw c.begin_on.ensures (anew_opened g.D.Disk.seen g.D.Disk.moment g.D.Disk.left_at g.D.Disk.faults c.args.left c.args.right c.in-Ok.taken c.new-protocol.result c.new-protocol.ensures c.in-Ok.ensures.cause c.in-Ok.ensures.known.1 c.in-Ok.ensures.created c.requires.left c.requires.right)
 
 pub returns-in-Ok-clause-left : goal.returns-in-Ok-clause-left
 returns-in-Ok-clause-left g c =
