@@ -1,10 +1,10 @@
 -- What the rules say of a command without its hint.
-use Rattle.std.proofs.Common.{◌≡◌, ℕ, IsTrue, refl}
+use Rattle.std.proofs.Common.{◌≡◌, ℕ, refl}
 use Rattle.liq_types.specs.declared.requests.Call.{Call}
 use Rattle.liq_types.specs.declared.requests.Call.TheVariants.{Open, Adjust, GainToTrove, Redeem}
 use Rattle.liq_types.specs.State.{State}
 use Rattle.liq_rules.specs.Rules.{call_events}
-use Rattle.liq_rules.specs.Step.{after, built_call, ruling}
+use Rattle.liq_rules.specs.Step.{after, ruling}
 use Rattle.liq_rules.specs.Verbs.{unhinted_call}
 
 pub ruling_same : (s : State) (client number : ℕ) (call : Call) → ruling s (record { client = client; number = number; call = unhinted_call call }) ≡ ruling s (record { client = client; number = number; call = call })
@@ -27,10 +27,3 @@ events_same s (Adjust account coll_in coll_out borrow repay bound hint) = refl
 events_same s (GainToTrove account hint) = refl
 events_same s (Redeem account lusd bound hint) = refl
 events_same s _ = refl
-
-pub built_same : (call : Call) → IsTrue (built_call call) → IsTrue (built_call (unhinted_call call))
-built_same (Open account coll borrow bound hint) h = h
-built_same (Adjust account coll_in coll_out borrow repay bound hint) h = h
-built_same (GainToTrove account hint) h = h
-built_same (Redeem account lusd bound hint) h = h
-built_same _ h = h

@@ -13,7 +13,7 @@ ghost use Rattle.liq_core.specs.Sound.{IsKeptRow};
 ghost use Rattle.liq_core.specs.Steps.{entry_put, last_put, used_hint, words_of};
 ghost use Rattle.liq_core.specs.Terms.{AreTerms, claimants};
 ghost use Rattle.liq_rules.specs.Verbs.{pays, opens, provides, plans_list, liquidates, rotates};
-ghost use Rattle.liq_rules.specs.Step.{built, accounts, rules, first_refusal, noted, step};
+ghost use Rattle.liq_rules.specs.Step.{accounts, rules, first_refusal, noted, step};
 
 use crate::laws::lists_stand;
 use crate::payments::plan_price;
@@ -28,7 +28,7 @@ use liq_tables::Reserved;
 use liq_troves::Troves;
 use liq_types::amounts::{ACCOUNTS, LIM, PRICE_OPENING, RECORDS_MOST};
 use liq_types::{
-    Call, Client, Command, Done, Hint, HintWords, Query, Refusal, Reply, Request, Steps,
+    Call, Client, Command, Done, Hint, HintWords, Query, Refusal, Reply, Steps,
 };
 use std::alloc::Global;
 use std::marker::Model;
@@ -385,33 +385,6 @@ impl Protocol {
         // Where no field is used, nothing is known of the protocol.
         let _ = &self.records;
         self.answer(query)
-    }
-}
-
-/// Whether the protocol answers such a request yet.
-pub fn is_built(request: &Request) -> bool
-    ensures { result ≡ built request.now }
-{
-    match request {
-        Request::Do(command) => matches!(
-            command.call,
-            Call::Price(..)
-                | Call::Advance(..)
-                | Call::Fund(..)
-                | Call::Take(..)
-                | Call::Send(..)
-                | Call::Open(..)
-                | Call::Adjust(..)
-                | Call::Close(..)
-                | Call::Provide(..)
-                | Call::Withdraw(..)
-                | Call::GainToTrove(..)
-                | Call::Liquidate(..)
-                | Call::LiquidateLowest(..)
-                | Call::Redeem(..)
-                | Call::Claim(..)
-        ),
-        Request::Ask(_) => true,
     }
 }
 

@@ -1,10 +1,9 @@
 //! A command without its hint.
 
-ghost use Rattle.std.specs.Prelude.{◌≡◌, IsTrue};
-ghost use Rattle.liq_types.specs.declared.requests.Request.TheVariants.{Do};
+ghost use Rattle.std.specs.Prelude.{◌≡◌};
 ghost use Rattle.liq_types.specs.State.{State};
 ghost use Rattle.liq_rules.specs.Rules.{call_events};
-ghost use Rattle.liq_rules.specs.Step.{after, built, ruling};
+ghost use Rattle.liq_rules.specs.Step.{after, ruling};
 ghost use Rattle.liq_rules.specs.Verbs.{unhinted, unhinted_call};
 
 use liq_types::{Call, Command, HintWords};
@@ -13,7 +12,6 @@ use liq_types::{Call, Command, HintWords};
 /// leaves their words out: a place that they no longer name costs a walk along the list.
 pub fn unhinted(command: &Command) -> Command
     ensures same { result ≡ unhinted command.now }
-    ensures built { IsTrue (built (Do command.now)) → IsTrue (built (Do result)) }
     ensures ruling { (s : State) → ruling s result ≡ ruling s command.now }
     ensures after { (s : State) → after s result ≡ after s command.now }
     ensures events { (s : State) → call_events s result.call ≡ call_events s command.now.call }

@@ -23,7 +23,7 @@ mod standing;
 mod told;
 mod turns;
 
-pub use engine::{Protocol, is_built};
+pub use engine::Protocol;
 pub use hints::unhinted;
 pub use image::ImageFault;
 pub use turns::{PlanFault, Planned, Turn};

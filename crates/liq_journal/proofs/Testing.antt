@@ -1,7 +1,7 @@
 -- What one record is read as.
 use Rattle.std.proofs.Common.{◌≡◌, ℕ, ◌+◌, ◌-◌, ◌≤◌, List, ◌++◌, length, take, drop, get_or, Option, Some, IfSome, Result, Ok, Err, Bool, true, false, not, if◌then◌else◌, refl, sym, ◌∙◌, ap, subst, arith, length-drop, take-append-drop}
 use Rattle.std.specs.Str.{bytes_eq}
-use Rattle.std.proofs.lemmas.List.{take-take, drop-take, take_at, drop_at, drop-drop}
+use Rattle.std.proofs.lemmas.List.{take-take, take_at, drop_at, drop-drop}
 use Rattle.liq_types.specs.declared.requests.Command.{Command}
 use Rattle.liq_types.specs.declared.requests.Call.{Call}
 use Rattle.liq_types.specs.declared.requests.Call.TheVariants.{Rotate}
@@ -57,18 +57,14 @@ module _ (held bytes : List ℕ) (place : ℕ) (alike : take 129 bytes ≡ take 
   part_there : (p n : ℕ) → p + n ≤ 129 → piece p n bytes ≡ take n (drop (place + p) held)
   part_there p n within = piece_alike 129 (drop place held) bytes alike p n within ∙ ap (take n) (drop-drop p place held)
 
-  pub body_there : take 96 (drop 1 bytes) ≡ piece (place + 1) 96 held
-  body_there = part_there 1 96 (omega arith)
+  pub body_there : take 96 (take 128 (drop 1 bytes)) ≡ piece (place + 1) 96 held
+  body_there = take-take 96 128 (drop 1 bytes) (omega arith) ∙ part_there 1 96 (omega arith)
 
-  pub raw_there : take 96 (drop 1 bytes) ++ take 32 (drop 97 bytes) ≡ piece (place + 1) 128 held
-  raw_there =
-      let l = drop 1 bytes in
-      let first : take 96 l ≡ take 96 (take 128 l) = sym (take-take 96 128 l (omega arith)) in
-      let second : take 32 (drop 97 bytes) ≡ drop 96 (take 128 l) = ap (take 32) (sym (drop-drop 96 1 bytes)) ∙ sym (drop-take 96 32 l) in
-      (λ i. first i ++ second i) ∙ take-append-drop 96 (take 128 l) ∙ part_there 1 128 (omega arith)
+  pub raw_there : take 128 (drop 1 bytes) ≡ piece (place + 1) 128 held
+  raw_there = part_there 1 128 (omega arith)
 
 -- what a read of a whole record tells
-module _ (told : Option (List ℕ)) (generation index place n : ℕ) (bytes body stored : List ℕ) (long : 129 ≤ n) (read : IfSome told (IsRead place 129 n bytes)) (gate : get_or bytes 0 0 ≡ 1) (body_is : body ≡ take 96 (drop 1 bytes)) (stored_is : stored ≡ take 32 (drop 97 bytes)) where
+module _ (told : Option (List ℕ)) (generation index place n : ℕ) (bytes body stored : List ℕ) (long : 129 ≤ n) (read : IfSome told (IsRead place 129 n bytes)) (gate : get_or bytes 0 0 ≡ 1) (body_is : body ≡ take 96 (take 128 (drop 1 bytes))) (stored_is : stored ≡ drop 96 (take 128 (drop 1 bytes))) where
   abbrev Reading : List ℕ → Type 0
   Reading held = (begins_whole (drop place held) ≡ true) × ((body ≡ piece (place + 1) 96 held) × (body ++ stored ≡ piece (place + 1) 128 held))
 
@@ -77,7 +73,7 @@ module _ (told : Option (List ℕ)) (generation index place n : ℕ) (bytes body
       let all : n ≡ 129 = omega arith in
       let room : 129 ≤ length held - place = omega arith in
       let alike : take 129 bytes ≡ take 129 (drop place held) = subst (λ (k : ℕ). take k bytes ≡ take k (drop place held)) all same in
-      (whole_there held bytes place alike room gate, (body_is ∙ body_there held bytes place alike room, (λ i. body_is i ++ stored_is i) ∙ raw_there held bytes place alike room))
+      (whole_there held bytes place alike room gate, (body_is ∙ body_there held bytes place alike room, (λ i. body_is i ++ stored_is i) ∙ take-append-drop 96 (take 128 (drop 1 bytes)) ∙ raw_there held bytes place alike room))
 
   pub tested_whole : (command : Command) → record_on generation index (place + 1) (body ++ stored) ≡ Ok command → IfSome told (λ held. IsTested generation index place held (Some body))
   tested_whole command is = if_some told (IsRead place 129 n bytes) (λ held. IsTested generation index place held (Some body))

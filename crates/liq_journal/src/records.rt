@@ -21,25 +21,28 @@ use liq_outside::Disk;
 use liq_types::{Call, Command};
 use liq_wire::decode;
 
+// What stands behind the gate of a record: the body, and the digest behind it.
+#[derive(Clone, Copy)]
+struct Raw {
+    body: [u8; 96],
+    stored: [u8; 32],
+}
+
 // The command of a record whose body begins at the place, or its first fault.
-pub fn tested(
-    body: &[u8; 96],
-    stored: &[u8; 32],
-    generation: u64,
-    index: u64,
-    place: u64,
-) -> Result<Command, What>
+fn tested(raw: &Raw, generation: u64, index: u64, place: u64) -> Result<Command, What>
     requires { place ≤ 2 ^ 40 }
-    ensures { MatchResult result (λ c. record_on generation index place (body.now ++ stored.now) ≡ Ok c) (λ what. record_on generation index place (body.now ++ stored.now) ≡ Err what) }
+    ensures { MatchResult result
+        (λ c. record_on generation index place (raw.now.body ++ raw.now.stored) ≡ Ok c)
+        (λ what. record_on generation index place (raw.now.body ++ raw.now.stored) ≡ Err what) }
 {
-    let computed = record_digest(generation, index, body);
-    if *stored != computed {
+    let computed = record_digest(generation, index, &raw.body);
+    if raw.stored != computed {
         return Err(What::Digest {
-            stored: *stored,
+            stored: raw.stored,
             computed,
         });
     }
-    match decode(body) {
+    match decode(&raw.body) {
         Ok(command) => match command.call {
             Call::Rotate => Err(What::Form { place }),
             _ => Ok(command),
@@ -51,19 +54,14 @@ pub fn tested(
 }
 
 // The command that the body spells, which begins at the place; or the record's first fault.
-fn spelled(
-    body: &[u8; 96],
-    stored: &[u8; 32],
-    generation: u64,
-    index: u64,
-    place: u64,
-) -> Result<Command, What>
+fn spelled(raw: &Raw, generation: u64, index: u64, place: u64) -> Result<Command, What>
     requires { place ≤ 2 ^ 40 }
-    ensures { MatchResult result (IsBodyOf body.now) (λ what. record_on generation index place (body.now ++ stored.now) ≡ Err what) }
+    ensures { MatchResult result (IsBodyOf raw.now.body)
+        (λ what. record_on generation index place (raw.now.body ++ raw.now.stored) ≡ Err what) }
 {
-    match decode(body) {
+    match decode(&raw.body) {
         Ok(command) if !matches!(command.call, Call::Rotate) => Ok(command),
-        _ => tested(body, stored, generation, index, place),
+        _ => tested(raw, generation, index, place),
     }
 }
 
@@ -92,26 +90,24 @@ fn read_record<D: Disk>(
     if count < 129 || bytes[0] != 1 {
         return Ok(None);
     }
-    let mut body = [0; 96];
-    body.copy_from_slice(&bytes[1..97]);
-    let mut stored = [0; 32];
-    stored.copy_from_slice(&bytes[97..129]);
-    match tested(&body, &stored, generation, index, place + 1) {
-        Ok(_) => Ok(Some(body)),
+    let raw = split(&bytes[1..]);
+    match tested(&raw, generation, index, place + 1) {
+        Ok(_) => Ok(Some(raw.body)),
         Err(what) => Err(LookFault::Damaged(Damage { index, what })),
     }
 }
 
-// The body of a record, and the digest behind it.
-fn split(bytes: &[u8; 128]) -> ([u8; 96], [u8; 32])
-    ensures body { result.0 ≡ take 96 bytes.now }
-    ensures stored { result.1 ≡ drop 96 bytes.now }
+// The body and the digest in the bytes of a record.
+fn split(bytes: &[u8]) -> Raw
+    requires { length bytes.now ≡ 128 }
+    ensures body { result.body ≡ take 96 bytes.now }
+    ensures stored { result.stored ≡ drop 96 bytes.now }
 {
     let mut body = [0; 96];
     body.copy_from_slice(&bytes[..96]);
     let mut stored = [0; 32];
     stored.copy_from_slice(&bytes[96..]);
-    (body, stored)
+    Raw { body, stored }
 }
 
 // The body of the record whose gate stands at the place, once it is tested, whatever the gate is.
@@ -133,9 +129,9 @@ pub fn read_body<D: Disk>(
         Ok(_) => {}
         Err(_) => return Err(LookFault::DiskFault),
     }
-    let (body, stored) = split(&bytes);
-    match tested(&body, &stored, generation, index, place + 1) {
-        Ok(_) => Ok(body),
+    let raw = split(&bytes);
+    match tested(&raw, generation, index, place + 1) {
+        Ok(_) => Ok(raw.body),
         Err(what) => Err(LookFault::Damaged(Damage { index, what })),
     }
 }
@@ -163,8 +159,8 @@ pub fn read_command<D: Disk>(
         Ok(_) => {}
         Err(_) => return Err(LookFault::DiskFault),
     }
-    let (body, stored) = split(&bytes);
-    match spelled(&body, &stored, generation, index, place + 1) {
+    let raw = split(&bytes);
+    match spelled(&raw, generation, index, place + 1) {
         Ok(command) => Ok(command),
         Err(what) => Err(LookFault::Damaged(Damage { index, what })),
     }

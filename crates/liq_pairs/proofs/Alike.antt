@@ -53,7 +53,10 @@ module _ {s t : State} (alike : Alike s t) where
         checkpoint_is = rotation.checkpoint_is ∙ ap spelling further.image;
         state = rotation.state;
         came = rotation.came;
-        same = record { image = rotation.same.image ∙ further.image; records = rotation.same.records ∙ further.records };
+        same = record {
+          image = rotation.same.image ∙ further.image;
+          records = rotation.same.records ∙ further.records;
+        };
       }
 
   beside_alike : (side : Side) (l r : List ℕ) (w : Written) → StandsBesideRotation side l r w s
@@ -76,7 +79,10 @@ module _ {s t : State} (alike : Alike s t) where
     written = kept.written;
     found = kept.found;
     end = ⊎_elim (λ is. inl is) (λ more. inr (more.0, record_alike _ _ kept.written more.0 more.1)) kept.end;
-    others = ⊎_elim (λ closed. inl closed) (λ more. inr (⊎_elim (λ older. inl older) (λ turning. inr (beside_alike side l r kept.written turning)) more)) kept.others;
+    others = ⊎_elim
+        (λ closed. inl closed)
+        (λ more. inr (⊎_elim (λ older. inl older) (λ turning. inr (beside_alike side l r kept.written turning)) more))
+        kept.others;
   }
 
   pub kept_alike : (l r : List ℕ) → IsKept l r s → IsKept l r t

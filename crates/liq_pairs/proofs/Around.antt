@@ -33,12 +33,16 @@ pub turn_kept : (side : Side) (held aside image : List ℕ) (s : State) (w : Wri
     → IsSettledFor side (on side held aside) (on side aside held) s → IsRotationOf s w c → w.commands ≡ []
     → CreateLeaves (has_odd (other side)) aside w image
     → IsKept (on side held image) (on side image held) s ⊎ IsKept (on side held image) (on side image held) (after s c)
-turn_kept Left held aside image s w c settled rotation none left = rotation_kept Left held aside held image s c w settled rotation refl none left
-turn_kept Right held aside image s w c settled rotation none left = rotation_kept Right aside held image held s c w settled rotation refl none left
+turn_kept Left held aside image s w c settled rotation none left =
+    rotation_kept Left held aside held image s c w settled rotation refl none left
+turn_kept Right held aside image s w c settled rotation none left =
+    rotation_kept Right aside held image held s c w settled rotation refl none left
 
 pub turn_settled : (side : Side) (held aside image : List ℕ) (s : State) (w : Written) (c : Command)
     → IsSettledFor side (on side held aside) (on side aside held) s → IsRotationOf s w c
     → Stands (has_odd (other side)) image w
     → IsSettledFor (other side) (on side held image) (on side image held) (after s c)
-turn_settled Left held aside image s w c settled rotation stands = rotation_settled Left held aside held image s c w settled rotation refl stands
-turn_settled Right held aside image s w c settled rotation stands = rotation_settled Right aside held image held s c w settled rotation refl stands
+turn_settled Left held aside image s w c settled rotation stands =
+    rotation_settled Left held aside held image s c w settled rotation refl stands
+turn_settled Right held aside image s w c settled rotation stands =
+    rotation_settled Right aside held image held s c w settled rotation refl stands

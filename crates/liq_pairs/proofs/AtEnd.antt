@@ -103,5 +103,7 @@ stands_still odd held bytes w stands (inr (place, inl some, has)) =
     let both : Open some.0 ≡ Open w = sym some.1 ∙ stands.found in
     let written : some.0 ≡ w = cc (both) in
     let at : place ≡ end_of w = some.2 ∙ ap end_of written in
-    absurd (some.3 (subst (λ (n : ℕ). HasGate n held) (sym at) (record { there = stands.ended.there; shut = stands.ended.is })))
-stands_still odd held bytes w stands (inr (place, inr none, has)) = absurd (absent_isnt_open odd held w none.0 stands.found)
+    let gate : HasGate (end_of w) held = record { there = stands.ended.there; shut = stands.ended.is } in
+    absurd (some.3 (subst (λ (n : ℕ). HasGate n held) (sym at) gate))
+stands_still odd held bytes w stands (inr (place, inr none, has)) =
+    absurd (absent_isnt_open odd held w none.0 stands.found)

@@ -142,7 +142,9 @@ rows_earlier now (row ∷ rows) is =
     (is_earlier row.0 now one.1, rows_earlier now rows all.1)
 
 are_finished : (i : Image) → first_unsound i 0 ≡ None → AreFinished i
-are_finished i sound = rows_earlier (i.epoch, i.scale) i.finished (and_parts _ (list_all (is_finished (i.epoch, i.scale)) i.finished) (words_sound i sound)).1
+are_finished i sound =
+    let words = and_parts _ (list_all (is_finished (i.epoch, i.scale)) i.finished) (words_sound i sound) in
+    rows_earlier (i.epoch, i.scale) i.finished words.1
 
 -- what an image begins that breaks no rule
 pub sound_formed : (i : Image) → first_unsound i 0 ≡ None → IsWellFormed (started i)

@@ -32,7 +32,9 @@ still_absent odd bytes shut = closed_absent odd bytes (closed_where bytes shut)
 -- the first generation, created where none was open
 pub created_state : (l r a b : List ℕ) → found_on true l ≡ Absent → found_on false r ≡ Absent → Stands true a (beginning 1 []) → found_on false b ≡ Absent → state_on a b ≡ state_on l r
 created_state l r a b left right stands absent =
-    state_taken Left a b (beginning 1 []) opening stands.found (outcome_none (beginning 1 []) refl refl) (nothing (standing_absent false b absent)) ∙ sym (state_none l r left right)
+    state_taken Left a b (beginning 1 []) opening stands.found (outcome_none (beginning 1 []) refl refl)
+    (nothing (standing_absent false b absent))
+    ∙ sym (state_none l r left right)
 
 -- What a creation leaves of a disk that was settled before it leaves of the disk before that.
 pub created_from : (l m image : List ℕ) (w : Written) → found_on true l ≡ Absent → OpenLeaves true l m → (IsUnshut m → ⊥) → CreateLeaves true m w image → CreateLeaves true l w image

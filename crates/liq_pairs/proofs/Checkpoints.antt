@@ -3,7 +3,7 @@ use Rattle.std.proofs.Common.{◌≡◌, ℕ, ◌<◌, ◌^◌, length, Ok, refl
 use Rattle.std.specs.List.Sorted.{IsStrictlySortedBy}
 use Rattle.liq_types.specs.Soundness.{HasTables}
 use Rattle.liq_checkpoint.specs.Reading.{image_at}
-use Rattle.liq_checkpoint.specs.Spelling.{Fit, contents, spelling}
+use Rattle.liq_checkpoint.specs.Spelling.{Fit, HasCheckpoint, contents, spelling}
 use Rattle.liq_checkpoint.proofs.Images.{is_read}
 use Rattle.liq_pairs.specs.Examples.{rotated_at}
 
@@ -27,5 +27,9 @@ module _ (price : ℕ) (few : price < 2 ^ 64) where
     client_rows = (record { last = omega arith; kind = (omega arith, omega arith); values = refl }, tt);
   }
 
-  pub rotated_read : image_at (length (spelling (rotated_at price))) (spelling (rotated_at price)) ≡ Ok (rotated_at price)
-  rotated_read = is_read (rotated_at price) (record { numbers = numbers; tables = tables; limit = refl }) (length (spelling (rotated_at price)))
+  has : HasCheckpoint (rotated_at price)
+  has = record { numbers = numbers; tables = tables; limit = refl }
+
+  pub rotated_read : image_at (length (spelling (rotated_at price))) (spelling (rotated_at price))
+      ≡ Ok (rotated_at price)
+  rotated_read = is_read (rotated_at price) has (length (spelling (rotated_at price)))

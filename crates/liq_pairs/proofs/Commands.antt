@@ -3,12 +3,12 @@ use Rattle.std.proofs.Common.{◌≡◌, ℕ, List, [], Result, Ok, Err, Bool, t
 use Rattle.liq_types.specs.State.{State, opening}
 use Rattle.liq_journal.specs.declared.damage.Damage.{Damage}
 use Rattle.liq_journal.specs.Written.{Found, Absent, Damaged, Open, Written, found_on}
+use Rattle.liq_journal.proofs.Bodies.{found_no_rotation}
 use Rattle.liq_pairs.specs.declared.side.Side.{Side}
 use Rattle.liq_pairs.specs.Pair.{Nothing, commands_on, pair_commands, pair_state, standing, standing_after, standing_of, state_on}
 use Rattle.liq_pairs.specs.Replay.{outcome, replay}
 use Rattle.liq_pairs.proofs.Basing.{ends_in, outcome_first}
-use Rattle.liq_pairs.proofs.Generations.{outcome_generation}
-use Rattle.liq_pairs.proofs.NoRotation.{HaveNoRotation, found_no_rotation}
+use Rattle.liq_pairs.proofs.Generations.{HaveNoRotation, outcome_generation}
 use Rattle.liq_pairs.proofs.Replaying.{replay_none}
 use Rattle.liq_pairs.proofs.Standings.{pair_ends}
 
@@ -63,8 +63,10 @@ of_two : (b : Bool) (w later : Written) (s t end : State) → HaveNoRotation w.c
     → end.generation ≡ 1
     → outcome w ≡ Ok s → outcome later ≡ Ok t → chosen b s t ≡ Ok end
     → replay 1 opening (if b then later.commands else w.commands) ≡ Ok end
-of_two true w later s t end none none_later first came came_later is = from_opening later end none_later first (came_later ∙ same_end t end is)
-of_two false w later s t end none none_later first came came_later is = from_opening w end none first (came ∙ same_end s end is)
+of_two true w later s t end none none_later first came came_later is =
+    from_opening later end none_later first (came_later ∙ same_end t end is)
+of_two false w later s t end none none_later first came came_later is =
+    from_opening w end none first (came ∙ same_end s end is)
 
 both : (w later : Written) (r t : Result State Damage) (end : State) → HaveNoRotation w.commands
     → HaveNoRotation later.commands → end.generation ≡ 1
@@ -81,16 +83,20 @@ found_lead : (left right : Found) (s : State) → HasNoRotation left → HasNoRo
 found_lead (Damaged damage) right s none none_right first is = absurd (cc (is))
 found_lead Absent (Damaged damage) s none none_right first is = absurd (cc (is))
 found_lead Absent Absent s none none_right first is = replay_none 1 opening ∙ same_end opening s is
-found_lead Absent (Open w) s none none_right first is = from_opening w s none_right first (alone_right w.generation (outcome w) s is)
-found_lead (Open w) Absent s none none_right first is = from_opening w s none first (alone_left w.generation (outcome w) s is)
+found_lead Absent (Open w) s none none_right first is =
+    from_opening w s none_right first (alone_right w.generation (outcome w) s is)
+found_lead (Open w) Absent s none none_right first is =
+    from_opening w s none first (alone_left w.generation (outcome w) s is)
 found_lead (Open w) (Damaged damage) s none none_right first is = damaged_beside w.generation (outcome w) is
   where
     damaged_beside : (generation : ℕ) (r : Result State Damage) → pair_state (standing_after generation r) (standing_of (Damaged damage)) ≡ Ok s → replay 1 opening [] ≡ Ok s
     damaged_beside generation (Ok t) is = absurd (cc (is))
     damaged_beside generation (Err first) is = absurd (cc (is))
-found_lead (Open w) (Open later) s none none_later first is = both w later (outcome w) (outcome later) s none none_later first refl refl is
+found_lead (Open w) (Open later) s none none_later first is =
+    both w later (outcome w) (outcome later) s none none_later first refl refl is
 
 pub commands_lead : (l r : List ℕ) (s : State) → state_on l r ≡ Ok s → s.generation ≡ 1
     → replay 1 opening (commands_on l r) ≡ Ok s
 unfolding state_on standing commands_on
-commands_lead l r s is first = found_lead (found_on true l) (found_on false r) s (has_no_rotation true l) (has_no_rotation false r) first is
+commands_lead l r s is first =
+    found_lead (found_on true l) (found_on false r) s (has_no_rotation true l) (has_no_rotation false r) first is

@@ -137,9 +137,13 @@ aside_left odd held bytes generation aside (inr (place, inr none, has)) =
 -- a creation on it that a stop cut short leaves it so, where nothing of it is seen
 pub aside_settled : (odd : Bool) (held bytes : List ℕ) (generation : ℕ) → IsAside odd held generation
     → SettleLeaves 0 held bytes → IsAside odd bytes generation
-aside_settled odd held bytes generation aside (inl same) = subst (λ (l : List ℕ). IsAside odd l generation) (sym same) aside
-aside_settled odd held bytes generation aside (inr (unshut, has)) = subst (λ (l : List ℕ). IsAside odd l generation) (sym has.1)
-    (⊎_elim (λ closed. inl (closed_with held has.0 closed unshut)) (λ older_one. inr (older_with odd held generation has.0 older_one)) aside)
+aside_settled odd held bytes generation aside (inl same) =
+    subst (λ (l : List ℕ). IsAside odd l generation) (sym same) aside
+aside_settled odd held bytes generation aside (inr (unshut, has)) =
+    subst (λ (l : List ℕ). IsAside odd l generation) (sym has.1) (⊎_elim
+    (λ closed. inl (closed_with held has.0 closed unshut))
+    (λ older_one. inr (older_with odd held generation has.0 older_one))
+    aside)
 
 -- one that holds a rotation is none
 pub rotation_behind : (odd : Bool) (bytes : List ℕ) (generation : ℕ) (s : State) (c : Command)

@@ -1,6 +1,6 @@
 -- The generation of a journal is that of the state to which it leads, and decides on which disk it is.
-use Rattle.std.proofs.Common.{◌≡◌, ℕ, ◌+◌, List, [], ◌∷◌, Ok, Bool, true, false, refl, sym, ◌∙◌, ap, arith}
-use Rattle.std.proofs.lemmas.Bool.Decides.{nat_tests}
+use Rattle.std.proofs.Common.{◌≡◌, ℕ, ◌+◌, List, [], ◌∷◌, Ok, Bool, false, refl, sym, ◌∙◌, ap}
+use Rattle.std.specs.Prelude.{All}
 use Rattle.std.proofs.lemmas.List.Elements.{All-head, All-tail}
 use Rattle.liq_types.specs.declared.requests.Call.{Call}
 use Rattle.liq_types.specs.declared.requests.Call.TheVariants.{Rotate}
@@ -10,12 +10,15 @@ use Rattle.liq_rules.specs.Step.{after}
 use Rattle.liq_rules.specs.Verbs.{rotates}
 use Rattle.liq_rules.proofs.Generations.{effect-generation}
 use Rattle.liq_journal.specs.Crash.{is_odd}
-use Rattle.liq_journal.specs.Written.{Open, Written, found_on, is_generation, is_rotate}
+use Rattle.liq_journal.specs.Written.{Open, Written, found_on, is_rotate}
 use Rattle.liq_journal.proofs.Heading.{has_generation}
+use Rattle.liq_journal.proofs.Parity.{parity_of}
 use Rattle.liq_pairs.specs.Replay.{outcome, replay}
 use Rattle.liq_pairs.proofs.Basing.{base_generation, ok_same}
-use Rattle.liq_pairs.proofs.NoRotation.{HaveNoRotation}
 use Rattle.liq_pairs.proofs.Replaying.{first_accepted, leads_from, replay_none}
+
+abbrev pub HaveNoRotation : List Command → Type 0
+HaveNoRotation commands = All (λ (c : Command). is_rotate c.call ≡ false) commands
 
 same_test : (call : Call) → rotates call ≡ is_rotate call
 same_test Rotate = refl
@@ -42,9 +45,5 @@ outcome_generation w end none came =
 
 -- ---- the side of a generation
 
-parity : (odd : Bool) (generation : ℕ) → is_generation odd generation ≡ true → odd ≡ is_odd generation
-parity true generation is = grind (arith, nat_tests, is)
-parity false generation is = grind (arith, nat_tests, is)
-
 pub found_parity : (odd : Bool) (bytes : List ℕ) (w : Written) → found_on odd bytes ≡ Open w → odd ≡ is_odd w.generation
-found_parity odd bytes w found = parity odd w.generation (has_generation odd bytes w found)
+found_parity odd bytes w found = sym (parity_of odd w.generation (has_generation odd bytes w found))

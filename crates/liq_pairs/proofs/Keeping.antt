@@ -9,6 +9,7 @@ use Rattle.liq_rules.proofs.AlikeReads.{Alike}
 use Rattle.liq_rules.proofs.AlikeReplies.{after_alike, ruling_alike}
 use Rattle.liq_journal.specs.Crash.{BeforeOrAfter, IsClosed, Stands, is_odd}
 use Rattle.liq_journal.specs.Written.{Absent, Open, Written, and_then, found_on}
+use Rattle.liq_journal.proofs.Bodies.{found_no_rotation}
 use Rattle.liq_pairs.specs.declared.side.Side.{Side}
 use Rattle.liq_pairs.specs.declared.side.Side.TheVariants.{Left}
 use Rattle.liq_pairs.specs.Kept.{HoldsRecord, IsFirst, IsKept, IsSettledFor, IsUnbegun}
@@ -17,7 +18,6 @@ use Rattle.liq_pairs.specs.Replay.{outcome}
 use Rattle.liq_pairs.specs.Sides.{beside, has_odd, on, other}
 use Rattle.liq_pairs.proofs.FirstPlace.{IsAside, closed_absent, gate_open_or_not, is_behind, opened_already, unopened_absent}
 use Rattle.liq_pairs.proofs.Generations.{found_parity, outcome_generation}
-use Rattle.liq_pairs.proofs.NoRotation.{found_no_rotation}
 use Rattle.liq_pairs.proofs.Replaying.{opening_formed, outcome_formed, outcome_none, outcome_then}
 use Rattle.liq_pairs.proofs.Standings.{IsBehind, outcome_taken, pair_ends, state_none, state_taken}
 
@@ -43,7 +43,8 @@ stand_before side l r w s leads found behind = record {
 pub stand_for : (side : Side) (l r : List ℕ) (w : Written) (s : State) → LeadsTo w s
     → found_on (has_odd side) (on side l r) ≡ Open w → IsAside (has_odd (other side)) (beside side l r) w.generation
     → StandFor l r s
-stand_for side l r w s leads found aside = stand_before side l r w s leads found (is_behind (has_odd (other side)) (beside side l r) w.generation aside)
+stand_for side l r w s leads found aside =
+    stand_before side l r w s leads found (is_behind (has_odd (other side)) (beside side l r) w.generation aside)
 
 pub leads_before : (side : Side) (l r : List ℕ) (w : Written) (s : State) → StandFor l r s
     → found_on (has_odd side) (on side l r) ≡ Open w
@@ -59,13 +60,15 @@ leads_before side l r w s stands found behind =
 pub leads_to : (side : Side) (l r : List ℕ) (w : Written) (s : State) → StandFor l r s
     → found_on (has_odd side) (on side l r) ≡ Open w → IsAside (has_odd (other side)) (beside side l r) w.generation
     → LeadsTo w s
-leads_to side l r w s stands found aside = leads_before side l r w s stands found (is_behind (has_odd (other side)) (beside side l r) w.generation aside)
+leads_to side l r w s stands found aside =
+    leads_before side l r w s stands found (is_behind (has_odd (other side)) (beside side l r) w.generation aside)
 
 -- its generation is the state's
 pub leads_generation : (odd : Bool) (bytes : List ℕ) (w : Written) (s : State) → found_on odd bytes ≡ Open w
     → LeadsTo w s → w.generation ≡ s.generation
 leads_generation odd bytes w s found leads =
-    sym (outcome_generation w leads.state (found_no_rotation odd bytes w found) leads.came) ∙ ap (λ (i : Image). i.generation) leads.alike.image
+    sym (outcome_generation w leads.state (found_no_rotation odd bytes w found) leads.came)
+    ∙ ap (λ (i : Image). i.generation) leads.alike.image
 
 -- one accepted command more
 pub leads_further : (w : Written) (c : Command) (s : State) → LeadsTo w s → ruling s c ≡ Allowed → LeadsTo (and_then w c) (after s c)
@@ -85,7 +88,8 @@ module _ (side : Side) (l r : List ℕ) (w : Written) (s : State) (leads : Leads
 -- of a settled pair, that of the taken disk's journal
 pub settled_leads : (side : Side) (l r : List ℕ) (s : State) → (settled : IsSettledFor side l r s)
     → LeadsTo settled.written s
-settled_leads side l r s settled = leads_to side l r settled.written s settled.stands settled.open_on.found settled.others
+settled_leads side l r s settled =
+    leads_to side l r settled.written s settled.stands settled.open_on.found settled.others
 
 -- the side is that of the state's generation
 pub settled_parity : (side : Side) (l r : List ℕ) (s : State) → IsSettledFor side l r s
@@ -184,7 +188,8 @@ none_kept l r s alike left right = record { stands = none_stand l r s alike left
 -- the first generation without records, open
 pub first_settled : (l r : List ℕ) (w : Written) (s : State) → Alike opening s → Stands true l w → w.generation ≡ 1
     → w.commands ≡ [] → IsClosed r → IsSettledFor Left l r s
-first_settled l r w s alike stands first none closed = settled_by Left l r w s (first_leads w s first none alike) (inl closed) stands
+first_settled l r w s alike stands first none closed =
+    settled_by Left l r w s (first_leads w s first none alike) (inl closed) stands
 
 -- the first generation without records, open or not, or a closed disk, beside a closed one
 pub begun_kept : (l r : List ℕ) (s : State) → Alike opening s → IsClosed l ⊎ IsFirst true l → IsClosed r → IsKept l r s

@@ -10,7 +10,6 @@ pub mod Formed
 pub mod Generations
 pub mod Hints
 pub mod Keeping
-pub mod NoRotation
 pub mod OneByte
 pub mod Recovering
 pub mod Replaying

@@ -7,10 +7,10 @@ use Rattle.liq_rules.specs.Step.{after}
 use Rattle.liq_outside.specs.Disk.{overwritten}
 use Rattle.liq_journal.specs.Crash.{CreateLeaves, IsClosed, SettleLeaves, Stands, beginning}
 use Rattle.liq_journal.specs.Opened.{IsUnshut, OpenLeaves}
-use Rattle.liq_journal.specs.Written.{Absent, Written, and_then, found_on}
+use Rattle.liq_journal.specs.Written.{Absent, Written, and_then, found_on, opened}
 use Rattle.liq_pairs.specs.declared.side.Side.{Side}
 use Rattle.liq_pairs.specs.declared.side.Side.TheVariants.{Left, Right}
-use Rattle.liq_pairs.specs.Kept.{HoldsRotation, IsFirst, IsKept, IsKeptOn, IsSettledFor, IsUnbegun, StandsBesideRotation}
+use Rattle.liq_pairs.specs.Kept.{HoldsRotation, IsFirst, IsKept, IsKeptOn, IsOlder, IsSettledFor, IsUnbegun, StandsBesideRotation}
 use Rattle.liq_pairs.specs.Pair.{StandFor, state_on}
 use Rattle.liq_pairs.specs.Sides.{beside, has_odd, on, other}
 use Rattle.liq_pairs.specs.Unfinished.{HoldsUnfinished, IsRecovered, IsUnfinishedRotation, LeftLeaves}
@@ -36,38 +36,60 @@ unfinished : (side : Side) (l r : List ℕ) (s : State) (c : Command)
 unfinished Left l r s c is = (Right, inr is)
 unfinished Right l r s c is = (Left, inr is)
 
-module _ (side : Side) (l r a b : List ℕ) (w : Written) (s : State) (leads : LeadsTo w s) (stands : Stands (has_odd side) (on side a b) w) (kept : StandsBesideRotation side l r w s) where
+module _ (side : Side) (l r a b : List ℕ) (w : Written) (s : State) (leads : LeadsTo w s)
+    (stands : Stands (has_odd side) (on side a b) w) (kept : StandsBesideRotation side l r w s) where
   -- it is as it was
   still_turning : beside side a b ≡ beside side l r → IsKept a b s
   still_turning same = turning_kept side a b w s kept.command leads stands
       (subst (λ (x : List ℕ). HoldsRotation (has_odd (other side)) x s kept.command) (sym same) kept.holds)
 
-  -- a byte is at place 0, where no 0 was: an open gate finishes it
-  by_gate : IsUnshut (beside side l r) → (byte : ℕ) → beside side a b ≡ overwritten (beside side l r) 0 (byte ∷ [])
-      → IsRecovered l r s a b
-  by_gate unshut byte is = ⊎_elim
-      (λ one. inr (
+  -- the journal of the state after it
+  next_leads : LeadsTo kept.holds.written (after s kept.command)
+  next_leads = rotation_leads s kept.holds.written kept.command leads.alike.right kept.holds.rotation
+
+  now_older : IsOlder (has_odd side) (on side a b) kept.holds.written.generation
+  now_older = open_older (has_odd side) (on side a b) w leads.state kept.holds.written.generation stands leads.came kept.later
+
+  -- an open gate is at place 0, where no 0 was
+  turns : IsUnshut (beside side l r) → beside side a b ≡ opened 0 (beside side l r) → IsRecovered l r s a b
+  turns unshut is =
+      let odd = has_odd (other side) in
+      let next = kept.holds.written in
+      let made : Stands odd (beside side a b) next = subst (λ (x : List ℕ). Stands odd x next) (sym is) kept.holds.stands in
+      inr (
         kept.command,
         unfinished side l r s kept.command (record { rotation = kept.holds; unshut = unshut }),
         settled_kept (other side) a b (after s kept.command)
-            (turned side a b kept.holds.written (after s kept.command)
-            (rotation_leads s kept.holds.written kept.command leads.alike.right kept.holds.rotation)
-            (open_older (has_odd side) (on side a b) w leads.state kept.holds.written.generation stands leads.came kept.later)
-            (subst (λ (x : List ℕ). Stands (has_odd (other side)) x kept.holds.written) (sym (is ∙ ap (λ (n : ℕ). overwritten (beside side l r) 0 (n ∷ [])) one)) kept.holds.stands)),
-      ))
-      (λ unopened. inl (turning_kept side a b w s kept.command leads stands
-      (subst (λ (x : List ℕ). HoldsRotation (has_odd (other side)) x s kept.command) (sym is) (rotation_with (has_odd (other side)) (beside side l r) s kept.command byte kept.holds unopened))))
+            (turned side a b next (after s kept.command) next_leads now_older made),
+      )
+
+  -- or another byte
+  turns_not : (byte : ℕ) → (byte ≡ 1 → ⊥) → beside side a b ≡ overwritten (beside side l r) 0 (byte ∷ []) → IsKept a b s
+  turns_not byte unopened is =
+      let odd = has_odd (other side) in
+      turning_kept side a b w s kept.command leads stands
+      (subst (λ (x : List ℕ). HoldsRotation odd x s kept.command) (sym is)
+      (rotation_with odd (beside side l r) s kept.command byte kept.holds unopened))
+
+  by_gate : IsUnshut (beside side l r) → (byte : ℕ) → beside side a b ≡ overwritten (beside side l r) 0 (byte ∷ [])
+      → IsRecovered l r s a b
+  by_gate unshut byte is = ⊎_elim
+      (λ one. turns unshut (is ∙ ap (λ (n : ℕ). overwritten (beside side l r) 0 (n ∷ [])) one))
+      (λ unopened. inl (turns_not byte unopened is))
       (byte_open_or_not byte)
 
   turning_recovered : OpenLeaves (has_odd (other side)) (beside side l r) (beside side a b) → IsRecovered l r s a b
   turning_recovered (inl same) = inl (still_turning same)
   turning_recovered (inr (place, inl some, has)) =
-      absurd (absent_isnt_open (has_odd (other side)) (beside side l r) some.0 (unopened_absent (has_odd (other side)) (beside side l r) kept.holds.shut) some.1)
+      let odd = has_odd (other side) in
+      let absent = unopened_absent odd (beside side l r) kept.holds.shut in
+      absurd (absent_isnt_open odd (beside side l r) some.0 absent some.1)
   turning_recovered (inr (place, inr none, has)) =
       by_gate none.2 has.0 (has.1 ∙ ap (λ (n : ℕ). overwritten (beside side l r) n (has.0 ∷ [])) none.1)
 
 module _ (side : Side) (l r a b : List ℕ) (s : State) (stands : StandFor l r s) (kept : IsKeptOn side l r s)
-    (taken_left : OpenLeaves (has_odd side) (on side l r) (on side a b)) (beside_left : OpenLeaves (has_odd (other side)) (beside side l r) (beside side a b)) where
+    (taken_left : OpenLeaves (has_odd side) (on side l r) (on side a b))
+    (beside_left : OpenLeaves (has_odd (other side)) (beside side l r) (beside side a b)) where
   -- beside a closed disk, or an older one
   recovered_aside : IsAside (has_odd (other side)) (beside side l r) kept.written.generation → IsRecovered l r s a b
   recovered_aside aside =
@@ -88,7 +110,10 @@ module _ (side : Side) (l r a b : List ℕ) (s : State) (stands : StandFor l r s
       turning_recovered side l r a b w s (leads_before side l r w s stands kept.found behind) still turning beside_left
 
   pub recovered_on : IsRecovered l r s a b
-  recovered_on = ⊎_elim (λ closed. recovered_aside (inl closed)) (λ more. ⊎_elim (λ older. recovered_aside (inr older)) recovered_turning more) kept.others
+  recovered_on = ⊎_elim
+      (λ closed. recovered_aside (inl closed))
+      (λ more. ⊎_elim (λ older. recovered_aside (inr older)) recovered_turning more)
+      kept.others
 
 -- ---- with none
 
@@ -150,9 +175,11 @@ settled_left side l r a b s settled taken_left beside_left =
 pub settled_again : (side : Side) (l r a b : List ℕ) (s : State) → IsSettledFor side l r s → LeftLeaves l r a
     → OpenLeaves false r b → IsSettledFor side a b s
 settled_again Left l r a b s settled (inl opened) right = settled_left Left l r a b s settled opened right
-settled_again Left l r a b s settled (inr created) right = absurd (absent_isnt_open true l settled.written created.0 settled.open_on.found)
+settled_again Left l r a b s settled (inr created) right =
+    absurd (absent_isnt_open true l settled.written created.0 settled.open_on.found)
 settled_again Right l r a b s settled (inl opened) right = settled_left Right l r a b s settled right opened
-settled_again Right l r a b s settled (inr created) right = absurd (absent_isnt_open false r settled.written created.1 settled.open_on.found)
+settled_again Right l r a b s settled (inr created) right =
+    absurd (absent_isnt_open false r settled.written created.1 settled.open_on.found)
 
 -- and it stands for no other
 pub settled_state : (side : Side) (l r : List ℕ) (s t : State) → IsSettledFor side l r s → state_on l r ≡ Ok t

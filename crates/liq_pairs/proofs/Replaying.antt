@@ -66,12 +66,14 @@ outcome_from w base begun = ap (λ (r : Result State Damage). replay_from r w.co
 
 -- the first generation without records
 pub outcome_none : (w : Written) → w.generation ≡ 1 → w.commands ≡ [] → outcome w ≡ Ok opening
-outcome_none w first none = outcome_first w first ∙ ap (λ (cs : List Command). replay 1 opening cs) none ∙ replay_none 1 opening
+outcome_none w first none =
+    outcome_first w first ∙ ap (λ (cs : List Command). replay 1 opening cs) none ∙ replay_none 1 opening
 
 pub outcome_then : (w : Written) (c : Command) (end : State) → outcome w ≡ Ok end → ruling end c ≡ Allowed → outcome (and_then w c) ≡ Ok (after end c)
 outcome_then w c end came allowed =
     let from = leads_from w end came in
-    outcome_from (and_then w c) from.base (base_then w c ∙ from.begun) ∙ replay_then 1 from.base end w.commands c from.came allowed
+    outcome_from (and_then w c) from.base (base_then w c ∙ from.begun)
+    ∙ replay_then 1 from.base end w.commands c from.came allowed
 
 -- ---- well-formed states
 

@@ -64,21 +64,28 @@ pub turning_kept : (side : Side) (l r : List ℕ) (w : Written) (s : State) (c :
     → Stands (has_odd side) (on side l r) w
     → HoldsRotation (has_odd (other side)) (beside side l r) s c → IsKept l r s
 turning_kept side l r w s c leads stands holds = record {
-  stands = stand_before side l r w s leads stands.found (rotation_behind (has_odd (other side)) (beside side l r) w.generation s c holds);
+  stands = stand_before side l r w s leads stands.found
+      (rotation_behind (has_odd (other side)) (beside side l r) w.generation s c holds);
   rests = inl (
     side,
     record {
       written = w;
       found = stands.found;
       end = inl stands.ended;
-      others = inr (inr (record { ended = stands.ended; command = c; holds = holds; later = next_later side l r w s c holds.written leads stands holds.rotation }));
+      others = inr (inr (record {
+        ended = stands.ended;
+        command = c;
+        holds = holds;
+        later = next_later side l r w s c holds.written leads stands holds.rotation;
+      }));
     },
   );
 }
 
 -- ---- a rotation of a settled pair
 
-module _ (side : Side) (l r a b : List ℕ) (s : State) (c : Command) (w : Written) (settled : IsSettledFor side l r s) (rotation : IsRotationOf s w c) (same : on side a b ≡ on side l r) where
+module _ (side : Side) (l r a b : List ℕ) (s : State) (c : Command) (w : Written) (settled : IsSettledFor side l r s)
+    (rotation : IsRotationOf s w c) (same : on side a b ≡ on side l r) where
   old_leads : LeadsTo settled.written s
   old_leads = settled_leads side l r s settled
 
@@ -100,18 +107,21 @@ module _ (side : Side) (l r a b : List ℕ) (s : State) (c : Command) (w : Writt
   pub rotation_kept : w.commands ≡ [] → CreateLeaves (has_odd (other side)) (beside side l r) w (beside side a b)
       → IsKept a b s ⊎ IsKept a b (after s c)
   rotation_kept none (inl closed) = inl (still (inl closed))
-  rotation_kept none (inr (inl left)) = inl (still (aside_settled (has_odd (other side)) (beside side l r) (beside side a b) settled.written.generation settled.others left))
+  rotation_kept none (inr (inl left)) =
+      let odd = has_odd (other side) in
+      inl (still (aside_settled odd (beside side l r) (beside side a b) settled.written.generation settled.others left))
   rotation_kept none (inr (inr made)) = ⊎_elim
       (λ gate. inr (settled_kept (other side) a b (after s c)
-      (rotation_settled (subst (λ (l : List ℕ). Stands (has_odd (other side)) l w) (opened_already (beside side a b) gate) made))))
+      (rotation_settled
+      (subst (λ (x : List ℕ). Stands (has_odd (other side)) x w) (opened_already (beside side a b) gate) made))))
       (λ shut. inl (turning_kept side a b settled.written s c old_leads old_stands
       (record { written = w; stands = made; none = none; rotation = rotation; shut = shut })))
       (gate_open_or_not (beside side a b))
 
 -- ---- what is created
 
--- A checkpoint that spells the image after a rotation makes the state's rotation, if it is read back as this image, which
--- breaks no rule.
+-- A checkpoint that spells the image after a rotation makes the state's rotation, if it is read back as this image,
+-- which breaks no rule.
 pub made_rotation : (s : State) (c : Command) (checkpoint : List ℕ) → IsWellFormed s → 1 ≤ s.generation
     → c.call ≡ Rotate → ruling s c ≡ Allowed
     → checkpoint ≡ spelling (image (after s c)) → image_at (length checkpoint) checkpoint ≡ Ok (image (after s c))

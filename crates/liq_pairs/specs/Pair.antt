@@ -55,7 +55,7 @@ pair_commands (Open w) (Damaged damage) = []
 pair_commands (Open w) Absent = w.commands
 pair_commands (Open w) (Open later) = if nat_lt w.generation later.generation then later.commands else w.commands
 
--- the commands that lead to the state for which two disks stand
+-- the commands that lead to the state for which two disks stand, from the one with which their journal begins
 unfoldable pub commands_on : List ℕ → List ℕ → List Command
 commands_on left right = pair_commands (found_on true left) (found_on false right)
 

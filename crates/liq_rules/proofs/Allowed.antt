@@ -1,6 +1,6 @@
 -- What is known of a command that is allowed.
 use Rattle.std.proofs.Common.{◌≡◌, ℕ, ◌+◌, ◌-◌, ◌≤◌, Bool, true, false, nat_lt, cond, List, [], ◌∷◌, ◌++◌, Some, None, Option, refl, ap, subst, ◌<◌, nat_le, ◌∙◌, arith}
-use Rattle.std.specs.Prelude.{IsTrue, map, ◌==◌, fold}
+use Rattle.std.specs.Prelude.{map, ◌==◌, fold}
 use Rattle.std.proofs.lemmas.Bool.Decides.{nat_tests}
 use Rattle.liq_types.specs.declared.amounts.TheConstants.{RESERVE, MINUTE_MOST, RECORDS_MOST, GENERATIONS_MOST, CHECKPOINT_BYTES_MOST}
 use Rattle.liq_types.specs.declared.replies.Done.{Done}
@@ -28,7 +28,7 @@ use Rattle.liq_redemption.specs.declared.cut.Cut.{Cut}
 use Rattle.liq_redemption.specs.Redemption.{redeeming_terms, visited, closed_by, cut_entire, cut_down}
 use Rattle.liq_rules.specs.Borrowing.{with_fee}
 use Rattle.liq_rules.specs.Liquidation.{listed, all_liquidated}
-use Rattle.liq_rules.specs.Step.{Ruling, Repeated, Allowed, unless_refused, ruling, rules, accounts, in_range, in_turn, is_repeated, after, tests, room_rules, effect, built_call}
+use Rattle.liq_rules.specs.Step.{Ruling, Repeated, Allowed, unless_refused, ruling, rules, accounts, in_range, in_turn, is_repeated, after, tests, room_rules, effect}
 use Rattle.liq_rules.specs.Verbs.{rotates}
 
 unless_allowed : (o : Option Refusal) (r : Ruling) → unless_refused o r ≡ Allowed → (o ≡ None) × (r ≡ Allowed)
@@ -134,65 +134,27 @@ pub all-records : (vs : List Victim) (s : State) (liquidator : ℕ) → (all_liq
 all-records [] s liquidator = refl
 all-records (v ∷ vs) s liquidator = all-records vs (liquidated s liquidator v) liquidator ∙ liquidated-records s liquidator v
 
--- the effect of a built call leaves the count of records
-pub effect-records : (s : State) (call : Call) → IsTrue (built_call call) → (effect s call).records ≡ s.records
-effect-records s (Price price) built = refl
-effect-records s (Advance minutes) built = refl
-effect-records s (Fund account coll) built = refl
-effect-records s (Take account coll) built = refl
-effect-records s (Send from to lusd) built = refl
-effect-records s (Open account coll borrow bound hint) built = refl
-effect-records s (Adjust account coll_in coll_out borrow repay bound hint) built =
+-- the effect of a call leaves the count of records
+pub effect-records : (s : State) (call : Call) → (effect s call).records ≡ s.records
+effect-records s (Price price) = refl
+effect-records s (Advance minutes) = refl
+effect-records s (Fund account coll) = refl
+effect-records s (Take account coll) = refl
+effect-records s (Send from to lusd) = refl
+effect-records s (Open account coll borrow bound hint) = refl
+effect-records s (Adjust account coll_in coll_out borrow repay bound hint) =
     let change : Change = record { coll_in = coll_in; coll_out = coll_out; borrow = borrow; repay = repay } in
     let plan = adjusting_terms (market_of s) (or_nothing (entire_of s account)) change in
     lifted-records (credited (charged (with_fee s plan) account coll_in repay) account coll_out borrow) account (at s.troves account)
-effect-records s (Close account) built =
+effect-records s (Close account) =
     let terms = closing_terms (or_nothing (entire_of s account)) in
     let settled = credited (charged s account 0 terms.0) account terms.1 0 in
     lifted-records (record settled { reserve = settled.reserve - RESERVE }) account (at s.troves account)
-effect-records s (Provide account lusd) built = refl
-effect-records s (Withdraw account lusd) built = refl
-effect-records s (GainToTrove account hint) built = lifted-records (owned s account 0 0) account (at s.troves account)
-effect-records s (Liquidate liquidator account) built = all-records (listed (victim_by account (one s account))) s liquidator
-effect-records s (LiquidateLowest liquidator count) built = all-records (lowest s count) s liquidator
-effect-records s (Redeem account lusd bound hint) built = cuts-records (redeeming_terms (market_of s) (visited s) lusd).cuts s
-effect-records s (Claim account) built = refl
-effect-records s _ built = cc
-
--- no built verb begins a new generation
-pub built-rotates : (call : Call) → IsTrue (built_call call) → rotates call ≡ false
-built-rotates (Price price) built = refl
-built-rotates (Advance minutes) built = refl
-built-rotates (Fund account coll) built = refl
-built-rotates (Take account coll) built = refl
-built-rotates (Send from to lusd) built = refl
-built-rotates (Open account coll borrow bound hint) built = refl
-built-rotates (Adjust account coll_in coll_out borrow repay bound hint) built = refl
-built-rotates (Close account) built = refl
-built-rotates (Provide account lusd) built = refl
-built-rotates (Withdraw account lusd) built = refl
-built-rotates (GainToTrove account hint) built = refl
-built-rotates (Liquidate liquidator account) built = refl
-built-rotates (LiquidateLowest liquidator count) built = refl
-built-rotates (Redeem account lusd bound hint) built = refl
-built-rotates (Claim account) built = refl
-built-rotates _ built = cc
-
--- and each other verb is built
-pub all_built : (call : Call) → rotates call ≡ false → IsTrue (built_call call)
-all_built (Price price) stays = refl
-all_built (Advance minutes) stays = refl
-all_built (Fund account coll) stays = refl
-all_built (Take account coll) stays = refl
-all_built (Send from to lusd) stays = refl
-all_built (Open account coll borrow bound hint) stays = refl
-all_built (Adjust account coll_in coll_out borrow repay bound hint) stays = refl
-all_built (Close account) stays = refl
-all_built (Provide account lusd) stays = refl
-all_built (Withdraw account lusd) stays = refl
-all_built (GainToTrove account hint) stays = refl
-all_built (Liquidate liquidator account) stays = refl
-all_built (LiquidateLowest liquidator count) stays = refl
-all_built (Redeem account lusd bound hint) stays = refl
-all_built (Claim account) stays = refl
-all_built Rotate stays = cc
+effect-records s (Provide account lusd) = refl
+effect-records s (Withdraw account lusd) = refl
+effect-records s (GainToTrove account hint) = lifted-records (owned s account 0 0) account (at s.troves account)
+effect-records s (Liquidate liquidator account) = all-records (listed (victim_by account (one s account))) s liquidator
+effect-records s (LiquidateLowest liquidator count) = all-records (lowest s count) s liquidator
+effect-records s (Redeem account lusd bound hint) = cuts-records (redeeming_terms (market_of s) (visited s) lusd).cuts s
+effect-records s (Claim account) = refl
+effect-records s Rotate = refl

@@ -14,7 +14,7 @@ use Rattle.liq_types.specs.Rules.{Rule, where_above}
 pub use Rattle.liq_types.specs.Rules.{first_refusal}
 use Rattle.liq_types.specs.State.{State, client_of}
 use Rattle.liq_types.specs.Tables.{put}
-pub use Rattle.liq_rules.specs.Verbs.{built_call, built, accounts}
+pub use Rattle.liq_rules.specs.Verbs.{accounts}
 use Rattle.liq_rules.specs.Verbs.{rotates}
 pub use Rattle.liq_rules.specs.Rules.{rules, effect, done_of}
 pub use Rattle.liq_rules.specs.Queries.{answer, next_number}

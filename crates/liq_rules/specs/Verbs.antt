@@ -1,35 +1,9 @@
--- The verbs: their places in the list, the accounts that they name, and which of them the protocol has so far.
+-- The verbs: their places in the list, the accounts that they name, and what they do.
 use Rattle.std.specs.Prelude.{ℕ, Bool, true, false, List, [], ◌∷◌, None}
 use Rattle.liq_types.specs.declared.hints.HintWords.{HintWords}
 use Rattle.liq_types.specs.declared.requests.Call.{Call}
 use Rattle.liq_types.specs.declared.requests.Call.TheVariants.{Price, Advance, Fund, Take, Send, Open, Adjust, Close, Provide, Withdraw, GainToTrove, Liquidate, LiquidateLowest, Redeem, Claim, Rotate}
 use Rattle.liq_types.specs.declared.requests.Command.{Command}
-use Rattle.liq_types.specs.declared.requests.Request.{Request}
-use Rattle.liq_types.specs.declared.requests.Request.TheVariants.{Do, Ask}
-
--- ---- what is built
-
-abbrev pub built_call : Call → Bool
-built_call (Price price) = true
-built_call (Advance minutes) = true
-built_call (Fund account coll) = true
-built_call (Take account coll) = true
-built_call (Send from to lusd) = true
-built_call (Open account coll borrow bound hint) = true
-built_call (Adjust account coll_in coll_out borrow repay bound hint) = true
-built_call (Close account) = true
-built_call (Provide account lusd) = true
-built_call (Withdraw account lusd) = true
-built_call (GainToTrove account hint) = true
-built_call (Liquidate liquidator account) = true
-built_call (LiquidateLowest liquidator count) = true
-built_call (Redeem account lusd bound hint) = true
-built_call (Claim account) = true
-built_call _ = false
-
-abbrev pub built : Request → Bool
-built (Do c) = built_call c.call
-built (Ask q) = true
 
 -- ---- the list of verbs
 

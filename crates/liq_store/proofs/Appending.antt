@@ -1,8 +1,10 @@
 -- What an append leaves of a store.
-use Rattle.std.proofs.Common.{◌≡◌, ◌⊎◌, ◌↔◌, inl, inr, ⊎_elim, ℕ, ◌+◌, ◌≤◌, List, [], ◌∷◌, length, Bool, IsTrue, Option, Some, None, Ok, IfSome, IsSome, refl, sym, ◌∙◌, ap, subst, arith, length-append}
-use Rattle.liq_outside.specs.Disk.{LeavesOnly, LeftNow, Only}
-use Rattle.liq_outside.proofs.Moments.{at_last, started}
+use Rattle.std.proofs.Common.{◌≡◌, ◌⊎◌, ◌↔◌, inl, inr, ⊎_elim, ℕ, ◌+◌, ◌≤◌, List, [], ◌∷◌, length, Bool, true, false, Option, Some, None, Ok, IfSome, IsSome, refl, sym, ◌∙◌, ap, subst, arith, length-append}
+use Rattle.liq_outside.specs.Disk.{GoesOn, LeavesOnly, LeftNow, LeftSince, Only}
+use Rattle.liq_outside.proofs.Moments.{at_last, unmoved}
 use Rattle.liq_types.specs.declared.events.ListChange.{ListChange}
+use Rattle.liq_types.specs.declared.replies.Answer.{Answer}
+use Rattle.liq_types.specs.declared.replies.Answer.TheVariants as answer
 use Rattle.liq_types.specs.declared.requests.Command.{Command}
 use Rattle.liq_types.specs.declared.requests.Request.{Request}
 use Rattle.liq_types.specs.declared.requests.Request.TheVariants.{Do}
@@ -10,11 +12,10 @@ use Rattle.liq_types.specs.State.{State}
 use Rattle.liq_wire.specs.Fields.{command_of, heard}
 use Rattle.liq_core.specs.Core.{Core, StandsFor}
 use Rattle.liq_core.specs.Plan.{Plan, IsPlan}
-use Rattle.liq_rules.specs.Verbs.{built_call}
 use Rattle.liq_rules.specs.Step.{Allowed, after, after_ruling, ruling, step}
 use Rattle.liq_journal.specs.Crash.{BeforeOrAfter, IsBodyOf, Stands, is_odd}
 use Rattle.liq_journal.specs.Settled.{IsSettled, JournalOn}
-use Rattle.liq_journal.specs.Written.{Open, Written, and_then, found_on}
+use Rattle.liq_journal.specs.Written.{Open, Written, and_then, found_on, is_rotate}
 use Rattle.liq_pairs.specs.declared.side.Side.{Side}
 use Rattle.liq_pairs.specs.Kept.{IsKept}
 use Rattle.liq_pairs.specs.Sides.{has_odd, on}
@@ -23,12 +24,14 @@ use Rattle.liq_pairs.proofs.Alike.{core_alike, settled_alike}
 use Rattle.liq_pairs.proofs.Around.{kept_around, settled_after}
 use Rattle.liq_pairs.proofs.Hints.{heard_after, heard_rotate, heard_ruling}
 use Rattle.liq_store.specs.Answering.{read_back}
-use Rattle.liq_store.specs.Keeping.{IsAtRest, IsKeptAround, IsKeptNear, LeavesPairs}
-use Rattle.liq_store.specs.Stored.{Stored, taken_disk}
+use Rattle.liq_store.specs.Calling.{WritesOn}
+use Rattle.liq_store.specs.Keeping.{IsAtRest, IsKeptAround, IsKeptNear}
+use Rattle.liq_store.specs.Rotating.{is_rotation}
+use Rattle.liq_store.specs.Stored.{Stored}
 use Rattle.liq_store.specs.Within.{HasRecords, IsWithin, stored}
-use Rattle.liq_store.proofs.Going.{Going, going_by, pairs_by, rest_now, rest_only, taken_is, told_by}
+use Rattle.liq_store.proofs.Calling.{answer_stays, other_stays, writes_on}
+use Rattle.liq_store.proofs.Going.{Going, going_by, rest_now, rest_only}
 use Rattle.liq_store.proofs.Steps.{planned_allowed}
-use Rattle.liq_store.proofs.Built.{built_stays}
 use Rattle.liq_store.proofs.OneDisk.{some_same, told_too}
 
 pub some_isnt_none : (n : ℕ) → Some n ≡ None → ⊥
@@ -67,28 +70,6 @@ around_has generation start count held image c is (inr (inl pending)) =
 around_has generation start count held image c is (inr (inr stands)) =
     one_record (is_odd generation) generation start count image (and_then is.written c) refl stands.found is.generation_is is.start_is (let n = length-append is.written.commands (c ∷ []) in omega (arith, is.count_is, n))
 
--- where nothing is written, what a crash leaves is as it was
-pub written_never : {D : Type 0} {changes : List ListChange} (seen : D → Option (List ℕ)) (moment : D → ℕ) (left_at : D → ℕ → List ℕ → Type 0) (side : Side) (taken : JournalOn D) (b : D) (core then : Core) (stopped : Option ℕ) → IsWithin seen moment left_at side taken b core stopped changes
-    → (old : Stored D) → stored side taken b core stopped changes ≡ old → old.stopped ≡ None → (held : List ℕ) (w : Written) (c : Command) → seen (taken_disk old) ≡ Some held → found_on (has_odd old.side) held ≡ Open w
-    → LeavesOnly moment left_at (taken_disk old) (taken_disk (stored side taken b then stopped [])) (BeforeOrAfter (has_odd old.side) w c)
-written_never {D} {changes} seen moment left_at side taken b core then stopped within old same none held w c told found =
-    let P : Stored D → Type 0 = λ o. o.stopped ≡ None → seen (taken_disk o) ≡ Some held → found_on (has_odd o.side) held ≡ Open w
-    → LeavesOnly moment left_at (taken_disk o) (taken_disk (stored side taken b then stopped [])) (BeforeOrAfter (has_odd o.side) w c) in
-    subst P same here none told found
-  where
-    here : stopped ≡ None → seen (on side (on side taken.disk b) (on side b taken.disk)) ≡ Some held → found_on (has_odd side) held ≡ Open w
-        → LeavesOnly moment left_at (on side (on side taken.disk b) (on side b taken.disk)) (on side (on side taken.disk b) (on side b taken.disk)) (BeforeOrAfter (has_odd side) w c)
-    here none t f =
-        let told_here : seen taken.disk ≡ Some held = ap seen (sym (taken_is side taken.disk b)) ∙ t in
-        let going = going_by seen moment left_at changes side taken b core stopped none within.order in
-        let is : IsSettled taken.generation taken.start taken.count held = subst (λ (o : Option (List ℕ)). IfSome o (IsSettled taken.generation taken.start taken.count)) told_here (within.settled none) in
-        let stands : Stands (has_odd side) held is.written = subst (λ (o : Bool). Stands o held is.written) within.parity_is is.stands in
-        let opens : Open is.written ≡ Open w = sym stands.found ∙ f in
-        let one : is.written ≡ w = cc (opens) in
-        let all = started moment left_at taken.disk (BeforeOrAfter (has_odd side) w c) (λ image left.
-        inl (subst (λ (l : List ℕ). Stands (has_odd side) l w) (sym (rest_now seen moment left_at taken.disk held told_here going.taken_rests image left)) (subst (λ (v : Written). Stands (has_odd side) held v) one stands))) in
-        subst (λ (x : D). LeavesOnly moment left_at x x (BeforeOrAfter (has_odd side) w c)) (sym (taken_is side taken.disk b)) all
-
 -- a call that appends the record of an allowed command, on a store that was not stopped
 pub record Appends {D : Type 0} (seen : D → Option (List ℕ)) (moment : D → ℕ) (left_at : D → ℕ → List ℕ → Type 0) (side : Side) (taken new : JournalOn D) (b : D) (core : Core) (c : Command) (body : List ℕ) : Type 0 where
   pub of : IsBodyOf body (read_back c)
@@ -101,14 +82,14 @@ pub record Appends {D : Type 0} (seen : D → Option (List ℕ)) (moment : D →
       → LeavesOnly moment left_at taken.disk new.disk (BeforeOrAfter (is_odd taken.generation) w command)
 
 pub appends : {D : Type 0} {changes : List ListChange} (seen : D → Option (List ℕ)) (moment : D → ℕ) (left_at : D → ℕ → List ℕ → Type 0) (side : Side) (taken new : JournalOn D) (b : D) (core : Core) (stopped : Option ℕ) (c : Command) (body : List ℕ) (plan : Plan)
-    → stopped ≡ None → IsWithin seen moment left_at side taken b core stopped changes → IsTrue (built_call c.call) → command_of body ≡ Ok (record c { call = heard c.call })
+    → stopped ≡ None → IsWithin seen moment left_at side taken b core stopped changes → is_rotate c.call ≡ false → command_of body ≡ Ok (record c { call = heard c.call })
     → ((s : State) → StandsFor core s → (plan.command ≡ c) × IsPlan s plan)
     → (IsSome (seen new.disk) ↔ IsSome (seen taken.disk))
     → ((held : List ℕ) (w : Written) (command : Command) → seen taken.disk ≡ Some held → Only held (LeftNow moment left_at taken.disk) → Stands (is_odd taken.generation) held w → IsBodyOf body command
     → LeavesOnly moment left_at taken.disk new.disk (BeforeOrAfter (is_odd taken.generation) w command))
     → Appends seen moment left_at side taken new b core c body
-appends {D} {changes} seen moment left_at side taken new b core stopped c body plan none within is_built read planned telling crash = record {
-  of = record { spelled = read; no_rotation = heard_rotate c ∙ built_stays c.call is_built };
+appends {D} {changes} seen moment left_at side taken new b core stopped c body plan none within stays read planned telling crash = record {
+  of = record { spelled = read; no_rotation = heard_rotate c ∙ stays };
   going = going_by seen moment left_at changes side taken b core stopped none within.order;
   parity = within.parity_is;
   settled = within.settled none;
@@ -138,14 +119,14 @@ module _ {D : Type 0} (seen : D → Option (List ℕ)) (moment : D → ℕ) (lef
       (subst (λ (o : Bool). BeforeOrAfter o is.written (read_back c) image) app.parity left)
 
   -- every pair that a crash in it may have left
-  pub kept_pairs : (held other : List ℕ) → seen taken.disk ≡ Some held → seen b ≡ Some other → (s : State) → StandsFor core s
-      → LeavesPairs moment left_at (on side taken.disk b) (on side b taken.disk) (on side new.disk b) (on side b new.disk) (IsKeptAround s (Do c))
-  kept_pairs held other told to s stands = pairs_by seen moment left_at side taken.disk new.disk b (IsKeptAround s (Do c)) (λ x y lx ly.
+  kept_pairs : (held other : List ℕ) (s : State) → seen taken.disk ≡ Some held → seen b ≡ Some other → StandsFor core s
+      → (x y : List ℕ) → LeftSince moment left_at new.disk (moment taken.disk) x → LeftSince moment left_at b (moment b) y → IsKeptAround s (Do c) (on side x y) (on side y x)
+  kept_pairs held other s told to stands x y lx ly =
       let same : y ≡ other = rest_only seen moment left_at b other to app.going.beside_rests y ly in
       let one : (step s (Do c)).0 ≡ after s (read_back c) = step_is_after s c (app.allowed s stands) ∙ sym (heard_after s c) in
       let kept = around held other x told to s stands ((leaves held told).each x lx) in
       subst (λ (z : List ℕ). IsKeptAround s (Do c) (on side x z) (on side z x)) (sym same)
-      (⊎_elim (λ before. inl before) (λ then. inr (subst (λ (t : State). IsKept (on side x other) (on side other x) t) (sym one) then)) kept))
+      (⊎_elim (λ before. inl before) (λ more. inr (subst (λ (t : State). IsKept (on side x other) (on side other x) t) (sym one) more)) kept)
 
   -- every pair that a crash after it may leave
   pub kept_near : (now other x y : List ℕ) → seen new.disk ≡ Some now → seen b ≡ Some other → LeftNow moment left_at new.disk x → LeftNow moment left_at b y
@@ -169,39 +150,43 @@ module _ {D : Type 0} (seen : D → Option (List ℕ)) (moment : D → ℕ) (lef
           let left = at_last moment left_at taken.disk new.disk _ (leaves before.0 before.1) now (stays new.disk now told) in
           around_has taken.generation taken.start taken.count before.0 now (read_back c) (settled_on before.0 before.1) left
 
-  -- ---- as the call says it, of the store before it
+  -- ---- what it does to the disks
 
-  pub kept_from : {changes : List ListChange} (old : Stored D) (stopped : Option ℕ) → stored side taken b core stopped changes ≡ old → (l r : List ℕ) (s : State) → seen old.left ≡ Some l → seen old.right ≡ Some r → StandsFor old.core s → (request : Request) → request ≡ Do c
-      → LeavesPairs moment left_at old.left old.right (on side new.disk b) (on side b new.disk) (IsKeptAround s request)
-  kept_from old stopped same l r s tl tr stands request is =
-      let P : Stored D → Type 0 = λ o. (l r : List ℕ) (s : State) → seen o.left ≡ Some l → seen o.right ≡ Some r → StandsFor o.core s
-      → LeavesPairs moment left_at o.left o.right (on side new.disk b) (on side b new.disk) (IsKeptAround s (Do c)) in
-      subst (λ (q : Request). LeavesPairs moment left_at old.left old.right (on side new.disk b) (on side b new.disk) (IsKeptAround s q)) (sym is)
-      (subst P same (λ x y t tx ty so. told_by seen side taken.disk b (λ u v. LeavesPairs moment left_at (on side taken.disk b) (on side b taken.disk) (on side new.disk b) (on side b new.disk) (IsKeptAround t (Do c))) (λ held other th to. kept_pairs held other th to t so) x y tx ty) l r s tl tr stands)
+  written_as : (held : List ℕ) (w : Written) → seen taken.disk ≡ Some held → found_on (has_odd side) held ≡ Open w → LeavesOnly moment left_at taken.disk new.disk (BeforeOrAfter (has_odd side) w (read_back c))
+  written_as held w told found =
+      let is = settled_on held told in
+      let opens : Open is.written ≡ Open w = sym is.stands.found ∙ subst (λ (o : Bool). found_on o held ≡ Open w) (sym app.parity) found in
+      let one : is.written ≡ w = cc (opens) in
+      subst (λ (o : Bool). LeavesOnly moment left_at taken.disk new.disk (BeforeOrAfter o w (read_back c))) app.parity
+      (subst (λ (v : Written). LeavesOnly moment left_at taken.disk new.disk (BeforeOrAfter (is_odd taken.generation) v (read_back c))) one (leaves held told))
 
-  pub written_from : {changes : List ListChange} (old : Stored D) (stopped later : Option ℕ) (then : Core) → stored side taken b core stopped changes ≡ old → (held : List ℕ) (w : Written) (k : Command) (request : Request) → seen (taken_disk old) ≡ Some held → found_on (has_odd old.side) held ≡ Open w → request ≡ Do c → request ≡ Do k
-      → LeavesOnly moment left_at (taken_disk old) (taken_disk (stored side new b then later [])) (BeforeOrAfter (has_odd old.side) w (read_back k))
-  written_from old stopped later then same held w k request told found is_c is_k =
-      let both : Do c ≡ Do k = sym is_c ∙ is_k in
-      let one : c ≡ k = cc (both) in
-      let P : Stored D → Type 0 = λ o. seen (taken_disk o) ≡ Some held → found_on (has_odd o.side) held ≡ Open w
-      → LeavesOnly moment left_at (taken_disk o) (taken_disk (stored side new b then later [])) (BeforeOrAfter (has_odd o.side) w (read_back c)) in
-      subst (λ (d : Command). LeavesOnly moment left_at (taken_disk old) (taken_disk (stored side new b then later [])) (BeforeOrAfter (has_odd old.side) w (read_back d))) one
-      (subst P same here told found)
-    where
-      here : seen (on side (on side taken.disk b) (on side b taken.disk)) ≡ Some held → found_on (has_odd side) held ≡ Open w
-          → LeavesOnly moment left_at (on side (on side taken.disk b) (on side b taken.disk)) (on side (on side new.disk b) (on side b new.disk)) (BeforeOrAfter (has_odd side) w (read_back c))
-      here t f =
-          let told_here : seen taken.disk ≡ Some held = ap seen (sym (taken_is side taken.disk b)) ∙ t in
-          let is = settled_on held told_here in
-          let found_here : found_on (is_odd taken.generation) held ≡ Open w = subst (λ (o : Bool). found_on o held ≡ Open w) (sym app.parity) f in
-          let opens : Open is.written ≡ Open w = sym is.stands.found ∙ found_here in
-          let one : is.written ≡ w = cc (opens) in
-          let all : LeavesOnly moment left_at taken.disk new.disk (BeforeOrAfter (has_odd side) w (read_back c)) =
-          subst (λ (o : Bool). LeavesOnly moment left_at taken.disk new.disk (BeforeOrAfter o w (read_back c))) app.parity
-          (subst (λ (v : Written). LeavesOnly moment left_at taken.disk new.disk (BeforeOrAfter (is_odd taken.generation) v (read_back c))) one (leaves held told_here)) in
-          subst (λ (x : D). LeavesOnly moment left_at x (on side (on side new.disk b) (on side b new.disk)) (BeforeOrAfter (has_odd side) w (read_back c))) (sym (taken_is side taken.disk b))
-          (subst (λ (y : D). LeavesOnly moment left_at taken.disk y (BeforeOrAfter (has_odd side) w (read_back c))) (sym (taken_is side new.disk b)) all)
+  not_one : (s : State) → is_rotate c.call ≡ false → is_rotation s (Do c) ≡ true → ⊥
+  not_one s stays rotation = let no : true ≡ false = sym rotation ∙ other_stays s c stays in absurd (cc (no))
+
+  pub appends_on : {before : List ListChange} (old : Stored D) (stopped : Option ℕ) → stored side taken b core stopped before ≡ old → (request : Request) → request ≡ Do c → is_rotate c.call ≡ false
+      → new.start ≡ taken.start → GoesOn moment left_at taken.disk new.disk → (a : Answer) → (a ≡ answer.NoMemory → ⊥) → (next : Core) (later : Option ℕ) (changes : List ListChange)
+      → WritesOn seen moment left_at old request a (stored side new b next later changes)
+  appends_on {before} old stopped same request is stays start time a some next later changes =
+      let new_store = stored side new b next later changes in
+      subst (λ (o : Stored D). WritesOn seen moment left_at o request a new_store) same
+      (subst (λ (q : Request). WritesOn seen moment left_at (stored side taken b core stopped before) q a new_store) (sym is)
+      (writes_on seen moment left_at side side core next taken.start new.start stopped later before changes (Do c) a taken.disk b new.disk b
+      (record {
+        side_is = λ s stands. sym (answer_stays a s (Do c) side taken.start (other_stays s c stays)).0;
+        start_is = λ s stands. start ∙ sym (answer_stays a s (Do c) side taken.start (other_stays s c stays)).1;
+        taken = λ s stands rotation. absurd (not_one s stays rotation);
+        aside = λ s stands none. refl;
+        unwritten = λ s stands refused. absurd (refused (app.allowed s stands));
+        no_memory = λ none. absurd (some none);
+        written = λ none held w k told found is_k. let one : c ≡ k = cc (is_k) in
+            subst (λ (d : Command). LeavesOnly moment left_at taken.disk new.disk (BeforeOrAfter (has_odd side) w (read_back d))) one (written_as held w told found);
+        created = λ none s stands held k told is_k rotation. absurd (not_one s stays rotation);
+        kept = λ none held other s th to stands x y lx ly. kept_pairs held other s th to stands x y lx ly;
+        taken_telling = app.telling;
+        aside_telling = (λ told. told, λ told. told);
+        taken_time = time;
+        aside_time = unmoved moment left_at b;
+      })))
 
   -- ---- the record is on the disk, and the step is made
 

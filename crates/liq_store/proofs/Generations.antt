@@ -1,14 +1,20 @@
--- What an accepted command that is no rotation leaves of the counters: its generation, and one record more.
-use Rattle.std.proofs.Common.{◌≡◌, ◌+◌, Bool, false, cond, sym, ◌∙◌, ap}
+-- What an accepted command leaves of the counters: one record more, or, if it is a rotation, the next generation without any.
+use Rattle.std.proofs.Common.{◌≡◌, ◌+◌, ℕ, Bool, false, not, cond, sym, ◌∙◌, ap}
+use Rattle.liq_types.specs.declared.requests.Call.{Call}
+use Rattle.liq_types.specs.declared.requests.Call.TheVariants.{Rotate}
 use Rattle.liq_types.specs.declared.requests.Command.{Command}
 use Rattle.liq_types.specs.declared.image.Image.{Image}
 use Rattle.liq_types.specs.State.{State}
 use Rattle.liq_core.specs.Core.{Core, StandsFor}
-use Rattle.liq_rules.specs.Step.{after, effect}
+use Rattle.liq_rules.specs.Step.{after, effect, records_after}
 use Rattle.liq_rules.proofs.Allowed.{all_built, effect-records}
 use Rattle.liq_rules.proofs.Generations.{effect-generation}
-use Rattle.liq_journal.specs.Written.{is_rotate}
-use Rattle.liq_store.proofs.Built.{never_rotates}
+use Rattle.liq_journal.specs.Written.{is_odd, is_rotate}
+use Rattle.liq_journal.proofs.Parity.{next_parity}
+use Rattle.liq_pairs.specs.declared.side.Side.{Side}
+use Rattle.liq_pairs.specs.declared.side.Side.TheVariants.{Left, Right}
+use Rattle.liq_pairs.specs.Sides.{has_odd, other}
+use Rattle.liq_store.proofs.Verbs.{never_rotates}
 
 pub after-records : (s : State) (c : Command) → is_rotate c.call ≡ false → (after s c).records ≡ s.records + 1
 after-records s c h =
@@ -24,3 +30,19 @@ counts_on old new s c h before stands = stands.records ∙ after-records s c h �
 
 pub generation_stays : (old new : Core) (s : State) (c : Command) → is_rotate c.call ≡ false → StandsFor old s → StandsFor new (after s c) → new.image.generation ≡ old.image.generation
 generation_stays old new s c h before stands = ap (λ (i : Image). i.generation) stands.image ∙ after-generation s c h ∙ ap (λ (i : Image). i.generation) (sym before.image)
+
+-- ---- a rotation
+
+pub next_generation : (old new : Core) (s : State) (c : Command) → c.call ≡ Rotate → StandsFor old s → StandsFor new (after s c) → new.image.generation ≡ old.image.generation + 1
+next_generation old new s c is before stands =
+    ap (λ (i : Image). i.generation) stands.image
+    ∙ ap (λ (call : Call). (effect s call).generation) is
+    ∙ ap (λ (i : Image). i.generation + 1) (sym before.image)
+
+pub no_records : (new : Core) (s : State) (c : Command) → c.call ≡ Rotate → StandsFor new (after s c) → new.records ≡ 0
+no_records new s c is stands = stands.records ∙ ap (λ (call : Call). records_after (effect s c.call) call) is
+
+-- the next generation is the other disk's
+pub next_side : (generation : ℕ) (side : Side) → is_odd generation ≡ has_odd side → is_odd (generation + 1) ≡ has_odd (other side)
+next_side generation Left is = next_parity generation ∙ ap not is
+next_side generation Right is = next_parity generation ∙ ap not is

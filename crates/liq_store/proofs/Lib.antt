@@ -1,10 +1,11 @@
 pub mod Appending
 pub mod Basing
 pub mod Beginning
-pub mod Built
+pub mod Calling
 pub mod Following
 pub mod Generations
 pub mod Going
+pub mod Limits
 pub mod Listing
 pub mod Looking
 pub mod OneDisk
@@ -13,3 +14,5 @@ pub mod Places
 pub mod Recovered
 pub mod Replaying
 pub mod Steps
+pub mod Turning
+pub mod Verbs

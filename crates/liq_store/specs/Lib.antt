@@ -1,5 +1,6 @@
 pub mod Answering
 pub mod Beginning
+pub mod Calling
 pub mod Causes
 pub mod Judging
 pub mod Keeping
@@ -8,6 +9,7 @@ pub mod Opening
 pub mod Preparing
 pub mod Reading
 pub mod Replays
+pub mod Rotating
 pub mod Standing
 pub mod Stored
 pub mod Telling

@@ -1,5 +1,5 @@
 -- What comes of a command before anything is written.
-use Rattle.std.specs.Prelude.{◌≡◌, ◌<◌, ◌≤◌, ◌+◌, ℕ, length}
+use Rattle.std.specs.Prelude.{◌≡◌, ◌<◌, ◌≤◌, ◌+◌, ℕ, false, length}
 use Rattle.liq_types.specs.declared.amounts.TheConstants.{RECORDS_MOST}
 use Rattle.liq_types.specs.declared.requests.Command.{Command}
 use Rattle.liq_types.specs.declared.requests.Request.TheVariants.{Do}
@@ -7,6 +7,7 @@ use Rattle.liq_types.specs.State.{State}
 use Rattle.liq_core.specs.Core.{Core}
 use Rattle.liq_core.specs.Plan.{HasRoom, IsPlan}
 use Rattle.liq_rules.specs.Step.{Refused, Repeated, ruling}
+use Rattle.liq_journal.specs.Written.{is_rotate}
 use Rattle.liq_store.specs.Memory.{TakesMemory}
 use Rattle.liq_store.specs.declared.preparing.Prepared.{Prepared}
 use Rattle.liq_store.specs.declared.preparing.Prepared.TheVariants.{Ready, Again, No, NoMemory}
@@ -18,9 +19,10 @@ IsPrepared s c (Again kept) = ruling s c ≡ Repeated kept
 IsPrepared s c (No refusal) = ruling s c ≡ Refused refusal
 IsPrepared s c NoMemory = TakesMemory s (Do c)
 
--- for what is planned there is room, also in the journal
+-- for what is planned there is room, and in the journal for one record more, unless it is a rotation
 abbrev pub IsReady : Command → Core → Prepared → Type 0
-IsReady c core (Ready plan) = (plan.command ≡ c) × HasRoom core plan × (core.records < RECORDS_MOST)
+IsReady c core (Ready plan) =
+    (plan.command ≡ c) × HasRoom core plan × (is_rotate c.call ≡ false → core.records < RECORDS_MOST)
 IsReady c core _ = Unit {0}
 
 -- behind so many changes there is room for those of what is planned

@@ -1,12 +1,12 @@
 // A protocol, and beside it the guide of its ordered list.
-ghost use Rattle.std.specs.Prelude.{◌≡◌, IfOk, OnOk, IsTrue};
+ghost use Rattle.std.specs.Prelude.{◌≡◌, IfOk, OnOk};
 ghost use Rattle.liq_types.specs.State.{State, opening};
 ghost use Rattle.liq_types.specs.declared.replies.Reply.TheVariants.{Said};
 ghost use Rattle.liq_types.specs.declared.requests.Request.TheVariants.{Do, Ask};
 ghost use Rattle.liq_core.specs.Core.{SameContent, StandsFor};
 ghost use Rattle.liq_core.specs.Plan.{HasRoom, IsPlannedOn};
 ghost use Rattle.liq_core.specs.Turn.{Plans};
-ghost use Rattle.liq_rules.specs.Step.{built, step};
+ghost use Rattle.liq_rules.specs.Step.{step};
 
 use liq_core::{PlanFault, Planned, Protocol, Turn};
 use liq_guide::Guide;
@@ -87,7 +87,6 @@ impl Guided {
     }
 
     pub fn plan(&self, command: &Command) -> Result<Turn, PlanFault>
-        requires { IsTrue (built (Do command.now)) }
         ensures { (s : State) → StandsFor self.now s → Plans s command.now result }
     {
         self.protocol.plan(command)

@@ -9,6 +9,7 @@ mod judging;
 mod preparing;
 mod reading;
 mod replay;
+mod rotating;
 mod standing;
 mod store;
 mod telling;

@@ -1,12 +1,11 @@
 // A command, before it is written and after.
-ghost use Rattle.std.specs.Prelude.{◌≡◌, ◌+◌, false, IsTrue, vec_capacity, vec_len};
+ghost use Rattle.std.specs.Prelude.{◌≡◌, vec_capacity, vec_len};
 ghost use Rattle.liq_types.specs.State.{State};
 ghost use Rattle.liq_types.specs.declared.replies.Reply.TheVariants.{Said};
 ghost use Rattle.liq_types.specs.declared.requests.Request.TheVariants.{Do};
 ghost use Rattle.liq_core.specs.Core.{SameContent, StandsFor, state_of};
 ghost use Rattle.liq_core.specs.Plan.{HasRoom, IsPlannedOn};
-ghost use Rattle.liq_rules.specs.Step.{built, step};
-ghost use Rattle.liq_journal.specs.Written.{is_rotate};
+ghost use Rattle.liq_rules.specs.Step.{step};
 ghost use Rattle.liq_store.specs.Preparing.{HasRoomBehind, IsPrepared, IsReady};
 
 use crate::guided::Guided;
@@ -29,7 +28,6 @@ pub enum Prepared {
 
 // Plans a command, and makes room for it, also behind the changes that others follow. What is seen of these and of the protocol stays.
 pub fn prepare(protocol: &mut Guided, changes: &mut Vec<ListChange>, command: &Command) -> Prepared
-    requires { IsTrue (built (Do command.now)) }
     ensures same { SameContent protocol.old protocol.new }
     ensures changes { changes.new.items ≡ changes.old.items }
     ensures prepared { (s : State) → StandsFor protocol.old s → IsPrepared s command.now result }
@@ -61,13 +59,9 @@ pub fn make<L: Ledger>(protocol: &mut Guided, planned: Planned, hint: &Hint, bla
     requires one { L.parts ≡ 1 }
     requires planned { IsPlannedOn protocol.old planned }
     requires room { HasRoom protocol.old planned }
-    requires no_rotation { is_rotate planned.command.call ≡ false }
     ensures state { (s : State) → StandsFor protocol.old s → StandsFor protocol.new (step s (Do planned.command)).0 }
     ensures reply { (s : State) → StandsFor protocol.old s → (step s (Do planned.command)).1 ≡ Said result }
-    ensures counted { protocol.new.records ≡ protocol.old.records + 1 }
-    ensures generation { protocol.new.image.generation ≡ protocol.old.image.generation }
 {
-    protocols_stand(protocol.protocol());
     let mut steps = Steps::<L>::new(blank);
     protocol.apply(planned, hint, &mut steps)
 }

@@ -1,13 +1,12 @@
 // The commands of a journal, read back.
-ghost use Rattle.std.specs.Prelude.{◌≡◌, ◌≤◌, ◌-◌, Some, List, ℕ, length, take, slice_get, IfOk, IfErr, IfSome, IsSome, IsTrue};
+ghost use Rattle.std.specs.Prelude.{◌≡◌, ◌≤◌, ◌-◌, Some, List, ℕ, length, take, slice_get, false, IfOk};
+ghost use Rattle.std.specs.Prelude.{IfErr, IfSome, IsSome};
 ghost use Rattle.std.specs.List.{All};
 ghost use Rattle.liq_types.specs.declared.requests.Command.{Command};
-ghost use Rattle.liq_types.specs.declared.requests.Request.TheVariants.{Do};
-ghost use Rattle.liq_rules.specs.Step.{built};
 ghost use Rattle.liq_journal.specs.Bodies.{IsJournalOf};
 ghost use Rattle.liq_journal.specs.Looked.{Looked};
 ghost use Rattle.liq_journal.specs.Parts.{IsPartOf};
-ghost use Rattle.liq_journal.specs.Written.{Written};
+ghost use Rattle.liq_journal.specs.Written.{Written, is_rotate};
 ghost use Rattle.liq_store.specs.Answering.{IsReadable, IsUnreadable};
 ghost use Rattle.liq_store.specs.Reading.{CountsReading};
 ghost use Rattle.liq_store.specs.Within.{HasRecords};
@@ -27,7 +26,7 @@ pub fn read_command<D: Disk>(journal: &mut Journal<D>, index: u64) -> Result<Com
     ensures same { journal.new ≡ record journal.old { disk = journal.new.disk } }
     ensures command { IfOk result (λ c. (held : List ℕ) (w : Written) → D.seen journal.old.disk ≡ Some held → IsJournalOf journal.old.generation journal.old.start held w → index ≤ length w.commands
         → slice_get w.commands (index - 1) ≡ Some c) }
-    ensures built { IfOk result (λ c. IsTrue (built (Do c))) }
+    ensures no_rotation { IfOk result (λ c. is_rotate c.call ≡ false) }
     ensures damaged { IfErr result (IsUnreadable journal.old.generation journal.old.start journal.old.count) }
     ensures readable { IfErr result (λ why. (held : List ℕ) (w : Written) → D.seen journal.old.disk ≡ Some held → IsJournalOf journal.old.generation journal.old.start held w → index ≤ length w.commands → IsReadable why) }
     ensures cause { CountsReading result (D.faults journal.old.disk) (D.faults journal.new.disk) }
@@ -57,7 +56,7 @@ pub fn tested_command<D: Disk>(
     ensures same { journal.new ≡ record journal.old { disk = journal.new.disk } }
     ensures command { IfOk result (λ c. (held : List ℕ) (w : Written) → D.seen journal.old.disk ≡ Some held → IsJournalOf journal.old.generation journal.old.start held w → index ≤ length w.commands
         → slice_get w.commands (index - 1) ≡ Some c) }
-    ensures built { IfOk result (λ c. IsTrue (built (Do c))) }
+    ensures no_rotation { IfOk result (λ c. is_rotate c.call ≡ false) }
     ensures readable { IfErr result (λ why. (held : List ℕ) (w : Written) → D.seen journal.old.disk ≡ Some held → IsJournalOf journal.old.generation journal.old.start held w → index ≤ length w.commands → IsReadable why) }
     ensures cause { CountsReading result (D.faults journal.old.disk) (D.faults journal.new.disk) }
 {
@@ -78,7 +77,7 @@ pub fn read_commands<D: Disk>(
     ensures commands { IfOk result (λ list. (held : List ℕ) (w : Written) → D.seen journal.old.disk ≡ Some held → IsJournalOf journal.old.generation journal.old.start held w → journal.old.count ≤ length w.commands
         → list.items ≡ take journal.old.count w.commands) }
     ensures count { IfOk result (λ list. length list.items ≡ journal.old.count) }
-    ensures built { IfOk result (λ list. All (λ (c : Command). IsTrue (built (Do c))) list.items) }
+    ensures no_rotation { IfOk result (λ list. All (λ (c : Command). is_rotate c.call ≡ false) list.items) }
     ensures damaged { IfErr result (IsUnreadable journal.old.generation journal.old.start journal.old.count) }
     ensures readable { IfErr result (λ why. (held : List ℕ) → D.seen journal.old.disk ≡ Some held → HasRecords journal.old.generation journal.old.start journal.old.count held → IsReadable why) }
     ensures cause { CountsReading result (D.faults journal.old.disk) (D.faults journal.new.disk) }

@@ -1,15 +1,14 @@
 // A journal's commands, made again one after the other.
-ghost use Rattle.std.specs.Prelude.{◌≡◌, ◌≢◌, ◌≤◌, ◌<◌, ◌+◌, ◌-◌, Some, Ok, Err, false, List, ℕ, length, slice_get, drop, OnOk, IfSome, IsTrue};
+ghost use Rattle.std.specs.Prelude.{◌≡◌, ◌≢◌, ◌≤◌, ◌<◌, ◌+◌, ◌-◌, Some, Ok, Err, false, List, ℕ, length};
+ghost use Rattle.std.specs.Prelude.{slice_get, drop, OnOk, IfSome};
 ghost use Rattle.std.specs.Result.{MatchResult};
 ghost use Rattle.liq_types.specs.declared.requests.Command.{Command};
-ghost use Rattle.liq_types.specs.declared.requests.Request.TheVariants.{Do};
 ghost use Rattle.liq_types.specs.State.{State};
 ghost use Rattle.liq_core.specs.Core.{StandsFor};
-ghost use Rattle.liq_rules.specs.Step.{built};
 ghost use Rattle.liq_journal.specs.Bodies.{IsJournalOf};
 ghost use Rattle.liq_journal.specs.Looked.{Looked};
 ghost use Rattle.liq_journal.specs.Parts.{IsPartOf};
-ghost use Rattle.liq_journal.specs.Written.{Written};
+ghost use Rattle.liq_journal.specs.Written.{Written, is_rotate};
 ghost use Rattle.liq_store.specs.Reading.{CountsReading};
 ghost use Rattle.liq_store.specs.Replays.{IsOutcome, Replays};
 
@@ -39,7 +38,7 @@ fn redo<L: Ledger>(
     index: u64,
     steps: &mut Steps<L>,
 ) -> Result<(), AcceptedFault>
-    requires { IsTrue (built (Do command.now)) }
+    requires { is_rotate command.now.call ≡ false }
     ensures outcome { (s : State) → StandsFor protocol.old s → IsOutcome s command.now index protocol.new result }
     ensures counted { OnOk result (protocol.new.records ≡ protocol.old.records + 1) }
     ensures generation { OnOk result (protocol.new.image.generation ≡ protocol.old.image.generation) }

@@ -1,32 +1,30 @@
 // The protocol over two disks.
-ghost use Rattle.std.specs.Prelude.{◌≡◌, ◌↔◌, ◌+◌, ◌++◌, [], min, Some, None, Ok, Err, List, ℕ, false, length, take, IfOk, IfErr, IfSome, IsSome, IsTrue, true};
+ghost use Rattle.std.specs.Prelude.{◌≡◌, ◌↔◌, ◌+◌, ◌++◌, [], min, Some, None, Ok, Err, List, ℕ, false};
+ghost use Rattle.std.specs.Prelude.{length, take, IfOk, IfErr, IfSome, IsSome, true};
 ghost use Rattle.std.specs.List.{All};
 ghost use Rattle.liq_outside.specs.Disk.{GoesOn, LeavesOnly, LeftNow, Only};
 ghost use Rattle.liq_outside.specs.Faults.{count_most};
 ghost use Rattle.liq_types.specs.declared.requests.Command.{Command};
-ghost use Rattle.liq_types.specs.declared.requests.Request.TheVariants.{Do};
 ghost use Rattle.liq_types.specs.State.{State, opening};
 ghost use Rattle.liq_core.specs.Core.{StandsFor};
 ghost use Rattle.liq_core.specs.Entries.{told_whole};
-ghost use Rattle.liq_rules.specs.Step.{built};
 ghost use Rattle.liq_rules.specs.View.{all_followed, view_of};
 ghost use Rattle.liq_journal.specs.declared.damage.Damage.{Damage};
 ghost use Rattle.liq_journal.specs.Causes.{Counted};
-ghost use Rattle.liq_journal.specs.Crash.{BeforeOrAfter};
 ghost use Rattle.liq_journal.specs.Looked.{Looked};
 ghost use Rattle.liq_journal.specs.Opened.{IsUnshut, OpenLeaves};
-ghost use Rattle.liq_journal.specs.Written.{Absent, Open, Written, found_on};
+ghost use Rattle.liq_journal.specs.Written.{Absent, Open, Written, found_on, is_rotate};
 ghost use Rattle.liq_pairs.specs.declared.side.Side.{Side};
 ghost use Rattle.liq_pairs.specs.Kept.{IsKept};
 ghost use Rattle.liq_pairs.specs.Pair.{state_on};
 ghost use Rattle.liq_pairs.specs.Sides.{has_odd, on, other};
 ghost use Rattle.liq_pairs.specs.Unfinished.{IsRecovered, LeftLeaves};
-ghost use Rattle.liq_store.specs.Answering.{Answers, IsReadable, IsUnreadable, read_back};
+ghost use Rattle.liq_store.specs.Answering.{Answers, IsReadable, IsUnreadable};
 ghost use Rattle.liq_store.specs.Beginning.{BeginsLeft, Creates, IsEarlier, IsStoodOn, IsUnbegun};
+ghost use Rattle.liq_store.specs.Calling.{WritesOn};
 ghost use Rattle.liq_store.specs.Causes.{CausesAccepted, CausesAnswer, stopped_after, stopped_after_reading};
 ghost use Rattle.liq_store.specs.Judging.{disk_of};
-ghost use Rattle.liq_store.specs.Keeping.{IsAtRest, IsInOrder, IsKeptAround, LeavesPairs};
-ghost use Rattle.liq_store.specs.Memory.{IsAccepted};
+ghost use Rattle.liq_store.specs.Keeping.{IsAtRest, IsInOrder, LeavesPairs};
 ghost use Rattle.liq_store.specs.Opening.{OpensOn, left_after, right_after};
 ghost use Rattle.liq_store.specs.declared.standing.Stood.TheVariants.{Holding};
 ghost use Rattle.liq_store.specs.Stored.{disk_beside, taken_disk};
@@ -38,13 +36,14 @@ use crate::guided::Guided;
 use crate::judging::{disk_of, judge, later_side};
 use crate::preparing::{Prepared, make, prepare};
 use crate::reading::read_commands;
+use crate::rotating::checkpoint_after;
 use crate::standing::{Stood, stand};
 use crate::telling::{clear, note};
 use liq_core::Protocol;
 use liq_journal::Journal;
 use liq_outside::Disk;
 use liq_pairs::Side;
-use liq_types::{Answer, Command, Hint, ListChange, Reply, Request};
+use liq_types::{Answer, Call, Command, Hint, ListChange, Reply, Request};
 use liq_wire::encode;
 use std::alloc::Global;
 use std::marker::{Brand, Model};
@@ -55,6 +54,15 @@ fn sum_of_faults<D: Disk>(taken: &Journal<D>, beside: &D) -> u64
     ensures { result ≡ min (D.faults taken.now.disk + D.faults beside.now) count_most }
 {
     taken.faults().saturating_add(beside.faults())
+}
+
+fn other(side: Side) -> Side
+    ensures { result ≡ other side }
+{
+    match side {
+        Side::Left => Side::Right,
+        Side::Right => Side::Left,
+    }
 }
 
 /// The protocol over two disks. A contract sees the disks, the side on which the journal goes on and where its records begin, the
@@ -141,13 +149,12 @@ impl<D: Disk> Store<D> {
         }
     }
 
-    /// Answers a request: the protocol's reply, once the record of an accepted command is on the disk.
+    /// Answers a request: the protocol's reply, once the record of an accepted command is on the disk that is taken, or
+    /// the next generation that an accepted rotation begins is on the other one, which is then taken.
     ///
-    /// After `DiskFault` the store is stopped: every later call is answered `Stopped`, with the sum of both counts after that one.
-    /// After `NoMemory` all is as before.
+    /// After `DiskFault` the store is stopped: every later call is answered `Stopped`, with the sum of both counts after
+    /// that one. After `NoMemory` all is as before.
     pub fn call(&mut self, request: &Request, hint: &Hint) -> Answer
-        requires built { IsTrue (built request.now) }
-
         // A store that is stopped answers that, to queries too, and stays as it is.
         ensures stopped { (sum : ℕ) → self.old.stopped ≡ Some sum → (result ≡ Answer.Stopped sum) × (self.new ≡ self.old) }
 
@@ -160,21 +167,10 @@ impl<D: Disk> Store<D> {
 
         ensures cause { CausesAnswer result (record { left = D.faults self.old.left; right = D.faults self.old.right }) (record { left = D.faults self.new.left; right = D.faults self.new.right }) }
 
-        // Only an accepted command is written, on the disk that was taken.
-        ensures side { self.new.side ≡ self.old.side }
-        ensures start { self.new.start ≡ self.old.start }
-        ensures beside { disk_beside self.new ≡ disk_beside self.old }
-        ensures unwritten { (s : State) → StandsFor self.old.core s → (IsAccepted s request.now → ⊥) → taken_disk self.new ≡ taken_disk self.old }
-        ensures no_memory { result ≡ Answer.NoMemory → taken_disk self.new ≡ taken_disk self.old }
-        ensures written { self.old.stopped ≡ None → (held : List ℕ) (w : Written) (c : Command) → D.seen (taken_disk self.old) ≡ Some held → found_on (has_odd self.old.side) held ≡ Open w → request.now ≡ Do c
-            → LeavesOnly D.moment D.left_at (taken_disk self.old) (taken_disk self.new) (BeforeOrAfter (has_odd self.old.side) w (read_back c)) }
-
-        // A stop leaves two disks that are kept for the state before the call or after it; after a reply, by `order`, for that after it.
-        ensures kept { self.old.stopped ≡ None → (l r : List ℕ) (s : State) → D.seen self.old.left ≡ Some l → D.seen self.old.right ≡ Some r → StandsFor self.old.core s
-            → LeavesPairs D.moment D.left_at self.old.left self.old.right self.new.left self.new.right (IsKeptAround s request.now) }
+        // Only an accepted command is written. A stop leaves two disks that are kept for the state before the call or
+        // after it; after a reply, by `order`, for that after it.
+        ensures disks { WritesOn D.seen D.moment D.left_at self.old request.now result self.new }
         ensures order { IsInOrder D.seen D.moment D.left_at self.new }
-        ensures telling { IsSome (D.seen (taken_disk self.new)) ↔ IsSome (D.seen (taken_disk self.old)) }
-        ensures time { GoesOn D.moment D.left_at (taken_disk self.old) (taken_disk self.new) }
     {
         if let Some(faults) = self.stopped {
             return Answer::Stopped { faults };
@@ -189,6 +185,23 @@ impl<D: Disk> Store<D> {
             Prepared::No(refusal) => return Answer::Reply(Reply::No(refusal)),
             Prepared::NoMemory => return Answer::NoMemory,
         };
+        if let Call::Rotate = command.call {
+            let Ok(checkpoint) = checkpoint_after(self.alloc, self.protocol.protocol(), &planned)
+            else {
+                return Answer::NoMemory;
+            };
+            match self.taken.turn(&mut self.beside, &checkpoint) {
+                Ok(()) => {}
+                Err(_) => {
+                    self.stopped = Some(sum_of_faults(&self.taken, &self.beside));
+                    return Answer::DiskFault;
+                }
+            }
+            self.side = other(self.side);
+            // A rotation changes nothing in the list.
+            let done = make::<Brand>(&mut self.protocol, planned, hint, Blank::new(1));
+            return Answer::Reply(Reply::Said(done));
+        }
         match self.taken.append(&encode(command)) {
             Ok(()) => {}
             Err(_) => {
@@ -230,8 +243,7 @@ impl<D: Disk> Store<D> {
         ensures commands { IfOk result (λ list. (held : List ℕ) (w : Written) → D.seen (taken_disk self.old) ≡ Some held → found_on (has_odd self.old.side) held ≡ Open w → list.items ≡ take self.old.core.records w.commands) }
         ensures all { self.old.stopped ≡ None → IfOk result (λ list. (held : List ℕ) (w : Written) → D.seen (taken_disk self.old) ≡ Some held → found_on (has_odd self.old.side) held ≡ Open w → list.items ≡ w.commands) }
         ensures count { IfOk result (λ list. length list.items ≡ self.old.core.records) }
-        // No record holds a rotation.
-        ensures built { IfOk result (λ list. All (λ (c : Command). IsTrue (built (Do c))) list.items) }
+        ensures no_rotation { IfOk result (λ list. All (λ (c : Command). is_rotate c.call ≡ false) list.items) }
         ensures damaged { IfErr result (IsUnreadable self.old.core.image.generation self.old.start self.old.core.records) }
         ensures readable { IsSome (D.seen (taken_disk self.old)) → IfErr result IsReadable }
         ensures looked { Looked D.seen D.moment D.left_at (taken_disk self.old) (taken_disk self.new) }

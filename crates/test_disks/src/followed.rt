@@ -1,6 +1,4 @@
 //! What a store tells to whoever follows its list.
-ghost use Rattle.std.specs.Prelude.{IsTrue};
-ghost use Rattle.liq_rules.specs.Step.{built};
 
 use crate::checks::{NOWHERE, same};
 use crate::disks::disk;
@@ -12,9 +10,7 @@ use std::alloc::Global;
 use std::test::Fail;
 
 // `1 NUMBER open 1 10000000000 4000000000 1000000000000000000 - -`
-fn opening(number: u64) -> Request
-    ensures { IsTrue (built result) }
-{
+fn opening(number: u64) -> Request {
     Request::Do(Command {
         client: 1,
         number,

@@ -1,8 +1,6 @@
 //! As many accepted commands as a journal takes, and one more.
 
-ghost use Rattle.std.specs.Prelude.{◌≡◌, IsTrue};
-ghost use Rattle.liq_types.specs.declared.requests.Request.TheVariants.{Do};
-ghost use Rattle.liq_rules.specs.Step.{built};
+ghost use Rattle.std.specs.Prelude.{◌≡◌};
 
 use crate::checks::{same, shows};
 use liq_core::{PlanFault, Protocol, Turn};
@@ -14,9 +12,7 @@ use std::sync::ledger::{Blank, Ledger};
 const RECORDS: u64 = 1_000_000;
 
 /// A price under client 1's number.
-fn price(number: u64, price: u64) -> Command
-    ensures { IsTrue (built (Do result)) }
-{
+fn price(number: u64, price: u64) -> Command {
     Command {
         client: 1,
         number,
@@ -53,9 +49,7 @@ fn of_fault(fault: &PlanFault) -> Outcome {
 }
 
 /// Plans a command, makes room for it and applies it, or says why it is not planned.
-fn accept<L: Ledger>(protocol: &mut Protocol, command: &Command, steps: &mut Steps<L>) -> Outcome
-    requires { IsTrue (built (Do command.now)) }
-{
+fn accept<L: Ledger>(protocol: &mut Protocol, command: &Command, steps: &mut Steps<L>) -> Outcome {
     let planned = match protocol.plan(command) {
         Ok(Turn::New(planned)) => planned,
         Ok(Turn::Again(done)) => return of_done(&done),

@@ -4,7 +4,6 @@ ghost use Rattle.liq_book.specs.declared.items.TheConstants.{ENTRIES_MOST};
 ghost use Rattle.liq_book.specs.Origin.{TellsList};
 ghost use Rattle.liq_serving.specs.Serves.{AreNumbered};
 
-use liq_core::is_built;
 use liq_outside::MemoryDisk;
 use liq_sessions::{Requests, Script};
 use liq_store::Store;
@@ -91,9 +90,6 @@ pub fn scripts(alloc: Global, requests: usize) -> Result<Vec<Script>, Fail>
 
 /// The answer of a store to a request of a history.
 pub fn replayed(store: &mut Store<MemoryDisk>, request: &Request) -> Option<Reply> {
-    if !is_built(request) {
-        return None;
-    }
     match store.call(request, &Hint::NONE) {
         Answer::Reply(reply) => Some(reply),
         _ => None,

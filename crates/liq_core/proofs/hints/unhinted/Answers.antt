@@ -1,13 +1,9 @@
-use Rattle.std.proofs.Common.{IsTrue, ap, sym, subst, ◌∙◌}
+use Rattle.std.proofs.Common.{ap, sym, ◌∙◌}
 use Rattle.liq_types.specs.declared.requests.Call.{Call}
 use Rattle.liq_rules.specs.Rules.{call_events}
-use Rattle.liq_rules.specs.Step.{after, built_call, ruling}
-use Rattle.liq_core.proofs.HintsAside.{after_same, built_same, events_same, ruling_same}
+use Rattle.liq_rules.specs.Step.{after, ruling}
+use Rattle.liq_core.proofs.HintsAside.{after_same, events_same, ruling_same}
 use Rattle.liq_core.proofs.hints.unhinted.Goals as goal
-
-pub returns-clause-built : goal.returns-clause-built
-returns-clause-built c h =
-    subst (λ (call : Call). IsTrue (built_call call)) (sym c.unhinted_call.ensures) (built_same c.args.command.now.call h)
 
 pub returns-clause-ruling : goal.returns-clause-ruling
 returns-clause-ruling c s =

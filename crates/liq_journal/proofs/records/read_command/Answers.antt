@@ -3,7 +3,7 @@ use Rattle.liq_journal.proofs.Bodies.{told_command, told_fault}
 use Rattle.liq_journal.proofs.records.read_command.Goals as goal
 
 pub returns-in-Ok-spelled-clause-told : goal.returns-in-Ok-spelled-clause-told
-returns-in-Ok-spelled-clause-told g c = told_command (g.D.Disk.seen c.args.disk.now) c.args.generation c.args.index c.args.place c.in-Ok.field-0 c.copy.new.buf c.split.result.0 c.split.result.1 c.in-Ok.ensures.told (search rules) c.split.ensures.body c.split.ensures.stored c.in-Ok-spelled.command c.in-Ok-spelled.ensures
+returns-in-Ok-spelled-clause-told g c = told_command (g.D.Disk.seen c.args.disk.now) c.args.generation c.args.index c.args.place c.in-Ok.field-0 c.copy.new.buf c.split-raw.result.body c.split-raw.result.stored c.in-Ok.ensures.told (search rules) c.split-raw.ensures.body c.split-raw.ensures.stored c.in-Ok-spelled.command c.in-Ok-spelled.ensures
 
 pub returns-in-Err-spelled-clause-told : goal.returns-in-Err-spelled-clause-told
-returns-in-Err-spelled-clause-told g c = told_fault (g.D.Disk.seen c.args.disk.now) c.args.generation c.args.index c.args.place c.in-Ok.field-0 c.copy.new.buf c.split.result.0 c.split.result.1 c.in-Ok.ensures.told (search rules) c.split.ensures.body c.split.ensures.stored c.in-Err-spelled.what c.in-Err-spelled.ensures
+returns-in-Err-spelled-clause-told g c = told_fault (g.D.Disk.seen c.args.disk.now) c.args.generation c.args.index c.args.place c.in-Ok.field-0 c.copy.new.buf c.split-raw.result.body c.split-raw.result.stored c.in-Ok.ensures.told (search rules) c.split-raw.ensures.body c.split-raw.ensures.stored c.in-Err-spelled.what c.in-Err-spelled.ensures

@@ -1,6 +1,6 @@
+use Rattle.liq_journal.proofs.Bodies.{found_no_rotation}
 use Rattle.liq_pairs.proofs.Generations.{found_parity, outcome_generation}
 use Rattle.liq_pairs.proofs.Keeping.{settled_parity}
-use Rattle.liq_pairs.proofs.NoRotation.{found_no_rotation}
 use Rattle.liq_pairs.proofs.laws.generations_have_their_sides.Goals as goal
 
 pub returns-clause-state : goal.returns-clause-state

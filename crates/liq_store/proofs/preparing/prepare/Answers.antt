@@ -1,12 +1,17 @@
 use Rattle.std.proofs.Common.{arith, subst}
 use Rattle.liq_core.specs.Core.{Core, StandsFor, state_of}
-use Rattle.liq_rules.proofs.Allowed.{allowed_few, built-rotates}
+use Rattle.liq_rules.proofs.Allowed.{allowed_few}
+use Rattle.liq_store.proofs.Verbs.{never_rotates}
 use Rattle.liq_store.proofs.Steps.{planned_allowed}
 use Rattle.liq_store.proofs.preparing.prepare.Goals as goal
 
 pub returns-in-Ok-reserve-clause-ready : goal.returns-in-Ok-reserve-clause-ready
 returns-in-Ok-reserve-clause-ready c =
     let s = state_of c.args.protocol.now in
-    let is = (rw c.in-Ok-New.field-0-is at c.in-Ok-New.ensures) s (subst (λ (p : Core). StandsFor p (state_of p)) c.protocol.ensures c.protocols_stand.ensures) in
-    let few = allowed_few s c.args.command.now (planned_allowed s c.args.command.now c.in-Ok-New.planned is) (built-rotates c.args.command.now.call c.requires) in
-    (is.0, c.in-Ok-reserve.ensures.room, omega (arith, few, c.reserve.ensures.same.records))
+    let is = (rw c.in-Ok-New.field-0-is at c.in-Ok-New.ensures) s (subst (λ (p : Core). StandsFor p (state_of p)) c.protocol.ensures c.protocols_stand.ensures) in (
+      is.0,
+      c.in-Ok-reserve.ensures.room,
+      λ stays.
+          let few = allowed_few s c.args.command.now (planned_allowed s c.args.command.now c.in-Ok-New.planned is) (never_rotates c.args.command.now.call stays) in
+          omega (arith, few, c.reserve.ensures.same.records),
+    )

@@ -1,10 +1,9 @@
-use Rattle.std.proofs.Common.{◌∙◌, ◌+◌, ◌<◌, [], ◌∷◌, length, ap, sym, subst, arith, length-append, IsTrue}
+use Rattle.std.proofs.Common.{◌≡◌, ◌∙◌, ◌+◌, ◌<◌, [], ◌∷◌, length, ap, sym, subst, arith, length-append, false}
 use Rattle.std.proofs.lemmas.List.Elements.{All-push}
 use Rattle.std.specs.List.{All}
 use Rattle.liq_types.specs.declared.requests.Command.{Command}
-use Rattle.liq_types.specs.declared.requests.Request.TheVariants.{Do}
-use Rattle.liq_rules.specs.Step.{built}
 use Rattle.liq_journal.specs.Settled.{JournalOn}
+use Rattle.liq_journal.specs.Written.{is_rotate}
 use Rattle.liq_journal.proofs.Looks.{looked_on}
 use Rattle.liq_store.proofs.Listing.{one_more}
 use Rattle.liq_store.proofs.Replaying.{journal_still}
@@ -22,7 +21,7 @@ loop-done-preserved g c = record {
   same = c.read_command.ensures.same ∙ ap (λ (j : JournalOn g.row.D.Denot). record j { disk = c.read_command.new.journal.disk }) c.loop-done.invariant.same;
   still = c.in-Ok.ensures.cause ∙ c.loop-done.invariant.still;
   counted = ap length c.in-Ok-push.ensures.items ∙ length-append c.loop-done.commands.items (c.in-Ok.command ∷ []) ∙ ap (λ n. n + 1) c.loop-done.invariant.counted;
-  built_all = subst (All (λ (k : Command). IsTrue (built (Do k)))) (sym c.in-Ok-push.ensures.items) (All-push (λ (k : Command). IsTrue (built (Do k))) c.loop-done.commands.items c.in-Ok.command c.loop-done.invariant.built_all c.in-Ok.ensures.built);
+  none_rotates = subst (All (λ (k : Command). is_rotate k.call ≡ false)) (sym c.in-Ok-push.ensures.items) (All-push (λ (k : Command). is_rotate k.call ≡ false) c.loop-done.commands.items c.in-Ok.command c.loop-done.invariant.none_rotates c.in-Ok.ensures.no_rotation);
   read = λ held w told journal enough.
       let within : c.loop-done.done < length w.commands = omega (arith, enough, c.records-done-end.ensures) in
       let here = c.in-Ok.ensures.command held w (c.loop-done.invariant.looked.same ∙ told) (journal_still _ _ _ _ held w (ap (λ j. j.generation) c.loop-done.invariant.same) (ap (λ j. j.start) c.loop-done.invariant.same) journal) (omega arith) in

@@ -1,11 +1,9 @@
-use Rattle.std.proofs.Common.{◌≡◌, ◌≤◌, ℕ, List, length, take, Some, IsTrue}
+use Rattle.std.proofs.Common.{◌≡◌, ◌≤◌, ℕ, List, length, take, Some, false}
 use Rattle.std.specs.List.{All}
 use Rattle.liq_types.specs.declared.requests.Command.{Command}
-use Rattle.liq_types.specs.declared.requests.Request.TheVariants.{Do}
-use Rattle.liq_rules.specs.Step.{built}
 use Rattle.liq_journal.specs.Bodies.{IsJournalOf}
 use Rattle.liq_journal.specs.Looked.{Looked}
-use Rattle.liq_journal.specs.Written.{Written}
+use Rattle.liq_journal.specs.Written.{Written, is_rotate}
 use Rattle.liq_store.proofs.reading.read_commands.Given as goal
 
 abbrev pub invariant-loop-done : goal.invariant-loop-done
@@ -14,6 +12,6 @@ invariant-loop-done g l = record {
   same : l.journal ≡ record l.fn.journal { disk = l.journal.disk };
   still : g.D.Disk.faults l.journal.disk ≡ g.D.Disk.faults l.fn.journal.disk;
   counted : length l.commands.items ≡ l.done;
-  built_all : All (λ (c : Command). IsTrue (built (Do c))) l.commands.items;
+  none_rotates : All (λ (c : Command). is_rotate c.call ≡ false) l.commands.items;
   read : (held : List ℕ) (w : Written) → g.D.Disk.seen l.fn.journal.disk ≡ Some held → IsJournalOf l.fn.journal.generation l.fn.journal.start held w → l.fn.journal.count ≤ length w.commands → l.commands.items ≡ take l.done w.commands;
 }

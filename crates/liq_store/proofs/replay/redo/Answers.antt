@@ -1,6 +1,5 @@
 use Rattle.std.proofs.Common.{subst}
 use Rattle.liq_core.specs.Core.{Core, StandsFor, state_of}
-use Rattle.liq_store.proofs.Built.{built_stays}
 use Rattle.liq_store.proofs.Generations.{counts_on, generation_stays}
 use Rattle.liq_core.proofs.SameContents.{stands_after}
 use Rattle.liq_store.proofs.Steps.{planned_allowed, stepped}
@@ -16,10 +15,10 @@ pub returns-in-Ok-clause-counted : goal.returns-in-Ok-clause-counted
 returns-in-Ok-clause-counted g c =
     let s = state_of c.args.protocol.now in
     let stands = subst (λ (p : Core). StandsFor p (state_of p)) c.protocol.ensures c.protocols_stand.ensures in
-    counts_on c.args.protocol.now c.apply.new.self s c.args.command.now (built_stays c.args.command.now.call c.requires) stands (returns-in-Ok-clause-outcome g c s stands).1
+    counts_on c.args.protocol.now c.apply.new.self s c.args.command.now c.requires stands (returns-in-Ok-clause-outcome g c s stands).1
 
 pub returns-in-Ok-clause-generation : goal.returns-in-Ok-clause-generation
 returns-in-Ok-clause-generation g c =
     let s = state_of c.args.protocol.now in
     let stands = subst (λ (p : Core). StandsFor p (state_of p)) c.protocol.ensures c.protocols_stand.ensures in
-    generation_stays c.args.protocol.now c.apply.new.self s c.args.command.now (built_stays c.args.command.now.call c.requires) stands (returns-in-Ok-clause-outcome g c s stands).1
+    generation_stays c.args.protocol.now c.apply.new.self s c.args.command.now c.requires stands (returns-in-Ok-clause-outcome g c s stands).1

@@ -1,9 +1,14 @@
-use Rattle.std.proofs.Common.{◌-◌, ◌≤◌, length, subst, arith}
+use Rattle.std.proofs.Common.{◌∙◌, ap, ◌-◌, ◌≤◌, length, subst, arith}
 use Rattle.std.proofs.lemmas.Option.{slice_get_within}
 use Rattle.liq_types.specs.declared.requests.Command.{Command}
+use Rattle.liq_journal.specs.Written.{is_rotate}
 use Rattle.liq_store.specs.Replays.{IsOutcome}
 use Rattle.liq_store.proofs.Replaying.{outcome_same, same_record, unread}
+use Rattle.liq_store.proofs.Verbs.{unhinted_stays}
 use Rattle.liq_store.proofs.replay.redo_record.Goals as goal
+
+pub redo-requires : goal.redo-requires
+redo-requires g c = ap (λ (k : Command). is_rotate k.call) c.unhinted.ensures.same ∙ unhinted_stays c.in-Ok.command.call ∙ c.in-Ok.ensures.no_rotation
 
 pub returns-in-Err-clause-replayed : goal.returns-in-Err-clause-replayed
 returns-in-Err-clause-replayed g c held w s k told journal recorded stands =

@@ -135,7 +135,7 @@ returns-clause-state g c s h =
     elim c.match-command.branch [
       | in_default w ↦
           let call = c.planned.inside.command.call in
-          let changed = changed_stands old w.change.new.self call sound (stays_so call w.in_default.not-Rotate) w.change.ensures.made s h in
+          let changed = changed_stands old w.change.new.self call sound w.change.ensures.made s h in
           let noted_is : StandsFor w.note.new.self (noted (effect s call) c.planned.inside.command c.planned.inside.forecast.done) = w.note.ensures.state (effect s call) changed in
           let seen : StandsFor w.note.new.self (noted (effect s command.call) command c.args.planned.done) =
           subst (λ (p : Plan). StandsFor w.note.new.self (noted (effect s p.command.call) p.command p.done)) c.planned.view_is noted_is in

@@ -1,0 +1,197 @@
+-- What a call does to the disks, by the side of the one that is taken.
+use Rattle.std.proofs.Common.{◌≡◌, ◌↔◌, inl, inr, ℕ, List, Bool, true, false, ◌&&◌, if◌then◌else◌, Option, Some, None, IfSome, IsSome, refl, sym, ◌∙◌, ap, subst}
+use Rattle.liq_outside.specs.Disk.{GoesOn, LeavesOnly, LeftSince}
+use Rattle.liq_outside.proofs.Moments.{started, unmoved}
+use Rattle.liq_types.specs.declared.events.ListChange.{ListChange}
+use Rattle.liq_types.specs.declared.requests.Command.{Command}
+use Rattle.liq_types.specs.declared.requests.Request.{Request}
+use Rattle.liq_types.specs.declared.requests.Request.TheVariants.{Do, Ask}
+use Rattle.liq_types.specs.declared.replies.Answer.{Answer}
+use Rattle.liq_types.specs.declared.replies.Done.{Done}
+use Rattle.liq_types.specs.declared.replies.Refusal.{Refusal}
+use Rattle.liq_types.specs.declared.replies.Reply.{Reply}
+use Rattle.liq_types.specs.declared.replies.Answer.TheVariants as answer
+use Rattle.liq_types.specs.State.{State}
+use Rattle.liq_core.specs.Core.{Core, StandsFor}
+use Rattle.liq_rules.specs.Step.{Allowed, Refused, Repeated, Ruling, is_allowed, ruling}
+use Rattle.liq_journal.specs.Crash.{BeforeOrAfter, CreateLeaves, Stands}
+use Rattle.liq_journal.specs.Settled.{IsSettled, JournalOn}
+use Rattle.liq_journal.specs.Written.{Open, Written, found_on, is_rotate, start_of}
+use Rattle.liq_pairs.specs.declared.side.Side.{Side}
+use Rattle.liq_pairs.specs.declared.side.Side.TheVariants.{Left, Right}
+use Rattle.liq_pairs.specs.Kept.{IsKept}
+use Rattle.liq_pairs.specs.Sides.{has_odd, on, other}
+use Rattle.liq_pairs.proofs.Keeping.{settled_kept}
+use Rattle.liq_store.specs.Answering.{read_back}
+use Rattle.liq_store.specs.Calling.{WritesOn}
+use Rattle.liq_store.specs.Keeping.{IsKeptAround}
+use Rattle.liq_store.specs.Memory.{IsAccepted}
+use Rattle.liq_store.specs.Rotating.{is_rotation, rotation_of, side_after, start_after}
+use Rattle.liq_store.specs.Stored.{Stored}
+use Rattle.liq_store.specs.Within.{IsWithin, stored}
+use Rattle.liq_store.proofs.Going.{going_by, rest_now, rest_only}
+
+-- ---- which calls are no rotation
+
+and_false : (b : Bool) → (b && false) ≡ false
+and_false true = refl
+and_false false = refl
+
+-- one that the state doesn't accept
+pub unaccepted_stays : (s : State) (request : Request) → (IsAccepted s request → ⊥) → is_rotation s request ≡ false
+unaccepted_stays s (Do c) refused = by (ruling s c) refl
+  where
+    by : (r : Ruling) → ruling s c ≡ r → (is_rotate c.call && is_allowed (ruling s c)) ≡ false
+    by (Refused refusal) is = ap (λ (r : Ruling). is_rotate c.call && is_allowed r) is ∙ and_false (is_rotate c.call)
+    by (Repeated kept) is = ap (λ (r : Ruling). is_rotate c.call && is_allowed r) is ∙ and_false (is_rotate c.call)
+    by Allowed is = absurd (refused is)
+unaccepted_stays s (Ask query) refused = refl
+
+pub repeated_stays : (s : State) (c : Command) (kept : Done) → ruling s c ≡ Repeated kept → is_rotation s (Do c) ≡ false
+repeated_stays s c kept is = ap (λ (r : Ruling). is_rotate c.call && is_allowed r) is ∙ and_false (is_rotate c.call)
+
+pub refused_stays : (s : State) (c : Command) (refusal : Refusal) → ruling s c ≡ Refused refusal → is_rotation s (Do c) ≡ false
+refused_stays s c refusal is = ap (λ (r : Ruling). is_rotate c.call && is_allowed r) is ∙ and_false (is_rotate c.call)
+
+-- and one of another verb
+pub other_stays : (s : State) (c : Command) → is_rotate c.call ≡ false → is_rotation s (Do c) ≡ false
+other_stays s c stays = ap (λ (b : Bool). b && is_allowed (ruling s c)) stays
+
+-- A reply to one takes no other disk.
+pub reply_stays : (s : State) (request : Request) (reply : Reply) (side : Side) (start : ℕ) → is_rotation s request ≡ false
+    → (side_after (answer.Reply reply) s request side ≡ side) × (start_after (answer.Reply reply) s request start ≡ start)
+reply_stays s (Do c) reply side start stays =
+    (ap (λ (b : Bool). if b then other side else side) stays, ap (λ (b : Bool). if b then start_of (rotation_of s c) else start) stays)
+reply_stays s (Ask query) reply side start stays = (refl, refl)
+
+-- nor does any other answer
+pub answer_stays : (a : Answer) (s : State) (request : Request) (side : Side) (start : ℕ) → is_rotation s request ≡ false
+    → (side_after a s request side ≡ side) × (start_after a s request start ≡ start)
+answer_stays (answer.Reply reply) s request side start stays = reply_stays s request reply side start stays
+answer_stays _ s request side start stays = (refl, refl)
+
+module _ {D : Type 0} (seen : D → Option (List ℕ)) (moment : D → ℕ) (left_at : D → ℕ → List ℕ → Type 0) where
+  -- Of a store whose taken disk is t, beside b: the disks t' and b' after a call, the side that is next taken, and where the
+  -- records begin there.
+  pub record Writes (side : Side) (core : Core) (start : ℕ) (stopped : Option ℕ) (request : Request) (a : Answer) (t b t' b' : D) (side' : Side) (start' : ℕ) : Type 0 where
+    pub side_is : (s : State) → StandsFor core s → side' ≡ side_after a s request side
+    pub start_is : (s : State) → StandsFor core s → start' ≡ start_after a s request start
+    pub taken : (s : State) → StandsFor core s → is_rotation s request ≡ true → t' ≡ t
+    pub aside : (s : State) → StandsFor core s → is_rotation s request ≡ false → b' ≡ b
+    pub unwritten : (s : State) → StandsFor core s → (IsAccepted s request → ⊥) → (t' ≡ t) × (b' ≡ b)
+    pub no_memory : a ≡ answer.NoMemory → (t' ≡ t) × (b' ≡ b)
+    pub written : stopped ≡ None → (held : List ℕ) (w : Written) (c : Command) → seen t ≡ Some held → found_on (has_odd side) held ≡ Open w → request ≡ Do c
+        → LeavesOnly moment left_at t t' (BeforeOrAfter (has_odd side) w (read_back c))
+    pub created : stopped ≡ None → (s : State) → StandsFor core s → (held : List ℕ) (c : Command) → seen b ≡ Some held → request ≡ Do c → is_rotation s request ≡ true
+        → LeavesOnly moment left_at b b' (CreateLeaves (has_odd (other side)) held (rotation_of s c))
+    pub kept : stopped ≡ None → (held aside_held : List ℕ) (s : State) → seen t ≡ Some held → seen b ≡ Some aside_held → StandsFor core s
+        → (x y : List ℕ) → LeftSince moment left_at t' (moment t) x → LeftSince moment left_at b' (moment b) y → IsKeptAround s request (on side x y) (on side y x)
+    pub taken_telling : IsSome (seen t') ↔ IsSome (seen t)
+    pub aside_telling : IsSome (seen b') ↔ IsSome (seen b)
+    pub taken_time : GoesOn moment left_at t t'
+    pub aside_time : GoesOn moment left_at b b'
+
+  -- the same of the left disk and the right one
+  pub writes_on : (side side' : Side) (core next : Core) (start start' : ℕ) (stopped later : Option ℕ) (before now : List ListChange) (request : Request) (a : Answer) (t b t' b' : D)
+      → Writes side core start stopped request a t b t' b' side' start'
+      → WritesOn seen moment left_at
+      (record { left = on side t b; right = on side b t; side = side; start = start; core = core; stopped = stopped; changes = before }) request a
+      (record { left = on side t' b'; right = on side b' t'; side = side'; start = start'; core = next; stopped = later; changes = now })
+  writes_on Left side' core next start start' stopped later before now request a t b t' b' w = record {
+    side = w.side_is;
+    start = w.start_is;
+    taken = w.taken;
+    aside = w.aside;
+    unwritten = w.unwritten;
+    no_memory = w.no_memory;
+    written = w.written;
+    created = w.created;
+    kept = λ none l r s tl tr stands x y lx ly. w.kept none l r s tl tr stands x y lx ly;
+    left_telling = w.taken_telling;
+    right_telling = w.aside_telling;
+    left_time = w.taken_time;
+    right_time = w.aside_time;
+  }
+  writes_on Right side' core next start start' stopped later before now request a t b t' b' w = record {
+    side = w.side_is;
+    start = w.start_is;
+    taken = w.taken;
+    aside = w.aside;
+    unwritten = λ s stands refused. let both = w.unwritten s stands refused in (both.1, both.0);
+    no_memory = λ none. let both = w.no_memory none in (both.1, both.0);
+    written = w.written;
+    created = w.created;
+    kept = λ none l r s tl tr stands x y lx ly. w.kept none r l s tr tl stands y x ly lx;
+    left_telling = w.aside_telling;
+    right_telling = w.taken_telling;
+    left_time = w.aside_time;
+    right_time = w.taken_time;
+  }
+
+  -- where the other one is taken
+  pub turned_on : (side : Side) (core next : Core) (start start' : ℕ) (stopped later : Option ℕ) (before now : List ListChange) (request : Request) (a : Answer) (t b b' : D)
+      → Writes side core start stopped request a t b t b' (other side) start'
+      → WritesOn seen moment left_at
+      (record { left = on side t b; right = on side b t; side = side; start = start; core = core; stopped = stopped; changes = before }) request a
+      (record { left = on (other side) b' t; right = on (other side) t b'; side = other side; start = start'; core = next; stopped = later; changes = now })
+  turned_on Left core next start start' stopped later before now request a t b b' w = writes_on Left Right core next start start' stopped later before now request a t b t b' w
+  turned_on Right core next start start' stopped later before now request a t b b' w = writes_on Right Left core next start start' stopped later before now request a t b t b' w
+
+  -- ---- nothing is written
+
+  module _ (side : Side) (taken : JournalOn D) (b : D) (core : Core) (stopped : Option ℕ) (before : List ListChange) (within : IsWithin seen moment left_at side taken b core stopped before) where
+    -- what a crash now leaves of the disk that is taken
+    settled_rest : stopped ≡ None → (held : List ℕ) (w : Written) → seen taken.disk ≡ Some held → found_on (has_odd side) held ≡ Open w → Stands (has_odd side) held w
+    settled_rest none held w told found =
+        let is : IsSettled taken.generation taken.start taken.count held = subst (λ (o : Option (List ℕ)). IfSome o (IsSettled taken.generation taken.start taken.count)) told (within.settled none) in
+        let stands : Stands (has_odd side) held is.written = subst (λ (o : Bool). Stands o held is.written) within.parity_is is.stands in
+        let opens : Open is.written ≡ Open w = sym stands.found ∙ found in
+        let one : is.written ≡ w = cc (opens) in
+        subst (λ (v : Written). Stands (has_odd side) held v) one stands
+
+    -- one that is written only on the other disk leaves it as it was
+    pub taken_left : stopped ≡ None → (held : List ℕ) (w : Written) (c : Command) → seen taken.disk ≡ Some held → found_on (has_odd side) held ≡ Open w
+        → LeavesOnly moment left_at taken.disk taken.disk (BeforeOrAfter (has_odd side) w c)
+    taken_left none held w c told found =
+        let going = going_by seen moment left_at before side taken b core stopped none within.order in
+        started moment left_at taken.disk (BeforeOrAfter (has_odd side) w c) (λ image left.
+        inl (subst (λ (l : List ℕ). Stands (has_odd side) l w) (sym (rest_now seen moment left_at taken.disk held told going.taken_rests image left)) (settled_rest none held w told found)))
+
+    -- the other one as it was
+    aside_left : stopped ≡ None → (held : List ℕ) (w : Written) → seen b ≡ Some held → LeavesOnly moment left_at b b (CreateLeaves (has_odd (other side)) held w)
+    aside_left none held w told =
+        let going = going_by seen moment left_at before side taken b core stopped none within.order in
+        started moment left_at b (CreateLeaves (has_odd (other side)) held w) (λ image left.
+        inr (inl (inl (rest_now seen moment left_at b held told going.beside_rests image left))))
+
+    pairs_left : stopped ≡ None → (held aside_held : List ℕ) (s : State) → seen taken.disk ≡ Some held → seen b ≡ Some aside_held → StandsFor core s → (request : Request)
+        → (x y : List ℕ) → LeftSince moment left_at taken.disk (moment taken.disk) x → LeftSince moment left_at b (moment b) y → IsKeptAround s request (on side x y) (on side y x)
+    pairs_left none held aside_held s th ta stands request x y lx ly =
+        let going = going_by seen moment left_at before side taken b core stopped none within.order in
+        let ex : x ≡ held = rest_only seen moment left_at taken.disk held th going.taken_rests x lx in
+        let ey : y ≡ aside_held = rest_only seen moment left_at b aside_held ta going.beside_rests y ly in
+        let kept : IsKept (on side held aside_held) (on side aside_held held) s = settled_kept side (on side held aside_held) (on side aside_held held) s (going.settled held aside_held th ta s stands) in
+        inl (subst (λ (l : List ℕ). IsKept (on side l y) (on side y l) s) (sym ex) (subst (λ (l : List ℕ). IsKept (on side held l) (on side l held) s) (sym ey) kept))
+
+    -- the disks stay as they are
+    pub stays_on : (old : Stored D) → stored side taken b core stopped before ≡ old → (next : Core) (later : Option ℕ) (now : List ListChange) (request : Request) (a : Answer)
+        → ((s : State) → StandsFor core s → (side_after a s request side ≡ side) × (start_after a s request taken.start ≡ taken.start))
+        → WritesOn seen moment left_at old request a (stored side taken b next later now)
+    stays_on old same next later now request a stays =
+        subst (λ (o : Stored D). WritesOn seen moment left_at o request a (stored side taken b next later now)) same
+        (writes_on side side core next taken.start taken.start stopped later before now request a taken.disk b taken.disk b
+        (record {
+          side_is = λ s stands. sym (stays s stands).0;
+          start_is = λ s stands. sym (stays s stands).1;
+          taken = λ s stands rotation. refl;
+          aside = λ s stands other_one. refl;
+          unwritten = λ s stands refused. (refl, refl);
+          no_memory = λ none. (refl, refl);
+          written = λ none held w c told found is. taken_left none held w (read_back c) told found;
+          created = λ none s stands held c told is rotation. aside_left none held (rotation_of s c) told;
+          kept = λ none held aside_held s th ta stands x y lx ly. pairs_left none held aside_held s th ta stands request x y lx ly;
+          taken_telling = (λ some. some, λ some. some);
+          aside_telling = (λ some. some, λ some. some);
+          taken_time = unmoved moment left_at taken.disk;
+          aside_time = unmoved moment left_at b;
+        }))

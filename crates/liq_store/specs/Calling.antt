@@ -1,0 +1,57 @@
+-- What a call does to the disks of a store.
+use Rattle.std.specs.Prelude.{◌≡◌, ◌↔◌, ℕ, List, Option, Some, None, IsSome, true, false}
+use Rattle.liq_outside.specs.Disk.{GoesOn, LeavesOnly}
+use Rattle.liq_types.specs.declared.requests.Command.{Command}
+use Rattle.liq_types.specs.declared.requests.Request.{Request}
+use Rattle.liq_types.specs.declared.requests.Request.TheVariants.{Do}
+use Rattle.liq_types.specs.declared.replies.Answer.{Answer}
+use Rattle.liq_types.specs.declared.replies.Answer.TheVariants.{NoMemory}
+use Rattle.liq_types.specs.State.{State}
+use Rattle.liq_core.specs.Core.{StandsFor}
+use Rattle.liq_journal.specs.Crash.{BeforeOrAfter, CreateLeaves}
+use Rattle.liq_journal.specs.Written.{Open, Written, found_on}
+use Rattle.liq_pairs.specs.Sides.{beside, has_odd, on, other}
+use Rattle.liq_store.specs.Answering.{read_back}
+use Rattle.liq_store.specs.Keeping.{IsKeptAround, LeavesPairs}
+use Rattle.liq_store.specs.Memory.{IsAccepted}
+use Rattle.liq_store.specs.Rotating.{is_rotation, rotation_of, side_after, start_after}
+use Rattle.liq_store.specs.Stored.{Stored, disk_beside, taken_disk}
+
+-- Only an accepted command is written: a rotation on the disk that was beside, which is taken after the reply, and any
+-- other on the one that was taken.
+pub record WritesOn
+    {D : Type 0} (seen : D → Option (List ℕ)) (moment : D → ℕ) (left_at : D → ℕ → List ℕ → Type 0)
+    (old : Stored D) (request : Request) (answer : Answer) (new : Stored D) : Type 0 where
+  pub side : (s : State) → StandsFor old.core s → new.side ≡ side_after answer s request old.side
+  pub start : (s : State) → StandsFor old.core s → new.start ≡ start_after answer s request old.start
+  pub taken :
+      (s : State) → StandsFor old.core s → is_rotation s request ≡ true
+      → on old.side new.left new.right ≡ taken_disk old
+  pub aside :
+      (s : State) → StandsFor old.core s → is_rotation s request ≡ false
+      → beside old.side new.left new.right ≡ disk_beside old
+  pub unwritten :
+      (s : State) → StandsFor old.core s → (IsAccepted s request → ⊥)
+      → (new.left ≡ old.left) × (new.right ≡ old.right)
+  pub no_memory : answer ≡ NoMemory → (new.left ≡ old.left) × (new.right ≡ old.right)
+  -- what a stop in it may leave of the disk that was taken
+  pub written :
+      old.stopped ≡ None → (held : List ℕ) (w : Written) (c : Command)
+      → seen (taken_disk old) ≡ Some held → found_on (has_odd old.side) held ≡ Open w → request ≡ Do c
+      → LeavesOnly moment left_at (taken_disk old) (on old.side new.left new.right)
+      (BeforeOrAfter (has_odd old.side) w (read_back c))
+  -- of the other one
+  pub created :
+      old.stopped ≡ None → (s : State) → StandsFor old.core s → (held : List ℕ) (c : Command)
+      → seen (disk_beside old) ≡ Some held → request ≡ Do c → is_rotation s request ≡ true
+      → LeavesOnly moment left_at (disk_beside old) (beside old.side new.left new.right)
+      (CreateLeaves (has_odd (other old.side)) held (rotation_of s c))
+  -- and of both: they are kept for the state before the call or after it
+  pub kept :
+      old.stopped ≡ None → (l r : List ℕ) (s : State)
+      → seen old.left ≡ Some l → seen old.right ≡ Some r → StandsFor old.core s
+      → LeavesPairs moment left_at old.left old.right new.left new.right (IsKeptAround s request)
+  pub left_telling : IsSome (seen new.left) ↔ IsSome (seen old.left)
+  pub right_telling : IsSome (seen new.right) ↔ IsSome (seen old.right)
+  pub left_time : GoesOn moment left_at old.left new.left
+  pub right_time : GoesOn moment left_at old.right new.right
