@@ -1,13 +1,12 @@
 -- Which lines are requests.
-use Rattle.std.specs.Prelude.{ℕ, ◌∷◌, List, IsTrue}
+use Rattle.std.specs.Prelude.{ℕ, ◌∷◌, List}
 use Rattle.liq_types.specs.declared.requests.Request.{Request}
-use Rattle.liq_rules.specs.Step.{built}
 use Rattle.liq_text.specs.Spelling.{Spells}
 use Rattle.liq_lines.specs.Saying.{BeginsWith}
 
--- the line spells the request, and the protocol answers such requests
+-- the line spells the request
 abbrev pub IsRequest : List ℕ → Request → Type 0
-IsRequest line request = Spells line request × IsTrue (built request)
+IsRequest line request = Spells line request
 
 -- the text begins with lines of these requests, and the next line is that of this one
 abbrev pub IsNext : List ℕ → List Request → Request → Type 0

@@ -1,3 +1,2 @@
-mod BuiltLoads
 mod Loads
 mod Told

@@ -1,6 +1,6 @@
 //! A generated load, carried out on a protocol of its own.
 
-ghost use Rattle.std.specs.Prelude.{◌≡◌, ◌≤◌, ◌+◌, ◌^◌, ◌∷◌, [], ℕ, IfOk, OnOk, IsTrue};
+ghost use Rattle.std.specs.Prelude.{◌≡◌, ◌≤◌, ◌+◌, ◌^◌, ◌∷◌, [], ℕ, IfOk, OnOk};
 ghost use Rattle.std.specs.String.{string_bytes};
 ghost use Rattle.liq_types.specs.declared.requests.Request.TheVariants.{Ask};
 ghost use Rattle.liq_types.specs.State.{State, opening};
@@ -8,7 +8,7 @@ ghost use Rattle.liq_types.specs.Totals.{total_debt};
 ghost use Rattle.liq_stability.specs.Words.{pool_words};
 ghost use Rattle.liq_audit.specs.Auditable.{offsets_in};
 ghost use Rattle.liq_core.specs.Core.{StandsFor, state_of};
-ghost use Rattle.liq_rules.specs.Step.{built_call, run, step, next_number};
+ghost use Rattle.liq_rules.specs.Step.{run, step, next_number};
 ghost use Rattle.liq_sessions.specs.Generated.{generated};
 ghost use Rattle.liq_words.specs.declared.words.TheConstants.{COUNT_MOST};
 ghost use Rattle.liq_load.specs.Carrying.{AreWithin, IsNumbered, counts, next_command, plus, told};
@@ -70,7 +70,6 @@ impl Load {
 
     /// Carries out the client's next command, with this call.
     fn carry_out<L: Ledger>(&mut self, call: Call, steps: &mut Steps<L>) -> Result<(), NoMemory>
-        requires built { IsTrue (built_call call) }
         requires few { AreWithin (2 ^ 32) self.old.counts }
         requires numbered { IsNumbered self.old.protocol self.old.counts }
         ensures done { OnOk result ((s : State) → StandsFor self.old.protocol s

@@ -1,8 +1,10 @@
 -- A whole replay is a run: its events are lawful and few, and every depositor has what is promised.
-use Rattle.std.proofs.Common.{◌≡◌, ℕ, zero, suc, ◌+◌, ◌*◌, ◌<◌, ◌≤◌, ◌^◌, false, cond, List, [], ◌∷◌, ◌++◌, length, Ok, refl, ap, sym, subst, ◌∙◌, arith}
-use Rattle.std.specs.Prelude.{All, map, IsTrue}
+use Rattle.std.proofs.Common.{◌≡◌, ℕ, zero, suc, ◌+◌, ◌<◌, ◌≤◌, ◌^◌, false, cond, List, [], ◌∷◌, ◌++◌, length, Ok, refl, ap, sym, subst, ◌∙◌, arith}
+use Rattle.std.specs.Prelude.{All, map}
 use Rattle.liq_types.specs.declared.amounts.TheConstants.{ACCOUNTS, LIM, RECORDS_MOST}
 use Rattle.liq_types.specs.declared.events.PoolEvent.{PoolEvent}
+use Rattle.liq_types.specs.declared.requests.Call.{Call}
+use Rattle.liq_types.specs.declared.requests.Call.TheVariants.{Rotate}
 use Rattle.liq_types.specs.declared.requests.Command.{Command}
 use Rattle.liq_types.specs.declared.requests.Request.{Request}
 use Rattle.liq_types.specs.declared.requests.Request.TheVariants.{Do}
@@ -17,10 +19,11 @@ use Rattle.liq_stability.specs.Promise.{IsWithinAllowance}
 use Rattle.liq_stability.proofs.Pool.{gain_within}
 use Rattle.liq_stability.proofs.Promise.{all_paid_are}
 use Rattle.liq_rules.specs.Events.{events}
-use Rattle.liq_rules.specs.Step.{Ruling, Refused, Repeated, Allowed, ruling, after, after_ruling, run, accepted, is_allowed, built}
+use Rattle.liq_rules.specs.Step.{Ruling, Refused, Repeated, Allowed, ruling, after, after_ruling, run, accepted, is_allowed}
 use Rattle.liq_rules.specs.Rules.{effect}
 use Rattle.liq_rules.specs.Verbs.{rotates}
-use Rattle.liq_rules.proofs.Allowed.{allowed_few, built-rotates, effect-records}
+use Rattle.liq_journal.specs.Written.{is_rotate}
+use Rattle.liq_rules.proofs.Allowed.{allowed_few, effect-records}
 use Rattle.liq_rules.proofs.Counting.{run_events_count}
 use Rattle.liq_soundness.proofs.SoundEvents.{run_follows}
 use Rattle.liq_soundness.proofs.SoundPromises.{reached_shares, reached_paid}
@@ -53,19 +56,23 @@ module _ (end : State) where
 
 -- ---- its commands are few
 
-abbrev AreBuilt : List Command → Type 0
-AreBuilt commands = All (λ (c : Command). IsTrue (built (Do c))) commands
+abbrev HaveNoRotation : List Command → Type 0
+HaveNoRotation commands = All (λ (c : Command). is_rotate c.call ≡ false) commands
 
 module _ (end : State) where
-  replay_few : (commands : List Command) (index : ℕ) (s : State) → AreBuilt commands → s.records ≤ RECORDS_MOST → replay index s commands ≡ Ok end → s.records + length commands ≤ RECORDS_MOST
+  replay_few : (commands : List Command) (index : ℕ) (s : State) → HaveNoRotation commands → s.records ≤ RECORDS_MOST → replay index s commands ≡ Ok end → s.records + length commands ≤ RECORDS_MOST
   unfolding replay
-  replay_few [] index s b few h = omega arith
-  replay_few (c ∷ cs) index s b few h = by (ruling s c) refl h (λ less k. replay_few cs (index + 1) (after s c) (λ i d lt. b (suc i) d (omega arith)) less k) where
+  replay_few [] index s none few h = omega arith
+  replay_few (c ∷ cs) index s none few h = by (ruling s c) refl h (λ less k. replay_few cs (index + 1) (after s c) (λ i d lt. none (suc i) d (omega arith)) less k) where
+    goes_on : (call : Call) → is_rotate call ≡ false → rotates call ≡ false
+    goes_on Rotate is = is
+    goes_on _ is = refl
+
     stays : rotates c.call ≡ false
-    stays = built-rotates c.call (b zero c (omega arith))
+    stays = goes_on c.call (none zero c (omega arith))
 
     counted : (after s c).records ≡ s.records + 1
-    counted = ap (λ b. cond b 0 ((effect s c.call).records + 1)) stays ∙ ap (λ n. n + 1) (effect-records s c.call (b zero c (omega arith)))
+    counted = ap (λ b. cond b 0 ((effect s c.call).records + 1)) stays ∙ ap (λ n. n + 1) (effect-records s c.call)
 
     by : (r : Ruling) → ruling s c ≡ r → replayed index r (replay (index + 1) (after s c) cs) ≡ Ok end → ((after s c).records ≤ RECORDS_MOST → replay (index + 1) (after s c) cs ≡ Ok end → (after s c).records + length cs ≤ RECORDS_MOST) → s.records + length (c ∷ cs) ≤ RECORDS_MOST
     by (Refused refusal) is k more = cc
@@ -97,10 +104,10 @@ finished_run requests few =
       shares = reached_shares requests;
     }
 
-pub finished : (commands : List Command) → AreBuilt commands → (s : State) → replay 1 opening commands ≡ Ok s → (told : List PoolEvent) → told ≡ events opening commands → IsFinished s told
-finished commands b s h told is =
+pub finished : (commands : List Command) → HaveNoRotation commands → (s : State) → replay 1 opening commands ≡ Ok s → (told : List PoolEvent) → told ≡ events opening commands → IsFinished s told
+finished commands none s h told is =
     let made = replay_runs s commands 1 opening h in
-    let count = replay_few s commands 1 opening b (omega arith) h in
+    let count = replay_few s commands 1 opening none (omega arith) h in
     let short : length (accepted opening (map Do commands)) ≤ RECORDS_MOST = subst (λ (cs : List Command). length cs ≤ RECORDS_MOST) (sym made.again) (omega (arith, count)) in
     let all = finished_run (map Do commands) short in
     subst (λ (es : List PoolEvent). IsFinished s es) (sym is)

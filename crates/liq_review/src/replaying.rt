@@ -1,11 +1,8 @@
 //! The replay of a list of commands, and what they do to the Stability Pool.
 
-ghost use Rattle.std.specs.Prelude.{◌≡◌, ◌<◌, ◌^◌, ◌++◌, All, IsTrue, IfOk, IfErr, OnOk};
-ghost use Rattle.liq_types.specs.declared.requests.Command.{Command};
-ghost use Rattle.liq_types.specs.declared.requests.Request.TheVariants.{Do};
+ghost use Rattle.std.specs.Prelude.{◌≡◌, ◌<◌, ◌^◌, ◌++◌, IfOk, IfErr, OnOk};
 ghost use Rattle.liq_types.specs.State.{State};
 ghost use Rattle.liq_core.specs.Core.{StandsFor};
-ghost use Rattle.liq_rules.specs.Step.{built};
 ghost use Rattle.liq_review.specs.Replaying.{PlansNext, MakesNext, IsReplayed, StopsWithin};
 
 use crate::fault::ReviewFault;
@@ -29,7 +26,6 @@ pub(crate) fn replayed<L: Ledger>(
     commands: &[Command],
     blank: Blank,
 ) -> Result<Made, ReviewFault>
-    requires built { All (λ (c : Command). IsTrue (built (Do c))) commands.now }
     requires name { blank.name ≡ L.name }
     requires parts { blank.parts ≡ L.parts }
     requires one { L.parts ≡ 1 }
@@ -64,7 +60,6 @@ fn make<L: Ledger>(
     index: u64,
     steps: &mut Steps<L>,
 ) -> Result<(), ReviewFault>
-    requires built { IsTrue (built (Do command.now)) }
     ensures { (s : State) → StandsFor protocol.old s → MakesNext s command.now index protocol.new events.old.items events.new.items result }
 {
     let planned = plan(protocol, command, index)?;
@@ -85,7 +80,6 @@ fn append(events: &mut Vec<PoolEvent>, more: &[PoolEvent]) -> Result<(), NoMemor
 
 /// Plans a command, which must be new and allowed.
 fn plan(protocol: &Protocol, command: &Command, index: u64) -> Result<Planned, ReviewFault>
-    requires built { IsTrue (built (Do command.now)) }
     ensures { (s : State) → StandsFor protocol.now s → PlansNext s command.now index result }
 {
     match protocol.plan(command) {

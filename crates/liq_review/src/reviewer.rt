@@ -1,15 +1,14 @@
 //! The review of a list of commands.
 
-ghost use Rattle.std.specs.Prelude.{◌≡◌, ◌⊎◌, ◌<◌, ◌^◌, ℕ, All, IsTrue, Ok, Err, Some, None, IfOk, IfErr, OnOk, count_by, length};
+ghost use Rattle.std.specs.Prelude.{◌≡◌, ◌⊎◌, ◌<◌, ◌^◌, ℕ, All, false, Ok, Err, Some, None, IfOk, IfErr, OnOk, count_by, length};
 ghost use Rattle.std.specs.List.{AllByRecursion};
 ghost use Rattle.liq_types.specs.declared.requests.Command.{Command};
-ghost use Rattle.liq_types.specs.declared.requests.Request.TheVariants.{Do};
 ghost use Rattle.liq_types.specs.PlainLedger.{gains_paid_to};
 ghost use Rattle.liq_types.specs.State.{State, opening};
 ghost use Rattle.liq_audit.specs.Auditable.{IsAuditable, EnclosesShare, limit_passed};
 ghost use Rattle.liq_core.specs.Core.{StandsFor};
 ghost use Rattle.liq_rules.specs.Events.{events};
-ghost use Rattle.liq_rules.specs.Step.{built};
+ghost use Rattle.liq_journal.specs.Written.{is_rotate};
 ghost use Rattle.liq_pairs.specs.Replay.{replay};
 ghost use Rattle.liq_review.specs.Engine.{Pays, rows_of};
 ghost use Rattle.liq_review.specs.Paid.{paid_table};
@@ -38,7 +37,8 @@ use std::sync::ledger::Blank;
 /// [`ReviewFault::Refused`] comes exactly where the replay does not accept a command, and [`ReviewFault::Limit`] exactly where
 /// it accepts all and a limit is passed, where there is memory.
 pub fn review(alloc: Global, commands: &[Command]) -> Result<Vec<u8>, ReviewFault>
-    requires built { All (λ (c : Command). IsTrue (built (Do c))) commands.now }
+    // The commands of one generation hold no rotation.
+    requires no_rotation { All (λ (c : Command). is_rotate c.call ≡ false) commands.now }
     ensures text { IfOk result (λ text. reviewed commands.now ≡ Ok text.items) }
     ensures fault { IfErr result (λ fault. (fault ≡ ReviewFault.NoMemory) ⊎ (reviewed commands.now ≡ Err fault)) }
 

@@ -1,10 +1,7 @@
 -- Lines that are no requests.
 use Rattle.std.proofs.Common.{◌≡◌, ℕ, ◌≤◌, List, ◌∷◌, ◌++◌, length, true, false, Ok, Result, Option, Some, None, [], append_assoc, append-nil, subst, ◌∙◌, ap, arith, length-append}
-use Rattle.std.specs.Prelude.{IsTrue}
 use Rattle.liq_types.specs.declared.requests.Request.{Request}
 use Rattle.liq_types.specs.declared.amounts.TheConstants.{LINE_BYTES}
-use Rattle.liq_rules.specs.Step.{built}
-use Rattle.liq_text.specs.Spelling.{Spells}
 use Rattle.liq_text.proofs.LineLengths.{request_short}
 use Rattle.liq_lines.specs.Lines.{lines_in, IsWithinLine}
 use Rattle.liq_lines.specs.Reading.{Reads, IsOver}
@@ -14,16 +11,9 @@ use Rattle.liq_lines.specs.Saying.{IsBadLine}
 use Rattle.liq_run.specs.Progress.{ReadsBad, with_end, without_end, too_long}
 use Rattle.liq_ends.specs.Requests.{IsRequest}
 
--- the only request that a line spells is not built
-pub bad_unbuilt : {E : Type 0} (line : List ℕ) (only : Request) (read : Result Request E) → read ≡ Ok only → ((q : Request) → Spells line q → read ≡ Ok q) → built only ≡ false → IsBadLine IsRequest line
-bad_unbuilt line only read is spelled unbuilt q h =
-    let same : q ≡ only = cc (is, spelled q h.0) in
-    let never : false ≡ true = subst (λ b. IsTrue b) (ap built same ∙ unbuilt) h.1 in
-    cc
-
 -- a line of more than 200 bytes
 bad_long : (line : List ℕ) → 201 ≤ length line → IsBadLine IsRequest line
-bad_long line long q h = omega (arith, long, request_short line q h.0)
+bad_long line long q h = omega (arith, long, request_short line q h)
 
 -- the first line of what is unread, where it goes on past its limit
 bad_too_long : (line : List ℕ) (byte : ℕ) (after : Option (List ℕ)) (bytes : List ℕ) → IsWithinLine line → (byte ≡ 10 → ⊥) → length line ≡ LINE_BYTES → Reads (Some bytes) (line ++ byte ∷ []) after → (first : List ℕ) × IsBadLine IsRequest first × ((more : List (List ℕ)) × (lines_in bytes ≡ first ∷ more))

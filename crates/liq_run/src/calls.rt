@@ -1,9 +1,8 @@
 //! One request after another, as the store answers them.
 
-ghost use Rattle.std.specs.Prelude.{◌≡◌, ◌≢◌, [], Some, None, Err, List, ℕ, IsTrue};
+ghost use Rattle.std.specs.Prelude.{◌≡◌, ◌≢◌, [], Some, None, Err, List, ℕ};
 ghost use Rattle.liq_types.specs.State.{State};
 ghost use Rattle.liq_core.specs.Core.{StandsFor};
-ghost use Rattle.liq_rules.specs.Step.{built};
 ghost use Rattle.liq_ends.specs.Causes.{DiskCause};
 ghost use Rattle.liq_run.specs.Calls.{Calls, IsCommand, IsStopped, KeepsAround};
 
@@ -15,7 +14,6 @@ use liq_types::{Answer, Hint, Reply, Request};
 
 /// Makes the request's step, and gives its reply.
 pub fn call<D: Disk>(store: &mut Store<D>, request: &Request) -> Result<Reply, Halt>
-    requires built { IsTrue (built request.now) }
     requires going { store.old.stopped ≡ None }
     ensures call { (s : State) → StandsFor store.old.core s → Calls s request.now result store.new.core }
     ensures no_source { result ≢ Err Halt.ReadFault }

@@ -6,7 +6,6 @@ ghost use Rattle.liq_types.specs.declared.amounts.TheConstants.{LINE_BYTES, LINE
 ghost use Rattle.liq_run.specs.declared.waiting.TheConstants.{WAITING_MOST};
 ghost use Rattle.liq_run.specs.Calls.{IsStopped, KeepsAround};
 ghost use Rattle.liq_run.specs.Progress.{RequestOn, ReadsRequest, Answered, Answers, Turns, Comes, Ends, GivesBack};
-ghost use Rattle.liq_rules.specs.Step.{built};
 ghost use Rattle.liq_core.specs.Core.{StandsFor};
 ghost use Rattle.liq_journal.specs.declared.damage.Damage.{Damage};
 ghost use Rattle.liq_pairs.specs.declared.side.Side.{Side};
@@ -21,7 +20,6 @@ ghost use Rattle.liq_ends.specs.Disks.{EndsDamaged};
 
 use crate::calls::call;
 use crate::waiting::{WAITING_MOST, catch_up, flush, keep, make_way};
-use liq_core::is_built;
 use liq_ends::{Ending, Halt, unopened};
 use liq_lines::{LINE_END, LineEnd, Reader};
 use liq_outside::{Disk, Failed, Sink, Source};
@@ -72,8 +70,8 @@ fn request_on(line: &[u8], number: u64) -> Result<Request, Halt>
     ensures { RequestOn line.now number result }
 {
     match read_line(line) {
-        Ok(request) if is_built(&request) => Ok(request),
-        _ => Err(Halt::BadLine(number)),
+        Ok(request) => Ok(request),
+        Err(_) => Err(Halt::BadLine(number)),
     }
 }
 
@@ -286,7 +284,6 @@ impl<D: Disk> Run<D> {
 
     /// Makes the request's step, and keeps its reply until it is written. Before a command's step all other replies are written.
     fn answer<K: Sink>(&mut self, request: &Request, out: &mut K) -> Result<(), Halt>
-        requires built { IsTrue (built request.now) }
         requires going { self.old.store.stopped ≡ None }
         ensures answer { (s : State) → StandsFor self.old.store.core s
             → Answers s request.now result self.new.store.core self.old.waiting.items self.new.waiting.items (K.held out.old) (K.held out.new) }

@@ -13,7 +13,6 @@ ghost use Rattle.liq_scripts.specs.Progress.{HasGathered, Goes, Keeps, Comes};
 ghost use Rattle.std.specs.List.{AllZip};
 
 use crate::scripts::{add, blank};
-use liq_core::is_built;
 use liq_lines::{LineEnd, Reader, Stop};
 use liq_outside::{Failed, Source};
 use liq_sessions::Script;
@@ -126,10 +125,10 @@ fn keep(line: &[u8], number: u64, scripts: &mut Vec<Script>) -> Result<(), Stop>
     ensures eight { vec_len scripts.new ≡ SESSIONS }
 {
     match read_session_line(line) {
-        Ok((session, request)) if is_built(&request) => {
+        Ok((session, request)) => {
             add(scripts, session, request)?;
             Ok(())
         }
-        _ => Err(Stop::BadLine(number)),
+        Err(_) => Err(Stop::BadLine(number)),
     }
 }

@@ -1,12 +1,10 @@
 //! What each depositor has beside its exact share, told of the commands on two disks.
 
-ghost use Rattle.std.specs.Prelude.{◌≡◌, ◌≢◌, ◌≤◌, ◌⊎◌, All, List, ℕ, Some, None, Ok, Err, IfOk, IfErr, IsSome, IsTrue};
+ghost use Rattle.std.specs.Prelude.{◌≡◌, ◌≢◌, ◌≤◌, ◌⊎◌, All, List, ℕ, Some, None, Ok, Err, IfOk, IfErr, IsSome, false};
 ghost use Rattle.liq_types.specs.declared.requests.Command.{Command};
-ghost use Rattle.liq_types.specs.declared.requests.Request.TheVariants.{Do};
 ghost use Rattle.liq_types.specs.State.{State, opening};
 ghost use Rattle.liq_core.specs.Core.{StandsFor};
-ghost use Rattle.liq_rules.specs.Step.{built};
-ghost use Rattle.liq_journal.specs.Written.{Open, Written, found_on};
+ghost use Rattle.liq_journal.specs.Written.{Open, Written, found_on, is_rotate};
 ghost use Rattle.liq_pairs.specs.declared.side.Side.{Side};
 ghost use Rattle.liq_pairs.specs.Replay.{replay};
 ghost use Rattle.liq_pairs.specs.Sides.{has_odd};
@@ -58,7 +56,7 @@ fn kept_commands<D: Disk>(store: &mut Store<D>, side: Side) -> Result<Vec<Comman
     requires going { store.old.stopped ≡ None }
     ensures commands { (held : List ℕ) (w : Written) → D.seen (taken_disk store.old) ≡ Some held → found_on (has_odd store.old.side) held ≡ Open w
         → IfOk result (λ commands. commands.items ≡ w.commands) }
-    ensures built { IfOk result (λ commands. All (λ (c : Command). IsTrue (built (Do c))) commands.items) }
+    ensures no_rotation { IfOk result (λ commands. All (λ (c : Command). is_rotate c.call ≡ false) commands.items) }
     // Where the disk tells its bytes no record is unreadable.
     ensures fault { IsSome (D.seen (taken_disk store.old)) → IfErr result (λ halt. (halt ≡ Halt.NoMemory) ⊎ (halt ≡ Halt.DiskFault)) }
     // A record that is none is told as damage of the disk of this side, at its number.
@@ -84,7 +82,7 @@ fn write_review<K: Sink>(
     side: Side,
     out: &mut K,
 ) -> Result<(), Halt>
-    requires { All (λ (c : Command). IsTrue (built (Do c))) commands.now }
+    requires { All (λ (c : Command). is_rotate c.call ≡ false) commands.now }
     ensures written { (s : State) → replay 1 opening commands.now ≡ Ok s
         → WritesText (reviewed commands.now) result (K.held out.old) (K.held out.new) × AuditHolds result s commands.now }
     ensures no_disk { result ≢ Err Halt.DiskFault }

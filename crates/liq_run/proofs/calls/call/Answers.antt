@@ -15,10 +15,11 @@ pub returns-in-DiskFault-clause-kept : goal.returns-in-DiskFault-clause-kept
 returns-in-DiskFault-clause-kept g c fault s stands =
     let old = c.args.store.now in
     let new = c.call-answer.new.self in
+    let disks = c.call-answer.ensures.disks in
     subst (λ (o : Stored g.row.D.Denot). KeepsAround g.D.Disk.seen o.left o.right s c.args.request.now) (sym c.clear_changes.ensures.cleared)
-    (read_so g.D.Disk.seen g.D.Disk.moment g.D.Disk.left_at old.side new.side old.left old.right new.left new.right (IsKeptAround s c.args.request.now)
-    c.call-answer.ensures.side c.call-answer.ensures.time c.call-answer.ensures.telling c.call-answer.ensures.beside g.met.D.Disk.seen_may_stay
-    (λ l r told_l told_r. c.call-answer.ensures.kept c.requires.going l r s told_l told_r stands))
+    (read_so g.D.Disk.seen g.D.Disk.moment g.D.Disk.left_at old.left old.right new.left new.right (IsKeptAround s c.args.request.now)
+    disks.left_time disks.right_time disks.left_telling disks.right_telling g.met.D.Disk.seen_may_stay
+    (λ l r told_l told_r. disks.kept c.requires.going l r s told_l told_r stands))
 
 pub returns-in-DiskFault-clause-command : goal.returns-in-DiskFault-clause-command
 returns-in-DiskFault-clause-command g c fault =

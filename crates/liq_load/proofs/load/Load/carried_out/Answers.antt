@@ -7,7 +7,6 @@ use Rattle.liq_types.specs.State.{no_client}
 use Rattle.liq_types.specs.Tables.{at}
 use Rattle.liq_sessions.specs.Generated.{generated}
 use Rattle.liq_load.specs.Carrying.{none_yet}
-use Rattle.liq_load.proofs.BuiltLoads.{AreBuilt, generated_built}
 use Rattle.liq_load.proofs.Loads.{Underway, begun, gone_on, come_to_end, some_left, none_left, within_more}
 use Rattle.liq_load.proofs.load.Load.carried_out.Goals as goal
 
@@ -17,16 +16,11 @@ loop-call-init g c =
     let calls_are = sym c.generate-calls.ensures.calls in
     record {
       underway = subst (λ (calls : List Call). Underway c.new.result none_yet calls all) calls_are (begun c.new.result all c.new.ensures);
-      built = subst AreBuilt calls_are (generated_built c.args.seed c.args.count);
       made = 0;
       made_is = omega (arith, c.generate-calls.ensures.many);
       few = record { commands = omega arith; offsets = omega arith };
       numbered = ap (λ (i : Image). (unwrap_or (at i.clients 1) no_client).last) c.new.ensures.image;
     }
-
-pub carry_out-requires-clause-built : goal.carry_out-requires-clause-built
-carry_out-requires-clause-built g c =
-    (subst AreBuilt (some_left c.loop-call.calls c.in-Some.call c.in-Some.ensures.first) c.loop-call.invariant.built).0
 
 pub carry_out-requires-clause-few : goal.carry_out-requires-clause-few
 carry_out-requires-clause-few g c =
@@ -42,7 +36,6 @@ loop-call-preserved g c =
     let done = c.in_ok-carry_out.ensures.done u.now u.stands in
     record {
       underway = gone_on c.loop-call.done.protocol c.carry_out.new.self.protocol c.loop-call.done.counts c.carry_out.new.self.counts c.in-Some.call c.next.new.self all u done.0 done.1;
-      built = (subst AreBuilt calls_are i.built).1;
       made = i.made + 1;
       made_is = omega (arith, i.made_is, ap length calls_are);
       few = c.carry_out.ensures.few i.made i.few;

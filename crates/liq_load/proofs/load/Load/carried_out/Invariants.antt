@@ -1,14 +1,12 @@
 use Rattle.std.proofs.Common.{ℕ, ◌≡◌, ◌+◌, length}
 use Rattle.liq_sessions.specs.Generated.{generated, PREAMBLE}
 use Rattle.liq_load.specs.Carrying.{AreWithin, IsNumbered}
-use Rattle.liq_load.proofs.BuiltLoads.{AreBuilt}
 use Rattle.liq_load.proofs.Loads.{Underway}
 use Rattle.liq_load.proofs.load.Load.carried_out.Given as goal
 
 abbrev pub invariant-loop-call : goal.invariant-loop-call
 invariant-loop-call g l = record {
   underway : Underway l.done.protocol l.done.counts l.calls (generated l.seed l.count);
-  built : AreBuilt l.calls;
   made : ℕ;
   made_is : made + length l.calls ≡ PREAMBLE + l.count;
   few : AreWithin made l.done.counts;
