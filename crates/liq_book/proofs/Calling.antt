@@ -1,6 +1,5 @@
 -- What a call of the store leaves of a book.
 use Rattle.std.proofs.Common.{◌≡◌, ℕ, ◌+◌, ◌≤◌, ◌<◌, List, [], ◌∷◌, ◌++◌, map, length, Option, Some, None, Bool, ◌==◌, sym, refl, ap, ◌∙◌, subst, arith, length-append}
-use Rattle.std.specs.Prelude.{◌↔◌, IsSome}
 use Rattle.std.specs.Option.{IsSomeAnd, option_map}
 use Rattle.std.proofs.lemmas.List.{length-map, map-append}
 use Rattle.std.proofs.lemmas.List.Sums.{count_by-le-length, length-filter}
@@ -15,14 +14,12 @@ use Rattle.liq_core.specs.Core.{StandsFor}
 use Rattle.liq_rules.specs.History as history
 use Rattle.liq_rules.specs.History.{IsLegal, own_entries, state_after}
 use Rattle.liq_rules.proofs.Histories.{legal-empty, legal-snoc, state-snoc}
-use Rattle.liq_pairs.specs.declared.side.Side.{Side}
-use Rattle.liq_pairs.specs.declared.side.Side.TheVariants.{Left, Right}
-use Rattle.liq_pairs.specs.Sides.{beside, on}
 use Rattle.liq_pairs.proofs.Keeping.{settled_kept}
 use Rattle.liq_store.specs.Answering.{Answers}
+use Rattle.liq_store.specs.Calling.{WritesOn}
 use Rattle.liq_store.specs.Causes.{CausesAnswer, Faults, stopped_after}
-use Rattle.liq_store.specs.Keeping.{IsInOrder, IsInOrderWith, IsKeptAround, LeavesPairs}
-use Rattle.liq_store.specs.Stored.{Stored, disk_beside, taken_disk}
+use Rattle.liq_store.specs.Keeping.{IsInOrder, IsInOrderWith}
+use Rattle.liq_store.specs.Stored.{Stored}
 use Rattle.liq_types.specs.declared.entries.Entry.{Entry}
 use Rattle.liq_book.specs.declared.items.Halt.{Halt}
 use Rattle.liq_book.specs.declared.items.TheConstants.{ENTRIES_MOST}
@@ -57,21 +54,6 @@ module _ {D : Type 0} (seen : D → Option (List ℕ)) (faults : D → ℕ) (mom
   abbrev pub faults_in : Stored D → Faults
   faults_in store = record { left = faults store.left; right = faults store.right }
 
-  pub stays_on : (disk : D) → GoesOn moment left_at disk disk
-  stays_on disk = record { later = omega arith; past = λ k image early there. there; kept = λ k image early there. there }
-
-  -- of two disks one went on and the other stayed, so both went on
-  pub both_go_on : (side : Side) (l r l' r' : D) → GoesOn moment left_at (on side l r) (on side l' r') → beside side l' r' ≡ beside side l r
-      → GoesOn moment left_at l l' × GoesOn moment left_at r r'
-  both_go_on Left l r l' r' time same = (time, rw same (stays_on r))
-  both_go_on Right l r l' r' time same = (rw same (stays_on l), time)
-
-  -- and what both tell afterwards both told before
-  pub both_told : (side : Side) (l r l' r' : D) → (IsSome (seen (on side l' r')) → IsSome (seen (on side l r))) → beside side l' r' ≡ beside side l r
-      → (IsSome (seen l') → IsSome (seen l)) × (IsSome (seen r') → IsSome (seen r))
-  both_told Left l r l' r' told same = (told, λ now. rw (← same) now)
-  both_told Right l r l' r' told same = (λ now. rw (← same) now, told)
-
   pub goes_from : (origin : DiskAt) (old new : D) → GoesOnFrom origin moment left_at old → GoesOn moment left_at old new → GoesOnFrom origin moment left_at new
   goes_from origin old new from on = record {
     later = omega (arith, from.later, on.later);
@@ -85,16 +67,8 @@ module _ {D : Type 0} (seen : D → Option (List ℕ)) (faults : D → ℕ) (mom
     pub step_is : old.stopped ≡ None → (s : State) → StandsFor old.core s → Answers s request a new.core
     pub stops : new.stopped ≡ stopped_after old.stopped a (faults_in new)
     pub cause : CausesAnswer a (faults_in old) (faults_in new)
-    pub side : new.side ≡ old.side
-    pub aside : disk_beside new ≡ disk_beside old
-    pub around : old.stopped ≡ None → (l r : List ℕ) (s : State) → seen old.left ≡ Some l → seen old.right ≡ Some r → StandsFor old.core s
-        → LeavesPairs moment left_at old.left old.right new.left new.right (IsKeptAround s request)
+    pub disks : WritesOn seen moment left_at old request a new
     pub order : IsInOrder seen moment left_at new
-    pub telling : IsSome (seen (taken_disk new)) ↔ IsSome (seen (taken_disk old))
-    pub time : GoesOn moment left_at (taken_disk old) (taken_disk new)
-
-  pub disks_go_on : (old new : Stored D) (request : Request) (a : Answer) → Calls old request a new → GoesOn moment left_at old.left new.left × GoesOn moment left_at old.right new.right
-  disks_go_on old new request a c = both_go_on old.side old.left old.right new.left new.right (rw c.side at c.time) (rw c.side at c.aside)
 
   -- a store that goes on keeps its disks for its state
   pub going_keeps : (store : Stored D) (s : State) → IsInOrder seen moment left_at store → store.stopped ≡ None → StandsFor store.core s → KeepsDisks seen moment left_at None s store
@@ -150,7 +124,6 @@ module _ {D : Type 0} (seen : D → Option (List ℕ)) (faults : D → ℕ) (mom
         let all : map recorded (entries ++ e ∷ []) ≡ map recorded entries ++ recorded e ∷ [] = map-append recorded entries (e ∷ []) in
         let stands : StandsFor new.core (state_after base (map recorded (entries ++ e ∷ []))) = rw (all, state-snoc base (map recorded entries) (recorded e)) step.0 in
         let still : new.stopped ≡ None = c.stops ∙ going in
-        let disks = disks_go_on old new request (answer.Reply reply) c in
         subst (λ (h : Option Halt). Booking new (entries ++ e ∷ []) h) (sym none) (record {
           few = omega (arith, length-append entries (e ∷ []), few);
           legal = rw all (legal-snoc base (map recorded entries) (recorded e) b.legal (record { reply_is = sym step.1; index_is = ap (λ n. n + 1) (sym counted) }));
@@ -158,8 +131,8 @@ module _ {D : Type 0} (seen : D → Option (List ℕ)) (faults : D → ℕ) (mom
           halt = still;
           keeps = going_keeps new (state_after base (map recorded (entries ++ e ∷ []))) c.order still stands;
           cause = c.cause ∙ (rw none at b.cause);
-          left = goes_from left_origin old.left new.left b.left disks.0;
-          right = goes_from right_origin old.right new.right b.right disks.1;
+          left = goes_from left_origin old.left new.left b.left c.disks.left_time;
+          right = goes_from right_origin old.right new.right b.right c.disks.right_time;
         })
 
     -- without memory nothing happened
@@ -170,7 +143,6 @@ module _ {D : Type 0} (seen : D → Option (List ℕ)) (faults : D → ℕ) (mom
         let none : halt ≡ None = no_halt halt old.stopped b.halt going in
         let stands = (c.step_is going s b.state).0 in
         let still : new.stopped ≡ None = c.stops ∙ going in
-        let disks = disks_go_on old new request answer.NoMemory c in
         subst (λ (h : Option Halt). Booking new entries h) (sym none) (record {
           few = b.few;
           legal = b.legal;
@@ -178,8 +150,8 @@ module _ {D : Type 0} (seen : D → Option (List ℕ)) (faults : D → ℕ) (mom
           halt = still;
           keeps = going_keeps new s c.order still stands;
           cause = c.cause ∙ (rw none at b.cause);
-          left = goes_from left_origin old.left new.left b.left disks.0;
-          right = goes_from right_origin old.right new.right b.right disks.1;
+          left = goes_from left_origin old.left new.left b.left c.disks.left_time;
+          right = goes_from right_origin old.right new.right b.right c.disks.right_time;
         })
 
     -- a fault of a disk is the halt
@@ -191,23 +163,22 @@ module _ {D : Type 0} (seen : D → Option (List ℕ)) (faults : D → ℕ) (mom
         let s : State = state_after base (map recorded entries) in
         let none : halt ≡ None = no_halt halt old.stopped b.halt going in
         let stands = (c.step_is going s b.state).0 in
-        let disks = disks_go_on old new request answer.DiskFault c in
-        let told = both_told old.side old.left old.right new.left new.right (rw c.side at c.telling.0) (rw c.side at c.aside) in
         record {
           few = b.few;
           legal = b.legal;
           state = stands;
           halt = stopped;
           keeps = λ l r told_left told_right.
-              let before_left = value_of (seen old.left) (told.0 (rw told_left refl)) in
-              let before_right = value_of (seen old.right) (told.1 (rw told_right refl)) in
-              let around = c.around going before_left.0 before_right.0 s before_left.1 before_right.1 b.state in
+              let before_left = value_of (seen old.left) (c.disks.left_telling.0 (rw told_left refl)) in
+              let before_right = value_of (seen old.right) (c.disks.right_telling.0 (rw told_right refl)) in
+              let around = c.disks.kept going before_left.0 before_right.0 s before_left.1 before_right.1 b.state in
               let now = λ (a b : List ℕ) (in_left : LeftNow moment left_at new.left a) (in_right : LeftNow moment left_at new.right b).
-              around a b (moment new.left, disks.0.later, omega arith, in_left) (moment new.right, disks.1.later, omega arith, in_right) in
+              around a b (moment new.left, c.disks.left_time.later, omega arith, in_left)
+              (moment new.right, c.disks.right_time.later, omega arith, in_right) in
               (now l r (may_stay new.left l told_left) (may_stay new.right r told_right), now);
           cause = rw (rw none at b.cause) at c.cause;
-          left = goes_from left_origin old.left new.left b.left disks.0;
-          right = goes_from right_origin old.right new.right b.right disks.1;
+          left = goes_from left_origin old.left new.left b.left c.disks.left_time;
+          right = goes_from right_origin old.right new.right b.right c.disks.right_time;
         }
 
     -- any other answer leaves the book as it was

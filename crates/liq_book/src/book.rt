@@ -11,7 +11,6 @@ ghost use Rattle.liq_book.specs.Items.{chronicle};
 use crate::items::{ENTRIES_MOST, Halt};
 use crate::origin::Origin;
 use crate::service::Closed;
-use liq_core::is_built;
 use liq_core::laws::protocols_are_sound;
 use liq_outside::Disk;
 use liq_store::Store;
@@ -169,8 +168,7 @@ impl<D: Disk, O: Origin> Book<D, O> {
             let entries = ENTRIES_MOST as u64;
             return Answer::HistoryFull { entries };
         }
-        // Until it is built, a rotation is told like want of memory: nothing is asked of the store, and nothing changes.
-        if !is_built(request) || self.entries.try_reserve(1).is_err() {
+        if self.entries.try_reserve(1).is_err() {
             return Answer::NoMemory;
         }
         forget_opening(&mut self.store, self.entries.as_slice());

@@ -21,7 +21,14 @@ invariant_of-self-in-Reply g c =
     rw (c.push_reserved.ensures.items, c.try_reserve.ensures.items) (
       enters _ _ _ _ _ _ _ _ _ _ _ _ _ _ _
           book (omega (arith, c.if-len-eq-ENTRIES_MOST.false, c.len.ensures, c.self.invariant.0.few, c.self.inside.entries.ok.0)) (rw (← c.self.view_is) at c.requires.calls) going
-          (record { stopped = c.in-Reply.ensures.stopped; step_is = c.in-Reply.ensures.step; stops = c.in-Reply.ensures.stops; cause = c.in-Reply.ensures.cause; side = c.in-Reply.ensures.side; aside = c.in-Reply.ensures.beside; around = c.in-Reply.ensures.kept; order = c.in-Reply.ensures.order; telling = c.in-Reply.ensures.telling; time = c.in-Reply.ensures.time }),
+          (record {
+            stopped = c.in-Reply.ensures.stopped;
+            step_is = c.in-Reply.ensures.step;
+            stops = c.in-Reply.ensures.stops;
+            cause = c.in-Reply.ensures.cause;
+            disks = c.in-Reply.ensures.disks;
+            order = c.in-Reply.ensures.order;
+          }),
       entry_more _ c.forget_opening.new.store _ _ _ c.self.inside.halt _ _ _ (nothing_more _ _ c.forget_opening.new.store _ _ c.self.inside.halt _ _ c.self.invariant.1 (rw (c.as_slice.ensures.value, c.try_reserve.ensures.items) at c.forget_opening.ensures.changes))
           (subst (λ (core : Core). IsSoundImage core.image core.records) c.protocol.ensures c.protocols_are_sound.ensures) book.state (c.in-Reply.ensures.told _ book.state),
     )
@@ -35,7 +42,14 @@ invariant_of-self-in-DiskFault g c =
     let halt = c.halt_by-self-inside.ensures ∙ ap (option_map (λ sum. record { session = c.args.session; request = c.args.request.now; faults = sum })) (c.stopped.ensures.sum ∙ stopped) in
     rw (c.try_reserve.ensures.items, halt) (
       halts _ _ _ _ _ _ _ g.met.D.Disk.seen_may_stay _ _ _ _ c.args.request.now c.args.session sum book going
-          (record { stopped = c.in-DiskFault.ensures.stopped; step_is = c.in-DiskFault.ensures.step; stops = c.in-DiskFault.ensures.stops; cause = c.in-DiskFault.ensures.cause; side = c.in-DiskFault.ensures.side; aside = c.in-DiskFault.ensures.beside; around = c.in-DiskFault.ensures.kept; order = c.in-DiskFault.ensures.order; telling = c.in-DiskFault.ensures.telling; time = c.in-DiskFault.ensures.time }) stopped,
+          (record {
+            stopped = c.in-DiskFault.ensures.stopped;
+            step_is = c.in-DiskFault.ensures.step;
+            stops = c.in-DiskFault.ensures.stops;
+            cause = c.in-DiskFault.ensures.cause;
+            disks = c.in-DiskFault.ensures.disks;
+            order = c.in-DiskFault.ensures.order;
+          }) stopped,
       nothing_more _ c.forget_opening.new.store c.call.new.self _ c.self.inside.halt _ _ _ (nothing_more _ _ c.forget_opening.new.store _ _ c.self.inside.halt _ _ c.self.invariant.1 (rw (c.as_slice.ensures.value, c.try_reserve.ensures.items) at c.forget_opening.ensures.changes))
           (inl (nothing_told c.forget_opening.new.store c.call.new.self (state_of_book g.O.Origin.state (record { store = c.forget_opening.new.store; entries = c.self.inside.entries.items; halt = c.self.inside.halt })) c.args.request.now answer.DiskFault (λ reply is. cc) (c.in-DiskFault.ensures.told _ book.state))),
     )
@@ -45,7 +59,14 @@ invariant_of-self-in_default g c =
     let book = forgets _ _ _ _ _ _ _ _ _ _ _ _ c.forget_opening.ensures.store c.self.invariant.0 in
     rw c.try_reserve.ensures.items (
       others _ _ _ _ _ _ _ _ _ _ _ c.args.request.now c.call.result
-          book (record { stopped = c.call.ensures.stopped; step_is = c.call.ensures.step; stops = c.call.ensures.stops; cause = c.call.ensures.cause; side = c.call.ensures.side; aside = c.call.ensures.beside; around = c.call.ensures.kept; order = c.call.ensures.order; telling = c.call.ensures.telling; time = c.call.ensures.time }) c.in_default.not-Reply c.in_default.not-DiskFault,
+          book (record {
+            stopped = c.call.ensures.stopped;
+            step_is = c.call.ensures.step;
+            stops = c.call.ensures.stops;
+            cause = c.call.ensures.cause;
+            disks = c.call.ensures.disks;
+            order = c.call.ensures.order;
+          }) c.in_default.not-Reply c.in_default.not-DiskFault,
       nothing_more _ c.forget_opening.new.store c.call.new.self _ c.self.inside.halt _ _ _ (nothing_more _ _ c.forget_opening.new.store _ _ c.self.inside.halt _ _ c.self.invariant.1 (rw (c.as_slice.ensures.value, c.try_reserve.ensures.items) at c.forget_opening.ensures.changes))
           (inl (nothing_told c.forget_opening.new.store c.call.new.self (state_of_book g.O.Origin.state (record { store = c.forget_opening.new.store; entries = c.self.inside.entries.items; halt = c.self.inside.halt })) c.args.request.now c.call.result c.in_default.not-Reply (c.call.ensures.told _ book.state))),
     )
@@ -72,5 +93,17 @@ returns-in-DiskFault-clause-enters g c =
 pub returns-in_default : goal.returns-in_default
 returns-in_default g c =
     let book = forgets _ _ _ _ _ _ _ _ _ _ _ _ c.forget_opening.ensures.store c.self.invariant.0 in
-    let says = others_answer _ _ _ _ _ _ _ c.self.inside.store _ c.call.new.self _ _ c.args.request.now c.call.result c.args.session c.args.calls book (record { stopped = c.call.ensures.stopped; step_is = c.call.ensures.step; stops = c.call.ensures.stops; cause = c.call.ensures.cause; side = c.call.ensures.side; aside = c.call.ensures.beside; around = c.call.ensures.kept; order = c.call.ensures.order; telling = c.call.ensures.telling; time = c.call.ensures.time }) (omega (arith, c.if-len-eq-ENTRIES_MOST.false, c.len.ensures, c.self.invariant.0.few, c.self.inside.entries.ok.0)) c.in_default.not-Reply c.in_default.not-DiskFault in
+    let says =
+    others_answer _ _ _ _ _ _ _ c.self.inside.store _ c.call.new.self _ _
+    c.args.request.now c.call.result c.args.session c.args.calls book
+    (record {
+      stopped = c.call.ensures.stopped;
+      step_is = c.call.ensures.step;
+      stops = c.call.ensures.stops;
+      cause = c.call.ensures.cause;
+      disks = c.call.ensures.disks;
+      order = c.call.ensures.order;
+    })
+    (omega (arith, c.if-len-eq-ENTRIES_MOST.false, c.len.ensures, c.self.invariant.0.few, c.self.inside.entries.ok.0))
+    c.in_default.not-Reply c.in_default.not-DiskFault in
     rw (← c.self.view_is, c.try_reserve.ensures.items) (record { enters = says.0; first = says.1; legal = book.legal; few = book.few })
