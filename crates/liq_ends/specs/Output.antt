@@ -8,7 +8,7 @@ use Rattle.liq_text.specs.Replies.{reply_line}
 use Rattle.liq_pairs.specs.declared.side.Side.TheVariants.{Left, Right}
 use Rattle.liq_ends.specs.declared.halts.Halt.{Halt}
 use Rattle.liq_ends.specs.declared.halts.Halt.TheVariants.{BadLine, ReadFault, WriteFault}
-use Rattle.liq_ends.specs.declared.halts.Halt.TheVariants.{DiskFault, Damaged, NoMemory, Limit}
+use Rattle.liq_ends.specs.declared.halts.Halt.TheVariants.{DiskFault, Damaged, NoMemory, Limit, Rotated}
 
 -- the replies to a list of requests from a state on, each on a line
 abbrev pub lines : State → List Request → List ℕ
@@ -24,6 +24,7 @@ last (Damaged Left number) = codes "damaged left " ++ decimal number ++ 10 ∷ [
 last (Damaged Right number) = codes "damaged right " ++ decimal number ++ 10 ∷ []
 last NoMemory = codes "no memory" ++ 10 ∷ []
 last (Limit number) = codes "limit " ++ decimal number ++ 10 ∷ []
+last (Rotated generation) = codes "rotated " ++ decimal generation ++ 10 ∷ []
 
 -- what is written where the words are not understood
 abbrev pub usage : List ℕ

@@ -11,7 +11,7 @@ use Rattle.liq_rules.specs.Image.{IsSameState}
 use Rattle.liq_rules.specs.Step.{run, accepted}
 use Rattle.liq_ends.specs.declared.halts.Halt.{Halt}
 use Rattle.liq_ends.specs.declared.halts.Halt.TheVariants.{BadLine, ReadFault, WriteFault}
-use Rattle.liq_ends.specs.declared.halts.Halt.TheVariants.{DiskFault, Damaged, NoMemory, Limit}
+use Rattle.liq_ends.specs.declared.halts.Halt.TheVariants.{DiskFault, Damaged, NoMemory, Limit, Rotated}
 use Rattle.liq_ends.specs.Disks.{DisksHold, IsUnread}
 use Rattle.liq_ends.specs.Output.{last, lines}
 use Rattle.liq_ends.specs.Requests.{IsNext, IsRequest}
@@ -38,6 +38,8 @@ EndsAfter start (Err (BadLine n)) bytes left requests = StopsAfter IsRequest (st
 EndsAfter start (Err ReadFault) bytes left requests = StopsAfter IsRequest stop.ReadFault bytes left requests
 -- a run over damaged disks begins nowhere
 EndsAfter start (Err (Damaged side number)) bytes left requests = ⊥
+-- and a run goes on in whatever generation
+EndsAfter start (Err (Rotated generation)) bytes left requests = ⊥
 -- memory is asked for before a line is read, and then only for a command that is allowed or plans a list
 EndsAfter start (Err NoMemory) bytes left requests =
     ((more : List (List ℕ)) × BeginsWith IsRequest bytes requests more)

@@ -51,6 +51,7 @@ pub fn status(end: &Result<(), Halt>) -> u8
         Err(Halt::Damaged(..)) => 6,
         Err(Halt::NoMemory) => 7,
         Err(Halt::Limit(_)) => 8,
+        Err(Halt::Rotated(_)) => 9,
     }
 }
 
@@ -67,6 +68,7 @@ pub fn write_last<K: Sink>(out: &mut K, halt: Halt)
         Halt::Damaged(side, number) => write_damaged(out, side, u128::from(number)),
         Halt::NoMemory => write_all(out, b"no memory\n"),
         Halt::Limit(number) => write_numbered(out, b"limit ", number),
+        Halt::Rotated(generation) => write_numbered(out, b"rotated ", u128::from(generation)),
     };
 }
 

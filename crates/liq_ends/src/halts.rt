@@ -23,6 +23,8 @@ pub enum Halt {
     NoMemory,
     /// This number of lines is all that one run answers, and there are more; or a number above a limit of the audit.
     Limit(u128),
+    /// The journal is of this generation, above the first, so that the commands before it are gone.
+    Rotated(u64),
 }
 
 impl From<NoMemory> for Halt {

@@ -4,7 +4,7 @@ use Rattle.liq_types.specs.State.{State}
 use Rattle.liq_types.specs.declared.requests.Request.{Request}
 use Rattle.liq_core.specs.Core.{Core}
 use Rattle.liq_ends.specs.declared.halts.Halt.{Halt}
-use Rattle.liq_ends.specs.declared.halts.Halt.TheVariants.{BadLine, ReadFault, WriteFault, DiskFault, Damaged, NoMemory, Limit}
+use Rattle.liq_ends.specs.declared.halts.Halt.TheVariants.{BadLine, ReadFault, WriteFault, DiskFault, Damaged, NoMemory, Limit, Rotated}
 use Rattle.liq_ends.specs.Output.{lines}
 use Rattle.liq_run.specs.Progress.{Ends, Comes, Written}
 use Rattle.liq_lines.specs.Writing.{Writes}
@@ -26,6 +26,7 @@ waited start core kept (Err NoMemory) bytes left w before now other h = h.writte
 waited start core kept (Err DiskFault) bytes left w before now other h = h.written
 waited start core kept (Err (Damaged side number)) bytes left w before now other h = h.written
 waited start core kept (Err (Limit number)) bytes left w before now other h = h.written
+waited start core kept (Err (Rotated generation)) bytes left w before now other h = h.written
 
 pub closing_cut : (start : State) (core : Core) (kept : State → Request → Type 0) (end : Result (Unit {0}) Halt) (halt : Halt) (bytes : List ℕ) (left : Option (List ℕ)) (w w' : List ℕ) (before now after : Option (List ℕ)) → (end ≡ Err WriteFault → ⊥) → Comes start end core kept bytes left w before now → WritesFront (Err halt) w w' now after → Ends start (Err halt) core kept bytes left before after
 closing_cut start core kept end (BadLine n) bytes left w w' before now after other h f = absurd f
@@ -34,6 +35,7 @@ closing_cut start core kept end NoMemory bytes left w w' before now after other 
 closing_cut start core kept end DiskFault bytes left w w' before now after other h f = absurd f
 closing_cut start core kept end (Damaged side number) bytes left w w' before now after other h f = absurd f
 closing_cut start core kept end (Limit number) bytes left w w' before now after other h f = absurd f
+closing_cut start core kept end (Rotated generation) bytes left w w' before now after other h f = absurd f
 closing_cut start core kept end WriteFault bytes left w w' before now after other h f =
     cut_ends start core kept bytes left w' before after (cut_comes start core kept bytes h.requests left w w' h.more before now after h.few h.begins (waited start core kept end bytes left w before now other h) h.stands f)
 
@@ -58,5 +60,7 @@ closing_well start core kept (Err DiskFault) bytes left w w' before now after ot
 closing_well start core kept (Err (Damaged side number)) bytes left w w' before now after other h f none =
     record { requests = h.requests; few = h.few; read = h.read; written = all_written start h.requests w w' before now after h.written f none; stands = h.stands; halted = tt }
 closing_well start core kept (Err (Limit number)) bytes left w w' before now after other h f none =
+    record { requests = h.requests; few = h.few; read = h.read; written = all_written start h.requests w w' before now after h.written f none; stands = h.stands; halted = tt }
+closing_well start core kept (Err (Rotated generation)) bytes left w w' before now after other h f none =
     record { requests = h.requests; few = h.few; read = h.read; written = all_written start h.requests w w' before now after h.written f none; stands = h.stands; halted = tt }
 closing_well start core kept (Err WriteFault) bytes left w w' before now after other h f none = absurd (other refl)

@@ -9,7 +9,7 @@ use Rattle.liq_types.specs.State.{State}
 use Rattle.liq_core.specs.Core.{Core, StandsFor}
 use Rattle.liq_rules.specs.Step.{step, run}
 use Rattle.liq_ends.specs.declared.halts.Halt.{Halt}
-use Rattle.liq_ends.specs.declared.halts.Halt.TheVariants.{BadLine, ReadFault, WriteFault, DiskFault, Damaged, NoMemory, Limit}
+use Rattle.liq_ends.specs.declared.halts.Halt.TheVariants.{BadLine, ReadFault, WriteFault, DiskFault, Damaged, NoMemory, Limit, Rotated}
 use Rattle.liq_ends.specs.Output.{lines}
 use Rattle.liq_ends.specs.Requests.{IsRequest}
 use Rattle.liq_lines.specs.Lines.{lines_in, ended, IsWithinLine}
@@ -72,6 +72,7 @@ answered_cut start kept NoMemory bytes m core u left w w' before now now' few a 
 answered_cut start kept DiskFault bytes m core u left w w' before now now' few a f = absurd f
 answered_cut start kept (Damaged side number) bytes m core u left w w' before now now' few a f = absurd f
 answered_cut start kept (Limit number) bytes m core u left w w' before now now' few a f = absurd f
+answered_cut start kept (Rotated generation) bytes m core u left w w' before now now' few a f = absurd f
 answered_cut start kept WriteFault bytes m core u left w w' before now now' few a f =
     cut_comes start core kept bytes a.requests left w w' (lines_in a.rest) before now now' (omega (arith, few, a.count)) (begins_with start bytes m core u w before now a) a.written a.stands f
 
@@ -126,6 +127,7 @@ reading_halts start kept NoMemory bytes taken n core u left w before now few r a
 reading_halts start kept DiskFault bytes taken n core u left w before now few r a = absurd r
 reading_halts start kept (Damaged side number) bytes taken n core u left w before now few r a = absurd r
 reading_halts start kept (Limit number) bytes taken n core u left w before now few r a = absurd r
+reading_halts start kept (Rotated generation) bytes taken n core u left w before now few r a = absurd r
 
 -- ---- the input is over
 
@@ -243,6 +245,7 @@ pub answering_halts : (start : State) (kept : State → Request → Type 0) (hal
 answering_halts start kept (BadLine at) bytes line more r n core core' u left w w' before now now' few is a first failed kept_so = absurd failed
 answering_halts start kept ReadFault bytes line more r n core core' u left w w' before now now' few is a first failed kept_so = absurd failed
 answering_halts start kept (Limit number) bytes line more r n core core' u left w w' before now now' few is a first failed kept_so = absurd failed
+answering_halts start kept (Rotated generation) bytes line more r n core core' u left w w' before now now' few is a first failed kept_so = absurd failed
 answering_halts start kept (Damaged side number) bytes line more r n core core' u left w w' before now now' few is a first failed kept_so = absurd failed
 answering_halts start kept DiskFault bytes line more r n core core' u left w w' before now now' few is a first failed kept_so =
     record {

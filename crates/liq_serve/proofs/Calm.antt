@@ -16,7 +16,7 @@ use Rattle.liq_pairs.specs.Replay.{replay}
 use Rattle.liq_scripts.specs.Asked.{Asks}
 use Rattle.liq_words.specs.declared.words.Word.TheVariants as word
 use Rattle.liq_ends.specs.declared.halts.Halt.{Halt}
-use Rattle.liq_ends.specs.declared.halts.Halt.TheVariants.{BadLine, ReadFault, WriteFault, DiskFault, Damaged, NoMemory, Limit}
+use Rattle.liq_ends.specs.declared.halts.Halt.TheVariants.{BadLine, ReadFault, WriteFault, DiskFault, Damaged, NoMemory, Limit, Rotated}
 use Rattle.liq_ends.specs.Statuses.{IsDone, status_of}
 use Rattle.liq_tell.proofs.Audited.{no_limit}
 use Rattle.liq_serve.specs.Calm.{IsCalm, IsComplete}
@@ -25,7 +25,7 @@ use Rattle.liq_serve.specs.Serve.{Answers, OpensNone, ServesTo, halt_at}
 use Rattle.liq_serve.specs.Top.{Ends}
 use Rattle.liq_serve.proofs.Served.{Came}
 use Rattle.liq_serve.proofs.StatusLaws.{run_done}
-use Rattle.liq_serve.proofs.Telling.{audit_done, load_done, state_done}
+use Rattle.liq_serve.proofs.Telling.{audit_done, load_done, rotated_done, state_done}
 
 -- ---- of `serve`
 
@@ -50,6 +50,7 @@ module _ {S K D : Type 0} (unread : S → Option (List ℕ)) (held : K → Optio
   answers_done asked history (Err (Damaged side number)) a sink disk = absurd a
   answers_done asked history (Err NoMemory) a sink disk = inr refl
   answers_done asked history (Err (Limit number)) a sink disk = absurd a
+  answers_done asked history (Err (Rotated generation)) a sink disk = absurd a
 
   pub serve_done :
       (end : Result (Unit {0}) Halt) → ServesTo unread held faults seen before after end
@@ -68,7 +69,7 @@ module _
     {S K D : Type 0} (unread : S → Option (List ℕ)) (source_faults : S → ℕ) (held : K → Option (List ℕ)) (sink_faults : K → ℕ) (seen : D → Option (List ℕ))
     (disk_faults : D → ℕ) (before after : Outside S K D) where
   pub complete :
-      ((l r : List ℕ) (s : State) → state_on l r ≡ Ok s → replay 1 opening (commands_on l r) ≡ Ok s)
+      ((l r : List ℕ) (s : State) → state_on l r ≡ Ok s → s.generation ≡ 1 → replay 1 opening (commands_on l r) ≡ Ok s)
       → (status : ℕ) (words : List (List ℕ)) → Ends unread source_faults held sink_faults seen disk_faults before after status words
       → IsComplete unread source_faults held sink_faults seen disk_faults before after status words
   complete leads status words ends =
@@ -86,12 +87,16 @@ module _
             let e = ends.ends word.State asked in
             let told = MatchResult-at_ok _ _ start stood.is (e.2.1 l r stood.left stood.right) in
             subst IsDone (sym e.1) (state_done (status_of e.0) told.0 (λ is. calm.sink (ends.sink_fault (e.1 ∙ is))) (λ is. calm.disk (ends.disk_fault (e.1 ∙ is))));
-        audit = λ asked l r start stood within calm.
+        audit = λ asked l r start stood first within calm.
             let e = ends.ends word.Audit asked in
             let told = MatchResult-at_ok _ _ start stood.is (e.2.1 l r stood.left stood.right) in
             subst IsDone (sym e.1)
-            (audit_done start (commands_on l r) e.0 told.1.0 told.1.1 (λ number limit. no_limit (commands_on l r) start number (leads l r start stood.is) within limit)
-            told.0 (λ is. calm.sink (ends.sink_fault (e.1 ∙ is))) (λ is. calm.disk (ends.disk_fault (e.1 ∙ is))));
+            (audit_done start (commands_on l r) e.0 told.0.0 first told.0.1 (λ number limit. no_limit (commands_on l r) start number (leads l r start stood.is first) within limit)
+            (λ is. calm.sink (ends.sink_fault (e.1 ∙ is))) (λ is. calm.disk (ends.disk_fault (e.1 ∙ is))));
+        rotated = λ asked l r start stood later well.
+            let e = ends.ends word.Audit asked in
+            let told = MatchResult-at_ok _ _ start stood.is (e.2.1 l r stood.left stood.right) in
+            subst (λ (n : ℕ). (n ≡ 9) ⊎ (n ≡ 7)) (sym e.1) (rotated_done start (commands_on l r) e.0 told.0.0 later told.0.1 (λ is. well (ends.disk_fault (e.1 ∙ is))));
         gen = λ seed count asked none.
             let e = ends.ends (word.Gen seed count) asked in
             subst IsDone (sym e.1) (load_done (status_of e.0) e.2.1 (λ is. none (ends.sink_fault (e.1 ∙ is))));

@@ -6,7 +6,7 @@ use Rattle.liq_types.specs.declared.amounts.TheConstants.{LINES_MOST}
 use Rattle.liq_types.specs.State.{State}
 use Rattle.liq_types.specs.declared.requests.Request.{Request}
 use Rattle.liq_ends.specs.declared.halts.Halt.{Halt}
-use Rattle.liq_ends.specs.declared.halts.Halt.TheVariants.{BadLine, ReadFault, WriteFault, DiskFault, Damaged, NoMemory, Limit}
+use Rattle.liq_ends.specs.declared.halts.Halt.TheVariants.{BadLine, ReadFault, WriteFault, DiskFault, Damaged, NoMemory, Limit, Rotated}
 use Rattle.liq_ends.specs.Requests.{IsRequest}
 use Rattle.liq_ends.specs.Statuses.{IsDone, status_of}
 use Rattle.liq_ends.specs.Stops.{EndsAfter}
@@ -14,7 +14,7 @@ use Rattle.liq_lines.specs.Lines.{lines_in}
 use Rattle.liq_lines.specs.declared.stops.Stop.TheVariants as stop
 use Rattle.liq_lines.proofs.Sayings.{stops_outside}
 
-pub status_known : (end : Result (Unit {0}) Halt) → Contains (0 ∷ 1 ∷ 2 ∷ 3 ∷ 4 ∷ 5 ∷ 6 ∷ 7 ∷ 8 ∷ []) (status_of end)
+pub status_known : (end : Result (Unit {0}) Halt) → Contains (0 ∷ 1 ∷ 2 ∷ 3 ∷ 4 ∷ 5 ∷ 6 ∷ 7 ∷ 8 ∷ 9 ∷ []) (status_of end)
 status_known (Ok done) = (0, lit< tt, refl)
 status_known (Err (BadLine n)) = (2, lit< tt, refl)
 status_known (Err ReadFault) = (3, lit< tt, refl)
@@ -23,6 +23,7 @@ status_known (Err DiskFault) = (5, lit< tt, refl)
 status_known (Err (Damaged side number)) = (6, lit< tt, refl)
 status_known (Err NoMemory) = (7, lit< tt, refl)
 status_known (Err (Limit number)) = (8, lit< tt, refl)
+status_known (Err (Rotated generation)) = (9, lit< tt, refl)
 
 -- ---- where all lines are requests
 
@@ -39,3 +40,4 @@ run_done start bytes left all spelled few (Err NoMemory) r w d answered e = inr 
 run_done start bytes left all spelled few (Err DiskFault) r w d answered e = absurd (d refl)
 run_done start bytes left all spelled few (Err (Damaged side number)) r w d answered e = absurd e
 run_done start bytes left all spelled few (Err (Limit number)) r w d answered e = absurd (neither (λ is. cc) (λ is. cc) (stops_outside IsRequest stop.Limit bytes left answered all spelled few e.1))
+run_done start bytes left all spelled few (Err (Rotated generation)) r w d answered e = absurd e

@@ -1,5 +1,5 @@
 -- What the status of a word that tells says.
-use Rattle.std.proofs.Common.{◌≡◌, ◌≢◌, ℕ, zero, suc, List, [], ◌∷◌, Ok, Err, Result, refl, sym, ap, ◌∙◌, inl, inr, arith}
+use Rattle.std.proofs.Common.{◌≡◌, ◌≢◌, ◌<◌, ℕ, zero, suc, List, [], ◌∷◌, Ok, Err, Result, refl, sym, ap, ◌∙◌, inl, inr, arith}
 use Rattle.std.specs.Prelude.{◌⊎◌, Contains}
 use Rattle.liq_types.specs.declared.requests.Command.{Command}
 use Rattle.liq_types.specs.State.{State}
@@ -7,7 +7,7 @@ use Rattle.liq_review.specs.Reviewed.{reviewed}
 use Rattle.liq_review.specs.declared.fault.ReviewFault.TheVariants as review
 use Rattle.liq_store.specs.Causes.{Faults}
 use Rattle.liq_ends.specs.declared.halts.Halt.{Halt}
-use Rattle.liq_ends.specs.declared.halts.Halt.TheVariants.{BadLine, ReadFault, WriteFault, DiskFault, Damaged, NoMemory, Limit}
+use Rattle.liq_ends.specs.declared.halts.Halt.TheVariants.{BadLine, ReadFault, WriteFault, DiskFault, Damaged, NoMemory, Limit, Rotated}
 use Rattle.liq_ends.specs.Causes.{DiskCause, ReadCause}
 use Rattle.liq_ends.specs.Statuses.{status_of}
 use Rattle.liq_ends.proofs.Causes.{unread_causes}
@@ -46,6 +46,7 @@ untouched_causes (Err DiskFault) n other = absurd (other refl)
 untouched_causes (Err (Damaged side number)) n other = refl
 untouched_causes (Err NoMemory) n other = refl
 untouched_causes (Err (Limit number)) n other = refl
+untouched_causes (Err (Rotated generation)) n other = refl
 
 pub disks_unasked : (end : Result (Unit {0}) Halt) (n : Faults) → Contains (0 ∷ 4 ∷ 7 ∷ []) (status_of end) → DiskCause end n n
 disks_unasked end n ends = untouched_causes end n (λ is. load_not (status_of end) 5 (load_list (status_of end) ends) (ap status_of is) (λ e. omega (arith, e)) (λ e. omega (arith, e)) (λ e. omega (arith, e)))
@@ -61,23 +62,27 @@ state_done n (suc (suc (suc (suc k))), within, is) sink disk = absurd (omega (ar
 
 -- ---- of an audit
 
-at_limit : (s : State) (commands : List Command) (end : Result (Unit {0}) Halt) (text : List ℕ) → status_of end ≡ 8 → IsAuditOf s commands end text → (number : ℕ) × (reviewed commands ≡ Err (review.Limit number))
-at_limit s commands (Ok done) text is h = absurd (omega (arith, is))
-at_limit s commands (Err (BadLine n)) text is h = absurd (omega (arith, is))
-at_limit s commands (Err ReadFault) text is h = absurd (omega (arith, is))
-at_limit s commands (Err WriteFault) text is h = absurd (omega (arith, is))
-at_limit s commands (Err DiskFault) text is h = absurd (omega (arith, is))
-at_limit s commands (Err (Damaged side number)) text is h = absurd (omega (arith, is))
-at_limit s commands (Err NoMemory) text is h = absurd (omega (arith, is))
-at_limit s commands (Err (Limit number)) text is h = (number, h)
+-- of the first generation
+pub audit_done : (s : State) (commands : List Command) (end : Result (Unit {0}) Halt) (text : List ℕ) → s.generation ≡ 1 → IsAuditOf s commands end text → ((number : ℕ) → reviewed commands ≡ Err (review.Limit number) → ⊥)
+    → status_of end ≢ 4 → status_of end ≢ 5 → (status_of end ≡ 0) ⊎ (status_of end ≡ 7)
+audit_done s commands (Ok done) text first h within_limits sink disk = inl refl
+audit_done s commands (Err (BadLine n)) text first h within_limits sink disk = absurd h
+audit_done s commands (Err ReadFault) text first h within_limits sink disk = absurd h
+audit_done s commands (Err WriteFault) text first h within_limits sink disk = absurd (sink refl)
+audit_done s commands (Err DiskFault) text first h within_limits sink disk = absurd (disk refl)
+audit_done s commands (Err (Damaged side number)) text first h within_limits sink disk = absurd h
+audit_done s commands (Err NoMemory) text first h within_limits sink disk = inr refl
+audit_done s commands (Err (Limit number)) text first h within_limits sink disk = absurd (within_limits number h.1)
+audit_done s commands (Err (Rotated generation)) text first h within_limits sink disk = absurd (omega (arith, first, h.0))
 
-pub audit_done : (s : State) (commands : List Command) (end : Result (Unit {0}) Halt) (text : List ℕ) → IsAuditOf s commands end text → ((number : ℕ) → reviewed commands ≡ Err (review.Limit number) → ⊥)
-    → Contains (0 ∷ 4 ∷ 5 ∷ 7 ∷ 8 ∷ []) (status_of end) → status_of end ≢ 4 → status_of end ≢ 5 → (status_of end ≡ 0) ⊎ (status_of end ≡ 7)
-audit_done s commands end text h within_limits (zero, within, is) sink disk = inl (sym is)
-audit_done s commands end text h within_limits (suc zero, within, is) sink disk = absurd (sink (sym is))
-audit_done s commands end text h within_limits (suc (suc zero), within, is) sink disk = absurd (disk (sym is))
-audit_done s commands end text h within_limits (suc (suc (suc zero)), within, is) sink disk = inr (sym is)
-audit_done s commands end text h within_limits (suc (suc (suc (suc zero))), within, is) sink disk =
-    let limit = at_limit s commands end text (sym is) h in
-    absurd (within_limits limit.0 limit.1)
-audit_done s commands end text h within_limits (suc (suc (suc (suc (suc k)))), within, is) sink disk = absurd (omega (arith, within))
+-- of a later one
+pub rotated_done : (s : State) (commands : List Command) (end : Result (Unit {0}) Halt) (text : List ℕ) → 1 < s.generation → IsAuditOf s commands end text → status_of end ≢ 5 → (status_of end ≡ 9) ⊎ (status_of end ≡ 7)
+rotated_done s commands (Ok done) text later h disk = absurd (omega (arith, later, h.0))
+rotated_done s commands (Err (BadLine n)) text later h disk = absurd h
+rotated_done s commands (Err ReadFault) text later h disk = absurd h
+rotated_done s commands (Err WriteFault) text later h disk = absurd (omega (arith, later, h.0))
+rotated_done s commands (Err DiskFault) text later h disk = absurd (disk refl)
+rotated_done s commands (Err (Damaged side number)) text later h disk = absurd h
+rotated_done s commands (Err NoMemory) text later h disk = inr refl
+rotated_done s commands (Err (Limit number)) text later h disk = absurd (omega (arith, later, h.0))
+rotated_done s commands (Err (Rotated generation)) text later h disk = inl refl

@@ -18,7 +18,7 @@ use Rattle.liq_words.specs.declared.words.WordsFault.{WordsFault}
 use Rattle.liq_words.specs.declared.words.WordsFault.TheVariants as fault
 use Rattle.liq_words.specs.Words.{Ask}
 use Rattle.liq_ends.specs.declared.halts.Halt.{Halt}
-use Rattle.liq_ends.specs.declared.halts.Halt.TheVariants.{BadLine, ReadFault, WriteFault, DiskFault, Damaged, NoMemory, Limit}
+use Rattle.liq_ends.specs.declared.halts.Halt.TheVariants.{BadLine, ReadFault, WriteFault, DiskFault, Damaged, NoMemory, Limit, Rotated}
 use Rattle.liq_ends.specs.Causes.{DiskCause, LastCause, ReadCause}
 use Rattle.liq_ends.specs.Disks.{EndsDamaged}
 use Rattle.liq_ends.specs.Output.{last, usage}
@@ -59,6 +59,7 @@ not_usage (Err DiskFault) is = omega (arith, is)
 not_usage (Err (Damaged side number)) is = omega (arith, is)
 not_usage (Err NoMemory) is = omega (arith, is)
 not_usage (Err (Limit number)) is = omega (arith, is)
+not_usage (Err (Rotated generation)) is = omega (arith, is)
 
 module _
     {S K D : Type 0} (unread : S → Option (List ℕ)) (source_faults : S → ℕ) (held : K → Option (List ℕ)) (sink_faults : K → ℕ) (seen : D → Option (List ℕ))
@@ -104,6 +105,7 @@ module _
   last_told side damage (Damaged which number) ends told = told
   last_told side damage NoMemory ends told = told
   last_told side damage (Limit number) ends told = absurd ends
+  last_told side damage (Rotated generation) ends told = absurd ends
 
   -- a word that opens the disks before it reads
   pub opens_first :
@@ -199,14 +201,14 @@ module _
   nothing_done written word.Audit = (
     refl,
     λ l r told_l told_r. by_found (state_on l r) _ _
-        (λ start is. ((3, lit< tt, refl), ([], tt, written), untouched seen before.left before.right l r start told_l told_r is))
+        (λ start is. (([], tt, written), untouched seen before.left before.right l r start told_l told_r is))
         (λ side damage is. (refl, still side damage l r told_l told_r is, written)),
   )
   nothing_done written (word.Gen seed count) = (refl, (2, lit< tt, refl), written)
 
   -- the status is that of neither a fault nor an end
   writes_alone :
-      (status : ℕ) (words : List (List ℕ)) → Contains (0 ∷ 1 ∷ 2 ∷ 3 ∷ 4 ∷ 5 ∷ 6 ∷ 7 ∷ 8 ∷ []) status → status ≢ 0 → status ≢ 3 → status ≢ 4 → status ≢ 5
+      (status : ℕ) (words : List (List ℕ)) → Contains (0 ∷ 1 ∷ 2 ∷ 3 ∷ 4 ∷ 5 ∷ 6 ∷ 7 ∷ 8 ∷ 9 ∷ []) status → status ≢ 0 → status ≢ 3 → status ≢ 4 → status ≢ 5
       → ((status ≡ 1) ↔ ((word : Word) → Ask words word → ⊥)) → (status ≡ 1 → Writes usage)
       → ((word : Word) → Ask words word → (status ≡ 7) × Writes (last NoMemory)) → EndsWriting status words
   writes_alone status words known no_end no_source no_sink no_disk understood misused wordless =

@@ -1,5 +1,5 @@
 -- Where nothing is wrong with lines, streams and disks a word is done, unless there was no memory.
-use Rattle.std.specs.Prelude.{ℕ, ◌≡◌, ◌≤◌, List, length, Option, Some, None, Ok}
+use Rattle.std.specs.Prelude.{ℕ, ◌≡◌, ◌≤◌, ◌<◌, ◌⊎◌, List, length, Option, Some, None, Ok}
 use Rattle.std.specs.List.{AllZip}
 use Rattle.liq_outside.specs.Faults.{Rose}
 use Rattle.liq_types.specs.declared.amounts.TheConstants.{LINES_MOST}
@@ -26,11 +26,15 @@ module _
   abbrev pub IsReadWell : Type 0
   IsReadWell = Rose (source_faults before.source) (source_faults after.source) → ⊥
 
+  -- no disk met one
+  abbrev pub AreKeptWell : Type 0
+  AreKeptWell =
+      OneRose (counts_of disk_faults before.left before.right) (counts_of disk_faults after.left after.right) → ⊥
+
   -- neither the sink nor a disk met one
   pub record IsCalm : Type 0 where
     pub sink : Rose (sink_faults before.sink) (sink_faults after.sink) → ⊥
-    pub disk :
-        OneRose (counts_of disk_faults before.left before.right) (counts_of disk_faults after.left after.right) → ⊥
+    pub disk : AreKeptWell
 
   -- both disks tell these bytes, and stand for this state
   pub record StoodFor (l r : List ℕ) (start : State) : Type 0 where
@@ -38,7 +42,8 @@ module _
     pub right : seen before.right ≡ Some r
     pub is : state_on l r ≡ Ok start
 
-  -- each word is done then, unless there was no memory
+  -- Each word is done then, unless there was no memory. An audit stops where the generation is above the first: only
+  -- that one has all commands.
   pub record IsComplete (status : ℕ) (words : List (List ℕ)) : Type 0 where
     pub run :
         Ask words word.Run → (bytes l r : List ℕ) (start : State) (requests : List Request)
@@ -51,8 +56,11 @@ module _
     pub state :
         Ask words word.State → (l r : List ℕ) (start : State) → StoodFor l r start → IsCalm → IsDone status
     pub audit :
-        Ask words word.Audit → (l r : List ℕ) (start : State) → StoodFor l r start
+        Ask words word.Audit → (l r : List ℕ) (start : State) → StoodFor l r start → start.generation ≡ 1
         → number_above (events opening (commands_on l r)) ≡ None → IsCalm → IsDone status
+    pub rotated :
+        Ask words word.Audit → (l r : List ℕ) (start : State) → StoodFor l r start → 1 < start.generation
+        → AreKeptWell → (status ≡ 9) ⊎ (status ≡ 7)
     pub gen :
         (seed count : ℕ) → Ask words (word.Gen seed count)
         → (Rose (sink_faults before.sink) (sink_faults after.sink) → ⊥) → IsDone status

@@ -60,10 +60,11 @@ module _
       × Tells (standing start) end × DisksStay seen end l r start after.left after.right)
   -- Nothing is read, the review is told of the commands that lead to the state, and the disks stay so. At 0 each row of
   -- the review encloses the exact share of its account, and what the protocol gives it in that state is within the row.
+  -- Where the state is of a generation above the first, the last line tells this generation, and nothing else is told.
   Leaves word.Audit end =
       (after.source ≡ before.source)
-      × OpensFirst end (λ l r start. Contains (0 ∷ 4 ∷ 5 ∷ 7 ∷ 8 ∷ []) (status_of end)
-      × ((text : List ℕ) × IsAuditOf start (commands_on l r) end text × Tells text end)
+      × OpensFirst end (λ l r start.
+      ((text : List ℕ) × IsAuditOf start (commands_on l r) end text × Tells text end)
       × DisksStay seen end l r start after.left after.right)
   -- nothing but the sink changes, and the seed's load is told by the rules' steps along its requests from the opening
   Leaves (word.Gen seed count) end =
@@ -81,7 +82,7 @@ module _
         → (end : Result (Unit {0}) Halt) × (status ≡ status_of end) × Leaves word end
     -- no more is taken than the lines that one run answers, each with its line end, and what one read asks for
     pub takes : ReadsAtMost (taken_most LINES_MOST) (unread before.source) (unread after.source)
-    pub known : Contains (0 ∷ 1 ∷ 2 ∷ 3 ∷ 4 ∷ 5 ∷ 6 ∷ 7 ∷ 8 ∷ []) status
+    pub known : Contains (0 ∷ 1 ∷ 2 ∷ 3 ∷ 4 ∷ 5 ∷ 6 ∷ 7 ∷ 8 ∷ 9 ∷ []) status
     -- a fault has its cause, and none is passed over
     pub source_fault : status ≡ 3 → Rose (source_faults before.source) (source_faults after.source)
     pub source_same : status ≢ 3 → source_faults after.source ≡ source_faults before.source

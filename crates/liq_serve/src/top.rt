@@ -18,7 +18,7 @@ use liq_load::tell_load;
 use liq_outside::{Disk, Sink, Source};
 use liq_run::run_on;
 use liq_sessions::Gate;
-use liq_tell::{audit_on, stand_on};
+use liq_tell::{Told, tell_on};
 use liq_words::{Word, WordsFault, read_words};
 use std::alloc::Global;
 use std::io::ErrorKind;
@@ -81,12 +81,13 @@ fn is_serve(read: &Result<Word, WordsFault>) -> bool
 /// - 5: a disk met a fault;
 /// - 6: a disk is damaged;
 /// - 7: there was no memory;
-/// - 8: there are more than 1,000,000 lines, or a limit of the audit is passed.
+/// - 8: there are more than 1,000,000 lines, or a limit of the audit is passed;
+/// - 9: the journal was rotated, so that there is no audit.
 ///
 /// For `run` each line of the input is a request, and its reply is written once its call has answered; what is accepted is on
 /// the disks by then. For `gen` a seed's calls are carried out on a protocol of their own, and a line tells where they lead;
 /// nothing is read, and the disks stay. For `state` what stands on the disks is told, and for `audit` what each depositor has
-/// beside its exact share; nothing is read.
+/// beside its exact share, if the journal is of the first generation; nothing is read.
 ///
 /// At a status other than 0 and 4 a last line says so behind what was written.
 pub fn without_threads<S: Source, K: Sink, D: Disk>(
@@ -161,8 +162,8 @@ fn carry_out<S: Source, K: Sink, D: Disk>(
     match word {
         Word::Run => run_on(alloc, input, out, left, right),
         Word::Serve => unreachable!(),
-        Word::State => stand_on(alloc, out, left, right),
-        Word::Audit => audit_on(alloc, out, left, right),
+        Word::State => tell_on(alloc, Told::State, out, left, right),
+        Word::Audit => tell_on(alloc, Told::Audit, out, left, right),
         Word::Gen { seed, count } => {
             let end = tell_load::<Brand, K>(alloc, seed, count, out, Blank::new(1));
             Ending { end, left, right }

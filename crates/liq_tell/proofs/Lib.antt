@@ -1,4 +1,5 @@
 pub mod Audited
 mod DamagedTold
+mod Generations
 mod Standing
-mod Telling
+mod TextsTold

@@ -1,5 +1,6 @@
 -- What is told of two disks, and how they stand then.
 use Rattle.std.proofs.Common.{◌≡◌, ℕ, List, Option, Some, Result, Ok, Err, refl, sym, subst, ap, ◌∙◌, inl}
+use Rattle.liq_types.specs.declared.requests.Command.{Command}
 use Rattle.liq_types.specs.State.{State}
 use Rattle.liq_journal.specs.declared.damage.Damage.{Damage}
 use Rattle.liq_pairs.specs.declared.side.Side.{Side}
@@ -8,12 +9,13 @@ use Rattle.liq_store.specs.declared.answers.StoreFault.{StoreFault}
 use Rattle.liq_store.specs.declared.answers.StoreWhy.{StoreWhy}
 use Rattle.liq_store.specs.declared.answers.StoreWhy.TheVariants as why
 use Rattle.liq_store.specs.Opening.{IsNotOpened}
-use Rattle.liq_review.specs.declared.fault.ReviewFault.{ReviewFault}
 use Rattle.liq_ends.specs.declared.ending.Ending.{Ending}
 use Rattle.liq_ends.specs.declared.halts.Halt.{Halt}
-use Rattle.liq_ends.specs.declared.halts.Halt.TheVariants.{BadLine, ReadFault, WriteFault, DiskFault, Damaged, NoMemory, Limit}
+use Rattle.liq_ends.specs.declared.halts.Halt.TheVariants.{BadLine, ReadFault, WriteFault, DiskFault, Damaged, NoMemory, Limit, Rotated}
 use Rattle.liq_ends.specs.Disks.{DisksStay, EndsDamaged}
-use Rattle.liq_tell.specs.Writing.{WritesText}
+use Rattle.liq_tell.specs.declared.telling.Told.{Told}
+use Rattle.liq_tell.specs.Told.{WritesTold}
+use Rattle.liq_tell.proofs.TextsTold.{nothing_told}
 use Rattle.liq_ends.specs.Unopened.{halt_of}
 use Rattle.liq_ends.proofs.Opened.{unopened}
 
@@ -23,12 +25,12 @@ first_damage found a b one other = cc
 
 module _ {D : Type 0} (seen : D → Option (List ℕ)) (faults : D → ℕ) where
   -- no store was opened
-  pub not_told : (told : Result (List ℕ) ReviewFault) (why_is : StoreWhy) (fl fr left right : D) → IsNotOpened seen faults left right (record { left = fl; right = fr; why = why_is }) → (l r : List ℕ) (held : Option (List ℕ)) → seen left ≡ Some l → seen right ≡ Some r → (start : State) → state_on l r ≡ Ok start
-      → WritesText told (Err (halt_of why_is)) held held × DisksStay seen (Err (halt_of why_is)) l r start fl fr
-  not_told told why.DiskFault fl fr left right h l r held told_l told_r start is = (refl, λ kept a b told_a told_b. h.reads l r a b start told_l told_r kept told_a told_b)
-  not_told told (why.Damaged side damage) fl fr left right h l r held told_l told_r start is = absurd (cc (h.is_why l r told_l told_r, is))
-  not_told told why.NoMemory fl fr left right h l r held told_l told_r start is =
-      (refl, unopened seen faults left right (record { left = fl; right = fr; why = why.NoMemory }) h (λ e. cc) l r start told_l told_r is)
+  pub not_told : (what : Told) (commands : List Command) (why_is : StoreWhy) (fl fr left right : D) → IsNotOpened seen faults left right (record { left = fl; right = fr; why = why_is }) → (l r : List ℕ) (held : Option (List ℕ)) → seen left ≡ Some l → seen right ≡ Some r → (start : State) → state_on l r ≡ Ok start
+      → WritesTold what start commands (Err (halt_of why_is)) held held × DisksStay seen (Err (halt_of why_is)) l r start fl fr
+  not_told what commands why.DiskFault fl fr left right h l r held told_l told_r start is = ((nothing_told what start commands held).0, λ kept a b told_a told_b. h.reads l r a b start told_l told_r kept told_a told_b)
+  not_told what commands (why.Damaged side damage) fl fr left right h l r held told_l told_r start is = absurd (cc (h.is_why l r told_l told_r, is))
+  not_told what commands why.NoMemory fl fr left right h l r held told_l told_r start is =
+      ((nothing_told what start commands held).1, unopened seen faults left right (record { left = fl; right = fr; why = why.NoMemory }) h (λ e. cc) l r start told_l told_r is)
 
   -- for the disks are damaged
   unopened_damaged : (why_is : StoreWhy) (fl fr left right : D) → IsNotOpened seen faults left right (record { left = fl; right = fr; why = why_is }) → (l r : List ℕ) → seen left ≡ Some l → seen right ≡ Some r → (side : Side) (damage : Damage) → state_on l r ≡ Err (side, damage)
@@ -55,3 +57,4 @@ disks_stay seen (Err DiskFault) l r start left right stand = λ kept a b told_a 
 disks_stay seen (Err (Damaged side number)) l r start left right stand = stand
 disks_stay seen (Err NoMemory) l r start left right stand = λ a b told_a told_b. let so = stand a b told_a told_b in (so.0, λ kept. so.1)
 disks_stay seen (Err (Limit number)) l r start left right stand = stand
+disks_stay seen (Err (Rotated generation)) l r start left right stand = stand

@@ -1,17 +1,18 @@
 -- How writing a text of the disks ends, before the last line.
-use Rattle.std.specs.Prelude.{ℕ, ◌≡◌, List, Option, Result, Ok, Err}
+use Rattle.std.specs.Prelude.{ℕ, ◌≡◌, ◌<◌, List, Option, Result, Ok, Err}
 use Rattle.std.specs.Prelude.{All, count_by, length}
 use Rattle.liq_types.specs.declared.requests.Command.{Command}
 use Rattle.liq_types.specs.State.{State, opening}
 use Rattle.liq_audit.specs.Auditable.{EnclosesShare}
 use Rattle.liq_rules.specs.Events.{events}
 use Rattle.liq_review.specs.Engine.{rows_of}
+use Rattle.liq_review.specs.Reviewed.{reviewed}
 use Rattle.liq_review.specs.Shown.{is_within}
 use Rattle.liq_lines.specs.Writing.{Writes, WritesPart}
 use Rattle.liq_review.specs.declared.fault.ReviewFault.{ReviewFault}
 use Rattle.liq_review.specs.declared.fault.ReviewFault.TheVariants as review
 use Rattle.liq_ends.specs.declared.halts.Halt.{Halt}
-use Rattle.liq_ends.specs.declared.halts.Halt.TheVariants.{WriteFault, DiskFault, NoMemory, Limit}
+use Rattle.liq_ends.specs.declared.halts.Halt.TheVariants.{WriteFault, DiskFault, NoMemory, Limit, Rotated}
 
 -- The text was written, or the sink met a fault within it. Or nothing was: a limit is passed, there was no memory, or a
 -- disk met a fault.
@@ -32,3 +33,14 @@ AuditHolds (Ok done) s commands =
     let rows = rows_of s made in
     All (EnclosesShare made) rows × (count_by is_within rows ≡ length rows)
 AuditHolds (Err halt) s commands = Unit {0}
+
+-- The audit of a state to which these commands lead is their review, or the state is of a later generation than the
+-- first, and nothing was written. Where a disk met a fault, or there was no memory, nothing shows which it is.
+abbrev pub WritesAudit :
+    State → List Command → Result (Unit {0}) Halt → Option (List ℕ) → Option (List ℕ) → Type 0
+WritesAudit s commands (Err (Rotated generation)) before now =
+    (now ≡ before) × (1 < s.generation) × (generation ≡ s.generation)
+WritesAudit s commands (Err NoMemory) before now = now ≡ before
+WritesAudit s commands (Err DiskFault) before now = now ≡ before
+WritesAudit s commands end before now =
+    WritesText (reviewed commands) end before now × (s.generation ≡ 1) × AuditHolds end s commands

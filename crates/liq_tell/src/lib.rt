@@ -3,6 +3,6 @@
 
 mod audit;
 mod state;
+mod telling;
 
-pub use audit::audit_on;
-pub use state::stand_on;
+pub use telling::{Told, tell_on};

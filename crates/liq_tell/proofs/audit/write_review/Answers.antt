@@ -7,7 +7,7 @@ use Rattle.liq_ends.specs.Causes.{WriteCause}
 use Rattle.liq_tell.specs.Writing.{WritesText}
 use Rattle.liq_tell.proofs.Audited.{audit_holds, no_cause, no_fault, not_reviewed}
 use Rattle.liq_ends.proofs.Shown.{by_sink}
-use Rattle.liq_tell.proofs.Telling.{text_written}
+use Rattle.liq_tell.proofs.TextsTold.{text_written}
 use Rattle.liq_tell.proofs.audit.write_review.Goals as goal
 
 pub returns-in-Ok-clause-written : goal.returns-in-Ok-clause-written

@@ -2,7 +2,7 @@ use Rattle.std.proofs.Common.{Ok, ap, sym, ◌∙◌}
 use Rattle.liq_tell.specs.State.{standing}
 use Rattle.liq_ends.specs.declared.halts.Halt.TheVariants.{DiskFault, ReadFault}
 use Rattle.liq_ends.proofs.Shown.{by_sink}
-use Rattle.liq_tell.proofs.Telling.{text_written}
+use Rattle.liq_tell.proofs.TextsTold.{text_written}
 use Rattle.liq_tell.proofs.state.write_standing.Goals as goal
 
 pub returns-clause-written : goal.returns-clause-written

@@ -3,25 +3,24 @@ use Rattle.liq_types.specs.declared.requests.Command.{Command}
 use Rattle.liq_types.specs.State.{opening}
 use Rattle.liq_pairs.specs.Pair.{commands_on}
 use Rattle.liq_pairs.specs.Replay.{replay}
-use Rattle.liq_review.specs.Reviewed.{reviewed}
 use Rattle.liq_ends.specs.declared.ending.Ending.{Ending}
-use Rattle.liq_tell.specs.Writing.{AuditHolds}
 use Rattle.liq_ends.specs.Disks.{DisksStay}
-use Rattle.liq_tell.specs.Writing.{WritesText}
+use Rattle.liq_ends.proofs.Opened.{is_some_of, opened_at, opened_still}
+use Rattle.liq_tell.specs.Told.{WritesTold}
 use Rattle.liq_tell.proofs.Audited.{stand_too, taken_tells}
-use Rattle.liq_ends.proofs.Opened.{opened_at, opened_still}
+use Rattle.liq_tell.proofs.Generations.{opened_from_one}
 use Rattle.liq_tell.proofs.Standing.{not_told, disks_stay, ends_damaged}
-use Rattle.liq_tell.proofs.audit.tell_audit.Goals as goal
+use Rattle.liq_tell.proofs.telling.tell.Goals as goal
 
 pub returns-in-Err-clause-told : goal.returns-in-Err-clause-told
 returns-in-Err-clause-told g c l r told_l told_r start is =
     let held = g.K.Sink.held c.args.out.now in
     let seen = g.D.Disk.seen in
     let fault = c.in-Err.fault in
-    let told = reviewed (commands_on l r) in
-    let found = not_told seen g.D.Disk.faults told fault.why fault.left fault.right c.args.left c.args.right c.in-Err.ensures.not_opened l r held told_l told_r start is in
-    subst (λ (e : Ending g.row.D.Denot). WritesText told e.end held held × AuditHolds e.end start (commands_on l r) × DisksStay seen e.end l r start e.left e.right)
-    (sym c.unopened.ensures) (found.0, tt, found.1)
+    let commands = commands_on l r in
+    let found = not_told seen g.D.Disk.faults c.args.what commands fault.why fault.left fault.right c.args.left c.args.right c.in-Err.ensures.not_opened l r held told_l told_r start is in
+    subst (λ (e : Ending g.row.D.Denot). WritesTold c.args.what start commands e.end held held × DisksStay seen e.end l r start e.left e.right)
+    (sym c.unopened.ensures) found
 
 pub returns-in-Err-clause-damaged : goal.returns-in-Err-clause-damaged
 returns-in-Err-clause-damaged g c l r told_l told_r side damage is = (refl, ends_damaged g.D.Disk.seen g.D.Disk.faults c.in-Err.fault c.args.left c.args.right c.in-Err.ensures.not_opened _ c.unopened.ensures l r told_l told_r side damage is)
@@ -30,22 +29,25 @@ pub returns-clause-told : goal.returns-clause-told
 returns-clause-told g c l r told_l told_r start is =
     let seen = g.D.Disk.seen in
     let held = g.K.Sink.held in
+    let what = c.args.what in
     let store = c.in-Ok.store in
     let opened = c.in-Ok.ensures.opened in
     let found = opened.state l r told_l told_r in
     let stands = opened_at found.0 start _ _ found.1 is found.2 in
-    let wrote = c.write_audit-end in
+    let wrote = c.write_told-end in
     let end = wrote.result in
     let left = wrote.new.store in
     let stand = opened_still seen g.D.Disk.faults g.D.Disk.moment g.D.Disk.left_at c.args.left c.args.right store l r start opened c.in-Ok.ensures.order stands told_l told_r is in
     let stay = disks_stay seen end l r start left.left left.right (stand_too seen l r start store.left store.right left.left left.right wrote.ensures.left wrote.ensures.right stand) in
+    let from_one =
+        opened_from_one seen g.D.Disk.moment g.D.Disk.left_at store start opened.going c.in-Ok.ensures.order stands
+        (c.in-Ok.ensures.left_telling.1 (is_some_of (seen c.args.left) l told_l)) (c.in-Ok.ensures.right_telling.1 (is_some_of (seen c.args.right) r told_r)) in
     let taken = taken_tells seen store.side c.args.left c.args.right store.left store.right c.in-Ok.ensures.left_telling c.in-Ok.ensures.right_telling l r told_l told_r in
     let holds = opened.commands l r taken.0 told_l told_r taken.1 in
-    let leads : replay 1 opening holds.written.commands ≡ Ok start = ap (replay 1 opening) holds.are ∙ c.commands_lead_to_the_state.ensures l r start is in
-    let written = wrote.ensures.written taken.0 holds.written start taken.1 holds.found leads in
-    let so = subst (λ (commands : List Command). WritesText (reviewed commands) end (held c.args.out.now) (held wrote.new.out) × AuditHolds end start commands) holds.are written in (
-      so.0,
-      so.1,
+    let leads : start.generation ≡ 1 → replay 1 opening holds.written.commands ≡ Ok start = λ one. ap (replay 1 opening) holds.are ∙ c.commands_lead_to_the_state.ensures l r start is one in
+    let written = wrote.ensures.written taken.0 holds.written start taken.1 holds.found stands from_one leads in
+    let so = subst (λ (commands : List Command). WritesTold what start commands end (held c.args.out.now) (held wrote.new.out)) holds.are written in (
+      so,
       subst (λ (d : g.row.D.Denot). DisksStay seen end l r start d c.close-left.result.1) (sym c.close-left.ensures.left)
           (subst (λ (d : g.row.D.Denot). DisksStay seen end l r start left.left d) (sym c.close-left.ensures.right) stay),
     )

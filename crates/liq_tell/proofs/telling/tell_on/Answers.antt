@@ -1,0 +1,24 @@
+use Rattle.liq_outside.specs.Faults.{Rose}
+use Rattle.liq_pairs.specs.Pair.{commands_on}
+use Rattle.liq_ends.proofs.Causes.{write_no_fewer}
+use Rattle.liq_tell.proofs.DamagedTold.{damaged_told}
+use Rattle.liq_tell.proofs.TextsTold.{all_told}
+use Rattle.liq_tell.proofs.telling.tell_on.Goals as goal
+
+pub returns-clause-told : goal.returns-clause-told
+returns-clause-told g c l r told_l told_r start is =
+    let faults = g.K.Sink.faults in
+    let held = g.K.Sink.held in
+    let out = c.args.out.now in
+    let ran = c.tell-ending in
+    let found = ran.ensures.told l r told_l told_r start is in (
+      all_told c.args.what start (commands_on l r) ran.result.end (Rose (faults out) (faults c.tell_last.new.out)) (held out) (held ran.new.out) (held c.tell_last.new.out) found.0
+          (λ text wrote. c.tell_last.ensures.told text (held out) (faults out) (write_no_fewer ran.result.end _ _ ran.ensures.sink) wrote),
+      found.1,
+    )
+
+pub returns-clause-damaged : goal.returns-clause-damaged
+returns-clause-damaged g c l r told_l told_r side damage is =
+    let ran = c.tell-ending in
+    let found = ran.ensures.damaged l r told_l told_r side damage is in
+    damaged_told g.D.Disk.seen g.K.Sink.faults g.K.Sink.held c.args.out.now ran.new.out c.tell_last.new.out side damage ran.result.end ran.result.left ran.result.right found.0 found.1 c.tell_last.ensures.last

@@ -1,0 +1,17 @@
+use Rattle.std.proofs.Common.{sym, subst}
+use Rattle.liq_core.specs.Core.{Core, StandsFor}
+use Rattle.liq_tell.specs.declared.telling.Told.{Told}
+use Rattle.liq_tell.specs.Told.{WritesTold}
+use Rattle.liq_tell.proofs.telling.write_told.Goals as goal
+
+pub returns-in-State-clause-written : goal.returns-in-State-clause-written
+returns-in-State-clause-written g c held w s told found stands from_one leads =
+    let wrote = c.write_standing in
+    subst (λ (what : Told). WritesTold what s w.commands wrote.result (g.K.Sink.held c.args.out.now) (g.K.Sink.held wrote.new.out)) (sym c.in-State.is)
+    (wrote.ensures.written s (subst (λ (core : Core). StandsFor core s) (sym c.protocol.ensures) stands))
+
+pub returns-in-Audit-clause-written : goal.returns-in-Audit-clause-written
+returns-in-Audit-clause-written g c held w s told found stands from_one leads =
+    let wrote = c.write_audit in
+    subst (λ (what : Told). WritesTold what s w.commands wrote.result (g.K.Sink.held c.args.out.now) (g.K.Sink.held wrote.new.out)) (sym c.in-Audit.is)
+    (wrote.ensures.written held w s told found stands from_one leads)

@@ -1,0 +1,111 @@
+//! The words `state` and `audit`: a text of what is on two disks, told.
+
+ghost use Rattle.std.specs.Prelude.{◌≡◌, ◌≢◌, ◌≤◌, [], List, ℕ, Some, None, Ok, Err};
+ghost use Rattle.liq_outside.specs.Faults.{Rose};
+ghost use Rattle.liq_types.specs.State.{State, opening};
+ghost use Rattle.liq_core.specs.Core.{StandsFor};
+ghost use Rattle.liq_journal.specs.declared.damage.Damage.{Damage};
+ghost use Rattle.liq_journal.specs.Written.{Open, Written, found_on};
+ghost use Rattle.liq_pairs.specs.declared.side.Side.{Side};
+ghost use Rattle.liq_pairs.specs.Pair.{commands_on, state_on};
+ghost use Rattle.liq_pairs.specs.Replay.{replay};
+ghost use Rattle.liq_pairs.specs.Sides.{has_odd};
+ghost use Rattle.liq_store.specs.Causes.{counts_of};
+ghost use Rattle.liq_store.specs.Stored.{taken_disk};
+ghost use Rattle.liq_ends.specs.Causes.{DiskCause, LastCause, WriteCause};
+ghost use Rattle.liq_ends.specs.Disks.{DisksStay, EndsDamaged};
+ghost use Rattle.liq_ends.specs.Output.{last};
+ghost use Rattle.liq_ends.specs.Stops.{Adds};
+ghost use Rattle.liq_tell.specs.Told.{EndsTelling, WritesTold};
+
+use crate::audit::write_audit;
+use crate::state::write_standing;
+use liq_ends::{Ending, Halt, tell_last, unopened};
+use liq_outside::{Disk, Sink};
+use liq_pairs::laws::commands_lead_to_the_state;
+use liq_store::Store;
+use std::alloc::Global;
+
+/// Which text is told.
+#[derive(Clone, Copy)]
+pub enum Told {
+    /// What stands on the disks: the replies to `system` and `pools`, the words of the Stability Pool, and the journal's
+    /// generation with its records.
+    State,
+    /// What the protocol gives each depositor beside its exact share, once the disks' commands are replayed from the
+    /// opening. It is told of the first generation alone.
+    Audit,
+}
+
+/// Tells a text of two disks, and writes the last line where that stops. All of the text is made before it is written.
+pub fn tell_on<K: Sink, D: Disk>(alloc: Global, what: Told, out: &mut K, left: D, right: D) -> Ending<D>
+    // Of the state for which the disks stand, and of the commands that lead to it, the text is told. They stand for it
+    // then.
+    ensures told { (l r : List ℕ) → D.seen left ≡ Some l → D.seen right ≡ Some r
+        → (start : State) → state_on l r ≡ Ok start
+        → EndsTelling what start (commands_on l r) result.end
+            (Rose (K.faults out.old) (K.faults out.new)) (K.held out.old) (K.held out.new)
+        × DisksStay D.seen result.end l r start result.left result.right }
+    // Of damaged disks nothing is told.
+    ensures damaged { (l r : List ℕ) → D.seen left ≡ Some l → D.seen right ≡ Some r
+        → (side : Side) (damage : Damage) → state_on l r ≡ Err (side, damage)
+        → (halt : Halt) × (result.end ≡ Err halt)
+        × EndsDamaged D.seen side damage (Err halt) result.left result.right
+        × Adds [] (last halt) (Rose (K.faults out.old) (K.faults out.new)) (K.held out.old) (K.held out.new) }
+    ensures no_source { result.end ≢ Err Halt.ReadFault }
+    ensures sink { LastCause result.end (K.faults out.old) (K.faults out.new) }
+    ensures disks { DiskCause result.end (counts_of D.faults left right) (counts_of D.faults result.left result.right) }
+{
+    let ending = tell(alloc, what, out, left, right);
+    tell_last(out, ending.end);
+    ending
+}
+
+/// Tells a text of two disks.
+fn tell<K: Sink, D: Disk>(alloc: Global, what: Told, out: &mut K, left: D, right: D) -> Ending<D>
+    ensures told { (l r : List ℕ) → D.seen left ≡ Some l → D.seen right ≡ Some r
+        → (start : State) → state_on l r ≡ Ok start
+        → WritesTold what start (commands_on l r) result.end (K.held out.old) (K.held out.new)
+        × DisksStay D.seen result.end l r start result.left result.right }
+    ensures damaged { (l r : List ℕ) → D.seen left ≡ Some l → D.seen right ≡ Some r
+        → (side : Side) (damage : Damage) → state_on l r ≡ Err (side, damage)
+        → (out.new ≡ out.old) × EndsDamaged D.seen side damage result.end result.left result.right }
+    ensures no_source { result.end ≢ Err Halt.ReadFault }
+    ensures sink { WriteCause result.end (K.faults out.old) (K.faults out.new) }
+    ensures disks { DiskCause result.end (counts_of D.faults left right) (counts_of D.faults result.left result.right) }
+{
+    commands_lead_to_the_state();
+    let mut store = match Store::open(alloc, left, right) {
+        Ok(store) => store,
+        Err(fault) => return unopened(fault),
+    };
+    let end = write_told(alloc, what, &mut store, out);
+    let (left, right) = store.close();
+    Ending { end, left, right }
+}
+
+/// Writes the text of a store.
+fn write_told<K: Sink, D: Disk>(
+    alloc: Global,
+    what: Told,
+    store: &mut Store<D>,
+    out: &mut K,
+) -> Result<(), Halt>
+    requires going { store.old.stopped ≡ None }
+    ensures written { (held : List ℕ) (w : Written) (s : State)
+        → D.seen (taken_disk store.old) ≡ Some held → found_on (has_odd store.old.side) held ≡ Open w
+        → StandsFor store.old.core s → 1 ≤ s.generation → (s.generation ≡ 1 → replay 1 opening w.commands ≡ Ok s)
+        → WritesTold what s w.commands result (K.held out.old) (K.held out.new) }
+    ensures no_source { result ≢ Err Halt.ReadFault }
+    ensures sink { WriteCause result (K.faults out.old) (K.faults out.new) }
+    // The disks are only looked at.
+    ensures left { D.seen store.new.left ≡ D.seen store.old.left }
+    ensures right { D.seen store.new.right ≡ D.seen store.old.right }
+    ensures disks { DiskCause result
+        (counts_of D.faults store.old.left store.old.right) (counts_of D.faults store.new.left store.new.right) }
+{
+    match what {
+        Told::State => write_standing(alloc, store.protocol(), out),
+        Told::Audit => write_audit(alloc, store, out),
+    }
+}
