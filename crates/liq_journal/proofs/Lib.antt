@@ -1,5 +1,5 @@
 pub mod Appending
-mod Bodies
+pub mod Bodies
 mod Counting
 mod Creating
 mod Going
