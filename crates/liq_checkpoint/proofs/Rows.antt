@@ -87,17 +87,17 @@ pub record IsOrder {K : Type 0} (cmp : K → K → Ordering) (follows : Option K
   pub none : (k : K) → follows None k ≡ true
   pub some : (a b : K) → is_lt (cmp a b) ≡ follows (Some a) b
 
-less_is : (o : Ordering) → is_lt o ≡ true → o ≡ Less
-less_is Less h = refl
-less_is Equal h = absurd cc
-less_is Greater h = absurd cc
-
 module _ {K X : Type 0} (cmp : K → K → Ordering) (follows : Option K → K → Bool) (order : IsOrder cmp follows) where
   all_above : (k : K) (rows : List (K × X)) → AscendFrom follows (Some k) rows → AllByRecursion (λ y. cmp k y ≡ Less) (keys_of rows)
   all_above k [] h = tt
   all_above k (row ∷ rows) h =
-      let first = less_is (cmp k row.0) (order.some k row.0 ∙ h.0) in
+      let first = less (cmp k row.0) (order.some k row.0 ∙ h.0) in
       (first, below_more order.total k row.0 rows first (all_above row.0 rows h.1))
+    where
+      less : (o : Ordering) → is_lt o ≡ true → o ≡ Less
+      less Less h = refl
+      less Equal h = absurd cc
+      less Greater h = absurd cc
 
   pub ascends : (last : Option K) (rows : List (K × X)) → AscendFrom follows last rows → IsStrictlySortedBy cmp (keys_of rows)
   unfolding IsStrictlySortedBy

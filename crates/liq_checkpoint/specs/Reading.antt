@@ -12,6 +12,7 @@ use Rattle.liq_types.specs.declared.figures.Client.{Client}
 use Rattle.liq_types.specs.declared.figures.Trove.{Trove}
 use Rattle.liq_types.specs.declared.figures.Deposit.{Deposit}
 use Rattle.liq_types.specs.declared.image.Image.{Image}
+use Rattle.liq_types.specs.Image.{opening_image_with}
 use Rattle.liq_types.specs.Tables.{Place}
 use Rattle.liq_types.specs.Soundness.{is_before}
 use Rattle.liq_checkpoint.specs.declared.image_bytes.ImageBytes.{ImageBytes}
@@ -170,7 +171,7 @@ table_at row_at end at = do
 unfoldable pub limit_at : ℕ → List ℕ → Result (ℕ × List ℕ) ℕ
 limit_at end at = if nat_lt (length at) 8 then Err end else tested (bytes_eq (take 8 at) name) end at (LIM, drop 8 at)
 
--- an image without rows
+-- An image without rows: it differs from the opening one in its words.
 unfoldable pub words_at : ℕ → ℕ → List ℕ → Result (Image × List ℕ) ℕ
 words_at end limit at = do
   times ← numbers_at end 6 at
@@ -183,13 +184,12 @@ words_at end limit at = do
   sum ← number_at end 16 place.1
   deposited ← numbers_at end 2 sum.1
   Ok (
-    record {
+    record (opening_image_with limit) {
       price = get_or times.0 0 0;
       minute = get_or times.0 1 0;
       base = get_or times.0 2 0;
       fee_minute = get_or times.0 3 0;
       generation = get_or times.0 4 0;
-      limit = limit;
       brought = get_or times.0 5 0;
       active_coll = get_or pools.0 0 0;
       active_debt = get_or pools.0 1 0;
@@ -210,12 +210,6 @@ words_at end limit at = do
       sum = sum.0;
       total = get_or deposited.0 0 0;
       pool_coll = get_or deposited.0 1 0;
-      wallets = [];
-      troves = [];
-      surplus_rows = [];
-      finished = [];
-      deposits = [];
-      clients = [];
     },
     deposited.1,
   )

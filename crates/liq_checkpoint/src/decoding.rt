@@ -65,16 +65,8 @@ fn words_at(alloc: Global, end: u64, limit: u64, at: &[u8]) -> Result<(Image, &[
     let (sum, at) = u128_at(end, at)?;
     let (deposited, at) = numbers_at::<2>(end, at)?;
     let [price, minute, base, fee_minute, generation, brought] = times;
-    let [
-        active_coll,
-        active_debt,
-        default_coll,
-        default_debt,
-        reserve,
-        surplus,
-        fee_coll,
-        fee_lusd,
-    ] = pools;
+    let [active_coll, active_debt, default_coll, default_debt, ..] = pools;
+    let [.., reserve, surplus, fee_coll, fee_lusd] = pools;
     let [stakes, snap_stakes, snap_coll] = stakes;
     let [scale, epoch] = place;
     let [total, pool_coll] = deposited;

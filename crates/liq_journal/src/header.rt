@@ -55,7 +55,7 @@ fn u64_at(bytes: &[u8], at: usize) -> u64
     BigEndian::read_u64(&bytes[at..])
 }
 
-// Whether a disk has this generation, of the odd ones or of the even ones.
+// Whether this is a generation of the disk that has the odd ones, or of the one that has the even ones.
 fn may_have(odd: bool, generation: u64) -> bool
     ensures { result ≡ is_generation odd generation }
 {

@@ -96,8 +96,8 @@ impl<D: Disk> Journal<D> {
     /// journal's, and `beside` is the one that the journal had, as it was. The checkpoint has at most 2^36 bytes, and
     /// none exactly in generation 1.
     ///
-    /// After `DiskFault` the journal is as it was, on its own disk. A crash leaves of the other disk what one in `create`
-    /// leaves.
+    /// After `DiskFault` the journal is as it was, on its own disk. A crash leaves of the other disk what one in
+    /// `create` leaves.
     pub fn turn(&mut self, beside: &mut D, checkpoint: &[u8]) -> Result<(), DiskFault>
         requires more { self.old.generation + 1 < 2 ^ 64 }
         requires limit { length checkpoint.now ≤ 2 ^ 36 }

@@ -1,5 +1,6 @@
 //! Laws of a journal's bytes.
-ghost use Rattle.std.specs.Prelude.{◌≡◌, ◌+◌, ◌*◌, ◌++◌, ◌<◌, ◌≤◌, All, Ok, Err, Bool, false, List, ℕ, length, take, drop};
+ghost use Rattle.std.specs.Prelude.{◌≡◌, ◌+◌, ◌*◌, ◌++◌, ◌<◌, ◌≤◌, Ok, Err, Bool, false};
+ghost use Rattle.std.specs.Prelude.{All, List, ℕ, length, take, drop};
 ghost use Rattle.liq_journal.specs.Records.{records};
 ghost use Rattle.liq_journal.specs.Crash.{Stands};
 ghost use Rattle.liq_outside.specs.Disk.{Torn};

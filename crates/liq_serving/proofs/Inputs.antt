@@ -4,7 +4,6 @@ use Rattle.std.specs.Prelude.{All, Contains, Vec, slice_index_or}
 use Rattle.std.specs.List.{AllByRecursion}
 use Rattle.std.proofs.lemmas.List.Elements.{All-map}
 use Rattle.std.specs.Global.{Global}
-use Rattle.liq_outside.specs.Faults.{Rose}
 use Rattle.liq_types.specs.declared.amounts.TheConstants.{LINES_MOST}
 use Rattle.liq_types.specs.declared.requests.Command.{Command}
 use Rattle.liq_types.specs.declared.requests.Request.{Request}
@@ -23,7 +22,7 @@ use Rattle.liq_pairs.specs.Pair.{state_on}
 use Rattle.liq_pairs.proofs.Keeping.{settled_kept}
 use Rattle.liq_store.specs.declared.answers.StoreWhy.{StoreWhy}
 use Rattle.liq_store.specs.declared.answers.StoreWhy.TheVariants as why
-use Rattle.liq_store.specs.Causes.{Faults, OneRose, counts_of}
+use Rattle.liq_store.specs.Causes.{Faults, counts_of}
 use Rattle.liq_store.specs.Keeping.{IsKeptAround}
 use Rattle.liq_store.specs.Opening.{IsNotOpened, OpensOn}
 use Rattle.liq_store.specs.Stored.{Stored}
@@ -46,7 +45,7 @@ use Rattle.liq_serving.specs.declared.served.End.{End}
 use Rattle.liq_serving.specs.declared.served.End.TheVariants as end
 use Rattle.liq_serving.specs.declared.served.Served.{Served}
 use Rattle.liq_serving.specs.Ends.{halt_of}
-use Rattle.liq_serving.specs.Input.{Answers, DiskCause, EndsDamaged, HoldsAfter, IsAllButForMemory, IsFinishOf, ServesInput, StayFor, WriteCause, Written, reading_of}
+use Rattle.liq_serving.specs.Input.{Answers, DiskCause, EndsDamaged, HoldsAfter, IsFinishOf, ServesInput, StayFor, Written, reading_of}
 use Rattle.liq_serving.specs.Serves.{AreNumbered, AreSettled, LeavesDisks, Serves, disk_at}
 use Rattle.liq_serving.proofs.Told.{all_from, all_to, all_unmap}
 
@@ -123,17 +122,6 @@ by_finish P (end.DiskFault halt) how is all memory fault = subst P (sym is) (fau
 -- all was read
 reads_whole : (e : End) (how : Finish) → IsFinishOf e how → reading_of how ≡ Ok tt
 reads_whole e how how_is = by_finish (λ (h : Finish). reading_of h ≡ Ok tt) e how how_is (λ is. (refl, refl)) (λ is. refl) (λ halt is. refl)
-
--- where no count rose
-pub completes : (e : End) (how : Finish) (sink_before sink_after : ℕ) (before after : Faults) → IsFinishOf e how → WriteCause how sink_before sink_after → DiskCause how before after
-    → (Rose sink_before sink_after → ⊥) → (OneRose before after → ⊥) → IsAllButForMemory how
-completes e how sink_before sink_after before after how_is written disks calm_sink calm_disks =
-    by_finish (λ (h : Finish). WriteCause h sink_before sink_after → DiskCause h before after → IsAllButForMemory h) e how how_is
-    (λ is. (λ w d. tt, λ w d. calm_sink w.1)) (λ is w d. tt) (λ halt is w d. calm_disks d) written disks
-
--- where reading stopped for want of memory
-pub completes_unread : (why_not : Stop) → why_not ≡ stop.NoMemory → IsAllButForMemory (finish.NotRead why_not)
-completes_unread why_not is = subst (λ (s : Stop). IsAllButForMemory (finish.NotRead s)) (sym is) tt
 
 -- ---- nothing was answered
 
@@ -218,14 +206,6 @@ module _ {D : Type 0} (seen : D → Option (List ℕ)) (faults : D → ℕ) (lef
       let same : ◌≡◌ {A = Side × Damage} (which, found) (side, damage) = cc (told, is) in
       (ap (λ (p : Side × Damage). p.0) same, ap (λ (p : Side × Damage). p.1) same, λ a b told_a told_b. unopened.stays (λ e. cc) l r a b told_l told_r told_a told_b ∙ is)
   unopened_damaged why.NoMemory now_left now_right unopened l r side damage told_l told_r is = λ a b told_a told_b. unopened.stays (λ e. cc) l r a b told_l told_r told_a told_b ∙ is
-
-  -- where no count rose, no store was opened for want of memory
-  pub completes_unopened : (why_not : StoreWhy) (now_left now_right : D) → IsNotOpened seen faults left right (record { left = now_left; right = now_right; why = why_not })
-      → (l r : List ℕ) (start : State) → seen left ≡ Some l → seen right ≡ Some r → state_on l r ≡ Ok start
-      → (OneRose (counts_of faults left right) (counts_of faults now_left now_right) → ⊥) → IsAllButForMemory (finish.NotOpened why_not)
-  completes_unopened why.DiskFault now_left now_right unopened l r start told_l told_r is calm = calm unopened.cause
-  completes_unopened (why.Damaged side damage) now_left now_right unopened l r start told_l told_r is calm = cc (unopened.is_why l r told_l told_r, is)
-  completes_unopened why.NoMemory now_left now_right unopened l r start told_l told_r is calm = tt
 
 module _ {K D : Type 0} (held : K → Option (List ℕ)) (seen : D → Option (List ℕ)) (faults : D → ℕ) (before unread : Option (List ℕ)) (out : K) (left right : D) where
   -- all was read, and no store was opened

@@ -19,7 +19,6 @@ use Rattle.liq_store.specs.declared.answers.StoreWhy.TheVariants as why
 use Rattle.liq_store.specs.Causes.{CausesWhy, Faults, OneRose}
 use Rattle.liq_lines.specs.Writing.{Writes, WritesPart}
 use Rattle.liq_lines.specs.declared.stops.Stop.{Stop}
-use Rattle.liq_lines.specs.declared.stops.Stop.TheVariants as stop
 use Rattle.liq_scripts.specs.declared.scripts.TheConstants.{SESSIONS}
 use Rattle.liq_scripts.specs.BySession.{script_of, scripts_of}
 use Rattle.liq_scripts.specs.Gathering.{EndsAfter}
@@ -154,11 +153,3 @@ abbrev pub DiskCause : Finish → Faults → Faults → Type 0
 DiskCause finish.DiskFault before after = OneRose before after
 DiskCause (finish.NotOpened why_not) before after = CausesWhy why_not before after
 DiskCause _ before after = after ≡ before
-
--- all is answered and written, or there was no memory
-abbrev pub IsAllButForMemory : Finish → Type 0
-IsAllButForMemory finish.All = Unit {0}
-IsAllButForMemory (finish.NotRead stop.NoMemory) = Unit {0}
-IsAllButForMemory (finish.NotOpened why.NoMemory) = Unit {0}
-IsAllButForMemory finish.NoMemory = Unit {0}
-IsAllButForMemory _ = ⊥

@@ -1,20 +1,13 @@
 //! The word `serve`: what the lines of all sessions ask is answered at once over two disks, and the history is written.
 
-ghost use Rattle.std.specs.Prelude.{◌≡◌, ◌≤◌, [], map, length, List, ℕ, Some, Ok};
-ghost use Rattle.std.specs.List.{AllZip};
-ghost use Rattle.liq_outside.specs.Faults.{Rose};
+ghost use Rattle.std.specs.Prelude.{◌≡◌, [], map};
 ghost use Rattle.liq_types.specs.declared.amounts.TheConstants.{LINES_MOST};
-ghost use Rattle.liq_types.specs.declared.requests.Request.{Request};
-ghost use Rattle.liq_types.specs.State.{State};
-ghost use Rattle.liq_pairs.specs.Pair.{state_on};
-ghost use Rattle.liq_store.specs.Causes.{OneRose, counts_of};
-ghost use Rattle.liq_lines.specs.Lines.{lines_in};
+ghost use Rattle.liq_store.specs.Causes.{counts_of};
 ghost use Rattle.liq_lines.specs.Reading.{taken_most, ReadsAtMost};
 ghost use Rattle.liq_lines.specs.declared.stops.Stop.{Stop};
-ghost use Rattle.liq_scripts.specs.Asked.{Asks};
 ghost use Rattle.liq_scripts.specs.Gathering.{ReadCause};
 ghost use Rattle.liq_rules.specs.Recorded.{recorded};
-ghost use Rattle.liq_serving.specs.Input.{DiskCause, IsAllButForMemory, IsFinishOf, ServesInput, WriteCause, Written, reading_of};
+ghost use Rattle.liq_serving.specs.Input.{DiskCause, IsFinishOf, ServesInput, WriteCause, Written, reading_of};
 
 use crate::served::{End, Served};
 use crate::serving::serve_sessions;
@@ -77,13 +70,6 @@ pub fn serve_input<S: Source, K: Sink, D: Disk + Send, G: Gate + Sync, R: Thread
     ensures source { ReadCause (reading_of result.finish) (S.faults input.old) (S.faults input.new) }
     ensures sink { WriteCause result.finish (K.faults out.old) (K.faults out.new) }
     ensures disks { DiskCause result.finish (counts_of D.faults left right) (counts_of D.faults result.left result.right) }
-
-    // Where nothing is wrong with lines, streams and disks, all is answered and written, or there was no memory.
-    ensures complete { (bytes l r : List ℕ) → S.left input.old ≡ Some bytes → D.seen left ≡ Some l → D.seen right ≡ Some r
-        → (start : State) → state_on l r ≡ Ok start → (asked : List (ℕ × Request)) → AllZip Asks (lines_in bytes) asked → length asked ≤ LINES_MOST
-        → (Rose (S.faults input.old) (S.faults input.new) → ⊥) → (Rose (K.faults out.old) (K.faults out.new) → ⊥)
-        → (OneRose (counts_of D.faults left right) (counts_of D.faults result.left result.right) → ⊥)
-        → IsAllButForMemory result.finish }
 {
     let Ok(mut outbox) = Outbox::new(alloc) else {
         let finish = Finish::NotRead(Stop::NoMemory);

@@ -7,7 +7,7 @@ use Rattle.liq_types.specs.declared.image.Image.{Image}
 use Rattle.liq_types.specs.State.{State}
 use Rattle.liq_core.specs.Core.{Core, StandsFor}
 use Rattle.liq_rules.specs.Step.{after, effect, records_after}
-use Rattle.liq_rules.proofs.Allowed.{all_built, effect-records}
+use Rattle.liq_rules.proofs.Allowed.{effect-records}
 use Rattle.liq_rules.proofs.Generations.{effect-generation}
 use Rattle.liq_journal.specs.Written.{is_odd, is_rotate}
 use Rattle.liq_journal.proofs.Parity.{next_parity}
@@ -19,7 +19,7 @@ use Rattle.liq_store.proofs.Verbs.{never_rotates}
 pub after-records : (s : State) (c : Command) → is_rotate c.call ≡ false → (after s c).records ≡ s.records + 1
 after-records s c h =
     ap (λ (b : Bool). cond b 0 ((effect s c.call).records + 1)) (never_rotates c.call h)
-    ∙ ap (λ n. n + 1) (effect-records s c.call (all_built c.call (never_rotates c.call h)))
+    ∙ ap (λ n. n + 1) (effect-records s c.call)
 
 pub after-generation : (s : State) (c : Command) → is_rotate c.call ≡ false → (after s c).generation ≡ s.generation
 after-generation s c h = effect-generation s c.call (never_rotates c.call h)

@@ -124,11 +124,13 @@ joined_after : {T E : Type 0} (r : Result T E) (x y : Shelf) (s t : Sight) (wait
 joined_after (Ok _) x y s t waits rest sent = ap (λ (bs : List Given). t.seen ++ bs) sent.1 ∙ append-nil t.seen ∙ sent.0
 joined_after (Err _) x y s t waits rest sent = ap (λ (bs : List Given). t.seen ++ bs) sent.2 ∙ ap (λ (z : Sight). z.seen ++ waits) sent.1
 
--- so the last number is that of the batch that was given
-pub last_given : {T E : Type 0} (r : Result T E) (x y : Shelf) (s t : Sight) (waits more rest : List Given) (b given : Given) → more ≡ waits ++ b ∷ [] → b ≡ given
-    → IsSent r x s more y t rest → last_from 0 (t.seen ++ rest) ≤ given.number
-last_given r x y s t waits more rest b given joined is sent =
-    let e : last_from 0 (t.seen ++ rest) ≡ given.number =
-    ap (last_from 0) (joined_after r x y s t more rest sent ∙ ap (λ (bs : List Given). s.seen ++ bs) joined ∙ sym (append_assoc s.seen waits (b ∷ [])))
-    ∙ last_snoc 0 (s.seen ++ waits) b ∙ ap (λ (z : Given). z.number) is in
+-- So the last number is that of the batch that was given: it was taken behind those that waited, and then sent or not.
+pub last_given : {T E W : Type 0} (r : Result T E) (old new sent : W) (shown : W → Shelf) (sight : W → Sight) (waits : W → List Given) (b given : Given)
+    → waits new ≡ waits old ++ b ∷ [] → b ≡ given → IsSent r (shown new) (sight new) (waits new) (shown sent) (sight sent) (waits sent)
+    → last_from 0 ((sight sent).seen ++ waits sent) ≤ given.number
+last_given r old new sent shown sight waits b given joined is was_sent =
+    let seen = (sight new).seen in
+    let e : last_from 0 ((sight sent).seen ++ waits sent) ≡ given.number =
+    ap (last_from 0) (joined_after r (shown new) (shown sent) (sight new) (sight sent) (waits new) (waits sent) was_sent ∙ ap (λ (bs : List Given). seen ++ bs) joined ∙ sym (append_assoc seen (waits old) (b ∷ [])))
+    ∙ last_snoc 0 (seen ++ waits old) b ∙ ap (λ (z : Given). z.number) is in
     omega (arith, e)

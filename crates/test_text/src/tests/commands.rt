@@ -1,13 +1,11 @@
 //! Commands, as lines.
 
-ghost use Rattle.std.specs.Prelude.{All, IsTrue, IfOk};
+ghost use Rattle.std.specs.Prelude.{◌≡◌, All, IfOk, false};
 ghost use Rattle.liq_types.specs.declared.requests.Command.{Command};
-ghost use Rattle.liq_types.specs.declared.requests.Request.TheVariants.{Do};
-ghost use Rattle.liq_rules.specs.Step.{built};
+ghost use Rattle.liq_journal.specs.Written.{is_rotate};
 
-use liq_core::is_built;
 use liq_text::read_line;
-use liq_types::{Command, Request};
+use liq_types::{Call, Command, Request};
 use std::alloc::{AllocError, Global};
 use std::test::Fail;
 
@@ -20,9 +18,9 @@ pub fn numbered(alloc: Global, calls: &str) -> Result<String, AllocError> {
     Ok(lines)
 }
 
-/// The commands of these lines.
+/// The commands of these lines, of which none is a rotation.
 pub fn commands_of(alloc: Global, lines: &str) -> Result<Vec<Command>, Fail>
-    ensures { IfOk result (λ commands. All (λ (c : Command). IsTrue (built (Do c))) commands.items) }
+    ensures { IfOk result (λ commands. All (λ (c : Command). is_rotate c.call ≡ false) commands.items) }
 {
     let mut commands = Vec::new(alloc);
     for line in lines.lines() {
@@ -32,10 +30,13 @@ pub fn commands_of(alloc: Global, lines: &str) -> Result<Vec<Command>, Fail>
 }
 
 fn command_of(line: &[u8]) -> Result<Command, Fail>
-    ensures { IfOk result (λ c. IsTrue (built (Do c))) }
+    ensures { IfOk result (λ c. is_rotate c.call ≡ false) }
 {
     match read_line(line)? {
-        Request::Do(command) if is_built(&Request::Do(command)) => Ok(command),
-        _ => Err(Fail::from("no command that is built")),
+        Request::Do(command) => match command.call {
+            Call::Rotate => Err(Fail::from("a rotation")),
+            _ => Ok(command),
+        },
+        Request::Ask(_) => Err(Fail::from("no command")),
     }
 }

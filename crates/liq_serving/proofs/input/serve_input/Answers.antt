@@ -3,7 +3,7 @@ use Rattle.liq_core.specs.Core.{state_of}
 use Rattle.liq_types.specs.declared.entries.Entry.{Entry}
 use Rattle.liq_rules.specs.Recorded.{recorded}
 use Rattle.liq_serving.specs.Input.{Written}
-use Rattle.liq_serving.proofs.Inputs.{cause_by, completes, serves_input, serves_nothing, serves_unopened}
+use Rattle.liq_serving.proofs.Inputs.{cause_by, serves_input, serves_nothing, serves_unopened}
 use Rattle.liq_serving.proofs.input.serve_input.Goals as goal
 use Rattle.liq_lines.proofs.Readings.{takes_none}
 
@@ -37,10 +37,6 @@ returns-clause-disks g c =
     let stands = rw c.protocol.ensures at c.protocols_stand.ensures in
     cause_by g.D.Disk.seen g.D.Disk.faults g.D.Disk.moment g.D.Disk.left_at store c.in-Ok-read_scripts.scripts.items served gathers.asked gathers.scripts
     c.args.left c.args.right (state_of store.core) (c.serve_sessions-left.ensures (state_of store.core) stands) c.in-Ok-open.ensures.opened c.write_end-finish.result c.write_end-finish.ensures.finish
-
-pub returns-clause-complete : goal.returns-clause-complete
-returns-clause-complete g c bytes l r told told_l told_r start is asked spelled few calm_source calm_sink calm_disks =
-    completes c.serve_sessions-left.result.end c.write_end-finish.result _ _ _ _ c.write_end-finish.ensures.finish c.write_end-finish.ensures.cause (returns-clause-disks g c) calm_sink calm_disks
 
 pub returns-in_default-clause-takes : goal.returns-in_default-clause-takes
 returns-in_default-clause-takes g c = takes_none (g.S.Source.left c.args.input.now)

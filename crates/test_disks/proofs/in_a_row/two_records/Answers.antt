@@ -1,4 +1,4 @@
-use Rattle.std.proofs.Common.{[], ℕ, refl, sym, subst, ◌∙◌}
+use Rattle.std.proofs.Common.{[], ℕ, sym, subst, ◌∙◌}
 use Rattle.liq_journal.specs.Crash.{Stands, beginning, is_odd}
 use Rattle.liq_journal.specs.Written.{and_then}
 use Rattle.test_disks.proofs.in_a_row.two_records.Goals as goal
@@ -8,7 +8,7 @@ returns-in-Ok-append-2 g c = λ held told.
     let none = beginning 1 [] in
     let one = and_then none c.args.first.now in
     let two = and_then one c.args.second.now in
-    let a = c.in-Ok.ensures.created held told refl in
+    let a = c.in-Ok.ensures.created held told in
     let created = subst (λ (n : ℕ). Stands (is_odd n) a.0 none) (sym c.in-Ok.ensures.known.0) a.2 in
     let b = c.in-Ok-append.ensures.appended a.0 none c.args.first.now a.1 created (record { spelled = c.encode.ensures.back c.requires.hints.0; no_rotation = c.requires.no_rotation.0 }) in
     let first = subst (λ (n : ℕ). Stands (is_odd n) b.0 one) (sym c.append.ensures.generation) b.2 in

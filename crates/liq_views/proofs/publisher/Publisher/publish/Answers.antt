@@ -25,18 +25,12 @@ invariant_of-self-2 g c =
 
 pub returns-in-Ok-sent-clause-last : goal.returns-in-Ok-sent-clause-last
 returns-in-Ok-sent-clause-last g c =
-    let old = c.args.self.now.writer in
-    let new = c.append.new.self in
-    let sent = c.replace_with-sent.new.dest in
-    last_given c.replace_with-sent.result new.desk.shown.value sent.desk.shown.value (view new.desk.place) (view sent.desk.place)
-    (drop old.behind old.log.items) (drop new.behind new.log.items) (drop sent.behind sent.log.items)
+    last_given c.replace_with-sent.result c.args.self.now.writer c.append.new.self c.replace_with-sent.new.dest
+    (λ w. w.desk.shown.value) (λ w. view w.desk.place) (λ w. drop w.behind w.log.items)
     c.in_ok-batch.batch (record { changes = c.args.changes.now; number = c.args.number }) c.in-Ok.ensures.pending c.in_ok-batch.ensures c.replace_with-sent.ensures
 
 pub returns-in-Err-sent-clause-last : goal.returns-in-Err-sent-clause-last
 returns-in-Err-sent-clause-last g c =
-    let old = c.args.self.now.writer in
-    let new = c.append.new.self in
-    let sent = c.replace_with-sent.new.dest in
-    last_given c.replace_with-sent.result new.desk.shown.value sent.desk.shown.value (view new.desk.place) (view sent.desk.place)
-    (drop old.behind old.log.items) (drop new.behind new.log.items) (drop sent.behind sent.log.items)
+    last_given c.replace_with-sent.result c.args.self.now.writer c.append.new.self c.replace_with-sent.new.dest
+    (λ w. w.desk.shown.value) (λ w. view w.desk.place) (λ w. drop w.behind w.log.items)
     c.in_ok-batch.batch (record { changes = c.args.changes.now; number = c.args.number }) c.in-Ok.ensures.pending c.in_ok-batch.ensures c.replace_with-sent.ensures
