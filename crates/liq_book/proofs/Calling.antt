@@ -12,7 +12,7 @@ use Rattle.liq_types.specs.declared.requests.Request.{Request}
 use Rattle.liq_types.specs.State.{State}
 use Rattle.liq_core.specs.Core.{StandsFor}
 use Rattle.liq_rules.specs.History as history
-use Rattle.liq_rules.specs.History.{IsLegal, own_entries, state_after}
+use Rattle.liq_rules.specs.History.{own_entries, state_after}
 use Rattle.liq_rules.proofs.Histories.{legal-empty, legal-snoc, state-snoc}
 use Rattle.liq_pairs.proofs.Keeping.{settled_kept}
 use Rattle.liq_store.specs.Answering.{Answers}

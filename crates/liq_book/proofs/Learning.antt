@@ -9,7 +9,7 @@ use Rattle.liq_types.specs.declared.replies.Reply.{Reply}
 use Rattle.liq_types.specs.declared.requests.Request.{Request}
 use Rattle.liq_types.specs.State.{State}
 use Rattle.liq_rules.specs.History as history
-use Rattle.liq_rules.specs.History.{IsLegal, own_entries, state_after}
+use Rattle.liq_rules.specs.History.{own_entries}
 use Rattle.liq_lock.specs.History.{Behind, GoesOn, NoneOf}
 use Rattle.liq_lock.proofs.Histories.{in_one, nothing_in_nil}
 use Rattle.liq_types.specs.declared.entries.Entry.{Entry}

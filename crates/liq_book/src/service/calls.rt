@@ -33,20 +33,15 @@ impl<D: Disk, O: Origin> Service<D, O> {
         ensures limited { IsLimited result.1 (items_seen result.0) }
         ensures legal { IsLegal O.state (entries_of (items_seen result.0)) }
     {
-        let BookSeat {
-            seat,
-            session,
-            calls,
-            of,
-        } = seat;
-        let (held, mut book) = self.lock.take(rt, seat);
+        let (session, calls) = (seat.session, seat.calls);
+        let (held, mut book) = self.lock.take(rt, seat.seat);
         match book.call(session, calls, request, hint) {
             Answer::Reply(reply) => {
                 let seat = BookSeat {
                     seat: self.lock.give(held, book),
                     session,
                     calls: calls + 1,
-                    of,
+                    of: PhantomData,
                 };
                 (seat, Answer::Reply(reply))
             }
@@ -55,7 +50,7 @@ impl<D: Disk, O: Origin> Service<D, O> {
                     seat: self.lock.give(held, book),
                     session,
                     calls,
-                    of,
+                    of: PhantomData,
                 };
                 (seat, other)
             }

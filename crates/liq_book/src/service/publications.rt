@@ -8,6 +8,7 @@ use crate::origin::Origin;
 use crate::seat::BookSeat;
 use liq_outside::Disk;
 use liq_types::NoMemory;
+use std::marker::PhantomData;
 use std::sync::Wait;
 
 impl<D: Disk, O: Origin> Service<D, O> {
@@ -21,19 +22,14 @@ impl<D: Disk, O: Origin> Service<D, O> {
         ensures calls { calls_at result.0 ≡ calls_at seat }
         ensures others { SeesOthers (session_at seat) (items_seen seat) (items_seen result.0) }
     {
-        let BookSeat {
-            seat,
-            session,
-            calls,
-            of,
-        } = seat;
-        let (held, mut book) = self.lock.take(rt, seat);
+        let (session, calls) = (seat.session, seat.calls);
+        let (held, mut book) = self.lock.take(rt, seat.seat);
         let sent = book.publish(rt);
         let seat = BookSeat {
             seat: self.lock.give(held, book),
             session,
             calls,
-            of,
+            of: PhantomData,
         };
         (seat, sent)
     }
