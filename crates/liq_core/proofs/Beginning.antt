@@ -14,7 +14,7 @@ use Rattle.liq_types.specs.declared.figures.Trove.{Trove}
 use Rattle.liq_types.specs.declared.figures.Wallet.{Wallet}
 use Rattle.liq_types.specs.declared.image.Image.{Image}
 use Rattle.liq_types.specs.Product.{start_sum}
-use Rattle.liq_types.specs.Soundness.{IsClientRow, IsSoundImage, is_product, is_sound_deposit, is_sound_trove, is_sum_beside, places_most}
+use Rattle.liq_types.specs.Soundness.{HasTables, IsClientRow, IsSoundImage, is_product, is_sound_deposit, is_sound_trove, is_sum_beside, places_most}
 use Rattle.liq_types.specs.State.{started, is_used_client, is_used_wallet}
 use Rattle.liq_types.specs.Tables.{Table, rows}
 use Rattle.liq_types.specs.WellFormed.{Ascends}
@@ -50,6 +50,10 @@ module _ {K X : Type 0} where
 
 is_some : (n : ℕ) → 1 ≤ n → not (n == 0) ≡ true
 is_some n h = grind (arith, nat_tests, h)
+
+-- no client's row is empty
+pub clients_used : (i : Image) → HasTables i → rows is_used_client i.clients ≡ i.clients
+clients_used i h = rows_all is_used_client i.clients (rows_used IsClientRow is_used_client (λ c k. is_some c.last k.last) i.clients h.client_rows)
 
 -- ---- each account once
 
@@ -98,7 +102,7 @@ module _ (i : Image) (h : IsSoundImage i 0) where
   deposits_again = rows_all is_used_deposit i.deposits (rows_used (λ (d : Deposit). 1 ≤ d.amount) is_used_deposit (λ d k. is_some d.amount k) i.deposits h.tables.some_deposits)
 
   pub clients_again : rows is_used_client i.clients ≡ i.clients
-  clients_again = rows_all is_used_client i.clients (rows_used IsClientRow is_used_client (λ c k. is_some c.last k.last) i.clients h.tables.client_rows)
+  clients_again = clients_used i h.tables
 
   pub rows_sound : AreSoundRows i.troves (sums_by i)
   rows_sound =

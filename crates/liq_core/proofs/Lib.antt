@@ -11,11 +11,13 @@ pub mod Lending
 pub mod Liquidating
 pub mod Noting
 pub mod Paying
+pub mod Placing
 pub mod Planning
 pub mod Pooling
 pub mod Reading
 pub mod Redeeming
 pub mod Rooms
+pub mod Rotating
 pub mod SameContents
 pub mod SoundCores
 pub mod Stands

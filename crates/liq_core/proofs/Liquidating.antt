@@ -52,12 +52,12 @@ use Rattle.liq_victims.specs.Victims.{AreKept, AreVictims}
 use Rattle.liq_rules.proofs.Allowed.{all-records, allowed_rules}
 use Rattle.liq_rules.proofs.Counting.{listed_count, lowest_count, lowest_within}
 use Rattle.liq_core.proofs.Images.{pools_by, with_pool, with_pools, with_sums}
-use Rattle.liq_core.proofs.Noting.{kept_rows}
+use Rattle.liq_core.proofs.Noting.{kept_rows, made_sound, made_stands}
 use Rattle.liq_core.proofs.Planning.{its_rows, its_sums, its_words}
 use Rattle.liq_core.proofs.Rooms.{among_owners}
 use Rattle.liq_core.proofs.SoundCores.{image_back, sound_stands}
 use Rattle.liq_soundness.proofs.SoundStart.{started_with}
-use Rattle.liq_soundness.proofs.SoundStep.{after_sound, allowed_has, finds}
+use Rattle.liq_soundness.proofs.SoundStep.{allowed_has, finds}
 use Rattle.liq_soundness.proofs.SoundTests.{sound_facts}
 use Rattle.liq_victims.proofs.ToldVictims.{lowest_victims}
 use Rattle.liq_standing.specs.Books.{pools_of}
@@ -244,15 +244,9 @@ module _ (p : Inside) (sound : IsSound p) (command : Command) (done : Done) (liq
       ∙ ap (λ n. n + 1) (all-records vs begin liquidator)
 
   pub counted_stands : (old : Core) → core_of p ≡ old → StandsFor (core_of (counted p wallets pools surplus kept order pool clients)) (after (state_of old) command)
-  counted_stands old view =
-      let good = after_sound (state_of (core_of p)) (started_with (core_of p).image p.records sound.image) command q.allowed in
-      subst (λ (core : Core). StandsFor (core_of (counted p wallets pools surplus kept order pool clients)) (after (state_of core) command)) view
-      (record { image = next_image; records = sym next_records; formed = good.formed })
+  counted_stands = made_stands p (counted p wallets pools surplus kept order pool clients) sound command q.allowed next_image next_records
 
   pub counted_sound : IsSound (counted p wallets pools surplus kept order pool clients)
   counted_sound =
-      let good = after_sound (state_of (core_of p)) (started_with (core_of p).image p.records sound.image) command q.allowed in
-      record {
-        image = subst (λ (j : Image). IsSoundImage j (p.records + 1)) (sym next_image) (subst (λ n. IsSoundImage (image (after (state_of (core_of p)) command)) n) next_records good.sound);
-        order = kept_listed (all_liquidated (state_of (core_of p)) liquidator vs) (core_of p).image wallets pools surplus kept order pool h;
-      }
+      made_sound p (counted p wallets pools surplus kept order pool clients) sound command q.allowed next_image next_records
+      (kept_listed (all_liquidated (state_of (core_of p)) liquidator vs) (core_of p).image wallets pools surplus kept order pool h)

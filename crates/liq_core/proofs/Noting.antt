@@ -1,4 +1,4 @@
--- What counting a command makes of a protocol.
+-- What counting a command makes of a protocol, and what an allowed command does.
 use Rattle.std.proofs.Common.{◌≡◌, ℕ, ◌+◌, ◌<◌, true, cond, ap, sym, subst, ◌∙◌, arith}
 use Rattle.std.specs.Prelude.{if◌then◌else◌}
 use Rattle.std.proofs.lemmas.Bool.Decides.{nat_tests}
@@ -7,16 +7,21 @@ use Rattle.liq_types.specs.declared.figures.Client.{Client}
 use Rattle.liq_types.specs.declared.replies.Done.{Done}
 use Rattle.liq_types.specs.declared.requests.Command.{Command}
 use Rattle.liq_types.specs.declared.image.Image.{Image}
+use Rattle.liq_order.specs.Order.{order_by}
 use Rattle.liq_types.specs.Soundness.{IsSoundImage}
 use Rattle.liq_types.specs.State.{State, is_used_client}
 use Rattle.liq_types.specs.Tables.{Table, put, without}
 use Rattle.liq_tables.specs.WithRoom.{WithRoom, written}
 use Rattle.liq_core.specs.declared.engine.Protocol.TheInside.{Inside}
-use Rattle.liq_core.specs.Core.{Core, StandsFor}
+use Rattle.liq_core.specs.Core.{Core, StandsFor, state_of}
 use Rattle.liq_core.specs.Sound.{IsSound, IsKeptRow, core_of}
-use Rattle.liq_rules.specs.Step.{noted}
+use Rattle.liq_rules.specs.Image.{image}
+use Rattle.liq_rules.specs.Step.{Allowed, after, noted, ruling}
 use Rattle.liq_rules.specs.Verbs.{rotates}
 use Rattle.liq_rules.proofs.SoundRules.{noted_sound}
+use Rattle.liq_soundness.specs.SoundState.{IsSoundState}
+use Rattle.liq_soundness.proofs.SoundStart.{started_with}
+use Rattle.liq_soundness.proofs.SoundStep.{after_sound}
 use Rattle.std.proofs.Common.{false}
 
 pub kept_rows : (table : Table Client) (key : ℕ) (row : Client) → 0 < row.last → written is_used_client table key row ≡ put table key row
@@ -50,4 +55,24 @@ module _ (p : Inside) (c : Command) (done : Done) (clients : WithRoom Client) (n
             ∙ ap (λ n. n + 1) h.records
             ∙ sym (ap (λ b. if b then 0 else s.records + 1) stays);
         formed = h.formed;
+      }
+
+-- a protocol with the image and the records that an allowed command leaves is a sound one, and stands for what it leaves
+module _ (p q : Inside) (sound : IsSound p) (c : Command) (allowed : ruling (state_of (core_of p)) c ≡ Allowed)
+    (image_is : (core_of q).image ≡ image (after (state_of (core_of p)) c)) (records_is : (after (state_of (core_of p)) c).records ≡ q.records) where
+  good : IsSoundState (after (state_of (core_of p)) c)
+  good = after_sound (state_of (core_of p)) (started_with (core_of p).image p.records sound.image) c allowed
+
+  pub made_stands : (old : Core) → core_of p ≡ old → StandsFor (core_of q) (after (state_of old) c)
+  made_stands old view =
+      subst (λ (core : Core). StandsFor (core_of q) (after (state_of core) c)) view
+      (record { image = image_is; records = sym records_is; formed = good.formed })
+
+  pub made_sound : q.order.entries ≡ order_by q.troves.table.rows → IsSound q
+  made_sound listed =
+      record {
+        image =
+            subst (λ (i : Image). IsSoundImage i q.records) (sym image_is)
+            (subst (λ n. IsSoundImage (image (after (state_of (core_of p)) c)) n) records_is good.sound);
+        order = listed;
       }

@@ -1,6 +1,6 @@
 -- The states for which a core stands: what is ruled, planned and done for one of them is so for each.
 use Rattle.std.proofs.Common.{◌≡◌, ℕ, true, subst, Option, refl, ap, sym, ◌∙◌}
-use Rattle.std.specs.Prelude.{IsTrue, Result}
+use Rattle.std.specs.Prelude.{false, Result}
 use Rattle.liq_types.specs.declared.replies.Refusal.{Refusal}
 use Rattle.liq_types.specs.declared.figures.Market.{Market}
 use Rattle.liq_types.specs.declared.requests.Call.{Call}
@@ -20,7 +20,7 @@ use Rattle.liq_liquidation.specs.Lowest.{victim_by}
 use Rattle.liq_redemption.specs.Redemption.{RedeemTerms, redeeming_terms, visited}
 use Rattle.liq_core.specs.Core.{Core, Changes, StandsFor, state_of}
 use Rattle.liq_rules.specs.Liquidation.{listed}
-use Rattle.liq_rules.specs.Step.{Allowed, ruling, effect, built_call}
+use Rattle.liq_rules.specs.Step.{Allowed, ruling, effect}
 use Rattle.liq_core.specs.declared.turns.Forecast.{Forecast}
 use Rattle.liq_core.specs.declared.turns.Terms.{Terms}
 use Rattle.liq_core.specs.declared.turns.Terms.TheVariants as kind
@@ -32,7 +32,8 @@ use Rattle.liq_rules.proofs.AlikeRedemption.{terms_alike as redeeming_alike}
 use Rattle.liq_rules.proofs.AlikeReads.{Alike, market_alike, entire_alike, gain_alike}
 use Rattle.liq_rules.proofs.AlikeReplies.{ruling_alike, step_alike}
 use Rattle.liq_rules.proofs.AlikeStep.{effect_alike, done_alike}
-use Rattle.liq_rules.proofs.Allowed.{effect-records}
+use Rattle.liq_rules.specs.Verbs.{rotates}
+use Rattle.liq_rules.proofs.Allowed.{all_built, effect-records}
 use Rattle.liq_core.proofs.SoundCores.{sound_stands}
 
 -- a state for which a core stands is the same as the one that begins with the core's image
@@ -45,10 +46,10 @@ pub standing_ruling : (core : Core) (s : State) (c : Command) → IsSoundImage c
 standing_ruling core s c sound h = ruling_alike (standing_alike core s sound h) c
 
 -- a core that stands for a state stands for what the call makes of it, once it is changed
-pub changed_stands : (old new : Core) (call : Call) → IsSoundImage old.image old.records → IsTrue (built_call call) → Changes old call new → (s : State) → StandsFor old s → StandsFor new (effect s call)
-changed_stands old new call sound built made s h =
+pub changed_stands : (old new : Core) (call : Call) → IsSoundImage old.image old.records → rotates call ≡ false → Changes old call new → (s : State) → StandsFor old s → StandsFor new (effect s call)
+changed_stands old new call sound stays made s h =
     let e = effect_alike (standing_alike old s sound h) call in
-    record { image = made.image ∙ sym e.image; records = made.records ∙ h.records ∙ sym (effect-records s call built); formed = e.left }
+    record { image = made.image ∙ sym e.image; records = made.records ∙ h.records ∙ sym (effect-records s call (all_built call stays)); formed = e.left }
 
 -- and once the whole command is made, for the step
 pub stepped_stands : (old new : Core) (c : Command) → IsSoundImage old.image old.records → ruling (state_of old) c ≡ Allowed → StandsFor new (after (state_of old) c) → (s : State) → StandsFor old s → StandsFor new (step s (Do c)).0

@@ -9,8 +9,8 @@ use Rattle.liq_types.specs.WellFormed.{IsWellFormed}
 use Rattle.liq_rules.specs.Image.{image}
 use Rattle.liq_rules.specs.Rules.{effect}
 
--- the keys of each table at which a row can be written without memory, and for how many more troves the list has room and
--- for how many more finished sums the Stability Pool
+-- the keys of each table at which a row can be written without memory, and for how many more troves the list has room
+-- and for how many more finished sums the Stability Pool
 pub record Room : Type 0 where
   pub wallets : List ℕ
   pub troves : List ℕ

@@ -1,5 +1,5 @@
 -- A planned command, the states on which it may be applied, and the rows that it wants.
-use Rattle.std.specs.Prelude.{◌≡◌, ◌<◌, IsTrue, List, [], ◌∷◌, length}
+use Rattle.std.specs.Prelude.{◌≡◌, ◌<◌, List, [], ◌∷◌, length}
 use Rattle.std.specs.List.{AllByRecursion}
 use Rattle.liq_types.specs.declared.amounts.TheConstants.{ACCOUNTS}
 use Rattle.liq_types.specs.declared.events.ListChange.{ListChange}
@@ -15,7 +15,7 @@ use Rattle.liq_rules.specs.Rules.{call_events, call_changes}
 use Rattle.liq_rules.specs.Step.{Allowed, ruling, done_of}
 use Rattle.liq_core.specs.Terms.{AreTerms, TermsFit, claimants, struck_by}
 use Rattle.liq_core.specs.Told.{events_in, changes_in}
-use Rattle.liq_rules.specs.Verbs.{accounts, pays, opens, provides, built_call}
+use Rattle.liq_rules.specs.Verbs.{accounts, pays, opens, provides}
 
 -- a command that is allowed: its reply, what it makes of what it changes, and what others follow
 pub record Plan : Type 0 where
@@ -75,10 +75,8 @@ room_for plan = record (room_of_call plan.command.call plan.terms) { clients = p
 abbrev pub HasRoom : Core → Plan → Type 0
 HasRoom core plan = IsWithin (room_for plan) core.room
 
--- what holds of every planned command: its verb is built, its client and its accounts are in range, and its terms are those of
--- its verb
+-- what holds of every planned command: its client and its accounts are in range, and its terms are those of its verb
 pub record IsSoundPlan (plan : Plan) : Type 0 where
-  pub built : IsTrue (built_call plan.command.call)
   pub client : plan.command.client < ACCOUNTS
   pub accounts : AllByRecursion (λ account. account < ACCOUNTS) (accounts plan.command.call)
   pub terms : TermsFit plan.command.call plan.terms

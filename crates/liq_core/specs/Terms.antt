@@ -1,7 +1,8 @@
 -- What a planned call makes of what it changes, where its words alone do not say it.
 use Rattle.std.specs.Prelude.{◌≡◌, ℕ, Bool, true, false, List, [], filter, map}
 use Rattle.liq_types.specs.declared.requests.Call.{Call}
-use Rattle.liq_types.specs.declared.requests.Call.TheVariants.{Open, Adjust, Close, GainToTrove, Liquidate, LiquidateLowest, Redeem}
+use Rattle.liq_types.specs.declared.requests.Call.TheVariants.{Open, Adjust, Close, GainToTrove}
+use Rattle.liq_types.specs.declared.requests.Call.TheVariants.{Liquidate, LiquidateLowest, Redeem}
 use Rattle.liq_types.specs.State.{State}
 use Rattle.liq_types.specs.Totals.{market_of, or_nothing}
 use Rattle.liq_troves.specs.StakeSums.{entire_of}

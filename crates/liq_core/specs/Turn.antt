@@ -40,7 +40,8 @@ ForecastsCall s call (Ok forecast) =
 ForecastsCall s call (Err (No refusal)) = first_refusal (map in_range (accounts call) ++ rules s call) ≡ Some refusal
 ForecastsCall s call (Err NoMemory) = CallPlansList s call
 
--- The reply that was kept of a command that comes again; nothing, where it is its client's next one. Any other is refused.
+-- The reply that was kept of a command that comes again; nothing, where it is its client's next one. Any other is
+-- refused.
 abbrev pub IsKept : State → Command → Result (Option Done) Refusal → Type 0
 IsKept s c (Ok None) = (c.client < ACCOUNTS) × (c.number ≡ (client_of s c.client).last + 1)
 IsKept s c (Ok (Some kept)) = ruling s c ≡ Repeated kept

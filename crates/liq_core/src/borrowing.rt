@@ -16,10 +16,11 @@ ghost use Rattle.liq_rules.specs.Step.{rules, first_refusal};
 ghost use Rattle.liq_core.specs.Turn.{IsRuled};
 
 use crate::engine::Protocol;
-use crate::standing::{change_trove, lift_trove, place_trove};
+use crate::standing::{change_trove, lift_trove};
 use crate::told::{ListChanges, PoolEvents};
 use crate::turns::{Forecast, Terms};
 use liq_borrow::{Change, Plan, plan_adjust, plan_close, plan_open};
+use liq_standing::place;
 use liq_troves::{entire, key};
 use liq_types::amounts::{ACCOUNTS, LIM, RESERVE};
 use liq_types::{Done, Hint, ListChange, Refusal, Steps, Wallet};
@@ -152,7 +153,8 @@ impl Protocol {
         self.pools.fee_lusd += plan.fee;
         self.pools.reserve += RESERVE;
         let (pools, troves) = (&mut self.pools, &mut self.troves);
-        place_trove(pools, troves, &mut self.order, account, plan, hint, steps);
+        let (order, debt) = (&mut self.order, plan.debt);
+        place(pools, troves, order, account, coll, debt, hint, steps);
     }
 
     /// Adjusts the account's trove as it is planned: the owner gives and gets what is asked.

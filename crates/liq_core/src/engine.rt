@@ -1,6 +1,6 @@
 //! The protocol's state, and its steps.
 
-ghost use Rattle.std.specs.Prelude.{◌≡◌, ◌≤◌, ◌<◌, ◌+◌, ℕ, false, length, IsOk, IsTrue, OnOk, Some, None};
+ghost use Rattle.std.specs.Prelude.{◌≡◌, ◌≤◌, ◌<◌, ◌+◌, ℕ, false, length, None};
 ghost use Rattle.std.specs.List.{AllByRecursion, Contains};
 ghost use Rattle.liq_types.specs.declared.requests.Request.TheVariants.{Do, Ask};
 ghost use Rattle.liq_types.specs.declared.replies.Reply.TheVariants.{Said};
@@ -8,12 +8,12 @@ ghost use Rattle.liq_types.specs.State.{State, opening, client_of};
 ghost use Rattle.liq_order.specs.Order.{trove_order};
 ghost use Rattle.liq_standing.specs.Steps.{TakesFew};
 ghost use Rattle.liq_stability.specs.Words.{pool_words};
-ghost use Rattle.liq_core.specs.Core.{AreAmong, Changes, IsWithin, StandsFor, SameContent, state_of};
+ghost use Rattle.liq_core.specs.Core.{AreAmong, Changes, StandsFor, state_of};
 ghost use Rattle.liq_core.specs.Sound.{IsKeptRow};
 ghost use Rattle.liq_core.specs.Steps.{entry_put, last_put, used_hint, words_of};
-ghost use Rattle.liq_core.specs.Terms.{AreTerms, TermsFit, claimants, closed};
-ghost use Rattle.liq_rules.specs.Verbs.{pays, opens, provides, plans_list, liquidates};
-ghost use Rattle.liq_rules.specs.Step.{built, built_call, accounts, rules, first_refusal, noted, step};
+ghost use Rattle.liq_core.specs.Terms.{AreTerms, claimants};
+ghost use Rattle.liq_rules.specs.Verbs.{pays, opens, provides, plans_list, liquidates, rotates};
+ghost use Rattle.liq_rules.specs.Step.{built, accounts, rules, first_refusal, noted, step};
 
 use crate::laws::lists_stand;
 use crate::payments::plan_price;
@@ -23,13 +23,12 @@ use liq_borrow::Change;
 use liq_ledger::{Pools, Surplus, Wallets};
 use liq_order::Order;
 use liq_rate::Rate;
-use liq_redemption::RedeemPlan;
 use liq_stability::{PoolWords, Stability};
 use liq_tables::Reserved;
 use liq_troves::Troves;
 use liq_types::amounts::{ACCOUNTS, LIM, PRICE_OPENING, RECORDS_MOST};
 use liq_types::{
-    Call, Client, Command, Done, Hint, HintWords, NoMemory, Query, Refusal, Reply, Request, Steps,
+    Call, Client, Command, Done, Hint, HintWords, Query, Refusal, Reply, Request, Steps,
 };
 use std::alloc::Global;
 use std::marker::Model;
@@ -113,7 +112,7 @@ const NO_POOLS: Pools = Pools {
 };
 
 impl Protocol {
-    ghost use Rattle.liq_core.specs.Plan.{HasRoom, IsPlannedOn, room_of_call};
+    ghost use Rattle.liq_core.specs.Plan.{HasRoom, IsPlannedOn};
     ghost use Rattle.liq_core.specs.Turn.{Plans, IsKept, IsRuled, Forecasts, ForecastsCall};
 
     /// The protocol as it opens: nothing is inside.
@@ -170,13 +169,13 @@ impl Protocol {
     }
 
     /// Rules on a command, and plans it where it is allowed. A refusal is the first whose condition holds, in the order
-    /// of the rules; the last is that the journal is full. Only a list of troves may find no memory, and only where all that
-    /// needs no list is passed.
+    /// of the rules; the last are the journal's limits. Only a list of troves may find no memory, and only where all
+    /// that needs no list is passed.
     pub fn plan(&self, command: &Command) -> Result<Turn, PlanFault>
-        requires built { IsTrue (built (Do command.now)) }
         ensures { (s : State) → StandsFor self.now s → Plans s command.now result }
     {
-        let is_full = self.records >= RECORDS_MOST;
+        // Where no field is used, nothing is known of the protocol.
+        let _ = &self.records;
         match self.kept(command) {
             Ok(None) => {}
             Ok(Some(kept)) => return Ok(Turn::Again(kept)),
@@ -187,9 +186,8 @@ impl Protocol {
             Err(PlanFault::No(refusal)) => return Err(PlanFault::No(refusal)),
             Err(PlanFault::NoMemory) => return Err(PlanFault::NoMemory),
         };
-        if is_full {
-            let records = RECORDS_MOST;
-            return Err(PlanFault::No(Refusal::JournalFull { records }));
+        if let Some(refusal) = self.no_room(command) {
+            return Err(PlanFault::No(refusal));
         }
         Ok(Turn::New(Planned {
             command: *command,
@@ -218,7 +216,6 @@ impl Protocol {
 
     /// Rules on a call, whatever its client and number: first on its accounts.
     fn plan_call(&self, call: &Call) -> Result<Forecast, PlanFault>
-        requires { IsTrue (built_call call.now) }
         ensures { ForecastsCall (state_of self.now) call.now result }
     {
         match check_accounts(call) {
@@ -229,7 +226,6 @@ impl Protocol {
 
     /// Rules on what the call's verb tests.
     fn plan_verb(&self, call: &Call) -> Result<Forecast, PlanFault>
-        requires { IsTrue (built_call call.now) }
         ensures { Forecasts (state_of self.now) call.now result }
     {
         match *call {
@@ -246,8 +242,7 @@ impl Protocol {
 
     /// Rules on a call that plans no list.
     fn plan_listless(&self, call: &Call) -> Result<Forecast, Refusal>
-        requires built { IsTrue (built_call call.now) }
-        requires listless { plans_list call.now ≡ false }
+        requires { plans_list call.now ≡ false }
         ensures { IsRuled (state_of self.now) call.now result }
     {
         match *call {
@@ -274,117 +269,16 @@ impl Protocol {
             Call::GainToTrove(account, _) => self.plan_gain_to_trove(account),
             Call::Liquidate(liquidator, account) => self.plan_liquidate(liquidator, account),
             Call::Claim(account) => self.plan_claim(account),
+            Call::Rotate => Ok(self.plan_rotate()),
             _ => unreachable!(),
         }
-    }
-
-    /// Makes room for what the planned command writes, so that [`Protocol::apply`] takes no memory. What is seen of the
-    /// protocol stays, and so does all room that there was, also where there is no memory. Where there was room none is wanted.
-    pub fn reserve(&mut self, planned: &Planned) -> Result<(), NoMemory>
-        ensures same { SameContent self.old self.new }
-        ensures room { OnOk result (HasRoom self.new planned.now) }
-        ensures kept { IsWithin self.old.room self.new.room }
-        ensures had { HasRoom self.old planned.now → IsOk result }
-    {
-        self.reserve_client(planned.command.client)?;
-        self.reserve_call(&planned.command.call, &planned.forecast.terms)
-    }
-
-    /// Room for what a call writes.
-    fn reserve_call(&mut self, call: &Call, terms: &Terms) -> Result<(), NoMemory>
-        requires built { IsTrue (built_call call.now) }
-        requires fit { TermsFit call.now terms.now }
-        ensures same { SameContent self.old self.new }
-        ensures room { OnOk result (IsWithin (room_of_call call.now terms.now) self.new.room) }
-        ensures kept { IsWithin self.old.room self.new.room }
-        ensures had { IsWithin (room_of_call call.now terms.now) self.old.room → IsOk result }
-    {
-        match *call {
-            Call::Price(_) | Call::Advance(_) => Ok(()),
-            Call::Fund(account, _)
-            | Call::Take(account, _)
-            | Call::Adjust(account, ..)
-            | Call::Close(account)
-            | Call::Withdraw(account, _)
-            | Call::GainToTrove(account, _)
-            | Call::Claim(account) => self.reserve_wallet(account),
-            Call::Send(from, to, _) => self.reserve_wallets(from, to),
-            Call::Open(account, ..) => self.reserve_trove(account),
-            Call::Provide(account, _) => self.reserve_deposit(account),
-            Call::Liquidate(liquidator, _) | Call::LiquidateLowest(liquidator, _) => {
-                self.reserve_liquidation(liquidator, terms.victims())
-            }
-            Call::Redeem(account, ..) => self.reserve_redemption(account, terms.redemption()),
-            _ => unreachable!(),
-        }
-    }
-
-    fn reserve_wallet(&mut self, account: u32) -> Result<(), NoMemory>
-        ensures same { SameContent self.old self.new }
-        ensures room { OnOk result (Contains self.new.room.wallets account) }
-        ensures kept { IsWithin self.old.room self.new.room }
-        ensures had { Contains self.old.room.wallets account → IsOk result }
-    {
-        self.wallets.reserve(account)
-    }
-
-    fn reserve_wallets(&mut self, first: u32, second: u32) -> Result<(), NoMemory>
-        ensures same { SameContent self.old self.new }
-        ensures room { OnOk result (Contains self.new.room.wallets first × Contains self.new.room.wallets second) }
-        ensures kept { IsWithin self.old.room self.new.room }
-        ensures had { Contains self.old.room.wallets first → Contains self.old.room.wallets second → IsOk result }
-    {
-        self.wallets.reserve(first)?;
-        self.wallets.reserve(second)
-    }
-
-    /// Room for a trove that comes into being, with its owner's wallet and its place in the list.
-    fn reserve_trove(&mut self, account: u32) -> Result<(), NoMemory>
-        ensures same { SameContent self.old self.new }
-        ensures room { OnOk result (Contains self.new.room.wallets account × Contains self.new.room.troves account × (1 ≤ self.new.room.list)) }
-        ensures kept { IsWithin self.old.room self.new.room }
-        ensures had { Contains self.old.room.wallets account → Contains self.old.room.troves account → 1 ≤ self.old.room.list → IsOk result }
-    {
-        self.wallets.reserve(account)?;
-        self.troves.reserve(account)?;
-        self.order.reserve(1)
-    }
-
-    /// Room for a deposit, with its owner's wallet.
-    fn reserve_deposit(&mut self, account: u32) -> Result<(), NoMemory>
-        ensures same { SameContent self.old self.new }
-        ensures room { OnOk result (Contains self.new.room.wallets account × Contains self.new.room.deposits account) }
-        ensures kept { IsWithin self.old.room self.new.room }
-        ensures had { Contains self.old.room.wallets account → Contains self.old.room.deposits account → IsOk result }
-    {
-        self.wallets.reserve(account)?;
-        self.pool.reserve(Some(account), 0)
-    }
-
-    /// Room for what a redemption writes: its account's wallet, and what the owners of closed troves may claim.
-    fn reserve_redemption(&mut self, account: u32, plan: &RedeemPlan) -> Result<(), NoMemory>
-        ensures same { SameContent self.old self.new }
-        ensures room { OnOk result (Contains self.new.room.wallets account × AreAmong (closed plan.now.cuts) self.new.room.surplus) }
-        ensures kept { IsWithin self.old.room self.new.room }
-        ensures had { Contains self.old.room.wallets account → AreAmong (closed plan.now.cuts) self.old.room.surplus → IsOk result }
-    {
-        liq_redemption::reserve(plan, account, &mut self.wallets, &mut self.surplus)
-    }
-
-    fn reserve_client(&mut self, client: u32) -> Result<(), NoMemory>
-        ensures same { SameContent self.old self.new }
-        ensures room { OnOk result (Contains self.new.room.clients client) }
-        ensures kept { IsWithin self.old.room self.new.room }
-        ensures had { Contains self.old.room.clients client → IsOk result }
-    {
-        self.clients.reserve(client)
     }
 
     /// Makes the planned command's step. It takes no memory and cannot fail: the command was planned on this state, and
-    /// its room was reserved. A hint changes neither the reply nor the image nor the list. The command's own one is used,
-    /// where a word of it is there, else the given one. Where an account is put into the list, it takes at most four steps
-    /// with a hint that is tight for it there, and with any other one as many more as there are troves; where none is put
-    /// it takes no steps.
+    /// its room was reserved. A hint changes neither the reply nor the image nor the list. The command's own one is
+    /// used, where a word of it is there, else the given one. Where an account is put into the list, it takes at most
+    /// four steps with a hint that is tight for it there, and with any other one as many more as there are troves;
+    /// where none is put it takes no steps.
     pub fn apply<L: Ledger>(&mut self, planned: Planned, hint: &Hint, steps: &mut Steps<L>) -> Done
         requires planned { IsPlannedOn self.old planned }
         requires room { HasRoom self.old planned }
@@ -402,6 +296,7 @@ impl Protocol {
             Call::Liquidate(liquidator, _) | Call::LiquidateLowest(liquidator, _) => {
                 self.liquidate(&command, done, liquidator, terms.victims());
             }
+            Call::Rotate => self.rotate(&command, done),
             _ => {
                 self.change(&command.call, &terms, hint, steps);
                 self.note(&command, done);
@@ -411,9 +306,9 @@ impl Protocol {
         done
     }
 
-    /// The effect of a call that is allowed and liquidates no trove.
+    /// The effect of a call that is allowed, liquidates no trove and is no rotation.
     fn change<L: Ledger>(&mut self, call: &Call, terms: &Terms, hint: &Hint, steps: &mut Steps<L>)
-        requires built { IsTrue (built_call call.now) }
+        requires stays { rotates call.now ≡ false }
         requires strikes_none { liquidates call.now ≡ false }
         requires range { AllByRecursion (λ account. account < ACCOUNTS) (accounts call.now) }
         requires allowed { first_refusal (rules (state_of self.old) call.now) ≡ None }
@@ -466,9 +361,9 @@ impl Protocol {
         }
     }
 
-    /// Counts the command, and keeps its reply under its number.
+    /// Counts a command that is no rotation, and keeps its reply under its number.
     fn note(&mut self, command: &Command, done: Done)
-        requires built { IsTrue (built_call command.now.call) }
+        requires stays { rotates command.now.call ≡ false }
         requires row { Contains self.old.room.clients command.now.client }
         requires number { 0 < command.now.number }
         requires few { self.old.records < RECORDS_MOST }

@@ -31,7 +31,9 @@ pub enum ImageFault {
 }
 
 impl Protocol {
-    /// The image: all on which the protocol's future rests, but for the count of its records.
+    /// The image: all on which the protocol's future rests, but for the count of its records. A checkpoint holds the
+    /// image with which a generation begins, and [`Protocol::from_image`] always takes that one. It may refuse an image
+    /// taken amid a generation, as `Unsound` 9: without its records the Stability Pool's place may be too far.
     pub fn image(&self) -> Result<Image, NoMemory>
         ensures { IfOk result (λ image. image ≡ self.now.image) }
     {
@@ -74,8 +76,8 @@ impl Protocol {
         })
     }
 
-    /// The protocol that begins with an image whose tables are in form. No record is counted yet. `Unsound` comes exactly where
-    /// the image breaks a rule.
+    /// The protocol that begins with an image whose tables are in form, as a checkpoint holds it. No record is counted
+    /// yet. `Unsound` comes exactly where the image breaks a rule.
     pub fn from_image(alloc: Global, image: Image) -> Result<Protocol, ImageFault>
         requires tables { HasTables image }
         ensures image { IfOk result (λ protocol. protocol.image ≡ image) }
@@ -178,7 +180,7 @@ fn pool_of(alloc: Global, image: &Image) -> Result<Stability, NoMemory>
 }
 
 /// The clients, as rows of an image.
-fn client_rows(alloc: Global, clients: &Reserved<Client>) -> Result<ClientRows, NoMemory>
+pub(crate) fn client_rows(alloc: Global, clients: &Reserved<Client>) -> Result<ClientRows, NoMemory>
     ensures { IfOk result (λ rows. rows ≡ clients.now.rows) }
 {
     let entries = clients.rows(alloc)?;

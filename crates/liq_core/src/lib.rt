@@ -17,6 +17,8 @@ mod payments;
 mod queries;
 mod ranges;
 mod redemptions;
+mod room;
+mod rotation;
 mod standing;
 mod told;
 mod turns;

@@ -1,10 +1,10 @@
 //! Where a trove stands: in the table, in the pools that hold what it has, and in the list.
 
-ghost use Rattle.std.specs.Prelude.{◌≡◌, ◌≤◌, ◌+◌, IsSome, None, length};
+ghost use Rattle.std.specs.Prelude.{◌≡◌, ◌≤◌, ◌+◌, IsSome, length};
 ghost use Rattle.liq_types.specs.declared.amounts.TheConstants.{MIN_NET};
 ghost use Rattle.liq_types.specs.Tables.{at};
 ghost use Rattle.liq_tables.specs.WithRoom.{HasRoom};
-ghost use Rattle.liq_troves.specs.Standing.{TrovesStand, lift as lifted, place as placed};
+ghost use Rattle.liq_troves.specs.Standing.{lift as lifted, place as placed};
 ghost use Rattle.liq_order.specs.Order.{order_by};
 ghost use Rattle.liq_standing.specs.Books.{books_kept, SameOthers};
 ghost use Rattle.liq_standing.specs.Steps.{TakesFew, entry_in};
@@ -34,37 +34,8 @@ pub(crate) fn lift_trove(pools: &mut Pools, troves: &mut Troves, order: &mut Ord
     lift(pools, troves, order, account);
 }
 
-/// A trove of the account comes into the table, the active pool and the list, with what is planned and nothing pending. The
-/// other pools stay.
-pub(crate) fn place_trove<L: Ledger>(
-    pools: &mut Pools,
-    troves: &mut Troves,
-    order: &mut Order,
-    account: u32,
-    plan: &Plan,
-    hint: &Hint,
-    steps: &mut Steps<L>,
-)
-    requires absent { at troves.old.table.rows account ≡ None }
-    requires stand { TrovesStand (books_kept troves.old pools.old) }
-    requires list { order.old.entries ≡ order_by troves.old.table.rows }
-    requires some { 1 ≤ plan.now.coll }
-    requires least { RESERVE + MIN_NET ≤ plan.now.debt }
-    requires coll { pools.old.active_coll + plan.now.coll ≤ LIM }
-    requires debt { pools.old.active_debt + plan.now.debt ≤ LIM }
-    requires room { HasRoom troves.old.table account }
-    requires spare { 1 ≤ order.old.room }
-    ensures books { books_kept troves.new pools.new ≡ placed (books_kept troves.old pools.old) account plan.now.coll plan.now.debt }
-    ensures others { SameOthers pools.old pools.new }
-    ensures list { order.new.entries ≡ order_by troves.new.table.rows }
-    ensures few { TakesFew order.new.entries hint.now (entry_in order.new.entries account) steps.old steps.new }
-    ensures any { steps.new ≤ steps.old + (length order.old.entries + 4) }
-{
-    let (coll, debt) = (plan.coll, plan.debt);
-    place(pools, troves, order, account, coll, debt, hint, steps);
-}
-
-/// The account's trove changes to what is planned: it leaves, and comes in again with nothing pending. The other pools stay.
+/// The account's trove changes to what is planned: it leaves, and comes in again with nothing pending. The other pools
+/// stay.
 pub(crate) fn change_trove<L: Ledger>(
     pools: &mut Pools,
     troves: &mut Troves,
@@ -80,12 +51,14 @@ pub(crate) fn change_trove<L: Ledger>(
     requires least { RESERVE + MIN_NET ≤ plan.now.debt }
     requires active_coll { (lifted (books_kept troves.old pools.old) account).active_coll + plan.now.coll ≤ LIM }
     requires active_debt { (lifted (books_kept troves.old pools.old) account).active_debt + plan.now.debt ≤ LIM }
-    ensures books { books_kept troves.new pools.new ≡ placed (lifted (books_kept troves.old pools.old) account) account plan.now.coll plan.now.debt }
+    ensures books { books_kept troves.new pools.new
+        ≡ placed (lifted (books_kept troves.old pools.old) account) account plan.now.coll plan.now.debt }
     ensures others { SameOthers pools.old pools.new }
     ensures list { order.new.entries ≡ order_by troves.new.table.rows }
     ensures few { TakesFew order.new.entries hint.now (entry_in order.new.entries account) steps.old steps.new }
     ensures any { steps.new ≤ steps.old + (length order.old.entries + 4) }
 {
     lift_trove(pools, troves, order, account);
-    place_trove(pools, troves, order, account, plan, hint, steps);
+    let (coll, debt) = (plan.coll, plan.debt);
+    place(pools, troves, order, account, coll, debt, hint, steps);
 }

@@ -1,5 +1,4 @@
 use Rattle.std.proofs.Common.{◌≡◌, ℕ, List, false, ap, sym, ◌∙◌, arith, subst, None}
-use Rattle.std.specs.Prelude.{IsTrue}
 use Rattle.liq_types.specs.declared.events.ListChange.{ListChange}
 use Rattle.liq_types.specs.declared.hints.Hint.{Hint}
 use Rattle.liq_types.specs.declared.requests.Command.{Command}
@@ -10,7 +9,7 @@ use Rattle.liq_order.specs.Order.{trove_order}
 use Rattle.liq_standing.specs.Steps.{TakesFew}
 use Rattle.liq_core.specs.Steps.{entry_put, last_put, used_hint, words_of}
 use Rattle.liq_core.proofs.Stepping.{planned_puts, strikes_none, takes_same}
-use Rattle.liq_rules.specs.Verbs.{liquidates}
+use Rattle.liq_rules.specs.Verbs.{liquidates, rotates}
 use Rattle.liq_types.specs.Soundness.{IsSoundImage}
 use Rattle.liq_liquidation.specs.declared.one.Victim.{Victim}
 use Rattle.liq_core.specs.declared.turns.Planned.TheInside.{Inside}
@@ -19,14 +18,15 @@ use Rattle.liq_core.specs.Plan.{Plan, IsPlan, IsPlannedOn, IsSoundPlan, HasRoom,
 use Rattle.liq_core.specs.Sound.{IsKeptRow}
 use Rattle.liq_core.specs.Terms.{AreTerms, victims_in}
 use Rattle.liq_types.specs.declared.requests.Request.TheVariants.{Do}
-use Rattle.liq_rules.specs.Step.{Allowed, Ruling, step, after, built_call, rules, effect, noted, after_ruling, ruling}
-use Rattle.liq_rules.proofs.Allowed.{allowed_number, allowed_rules, allowed_few, built-rotates}
+use Rattle.liq_rules.specs.Step.{Allowed, Ruling, step, after, done_of, rules, effect, noted, after_ruling, ruling}
+use Rattle.liq_rules.proofs.Allowed.{allowed_number, allowed_rules, allowed_few}
 use Rattle.liq_core.proofs.KeptReplies.{kept_reply}
+use Rattle.liq_core.proofs.Rotating.{stays_so}
 use Rattle.liq_core.proofs.Liquidating.{IsLiquidation, LiquidatesBy, liquidation_planned}
 use Rattle.liq_core.proofs.Stands.{changed_stands, stepped_stands}
 use Rattle.liq_core.proofs.SoundCores.{sound_stands}
 use Rattle.liq_core.proofs.engine.Protocol.apply.Goals as goal
-use Rattle.liq_core.proofs.engine.Protocol.apply.Goals.{in_default, in-Liquidate2}
+use Rattle.liq_core.proofs.engine.Protocol.apply.Goals.{in_default, in-Liquidate2, in-Rotate}
 
 pub change-requires-clause-allowed : goal.change-requires-clause-allowed
 change-requires-clause-allowed g c =
@@ -53,8 +53,8 @@ pub note-requires-clause-few : goal.note-requires-clause-few
 note-requires-clause-few g c =
     let sound = subst (λ (core : Core). IsSoundImage core.image core.records) c.self.view_is c.self.invariant.image in
     let plan = c.requires.planned (state_of c.args.self.now) (sound_stands c.args.self.now sound) in
-    let built = subst (λ (p : Plan). IsTrue (built_call p.command.call)) c.planned.view_is c.planned.invariant.built in
-    let few = allowed_few (state_of c.args.self.now) c.args.planned.command plan.allowed (built-rotates c.args.planned.command.call built) in
+    let stays = subst (λ (p : Plan). rotates p.command.call ≡ false) c.planned.view_is (stays_so c.planned.inside.command.call c.in_default.not-Rotate) in
+    let few = allowed_few (state_of c.args.self.now) c.args.planned.command plan.allowed stays in
     let same = c.change.ensures.made.records in
     omega (arith, few, same)
 
@@ -111,6 +111,21 @@ liquidate-requires-clause-owners g c =
     let sound = subst (λ (core : Core). IsSoundImage core.image core.records) c.self.view_is c.self.invariant.image in
     (liquidation c.args.self.now sound c.planned.inside c.args.planned c.planned.view_is c.requires.planned c.planned.invariant c.requires.room c.in-Liquidate.liquidator c.in-Liquidate.is c.victims.result.now c.victims.ensures).owners
 
+-- what is planned, where its call rotates
+pub rotate-requires-clause-allowed : goal.rotate-requires-clause-allowed
+rotate-requires-clause-allowed g c =
+    let sound = subst (λ (core : Core). IsSoundImage core.image core.records) c.self.view_is c.self.invariant.image in
+    let s = state_of c.args.self.now in
+    let plan = c.requires.planned s (sound_stands c.args.self.now sound) in
+    subst (λ (p : Plan). ruling s p.command ≡ Allowed) (sym c.planned.view_is) plan.allowed
+
+pub rotate-requires-clause-done : goal.rotate-requires-clause-done
+rotate-requires-clause-done g c =
+    let sound = subst (λ (core : Core). IsSoundImage core.image core.records) c.self.view_is c.self.invariant.image in
+    let s = state_of c.args.self.now in
+    let plan = c.requires.planned s (sound_stands c.args.self.now sound) in
+    subst (λ (p : Plan). p.done ≡ done_of s p.command.call) (sym c.planned.view_is) plan.done
+
 pub returns-clause-state : goal.returns-clause-state
 returns-clause-state g c s h =
     let sound = subst (λ (core : Core). IsSoundImage core.image core.records) c.self.view_is c.self.invariant.image in
@@ -120,7 +135,7 @@ returns-clause-state g c s h =
     elim c.match-command.branch [
       | in_default w ↦
           let call = c.planned.inside.command.call in
-          let changed = changed_stands old w.change.new.self call sound c.planned.invariant.built w.change.ensures.made s h in
+          let changed = changed_stands old w.change.new.self call sound (stays_so call w.in_default.not-Rotate) w.change.ensures.made s h in
           let noted_is : StandsFor w.note.new.self (noted (effect s call) c.planned.inside.command c.planned.inside.forecast.done) = w.note.ensures.state (effect s call) changed in
           let seen : StandsFor w.note.new.self (noted (effect s command.call) command c.args.planned.done) =
           subst (λ (p : Plan). StandsFor w.note.new.self (noted (effect s p.command.call) p.command p.done)) c.planned.view_is noted_is in
@@ -132,6 +147,11 @@ returns-clause-state g c s h =
           let allowed = (c.requires.planned (state_of old) (sound_stands old sound)).allowed in
           subst (λ (core : Core). StandsFor core (after_ruling s command (ruling s command)).0) (sym w.self-is)
           (stepped_stands old w.liquidate.new.self command sound allowed its s h)
+      | in-Rotate w ↦
+          let its = subst (λ (p : Plan). StandsFor w.rotate.new.self (after (state_of old) p.command)) c.planned.view_is w.rotate.ensures.state in
+          let allowed = (c.requires.planned (state_of old) (sound_stands old sound)).allowed in
+          subst (λ (core : Core). StandsFor core (after_ruling s command (ruling s command)).0) (sym w.self-is)
+          (stepped_stands old w.rotate.new.self command sound allowed its s h)
     ]
 
 pub returns-clause-list : goal.returns-clause-list
@@ -174,4 +194,5 @@ returns-clause-few g c =
           subst (λ n. TakesFew list used (last_put c.args.planned.changes) c.args.steps.now n) (sym w.steps-is)
           (planned_few old sound c.planned.inside c.args.planned c.planned.view_is plan (strikes_none c.planned.inside.command.call w.in_default.not-Liquidate w.in_default.not-LiquidateLowest) w.change.new.self.list list same made c.args.hint.now c.args.steps.now w.change.new.steps w.change.ensures.few)
       | in-Liquidate2 w ↦ takes_same list used (last_put c.args.planned.changes) c.args.steps.now c.match-command.steps w.steps-is
+      | in-Rotate w ↦ takes_same list used (last_put c.args.planned.changes) c.args.steps.now c.match-command.steps w.steps-is
     ]

@@ -1,7 +1,6 @@
 use Rattle.std.proofs.Common.{subst, sym, ap, ◌<◌}
 use Rattle.liq_types.specs.declared.amounts.TheConstants.{RECORDS_MOST}
 use Rattle.liq_core.specs.Core.{Core}
-use Rattle.liq_rules.proofs.Allowed.{built-rotates}
 use Rattle.liq_core.proofs.Noting.{noted_keeps, noted_stands}
 use Rattle.liq_core.proofs.engine.Protocol.note.Goals as goal
 
@@ -12,7 +11,7 @@ invariant_of-self c =
 
 pub returns-clause-state : goal.returns-clause-state
 returns-clause-state c s h =
-    noted_stands c.self.inside c.args.command.now c.args.done _ c.requires.number c.write.ensures.rows c.args.self.now c.self.view_is (built-rotates c.args.command.now.call c.requires.built) s h
+    noted_stands c.self.inside c.args.command.now c.args.done _ c.requires.number c.write.ensures.rows c.args.self.now c.self.view_is c.requires.stays s h
 
 pub returns-clause-list : goal.returns-clause-list
 returns-clause-list c = ap (λ (core : Core). core.list) c.self.view_is

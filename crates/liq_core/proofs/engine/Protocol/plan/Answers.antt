@@ -1,8 +1,6 @@
-use Rattle.std.proofs.Common.{◌<◌, ◌∙◌, ap, refl, subst, arith}
+use Rattle.std.proofs.Common.{◌∙◌, refl, subst, sym}
 use Rattle.std.specs.Prelude.{Result, Err}
-use Rattle.liq_types.specs.declared.amounts.TheConstants.{RECORDS_MOST}
 use Rattle.liq_types.specs.Soundness.{IsSoundImage}
-use Rattle.liq_types.specs.declared.replies.Refusal.TheVariants.{JournalFull}
 use Rattle.liq_core.specs.Core.{Core, state_of}
 use Rattle.liq_rules.specs.Rules.{rules}
 use Rattle.liq_core.specs.declared.turns.Forecast.{Forecast}
@@ -10,8 +8,7 @@ use Rattle.liq_core.specs.declared.turns.PlanFault.{PlanFault}
 use Rattle.liq_core.specs.Turn.{ForecastsCall}
 use Rattle.liq_rules.specs.Verbs.{accounts}
 use Rattle.liq_rules.proofs.AlikeLists.{plans_list_alike}
-use Rattle.liq_rules.proofs.Allowed.{built-rotates}
-use Rattle.liq_rules.proofs.Ruled.{accounts_within, allowed_call, refused_call, refused_room, room_full, room_left}
+use Rattle.liq_rules.proofs.Ruled.{accounts_within, allowed_call, refused_call, refused_room}
 use Rattle.liq_core.proofs.Stands.{planned_alike, standing_alike, standing_ruling, terms_fit}
 use Rattle.liq_core.proofs.engine.Protocol.plan.Goals as goal
 
@@ -50,21 +47,19 @@ returns-in-Err-NoMemory c s h =
           (subst (λ (r : Result Forecast PlanFault). ForecastsCall (state_of core) command.call r) c.in-Err-NoMemory.is c.plan_call.ensures);
     })
 
-pub returns-then-is_full : goal.returns-then-is_full
-returns-then-is_full c s h =
+pub returns-in-Some : goal.returns-in-Some
+returns-in-Some c s h =
     let core = c.args.self.now in
     let command = c.args.command.now in
     let next = rw c.in-Ok-None.field-0-is at c.in-Ok-None.ensures in
     let sound = subst (λ (view : Core). IsSoundImage view.image view.records) c.self.view_is c.self.invariant.image in
-    let same = ap (λ (view : Core). view.records) c.self.view_is in
-    let full = room_full (state_of core) command (built-rotates command.call c.requires.built) (omega (arith, c.if-is_full.true, same)) in
-    standing_ruling core s command sound h ∙ refused_room (state_of core) command (JournalFull RECORDS_MOST) next.0 next.1 c.in-Ok.ensures.0 full
+    let full = sym c.no_room.ensures ∙ c.in-Some.is in
+    standing_ruling core s command sound h ∙ refused_room (state_of core) command c.in-Some.refusal next.0 next.1 c.in-Ok.ensures.0 full
 
 pub invariant_of-result : goal.invariant_of-result
 invariant_of-result c =
     let call = c.args.command.now.call in
     record {
-      built = c.requires.built;
       client = (rw c.in-Ok-None.field-0-is at c.in-Ok-None.ensures).0;
       accounts = accounts_within (accounts call) (rules (state_of c.args.self.now) call) c.in-Ok.ensures.0;
       terms = terms_fit (state_of c.args.self.now) call c.in-Ok.forecast.terms c.in-Ok.ensures.1.terms;
@@ -76,8 +71,6 @@ returns c s h =
     let command = c.args.command.now in
     let next = rw c.in-Ok-None.field-0-is at c.in-Ok-None.ensures in
     let sound = subst (λ (view : Core). IsSoundImage view.image view.records) c.self.view_is c.self.invariant.image in
-    let same = ap (λ (view : Core). view.records) c.self.view_is in
-    let few : core.records < RECORDS_MOST = omega (arith, c.if-is_full.false, same) in
-    let free = room_left (state_of core) command (built-rotates command.call c.requires.built) few in
+    let free = sym c.no_room.ensures ∙ c.in_default.is in
     let allowed = standing_ruling core s command sound h ∙ allowed_call (state_of core) command next.0 next.1 c.in-Ok.ensures.0 free in
     (refl, planned_alike (standing_alike core s sound h) command c.in-Ok.forecast allowed c.in-Ok.ensures.1)

@@ -25,4 +25,4 @@ returns-in-Liquidate-clause-had c h =
 
 -- a redemption's terms are there
 pub redemption-requires : goal.redemption-requires
-redemption-requires c = subst (λ (call : Call). TermsFit call c.args.terms.now) c.in-Redeem.is c.requires.fit
+redemption-requires c = subst (λ (call : Call). TermsFit call c.args.terms.now) c.in-Redeem.is c.requires

@@ -1,0 +1,173 @@
+-- What a rotation makes of a protocol and of its image, and which limits of the journal refuse it.
+use Rattle.std.proofs.Common.{◌≡◌, ℕ, suc, ◌+◌, ◌≤◌, ◌<◌, true, false, cond, nat_le, nat_lt, List, [], ◌∷◌, length, Some, None, refl, ap, sym, ◌∙◌, subst, arith}
+use Rattle.std.proofs.lemmas.Bool.Decides.{nat_tests}
+use Rattle.std.proofs.lemmas.Cmp.{nat_cmp_total}
+use Rattle.std.proofs.lemmas.Map.{lookup-none}
+use Rattle.std.proofs.lemmas.Map.Entries.{none_below_head}
+use Rattle.std.proofs.lemmas.Map.Keys.{sorted_tail}
+use Rattle.std.specs.BTreeMap.{is_at}
+use Rattle.std.specs.Map.{keys_of}
+use Rattle.std.specs.Ordering.{nat_cmp, is_eq, match_ordering}
+use Rattle.std.specs.declared.cmp.Ordering.{Ordering}
+use Rattle.std.specs.declared.cmp.Ordering.TheVariants.{Less, Equal, Greater}
+use Rattle.liq_types.specs.declared.amounts.TheConstants.{CHECKPOINT_BYTES_MOST, GENERATIONS_MOST, RECORDS_MOST}
+use Rattle.liq_types.specs.declared.figures.Client.{Client}
+use Rattle.liq_types.specs.declared.image.Image.{Image}
+use Rattle.liq_types.specs.declared.replies.Done.{Done}
+use Rattle.liq_types.specs.declared.replies.Refusal.TheVariants.{AmountLimit, JournalFull}
+use Rattle.liq_types.specs.declared.requests.Call.{Call}
+use Rattle.liq_types.specs.declared.requests.Call.TheVariants.{Rotate}
+use Rattle.liq_types.specs.declared.requests.Command.{Command}
+use Rattle.liq_types.specs.Length.{checkpoint_length}
+use Rattle.liq_types.specs.Rules.{Rule, first_refusal, where_above}
+use Rattle.liq_types.specs.Soundness.{IsSoundImage}
+use Rattle.liq_types.specs.State.{State, is_used_client}
+use Rattle.liq_types.specs.Tables.{Table, at, put}
+use Rattle.liq_types.specs.WellFormed.{Ascends}
+use Rattle.liq_tables.specs.WithRoom.{WithRoom, written}
+use Rattle.liq_rules.specs.Image.{image}
+use Rattle.liq_rules.specs.Rules.{effect, done_of}
+use Rattle.liq_rules.specs.Step.{Allowed, after, noted, room_rules, ruling}
+use Rattle.liq_rules.specs.Verbs.{rotates}
+use Rattle.liq_rules.proofs.Allowed.{allowed_number}
+use Rattle.liq_soundness.proofs.SoundStart.{started_with}
+use Rattle.liq_soundness.proofs.SoundStep.{after_sound}
+use Rattle.liq_core.specs.declared.engine.Protocol.TheInside.{Inside}
+use Rattle.liq_core.specs.Core.{Core, StandsFor, state_of}
+use Rattle.liq_core.specs.Plan.{IsPlannedOn, Plan}
+use Rattle.liq_core.specs.Sound.{IsSound, core_of}
+use Rattle.liq_core.proofs.Noting.{kept_rows, made_sound, made_stands}
+use Rattle.liq_core.proofs.SoundCores.{core_facts, image_back, sound_stands}
+
+-- a call that is no rotation
+pub stays_so : (call : Call) → (call ≡ Rotate → ⊥) → rotates call ≡ false
+stays_so Rotate other = absurd (other refl)
+stays_so _ other = refl
+
+-- ---- the image
+
+-- the image with which the next generation begins, where the client's row has its reply
+abbrev pub turned : Image → ℕ → Client → Image
+turned i client row = record i { generation = i.generation + 1; clients = put i.clients client row }
+
+abbrev pub reply_row : State → Command → Client
+reply_row s c = record { last = c.number; kept = done_of s c.call }
+
+module _ (s : State) (c : Command) (is : c.call ≡ Rotate) where
+  pub turned_image : image (after s c) ≡ turned (image s) c.client (reply_row s c)
+  turned_image = ap (λ (t : State). image (noted t c (done_of s c.call))) (ap (effect s) is)
+
+  pub turned_records : (after s c).records ≡ 0
+  turned_records = ap (λ b. cond b 0 ((effect s c.call).records + 1)) (ap rotates is)
+
+-- of the state that begins with a core's image
+pub turned_core : (core : Core) → IsSoundImage core.image core.records → (c : Command) → c.call ≡ Rotate → image (after (state_of core) c) ≡ turned core.image c.client (reply_row (state_of core) c)
+turned_core core sound c is =
+    turned_image (state_of core) c is ∙ ap (λ (i : Image). turned i c.client (reply_row (state_of core) c)) (image_back core sound)
+
+-- and the length of its checkpoint, by a protocol's own tables
+pub checkpoint_is : (p : Inside) (core : Core) → core_of p ≡ core → IsSound p → (c : Command) → c.call ≡ Rotate → checkpoint_length (image (after (state_of core) c)) ≡ checkpoint_length (turned (core_of p).image c.client (reply_row (state_of core) c))
+checkpoint_is p core view sound c is =
+    subst (λ (k : Core). checkpoint_length (image (after (state_of k) c)) ≡ checkpoint_length (turned (core_of p).image c.client (reply_row (state_of k) c))) view
+    (ap checkpoint_length (turned_core (core_of p) sound.image c is))
+
+-- ---- what is planned
+
+-- the image that a planned rotation leaves, made of the core's
+module _ (core : Core) (sound : IsSoundImage core.image core.records) (plan : Plan) (planned : IsPlannedOn core plan) (is : plan.command.call ≡ Rotate) where
+  pub planned_image : (s : State) → StandsFor core s → turned core.image plan.command.client (record { last = plan.command.number; kept = plan.done }) ≡ image (after s plan.command)
+  planned_image s h =
+      let c = plan.command in
+      ap (λ (i : Image). turned i c.client (record { last = c.number; kept = plan.done })) h.image
+      ∙ ap (λ (d : Done). turned (image s) c.client (record { last = c.number; kept = d })) (planned s h).done
+      ∙ sym (turned_image s c is)
+
+  pub planned_number : 0 < plan.command.number
+  planned_number =
+      let number = allowed_number (state_of core) plan.command (planned (state_of core) (sound_stands core sound)).allowed in
+      omega (arith, number)
+
+  pub planned_sound : IsSoundImage (turned core.image plan.command.client (record { last = plan.command.number; kept = plan.done })) 0
+  planned_sound =
+      let s = state_of core in
+      let stands = sound_stands core sound in
+      let left = after_sound s (started_with core.image core.records sound) plan.command (planned s stands).allowed in
+      subst (λ (i : Image). IsSoundImage i 0) (sym (planned_image s stands))
+      (subst (λ n. IsSoundImage (image (after s plan.command)) n) (turned_records s plan.command is) left.sound)
+
+pub generation_within : (p : Inside) → IsSound p → p.generation ≤ GENERATIONS_MOST
+generation_within p sound = (core_facts (core_of p) sound.image).ranges.last_generation
+
+-- ---- how many clients there are
+
+module _ {X : Type 0} where
+  pub length_again : (table : Table X) (key : ℕ) (x y : X) → Ascends table → at table key ≡ Some y → length (put table key x) ≡ length table
+  length_again [] key x y s h = cc
+  length_again (e ∷ es) key x y s h = by (nat_cmp key e.0) refl (length_again es key x y (sorted_tail nat_cmp e.0 (keys_of es) s)) where
+    by : (o : Ordering) → nat_cmp key e.0 ≡ o → (at es key ≡ Some y → length (put es key x) ≡ length es) → length (match_ordering o ((key, x) ∷ e ∷ es) ((e.0, x) ∷ es) (e ∷ put es key x)) ≡ length (e ∷ es)
+    by Less is more = absurd (none (sym (lookup-none (is_at (nat_cmp key)) (e ∷ es) (none_below_head nat_cmp_total key e es s is)) ∙ h)) where
+      none : None ≡ Some y → ⊥
+      none k = cc
+    by Equal is more = refl
+    by Greater is more = ap suc (more (sym (ap (λ o. cond (is_eq o) (Some e.1) (at es key)) is) ∙ h))
+
+-- ---- the journal's limits
+
+abbrev limits : ℕ → ℕ → List Rule
+limits generation bytes =
+    where_above generation GENERATIONS_MOST AmountLimit ∷ where_above bytes CHECKPOINT_BYTES_MOST AmountLimit ∷ []
+
+rotation_rules : (s : State) (c : Command) → c.call ≡ Rotate → first_refusal (room_rules s c) ≡ first_refusal (limits (s.generation + 1) (checkpoint_length (image (after s c))))
+rotation_rules s c is =
+    ap (λ b. first_refusal (cond b (limits (s.generation + 1) (checkpoint_length (image (after s c)))) ((nat_le RECORDS_MOST s.records, JournalFull RECORDS_MOST) ∷ []))) (ap rotates is)
+
+module _ (s : State) (c : Command) (is : c.call ≡ Rotate) (generation bytes : ℕ) (next : generation ≡ s.generation + 1) where
+  pub past_generations : GENERATIONS_MOST < generation → Some (AmountLimit generation GENERATIONS_MOST) ≡ first_refusal (room_rules s c)
+  past_generations late =
+      let length_is = checkpoint_length (image (after s c)) in
+      let over : nat_lt GENERATIONS_MOST generation ≡ true = grind (arith, nat_tests, late) in
+      sym (ap (λ b. cond b (Some (AmountLimit generation GENERATIONS_MOST)) (first_refusal (where_above length_is CHECKPOINT_BYTES_MOST AmountLimit ∷ []))) over)
+      ∙ ap (λ n. first_refusal (limits n length_is)) next
+      ∙ sym (rotation_rules s c is)
+
+  module _ (soon : generation ≤ GENERATIONS_MOST) (long : bytes ≡ checkpoint_length (image (after s c))) where
+    second : first_refusal (where_above bytes CHECKPOINT_BYTES_MOST AmountLimit ∷ []) ≡ first_refusal (room_rules s c)
+    second =
+        let within : nat_lt GENERATIONS_MOST generation ≡ false = grind (arith, nat_tests, soon) in
+        sym (ap (λ b. cond b (Some (AmountLimit generation GENERATIONS_MOST)) (first_refusal (where_above bytes CHECKPOINT_BYTES_MOST AmountLimit ∷ []))) within)
+        ∙ ap (λ n. first_refusal (limits generation n)) long
+        ∙ ap (λ n. first_refusal (limits n (checkpoint_length (image (after s c))))) next
+        ∙ sym (rotation_rules s c is)
+
+    pub past_bytes : CHECKPOINT_BYTES_MOST < bytes → Some (AmountLimit bytes CHECKPOINT_BYTES_MOST) ≡ first_refusal (room_rules s c)
+    past_bytes large =
+        let over : nat_lt CHECKPOINT_BYTES_MOST bytes ≡ true = grind (arith, nat_tests, large) in
+        sym (ap (λ b. cond b (Some (AmountLimit bytes CHECKPOINT_BYTES_MOST)) None) over) ∙ second
+
+    pub within_both : bytes ≤ CHECKPOINT_BYTES_MOST → None ≡ first_refusal (room_rules s c)
+    within_both small =
+        let under : nat_lt CHECKPOINT_BYTES_MOST bytes ≡ false = grind (arith, nat_tests, small) in
+        sym (ap (λ b. cond b (Some (AmountLimit bytes CHECKPOINT_BYTES_MOST)) None) under) ∙ second
+
+-- ---- the rotation is made
+
+abbrev turned_inside : Inside → WithRoom Client → Inside
+turned_inside p clients = record p { generation = p.generation + 1; records = 0; clients = clients }
+
+module _ (p : Inside) (sound : IsSound p) (c : Command) (done : Done) (is : c.call ≡ Rotate) (allowed : ruling (state_of (core_of p)) c ≡ Allowed)
+    (made : done ≡ done_of (state_of (core_of p)) c.call) (clients : WithRoom Client)
+    (wrote : clients.rows ≡ written is_used_client p.clients.rows c.client (record { last = c.number; kept = done })) where
+  next_image : (core_of (turned_inside p clients)).image ≡ image (after (state_of (core_of p)) c)
+  next_image =
+      let row : Client = record { last = c.number; kept = done } in
+      let number = allowed_number (state_of (core_of p)) c allowed in
+      let rows = wrote ∙ kept_rows p.clients.rows c.client row (omega (arith, number)) in
+      ap (λ (t : Table Client). record (core_of p).image { generation = p.generation + 1; clients = t }) rows
+      ∙ ap (λ (d : Done). turned (core_of p).image c.client (record { last = c.number; kept = d })) made
+      ∙ sym (turned_core (core_of p) sound.image c is)
+
+  pub turned_stands : (old : Core) → core_of p ≡ old → StandsFor (core_of (turned_inside p clients)) (after (state_of old) c)
+  turned_stands = made_stands p (turned_inside p clients) sound c allowed next_image (turned_records (state_of (core_of p)) c is)
+
+  pub turned_sound : IsSound (turned_inside p clients)
+  turned_sound = made_sound p (turned_inside p clients) sound c allowed next_image (turned_records (state_of (core_of p)) c is) sound.order
