@@ -1,7 +1,8 @@
-//! Tests of the protocol, called directly: the image that a run leaves, as a checkpoint, and the protocol that begins with it.
+//! Tests of the protocol, called directly: the image that a run leaves, as a checkpoint, and the protocol that begins with
+//! it.
 //!
-//! No request asks for an image. Those that are wanted come from outside: a model of the rules in another language, which keeps the
-//! lists of what happened and no sums, worked them out.
+//! No request asks for an image. Those that are wanted come from outside: a model of the rules in another language worked
+//! them out, which keeps the lists of what happened and no sums.
 #![tactic(auto)]
 
 #[cfg(test)]

@@ -14,11 +14,11 @@ const LIMIT: u64 = 10_000_000_000_000_000_000;
 /// What comes of a checkpoint.
 #[derive(Clone, Copy, PartialEq, Eq)]
 pub enum Outcome {
-    /// It is that of the protocol's image.
+    /// It is that of the image.
     Same,
-    /// The protocol's image has another one.
+    /// The image has another one.
     Other,
-    /// The protocol's image is under another limit.
+    /// The image is under another limit.
     OtherLimit,
     /// It is none: the place of the fault.
     Bad(u64),
@@ -36,7 +36,8 @@ pub fn of_protocol(alloc: Global, protocol: &Protocol, bytes: &[u8]) -> Outcome 
     }
 }
 
-fn of_image(alloc: Global, image: &Image, bytes: &[u8]) -> Outcome
+/// Whether the image has this checkpoint.
+pub fn of_image(alloc: Global, image: &Image, bytes: &[u8]) -> Outcome
     requires { HasTables image.now }
 {
     if image.limit != LIMIT {

@@ -1,10 +1,11 @@
 ghost use Rattle.std.specs.Prelude.{◌≡◌};
 
 use crate::bytes::{checkpoint, set_second};
-use crate::outcomes::{Outcome, of_checkpoint, of_protocol};
+use crate::outcomes::{Outcome, of_checkpoint, of_image, of_protocol};
 use crate::runs::{OPENING, RUNS, Run};
-use liq_core::{Protocol, Turn, is_built};
-use liq_types::{Call, Command, Hint, NoMemory, Request, Steps};
+use liq_core::laws::protocols_stand;
+use liq_core::{Protocol, Turn};
+use liq_types::{Call, Command, Hint, NoMemory, Steps};
 use std::alloc::{AllocError, Global};
 use std::marker::Brand;
 use std::process::Abort;
@@ -17,9 +18,6 @@ fn shows<R: Abort>(rt: &R, run: &str, what: &str, holds: bool) {
 
 // Plans a command, makes room for it and applies it. Answers whether it was accepted.
 fn accept<L: Ledger>(protocol: &mut Protocol, command: &Command, steps: &mut Steps<L>) -> bool {
-    if !is_built(&Request::Do(*command)) {
-        return false;
-    }
     let planned = match protocol.plan(command) {
         Ok(Turn::New(planned)) => planned,
         _ => return false,
@@ -33,18 +31,36 @@ fn accept<L: Ledger>(protocol: &mut Protocol, command: &Command, steps: &mut Ste
     }
 }
 
-// Calls of client 1, each under the number behind the last that was accepted.
-fn make_calls<L: Ledger>(protocol: &mut Protocol, calls: &[Call], steps: &mut Steps<L>) {
+fn numbered(number: u64, call: Call) -> Command
+    ensures { result ≡ record { client = 1; number = number; call = call } }
+{
+    Command {
+        client: 1,
+        number,
+        call,
+    }
+}
+
+// Calls of client 1, each under the number behind the last that was accepted. Answers the number that comes next.
+fn make_calls<L: Ledger>(protocol: &mut Protocol, calls: &[Call], steps: &mut Steps<L>) -> u64 {
     let mut number: u64 = 1;
     for call in calls {
-        let command = Command {
-            client: 1,
-            number,
-            call: *call,
-        };
-        if accept(protocol, &command, steps) {
+        if accept(protocol, &numbered(number, *call), steps) {
             number = number.saturating_add(1);
         }
+    }
+    number
+}
+
+// What comes of the image that a rotation would leave.
+fn foretell(alloc: Global, protocol: &Protocol, number: u64, bytes: &[u8]) -> Outcome {
+    protocols_stand(protocol);
+    match protocol.plan(&numbered(number, Call::Rotate)) {
+        Ok(Turn::New(planned)) => match protocol.image_after(&planned) {
+            Ok(image) => of_image(alloc, &image, bytes),
+            Err(NoMemory) => Outcome::NoMemory,
+        },
+        _ => Outcome::Other,
     }
 }
 
@@ -57,8 +73,10 @@ struct Seen {
     begins: Outcome,
     /// Of the checkpoint without its last byte.
     cut: Outcome,
-    /// Of the checkpoint behind a rotation.
+    /// Of what a rotation would leave, of the protocol behind it, and of its checkpoint.
+    foretold: Outcome,
     rotated: Outcome,
+    goes_on: Outcome,
 }
 
 // The checkpoints of a run, and of a rotation behind it.
@@ -79,15 +97,27 @@ fn pair_of(alloc: Global, run: &Run) -> Result<Pair, AllocError> {
     })
 }
 
-fn see(alloc: Global, protocol: &Protocol, pair: &Pair) -> Seen {
+fn see<L: Ledger>(
+    alloc: Global,
+    protocol: &mut Protocol,
+    number: u64,
+    pair: &Pair,
+    steps: &mut Steps<L>,
+) -> Seen {
     let bytes = pair.before.as_slice();
     let cut = bytes.get(..bytes.len().saturating_sub(1)).unwrap_or(&[]);
+    let behind = pair.rotated.as_slice();
+    let left = of_protocol(alloc, protocol, bytes);
+    let foretold = foretell(alloc, protocol, number, behind);
+    let _ = accept(protocol, &numbered(number, Call::Rotate), steps);
     Seen {
         length: bytes.len() as u64,
-        left: of_protocol(alloc, protocol, bytes),
+        left,
         begins: of_checkpoint(alloc, bytes),
         cut: of_checkpoint(alloc, cut),
-        rotated: of_checkpoint(alloc, pair.rotated.as_slice()),
+        foretold,
+        rotated: of_protocol(alloc, protocol, behind),
+        goes_on: of_checkpoint(alloc, behind),
     }
 }
 
@@ -101,8 +131,8 @@ fn see_run<L: Ledger>(alloc: Global, run: &Run, blank: Blank) -> Option<Seen>
         return None;
     };
     let mut protocol = Protocol::new(alloc);
-    make_calls(&mut protocol, run.calls, &mut steps);
-    Some(see(alloc, &protocol, &pair))
+    let number = make_calls(&mut protocol, run.calls, &mut steps);
+    Some(see(alloc, &mut protocol, number, &pair, &mut steps))
 }
 
 #[test]
@@ -118,12 +148,9 @@ fn a_run_leaves_its_image(rt: HostRuntime) {
         shows(&rt, what, "its own beginning", seen.begins == wanted.begins);
         let end = Outcome::Bad(wanted.length.saturating_sub(1));
         shows(&rt, what, "cut by a byte", seen.cut == end);
-        shows(
-            &rt,
-            what,
-            "behind a rotation",
-            seen.rotated == Outcome::Same,
-        );
+        shows(&rt, what, "foretold", seen.foretold == Outcome::Same);
+        shows(&rt, what, "rotated", seen.rotated == Outcome::Same);
+        shows(&rt, what, "goes on", seen.goes_on == Outcome::Same);
     }
 }
 
