@@ -1,9 +1,11 @@
 //! Measures what a word names, so many times as the count behind it says, on this machine: `num CALLS` the numbers' costly
 //! functions, `journal RECORDS` a journal on a file of the current folder, `pool OFFSETS` an offset of the Stability Pool with few
-//! and with many deposits, `lock TURNS` the lock beside a plain mutex, `serve LINES` sessions over disks in memory. With no word it
-//! does a little of each and prints what comes of it, which is the same each time.
+//! and with many deposits, `image ROUNDS` a checkpoint of many accounts and the protocol that begins with it, `lock TURNS` the lock
+//! beside a plain mutex, `serve LINES` sessions over disks in memory. With no word it does a little of each and prints what comes of
+//! it, which is the same each time.
 #![tactic(auto)]
 
+mod image;
 mod journal;
 mod lock;
 mod num;
@@ -26,11 +28,12 @@ pub fn rate(count: u64, time: Duration) -> u128 {
 /// A little of each.
 fn a_few<R>(rt: &R, alloc: Global) -> io::Result<()>
 where
-    R: Print + Files<File = File> + Threads + Wait + Sync,
+    R: Print + Clock + Files<File = File> + Threads + Wait + Sync,
 {
     num::a_few(rt)?;
     journal::a_few(rt)?;
     pool::a_few(rt, alloc)?;
+    image::a_few(rt, alloc)?;
     lock::a_few(rt, alloc)?;
     serve::a_few(rt, alloc)
 }
@@ -44,9 +47,10 @@ where
         "num" => num::measure(rt, count),
         "journal" => journal::measure(rt, alloc, count),
         "pool" => pool::measure(rt, alloc, count),
+        "image" => image::measure(rt, alloc, count),
         "lock" => lock::measure(rt, alloc, count),
         "serve" => serve::measure(rt, alloc, count),
-        _ => println!(rt; "num, journal, pool, lock or serve, and a count"),
+        _ => println!(rt; "num, journal, pool, image, lock or serve, and a count"),
     }
 }
 
