@@ -27,9 +27,7 @@ use liq_stability::{PoolWords, Stability};
 use liq_tables::Reserved;
 use liq_troves::Troves;
 use liq_types::amounts::{ACCOUNTS, LIM, PRICE_OPENING, RECORDS_MOST};
-use liq_types::{
-    Call, Client, Command, Done, Hint, HintWords, Query, Refusal, Reply, Steps,
-};
+use liq_types::{Call, Client, Command, Done, Hint, HintWords, Query, Refusal, Reply, Steps};
 use std::alloc::Global;
 use std::marker::Model;
 use std::sync::ledger::Ledger;

@@ -38,13 +38,19 @@ pub enum Told {
 }
 
 /// Tells a text of two disks, and writes the last line where that stops. All of the text is made before it is written.
-pub fn tell_on<K: Sink, D: Disk>(alloc: Global, what: Told, out: &mut K, left: D, right: D) -> Ending<D>
+pub fn tell_on<K: Sink, D: Disk>(
+    alloc: Global,
+    what: Told,
+    out: &mut K,
+    left: D,
+    right: D,
+) -> Ending<D>
     // Of the state for which the disks stand, and of the commands that lead to it, the text is told. They stand for it
     // then.
     ensures told { (l r : List ℕ) → D.seen left ≡ Some l → D.seen right ≡ Some r
         → (start : State) → state_on l r ≡ Ok start
         → EndsTelling what start (commands_on l r) result.end
-            (Rose (K.faults out.old) (K.faults out.new)) (K.held out.old) (K.held out.new)
+        (Rose (K.faults out.old) (K.faults out.new)) (K.held out.old) (K.held out.new)
         × DisksStay D.seen result.end l r start result.left result.right }
     // Of damaged disks nothing is told.
     ensures damaged { (l r : List ℕ) → D.seen left ≡ Some l → D.seen right ≡ Some r

@@ -40,8 +40,8 @@ returns-clause-told g c l r told_l told_r start is =
     let stand = opened_still seen g.D.Disk.faults g.D.Disk.moment g.D.Disk.left_at c.args.left c.args.right store l r start opened c.in-Ok.ensures.order stands told_l told_r is in
     let stay = disks_stay seen end l r start left.left left.right (stand_too seen l r start store.left store.right left.left left.right wrote.ensures.left wrote.ensures.right stand) in
     let from_one =
-        opened_from_one seen g.D.Disk.moment g.D.Disk.left_at store start opened.going c.in-Ok.ensures.order stands
-        (c.in-Ok.ensures.left_telling.1 (is_some_of (seen c.args.left) l told_l)) (c.in-Ok.ensures.right_telling.1 (is_some_of (seen c.args.right) r told_r)) in
+    opened_from_one seen g.D.Disk.moment g.D.Disk.left_at store start opened.going c.in-Ok.ensures.order stands
+    (c.in-Ok.ensures.left_telling.1 (is_some_of (seen c.args.left) l told_l)) (c.in-Ok.ensures.right_telling.1 (is_some_of (seen c.args.right) r told_r)) in
     let taken = taken_tells seen store.side c.args.left c.args.right store.left store.right c.in-Ok.ensures.left_telling c.in-Ok.ensures.right_telling l r told_l told_r in
     let holds = opened.commands l r taken.0 told_l told_r taken.1 in
     let leads : start.generation ≡ 1 → replay 1 opening holds.written.commands ≡ Ok start = λ one. ap (replay 1 opening) holds.are ∙ c.commands_lead_to_the_state.ensures l r start is one in
