@@ -1,4 +1,4 @@
-//! What an image is made of, with rows that can be changed.
+//! A sound image: its rows, which can be changed, and its words.
 
 use liq_types::{
     ClientRow, ClientRows, DepositRow, DepositRows, FinishedRows, FinishedSum, Image, NoMemory,
@@ -6,35 +6,9 @@ use liq_types::{
 };
 use std::alloc::Global;
 
-/// The words and the rows of an image.
+/// The rows of an image.
 #[derive(Clone, Copy)]
-pub struct Parts {
-    pub price: u64,
-    pub minute: u64,
-    pub base: u64,
-    pub fee_minute: u64,
-    pub generation: u64,
-    pub limit: u64,
-    pub brought: u64,
-    pub active_coll: u64,
-    pub active_debt: u64,
-    pub default_coll: u64,
-    pub default_debt: u64,
-    pub reserve: u64,
-    pub surplus: u64,
-    pub fee_coll: u64,
-    pub fee_lusd: u64,
-    pub sum_coll: u128,
-    pub sum_debt: u128,
-    pub stakes: u64,
-    pub snap_stakes: u64,
-    pub snap_coll: u64,
-    pub p: u128,
-    pub scale: u64,
-    pub epoch: u64,
-    pub sum: u128,
-    pub total: u64,
-    pub pool_coll: u64,
+pub struct Rows {
     pub wallets: [WalletRow; 2],
     pub troves: [TroveRow; 2],
     pub surplus_rows: [SurplusRow; 2],
@@ -43,35 +17,8 @@ pub struct Parts {
     pub clients: [ClientRow; 2],
 }
 
-/// A sound image, of which many numbers are the greatest that its rules let them be: what is pending is all of the default
-/// pool, the sum is the most beside its product, and so are a finished sum, a deposit's amount and each deposit's mark.
-pub const SOUND: Parts = Parts {
-    price: 1_000_000_000,
-    minute: 100,
-    base: 5_000_000_000_000_000,
-    fee_minute: 60,
-    generation: 2,
-    limit: 10_000_000_000_000_000_000,
-    brought: 42_650_000_000,
-    active_coll: 30_000_000_000,
-    active_debt: 10_220_000_000,
-    default_coll: 3_800_000_000,
-    default_debt: 650_000_000,
-    reserve: 400_000_000,
-    surplus: 800_000_000,
-    fee_coll: 50_000_000,
-    fee_lusd: 20_000_000,
-    sum_coll: 200_000_000_000_000_000,
-    sum_debt: 50_000_000_000_000_000,
-    stakes: 29_000_000_000,
-    snap_stakes: 25_000_000_000,
-    snap_coll: 30_000_000_000,
-    p: 500_000_000_000_000_000,
-    scale: 1,
-    epoch: 1,
-    sum: 5_500_000_000_000_000_000,
-    total: 5_000_000_000,
-    pool_coll: 1_000_000_000,
+/// The rows of the sound image.
+pub const SOUND: Rows = Rows {
     wallets: [
         WalletRow {
             account: 1,
@@ -171,42 +118,54 @@ pub const SOUND: Parts = Parts {
     ],
 };
 
-/// The image of these parts.
-pub fn image_of(alloc: Global, parts: &Parts) -> Result<Image, NoMemory> {
+/// The image of these rows, with the sound image's words. Of the sound image many numbers are the greatest that its rules
+/// let them be: what is pending is all of the default pool, the sum is the most beside its product, and so are a finished
+/// sum, a deposit's amount and each deposit's mark.
+pub fn image_of(alloc: Global, rows: &Rows) -> Result<Image, NoMemory> {
     Ok(Image {
-        price: parts.price,
-        minute: parts.minute,
-        base: parts.base,
-        fee_minute: parts.fee_minute,
-        generation: parts.generation,
-        limit: parts.limit,
-        brought: parts.brought,
-        active_coll: parts.active_coll,
-        active_debt: parts.active_debt,
-        default_coll: parts.default_coll,
-        default_debt: parts.default_debt,
-        reserve: parts.reserve,
-        surplus: parts.surplus,
-        fee_coll: parts.fee_coll,
-        fee_lusd: parts.fee_lusd,
-        sum_coll: parts.sum_coll,
-        sum_debt: parts.sum_debt,
-        stakes: parts.stakes,
-        snap_stakes: parts.snap_stakes,
-        snap_coll: parts.snap_coll,
-        p: parts.p,
-        scale: parts.scale,
-        epoch: parts.epoch,
-        sum: parts.sum,
-        total: parts.total,
-        pool_coll: parts.pool_coll,
-        wallets: wallets(alloc, &parts.wallets)?,
-        troves: troves(alloc, &parts.troves)?,
-        surplus_rows: surplus_rows(alloc, &parts.surplus_rows)?,
-        finished: finished(alloc, &parts.finished)?,
-        deposits: deposits(alloc, &parts.deposits)?,
-        clients: clients(alloc, &parts.clients)?,
+        price: 1_000_000_000,
+        minute: 100,
+        base: 5_000_000_000_000_000,
+        fee_minute: 60,
+        generation: 2,
+        limit: 10_000_000_000_000_000_000,
+        brought: 42_650_000_000,
+        active_coll: 30_000_000_000,
+        active_debt: 10_220_000_000,
+        default_coll: 3_800_000_000,
+        default_debt: 650_000_000,
+        reserve: 400_000_000,
+        surplus: 800_000_000,
+        fee_coll: 50_000_000,
+        fee_lusd: 20_000_000,
+        sum_coll: 200_000_000_000_000_000,
+        sum_debt: 50_000_000_000_000_000,
+        stakes: 29_000_000_000,
+        snap_stakes: 25_000_000_000,
+        snap_coll: 30_000_000_000,
+        p: 500_000_000_000_000_000,
+        scale: 1,
+        epoch: 1,
+        sum: 5_500_000_000_000_000_000,
+        total: 5_000_000_000,
+        pool_coll: 1_000_000_000,
+        wallets: wallets(alloc, &rows.wallets)?,
+        troves: troves(alloc, &rows.troves)?,
+        surplus_rows: surplus_rows(alloc, &rows.surplus_rows)?,
+        finished: finished(alloc, &rows.finished)?,
+        deposits: deposits(alloc, &rows.deposits)?,
+        clients: clients(alloc, &rows.clients)?,
     })
+}
+
+/// Takes all rows out of the image.
+pub fn empty(alloc: Global, image: &mut Image) {
+    image.wallets = WalletRows::new(alloc);
+    image.troves = TroveRows::new(alloc);
+    image.surplus_rows = SurplusRows::new(alloc);
+    image.finished = FinishedRows::new(alloc);
+    image.deposits = DepositRows::new(alloc);
+    image.clients = ClientRows::new(alloc);
 }
 
 fn wallets(alloc: Global, rows: &[WalletRow]) -> Result<WalletRows, NoMemory> {

@@ -1,7 +1,7 @@
 //! The eleven rules, each on both sides of its bounds, and their order.
 
-use crate::tests::parts::{SOUND, image_of};
-use crate::tests::turns::{Turn, judge, tells};
+use crate::tests::parts::{SOUND, empty, image_of};
+use crate::tests::turns::{Turn, changed, judge, tells};
 use Turn::{
     ActiveColl, ActiveDebt, Also, Base, Brought, ClientKind, ClientNumber, ClientValues,
     DefaultColl, DefaultDebt, DepositAccount, DepositAmount, DepositEpoch, DepositP, DepositScale,
@@ -12,9 +12,7 @@ use Turn::{
     WalletColl, WalletLusd,
 };
 use liq_images::{entries, first_unsound};
-use liq_types::{
-    ClientRows, DepositRows, FinishedRows, Image, NoMemory, SurplusRows, TroveRows, WalletRows,
-};
+use liq_types::NoMemory;
 use std::alloc::Global;
 use std::process::Abort;
 
@@ -479,58 +477,49 @@ fn replies_have_the_values_of_their_kind(rt: HostRuntime) {
     for (kind, count) in &KINDS {
         for (shown, values) in SHOWN.iter().enumerate() {
             let want = if shown > *count { Some(11) } else { None };
-            let mut parts = SOUND;
-            parts.clients[1].kind = *kind;
-            parts.clients[1].values = *values;
-            tells(&rt, rt.alloc(), &parts, want, "a kind");
+            let changes = [ClientKind(1, *kind), ClientValues(1, *values)];
+            tells(&rt, rt.alloc(), &changes, want, "a kind");
         }
     }
 }
 
-/// The image that the protocol opens with, but for the product.
-fn opening(alloc: Global, p: u128) -> Image {
-    Image {
-        price: 1_000_000_000,
-        minute: 0,
-        base: 0,
-        fee_minute: 0,
-        generation: 1,
-        limit: 10_000_000_000_000_000_000,
-        brought: 0,
-        active_coll: 0,
-        active_debt: 0,
-        default_coll: 0,
-        default_debt: 0,
-        reserve: 0,
-        surplus: 0,
-        fee_coll: 0,
-        fee_lusd: 0,
-        sum_coll: 0,
-        sum_debt: 0,
-        stakes: 0,
-        snap_stakes: 0,
-        snap_coll: 0,
-        p,
-        scale: 0,
-        epoch: 0,
-        sum: 0,
-        total: 0,
-        pool_coll: 0,
-        wallets: WalletRows::new(alloc),
-        troves: TroveRows::new(alloc),
-        surplus_rows: SurplusRows::new(alloc),
-        finished: FinishedRows::new(alloc),
-        deposits: DepositRows::new(alloc),
-        clients: ClientRows::new(alloc),
-    }
-}
+/// The words in which the image that the protocol opens with differs from the sound one, but for the product.
+const OPENING: [Turn; 23] = [
+    Minute(0),
+    Base(0),
+    FeeMinute(0),
+    Generation(1),
+    Brought(0),
+    ActiveColl(0),
+    ActiveDebt(0),
+    DefaultColl(0),
+    DefaultDebt(0),
+    Reserve(0),
+    Surplus(0),
+    FeeColl(0),
+    FeeLusd(0),
+    SumColl(0),
+    SumDebt(0),
+    Stakes(0),
+    SnapStakes(0),
+    SnapColl(0),
+    Scale(0),
+    Epoch(0),
+    Sum(0),
+    Total(0),
+    PoolColl(0),
+];
 
 /// Of the opening image with this product, this is the first rule that is broken.
 fn opening_tells<R: Abort>(rt: &R, alloc: Global, p: u128, want: Option<u8>) {
-    assert!(rt;
-        first_unsound(&opening(alloc, p)) == want,
-        "the opening image"
-    );
+    match changed(alloc, &OPENING) {
+        Ok(mut image) => {
+            empty(alloc, &mut image);
+            image.p = p;
+            assert!(rt; first_unsound(&image) == want, "the opening image");
+        }
+        Err(_) => assert!(rt; false, "memory"),
+    }
 }
 
 #[test]

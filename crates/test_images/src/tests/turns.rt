@@ -1,7 +1,8 @@
 //! Changes of a sound image, one after the other, and what is then told of it.
 
-use crate::tests::parts::{Parts, SOUND, image_of};
+use crate::tests::parts::{Rows, SOUND, image_of};
 use liq_images::first_unsound;
+use liq_types::{Image, NoMemory};
 use std::alloc::Global;
 use std::process::Abort;
 
@@ -65,9 +66,9 @@ pub enum Turn {
     ClientValues(usize, [u64; 6]),
 }
 
-/// The first rule that an image of these parts breaks is this one.
-pub fn tells<R: Abort>(rt: &R, alloc: Global, parts: &Parts, want: Option<u8>, what: &str) {
-    match image_of(alloc, parts) {
+/// The first rule that the sound image breaks, changed so, is this one.
+pub fn tells<R: Abort>(rt: &R, alloc: Global, changes: &[Turn], want: Option<u8>, what: &str) {
+    match changed(alloc, changes) {
         Ok(image) => assert!(rt; first_unsound(&image) == want, "{what}"),
         Err(_) => assert!(rt; false, "memory"),
     }
@@ -75,86 +76,102 @@ pub fn tells<R: Abort>(rt: &R, alloc: Global, parts: &Parts, want: Option<u8>, w
 
 /// Along the turns, from the sound image on.
 pub fn judge<R: Abort>(rt: &R, alloc: Global, what: &str, turns: &[Turn]) {
-    let mut parts = SOUND;
+    let mut changes = Vec::new(alloc);
     for turn in turns {
         match *turn {
             Turn::Sound => {
-                tells(rt, alloc, &parts, None, what);
-                parts = SOUND;
+                tells(rt, alloc, &changes, None, what);
+                changes.clear();
             }
             Turn::First(rule) => {
-                tells(rt, alloc, &parts, Some(rule), what);
-                parts = SOUND;
+                tells(rt, alloc, &changes, Some(rule), what);
+                changes.clear();
             }
-            Turn::Also(rule) => tells(rt, alloc, &parts, Some(rule), what),
-            change => change_word(&mut parts, change),
+            Turn::Also(rule) => tells(rt, alloc, &changes, Some(rule), what),
+            change => {
+                let kept = changes.push(change);
+                assert!(rt; kept.is_ok(), "memory");
+            }
         }
     }
 }
 
-fn change_word(parts: &mut Parts, change: Turn) {
+/// The sound image, changed so.
+pub fn changed(alloc: Global, changes: &[Turn]) -> Result<Image, NoMemory> {
+    let mut rows = SOUND;
+    for change in changes {
+        change_row(&mut rows, *change);
+    }
+    let mut image = image_of(alloc, &rows)?;
+    for change in changes {
+        change_word(&mut image, *change);
+    }
+    Ok(image)
+}
+
+fn change_word(image: &mut Image, change: Turn) {
     match change {
-        Turn::Price(price) => parts.price = price,
-        Turn::Minute(minute) => parts.minute = minute,
-        Turn::Base(base) => parts.base = base,
-        Turn::FeeMinute(fee_minute) => parts.fee_minute = fee_minute,
-        Turn::Generation(generation) => parts.generation = generation,
-        Turn::Limit(limit) => parts.limit = limit,
-        Turn::Brought(brought) => parts.brought = brought,
-        Turn::ActiveColl(active_coll) => parts.active_coll = active_coll,
-        Turn::ActiveDebt(active_debt) => parts.active_debt = active_debt,
-        Turn::DefaultColl(default_coll) => parts.default_coll = default_coll,
-        Turn::DefaultDebt(default_debt) => parts.default_debt = default_debt,
-        Turn::Reserve(reserve) => parts.reserve = reserve,
-        Turn::Surplus(surplus) => parts.surplus = surplus,
-        Turn::FeeColl(fee_coll) => parts.fee_coll = fee_coll,
-        Turn::FeeLusd(fee_lusd) => parts.fee_lusd = fee_lusd,
-        Turn::SumColl(sum_coll) => parts.sum_coll = sum_coll,
-        Turn::SumDebt(sum_debt) => parts.sum_debt = sum_debt,
-        Turn::Stakes(stakes) => parts.stakes = stakes,
-        Turn::SnapStakes(snap_stakes) => parts.snap_stakes = snap_stakes,
-        Turn::SnapColl(snap_coll) => parts.snap_coll = snap_coll,
-        Turn::P(p) => parts.p = p,
-        Turn::Scale(scale) => parts.scale = scale,
-        Turn::Epoch(epoch) => parts.epoch = epoch,
-        Turn::Sum(sum) => parts.sum = sum,
-        Turn::Total(total) => parts.total = total,
-        Turn::PoolColl(pool_coll) => parts.pool_coll = pool_coll,
-        _ => change_row(parts, change),
+        Turn::Price(price) => image.price = price,
+        Turn::Minute(minute) => image.minute = minute,
+        Turn::Base(base) => image.base = base,
+        Turn::FeeMinute(fee_minute) => image.fee_minute = fee_minute,
+        Turn::Generation(generation) => image.generation = generation,
+        Turn::Limit(limit) => image.limit = limit,
+        Turn::Brought(brought) => image.brought = brought,
+        Turn::ActiveColl(active_coll) => image.active_coll = active_coll,
+        Turn::ActiveDebt(active_debt) => image.active_debt = active_debt,
+        Turn::DefaultColl(default_coll) => image.default_coll = default_coll,
+        Turn::DefaultDebt(default_debt) => image.default_debt = default_debt,
+        Turn::Reserve(reserve) => image.reserve = reserve,
+        Turn::Surplus(surplus) => image.surplus = surplus,
+        Turn::FeeColl(fee_coll) => image.fee_coll = fee_coll,
+        Turn::FeeLusd(fee_lusd) => image.fee_lusd = fee_lusd,
+        Turn::SumColl(sum_coll) => image.sum_coll = sum_coll,
+        Turn::SumDebt(sum_debt) => image.sum_debt = sum_debt,
+        Turn::Stakes(stakes) => image.stakes = stakes,
+        Turn::SnapStakes(snap_stakes) => image.snap_stakes = snap_stakes,
+        Turn::SnapColl(snap_coll) => image.snap_coll = snap_coll,
+        Turn::P(p) => image.p = p,
+        Turn::Scale(scale) => image.scale = scale,
+        Turn::Epoch(epoch) => image.epoch = epoch,
+        Turn::Sum(sum) => image.sum = sum,
+        Turn::Total(total) => image.total = total,
+        Turn::PoolColl(pool_coll) => image.pool_coll = pool_coll,
+        _ => {}
     }
 }
 
-fn change_row(parts: &mut Parts, change: Turn) {
+fn change_row(rows: &mut Rows, change: Turn) {
     match change {
-        Turn::WalletAccount(at, account) => parts.wallets[at % 2].account = account,
-        Turn::WalletColl(at, coll) => parts.wallets[at % 2].coll = coll,
-        Turn::WalletLusd(at, lusd) => parts.wallets[at % 2].lusd = lusd,
-        Turn::TroveAccount(at, account) => parts.troves[at % 2].account = account,
-        Turn::TroveColl(at, coll) => parts.troves[at % 2].coll = coll,
-        Turn::TroveDebt(at, debt) => parts.troves[at % 2].debt = debt,
-        Turn::TroveStake(at, stake) => parts.troves[at % 2].stake = stake,
-        Turn::TroveMarkColl(at, mark_coll) => parts.troves[at % 2].mark_coll = mark_coll,
-        Turn::TroveMarkDebt(at, mark_debt) => parts.troves[at % 2].mark_debt = mark_debt,
-        Turn::SurplusAccount(at, account) => parts.surplus_rows[at % 2].account = account,
-        Turn::SurplusColl(at, coll) => parts.surplus_rows[at % 2].coll = coll,
-        _ => change_pool_or_client(parts, change),
+        Turn::WalletAccount(at, account) => rows.wallets[at % 2].account = account,
+        Turn::WalletColl(at, coll) => rows.wallets[at % 2].coll = coll,
+        Turn::WalletLusd(at, lusd) => rows.wallets[at % 2].lusd = lusd,
+        Turn::TroveAccount(at, account) => rows.troves[at % 2].account = account,
+        Turn::TroveColl(at, coll) => rows.troves[at % 2].coll = coll,
+        Turn::TroveDebt(at, debt) => rows.troves[at % 2].debt = debt,
+        Turn::TroveStake(at, stake) => rows.troves[at % 2].stake = stake,
+        Turn::TroveMarkColl(at, mark_coll) => rows.troves[at % 2].mark_coll = mark_coll,
+        Turn::TroveMarkDebt(at, mark_debt) => rows.troves[at % 2].mark_debt = mark_debt,
+        Turn::SurplusAccount(at, account) => rows.surplus_rows[at % 2].account = account,
+        Turn::SurplusColl(at, coll) => rows.surplus_rows[at % 2].coll = coll,
+        _ => change_pool_or_client(rows, change),
     }
 }
 
-fn change_pool_or_client(parts: &mut Parts, change: Turn) {
+fn change_pool_or_client(rows: &mut Rows, change: Turn) {
     match change {
-        Turn::FinishedEpoch(at, epoch) => parts.finished[at % 3].epoch = epoch,
-        Turn::FinishedScale(at, scale) => parts.finished[at % 3].scale = scale,
-        Turn::FinishedSum(at, sum) => parts.finished[at % 3].sum = sum,
-        Turn::DepositAccount(at, account) => parts.deposits[at % 3].account = account,
-        Turn::DepositAmount(at, amount) => parts.deposits[at % 3].amount = amount,
-        Turn::DepositP(at, p) => parts.deposits[at % 3].p = p,
-        Turn::DepositSum(at, sum) => parts.deposits[at % 3].sum = sum,
-        Turn::DepositScale(at, scale) => parts.deposits[at % 3].scale = scale,
-        Turn::DepositEpoch(at, epoch) => parts.deposits[at % 3].epoch = epoch,
-        Turn::ClientNumber(at, client) => parts.clients[at % 2].client = client,
-        Turn::ClientKind(at, kind) => parts.clients[at % 2].kind = kind,
-        Turn::ClientValues(at, values) => parts.clients[at % 2].values = values,
+        Turn::FinishedEpoch(at, epoch) => rows.finished[at % 3].epoch = epoch,
+        Turn::FinishedScale(at, scale) => rows.finished[at % 3].scale = scale,
+        Turn::FinishedSum(at, sum) => rows.finished[at % 3].sum = sum,
+        Turn::DepositAccount(at, account) => rows.deposits[at % 3].account = account,
+        Turn::DepositAmount(at, amount) => rows.deposits[at % 3].amount = amount,
+        Turn::DepositP(at, p) => rows.deposits[at % 3].p = p,
+        Turn::DepositSum(at, sum) => rows.deposits[at % 3].sum = sum,
+        Turn::DepositScale(at, scale) => rows.deposits[at % 3].scale = scale,
+        Turn::DepositEpoch(at, epoch) => rows.deposits[at % 3].epoch = epoch,
+        Turn::ClientNumber(at, client) => rows.clients[at % 2].client = client,
+        Turn::ClientKind(at, kind) => rows.clients[at % 2].kind = kind,
+        Turn::ClientValues(at, values) => rows.clients[at % 2].values = values,
         _ => {}
     }
 }
