@@ -30,7 +30,7 @@ returns-in-State g c words asks only =
 
 pub returns-in-Audit : goal.returns-in-Audit
 returns-in-Audit g c words asks only =
-    let ran = c.tell_on-2 in
+    let ran = c.tell_on-in-Audit in
     let before : Outside g.row.S.Denot g.row.K.Denot g.row.D.Denot = record { source = c.args.input.now; sink = c.args.out.now; left = c.args.left; right = c.args.right } in
     let after : Outside g.row.S.Denot g.row.K.Denot g.row.D.Denot = record { source = c.args.input.now; sink = ran.new.out; left = ran.result.left; right = ran.result.right } in
     let read = subst (λ (w : Word). IsRead words w) c.in-Audit.is (record { asks = asks; only = only }) in
