@@ -97,7 +97,7 @@ fn find_on_both(alloc: Global) -> Result<(Found, bool), AllocError> {
     Ok((opened.found, opened.is_right))
 }
 
-// A journal cannot stand on the right disk yet.
+// A journal of the first generation cannot stand on the right disk.
 #[test]
 fn the_right_disk_is_damaged(rt: HostRuntime) -> Result<(), Fail> {
     let (found, is_right) = find_on_both(rt.alloc())?;

@@ -23,7 +23,7 @@ fn cut_at(at: u64) -> Found {
 // What is found where the last bit of the byte at a place is another.
 fn changed_at(at: u64) -> Found {
     match at {
-        0..HEADER => of_header(at),
+        0..HEADER => of_header(at, 1),
         // The gate behind the last record opens nothing: no whole record stands there.
         _ if (at - HEADER) % RECORD == 0 => Found::Records((at - HEADER) / RECORD),
         _ => Found::OtherDigest((at - HEADER) / RECORD + 1),

@@ -17,13 +17,14 @@ pub enum Found {
     NoMemory,
 }
 
-/// What is found where the byte at a place of the header is another.
-pub fn of_header(at: u64) -> Found {
+/// What is found where this bit of the byte at a place of a first generation's header is another. An even generation is
+/// of the other disk; behind any other odd one a checkpoint is missing.
+pub fn of_header(at: u64, bit: u8) -> Found {
     match at {
         0 => Found::Absent,
         1..9 => Found::NoForm { index: 0, place: 1 },
-        9..17 => Found::NoForm { index: 0, place: 9 },
-        17..25 => Found::NoForm {
+        16 if bit == 1 => Found::NoForm { index: 0, place: 9 },
+        9..25 => Found::NoForm {
             index: 0,
             place: 17,
         },
