@@ -31,7 +31,8 @@ const NAME_1: [u8; 8] = [76, 73, 81, 74, 82, 78, 76, 49];
 
 /// The places of a header of the version with this limit, which the checkpoint follows.
 pub fn header_size(limit: u64) -> u64
-    ensures { result ≡ header_size (layout_with limit) }
+    ensures known { result ≡ header_size (layout_with limit) }
+    ensures most { result ≤ 65 }
 {
     if limit == LIM { HEADER } else { 57 }
 }
