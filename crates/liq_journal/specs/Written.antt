@@ -65,8 +65,11 @@ abbrev pub header_tests : Layout → Bool → List ℕ → List (Bool × What)
 header_tests layout odd bytes = forms_then (place_tests layout odd bytes) (last_tests layout bytes)
 
 -- fewer bytes than a header's, or a gate that isn't open
+abbrev pub is_closed : ℕ → ℕ → Bool
+is_closed count gate = nat_lt count least_header || not (gate == 1)
+
 abbrev pub is_absent : List ℕ → Bool
-is_absent bytes = nat_lt (length bytes) least_header || not (get_or bytes 0 0 == 1)
+is_absent bytes = is_closed (length bytes) (get_or bytes 0 0)
 
 abbrev pub is_rotate : Call → Bool
 is_rotate Rotate = true
