@@ -13,8 +13,8 @@ use Rattle.liq_outside.specs.Disk.{overwritten}
 use Rattle.liq_journal.specs.declared.damage.Damage.{Damage}
 use Rattle.liq_journal.specs.declared.damage.What.{What}
 use Rattle.liq_journal.specs.declared.damage.What.TheVariants.{Digest, Form}
-use Rattle.liq_journal.specs.Layout.{Layout, layout_on, layout_with, header_size, least_header, name_on, generation_on, size_on}
-use Rattle.liq_journal.specs.Layout.{own_on, stored_on, checkpoint_on, start_on, digest_on}
+use Rattle.liq_journal.specs.Layout.{Layout, layout_on, layout_with, header_size, least_header}
+use Rattle.liq_journal.specs.Layout.{name_on, generation_on, size_on, own_on, stored_on, checkpoint_on, start_on, digest_on}
 use Rattle.liq_journal.specs.Records.{records}
 
 unfoldable pub record_digest : ℕ → ℕ → List ℕ → List ℕ
