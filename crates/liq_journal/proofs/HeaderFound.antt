@@ -1,5 +1,5 @@
 -- What is found by a header.
-use Rattle.std.proofs.Common.{◌≡◌, ◌⊎◌, inl, inr, ℕ, ◌+◌, ◌<◌, ◌≤◌, List, [], ◌∷◌, length, take, drop, get_or, Option, Some, None, IfSome, Result, Ok, Err, Bool, true, false, not, nat_lt, if◌then◌else◌, refl, sym, ◌∙◌, ap, subst, arith}
+use Rattle.std.proofs.Common.{◌≡◌, ◌⊎◌, inl, inr, ℕ, ◌+◌, ◌<◌, ◌≤◌, List, [], ◌∷◌, length, take, drop, get_or, Option, Some, None, IfSome, Result, Ok, Err, Bool, true, false, not, nat_lt, ◌==◌, ◌||◌, if◌then◌else◌, refl, sym, ◌∙◌, ap, subst, arith}
 use Rattle.std.specs.Str.{bytes_eq}
 use Rattle.std.proofs.lemmas.Bool.Decides.{nat_tests}
 use Rattle.liq_types.specs.Image.{IsLimit}
@@ -16,7 +16,7 @@ use Rattle.liq_journal.specs.Look.{look_behind, look_in, look_on}
 use Rattle.liq_journal.specs.Header.{HasFields, IsHeadOf, MaybeHeadOf, IsDamageOf}
 use Rattle.liq_journal.specs.Layout.{Layout, IsVersion, layout_on, layout_with, layout_named, fields_size, header_size, least_header, greatest_header, piece, name_on, generation_on, size_on, start_on}
 use Rattle.liq_journal.specs.Looked.{IsRead}
-use Rattle.liq_journal.specs.Written.{Absent, Damaged, is_generation, is_size, place_tests, last_tests, forms_then, first_fault, header_tests, is_closed, is_absent, found_behind, found_on}
+use Rattle.liq_journal.specs.Written.{Absent, Damaged, is_generation, is_size, place_tests, last_tests, forms_then, first_fault, header_tests, is_absent, found_behind, found_on}
 use Rattle.std.proofs.lemmas.List.{take-take}
 use Rattle.liq_journal.proofs.Versions.{has_version, one_version}
 use Rattle.liq_journal.proofs.Reading.{piece_alike, byte_alike, number_alike}
@@ -185,8 +185,11 @@ module _ (odd : Bool) (n : ℕ) (bytes : List ℕ) (long : least_header ≤ n) (
           fields = same_fields layout odd held bytes (f.whole (omega (arith, enough_2))) head has;
         })
 
--- when the front says that none is open, and when not
-closed : (n gate : ℕ) → is_closed n gate ≡ true → (n < least_header) ⊎ ((least_header ≤ n) × (gate ≡ 1 → ⊥))
+-- what the front of a disk tells: none is open, or one is
+abbrev pub none_open : ℕ → ℕ → Bool
+none_open n gate = nat_lt n least_header || not (gate == 1)
+
+closed : (n gate : ℕ) → none_open n gate ≡ true → (n < least_header) ⊎ ((least_header ≤ n) × (gate ≡ 1 → ⊥))
 closed n gate is = elim (order n least_header) [
   | inl less ↦ inl less
   | inr long ↦ inr (long, λ one. by_gate long one)
@@ -201,12 +204,12 @@ pub record IsOpenFront (n gate : ℕ) : Type 0 where
   pub long : least_header ≤ n
   pub is_open : gate ≡ 1
 
-pub open_front : (n gate : ℕ) (tested : Bool) → tested ≡ is_closed n gate → tested ≡ false → IsOpenFront n gate
-open_front n gate tested told isnt = let is : is_closed n gate ≡ false = sym told ∙ isnt in record { long = grind (arith, nat_tests, is); is_open = grind (arith, nat_tests, is) }
+pub open_front : (n gate : ℕ) (tested : Bool) → tested ≡ none_open n gate → tested ≡ false → IsOpenFront n gate
+open_front n gate tested told isnt = let is : none_open n gate ≡ false = sym told ∙ isnt in record { long = grind (arith, nat_tests, is); is_open = grind (arith, nat_tests, is) }
 
 -- what is told by it
 module _ (told : Option (List ℕ)) (odd : Bool) (n : ℕ) (bytes : List ℕ) (read : IfSome told (IsRead 0 greatest_header n bytes)) where
-  pub told_absent : is_closed n (get_or bytes 0 0) ≡ true → IfSome told (λ held. MaybeHeadOf odd held None)
+  pub told_absent : none_open n (get_or bytes 0 0) ≡ true → IfSome told (λ held. MaybeHeadOf odd held None)
   told_absent why = if_some told (IsRead 0 greatest_header n bytes) (λ held. MaybeHeadOf odd held None) (λ held r. look_absent odd held (absent held r (closed n (get_or bytes 0 0) why))) read
     where
       absent : (held : List ℕ) → IsRead 0 greatest_header n bytes held → (n < least_header) ⊎ ((least_header ≤ n) × (get_or bytes 0 0 ≡ 1 → ⊥)) → is_absent held ≡ true

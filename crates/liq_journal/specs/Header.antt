@@ -6,8 +6,7 @@ use Rattle.liq_journal.specs.Look.{look_on}
 use Rattle.liq_journal.specs.declared.answers.Look.TheVariants.{Absent}
 use Rattle.liq_journal.specs.declared.answers.LookFault.{LookFault}
 use Rattle.liq_journal.specs.declared.answers.LookFault.TheVariants as fault
-use Rattle.liq_journal.specs.Layout.{Layout, layout_on, layout_with, fields_size}
-use Rattle.liq_journal.specs.Layout.{generation_on, size_on, fields_on, stored_on, start_on}
+use Rattle.liq_journal.specs.Layout.{Layout, layout_on, layout_with, fields_size, generation_on, size_on, fields_on, stored_on, start_on}
 use Rattle.liq_journal.specs.Written.{is_absent, place_tests}
 
 -- the version, and the fields of these bytes

@@ -28,7 +28,7 @@ version_2 = record { name = 76 ∷ 73 ∷ 81 ∷ 74 ∷ 82 ∷ 78 ∷ 76 ∷ 50 
 abbrev pub layout_with : ℕ → Layout
 layout_with limit = if limit == LIM then version_2 else version_1
 
--- the version with this name; the first, where it isn't the second's
+-- the version with this name, which is the first where it isn't the second's
 abbrev pub layout_named : List ℕ → Layout
 layout_named name = if bytes_eq name version_2.name then version_2 else version_1
 

@@ -13,8 +13,8 @@ use Rattle.liq_outside.specs.Disk.{overwritten}
 use Rattle.liq_journal.specs.declared.damage.Damage.{Damage}
 use Rattle.liq_journal.specs.declared.damage.What.{What}
 use Rattle.liq_journal.specs.declared.damage.What.TheVariants.{Digest, Form}
-use Rattle.liq_journal.specs.Layout.{Layout, layout_on, layout_with, header_size, least_header}
-use Rattle.liq_journal.specs.Layout.{name_on, generation_on, size_on, own_on, stored_on, checkpoint_on, start_on, digest_on}
+use Rattle.liq_journal.specs.Layout.{Layout, layout_on, layout_with, header_size, least_header, name_on, generation_on, size_on}
+use Rattle.liq_journal.specs.Layout.{own_on, stored_on, checkpoint_on, start_on, digest_on}
 use Rattle.liq_journal.specs.Records.{records}
 
 unfoldable pub record_digest : ℕ → ℕ → List ℕ → List ℕ
@@ -65,11 +65,8 @@ abbrev pub header_tests : Layout → Bool → List ℕ → List (Bool × What)
 header_tests layout odd bytes = forms_then (place_tests layout odd bytes) (last_tests layout bytes)
 
 -- fewer bytes than a header's, or a gate that isn't open
-abbrev pub is_closed : ℕ → ℕ → Bool
-is_closed count gate = nat_lt count least_header || not (gate == 1)
-
 abbrev pub is_absent : List ℕ → Bool
-is_absent bytes = is_closed (length bytes) (get_or bytes 0 0)
+is_absent bytes = nat_lt (length bytes) least_header || not (get_or bytes 0 0 == 1)
 
 abbrev pub is_rotate : Call → Bool
 is_rotate Rotate = true

@@ -1,5 +1,5 @@
 // A header read and tested.
-ghost use Rattle.std.specs.Prelude.{◌≡◌, ◌≤◌, ◌+◌, Some, None, true, IfOk, IfErr, IfSome, length, get_or};
+ghost use Rattle.std.specs.Prelude.{◌≡◌, ◌≤◌, ◌+◌, ◌==◌, ◌||◌, nat_lt, not, Some, None, true, IfOk, IfErr, IfSome, length, get_or};
 ghost use Rattle.std.specs.Result.{MatchResult};
 ghost use Rattle.liq_types.specs.Image.{IsLimit};
 ghost use Rattle.liq_wire.specs.Fields.{first_place, number_at};
@@ -8,8 +8,8 @@ ghost use Rattle.liq_journal.specs.Header.{HasFields, IsDamageOf, MaybeHeadOf};
 ghost use Rattle.liq_journal.specs.declared.damage.What.TheVariants.{Form};
 ghost use Rattle.liq_journal.specs.declared.answers.LookFault.TheVariants.{Damaged};
 ghost use Rattle.liq_journal.specs.Looked.{Looked};
-ghost use Rattle.liq_journal.specs.Layout.{fields_size, header_size, layout_on, layout_with};
-ghost use Rattle.liq_journal.specs.Written.{is_closed, is_generation, is_size, place_tests};
+ghost use Rattle.liq_journal.specs.Layout.{fields_size, header_size, layout_on, layout_with, least_header};
+ghost use Rattle.liq_journal.specs.Written.{is_generation, is_size, place_tests};
 
 use crate::answers::LookFault;
 use crate::damage::{Damage, What};
@@ -134,9 +134,10 @@ fn may_be_long(generation: u64, size: u64) -> bool
     }
 }
 
-// Whether no journal is open on a disk of which so many bytes were read, which are these.
+// Whether no journal is open on a disk from whose front so many bytes were read, which are these: fewer than the least header
+// has, or a gate that isn't open.
 fn is_absent(bytes: &[u8; 65], count: usize) -> bool
-    ensures { result ≡ is_closed count (get_or bytes.now 0 0) }
+    ensures { result ≡ (nat_lt count least_header || not (get_or bytes.now 0 0 == 1)) }
 {
     count < 57 || bytes[0] != 1
 }
