@@ -19,7 +19,7 @@ pub fn a_front_is_read()
 
 /// The bytes up to a header's end decide the header.
 pub fn a_header_is_decided()
-    ensures { (odd : Bool) (held image : List ℕ) (w : Written) (m : ℕ) → found_on odd held ≡ Open w → start_of w ≤ m → m ≤ length held → take m image ≡ take m held → found_on odd image ≡ found_records w.generation w.checkpoint 1 (start_of w) (records most_records (drop (start_of w) image)) }
+    ensures { (odd : Bool) (held image : List ℕ) (w : Written) (m : ℕ) → found_on odd held ≡ Open w → start_of w ≤ m → m ≤ length held → take m image ≡ take m held → found_on odd image ≡ found_records w.generation w.limit w.checkpoint 1 (start_of w) (records most_records (drop (start_of w) image)) }
 {}
 
 /// Any part of a write behind the closed gate at the end leaves what is found.

@@ -21,6 +21,7 @@ mod scanned;
 pub use answers::{CreateFault, DiskFault, Look, LookFault, OpenFault, OpenWhy};
 pub use block::Block;
 pub use damage::{Damage, What};
+pub use header::header_size;
 pub use journal::Journal;
 pub use looking::look;
 
