@@ -7,7 +7,7 @@ use Rattle.liq_types.specs.State.{State, opening, opening_with}
 use Rattle.liq_journal.specs.declared.damage.Damage.{Damage}
 use Rattle.liq_journal.specs.Written.{Found, Absent, Damaged, Open, Written, found_on}
 use Rattle.liq_journal.proofs.Bodies.{found_no_rotation}
-use Rattle.liq_journal.proofs.Heading.{found_limit}
+use Rattle.liq_journal.proofs.Heading.{has_limit}
 use Rattle.liq_pairs.specs.declared.side.Side.{Side}
 use Rattle.liq_pairs.specs.Pair.{Nothing, commands_on, journal_commands, journal_limit, journal_on, limit_on, pair_journal, pair_state, standing, standing_after, standing_of, state_on}
 use Rattle.liq_pairs.specs.Replay.{base_of, outcome, replay}
@@ -56,7 +56,7 @@ are_well odd bytes = by (found_on odd bytes) refl
     by : (found : Found) → found_on odd bytes ≡ found → AreWell found
     by Absent is = tt
     by (Damaged damage) is = tt
-    by (Open w) is = record { none = found_no_rotation odd bytes w is; limit = found_limit odd bytes w is }
+    by (Open w) is = record { none = found_no_rotation odd bytes w is; limit = has_limit odd bytes w is }
 
 -- the journal that counts, if there is one, leads to this state; else it is the opening state
 abbrev Leads : Option Written → State → Type 0
