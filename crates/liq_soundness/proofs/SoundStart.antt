@@ -41,14 +41,18 @@ started_with i records h =
 pub started_sound : (i : Image) → IsSoundImage i 0 → IsSoundState (started i)
 started_sound i h = started_with i 0 h
 
--- under either limit
-pub opening_sound : (limit : ℕ) → IsLimit limit → IsSoundState (opening_with limit)
+-- the opening, under either limit
+pub opening_image_sound : (limit : ℕ) → IsLimit limit → IsSoundImage (opening_image_with limit) 0
 unfolding IsStrictlySortedBy
-opening_sound limit known = started_sound (opening_image_with limit) (record {
-  rules = ruled known;
-  tables = record { wallets = tt; used_wallets = tt; troves = tt; surplus = tt; some_surplus = tt; finished = tt; some_finished = tt; deposits = tt; some_deposits = tt; clients = tt; client_rows = tt };
-})
+opening_image_sound limit known =
+    record {
+      rules = ruled known;
+      tables = record { wallets = tt; used_wallets = tt; troves = tt; surplus = tt; some_surplus = tt; finished = tt; some_finished = tt; deposits = tt; some_deposits = tt; clients = tt; client_rows = tt };
+    }
   where
     ruled : IsLimit limit → first_unsound (opening_image_with limit) 0 ≡ None
     ruled (inl lesser) = ap (λ n. first_unsound (opening_image_with n) 0) lesser
     ruled (inr greater) = ap (λ n. first_unsound (opening_image_with n) 0) greater
+
+pub opening_sound : (limit : ℕ) → IsLimit limit → IsSoundState (opening_with limit)
+opening_sound limit known = started_sound (opening_image_with limit) (opening_image_sound limit known)
