@@ -2,7 +2,7 @@
 
 ghost use Rattle.std.specs.Prelude.{◌≡◌, ◌∷◌, [], Ok, IfOk, OnOk, length, map};
 ghost use Rattle.liq_types.specs.Image.{IsLimit};
-ghost use Rattle.liq_types.specs.Length.{checkpoint_length};
+ghost use Rattle.liq_types.specs.Length.{checkpoint_length, length_with};
 ghost use Rattle.liq_types.specs.Soundness.{HasTables};
 ghost use Rattle.liq_checkpoint.specs.Reading.{image_at};
 ghost use Rattle.liq_checkpoint.specs.Spelling.{Puts, contents, words, tables, name, spelling};
@@ -50,7 +50,10 @@ fn name(limit: u64) -> [u8; 8]
     }
 }
 
-fn counts(image: &Image) -> RowCounts {
+// How many rows its tables have.
+fn counts(image: &Image) -> RowCounts
+    ensures { length_with result ≡ checkpoint_length image.now }
+{
     RowCounts {
         wallets: image.wallets.rows().len() as u64,
         troves: image.troves.rows().len() as u64,

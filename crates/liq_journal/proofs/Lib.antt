@@ -14,3 +14,4 @@ mod Scanning
 mod Settling
 mod Testing
 mod Told
+mod Versions

@@ -28,6 +28,10 @@ version_2 = record { name = 76 ∷ 73 ∷ 81 ∷ 74 ∷ 82 ∷ 78 ∷ 76 ∷ 50 
 abbrev pub layout_with : ℕ → Layout
 layout_with limit = if limit == LIM then version_2 else version_1
 
+-- the version with this name, which is the first where it isn't the second's
+abbrev pub layout_named : List ℕ → Layout
+layout_named name = if bytes_eq name version_2.name then version_2 else version_1
+
 -- between the gate and the digest
 abbrev pub fields_size : Layout → ℕ
 fields_size layout = 24 + length layout.own
@@ -39,9 +43,13 @@ header_size layout = 1 + fields_size layout + 32
 abbrev pub least_header : ℕ
 least_header = 57
 
+-- and the most
+abbrev pub greatest_header : ℕ
+greatest_header = 65
+
 -- the farthest place where records may begin: behind a header and the most bytes of a checkpoint
 abbrev pub start_most : ℕ
-start_most = header_size version_2 + 2 ^ 36
+start_most = greatest_header + 2 ^ 36
 
 -- The limit is one of two, and the place is behind a header of its version and a checkpoint.
 pub record StartsWithin (limit start : ℕ) : Type 0 where
@@ -50,13 +58,14 @@ pub record StartsWithin (limit start : ℕ) : Type 0 where
   pub most : start ≤ header_size (layout_with limit) + 2 ^ 36
 
 -- What a version has to meet: its name fills the places up to the generation, its fields end within the least header,
--- the header ends within the longest, and the version is known by its limit.
+-- the header ends within the greatest, and the version is known by its name and by its limit.
 pub record IsVersion (layout : Layout) : Type 0 where
   pub named : length layout.name ≡ 8
   pub fields : 1 + fields_size layout ≤ least_header
-  pub whole : header_size layout ≤ header_size version_2
+  pub whole : header_size layout ≤ greatest_header
   pub limit : IsLimit layout.limit
-  pub known : layout_with layout.limit ≡ layout
+  pub by_name : layout_named layout.name ≡ layout
+  pub by_limit : layout_with layout.limit ≡ layout
 
 -- so many bytes from a place on
 abbrev pub piece : ℕ → ℕ → List ℕ → List ℕ
@@ -65,9 +74,9 @@ piece place count bytes = take count (drop place bytes)
 abbrev pub name_on : List ℕ → List ℕ
 name_on bytes = piece 1 8 bytes
 
--- the version of a header: the second where it has its name
+-- the version of a header
 abbrev pub layout_on : List ℕ → Layout
-layout_on bytes = if bytes_eq (name_on bytes) version_2.name then version_2 else version_1
+layout_on bytes = layout_named (name_on bytes)
 
 abbrev pub generation_on : List ℕ → ℕ
 generation_on bytes = number_at 9 8 bytes

@@ -48,7 +48,7 @@ fn limit_on(bytes: &[u8; 65]) -> u64
     ensures layout { layout_with result ≡ layout_on bytes.now }
     ensures limit { result ≡ (layout_on bytes.now).limit }
 {
-    if bytes[1..9] == NAME_2 {
+    if &bytes[1..9] == NAME_2.as_slice() {
         LIM
     } else {
         LIM_OF_VERSION_1
@@ -61,7 +61,7 @@ fn misplaced(bytes: &[u8; 65], odd: bool, limit: u64) -> Option<u64>
 {
     let name = if limit == LIM { NAME_2 } else { NAME_1 };
     let generation = u64_at(bytes, 9);
-    if bytes[1..9] != name {
+    if &bytes[1..9] != name.as_slice() {
         return Some(1);
     }
     if !may_have(odd, generation) {
@@ -70,7 +70,7 @@ fn misplaced(bytes: &[u8; 65], odd: bool, limit: u64) -> Option<u64>
     if !may_be_long(generation, u64_at(bytes, 17)) {
         return Some(17);
     }
-    if limit == LIM && bytes[25..33] != number(LIM) {
+    if limit == LIM && &bytes[25..33] != number(LIM).as_slice() {
         return Some(25);
     }
     None
@@ -78,7 +78,7 @@ fn misplaced(bytes: &[u8; 65], odd: bool, limit: u64) -> Option<u64>
 
 // The places of a header, or the first whose field is wrong.
 fn placed(bytes: &[u8; 65], odd: bool) -> Result<Head, u64>
-    ensures { MatchResult result (λ head. (first_place (place_tests (layout_on bytes.now) odd bytes.now) ≡ None) × HasFields (layout_on bytes.now) head bytes.now) (λ place. first_place (place_tests (layout_on bytes.now) odd bytes.now) ≡ Some place) }
+    ensures placed { MatchResult result (λ head. (first_place (place_tests (layout_on bytes.now) odd bytes.now) ≡ None) × HasFields (layout_on bytes.now) head bytes.now) (λ place. first_place (place_tests (layout_on bytes.now) odd bytes.now) ≡ Some place) }
     ensures size { IfOk result (λ head. head.size ≤ 68719476736) }
     ensures generation { IfOk result (λ head. is_generation odd head.generation ≡ true) }
 {

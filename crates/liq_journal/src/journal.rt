@@ -298,14 +298,13 @@ impl<D: Disk> Journal<D> {
     /// The generation, from 1.
     pub fn generation(&self) -> u64
         ensures { result ≡ self.now.generation }
-        ensures from_one { 1 ≤ result }
     {
         self.generation
     }
 
     /// The limit under which its commands are, which its version tells: 10^18 or 10^19.
     pub fn limit(&self) -> u64
-        ensures { result ≡ self.now.limit }
+        ensures known { result ≡ self.now.limit }
         ensures one_of_two { IsLimit result }
     {
         self.limit

@@ -1,6 +1,7 @@
 //! Laws of a journal's bytes.
 ghost use Rattle.std.specs.Prelude.{◌≡◌, ◌+◌, ◌*◌, ◌++◌, ◌<◌, ◌≤◌, Ok, Err, Bool, false};
 ghost use Rattle.std.specs.Prelude.{All, List, ℕ, length, take, drop};
+ghost use Rattle.liq_types.specs.Image.{IsLimit};
 ghost use Rattle.liq_journal.specs.Records.{records};
 ghost use Rattle.liq_journal.specs.Crash.{Stands};
 ghost use Rattle.liq_outside.specs.Disk.{Torn};
@@ -31,6 +32,11 @@ pub fn behind_the_gate_nothing_counts()
 pub fn no_record_is_a_rotation()
     ensures { (odd : Bool) (bytes : List ℕ) (w : Written) → found_on odd bytes ≡ Open w
         → All (λ c. is_rotate c.call ≡ false) w.commands }
+{}
+
+/// The limit of an open disk is one of two.
+pub fn an_open_disk_has_a_limit()
+    ensures { (odd : Bool) (bytes : List ℕ) (w : Written) → found_on odd bytes ≡ Open w → IsLimit w.limit }
 {}
 
 /// A look agrees with an opening: the same damage of the header, none open on both, or the generation.
