@@ -16,7 +16,6 @@ use Rattle.liq_stability.specs.Lawful.{IsLawful}
 use Rattle.liq_stability.specs.Position.{gain_of}
 use Rattle.liq_stability.specs.Promise.{IsWithinAllowance}
 use Rattle.liq_stability.proofs.Pool.{gain_within}
-use Rattle.liq_stability.proofs.PoolPart.{lawful_alike}
 use Rattle.liq_stability.proofs.Promise.{all_paid_are}
 use Rattle.liq_rules.specs.Events.{events}
 use Rattle.liq_rules.specs.Step.{Ruling, Refused, Repeated, Allowed, ruling, after, after_ruling, run, accepted, is_allowed}
@@ -24,9 +23,7 @@ use Rattle.liq_rules.specs.Rules.{effect}
 use Rattle.liq_rules.specs.Verbs.{rotates}
 use Rattle.liq_rules.proofs.Allowed.{allowed_few, effect-records}
 use Rattle.liq_rules.proofs.Counting.{run_events_count}
-use Rattle.liq_soundness.proofs.SoundEvents.{run_follows}
-use Rattle.liq_soundness.proofs.SoundPromises.{reached_shares, reached_paid}
-use Rattle.liq_soundness.proofs.SoundStart.{opening_sound}
+use Rattle.liq_soundness.proofs.SoundPromises.{reached_paid, reached_pool, reached_shares}
 use Rattle.liq_pairs.specs.Replay.{replay, replayed}
 use Rattle.liq_pairs.proofs.Generations.{HaveNoRotation, never_rotates}
 
@@ -93,10 +90,10 @@ module _ (limit : ℕ) (known : IsLimit limit) where
   finished_run : (requests : List Request) → length (accepted start requests) ≤ RECORDS_MOST
       → IsFinished (run start requests).0 (events start (accepted start requests))
   finished_run requests few =
-      let h = run_follows requests start (opening_sound limit known) in
+      let h = reached_pool limit known requests in
       let count = run_events_count requests start in
       record {
-        lawful = lawful_alike LIM start opening refl (events start (accepted start requests)) h.lawful;
+        lawful = h.lawful;
         owners = h.owners;
         few = omega (arith, count, few);
         paid = reached_paid limit known requests;
