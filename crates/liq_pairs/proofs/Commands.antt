@@ -131,8 +131,7 @@ pub commands_begun : (l r : List ℕ) (s : State) (w : Written) → state_on l r
 unfolding commands_on
 commands_begun l r s w is counts =
     let leads : Leads (Some w) s = subst (λ (o : Option Written). Leads o s) counts (journal_leads l r s is) in
-    let from = leads_from w s leads.1 in
-    (
+    let from = leads_from w s leads.1 in (
       from.base,
       from.begun,
       ap (λ (o : Option Written). replay 1 from.base (journal_commands o)) counts ∙ from.came,

@@ -37,11 +37,7 @@ use std::sync::ledger::Blank;
 ///
 /// [`ReviewFault::Refused`] comes exactly where the replay does not accept a command, and [`ReviewFault::Limit`] exactly where
 /// it accepts all and a limit is passed, where there is memory.
-pub fn review(
-    alloc: Global,
-    limit: u64,
-    commands: &[Command],
-) -> Result<Vec<u8>, ReviewFault>
+pub fn review(alloc: Global, limit: u64, commands: &[Command]) -> Result<Vec<u8>, ReviewFault>
     requires limit { IsLimit limit }
     // The commands of one generation hold no rotation.
     requires no_rotation { All (λ (c : Command). is_rotate c.call ≡ false) commands.now }

@@ -30,16 +30,15 @@ begins_later w generation checkpoint read result later same same_checkpoint is b
     ∙ ap (read_base w) is in
     subst (λ (r : Result State Damage). BeginsTo r result) (sym base) begins
 
+abbrev bad_at : ℕ → ℕ → Result State Damage
+bad_at place limit = Err (record { index = 0; what = what.Form (header_size (layout_with limit) + place) })
+
 -- what is told of a place of the checkpoint is its damage
-pub bad_begins : (w : Written) (limit place : ℕ) (why : AcceptedFault) → w.limit ≡ limit
+pub begins_badly : (w : Written) (limit place : ℕ) (base : Result State Damage) (why : AcceptedFault) → base ≡ bad_checkpoint w place → w.limit ≡ limit
     → why ≡ Damaged (record { index = 0; what = what.Form (header_size (layout_with limit) + place) })
-    → BeginsTo (bad_checkpoint w place) (Err why)
-bad_begins w limit place why same is =
-    subst (λ (y : AcceptedFault). BeginsTo (bad_checkpoint w place) (Err y)) (sym is)
-    (ap (λ (n : ℕ). bad_at n) same)
-  where
-    bad_at : ℕ → Result State Damage
-    bad_at n = Err (record { index = 0; what = what.Form (header_size (layout_with n) + place) })
+    → BeginsTo base (Err why)
+begins_badly w limit place base why bad same is =
+    subst (λ (y : AcceptedFault). BeginsTo base (Err y)) (sym is) (bad ∙ ap (bad_at place) same)
 
 -- ---- by its image
 

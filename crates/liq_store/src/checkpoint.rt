@@ -52,12 +52,7 @@ pub fn base(
 }
 
 // The protocol of a checkpoint's image, which has to be that of this generation and this limit.
-fn begun(
-    alloc: Global,
-    generation: u64,
-    limit: u64,
-    image: Image,
-) -> Result<Guided, AcceptedFault>
+fn begun(alloc: Global, generation: u64, limit: u64, image: Image) -> Result<Guided, AcceptedFault>
     requires tables { HasTables image }
     ensures begins { (w : Written) → w.generation ≡ generation → w.limit ≡ limit
         → BeginsTo (read_base w (Ok image)) result }

@@ -48,12 +48,7 @@ fn hold<D: Disk>(
     ensures cause { CountsStand result (D.faults journal.disk) (D.faults (disk_in result)) }
 {
     let mut journal = journal;
-    let mut protocol = match base(
-        alloc,
-        journal.generation(),
-        journal.limit(),
-        &checkpoint,
-    ) {
+    let mut protocol = match base(alloc, journal.generation(), journal.limit(), &checkpoint) {
         Ok(protocol) => protocol,
         Err(why) => {
             return Err(StandFault {

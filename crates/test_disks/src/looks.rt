@@ -86,11 +86,7 @@ fn look_at_change(alloc: Global, bytes: &[u8], at: u64) -> Result<Found, AllocEr
 // The first place at which a change is told as something else.
 fn first_odd_look(alloc: Global, bytes: &[u8], places: u64) -> Result<u64, AllocError> {
     for at in 0..places {
-        let expected = if at < 65 {
-            of_header(65, at, 4)
-        } else {
-            OPEN
-        };
+        let expected = if at < 65 { of_header(65, at, 4) } else { OPEN };
         if look_at_change(alloc, bytes, at)? != expected {
             return Ok(at);
         }

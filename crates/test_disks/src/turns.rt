@@ -56,7 +56,7 @@ fn turn<D: Disk>(journal: &mut Journal<D>, beside: &mut D) -> bool {
 // What is seen of a journal that goes on on the other disk, before and after, and what is then on both disks. One record
 // is appended before.
 #[derive(Drop)]
-struct Turned {
+struct Gone {
     before: Seen,
     after: Seen,
     made: bool,
@@ -70,7 +70,7 @@ const NOTHING: Seen = Seen {
     records: 0,
 };
 
-fn go_on(alloc: Global, left: MemoryDisk, right: MemoryDisk) -> Turned {
+fn go_on(alloc: Global, left: MemoryDisk, right: MemoryDisk) -> Gone {
     match Journal::open(alloc, left, true) {
         Ok((journal, _)) => {
             let mut journal = journal;
@@ -78,9 +78,9 @@ fn go_on(alloc: Global, left: MemoryDisk, right: MemoryDisk) -> Turned {
             if journal.records() < 1_000_000 {
                 made = journal.append(&encode(&fund(3))).is_ok();
             }
-            turned(journal, right, made)
+            turn_to(journal, right, made)
         }
-        Err(fault) => Turned {
+        Err(fault) => Gone {
             before: NOTHING,
             after: NOTHING,
             made: false,
@@ -90,12 +90,12 @@ fn go_on(alloc: Global, left: MemoryDisk, right: MemoryDisk) -> Turned {
     }
 }
 
-fn turned(journal: Journal<MemoryDisk>, right: MemoryDisk, appended: bool) -> Turned {
+fn turn_to(journal: Journal<MemoryDisk>, right: MemoryDisk, appended: bool) -> Gone {
     let mut journal = journal;
     let mut beside = right;
     let before = see(&journal);
     let made = turn(&mut journal, &mut beside);
-    Turned {
+    Gone {
         before,
         after: see(&journal),
         made: appended && made,
@@ -229,7 +229,11 @@ fn a_store_over_version_1_has_its_limit(rt: HostRuntime) -> Result<(), Fail> {
     shows(&rt, "both limits", rotated.limits == limits);
     shows(&rt, "on the right disk", rotated.is_right);
     let name = rotated.right.bytes().get(..9);
-    shows(&rt, "of version 2", name == Some(b"\x01LIQJRNL2".as_slice()));
+    shows(
+        &rt,
+        "of version 2",
+        name == Some(b"\x01LIQJRNL2".as_slice()),
+    );
     Ok(())
 }
 

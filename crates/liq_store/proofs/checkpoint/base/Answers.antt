@@ -1,8 +1,9 @@
-use Rattle.std.proofs.Common.{◌∙◌, ℕ, Ok, Err, ap, sym, subst}
+use Rattle.std.proofs.Common.{◌∙◌, ℕ, Ok, Err, refl, sym, subst}
 use Rattle.liq_types.specs.State.{opening_with}
 use Rattle.liq_core.specs.Core.{StandsFor}
+use Rattle.liq_pairs.specs.Replay.{bad_checkpoint}
 use Rattle.liq_pairs.proofs.Basing.{base_first}
-use Rattle.liq_store.proofs.Basing.{bad_begins, begins_later}
+use Rattle.liq_store.proofs.Basing.{begins_badly, begins_later}
 use Rattle.liq_store.proofs.checkpoint.base.Goals as goal
 
 pub returns-then-generation-eq1-clause-begins : goal.returns-then-generation-eq1-clause-begins
@@ -19,4 +20,4 @@ returns-in-Ok-clause-begins c w same limit checkpoint =
 pub returns-in-Err-Bad-clause-begins : goal.returns-in-Err-Bad-clause-begins
 returns-in-Err-Bad-clause-begins c w same limit checkpoint =
     begins_later w c.args.generation c.args.checkpoint.now (Err c.in-Err-Bad.place) (Err c.misshapen.result) c.if-generation-eq1.false same checkpoint (rw c.in-Err-Bad.field-0-is at c.in-Err-Bad.ensures.exact)
-    (bad_begins w c.args.limit c.in-Err-Bad.place c.misshapen.result limit c.misshapen.ensures)
+    (begins_badly w c.args.limit _ (bad_checkpoint w c.in-Err-Bad.place) c.misshapen.result (ap (bad_checkpoint w) (sym c.in-Err-Bad.place-is)) limit c.misshapen.ensures)
