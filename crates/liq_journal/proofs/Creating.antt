@@ -37,7 +37,7 @@ length-header_digest fields checkpoint = length-sha256 _
 pub header_is : (fields digest : List ℕ) → length fields ≡ 32 → length digest ≡ 32 → take 32 (fields ++ drop (0 + length fields) (replicate 64 0)) ++ digest ++ drop (32 + length digest) (fields ++ drop (0 + length fields) (replicate 64 0)) ≡ fields ++ digest
 header_is fields digest size digest_size =
     let zeros = replicate 64 0 in
-    let front : take 24 (fields ++ drop (0 + length fields) zeros) ≡ fields = take_at fields (drop (0 + length fields) zeros) 32 size in
+    let front : take 32 (fields ++ drop (0 + length fields) zeros) ≡ fields = take_at fields (drop (0 + length fields) zeros) 32 size in
     let n : 32 + length digest ≡ 32 + 32 = omega arith in
     let m : 0 + length fields ≡ 32 = omega arith in
     let back : drop (32 + length digest) (fields ++ drop (0 + length fields) zeros) ≡ [] =

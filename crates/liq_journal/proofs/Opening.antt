@@ -69,7 +69,7 @@ module _ {D : Type 0} (moment : D → ℕ) (left_at : D → ℕ → List ℕ →
 parity : (odd : Bool) (held : List ℕ) (w : Written) → found_on odd held ≡ Open w → is_odd w.generation ≡ odd
 parity odd held w found = parity_of odd w.generation (has_generation odd held w found)
 
-pub told_opened : (told : Option (List ℕ)) (odd : Bool) (s : Scanned) → IfSome told (λ held. IsScanOf odd held s) → IfSome told (λ held. IsOpened odd held s.generation s.start s.count s.checkpoint.items)
+pub told_opened : (told : Option (List ℕ)) (odd : Bool) (s : Scanned) → IfSome told (λ held. IsScanOf odd held s) → IfSome told (λ held. IsOpened odd held s.generation s.limit s.start s.count s.checkpoint.items)
 told_opened None odd s scan = tt
 told_opened (Some held) odd s scan = record { written = scan.written; found = scan.found; generation_is = scan.generation_is; limit_is = scan.limit_is; start_is = scan.start_is; count_is = scan.count_is; checkpoint_is = scan.checkpoint_is }
 

@@ -9,9 +9,8 @@ ghost use Rattle.liq_journal.specs.Written.{is_size};
 use crate::bytes::write_synced;
 use crate::digests::header_bytes;
 use crate::gate::settle;
-use crate::header::header_size;
+use crate::header::HEADER;
 use liq_outside::{Disk, Failed};
-use liq_types::amounts::LIM;
 
 // Writes bytes behind the shut gate, unless there are none. No device call is made for none.
 pub fn write_behind<D: Disk>(disk: &mut D, at: u64, bytes: &[u8]) -> Result<(), Failed>
@@ -42,9 +41,8 @@ pub fn fill<D: Disk>(disk: &mut D, generation: u64, checkpoint: &[u8]) -> Result
     ensures cause { HasCause (D.faults disk.old) (D.faults disk.new) result }
 {
     write_behind(disk, 1, &header_bytes(generation, checkpoint))?;
-    let header = header_size(LIM);
-    write_behind(disk, header, checkpoint)?;
-    write_behind(disk, header + checkpoint.len() as u64, &[0])?;
+    write_behind(disk, HEADER, checkpoint)?;
+    write_behind(disk, HEADER + checkpoint.len() as u64, &[0])?;
     disk.sync()
 }
 

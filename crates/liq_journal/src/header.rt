@@ -20,8 +20,8 @@ use byteorder::{BigEndian, ByteOrder};
 use liq_outside::Disk;
 use liq_types::amounts::{LIM, LIM_OF_VERSION_1};
 
-// The most places of a header.
-const HEADER_MOST: usize = 65;
+// The places of a header of version 2, which the checkpoint follows. No header has more.
+pub const HEADER: u64 = 65;
 
 // The name of version 2, LIQJRNL2.
 const NAME_2: [u8; 8] = [76, 73, 81, 74, 82, 78, 76, 50];
@@ -31,9 +31,10 @@ const NAME_1: [u8; 8] = [76, 73, 81, 74, 82, 78, 76, 49];
 
 /// The places of a header of the version with this limit, which the checkpoint follows.
 pub fn header_size(limit: u64) -> u64
-    ensures { result ≡ header_size (layout_with limit) }
+    ensures known { result ≡ header_size (layout_with limit) }
+    ensures most { result ≤ 65 }
 {
-    if limit == LIM { 65 } else { 57 }
+    if limit == LIM { HEADER } else { 57 }
 }
 
 // How many bytes its fields have, between the gate and the digest.
@@ -143,7 +144,7 @@ pub fn read_header<D: Disk>(disk: &mut D, odd: bool) -> Result<Option<Head>, Loo
     ensures fault { IfErr result (λ why. IfSome (D.seen disk.old) (λ held. IsDamageOf odd held why)) }
     ensures cause { CountsLook result (D.faults disk.old) (D.faults disk.new) }
 {
-    let mut bytes = [0; HEADER_MOST];
+    let mut bytes = [0; 65];
     let count = match read_at(disk, 0, &mut bytes) {
         Ok(count) => count,
         Err(_) => return Err(LookFault::DiskFault),

@@ -20,7 +20,7 @@ use crate::block::Block;
 use crate::bytes::write_gated;
 use crate::create::make;
 use crate::digests::record_bytes;
-use crate::header::header_size;
+use crate::header::HEADER;
 use crate::open::open_on;
 use crate::records::{read_body, read_command};
 use crate::scanned::Scanned;
@@ -91,7 +91,7 @@ impl<D: Disk> Journal<D> {
                 disk,
                 generation,
                 limit: LIM,
-                start: header_size(LIM) + checkpoint.len() as u64,
+                start: HEADER + checkpoint.len() as u64,
                 count: 0,
             }),
             Err(_) => Err(CreateFault { disk }),
@@ -149,7 +149,7 @@ impl<D: Disk> Journal<D> {
         mem::swap(&mut self.disk, beside);
         self.generation = generation;
         self.limit = LIM;
-        self.start = header_size(LIM) + checkpoint.len() as u64;
+        self.start = HEADER + checkpoint.len() as u64;
         self.count = 0;
         Ok(())
     }
