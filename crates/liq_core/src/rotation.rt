@@ -1,10 +1,11 @@
 //! Rotation: the next generation of the journal begins with a checkpoint of the protocol. Only the journal's limits
 //! refuse it, which come after all other rules.
 
-ghost use Rattle.std.specs.Prelude.{◌≡◌, ◌<◌, nat_le, length, IfOk, Ok, None};
+ghost use Rattle.std.specs.Prelude.{◌≡◌, ◌<◌, nat_le, [], ◌∷◌, length, IfOk, Ok, None};
 ghost use Rattle.std.specs.List.{Contains};
 ghost use Rattle.liq_types.specs.declared.amounts.TheConstants.{LIM, RECORDS_MOST};
 ghost use Rattle.liq_types.specs.declared.figures.Client.{Client as client_row};
+ghost use Rattle.liq_types.specs.declared.replies.Refusal.TheVariants.{JournalFull};
 ghost use Rattle.liq_types.specs.declared.requests.Call.TheVariants.{Rotate};
 ghost use Rattle.liq_types.specs.Length.{checkpoint_length};
 ghost use Rattle.liq_types.specs.Soundness.{HasTables, first_unsound};
@@ -41,18 +42,19 @@ impl Protocol {
     {
         match command.call {
             Call::Rotate => self.no_generation(command),
-            _ if self.is_full() => Some(Refusal::JournalFull {
-                records: RECORDS_MOST,
-            }),
-            _ => None,
+            _ => self.no_record(),
         }
     }
 
-    /// Whether the journal takes no more records.
-    fn is_full(&self) -> bool
-        ensures { result ≡ nat_le RECORDS_MOST self.now.records }
+    /// Why the journal takes no more records.
+    fn no_record(&self) -> Option<Refusal>
+        ensures { result ≡ first_refusal ((nat_le RECORDS_MOST self.now.records, JournalFull RECORDS_MOST) ∷ []) }
     {
-        self.records >= RECORDS_MOST
+        if self.records >= RECORDS_MOST {
+            let records = RECORDS_MOST;
+            return Some(Refusal::JournalFull { records });
+        }
+        None
     }
 
     /// Why no generation may follow. The checkpoint is measured only where there may be one more.
@@ -119,7 +121,8 @@ impl Protocol {
             last: command.number,
             kept: planned.forecast.done,
         };
-        let mut image = self.image_with(self.clients_after(command.client, row)?)?;
+        let clients = self.clients_after(command.client, row)?;
+        let mut image = self.image_with(clients)?;
         image.generation += 1;
         image.limit = LIM;
         Ok(image)
