@@ -11,6 +11,13 @@ pub struct Told {
     pub tables: [&'static str; 6],
 }
 
+/// The limit under which an image stands, by the version of the journal that has it.
+#[derive(Clone, Copy, PartialEq, Eq)]
+pub enum Version {
+    One,
+    Two,
+}
+
 /// The bytes of each field of the words.
 const WORDS: [&[u64]; 4] = [
     &[8, 8, 8, 8, 8, 8],
@@ -33,8 +40,11 @@ const ROWS: [&[u64]; 6] = [
 const GENERATION: usize = 47;
 
 /// The checkpoint of what is told.
-pub fn checkpoint(alloc: Global, told: &Told) -> Result<Vec<u8>, AllocError> {
-    let mut out = Vec::from_slice(alloc, b"LIQSTAT1")?;
+pub fn checkpoint(alloc: Global, version: Version, told: &Told) -> Result<Vec<u8>, AllocError> {
+    let mut out = match version {
+        Version::One => Vec::from_slice(alloc, b"LIQSTAT1")?,
+        Version::Two => Vec::from_slice(alloc, b"LIQSTAT2")?,
+    };
     for (widths, line) in WORDS.iter().zip(told.words) {
         put_line(&mut out, widths, line)?;
     }

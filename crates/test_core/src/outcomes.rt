@@ -1,5 +1,6 @@
 //! What comes of checkpoints and of protocols.
 
+ghost use Rattle.liq_types.specs.Image.{IsLimit};
 ghost use Rattle.liq_types.specs.Soundness.{HasTables};
 
 use liq_checkpoint::{ImageBytes, decode, encode};
@@ -8,9 +9,6 @@ use liq_core::{ImageFault, Protocol};
 use liq_types::{Image, NoMemory};
 use std::alloc::Global;
 
-/// The most collateral that may be inside, and the most LUSD.
-const LIMIT: u64 = 10_000_000_000_000_000_000;
-
 /// What comes of a checkpoint.
 #[derive(Clone, Copy, PartialEq, Eq)]
 pub enum Outcome {
@@ -18,8 +16,6 @@ pub enum Outcome {
     Same,
     /// The image has another one.
     Other,
-    /// The image is under another limit.
-    OtherLimit,
     /// It is none: the place of the fault.
     Bad(u64),
     /// No protocol begins with its image: the first rule that it breaks.
@@ -38,11 +34,9 @@ pub fn of_protocol(alloc: Global, protocol: &Protocol, bytes: &[u8]) -> Outcome 
 
 /// Whether the image has this checkpoint.
 pub fn of_image(alloc: Global, image: &Image, bytes: &[u8]) -> Outcome
-    requires { HasTables image.now }
+    requires tables { HasTables image.now }
+    requires limit { IsLimit image.now.limit }
 {
-    if image.limit != LIMIT {
-        return Outcome::OtherLimit;
-    }
     match encode(alloc, image) {
         Ok(written) if written.as_slice() == bytes => Outcome::Same,
         Ok(_) => Outcome::Other,

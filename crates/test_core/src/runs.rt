@@ -1,6 +1,6 @@
 //! Runs from the opening, and the images that they leave.
 
-use crate::bytes::Told;
+use crate::bytes::{Told, Version};
 use crate::outcomes::Outcome;
 use liq_types::amounts::ONE;
 use liq_types::{Call, HintWords};
@@ -9,6 +9,8 @@ use liq_types::{Call, HintWords};
 #[derive(Clone, Copy)]
 pub struct Run {
     pub what: &'static str,
+    /// Of the journal in which the run begins. A rotation makes it the second.
+    pub version: Version,
     pub calls: &'static [Call],
     pub image: Told,
     /// The bytes of its checkpoint.
@@ -29,9 +31,10 @@ pub const OPENING: Told = Told {
     tables: [""; 6],
 };
 
-pub const RUNS: [Run; 8] = [
+pub const RUNS: [Run; 9] = [
     Run {
         what: "nothing",
+        version: Version::Two,
         calls: &[],
         image: OPENING,
         length: 288,
@@ -40,6 +43,7 @@ pub const RUNS: [Run; 8] = [
     },
     Run {
         what: "collateral comes in",
+        version: Version::Two,
         calls: &[Call::Fund(1, 10_000_000_000)],
         image: Told {
             words: [
@@ -55,7 +59,37 @@ pub const RUNS: [Run; 8] = [
         rotated: "1 2 16 2 0 0 0 0 0",
     },
     Run {
+        what: "collateral comes in up to the lesser limit",
+        version: Version::One,
+        calls: &[
+            Call::Fund(1, 10_000_000_000),
+            Call::Fund(1, 1_000_000_000_000_000_000),
+            Call::Fund(1, 999_999_990_000_000_001),
+            Call::Fund(1, 999_999_990_000_000_000),
+        ],
+        image: Told {
+            words: [
+                "1000000000 0 0 0 1 1000000000000000000",
+                "0 0 0 0 0 0 0 0",
+                "0 0 0 0 0",
+                "1000000000000000000 0 0 0 0 0",
+            ],
+            tables: [
+                "1 1000000000000000000 0",
+                "",
+                "",
+                "",
+                "",
+                "1 2 3 0 0 0 0 0 0",
+            ],
+        },
+        length: 369,
+        begins: Outcome::Same,
+        rotated: "1 3 16 2 0 0 0 0 0",
+    },
+    Run {
         what: "the Stability Pool takes over most of a trove, and the other trove the rest",
+        version: Version::Two,
         calls: &[
             Call::Fund(1, 10_000_000_000),
             Call::Open(1, 10_000_000_000, 4_000_000_000, ONE, HintWords::NONE),
@@ -88,6 +122,7 @@ pub const RUNS: [Run; 8] = [
     },
     Run {
         what: "a depositor's gain goes into its trove",
+        version: Version::Two,
         calls: &[
             Call::Fund(1, 10_000_000_000),
             Call::Open(1, 10_000_000_000, 4_000_000_000, ONE, HintWords::NONE),
@@ -121,6 +156,7 @@ pub const RUNS: [Run; 8] = [
     },
     Run {
         what: "a trove takes over all of another",
+        version: Version::Two,
         calls: &[
             Call::Fund(1, 8_440_000_000),
             Call::Fund(2, 12_660_000_000),
@@ -153,6 +189,7 @@ pub const RUNS: [Run; 8] = [
     },
     Run {
         what: "the lowest trove is liquidated at a capped price",
+        version: Version::Two,
         calls: &[
             Call::Fund(1, 8_440_000_000),
             Call::Fund(2, 12_660_000_000),
@@ -186,6 +223,7 @@ pub const RUNS: [Run; 8] = [
     },
     Run {
         what: "its owner claims the rest, and then there is none",
+        version: Version::Two,
         calls: &[
             Call::Fund(1, 8_440_000_000),
             Call::Fund(2, 12_660_000_000),
@@ -221,6 +259,7 @@ pub const RUNS: [Run; 8] = [
     },
     Run {
         what: "the same trove, liquidated by its owner's number",
+        version: Version::Two,
         calls: &[
             Call::Fund(1, 8_440_000_000),
             Call::Fund(2, 12_660_000_000),

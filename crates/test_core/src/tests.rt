@@ -1,10 +1,11 @@
 ghost use Rattle.std.specs.Prelude.{◌≡◌};
 
-use crate::bytes::{checkpoint, set_second};
+use crate::bytes::{Version, checkpoint, set_second};
 use crate::outcomes::{Outcome, of_checkpoint, of_image, of_protocol};
 use crate::runs::{OPENING, RUNS, Run};
 use liq_core::laws::protocols_stand;
 use liq_core::{Protocol, Turn};
+use liq_types::amounts::LIM_OF_VERSION_1;
 use liq_types::{Call, Command, Hint, NoMemory, Steps};
 use std::alloc::{AllocError, Global};
 use std::marker::Brand;
@@ -89,10 +90,10 @@ struct Pair {
 fn pair_of(alloc: Global, run: &Run) -> Result<Pair, AllocError> {
     let mut after = run.image;
     after.tables[5] = run.rotated;
-    let mut rotated = checkpoint(alloc, &after)?;
+    let mut rotated = checkpoint(alloc, Version::Two, &after)?;
     set_second(rotated.as_mut_slice());
     Ok(Pair {
-        before: checkpoint(alloc, &run.image)?,
+        before: checkpoint(alloc, run.version, &run.image)?,
         rotated,
     })
 }
@@ -121,6 +122,13 @@ fn see<L: Ledger>(
     }
 }
 
+fn begun(alloc: Global, version: Version) -> Protocol {
+    match version {
+        Version::One => Protocol::with_limit(alloc, LIM_OF_VERSION_1),
+        Version::Two => Protocol::new(alloc),
+    }
+}
+
 fn see_run<L: Ledger>(alloc: Global, run: &Run, blank: Blank) -> Option<Seen>
     requires name { blank.name ≡ L.name }
     requires parts { blank.parts ≡ L.parts }
@@ -130,7 +138,7 @@ fn see_run<L: Ledger>(alloc: Global, run: &Run, blank: Blank) -> Option<Seen>
     let Ok(pair) = pair_of(alloc, run) else {
         return None;
     };
-    let mut protocol = Protocol::new(alloc);
+    let mut protocol = begun(alloc, run.version);
     let number = make_calls(&mut protocol, run.calls, &mut steps);
     Some(see(alloc, &mut protocol, number, &pair, &mut steps))
 }
@@ -158,7 +166,7 @@ fn a_run_leaves_its_image(rt: HostRuntime) {
 fn of_pool(alloc: Global, words: &'static str) -> Outcome {
     let mut told = OPENING;
     told.words[3] = words;
-    match checkpoint(alloc, &told) {
+    match checkpoint(alloc, Version::Two, &told) {
         Ok(bytes) => of_checkpoint(alloc, &bytes),
         Err(_) => Outcome::NoMemory,
     }
