@@ -1,5 +1,5 @@
 -- What an image's bytes are, where its fields were put behind the name.
-use Rattle.std.proofs.Common.{◌≡◌, ℕ, List, length, Ok, sym, ap, ◌∙◌}
+use Rattle.std.proofs.Common.{◌≡◌, ℕ, List, length, Ok, ap, ◌∙◌}
 use Rattle.liq_types.specs.Image.{IsLimit}
 use Rattle.liq_types.specs.declared.image.Image.{Image}
 use Rattle.liq_types.specs.Length.{checkpoint_length}

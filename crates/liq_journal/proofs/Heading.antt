@@ -6,7 +6,7 @@ use Rattle.liq_types.specs.Image.{IsLimit}
 use Rattle.liq_types.specs.declared.requests.Command.{Command}
 use Rattle.liq_journal.specs.declared.damage.What.{What}
 use Rattle.liq_journal.specs.Records.{records}
-use Rattle.liq_journal.specs.Layout.{Layout, layout_with, layout_named, layout_on, fields_size, header_size, least_header, piece, name_on, generation_on, size_on, start_on, checkpoint_on, header_digest}
+use Rattle.liq_journal.specs.Layout.{Layout, layout_with, layout_named, layout_on, fields_size, header_size, least_header, piece, generation_on, size_on, start_on, checkpoint_on, header_digest}
 use Rattle.liq_journal.specs.Written.{is_generation, is_size, first_fault, header_tests, is_absent, record_on, Written, Found, Absent, Damaged, Open, with_command, found_record, found_records, found_behind, most_records, found_in, found_on, and_then, start_of}
 use Rattle.liq_journal.proofs.Versions.{one_version}
 use Rattle.liq_journal.proofs.Reading.{piece_alike, byte_alike, length_alike, number_alike}

@@ -29,7 +29,7 @@ const NAME_2: [u8; 8] = [76, 73, 81, 74, 82, 78, 76, 50];
 // The name of version 1, LIQJRNL1.
 const NAME_1: [u8; 8] = [76, 73, 81, 74, 82, 78, 76, 49];
 
-/// The places of a header of the version with this limit, which the checkpoint follows.
+/// The places of a header of the version with this limit, which the checkpoint follows: 65 for 10^19, and 57 for 10^18.
 pub fn header_size(limit: u64) -> u64
     ensures known { result ≡ header_size (layout_with limit) }
     ensures most { result ≤ 65 }

@@ -1,4 +1,4 @@
-use Rattle.std.proofs.Common.{◌≡◌, ◌++◌, List, ℕ, ap, subst, ◌∙◌}
+use Rattle.std.proofs.Common.{◌≡◌, ◌++◌, List, ℕ, subst, ◌∙◌}
 use Rattle.liq_checkpoint.specs.Spelling.{Puts, contents, name}
 use Rattle.liq_checkpoint.proofs.Putting.{Puts-then}
 use Rattle.liq_checkpoint.proofs.encoding.written.Goals as goal
