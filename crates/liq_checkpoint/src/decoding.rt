@@ -12,8 +12,9 @@ use crate::tables::{clients_at, deposits_at, sums_at, surpluses_at, troves_at, w
 use liq_types::{ClientRows, DepositRows, FinishedRows, Image, SurplusRows, TroveRows, WalletRows};
 use std::alloc::Global;
 
-/// The image that a checkpoint's bytes spell, all of them. `Bad` tells where the first field begins that cannot stand where it
-/// does, by its own number and by what stands before it; the end, where bytes are missing; or the first byte that follows.
+/// The image that a checkpoint's bytes spell, all of them, under the limit for which its name stands. `Bad` tells where the
+/// first field begins that cannot stand where it does, by its own number and by what stands before it; the end, where bytes are
+/// missing; or the first byte that follows.
 pub fn decode(alloc: Global, bytes: &[u8]) -> Result<Image, ImageBytes>
     // What is read is spelled so.
     ensures found { IfOk result (λ i. HasCheckpoint i × (bytes.now ≡ spelling i)) }

@@ -1,5 +1,5 @@
 -- What is found by a header.
-use Rattle.std.proofs.Common.{◌≡◌, ◌⊎◌, inl, inr, ℕ, ◌+◌, ◌<◌, ◌≤◌, List, [], ◌∷◌, length, take, drop, get_or, Option, Some, None, IfSome, Result, Ok, Err, Bool, true, false, not, nat_lt, if◌then◌else◌, refl, sym, ◌∙◌, ap, subst, arith}
+use Rattle.std.proofs.Common.{◌≡◌, ◌⊎◌, inl, inr, ℕ, ◌+◌, ◌<◌, ◌≤◌, List, [], ◌∷◌, length, take, drop, get_or, Option, Some, None, IfSome, Result, Ok, Err, Bool, true, false, not, nat_lt, ◌==◌, ◌||◌, if◌then◌else◌, refl, sym, ◌∙◌, ap, subst, arith}
 use Rattle.std.specs.Str.{bytes_eq}
 use Rattle.std.proofs.lemmas.Bool.Decides.{nat_tests}
 use Rattle.liq_types.specs.Image.{IsLimit}
@@ -185,10 +185,32 @@ module _ (odd : Bool) (n : ℕ) (bytes : List ℕ) (long : least_header ≤ n) (
           fields = same_fields layout odd held bytes (f.whole (omega (arith, enough_2))) head has;
         })
 
+-- what the front of a disk tells: none is open, or one is
+abbrev pub none_open : ℕ → ℕ → Bool
+none_open n gate = nat_lt n least_header || not (gate == 1)
+
+closed : (n gate : ℕ) → none_open n gate ≡ true → (n < least_header) ⊎ ((least_header ≤ n) × (gate ≡ 1 → ⊥))
+closed n gate is = elim (order n least_header) [
+  | inl less ↦ inl less
+  | inr long ↦ inr (long, λ one. by_gate long one)
+] where
+  order : (a b : ℕ) → (a < b) ⊎ (b ≤ a)
+  order a b = grind arith
+
+  by_gate : least_header ≤ n → gate ≡ 1 → ⊥
+  by_gate long one = grind (arith, nat_tests, is)
+
+pub record IsOpenFront (n gate : ℕ) : Type 0 where
+  pub long : least_header ≤ n
+  pub is_open : gate ≡ 1
+
+pub open_front : (n gate : ℕ) (tested : Bool) → tested ≡ none_open n gate → tested ≡ false → IsOpenFront n gate
+open_front n gate tested told isnt = let is : none_open n gate ≡ false = sym told ∙ isnt in record { long = grind (arith, nat_tests, is); is_open = grind (arith, nat_tests, is) }
+
 -- what is told by it
 module _ (told : Option (List ℕ)) (odd : Bool) (n : ℕ) (bytes : List ℕ) (read : IfSome told (IsRead 0 greatest_header n bytes)) where
-  pub told_absent : (n < least_header) ⊎ ((least_header ≤ n) × (get_or bytes 0 0 ≡ 1 → ⊥)) → IfSome told (λ held. MaybeHeadOf odd held None)
-  told_absent why = if_some told (IsRead 0 greatest_header n bytes) (λ held. MaybeHeadOf odd held None) (λ held r. look_absent odd held (absent held r why)) read
+  pub told_absent : none_open n (get_or bytes 0 0) ≡ true → IfSome told (λ held. MaybeHeadOf odd held None)
+  told_absent why = if_some told (IsRead 0 greatest_header n bytes) (λ held. MaybeHeadOf odd held None) (λ held r. look_absent odd held (absent held r (closed n (get_or bytes 0 0) why))) read
     where
       absent : (held : List ℕ) → IsRead 0 greatest_header n bytes held → (n < least_header) ⊎ ((least_header ≤ n) × (get_or bytes 0 0 ≡ 1 → ⊥)) → is_absent held ≡ true
       absent held (count, same) (inl less) = let l : length held < least_header = omega arith in grind (arith, nat_tests)
@@ -197,10 +219,10 @@ module _ (told : Option (List ℕ)) (odd : Bool) (n : ℕ) (bytes : List ℕ) (r
           let no : get_or held 0 0 ≡ 1 → ⊥ = λ is. isnt (sym gate ∙ is) in
           grind (arith, nat_tests)
 
-  module _ (long : least_header ≤ n) (gate : get_or bytes 0 0 ≡ 1) where
+  module _ (open_so : IsOpenFront n (get_or bytes 0 0)) where
     pub told_misplaced : (place : ℕ) → first_place (place_tests (layout_on bytes) odd bytes) ≡ Some place → IfSome told (λ held. IsDamageOf odd held (fault.Damaged (record { index = 0; what = Form place })))
     told_misplaced place is = if_some told (IsRead 0 greatest_header n bytes) (λ held. IsDamageOf odd held (fault.Damaged (record { index = 0; what = Form place })))
-        (λ held r. let first = misplaced odd n bytes long gate held place r is in look_damaged odd held (Form place) first.0 first.1) read
+        (λ held r. let first = misplaced odd n bytes open_so.long open_so.is_open held place r is in look_damaged odd held (Form place) first.0 first.1) read
 
     module _ (head : Head) (fits : first_place (place_tests (layout_on bytes) odd bytes) ≡ None) (has : HasFields (layout_on bytes) head bytes) (now : Option (List ℕ)) (same : now ≡ told) (size : ℕ) (measured : IfSome now (λ held. size ≡ length held)) where
       measured_then : IfSome told (λ held. size ≡ length held)
@@ -209,9 +231,9 @@ module _ (told : Option (List ℕ)) (odd : Bool) (n : ℕ) (bytes : List ℕ) (r
       pub told_short : size < header_size (layout_with head.limit) + head.size → IfSome told (λ held. IsDamageOf odd held (fault.Damaged (record { index = 0; what = Form size })))
       told_short less = if_both told (IsRead 0 greatest_header n bytes) (λ held. size ≡ length held) (λ held. IsDamageOf odd held (fault.Damaged (record { index = 0; what = Form size })))
           (λ held r is.
-          let first = missing odd n bytes long gate head fits has held r (omega arith) in
+          let first = missing odd n bytes open_so.long open_so.is_open head fits has held r (omega arith) in
           look_damaged odd held (Form size) first.0 (first.1 ∙ ap (λ (k : ℕ). Some (Form k)) (sym is))) read measured_then
 
       pub told_head : header_size (layout_with head.limit) + head.size ≤ size → IfSome told (λ held. MaybeHeadOf odd held (Some head))
       told_head enough = if_both told (IsRead 0 greatest_header n bytes) (λ held. size ≡ length held) (λ held. MaybeHeadOf odd held (Some head))
-          (λ held r is. head_of odd n bytes long gate head fits has held r (omega arith)) read measured_then
+          (λ held r is. head_of odd n bytes open_so.long open_so.is_open head fits has held r (omega arith)) read measured_then

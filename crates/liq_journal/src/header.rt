@@ -1,5 +1,5 @@
 // A header read and tested.
-ghost use Rattle.std.specs.Prelude.{◌≡◌, ◌≤◌, ◌+◌, Some, None, true, IfOk, IfErr, IfSome, length};
+ghost use Rattle.std.specs.Prelude.{◌≡◌, ◌≤◌, ◌+◌, ◌==◌, ◌||◌, nat_lt, not, Some, None, true, IfOk, IfErr, IfSome, length, get_or};
 ghost use Rattle.std.specs.Result.{MatchResult};
 ghost use Rattle.liq_types.specs.Image.{IsLimit};
 ghost use Rattle.liq_wire.specs.Fields.{first_place, number_at};
@@ -8,7 +8,7 @@ ghost use Rattle.liq_journal.specs.Header.{HasFields, IsDamageOf, MaybeHeadOf};
 ghost use Rattle.liq_journal.specs.declared.damage.What.TheVariants.{Form};
 ghost use Rattle.liq_journal.specs.declared.answers.LookFault.TheVariants.{Damaged};
 ghost use Rattle.liq_journal.specs.Looked.{Looked};
-ghost use Rattle.liq_journal.specs.Layout.{fields_size, header_size, layout_on, layout_with};
+ghost use Rattle.liq_journal.specs.Layout.{fields_size, header_size, layout_on, layout_with, least_header};
 ghost use Rattle.liq_journal.specs.Written.{is_generation, is_size, place_tests};
 
 use crate::answers::LookFault;
@@ -134,6 +134,14 @@ fn may_be_long(generation: u64, size: u64) -> bool
     }
 }
 
+// Whether no journal is open on a disk from whose front so many bytes were read, which are these: fewer than the least header
+// has, or a gate that isn't open.
+fn is_absent(bytes: &[u8; 65], count: usize) -> bool
+    ensures { result ≡ (nat_lt count least_header || not (get_or bytes.now 0 0 == 1)) }
+{
+    count < 57 || bytes[0] != 1
+}
+
 // The header of the disk, if it is open: its fields, which are right, and whose checkpoint is there.
 pub fn read_header<D: Disk>(disk: &mut D, odd: bool) -> Result<Option<Head>, LookFault>
     ensures looked { Looked D.seen D.moment D.left_at disk.old disk.new }
@@ -149,10 +157,7 @@ pub fn read_header<D: Disk>(disk: &mut D, odd: bool) -> Result<Option<Head>, Loo
         Ok(count) => count,
         Err(_) => return Err(LookFault::DiskFault),
     };
-    if count < 57 {
-        return Ok(None);
-    }
-    if bytes[0] != 1 {
+    if is_absent(&bytes, count) {
         return Ok(None);
     }
     let head = match placed(&bytes, odd) {

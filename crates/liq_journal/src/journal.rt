@@ -154,9 +154,9 @@ impl<D: Disk> Journal<D> {
         Ok(())
     }
 
-    /// Opens the journal of a disk, and gives the checkpoint's bytes; `odd` says whether this disk has the
-    /// odd generations. It begins with a sync, tests all of the disk, and shuts the byte behind the last
-    /// whole record, or place 0 of a disk on which none is open.
+    /// Opens the journal of a disk, of either version, and gives the checkpoint's bytes; `odd` says whether
+    /// this disk has the odd generations. It begins with a sync, tests all of the disk, and shuts the byte
+    /// behind the last whole record, or place 0 of a disk on which none is open.
     ///
     /// `Absent` comes where none is open, `Damaged` with the disk's first fault, `NoMemory` for want of it.
     pub fn open(alloc: Global, disk: D, odd: bool) -> Result<(Journal<D>, Vec<u8>), OpenFault<D>>
