@@ -1,6 +1,6 @@
 -- The state with which a journal begins, by its generation and what its checkpoint is read as.
 use Rattle.std.proofs.Common.{◌≡◌, ◌∙◌, ◌==◌, ◌&&◌, ◌+◌, ℕ, List, length, Some, None, Bool, true, false, Result, Ok, Err, if◌then◌else◌, refl, sym, ap, subst, arith}
-use Rattle.std.proofs.lemmas.Bool.{and_false}
+use Rattle.std.proofs.lemmas.Bool.{and_left, and_right}
 use Rattle.std.proofs.lemmas.Bool.Decides.{nat_tests}
 use Rattle.liq_types.specs.declared.image.Image.{Image}
 use Rattle.liq_types.specs.Soundness.{first_unsound}
@@ -52,10 +52,8 @@ foreign_base w i sound isnt =
 -- of another generation, or of another limit
 pub other_generation : (w : Written) (i : Image) → first_unsound i 0 ≡ None → (i.generation ≡ w.generation → ⊥) → read_base w (Ok i) ≡ bad_checkpoint w 0
 other_generation w i sound isnt =
-    foreign_base w i sound (ap (λ (b : Bool). b && i.limit == w.limit) (unequal i.generation w.generation isnt))
+    foreign_base w i sound (and_left (i.generation == w.generation) (i.limit == w.limit) (unequal i.generation w.generation isnt))
 
 pub other_limit : (w : Written) (i : Image) → first_unsound i 0 ≡ None → (i.limit ≡ w.limit → ⊥) → read_base w (Ok i) ≡ bad_checkpoint w 0
 other_limit w i sound isnt =
-    foreign_base w i sound
-    (ap (λ (b : Bool). i.generation == w.generation && b) (unequal i.limit w.limit isnt)
-    ∙ and_false (i.generation == w.generation))
+    foreign_base w i sound (and_right (i.generation == w.generation) (i.limit == w.limit) (unequal i.limit w.limit isnt))

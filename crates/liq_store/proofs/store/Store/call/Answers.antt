@@ -112,7 +112,7 @@ invariant_of-self-in-Rotate g c =
     let t = turns_by g.D.Disk.seen g.D.Disk.moment g.D.Disk.left_at c.self.inside.side c.self.inside.taken c.self.inside.beside c.turn.new.self.disk c.self.inside.protocol c.self.inside.stopped c.in-Do.command c.deref.result.now c.in_default.is c.self.invariant
     (rotation_from c.self.inside.protocol c.prepare.new.protocol c.protocol.result.now c.in-Ready.planned c.in-Do.command c.in-Ok.checkpoint.items c.deref.result.now c.prepare.ensures.same c.protocol.ensures c.in-Ready.ensures.ready.0 c.deref.ensures.value c.in-Ok.ensures.rotation)
     c.in-Ok-turn.ensures.telling c.in-Ok-turn.ensures.crash c.in-Ok-turn.ensures.time in
-    subst (λ (x : Side). IsWithin g.D.Disk.seen g.D.Disk.moment g.D.Disk.left_at x c.turn.new.self c.turn.new.beside c.make-done.new.protocol c.self.inside.stopped c.prepare.new.changes.items) (sym c.other.ensures)
+    subst (λ (x : Side). IsWithin g.D.Disk.seen g.D.Disk.moment g.D.Disk.left_at x c.turn.new.self c.turn.new.beside c.make-done.new.protocol c.self.inside.stopped c.prepare.new.changes.items) (sym c.other-self-inside.ensures)
     (subst (λ (d : g.row.D.Denot). IsWithin g.D.Disk.seen g.D.Disk.moment g.D.Disk.left_at (other c.self.inside.side) c.turn.new.self d c.make-done.new.protocol c.self.inside.stopped c.prepare.new.changes.items) (sym c.in-Ok-turn.ensures.exchanged)
     (subst (λ (o : Option ℕ). IsWithin g.D.Disk.seen g.D.Disk.moment g.D.Disk.left_at (other c.self.inside.side) c.turn.new.self c.self.inside.taken.disk c.make-done.new.protocol o c.prepare.new.changes.items) (sym c.in_default.is)
     (turning_within g.D.Disk.seen g.D.Disk.moment g.D.Disk.left_at c.self.inside.side c.self.inside.taken c.self.inside.beside c.turn.new.self.disk c.self.inside.protocol c.in-Do.command c.deref.result.now t c.make-done.new.protocol (state_of c.self.inside.protocol) c.prepare.ensures.stands (λ t so. let is = c.in-Ready.ensures.prepared t so in stepped c.make-done.new.protocol t c.in-Do.command c.in-Ready.planned is (c.make-done.ensures.state t (stands_after c.self.inside.protocol c.prepare.new.protocol t c.prepare.ensures.same so))) c.in-Ok-turn.ensures.durable c.in-Ok-turn.ensures.created
@@ -123,7 +123,7 @@ returns-in-Rotate-clause-order g c =
     let t = turns_by g.D.Disk.seen g.D.Disk.moment g.D.Disk.left_at c.self.inside.side c.self.inside.taken c.self.inside.beside c.turn.new.self.disk c.self.inside.protocol c.self.inside.stopped c.in-Do.command c.deref.result.now c.in_default.is c.self.invariant
     (rotation_from c.self.inside.protocol c.prepare.new.protocol c.protocol.result.now c.in-Ready.planned c.in-Do.command c.in-Ok.checkpoint.items c.deref.result.now c.prepare.ensures.same c.protocol.ensures c.in-Ready.ensures.ready.0 c.deref.ensures.value c.in-Ok.ensures.rotation)
     c.in-Ok-turn.ensures.telling c.in-Ok-turn.ensures.crash c.in-Ok-turn.ensures.time in
-    subst (λ (x : Side). IsInOrder g.D.Disk.seen g.D.Disk.moment g.D.Disk.left_at (stored x c.turn.new.self c.turn.new.beside c.make-done.new.protocol c.self.inside.stopped c.prepare.new.changes.items)) (sym c.other.ensures)
+    subst (λ (x : Side). IsInOrder g.D.Disk.seen g.D.Disk.moment g.D.Disk.left_at (stored x c.turn.new.self c.turn.new.beside c.make-done.new.protocol c.self.inside.stopped c.prepare.new.changes.items)) (sym c.other-self-inside.ensures)
     (subst (λ (d : g.row.D.Denot). IsInOrder g.D.Disk.seen g.D.Disk.moment g.D.Disk.left_at (stored (other c.self.inside.side) c.turn.new.self d c.make-done.new.protocol c.self.inside.stopped c.prepare.new.changes.items)) (sym c.in-Ok-turn.ensures.exchanged)
     (subst (λ (o : Option ℕ). IsInOrder g.D.Disk.seen g.D.Disk.moment g.D.Disk.left_at (stored (other c.self.inside.side) c.turn.new.self c.self.inside.taken.disk c.make-done.new.protocol o c.prepare.new.changes.items)) (sym c.in_default.is)
     (turning_within g.D.Disk.seen g.D.Disk.moment g.D.Disk.left_at c.self.inside.side c.self.inside.taken c.self.inside.beside c.turn.new.self.disk c.self.inside.protocol c.in-Do.command c.deref.result.now t {changes = c.prepare.new.changes.items} c.make-done.new.protocol (state_of c.self.inside.protocol) c.prepare.ensures.stands (λ t so. let is = c.in-Ready.ensures.prepared t so in stepped c.make-done.new.protocol t c.in-Do.command c.in-Ready.planned is (c.make-done.ensures.state t (stands_after c.self.inside.protocol c.prepare.new.protocol t c.prepare.ensures.same so))) c.in-Ok-turn.ensures.durable c.in-Ok-turn.ensures.created
@@ -134,7 +134,7 @@ returns-in-Rotate-clause-disks g c =
     let t = turns_by g.D.Disk.seen g.D.Disk.moment g.D.Disk.left_at c.self.inside.side c.self.inside.taken c.self.inside.beside c.turn.new.self.disk c.self.inside.protocol c.self.inside.stopped c.in-Do.command c.deref.result.now c.in_default.is c.self.invariant
     (rotation_from c.self.inside.protocol c.prepare.new.protocol c.protocol.result.now c.in-Ready.planned c.in-Do.command c.in-Ok.checkpoint.items c.deref.result.now c.prepare.ensures.same c.protocol.ensures c.in-Ready.ensures.ready.0 c.deref.ensures.value c.in-Ok.ensures.rotation)
     c.in-Ok-turn.ensures.telling c.in-Ok-turn.ensures.crash c.in-Ok-turn.ensures.time in
-    subst (λ (x : Side). WritesOn g.D.Disk.seen g.D.Disk.moment g.D.Disk.left_at c.args.self.now c.args.request.now (answer.Reply (Said c.make-done.result)) (stored x c.turn.new.self c.turn.new.beside c.make-done.new.protocol c.self.inside.stopped c.prepare.new.changes.items)) (sym c.other.ensures)
+    subst (λ (x : Side). WritesOn g.D.Disk.seen g.D.Disk.moment g.D.Disk.left_at c.args.self.now c.args.request.now (answer.Reply (Said c.make-done.result)) (stored x c.turn.new.self c.turn.new.beside c.make-done.new.protocol c.self.inside.stopped c.prepare.new.changes.items)) (sym c.other-self-inside.ensures)
     (subst (λ (d : g.row.D.Denot). WritesOn g.D.Disk.seen g.D.Disk.moment g.D.Disk.left_at c.args.self.now c.args.request.now (answer.Reply (Said c.make-done.result)) (stored (other c.self.inside.side) c.turn.new.self d c.make-done.new.protocol c.self.inside.stopped c.prepare.new.changes.items)) (sym c.in-Ok-turn.ensures.exchanged)
     (turning_done g.D.Disk.seen g.D.Disk.moment g.D.Disk.left_at c.self.inside.side c.self.inside.taken c.self.inside.beside c.turn.new.self.disk c.self.inside.protocol c.in-Do.command c.deref.result.now t c.self.inside.stopped c.self.inside.changes.items c.self.invariant c.args.self.now c.self.view_is c.args.request.now c.in-Do.is (Said c.make-done.result) c.make-done.new.protocol c.self.inside.stopped c.prepare.new.changes.items c.turn.new.self.generation c.turn.new.self.limit c.turn.new.self.start c.turn.new.self.count c.in-Ok-turn.ensures.known.2))
 
