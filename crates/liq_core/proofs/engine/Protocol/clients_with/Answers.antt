@@ -1,4 +1,4 @@
-use Rattle.std.proofs.Common.{◌≡◌, ◌+◌, length, ap, sym, subst, ◌∙◌, arith}
+use Rattle.std.proofs.Common.{length, ap, sym, ◌∙◌, arith}
 use Rattle.std.specs.Prelude.{option_copied}
 use Rattle.liq_types.specs.Tables.{put}
 use Rattle.liq_types.proofs.Lookups.{length-put}
@@ -11,12 +11,14 @@ overflow_add-result c = let few = clients_few c.self.inside c.self.invariant in 
 
 pub returns-in-Some : goal.returns-in-Some
 returns-in-Some c row =
+    let view = ap (λ (core : Core). length (put core.image.clients c.args.client row)) c.self.view_is in
     let there = sym c.get.ensures.row ∙ ap option_copied c.in-Some.is in
     let same = length_again c.self.inside.clients.rows c.args.client row c.in-Some.field-0.now c.get.ensures.ascend there in
-    subst (λ (core : Core). c.count-count.result ≡ length (put core.image.clients c.args.client row)) c.self.view_is (omega (arith, same, c.count-count.ensures))
+    omega (arith, view, same, c.count-count.ensures)
 
 pub returns-in-None : goal.returns-in-None
 returns-in-None c row =
+    let view = ap (λ (core : Core). length (put core.image.clients c.args.client row)) c.self.view_is in
     let none = sym c.get.ensures.row ∙ ap option_copied c.in-None.is in
     let more = length-put c.self.inside.clients.rows c.args.client row none in
-    subst (λ (core : Core). c.count-count.result + 1 ≡ length (put core.image.clients c.args.client row)) c.self.view_is (omega (arith, more, c.count-count.ensures))
+    omega (arith, view, more, c.count-count.ensures)
