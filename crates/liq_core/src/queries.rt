@@ -1,7 +1,6 @@
 //! What the protocol tells of itself.
 
 ghost use Rattle.std.specs.Prelude.{◌≡◌};
-ghost use Rattle.liq_types.specs.declared.requests.Query.TheVariants as asked;
 ghost use Rattle.liq_types.specs.declared.replies.Info.TheVariants as info;
 ghost use Rattle.liq_types.specs.Totals.{market_of};
 ghost use Rattle.liq_borrow.specs.Given.{IsMarket};
@@ -14,52 +13,31 @@ use crate::engine::Protocol;
 use liq_borrow::is_recovery;
 use liq_troves::entire;
 use liq_types::amounts::ACCOUNTS;
-use liq_types::{Info, Market, Query, Refusal, Reply};
+use liq_types::{Info, Market, Query, Refusal, Reply, Wallet};
 
 impl Protocol {
     pub(crate) fn answer(&self, query: &Query) -> Reply
         ensures { result ≡ answer (state_of self.now) query.now }
     {
         match *query {
-            Query::Wallet(account) => self.wallet_info(account),
-            Query::Trove(account) => self.trove_reply(account),
+            Query::Wallet(account)
+            | Query::Trove(account)
+            | Query::Deposit(account)
+            | Query::NextNumber(account)
+                if account >= ACCOUNTS => { Reply::No(Refusal::AccountRange { value: account }) }
+            Query::Wallet(account) => {
+                let Wallet { coll, lusd } = self.wallet(account);
+                Reply::Told(Info::Wallet { coll, lusd })
+            }
+            Query::Trove(account) => Reply::Told(self.trove_info(account)),
             Query::Pools => Reply::Told(self.pools_info()),
             Query::System => Reply::Told(self.system_info()),
-            Query::NextNumber(client) => self.next_number_info(client),
-            Query::Deposit(account) => self.deposit_reply(account),
+            Query::NextNumber(client) => {
+                let number = self.client(client).last.saturating_add(1);
+                Reply::Told(Info::Next { number })
+            }
+            Query::Deposit(account) => Reply::Told(self.deposit_info(account)),
         }
-    }
-
-    fn wallet_info(&self, account: u32) -> Reply
-        ensures { result ≡ answer (state_of self.now) (asked.Wallet account) }
-    {
-        if account >= ACCOUNTS {
-            return Reply::No(Refusal::AccountRange { value: account });
-        }
-        let wallet = self.wallet(account);
-        Reply::Told(Info::Wallet {
-            coll: wallet.coll,
-            lusd: wallet.lusd,
-        })
-    }
-
-    fn next_number_info(&self, client: u32) -> Reply
-        ensures { result ≡ answer (state_of self.now) (asked.NextNumber client) }
-    {
-        if client >= ACCOUNTS {
-            return Reply::No(Refusal::AccountRange { value: client });
-        }
-        let number = self.client(client).last.saturating_add(1);
-        Reply::Told(Info::Next { number })
-    }
-
-    fn trove_reply(&self, account: u32) -> Reply
-        ensures { result ≡ answer (state_of self.now) (asked.Trove account) }
-    {
-        if account >= ACCOUNTS {
-            return Reply::No(Refusal::AccountRange { value: account });
-        }
-        Reply::Told(self.trove_info(account))
     }
 
     fn trove_info(&self, account: u32) -> Info
@@ -73,15 +51,6 @@ impl Protocol {
                 Info::Trove { coll, debt, stake }
             }
         }
-    }
-
-    fn deposit_reply(&self, account: u32) -> Reply
-        ensures { result ≡ answer (state_of self.now) (asked.Deposit account) }
-    {
-        if account >= ACCOUNTS {
-            return Reply::No(Refusal::AccountRange { value: account });
-        }
-        Reply::Told(self.deposit_info(account))
     }
 
     fn deposit_info(&self, account: u32) -> Info

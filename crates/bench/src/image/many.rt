@@ -62,7 +62,7 @@ fn words(accounts: u32) -> [u64; 29] {
 
 /// The checkpoint of so many accounts, from 0 on.
 pub fn checkpoint(alloc: Global, accounts: u32) -> Result<Vec<u8>, AllocError> {
-    let mut out = Vec::from_slice(alloc, b"LIQSTAT1")?;
+    let mut out = Vec::from_slice(alloc, b"LIQSTAT2")?;
     put(&mut out, &words(accounts))?;
     put_wallets(&mut out, accounts)?;
     put_troves(&mut out, accounts)?;
