@@ -54,9 +54,9 @@ audit_told s commands (Ok done) before now h = (h.0.0, (h.1, h.0.1, h.2.0, h.2.1
 audit_told s commands (Err (BadLine n)) before now h = absurd h.0
 audit_told s commands (Err ReadFault) before now h = absurd h.0
 audit_told s commands (Err WriteFault) before now h = (h.0.0, (h.1, h.0.1), h.0.2)
-audit_told s commands (Err DiskFault) before now h = ([], tt, h)
+audit_told s commands (Err DiskFault) before now h = ([], (0, lit< tt, refl), h)
 audit_told s commands (Err (Damaged side number)) before now h = absurd h.0
-audit_told s commands (Err NoMemory) before now h = ([], tt, h)
+audit_told s commands (Err NoMemory) before now h = ([], (1, lit< tt, refl), h)
 audit_told s commands (Err (Limit number)) before now h = ([], (h.1, h.0.0), h.0.1)
 audit_told s commands (Err (Rotated generation)) before now h = ([], (h.1, h.2), h.0)
 
