@@ -1,6 +1,6 @@
 -- The two laws of an image, row by row and whole: what is read is spelled so, and what is spelled so is read.
-use Rattle.std.proofs.Common.{◌≡◌, ℕ, zero, suc, ◌^◌, ◌<◌, ◌≤◌, Bool, true, false, cond, ltb, List, [], ◌∷◌, ◌++◌, length, take, drop, get_or, Option, Some, None, Result, Ok, Err, refl, sym, ap, subst, ◌∙◌, append_assoc, arith}
-use Rattle.std.specs.Prelude.{not, ◌==◌, ◌&&◌, IfOk}
+use Rattle.std.proofs.Common.{◌≡◌, ℕ, zero, suc, ◌^◌, ◌<◌, ◌≤◌, Bool, true, false, cond, ltb, List, [], ◌∷◌, ◌++◌, length, take, drop, get_or, Option, Some, None, Result, Ok, Err, inl, inr, refl, sym, ap, subst, ◌∙◌, append_assoc, arith}
+use Rattle.std.specs.Prelude.{not, ◌==◌, ◌&&◌, IfOk, if◌then◌else◌}
 use Rattle.std.specs.Str.{bytes_eq}
 use Rattle.std.specs.Map.{values_of}
 use Rattle.std.specs.Cmp.{nat_cmp_total, then_total, on_total}
@@ -10,19 +10,20 @@ use Rattle.std.proofs.lemmas.Bool.Decides.{nat_tests}
 use Rattle.std.proofs.lemmas.Bool.{le-ltb, eqb-true}
 use Rattle.std.proofs.lemmas.List.{append-nil, length-append, take-append-drop}
 use Rattle.std.proofs.lemmas.Slice.Eq.{bytes_eq-Decides}
-use Rattle.liq_types.specs.declared.amounts.TheConstants.{LIM}
+use Rattle.liq_types.specs.declared.amounts.TheConstants.{LIM, LIM_OF_VERSION_1}
 use Rattle.liq_types.specs.declared.figures.Wallet.{Wallet}
 use Rattle.liq_types.specs.declared.figures.Client.{Client}
 use Rattle.liq_types.specs.declared.figures.Trove.{Trove}
 use Rattle.liq_types.specs.declared.figures.Deposit.{Deposit}
 use Rattle.liq_types.specs.declared.image.Image.{Image}
 use Rattle.liq_checkpoint.specs.declared.image_bytes.ImageBytes.{ImageBytes}
+use Rattle.liq_types.specs.Image.{IsLimit}
 use Rattle.liq_types.specs.Product.{place_order}
 use Rattle.liq_types.specs.Soundness.{IsClientRow, HasTables}
 use Rattle.liq_types.specs.State.{is_used_wallet}
 use Rattle.liq_types.specs.Tables.{Place, Table}
 use Rattle.liq_checkpoint.specs.Spelling.{Field, spelled, Fit, eights, wallet, trove, surplus, finished, deposit, client, words, name, spelling, table, contents, HasCheckpoint}
-use Rattle.liq_checkpoint.specs.Reading.{◌>>=◌, Gives, number_at, tested, numbers_at, some_at, follows, key_at, epoch_follows, place_follows, is_kind, wallet_at, trove_at, surplus_at, finished_at, deposit_at, client_at, limit_at, words_at, image_at}
+use Rattle.liq_checkpoint.specs.Reading.{◌>>=◌, Gives, number_at, tested, numbers_at, some_at, follows, key_at, epoch_follows, place_follows, is_kind, wallet_at, trove_at, surplus_at, finished_at, deposit_at, client_at, limit_named, limit_at, words_at, image_at}
 use Rattle.liq_checkpoint.proofs.Fields.{IsBytes, IsBytes-drop, bind_ok, ok_is, passed, passed_then, Takes, Takes-then, spelled-append, Fit-front, Fit-back, number_takes, number_then, number_again, numbers_then, numbers_again}
 use Rattle.liq_checkpoint.proofs.Rows.{IsRow, IsOrder, table_then, table_again, ascends, ascend_from}
 
@@ -318,26 +319,45 @@ words_again end limit i rest fit =
 
 -- ---- the name
 
-limit_takes : (end : ℕ) (at : List ℕ) (x : ℕ × List ℕ) → IsBytes at → limit_at end at ≡ Ok x → (at ≡ name ++ x.1) × IsBytes x.1 × (x.0 ≡ LIM)
+-- the name that is there, of the limit for which it stands
+one_named : (front : List ℕ) → IsLimit (limit_named front)
+one_named front = either (bytes_eq front (name LIM)) where
+  either : (b : Bool) → IsLimit (if b then LIM else LIM_OF_VERSION_1)
+  either true = inr refl
+  either false = inl refl
+
+-- a name stands for its limit
+its_limit : (limit : ℕ) → IsLimit limit → limit_named (name limit) ≡ limit
+its_limit limit (inl first) = subst (λ (l : ℕ). limit_named (name l) ≡ l) (sym first) refl
+its_limit limit (inr second) = subst (λ (l : ℕ). limit_named (name l) ≡ l) (sym second) refl
+
+record IsNamed (at : List ℕ) (x : ℕ × List ℕ) : Type 0 where
+  named : at ≡ name x.0 ++ x.1
+  rest_fits : IsBytes x.1
+  is_limit : IsLimit x.0
+
+limit_takes : (end : ℕ) (at : List ℕ) (x : ℕ × List ℕ) → IsBytes at → limit_at end at ≡ Ok x → IsNamed at x
 unfolding limit_at
 limit_takes end at x fits e =
     by (ltb (length at) 8) refl e where
-      by : (short : Bool) → ltb (length at) 8 ≡ short → cond short (Err end) (tested (bytes_eq (take 8 at) name) end at (LIM, drop 8 at)) ≡ Ok x → (at ≡ name ++ x.1) × IsBytes x.1 × (x.0 ≡ LIM)
+      by : (short : Bool) → ltb (length at) 8 ≡ short → cond short (Err end) (tested (bytes_eq (take 8 at) (name (limit_named (take 8 at)))) end at (limit_named (take 8 at), drop 8 at)) ≡ Ok x → IsNamed at x
       by true is e = absurd cc
       by false is e =
-          let p = passed (bytes_eq (take 8 at) name) end at (LIM, drop 8 at) x e in
-          let front : take 8 at ≡ name = (bytes_eq-Decides (take 8 at) name).0 p.0 in
-          let parts : at ≡ name ++ drop 8 at = sym (take-append-drop 8 at) ∙ ap (λ (bytes : List ℕ). bytes ++ drop 8 at) front in
-          subst (λ (y : ℕ × List ℕ). (at ≡ name ++ y.1) × IsBytes y.1 × (y.0 ≡ LIM)) p.1 (parts, IsBytes-drop 8 at fits, refl)
+          let l = limit_named (take 8 at) in
+          let p = passed (bytes_eq (take 8 at) (name l)) end at (l, drop 8 at) x e in
+          let front : take 8 at ≡ name l = (bytes_eq-Decides (take 8 at) (name l)).0 p.0 in
+          let parts : at ≡ name l ++ drop 8 at = sym (take-append-drop 8 at) ∙ ap (λ (bytes : List ℕ). bytes ++ drop 8 at) front in
+          subst (IsNamed at) p.1 (record { named = parts; rest_fits = IsBytes-drop 8 at fits; is_limit = one_named (take 8 at) })
 
-limit_then : {Y P : Type 0} (end : ℕ) (at : List ℕ) (f : ℕ × List ℕ → Result Y ℕ) (y : Y) → IsBytes at → (limit_at end at >>= f) ≡ Ok y → ((limit : ℕ) (rest : List ℕ) → at ≡ name ++ rest → IsBytes rest → limit ≡ LIM → f (limit, rest) ≡ Ok y → P) → P
-limit_then end at f y fits e on = let a = bind_ok (limit_at end at) f y e in let t = limit_takes end at a.0 fits a.1 in on a.0.0 a.0.1 t.0 t.1 t.2 a.2
+limit_then : {Y P : Type 0} (end : ℕ) (at : List ℕ) (f : ℕ × List ℕ → Result Y ℕ) (y : Y) → IsBytes at → (limit_at end at >>= f) ≡ Ok y → ((limit : ℕ) (rest : List ℕ) → IsNamed at (limit, rest) → f (limit, rest) ≡ Ok y → P) → P
+limit_then end at f y fits e on = let a = bind_ok (limit_at end at) f y e in on a.0.0 a.0.1 (limit_takes end at a.0 fits a.1) a.2
 
-limit_again : (end : ℕ) (rest : List ℕ) → limit_at end (name ++ rest) ≡ Ok (LIM, rest)
+limit_again : (end limit : ℕ) (rest : List ℕ) → IsLimit limit → limit_at end (name limit ++ rest) ≡ Ok (limit, rest)
 unfolding limit_at
-limit_again end rest =
-    let long : ltb (length (name ++ rest)) 8 ≡ false = le-ltb (length (name ++ rest)) 8 (omega (arith, length-append name rest)) in
-    rw long refl
+limit_again end limit rest is =
+    let long : ltb (length (name limit ++ rest)) 8 ≡ false = le-ltb (length (name limit ++ rest)) 8 (omega (arith, length-append (name limit) rest)) in
+    let same : bytes_eq (name limit) (name limit) ≡ true = (bytes_eq-Decides (name limit) (name limit)).1 refl in
+    rw (long, its_limit limit is, same) refl
 
 -- ---- the order of keys
 
@@ -367,8 +387,8 @@ with_rows i wallets troves surplus finished deposits clients =
 image_takes : (end : ℕ) (at : List ℕ) (i : Image) → IsBytes at → image_at end at ≡ Ok i → HasCheckpoint i × (at ≡ spelling i)
 unfolding image_at spelling
 image_takes end at i fits e =
-    limit_then end at _ i fits e λ limit a named rest_fits is_limit e0.
-    words_then end limit a _ i rest_fits e0 λ w b t0 same_limit e1.
+    limit_then end at _ i fits e λ limit a named e0.
+    words_then end limit a _ i named.rest_fits e0 λ w b t0 same_limit e1.
     table_then _ _ _ _ (wallet_row end) end b _ i t0.rest_fits e1 λ wallets c t1 e2.
     table_then _ _ _ _ (trove_row end) end c _ i t1.takes.rest_fits e2 λ troves d t2 e3.
     table_then _ _ _ _ (surplus_row end) end d _ i t2.takes.rest_fits e3 λ surplus f t3 e4.
@@ -377,7 +397,7 @@ image_takes end at i fits e =
     table_then _ _ _ _ (client_row end) end h _ i t5.takes.rest_fits e6 λ clients k t6 e7.
     let p = passed (length k == 0) end k (with_rows w wallets troves surplus finished deposits clients) i e7 in
     let all = Takes-then t0 (Takes-then (Takes-then (Takes-then (Takes-then (Takes-then t1.takes t2.takes) t3.takes) t4.takes) t5.takes) t6.takes) in
-    subst (λ (j : Image). HasCheckpoint j × (at ≡ name ++ spelled (contents j))) p.1 (
+    subst (λ (j : Image). HasCheckpoint j × (at ≡ name j.limit ++ spelled (contents j))) p.1 (
       record {
         numbers = all.fit;
         tables = record {
@@ -393,17 +413,17 @@ image_takes end at i fits e =
           clients = ascends nat_cmp follows keys_in_order None clients t6.ascend;
           client_rows = t6.used;
         };
-        limit = same_limit ∙ is_limit;
+        limit = subst IsLimit (sym same_limit) named.is_limit;
       },
-      named ∙ ap (λ (bytes : List ℕ). name ++ bytes) (to_the_end all (nothing_left k p.0)),
+      named.named ∙ (λ i. name (sym same_limit i) ++ to_the_end all (nothing_left k p.0) i),
     )
 
 -- six parts, one behind the other
 six_apart : (a b c d e f : List Field) → spelled (a ++ b ++ c ++ d ++ e ++ f) ≡ spelled a ++ (spelled b ++ (spelled c ++ (spelled d ++ (spelled e ++ (spelled f ++ [])))))
 six_apart a b c d e f = simp (spelled-append, append_assoc, append-nil)
 
-module _ (i : Image) (tables : HasTables i) (fit : Fit (contents i)) where
-  pub image_again : (end : ℕ) → image_at end (spelling i) ≡ Ok (record i { limit = LIM })
+module _ (i : Image) (tables : HasTables i) (fit : Fit (contents i)) (limit : IsLimit i.limit) where
+  pub image_again : (end : ℕ) → image_at end (spelling i) ≡ Ok i
   unfolding image_at spelling
   image_again end =
       let w = table wallet i.wallets in
@@ -424,10 +444,10 @@ module _ (i : Image) (tables : HasTables i) (fit : Fit (contents i)) where
       let after_wallets = spelled t ++ after_troves in
       let after_words = spelled w ++ after_wallets in
       let apart : spelled (contents i) ≡ spelled (words i) ++ after_words = spelled-append (words i) (w ++ t ++ s ++ f ++ d ++ c) ∙ ap (λ (bytes : List ℕ). spelled (words i) ++ bytes) (six_apart w t s f d c) in
-      ap (λ (bytes : List ℕ). image_at end (name ++ bytes)) apart
+      ap (λ (bytes : List ℕ). image_at end (name i.limit ++ bytes)) apart
       ∙ rw (
-        limit_again end (spelled (words i) ++ after_words),
-        words_again end LIM i after_words (Fit-front (words i) (w ++ t ++ s ++ f ++ d ++ c) fit),
+        limit_again end i.limit (spelled (words i) ++ after_words) limit,
+        words_again end i.limit i after_words (Fit-front (words i) (w ++ t ++ s ++ f ++ d ++ c) fit),
         table_again _ _ _ _ (wallet_row end) end i.wallets after_wallets (Fit-front w t fit_2) tables.used_wallets (ascend_from nat_cmp follows keys_in_order i.wallets tables.wallets),
         table_again _ _ _ _ (trove_row end) end i.troves after_troves (Fit-back w t fit_2) (no_use i.troves) (ascend_from nat_cmp follows keys_in_order i.troves tables.troves),
         table_again _ _ _ _ (surplus_row end) end i.surplus_rows after_surplus (Fit-back (w ++ t) s fit_3) tables.some_surplus (ascend_from nat_cmp follows keys_in_order i.surplus_rows tables.surplus),
@@ -443,4 +463,4 @@ is_found bytes (Ok i) fits given = image_takes (length bytes) bytes i fits given
 is_found bytes (Err e) fits given = tt
 
 pub is_read : (i : Image) → HasCheckpoint i → (end : ℕ) → image_at end (spelling i) ≡ Ok i
-is_read i has end = image_again i has.tables has.numbers end ∙ ap (λ (limit : ℕ). Ok (record i { limit = limit })) (sym has.limit)
+is_read i has end = image_again i has.tables has.numbers has.limit end

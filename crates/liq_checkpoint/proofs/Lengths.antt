@@ -57,7 +57,7 @@ spelling_is_long i has =
     let d = rows_are deposit 60 i.deposits (each deposit 60 (λ r. refl) i.deposits) in
     let c = rows_are client client_length i.clients (each_client i.clients has.client_rows) in
     apart (table wallet i.wallets) (table trove i.troves) (table surplus i.surplus_rows) (table finished i.finished) (table deposit i.deposits) (table client i.clients) (omega (arith, w, t, s, f, d, c)) where
-      apart : (a b g h j k : List Field) → widths (words i) + widths a + widths b + widths g + widths h + widths j + widths k + 8 ≡ checkpoint_length i → length (name ++ spelled (words i ++ (a ++ b ++ g ++ h ++ j ++ k))) ≡ checkpoint_length i
+      apart : (a b g h j k : List Field) → widths (words i) + widths a + widths b + widths g + widths h + widths j + widths k + 8 ≡ checkpoint_length i → length (name i.limit ++ spelled (words i ++ (a ++ b ++ g ++ h ++ j ++ k))) ≡ checkpoint_length i
       apart a b g h j k is =
           let whole = spelled_are (words i ++ (a ++ b ++ g ++ h ++ j ++ k)) in
-          omega (arith, whole, is, length-append name (spelled (words i ++ (a ++ b ++ g ++ h ++ j ++ k))), widths-append (words i) (a ++ b ++ g ++ h ++ j ++ k), widths-append (a ++ b ++ g ++ h ++ j) k, widths-append (a ++ b ++ g ++ h) j, widths-append (a ++ b ++ g) h, widths-append (a ++ b) g, widths-append a b)
+          omega (arith, whole, is, length-append (name i.limit) (spelled (words i ++ (a ++ b ++ g ++ h ++ j ++ k))), widths-append (words i) (a ++ b ++ g ++ h ++ j ++ k), widths-append (a ++ b ++ g ++ h ++ j) k, widths-append (a ++ b ++ g ++ h) j, widths-append (a ++ b ++ g) h, widths-append (a ++ b) g, widths-append a b)

@@ -5,3 +5,4 @@ pub mod Images
 pub mod Putting
 pub mod Lengths
 pub mod Encoded
+mod Places

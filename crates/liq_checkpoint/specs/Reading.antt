@@ -6,7 +6,7 @@ use Rattle.std.specs.Prelude.{Option, Some, None, Result, Ok, Err, if◌then◌e
 use Rattle.std.specs.Prelude.{Bool, true, not, ◌==◌, ◌&&◌, nat_lt, nat_le}
 use Rattle.std.specs.Str.{bytes_eq}
 use Rattle.byteorder.specs.Endian.{big_number}
-use Rattle.liq_types.specs.declared.amounts.TheConstants.{LIM}
+use Rattle.liq_types.specs.declared.amounts.TheConstants.{LIM, LIM_OF_VERSION_1}
 use Rattle.liq_types.specs.declared.figures.Wallet.{Wallet}
 use Rattle.liq_types.specs.declared.figures.Client.{Client}
 use Rattle.liq_types.specs.declared.figures.Trove.{Trove}
@@ -167,9 +167,14 @@ table_at row_at end at = do
 
 -- ---- an image
 
--- the limit for which the name stands
+-- the limit for which the name stands, if one stands here
+abbrev pub limit_named : List ℕ → ℕ
+limit_named front = if bytes_eq front (name LIM) then LIM else LIM_OF_VERSION_1
+
 unfoldable pub limit_at : ℕ → List ℕ → Result (ℕ × List ℕ) ℕ
-limit_at end at = if nat_lt (length at) 8 then Err end else tested (bytes_eq (take 8 at) name) end at (LIM, drop 8 at)
+limit_at end at =
+    let limit = limit_named (take 8 at) in
+    if nat_lt (length at) 8 then Err end else tested (bytes_eq (take 8 at) (name limit)) end at (limit, drop 8 at)
 
 -- An image without rows: it differs from the opening one in its words.
 unfoldable pub words_at : ℕ → ℕ → List ℕ → Result (Image × List ℕ) ℕ

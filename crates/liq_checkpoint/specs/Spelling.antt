@@ -1,5 +1,5 @@
 -- How an image is spelled: a name, and then its numbers one after the other, each with its high byte first.
-use Rattle.std.specs.Prelude.{◌≡◌, ℕ, ◌<◌, ◌^◌, List, [], ◌∷◌, ◌++◌, length, map}
+use Rattle.std.specs.Prelude.{◌≡◌, ℕ, ◌<◌, ◌^◌, ◌==◌, List, [], ◌∷◌, ◌++◌, length, map, if◌then◌else◌}
 use Rattle.std.specs.List.{flat_map, AllByRecursion}
 use Rattle.byteorder.specs.Endian.{big_bytes}
 use Rattle.liq_types.specs.declared.amounts.TheConstants.{LIM}
@@ -8,6 +8,7 @@ use Rattle.liq_types.specs.declared.figures.Client.{Client}
 use Rattle.liq_types.specs.declared.figures.Trove.{Trove}
 use Rattle.liq_types.specs.declared.figures.Deposit.{Deposit}
 use Rattle.liq_types.specs.declared.image.Image.{Image}
+use Rattle.liq_types.specs.Image.{IsLimit}
 use Rattle.liq_types.specs.Tables.{Place}
 use Rattle.liq_types.specs.Soundness.{HasTables}
 
@@ -70,9 +71,13 @@ table row rows = (8, length rows) ∷ flat_map row rows
 
 -- ---- an image
 
--- LIQSTAT1, for an image under the limit LIM
-abbrev pub name : List ℕ
-name = 76 ∷ 73 ∷ 81 ∷ 83 ∷ 84 ∷ 65 ∷ 84 ∷ 49 ∷ []
+-- the digit of the version: 2 for an image under the limit LIM, 1 for one under the limit of version 1
+abbrev pub digit : ℕ → ℕ
+digit limit = if limit == LIM then 50 else 49
+
+-- LIQSTAT and the digit
+abbrev pub name : ℕ → List ℕ
+name limit = 76 ∷ 73 ∷ 81 ∷ 83 ∷ 84 ∷ 65 ∷ 84 ∷ digit limit ∷ []
 
 abbrev pub words : Image → List Field
 words i =
@@ -93,11 +98,10 @@ abbrev pub contents : Image → List Field
 contents i = words i ++ tables i
 
 unfoldable pub spelling : Image → List ℕ
-spelling i = name ++ spelled (contents i)
+spelling i = name i.limit ++ spelled (contents i)
 
--- What has a checkpoint: numbers that have room in their fields, tables in order, and the limit for which the name
--- stands.
+-- What has a checkpoint: numbers that have room in their fields, tables in order, and a limit for which a name stands.
 pub record HasCheckpoint (i : Image) : Type 0 where
   pub numbers : Fit (contents i)
   pub tables : HasTables i
-  pub limit : i.limit ≡ LIM
+  pub limit : IsLimit i.limit

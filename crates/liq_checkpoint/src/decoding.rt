@@ -1,7 +1,8 @@
 //! An image read from its bytes.
 
-ghost use Rattle.std.specs.Prelude.{◌≡◌, Ok, IfOk, length};
+ghost use Rattle.std.specs.Prelude.{◌≡◌, ◌≤◌, ◌<◌, ◌^◌, ℕ, Ok, Err, IfOk, length};
 ghost use Rattle.liq_types.specs.declared.image.Image.{Image};
+ghost use Rattle.liq_checkpoint.specs.declared.image_bytes.ImageBytes.TheVariants.{Bad};
 ghost use Rattle.liq_checkpoint.specs.Reading.{Gives, words_at, image_at};
 ghost use Rattle.liq_checkpoint.specs.Spelling.{HasCheckpoint, spelling};
 
@@ -11,8 +12,9 @@ use crate::tables::{clients_at, deposits_at, sums_at, surpluses_at, troves_at, w
 use liq_types::{ClientRows, DepositRows, FinishedRows, Image, SurplusRows, TroveRows, WalletRows};
 use std::alloc::Global;
 
-/// The image that a checkpoint's bytes spell, all of them. `Bad` tells where the first field begins that cannot stand where it
-/// does, by its own number and by what stands before it; the end, where bytes are missing; or the first byte that follows.
+/// The image that a checkpoint's bytes spell, all of them, under the limit for which its name stands. `Bad` tells where the
+/// first field begins that cannot stand where it does, by its own number and by what stands before it; the end, where bytes are
+/// missing; or the first byte that follows.
 pub fn decode(alloc: Global, bytes: &[u8]) -> Result<Image, ImageBytes>
     // What is read is spelled so.
     ensures found { IfOk result (λ i. HasCheckpoint i × (bytes.now ≡ spelling i)) }
@@ -20,6 +22,8 @@ pub fn decode(alloc: Global, bytes: &[u8]) -> Result<Image, ImageBytes>
     ensures only { (i : Image) → HasCheckpoint i → bytes.now ≡ spelling i → Gives (λ j. j) result (Ok i) }
     // Which fault it is.
     ensures exact { Gives (λ i. i) result (image_at (length bytes.now) bytes.now) }
+    // Its place is one of the bytes, or their end.
+    ensures place { (place : ℕ) → result ≡ Err (Bad place) → (place ≤ length bytes.now) × (place < 2 ^ 63) }
 {
     image_at(alloc, bytes.len() as u64, bytes)
 }

@@ -1,8 +1,8 @@
 //! An image written to its bytes.
 
 ghost use Rattle.std.specs.Prelude.{◌≡◌, ◌∷◌, [], Ok, IfOk, OnOk, length, map};
-ghost use Rattle.liq_types.specs.declared.amounts.TheConstants.{LIM};
-ghost use Rattle.liq_types.specs.Length.{checkpoint_length};
+ghost use Rattle.liq_types.specs.Image.{IsLimit};
+ghost use Rattle.liq_types.specs.Length.{checkpoint_length, length_with};
 ghost use Rattle.liq_types.specs.Soundness.{HasTables};
 ghost use Rattle.liq_checkpoint.specs.Reading.{image_at};
 ghost use Rattle.liq_checkpoint.specs.Spelling.{Puts, contents, words, tables, name, spelling};
@@ -11,14 +11,15 @@ use crate::numbers_out::{put_numbers, put_u128};
 use crate::tables_out::{
     put_clients, put_deposits, put_sums, put_surpluses, put_troves, put_wallets,
 };
-use liq_types::amounts::CHECKPOINT_BYTES_MOST;
-use liq_types::{Image, NoMemory};
+use liq_types::amounts::{CHECKPOINT_BYTES_MOST, LIM};
+use liq_types::{Image, NoMemory, RowCounts};
 use std::alloc::{AllocError, Global};
 
-/// The bytes of an image's checkpoint, which are read back as that image.
+/// The bytes of an image's checkpoint, which are read back as that image. They begin with `LIQSTAT1` under the limit of
+/// version 1, and with `LIQSTAT2` under the other.
 pub fn encode(alloc: Global, image: &Image) -> Result<Vec<u8>, NoMemory>
     requires tables { HasTables image.now }
-    requires limit { image.now.limit ≡ LIM }
+    requires limit { IsLimit image.now.limit }
     ensures spelled { IfOk result (λ b. b.items ≡ spelling image.now) }
     ensures length { IfOk result (λ b. length b.items ≡ checkpoint_length image.now) }
     ensures read { IfOk result (λ b. image_at (length b.items) b.items ≡ Ok image.now) }
@@ -27,26 +28,41 @@ pub fn encode(alloc: Global, image: &Image) -> Result<Vec<u8>, NoMemory>
 }
 
 fn written(alloc: Global, image: &Image) -> Result<Vec<u8>, NoMemory>
-    ensures { IfOk result (λ b. Puts name b.items (contents image.now)) }
+    ensures { IfOk result (λ b. Puts (name image.now.limit) b.items (contents image.now)) }
 {
-    let room = length_of(image).min(CHECKPOINT_BYTES_MOST as u128);
+    let room = counts(image)
+        .checkpoint_bytes()
+        .min(CHECKPOINT_BYTES_MOST as u128);
     let mut out = Vec::with_capacity(alloc, room as usize)?;
-    out.extend_from_slice(b"LIQSTAT1")?;
+    out.extend_from_slice(&name(image.limit))?;
     put_words(&mut out, image)?;
     put_tables(&mut out, image)?;
     Ok(out)
 }
 
-// How many bytes it has.
-fn length_of(image: &Image) -> u128
-    ensures { result ≡ checkpoint_length image.now }
+// The name of a checkpoint of an image under this limit.
+fn name(limit: u64) -> [u8; 8]
+    ensures { result ≡ name limit }
 {
-    288 + 20 * image.wallets.rows().len() as u128
-        + 60 * image.troves.rows().len() as u128
-        + 12 * image.surplus_rows.rows().len() as u128
-        + 32 * image.finished.rows().len() as u128
-        + 60 * image.deposits.rows().len() as u128
-        + 61 * image.clients.rows().len() as u128
+    if limit == LIM {
+        *b"LIQSTAT2"
+    } else {
+        *b"LIQSTAT1"
+    }
+}
+
+// How many rows its tables have.
+fn counts(image: &Image) -> RowCounts
+    ensures { length_with result ≡ checkpoint_length image.now }
+{
+    RowCounts {
+        wallets: image.wallets.rows().len() as u64,
+        troves: image.troves.rows().len() as u64,
+        surplus_rows: image.surplus_rows.rows().len() as u64,
+        finished: image.finished.rows().len() as u64,
+        deposits: image.deposits.rows().len() as u64,
+        clients: image.clients.rows().len() as u64,
+    }
 }
 
 fn put_words(out: &mut Vec<u8>, image: &Image) -> Result<(), AllocError>

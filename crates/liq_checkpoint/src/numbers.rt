@@ -6,7 +6,7 @@ ghost use Rattle.liq_checkpoint.specs.Reading.{Gives, limit_at, number_at, numbe
 
 use crate::image_bytes::ImageBytes;
 use byteorder::{BigEndian, ByteOrder};
-use liq_types::amounts::LIM;
+use liq_types::amounts::{LIM, LIM_OF_VERSION_1};
 
 // What begins here fits no checkpoint.
 pub fn bad(end: u64, at: &[u8]) -> ImageBytes
@@ -58,7 +58,7 @@ pub fn u128_at(end: u64, at: &[u8]) -> Result<(u128, &[u8]), ImageBytes>
     Ok((BigEndian::read_u128(at), &at[16..]))
 }
 
-// The limit for which the checkpoint's name stands.
+// The limit for which the checkpoint's name stands: LIQSTAT1 or LIQSTAT2.
 #[tactic(auto, unfolding(crate::specs::Reading::limit_at))]
 pub fn limit_at(end: u64, at: &[u8]) -> Result<(u64, &[u8]), ImageBytes>
     ensures { Gives (λ x. (x.0, x.1.now)) result (limit_at end at.now) }
@@ -67,10 +67,13 @@ pub fn limit_at(end: u64, at: &[u8]) -> Result<(u64, &[u8]), ImageBytes>
         return Err(ImageBytes::Bad { place: end });
     }
     let (name, rest) = at.split_at(8);
-    if name != b"LIQSTAT1".as_slice() {
-        return Err(bad(end, at));
+    if name == b"LIQSTAT2".as_slice() {
+        return Ok((LIM, rest));
     }
-    Ok((LIM, rest))
+    if name == b"LIQSTAT1".as_slice() {
+        return Ok((LIM_OF_VERSION_1, rest));
+    }
+    Err(bad(end, at))
 }
 
 // So many numbers of eight bytes.

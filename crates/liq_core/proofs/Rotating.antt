@@ -1,16 +1,18 @@
 -- What a rotation makes of a protocol and of its image, and which limits of the journal refuse it.
-use Rattle.std.proofs.Common.{◌≡◌, ℕ, suc, ◌+◌, ◌≤◌, ◌<◌, true, false, cond, nat_le, nat_lt, List, [], ◌∷◌, length, Some, None, refl, ap, sym, ◌∙◌, subst, arith}
+use Rattle.std.proofs.Common.{◌≡◌, ℕ, zero, suc, ◌+◌, ◌≤◌, ◌<◌, true, false, cond, nat_le, nat_lt, List, [], ◌∷◌, length, get_or, Some, None, refl, ap, sym, ◌∙◌, subst, arith}
 use Rattle.std.proofs.lemmas.Bool.Decides.{nat_tests}
 use Rattle.std.proofs.lemmas.Cmp.{nat_cmp_total}
 use Rattle.std.proofs.lemmas.Map.{lookup-none}
-use Rattle.std.proofs.lemmas.Map.Entries.{none_below_head}
-use Rattle.std.proofs.lemmas.Map.Keys.{sorted_tail}
+use Rattle.std.proofs.lemmas.Map.Entries.{length-keys_of, none_below_head}
+use Rattle.std.proofs.lemmas.Map.Keys.{below_from_sorted, sorted_tail}
 use Rattle.std.specs.BTreeMap.{is_at}
+use Rattle.std.specs.List.{AllByRecursion}
+use Rattle.std.specs.List.Sorted.{IsStrictlySortedBy}
 use Rattle.std.specs.Map.{keys_of}
 use Rattle.std.specs.Ordering.{nat_cmp, is_eq, match_ordering}
 use Rattle.std.specs.declared.cmp.Ordering.{Ordering}
 use Rattle.std.specs.declared.cmp.Ordering.TheVariants.{Less, Equal, Greater}
-use Rattle.liq_types.specs.declared.amounts.TheConstants.{CHECKPOINT_BYTES_MOST, GENERATIONS_MOST, RECORDS_MOST}
+use Rattle.liq_types.specs.declared.amounts.TheConstants.{ACCOUNTS, LIM, CHECKPOINT_BYTES_MOST, GENERATIONS_MOST, RECORDS_MOST}
 use Rattle.liq_types.specs.declared.figures.Client.{Client}
 use Rattle.liq_types.specs.declared.image.Image.{Image}
 use Rattle.liq_types.specs.declared.replies.Done.{Done}
@@ -46,9 +48,9 @@ stays_so _ other = refl
 
 -- ---- the image
 
--- the image with which the next generation begins, where the client's row has its reply
+-- the image with which the next generation begins, under the greater limit; the client's row has its reply
 abbrev pub turned : Image → ℕ → Client → Image
-turned i client row = record i { generation = i.generation + 1; clients = put i.clients client row }
+turned i client row = record i { generation = i.generation + 1; limit = LIM; clients = put i.clients client row }
 
 abbrev pub reply_row : State → Command → Client
 reply_row s c = record { last = c.number; kept = done_of s c.call }
@@ -111,6 +113,36 @@ module _ {X : Type 0} where
     by Equal is more = refl
     by Greater is more = ap suc (more (sym (ap (λ o. cond (is_eq o) (Some e.1) (at es key)) is) ∙ h))
 
+-- ascending numbers below a bound are no more than it
+module _ (keys : List ℕ) (bound : ℕ) (ascend : IsStrictlySortedBy nat_cmp keys) (below : AllByRecursion (λ key. key < bound) keys) where
+  at_least : (j : ℕ) → j < length keys → j ≤ get_or keys j 0
+  at_least zero h = omega arith
+  at_least (suc j) h =
+      let before = at_least j (omega (arith, h)) in
+      let more = below_from_sorted keys j (suc j) 0 ascend (omega arith) h in
+      omega (arith, before, more)
+
+  keys_few : length keys ≤ bound
+  keys_few = by (length keys) refl where
+    one_below : (all : List ℕ) (j : ℕ) → AllByRecursion (λ key. key < bound) all → j < length all → get_or all j 0 < bound
+    one_below [] j h k = absurd (omega (arith, k))
+    one_below (key ∷ all) zero h k = h.0
+    one_below (key ∷ all) (suc j) h k = one_below all j h.1 (omega (arith, k))
+
+    by : (count : ℕ) → length keys ≡ count → count ≤ bound
+    by zero is = omega arith
+    by (suc last) is =
+        let place = at_least last (omega (arith, is)) in
+        let less = one_below keys last below (omega (arith, is)) in
+        omega (arith, place, less)
+
+pub clients_few : (p : Inside) → IsSound p → length p.clients.rows ≤ ACCOUNTS
+clients_few p sound =
+    let rows = (core_facts (core_of p) sound.image).stands.clients in
+    let few = keys_few (keys_of p.clients.rows) ACCOUNTS rows.ascend rows.keys in
+    let same = length-keys_of p.clients.rows in
+    omega (arith, few, same)
+
 -- ---- the journal's limits
 
 abbrev limits : ℕ → ℕ → List Rule
@@ -120,6 +152,10 @@ limits generation bytes =
 rotation_rules : (s : State) (c : Command) → c.call ≡ Rotate → first_refusal (room_rules s c) ≡ first_refusal (limits (s.generation + 1) (checkpoint_length (image (after s c))))
 rotation_rules s c is =
     ap (λ b. first_refusal (cond b (limits (s.generation + 1) (checkpoint_length (image (after s c)))) ((nat_le RECORDS_MOST s.records, JournalFull RECORDS_MOST) ∷ []))) (ap rotates is)
+
+pub other_rules : (s : State) (c : Command) → rotates c.call ≡ false → first_refusal (room_rules s c) ≡ first_refusal ((nat_le RECORDS_MOST s.records, JournalFull RECORDS_MOST) ∷ [])
+other_rules s c stays =
+    ap (λ b. first_refusal (cond b (limits (s.generation + 1) (checkpoint_length (image (after s c)))) ((nat_le RECORDS_MOST s.records, JournalFull RECORDS_MOST) ∷ []))) stays
 
 module _ (s : State) (c : Command) (is : c.call ≡ Rotate) (generation bytes : ℕ) (next : generation ≡ s.generation + 1) where
   pub past_generations : GENERATIONS_MOST < generation → Some (AmountLimit generation GENERATIONS_MOST) ≡ first_refusal (room_rules s c)
@@ -152,7 +188,7 @@ module _ (s : State) (c : Command) (is : c.call ≡ Rotate) (generation bytes : 
 -- ---- the rotation is made
 
 abbrev turned_inside : Inside → WithRoom Client → Inside
-turned_inside p clients = record p { generation = p.generation + 1; records = 0; clients = clients }
+turned_inside p clients = record p { generation = p.generation + 1; limit = LIM; records = 0; clients = clients }
 
 module _ (p : Inside) (sound : IsSound p) (c : Command) (done : Done) (is : c.call ≡ Rotate) (allowed : ruling (state_of (core_of p)) c ≡ Allowed)
     (made : done ≡ done_of (state_of (core_of p)) c.call) (clients : WithRoom Client)
@@ -162,7 +198,7 @@ module _ (p : Inside) (sound : IsSound p) (c : Command) (done : Done) (is : c.ca
       let row : Client = record { last = c.number; kept = done } in
       let number = allowed_number (state_of (core_of p)) c allowed in
       let rows = wrote ∙ kept_rows p.clients.rows c.client row (omega (arith, number)) in
-      ap (λ (t : Table Client). record (core_of p).image { generation = p.generation + 1; clients = t }) rows
+      ap (λ (t : Table Client). record (core_of p).image { generation = p.generation + 1; limit = LIM; clients = t }) rows
       ∙ ap (λ (d : Done). turned (core_of p).image c.client (record { last = c.number; kept = d })) made
       ∙ sym (turned_core (core_of p) sound.image c is)
 

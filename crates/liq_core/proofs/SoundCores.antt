@@ -3,7 +3,6 @@ use Rattle.std.proofs.Common.{◌≡◌, ℕ, ◌+◌, ◌≤◌, true, nat_le, 
 use Rattle.std.specs.Prelude.{◌&&◌, sum_by}
 use Rattle.std.specs.BTreeMap.{is_at}
 use Rattle.std.specs.List.{AllByRecursion, list_all}
-use Rattle.std.specs.List.Sorted.{IsStrictlySortedBy}
 use Rattle.std.specs.Map.{values_of}
 use Rattle.std.specs.Ordering.{nat_cmp}
 use Rattle.std.proofs.lemmas.Map.Entries.{sum_by-remove_entry}
@@ -11,9 +10,9 @@ use Rattle.liq_types.specs.declared.amounts.TheConstants.{LIM}
 use Rattle.liq_types.specs.declared.figures.Wallet.{Wallet}
 use Rattle.liq_types.specs.declared.requests.Call.{Call}
 use Rattle.liq_types.specs.declared.image.Image.{Image}
-use Rattle.liq_types.specs.Image.{opening_image}
+use Rattle.liq_types.specs.Image.{IsLimit}
 use Rattle.liq_types.specs.Payments.{charged_in}
-use Rattle.liq_types.specs.Soundness.{IsSoundImage, HasTables, is_before}
+use Rattle.liq_types.specs.Soundness.{IsSoundImage, is_before}
 use Rattle.liq_types.specs.State.{State, wallet_in}
 use Rattle.liq_types.specs.Tables.{Place, Table, at}
 use Rattle.liq_types.specs.WellFormed.{IsBefore}
@@ -24,34 +23,12 @@ use Rattle.liq_rules.specs.Image.{image}
 use Rattle.liq_rules.specs.Rules.{effect}
 use Rattle.liq_core.specs.Sound.{IsSound, core_of}
 use Rattle.liq_rules.proofs.Moving.{read_or, charged_lusd}
-use Rattle.liq_soundness.proofs.SoundFacts.{Finds, Leaves}
+use Rattle.liq_soundness.proofs.SoundFacts.{Finds, Leaves, balanced_by, limit_most}
 use Rattle.liq_rules.proofs.SoundRules.{both_first, both_second}
 use Rattle.liq_soundness.proofs.SoundStart.{started_with, finished_before}
 use Rattle.liq_soundness.proofs.SoundTests.{SoundFacts, sound_facts, facts_sound, stakes_added}
 use Rattle.liq_rules.proofs.Started.{started_image, started_formed}
 use Rattle.liq_stability.proofs.Tests.{before_in}
-
--- ---- the opening
-
-opening_tables : HasTables opening_image
-unfolding IsStrictlySortedBy
-opening_tables =
-    record {
-      wallets = tt;
-      used_wallets = tt;
-      troves = tt;
-      surplus = tt;
-      some_surplus = tt;
-      finished = tt;
-      some_finished = tt;
-      deposits = tt;
-      some_deposits = tt;
-      clients = tt;
-      client_rows = tt;
-    }
-
-pub opening_image_sound : IsSoundImage opening_image 0
-opening_image_sound = record { rules = refl; tables = opening_tables }
 
 -- ---- the state that begins with a sound image
 
@@ -75,7 +52,7 @@ module _ (core : Core) (h : IsSoundImage core.image core.records) where
   core_facts = sound_facts (state_of core) (started_with core.image core.records h)
 
   pub core_finds : Finds (state_of core)
-  core_finds = record { stands = core_facts.stands; balanced = core_facts.balanced; ranges = core_facts.ranges }
+  core_finds = record { stands = core_facts.stands; balanced = core_facts.balanced; limited = core_facts.limited; ranges = core_facts.ranges }
 
   -- ---- what is read
 
@@ -87,8 +64,11 @@ module _ (core : Core) (h : IsSoundImage core.image core.records) where
       let had = read_or (λ (w : Wallet). w.coll) refl (at table account) in
       omega (arith, home, part, had)
 
-  pub limit_is : core.image.limit ≡ LIM
+  pub limit_is : IsLimit core.image.limit
   limit_is = core_facts.ranges.limit
+
+  pub limit_within : core.image.limit ≤ LIM
+  limit_within = limit_most core.image.limit limit_is
 
   pub brought_within : core.image.brought ≤ LIM
   brought_within = core_facts.balanced.coll_limit
@@ -128,7 +108,8 @@ module _ (core : Core) (h : IsSoundImage core.image core.records) where
       let r = l.rest in
       let made = facts_sound t (record {
         stands = l.stands;
-        balanced = record { homes = r.homes; coll_limit = r.coll_limit; debt_limit = r.debt_limit };
+        balanced = balanced_by t r.homes r.limited r.ranges.limit;
+        limited = r.limited;
         ranges = r.ranges;
         records = omega (arith, f.records, r.records);
         scale = omega (arith, f.scale, r.scale, r.generation, r.records);

@@ -4,7 +4,8 @@ ghost use Rattle.std.specs.Prelude.{◌≡◌, ◌≤◌, ◌<◌, ◌+◌, ℕ,
 ghost use Rattle.std.specs.List.{AllByRecursion, Contains};
 ghost use Rattle.liq_types.specs.declared.requests.Request.TheVariants.{Do, Ask};
 ghost use Rattle.liq_types.specs.declared.replies.Reply.TheVariants.{Said};
-ghost use Rattle.liq_types.specs.State.{State, opening, client_of};
+ghost use Rattle.liq_types.specs.Image.{IsLimit};
+ghost use Rattle.liq_types.specs.State.{State, opening, opening_with, client_of};
 ghost use Rattle.liq_order.specs.Order.{trove_order};
 ghost use Rattle.liq_standing.specs.Steps.{TakesFew};
 ghost use Rattle.liq_stability.specs.Words.{pool_words};
@@ -117,13 +118,22 @@ impl Protocol {
     pub fn new(alloc: Global) -> Protocol
         ensures { StandsFor result opening }
     {
+        Protocol::with_limit(alloc, LIM)
+    }
+
+    /// The protocol as it opens under one of the two limits. One whose journal is of version 1 opens under the lesser, as
+    /// the program that made the journal has it.
+    pub fn with_limit(alloc: Global, limit: u64) -> Protocol
+        requires { IsLimit limit }
+        ensures { StandsFor result (opening_with limit) }
+    {
         Protocol {
             alloc,
             price: PRICE_OPENING,
             minute: 0,
             rate: Rate { base: 0, minute: 0 },
             generation: 1,
-            limit: LIM,
+            limit,
             records: 0,
             brought: 0,
             pools: NO_POOLS,
@@ -148,6 +158,14 @@ impl Protocol {
         ensures { result ≡ self.now.image.generation }
     {
         self.generation
+    }
+
+    /// The most collateral that may be inside (gwei), and the most LUSD in circulation (micro-LUSD): one of two numbers. A
+    /// rotation makes it the greater.
+    pub fn limit(&self) -> u64
+        ensures { result ≡ self.now.image.limit }
+    {
+        self.limit
     }
 
     /// The six words of the Stability Pool.

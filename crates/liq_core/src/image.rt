@@ -3,6 +3,7 @@
 ghost use Rattle.std.specs.Prelude.{◌≡◌, ◌↔◌, ℕ, IfOk, Err, Some};
 ghost use Rattle.std.specs.List.{AllByRecursion};
 ghost use Rattle.liq_types.specs.declared.figures.Trove.{Trove as trove};
+ghost use Rattle.liq_types.specs.Image.{IsLimit};
 ghost use Rattle.liq_types.specs.Soundness.{HasTables, IsSoundImage, first_unsound};
 ghost use Rattle.liq_types.specs.State.{started};
 ghost use Rattle.liq_order.specs.Order.{ranks};
@@ -35,7 +36,15 @@ impl Protocol {
     /// image with which a generation begins, and [`Protocol::from_image`] always takes that one. It may refuse an image
     /// taken amid a generation, as `Unsound` 9: without its records the Stability Pool's place may be too far.
     pub fn image(&self) -> Result<Image, NoMemory>
-        ensures { IfOk result (λ image. image ≡ self.now.image) }
+        ensures image { IfOk result (λ image. image ≡ self.now.image) }
+        ensures limit { IfOk result (λ image. IsLimit image.limit) }
+    {
+        self.image_with(client_rows(self.alloc, &self.clients)?)
+    }
+
+    /// The image, with these rows of clients.
+    pub(crate) fn image_with(&self, clients: ClientRows) -> Result<Image, NoMemory>
+        ensures { IfOk result (λ image. image ≡ record self.now.image { clients = clients }) }
     {
         let alloc = self.alloc;
         let sums = self.troves.sums();
@@ -72,7 +81,7 @@ impl Protocol {
             surplus_rows: self.surplus.rows(alloc)?,
             finished: self.pool.finished_sums(alloc)?,
             deposits: self.pool.rows(alloc)?,
-            clients: client_rows(alloc, &self.clients)?,
+            clients,
         })
     }
 

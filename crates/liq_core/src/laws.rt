@@ -3,8 +3,9 @@
 
 ghost use Rattle.std.specs.Prelude.{◌≡◌, ℕ, List};
 ghost use Rattle.liq_types.specs.declared.requests.Request.{Request};
+ghost use Rattle.liq_types.specs.Image.{IsLimit};
 ghost use Rattle.liq_types.specs.Soundness.{IsSoundImage};
-ghost use Rattle.liq_types.specs.State.{State, opening};
+ghost use Rattle.liq_types.specs.State.{State, opening_with};
 ghost use Rattle.liq_order.specs.Order.{trove_order};
 ghost use Rattle.liq_stability.specs.Promise.{IsWithinAllowance};
 ghost use Rattle.liq_core.specs.Core.{StandsFor, state_of};
@@ -45,15 +46,15 @@ pub fn protocols_are_sound_states(protocol: &Protocol)
     let _ = &protocol.records;
 }
 
-/// Whatever requests lead from the opening to this protocol, every account has its exact share of what their accepted commands
-/// did to the Stability Pool: its balance and all that it gained are at most that share, and short of it by at most the
-/// allowance. How the protocol came to be does not matter: it is enough that the run of the requests gives its image and its
-/// records, as where it begins again from a journal.
+/// Whatever requests lead from the opening, under either limit, to this protocol, every account has its exact share of what their
+/// accepted commands did to the Stability Pool: its balance and all that it gained are at most that share, and short of it by at
+/// most the allowance. How the protocol came to be does not matter: it is enough that the run of the requests gives its image and
+/// its records, as where it begins again from a journal.
 pub fn depositors_get_their_shares(protocol: &Protocol)
-    ensures same { (requests : List Request) → IsSameState (state_of protocol.now) (run opening requests).0
-        → (account : ℕ) → IsWithinAllowance (state_of protocol.now) account (events opening (accepted opening requests)) }
-    ensures stands { (requests : List Request) → StandsFor protocol.now (run opening requests).0
-        → (account : ℕ) → IsWithinAllowance (state_of protocol.now) account (events opening (accepted opening requests)) }
+    ensures same { (limit : ℕ) → IsLimit limit → (requests : List Request) → IsSameState (state_of protocol.now) (run (opening_with limit) requests).0
+        → (account : ℕ) → IsWithinAllowance (state_of protocol.now) account (events (opening_with limit) (accepted (opening_with limit) requests)) }
+    ensures stands { (limit : ℕ) → IsLimit limit → (requests : List Request) → StandsFor protocol.now (run (opening_with limit) requests).0
+        → (account : ℕ) → IsWithinAllowance (state_of protocol.now) account (events (opening_with limit) (accepted (opening_with limit) requests)) }
 {
     protocols_stand(protocol);
 }

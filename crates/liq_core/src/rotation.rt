@@ -1,9 +1,11 @@
 //! Rotation: the next generation of the journal begins with a checkpoint of the protocol. Only the journal's limits
 //! refuse it, which come after all other rules.
 
-ghost use Rattle.std.specs.Prelude.{◌≡◌, ◌<◌, IfOk, Ok, None};
+ghost use Rattle.std.specs.Prelude.{◌≡◌, ◌<◌, nat_le, [], ◌∷◌, length, IfOk, Ok, None};
 ghost use Rattle.std.specs.List.{Contains};
-ghost use Rattle.liq_types.specs.declared.amounts.TheConstants.{LIM};
+ghost use Rattle.liq_types.specs.declared.amounts.TheConstants.{LIM, RECORDS_MOST};
+ghost use Rattle.liq_types.specs.declared.figures.Client.{Client as client_row};
+ghost use Rattle.liq_types.specs.declared.replies.Refusal.TheVariants.{JournalFull};
 ghost use Rattle.liq_types.specs.declared.requests.Call.TheVariants.{Rotate};
 ghost use Rattle.liq_types.specs.Length.{checkpoint_length};
 ghost use Rattle.liq_types.specs.Soundness.{HasTables, first_unsound};
@@ -19,29 +21,8 @@ use crate::engine::Protocol;
 use crate::image::client_rows;
 use crate::turns::{Forecast, Planned};
 use liq_tables::Reserved;
-use liq_types::amounts::{CHECKPOINT_BYTES_MOST, GENERATIONS_MOST, RECORDS_MOST};
-use liq_types::{Call, Client, ClientRows, Command, Done, Image, NoMemory, Refusal};
-
-/// The bytes of a checkpoint that belong to no row: its name, its words and a count for each table.
-const WORDS_BYTES: u128 = 8 + 8 * 21 + 16 * 4 + 8 * 6;
-
-/// The bytes of a wallet.
-const WALLET_BYTES: u128 = 4 + 8 * 2;
-
-/// The bytes of a trove.
-const TROVE_BYTES: u128 = 4 + 8 * 3 + 16 * 2;
-
-/// The bytes of what an account may claim.
-const SURPLUS_BYTES: u128 = 4 + 8;
-
-/// The bytes of a finished sum.
-const FINISHED_BYTES: u128 = 8 * 2 + 16;
-
-/// The bytes of a deposit.
-const DEPOSIT_BYTES: u128 = 4 + 8 + 16 * 2 + 8 * 2;
-
-/// The bytes of a client.
-const CLIENT_BYTES: u128 = 4 + 8 + 1 + 8 * 6;
+use liq_types::amounts::{CHECKPOINT_BYTES_MOST, GENERATIONS_MOST, LIM, RECORDS_MOST};
+use liq_types::{Call, Client, ClientRows, Command, Done, Image, NoMemory, Refusal, RowCounts};
 
 impl Protocol {
     /// What a rotation comes to: its reply has the generation that begins.
@@ -61,11 +42,19 @@ impl Protocol {
     {
         match command.call {
             Call::Rotate => self.no_generation(command),
-            _ if self.records >= RECORDS_MOST => Some(Refusal::JournalFull {
-                records: RECORDS_MOST,
-            }),
-            _ => None,
+            _ => self.no_record(),
         }
+    }
+
+    /// Why the journal takes no more records.
+    fn no_record(&self) -> Option<Refusal>
+        ensures { result ≡ first_refusal ((nat_le RECORDS_MOST self.now.records, JournalFull RECORDS_MOST) ∷ []) }
+    {
+        if self.records >= RECORDS_MOST {
+            let records = RECORDS_MOST;
+            return Some(Refusal::JournalFull { records });
+        }
+        None
     }
 
     /// Why no generation may follow. The checkpoint is measured only where there may be one more.
@@ -92,16 +81,25 @@ impl Protocol {
         requires { command.now.call ≡ Rotate }
         ensures { result ≡ checkpoint_length (image (after (state_of self.now) command.now)) }
     {
-        let kept = WORDS_BYTES
-            + WALLET_BYTES * u128::from(self.wallets.count())
-            + TROVE_BYTES * u128::from(self.troves.count())
-            + SURPLUS_BYTES * u128::from(self.surplus.count())
-            + FINISHED_BYTES * u128::from(self.pool.finished_count())
-            + DEPOSIT_BYTES * u128::from(self.pool.count())
-            + CLIENT_BYTES * u128::from(self.clients.count());
-        match self.clients.get(command.client) {
-            Some(_) => kept,
-            None => kept + CLIENT_BYTES,
+        let rows = RowCounts {
+            wallets: self.wallets.count(),
+            troves: self.troves.count(),
+            surplus_rows: self.surplus.count(),
+            finished: self.pool.finished_count(),
+            deposits: self.pool.count(),
+            clients: self.clients_with(command.client),
+        };
+        rows.checkpoint_bytes()
+    }
+
+    /// How many clients there are once this one has a row.
+    fn clients_with(&self, client: u32) -> u64
+        ensures { (row : client_row) → result ≡ length (put self.now.image.clients client row) }
+    {
+        let count = self.clients.count();
+        match self.clients.get(client) {
+            Some(_) => count,
+            None => count + 1,
         }
     }
 
@@ -123,9 +121,10 @@ impl Protocol {
             last: command.number,
             kept: planned.forecast.done,
         };
-        let mut image = self.image()?;
+        let clients = self.clients_after(command.client, row)?;
+        let mut image = self.image_with(clients)?;
         image.generation += 1;
-        image.clients = self.clients_after(command.client, row)?;
+        image.limit = LIM;
         Ok(image)
     }
 
@@ -141,7 +140,8 @@ impl Protocol {
         client_rows(self.alloc, &clients)
     }
 
-    /// Begins the next generation, of which no record is counted yet, and keeps the reply of the rotation.
+    /// Begins the next generation, under the greater limit, of which no record is counted yet, and keeps the reply of the
+    /// rotation.
     pub(crate) fn rotate(&mut self, command: &Command, done: Done)
         requires rotates { command.now.call ≡ Rotate }
         requires allowed { ruling (state_of self.old) command.now ≡ Allowed }
@@ -151,6 +151,7 @@ impl Protocol {
         ensures list { self.new.list ≡ self.old.list }
     {
         self.generation += 1;
+        self.limit = LIM;
         self.records = 0;
         let last = command.number;
         self.clients

@@ -1,10 +1,10 @@
 //! Rules 1 and 2: what the numbers of an image lie within, and whose rows it has.
 
 ghost use Rattle.std.specs.Prelude.{◌≡◌};
-ghost use Rattle.liq_types.specs.Soundness.{has_ranges, has_accounts, has_keys_in_range};
+ghost use Rattle.liq_types.specs.Soundness.{has_ranges, has_accounts, has_keys_in_range, is_limit};
 
 use liq_types::amounts::{
-    ACCOUNTS, GENERATIONS_MOST, LIM, MINUTE_MOST, ONE, PRICE_LEAST, PRICE_MOST,
+    ACCOUNTS, GENERATIONS_MOST, LIM, LIM_OF_VERSION_1, MINUTE_MOST, ONE, PRICE_LEAST, PRICE_MOST,
 };
 use liq_types::{ClientRows, DepositRows, Image, SurplusRows, TroveRows, WalletRows};
 
@@ -19,8 +19,15 @@ pub fn has_ranges(image: &Image) -> bool
         && image.base <= ONE
         && 1 <= image.generation
         && image.generation <= GENERATIONS_MOST
-        && image.limit == LIM
+        && is_limit(image.limit)
         && image.brought <= image.limit
+}
+
+/// Whether a protocol may have this limit: it is one of two.
+fn is_limit(limit: u64) -> bool
+    ensures { result ≡ is_limit limit }
+{
+    limit == LIM_OF_VERSION_1 || limit == LIM
 }
 
 /// Rule 2: whether every account and every client is in range.

@@ -60,15 +60,15 @@ module _ (odd : Bool) (held : List ℕ) (w : Written) (found : found_on odd held
   raws = records most_records (drop start held)
 
   counted : length raws ≡ count
-  counted = (of_records w.generation w.checkpoint 1 start raws w (is_open odd held w found).behind).count
+  counted = (of_records w.generation w.limit w.checkpoint 1 start raws w (is_open odd held w found).behind).count
 
   -- what is found where the same bytes stand up to the end
-  read_on : (image : List ℕ) (most : ℕ) → most_records ≡ count + most → end_of w ≤ length held → take (end_of w) image ≡ take (end_of w) held → found_on odd image ≡ found_records w.generation w.checkpoint 1 start (raws ++ records most (drop (end_of w) image))
+  read_on : (image : List ℕ) (most : ℕ) → most_records ≡ count + most → end_of w ≤ length held → take (end_of w) image ≡ take (end_of w) held → found_on odd image ≡ found_records w.generation w.limit w.checkpoint 1 start (raws ++ records most (drop (end_of w) image))
   read_on image most fuel there alike =
       let more = records_alike count most_records most (drop start held) (drop start image) fuel counted (front_behind start (129 * count) held image alike) in
       let at : drop (129 * count) (drop start image) ≡ drop (end_of w) image = drop-drop (129 * count) start image in
       header_decides odd held image w (end_of w) found (omega arith) there alike
-      ∙ ap (found_records w.generation w.checkpoint 1 start) (more ∙ ap (λ (l : List ℕ). raws ++ records most l) at)
+      ∙ ap (found_records w.generation w.limit w.checkpoint 1 start) (more ∙ ap (λ (l : List ℕ). raws ++ records most l) at)
 
   gate_at : (image : List ℕ) → get_or (drop (end_of w) image) 0 0 ≡ get_or image (end_of w) 0
   gate_at image = get_or-drop (end_of w) image 0 0 ∙ (let e : end_of w + 0 ≡ end_of w = omega arith in ap (λ (n : ℕ). get_or image n 0) e)
@@ -77,8 +77,8 @@ module _ (odd : Bool) (held : List ℕ) (w : Written) (found : found_on odd held
   pub held_on : (image : List ℕ) (most : ℕ) → most_records ≡ count + most → end_of w ≤ length held → take (end_of w) image ≡ take (end_of w) held → (get_or image (end_of w) 0 ≡ 1 → ⊥) → found_on odd image ≡ Open w
   held_on image most fuel there alike shut =
       read_on image most fuel there alike
-      ∙ ap (λ (l : List (List ℕ)). found_records w.generation w.checkpoint 1 start (raws ++ l)) (records_none most (drop (end_of w) image) (isnt_open (drop (end_of w) image) (λ is. shut (sym (gate_at image) ∙ is))))
-      ∙ ap (found_records w.generation w.checkpoint 1 start) (append-nil raws)
+      ∙ ap (λ (l : List (List ℕ)). found_records w.generation w.limit w.checkpoint 1 start (raws ++ l)) (records_none most (drop (end_of w) image) (isnt_open (drop (end_of w) image) (λ is. shut (sym (gate_at image) ∙ is))))
+      ∙ ap (found_records w.generation w.limit w.checkpoint 1 start) (append-nil raws)
       ∙ (is_open odd held w found).behind
 
   -- an open gate, a record and a closed gate
@@ -96,8 +96,8 @@ module _ (odd : Bool) (held : List ℕ) (w : Written) (found : found_on odd held
       let here : record_on w.generation (1 + length raws) (start + 129 * length raws + 1) (piece (end_of w + 1) 128 image) ≡ Ok command =
       ap (λ (n : ℕ). record_on w.generation n (start + 129 * length raws + 1) (piece (end_of w + 1) 128 image)) i ∙ ap (λ (n : ℕ). record_on w.generation (count + 1) n (piece (end_of w + 1) 128 image)) at ∙ read in
       read_on image (suc most) fuel there alike
-      ∙ ap (λ (l : List (List ℕ)). found_records w.generation w.checkpoint 1 start (raws ++ l)) (whole ∙ (λ i. raw i ∷ none i))
-      ∙ found_more w.generation w.checkpoint 1 start raws (piece (end_of w + 1) 128 image) w command (is_open odd held w found).behind here
+      ∙ ap (λ (l : List (List ℕ)). found_records w.generation w.limit w.checkpoint 1 start (raws ++ l)) (whole ∙ (λ i. raw i ∷ none i))
+      ∙ found_more w.generation w.limit w.checkpoint 1 start raws (piece (end_of w + 1) 128 image) w command (is_open odd held w found).behind here
 
 -- an end with one command more
 end_more : (w : Written) (command : Command) → end_of (and_then w command) ≡ end_of w + 129

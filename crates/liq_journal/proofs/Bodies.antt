@@ -46,19 +46,19 @@ unfolding record_on
 read_from generation index place raw command is =
     from_command place (command_of (take 96 raw)) command (by_digest (not (bytes_eq (drop 96 raw) (record_digest generation index (take 96 raw)))) (Digest (drop 96 raw) (record_digest generation index (take 96 raw))) place (command_of (take 96 raw)) command is)
 
-no_rotations : (generation : ℕ) (checkpoint : List ℕ) (index place : ℕ) (raws : List (List ℕ)) (w : Written) → found_records generation checkpoint index place raws ≡ Open w → All (λ (c : Command). is_rotate c.call ≡ false) w.commands
-no_rotations generation checkpoint index place [] w is =
-    let e : record { generation = generation; checkpoint = checkpoint; commands = [] } ≡ w = cc in
+no_rotations : (generation limit : ℕ) (checkpoint : List ℕ) (index place : ℕ) (raws : List (List ℕ)) (w : Written) → found_records generation limit checkpoint index place raws ≡ Open w → All (λ (c : Command). is_rotate c.call ≡ false) w.commands
+no_rotations generation limit checkpoint index place [] w is =
+    let e : record { generation = generation; limit = limit; checkpoint = checkpoint; commands = [] } ≡ w = cc in
     subst (λ (v : Written). All (λ (c : Command). is_rotate c.call ≡ false) v.commands) e (All-nil (λ (c : Command). is_rotate c.call ≡ false))
-no_rotations generation checkpoint index place (raw ∷ raws) w is =
-    let o = record_open index (record_on generation index (place + 1) raw) (found_records generation checkpoint (index + 1) (place + 129) raws) w is in
-    let rest = no_rotations generation checkpoint (index + 1) (place + 129) raws o.others o.behind in
+no_rotations generation limit checkpoint index place (raw ∷ raws) w is =
+    let o = record_open index (record_on generation index (place + 1) raw) (found_records generation limit checkpoint (index + 1) (place + 129) raws) w is in
+    let rest = no_rotations generation limit checkpoint (index + 1) (place + 129) raws o.others o.behind in
     subst (λ (v : Written). All (λ (c : Command). is_rotate c.call ≡ false) v.commands) (sym o.together)
     (All-cons (λ (c : Command). is_rotate c.call ≡ false) o.command o.others.commands (read_from generation index (place + 1) raw o.command o.is).1 rest)
 
 -- so no record of an open disk is one
 pub found_no_rotation : (odd : Bool) (bytes : List ℕ) (w : Written) → found_on odd bytes ≡ Open w → All (λ (c : Command). is_rotate c.call ≡ false) w.commands
-found_no_rotation odd bytes w found = no_rotations w.generation w.checkpoint 1 (start_of w) (records most_records (drop (start_of w) bytes)) w (is_open odd bytes w found).behind
+found_no_rotation odd bytes w found = no_rotations w.generation w.limit w.checkpoint 1 (start_of w) (records most_records (drop (start_of w) bytes)) w (is_open odd bytes w found).behind
 
 pub body_spells : (generation index place : ℕ) (body stored : List ℕ) (command : Command) → length body ≡ 96 → record_on generation index place (body ++ stored) ≡ Ok command → IsBodyOf body command
 body_spells generation index place body stored command size is =
@@ -106,22 +106,22 @@ record RecordAt (generation index place : ℕ) (bytes : List ℕ) (commands : Li
   whole : begins_whole (drop (129 * k) bytes) ≡ true
   read : record_on generation (index + k) (place + 129 * k + 1) (take 128 (drop 1 (drop (129 * k) bytes))) ≡ Ok command
 
-record_at : (k fuel generation : ℕ) (checkpoint : List ℕ) (index place : ℕ) (bytes : List ℕ) (w : Written) → found_records generation checkpoint index place (records fuel bytes) ≡ Open w → k < length w.commands → RecordAt generation index place bytes w.commands k
-record_at k zero generation checkpoint index place bytes w is few =
-    let c = (of_records generation checkpoint index place (records zero bytes) w is).count in
+record_at : (k fuel generation limit : ℕ) (checkpoint : List ℕ) (index place : ℕ) (bytes : List ℕ) (w : Written) → found_records generation limit checkpoint index place (records fuel bytes) ≡ Open w → k < length w.commands → RecordAt generation index place bytes w.commands k
+record_at k zero generation limit checkpoint index place bytes w is few =
+    let c = (of_records generation limit checkpoint index place (records zero bytes) w is).count in
     let none = ap length (records_zero bytes) in
     absurd (omega arith)
-record_at k (suc fuel) generation checkpoint index place bytes w is few = elim (cases_Bool (begins_whole bytes)) [
+record_at k (suc fuel) generation limit checkpoint index place bytes w is few = elim (cases_Bool (begins_whole bytes)) [
   | inr none ↦
-      let c = (of_records generation checkpoint index place (records (suc fuel) bytes) w is).count in
+      let c = (of_records generation limit checkpoint index place (records (suc fuel) bytes) w is).count in
       let n = ap length (records_none (suc fuel) bytes none) in
       absurd (omega arith)
   | inl whole ↦
       let raw = take 128 (drop 1 bytes) in
-      let o = record_open index (record_on generation index (place + 1) raw) (found_records generation checkpoint (index + 1) (place + 129) (records fuel (drop 129 bytes))) w (sym (ap (found_records generation checkpoint index place) (records_whole fuel bytes whole)) ∙ is) in
+      let o = record_open index (record_on generation index (place + 1) raw) (found_records generation limit checkpoint (index + 1) (place + 129) (records fuel (drop 129 bytes))) w (sym (ap (found_records generation limit checkpoint index place) (records_whole fuel bytes whole)) ∙ is) in
       let commands : o.command ∷ o.others.commands ≡ w.commands = ap (λ (v : Written). v.commands) (sym o.together) in
       subst (λ (l : List Command). RecordAt generation index place bytes l k) commands (step k o.command o.others.commands whole o.is
-      (λ m less. record_at m fuel generation checkpoint (index + 1) (place + 129) (drop 129 bytes) o.others o.behind less) (subst (λ (l : List Command). k < length l) (sym commands) few))
+      (λ m less. record_at m fuel generation limit checkpoint (index + 1) (place + 129) (drop 129 bytes) o.others o.behind less) (subst (λ (l : List Command). k < length l) (sym commands) few))
 ]
   where
     step : (m : ℕ) (command : Command) (rest : List Command) → begins_whole bytes ≡ true → record_on generation index (place + 1) (take 128 (drop 1 bytes)) ≡ Ok command → ((p : ℕ) → p < length rest → RecordAt generation (index + 1) (place + 129) (drop 129 bytes) rest p) → m < length (command ∷ rest) → RecordAt generation index place bytes (command ∷ rest) m
@@ -151,9 +151,9 @@ module _ (generation start index : ℕ) (held : List ℕ) (w : Written) (is : Is
   at_index : RecordAt generation 1 start (drop start held) w.commands (index - 1)
   at_index =
       let o = is_open (is_odd generation) held w is.found in
-      let found : found_records generation w.checkpoint 1 start (records most_records (drop start held)) ≡ Open w =
-      (λ i. found_records (sym is.generation_is i) w.checkpoint 1 (sym is.start_is i) (records most_records (drop (sym is.start_is i) held))) ∙ o.behind in
-      record_at (index - 1) most_records generation w.checkpoint 1 start (drop start held) w found (omega arith)
+      let found : found_records generation w.limit w.checkpoint 1 start (records most_records (drop start held)) ≡ Open w =
+      (λ i. found_records (sym is.generation_is i) w.limit w.checkpoint 1 (sym is.start_is i) (records most_records (drop (sym is.start_is i) held))) ∙ o.behind in
+      record_at (index - 1) most_records generation w.limit w.checkpoint 1 start (drop start held) w found (omega arith)
 
   number_is : 1 + (index - 1) ≡ index
   number_is = omega arith

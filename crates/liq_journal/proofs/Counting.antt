@@ -25,73 +25,73 @@ prefixed_damaged : (commands : List Command) (damage : Damage) → prefixed comm
 prefixed_damaged [] damage = refl
 prefixed_damaged (first ∷ commands) damage = ap (with_command first) (prefixed_damaged commands damage)
 
-prefixed_open : (commands : List Command) (generation : ℕ) (checkpoint : List ℕ) → prefixed commands (Open (record { generation = generation; checkpoint = checkpoint; commands = [] })) ≡ Open (record { generation = generation; checkpoint = checkpoint; commands = commands })
-prefixed_open [] generation checkpoint = refl
-prefixed_open (first ∷ commands) generation checkpoint = ap (with_command first) (prefixed_open commands generation checkpoint)
+prefixed_open : (commands : List Command) (generation limit : ℕ) (checkpoint : List ℕ) → prefixed commands (Open (record { generation = generation; limit = limit; checkpoint = checkpoint; commands = [] })) ≡ Open (record { generation = generation; limit = limit; checkpoint = checkpoint; commands = commands })
+prefixed_open [] generation limit checkpoint = refl
+prefixed_open (first ∷ commands) generation limit checkpoint = ap (with_command first) (prefixed_open commands generation limit checkpoint)
 
 -- so many records were gone through
 pub record ReadTo (generation start : ℕ) (held : List ℕ) (count : ℕ) : Type 0 where
   pub commands : List Command
   pub counted : length commands ≡ count
-  pub left : (checkpoint : List ℕ) (most : ℕ) → most_records ≡ count + most → found_records generation checkpoint 1 start (records most_records (drop start held)) ≡ prefixed commands (found_records generation checkpoint (count + 1) (start + 129 * count) (records most (drop (start + 129 * count) held)))
+  pub left : (limit : ℕ) (checkpoint : List ℕ) (most : ℕ) → most_records ≡ count + most → found_records generation limit checkpoint 1 start (records most_records (drop start held)) ≡ prefixed commands (found_records generation limit checkpoint (count + 1) (start + 129 * count) (records most (drop (start + 129 * count) held)))
 
 module _ (generation start : ℕ) (held : List ℕ) where
   pub read_none : ReadTo generation start held 0
   read_none = record {
     commands = [];
     counted = refl;
-    left = λ checkpoint most fuel.
+    left = λ limit checkpoint most fuel.
         let m : most_records ≡ most = omega (arith, fuel) in
         let i : 1 ≡ 0 + 1 = refl in
         let p : start ≡ start + 129 * 0 = omega arith in
-        ap (λ (n : ℕ). found_records generation checkpoint 1 start (records n (drop start held))) m
-        ∙ ap (λ (n : ℕ). found_records generation checkpoint 1 n (records most (drop n held))) p;
+        ap (λ (n : ℕ). found_records generation limit checkpoint 1 start (records n (drop start held))) m
+        ∙ ap (λ (n : ℕ). found_records generation limit checkpoint 1 n (records most (drop n held))) p;
   }
 
   module _ (count : ℕ) (so_far : ReadTo generation start held count) where
     abbrev place : ℕ
     place = start + 129 * count
 
-    whole_left : (checkpoint : List ℕ) (most : ℕ) → most_records ≡ count + suc most → begins_whole (drop place held) ≡ true → found_records generation checkpoint 1 start (records most_records (drop start held)) ≡ prefixed so_far.commands (found_record (count + 1) (record_on generation (count + 1) (place + 1) (piece (place + 1) 128 held)) (found_records generation checkpoint (count + 1 + 1) (place + 129) (records most (drop (place + 129) held))))
-    whole_left checkpoint most fuel whole =
-        so_far.left checkpoint (suc most) fuel
-        ∙ ap (λ (l : List (List ℕ)). prefixed so_far.commands (found_records generation checkpoint (count + 1) place l))
+    whole_left : (limit : ℕ) (checkpoint : List ℕ) (most : ℕ) → most_records ≡ count + suc most → begins_whole (drop place held) ≡ true → found_records generation limit checkpoint 1 start (records most_records (drop start held)) ≡ prefixed so_far.commands (found_record (count + 1) (record_on generation (count + 1) (place + 1) (piece (place + 1) 128 held)) (found_records generation limit checkpoint (count + 1 + 1) (place + 129) (records most (drop (place + 129) held))))
+    whole_left limit checkpoint most fuel whole =
+        so_far.left limit checkpoint (suc most) fuel
+        ∙ ap (λ (l : List (List ℕ)). prefixed so_far.commands (found_records generation limit checkpoint (count + 1) place l))
         (records_whole most (drop place held) whole ∙ (λ i. take 128 (drop-drop 1 place held i) ∷ records most (drop-drop 129 place held i)))
 
     pub read_more : (command : Command) → begins_whole (drop place held) ≡ true → record_on generation (count + 1) (place + 1) (piece (place + 1) 128 held) ≡ Ok command → ReadTo generation start held (count + 1)
     read_more command whole is = record {
       commands = so_far.commands ++ command ∷ [];
       counted = length-append so_far.commands (command ∷ []) ∙ ap (λ (n : ℕ). n + 1) so_far.counted;
-      left = λ checkpoint most fuel.
+      left = λ limit checkpoint most fuel.
           let p : place + 129 ≡ start + 129 * (count + 1) = omega arith in
-          whole_left checkpoint most (omega (arith, fuel)) whole
-          ∙ ap (λ (r : Result Command What). prefixed so_far.commands (found_record (count + 1) r (found_records generation checkpoint (count + 1 + 1) (place + 129) (records most (drop (place + 129) held))))) is
-          ∙ prefixed_more so_far.commands command (found_records generation checkpoint (count + 1 + 1) (place + 129) (records most (drop (place + 129) held)))
-          ∙ ap (λ (n : ℕ). prefixed (so_far.commands ++ command ∷ []) (found_records generation checkpoint (count + 1 + 1) n (records most (drop n held)))) p;
+          whole_left limit checkpoint most (omega (arith, fuel)) whole
+          ∙ ap (λ (r : Result Command What). prefixed so_far.commands (found_record (count + 1) r (found_records generation limit checkpoint (count + 1 + 1) (place + 129) (records most (drop (place + 129) held))))) is
+          ∙ prefixed_more so_far.commands command (found_records generation limit checkpoint (count + 1 + 1) (place + 129) (records most (drop (place + 129) held)))
+          ∙ ap (λ (n : ℕ). prefixed (so_far.commands ++ command ∷ []) (found_records generation limit checkpoint (count + 1 + 1) n (records most (drop n held)))) p;
     }
 
-    ended : (checkpoint : List ℕ) (most : ℕ) → most_records ≡ count + most → records most (drop place held) ≡ [] → found_records generation checkpoint 1 start (records most_records (drop start held)) ≡ Open (record { generation = generation; checkpoint = checkpoint; commands = so_far.commands })
-    ended checkpoint most fuel none =
-        so_far.left checkpoint most fuel ∙ ap (λ (l : List (List ℕ)). prefixed so_far.commands (found_records generation checkpoint (count + 1) place l)) none ∙ prefixed_open so_far.commands generation checkpoint
+    ended : (limit : ℕ) (checkpoint : List ℕ) (most : ℕ) → most_records ≡ count + most → records most (drop place held) ≡ [] → found_records generation limit checkpoint 1 start (records most_records (drop start held)) ≡ Open (record { generation = generation; limit = limit; checkpoint = checkpoint; commands = so_far.commands })
+    ended limit checkpoint most fuel none =
+        so_far.left limit checkpoint most fuel ∙ ap (λ (l : List (List ℕ)). prefixed so_far.commands (found_records generation limit checkpoint (count + 1) place l)) none ∙ prefixed_open so_far.commands generation limit checkpoint
 
     pub read_end : count < 1000001 → begins_whole (drop place held) ≡ false → AreRecords generation start held count
     read_end few none = record {
       commands = so_far.commands;
       counted = so_far.counted;
-      found = λ checkpoint. ended checkpoint (1000001 - count) (omega arith) (records_none (1000001 - count) (drop place held) none);
+      found = λ limit checkpoint. ended limit checkpoint (1000001 - count) (omega arith) (records_none (1000001 - count) (drop place held) none);
     }
 
     pub read_full : count ≡ 1000001 → AreRecords generation start held count
     read_full all = record {
       commands = so_far.commands;
       counted = so_far.counted;
-      found = λ checkpoint. ended checkpoint 0 (omega arith) (records_zero (drop place held));
+      found = λ limit checkpoint. ended limit checkpoint 0 (omega arith) (records_zero (drop place held));
     }
 
     pub read_fault : (damage : Damage) → count < 1000001 → begins_whole (drop place held) ≡ true → damage.index ≡ count + 1 → record_on generation (count + 1) (place + 1) (piece (place + 1) 128 held) ≡ Err damage.what → IsFaultIn generation start held (fault.Damaged damage)
-    read_fault damage few whole index is = λ checkpoint.
-        whole_left checkpoint (1000000 - count) (omega arith) whole
-        ∙ ap (λ (r : Result Command What). prefixed so_far.commands (found_record (count + 1) r (found_records generation checkpoint (count + 1 + 1) (place + 129) (records (1000000 - count) (drop (place + 129) held))))) is
+    read_fault damage few whole index is = λ limit checkpoint.
+        whole_left limit checkpoint (1000000 - count) (omega arith) whole
+        ∙ ap (λ (r : Result Command What). prefixed so_far.commands (found_record (count + 1) r (found_records generation limit checkpoint (count + 1 + 1) (place + 129) (records (1000000 - count) (drop (place + 129) held))))) is
         ∙ ap (λ (n : ℕ). prefixed so_far.commands (Damaged (record { index = n; what = damage.what }))) (sym index)
         ∙ prefixed_damaged so_far.commands damage
 

@@ -7,17 +7,18 @@ use Rattle.std.proofs.lemmas.List.{take-take, take_at, drop_at, get_or-drop, dro
 use Rattle.byteorder.specs.Endian.{big_bytes, big_number}
 use Rattle.byteorder.specs.Numbers.{big_number-reads_back}
 use Rattle.sha2.proofs.Facts256.{length-sha256}
+use Rattle.liq_types.specs.declared.amounts.TheConstants.{LIM}
 use Rattle.liq_wire.specs.Fields.{number_at}
 use Rattle.liq_outside.specs.Disk.{Torn, overwritten, Only, LeftNow, LeavesOnly, Elapses, Follows}
 use Rattle.liq_outside.proofs.Moments.{chained, weaker, at_last, call}
 use Rattle.liq_journal.specs.Records.{records}
-use Rattle.liq_journal.specs.Layout.{Layout, IsVersion, version_1, fields_size, header_size, piece, name_on, generation_on, size_on, own_on, fields_on, stored_on, start_on, checkpoint_on, header_digest, digest_on, header_of, fields_of}
+use Rattle.liq_journal.specs.Layout.{Layout, IsVersion, version_2, layout_named, fields_size, header_size, piece, name_on, generation_on, size_on, own_on, fields_on, stored_on, start_on, checkpoint_on, header_digest, digest_on, header_of, fields_of}
 use Rattle.liq_journal.specs.Written.{Written, header_tests, is_generation, is_size, found_records, most_records, start_of, end_of, opened}
 use Rattle.liq_journal.specs.Crash.{CrashOfCreate, CreateLeaves, HasGate, IsShut, ReadsOfCreate, SettleLeaves, Stands, beginning, filled}
 use Rattle.liq_journal.specs.Crash.{is_odd}
 use Rattle.liq_journal.proofs.Reading.{records_none, isnt_open}
 use Rattle.liq_journal.proofs.Heading.{Headed, found_behind_it, no_fault}
-use Rattle.liq_journal.proofs.HeaderFound.{is_version_1}
+use Rattle.liq_journal.proofs.Versions.{is_version_2}
 
 -- behind place 0 a shut gate stays
 pub shut_stays : (at n : ℕ) (held image : List ℕ) → 1 ≤ at → IsShut held → Torn at n held image → IsShut image
@@ -32,15 +33,15 @@ pub length-header_digest : (fields checkpoint : List ℕ) → length (header_dig
 unfolding header_digest
 length-header_digest fields checkpoint = length-sha256 _
 
--- a digest written behind 24 bytes of fields, over zeros
-pub header_is : (fields digest : List ℕ) → length fields ≡ 24 → length digest ≡ 32 → take 24 (fields ++ drop (0 + length fields) (replicate 56 0)) ++ digest ++ drop (24 + length digest) (fields ++ drop (0 + length fields) (replicate 56 0)) ≡ fields ++ digest
+-- a digest written behind 32 bytes of fields, over zeros
+pub header_is : (fields digest : List ℕ) → length fields ≡ 32 → length digest ≡ 32 → take 32 (fields ++ drop (0 + length fields) (replicate 64 0)) ++ digest ++ drop (32 + length digest) (fields ++ drop (0 + length fields) (replicate 64 0)) ≡ fields ++ digest
 header_is fields digest size digest_size =
-    let zeros = replicate 56 0 in
-    let front : take 24 (fields ++ drop (0 + length fields) zeros) ≡ fields = take_at fields (drop (0 + length fields) zeros) 24 size in
-    let n : 24 + length digest ≡ 24 + 32 = omega arith in
-    let m : 0 + length fields ≡ 24 = omega arith in
-    let back : drop (24 + length digest) (fields ++ drop (0 + length fields) zeros) ≡ [] =
-    ap (λ (k : ℕ). drop k (fields ++ drop (0 + length fields) zeros)) n ∙ sym (drop-drop 32 24 (fields ++ drop (0 + length fields) zeros)) ∙ ap (drop 32) (drop_at fields (drop (0 + length fields) zeros) 24 size ∙ ap (λ (k : ℕ). drop k zeros) m) in
+    let zeros = replicate 64 0 in
+    let front : take 32 (fields ++ drop (0 + length fields) zeros) ≡ fields = take_at fields (drop (0 + length fields) zeros) 32 size in
+    let n : 32 + length digest ≡ 32 + 32 = omega arith in
+    let m : 0 + length fields ≡ 32 = omega arith in
+    let back : drop (32 + length digest) (fields ++ drop (0 + length fields) zeros) ≡ [] =
+    ap (λ (k : ℕ). drop k (fields ++ drop (0 + length fields) zeros)) n ∙ sym (drop-drop 32 32 (fields ++ drop (0 + length fields) zeros)) ∙ ap (drop 32) (drop_at fields (drop (0 + length fields) zeros) 32 size ∙ ap (λ (k : ℕ). drop k zeros) m) in
     (λ i. front i ++ digest ++ back i) ∙ append-nil (fields ++ digest)
 
 -- a write behind a front
@@ -162,6 +163,7 @@ module _ (layout : Layout) (version : IsVersion layout) (generation : ℕ) (chec
 
     created_headed : (odd : Bool) → is_generation odd generation ≡ true → is_size generation size ≡ true → Headed layout odd (created rest) generation checkpoint (header_size layout + size)
     created_headed odd fits fits_size = record {
+      layout_is = ap layout_named reads_name ∙ version.by_name;
       gate = (let l = long in grind (arith, nat_tests));
       tests = no_fault (header_tests layout odd (created rest)) (
         equal (name_on (created rest)) layout.name reads_name,
@@ -205,18 +207,18 @@ module _ (generation : ℕ) (checkpoint : List ℕ) (small : generation < 2 ^ 64
   abbrev new : Written
   new = beginning generation checkpoint
 
-  created_stands : (rest : List ℕ) → Stands odd (created version_1 is_version_1 generation checkpoint rest) new
+  created_stands : (rest : List ℕ) → Stands odd (created version_2 is_version_2 generation checkpoint rest) new
   created_stands rest =
       let e : end_of new ≡ start_of new = omega arith in
-      let l = long version_1 is_version_1 generation checkpoint small small_size rest in
+      let l = long version_2 is_version_2 generation checkpoint small small_size rest in
       record {
-        found = found_behind_it odd (created version_1 is_version_1 generation checkpoint rest) generation checkpoint (start_of new) (created_headed version_1 is_version_1 generation checkpoint small small_size rest odd fits fits_size)
-            ∙ ap (found_records generation checkpoint 1 (start_of new)) (no_records version_1 is_version_1 generation checkpoint small small_size rest);
-        ended = record { there = omega arith; is = ap (λ (n : ℕ). get_or (created version_1 is_version_1 generation checkpoint rest) n 0) e ∙ shut_behind version_1 is_version_1 generation checkpoint small small_size rest };
+        found = found_behind_it version_2 odd (created version_2 is_version_2 generation checkpoint rest) generation checkpoint (start_of new) (created_headed version_2 is_version_2 generation checkpoint small small_size rest odd fits fits_size)
+            ∙ ap (found_records generation LIM checkpoint 1 (start_of new)) (no_records version_2 is_version_2 generation checkpoint small small_size rest);
+        ended = record { there = omega arith; is = ap (λ (n : ℕ). get_or (created version_2 is_version_2 generation checkpoint rest) n 0) e ∙ shut_behind version_2 is_version_2 generation checkpoint small small_size rest };
       }
 
-  pub filled_stands : (held : List ℕ) → IsShut held → Stands odd (opened 0 (filled version_1 generation checkpoint held)) new
-  filled_stands held shut = subst (λ (l : List ℕ). Stands odd l new) (sym (created_is version_1 is_version_1 generation checkpoint held shut)) (created_stands (rest_of version_1 is_version_1 generation checkpoint held))
+  pub filled_stands : (held : List ℕ) → IsShut held → Stands odd (opened 0 (filled version_2 generation checkpoint held)) new
+  filled_stands held shut = subst (λ (l : List ℕ). Stands odd l new) (sym (created_is version_2 is_version_2 generation checkpoint held shut)) (created_stands (rest_of version_2 is_version_2 generation checkpoint held))
 
 -- what a creation leaves, part by part
 module _ (odd : Bool) (held : List ℕ) (w : Written) where
@@ -295,13 +297,13 @@ module _ {D : Type 0} (moment : D → ℕ) (left_at : D → ℕ → List ℕ →
     pub after_fill : LeavesOnly moment left_at old mid (SettleLeaves 0 held) → LeavesOnly moment left_at mid full IsShut → LeavesOnly moment left_at old full Leaves
     after_fill first second = chained moment left_at old mid full Leaves (after_shut first) (weaker moment left_at mid full IsShut Leaves second (of_filling (is_odd generation) held (beginning generation checkpoint)))
 
-    module _ (small : generation < 2 ^ 64) (small_size : length checkpoint < 2 ^ 64) (fits : is_generation (is_odd generation) generation ≡ true) (fits_size : is_size generation (length checkpoint) ≡ true) (shut : IfSome (seen mid) IsShut) (is : IsSome (seen mid)) (written : seen full ≡ option_map (filled version_1 generation checkpoint) (seen mid)) where
-      pub full_is : (s : List ℕ) × (IsShut s × (seen full ≡ Some (filled version_1 generation checkpoint s)))
+    module _ (small : generation < 2 ^ 64) (small_size : length checkpoint < 2 ^ 64) (fits : is_generation (is_odd generation) generation ≡ true) (fits_size : is_size generation (length checkpoint) ≡ true) (shut : IfSome (seen mid) IsShut) (is : IsSome (seen mid)) (written : seen full ≡ option_map (filled version_2 generation checkpoint) (seen mid)) where
+      pub full_is : (s : List ℕ) × (IsShut s × (seen full ≡ Some (filled version_2 generation checkpoint s)))
       full_is =
           let s = some_of (seen mid) is in
-          (s.0, (subst (λ (o : Option (List ℕ)). IfSome o IsShut) s.1 shut, written ∙ ap (option_map (filled version_1 generation checkpoint)) s.1))
+          (s.0, (subst (λ (o : Option (List ℕ)). IfSome o IsShut) s.1 shut, written ∙ ap (option_map (filled version_2 generation checkpoint)) s.1))
 
-      pub stands_then : (s : List ℕ) → IsShut s → Stands (is_odd generation) (opened 0 (filled version_1 generation checkpoint s)) (beginning generation checkpoint)
+      pub stands_then : (s : List ℕ) → IsShut s → Stands (is_odd generation) (opened 0 (filled version_2 generation checkpoint s)) (beginning generation checkpoint)
       stands_then s shut_s = filled_stands generation checkpoint small small_size (is_odd generation) fits fits_size s shut_s
 
       pub after_open : LeavesOnly moment left_at old full Leaves → IfSome (seen full) (λ after. Only after (LeftNow moment left_at full)) → ((f : List ℕ) → seen full ≡ Some f → Only f (LeftNow moment left_at full) → LeavesOnly moment left_at full new (Torn 0 1 f)) → LeavesOnly moment left_at old new Leaves
@@ -309,11 +311,11 @@ module _ {D : Type 0} (moment : D → ℕ) (left_at : D → ℕ → List ℕ →
           let f = full_is in
           let told = f.1.1 in
           let only = subst (λ (o : Option (List ℕ)). IfSome o (λ after. Only after (LeftNow moment left_at full))) told durable in
-          chained moment left_at old full new Leaves first (weaker moment left_at full new (Torn 0 1 (filled version_1 generation checkpoint f.0)) Leaves (third (filled version_1 generation checkpoint f.0) told only)
-          (λ image torn. of_opening (is_odd generation) held (beginning generation checkpoint) (filled version_1 generation checkpoint f.0) image (stands_then f.0 f.1.0) torn))
+          chained moment left_at old full new Leaves first (weaker moment left_at full new (Torn 0 1 (filled version_2 generation checkpoint f.0)) Leaves (third (filled version_2 generation checkpoint f.0) told only)
+          (λ image torn. of_opening (is_odd generation) held (beginning generation checkpoint) (filled version_2 generation checkpoint f.0) image (stands_then f.0 f.1.0) torn))
 
       pub made : seen new ≡ option_map (λ l. overwritten l 0 (1 ∷ [])) (seen full) → (after : List ℕ) × (seen new ≡ Some after) × Stands (is_odd generation) after (beginning generation checkpoint)
-      made gate = let f = full_is in (opened 0 (filled version_1 generation checkpoint f.0), gate ∙ ap (option_map (λ (l : List ℕ). overwritten l 0 (1 ∷ []))) f.1.1, stands_then f.0 f.1.0)
+      made gate = let f = full_is in (opened 0 (filled version_2 generation checkpoint f.0), gate ∙ ap (option_map (λ (l : List ℕ). overwritten l 0 (1 ∷ []))) f.1.1, stands_then f.0 f.1.0)
 
   -- what is read at the end is what a crash may leave then
   pub reads_then : (seen : D → Option (List ℕ)) (old new : D) (generation : ℕ) (checkpoint : List ℕ) → ((held : List ℕ) → seen new ≡ Some held → LeftNow moment left_at new held) → CrashOfCreate seen moment left_at old new generation checkpoint → ReadsOfCreate seen moment left_at old new generation checkpoint

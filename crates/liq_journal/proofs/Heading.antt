@@ -2,11 +2,13 @@
 use Rattle.std.proofs.Common.{◌≡◌, ℕ, suc, ◌+◌, ◌*◌, ◌≤◌, List, [], ◌∷◌, ◌++◌, length, take, drop, Option, Some, None, Result, Ok, Err, Bool, true, false, not, nat_lt, if◌then◌else◌, refl, sym, ◌∙◌, ap, subst, arith, length-take, length-drop}
 use Rattle.std.specs.Str.{bytes_eq}
 use Rattle.std.proofs.lemmas.Bool.Decides.{nat_tests}
+use Rattle.liq_types.specs.Image.{IsLimit}
 use Rattle.liq_types.specs.declared.requests.Command.{Command}
 use Rattle.liq_journal.specs.declared.damage.What.{What}
 use Rattle.liq_journal.specs.Records.{records}
-use Rattle.liq_journal.specs.Layout.{Layout, version_1, fields_size, header_size, least_header, piece, generation_on, size_on, start_on, checkpoint_on, header_digest}
+use Rattle.liq_journal.specs.Layout.{Layout, layout_with, layout_named, layout_on, fields_size, header_size, least_header, piece, name_on, generation_on, size_on, start_on, checkpoint_on, header_digest}
 use Rattle.liq_journal.specs.Written.{is_generation, is_size, first_fault, header_tests, is_absent, record_on, Written, Found, Absent, Damaged, Open, with_command, found_record, found_records, found_behind, most_records, found_in, found_on, and_then, start_of}
+use Rattle.liq_journal.proofs.Versions.{one_version}
 use Rattle.liq_journal.proofs.Reading.{piece_alike, byte_alike, length_alike, number_alike}
 
 abbrev pub AreFalse : List (Bool × What) → Type 0
@@ -27,6 +29,7 @@ no_fault (test ∷ tests) (first, rest) = ap (λ (b : Bool). if b then Some test
 
 -- an open header of this version with no fault
 pub record Headed (layout : Layout) (odd : Bool) (bytes : List ℕ) (generation : ℕ) (checkpoint : List ℕ) (start : ℕ) : Type 0 where
+  pub layout_is : layout_on bytes ≡ layout
   pub gate : is_absent bytes ≡ false
   pub tests : first_fault (header_tests layout odd bytes) ≡ None
   pub generation_is : generation_on bytes ≡ generation
@@ -34,15 +37,15 @@ pub record Headed (layout : Layout) (odd : Bool) (bytes : List ℕ) (generation 
   pub start_is : start_on layout bytes ≡ start
   pub long : start ≤ length bytes
 
-found_headed : (layout : Layout) (odd : Bool) (bytes : List ℕ) (generation : ℕ) (checkpoint : List ℕ) (start : ℕ) → Headed layout odd bytes generation checkpoint start → found_in layout odd bytes ≡ found_records generation checkpoint 1 start (records most_records (drop start bytes))
+found_headed : (layout : Layout) (odd : Bool) (bytes : List ℕ) (generation : ℕ) (checkpoint : List ℕ) (start : ℕ) → Headed layout odd bytes generation checkpoint start → found_in layout odd bytes ≡ found_records generation layout.limit checkpoint 1 start (records most_records (drop start bytes))
 found_headed layout odd bytes generation checkpoint start h =
     ap (λ (b : Bool). if b then Absent else found_behind layout bytes (first_fault (header_tests layout odd bytes))) h.gate
     ∙ ap (found_behind layout bytes) h.tests
-    ∙ (λ i. found_records (h.generation_is i) (h.checkpoint_is i) 1 (h.start_is i) (records most_records (drop (h.start_is i) bytes)))
+    ∙ (λ i. found_records (h.generation_is i) layout.limit (h.checkpoint_is i) 1 (h.start_is i) (records most_records (drop (h.start_is i) bytes)))
 
-pub found_behind_it : (odd : Bool) (bytes : List ℕ) (generation : ℕ) (checkpoint : List ℕ) (start : ℕ) → Headed version_1 odd bytes generation checkpoint start → found_on odd bytes ≡ found_records generation checkpoint 1 start (records most_records (drop start bytes))
+pub found_behind_it : (layout : Layout) (odd : Bool) (bytes : List ℕ) (generation : ℕ) (checkpoint : List ℕ) (start : ℕ) → Headed layout odd bytes generation checkpoint start → found_on odd bytes ≡ found_records generation layout.limit checkpoint 1 start (records most_records (drop start bytes))
 unfolding found_on
-found_behind_it odd bytes generation checkpoint start headed = found_headed version_1 odd bytes generation checkpoint start headed
+found_behind_it layout odd bytes generation checkpoint start headed = ap (λ (l : Layout). found_in l odd bytes) headed.layout_is ∙ found_headed layout odd bytes generation checkpoint start headed
 
 -- what was found open
 pub record RecordOpen (index : ℕ) (read : Result Command What) (rest : Found) (w : Written) : Type 0 where
@@ -58,39 +61,41 @@ record_open index (Ok command) Absent w is = absurd (cc)
 record_open index (Ok command) (Damaged damage) w is = absurd (cc)
 record_open index (Ok command) (Open others) w is = record { command = command; others = others; is = refl; behind = refl; together = cc }
 
-pub record OfRecords (generation : ℕ) (checkpoint : List ℕ) (raws : List (List ℕ)) (w : Written) : Type 0 where
+pub record OfRecords (generation limit : ℕ) (checkpoint : List ℕ) (raws : List (List ℕ)) (w : Written) : Type 0 where
   pub generation_is : w.generation ≡ generation
+  pub limit_is : w.limit ≡ limit
   pub checkpoint_is : w.checkpoint ≡ checkpoint
   pub count : length raws ≡ length w.commands
 
-pub of_records : (generation : ℕ) (checkpoint : List ℕ) (index place : ℕ) (raws : List (List ℕ)) (w : Written) → found_records generation checkpoint index place raws ≡ Open w → OfRecords generation checkpoint raws w
-of_records generation checkpoint index place [] w is =
-    let e : record { generation = generation; checkpoint = checkpoint; commands = [] } ≡ w = cc in
-    subst (λ (v : Written). OfRecords generation checkpoint [] v) e (record { generation_is = refl; checkpoint_is = refl; count = refl })
-of_records generation checkpoint index place (raw ∷ raws) w is =
-    let o = record_open index (record_on generation index (place + 1) raw) (found_records generation checkpoint (index + 1) (place + 129) raws) w is in
-    let rest = of_records generation checkpoint (index + 1) (place + 129) raws o.others o.behind in
-    subst (λ (v : Written). OfRecords generation checkpoint (raw ∷ raws) v) (sym o.together) (record { generation_is = rest.generation_is; checkpoint_is = rest.checkpoint_is; count = ap suc rest.count })
+pub of_records : (generation limit : ℕ) (checkpoint : List ℕ) (index place : ℕ) (raws : List (List ℕ)) (w : Written) → found_records generation limit checkpoint index place raws ≡ Open w → OfRecords generation limit checkpoint raws w
+of_records generation limit checkpoint index place [] w is =
+    let e : record { generation = generation; limit = limit; checkpoint = checkpoint; commands = [] } ≡ w = cc in
+    subst (λ (v : Written). OfRecords generation limit checkpoint [] v) e (record { generation_is = refl; limit_is = refl; checkpoint_is = refl; count = refl })
+of_records generation limit checkpoint index place (raw ∷ raws) w is =
+    let o = record_open index (record_on generation index (place + 1) raw) (found_records generation limit checkpoint (index + 1) (place + 129) raws) w is in
+    let rest = of_records generation limit checkpoint (index + 1) (place + 129) raws o.others o.behind in
+    subst (λ (v : Written). OfRecords generation limit checkpoint (raw ∷ raws) v) (sym o.together) (record { generation_is = rest.generation_is; limit_is = rest.limit_is; checkpoint_is = rest.checkpoint_is; count = ap suc rest.count })
 
 -- one record more
-pub found_more : (generation : ℕ) (checkpoint : List ℕ) (index place : ℕ) (raws : List (List ℕ)) (raw : List ℕ) (w : Written) (command : Command) → found_records generation checkpoint index place raws ≡ Open w → record_on generation (index + length raws) (place + 129 * length raws + 1) raw ≡ Ok command → found_records generation checkpoint index place (raws ++ raw ∷ []) ≡ Open (and_then w command)
-found_more generation checkpoint index place [] raw w command is read =
-    let e : record { generation = generation; checkpoint = checkpoint; commands = [] } ≡ w = cc in
+pub found_more : (generation limit : ℕ) (checkpoint : List ℕ) (index place : ℕ) (raws : List (List ℕ)) (raw : List ℕ) (w : Written) (command : Command) → found_records generation limit checkpoint index place raws ≡ Open w → record_on generation (index + length raws) (place + 129 * length raws + 1) raw ≡ Ok command → found_records generation limit checkpoint index place (raws ++ raw ∷ []) ≡ Open (and_then w command)
+found_more generation limit checkpoint index place [] raw w command is read =
+    let e : record { generation = generation; limit = limit; checkpoint = checkpoint; commands = [] } ≡ w = cc in
     let i : index ≡ index + 0 = omega arith in
     let p : place + 1 ≡ place + 129 * 0 + 1 = omega arith in
     let here : record_on generation index (place + 1) raw ≡ Ok command = ap (λ (n : ℕ). record_on generation n (place + 1) raw) i ∙ ap (λ (n : ℕ). record_on generation (index + 0) n raw) p ∙ read in
-    ap (λ (r : Result Command What). found_record index r (Open (record { generation = generation; checkpoint = checkpoint; commands = [] }))) here ∙ ap (λ (v : Written). Open (and_then v command)) e
-found_more generation checkpoint index place (first ∷ raws) raw w command is read =
-    let o = record_open index (record_on generation index (place + 1) first) (found_records generation checkpoint (index + 1) (place + 129) raws) w is in
+    ap (λ (r : Result Command What). found_record index r (Open (record { generation = generation; limit = limit; checkpoint = checkpoint; commands = [] }))) here ∙ ap (λ (v : Written). Open (and_then v command)) e
+found_more generation limit checkpoint index place (first ∷ raws) raw w command is read =
+    let o = record_open index (record_on generation index (place + 1) first) (found_records generation limit checkpoint (index + 1) (place + 129) raws) w is in
     let i : index + 1 + length raws ≡ index + suc (length raws) = omega arith in
     let p : place + 129 + 129 * length raws + 1 ≡ place + 129 * suc (length raws) + 1 = omega arith in
     let here : record_on generation (index + 1 + length raws) (place + 129 + 129 * length raws + 1) raw ≡ Ok command = ap (λ (n : ℕ). record_on generation n (place + 129 + 129 * length raws + 1) raw) i ∙ ap (λ (n : ℕ). record_on generation (index + suc (length raws)) n raw) p ∙ read in
-    let rest = found_more generation checkpoint (index + 1) (place + 129) raws raw o.others command o.behind here in
-    ap (λ (r : Result Command What). found_record index r (found_records generation checkpoint (index + 1) (place + 129) (raws ++ raw ∷ []))) o.is ∙ ap (with_command o.command) rest ∙ ap (λ (v : Written). Open (and_then v command)) (sym o.together)
+    let rest = found_more generation limit checkpoint (index + 1) (place + 129) raws raw o.others command o.behind here in
+    ap (λ (r : Result Command What). found_record index r (found_records generation limit checkpoint (index + 1) (place + 129) (raws ++ raw ∷ []))) o.is ∙ ap (with_command o.command) rest ∙ ap (λ (v : Written). Open (and_then v command)) (sym o.together)
 
 pub record IsOpen (layout : Layout) (odd : Bool) (bytes : List ℕ) (w : Written) (start : ℕ) : Type 0 where
   pub headed : Headed layout odd bytes w.generation w.checkpoint start
-  pub behind : found_records w.generation w.checkpoint 1 start (records most_records (drop start bytes)) ≡ Open w
+  pub limit_is : w.limit ≡ layout.limit
+  pub behind : found_records w.generation w.limit w.checkpoint 1 start (records most_records (drop start bytes)) ≡ Open w
 
 module _ (layout : Layout) (odd : Bool) (bytes : List ℕ) (w : Written) where
   found_cases : (b : Bool) (fault : Option What) → (if b then Absent else found_behind layout bytes fault) ≡ Open w → (b ≡ false) × ((fault ≡ None) × (found_behind layout bytes None ≡ Open w))
@@ -98,16 +103,17 @@ module _ (layout : Layout) (odd : Bool) (bytes : List ℕ) (w : Written) where
   found_cases false (Some what) is = absurd (cc)
   found_cases false None is = (refl, (refl, is))
 
-  open_in : found_in layout odd bytes ≡ Open w → IsOpen layout odd bytes w (header_size layout + length w.checkpoint)
-  open_in is =
+  open_in : layout_on bytes ≡ layout → found_in layout odd bytes ≡ Open w → IsOpen layout odd bytes w (header_size layout + length w.checkpoint)
+  open_in layout_is is =
       let cases = found_cases (is_absent bytes) (first_fault (header_tests layout odd bytes)) is in
       let all = are_false (header_tests layout odd bytes) cases.1.0 in
       let long : start_on layout bytes ≤ length bytes = let e = all.1.1.1.1.0 in grind (arith, nat_tests) in
-      let of = of_records (generation_on bytes) (checkpoint_on layout bytes) 1 (start_on layout bytes) (records most_records (drop (start_on layout bytes) bytes)) w cases.1.1 in
+      let of = of_records (generation_on bytes) layout.limit (checkpoint_on layout bytes) 1 (start_on layout bytes) (records most_records (drop (start_on layout bytes) bytes)) w cases.1.1 in
       let size : length w.checkpoint ≡ size_on bytes = ap length of.checkpoint_is ∙ length-take (size_on bytes) (drop (header_size layout) bytes) ∙ (let l = length-drop (header_size layout) bytes in omega (arith, l, long)) in
       let start : start_on layout bytes ≡ header_size layout + length w.checkpoint = ap (λ (n : ℕ). header_size layout + n) (sym size) in
       record {
         headed = record {
+          layout_is = layout_is;
           gate = cases.0;
           tests = cases.1.0;
           generation_is = sym of.generation_is;
@@ -115,18 +121,26 @@ module _ (layout : Layout) (odd : Bool) (bytes : List ℕ) (w : Written) where
           start_is = start;
           long = subst (λ (n : ℕ). n ≤ length bytes) start long;
         };
-        behind = (λ i. found_records (of.generation_is i) (of.checkpoint_is i) 1 (sym start i) (records most_records (drop (sym start i) bytes))) ∙ cases.1.1;
+        limit_is = of.limit_is;
+        behind = (λ i. found_records (of.generation_is i) (of.limit_is i) (of.checkpoint_is i) 1 (sym start i) (records most_records (drop (sym start i) bytes))) ∙ cases.1.1;
       }
 
-pub is_open : (odd : Bool) (bytes : List ℕ) (w : Written) → found_on odd bytes ≡ Open w → IsOpen version_1 odd bytes w (start_of w)
+pub is_open : (odd : Bool) (bytes : List ℕ) (w : Written) → found_on odd bytes ≡ Open w → IsOpen (layout_on bytes) odd bytes w (start_of w)
 unfolding found_on
-is_open odd bytes w is = open_in version_1 odd bytes w is
+is_open odd bytes w is =
+    let o = open_in (layout_on bytes) odd bytes w refl is in
+    let same : layout_on bytes ≡ layout_with w.limit = sym (one_version bytes).by_limit ∙ ap layout_with (sym o.limit_is) in
+    subst (IsOpen (layout_on bytes) odd bytes w) (ap (λ (l : Layout). header_size l + length w.checkpoint) same) o
+
+-- and its limit is one of two
+pub has_limit : (odd : Bool) (bytes : List ℕ) (w : Written) → found_on odd bytes ≡ Open w → IsLimit w.limit
+has_limit odd bytes w found = subst IsLimit (sym (is_open odd bytes w found).limit_is) (one_version bytes).limit
 
 -- an open disk's generation is one that it may have
 pub has_generation : (odd : Bool) (bytes : List ℕ) (w : Written) → found_on odd bytes ≡ Open w → is_generation odd w.generation ≡ true
 has_generation odd bytes w found =
     let headed = (is_open odd bytes w found).headed in
-    let all = are_false (header_tests version_1 odd bytes) headed.tests in
+    let all = are_false (header_tests (layout_on bytes) odd bytes) headed.tests in
     ap (is_generation odd) (sym headed.generation_is) ∙ is_true (is_generation odd (generation_on bytes)) all.1.0
   where
     is_true : (b : Bool) → not b ≡ false → b ≡ true
@@ -135,7 +149,7 @@ has_generation odd bytes w found =
 
 pub absent_found : (odd : Bool) (bytes : List ℕ) → is_absent bytes ≡ true → found_on odd bytes ≡ Absent
 unfolding found_on
-absent_found odd bytes is = ap (λ (b : Bool). if b then Absent else found_behind version_1 bytes (first_fault (header_tests version_1 odd bytes))) is
+absent_found odd bytes is = ap (λ (b : Bool). if b then Absent else found_behind (layout_on bytes) bytes (first_fault (header_tests (layout_on bytes) odd bytes))) is
 
 -- the same bytes up to its end are the same header
 module _ (layout : Layout) (odd : Bool) (held image : List ℕ) (generation : ℕ) (checkpoint : List ℕ) (start m : ℕ) (h : Headed layout odd held generation checkpoint start) (within : start ≤ m) (alike : take m image ≡ take m held) (there : m ≤ length held) where
@@ -144,6 +158,9 @@ module _ (layout : Layout) (odd : Bool) (held image : List ℕ) (generation : �
 
   same_piece : (place count : ℕ) → place + count ≤ header_size layout → piece place count image ≡ piece place count held
   same_piece place count fits = piece_alike m held image alike place count (omega (arith, at_least, fits))
+
+  same_layout : layout_on image ≡ layout
+  same_layout = ap layout_named (same_piece 1 8 (omega arith)) ∙ h.layout_is
 
   same_generation : generation_on image ≡ generation_on held
   same_generation = number_alike m held image alike 9 8 (omega (arith, at_least))
@@ -193,6 +210,7 @@ module _ (layout : Layout) (odd : Bool) (held image : List ℕ) (generation : �
 
   headed_alike : Headed layout odd image generation checkpoint start
   headed_alike = record {
+    layout_is = same_layout;
     gate = same_absent;
     tests = same_tests;
     generation_is = same_generation ∙ h.generation_is;
@@ -202,7 +220,9 @@ module _ (layout : Layout) (odd : Bool) (held image : List ℕ) (generation : �
   }
 
 -- so they decide it
-pub header_decides : (odd : Bool) (held image : List ℕ) (w : Written) (m : ℕ) → found_on odd held ≡ Open w → start_of w ≤ m → m ≤ length held → take m image ≡ take m held → found_on odd image ≡ found_records w.generation w.checkpoint 1 (start_of w) (records most_records (drop (start_of w) image))
+pub header_decides : (odd : Bool) (held image : List ℕ) (w : Written) (m : ℕ) → found_on odd held ≡ Open w → start_of w ≤ m → m ≤ length held → take m image ≡ take m held → found_on odd image ≡ found_records w.generation w.limit w.checkpoint 1 (start_of w) (records most_records (drop (start_of w) image))
 header_decides odd held image w m found within there alike =
-    found_behind_it odd image w.generation w.checkpoint (start_of w)
-    (headed_alike version_1 odd held image w.generation w.checkpoint (start_of w) m (is_open odd held w found).headed within alike there)
+    let o = is_open odd held w found in
+    found_behind_it (layout_on held) odd image w.generation w.checkpoint (start_of w)
+    (headed_alike (layout_on held) odd held image w.generation w.checkpoint (start_of w) m o.headed within alike there)
+    ∙ ap (λ (limit : ℕ). found_records w.generation limit w.checkpoint 1 (start_of w) (records most_records (drop (start_of w) image))) (sym o.limit_is)

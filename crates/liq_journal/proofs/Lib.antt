@@ -12,5 +12,6 @@ mod Parting
 pub mod Reading
 mod Scanning
 mod Settling
-mod Testing
+pub mod Testing
 mod Told
+mod Versions

@@ -2,6 +2,7 @@
 use Rattle.std.specs.Prelude.{◌≡◌, ◌⊎◌, ℕ, ◌+◌, ◌<◌, Bool, false}
 use Rattle.std.specs.Prelude.{List, [], ◌∷◌, length, take, get_or, Option, Some, Ok}
 use Rattle.liq_outside.specs.Disk.{LeavesOnly, LeftNow, Only, Torn, overwritten}
+use Rattle.liq_types.specs.declared.amounts.TheConstants.{LIM}
 use Rattle.liq_types.specs.declared.requests.Command.{Command}
 use Rattle.liq_wire.specs.Fields.{command_of}
 use Rattle.liq_journal.specs.Layout.{Layout, header_size, header_of, least_header}
@@ -48,7 +49,8 @@ SettleLeaves place held bytes = (bytes ≡ held) ⊎ ((HasGate place held → �
 
 -- what is written by a creation
 abbrev pub beginning : ℕ → List ℕ → Written
-beginning generation checkpoint = record { generation = generation; checkpoint = checkpoint; commands = [] }
+beginning generation checkpoint =
+    record { generation = generation; limit = LIM; checkpoint = checkpoint; commands = [] }
 
 -- A stop within a creation leaves nothing that is open, or what was there, with some byte at place 0 where no 0 is, or
 -- what is made, with any byte there.

@@ -1,24 +1,26 @@
 -- What a header is found to be, before its digest is tested.
-use Rattle.std.specs.Prelude.{◌≡◌, ◌≤◌, ℕ, List, length, Bool, false, Option, Some, None, Ok, Err}
+use Rattle.std.specs.Prelude.{◌≡◌, ◌≤◌, ℕ, List, length, take, Bool, false, Option, Some, None, Ok, Err}
 use Rattle.liq_wire.specs.Fields.{first_place}
 use Rattle.liq_journal.specs.declared.head.Head.{Head}
 use Rattle.liq_journal.specs.Look.{look_on}
 use Rattle.liq_journal.specs.declared.answers.Look.TheVariants.{Absent}
 use Rattle.liq_journal.specs.declared.answers.LookFault.{LookFault}
 use Rattle.liq_journal.specs.declared.answers.LookFault.TheVariants as fault
-use Rattle.liq_journal.specs.Layout.{Layout, version_1, generation_on, size_on, fields_on, stored_on, start_on}
+use Rattle.liq_journal.specs.Layout.{Layout, layout_on, layout_with, fields_size, generation_on, size_on, fields_on, stored_on, start_on}
 use Rattle.liq_journal.specs.Written.{is_absent, place_tests}
 
--- the fields of these bytes
+-- the version, and the fields of these bytes
 pub record HasFields (layout : Layout) (head : Head) (bytes : List ℕ) : Type 0 where
+  pub limit : head.limit ≡ layout.limit
   pub generation : head.generation ≡ generation_on bytes
   pub size : head.size ≡ size_on bytes
-  pub fields : head.fields ≡ fields_on layout bytes
+  pub fields : take (fields_size layout) head.fields ≡ fields_on layout bytes
   pub stored : head.stored ≡ stored_on layout bytes
 
--- an open header whose fields are right and whose checkpoint is there
+-- an open header of this version, whose fields are right and whose checkpoint is there
 pub record IsHeadOf (layout : Layout) (odd : Bool) (held : List ℕ) (head : Head) : Type 0 where
   pub gate : is_absent held ≡ false
+  pub layout_is : layout_on held ≡ layout
   pub places : first_place (place_tests layout odd held) ≡ None
   pub long : start_on layout held ≤ length held
   pub fields : HasFields layout head held
@@ -26,7 +28,7 @@ pub record IsHeadOf (layout : Layout) (odd : Bool) (held : List ℕ) (head : Hea
 -- a header, or none
 abbrev pub MaybeHeadOf : Bool → List ℕ → Option Head → Type 0
 MaybeHeadOf odd held None = look_on odd held ≡ Ok Absent
-MaybeHeadOf odd held (Some head) = IsHeadOf version_1 odd held head
+MaybeHeadOf odd held (Some head) = IsHeadOf (layout_with head.limit) odd held head
 
 -- the damage of the header
 abbrev pub IsDamageOf : Bool → List ℕ → LookFault → Type 0

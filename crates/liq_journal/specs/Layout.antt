@@ -1,19 +1,36 @@
 -- What stands where in a header. The gate is at place 0, the name from place 1 on, the generation at place 9, and the
 -- checkpoint's length at place 17. Then come the fields that only one version has, the digest, and the checkpoint.
-use Rattle.std.specs.Prelude.{◌≡◌, ◌≤◌, ℕ, ◌+◌, ◌^◌}
+use Rattle.std.specs.Prelude.{◌≡◌, ◌≤◌, ℕ, ◌+◌, ◌^◌, ◌==◌, if◌then◌else◌}
 use Rattle.std.specs.Prelude.{List, [], ◌∷◌, ◌++◌, length, take, drop}
+use Rattle.std.specs.Str.{bytes_eq}
 use Rattle.byteorder.specs.Endian.{big_bytes}
 use Rattle.sha2.specs.Sha256.{sha256}
+use Rattle.liq_types.specs.declared.amounts.TheConstants.{LIM, LIM_OF_VERSION_1}
+use Rattle.liq_types.specs.Image.{IsLimit}
 use Rattle.liq_wire.specs.Fields.{number_at}
 
--- A version of the header: its name, and the bytes of the fields of its own, which are the same in each header of it.
+-- A version of the header: its name, the bytes of the fields of its own, which are the same in each header of it, and
+-- the limit under which the commands behind it are.
 pub record Layout : Type 0 where
   pub name : List ℕ
   pub own : List ℕ
+  pub limit : ℕ
 
 -- LIQJRNL1, with no field of its own
 abbrev pub version_1 : Layout
-version_1 = record { name = 76 ∷ 73 ∷ 81 ∷ 74 ∷ 82 ∷ 78 ∷ 76 ∷ 49 ∷ []; own = [] }
+version_1 = record { name = 76 ∷ 73 ∷ 81 ∷ 74 ∷ 82 ∷ 78 ∷ 76 ∷ 49 ∷ []; own = []; limit = LIM_OF_VERSION_1 }
+
+-- LIQJRNL2, with the limit as a field
+abbrev pub version_2 : Layout
+version_2 = record { name = 76 ∷ 73 ∷ 81 ∷ 74 ∷ 82 ∷ 78 ∷ 76 ∷ 50 ∷ []; own = big_bytes 8 LIM; limit = LIM }
+
+-- the version with this limit
+abbrev pub layout_with : ℕ → Layout
+layout_with limit = if limit == LIM then version_2 else version_1
+
+-- the version with this name, which is the first where it isn't the second's
+abbrev pub layout_named : List ℕ → Layout
+layout_named name = if bytes_eq name version_2.name then version_2 else version_1
 
 -- between the gate and the digest
 abbrev pub fields_size : Layout → ℕ
@@ -26,15 +43,29 @@ header_size layout = 1 + fields_size layout + 32
 abbrev pub least_header : ℕ
 least_header = 57
 
+-- and the most
+abbrev pub greatest_header : ℕ
+greatest_header = 65
+
 -- the farthest place where records may begin: behind a header and the most bytes of a checkpoint
 abbrev pub start_most : ℕ
-start_most = header_size version_1 + 2 ^ 36
+start_most = greatest_header + 2 ^ 36
 
--- What a version has to meet: its name fills the places up to the generation, and its fields end within the least
--- header.
+-- The limit is one of two, and the place is behind a header of its version and a checkpoint.
+pub record StartsWithin (limit start : ℕ) : Type 0 where
+  pub is_limit : IsLimit limit
+  pub least : header_size (layout_with limit) ≤ start
+  pub most : start ≤ header_size (layout_with limit) + 2 ^ 36
+
+-- What a version has to meet: its name fills the places up to the generation, its fields end within the least header,
+-- the header ends within the greatest, and the version is known by its name and by its limit.
 pub record IsVersion (layout : Layout) : Type 0 where
   pub named : length layout.name ≡ 8
   pub fields : 1 + fields_size layout ≤ least_header
+  pub whole : header_size layout ≤ greatest_header
+  pub limit : IsLimit layout.limit
+  pub by_name : layout_named layout.name ≡ layout
+  pub by_limit : layout_with layout.limit ≡ layout
 
 -- so many bytes from a place on
 abbrev pub piece : ℕ → ℕ → List ℕ → List ℕ
@@ -42,6 +73,10 @@ piece place count bytes = take count (drop place bytes)
 
 abbrev pub name_on : List ℕ → List ℕ
 name_on bytes = piece 1 8 bytes
+
+-- the version of a header
+abbrev pub layout_on : List ℕ → Layout
+layout_on bytes = layout_named (name_on bytes)
 
 abbrev pub generation_on : List ℕ → ℕ
 generation_on bytes = number_at 9 8 bytes

@@ -5,7 +5,7 @@ use Rattle.liq_journal.specs.declared.answers.Look.{Look}
 use Rattle.liq_journal.specs.declared.answers.Look.TheVariants.{Absent, Open}
 use Rattle.liq_journal.specs.declared.answers.LookFault.{LookFault}
 use Rattle.liq_journal.specs.declared.answers.LookFault.TheVariants.{Damaged}
-use Rattle.liq_journal.specs.Layout.{Layout, version_1, generation_on}
+use Rattle.liq_journal.specs.Layout.{Layout, layout_on, generation_on}
 use Rattle.liq_journal.specs.Written.{first_fault, header_tests, is_absent}
 
 -- by the first fault of the header of a disk whose gate is open
@@ -20,4 +20,4 @@ look_in layout odd bytes =
     if is_absent bytes then Ok Absent else look_behind bytes fault
 
 unfoldable pub look_on : Bool → List ℕ → Result Look LookFault
-look_on odd bytes = look_in version_1 odd bytes
+look_on odd bytes = look_in (layout_on bytes) odd bytes

@@ -19,6 +19,7 @@ pub record IsScanOf (odd : Bool) (held : List ℕ) (scanned : Scanned) : Type 0 
   pub written : Written
   pub found : found_on odd held ≡ Open written
   pub generation_is : written.generation ≡ scanned.generation
+  pub limit_is : written.limit ≡ scanned.limit
   pub checkpoint_is : written.checkpoint ≡ scanned.checkpoint.items
   pub start_is : start_of written ≡ scanned.start
   pub count_is : length written.commands ≡ scanned.count
@@ -65,10 +66,11 @@ IsAtRest why.NoMemory = Unit {0}
 IsAtRest (why.Damaged damage) = Unit {0}
 
 -- what was found is what the journal and the bytes of the checkpoint are
-pub record IsOpened (odd : Bool) (held : List ℕ) (generation start count : ℕ) (checkpoint : List ℕ) : Type 0 where
+pub record IsOpened (odd : Bool) (held : List ℕ) (generation limit start count : ℕ) (checkpoint : List ℕ) : Type 0 where
   pub written : Written
   pub found : found_on odd held ≡ Open written
   pub generation_is : written.generation ≡ generation
+  pub limit_is : written.limit ≡ limit
   pub start_is : start_of written ≡ start
   pub count_is : length written.commands ≡ count
   pub checkpoint_is : written.checkpoint ≡ checkpoint

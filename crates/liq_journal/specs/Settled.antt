@@ -7,6 +7,7 @@ use Rattle.liq_journal.specs.Crash.{Stands, is_odd}
 pub record JournalOn (D : Type 0) : Type 0 where
   pub disk : D
   pub generation : ℕ
+  pub limit : ℕ
   -- where the records begin
   pub start : ℕ
   -- how many there are

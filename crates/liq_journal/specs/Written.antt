@@ -13,7 +13,7 @@ use Rattle.liq_outside.specs.Disk.{overwritten}
 use Rattle.liq_journal.specs.declared.damage.Damage.{Damage}
 use Rattle.liq_journal.specs.declared.damage.What.{What}
 use Rattle.liq_journal.specs.declared.damage.What.TheVariants.{Digest, Form}
-use Rattle.liq_journal.specs.Layout.{Layout, version_1, header_size, least_header, name_on, generation_on, size_on}
+use Rattle.liq_journal.specs.Layout.{Layout, layout_on, layout_with, header_size, least_header, name_on, generation_on, size_on}
 use Rattle.liq_journal.specs.Layout.{own_on, stored_on, checkpoint_on, start_on, digest_on}
 use Rattle.liq_journal.specs.Records.{records}
 
@@ -87,9 +87,10 @@ record_on generation index place raw =
     then Err (Digest (drop 96 raw) (record_digest generation index (take 96 raw)))
     else command_from place (command_of (take 96 raw))
 
--- what is written in a journal
+-- what is written in a journal, and the limit of its version
 pub record Written : Type 0 where
   pub generation : ℕ
+  pub limit : ℕ
   pub checkpoint : List ℕ
   pub commands : List Command
 
@@ -108,12 +109,12 @@ found_record index (Ok command) rest = with_command command rest
 found_record index (Err what) rest = Damaged (record { index = index; what = what })
 
 -- the records from this one on, whose gate stands at the place
-abbrev pub found_records : ℕ → List ℕ → ℕ → ℕ → List (List ℕ) → Found
-found_records generation checkpoint index place [] =
-    Open (record { generation = generation; checkpoint = checkpoint; commands = [] })
-found_records generation checkpoint index place (raw ∷ raws) =
+abbrev pub found_records : ℕ → ℕ → List ℕ → ℕ → ℕ → List (List ℕ) → Found
+found_records generation limit checkpoint index place [] =
+    Open (record { generation = generation; limit = limit; checkpoint = checkpoint; commands = [] })
+found_records generation limit checkpoint index place (raw ∷ raws) =
     found_record index (record_on generation index (place + 1) raw)
-    (found_records generation checkpoint (index + 1) (place + 129) raws)
+    (found_records generation limit checkpoint (index + 1) (place + 129) raws)
 
 -- one record more than a replay accepts
 abbrev pub most_records : ℕ
@@ -122,7 +123,7 @@ most_records = 1000001
 abbrev pub found_behind : Layout → List ℕ → Option What → Found
 found_behind layout bytes (Some what) = Damaged (record { index = 0; what = what })
 found_behind layout bytes None =
-    found_records (generation_on bytes) (checkpoint_on layout bytes) 1 (start_on layout bytes)
+    found_records (generation_on bytes) layout.limit (checkpoint_on layout bytes) 1 (start_on layout bytes)
     (records most_records (drop (start_on layout bytes) bytes))
 
 -- by the tests of this version
@@ -132,11 +133,11 @@ found_in layout odd bytes =
     if is_absent bytes then Absent else found_behind layout bytes fault
 
 unfoldable pub found_on : Bool → List ℕ → Found
-found_on odd bytes = found_in version_1 odd bytes
+found_on odd bytes = found_in (layout_on bytes) odd bytes
 
 -- the place behind the checkpoint, where the first record's gate stands
 abbrev pub start_of : Written → ℕ
-start_of w = header_size version_1 + length w.checkpoint
+start_of w = header_size (layout_with w.limit) + length w.checkpoint
 
 -- the place behind the last record, where the next one's gate stands
 abbrev pub end_of : Written → ℕ

@@ -15,7 +15,7 @@ impl From<Failed> for DiskFault {
 /// What a look at a disk tells.
 #[derive(Clone, Copy)]
 pub enum Look {
-    /// No journal is open on it: it has fewer bytes than a header, or its gate isn't open.
+    /// No journal is open on it: it has fewer than 57 bytes, or its gate isn't open.
     Absent,
     Open { generation: u64 },
 }
@@ -36,7 +36,7 @@ pub struct CreateFault<D> {
 /// Why no journal was opened.
 #[derive(Clone, Copy)]
 pub enum OpenWhy {
-    /// There is none: the disk has fewer bytes than a header, or its gate isn't open.
+    /// There is none: the disk has fewer than 57 bytes, or its gate isn't open.
     Absent,
     DiskFault,
     Damaged(Damage),

@@ -3,7 +3,7 @@ ghost use Rattle.std.specs.Prelude.{◌≡◌, ◌≤◌, ◌+◌, ◌^◌, ◌�
 ghost use Rattle.liq_outside.specs.Disk.{GoesOn, LeavesOnly, LeftNow, Only, overwritten};
 ghost use Rattle.liq_outside.specs.Faults.{HasCause};
 ghost use Rattle.liq_journal.specs.Crash.{CrashOfCreate, ReadsOfCreate, IsShut, Stands, beginning, filled, is_odd};
-ghost use Rattle.liq_journal.specs.Layout.{version_1};
+ghost use Rattle.liq_journal.specs.Layout.{version_2};
 ghost use Rattle.liq_journal.specs.Written.{is_size};
 
 use crate::bytes::write_synced;
@@ -29,11 +29,11 @@ pub fn write_behind<D: Disk>(disk: &mut D, at: u64, bytes: &[u8]) -> Result<(), 
     disk.write_at(at, bytes)
 }
 
-// Writes the header, the checkpoint and the first record's shut gate behind the shut gate, and syncs.
+// Writes the header of version 2, the checkpoint and the first record's shut gate behind the shut gate, and syncs.
 pub fn fill<D: Disk>(disk: &mut D, generation: u64, checkpoint: &[u8]) -> Result<(), Failed>
     requires there { IfSome (D.seen disk.old) (λ held. 1 ≤ length held) }
     requires limit { length checkpoint.now ≤ 2 ^ 36 }
-    ensures filled { OnOk result (D.seen disk.new ≡ option_map (filled version_1 generation checkpoint.now) (D.seen disk.old)) }
+    ensures filled { OnOk result (D.seen disk.new ≡ option_map (filled version_2 generation checkpoint.now) (D.seen disk.old)) }
     ensures durable { OnOk result (IfSome (D.seen disk.new) (λ after. Only after (LeftNow D.moment D.left_at disk.new))) }
     ensures telling { IsSome (D.seen disk.new) ↔ IsSome (D.seen disk.old) }
     ensures crash { ((image : List ℕ) → LeftNow D.moment D.left_at disk.old image → IsShut image) → LeavesOnly D.moment D.left_at disk.old disk.new IsShut }

@@ -1,10 +1,11 @@
 // The digests of a journal, and the bytes of a record.
 ghost use Rattle.std.specs.Prelude.{◌≡◌, ◌≤◌, ◌+◌, ◌++◌, ◌∷◌, [], length, take, drop};
 ghost use Rattle.byteorder.specs.Endian.{big_bytes};
-ghost use Rattle.liq_journal.specs.Layout.{fields_of, header_digest, header_of, version_1};
+ghost use Rattle.liq_journal.specs.Layout.{fields_of, header_digest, header_of, version_2};
 ghost use Rattle.liq_journal.specs.Written.{record_digest};
 
 use byteorder::{BigEndian, ByteOrder};
+use liq_types::amounts::LIM;
 use sha2::{Digest, Sha256};
 
 pub fn number(n: u64) -> [u8; 8]
@@ -42,20 +43,22 @@ pub fn put(bytes: &mut [u8], at: usize, part: &[u8])
     bytes[at..at + part.len()].copy_from_slice(part);
 }
 
-// The fields of a header in front of its digest, from place 1 on.
-pub fn header_fields(generation: u64, size: u64) -> [u8; 24]
-    ensures { result ≡ fields_of version_1 generation size }
+// The fields of a header in front of its digest, from place 1 on: of version 2, which alone is written.
+pub fn header_fields(generation: u64, size: u64) -> [u8; 32]
+    ensures { result ≡ fields_of version_2 generation size }
 {
     let mut bytes = [
-        76, 73, 81, 74, 82, 78, 76, 49, 0, 0, 0, 0, 0, 0, 0, 0, 0, 0, 0, 0, 0, 0, 0, 0,
+        76, 73, 81, 74, 82, 78, 76, 50, 0, 0, 0, 0, 0, 0, 0, 0, 0, 0, 0, 0, 0, 0, 0, 0, 0, 0, 0, 0,
+        0, 0, 0, 0,
     ];
     put(&mut bytes, 8, &number(generation));
     put(&mut bytes, 16, &number(size));
+    put(&mut bytes, 24, &number(LIM));
     bytes
 }
 
 // The digest of a header's fields and the checkpoint.
-pub fn header_digest(fields: &[u8; 24], checkpoint: &[u8]) -> [u8; 32]
+pub fn header_digest(fields: &[u8], checkpoint: &[u8]) -> [u8; 32]
     ensures { result ≡ header_digest fields.now checkpoint.now }
 {
     let mut hasher = Sha256::new();
@@ -65,12 +68,12 @@ pub fn header_digest(fields: &[u8; 24], checkpoint: &[u8]) -> [u8; 32]
 }
 
 // A header behind the gate at place 0.
-pub fn header_bytes(generation: u64, checkpoint: &[u8]) -> [u8; 56]
-    ensures { result ≡ header_of version_1 generation checkpoint.now }
+pub fn header_bytes(generation: u64, checkpoint: &[u8]) -> [u8; 64]
+    ensures { result ≡ header_of version_2 generation checkpoint.now }
 {
     let fields = header_fields(generation, checkpoint.len() as u64);
-    let mut bytes = [0; 56];
+    let mut bytes = [0; 64];
     put(&mut bytes, 0, &fields);
-    put(&mut bytes, 24, &header_digest(&fields, checkpoint));
+    put(&mut bytes, 32, &header_digest(&fields, checkpoint));
     bytes
 }

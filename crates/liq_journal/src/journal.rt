@@ -1,7 +1,9 @@
 // A journal that is open.
 ghost use Rattle.std.specs.Prelude.{◌≡◌, ◌≤◌, ◌<◌, ◌+◌, ◌^◌, ◌↔◌, Some, List, ℕ, true, length, OnOk, OnErr, IfOk, IfErr, IfSome, IsSome};
 ghost use Rattle.std.specs.Result.{MatchResult};
+ghost use Rattle.liq_types.specs.declared.amounts.TheConstants.{LIM};
 ghost use Rattle.liq_types.specs.declared.requests.Command.{Command};
+ghost use Rattle.liq_types.specs.Image.{IsLimit};
 ghost use Rattle.liq_outside.specs.Disk.{GoesOn, LeavesOnly, LeftNow, Only};
 ghost use Rattle.liq_outside.specs.Faults.{HasCause};
 ghost use Rattle.liq_journal.specs.Bodies.{IsAccepted, IsBodyFault, IsJournalOf, IsRecorded, body_at};
@@ -24,6 +26,7 @@ use crate::records::{read_body, read_command};
 use crate::scanned::Scanned;
 use liq_outside::Disk;
 use liq_types::Command;
+use liq_types::amounts::LIM;
 use std::alloc::Global;
 use std::marker::Model;
 use std::mem;
@@ -31,12 +34,13 @@ use std::mem;
 // A gate byte, 96 bytes of a command and 32 of their digest.
 pub const RECORD: u64 = 129;
 
-/// A journal on a disk. A contract sees the disk, the generation, the place of the first record's gate
+/// A journal on a disk. A contract sees the disk, the generation, the limit, the place of the first record's gate
 /// and the number of records.
 #[derive(Drop)]
 pub struct Journal<D> {
     disk: D,
     generation: u64,
+    limit: u64,
     start: u64,
     count: u64,
 }
@@ -44,19 +48,20 @@ pub struct Journal<D> {
 impl<D> Model for Journal<D> {
     ghost use Rattle.std.specs.Prelude.{◌≤◌};
     ghost use Rattle.liq_journal.specs.Opened.{CrashOfOpen, IsAtRest, IsKept, IsOpened, IsUnshut, IsWhyOf, ReadsOfOpen};
-    ghost use Rattle.liq_journal.specs.Layout.{start_most};
+    ghost use Rattle.liq_journal.specs.Layout.{StartsWithin};
     ghost use Rattle.liq_journal.specs.Settled.{JournalOn};
 
     ghost Value = { JournalOn D };
 
-    ghost view = { λ j. record { disk = j.disk; generation = j.generation; start = j.start; count = j.count } };
+    ghost view = { λ j. record { disk = j.disk; generation = j.generation; limit = j.limit; start = j.start; count = j.count } };
 
-    // The records begin behind a header and at most 2^36 bytes; a scan counts one record past the last that may be.
-    ghost invariant = { λ j. (j.start ≤ start_most) × (j.count ≤ 1000001) };
+    // The limit tells the version, and the records begin behind its header and at most 2^36 bytes; a scan counts one record
+    // past the last that may be.
+    ghost invariant = { λ j. (1 ≤ j.generation) × StartsWithin j.limit j.start × (j.count ≤ 1000001) };
 }
 
 impl<D: Disk> Journal<D> {
-    /// A new journal on this disk, without records. The generation is at least 1, and the checkpoint has
+    /// A new journal of version 2 on this disk, without records. The generation is at least 1, and the checkpoint has
     /// at most 2^36 bytes, and none exactly in generation 1.
     ///
     /// A crash in it leaves a disk on which none is open, or the disk as it was, or with another byte at
@@ -66,7 +71,7 @@ impl<D: Disk> Journal<D> {
         requires limit { length checkpoint.now ≤ 2 ^ 36 }
         requires size { is_size generation (length checkpoint.now) ≡ true }
 
-        ensures known { IfOk result (λ j. (j.generation ≡ generation) × (j.start ≡ start_of (beginning generation checkpoint.now)) × (j.count ≡ 0)) }
+        ensures known { IfOk result (λ j. (j.generation ≡ generation) × (j.limit ≡ LIM) × (j.start ≡ start_of (beginning generation checkpoint.now)) × (j.count ≡ 0)) }
         ensures created { IfOk result (λ j. (held : List ℕ) → D.seen disk ≡ Some held
             → (after : List ℕ) × (D.seen j.disk ≡ Some after) × Stands (is_odd generation) after (beginning generation checkpoint.now)) }
         ensures settled { IfOk result (λ j. IfSome (D.seen j.disk) (IsSettled j.generation j.start j.count)) }
@@ -85,6 +90,7 @@ impl<D: Disk> Journal<D> {
             Ok(()) => Ok(Journal {
                 disk,
                 generation,
+                limit: LIM,
                 start: HEADER + checkpoint.len() as u64,
                 count: 0,
             }),
@@ -92,9 +98,8 @@ impl<D: Disk> Journal<D> {
         }
     }
 
-    /// Begins the next generation on the other disk, with this checkpoint and without records. That disk is then this
-    /// journal's, and `beside` is the one that the journal had, as it was. The checkpoint has at most 2^36 bytes, and
-    /// none exactly in generation 1.
+    /// Begins the next generation on the other disk, of version 2, with this checkpoint and without records. That disk is
+    /// then this journal's, and `beside` is the one that the journal had, as it was. The checkpoint has 1 to 2^36 bytes.
     ///
     /// After `DiskFault` the journal is as it was, on its own disk. A crash leaves of the other disk what one in
     /// `create` leaves.
@@ -105,7 +110,7 @@ impl<D: Disk> Journal<D> {
 
         ensures exchanged { OnOk result (beside.new ≡ self.old.disk) }
         ensures kept { OnErr result (self.new ≡ self.old) }
-        ensures known { OnOk result ((self.new.generation ≡ self.old.generation + 1)
+        ensures known { OnOk result ((self.new.generation ≡ self.old.generation + 1) × (self.new.limit ≡ LIM)
             × (self.new.start ≡ start_of (beginning (self.old.generation + 1) checkpoint.now)) × (self.new.count ≡ 0)) }
 
         // The disk that was beside is the journal's at `Ok`, and still beside after a fault.
@@ -143,18 +148,19 @@ impl<D: Disk> Journal<D> {
         make(beside, generation, checkpoint)?;
         mem::swap(&mut self.disk, beside);
         self.generation = generation;
+        self.limit = LIM;
         self.start = HEADER + checkpoint.len() as u64;
         self.count = 0;
         Ok(())
     }
 
-    /// Opens the journal of a disk, and gives the checkpoint's bytes; `odd` says whether this disk has the
-    /// odd generations. It begins with a sync, tests all of the disk, and shuts the byte behind the last
-    /// whole record, or place 0 of a disk on which none is open.
+    /// Opens the journal of a disk, of either version, and gives the checkpoint's bytes; `odd` says whether
+    /// this disk has the odd generations. It begins with a sync, tests all of the disk, and shuts the byte
+    /// behind the last whole record, or place 0 of a disk on which none is open.
     ///
     /// `Absent` comes where none is open, `Damaged` with the disk's first fault, `NoMemory` for want of it.
     pub fn open(alloc: Global, disk: D, odd: bool) -> Result<(Journal<D>, Vec<u8>), OpenFault<D>>
-        ensures found { IfOk result (λ r. IfSome (D.seen disk) (λ held. IsOpened odd held r.0.generation r.0.start r.0.count r.1.items)) }
+        ensures found { IfOk result (λ r. IfSome (D.seen disk) (λ held. IsOpened odd held r.0.generation r.0.limit r.0.start r.0.count r.1.items)) }
         // It is one that this disk may have, also where the disk tells nothing.
         ensures generation { IfOk result (λ r. is_generation odd r.0.generation ≡ true) }
         ensures stands { IfOk result (λ r. (held : List ℕ) (w : Written) → D.seen disk ≡ Some held → found_on odd held ≡ Open w → IfSome (D.seen r.0.disk) (λ after. Stands odd after w)) }
@@ -175,6 +181,7 @@ impl<D: Disk> Journal<D> {
             Ok(scanned) => {
                 let Scanned {
                     generation,
+                    limit,
                     start,
                     count,
                     checkpoint,
@@ -182,6 +189,7 @@ impl<D: Disk> Journal<D> {
                 let journal = Journal {
                     disk,
                     generation,
+                    limit,
                     start,
                     count,
                 };
@@ -200,6 +208,7 @@ impl<D: Disk> Journal<D> {
         requires settled { IfSome (D.seen self.old.disk) (IsSettled self.old.generation self.old.start self.old.count) }
 
         ensures generation { self.new.generation ≡ self.old.generation }
+        ensures limit { self.new.limit ≡ self.old.limit }
         ensures start { self.new.start ≡ self.old.start }
         ensures one_more { OnOk result (self.new.count ≡ self.old.count + 1) }
         ensures no_more { OnErr result (self.new.count ≡ self.old.count) }
@@ -236,6 +245,7 @@ impl<D: Disk> Journal<D> {
         requires there { index ≤ self.old.count }
 
         ensures generation { self.new.generation ≡ self.old.generation }
+        ensures limit { self.new.limit ≡ self.old.limit }
         ensures start { self.new.start ≡ self.old.start }
         ensures records { self.new.count ≡ self.old.count }
         ensures command { IfOk result (λ body. (command : Command) × IsBodyOf body command) }
@@ -268,6 +278,7 @@ impl<D: Disk> Journal<D> {
         ensures part { IfSome (D.seen self.new.disk) (IsPartOf block.new) }
 
         ensures generation { self.new.generation ≡ self.old.generation }
+        ensures limit { self.new.limit ≡ self.old.limit }
         ensures start { self.new.start ≡ self.old.start }
         ensures records { self.new.count ≡ self.old.count }
         ensures command { IfOk result (λ command. (body : List ℕ) × IsBodyOf body command) }
@@ -291,6 +302,14 @@ impl<D: Disk> Journal<D> {
         self.generation
     }
 
+    /// The limit under which its commands are, which its version tells: 10^18 or 10^19.
+    pub fn limit(&self) -> u64
+        ensures known { result ≡ self.now.limit }
+        ensures one_of_two { IsLimit result }
+    {
+        self.limit
+    }
+
     /// How many records there are.
     pub fn records(&self) -> u64
         ensures { result ≡ self.now.count }
@@ -312,6 +331,7 @@ impl<D: Disk> Journal<D> {
         let Journal {
             disk,
             generation: _,
+            limit: _,
             start: _,
             count: _,
         } = self;

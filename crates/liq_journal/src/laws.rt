@@ -1,6 +1,7 @@
 //! Laws of a journal's bytes.
 ghost use Rattle.std.specs.Prelude.{◌≡◌, ◌+◌, ◌*◌, ◌++◌, ◌<◌, ◌≤◌, Ok, Err, Bool, false};
 ghost use Rattle.std.specs.Prelude.{All, List, ℕ, length, take, drop};
+ghost use Rattle.liq_types.specs.Image.{IsLimit};
 ghost use Rattle.liq_journal.specs.Records.{records};
 ghost use Rattle.liq_journal.specs.Crash.{Stands};
 ghost use Rattle.liq_outside.specs.Disk.{Torn};
@@ -19,7 +20,7 @@ pub fn a_front_is_read()
 
 /// The bytes up to a header's end decide the header.
 pub fn a_header_is_decided()
-    ensures { (odd : Bool) (held image : List ℕ) (w : Written) (m : ℕ) → found_on odd held ≡ Open w → start_of w ≤ m → m ≤ length held → take m image ≡ take m held → found_on odd image ≡ found_records w.generation w.checkpoint 1 (start_of w) (records most_records (drop (start_of w) image)) }
+    ensures { (odd : Bool) (held image : List ℕ) (w : Written) (m : ℕ) → found_on odd held ≡ Open w → start_of w ≤ m → m ≤ length held → take m image ≡ take m held → found_on odd image ≡ found_records w.generation w.limit w.checkpoint 1 (start_of w) (records most_records (drop (start_of w) image)) }
 {}
 
 /// Any part of a write behind the closed gate at the end leaves what is found.
@@ -31,6 +32,11 @@ pub fn behind_the_gate_nothing_counts()
 pub fn no_record_is_a_rotation()
     ensures { (odd : Bool) (bytes : List ℕ) (w : Written) → found_on odd bytes ≡ Open w
         → All (λ c. is_rotate c.call ≡ false) w.commands }
+{}
+
+/// The limit of an open disk is one of two.
+pub fn an_open_disk_has_a_limit()
+    ensures { (odd : Bool) (bytes : List ℕ) (w : Written) → found_on odd bytes ≡ Open w → IsLimit w.limit }
 {}
 
 /// A look agrees with an opening: the same damage of the header, none open on both, or the generation.

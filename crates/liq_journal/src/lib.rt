@@ -1,5 +1,6 @@
 //! A journal on one disk: a header, a checkpoint, and records of 96 bytes, each behind a gate byte and
 //! before its digest. A crash at any moment leaves the records before a call or with its new one.
+//! Headers of both versions are read, and version 2 alone is written.
 #![tactic(auto)]
 
 mod answers;
@@ -21,6 +22,7 @@ mod scanned;
 pub use answers::{CreateFault, DiskFault, Look, LookFault, OpenFault, OpenWhy};
 pub use block::Block;
 pub use damage::{Damage, What};
+pub use header::header_size;
 pub use journal::Journal;
 pub use looking::look;
 

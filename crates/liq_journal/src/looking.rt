@@ -8,7 +8,7 @@ ghost use Rattle.liq_journal.specs.Layout.{header_digest, piece};
 
 use crate::answers::{Look, LookFault};
 use crate::damage::{Damage, What};
-use crate::header::{HEADER, read_header};
+use crate::header::{fields_size, header_size, read_header};
 use crate::reads::read_at;
 use liq_outside::{Disk, Failed};
 use sha2::{Digest, Sha256};
@@ -28,7 +28,8 @@ pub fn look<D: Disk>(disk: &mut D, odd: bool) -> Result<Look, LookFault>
         Ok(None) => return Ok(Look::Absent),
         Err(why) => return Err(why),
     };
-    let computed = match digest_behind(disk, &head.fields, HEADER, head.size) {
+    let fields = &head.fields[..fields_size(head.limit)];
+    let computed = match digest_behind(disk, fields, header_size(head.limit), head.size) {
         Ok(computed) => computed,
         Err(_) => return Err(LookFault::DiskFault),
     };
@@ -49,7 +50,7 @@ pub fn look<D: Disk>(disk: &mut D, odd: bool) -> Result<Look, LookFault>
 // The digest of a header's fields and of the checkpoint, which stands at the place and is read piece by piece.
 fn digest_behind<D: Disk>(
     disk: &mut D,
-    fields: &[u8; 24],
+    fields: &[u8],
     place: u64,
     size: u64,
 ) -> Result<[u8; 32], Failed>

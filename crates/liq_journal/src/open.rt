@@ -8,7 +8,7 @@ ghost use Rattle.liq_journal.specs.Causes.{CountsOpen};
 ghost use Rattle.liq_journal.specs.declared.damage.Damage.{Damage};
 ghost use Rattle.liq_journal.specs.Looked.{Looked};
 ghost use Rattle.liq_journal.specs.Opened.{AbsentLeaves, IsAtRest, IsKept, IsScanOf, IsUnshut, IsWhyOf, OpenLeaves, why_of};
-ghost use Rattle.liq_journal.specs.Layout.{piece, start_most};
+ghost use Rattle.liq_journal.specs.Layout.{StartsWithin, piece};
 ghost use Rattle.liq_journal.specs.Written.{Open, Written, found_on, is_generation};
 
 use crate::answers::{LookFault, OpenWhy};
@@ -16,7 +16,7 @@ use crate::bytes::write_synced;
 use crate::damage::{Damage, What};
 use crate::digests::header_digest;
 use crate::gate::settle;
-use crate::header::{HEADER, read_header};
+use crate::header::{fields_size, header_size, read_header};
 use crate::journal::RECORD;
 use crate::reads::read_at;
 use crate::records::count_records;
@@ -73,7 +73,7 @@ fn why_of(why: LookFault) -> OpenWhy
 // Reads and tests all of a disk, in the order of its faults.
 fn scan<D: Disk>(alloc: Global, disk: &mut D, odd: bool) -> Result<Scanned, OpenWhy>
     ensures looked { Looked D.seen D.moment D.left_at disk.old disk.new }
-    ensures bounds { IfOk result (λ s. (s.start ≤ start_most) × (s.count ≤ 1000001)) }
+    ensures bounds { IfOk result (λ s. StartsWithin s.limit s.start × (s.count ≤ 1000001)) }
     ensures generation { IfOk result (λ s. is_generation odd s.generation ≡ true) }
     ensures found { IfOk result (λ s. IfSome (D.seen disk.old) (λ held. IsScanOf odd held s)) }
     ensures why { IfErr result (λ why. IfSome (D.seen disk.old) (λ held. IsWhyOf odd held why)) }
@@ -84,11 +84,13 @@ fn scan<D: Disk>(alloc: Global, disk: &mut D, odd: bool) -> Result<Scanned, Open
         Ok(None) => return Err(OpenWhy::Absent),
         Err(why) => return Err(why_of(why)),
     };
-    let checkpoint = match read_checkpoint(alloc, disk, HEADER, head.size) {
+    let header = header_size(head.limit);
+    let checkpoint = match read_checkpoint(alloc, disk, header, head.size) {
         Ok(checkpoint) => checkpoint,
         Err(why) => return Err(why),
     };
-    let computed = header_digest(&head.fields, &checkpoint);
+    let fields = &head.fields[..fields_size(head.limit)];
+    let computed = header_digest(fields, &checkpoint);
     if head.stored != computed {
         return Err(OpenWhy::Damaged(Damage {
             index: 0,
@@ -98,10 +100,11 @@ fn scan<D: Disk>(alloc: Global, disk: &mut D, odd: bool) -> Result<Scanned, Open
             },
         }));
     }
-    let start = HEADER + head.size;
+    let start = header + head.size;
     match count_records(disk, head.generation, start) {
         Ok(count) => Ok(Scanned {
             generation: head.generation,
+            limit: head.limit,
             start,
             count,
             checkpoint,
@@ -142,7 +145,7 @@ fn settle_scanned<D: Disk>(
     odd: bool,
     found: Result<Scanned, OpenWhy>,
 ) -> Result<Scanned, OpenWhy>
-    requires found { MatchResult found (λ s. IfSome (D.seen disk.old) (λ held. IsScanOf odd held s) × ((s.start ≤ start_most) × (s.count ≤ 1000001))) (λ why. IfSome (D.seen disk.old) (λ held. IsWhyOf odd held why)) }
+    requires found { MatchResult found (λ s. IfSome (D.seen disk.old) (λ held. IsScanOf odd held s) × (StartsWithin s.limit s.start × (s.count ≤ 1000001))) (λ why. IfSome (D.seen disk.old) (λ held. IsWhyOf odd held why)) }
     ensures same { MatchResult result (λ s. found ≡ Ok s) (λ why. (found ≡ Err why) ⊎ (why ≡ OpenWhy.DiskFault)) }
     ensures stands { IfOk result (λ _. (held : List ℕ) (w : Written) → D.seen disk.old ≡ Some held → found_on odd held ≡ Open w → IfSome (D.seen disk.new) (λ after. Stands odd after w)) }
     ensures durable { IfOk result (λ _. (held : List ℕ) → D.seen disk.old ≡ Some held → Only held (LeftNow D.moment D.left_at disk.old) → IfSome (D.seen disk.new) (λ after. Only after (LeftNow D.moment D.left_at disk.new))) }
@@ -172,7 +175,7 @@ fn settle_scanned<D: Disk>(
 
 // Opens the journal of a disk: syncs it, reads and tests all of it, and shuts the byte that is to be shut.
 pub fn open_on<D: Disk>(alloc: Global, disk: &mut D, odd: bool) -> Result<Scanned, OpenWhy>
-    ensures bounds { IfOk result (λ s. (s.start ≤ start_most) × (s.count ≤ 1000001)) }
+    ensures bounds { IfOk result (λ s. StartsWithin s.limit s.start × (s.count ≤ 1000001)) }
     ensures generation { IfOk result (λ s. is_generation odd s.generation ≡ true) }
     ensures found { IfOk result (λ s. IfSome (D.seen disk.old) (λ held. IsScanOf odd held s)) }
     ensures stands { IfOk result (λ _. (held : List ℕ) (w : Written) → D.seen disk.old ≡ Some held → found_on odd held ≡ Open w → IfSome (D.seen disk.new) (λ after. Stands odd after w)) }

@@ -2,6 +2,7 @@
 #[derive(Drop)]
 pub struct Scanned {
     pub generation: u64,
+    pub limit: u64,
     pub start: u64,
     pub count: u64,
     pub checkpoint: Vec<u8>,

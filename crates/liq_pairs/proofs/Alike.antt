@@ -50,6 +50,7 @@ module _ {s t : State} (alike : Alike s t) where
         rotates = rotation.rotates;
         allowed = sym (ruling_alike alike c) ∙ rotation.allowed;
         generation_is = rotation.generation_is ∙ ap (λ (i : Image). i.generation + 1) alike.image;
+        limit_is = rotation.limit_is;
         checkpoint_is = rotation.checkpoint_is ∙ ap spelling further.image;
         state = rotation.state;
         came = rotation.came;

@@ -23,7 +23,7 @@ end_of_more w c = let n = length-append w.commands (c ∷ []) in omega arith
 room : (odd : Bool) (bytes : List ℕ) (w : Written) → found_on odd bytes ≡ Open w → most_records ≡ length w.commands + (most_records - length w.commands)
 room odd bytes w found =
     let o = is_open odd bytes w found in
-    let n = (of_records w.generation w.checkpoint 1 (start_of w) (records most_records (drop (start_of w) bytes)) w o.behind).count in
+    let n = (of_records w.generation w.limit w.checkpoint 1 (start_of w) (records most_records (drop (start_of w) bytes)) w o.behind).count in
     let few = records_few most_records (drop (start_of w) bytes) in
     omega arith
 

@@ -77,6 +77,7 @@ first_with odd bytes byte is = record {
   written = is.written;
   stands = subst (λ (l : List ℕ). Stands odd l is.written) (sym (opened_again byte bytes)) is.stands;
   first = is.first;
+  limit_is = is.limit_is;
   none = is.none;
 }
 

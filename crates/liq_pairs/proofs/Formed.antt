@@ -1,6 +1,7 @@
 -- The state for which two disks stand is well formed.
 use Rattle.std.proofs.Common.{◌≡◌, ℕ, Bool, true, false, List, Result, Ok, Err, refl, subst}
 use Rattle.std.specs.Prelude.{cond, nat_lt}
+use Rattle.liq_types.specs.declared.amounts.TheConstants.{LIM}
 use Rattle.liq_types.specs.State.{State, opening}
 use Rattle.liq_types.specs.WellFormed.{IsWellFormed}
 use Rattle.liq_journal.specs.declared.damage.Damage.{Damage}
@@ -41,7 +42,7 @@ pair_formed (Faulty damage) b s fa fb is = absurd cc
 pair_formed Nothing (Faulty damage) s fa fb is = absurd cc
 pair_formed Nothing Nothing s fa fb is =
     let same : opening ≡ s = cc in
-    subst (λ (x : State). IsWellFormed x) same opening_formed
+    subst (λ (x : State). IsWellFormed x) same (opening_formed LIM)
 pair_formed Nothing (Holding n t) s fa fb is =
     let same : t ≡ s = cc in
     subst (λ (x : State). IsWellFormed x) same (fb n t refl)

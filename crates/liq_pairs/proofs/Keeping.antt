@@ -1,8 +1,9 @@
 -- Which pairs are kept for a state.
-use Rattle.std.proofs.Common.{◌≡◌, ◌⊎◌, inl, inr, ⊎_elim, ℕ, List, [], Ok, Bool, true, false, sym, ◌∙◌, ap, subst}
+use Rattle.std.proofs.Common.{◌≡◌, ◌≤◌, ◌⊎◌, inl, inr, ⊎_elim, ℕ, List, [], Ok, Bool, true, false, sym, ◌∙◌, ap, subst}
+use Rattle.liq_types.specs.declared.amounts.TheConstants.{LIM}
 use Rattle.liq_types.specs.declared.image.Image.{Image}
 use Rattle.liq_types.specs.declared.requests.Command.{Command}
-use Rattle.liq_types.specs.State.{State, opening}
+use Rattle.liq_types.specs.State.{State, opening, opening_with}
 use Rattle.liq_types.specs.WellFormed.{IsWellFormed}
 use Rattle.liq_rules.specs.Step.{Allowed, after, ruling}
 use Rattle.liq_rules.proofs.AlikeReads.{Alike}
@@ -10,6 +11,8 @@ use Rattle.liq_rules.proofs.AlikeReplies.{after_alike, ruling_alike}
 use Rattle.liq_journal.specs.Crash.{BeforeOrAfter, IsClosed, Stands, is_odd}
 use Rattle.liq_journal.specs.Written.{Absent, Open, Written, and_then, found_on}
 use Rattle.liq_journal.proofs.Bodies.{found_no_rotation}
+use Rattle.liq_journal.proofs.Heading.{has_generation}
+use Rattle.liq_journal.proofs.Parity.{from_one}
 use Rattle.liq_pairs.specs.declared.side.Side.{Side}
 use Rattle.liq_pairs.specs.declared.side.Side.TheVariants.{Left}
 use Rattle.liq_pairs.specs.Kept.{HoldsRecord, IsFirst, IsKept, IsSettledFor, IsUnbegun}
@@ -17,6 +20,7 @@ use Rattle.liq_pairs.specs.Pair.{StandFor, standing}
 use Rattle.liq_pairs.specs.Replay.{outcome}
 use Rattle.liq_pairs.specs.Sides.{beside, has_odd, on, other}
 use Rattle.liq_pairs.proofs.FirstPlace.{IsAside, closed_absent, gate_open_or_not, is_behind, opened_already, unopened_absent}
+use Rattle.liq_pairs.proofs.Basing.{ends_in}
 use Rattle.liq_pairs.proofs.Generations.{found_parity, outcome_generation}
 use Rattle.liq_pairs.proofs.Replaying.{opening_formed, outcome_formed, outcome_none, outcome_then}
 use Rattle.liq_pairs.proofs.Standings.{IsBehind, outcome_taken, pair_ends, state_none, state_taken}
@@ -100,6 +104,14 @@ settled_parity side l r s settled =
     found_parity odd (on side l r) settled.written found
     ∙ ap is_odd (leads_generation odd (on side l r) settled.written s found (settled_leads side l r s settled))
 
+-- which is the first or a later one
+pub settled_from_one : (side : Side) (l r : List ℕ) (s : State) → IsSettledFor side l r s → 1 ≤ s.generation
+settled_from_one side l r s settled =
+    let odd = has_odd side in
+    let found = settled.open_on.found in
+    subst (λ (n : ℕ). 1 ≤ n) (leads_generation odd (on side l r) settled.written s found (settled_leads side l r s settled))
+    (from_one odd settled.written.generation (has_generation odd (on side l r) settled.written found))
+
 -- a settled pair is kept
 pub settled_kept : (side : Side) (l r : List ℕ) (s : State) → IsSettledFor side l r s → IsKept l r s
 settled_kept side l r s settled = record {
@@ -159,8 +171,13 @@ append_settled side l r a b s c settled allowed same stands =
 
 -- ---- none begun
 
-pub first_leads : (w : Written) (s : State) → w.generation ≡ 1 → w.commands ≡ [] → Alike opening s → LeadsTo w s
-first_leads w s first none alike = record { state = opening; came = outcome_none w first none; alike = alike }
+pub first_leads : (w : Written) (s : State) → w.generation ≡ 1 → w.limit ≡ LIM → w.commands ≡ [] → Alike opening s
+    → LeadsTo w s
+first_leads w s first limit none alike = record {
+  state = opening;
+  came = outcome_none w first none ∙ ap (λ (n : ℕ). ends_in (opening_with n)) limit;
+  alike = alike;
+}
 
 -- the state for which two disks without a journal stand
 pub none_alike : (l r : List ℕ) (s : State) → StandFor l r s → found_on true l ≡ Absent → found_on false r ≡ Absent → Alike opening s
@@ -170,7 +187,7 @@ none_alike l r s stands left right =
     subst (λ (t : State). Alike t s) (sym same) (record {
       image = stands.same.image;
       records = stands.same.records;
-      left = subst (λ (t : State). IsWellFormed t) same opening_formed;
+      left = subst (λ (t : State). IsWellFormed t) same (opening_formed LIM);
       right = stands.formed;
     })
 
@@ -187,14 +204,14 @@ none_kept l r s alike left right = record { stands = none_stand l r s alike left
 
 -- the first generation without records, open
 pub first_settled : (l r : List ℕ) (w : Written) (s : State) → Alike opening s → Stands true l w → w.generation ≡ 1
-    → w.commands ≡ [] → IsClosed r → IsSettledFor Left l r s
-first_settled l r w s alike stands first none closed =
-    settled_by Left l r w s (first_leads w s first none alike) (inl closed) stands
+    → w.limit ≡ LIM → w.commands ≡ [] → IsClosed r → IsSettledFor Left l r s
+first_settled l r w s alike stands first limit none closed =
+    settled_by Left l r w s (first_leads w s first limit none alike) (inl closed) stands
 
 -- the first generation without records, open or not, or a closed disk, beside a closed one
 pub begun_kept : (l r : List ℕ) (s : State) → Alike opening s → IsClosed l ⊎ IsFirst true l → IsClosed r → IsKept l r s
 begun_kept l r s alike (inl left) closed = none_kept l r s alike (closed_absent true l left, inl left) (closed_absent false r closed, inl closed)
 begun_kept l r s alike (inr first) closed = ⊎_elim
-    (λ gate. settled_kept Left l r s (first_settled l r first.written s alike (subst (λ (x : List ℕ). Stands true x first.written) (opened_already l gate) first.stands) first.first first.none closed))
+    (λ gate. settled_kept Left l r s (first_settled l r first.written s alike (subst (λ (x : List ℕ). Stands true x first.written) (opened_already l gate) first.stands) first.first first.limit_is first.none closed))
     (λ shut. none_kept l r s alike (unopened_absent true l shut, inr first) (closed_absent false r closed, inl closed))
     (gate_open_or_not l)

@@ -140,7 +140,7 @@ closed_left r image begun (inr (unshut, has)) = subst (λ (x : List ℕ). IsClos
 begun_so : (l image : List ℕ) → IsClosed l ⊎ IsFirst true l → CreateLeaves true l (beginning 1 []) image → IsClosed image ⊎ IsFirst true image
 begun_so l image begun (inl closed) = inl closed
 begun_so l image begun (inr (inl settled)) = begun_left l image begun settled
-begun_so l image begun (inr (inr stands)) = inr (record { written = beginning 1 []; stands = stands; first = refl; none = refl })
+begun_so l image begun (inr (inr stands)) = inr (record { written = beginning 1 []; stands = stands; first = refl; limit_is = refl; none = refl })
 
 -- ---- both
 

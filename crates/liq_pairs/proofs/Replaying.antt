@@ -1,7 +1,7 @@
 -- What a replay comes to, record by record.
 use Rattle.std.proofs.Common.{◌≡◌, ℕ, ◌+◌, List, [], ◌∷◌, ◌++◌, Result, Ok, Err, refl, sym, ◌∙◌, ap, subst, arith}
 use Rattle.liq_types.specs.declared.requests.Command.{Command}
-use Rattle.liq_types.specs.State.{State, opening}
+use Rattle.liq_types.specs.State.{State, opening_with}
 use Rattle.liq_types.specs.WellFormed.{IsWellFormed}
 use Rattle.liq_rules.specs.Step.{Ruling, Refused, Repeated, Allowed, after, ruling}
 use Rattle.liq_rules.proofs.AlikeReplies.{alike_itself, after_alike}
@@ -65,9 +65,10 @@ pub outcome_from : (w : Written) (base : State) → base_of w ≡ Ok base → ou
 outcome_from w base begun = ap (λ (r : Result State Damage). replay_from r w.commands) begun
 
 -- the first generation without records
-pub outcome_none : (w : Written) → w.generation ≡ 1 → w.commands ≡ [] → outcome w ≡ Ok opening
+pub outcome_none : (w : Written) → w.generation ≡ 1 → w.commands ≡ [] → outcome w ≡ Ok (opening_with w.limit)
 outcome_none w first none =
-    outcome_first w first ∙ ap (λ (cs : List Command). replay 1 opening cs) none ∙ replay_none 1 opening
+    let start = opening_with w.limit in
+    outcome_first w first ∙ ap (λ (cs : List Command). replay 1 start cs) none ∙ replay_none 1 start
 
 pub outcome_then : (w : Written) (c : Command) (end : State) → outcome w ≡ Ok end → ruling end c ≡ Allowed → outcome (and_then w c) ≡ Ok (after end c)
 outcome_then w c end came allowed =
@@ -77,14 +78,14 @@ outcome_then w c end came allowed =
 
 -- ---- well-formed states
 
-pub opening_formed : IsWellFormed opening
-opening_formed = (tt, tt, tt, (omega arith, omega arith))
+pub opening_formed : (limit : ℕ) → IsWellFormed (opening_with limit)
+opening_formed limit = (tt, tt, tt, (omega arith, omega arith))
 
 pub base_formed : (w : Written) (s : State) → base_of w ≡ Ok s → IsWellFormed s
 base_formed w s came = by (begins w s came)
   where
     by : Begins w s → IsWellFormed s
-    by (opens first is) = subst (λ (t : State). IsWellFormed t) (sym is) opening_formed
+    by (opens first is) = subst (λ (t : State). IsWellFormed t) (sym is) (opening_formed w.limit)
     by (starts i read is) = subst (λ (t : State). IsWellFormed t) (sym is.state_is) (sound_formed i is.sound)
 
 pub replay_formed : (index : ℕ) (s end : State) (cs : List Command) → IsWellFormed s → replay index s cs ≡ Ok end → IsWellFormed end

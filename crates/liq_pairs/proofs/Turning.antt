@@ -1,5 +1,6 @@
 -- A rotation: the next generation begins on the other disk.
 use Rattle.std.proofs.Common.{◌≡◌, ◌⊎◌, inl, inr, ⊎_elim, ℕ, ◌+◌, ◌<◌, ◌≤◌, List, [], length, None, Ok, refl, sym, ◌∙◌, ap, subst, arith}
+use Rattle.liq_types.specs.declared.amounts.TheConstants.{LIM}
 use Rattle.liq_types.specs.declared.requests.Call.{Call}
 use Rattle.liq_types.specs.declared.requests.Call.TheVariants.{Rotate}
 use Rattle.liq_types.specs.declared.requests.Command.{Command}
@@ -130,12 +131,14 @@ pub made_rotation : (s : State) (c : Command) (checkpoint : List ℕ) → IsWell
 made_rotation s c checkpoint formed begun rotates allowed spelled read sound =
     let w = beginning (s.generation + 1) checkpoint in
     let next : (after s c).generation ≡ s.generation + 1 = ap (λ (call : Call). (effect s call).generation) rotates in
+    let limit : (after s c).limit ≡ LIM = ap (λ (call : Call). (effect s call).limit) rotates in
     let none : (after s c).records ≡ 0 = ap (λ (call : Call). records_after (effect s c.call) call) rotates in
-    let base = base_read w (image (after s c)) (λ first. absurd (omega (arith, first, begun))) read sound next in
+    let base = base_read w (image (after s c)) (λ first. absurd (omega (arith, first, begun))) read sound next limit in
     record {
       rotates = rotates;
       allowed = allowed;
       generation_is = refl;
+      limit_is = refl;
       checkpoint_is = spelled;
       state = started (image (after s c));
       came = outcome_from w (started (image (after s c))) base ∙ replay_none 1 (started (image (after s c)));

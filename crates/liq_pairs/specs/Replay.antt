@@ -1,40 +1,45 @@
 -- The replay of a journal: the state with which it begins, and what its records make of it.
-use Rattle.std.specs.Prelude.{ℕ, ◌+◌, ◌==◌, List, [], ◌∷◌, length, Option, Some, None, Result, Ok, Err, if◌then◌else◌}
+use Rattle.std.specs.Prelude.{ℕ, ◌+◌, List, [], ◌∷◌, length, Option, Some, None, Result, Ok, Err}
+use Rattle.std.specs.Prelude.{Bool, ◌==◌, ◌&&◌, if◌then◌else◌}
 use Rattle.liq_types.specs.declared.image.Image.{Image}
 use Rattle.liq_types.specs.declared.requests.Command.{Command}
 use Rattle.liq_types.specs.Codes.{code_of}
 use Rattle.liq_types.specs.Soundness.{first_unsound}
-use Rattle.liq_types.specs.State.{State, opening, started}
+use Rattle.liq_types.specs.State.{State, opening_with, started}
 use Rattle.liq_rules.specs.Step.{Ruling, Refused, Repeated, Allowed, ruling, after}
 use Rattle.liq_checkpoint.specs.Reading.{image_at}
 use Rattle.liq_journal.specs.declared.damage.Damage.{Damage}
 use Rattle.liq_journal.specs.declared.damage.What.TheVariants as what
-use Rattle.liq_journal.specs.Layout.{header_size, version_1}
+use Rattle.liq_journal.specs.Layout.{header_size, layout_with}
 use Rattle.liq_journal.specs.Written.{Written}
 
 -- ---- where it begins
 
--- a checkpoint's damage, by its place in the checkpoint, which stands behind the header
-abbrev pub bad_checkpoint : ℕ → Result State Damage
-bad_checkpoint place = Err (record { index = 0; what = what.Form (header_size version_1 + place) })
+-- a checkpoint's damage, by its place in the checkpoint, which stands behind the journal's header
+abbrev pub bad_checkpoint : Written → ℕ → Result State Damage
+bad_checkpoint w place = Err (record { index = 0; what = what.Form (header_size (layout_with w.limit) + place) })
 
--- An image that breaks no rule begins a state, if it is of the journal's generation.
-abbrev pub sound_base : ℕ → Image → Option ℕ → Result State Damage
-sound_base generation i (Some rule) = bad_checkpoint 0
-sound_base generation i None = if i.generation == generation then Ok (started i) else bad_checkpoint 0
+-- the image of this journal's generation, and of the limit in its header
+abbrev pub is_image_of : Written → Image → Bool
+is_image_of w i = i.generation == w.generation && i.limit == w.limit
 
--- what was read as a checkpoint of this generation, or the place at which it is none
-abbrev pub read_base : ℕ → Result Image ℕ → Result State Damage
-read_base generation (Err place) = bad_checkpoint place
-read_base generation (Ok i) = sound_base generation i (first_unsound i 0)
+-- An image that breaks no rule begins a state, if it is the journal's.
+abbrev pub sound_base : Written → Image → Option ℕ → Result State Damage
+sound_base w i (Some rule) = bad_checkpoint w 0
+sound_base w i None = if is_image_of w i then Ok (started i) else bad_checkpoint w 0
 
--- The state with which a journal begins: the first generation with the opening, each later one with the image in its
--- checkpoint.
+-- what was read as the journal's checkpoint, or the place at which it is none
+abbrev pub read_base : Written → Result Image ℕ → Result State Damage
+read_base w (Err place) = bad_checkpoint w place
+read_base w (Ok i) = sound_base w i (first_unsound i 0)
+
+-- The state with which a journal begins: the first generation with the opening under the limit in its header, each
+-- later one with the image in its checkpoint.
 unfoldable pub base_of : Written → Result State Damage
 base_of w =
     if w.generation == 1
-    then Ok opening
-    else read_base w.generation (image_at (length w.checkpoint) w.checkpoint)
+    then Ok (opening_with w.limit)
+    else read_base w (image_at (length w.checkpoint) w.checkpoint)
 
 -- ---- what follows
 

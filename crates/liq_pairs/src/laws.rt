@@ -1,11 +1,12 @@
 //! Laws of a pair of disks, over their bytes alone. The functions here do nothing: each is the place where the facts of its
 //! contract are proved.
 
-ghost use Rattle.std.specs.Prelude.{◌≡◌, ◌≤◌, ◌⊎◌, ◌+◌, List, ◌∷◌, [], ◌++◌, length, ℕ, None, Ok, Bool, true, false};
+ghost use Rattle.std.specs.Prelude.{◌≡◌, ◌≤◌, ◌⊎◌, ◌+◌, List, ◌∷◌, [], ◌++◌, length, ℕ, Some, None, Ok, Bool, true, false};
 ghost use Rattle.liq_types.specs.declared.requests.Call.TheVariants.{Rotate};
 ghost use Rattle.liq_types.specs.declared.requests.Command.{Command};
+ghost use Rattle.liq_types.specs.Image.{IsLimit};
 ghost use Rattle.liq_types.specs.Soundness.{first_unsound};
-ghost use Rattle.liq_types.specs.State.{State, opening};
+ghost use Rattle.liq_types.specs.State.{State, opening_with};
 ghost use Rattle.liq_types.specs.WellFormed.{IsWellFormed};
 ghost use Rattle.liq_rules.specs.Image.{IsSameState, image};
 ghost use Rattle.liq_rules.specs.Step.{Allowed, after, ruling};
@@ -16,15 +17,16 @@ ghost use Rattle.liq_journal.specs.Opened.{OpenLeaves};
 ghost use Rattle.liq_journal.specs.Written.{Open, Written, and_then, found_on};
 ghost use Rattle.liq_pairs.specs.declared.side.Side.{Side};
 ghost use Rattle.liq_pairs.specs.Kept.{IsKept, IsRotationOf, IsSettledFor};
-ghost use Rattle.liq_pairs.specs.Pair.{commands_on, state_on};
+ghost use Rattle.liq_pairs.specs.Pair.{commands_on, journal_on, limit_on, state_on};
 ghost use Rattle.liq_pairs.specs.Replay.{base_of, outcome, replay};
 ghost use Rattle.liq_pairs.specs.Sides.{beside, has_odd, on, other};
 ghost use Rattle.liq_pairs.specs.Unfinished.{IsRecovered, LeftLeaves};
 
-/// What is found on two disks decides the state for which they stand, or their first damage, and the commands.
+/// What is found on two disks decides the state for which they stand, or their first damage, and the journal that counts.
 pub fn what_is_found_decides()
     ensures state { (l r a b : List ℕ) → found_on true a ≡ found_on true l → found_on false b ≡ found_on false r → state_on a b ≡ state_on l r }
     ensures commands { (l r a b : List ℕ) → found_on true a ≡ found_on true l → found_on false b ≡ found_on false r → commands_on a b ≡ commands_on l r }
+    ensures limit { (l r a b : List ℕ) → found_on true a ≡ found_on true l → found_on false b ≡ found_on false r → limit_on a b ≡ limit_on l r }
 {}
 
 /// The state for which two disks stand is well formed: its table and its lists belong together, as the rules leave them.
@@ -32,16 +34,17 @@ pub fn states_on_disks_are_well_formed()
     ensures { (l r : List ℕ) → (s : State) → state_on l r ≡ Ok s → IsWellFormed s }
 {}
 
-/// The state with which a journal begins is well formed and of the journal's generation. The first generation begins
-/// with the opening, so its outcome is the replay from there.
+/// The state with which a journal begins is well formed, of the journal's generation and of the limit in its header. The
+/// first generation begins with the opening under this limit, so its outcome is the replay from there.
 pub fn journals_begin_with_their_generation()
     ensures formed { (w : Written) → (s : State) → base_of w ≡ Ok s → IsWellFormed s }
     ensures generation { (w : Written) → (s : State) → base_of w ≡ Ok s → s.generation ≡ w.generation }
-    ensures first { (w : Written) → w.generation ≡ 1 → outcome w ≡ replay 1 opening w.commands }
+    ensures limit { (w : Written) → (s : State) → base_of w ≡ Ok s → s.limit ≡ w.limit }
+    ensures first { (w : Written) → w.generation ≡ 1 → outcome w ≡ replay 1 (opening_with w.limit) w.commands }
 {}
 
 /// An open journal leads to a state of its own generation, which is odd on the left disk and even on the right one.
-/// So the side on which a pair is settled is that of the state's generation.
+/// So the side on which a pair is settled is that of the state's generation, which is the first or a later one.
 pub fn generations_have_their_sides()
     ensures state { (odd : Bool) → (bytes : List ℕ) → (w : Written) → (s : State) → found_on odd bytes ≡ Open w
         → outcome w ≡ Ok s → s.generation ≡ w.generation }
@@ -49,13 +52,26 @@ pub fn generations_have_their_sides()
         → odd ≡ is_odd w.generation }
     ensures settled { (side : Side) → (l r : List ℕ) → (s : State) → IsSettledFor side l r s
         → has_odd side ≡ is_odd s.generation }
+    ensures from_one { (side : Side) → (l r : List ℕ) → (s : State) → IsSettledFor side l r s → 1 ≤ s.generation }
 {}
 
-/// The commands of two disks lead from the opening to the state for which they stand, where that is of generation 1.
-/// A later generation begins with a checkpoint, and the commands before it are gone.
+/// An open journal leads to a state of the limit in its header, which is one of two: no record changes it. So it is with
+/// two disks, and their state has the limit of the journal that counts.
+pub fn journals_keep_their_limit()
+    ensures state { (odd : Bool) → (bytes : List ℕ) → (w : Written) → (s : State) → found_on odd bytes ≡ Open w
+        → outcome w ≡ Ok s → s.limit ≡ w.limit }
+    ensures pair { (l r : List ℕ) → (s : State) → state_on l r ≡ Ok s → s.limit ≡ limit_on l r }
+    ensures two { (l r : List ℕ) → IsLimit (limit_on l r) }
+{}
+
+/// The commands of two disks lead to the state for which they stand. Where that is of generation 1 they lead there from
+/// the opening under the limit of the journal that counts. A later generation begins with its checkpoint, from which
+/// they lead there, and the commands before it are gone.
 pub fn commands_lead_to_the_state()
-    ensures { (l r : List ℕ) → (s : State) → state_on l r ≡ Ok s → s.generation ≡ 1
-        → replay 1 opening (commands_on l r) ≡ Ok s }
+    ensures first { (l r : List ℕ) → (s : State) → state_on l r ≡ Ok s → s.generation ≡ 1
+        → replay 1 (opening_with (limit_on l r)) (commands_on l r) ≡ Ok s }
+    ensures begun { (l r : List ℕ) → (s : State) → (w : Written) → state_on l r ≡ Ok s → journal_on l r ≡ Some w
+        → (base : State) × (base_of w ≡ Ok base) × (replay 1 base (commands_on l r) ≡ Ok s) }
 {}
 
 /// A replay that ends in a state goes on to the next command that this state accepts.

@@ -6,7 +6,7 @@ use Rattle.liq_types.specs.declared.events.PoolEvent.{PoolEvent}
 use Rattle.liq_types.specs.declared.replies.Done.{Done}
 use Rattle.liq_types.specs.declared.replies.Refusal.{Refusal}
 use Rattle.liq_types.specs.declared.requests.Command.{Command}
-use Rattle.liq_types.specs.State.{State, opening}
+use Rattle.liq_types.specs.State.{State, opening_with}
 use Rattle.liq_core.specs.Core.{Core, StandsFor}
 use Rattle.liq_rules.specs.Events.{events}
 use Rattle.liq_rules.specs.Rules.{call_events}
@@ -20,14 +20,14 @@ use Rattle.liq_review.specs.Replaying.{StopsAt, MakesNext, IsReplayed, StopsWith
 use Rattle.liq_review.proofs.Lines.{cut}
 
 -- so many of the commands are made
-pub record IsUnderWay (commands : List Command) (i : ℕ) (core : Core) (told : List PoolEvent) : Type 0 where
+pub record IsUnderWay (limit : ℕ) (commands : List Command) (i : ℕ) (core : Core) (told : List PoolEvent) : Type 0 where
   pub state : State
   pub stands : StandsFor core state
-  pub replays : replay 1 opening commands ≡ replay (i + 1) state (drop i commands)
-  pub events_are : events opening commands ≡ told ++ events state (drop i commands)
+  pub replays : replay 1 (opening_with limit) commands ≡ replay (i + 1) state (drop i commands)
+  pub events_are : events (opening_with limit) commands ≡ told ++ events state (drop i commands)
 
-pub begun : (commands : List Command) (core : Core) → StandsFor core opening → IsUnderWay commands 0 core []
-begun commands core h = record { state = opening; stands = h; replays = refl; events_are = refl }
+pub begun : (limit : ℕ) (commands : List Command) (core : Core) → StandsFor core (opening_with limit) → IsUnderWay limit commands 0 core []
+begun limit commands core h = record { state = opening_with limit; stands = h; replays = refl; events_are = refl }
 
 -- ---- one more command
 
@@ -35,7 +35,7 @@ replay_one : (index : ℕ) (s : State) (c : Command) (rest : List Command) → r
 unfolding replay
 replay_one index s c rest = refl
 
-module _ (commands : List Command) (i : ℕ) (core : Core) (told : List PoolEvent) (h : IsUnderWay commands i core told) (d : Command) (lt : i < length commands) where
+module _ (limit : ℕ) (commands : List Command) (i : ℕ) (core : Core) (told : List PoolEvent) (h : IsUnderWay limit commands i core told) (d : Command) (lt : i < length commands) where
   here : Command
   here = get_or commands i d
 
@@ -43,16 +43,16 @@ module _ (commands : List Command) (i : ℕ) (core : Core) (told : List PoolEven
   unfolding here
   left = cut (λ (c : Command). []) commands i d lt
 
-  replays_here : replay 1 opening commands ≡ replayed (i + 1) (ruling h.state here) (replay (i + 1 + 1) (after h.state here) (drop (i + 1) commands))
+  replays_here : replay 1 (opening_with limit) commands ≡ replayed (i + 1) (ruling h.state here) (replay (i + 1 + 1) (after h.state here) (drop (i + 1) commands))
   replays_here =
       h.replays
       ∙ ap (λ (cs : List Command). replay (i + 1) h.state cs) left
       ∙ replay_one (i + 1) h.state here (drop (i + 1) commands)
 
-  events_here : events opening commands ≡ told ++ (call_events h.state here.call ++ events (after h.state here) (drop (i + 1) commands))
+  events_here : events (opening_with limit) commands ≡ told ++ (call_events h.state here.call ++ events (after h.state here) (drop (i + 1) commands))
   events_here = h.events_are ∙ ap (λ (cs : List Command). told ++ events h.state cs) left
 
-  pub next_made : (core_now : Core) (now : List PoolEvent) → MakesNext h.state (get_or commands i d) (i + 1) core_now told now (Ok tt) → IsUnderWay commands (i + 1) core_now now
+  pub next_made : (core_now : Core) (now : List PoolEvent) → MakesNext h.state (get_or commands i d) (i + 1) core_now told now (Ok tt) → IsUnderWay limit commands (i + 1) core_now now
   unfolding here
   next_made core_now now k = record {
     state = after h.state here;
@@ -64,7 +64,7 @@ module _ (commands : List Command) (i : ℕ) (core : Core) (told : List PoolEven
         ∙ ap (λ (es : List PoolEvent). es ++ events (after h.state here) (drop (i + 1) commands)) (sym k.2);
   }
 
-  pub next_stops : (why : ReviewFault) → StopsAt h.state (get_or commands i d) (i + 1) why → StopsWithin commands why
+  pub next_stops : (why : ReviewFault) → StopsAt h.state (get_or commands i d) (i + 1) why → StopsWithin limit commands why
   unfolding here
   next_stops why (inl none) = inl none
   next_stops why (inr stop) = inr (stop.0, stop.1, replays_here ∙ stop.2 (replay (i + 1 + 1) (after h.state here) (drop (i + 1) commands)))
@@ -89,9 +89,9 @@ pub stops_refused : (s : State) (c : Command) (index : ℕ) (refusal : Refusal) 
 stops_refused s c index refusal code coded is =
     inr (record { index = index; what = what.Replay (code_of refusal) }, ap (λ n. fault.Refused index n) coded, λ rest. ap (λ r. replayed index r rest) is)
 
-pub all_made : (commands : List Command) (i : ℕ) (core : Core) (told : List PoolEvent) → IsUnderWay commands i core told → length commands ≤ i → IsReplayed commands core told
+pub all_made : (limit : ℕ) (commands : List Command) (i : ℕ) (core : Core) (told : List PoolEvent) → IsUnderWay limit commands i core told → length commands ≤ i → IsReplayed limit commands core told
 unfolding replay
-all_made commands i core told h le =
+all_made limit commands i core told h le =
     let none : drop i commands ≡ [] = drop_of_length-le commands le in
     record {
       state = h.state;

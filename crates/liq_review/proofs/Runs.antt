@@ -1,15 +1,14 @@
 -- A whole replay is a run: its events are lawful and few, and every depositor has what is promised.
 use Rattle.std.proofs.Common.{◌≡◌, ℕ, zero, suc, ◌+◌, ◌<◌, ◌≤◌, ◌^◌, false, cond, List, [], ◌∷◌, ◌++◌, length, Ok, refl, ap, sym, subst, ◌∙◌, arith}
-use Rattle.std.specs.Prelude.{All, map}
+use Rattle.std.specs.Prelude.{map}
 use Rattle.liq_types.specs.declared.amounts.TheConstants.{ACCOUNTS, LIM, RECORDS_MOST}
 use Rattle.liq_types.specs.declared.events.PoolEvent.{PoolEvent}
-use Rattle.liq_types.specs.declared.requests.Call.{Call}
-use Rattle.liq_types.specs.declared.requests.Call.TheVariants.{Rotate}
 use Rattle.liq_types.specs.declared.requests.Command.{Command}
 use Rattle.liq_types.specs.declared.requests.Request.{Request}
 use Rattle.liq_types.specs.declared.requests.Request.TheVariants.{Do}
+use Rattle.liq_types.specs.Image.{IsLimit}
 use Rattle.liq_types.specs.PlainLedger.{offsets_coll, gains_paid_to, AreOwnedBelow, over_accounts}
-use Rattle.liq_types.specs.State.{State, opening}
+use Rattle.liq_types.specs.State.{State, opening, opening_with}
 use Rattle.liq_types.specs.Tables.{at}
 use Rattle.liq_types.specs.Totals.{pool_coll}
 use Rattle.liq_types.proofs.Accounts.{over-term, owned_more}
@@ -22,13 +21,11 @@ use Rattle.liq_rules.specs.Events.{events}
 use Rattle.liq_rules.specs.Step.{Ruling, Refused, Repeated, Allowed, ruling, after, after_ruling, run, accepted, is_allowed}
 use Rattle.liq_rules.specs.Rules.{effect}
 use Rattle.liq_rules.specs.Verbs.{rotates}
-use Rattle.liq_journal.specs.Written.{is_rotate}
 use Rattle.liq_rules.proofs.Allowed.{allowed_few, effect-records}
 use Rattle.liq_rules.proofs.Counting.{run_events_count}
-use Rattle.liq_soundness.proofs.SoundEvents.{run_follows}
-use Rattle.liq_soundness.proofs.SoundPromises.{reached_shares, reached_paid}
-use Rattle.liq_soundness.proofs.SoundStart.{opening_sound}
+use Rattle.liq_soundness.proofs.SoundPromises.{reached_paid, reached_pool, reached_shares}
 use Rattle.liq_pairs.specs.Replay.{replay, replayed}
+use Rattle.liq_pairs.proofs.Generations.{HaveNoRotation, never_rotates}
 
 -- ---- a replay is a run
 
@@ -56,20 +53,13 @@ module _ (end : State) where
 
 -- ---- its commands are few
 
-abbrev HaveNoRotation : List Command → Type 0
-HaveNoRotation commands = All (λ (c : Command). is_rotate c.call ≡ false) commands
-
 module _ (end : State) where
   replay_few : (commands : List Command) (index : ℕ) (s : State) → HaveNoRotation commands → s.records ≤ RECORDS_MOST → replay index s commands ≡ Ok end → s.records + length commands ≤ RECORDS_MOST
   unfolding replay
   replay_few [] index s none few h = omega arith
   replay_few (c ∷ cs) index s none few h = by (ruling s c) refl h (λ less k. replay_few cs (index + 1) (after s c) (λ i d lt. none (suc i) d (omega arith)) less k) where
-    goes_on : (call : Call) → is_rotate call ≡ false → rotates call ≡ false
-    goes_on Rotate is = is
-    goes_on _ is = refl
-
     stays : rotates c.call ≡ false
-    stays = goes_on c.call (none zero c (omega arith))
+    stays = never_rotates c.call (none zero c (omega arith))
 
     counted : (after s c).records ≡ s.records + 1
     counted = ap (λ b. cond b 0 ((effect s c.call).records + 1)) stays ∙ ap (λ n. n + 1) (effect-records s c.call)
@@ -92,27 +82,35 @@ pub record IsFinished (s : State) (told : List PoolEvent) : Type 0 where
   pub paid : pool_coll s + over_accounts ACCOUNTS (λ account. gains_paid_to account told) ≡ offsets_coll told
   pub shares : (account : ℕ) → IsWithinAllowance s account told
 
-finished_run : (requests : List Request) → length (accepted opening requests) ≤ RECORDS_MOST → IsFinished (run opening requests).0 (events opening (accepted opening requests))
-finished_run requests few =
-    let h = run_follows requests opening opening_sound in
-    let count = run_events_count requests opening in
-    record {
-      lawful = h.lawful;
-      owners = h.owners;
-      few = omega (arith, count, few);
-      paid = reached_paid requests;
-      shares = reached_shares requests;
-    }
+-- the Stability Pool begins empty under either limit
+module _ (limit : ℕ) (known : IsLimit limit) where
+  abbrev start : State
+  start = opening_with limit
 
-pub finished : (commands : List Command) → HaveNoRotation commands → (s : State) → replay 1 opening commands ≡ Ok s → (told : List PoolEvent) → told ≡ events opening commands → IsFinished s told
-finished commands none s h told is =
-    let made = replay_runs s commands 1 opening h in
-    let count = replay_few s commands 1 opening none (omega arith) h in
-    let short : length (accepted opening (map Do commands)) ≤ RECORDS_MOST = subst (λ (cs : List Command). length cs ≤ RECORDS_MOST) (sym made.again) (omega (arith, count)) in
-    let all = finished_run (map Do commands) short in
-    subst (λ (es : List PoolEvent). IsFinished s es) (sym is)
-    (subst (λ (cs : List Command). IsFinished s (events opening cs)) made.again
-    (subst (λ end. IsFinished end (events opening (accepted opening (map Do commands)))) made.state all))
+  finished_run : (requests : List Request) → length (accepted start requests) ≤ RECORDS_MOST
+      → IsFinished (run start requests).0 (events start (accepted start requests))
+  finished_run requests few =
+      let h = reached_pool limit known requests in
+      let count = run_events_count requests start in
+      record {
+        lawful = h.lawful;
+        owners = h.owners;
+        few = omega (arith, count, few);
+        paid = reached_paid limit known requests;
+        shares = reached_shares limit known requests;
+      }
+
+  pub finished : (commands : List Command) → HaveNoRotation commands → (s : State) → replay 1 start commands ≡ Ok s
+      → (told : List PoolEvent) → told ≡ events start commands → IsFinished s told
+  finished commands none s h told is =
+      let made = replay_runs s commands 1 start h in
+      let count = replay_few s commands 1 start none (omega arith) h in
+      let short : length (accepted start (map Do commands)) ≤ RECORDS_MOST =
+      subst (λ (cs : List Command). length cs ≤ RECORDS_MOST) (sym made.again) (omega (arith, count)) in
+      let all = finished_run (map Do commands) short in
+      subst (λ (es : List PoolEvent). IsFinished s es) (sym is)
+      (subst (λ (cs : List Command). IsFinished s (events start cs)) made.again
+      (subst (λ end. IsFinished end (events start (accepted start (map Do commands)))) made.state all))
 
 -- ---- what the accounts gained
 

@@ -2,7 +2,7 @@
 use Rattle.std.specs.Prelude.{◌≡◌, ◌⊎◌, ℕ, ◌++◌, List, Result, Ok, Err}
 use Rattle.liq_types.specs.declared.events.PoolEvent.{PoolEvent}
 use Rattle.liq_types.specs.declared.requests.Command.{Command}
-use Rattle.liq_types.specs.State.{State, opening}
+use Rattle.liq_types.specs.State.{State, opening_with}
 use Rattle.liq_core.specs.Core.{Core, StandsFor}
 use Rattle.liq_rules.specs.Events.{events}
 use Rattle.liq_core.specs.Plan.{Plan, IsPlan}
@@ -33,15 +33,15 @@ MakesNext s c index core told now (Ok done) =
     (ruling s c ≡ Allowed) × StandsFor core (after s c) × (now ≡ told ++ call_events s c.call)
 MakesNext s c index core told now (Err fault) = StopsAt s c index fault
 
--- the core is that of the commands, and these are their events
-pub record IsReplayed (commands : List Command) (core : Core) (told : List PoolEvent) : Type 0 where
+-- the core is that of the commands from the opening under this limit, and these are their events
+pub record IsReplayed (limit : ℕ) (commands : List Command) (core : Core) (told : List PoolEvent) : Type 0 where
   pub state : State
-  pub replays : replay 1 opening commands ≡ Ok state
+  pub replays : replay 1 (opening_with limit) commands ≡ Ok state
   pub stands : StandsFor core state
-  pub events_are : told ≡ events opening commands
+  pub events_are : told ≡ events (opening_with limit) commands
 
 -- what replaying a list of commands gives
-abbrev pub StopsWithin : List Command → ReviewFault → Type 0
-StopsWithin commands fault =
+abbrev pub StopsWithin : ℕ → List Command → ReviewFault → Type 0
+StopsWithin limit commands fault =
     (fault ≡ NoMemory)
-    ⊎ ((damage : Damage) × (fault ≡ stopped damage) × (replay 1 opening commands ≡ Err damage))
+    ⊎ ((damage : Damage) × (fault ≡ stopped damage) × (replay 1 (opening_with limit) commands ≡ Err damage))

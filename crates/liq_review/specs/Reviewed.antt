@@ -1,8 +1,9 @@
--- The review of a list of commands: the audit of what they do to the Stability Pool from the opening on, as a text.
+-- The review of a list of commands: the audit of what they do to the Stability Pool from the opening under a limit on, as
+-- a text.
 use Rattle.std.specs.Prelude.{ℕ, List, Result, Ok, Err, Option, Some, None}
 use Rattle.liq_types.specs.declared.events.PoolEvent.{PoolEvent}
 use Rattle.liq_types.specs.declared.requests.Command.{Command}
-use Rattle.liq_types.specs.State.{State, opening}
+use Rattle.liq_types.specs.State.{State, opening_with}
 use Rattle.liq_rules.specs.Events.{events}
 use Rattle.liq_journal.specs.declared.damage.Damage.{Damage}
 use Rattle.liq_journal.specs.declared.damage.What.{What}
@@ -31,5 +32,6 @@ abbrev pub review_of : List PoolEvent → Result State Damage → Result (List �
 review_of told (Err damage) = Err (stopped damage)
 review_of told (Ok s) = unless_above (number_above told) (shown (rows_of s told))
 
-abbrev pub reviewed : List Command → Result (List ℕ) ReviewFault
-reviewed commands = review_of (events opening commands) (replay 1 opening commands)
+abbrev pub reviewed : ℕ → List Command → Result (List ℕ) ReviewFault
+reviewed limit commands =
+    let start = opening_with limit in review_of (events start commands) (replay 1 start commands)

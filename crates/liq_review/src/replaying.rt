@@ -1,6 +1,7 @@
 //! The replay of a list of commands, and what they do to the Stability Pool.
 
 ghost use Rattle.std.specs.Prelude.{◌≡◌, ◌<◌, ◌^◌, ◌++◌, IfOk, IfErr, OnOk};
+ghost use Rattle.liq_types.specs.Image.{IsLimit};
 ghost use Rattle.liq_types.specs.State.{State};
 ghost use Rattle.liq_core.specs.Core.{StandsFor};
 ghost use Rattle.liq_review.specs.Replaying.{PlansNext, MakesNext, IsReplayed, StopsWithin};
@@ -13,27 +14,29 @@ use liq_types::{Command, Hint, NoMemory, PoolEvent, Steps};
 use std::alloc::Global;
 use std::sync::ledger::{Blank, Ledger};
 
-/// A protocol after commands from the opening on, and what they did to the Stability Pool.
+/// A protocol after commands from an opening on, and what they did to the Stability Pool.
 #[derive(Drop)]
 pub(crate) struct Made {
     pub(crate) protocol: Protocol,
     pub(crate) events: Vec<PoolEvent>,
 }
 
-/// Makes the commands' steps, one after the other, on a ledger of its own.
+/// Makes the commands' steps, one after the other, from the opening under this limit on, on a ledger of its own.
 pub(crate) fn replayed<L: Ledger>(
     alloc: Global,
+    limit: u64,
     commands: &[Command],
     blank: Blank,
 ) -> Result<Made, ReviewFault>
+    requires limit { IsLimit limit }
     requires name { blank.name ≡ L.name }
     requires parts { blank.parts ≡ L.parts }
     requires one { L.parts ≡ 1 }
-    ensures done { IfOk result (λ r. IsReplayed commands.now r.protocol r.events.items) }
-    ensures fault { IfErr result (StopsWithin commands.now) }
+    ensures done { IfOk result (λ r. IsReplayed limit commands.now r.protocol r.events.items) }
+    ensures fault { IfErr result (StopsWithin limit commands.now) }
 {
     let mut steps = Steps::<L>::new(blank);
-    let mut protocol = Protocol::new(alloc);
+    let mut protocol = Protocol::with_limit(alloc, limit);
     let mut guide = Guide::new(alloc);
     let mut events = Vec::new(alloc);
     for (i, command) in commands.iter().enumerate() {

@@ -1,7 +1,7 @@
 -- States with the same image and records: every request has the same reply and leaves the same image and records.
 use Rattle.std.proofs.Common.{◌≡◌, ℕ, ◌+◌, ◌-◌, ◌≤◌, List, [], ◌∷◌, refl, ap, sym, ◌∙◌, subst, arith}
 use Rattle.std.specs.Prelude.{unwrap_or, min, Result}
-use Rattle.liq_types.specs.declared.amounts.TheConstants.{RESERVE}
+use Rattle.liq_types.specs.declared.amounts.TheConstants.{LIM, RESERVE}
 use Rattle.liq_types.specs.declared.figures.Market.{Market}
 use Rattle.liq_types.specs.declared.replies.Refusal.{Refusal}
 use Rattle.liq_types.specs.declared.requests.Call.{Call}
@@ -162,7 +162,7 @@ effect_alike h (Liquidate liquidator account) = liquidate_alike h liquidator acc
 effect_alike h (LiquidateLowest liquidator count) = liquidate_lowest_alike h liquidator count
 effect_alike h (Redeem account lusd bound hint) = redeemed_alike h account lusd
 effect_alike h (Claim account) = paid_alike (surplus_taken_alike h account) account _ _ 0 0 (surplus_alike h account) refl
-effect_alike {s} {t} h Rotate = alike_by (λ i. record i { generation = i.generation + 1 }) s t _ _ h refl refl refl refl h.left h.right
+effect_alike {s} {t} h Rotate = alike_by (λ i. record i { generation = i.generation + 1; limit = LIM }) s t _ _ h refl refl refl refl h.left h.right
 
 -- ---- what replies show
 

@@ -1,5 +1,5 @@
--- What leaves the generation of the journal: every call but a rotation.
-use Rattle.std.proofs.Common.{◌≡◌, ℕ, ◌-◌, Bool, true, false, cond, List, [], ◌∷◌, Some, None, Option, refl, ◌∙◌}
+-- What leaves the generation of the journal and its limit: every call but a rotation.
+use Rattle.std.proofs.Common.{◌≡◌, ℕ, ◌-◌, Bool, true, false, cond, List, [], ◌∷◌, Some, None, Option, refl, ap, ◌∙◌}
 use Rattle.std.specs.Prelude.{◌==◌, fold}
 use Rattle.liq_types.specs.declared.amounts.TheConstants.{RESERVE}
 use Rattle.liq_types.specs.declared.requests.Call.{Call}
@@ -23,52 +23,63 @@ use Rattle.liq_rules.specs.Liquidation.{listed, all_liquidated}
 use Rattle.liq_rules.specs.Step.{effect}
 use Rattle.liq_rules.specs.Verbs.{rotates}
 
-lifted-generation : (s : State) (account : ℕ) (o : Option TroveEntry) → (lifted_entry s account o).generation ≡ s.generation
-lifted-generation s account None = refl
-lifted-generation s account (Some t) = refl
+-- generation and limit
+abbrev kept : State → ℕ × ℕ
+kept s = (s.generation, s.limit)
 
-cut-generation : (s : State) (cut : Cut) (o : Option (ℕ × ℕ)) → (cut_entire s cut o).generation ≡ s.generation
-cut-generation s cut None = refl
-cut-generation s cut (Some own) = by cut.full where
-  by : (b : Bool) → (cond b (closed_by s cut own) (set_trove s cut.account (own.0 - cut.draw) (own.1 - cut.lot))).generation ≡ s.generation
-  by true = lifted-generation s cut.account (at s.troves cut.account)
-  by false = lifted-generation s cut.account (at s.troves cut.account)
+lifted-kept : (s : State) (account : ℕ) (o : Option TroveEntry) → kept (lifted_entry s account o) ≡ kept s
+lifted-kept s account None = refl
+lifted-kept s account (Some t) = refl
 
-cuts-generation : (cuts : List Cut) (s : State) → (fold cut_down s cuts).generation ≡ s.generation
-cuts-generation [] s = refl
-cuts-generation (cut ∷ cuts) s = cuts-generation cuts (cut_down s cut) ∙ cut-generation s cut (entire_of s cut.account)
+cut-kept : (s : State) (cut : Cut) (o : Option (ℕ × ℕ)) → kept (cut_entire s cut o) ≡ kept s
+cut-kept s cut None = refl
+cut-kept s cut (Some own) = by cut.full where
+  by : (b : Bool) → kept (cond b (closed_by s cut own) (set_trove s cut.account (own.0 - cut.draw) (own.1 - cut.lot))) ≡ kept s
+  by true = lifted-kept s cut.account (at s.troves cut.account)
+  by false = lifted-kept s cut.account (at s.troves cut.account)
 
-liquidated-generation : (s : State) (liquidator : ℕ) (v : Victim) → (liquidated s liquidator v).generation ≡ s.generation
-liquidated-generation s liquidator v = by (at s.troves v.account) (v.one.offset_debt == 0) where
-  by : (o : Option TroveEntry) (b : Bool) → (cond b (lifted_entry s v.account o) (offset (lifted_entry s v.account o) v.one.offset_debt v.one.offset_coll)).generation ≡ s.generation
-  by o true = lifted-generation s v.account o
-  by o false = lifted-generation s v.account o
+cuts-kept : (cuts : List Cut) (s : State) → kept (fold cut_down s cuts) ≡ kept s
+cuts-kept [] s = refl
+cuts-kept (cut ∷ cuts) s = cuts-kept cuts (cut_down s cut) ∙ cut-kept s cut (entire_of s cut.account)
 
-all-generation : (vs : List Victim) (s : State) (liquidator : ℕ) → (all_liquidated s liquidator vs).generation ≡ s.generation
-all-generation [] s liquidator = refl
-all-generation (v ∷ vs) s liquidator = all-generation vs (liquidated s liquidator v) liquidator ∙ liquidated-generation s liquidator v
+liquidated-kept : (s : State) (liquidator : ℕ) (v : Victim) → kept (liquidated s liquidator v) ≡ kept s
+liquidated-kept s liquidator v = by (at s.troves v.account) (v.one.offset_debt == 0) where
+  by : (o : Option TroveEntry) (b : Bool) → kept (cond b (lifted_entry s v.account o) (offset (lifted_entry s v.account o) v.one.offset_debt v.one.offset_coll)) ≡ kept s
+  by o true = lifted-kept s v.account o
+  by o false = lifted-kept s v.account o
+
+all-kept : (vs : List Victim) (s : State) (liquidator : ℕ) → kept (all_liquidated s liquidator vs) ≡ kept s
+all-kept [] s liquidator = refl
+all-kept (v ∷ vs) s liquidator = all-kept vs (liquidated s liquidator v) liquidator ∙ liquidated-kept s liquidator v
+
+effect-kept : (s : State) (call : Call) → rotates call ≡ false → kept (effect s call) ≡ kept s
+effect-kept s (Price price) h = refl
+effect-kept s (Advance minutes) h = refl
+effect-kept s (Fund account coll) h = refl
+effect-kept s (Take account coll) h = refl
+effect-kept s (Send from to lusd) h = refl
+effect-kept s (Open account coll borrow bound hint) h = refl
+effect-kept s (Adjust account coll_in coll_out borrow repay bound hint) h =
+    let change : Change = record { coll_in = coll_in; coll_out = coll_out; borrow = borrow; repay = repay } in
+    let plan = adjusting_terms (market_of s) (or_nothing (entire_of s account)) change in
+    lifted-kept (credited (charged (with_fee s plan) account coll_in repay) account coll_out borrow) account (at s.troves account)
+effect-kept s (Close account) h =
+    let terms = closing_terms (or_nothing (entire_of s account)) in
+    let settled = credited (charged s account 0 terms.0) account terms.1 0 in
+    lifted-kept (record settled { reserve = settled.reserve - RESERVE }) account (at s.troves account)
+effect-kept s (Provide account lusd) h = refl
+effect-kept s (Withdraw account lusd) h = refl
+effect-kept s (GainToTrove account hint) h = lifted-kept (owned s account 0 0) account (at s.troves account)
+effect-kept s (Liquidate liquidator account) h = all-kept (listed (victim_by account (one s account))) s liquidator
+effect-kept s (LiquidateLowest liquidator count) h = all-kept (lowest s count) s liquidator
+effect-kept s (Redeem account lusd bound hint) h = cuts-kept (redeeming_terms (market_of s) (visited s) lusd).cuts s
+effect-kept s (Claim account) h = refl
+effect-kept s Rotate h = cc
 
 -- the effect of every call but a rotation leaves the generation
 pub effect-generation : (s : State) (call : Call) → rotates call ≡ false → (effect s call).generation ≡ s.generation
-effect-generation s (Price price) h = refl
-effect-generation s (Advance minutes) h = refl
-effect-generation s (Fund account coll) h = refl
-effect-generation s (Take account coll) h = refl
-effect-generation s (Send from to lusd) h = refl
-effect-generation s (Open account coll borrow bound hint) h = refl
-effect-generation s (Adjust account coll_in coll_out borrow repay bound hint) h =
-    let change : Change = record { coll_in = coll_in; coll_out = coll_out; borrow = borrow; repay = repay } in
-    let plan = adjusting_terms (market_of s) (or_nothing (entire_of s account)) change in
-    lifted-generation (credited (charged (with_fee s plan) account coll_in repay) account coll_out borrow) account (at s.troves account)
-effect-generation s (Close account) h =
-    let terms = closing_terms (or_nothing (entire_of s account)) in
-    let settled = credited (charged s account 0 terms.0) account terms.1 0 in
-    lifted-generation (record settled { reserve = settled.reserve - RESERVE }) account (at s.troves account)
-effect-generation s (Provide account lusd) h = refl
-effect-generation s (Withdraw account lusd) h = refl
-effect-generation s (GainToTrove account hint) h = lifted-generation (owned s account 0 0) account (at s.troves account)
-effect-generation s (Liquidate liquidator account) h = all-generation (listed (victim_by account (one s account))) s liquidator
-effect-generation s (LiquidateLowest liquidator count) h = all-generation (lowest s count) s liquidator
-effect-generation s (Redeem account lusd bound hint) h = cuts-generation (redeeming_terms (market_of s) (visited s) lusd).cuts s
-effect-generation s (Claim account) h = refl
-effect-generation s Rotate h = cc
+effect-generation s call h = ap (λ (pair : ℕ × ℕ). pair.0) (effect-kept s call h)
+
+-- and the limit
+pub effect-limit : (s : State) (call : Call) → rotates call ≡ false → (effect s call).limit ≡ s.limit
+effect-limit s call h = ap (λ (pair : ℕ × ℕ). pair.1) (effect-kept s call h)

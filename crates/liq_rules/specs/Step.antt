@@ -1,6 +1,8 @@
 -- The step: what a request does to a state, and the reply.
-use Rattle.std.specs.Prelude.{ℕ, ◌+◌, ◌==◌, ◌&&◌, Bool, true, false, not, nat_le, List, [], ◌∷◌, ◌++◌, map, Option, None, Some, if◌then◌else◌}
-use Rattle.liq_types.specs.declared.amounts.TheConstants.{ACCOUNTS, RECORDS_MOST, GENERATIONS_MOST, CHECKPOINT_BYTES_MOST}
+use Rattle.std.specs.Prelude.{ℕ, ◌+◌, ◌==◌, ◌&&◌, Bool, true, false, not, nat_le, Option, None, Some}
+use Rattle.std.specs.Prelude.{List, [], ◌∷◌, ◌++◌, map, if◌then◌else◌}
+use Rattle.liq_types.specs.declared.amounts.TheConstants.{ACCOUNTS, RECORDS_MOST}
+use Rattle.liq_types.specs.declared.amounts.TheConstants.{GENERATIONS_MOST, CHECKPOINT_BYTES_MOST}
 use Rattle.liq_types.specs.declared.replies.Done.{Done}
 use Rattle.liq_types.specs.declared.replies.Refusal.{Refusal}
 use Rattle.liq_types.specs.declared.replies.Refusal.TheVariants.{AccountRange, AmountLimit, OutOfTurn, JournalFull}
@@ -53,7 +55,8 @@ after s c = noted (effect s c.call) c (done_of s c.call)
 
 -- ---- the journal's limits
 
--- A journal is full until it is rotated, and there are only so many generations, each with a checkpoint of limited length.
+-- A journal is full until it is rotated, and there are only so many generations, each with a checkpoint of limited
+-- length.
 abbrev pub room_rules : State → Command → List Rule
 room_rules s c =
     if rotates c.call

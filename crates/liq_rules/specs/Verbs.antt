@@ -2,7 +2,9 @@
 use Rattle.std.specs.Prelude.{ℕ, Bool, true, false, List, [], ◌∷◌, None}
 use Rattle.liq_types.specs.declared.hints.HintWords.{HintWords}
 use Rattle.liq_types.specs.declared.requests.Call.{Call}
-use Rattle.liq_types.specs.declared.requests.Call.TheVariants.{Price, Advance, Fund, Take, Send, Open, Adjust, Close, Provide, Withdraw, GainToTrove, Liquidate, LiquidateLowest, Redeem, Claim, Rotate}
+use Rattle.liq_types.specs.declared.requests.Call.TheVariants.{Price, Advance, Fund, Take, Send, Open, Adjust, Close}
+use Rattle.liq_types.specs.declared.requests.Call.TheVariants.{Provide, Withdraw, GainToTrove, Liquidate}
+use Rattle.liq_types.specs.declared.requests.Call.TheVariants.{LiquidateLowest, Redeem, Claim, Rotate}
 use Rattle.liq_types.specs.declared.requests.Command.{Command}
 
 -- ---- the list of verbs
@@ -84,7 +86,8 @@ no_hint = record { prev = None; next = None }
 
 abbrev pub unhinted_call : Call → Call
 unhinted_call (Open account coll borrow bound hint) = Open account coll borrow bound no_hint
-unhinted_call (Adjust account coll_in coll_out borrow repay bound hint) = Adjust account coll_in coll_out borrow repay bound no_hint
+unhinted_call (Adjust account coll_in coll_out borrow repay bound hint) =
+    Adjust account coll_in coll_out borrow repay bound no_hint
 unhinted_call (GainToTrove account hint) = GainToTrove account no_hint
 unhinted_call (Redeem account lusd bound hint) = Redeem account lusd bound no_hint
 unhinted_call call = call

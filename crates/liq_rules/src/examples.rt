@@ -4,11 +4,12 @@
 ghost use Rattle.std.specs.Prelude.{◌≡◌, [], ◌∷◌, pos, take};
 ghost use Rattle.liq_types.specs.declared.events.ListChange.TheVariants.{Put, Gone, Words};
 ghost use Rattle.liq_types.specs.declared.requests.Call.TheVariants.{Open, Adjust, Close, Liquidate};
-ghost use Rattle.liq_types.specs.State.{opening};
+ghost use Rattle.liq_types.specs.declared.amounts.TheConstants.{LIM_OF_VERSION_1};
+ghost use Rattle.liq_types.specs.State.{opening, opening_with};
 ghost use Rattle.liq_stability.specs.Lawful.{IsLawful};
 ghost use Rattle.liq_rules.specs.BorrowingExamples.{adjusting_and_closing, adjusting_and_closing_replies, adjusting_to_limits, adjusting_to_limits_replies, totals_too_low, totals_too_low_replies, ratio_falls, ratio_falls_replies};
 ghost use Rattle.liq_rules.specs.Events.{events};
-ghost use Rattle.liq_rules.specs.LimitExamples.{with_full_journal, full_journal, full_journal_replies, in_last_generation, last_generation, last_generation_replies, with_greatest_sum, greatest_sum, greatest_sum_replies};
+ghost use Rattle.liq_rules.specs.LimitExamples.{with_full_journal, full_journal, full_journal_replies, in_last_generation, last_generation, last_generation_replies, of_version_1, of_version_1_replies, with_greatest_sum, greatest_sum, greatest_sum_replies};
 ghost use Rattle.liq_rules.specs.RedemptionExamples.{nothing_to_redeem, nothing_to_redeem_replies, redeemed_and_struck, redeemed_and_struck_replies};
 ghost use Rattle.liq_rules.specs.Dust.{dust};
 ghost use Rattle.liq_rules.specs.Rules.{call_changes};
@@ -159,6 +160,11 @@ pub fn full_journal_example()
 /// After the last generation there is no rotation.
 pub fn last_generation_example()
     ensures { (run in_last_generation last_generation).1 ≡ last_generation_replies }
+{}
+
+/// The opening of version 1 has the lesser limit, and a rotation the greater one.
+pub fn version_1_example()
+    ensures { (run (opening_with LIM_OF_VERSION_1) of_version_1).1 ≡ of_version_1_replies }
 {}
 
 /// A liquidation may not raise a sum per stake past its limit.

@@ -16,9 +16,9 @@ ghost use Rattle.liq_types.specs.declared.requests.Request.{Request};
 ghost use Rattle.liq_types.specs.declared.requests.Request.TheVariants.{Do, Ask};
 ghost use Rattle.liq_types.specs.Codes.{value_count};
 ghost use Rattle.liq_types.specs.declared.image.Image.{Image};
-ghost use Rattle.liq_types.specs.Image.{opening_image};
+ghost use Rattle.liq_types.specs.Image.{opening_image_with};
 ghost use Rattle.liq_types.specs.Soundness.{IsSoundImage};
-ghost use Rattle.liq_types.specs.State.{State, opening, started, wallet_of, client_of};
+ghost use Rattle.liq_types.specs.State.{State, opening_with, started, wallet_of, client_of};
 ghost use Rattle.liq_types.specs.Payments.{credited, charged};
 ghost use Rattle.liq_rules.specs.Dust.{IsCovered, dust};
 ghost use Rattle.liq_rules.specs.History.{Entry, IsLegal, GoesOn, requests_of, state_after};
@@ -57,12 +57,12 @@ pub fn hints_change_nothing()
     ensures { (s : State) → (c : Command) → step s (Do c) ≡ step s (Do (unhinted c)) }
 {}
 
-/// At the opening the image has nothing but the price, a product that is whole and the first generation, all is conserved,
-/// and no dust is owed.
+/// At the opening, whatever its limit, the image has nothing but the price, a product that is whole and the first generation,
+/// all is conserved, and no dust is owed.
 pub fn opening_has_nothing()
-    ensures image { image opening ≡ opening_image }
-    ensures conserved { IsConserved opening }
-    ensures covered { IsCovered (dust opening) }
+    ensures image { (limit : ℕ) → image (opening_with limit) ≡ opening_image_with limit }
+    ensures conserved { (limit : ℕ) → IsConserved (opening_with limit) }
+    ensures covered { (limit : ℕ) → IsCovered (dust (opening_with limit)) }
 {}
 
 /// The image law: two states that are the same (their images and their records are equal) rule alike on every command, give
@@ -88,9 +88,9 @@ pub fn states_begin_again()
     ensures same { (s : State) → IsWellFormed s → IsSameState (record (started (image s)) { records = s.records }) s }
 {}
 
-/// The opening state is well formed, and so is each state that a call, a step or a run leads to from one that is.
+/// The opening state is well formed, whatever its limit, and so is each state that a call, a step or a run leads to from one that is.
 pub fn states_are_well_formed()
-    ensures opening { IsWellFormed opening }
+    ensures opening { (limit : ℕ) → IsWellFormed (opening_with limit) }
     ensures effect { (s : State) → IsWellFormed s → (call : Call) → IsWellFormed (effect s call) }
     ensures step { (s : State) → IsWellFormed s → (request : Request) → IsWellFormed (step s request).0 }
     ensures run { (s : State) → IsWellFormed s → (requests : List Request) → IsWellFormed (run s requests).0 }
@@ -124,10 +124,11 @@ pub fn payments_move_exactly()
     ensures charged_lusd { (s : State) → (account coll lusd : ℕ) → WalletsAscend s → lusd ≤ (wallet_of s account).lusd → wallets_lusd (charged s account coll lusd) + lusd ≡ wallets_lusd s }
 {}
 
-/// The tables of every state that is reached from the opening are in the order of their keys, and a step keeps them so.
+/// The tables of every state that is reached from the opening, whatever its limit, are in the order of their keys, and a step
+/// keeps them so.
 pub fn tables_stay_in_order()
     ensures step { (s : State) → TablesAscend s → (request : Request) → TablesAscend (step s request).0 }
-    ensures run { (requests : List Request) → TablesAscend (run opening requests).0 }
+    ensures run { (limit : ℕ) → (requests : List Request) → TablesAscend (run (opening_with limit) requests).0 }
 {}
 
 /// What is conserved holds of every sound image.

@@ -3,6 +3,7 @@ pub mod SoundBounds
 pub mod SoundCalls
 pub mod SoundEvents
 pub mod SoundFacts
+pub mod SoundLimits
 pub mod SoundLiquidate
 pub mod SoundPool
 pub mod SoundProducts

@@ -9,6 +9,7 @@ use Rattle.liq_types.specs.declared.figures.Market.{Market}
 use Rattle.liq_types.specs.declared.figures.Trove.{Trove}
 use Rattle.liq_types.specs.declared.hints.HintWords.{HintWords}
 use Rattle.liq_types.specs.declared.requests.Call.TheVariants.{Open, GainToTrove}
+use Rattle.liq_types.specs.Image.{IsLimit}
 use Rattle.liq_types.specs.Payments.{credited, charged}
 use Rattle.liq_types.specs.Rules.{first_refusal}
 use Rattle.liq_types.specs.State.{State, TroveEntry, After, wallet_of}
@@ -70,7 +71,7 @@ ranges_with s t h r k price minute fee_minute base generation limit =
       base = omega (arith, base, k.base);
       first_generation = omega (arith, generation, h.first_generation);
       last_generation = omega (arith, generation, h.last_generation);
-      limit = limit ∙ h.limit;
+      limit = subst IsLimit (sym limit) h.limit;
     }
 
 -- ---- a trove that is there
@@ -169,7 +170,7 @@ open_leaves s f account coll borrow bound hint k h =
     let conserved = opening_conserves s account coll borrow bound (in_order s f.stands) h (conserved_by s f.stands f.balanced.homes) in
     record {
       stands = placed_stands (record lent { reserve = lent.reserve + RESERVE }) account coll plan.debt k a.absent a.some a.least (reserve_stands lent (lent.reserve + RESERVE) moved);
-      rest = rest_in_place s (opened s account borrow plan) (homes_of _ conserved) f.balanced.coll_limit (omega (arith, a.limit, f.ranges.limit))
+      rest = rest_in_place s (opened s account borrow plan) (homes_of _ conserved) f.limited.coll (omega (arith, a.limit))
           (ranges_with s (opened s account borrow plan) f.ranges plan.rate (borrowed_in_range s f.ranges borrow) refl refl refl refl refl refl) refl refl refl refl refl
           (λ h. all-put (λ (x : TroveEntry). IsSetSince x.mark) s.troves account (record { coll = coll; debt = plan.debt; stake = stake_for (record lent { reserve = lent.reserve + RESERVE }) coll; mark = After (length s.redistributions) }) tt h);
     }
@@ -257,7 +258,7 @@ module _ (s : State) (f : Finds s) (account coll debt : ℕ) (change : Change) (
         surplus = c.surplus;
       } in
       subst (λ (o : Option TroveEntry). Rest 0 s (placed (lifted_entry moved account o) account plan.coll plan.debt)) (sym has.there)
-      (rest_in_place s made homes f.balanced.coll_limit (omega (arith, a.limit, f.ranges.limit, has.debt_is, w.debt, w.pending_debt))
+      (rest_in_place s made homes f.limited.coll (omega (arith, a.limit, has.debt_is, w.debt, w.pending_debt))
       (ranges_with s made f.ranges plan.rate (borrowed_in_range s f.ranges change.borrow) refl refl refl refl refl refl) refl refl refl refl refl
       (λ n. all-put (λ (x : TroveEntry). IsSetSince x.mark) (without s.troves account) account (record { coll = plan.coll; debt = plan.debt; stake = stake_for moved plan.coll; mark = After (length s.redistributions) }) tt (all-without (λ (x : TroveEntry). IsSetSince x.mark) s.troves account n)))
 
@@ -310,9 +311,9 @@ module _ (s : State) (f : Finds s) (account coll debt : ℕ) (there : entire_of 
         reserve = omega (arith, gone, c.reserve);
         surplus = c.surplus;
       } in
-      let limit = f.balanced.debt_limit in
+      let limit = f.limited.debt in
       subst (λ (o : Option TroveEntry). Rest 0 s (lifted_entry burned account o)) (sym has.there)
-      (rest_in_place s left homes f.balanced.coll_limit (omega (arith, limit)) (same_range s f left refl refl refl refl refl refl) refl refl refl refl refl
+      (rest_in_place s left homes f.limited.coll (omega (arith, limit)) (same_range s f left refl refl refl refl refl refl) refl refl refl refl refl
       (λ n. all-without (λ (x : TroveEntry). IsSetSince x.mark) s.troves account n))
 
 pub close_leaves : (s : State) → Finds s → (account : ℕ) → account < ACCOUNTS → first_refusal (close_rules (market_of s) (wallet_of s account) (entire_of s account) account) ≡ None → Leaves 0 s (closed s account (closing_terms (or_nothing (entire_of s account))).0 (closing_terms (or_nothing (entire_of s account))).1)
@@ -352,7 +353,7 @@ module _ (s : State) (f : Finds s) (account coll debt : ℕ) (there : entire_of 
       let within = gain_within s (at s.deposits account) in
       let gone = length-without s.troves account e has.there in
       let back = length-put (without s.troves account) account (record { coll = coll + gain; debt = debt; stake = stake_for pooled (coll + gain); mark = After (length s.redistributions) }) (at-without_same s.troves account (trove_table s f.stands.troves.ascend)) in
-      let limit = f.balanced.debt_limit in
+      let limit = f.limited.debt in
       let made = placed (lifted_entry pooled account (Some e)) account (coll + gain) debt in
       let homes : Homes made = record {
         coll = omega (arith, c.coll, left, within, has.coll_is, w.coll, w.pending_coll);
@@ -361,7 +362,7 @@ module _ (s : State) (f : Finds s) (account coll debt : ℕ) (there : entire_of 
         surplus = c.surplus;
       } in
       subst (λ (o : Option TroveEntry). Rest 0 s (placed (lifted_entry pooled account o) account (coll + gain) debt)) (sym has.there)
-      (rest_in_place s made homes f.balanced.coll_limit (omega (arith, limit, has.debt_is, w.debt, w.pending_debt))
+      (rest_in_place s made homes f.limited.coll (omega (arith, limit, has.debt_is, w.debt, w.pending_debt))
       (same_range s f made refl refl refl refl refl refl) refl refl refl refl refl
       (λ n. all-put (λ (x : TroveEntry). IsSetSince x.mark) (without s.troves account) account (record { coll = coll + gain; debt = debt; stake = stake_for pooled (coll + gain); mark = After (length s.redistributions) }) tt (all-without (λ (x : TroveEntry). IsSetSince x.mark) s.troves account n)))
 

@@ -17,7 +17,8 @@ use Rattle.liq_types.specs.declared.requests.Request.{Request}
 use Rattle.liq_types.specs.declared.requests.Request.TheVariants.{Do, Ask}
 use Rattle.liq_types.specs.Product.{is_place, place_of, sumat, IsWithinRange, TakesPartUpTo, product_after, rise_of}
 use Rattle.liq_types.specs.Rules.{first_refusal}
-use Rattle.liq_types.specs.State.{State, Mark, AtStart, After, StakeSums, TroveEntry, DepositEntry, Redistribution, opening, wallet_of, surplus_of, no_wallet}
+use Rattle.liq_types.specs.Image.{IsLimit}
+use Rattle.liq_types.specs.State.{State, Mark, AtStart, After, StakeSums, TroveEntry, DepositEntry, Redistribution, opening_with, wallet_of, surplus_of, no_wallet}
 use Rattle.liq_types.specs.Tables.{Place, Table, at, map_rows}
 use Rattle.liq_types.specs.Totals.{pool_total}
 use Rattle.liq_types.specs.WellFormed.{IsWellFormed}
@@ -235,10 +236,10 @@ run_keeps (Do c ∷ requests) s h = by (ruling s c) refl (run_keeps requests s h
       let rest = later (after_sound s h c e) in
       record { snap = λ n. rest.snap (first.snap n); marks = λ n. rest.marks (first.marks n) }
 
-pub reached_snapshot : (requests : List Request) → SnapshotWithin LIM (run opening requests).0
-reached_snapshot requests =
-    let k = run_keeps requests opening opening_sound in
-    let f = sound_facts (run opening requests).0 (run_sound requests opening opening_sound) in
+pub reached_snapshot : (limit : ℕ) → IsLimit limit → (requests : List Request) → SnapshotWithin LIM (run (opening_with limit) requests).0
+reached_snapshot limit known requests =
+    let k = run_keeps requests (opening_with limit) (opening_sound limit known) in
+    let f = sound_facts (run (opening_with limit) requests).0 (run_sound requests (opening_with limit) (opening_sound limit known)) in
     let coll = k.snap (omega arith) in
     record { stakes = omega (arith, f.stands.troves.snap, coll); coll = coll }
 
@@ -246,10 +247,10 @@ set_since : (m : Mark StakeSums) → IsSetSince m → (n : ℕ) × (m ≡ After 
 set_since (AtStart fields) h = absurd h
 set_since (After n) h = (n, refl)
 
-pub reached_marks : (requests : List Request) (account : ℕ) (t : TroveEntry) → at (run opening requests).0.troves account ≡ Some t → (n : ℕ) × (t.mark ≡ After n)
-reached_marks requests account t there =
-    let k = run_keeps requests opening opening_sound in
-    set_since t.mark (all-at (λ (x : TroveEntry). IsSetSince x.mark) (run opening requests).0.troves account t (k.marks tt) there)
+pub reached_marks : (limit : ℕ) → IsLimit limit → (requests : List Request) (account : ℕ) (t : TroveEntry) → at (run (opening_with limit) requests).0.troves account ≡ Some t → (n : ℕ) × (t.mark ≡ After n)
+reached_marks limit known requests account t there =
+    let k = run_keeps requests (opening_with limit) (opening_sound limit known) in
+    set_since t.mark (all-at (λ (x : TroveEntry). IsSetSince x.mark) (run (opening_with limit) requests).0.troves account t (k.marks tt) there)
 
 -- ---- products
 

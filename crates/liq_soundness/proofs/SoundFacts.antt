@@ -1,6 +1,6 @@
 -- What stands of a sound state, topic by topic, and that each change of a state keeps it, also in the middle of a verb. What
 -- is conserved holds after a whole verb only, and is told beside it.
-use Rattle.std.proofs.Common.{◌≡◌, ℕ, ◌+◌, ◌-◌, ◌*◌, ◌^◌, ◌≤◌, ◌<◌, Bool, true, false, cond, List, [], ◌∷◌, ◌++◌, refl, ap, sym, ◌∙◌, subst, arith, Some, None, Option}
+use Rattle.std.proofs.Common.{◌≡◌, ℕ, ◌+◌, ◌-◌, ◌*◌, ◌^◌, ◌≤◌, ◌<◌, Bool, true, false, cond, inl, inr, List, [], ◌∷◌, ◌++◌, refl, ap, sym, ◌∙◌, subst, arith, Some, None, Option}
 use Rattle.std.specs.Prelude.{◌==◌, unwrap_or, option_map, sum}
 use Rattle.std.specs.BTreeMap.{is_at}
 use Rattle.std.specs.Cmp.{nat_cmp_total}
@@ -16,6 +16,7 @@ use Rattle.std.proofs.lemmas.Map.Made.{keys_of-map_values}
 use Rattle.liq_types.specs.declared.amounts.TheConstants.{ACCOUNTS, OFFSET_MOST, RISES_MOST, SUM_MOST, RESERVE, MIN_NET, ONE, PRICE_LEAST, PRICE_MOST, MINUTE_MOST, GENERATIONS_MOST, LIM}
 use Rattle.liq_types.specs.declared.figures.Wallet.{Wallet}
 use Rattle.liq_types.specs.declared.figures.Client.{Client}
+use Rattle.liq_types.specs.Image.{IsLimit}
 use Rattle.liq_types.specs.Payments.{credited, charged, surplus_added, surplus_taken}
 use Rattle.liq_types.specs.Product.{ScaledProduct}
 use Rattle.liq_types.specs.Soundness.{IsClientRow, is_sound_client, coll_homes, lusd_homes}
@@ -143,13 +144,29 @@ pub record InRange (s : State) : Type 0 where
   pub base : s.base ≤ ONE
   pub first_generation : 1 ≤ s.generation
   pub last_generation : s.generation ≤ GENERATIONS_MOST
-  pub limit : s.limit ≡ LIM
+  pub limit : IsLimit s.limit
 
--- what a call finds
+-- what is inside, by the state's own limit
+pub record Limited (s : State) : Type 0 where
+  pub coll : s.brought ≤ s.limit
+  pub debt : s.active_debt + s.default_debt ≤ s.limit
+
+-- what a call finds: all amounts are within the greater limit, and what is inside is within the state's own
 pub record Finds (s : State) : Type 0 where
   pub stands : Stands LIM s
   pub balanced : Balanced LIM s
+  pub limited : Limited s
   pub ranges : InRange s
+
+pub limit_most : (limit : ℕ) → IsLimit limit → limit ≤ LIM
+limit_most limit (inl lesser) = omega (arith, lesser)
+limit_most limit (inr greater) = omega (arith, greater)
+
+-- what is within a state's own limit is within the greater one
+pub balanced_by : (s : State) → Homes s → Limited s → IsLimit s.limit → Balanced LIM s
+balanced_by s homes own limit =
+    let most = limit_most s.limit limit in
+    record { homes = homes; coll_limit = omega (arith, own.coll, most); debt_limit = omega (arith, own.debt, most) }
 
 -- ---- tables in order
 
@@ -328,8 +345,7 @@ words_stand s price minute brought h =
 -- all but what stands of tables; the pool's place moves by so many steps at most
 pub record Rest (few : ℕ) (s t : State) : Type 0 where
   pub homes : Homes t
-  pub coll_limit : t.brought ≤ LIM
-  pub debt_limit : t.active_debt + t.default_debt ≤ LIM
+  pub limited : Limited t
   pub ranges : InRange t
   pub scale : (words_of t).scale ≤ (words_of s).scale + few
   pub epoch : (words_of t).epoch ≤ (words_of s).epoch + few
@@ -341,14 +357,13 @@ pub record Rest (few : ℕ) (s t : State) : Type 0 where
   pub marks : AreSetSince s.troves → AreSetSince t.troves
 
 -- a verb that keeps the pool's place, the counts and the snapshot
-pub rest_in_place : (s t : State) → Homes t → t.brought ≤ LIM → t.active_debt + t.default_debt ≤ LIM → InRange t → words_of t ≡ words_of s → t.generation ≡ s.generation → t.records ≡ s.records → t.clients ≡ s.clients → t.snap_coll ≡ s.snap_coll → (AreSetSince s.troves → AreSetSince t.troves) → Rest 0 s t
-rest_in_place s t homes coll_limit debt_limit ranges words generation records clients snap marks =
+pub rest_in_place : (s t : State) → Homes t → t.brought ≤ t.limit → t.active_debt + t.default_debt ≤ t.limit → InRange t → words_of t ≡ words_of s → t.generation ≡ s.generation → t.records ≡ s.records → t.clients ≡ s.clients → t.snap_coll ≡ s.snap_coll → (AreSetSince s.troves → AreSetSince t.troves) → Rest 0 s t
+rest_in_place s t homes coll debt ranges words generation records clients snap marks =
     let scale = ap (λ (v : ScaledProduct). v.scale) words in
     let epoch = ap (λ (v : ScaledProduct). v.epoch) words in
     record {
       homes = homes;
-      coll_limit = coll_limit;
-      debt_limit = debt_limit;
+      limited = record { coll = coll; debt = debt };
       ranges = ranges;
       scale = omega (arith, scale);
       epoch = omega (arith, epoch);
@@ -403,7 +418,8 @@ pub finds_after : {few : ℕ} (s t : State) → Leaves few s t → Finds t
 finds_after s t h =
     record {
       stands = h.stands;
-      balanced = record { homes = h.rest.homes; coll_limit = h.rest.coll_limit; debt_limit = h.rest.debt_limit };
+      balanced = balanced_by t h.rest.homes h.rest.limited h.rest.ranges.limit;
+      limited = h.rest.limited;
       ranges = h.rest.ranges;
     }
 
@@ -411,7 +427,7 @@ pub leaves_itself : (s : State) → Finds s → Leaves 0 s s
 leaves_itself s f =
     record {
       stands = f.stands;
-      rest = rest_in_place s s f.balanced.homes f.balanced.coll_limit f.balanced.debt_limit f.ranges refl refl refl refl refl (λ k. k);
+      rest = rest_in_place s s f.balanced.homes f.limited.coll f.limited.debt f.ranges refl refl refl refl refl (λ k. k);
     }
 
 pub leaves_then : (few more many : ℕ) (r s t : State) → few + more ≤ many → Leaves few r s → Leaves more s t → Leaves many r t
@@ -422,8 +438,7 @@ leaves_then few more many r s t k g h =
       stands = h.stands;
       rest = record {
         homes = b.homes;
-        coll_limit = b.coll_limit;
-        debt_limit = b.debt_limit;
+        limited = b.limited;
         ranges = b.ranges;
         scale = omega (arith, a.scale, b.scale, k);
         epoch = omega (arith, a.epoch, b.epoch, k);

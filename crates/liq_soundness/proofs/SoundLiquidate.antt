@@ -212,7 +212,7 @@ module _ (s : State) (f : Finds s) (liquidator : ℕ) (k : liquidator < ACCOUNTS
       let p = x.parts in
       let none = no_offset e in
       let nothing = p.worth_less in
-      let limit = f.balanced.debt_limit in
+      let limit = f.limited.debt in
       let before = surplus_added (snapped (redistributed gone made.spread_coll made.spread_debt)) account made.surplus in
       let burned = record before { reserve = before.reserve - RESERVE } in
       let c1 = paid_coll burned liquidator made.gas RESERVE f.stands.wallets.ascend in
@@ -226,8 +226,7 @@ module _ (s : State) (f : Finds s) (liquidator : ℕ) (k : liquidator < ACCOUNTS
           reserve = omega (arith, rows, c.reserve);
           surplus = omega (arith, surplus, c.surplus);
         };
-        coll_limit = f.balanced.coll_limit;
-        debt_limit = omega (arith, limit, p.debt_is, x.has.debt_is, w.debt, w.pending_debt);
+        limited = record { coll = f.limited.coll; debt = omega (arith, limit, p.debt_is, x.has.debt_is, w.debt, w.pending_debt) };
         ranges = same_ranges true;
         scale = omega arith;
         epoch = omega arith;
@@ -241,7 +240,7 @@ module _ (s : State) (f : Finds s) (liquidator : ℕ) (k : liquidator < ACCOUNTS
       let c = f.balanced.homes in
       let w = x.has.within in
       let p = x.parts in
-      let limit = f.balanced.debt_limit in
+      let limit = f.limited.debt in
       let left = offset gone made.offset_debt made.offset_coll in
       let before = surplus_added (snapped (redistributed left made.spread_coll made.spread_debt)) account made.surplus in
       let burned = record before { reserve = before.reserve - RESERVE } in
@@ -259,8 +258,7 @@ module _ (s : State) (f : Finds s) (liquidator : ℕ) (k : liquidator < ACCOUNTS
           reserve = omega (arith, rows, c.reserve);
           surplus = omega (arith, surplus, c.surplus);
         };
-        coll_limit = f.balanced.coll_limit;
-        debt_limit = omega (arith, limit, p.debt_is, x.has.debt_is, w.debt, w.pending_debt);
+        limited = record { coll = f.limited.coll; debt = omega (arith, limit, p.debt_is, x.has.debt_is, w.debt, w.pending_debt) };
         ranges = same_ranges false;
         scale = omega (arith, moves.scale);
         epoch = omega (arith, moves.epoch);

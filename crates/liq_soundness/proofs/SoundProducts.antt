@@ -8,7 +8,8 @@ use Rattle.liq_num.proofs.Digits.{power_of-le}
 use Rattle.liq_types.specs.declared.amounts.TheConstants.{LIM, ONE, RESERVE, OFFSET_MOST, P_OPENING, DECAY}
 use Rattle.liq_types.specs.declared.figures.Wallet.{Wallet}
 use Rattle.liq_types.specs.declared.requests.Request.{Request}
-use Rattle.liq_types.specs.State.{State, TroveEntry, opening, wallet_of}
+use Rattle.liq_types.specs.Image.{IsLimit}
+use Rattle.liq_types.specs.State.{State, TroveEntry, opening_with, wallet_of}
 use Rattle.liq_types.specs.Tables.{Table, at}
 use Rattle.liq_types.specs.Totals.{pool_total}
 use Rattle.liq_rate.specs.Rate.{borrow_rate, redeem_rate}
@@ -152,8 +153,8 @@ stake_fits s h small coll inside =
     let both : coll * s.snap_stakes ≤ LIM * s.snap_stakes = mul-le-mul_right s.snap_stakes (omega (arith, inside, a.brought)) in
     omega (arith, both, small)
 
-pub stake_reached_fits : (requests : List Request) (coll : ℕ) → coll ≤ (run opening requests).0.brought → coll * (run opening requests).0.snap_stakes ≤ LIM * LIM
-stake_reached_fits requests coll inside =
-    let s = (run opening requests).0 in
-    let a = amounts_within s (run_sound requests opening opening_sound) in
-    both_within coll s.snap_stakes LIM LIM (omega (arith, inside, a.brought)) (reached_snapshot requests).stakes
+pub stake_reached_fits : (limit : ℕ) → IsLimit limit → (requests : List Request) (coll : ℕ) → coll ≤ (run (opening_with limit) requests).0.brought → coll * (run (opening_with limit) requests).0.snap_stakes ≤ LIM * LIM
+stake_reached_fits limit known requests coll inside =
+    let s = (run (opening_with limit) requests).0 in
+    let a = amounts_within s (run_sound requests (opening_with limit) (opening_sound limit known)) in
+    both_within coll s.snap_stakes LIM LIM (omega (arith, inside, a.brought)) (reached_snapshot limit known requests).stakes

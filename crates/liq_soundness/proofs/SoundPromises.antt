@@ -9,8 +9,9 @@ use Rattle.liq_types.specs.declared.figures.Trove.{Trove}
 use Rattle.liq_types.specs.declared.requests.Request.{Request}
 use Rattle.liq_types.specs.Allowance.{balance_allowance, gain_allowance}
 use Rattle.liq_types.specs.declared.image.Image.{Image}
-use Rattle.liq_types.specs.PlainLedger.{exact_share, den_of, offsets_coll, gains_paid_to, over_accounts}
-use Rattle.liq_types.specs.State.{State, DepositEntry, opening}
+use Rattle.liq_types.specs.PlainLedger.{AreOwnedBelow, exact_share, den_of, offsets_coll, gains_paid_to, over_accounts}
+use Rattle.liq_types.specs.Image.{IsLimit}
+use Rattle.liq_types.specs.State.{State, DepositEntry, opening, opening_with}
 use Rattle.liq_types.specs.Tables.{at}
 use Rattle.liq_types.specs.Totals.{pool_total, pool_coll}
 use Rattle.liq_types.specs.WellFormed.{IsWellFormed}
@@ -19,6 +20,7 @@ use Rattle.liq_troves.specs.Rows.{pending}
 use Rattle.liq_troves.specs.Standing.{books_of}
 use Rattle.liq_troves.specs.StakeSums.{trove_row, pending_coll, pending_debt}
 use Rattle.liq_troves.proofs.Standing.{pending_covered}
+use Rattle.liq_stability.specs.Lawful.{IsLawful}
 use Rattle.liq_stability.specs.Own.{after_events, pool_of}
 use Rattle.liq_stability.specs.Position.{balance_of, gain_of}
 use Rattle.liq_stability.specs.Promise.{IsWithinAllowance}
@@ -31,9 +33,28 @@ use Rattle.liq_soundness.specs.SoundState.{IsSoundState}
 use Rattle.liq_rules.specs.Step.{accepted, run}
 use Rattle.liq_rules.proofs.Alike.{balance_row, gain_row, balance-image, gain-image}
 use Rattle.liq_soundness.proofs.SoundEvents.{run_follows}
+use Rattle.liq_soundness.proofs.SoundLimits.{under, under-events, lawful_from_under}
 use Rattle.liq_soundness.proofs.SoundStart.{opening_sound}
 use Rattle.liq_soundness.proofs.SoundStep.{run_sound}
 use Rattle.liq_soundness.proofs.SoundTests.{sound_facts}
+
+-- ---- what a run from the opening does to the pool
+
+-- its events are as lawful under the greater limit, and the pool is what they leave of it but for the limit
+pub record Reaches (limit : ℕ) (t : State) (es : List PoolEvent) : Type 0 where
+  pub lawful : IsLawful opening es
+  pub pool : pool_of t ≡ pool_of (under limit (after_events es))
+  pub owners : AreOwnedBelow ACCOUNTS es
+
+pub reached_pool : (limit : ℕ) → IsLimit limit → (requests : List Request) → Reaches limit (run (opening_with limit) requests).0 (events (opening_with limit) (accepted (opening_with limit) requests))
+reached_pool limit known requests =
+    let h = run_follows requests (opening_with limit) (opening_sound limit known) in
+    let es = events (opening_with limit) (accepted (opening_with limit) requests) in
+    record {
+      lawful = lawful_from_under LIM limit es opening h.lawful;
+      pool = h.pool ∙ ap pool_of (under-events limit es opening);
+      owners = h.owners;
+    }
 
 -- ---- the shares of depositors
 
@@ -55,56 +76,56 @@ balance_pool s t account e = ap (λ (q : State). balance_of q account) e
 gain_pool : (s t : State) (account : ℕ) → pool_of s ≡ pool_of t → gain_of s account ≡ gain_of t account
 gain_pool s t account e = ap (λ (q : State). gain_of q account) e
 
-pub reached_shares : (requests : List Request) (account : ℕ) → IsWithinAllowance (run opening requests).0 account (events opening (accepted opening requests))
-reached_shares requests account =
-    let h = run_follows requests opening opening_sound in
-    let es = events opening (accepted opening requests) in
-    allowance_same (after_events es) (run opening requests).0 account es
-    (balance_pool (after_events es) (run opening requests).0 account (sym h.pool))
-    (gain_pool (after_events es) (run opening requests).0 account (sym h.pool))
+pub reached_shares : (limit : ℕ) → IsLimit limit → (requests : List Request) (account : ℕ) → IsWithinAllowance (run (opening_with limit) requests).0 account (events (opening_with limit) (accepted (opening_with limit) requests))
+reached_shares limit known requests account =
+    let h = reached_pool limit known requests in
+    let es = events (opening_with limit) (accepted (opening_with limit) requests) in
+    allowance_same (after_events es) (run (opening_with limit) requests).0 account es
+    (balance_pool (under limit (after_events es)) (run (opening_with limit) requests).0 account (sym h.pool))
+    (gain_pool (under limit (after_events es)) (run (opening_with limit) requests).0 account (sym h.pool))
     (within_allowance LIM (omega arith) es h.lawful account)
 
-pub same_shares : (requests : List Request) (s : State) → IsWellFormed s → image s ≡ image (run opening requests).0 → (account : ℕ) → IsWithinAllowance s account (events opening (accepted opening requests))
-same_shares requests s f e account =
-    let t = (run opening requests).0 in
-    let formed = (run_sound requests opening opening_sound).formed in
+pub same_shares : (limit : ℕ) → IsLimit limit → (requests : List Request) (s : State) → IsWellFormed s → image s ≡ image (run (opening_with limit) requests).0 → (account : ℕ) → IsWithinAllowance s account (events (opening_with limit) (accepted (opening_with limit) requests))
+same_shares limit known requests s f e account =
+    let t = (run (opening_with limit) requests).0 in
+    let formed = (run_sound requests (opening_with limit) (opening_sound limit known)).formed in
     let balance = balance-image t account ∙ ap (λ (i : Image). balance_row i (at i.deposits account)) (sym e) ∙ sym (balance-image s account) in
     let gain = gain-image t formed account ∙ ap (λ (i : Image). gain_row i (at i.deposits account)) (sym e) ∙ sym (gain-image s f account) in
-    allowance_same t s account (events opening (accepted opening requests)) balance gain (reached_shares requests account)
+    allowance_same t s account (events (opening_with limit) (accepted (opening_with limit) requests)) balance gain (reached_shares limit known requests account)
 
 -- ---- the pool and the plain ledger
 
-reached_balances : (requests : List Request) → over_accounts ACCOUNTS (λ account. (exact_share account (events opening (accepted opening requests))).bal) ≡ pool_total (run opening requests).0 * den_of (events opening (accepted opening requests))
-reached_balances requests =
-    let h = run_follows requests opening opening_sound in
-    let es = events opening (accepted opening requests) in
+reached_balances : (limit : ℕ) → IsLimit limit → (requests : List Request) → over_accounts ACCOUNTS (λ account. (exact_share account (events (opening_with limit) (accepted (opening_with limit) requests))).bal) ≡ pool_total (run (opening_with limit) requests).0 * den_of (events (opening_with limit) (accepted (opening_with limit) requests))
+reached_balances limit known requests =
+    let h = reached_pool limit known requests in
+    let es = events (opening_with limit) (accepted (opening_with limit) requests) in
     subst (λ (q : State). over_accounts ACCOUNTS (λ account. (exact_share account es).bal) ≡ pool_total q * den_of es) (sym h.pool) (all_balances_are LIM (omega arith) es h.lawful ACCOUNTS h.owners)
 
-reached_gains : (requests : List Request) → over_accounts ACCOUNTS (λ account. (exact_share account (events opening (accepted opening requests))).gain) ≡ offsets_coll (events opening (accepted opening requests)) * den_of (events opening (accepted opening requests))
-reached_gains requests =
-    let h = run_follows requests opening opening_sound in
-    let es = events opening (accepted opening requests) in
+reached_gains : (limit : ℕ) → IsLimit limit → (requests : List Request) → over_accounts ACCOUNTS (λ account. (exact_share account (events (opening_with limit) (accepted (opening_with limit) requests))).gain) ≡ offsets_coll (events (opening_with limit) (accepted (opening_with limit) requests)) * den_of (events (opening_with limit) (accepted (opening_with limit) requests))
+reached_gains limit known requests =
+    let h = reached_pool limit known requests in
+    let es = events (opening_with limit) (accepted (opening_with limit) requests) in
     all_gains_are LIM (omega arith) es h.lawful ACCOUNTS h.owners
 
-pub reached_paid : (requests : List Request) → pool_coll (run opening requests).0 + over_accounts ACCOUNTS (λ account. gains_paid_to account (events opening (accepted opening requests))) ≡ offsets_coll (events opening (accepted opening requests))
-reached_paid requests =
-    let h = run_follows requests opening opening_sound in
-    let es = events opening (accepted opening requests) in
+pub reached_paid : (limit : ℕ) → IsLimit limit → (requests : List Request) → pool_coll (run (opening_with limit) requests).0 + over_accounts ACCOUNTS (λ account. gains_paid_to account (events (opening_with limit) (accepted (opening_with limit) requests))) ≡ offsets_coll (events (opening_with limit) (accepted (opening_with limit) requests))
+reached_paid limit known requests =
+    let h = reached_pool limit known requests in
+    let es = events (opening_with limit) (accepted (opening_with limit) requests) in
     subst (λ (q : State). pool_coll q + over_accounts ACCOUNTS (λ account. gains_paid_to account es) ≡ offsets_coll es) (sym h.pool) (all_paid_are LIM (omega arith) es h.lawful ACCOUNTS h.owners)
 
-reached_uncapped : (requests : List Request) (account : ℕ) (d : DepositEntry) → at (run opening requests).0.deposits account ≡ Some d → IsUncapped (run opening requests).0 account d
-reached_uncapped requests account d there =
-    let h = run_follows requests opening opening_sound in
-    let es = events opening (accepted opening requests) in
+reached_uncapped : (limit : ℕ) → IsLimit limit → (requests : List Request) (account : ℕ) (d : DepositEntry) → at (run (opening_with limit) requests).0.deposits account ≡ Some d → IsUncapped (run (opening_with limit) requests).0 account d
+reached_uncapped limit known requests account d there =
+    let h = reached_pool limit known requests in
+    let es = events (opening_with limit) (accepted (opening_with limit) requests) in
     subst (λ (q : State). at q.deposits account ≡ Some d → IsUncapped q account d) (sym h.pool) (λ is. (balance_uncapped LIM (omega arith) es h.lawful account d is, gain_uncapped LIM (omega arith) es h.lawful account d is)) there
 
-pub reached_exact : (requests : List Request) → IsExactPool (run opening requests).0 (events opening (accepted opening requests))
-reached_exact requests =
+pub reached_exact : (limit : ℕ) → IsLimit limit → (requests : List Request) → IsExactPool (run (opening_with limit) requests).0 (events (opening_with limit) (accepted (opening_with limit) requests))
+reached_exact limit known requests =
     record {
-      balances = reached_balances requests;
-      gains = reached_gains requests;
-      paid = reached_paid requests;
-      caps = reached_uncapped requests;
+      balances = reached_balances limit known requests;
+      gains = reached_gains limit known requests;
+      paid = reached_paid limit known requests;
+      caps = reached_uncapped limit known requests;
     }
 
 -- ---- dust
@@ -124,12 +145,12 @@ default_dust s h =
     let both = default_covered s h in
     (not_negative _ _ both.0, not_negative _ _ both.1)
 
-pub reached_covered : (requests : List Request) → IsCovered (dust (run opening requests).0)
-reached_covered requests =
-    let s = (run opening requests).0 in
-    let h = run_follows requests opening opening_sound in
-    let es = events opening (accepted opening requests) in
-    let troves = default_dust s (run_sound requests opening opening_sound) in
+pub reached_covered : (limit : ℕ) → IsLimit limit → (requests : List Request) → IsCovered (dust (run (opening_with limit) requests).0)
+reached_covered limit known requests =
+    let s = (run (opening_with limit) requests).0 in
+    let h = reached_pool limit known requests in
+    let es = events (opening_with limit) (accepted (opening_with limit) requests) in
+    let troves = default_dust s (run_sound requests (opening_with limit) (opening_sound limit known)) in
     record {
       pool_total = not_negative (pool_total s) (sum (map (balance_of s) (keys_of s.deposits))) (subst (λ (q : State). sum (map (balance_of q) (keys_of q.deposits)) ≤ pool_total q) (sym h.pool) (balances_held LIM (omega arith) es h.lawful));
       pool_coll = not_negative (pool_coll s) (sum (map (gain_of s) (keys_of s.deposits))) (subst (λ (q : State). sum (map (gain_of q) (keys_of q.deposits)) ≤ pool_coll q) (sym h.pool) (gains_held LIM (omega arith) es h.lawful));

@@ -375,7 +375,7 @@ module _ (s : State) (f : Finds s) (account amount bound : ℕ) (h : first_refus
       let rate : RateInRange s terms.rate = record { base = omega arith; minute = omega arith } in
       record {
         stands = fees_stand given terms.rate.base terms.rate.minute (s.fee_coll + terms.fee) given.fee_lusd moved;
-        rest = rest_in_place s (redeemed_by s account terms) homes (omega (arith, brought, f.balanced.coll_limit)) (omega (arith, c.less, f.balanced.debt_limit))
+        rest = rest_in_place s (redeemed_by s account terms) homes (omega (arith, brought, limit, f.limited.coll)) (omega (arith, c.less, limit, f.limited.debt))
             (ranges_with s (redeemed_by s account terms) r terms.rate rate price minute refl refl generation limit) words generation records clients snap c.marks;
       }
     where

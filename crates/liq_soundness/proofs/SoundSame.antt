@@ -9,7 +9,8 @@ use Rattle.liq_types.specs.declared.requests.Request.{Request}
 use Rattle.liq_types.specs.declared.image.Image.{Image}
 use Rattle.liq_types.specs.PlainLedger.{den_of, gains_paid_to, over_accounts}
 use Rattle.liq_types.specs.Product.{start_sum}
-use Rattle.liq_types.specs.State.{State, DepositEntry, opening}
+use Rattle.liq_types.specs.Image.{IsLimit}
+use Rattle.liq_types.specs.State.{State, DepositEntry, opening_with}
 use Rattle.liq_types.specs.Tables.{Table, at, map_rows}
 use Rattle.liq_types.specs.Totals.{pool_total, pool_coll}
 use Rattle.liq_types.specs.WellFormed.{IsWellFormed}
@@ -114,20 +115,20 @@ covered_same s t is f g h =
 
 -- ---- of a reached state
 
-module _ (requests : List Request) (s : State) (f : IsWellFormed s) (is : image s ≡ image (run opening requests).0) where
-  reached_formed : IsWellFormed (run opening requests).0
-  reached_formed = (run_sound requests opening opening_sound).formed
+module _ (limit : ℕ) (known : IsLimit limit) (requests : List Request) (s : State) (f : IsWellFormed s) (is : image s ≡ image (run (opening_with limit) requests).0) where
+  reached_formed : IsWellFormed (run (opening_with limit) requests).0
+  reached_formed = (run_sound requests (opening_with limit) (opening_sound limit known)).formed
 
-  pub same_exact : IsExactPool s (events opening (accepted opening requests))
+  pub same_exact : IsExactPool s (events (opening_with limit) (accepted (opening_with limit) requests))
   same_exact =
-      let told = events opening (accepted opening requests) in
-      let reached = reached_exact requests in
+      let told = events (opening_with limit) (accepted (opening_with limit) requests) in
+      let reached = reached_exact limit known requests in
       record {
         balances = reached.balances ∙ ap (λ (i : Image). i.total * den_of told) (sym is);
         gains = reached.gains;
         paid = ap (λ (i : Image). i.pool_coll + over_accounts ACCOUNTS (λ account. gains_paid_to account told)) is ∙ reached.paid;
-        caps = λ account d there. uncapped_same s (run opening requests).0 is f reached_formed account d (reached.caps account) there;
+        caps = λ account d there. uncapped_same s (run (opening_with limit) requests).0 is f reached_formed account d (reached.caps account) there;
       }
 
   pub same_covered : IsCovered (dust s)
-  same_covered = covered_same s (run opening requests).0 is f reached_formed (reached_covered requests)
+  same_covered = covered_same s (run (opening_with limit) requests).0 is f reached_formed (reached_covered limit known requests)

@@ -1,11 +1,11 @@
 -- The opening is sound, and so is a state that begins with a sound image.
-use Rattle.std.proofs.Common.{ℕ, List, [], ◌∷◌, refl, subst, sym}
+use Rattle.std.proofs.Common.{◌≡◌, ℕ, inl, inr, List, [], ◌∷◌, None, ap, subst, sym}
 use Rattle.std.specs.List.{AllByRecursion}
 use Rattle.liq_types.specs.declared.image.Image.{Image}
-use Rattle.liq_types.specs.Image.{opening_image}
+use Rattle.liq_types.specs.Image.{IsLimit, opening_image_with}
 use Rattle.liq_types.specs.Tables.{Place}
-use Rattle.liq_types.specs.Soundness.{IsSoundImage}
-use Rattle.liq_types.specs.State.{opening, started}
+use Rattle.liq_types.specs.Soundness.{IsSoundImage, first_unsound}
+use Rattle.liq_types.specs.State.{opening_with, started}
 use Rattle.liq_types.specs.WellFormed.{AreFinished, IsBefore}
 use Rattle.std.proofs.lemmas.Map.Made.{keys_of-map_values}
 use Rattle.std.specs.List.Sorted.{IsStrictlySortedBy}
@@ -41,9 +41,18 @@ started_with i records h =
 pub started_sound : (i : Image) → IsSoundImage i 0 → IsSoundState (started i)
 started_sound i h = started_with i 0 h
 
-pub opening_sound : IsSoundState opening
+-- the opening, under either limit
+pub opening_image_sound : (limit : ℕ) → IsLimit limit → IsSoundImage (opening_image_with limit) 0
 unfolding IsStrictlySortedBy
-opening_sound = started_sound opening_image (record {
-  rules = refl;
-  tables = record { wallets = tt; used_wallets = tt; troves = tt; surplus = tt; some_surplus = tt; finished = tt; some_finished = tt; deposits = tt; some_deposits = tt; clients = tt; client_rows = tt };
-})
+opening_image_sound limit known =
+    record {
+      rules = ruled known;
+      tables = record { wallets = tt; used_wallets = tt; troves = tt; surplus = tt; some_surplus = tt; finished = tt; some_finished = tt; deposits = tt; some_deposits = tt; clients = tt; client_rows = tt };
+    }
+  where
+    ruled : IsLimit limit → first_unsound (opening_image_with limit) 0 ≡ None
+    ruled (inl lesser) = ap (λ n. first_unsound (opening_image_with n) 0) lesser
+    ruled (inr greater) = ap (λ n. first_unsound (opening_image_with n) 0) greater
+
+pub opening_sound : (limit : ℕ) → IsLimit limit → IsSoundState (opening_with limit)
+opening_sound limit known = started_sound (opening_image_with limit) (opening_image_sound limit known)

@@ -1,9 +1,9 @@
 -- Every step keeps a sound state.
-use Rattle.std.proofs.Common.{◌≡◌, ℕ, ◌+◌, ◌*◌, ◌≤◌, ◌<◌, Bool, true, false, cond, List, [], ◌∷◌, ◌++◌, refl, sym, subst, arith, length, nat_le, Some, None, Option, length-append, length-take}
+use Rattle.std.proofs.Common.{◌≡◌, ℕ, ◌+◌, ◌*◌, ◌≤◌, ◌<◌, Bool, true, false, cond, inr, List, [], ◌∷◌, ◌++◌, refl, sym, subst, arith, length, nat_le, Some, None, Option, length-append, length-take}
 use Rattle.std.specs.Prelude.{map, replicate, Result, Ok, Err}
 use Rattle.std.specs.List.{AllByRecursion}
 use Rattle.std.proofs.lemmas.Bool.Decides.{nat_tests}
-use Rattle.liq_types.specs.declared.amounts.TheConstants.{ACCOUNTS, LOWEST_MOST, RECORDS_MOST, GENERATIONS_MOST, PLACES_A_RECORD, CHECKPOINT_BYTES_MOST}
+use Rattle.liq_types.specs.declared.amounts.TheConstants.{ACCOUNTS, LIM, LOWEST_MOST, RECORDS_MOST, GENERATIONS_MOST, PLACES_A_RECORD, CHECKPOINT_BYTES_MOST}
 use Rattle.liq_types.specs.declared.figures.Client.{Client}
 use Rattle.liq_types.specs.declared.replies.Done.{Done}
 use Rattle.liq_types.specs.declared.replies.Refusal.{Refusal}
@@ -193,6 +193,7 @@ noted_facts s t c records f client number few scale epoch =
         coll_limit = f.balanced.coll_limit;
         debt_limit = f.balanced.debt_limit;
       };
+      limited = record { coll = f.limited.coll; debt = f.limited.debt };
       ranges = record { price_least = r.price_least; price_most = r.price_most; minute = r.minute; fee_minute = r.fee_minute; base = r.base; first_generation = r.first_generation; last_generation = r.last_generation; limit = r.limit };
       records = few;
       scale = scale;
@@ -200,14 +201,14 @@ noted_facts s t c records f client number few scale epoch =
     }
 
 pub finds : (s : State) → SoundFacts s → Finds s
-finds s h = record { stands = h.stands; balanced = h.balanced; ranges = h.ranges }
+finds s h = record { stands = h.stands; balanced = h.balanced; limited = h.limited; ranges = h.ranges }
 
 -- the journal begins anew
 pub is_rotate : (call : Call) → rotates call ≡ true → call ≡ Rotate
 is_rotate Rotate h = refl
 is_rotate _ h = cc
 
-rotated : (s : State) → SoundFacts s → s.generation + 1 ≤ GENERATIONS_MOST → Finds (record s { generation = s.generation + 1 })
+rotated : (s : State) → SoundFacts s → s.generation + 1 ≤ GENERATIONS_MOST → Finds (record s { generation = s.generation + 1; limit = LIM })
 rotated s h room =
     let k = h.balanced.homes in
     let r = h.ranges in
@@ -219,7 +220,8 @@ rotated s h room =
         coll_limit = h.balanced.coll_limit;
         debt_limit = h.balanced.debt_limit;
       };
-      ranges = record { price_least = r.price_least; price_most = r.price_most; minute = r.minute; fee_minute = r.fee_minute; base = r.base; first_generation = omega arith; last_generation = room; limit = r.limit };
+      limited = record { coll = h.balanced.coll_limit; debt = h.balanced.debt_limit };
+      ranges = record { price_least = r.price_least; price_most = r.price_most; minute = r.minute; fee_minute = r.fee_minute; base = r.base; first_generation = omega arith; last_generation = room; limit = inr refl };
     }
 
 abbrev noted_as : State → Command → Bool → Call → State
@@ -232,7 +234,7 @@ after_by : (s : State) → SoundFacts s → (c : Command) → IsAllowed s c → 
 after_by s h c a true e room =
     let generation = ltb-false GENERATIONS_MOST (s.generation + 1) room.0 in
     let first = h.ranges.first_generation in
-    let next : State = record s { generation = s.generation + 1 } in
+    let next : State = record s { generation = s.generation + 1; limit = LIM } in
     subst (λ (call : Call). SoundFacts (noted_as s c true call)) (sym (is_rotate c.call e))
     (noted_facts s next c 0 (rotated s h generation) a.client a.number (omega arith) (omega (arith, h.scale, h.records, first)) (omega (arith, h.epoch, h.records, first)))
 after_by s h c a false e room =

@@ -1,16 +1,17 @@
 -- The tests of an image's rules say just what stands of the state: in both directions.
-use Rattle.std.proofs.Common.{◌≡◌, ℕ, ◌+◌, ◌-◌, ◌*◌, ◌≤◌, ◌<◌, Bool, true, false, List, [], ◌∷◌, refl, sym, subst, arith, nat_lt, nat_le, length}
+use Rattle.std.proofs.Common.{◌≡◌, ℕ, ◌+◌, ◌-◌, ◌*◌, ◌≤◌, ◌<◌, Bool, true, false, inl, inr, List, [], ◌∷◌, refl, sym, subst, arith, nat_lt, nat_le, length}
 use Rattle.std.specs.Prelude.{◌==◌, ◌&&◌, ◌||◌, not, sum, sum_by}
 use Rattle.std.specs.List.{AllByRecursion, list_all}
 use Rattle.std.specs.Map.{keys_of, values_of}
 use Rattle.std.proofs.lemmas.Bool.Decides.{nat_tests}
-use Rattle.liq_types.specs.declared.amounts.TheConstants.{LIM, ACCOUNTS, RECORDS_MOST, ONE, OFFSET_MOST, P_OPENING, P_LEAST, PRICE_LEAST, PRICE_MOST, MINUTE_MOST, GENERATIONS_MOST, RESERVE, MIN_NET, SUM_MOST}
+use Rattle.liq_types.specs.declared.amounts.TheConstants.{LIM, LIM_OF_VERSION_1, ACCOUNTS, RECORDS_MOST, ONE, OFFSET_MOST, P_OPENING, P_LEAST, PRICE_LEAST, PRICE_MOST, MINUTE_MOST, GENERATIONS_MOST, RESERVE, MIN_NET, SUM_MOST}
 use Rattle.liq_types.specs.declared.figures.Wallet.{Wallet}
 use Rattle.liq_types.specs.declared.figures.Client.{Client}
 use Rattle.liq_types.specs.declared.figures.Trove.{Trove}
 use Rattle.liq_types.specs.declared.figures.Deposit.{Deposit}
 use Rattle.liq_types.specs.declared.image.Image.{Image}
-use Rattle.liq_types.specs.Soundness.{has_ranges, has_keys_in_range, is_sound_trove, has_sound_words, is_sound_deposit, is_sound_client, is_before, places_most, HasTables, IsSoundImage, IsClientRow}
+use Rattle.liq_types.specs.Image.{IsLimit}
+use Rattle.liq_types.specs.Soundness.{has_ranges, is_limit, has_keys_in_range, is_sound_trove, has_sound_words, is_sound_deposit, is_sound_client, is_before, places_most, HasTables, IsSoundImage, IsClientRow}
 use Rattle.liq_types.specs.State.{State, is_used_wallet}
 use Rattle.liq_types.specs.Tables.{Place, Table}
 use Rattle.liq_types.specs.WellFormed.{stakes_in}
@@ -21,7 +22,7 @@ use Rattle.liq_troves.specs.StakeSums.{trove_row}
 use Rattle.liq_stability.specs.Position.{words_of, deposit_row}
 use Rattle.liq_rules.specs.Image.{image}
 use Rattle.liq_soundness.specs.SoundState.{IsSoundState}
-use Rattle.liq_soundness.proofs.SoundFacts.{KeysBelow, ClientStands, Stands, Balanced, InRange, Homes, in_order}
+use Rattle.liq_soundness.proofs.SoundFacts.{KeysBelow, ClientStands, Stands, Balanced, Limited, balanced_by, InRange, Homes, in_order}
 use Rattle.liq_soundness.proofs.SoundPool.{PoolStands, DepositStands, FinishedStands, part_of, sum_in}
 use Rattle.std.proofs.lemmas.Bool.{and_parts, and_from, leb-true, le-leb, ltb-true, lt-ltb, eqb-true, eq-eqb}
 use Rattle.liq_stability.proofs.Tests.{before_in, before_tested, up_to_in, up_to_tested}
@@ -32,6 +33,7 @@ use Rattle.liq_rules.proofs.SoundRules.{Meets, meets, sound_of}
 pub record SoundFacts (s : State) : Type 0 where
   pub stands : Stands LIM s
   pub balanced : Balanced LIM s
+  pub limited : Limited s
   pub ranges : InRange s
   pub records : s.records ≤ RECORDS_MOST
   pub scale : (words_of s).scale ≤ places_most s.generation s.records
@@ -84,9 +86,17 @@ keys_pass table h = list_pass (λ key. nat_lt key ACCOUNTS) (λ key. key < ACCOU
 pass_keys : {X : Type 0} (table : Table X) → KeysBelow table → has_keys_in_range table ≡ true
 pass_keys table h = pass_list (λ key. nat_lt key ACCOUNTS) (λ key. key < ACCOUNTS) (λ key. lt-ltb key ACCOUNTS) (keys_of table) h
 
--- ---- places
-
 -- ---- from the tests to the facts
+
+limit_true : (limit : ℕ) → is_limit limit ≡ true → IsLimit limit
+limit_true limit h = by (limit == LIM_OF_VERSION_1) refl h where
+  by : (b : Bool) → (limit == LIM_OF_VERSION_1) ≡ b → (b || limit == LIM) ≡ true → IsLimit limit
+  by true lesser k = inl (eqb-true limit LIM_OF_VERSION_1 lesser)
+  by false lesser k = inr (eqb-true limit LIM k)
+
+true_limit : (limit : ℕ) → IsLimit limit → is_limit limit ≡ true
+true_limit limit (inl lesser) = grind (arith, nat_tests, lesser)
+true_limit limit (inr greater) = grind (arith, nat_tests, greater)
 
 trove_true : (coll debt : ℕ) (t : Trove) → is_sound_trove coll debt t ≡ true → TroveStands coll debt t
 trove_true coll debt t h =
@@ -157,7 +167,7 @@ module _ (s : State) (f : IsSoundState s) where
   p : Meets (image s) s.records
   p = meets (image s) s.records f.sound
 
-  range_facts : has_ranges (image s) s.records ≡ true → InRange s × (s.records ≤ RECORDS_MOST) × (s.brought ≤ LIM)
+  range_facts : has_ranges (image s) s.records ≡ true → InRange s × (s.records ≤ RECORDS_MOST) × (s.brought ≤ s.limit)
   range_facts h = (
     record {
       price_least = grind (arith, nat_tests, h);
@@ -167,7 +177,7 @@ module _ (s : State) (f : IsSoundState s) where
       base = grind (arith, nat_tests, h);
       first_generation = grind (arith, nat_tests, h);
       last_generation = grind (arith, nat_tests, h);
-      limit = grind (arith, nat_tests, h);
+      limit = limit_true s.limit (and_parts _ (is_limit s.limit) (and_parts _ (nat_le s.brought s.limit) h).0).1;
     },
     grind (arith, nat_tests, h),
     grind (arith, nat_tests, h),
@@ -238,23 +248,24 @@ module _ (s : State) (f : IsSoundState s) where
         clients = record { ascend = f.sound.tables.clients; keys = keys_pass s.clients clients.1; stand = clients_true s.clients f.sound.tables.client_rows p.clients };
       }
 
-  homes_facts : Homes s × (s.active_debt + s.default_debt ≤ LIM)
+  homes_facts : Homes s × (s.active_debt + s.default_debt ≤ s.limit)
   homes_facts =
       let reserve = and_parts _ (s.reserve == RESERVE * length (image s).troves) p.lusd in
       let lusd = and_parts (nat_le (s.active_debt + s.default_debt) s.limit) _ reserve.0 in
       let most = leb-true (s.active_debt + s.default_debt) s.limit lusd.0 in
-      let limit = (range_facts p.ranges).0.limit in
       let count = map-length (trove_row s) s.troves in
       let kept : s.reserve ≡ RESERVE * length (image s).troves = eqb-true _ _ reserve.1 in
-      (record { coll = eqb-true _ _ p.coll; lusd = eqb-true _ _ lusd.1; reserve = omega (arith, kept, count); surplus = eqb-true _ _ p.surplus }, omega (arith, most, limit))
+      (record { coll = eqb-true _ _ p.coll; lusd = eqb-true _ _ lusd.1; reserve = omega (arith, kept, count); surplus = eqb-true _ _ p.surplus }, most)
 
   pub sound_facts : SoundFacts s
   sound_facts =
       let ranges = range_facts p.ranges in
       let words = words_parts p.words in
+      let limited : Limited s = record { coll = ranges.2; debt = homes_facts.1 } in
       record {
         stands = stands_facts;
-        balanced = record { homes = homes_facts.0; coll_limit = ranges.2; debt_limit = homes_facts.1 };
+        balanced = balanced_by s homes_facts.0 limited ranges.0.limit;
+        limited = limited;
         ranges = ranges.0;
         records = ranges.1;
         scale = words.1;
@@ -279,8 +290,8 @@ module _ (s : State) (f : SoundFacts s) where
         ranges =
             and_from _ _ (and_from _ _ (and_from _ _ (and_from _ _ (and_from _ _ (and_from _ _ (and_from _ _ (and_from _ _ (and_from _ _
             (le-leb PRICE_LEAST s.price r.price_least) (le-leb s.price PRICE_MOST r.price_most)) (le-leb s.minute MINUTE_MOST r.minute)) (le-leb s.fee_minute s.minute r.fee_minute)) (le-leb s.base ONE r.base))
-            (le-leb 1 s.generation r.first_generation)) (le-leb s.generation GENERATIONS_MOST r.last_generation)) (le-leb s.records RECORDS_MOST f.records)) (eq-eqb s.limit LIM r.limit))
-            (le-leb s.brought s.limit (omega (arith, f.balanced.coll_limit, r.limit)));
+            (le-leb 1 s.generation r.first_generation)) (le-leb s.generation GENERATIONS_MOST r.last_generation)) (le-leb s.records RECORDS_MOST f.records)) (true_limit s.limit r.limit))
+            (le-leb s.brought s.limit f.limited.coll);
         accounts =
             and_from _ _ (and_from _ _ (and_from _ _ (and_from _ _ (pass_keys s.wallets h.wallets.keys)
             (pass_keys i.troves (subst (λ (keys : List ℕ). AllByRecursion (λ key. key < ACCOUNTS) keys) (sym (keys_of-map_values (trove_row s) s.troves)) h.trove_keys)))
@@ -288,7 +299,7 @@ module _ (s : State) (f : SoundFacts s) where
             (pass_keys i.deposits (subst (λ (keys : List ℕ). AllByRecursion (λ key. key < ACCOUNTS) keys) (sym (keys_of-map_values (deposit_row s) s.deposits)) h.deposit_keys)))
             (pass_keys s.clients h.clients.keys);
         coll = eq-eqb _ _ c.coll;
-        lusd = and_from _ _ (and_from _ _ (le-leb _ s.limit (omega (arith, f.balanced.debt_limit, r.limit))) (eq-eqb _ _ c.lusd)) (eq-eqb s.reserve (RESERVE * length i.troves) (omega (arith, c.reserve, count)));
+        lusd = and_from _ _ (and_from _ _ (le-leb _ s.limit f.limited.debt) (eq-eqb _ _ c.lusd)) (eq-eqb s.reserve (RESERVE * length i.troves) (omega (arith, c.reserve, count)));
         surplus = eq-eqb _ _ c.surplus;
         troves = and_from _ _ (and_from _ _ (pass_rows (is_sound_trove i.sum_coll i.sum_debt) (TroveStands i.sum_coll i.sum_debt) (true_trove i.sum_coll i.sum_debt) i.troves t.each) (le-leb i.sum_coll SUM_MOST t.sum_coll)) (le-leb i.sum_debt SUM_MOST t.sum_debt);
         added =

@@ -8,13 +8,14 @@ ghost use Rattle.liq_num.specs.declared.ratio.TheConstants.{GWEI_PER_ETH};
 ghost use Rattle.liq_types.specs.declared.amounts.TheConstants.{ACCOUNTS, LIM, ONE, P_OPENING, OFFSET_MOST, CAP_WORTH, DECAY};
 ghost use Rattle.liq_types.specs.declared.requests.Request.{Request};
 ghost use Rattle.liq_types.specs.declared.image.Image.{Image};
+ghost use Rattle.liq_types.specs.Image.{IsLimit};
 ghost use Rattle.liq_types.specs.PlainLedger.{AreOwnedBelow};
 ghost use Rattle.liq_types.specs.Product.{IsWithinRange, rise_of, sumat};
 ghost use Rattle.liq_types.specs.Rules.{first_refusal};
 ghost use Rattle.liq_types.specs.Soundness.{IsSoundImage};
-ghost use Rattle.liq_types.specs.State.{State, opening, started, TroveEntry, DepositEntry, Redistribution, After, wallet_of, surplus_of};
+ghost use Rattle.liq_types.specs.State.{State, opening_with, started, TroveEntry, DepositEntry, Redistribution, After, wallet_of, surplus_of};
 ghost use Rattle.liq_types.specs.Tables.{Place, at};
-ghost use Rattle.liq_types.specs.Totals.{market_of, pool_total, pool_coll};
+ghost use Rattle.liq_types.specs.Totals.{market_of, total_debt, pool_total, pool_coll};
 ghost use Rattle.liq_types.specs.WellFormed.{IsWellFormed};
 ghost use Rattle.liq_troves.specs.StakeSums.{sums_now, sums_at, sums_words, trove_rows, pending_coll, pending_debt, entire_of, exact_part, somethings, IsShortOf};
 ghost use Rattle.liq_stability.specs.Position.{balance_of, gain_of, balance_by, gain_by, mark_of, sums_from, words_of};
@@ -38,10 +39,10 @@ ghost use Rattle.liq_soundness.specs.Parts.{ArePartsOfSound};
 ghost use Rattle.liq_soundness.specs.SoundState.{IsSoundState, AmountsWithin, SnapshotWithin, WordsWithin, TroveIsCovered, DepositIsCovered, PoolIsWhole, ChangeIsCovered, OneIsCovered, OneFits, OwnFits, StruckFit, StruckStand, CutIsCovered};
 ghost use Rattle.liq_rules.specs.Step.{step, run, accepted};
 
-/// The opening is sound, and so is a state that begins with a sound image, as a checkpoint has one; so it is with any count of
-/// records beside which the image is sound, as a protocol has one.
+/// The opening is sound under either limit, and so is a state that begins with a sound image, as a checkpoint has one; so it is
+/// with any count of records beside which the image is sound, as a protocol has one.
 pub fn sound_images_begin_sound_states()
-    ensures opening { IsSoundState opening }
+    ensures opening { (limit : ℕ) → IsLimit limit → IsSoundState (opening_with limit) }
     ensures started { (i : Image) → IsSoundImage i 0 → IsSoundState (started i) }
     ensures counted { (i : Image) → (records : ℕ) → IsSoundImage i records → IsSoundState (record (started i) { records = records }) }
 {}
@@ -56,7 +57,7 @@ pub fn sound_states_have_their_parts()
 pub fn steps_keep_states_sound()
     ensures step { (s : State) → IsSoundState s → (request : Request) → IsSoundState (step s request).0 }
     ensures run { (s : State) → IsSoundState s → (requests : List Request) → IsSoundState (run s requests).0 }
-    ensures reached { (requests : List Request) → IsSoundState (run opening requests).0 }
+    ensures reached { (limit : ℕ) → IsLimit limit → (requests : List Request) → IsSoundState (run (opening_with limit) requests).0 }
 {}
 
 /// In a sound state all is conserved: each gwei and each micro-LUSD has one home, there is a reserve for each trove, and the
@@ -70,15 +71,15 @@ pub fn sound_states_are_conserved()
 /// says what the pool's rules give at its moment. They are owned by accounts in range.
 pub fn events_of_runs_are_lawful()
     ensures run { (s : State) → IsSoundState s → (requests : List Request) → IsLawful s (events s (accepted s requests)) }
-    ensures opening { (requests : List Request) → IsLawful opening (events opening (accepted opening requests)) }
+    ensures opening { (limit : ℕ) → IsLimit limit → (requests : List Request) → IsLawful (opening_with limit) (events (opening_with limit) (accepted (opening_with limit) requests)) }
     ensures owners { (s : State) → IsSoundState s → (requests : List Request) → AreOwnedBelow ACCOUNTS (events s (accepted s requests)) }
 {}
 
 /// Every depositor of every state that is reached from the opening has its exact share, as the plain ledger of the run's events
 /// gives it, but for the allowance; so it has in every well-formed state with the same image, as one that begins again.
 pub fn depositors_of_runs_get_their_shares()
-    ensures reached { (requests : List Request) → (account : ℕ) → IsWithinAllowance (run opening requests).0 account (events opening (accepted opening requests)) }
-    ensures same { (requests : List Request) → (s : State) → IsWellFormed s → image s ≡ image (run opening requests).0 → (account : ℕ) → IsWithinAllowance s account (events opening (accepted opening requests)) }
+    ensures reached { (limit : ℕ) → IsLimit limit → (requests : List Request) → (account : ℕ) → IsWithinAllowance (run (opening_with limit) requests).0 account (events (opening_with limit) (accepted (opening_with limit) requests)) }
+    ensures same { (limit : ℕ) → IsLimit limit → (requests : List Request) → (s : State) → IsWellFormed s → image s ≡ image (run (opening_with limit) requests).0 → (account : ℕ) → IsWithinAllowance s account (events (opening_with limit) (accepted (opening_with limit) requests)) }
 {}
 
 /// In every state that is reached from the opening the Stability Pool is what the plain ledger of the run's events says: the
@@ -86,8 +87,8 @@ pub fn depositors_of_runs_get_their_shares()
 /// is what is no longer in it. The caps on a position never act. So it is in every well-formed state with the same image, as one
 /// that begins again.
 pub fn pools_of_runs_are_exact()
-    ensures reached { (requests : List Request) → IsExactPool (run opening requests).0 (events opening (accepted opening requests)) }
-    ensures same { (requests : List Request) → (s : State) → IsWellFormed s → image s ≡ image (run opening requests).0 → IsExactPool s (events opening (accepted opening requests)) }
+    ensures reached { (limit : ℕ) → IsLimit limit → (requests : List Request) → IsExactPool (run (opening_with limit) requests).0 (events (opening_with limit) (accepted (opening_with limit) requests)) }
+    ensures same { (limit : ℕ) → IsLimit limit → (requests : List Request) → (s : State) → IsWellFormed s → image s ≡ image (run (opening_with limit) requests).0 → IsExactPool s (events (opening_with limit) (accepted (opening_with limit) requests)) }
 {}
 
 /// Dust is never negative: in every sound state what is pending for all troves is in the default pool, and in every state that
@@ -96,17 +97,20 @@ pub fn pools_of_runs_are_exact()
 pub fn dust_is_never_negative()
     ensures default_coll { (s : State) → IsSoundState s → pos 0 ≤ℤ (dust s).default_coll }
     ensures default_debt { (s : State) → IsSoundState s → pos 0 ≤ℤ (dust s).default_debt }
-    ensures reached { (requests : List Request) → IsCovered (dust (run opening requests).0) }
-    ensures same { (requests : List Request) → (s : State) → IsWellFormed s → image s ≡ image (run opening requests).0 → IsCovered (dust s) }
+    ensures reached { (limit : ℕ) → IsLimit limit → (requests : List Request) → IsCovered (dust (run (opening_with limit) requests).0) }
+    ensures same { (limit : ℕ) → IsLimit limit → (requests : List Request) → (s : State) → IsWellFormed s → image s ≡ image (run (opening_with limit) requests).0 → IsCovered (dust s) }
 {}
 
-/// Bounds of every sound state: the product and the sums of the Stability Pool, its scale and epoch by the counts of records,
-/// the sums per stake, and all amounts but those of a snapshot. A snapshot's are within the limit too where the state is reached
-/// from the opening: the rules of an image leave them open.
+/// Bounds of every sound state: its limit, which is one of two; the collateral inside and all debt, which are within it; the
+/// product and the sums of the Stability Pool, its scale and epoch by the counts of records, the sums per stake, and, by the
+/// greater limit, all amounts but those of a snapshot. A snapshot's are within that too where the state is reached from the
+/// opening: the rules of an image leave them open.
 pub fn sound_states_stay_within_bounds()
+    ensures limit { (s : State) → IsSoundState s → IsLimit s.limit }
+    ensures inside { (s : State) → IsSoundState s → (s.brought ≤ s.limit) × (total_debt s ≤ s.limit) }
     ensures words { (s : State) → IsSoundState s → WordsWithin s }
     ensures amounts { (s : State) → IsSoundState s → AmountsWithin LIM s }
-    ensures snapshot { (requests : List Request) → SnapshotWithin LIM (run opening requests).0 }
+    ensures snapshot { (limit : ℕ) → IsLimit limit → (requests : List Request) → SnapshotWithin LIM (run (opening_with limit) requests).0 }
 {}
 
 /// Where the rules take something away from an amount, the amount is no less: the sums of a trove's and of a deposit's mark are
@@ -152,7 +156,7 @@ pub fn products_fit()
     ensures rates { (rate amount : ℕ) → rate ≤ ONE → amount < 2 ^ 64 → rate * amount < ONE * 2 ^ 64 }
     ensures fees { (left base amount : ℕ) → amount < 2 ^ 64 → (borrow_rate left * amount < ONE * 2 ^ 64) × (redeem_rate base * amount < ONE * 2 ^ 64) }
     ensures stake { (s : State) → IsSoundState s → s.snap_stakes < 2 ^ 64 → (coll : ℕ) → coll ≤ s.brought → coll * s.snap_stakes < 2 ^ 64 * LIM }
-    ensures stake_reached { (requests : List Request) → let now = (run opening requests).0 in (coll : ℕ) → coll ≤ now.brought → coll * now.snap_stakes ≤ LIM * LIM }
+    ensures stake_reached { (limit : ℕ) → IsLimit limit → (requests : List Request) → let now = (run (opening_with limit) requests).0 in (coll : ℕ) → coll ≤ now.brought → coll * now.snap_stakes ≤ LIM * LIM }
     ensures all_below { (ONE * LIM < 2 ^ 128) × (P_OPENING * LIM < 2 ^ 128) × ((P_OPENING + 1) * LIM < 2 ^ 128) × (LIM * LIM < 2 ^ 128) × (CAP_WORTH * LIM < 2 ^ 128) × (GWEI_PER_ETH * LIM < 2 ^ 128) × (ONE * ONE < 2 ^ 128) × (ONE * 2 ^ 64 < 2 ^ 128) × (2 ^ 64 * LIM < 2 ^ 128) }
 {}
 
@@ -162,7 +166,7 @@ pub fn products_fit()
 pub fn pending_is_nearly_exact()
     ensures coll { (s : State) → IsSoundState s → (t : TroveEntry) → (n : ℕ) → t.mark ≡ After n → IsShortOf (pending_coll s t) t.stake (somethings (λ (r : Redistribution). r.coll) (drop n s.redistributions)) (exact_part (λ (r : Redistribution). r.coll) t.stake (drop n s.redistributions)) }
     ensures debt { (s : State) → IsSoundState s → (t : TroveEntry) → (n : ℕ) → t.mark ≡ After n → IsShortOf (pending_debt s t) t.stake (somethings (λ (r : Redistribution). r.debt) (drop n s.redistributions)) (exact_part (λ (r : Redistribution). r.debt) t.stake (drop n s.redistributions)) }
-    ensures reached { (requests : List Request) → (account : ℕ) → (t : TroveEntry) → at (run opening requests).0.troves account ≡ Some t → (n : ℕ) × (t.mark ≡ After n) }
+    ensures reached { (limit : ℕ) → IsLimit limit → (requests : List Request) → (account : ℕ) → (t : TroveEntry) → at (run (opening_with limit) requests).0.troves account ≡ Some t → (n : ℕ) × (t.mark ≡ After n) }
 {}
 
 /// What an allowed call takes from troves and pool is there, so that nothing is cut at zero. An adjusted trove keeps some

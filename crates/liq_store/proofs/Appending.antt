@@ -15,7 +15,7 @@ use Rattle.liq_core.specs.Plan.{Plan, IsPlan}
 use Rattle.liq_rules.specs.Step.{Allowed, after, after_ruling, ruling, step}
 use Rattle.liq_journal.specs.Crash.{BeforeOrAfter, IsBodyOf, Stands, is_odd}
 use Rattle.liq_journal.specs.Settled.{IsSettled, JournalOn}
-use Rattle.liq_journal.specs.Written.{Open, Written, and_then, found_on, is_rotate}
+use Rattle.liq_journal.specs.Written.{Open, Written, and_then, found_on, is_rotate, start_of}
 use Rattle.liq_pairs.specs.declared.side.Side.{Side}
 use Rattle.liq_pairs.specs.Kept.{IsKept}
 use Rattle.liq_pairs.specs.Sides.{has_odd, on}
@@ -46,7 +46,7 @@ has_same o generation start count generation' start' count' a b c has =
 pub step_is_after : (s : State) (c : Command) → ruling s c ≡ Allowed → (step s (Do c)).0 ≡ after s c
 step_is_after s c allowed = ap (λ r. (after_ruling s c r).0) allowed
 
-one_record : (odd : Bool) (generation start count : ℕ) (bytes : List ℕ) (w : Written) → is_odd generation ≡ odd → found_on odd bytes ≡ Open w → w.generation ≡ generation → 57 + length w.checkpoint ≡ start → count ≤ length w.commands
+one_record : (odd : Bool) (generation start count : ℕ) (bytes : List ℕ) (w : Written) → is_odd generation ≡ odd → found_on odd bytes ≡ Open w → w.generation ≡ generation → start_of w ≡ start → count ≤ length w.commands
     → HasRecords generation start count bytes
 one_record odd generation start count bytes w parity found generation_is start_is within = record {
   written = w;

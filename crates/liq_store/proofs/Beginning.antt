@@ -7,7 +7,7 @@ use Rattle.liq_core.specs.Core.{Core, StandsFor}
 use Rattle.liq_journal.specs.Crash.{IsClosed, Stands, beginning, is_odd}
 use Rattle.liq_journal.specs.Opened.{IsUnshut}
 use Rattle.liq_journal.specs.Settled.{IsSettled, JournalOn}
-use Rattle.liq_journal.specs.Written.{Absent, Open, Written, found_on}
+use Rattle.liq_journal.specs.Written.{Absent, Open, Written, found_on, start_of}
 use Rattle.liq_journal.proofs.Parity.{parity_of}
 use Rattle.liq_pairs.specs.declared.side.Side.{Side}
 use Rattle.liq_pairs.specs.declared.side.Side.TheVariants.{Left, Right}
@@ -93,14 +93,14 @@ commands_with : (side : Side) (held now : List ℕ) (w : Written) → found_on (
 commands_with Left held now w found (not_open absent) = commands_by held now (Open w) Absent found absent
 commands_with Left held now w found (open_earlier v found_beside less) =
     commands_by held now (Open w) (Open v) found found_beside
-    ∙ ap (λ (b : Bool). if b then v.commands else w.commands) (not_less w.generation v.generation less)
+    ∙ ap (λ (b : Bool). (if b then v else w).commands) (not_less w.generation v.generation less)
   where
     not_less : (n m : ℕ) → m < n → nat_lt n m ≡ false
     not_less n m less = grind (arith, nat_tests)
 commands_with Right held now w found (not_open absent) = commands_by now held Absent (Open w) absent found
 commands_with Right held now w found (open_earlier v found_beside less) =
     commands_by now held (Open v) (Open w) found_beside found
-    ∙ ap (λ (b : Bool). if b then w.commands else v.commands) (is_less v.generation w.generation less)
+    ∙ ap (λ (b : Bool). (if b then w else v).commands) (is_less v.generation w.generation less)
   where
     is_less : (n m : ℕ) → n < m → nat_lt n m ≡ true
     is_less n m less = grind (arith, nat_tests)
@@ -197,7 +197,7 @@ module _ {D : Type 0} (seen : D → Option (List ℕ)) (moment : D → ℕ) (lef
         record {
           written = w;
           found = here.1.found;
-          begins = ap (λ (v : Written). 57 + length v.checkpoint) (sym (one_journal (has_odd side) held taken.generation taken.start taken.count core parity here.0 here.1)) ∙ here.0.start_is;
+          begins = ap start_of (sym (one_journal (has_odd side) held taken.generation taken.start taken.count core parity here.0 here.1)) ∙ here.0.start_is;
           are = sym (commands_with side held now w here.1.found (found_aside (has_odd (other side)) now w.generation (aside_on held now th ta)));
         }
 
@@ -252,7 +252,7 @@ module _ {D : Type 0} (seen : D → Option (List ℕ)) (moment : D → ℕ) (lef
             let made = created before.0 before.1 in
             let same : made.0 ≡ held = some_same made.0 held (seen taken.disk) made.1 th in
             let shut : IsClosed aside = closed_where aside (subst (λ (o : Option (List ℕ)). IfSome o (λ now. IsUnshut now → ⊥)) ta closed) in
-            first_settled held aside (beginning 1 []) s (core_alike core opening s stands so) (subst (λ (l : List ℕ). Stands true l (beginning 1 [])) same made.2) refl refl shut;
+            first_settled held aside (beginning 1 []) s (core_alike core opening s stands so) (subst (λ (l : List ℕ). Stands true l (beginning 1 [])) same made.2) refl refl refl shut;
       })
       (ap is_odd one) (counts_first core taken.generation taken.count one none stands) settled
 
@@ -269,7 +269,7 @@ module _ {D : Type 0} (seen : D → Option (List ℕ)) (moment : D → ℕ) (lef
   shut_so disk held told shut = closed_where held (subst (λ (o : Option (List ℕ)). IfSome o (λ now. IsUnshut now → ⊥)) told shut)
 
   -- the store that goes on with it
-  pub anew_opened : (faults : D → ℕ) (old b : D) (taken : JournalOn D) (core : Core) → StandsFor core opening → faults taken.disk ≡ faults old → taken.start ≡ 57 + 0
+  pub anew_opened : (faults : D → ℕ) (old b : D) (taken : JournalOn D) (core : Core) → StandsFor core opening → faults taken.disk ≡ faults old → taken.start ≡ start_of (beginning 1 [])
       → ((held : List ℕ) → seen old ≡ Some held → (now : List ℕ) × (seen taken.disk ≡ Some now) × Stands true now (beginning 1 []))
       → IfSome (seen old) (λ now. IsUnshut now → ⊥) → IfSome (seen b) (λ now. IsUnshut now → ⊥)
       → OpensOn seen faults old b (stored Left taken b core None [])

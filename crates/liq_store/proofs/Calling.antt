@@ -1,5 +1,6 @@
 -- What a call does to the disks, by the side of the one that is taken.
 use Rattle.std.proofs.Common.{◌≡◌, ◌↔◌, inl, inr, ℕ, List, Bool, true, false, ◌&&◌, if◌then◌else◌, Option, Some, None, IfSome, IsSome, refl, sym, ◌∙◌, ap, subst}
+use Rattle.std.proofs.Math.Bool.{and-false}
 use Rattle.liq_outside.specs.Disk.{GoesOn, LeavesOnly, LeftSince}
 use Rattle.liq_outside.proofs.Moments.{started, unmoved}
 use Rattle.liq_types.specs.declared.events.ListChange.{ListChange}
@@ -33,25 +34,21 @@ use Rattle.liq_store.proofs.Going.{going_by, rest_now, rest_only}
 
 -- ---- which calls are no rotation
 
-and_false : (b : Bool) → (b && false) ≡ false
-and_false true = refl
-and_false false = refl
-
 -- one that the state doesn't accept
 pub unaccepted_stays : (s : State) (request : Request) → (IsAccepted s request → ⊥) → is_rotation s request ≡ false
 unaccepted_stays s (Do c) refused = by (ruling s c) refl
   where
     by : (r : Ruling) → ruling s c ≡ r → (is_rotate c.call && is_allowed (ruling s c)) ≡ false
-    by (Refused refusal) is = ap (λ (r : Ruling). is_rotate c.call && is_allowed r) is ∙ and_false (is_rotate c.call)
-    by (Repeated kept) is = ap (λ (r : Ruling). is_rotate c.call && is_allowed r) is ∙ and_false (is_rotate c.call)
+    by (Refused refusal) is = ap (λ (r : Ruling). is_rotate c.call && is_allowed r) is ∙ and-false (is_rotate c.call)
+    by (Repeated kept) is = ap (λ (r : Ruling). is_rotate c.call && is_allowed r) is ∙ and-false (is_rotate c.call)
     by Allowed is = absurd (refused is)
 unaccepted_stays s (Ask query) refused = refl
 
 pub repeated_stays : (s : State) (c : Command) (kept : Done) → ruling s c ≡ Repeated kept → is_rotation s (Do c) ≡ false
-repeated_stays s c kept is = ap (λ (r : Ruling). is_rotate c.call && is_allowed r) is ∙ and_false (is_rotate c.call)
+repeated_stays s c kept is = ap (λ (r : Ruling). is_rotate c.call && is_allowed r) is ∙ and-false (is_rotate c.call)
 
 pub refused_stays : (s : State) (c : Command) (refusal : Refusal) → ruling s c ≡ Refused refusal → is_rotation s (Do c) ≡ false
-refused_stays s c refusal is = ap (λ (r : Ruling). is_rotate c.call && is_allowed r) is ∙ and_false (is_rotate c.call)
+refused_stays s c refusal is = ap (λ (r : Ruling). is_rotate c.call && is_allowed r) is ∙ and-false (is_rotate c.call)
 
 -- and one of another verb
 pub other_stays : (s : State) (c : Command) → is_rotate c.call ≡ false → is_rotation s (Do c) ≡ false

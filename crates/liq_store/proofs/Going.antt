@@ -10,6 +10,7 @@ use Rattle.liq_journal.specs.Settled.{JournalOn}
 use Rattle.liq_pairs.specs.declared.side.Side.{Side}
 use Rattle.liq_pairs.specs.declared.side.Side.TheVariants.{Left, Right}
 use Rattle.liq_pairs.specs.Kept.{IsKept, IsSettledFor}
+use Rattle.liq_pairs.specs.Pair.{StandFor}
 use Rattle.liq_pairs.specs.Sides.{on}
 use Rattle.liq_pairs.proofs.Keeping.{settled_kept}
 use Rattle.liq_store.specs.Keeping.{IsAtRest, IsGoing, IsInOrder, IsInOrderWith, IsKeptAround, IsKeptNear, LeavesPairs}
@@ -77,6 +78,14 @@ module _ {D : Type 0} (seen : D → Option (List ℕ)) (moment : D → ℕ) (lef
 
   pub going_of : (store : Stored D) → store.stopped ≡ None → IsInOrder seen moment left_at store → IsGoing seen moment left_at store
   going_of store none order = subst (λ (o : Option ℕ). IsInOrderWith seen moment left_at o store) none order
+
+  -- the disks of a store that goes on stand for its state
+  pub closed_stands : (store old : Stored D) → store ≡ old → (left right : D) → left ≡ store.left → right ≡ store.right → IsInOrder seen moment left_at store → old.stopped ≡ None
+      → (l r : List ℕ) (s : State) → seen left ≡ Some l → seen right ≡ Some r → StandsFor old.core s → StandFor l r s
+  closed_stands store old same left right same_left same_right order none l r s tl tr stands =
+      let going = going_of store (ap (λ (o : Stored D). o.stopped) same ∙ none) order in
+      let here : StandsFor store.core s = subst (λ (o : Stored D). StandsFor o.core s) (sym same) stands in
+      (going.settled l r (ap seen (sym same_left) ∙ tl) (ap seen (sym same_right) ∙ tr) s here).stands
 
   -- both disks as they were
   pub pairs_at_rest : (store : Stored D) → IsGoing seen moment left_at store → (l r : List ℕ) → seen store.left ≡ Some l → seen store.right ≡ Some r → (s : State) → StandsFor store.core s → (request : Request)

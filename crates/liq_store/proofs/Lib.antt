@@ -10,7 +10,6 @@ pub mod Listing
 pub mod Looking
 pub mod OneDisk
 pub mod Opening
-pub mod Places
 pub mod Recovered
 pub mod Replaying
 pub mod Steps

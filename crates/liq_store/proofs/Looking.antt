@@ -10,7 +10,7 @@ use Rattle.liq_journal.specs.Bodies.{IsJournalOf}
 use Rattle.liq_journal.specs.Crash.{is_odd}
 use Rattle.liq_journal.specs.Looked.{Looked}
 use Rattle.liq_journal.specs.Settled.{IsSettled, JournalOn}
-use Rattle.liq_journal.specs.Written.{Open, Written, found_on}
+use Rattle.liq_journal.specs.Written.{Open, Written, found_on, start_of}
 use Rattle.liq_pairs.specs.declared.side.Side.{Side}
 use Rattle.liq_pairs.specs.declared.side.Side.TheVariants.{Left, Right}
 use Rattle.liq_pairs.specs.Kept.{IsKept}
@@ -96,6 +96,6 @@ all_read {D} {changes} seen moment left_at side taken b core stopped within old 
         let journal : IsJournalOf taken.generation taken.start held w = record {
           found = found_here;
           generation_is = ap (λ (v : Written). v.generation) (sym one) ∙ is.generation_is;
-          start_is = ap (λ (v : Written). 57 + length v.checkpoint) (sym one) ∙ is.start_is;
+          start_is = ap start_of (sym one) ∙ is.start_is;
         } in
         read held w told_here journal (omega arith) ∙ take_all taken.count w.commands (omega arith)

@@ -61,22 +61,23 @@ pub some_same : (a b : List ℕ) (o : Option (List ℕ)) → o ≡ Some a → o 
 some_same a b o first second = let both : Some a ≡ Some b = sym first ∙ second in cc
 
 -- what an opening left is the journal that it found
-pub record OpenedAs (odd : Bool) (held after : List ℕ) (generation start count : ℕ) (checkpoint : List ℕ) : Type 0 where
+pub record OpenedAs (odd : Bool) (held after : List ℕ) (generation limit start count : ℕ) (checkpoint : List ℕ) : Type 0 where
   pub written : Written
   pub found : found_on odd held ≡ Open written
   pub stands : Stands odd after written
   pub journal : IsJournalOf generation start after written
   pub generation_is : written.generation ≡ generation
+  pub limit_is : written.limit ≡ limit
   pub count_is : length written.commands ≡ count
   pub checkpoint_is : written.checkpoint ≡ checkpoint
 
-pub opened_as : (old new : Option (List ℕ)) (odd : Bool) (generation start count : ℕ) (checkpoint : List ℕ) → (IsSome new ↔ IsSome old) → is_generation odd generation ≡ true
-    → IfSome old (λ held. IsOpened odd held generation start count checkpoint)
+pub opened_as : (old new : Option (List ℕ)) (odd : Bool) (generation limit start count : ℕ) (checkpoint : List ℕ) → (IsSome new ↔ IsSome old) → is_generation odd generation ≡ true
+    → IfSome old (λ held. IsOpened odd held generation limit start count checkpoint)
     → ((held : List ℕ) (w : Written) → old ≡ Some held → found_on odd held ≡ Open w → IfSome new (λ after. Stands odd after w))
-    → (held : List ℕ) → old ≡ Some held → (after : List ℕ) × (new ≡ Some after) × OpenedAs odd held after generation start count checkpoint
-opened_as old new odd generation start count checkpoint telling may opened stands held told =
+    → (held : List ℕ) → old ≡ Some held → (after : List ℕ) × (new ≡ Some after) × OpenedAs odd held after generation limit start count checkpoint
+opened_as old new odd generation limit start count checkpoint telling may opened stands held told =
     let here = told_too old new telling held told in
-    let is : IsOpened odd held generation start count checkpoint = subst (λ (o : Option (List ℕ)). IfSome o (λ l. IsOpened odd l generation start count checkpoint)) told opened in
+    let is : IsOpened odd held generation limit start count checkpoint = subst (λ (o : Option (List ℕ)). IfSome o (λ l. IsOpened odd l generation limit start count checkpoint)) told opened in
     let left : Stands odd here.0 is.written = subst (λ (o : Option (List ℕ)). IfSome o (λ l. Stands odd l is.written)) here.1 (stands held is.written told is.found) in (
       here.0,
       here.1,
@@ -90,6 +91,7 @@ opened_as old new odd generation start count checkpoint telling may opened stand
           start_is = is.start_is;
         };
         generation_is = is.generation_is;
+        limit_is = is.limit_is;
         count_is = is.count_is;
         checkpoint_is = is.checkpoint_is;
       },

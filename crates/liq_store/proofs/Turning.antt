@@ -149,10 +149,10 @@ module _ {D : Type 0} (seen : D → Option (List ℕ)) (moment : D → ℕ) (lef
 
   pub turning_within : {changes : List ListChange} (next : Core) (s : State) → StandsFor core s → ((t : State) → StandsFor core t → StandsFor next (after t c)) → IsAtRest seen moment left_at now
       → ((held : List ℕ) → seen b ≡ Some held → (image : List ℕ) × (seen now ≡ Some image) × Stands (is_odd (taken.generation + 1)) image (beginning (taken.generation + 1) bytes))
-      → (generation start count : ℕ) → generation ≡ taken.generation + 1 → count ≡ 0 → IfSome (seen now) (IsSettled generation start count)
-      → IsWithin seen moment left_at (other side) (record { disk = now; generation = generation; start = start; count = count }) taken.disk next None changes
-  turning_within next s stands steps rests created generation start count later none settled = record {
-    order = order_going seen moment left_at (other side) (record { disk = now; generation = generation; start = start; count = count }) taken.disk next (turned next s stands steps rests created);
+      → (generation limit start count : ℕ) → generation ≡ taken.generation + 1 → count ≡ 0 → IfSome (seen now) (IsSettled generation start count)
+      → IsWithin seen moment left_at (other side) (record { disk = now; generation = generation; limit = limit; start = start; count = count }) taken.disk next None changes
+  turning_within next s stands steps rests created generation limit start count later none settled = record {
+    order = order_going seen moment left_at (other side) (record { disk = now; generation = generation; limit = limit; start = start; count = count }) taken.disk next (turned next s stands steps rests created);
     generation_is = later ∙ ap (λ (n : ℕ). n + 1) turns.generation_is ∙ sym (next_generation core next s c (turns.rotation s stands).rotates stands (steps s stands));
     parity_is = ap is_odd later ∙ turns.parity;
     count_is = none ∙ sym (no_records next s c (turns.rotation s stands).rotates (steps s stands));
@@ -212,10 +212,10 @@ module _ {D : Type 0} (seen : D → Option (List ℕ)) (moment : D → ℕ) (lef
 
     -- after a reply the other one
     pub turning_done : (old : Stored D) → stored side taken b core stopped before ≡ old → (request : Request) → request ≡ Do c → (reply : Reply) (next : Core) (later : Option ℕ) (changes : List ListChange)
-        → (generation start count : ℕ) → start ≡ start_of (beginning (taken.generation + 1) bytes)
-        → WritesOn seen moment left_at old request (answer.Reply reply) (stored (other side) (record { disk = now; generation = generation; start = start; count = count }) taken.disk next later changes)
-    turning_done old same request is reply next later changes generation start count known =
-        let new = stored (other side) (record { disk = now; generation = generation; start = start; count = count }) taken.disk next later changes in
+        → (generation limit start count : ℕ) → start ≡ start_of (beginning (taken.generation + 1) bytes)
+        → WritesOn seen moment left_at old request (answer.Reply reply) (stored (other side) (record { disk = now; generation = generation; limit = limit; start = start; count = count }) taken.disk next later changes)
+    turning_done old same request is reply next later changes generation limit start count known =
+        let new = stored (other side) (record { disk = now; generation = generation; limit = limit; start = start; count = count }) taken.disk next later changes in
         subst (λ (o : Stored D). WritesOn seen moment left_at o request (answer.Reply reply) new) same
         (subst (λ (q : Request). WritesOn seen moment left_at (stored side taken b core stopped before) q (answer.Reply reply) new) (sym is)
         (turned_on seen moment left_at side core next taken.start start stopped later before changes (Do c) (answer.Reply reply) taken.disk b now

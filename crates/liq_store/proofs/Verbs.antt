@@ -1,23 +1,12 @@
--- The one verb that a record can't hold is the one that begins a new generation.
-use Rattle.std.proofs.Common.{◌≡◌, ℕ, List, false, Ok, refl, sym, ◌∙◌, subst}
+-- No record holds the verb that begins a new generation.
+use Rattle.std.proofs.Common.{◌≡◌, ℕ, List, false, Ok, refl, subst}
 use Rattle.liq_types.specs.declared.requests.Call.{Call}
-use Rattle.liq_types.specs.declared.requests.Call.TheVariants.{Open, Adjust, GainToTrove, Redeem, Rotate}
+use Rattle.liq_types.specs.declared.requests.Call.TheVariants.{Open, Adjust, GainToTrove, Redeem}
 use Rattle.liq_types.specs.declared.requests.Command.{Command}
 use Rattle.liq_wire.specs.Fields.{command_of}
-use Rattle.liq_rules.specs.Verbs.{rotates, unhinted_call}
+use Rattle.liq_rules.specs.Verbs.{unhinted_call}
 use Rattle.liq_journal.specs.Crash.{IsBodyOf}
 use Rattle.liq_journal.specs.Written.{is_rotate}
-
-same_rotation : (call : Call) → is_rotate call ≡ rotates call
-same_rotation Rotate = refl
-same_rotation _ = refl
-
-pub never_rotates : (call : Call) → is_rotate call ≡ false → rotates call ≡ false
-never_rotates call h = sym (same_rotation call) ∙ h
-
-pub no_rotate : (call : Call) → (call ≡ Rotate → ⊥) → is_rotate call ≡ false
-no_rotate Rotate other = absurd (other refl)
-no_rotate _ other = refl
 
 -- without its hint it has the same verb
 pub unhinted_stays : (call : Call) → is_rotate (unhinted_call call) ≡ is_rotate call

@@ -14,8 +14,9 @@ use Rattle.liq_store.specs.declared.answers.AcceptedFault.{AcceptedFault}
 use Rattle.liq_store.specs.declared.answers.AcceptedFault.TheVariants as accepted
 use Rattle.liq_store.specs.Memory.{IsAccepted, TakesMemory}
 
--- A request in this state, and the protocol after it, of a store that was not stopped: the step's reply; or no memory, where it may
--- be asked for; or a disk's fault, where there was a record to write. Without a reply there was no step.
+-- A request in this state, and the protocol after it, of a store that was not stopped: the step's reply; or no memory,
+-- where it may be asked for; or a disk's fault, where an accepted command was to be written. Without a reply there was
+-- no step.
 abbrev pub Answers : State → Request → Answer → Core → Type 0
 Answers s request (answer.Reply reply) core = StandsFor core (step s request).0 × ((step s request).1 ≡ reply)
 Answers s request answer.NoMemory core = StandsFor core s × TakesMemory s request
@@ -26,12 +27,14 @@ Answers s request _ core = ⊥
 abbrev pub read_back : Command → Command
 read_back c = record c { call = heard c.call }
 
--- A record that was read is no record: its number is among those of the accepted commands, and its bytes, where the journal has it, have
--- another digest than the one behind them, or are no command.
+-- A record that was read is no record: its number is among those of the accepted commands, and its bytes, where the
+-- journal has it, have another digest than the one behind them, or are no command.
 abbrev pub IsUnreadable : (generation start count : ℕ) → AcceptedFault → Type 0
 IsUnreadable generation start count accepted.DiskFault = Unit {0}
 IsUnreadable generation start count (accepted.Damaged damage) =
-    (1 ≤ damage.index) × (damage.index ≤ count) × IsBodyFault generation damage.index (body_at start damage.index) (look.Damaged damage)
+    (1 ≤ damage.index)
+    × (damage.index ≤ count)
+    × IsBodyFault generation damage.index (body_at start damage.index) (look.Damaged damage)
 IsUnreadable generation start count accepted.NoMemory = Unit {0}
 
 -- never damaged

@@ -15,13 +15,18 @@ IsKeptAround s request left right = IsKept left right s ⊎ IsKept left right (s
 
 -- kept for the state, or for it after one command that it accepts
 abbrev pub IsKeptNear : State → List ℕ → List ℕ → Type 0
-IsKeptNear s left right = IsKept left right s ⊎ ((c : Command) × (ruling s c ≡ Allowed) × IsKept left right (after s c))
+IsKeptNear s left right =
+    IsKept left right s ⊎ ((c : Command) × (ruling s c ≡ Allowed) × IsKept left right (after s c))
 
--- All that a crash may have left of the one disk since it was `left`, beside all that one may have left of the other since it was
--- `right`, has P.
-abbrev pub LeavesPairs : {D : Type 0} → (D → ℕ) → (D → ℕ → List ℕ → Type 0) → D → D → D → D → (List ℕ → List ℕ → Type 0) → Type 0
+-- All that a crash may have left of the one disk since it was `left`, beside all that one may have left of the other
+-- since it was `right`, has P.
+abbrev pub LeavesPairs : {D : Type 0}
+    → (D → ℕ) → (D → ℕ → List ℕ → Type 0) → D → D → D → D
+    → (List ℕ → List ℕ → Type 0) → Type 0
 LeavesPairs moment left_at left right now_left now_right P =
-    (a b : List ℕ) → LeftSince moment left_at now_left (moment left) a → LeftSince moment left_at now_right (moment right) b → P a b
+    (a b : List ℕ)
+    → LeftSince moment left_at now_left (moment left) a → LeftSince moment left_at now_right (moment right) b
+    → P a b
 
 module _ {D : Type 0} (seen : D → Option (List ℕ)) (moment : D → ℕ) (left_at : D → ℕ → List ℕ → Type 0) where
   -- where a disk tells its bytes, a crash now would leave just them
@@ -32,14 +37,20 @@ module _ {D : Type 0} (seen : D → Option (List ℕ)) (moment : D → ℕ) (lef
   pub record IsGoing (store : Stored D) : Type 0 where
     pub left : IsAtRest store.left
     pub right : IsAtRest store.right
-    pub settled : (l r : List ℕ) → seen store.left ≡ Some l → seen store.right ≡ Some r → (s : State) → StandsFor store.core s → IsSettledFor store.side l r s
+    pub settled :
+        (l r : List ℕ) → seen store.left ≡ Some l → seen store.right ≡ Some r
+        → (s : State) → StandsFor store.core s → IsSettledFor store.side l r s
 
-  -- What both disks tell, and all that a crash now may leave of the one beside all of the other, is kept for the protocol's state or
-  -- for it with one command more.
+  -- What both disks tell, and all that a crash now may leave of the one beside all of the other, is kept for the
+  -- protocol's state or for it with one command more.
   pub record IsHalted (store : Stored D) : Type 0 where
-    pub read : (l r : List ℕ) → seen store.left ≡ Some l → seen store.right ≡ Some r → (s : State) → StandsFor store.core s → IsKeptNear s l r
-    pub left_so : (l r a b : List ℕ) → seen store.left ≡ Some l → seen store.right ≡ Some r
-        → LeftNow moment left_at store.left a → LeftNow moment left_at store.right b → (s : State) → StandsFor store.core s → IsKeptNear s a b
+    pub read :
+        (l r : List ℕ) → seen store.left ≡ Some l → seen store.right ≡ Some r
+        → (s : State) → StandsFor store.core s → IsKeptNear s l r
+    pub left_so :
+        (l r a b : List ℕ) → seen store.left ≡ Some l → seen store.right ≡ Some r
+        → LeftNow moment left_at store.left a → LeftNow moment left_at store.right b
+        → (s : State) → StandsFor store.core s → IsKeptNear s a b
 
   abbrev pub IsInOrderWith : Option ℕ → Stored D → Type 0
   IsInOrderWith None store = IsGoing store

@@ -72,7 +72,8 @@ pub record HasCounts (generation count : ℕ) (core : Core) : Type 0 where
 
 abbrev pub IsCounted : {D : Type 0} → Bool → Stood D → Type 0
 IsCounted odd (Nothing disk) = Unit {0}
-IsCounted odd (Holding journal core) = (is_generation odd journal.generation ≡ true) × HasCounts journal.generation journal.count core
+IsCounted odd (Holding journal core) =
+    (is_generation odd journal.generation ≡ true) × HasCounts journal.generation journal.count core
 
 -- the same journal, all of whose records were made again
 pub record Replayed {D : Type 0} (old new : JournalOn D) (core : Core) : Type 0 where

@@ -14,7 +14,15 @@ use Rattle.liq_store.specs.Stored.{Stored}
 -- as a store's fields are seen
 abbrev pub stored : {D : Type 0} → Side → JournalOn D → D → Core → Option ℕ → List ListChange → Stored D
 stored side taken beside core stopped changes =
-    record { left = on side taken.disk beside; right = on side beside taken.disk; side = side; start = taken.start; core = core; stopped = stopped; changes = changes }
+    record {
+      left = on side taken.disk beside;
+      right = on side beside taken.disk;
+      side = side;
+      start = taken.start;
+      core = core;
+      stopped = stopped;
+      changes = changes;
+    }
 
 -- at least so many records
 pub record HasRecords (generation start count : ℕ) (bytes : List ℕ) : Type 0 where
@@ -22,9 +30,12 @@ pub record HasRecords (generation start count : ℕ) (bytes : List ℕ) : Type 0
   pub journal : IsJournalOf generation start bytes written
   pub within : count ≤ length written.commands
 
--- The journal has the protocol's generation, and as many records as it counts; while the store is not stopped no more, and a 0
--- behind them.
-pub record IsWithin {D : Type 0} (seen : D → Option (List ℕ)) (moment : D → ℕ) (left_at : D → ℕ → List ℕ → Type 0) (side : Side) (taken : JournalOn D) (beside : D) (core : Core) (stopped : Option ℕ) (changes : List ListChange) : Type 0 where
+-- The journal has the protocol's generation, and as many records as it counts; while the store is not stopped no more,
+-- and a 0 behind them.
+pub record IsWithin
+    {D : Type 0} (seen : D → Option (List ℕ)) (moment : D → ℕ) (left_at : D → ℕ → List ℕ → Type 0)
+    (side : Side) (taken : JournalOn D) (beside : D) (core : Core) (stopped : Option ℕ)
+    (changes : List ListChange) : Type 0 where
   pub order : IsInOrder seen moment left_at (stored side taken beside core stopped changes)
   pub generation_is : taken.generation ≡ core.image.generation
   pub parity_is : is_odd taken.generation ≡ has_odd side

@@ -1,6 +1,7 @@
 // A protocol, and beside it the guide of its ordered list.
 ghost use Rattle.std.specs.Prelude.{◌≡◌, IfOk, OnOk};
-ghost use Rattle.liq_types.specs.State.{State, opening};
+ghost use Rattle.liq_types.specs.Image.{IsLimit};
+ghost use Rattle.liq_types.specs.State.{State, opening_with};
 ghost use Rattle.liq_types.specs.declared.replies.Reply.TheVariants.{Said};
 ghost use Rattle.liq_types.specs.declared.requests.Request.TheVariants.{Do, Ask};
 ghost use Rattle.liq_core.specs.Core.{SameContent, StandsFor};
@@ -44,12 +45,13 @@ impl Model for Guided {
 }
 
 impl Guided {
-    // The protocol as it opens.
-    pub fn new(alloc: Global) -> Guided
-        ensures { StandsFor result opening }
+    // The protocol as it opens under this limit.
+    pub fn with_limit(alloc: Global, limit: u64) -> Guided
+        requires { IsLimit limit }
+        ensures { StandsFor result (opening_with limit) }
     {
         Guided {
-            protocol: Protocol::new(alloc),
+            protocol: Protocol::with_limit(alloc, limit),
             guide: Guide::new(alloc),
             hint: None,
         }

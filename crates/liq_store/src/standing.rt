@@ -42,13 +42,13 @@ fn hold<D: Disk>(
 ) -> Result<Stood<D>, StandFault<D>>
     ensures looked { Looked D.seen D.moment D.left_at journal.disk (disk_in result) }
     ensures holds { (held : List ℕ) (w : Written) → D.seen journal.disk ≡ Some held
-        → IsJournalOf journal.generation journal.start held w → w.checkpoint ≡ checkpoint.items
-        → length w.commands ≡ journal.count → HoldsTo w result }
+        → IsJournalOf journal.generation journal.start held w → w.limit ≡ journal.limit
+        → w.checkpoint ≡ checkpoint.items → length w.commands ≡ journal.count → HoldsTo w result }
     ensures journal { Continues journal result }
     ensures cause { CountsStand result (D.faults journal.disk) (D.faults (disk_in result)) }
 {
     let mut journal = journal;
-    let mut protocol = match base(alloc, journal.generation(), &checkpoint) {
+    let mut protocol = match base(alloc, journal.generation(), journal.limit(), &checkpoint) {
         Ok(protocol) => protocol,
         Err(why) => {
             return Err(StandFault {

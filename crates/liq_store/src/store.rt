@@ -16,7 +16,7 @@ ghost use Rattle.liq_journal.specs.Opened.{IsUnshut, OpenLeaves};
 ghost use Rattle.liq_journal.specs.Written.{Absent, Open, Written, found_on, is_rotate};
 ghost use Rattle.liq_pairs.specs.declared.side.Side.{Side};
 ghost use Rattle.liq_pairs.specs.Kept.{IsKept};
-ghost use Rattle.liq_pairs.specs.Pair.{state_on};
+ghost use Rattle.liq_pairs.specs.Pair.{StandFor, state_on};
 ghost use Rattle.liq_pairs.specs.Sides.{has_odd, on, other};
 ghost use Rattle.liq_pairs.specs.Unfinished.{IsRecovered, LeftLeaves};
 ghost use Rattle.liq_store.specs.Answering.{Answers, IsReadable, IsUnreadable};
@@ -54,15 +54,6 @@ fn sum_of_faults<D: Disk>(taken: &Journal<D>, beside: &D) -> u64
     ensures { result ≡ min (D.faults taken.now.disk + D.faults beside.now) count_most }
 {
     taken.faults().saturating_add(beside.faults())
-}
-
-fn other(side: Side) -> Side
-    ensures { result ≡ other side }
-{
-    match side {
-        Side::Left => Side::Right,
-        Side::Right => Side::Left,
-    }
 }
 
 /// The protocol over two disks. A contract sees the disks, the side on which the journal goes on and where its records begin, the
@@ -197,7 +188,7 @@ impl<D: Disk> Store<D> {
                     return Answer::DiskFault;
                 }
             }
-            self.side = other(self.side);
+            self.side = self.side.other();
             // A rotation changes nothing in the list.
             let done = make::<Brand>(&mut self.protocol, planned, hint, Blank::new(1));
             return Answer::Reply(Reply::Said(done));
@@ -289,6 +280,8 @@ impl<D: Disk> Store<D> {
         ensures left { result.0 ≡ self.left }
         ensures right { result.1 ≡ self.right }
         ensures order { IsInOrder D.seen D.moment D.left_at self }
+        // They stand for the state of a store that met no fault: so the next opening has it again.
+        ensures state { self.stopped ≡ None → (l r : List ℕ) (s : State) → D.seen result.0 ≡ Some l → D.seen result.1 ≡ Some r → StandsFor self.core s → StandFor l r s }
     {
         let Store {
             alloc: _,
@@ -450,7 +443,7 @@ fn begin_anew<D: Disk>(alloc: Global, left: D, right: D) -> Result<Store<D>, Sto
 {
     match Journal::create(left, 1, &[]) {
         Ok(taken) => {
-            let protocol = Guided::new(alloc);
+            let protocol = Guided::with_limit(alloc, taken.limit());
             Ok(begin_on(alloc, Side::Left, taken, right, protocol))
         }
         Err(fault) => Err(StoreFault {

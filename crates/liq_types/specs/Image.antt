@@ -1,9 +1,13 @@
 -- The image: all of a state on which its future rests, but for the count of its records. It is also what the rules begin
 -- from, at the opening or at a checkpoint. Tables ascend by their keys and have no empty rows.
-use Rattle.std.specs.Prelude.{ℕ, []}
-use Rattle.liq_types.specs.declared.amounts.TheConstants.{LIM, PRICE_OPENING, P_OPENING}
+use Rattle.std.specs.Prelude.{◌≡◌, ℕ, ◌⊎◌, []}
+use Rattle.liq_types.specs.declared.amounts.TheConstants.{LIM, LIM_OF_VERSION_1, PRICE_OPENING, P_OPENING}
 pub use Rattle.liq_types.specs.declared.image.Image.{Image}
 pub use Rattle.liq_types.specs.Tables.{Place}
+
+-- the most collateral inside, and the most LUSD, is one of two numbers
+abbrev pub IsLimit : ℕ → Type 0
+IsLimit limit = (limit ≡ LIM_OF_VERSION_1) ⊎ (limit ≡ LIM)
 
 -- nothing but the price, and a product that is whole
 abbrev pub opening_image_with : ℕ → Image

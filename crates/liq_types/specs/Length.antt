@@ -1,6 +1,7 @@
 -- How many bytes a checkpoint of an image has: its words, a count before each table, and the tables' rows. An account or a
 -- client has 4 bytes, a product or a sum 16, a verb's place 1, and every other number 8.
 use Rattle.std.specs.Prelude.{ℕ, ◌+◌, ◌*◌, length}
+use Rattle.liq_types.specs.declared.lengths.RowCounts.{RowCounts}
 use Rattle.liq_types.specs.Image.{Image}
 
 -- a name of eight bytes; 21 numbers, 2 sums per stake, the product and its sum; and six counts
@@ -31,12 +32,24 @@ deposit_length = 4 + 8 + 16 * 2 + 8 * 2
 abbrev pub client_length : ℕ
 client_length = 4 + 8 + 1 + 8 * 6
 
+-- with so many rows in each table
+abbrev pub length_with : RowCounts → ℕ
+length_with n =
+    words_length
+    + wallet_length * n.wallets
+    + trove_length * n.troves
+    + surplus_length * n.surplus_rows
+    + finished_length * n.finished
+    + deposit_length * n.deposits
+    + client_length * n.clients
+
 abbrev pub checkpoint_length : Image → ℕ
 checkpoint_length i =
-    words_length
-    + wallet_length * length i.wallets
-    + trove_length * length i.troves
-    + surplus_length * length i.surplus_rows
-    + finished_length * length i.finished
-    + deposit_length * length i.deposits
-    + client_length * length i.clients
+    length_with (record {
+      wallets = length i.wallets;
+      troves = length i.troves;
+      surplus_rows = length i.surplus_rows;
+      finished = length i.finished;
+      deposits = length i.deposits;
+      clients = length i.clients;
+    })

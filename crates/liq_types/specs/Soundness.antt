@@ -4,7 +4,7 @@ use Rattle.std.specs.Prelude.{◌≡◌, ℕ, ◌+◌, ◌-◌, ◌*◌, ◌≤�
 use Rattle.std.specs.List.{list_all, AllByRecursion}
 use Rattle.std.specs.List.Sorted.{IsStrictlySortedBy}
 use Rattle.std.specs.Map.{keys_of, values_of}
-use Rattle.liq_types.specs.declared.amounts.TheConstants.{ONE, LIM, PRICE_LEAST, PRICE_MOST, MINUTE_MOST, RESERVE, MIN_NET, P_OPENING, P_LEAST, SUM_MOST, OFFSET_MOST, ACCOUNTS, RECORDS_MOST, PLACES_A_RECORD, GENERATIONS_MOST}
+use Rattle.liq_types.specs.declared.amounts.TheConstants.{ONE, LIM, LIM_OF_VERSION_1, PRICE_LEAST, PRICE_MOST, MINUTE_MOST, RESERVE, MIN_NET, P_OPENING, P_LEAST, SUM_MOST, OFFSET_MOST, ACCOUNTS, RECORDS_MOST, PLACES_A_RECORD, GENERATIONS_MOST}
 use Rattle.liq_types.specs.declared.figures.Wallet.{Wallet}
 use Rattle.liq_types.specs.declared.figures.Client.{Client}
 use Rattle.liq_types.specs.declared.figures.Trove.{Trove}
@@ -18,9 +18,12 @@ use Rattle.liq_types.specs.WellFormed.{Ascends}
 
 -- ---- 1: ranges
 
--- the most collateral inside, and the most LUSD: a number of the image, of which the first rule lets one value be
+-- the most collateral inside, and the most LUSD: a number of the image, of which the first rule lets two values be
 abbrev pub limit_in : Image → ℕ
 limit_in i = i.limit
+
+abbrev pub is_limit : ℕ → Bool
+is_limit limit = limit == LIM_OF_VERSION_1 || limit == LIM
 
 abbrev pub has_ranges : Image → ℕ → Bool
 has_ranges i records =
@@ -30,7 +33,7 @@ has_ranges i records =
     && nat_le i.base ONE
     && nat_le 1 i.generation && nat_le i.generation GENERATIONS_MOST
     && nat_le records RECORDS_MOST
-    && i.limit == LIM
+    && is_limit i.limit
     && nat_le i.brought (limit_in i)
 
 -- ---- 2: accounts and clients

@@ -3,8 +3,12 @@
 /// One, as a rate: rates are whole numbers over 10^18.
 pub const ONE: u64 = 1_000_000_000_000_000_000;
 
-/// The most collateral that may be inside the system (gwei), and the most LUSD that may be in circulation (micro-LUSD).
+/// The most collateral that may be inside the system (gwei), and the most LUSD that may be in circulation (micro-LUSD). No
+/// protocol has a greater limit.
 pub const LIM: u64 = 10_000_000_000_000_000_000;
+
+/// The limit of a protocol whose journal is of version 1, until a rotation: a tenth of [`LIM`].
+pub const LIM_OF_VERSION_1: u64 = 1_000_000_000_000_000_000;
 
 /// The least price, in micro-LUSD per ether.
 pub const PRICE_LEAST: u64 = 100_000_000;

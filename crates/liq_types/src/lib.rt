@@ -12,6 +12,7 @@ pub mod figures;
 pub mod hints;
 pub mod image;
 pub mod laws;
+pub mod lengths;
 pub mod replies;
 pub mod requests;
 
@@ -25,5 +26,6 @@ pub use image::{
     ClientRow, ClientRows, DepositRow, DepositRows, FinishedRows, FinishedSum, Image, SurplusRow,
     SurplusRows, TroveRow, TroveRows, WalletRow, WalletRows,
 };
+pub use lengths::RowCounts;
 pub use replies::{Answer, Done, Info, NoMemory, Refusal, Reply};
 pub use requests::{Call, Command, Query, Request};

@@ -127,7 +127,7 @@ pub const TURNED: [(u64, u64); 25] = [
 ];
 
 /// A place, how many bytes are written there, as which number, and the place that is told then.
-pub const WRITTEN: [(u64, u64, u64, u64); 103] = [
+pub const WRITTEN: [(u64, u64, u64, u64); 106] = [
     (240, 8, 0, 316),
     (240, 8, 1, 336),
     (240, 8, 3, 288),
@@ -230,5 +230,8 @@ pub const WRITTEN: [(u64, u64, u64, u64); 103] = [
     (729, 1, 16, NOWHERE),
     (729, 1, 17, 729),
     (729, 1, 255, 729),
-    (7, 1, 50, 0),
+    (7, 1, 48, 0),
+    (7, 1, 49, NOWHERE),
+    (7, 1, 50, NOWHERE),
+    (7, 1, 51, 0),
 ];

@@ -1,7 +1,8 @@
 use crate::NOWHERE;
 use crate::tables::{FIELDS, LENGTH, TURNED, WRITTEN};
 use liq_checkpoint::{ImageBytes, decode, encode};
-use liq_types::{Image, NoMemory};
+use liq_types::NoMemory;
+use liq_types::amounts::{LIM, LIM_OF_VERSION_1};
 use std::alloc::{AllocError, Global};
 use std::process::Abort;
 use std::test::Fail;
@@ -20,9 +21,9 @@ fn place_in(alloc: Global, bytes: &[u8]) -> u64 {
     }
 }
 
-// The checkpoint of the tables.
-fn checkpoint(alloc: Global) -> Result<Vec<u8>, AllocError> {
-    let mut out = Vec::from_slice(alloc, b"LIQSTAT1")?;
+// The checkpoint of the tables, under this name.
+fn checkpoint(alloc: Global, name: &[u8]) -> Result<Vec<u8>, AllocError> {
+    let mut out = Vec::from_slice(alloc, name)?;
     for (width, number) in FIELDS {
         let digits = number.to_be_bytes();
         out.extend_from_slice(
@@ -90,11 +91,12 @@ fn first_odd_number(alloc: Global, bytes: &[u8]) -> Result<u64, AllocError> {
     Ok(NOWHERE)
 }
 
-// What tells an image from others: a word, the last row's last number, and how many bytes its checkpoint has that differ.
-fn seen_of(alloc: Global, bytes: &[u8]) -> Result<[u64; 3], NoMemory> {
+// What tells an image from others: its limit, a word, the last row's last number, and how many bytes its checkpoint has that
+// differ.
+fn seen_of(alloc: Global, bytes: &[u8]) -> Result<[u64; 4], NoMemory> {
     let image = match decode(alloc, bytes) {
         Ok(image) => image,
-        Err(_) => return Ok([0; 3]),
+        Err(_) => return Ok([0; 4]),
     };
     let last = match image.clients.rows().last() {
         Some(row) => row.values[5],
@@ -102,41 +104,46 @@ fn seen_of(alloc: Global, bytes: &[u8]) -> Result<[u64; 3], NoMemory> {
     };
     let again = encode(alloc, &image)?;
     let odd = if again.as_slice() == bytes { 0 } else { 1 };
-    Ok([image.generation, last, odd])
+    Ok([image.limit, image.generation, last, odd])
+}
+
+// A checkpoint under this name is one of an image under this limit.
+fn is_written_and_read(
+    rt: &impl Abort,
+    alloc: Global,
+    name: &[u8],
+    limit: u64,
+) -> Result<(), AllocError> {
+    let mut bytes = checkpoint(alloc, name)?;
+    same(rt, bytes.len() as u64, LENGTH, "its length");
+    let seen = match seen_of(alloc, &bytes) {
+        Ok(seen) => seen,
+        Err(_) => [0; 4],
+    };
+    same(rt, seen[0], limit, "the limit");
+    same(rt, seen[1], 2, "the generation");
+    same(rt, seen[2], 7, "the last client's last value");
+    same(rt, seen[3], 0, "the bytes that are written");
+    let cut = first_odd_cut(alloc, &bytes);
+    same(rt, cut, NOWHERE, "cut at each byte");
+    let turned = first_odd_turn(alloc, bytes.as_mut_slice());
+    same(rt, turned, NOWHERE, "each byte turned");
+    let number = first_odd_number(alloc, &bytes)?;
+    same(rt, number, NOWHERE, "other numbers");
+    bytes.push(0)?;
+    same(rt, place_in(alloc, &bytes), LENGTH, "a byte behind");
+    Ok(())
 }
 
 #[test]
 fn a_checkpoint_is_written_and_read(rt: HostRuntime) -> Result<(), Fail> {
-    let mut bytes = checkpoint(rt.alloc())?;
-    same(&rt, bytes.len() as u64, LENGTH, "its length");
-    let [generation, last, odd] = match seen_of(rt.alloc(), &bytes) {
-        Ok(seen) => seen,
-        Err(_) => [0; 3],
-    };
-    same(&rt, generation, 2, "the generation");
-    same(&rt, last, 7, "the last client's last value");
-    same(&rt, odd, 0, "the bytes that are written");
-    same(
-        &rt,
-        first_odd_cut(rt.alloc(), &bytes),
-        NOWHERE,
-        "cut at each byte",
-    );
-    let turned = first_odd_turn(rt.alloc(), bytes.as_mut_slice());
-    same(&rt, turned, NOWHERE, "each byte turned");
-    same(
-        &rt,
-        first_odd_number(rt.alloc(), &bytes)?,
-        NOWHERE,
-        "other numbers",
-    );
+    is_written_and_read(&rt, rt.alloc(), b"LIQSTAT1", LIM_OF_VERSION_1)?;
+    is_written_and_read(&rt, rt.alloc(), b"LIQSTAT2", LIM)?;
     same(
         &rt,
         place_in(rt.alloc(), &[0; 3]),
         3,
         "three bytes that begin no name",
     );
-    bytes.push(0)?;
-    same(&rt, place_in(rt.alloc(), &bytes), LENGTH, "a byte behind");
     Ok(())
 }

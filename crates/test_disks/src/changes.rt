@@ -41,15 +41,15 @@ fn find_each(alloc: Global, bytes: &[u8]) -> Result<[(Found, bool); 4], AllocErr
     Ok([
         find(alloc, bytes)?,
         find(alloc, bytes.get(..400).unwrap_or(bytes))?,
-        find_changed(alloc, bytes, 315, 7)?,
-        find_changed(alloc, bytes, 320, byte_at(bytes, 320) ^ 1)?,
+        find_changed(alloc, bytes, 323, 7)?,
+        find_changed(alloc, bytes, 328, byte_at(bytes, 328) ^ 1)?,
     ])
 }
 
 #[test]
 fn three_commands(rt: HostRuntime) -> Result<(), Fail> {
     let bytes = journal(rt.alloc(), 3)?;
-    same(&rt, bytes.len() as u64, 445, "three accepted commands");
+    same(&rt, bytes.len() as u64, 453, "three accepted commands");
     let [whole, cut, shut, flipped] = find_each(rt.alloc(), &bytes)?;
     let two = (Found::Records(2), false);
     shows(&rt, "three are found", whole == (Found::Records(3), false));
@@ -76,7 +76,7 @@ fn open_new(alloc: Global) -> Result<New, AllocError> {
         found: opened.found,
         left: left.len() as u64,
         right: opened.right.bytes().len() as u64,
-        gates: (byte_at(left, 0), byte_at(left, 57)),
+        gates: (byte_at(left, 0), byte_at(left, 65)),
     })
 }
 
@@ -84,7 +84,7 @@ fn open_new(alloc: Global) -> Result<New, AllocError> {
 fn no_commands(rt: HostRuntime) -> Result<(), Fail> {
     let new = open_new(rt.alloc())?;
     shows(&rt, "nothing is accepted", new.found == Found::Records(0));
-    same(&rt, new.left, 58, "a new journal on the left disk");
+    same(&rt, new.left, 66, "a new journal on the left disk");
     shows(&rt, "open, and shut behind", new.gates == (1, 0));
     same(&rt, new.right, 0, "nothing on the right disk");
     Ok(())

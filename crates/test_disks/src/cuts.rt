@@ -1,40 +1,48 @@
-//! A journal of three records that is cut at each byte, and one whose bytes are changed.
+//! A journal of three records, of either version, that is cut at each byte, and one whose bytes are changed.
 
 use crate::checks::{NOWHERE, same};
-use crate::disks::{byte_at, changed};
+use crate::disks::{as_version_1, byte_at, changed};
 use crate::found::{Found, of_header};
 use crate::journals::{find_in, journal};
 use std::alloc::{AllocError, Global};
 use std::test::Fail;
 
-const HEADER: u64 = 57;
+// Below so many bytes there is no journal, of neither version.
+const LEAST_HEADER: u64 = 57;
 
 const RECORD: u64 = 129;
 
-// What is found where the bytes end before a place.
-fn cut_at(at: u64) -> Found {
-    if at < HEADER {
+// What is found where the bytes end before a place, behind a header of so many bytes.
+fn cut_at(header: u64, at: u64) -> Found {
+    if at < LEAST_HEADER {
         Found::Absent
+    } else if at < header {
+        Found::NoForm {
+            index: 0,
+            place: at,
+        }
     } else {
-        Found::Records((at - HEADER) / RECORD)
+        Found::Records((at - header) / RECORD)
     }
 }
 
-// What is found where the last bit of the byte at a place is another.
-fn changed_at(at: u64) -> Found {
-    match at {
-        0..HEADER => of_header(at, 1),
+// What is found where the last bit of the byte at a place is another, behind a header of so many bytes.
+fn changed_at(header: u64, at: u64) -> Found {
+    if at < header {
+        of_header(header, at, 1)
+    } else if (at - header) % RECORD == 0 {
         // The gate behind the last record opens nothing: no whole record stands there.
-        _ if (at - HEADER) % RECORD == 0 => Found::Records((at - HEADER) / RECORD),
-        _ => Found::OtherDigest((at - HEADER) / RECORD + 1),
+        Found::Records((at - header) / RECORD)
+    } else {
+        Found::OtherDigest((at - header) / RECORD + 1)
     }
 }
 
 // The first place at which a cut leaves something else.
-fn first_odd_cut(alloc: Global, bytes: &[u8], places: u64) -> Result<u64, AllocError> {
-    for at in 0..places {
+fn first_odd_cut(alloc: Global, bytes: &[u8], header: u64) -> Result<u64, AllocError> {
+    for at in 0..bytes.len() as u64 {
         let left = bytes.get(..at as usize).unwrap_or(bytes);
-        if find_in(alloc, left)? != cut_at(at) {
+        if find_in(alloc, left)? != cut_at(header, at) {
             return Ok(at);
         }
     }
@@ -48,40 +56,70 @@ fn find_changed(alloc: Global, bytes: &[u8], at: u64, byte: u8) -> Result<Found,
 }
 
 // The first place at which a change leaves something else.
-fn first_odd_change(alloc: Global, bytes: &[u8], places: u64) -> Result<u64, AllocError> {
-    for at in 0..places {
-        if find_changed(alloc, bytes, at, byte_at(bytes, at) ^ 1)? != changed_at(at) {
+fn first_odd_change(alloc: Global, bytes: &[u8], header: u64) -> Result<u64, AllocError> {
+    for at in 0..bytes.len() as u64 {
+        if find_changed(alloc, bytes, at, byte_at(bytes, at) ^ 1)? != changed_at(header, at) {
             return Ok(at);
         }
     }
     Ok(NOWHERE)
 }
 
-// The first odd cut, change and row.
-fn first_odd(alloc: Global, bytes: &[u8]) -> Result<[u64; 3], AllocError> {
-    Ok([
-        first_odd_cut(alloc, bytes, 446)?,
-        first_odd_change(alloc, bytes, 445)?,
-        first_odd_row(alloc, bytes)?,
-    ])
+// What is found in all of the bytes, and the first odd cut, change and row.
+fn see(
+    alloc: Global,
+    bytes: &[u8],
+    header: u64,
+    rows: &[(u64, u8, Found)],
+) -> Result<(Found, [u64; 3]), AllocError> {
+    Ok((
+        find_in(alloc, bytes)?,
+        [
+            first_odd_cut(alloc, bytes, header)?,
+            first_odd_change(alloc, bytes, header)?,
+            first_odd_row(alloc, bytes, rows)?,
+        ],
+    ))
 }
 
 #[test]
 fn a_journal_is_cut_and_changed_at_each_byte(rt: HostRuntime) -> Result<(), Fail> {
     let bytes = journal(rt.alloc(), 3)?;
-    same(&rt, bytes.len() as u64, 445, "three records");
-    let [cut, change, row] = first_odd(rt.alloc(), &bytes)?;
+    same(&rt, bytes.len() as u64, 453, "three records");
+    let (found, [cut, change, row]) = see(rt.alloc(), &bytes, 65, &GATES_AND_FIELDS)?;
+    same(&rt, records(found), 3, "all three are found");
     same(&rt, cut, NOWHERE, "cut at each byte");
     same(&rt, change, NOWHERE, "changed at each byte");
     same(&rt, row, NOWHERE, "gates and fields");
     Ok(())
 }
 
-// A place, the byte there, and what is found: gates, generation 2 on the left disk, and a name and a length that are none.
-const GATES_AND_FIELDS: [(u64, u8, Found); 6] = [
-    (315, 0, Found::Records(2)),
-    (315, 1, Found::Records(3)),
-    (315, 7, Found::Records(2)),
+#[test]
+fn version_1_is_cut_and_changed_at_each_byte(rt: HostRuntime) -> Result<(), Fail> {
+    let bytes = as_version_1(rt.alloc(), &journal(rt.alloc(), 3)?)?;
+    same(&rt, bytes.len() as u64, 445, "three records of version 1");
+    let (found, [cut, change, row]) = see(rt.alloc(), &bytes, 57, &GATES_OF_VERSION_1)?;
+    same(&rt, records(found), 3, "all three are found in version 1");
+    same(&rt, cut, NOWHERE, "version 1 cut at each byte");
+    same(&rt, change, NOWHERE, "version 1 changed at each byte");
+    same(&rt, row, NOWHERE, "gates and fields of version 1");
+    Ok(())
+}
+
+// How many records are found, if a journal is.
+fn records(found: Found) -> u64 {
+    match found {
+        Found::Records(count) => count,
+        _ => NOWHERE,
+    }
+}
+
+// A place, the byte there, and what is found: gates; generation 2 on the left disk; a name, a length and a limit that are
+// none; and the other version's name, by which the digest is sought where it doesn't stand.
+const GATES_AND_FIELDS: [(u64, u8, Found); 8] = [
+    (323, 0, Found::Records(2)),
+    (323, 1, Found::Records(3)),
+    (323, 7, Found::Records(2)),
     (8, 2, Found::NoForm { index: 0, place: 1 }),
     (16, 2, Found::NoForm { index: 0, place: 9 }),
     (
@@ -92,13 +130,41 @@ const GATES_AND_FIELDS: [(u64, u8, Found); 6] = [
             place: 17,
         },
     ),
+    (
+        32,
+        2,
+        Found::NoForm {
+            index: 0,
+            place: 25,
+        },
+    ),
+    (8, 49, Found::OtherDigest(0)),
+];
+
+// Behind the header of version 1; with the other version's name the digest is no limit.
+const GATES_OF_VERSION_1: [(u64, u8, Found); 4] = [
+    (315, 0, Found::Records(2)),
+    (315, 7, Found::Records(2)),
+    (8, 2, Found::NoForm { index: 0, place: 1 }),
+    (
+        8,
+        50,
+        Found::NoForm {
+            index: 0,
+            place: 25,
+        },
+    ),
 ];
 
 // The place of the first row that finds something else.
-fn first_odd_row(alloc: Global, bytes: &[u8]) -> Result<u64, AllocError> {
-    for (at, byte, found) in GATES_AND_FIELDS {
-        if find_changed(alloc, bytes, at, byte)? != found {
-            return Ok(at);
+fn first_odd_row(
+    alloc: Global,
+    bytes: &[u8],
+    rows: &[(u64, u8, Found)],
+) -> Result<u64, AllocError> {
+    for (at, byte, found) in rows {
+        if find_changed(alloc, bytes, *at, *byte)? != *found {
+            return Ok(*at);
         }
     }
     Ok(NOWHERE)

@@ -71,7 +71,7 @@ fn two_records_in_a_file(rt: HostRuntime) -> Result<(), Fail> {
         "two records in a file",
         read.found == Found::Records(2),
     );
-    same(&rt, read.length, 316, "the file's length");
+    same(&rt, read.length, 324, "the file's length");
     shows(&rt, "the file's bytes", read.is_right);
     same(&rt, read.faults, 0, "faults at a file");
     Ok(())

@@ -17,9 +17,10 @@ pub enum Found {
     NoMemory,
 }
 
-/// What is found where this bit of the byte at a place of a first generation's header is another. An even generation is
-/// of the other disk; behind any other odd one a checkpoint is missing.
-pub fn of_header(at: u64, bit: u8) -> Found {
+/// What is found where this bit of the byte at a place of a first generation's header is another, which has so many
+/// bytes. An even generation is of the other disk; behind any other odd one a checkpoint is missing. Version 2 has the limit
+/// in front of the digest.
+pub fn of_header(header: u64, at: u64, bit: u8) -> Found {
     match at {
         0 => Found::Absent,
         1..9 => Found::NoForm { index: 0, place: 1 },
@@ -27,6 +28,10 @@ pub fn of_header(at: u64, bit: u8) -> Found {
         9..25 => Found::NoForm {
             index: 0,
             place: 17,
+        },
+        25..33 if header == 65 => Found::NoForm {
+            index: 0,
+            place: 25,
         },
         _ => Found::OtherDigest(0),
     }

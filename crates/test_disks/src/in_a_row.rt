@@ -1,5 +1,6 @@
 //! Calls in a row on one journal, each of which leaves what the next one asks for.
 ghost use Rattle.std.specs.Prelude.{◌≡◌, ◌∷◌, [], Some, false, true, List, ℕ, IfOk};
+ghost use Rattle.liq_types.specs.declared.amounts.TheConstants.{LIM};
 ghost use Rattle.liq_wire.specs.Fields.{HasHints};
 ghost use Rattle.liq_journal.specs.Crash.{Stands};
 ghost use Rattle.liq_journal.specs.Written.{is_rotate};
@@ -19,7 +20,7 @@ fn two_records<D: Disk>(disk: D, first: &Command, second: &Command) -> Result<Jo
     requires hints { HasHints first.now.call × HasHints second.now.call }
     requires no_rotation { (is_rotate first.now.call ≡ false) × (is_rotate second.now.call ≡ false) }
     ensures { IfOk result (λ j. (held : List ℕ) → D.seen disk ≡ Some held
-        → (after : List ℕ) × (D.seen j.disk ≡ Some after) × Stands true after (record { generation = 1; checkpoint = []; commands = first.now ∷ second.now ∷ [] })) }
+        → (after : List ℕ) × (D.seen j.disk ≡ Some after) × Stands true after (record { generation = 1; limit = LIM; checkpoint = []; commands = first.now ∷ second.now ∷ [] })) }
 {
     let mut journal = match Journal::create(disk, 1, &[]) {
         Ok(journal) => journal,

@@ -38,4 +38,6 @@ mod stores;
 #[cfg(test)]
 mod streams;
 #[cfg(test)]
+mod turns;
+#[cfg(test)]
 mod wire;

@@ -28,11 +28,11 @@ const OPEN: Found = Found::Records(0);
 
 // What is looked at, how many of its bytes, as the left disk's, the call that fails, and what is found. A look reads the header and
 // the length.
-const LOOKS: [(&str, usize, bool, &[u64], Found); 9] = [
-    ("a whole journal", 316, true, &[], OPEN),
+const LOOKS: [(&str, usize, bool, &[u64], Found); 11] = [
+    ("a whole journal", 324, true, &[], OPEN),
     (
         "on the other disk",
-        316,
+        324,
         false,
         &[],
         Found::NoForm { index: 0, place: 9 },
@@ -40,10 +40,30 @@ const LOOKS: [(&str, usize, bool, &[u64], Found); 9] = [
     ("no bytes", 0, true, &[], Found::Absent),
     ("one byte", 1, true, &[], Found::Absent),
     ("a header cut", 56, true, &[], Found::Absent),
-    ("a header", 57, true, &[], OPEN),
-    ("the first call fails", 316, true, &[0], Found::DiskFault),
-    ("the second call fails", 316, true, &[1], Found::DiskFault),
-    ("there is no third call", 316, true, &[2], OPEN),
+    (
+        "as many bytes as the header of version 1",
+        57,
+        true,
+        &[],
+        Found::NoForm {
+            index: 0,
+            place: 57,
+        },
+    ),
+    (
+        "all but one byte of a header",
+        64,
+        true,
+        &[],
+        Found::NoForm {
+            index: 0,
+            place: 64,
+        },
+    ),
+    ("a header", 65, true, &[], OPEN),
+    ("the first call fails", 324, true, &[0], Found::DiskFault),
+    ("the second call fails", 324, true, &[1], Found::DiskFault),
+    ("there is no third call", 324, true, &[2], OPEN),
 ];
 
 #[test]
@@ -66,7 +86,7 @@ fn look_at_change(alloc: Global, bytes: &[u8], at: u64) -> Result<Found, AllocEr
 // The first place at which a change is told as something else.
 fn first_odd_look(alloc: Global, bytes: &[u8], places: u64) -> Result<u64, AllocError> {
     for at in 0..places {
-        let expected = if at < 57 { of_header(at, 4) } else { OPEN };
+        let expected = if at < 65 { of_header(65, at, 4) } else { OPEN };
         if look_at_change(alloc, bytes, at)? != expected {
             return Ok(at);
         }
@@ -77,7 +97,7 @@ fn first_odd_look(alloc: Global, bytes: &[u8], places: u64) -> Result<u64, Alloc
 #[test]
 fn a_look_at_changed_bytes(rt: HostRuntime) -> Result<(), Fail> {
     let bytes = two_records(rt.alloc())?;
-    let place = first_odd_look(rt.alloc(), &bytes, 316)?;
+    let place = first_odd_look(rt.alloc(), &bytes, 324)?;
     same(&rt, place, NOWHERE, "a look at a changed byte");
     Ok(())
 }
@@ -128,8 +148,8 @@ fn bodies_of_two(journal: &mut Journal<MemoryDisk>, bytes: &[u8]) -> Seen {
     let looks = [
         has_none(journal, 1, Found::DiskFault),
         journal.faults() == 1,
-        has_body(journal, 1, bytes.get(58..154).unwrap_or(&[])),
-        has_body(journal, 2, bytes.get(187..283).unwrap_or(&[])),
+        has_body(journal, 1, bytes.get(66..162).unwrap_or(&[])),
+        has_body(journal, 2, bytes.get(195..291).unwrap_or(&[])),
         has_none(journal, 3, Found::Absent),
     ];
     Seen {
@@ -197,9 +217,9 @@ fn fund_of_no_account() -> [u8; 96] {
 #[test]
 fn a_body_that_is_no_command(rt: HostRuntime) -> Result<(), Fail> {
     let alloc = rt.alloc();
-    shows(&rt, "nothing", is_refused(alloc, &[0; 96], 58)?);
-    shows(&rt, "a rotation", is_refused(alloc, &rotation(), 58)?);
-    let is_none = is_refused(alloc, &fund_of_no_account(), 78)?;
+    shows(&rt, "nothing", is_refused(alloc, &[0; 96], 66)?);
+    shows(&rt, "a rotation", is_refused(alloc, &rotation(), 66)?);
+    let is_none = is_refused(alloc, &fund_of_no_account(), 86)?;
     shows(&rt, "an account that is none", is_none);
     Ok(())
 }
@@ -210,12 +230,12 @@ fn bodies_behind_changes(journal: &mut Journal<FileDisk>, other: &mut FileDisk) 
     let two = encode(&fund(2));
     let looks = [
         has_body(journal, 1, &one),
-        other.write_at(100, &[9]).is_ok(),
+        other.write_at(108, &[9]).is_ok(),
         has_none(journal, 1, Found::OtherDigest(1)),
         has_body(journal, 2, &two),
-        other.write_at(186, &[0]).is_ok(),
+        other.write_at(194, &[0]).is_ok(),
         has_body(journal, 2, &two),
-        other.write_at(314, &[9]).is_ok(),
+        other.write_at(322, &[9]).is_ok(),
         has_none(journal, 2, Found::OtherDigest(2)),
     ];
     Seen {

@@ -70,7 +70,7 @@ fn create_is_right(alloc: Global, call: u64, choice: u64) -> Result<bool, AllocE
 // The opening of a journal of two records whose last byte is missing keeps them.
 fn open_is_right(alloc: Global, call: u64, choice: u64) -> Result<bool, AllocError> {
     let bytes = journal(alloc, 2)?;
-    let cut = bytes.get(..315).unwrap_or(&bytes);
+    let cut = bytes.get(..323).unwrap_or(&bytes);
     let left = open(alloc, disk(alloc, cut, &[call])?).disk;
     Ok(after_crash(alloc, left, choice) == Found::Records(2))
 }

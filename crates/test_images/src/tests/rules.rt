@@ -16,8 +16,8 @@ use liq_types::NoMemory;
 use std::alloc::Global;
 use std::process::Abort;
 
-/// Rule 1: each number within its bounds.
-const RANGES: [Turn; 39] = [
+/// Rule 1: each number within its bounds, and one of two limits.
+const RANGES: [Turn; 53] = [
     Sound,
     Price(100_000_000),
     Sound,
@@ -45,11 +45,25 @@ const RANGES: [Turn; 39] = [
     Sound,
     Generation(68_719_476_737),
     First(1),
+    Limit(0),
+    First(1),
+    Limit(999_999_999_999_999_999),
+    First(1),
+    Limit(1_000_000_000_000_000_000),
+    Sound,
+    Limit(1_000_000_000_000_000_001),
+    First(1),
     Limit(9_999_999_999_999_999_999),
     First(1),
     Limit(10_000_000_000_000_000_001),
     First(1),
     Limit(1_000_000_000_000_000_000),
+    Brought(1_000_000_000_000_000_000),
+    WalletColl(0, 999_999_964_350_000_000),
+    Sound,
+    Limit(1_000_000_000_000_000_000),
+    Brought(1_000_000_000_000_000_001),
+    WalletColl(0, 999_999_964_350_000_001),
     First(1),
     Brought(10_000_000_000_000_000_000),
     WalletColl(0, 9_999_999_964_350_000_000),
@@ -108,8 +122,8 @@ const COLLATERAL: [Turn; 19] = [
     First(3),
 ];
 
-/// Rule 4: LUSD at home, a reserve for each trove, and no more debt than the limit.
-const LUSD: [Turn; 27] = [
+/// Rule 4: LUSD at home, a reserve for each trove, and no more debt than the image's limit.
+const LUSD: [Turn; 35] = [
     ActiveDebt(10_220_000_001),
     First(4),
     DefaultDebt(650_000_001),
@@ -136,6 +150,14 @@ const LUSD: [Turn; 27] = [
     Sound,
     DefaultDebt(9_999_999_989_780_000_001),
     WalletLusd(0, 9_999_999_994_130_000_001),
+    First(4),
+    Limit(1_000_000_000_000_000_000),
+    DefaultDebt(999_999_989_780_000_000),
+    WalletLusd(0, 999_999_994_130_000_000),
+    Sound,
+    Limit(1_000_000_000_000_000_000),
+    DefaultDebt(999_999_989_780_000_001),
+    WalletLusd(0, 999_999_994_130_000_001),
     First(4),
 ];
 

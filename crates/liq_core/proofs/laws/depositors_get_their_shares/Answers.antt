@@ -4,10 +4,10 @@ use Rattle.liq_soundness.proofs.SoundPromises.{same_shares}
 use Rattle.liq_core.proofs.laws.depositors_get_their_shares.Goals as goal
 
 pub returns-clause-same : goal.returns-clause-same
-returns-clause-same c requests same account =
-    same_shares requests (state_of c.args.protocol.now) c.protocols_stand.ensures.formed same.image account
+returns-clause-same c limit known requests same account =
+    same_shares limit known requests (state_of c.args.protocol.now) c.protocols_stand.ensures.formed same.image account
 
 pub returns-clause-stands : goal.returns-clause-stands
-returns-clause-stands c requests stands account =
+returns-clause-stands c limit known requests stands account =
     let itself = c.protocols_stand.ensures in
-    same_shares requests (state_of c.args.protocol.now) itself.formed (sym itself.image ∙ stands.image) account
+    same_shares limit known requests (state_of c.args.protocol.now) itself.formed (sym itself.image ∙ stands.image) account

@@ -18,3 +18,11 @@ returns-clause-misnamed c = refl
 pub returns-clause-cut : goal.returns-clause-cut
 unfolding base_of image_at limit_at words_at numbers_at number_at
 returns-clause-cut c = refl
+
+pub returns-clause-first_of_version_1 : goal.returns-clause-first_of_version_1
+unfolding base_of
+returns-clause-first_of_version_1 c = refl
+
+pub returns-clause-missing_in_version_1 : goal.returns-clause-missing_in_version_1
+unfolding base_of image_at limit_at
+returns-clause-missing_in_version_1 c = refl

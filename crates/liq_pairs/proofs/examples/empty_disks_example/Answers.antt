@@ -1,6 +1,6 @@
 use Rattle.std.proofs.Common.{refl}
 use Rattle.liq_journal.specs.Written.{found_on}
-use Rattle.liq_pairs.specs.Pair.{commands_on, standing, state_on}
+use Rattle.liq_pairs.specs.Pair.{commands_on, journal_on, limit_on, standing, state_on}
 use Rattle.liq_pairs.proofs.examples.empty_disks_example.Goals as goal
 
 pub returns-clause-empty : goal.returns-clause-empty
@@ -12,5 +12,9 @@ unfolding state_on standing found_on
 returns-clause-short c = refl
 
 pub returns-clause-none : goal.returns-clause-none
-unfolding commands_on found_on
+unfolding commands_on journal_on found_on
 returns-clause-none c = refl
+
+pub returns-clause-limit : goal.returns-clause-limit
+unfolding limit_on journal_on found_on
+returns-clause-limit c = refl

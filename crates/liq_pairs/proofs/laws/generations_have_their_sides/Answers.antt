@@ -1,6 +1,6 @@
 use Rattle.liq_journal.proofs.Bodies.{found_no_rotation}
 use Rattle.liq_pairs.proofs.Generations.{found_parity, outcome_generation}
-use Rattle.liq_pairs.proofs.Keeping.{settled_parity}
+use Rattle.liq_pairs.proofs.Keeping.{settled_from_one, settled_parity}
 use Rattle.liq_pairs.proofs.laws.generations_have_their_sides.Goals as goal
 
 pub returns-clause-state : goal.returns-clause-state
@@ -11,3 +11,6 @@ returns-clause-parity c = found_parity
 
 pub returns-clause-settled : goal.returns-clause-settled
 returns-clause-settled c = settled_parity
+
+pub returns-clause-from_one : goal.returns-clause-from_one
+returns-clause-from_one c = settled_from_one

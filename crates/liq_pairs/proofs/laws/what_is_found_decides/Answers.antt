@@ -1,4 +1,4 @@
-use Rattle.liq_pairs.proofs.Commands.{commands_alike}
+use Rattle.liq_pairs.proofs.Commands.{commands_alike, limit_alike}
 use Rattle.liq_pairs.proofs.Standings.{state_alike}
 use Rattle.liq_pairs.proofs.laws.what_is_found_decides.Goals as goal
 
@@ -7,3 +7,6 @@ returns-clause-state c = state_alike
 
 pub returns-clause-commands : goal.returns-clause-commands
 returns-clause-commands c = commands_alike
+
+pub returns-clause-limit : goal.returns-clause-limit
+returns-clause-limit c = limit_alike

@@ -1,12 +1,12 @@
-use Rattle.std.proofs.Common.{arith}
-use Rattle.liq_types.specs.State.{opening}
+use Rattle.std.proofs.Common.{ℕ, arith}
+use Rattle.liq_types.specs.State.{opening_with}
 use Rattle.liq_types.specs.WellFormed.{IsWellFormed}
 use Rattle.liq_rules.proofs.AlikeReplies.{step_alike, run_alike, alike_itself}
 use Rattle.liq_rules.proofs.AlikeStep.{effect_alike}
 use Rattle.liq_rules.proofs.laws.states_are_well_formed.Goals as goal
 
-opening_formed : IsWellFormed opening
-opening_formed = (tt, tt, tt, (omega arith, omega arith))
+opening_formed : (limit : ℕ) → IsWellFormed (opening_with limit)
+opening_formed limit = (tt, tt, tt, (omega arith, omega arith))
 
 pub returns-clause-opening : goal.returns-clause-opening
 returns-clause-opening c = opening_formed

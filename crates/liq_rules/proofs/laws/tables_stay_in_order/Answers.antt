@@ -1,5 +1,5 @@
 use Rattle.std.specs.List.Sorted.{IsStrictlySortedBy}
-use Rattle.liq_types.specs.State.{opening}
+use Rattle.liq_types.specs.State.{opening_with}
 use Rattle.liq_rules.proofs.Ascending.{step-ascends, run-ascends}
 use Rattle.liq_rules.proofs.laws.tables_stay_in_order.Goals as goal
 
@@ -8,4 +8,4 @@ returns-clause-step c s h request = (step-ascends s request (record { tables = h
 
 pub returns-clause-run : goal.returns-clause-run
 unfolding IsStrictlySortedBy
-returns-clause-run c requests = (run-ascends requests opening (record { tables = (tt, tt, tt, tt, tt) })).tables
+returns-clause-run c limit requests = (run-ascends requests (opening_with limit) (record { tables = (tt, tt, tt, tt, tt) })).tables

@@ -1,4 +1,4 @@
-use Rattle.liq_types.specs.State.{opening}
+use Rattle.liq_types.specs.State.{opening_with}
 use Rattle.liq_soundness.proofs.SoundStart.{opening_sound}
 use Rattle.liq_soundness.proofs.SoundStep.{step_sound, run_sound}
 use Rattle.liq_soundness.proofs.soundness.steps_keep_states_sound.Goals as goal
@@ -10,4 +10,4 @@ pub returns-clause-run : goal.returns-clause-run
 returns-clause-run c s h requests = run_sound requests s h
 
 pub returns-clause-reached : goal.returns-clause-reached
-returns-clause-reached c requests = run_sound requests opening opening_sound
+returns-clause-reached c limit known requests = run_sound requests (opening_with limit) (opening_sound limit known)

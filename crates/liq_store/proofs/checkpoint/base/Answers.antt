@@ -1,26 +1,23 @@
-use Rattle.std.proofs.Common.{◌∙◌, length, Ok, Err, ap, sym, subst, arith}
-use Rattle.liq_types.specs.State.{opening}
+use Rattle.std.proofs.Common.{◌∙◌, ℕ, Ok, Err, ap, refl, sym, subst}
+use Rattle.liq_types.specs.State.{opening_with}
+use Rattle.liq_core.specs.Core.{StandsFor}
 use Rattle.liq_pairs.specs.Replay.{bad_checkpoint}
 use Rattle.liq_pairs.proofs.Basing.{base_first}
-use Rattle.liq_store.specs.declared.answers.AcceptedFault.{AcceptedFault}
-use Rattle.liq_store.specs.Replays.{BeginsTo}
-use Rattle.liq_store.proofs.Basing.{begins_later}
-use Rattle.liq_store.proofs.Places.{place_within}
+use Rattle.liq_store.proofs.Basing.{begins_badly, begins_later}
 use Rattle.liq_store.proofs.checkpoint.base.Goals as goal
 
 pub returns-then-generation-eq1-clause-begins : goal.returns-then-generation-eq1-clause-begins
-returns-then-generation-eq1-clause-begins c w same checkpoint = (opening, base_first w (same ∙ c.if-generation-eq1.true), c.new.ensures)
-
-pub misshapen-requires : goal.misshapen-requires
-misshapen-requires c =
-    let at = place_within (length c.args.checkpoint.now) c.in-Err-Bad.place c.args.checkpoint.now (rw c.in-Err-Bad.field-0-is at c.in-Err-Bad.ensures.exact) in
-    omega (arith, at, c.in-Err-Bad.place-is)
+returns-then-generation-eq1-clause-begins c w same limit checkpoint = (
+  opening_with w.limit,
+  base_first w (same ∙ c.if-generation-eq1.true),
+  subst (λ (n : ℕ). StandsFor c.with_limit.result (opening_with n)) (sym limit) c.with_limit.ensures,
+)
 
 pub returns-in-Ok-clause-begins : goal.returns-in-Ok-clause-begins
-returns-in-Ok-clause-begins c w same checkpoint =
-    begins_later w c.args.generation c.args.checkpoint.now (Ok c.in-Ok.image) c.begun.result c.if-generation-eq1.false same checkpoint c.in-Ok.ensures.exact c.begun.ensures.begins
+returns-in-Ok-clause-begins c w same limit checkpoint =
+    begins_later w c.args.generation c.args.checkpoint.now (Ok c.in-Ok.image) c.begun.result c.if-generation-eq1.false same checkpoint c.in-Ok.ensures.exact (c.begun.ensures.begins w same limit)
 
 pub returns-in-Err-Bad-clause-begins : goal.returns-in-Err-Bad-clause-begins
-returns-in-Err-Bad-clause-begins c w same checkpoint =
+returns-in-Err-Bad-clause-begins c w same limit checkpoint =
     begins_later w c.args.generation c.args.checkpoint.now (Err c.in-Err-Bad.place) (Err c.misshapen.result) c.if-generation-eq1.false same checkpoint (rw c.in-Err-Bad.field-0-is at c.in-Err-Bad.ensures.exact)
-    (subst (λ (y : AcceptedFault). BeginsTo (bad_checkpoint c.in-Err-Bad.place) (Err y)) (sym c.misshapen.ensures) (ap bad_checkpoint (sym c.in-Err-Bad.place-is)))
+    (begins_badly w c.args.limit _ (bad_checkpoint w c.in-Err-Bad.place) c.misshapen.result (ap (bad_checkpoint w) (sym c.in-Err-Bad.place-is)) limit c.misshapen.ensures)
