@@ -2,7 +2,8 @@
 use Rattle.std.specs.Prelude.{ℕ, ◌≡◌, ◌≢◌, ◌≤◌, ◌∷◌, [], ◌++◌, ◌⊎◌, List, length, Option, Result, Ok, Err}
 use Rattle.liq_types.specs.declared.amounts.TheConstants.{LINES_MOST}
 use Rattle.liq_types.specs.declared.requests.Request.{Request}
-use Rattle.liq_types.specs.State.{State, opening}
+use Rattle.liq_types.specs.Image.{IsLimit}
+use Rattle.liq_types.specs.State.{State, opening_with}
 use Rattle.liq_stability.specs.Promise.{IsWithinAllowance}
 use Rattle.liq_rules.specs.Events.{events}
 use Rattle.liq_rules.specs.Image.{IsSameState}
@@ -16,13 +17,15 @@ use Rattle.liq_ends.specs.Reading.{ReadsTo}
 use Rattle.liq_lines.specs.Writing.{Writes, WritesPart}
 use Rattle.liq_store.specs.Memory.{TakesMemory}
 
--- Every depositor has its share after these requests from a state, whichever requests led from the opening to one that
--- is the same in image and count of records: an account's balance and all that it gained are at most its exact share of
--- what all accepted commands did to the Stability Pool, and short of it by at most the allowance.
+-- Every depositor has its share after these requests from a state, whichever requests led from the opening, under
+-- either limit, to one that is the same in image and count of records: an account's balance and all that it gained are
+-- at most its exact share of what all accepted commands did to the Stability Pool, and short of it by at most the
+-- allowance. None lead to a later generation under the lesser limit, which only an earlier program's rotation left.
 abbrev pub HaveTheirShares : State → List Request → Type 0
 HaveTheirShares start requests =
-    (earlier : List Request) → IsSameState (run opening earlier).0 start → (account : ℕ)
-    → IsWithinAllowance (run start requests).0 account (events opening (accepted opening (earlier ++ requests)))
+    (limit : ℕ) → IsLimit limit → (earlier : List Request) → IsSameState (run (opening_with limit) earlier).0 start
+    → (account : ℕ) → IsWithinAllowance (run start requests).0 account
+    (events (opening_with limit) (accepted (opening_with limit) (earlier ++ requests)))
 
 -- Behind what was said the line was written, or a front of it where the sink met a fault.
 abbrev pub Adds : List ℕ → List ℕ → Type 0 → Option (List ℕ) → Option (List ℕ) → Type 0

@@ -5,7 +5,7 @@ use Rattle.std.specs.List.{AllZip}
 use Rattle.std.proofs.lemmas.Result.{MatchResult-at_ok}
 use Rattle.liq_types.specs.declared.amounts.TheConstants.{LINES_MOST}
 use Rattle.liq_types.specs.declared.requests.Request.{Request}
-use Rattle.liq_types.specs.State.{State, opening}
+use Rattle.liq_types.specs.State.{State, opening_with}
 use Rattle.liq_rules.specs.History.{Entry}
 use Rattle.liq_lines.specs.declared.stops.Stop.TheVariants as stop
 use Rattle.liq_lines.specs.Lines.{lines_in}
@@ -86,7 +86,7 @@ module _
     {S K D : Type 0} (unread : S → Option (List ℕ)) (source_faults : S → ℕ) (held : K → Option (List ℕ)) (sink_faults : K → ℕ) (seen : D → Option (List ℕ))
     (disk_faults : D → ℕ) (before after : Outside S K D) where
   pub complete :
-      ((l r : List ℕ) (s : State) → state_on l r ≡ Ok s → s.generation ≡ 1 → replay 1 opening (commands_on l r) ≡ Ok s)
+      ((l r : List ℕ) (s : State) → state_on l r ≡ Ok s → s.generation ≡ 1 → replay 1 (opening_with s.limit) (commands_on l r) ≡ Ok s)
       → (status : ℕ) (words : List (List ℕ)) → Ends unread source_faults held sink_faults seen disk_faults before after status words
       → IsComplete unread source_faults held sink_faults seen disk_faults before after status words
   complete leads status words ends =
@@ -108,7 +108,7 @@ module _
             let e = ends.ends word.Audit asked in
             let told = MatchResult-at_ok _ _ start stood.is (e.2.1 l r stood.left stood.right) in
             subst IsDone (sym e.1)
-            (audit_done start (commands_on l r) e.0 told.0.0 first told.0.1 (λ number limit. no_limit (commands_on l r) start number (leads l r start stood.is first) within limit)
+            (audit_done start (commands_on l r) e.0 told.0.0 first told.0.1 (λ number limit. no_limit start.limit (commands_on l r) start number (leads l r start stood.is first) within limit)
             (λ is. calm.sink (ends.sink_fault (e.1 ∙ is))) (λ is. calm.disk (ends.disk_fault (e.1 ∙ is))));
         rotated = λ asked l r start stood later well.
             let e = ends.ends word.Audit asked in

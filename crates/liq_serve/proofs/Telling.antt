@@ -85,7 +85,7 @@ no_damage : (m : ℕ) → Contains (5 ∷ 7 ∷ []) m → m ≡ 6 → ⊥
 no_damage m ends is = neither_of m 6 ends is (λ e. omega (arith, e)) (λ e. omega (arith, e))
 
 -- of the first generation
-pub audit_done : (s : State) (commands : List Command) (end : Result (Unit {0}) Halt) (text : List ℕ) → s.generation ≡ 1 → IsAuditOf s commands end text → ((number : ℕ) → reviewed commands ≡ Err (review.Limit number) → ⊥)
+pub audit_done : (s : State) (commands : List Command) (end : Result (Unit {0}) Halt) (text : List ℕ) → s.generation ≡ 1 → IsAuditOf s commands end text → ((number : ℕ) → reviewed s.limit commands ≡ Err (review.Limit number) → ⊥)
     → status_of end ≢ 4 → status_of end ≢ 5 → (status_of end ≡ 0) ⊎ (status_of end ≡ 7)
 audit_done s commands (Ok done) text first h within_limits sink disk = inl refl
 audit_done s commands (Err (BadLine n)) text first h within_limits sink disk = absurd (no_bad_line _ h refl)
