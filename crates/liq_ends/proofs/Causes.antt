@@ -3,6 +3,8 @@ use Rattle.std.proofs.Common.{◌≡◌, ◌≢◌, ℕ, ◌≤◌, Ok, Err, Res
 use Rattle.liq_outside.specs.Faults.{Rose}
 use Rattle.liq_ends.specs.declared.halts.Halt.{Halt}
 use Rattle.liq_ends.specs.declared.halts.Halt.TheVariants.{BadLine, ReadFault, WriteFault, DiskFault, Damaged, NoMemory, Limit, Rotated}
+use Rattle.liq_pairs.specs.declared.side.Side.{Side}
+use Rattle.liq_pairs.specs.declared.side.Side.TheVariants.{Left, Right}
 use Rattle.liq_store.specs.Causes.{Faults, OneRose}
 use Rattle.liq_ends.specs.Causes.{DiskCause, ReadCause, WriteCause, LastCause}
 use Rattle.liq_ends.specs.Statuses.{status_of}
@@ -47,6 +49,10 @@ write_no_fewer (Err (Rotated generation)) before after c = omega (arith, c)
 
 -- ---- what a status says
 
+pub six : (side : Side) (number : ℕ) → 6 ≡ status_of (Err (Damaged side number))
+six Left number = refl
+six Right number = refl
+
 pub source_causes : (end : Result (Unit {0}) Halt) (before after : ℕ) → ReadCause end before after → (status_of end ≡ 3 → Rose before after) × ((status_of end ≡ 3 → ⊥) → after ≡ before)
 source_causes (Ok done) before after c = (λ h. absurd (omega (arith, h)), λ _. c)
 source_causes (Err (BadLine n)) before after c = (λ h. absurd (omega (arith, h)), λ _. c)
@@ -54,7 +60,8 @@ source_causes (Err ReadFault) before after c = (λ _. c.1, λ other. absurd (oth
 source_causes (Err WriteFault) before after c = (λ h. absurd (omega (arith, h)), λ _. c)
 source_causes (Err NoMemory) before after c = (λ h. absurd (omega (arith, h)), λ _. c)
 source_causes (Err DiskFault) before after c = (λ h. absurd (omega (arith, h)), λ _. c)
-source_causes (Err (Damaged side number)) before after c = (λ h. absurd (omega (arith, h)), λ _. c)
+source_causes (Err (Damaged Left number)) before after c = (λ h. absurd (omega (arith, h)), λ _. c)
+source_causes (Err (Damaged Right number)) before after c = (λ h. absurd (omega (arith, h)), λ _. c)
 source_causes (Err (Limit number)) before after c = (λ h. absurd (omega (arith, h)), λ _. c)
 source_causes (Err (Rotated generation)) before after c = (λ h. absurd (omega (arith, h)), λ _. c)
 
@@ -65,7 +72,8 @@ sink_causes (Err ReadFault) before after c = (λ h. absurd (omega (arith, h)), �
 sink_causes (Err WriteFault) before after c = (λ _. c, λ h. absurd (omega (arith, h)))
 sink_causes (Err NoMemory) before after c = (λ h. absurd (omega (arith, h)), λ h. absurd (omega (arith, h)))
 sink_causes (Err DiskFault) before after c = (λ h. absurd (omega (arith, h)), λ h. absurd (omega (arith, h)))
-sink_causes (Err (Damaged side number)) before after c = (λ h. absurd (omega (arith, h)), λ h. absurd (omega (arith, h)))
+sink_causes (Err (Damaged Left number)) before after c = (λ h. absurd (omega (arith, h)), λ h. absurd (omega (arith, h)))
+sink_causes (Err (Damaged Right number)) before after c = (λ h. absurd (omega (arith, h)), λ h. absurd (omega (arith, h)))
 sink_causes (Err (Limit number)) before after c = (λ h. absurd (omega (arith, h)), λ h. absurd (omega (arith, h)))
 sink_causes (Err (Rotated generation)) before after c = (λ h. absurd (omega (arith, h)), λ h. absurd (omega (arith, h)))
 
@@ -75,7 +83,8 @@ disk_causes (Err (BadLine n)) before after c = (λ h. absurd (omega (arith, h)),
 disk_causes (Err ReadFault) before after c = (λ h. absurd (omega (arith, h)), λ _. c)
 disk_causes (Err WriteFault) before after c = (λ h. absurd (omega (arith, h)), λ _. c)
 disk_causes (Err DiskFault) before after c = (λ _. c, λ other. absurd (other refl))
-disk_causes (Err (Damaged side number)) before after c = (λ h. absurd (omega (arith, h)), λ _. c)
+disk_causes (Err (Damaged Left number)) before after c = (λ h. absurd (omega (arith, h)), λ _. c)
+disk_causes (Err (Damaged Right number)) before after c = (λ h. absurd (omega (arith, h)), λ _. c)
 disk_causes (Err NoMemory) before after c = (λ h. absurd (omega (arith, h)), λ _. c)
 disk_causes (Err (Limit number)) before after c = (λ h. absurd (omega (arith, h)), λ _. c)
 disk_causes (Err (Rotated generation)) before after c = (λ h. absurd (omega (arith, h)), λ _. c)

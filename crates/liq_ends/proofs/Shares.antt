@@ -1,7 +1,7 @@
 -- Behind any requests no depositor has more than its share, or less by more than is allowed.
 use Rattle.std.proofs.Common.{List, ◌++◌, ap, sym, ◌∙◌}
 use Rattle.liq_types.specs.declared.requests.Request.{Request}
-use Rattle.liq_types.specs.State.{State, opening}
+use Rattle.liq_types.specs.State.{State, opening_with}
 use Rattle.liq_types.specs.WellFormed.{IsWellFormed}
 use Rattle.liq_rules.specs.Image.{image}
 use Rattle.liq_rules.specs.Step.{run}
@@ -13,12 +13,12 @@ use Rattle.liq_pairs.proofs.Replaying.{opening_formed}
 use Rattle.liq_ends.specs.Stops.{HaveTheirShares}
 
 pub all_shares : (start : State) (requests : List Request) → IsWellFormed start → HaveTheirShares start requests
-all_shares start requests formed earlier same account =
-    let reached : Alike (run opening earlier).0 start = record {
+all_shares start requests formed limit known earlier same account =
+    let reached : Alike (run (opening_with limit) earlier).0 start = record {
       image = same.image;
       records = same.records;
-      left = (run_alike earlier (alike_itself opening opening_formed)).left;
+      left = (run_alike earlier (alike_itself (opening_with limit) (opening_formed limit))).left;
       right = formed;
     } in
     let then = run_alike requests reached in
-    same_shares (earlier ++ requests) (run start requests).0 then.right (sym then.image ∙ ap image (sym (run_state opening earlier requests))) account
+    same_shares limit known (earlier ++ requests) (run start requests).0 then.right (sym then.image ∙ ap image (sym (run_state (opening_with limit) earlier requests))) account

@@ -26,33 +26,29 @@ module _ {D : Type 0} (seen : D → Option (List ℕ)) where
   -- The disks of a run that began with l and r on them, for which they stood for the state `start`: they are kept for
   -- the state after the requests.
   abbrev pub DisksHold :
-      Result (Unit {0}) Halt → List ℕ → Option (List ℕ) → List ℕ → List ℕ → State → D → D
-      → List Request → Type 0
+      Result (Unit {0}) Halt → List ℕ → Option (List ℕ) → List ℕ → List ℕ → State → D → D → List Request → Type 0
   -- After a disk's fault they are kept for that state, or for it after the next line's command, if it is accepted
   -- there. Or the opening failed, and left what it may leave of disks that were kept.
-  DisksHold (Err DiskFault) bytes unread l r start left right requests =
-      let s = (run start requests).0 in OfBoth left right (λ a b.
-      (IsUnread bytes unread requests × (IsKept l r start → IsRecovered l r start a b))
-      ⊎ (IsKept a b s
-      ⊎ ((c : Command) × IsNext bytes requests (Do c) × (ruling s c ≡ Allowed) × IsKept a b (after s c))))
+  DisksHold (Err DiskFault) bytes unread l r start left right asked =
+      let s = (run start asked).0 in OfBoth left right (λ a b.
+      (IsUnread bytes unread asked × (IsKept l r start → IsRecovered l r start a b))
+      ⊎ (IsKept a b s ⊎ ((c : Command) × IsNext bytes asked (Do c) × (ruling s c ≡ Allowed) × IsKept a b (after s c))))
   -- Where memory may have been wanted for the opening they stand for that state, and stay kept.
   DisksHold (Err NoMemory) bytes unread l r start left right requests =
       let s = (run start requests).0 in OfBoth left right (λ a b.
       StandFor a b s × ((IsUnread bytes unread requests → IsKept l r start) → IsKept a b s))
-  DisksHold _ bytes unread l r start left right requests =
-      OfBoth left right (λ a b. IsKept a b (run start requests).0)
+  DisksHold _ bytes unread l r start left right requests = OfBoth left right (λ a b. IsKept a b (run start requests).0)
 
   -- The disks of a word that only tells what is on them: they stand for just the state for which l and r stood, and are
   -- kept for it.
   abbrev pub DisksStay : Result (Unit {0}) Halt → List ℕ → List ℕ → State → D → D → Type 0
   -- A disk's fault may be the opening's: then it left what it may leave of disks that were kept. `audit` may meet one
   -- behind the opening too, and nothing shows which it was.
-  DisksStay (Err DiskFault) l r start left right =
-      IsKept l r start → OfBoth left right (IsRecovered l r start)
+  DisksStay (Err DiskFault) l r s left right = IsKept l r s → OfBoth left right (IsRecovered l r s)
   -- memory may have been wanted for the opening
-  DisksStay (Err NoMemory) l r start left right =
-      OfBoth left right (λ a b. (state_on a b ≡ Ok start) × (IsKept l r start → IsKept a b start))
-  DisksStay _ l r start left right = OfBoth left right (λ a b. (state_on a b ≡ Ok start) × IsKept a b start)
+  DisksStay (Err NoMemory) l r s left right =
+      OfBoth left right (λ a b. (state_on a b ≡ Ok s) × (IsKept l r s → IsKept a b s))
+  DisksStay _ l r s left right = OfBoth left right (λ a b. (state_on a b ≡ Ok s) × IsKept a b s)
 
   -- A word over damaged disks: the first damage is told; or a disk met a fault, or there was no memory, before it was
   -- found. It stays, but where a disk met a fault.
@@ -60,6 +56,5 @@ module _ {D : Type 0} (seen : D → Option (List ℕ)) where
   EndsDamaged side damage (Err DiskFault) left right = Unit {0}
   EndsDamaged side damage (Err NoMemory) left right = OfBoth left right (λ a b. state_on a b ≡ Err (side, damage))
   EndsDamaged side damage (Err (Damaged which number)) left right =
-      (which ≡ side) × (number ≡ damage.index)
-      × OfBoth left right (λ a b. state_on a b ≡ Err (side, damage))
+      (which ≡ side) × (number ≡ damage.index) × OfBoth left right (λ a b. state_on a b ≡ Err (side, damage))
   EndsDamaged side damage _ left right = ⊥

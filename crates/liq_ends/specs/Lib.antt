@@ -1,8 +1,9 @@
--- A reader of the top call's clause needs Disks, Output, Requests, Statuses, Stops and Telling. Causes,
--- Unopened and Unsaid are for the contracts below it.
+-- A reader of the top call's clause needs Disks, Output, Reading, Requests, Statuses, and of Stops all but its last
+-- part. That part, Causes, Telling, Unopened and Unsaid are for the contracts below it.
 pub mod Causes
 pub mod Disks
 pub mod Output
+pub mod Reading
 pub mod Requests
 pub mod Statuses
 pub mod Stops

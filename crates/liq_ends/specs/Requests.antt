@@ -11,5 +11,4 @@ IsRequest line request = Spells line request
 -- the text begins with lines of these requests, and the next line is that of this one
 abbrev pub IsNext : List ℕ → List Request → Request → Type 0
 IsNext bytes requests request =
-    (line : List ℕ) × (more : List (List ℕ)) × IsRequest line request
-    × BeginsWith IsRequest bytes requests (line ∷ more)
+    (line : List ℕ) × (more : List (List ℕ)) × Spells line request × BeginsWith Spells bytes requests (line ∷ more)

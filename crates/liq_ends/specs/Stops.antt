@@ -1,75 +1,70 @@
--- Where a run ends, and what it has written by then.
-use Rattle.std.specs.Prelude.{ℕ, ◌≡◌, ◌≢◌, ◌≤◌, ◌∷◌, [], ◌++◌, ◌⊎◌}
-use Rattle.std.specs.Prelude.{List, length, Option, Some, Result, Ok, Err}
-use Rattle.std.specs.List.{AllZip}
+-- Where a word ends, and what it has written by then.
+use Rattle.std.specs.Prelude.{ℕ, ◌≡◌, ◌≢◌, ◌≤◌, ◌∷◌, [], ◌++◌, ◌⊎◌, List, length, Option, Result, Ok, Err}
 use Rattle.liq_types.specs.declared.amounts.TheConstants.{LINES_MOST}
 use Rattle.liq_types.specs.declared.requests.Request.{Request}
-use Rattle.liq_types.specs.State.{State, opening}
+use Rattle.liq_types.specs.Image.{IsLimit}
+use Rattle.liq_types.specs.State.{State, opening_with}
 use Rattle.liq_stability.specs.Promise.{IsWithinAllowance}
 use Rattle.liq_rules.specs.Events.{events}
 use Rattle.liq_rules.specs.Image.{IsSameState}
 use Rattle.liq_rules.specs.Step.{run, accepted}
 use Rattle.liq_ends.specs.declared.halts.Halt.{Halt}
-use Rattle.liq_ends.specs.declared.halts.Halt.TheVariants.{BadLine, ReadFault, WriteFault}
-use Rattle.liq_ends.specs.declared.halts.Halt.TheVariants.{DiskFault, Damaged, NoMemory, Limit, Rotated}
+use Rattle.liq_ends.specs.declared.halts.Halt.TheVariants.{WriteFault, Damaged, NoMemory, Rotated}
 use Rattle.liq_ends.specs.Disks.{DisksHold, IsUnread}
 use Rattle.liq_ends.specs.Output.{last, lines}
 use Rattle.liq_ends.specs.Requests.{IsNext, IsRequest}
-use Rattle.liq_lines.specs.declared.stops.Stop.TheVariants as stop
-use Rattle.liq_lines.specs.Lines.{lines_in}
-use Rattle.liq_lines.specs.Writing.{Writes}
-use Rattle.liq_lines.specs.Saying.{BeginsWith, StopsAfter}
+use Rattle.liq_ends.specs.Reading.{ReadsTo}
+use Rattle.liq_lines.specs.Writing.{Writes, WritesPart}
 use Rattle.liq_store.specs.Memory.{TakesMemory}
 
--- Every depositor has its share after these requests from a state, whichever requests led from the opening to one that
--- is the same in image and count of records: an account's balance and all that it gained are at most its exact share of
--- what all accepted commands did to the Stability Pool, and short of it by at most the allowance.
+-- Every depositor has its share after these requests from a state, whichever requests led from the opening, under
+-- either limit, to one that is the same in image and count of records: an account's balance and all that it gained are
+-- at most its exact share of what all accepted commands did to the Stability Pool, and short of it by at most the
+-- allowance. None lead to a later generation under the lesser limit, which only an earlier program's rotation left.
 abbrev pub HaveTheirShares : State → List Request → Type 0
 HaveTheirShares start requests =
-    (earlier : List Request) → IsSameState (run opening earlier).0 start
-    → (account : ℕ)
-    → IsWithinAllowance (run start requests).0 account (events opening (accepted opening (earlier ++ requests)))
+    (limit : ℕ) → IsLimit limit → (earlier : List Request) → IsSameState (run (opening_with limit) earlier).0 start
+    → (account : ℕ) → IsWithinAllowance (run start requests).0 account
+    (events (opening_with limit) (accepted (opening_with limit) (earlier ++ requests)))
+
+-- Behind what was said the line was written, or a front of it where the sink met a fault.
+abbrev pub Adds : List ℕ → List ℕ → Type 0 → Option (List ℕ) → Option (List ℕ) → Type 0
+Adds said line fault before now = (part : List ℕ) × Writes before (said ++ part) now
+    × ((part ≡ line) ⊎ (fault × ((rest : List ℕ) × (line ≡ part ++ rest))))
+
+-- A text is written, as far as the end says. Where the word stopped, this was said of it, and then the last line.
+abbrev pub TellsBehind : List ℕ → List ℕ → Result (Unit {0}) Halt → Type 0 → Option (List ℕ) → Option (List ℕ) → Type 0
+TellsBehind said text (Ok done) fault before now = Writes before text now
+-- the sink met a fault within it
+TellsBehind said text (Err WriteFault) fault before now = WritesPart before text now
+TellsBehind said text (Err halt) fault before now = Adds said (last halt) fault before now
+
+-- ---- for the contracts below the top call's
 
 -- Why a run from a state ended after these requests of the bytes. `left` is what the source still tells.
 abbrev pub EndsAfter : State → Result (Unit {0}) Halt → List ℕ → Option (List ℕ) → List Request → Type 0
--- they are those of all lines, and the source is at its end
-EndsAfter start (Ok done) bytes left requests = AllZip IsRequest (lines_in bytes) requests × (left ≡ Some [])
-EndsAfter start (Err (BadLine n)) bytes left requests = StopsAfter IsRequest (stop.BadLine n) bytes left requests
-EndsAfter start (Err ReadFault) bytes left requests = StopsAfter IsRequest stop.ReadFault bytes left requests
 -- a run over damaged disks begins nowhere
 EndsAfter start (Err (Damaged side number)) bytes left requests = ⊥
 -- and a run goes on in whatever generation
 EndsAfter start (Err (Rotated generation)) bytes left requests = ⊥
 -- memory is asked for before a line is read, and then only for a command that is allowed or plans a list
 EndsAfter start (Err NoMemory) bytes left requests =
-    ((more : List (List ℕ)) × BeginsWith IsRequest bytes requests more)
+    ReadsTo IsRequest bytes left requests (Err NoMemory)
     × (IsUnread bytes left requests
     ⊎ ((request : Request) × IsNext bytes requests request × TakesMemory (run start requests).0 request))
-EndsAfter start (Err (Limit n)) bytes left requests =
-    (n ≡ LINES_MOST) × StopsAfter IsRequest stop.Limit bytes left requests
--- the sink or a disk met a fault
-EndsAfter start (Err WriteFault) bytes left requests =
-    (more : List (List ℕ)) × BeginsWith IsRequest bytes requests more
-EndsAfter start (Err DiskFault) bytes left requests =
-    (more : List (List ℕ)) × BeginsWith IsRequest bytes requests more
-
--- Behind what was said the line was written, or a front of it where the sink met a fault.
-abbrev pub Adds : List ℕ → List ℕ → Type 0 → Option (List ℕ) → Option (List ℕ) → Type 0
-Adds said line fault before now =
-    (part : List ℕ) × Writes before (said ++ part) now
-    × ((part ≡ line) ⊎ (fault × ((rest : List ℕ) × (line ≡ part ++ rest))))
+EndsAfter start end bytes left requests = ReadsTo IsRequest bytes left requests end
 
 -- What a run has written by its end: all replies, and the last line where it stopped. Where the sink met a fault at a
 -- reply, it is a front of the requests' lines that ends within the last of them.
 abbrev pub WritesUpTo :
     State → Result (Unit {0}) Halt → Type 0 → List Request → Option (List ℕ) → Option (List ℕ) → Type 0
-WritesUpTo start (Ok done) fault requests before now = Writes before (lines start requests) now
 WritesUpTo start (Err WriteFault) fault requests before now =
     (part : List ℕ) × Writes before part now
     × ((earlier : List Request) × (request : Request) × (requests ≡ earlier ++ request ∷ [])
     × ((rest : List ℕ) × (part ≡ lines start earlier ++ rest))
     × ((missing : List ℕ) × (missing ≢ []) × (lines start requests ≡ part ++ missing)))
-WritesUpTo start (Err halt) fault requests before now = Adds (lines start requests) (last halt) fault before now
+WritesUpTo start end fault requests before now =
+    TellsBehind (lines start requests) (lines start requests) end fault before now
 
 -- How a run ends that began with these bytes in its source and with l and r on its disks, for which they stood for this
 -- state. `unread` is what the source still tells, and `before` and `now` are what the sink held and holds.

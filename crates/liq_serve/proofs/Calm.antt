@@ -5,9 +5,8 @@ use Rattle.std.specs.List.{AllZip}
 use Rattle.std.proofs.lemmas.Result.{MatchResult-at_ok}
 use Rattle.liq_types.specs.declared.amounts.TheConstants.{LINES_MOST}
 use Rattle.liq_types.specs.declared.requests.Request.{Request}
-use Rattle.liq_types.specs.State.{State, opening}
+use Rattle.liq_types.specs.State.{State, opening_with}
 use Rattle.liq_rules.specs.History.{Entry}
-use Rattle.liq_lines.specs.declared.stops.Stop.{Stop}
 use Rattle.liq_lines.specs.declared.stops.Stop.TheVariants as stop
 use Rattle.liq_lines.specs.Lines.{lines_in}
 use Rattle.liq_lines.proofs.Sayings.{stops_outside}
@@ -17,22 +16,29 @@ use Rattle.liq_scripts.specs.Asked.{Asks}
 use Rattle.liq_words.specs.declared.words.Word.TheVariants as word
 use Rattle.liq_ends.specs.declared.halts.Halt.{Halt}
 use Rattle.liq_ends.specs.declared.halts.Halt.TheVariants.{BadLine, ReadFault, WriteFault, DiskFault, Damaged, NoMemory, Limit, Rotated}
+use Rattle.liq_ends.specs.Reading.{ReadsTo}
 use Rattle.liq_ends.specs.Statuses.{IsDone, status_of}
 use Rattle.liq_tell.proofs.Audited.{no_limit}
 use Rattle.liq_serve.specs.Calm.{IsCalm, IsComplete}
 use Rattle.liq_serve.specs.Outside.{Outside}
-use Rattle.liq_serve.specs.Serve.{Answers, OpensNone, ServesTo, halt_at}
-use Rattle.liq_serve.specs.Top.{Ends}
-use Rattle.liq_serve.proofs.Served.{Came}
-use Rattle.liq_serve.proofs.StatusLaws.{run_done}
+use Rattle.liq_serve.specs.Top.{Answers, Ends, OpensNone, ServesTo}
+use Rattle.liq_serve.proofs.Served.{IsStopping}
+use Rattle.liq_serve.proofs.StatusLaws.{neither, run_done}
 use Rattle.liq_serve.proofs.Telling.{audit_done, load_done, rotated_done, state_done}
 
 -- ---- of `serve`
 
 -- reading stopped
-stopped_done : (end : Result (Unit {0}) Halt) (why : Stop) → end ≡ Err (halt_at why) → status_of end ≢ 3 → (why ≡ stop.ReadFault) ⊎ (why ≡ stop.NoMemory) → IsDone (status_of end)
-stopped_done end why is read (inl fault) = absurd (read (ap status_of is ∙ ap (λ (s : Stop). status_of (Err (halt_at s))) fault))
-stopped_done end why is read (inr none) = inr (ap status_of is ∙ ap (λ (s : Stop). status_of (Err (halt_at s))) none)
+stopped_done :
+    (end : Result (Unit {0}) Halt) (bytes : List ℕ) (left : Option (List ℕ)) (asked all : List (ℕ × Request)) → IsStopping end → ReadsTo Asks bytes left asked end → AllZip Asks (lines_in bytes) all → length all ≤ LINES_MOST
+    → status_of end ≢ 3 → IsDone (status_of end)
+stopped_done end bytes left asked all (n, zero, within, is) h spelled few read =
+    absurd (neither (λ e. cc) (λ e. cc) (stops_outside Asks (stop.BadLine n) bytes left asked all spelled few (subst (λ (e : Result (Unit {0}) Halt). ReadsTo Asks bytes left asked e) (sym is) h)))
+stopped_done end bytes left asked all (n, suc zero, within, is) h spelled few read = absurd (read (sym (ap status_of is)))
+stopped_done end bytes left asked all (n, suc (suc zero), within, is) h spelled few read = inr (sym (ap status_of is))
+stopped_done end bytes left asked all (n, suc (suc (suc zero)), within, is) h spelled few read =
+    absurd (neither (λ e. cc) (λ e. cc) (stops_outside Asks stop.Limit bytes left asked all spelled few (subst (λ (e : Result (Unit {0}) Halt). ReadsTo Asks bytes left asked e) (sym is) h).1))
+stopped_done end bytes left asked all (n, suc (suc (suc (suc k))), within, is) h spelled few read = absurd (omega (arith, within))
 
 unopened_done : (n : ℕ) → Contains (5 ∷ 6 ∷ 7 ∷ []) n → n ≢ 5 → n ≢ 6 → IsDone n
 unopened_done n (zero, within, is) disk damage = absurd (disk (sym is))
@@ -40,27 +46,38 @@ unopened_done n (suc zero, within, is) disk damage = absurd (damage (sym is))
 unopened_done n (suc (suc zero), within, is) disk damage = inr (sym is)
 unopened_done n (suc (suc (suc k)), within, is) disk damage = absurd (omega (arith, within))
 
-module _ {S K D : Type 0} (unread : S → Option (List ℕ)) (held : K → Option (List ℕ)) (faults : K → ℕ) (seen : D → Option (List ℕ)) (before after : Outside S K D) where
-  answers_done : (asked : List (ℕ × Request)) (history : List Entry) (end : Result (Unit {0}) Halt) → Answers seen before after asked history end → status_of end ≢ 4 → status_of end ≢ 5 → IsDone (status_of end)
+whole_done : (n : ℕ) → Contains (0 ∷ 4 ∷ []) n → n ≢ 4 → IsDone n
+whole_done n (zero, within, is) sink = inl (sym is)
+whole_done n (suc zero, within, is) sink = absurd (sink (sym is))
+whole_done n (suc (suc k), within, is) sink = absurd (omega (arith, within))
+
+module _
+    {S K D : Type 0} (unread : S → Option (List ℕ)) (source_faults : S → ℕ) (held : K → Option (List ℕ)) (sink_faults : K → ℕ) (seen : D → Option (List ℕ))
+    (disk_faults : D → ℕ) (before after : Outside S K D) where
+  answers_done : (asked : List (ℕ × Request)) (history : List Entry) (end : Result (Unit {0}) Halt) → Answers unread source_faults held sink_faults seen disk_faults before after asked history end → status_of end ≢ 4 → status_of end ≢ 5 → IsDone (status_of end)
   answers_done asked history (Ok done) a sink disk = inl refl
-  answers_done asked history (Err (BadLine n)) a sink disk = absurd a
-  answers_done asked history (Err ReadFault) a sink disk = absurd a
+  answers_done asked history (Err (BadLine n)) a sink disk = whole_done _ a.1.0 sink
+  answers_done asked history (Err ReadFault) a sink disk = whole_done _ a.1.0 sink
   answers_done asked history (Err WriteFault) a sink disk = absurd (sink refl)
   answers_done asked history (Err DiskFault) a sink disk = absurd (disk refl)
-  answers_done asked history (Err (Damaged side number)) a sink disk = absurd a
+  answers_done asked history (Err (Damaged side number)) a sink disk = whole_done _ a.1.0 sink
   answers_done asked history (Err NoMemory) a sink disk = inr refl
-  answers_done asked history (Err (Limit number)) a sink disk = absurd a
-  answers_done asked history (Err (Rotated generation)) a sink disk = absurd a
+  answers_done asked history (Err (Limit number)) a sink disk = whole_done _ a.1.0 sink
+  answers_done asked history (Err (Rotated generation)) a sink disk = whole_done _ a.1.0 sink
 
   pub serve_done :
-      (end : Result (Unit {0}) Halt) → ServesTo unread held faults seen before after end
+      (end : Result (Unit {0}) Halt) → ServesTo unread source_faults held sink_faults seen disk_faults before after end
       → (bytes l r : List ℕ) (start : State) (all : List (ℕ × Request)) → unread before.source ≡ Some bytes → seen before.left ≡ Some l → seen before.right ≡ Some r
       → state_on l r ≡ Ok start → AllZip Asks (lines_in bytes) all → length all ≤ LINES_MOST → status_of end ≢ 3 → status_of end ≢ 4 → status_of end ≢ 5
       → IsDone (status_of end)
   serve_done end serves bytes l r start all told told_l told_r is spelled few read sink disk = by serves.came where
-    by : Came unread seen before after serves.asked serves.history end → IsDone (status_of end)
-    by (inl (why, end_is, none, left, right, after_it)) = stopped_done end why end_is read (stops_outside Asks why bytes (unread after.source) serves.asked all spelled few (after_it bytes told))
-    by (inr (whole, inl opens)) = unopened_done (status_of end) opens.statuses disk (MatchResult-at_ok _ _ start is (opens.disks l r told_l told_r)).0
+    by : ((serves.reading ≡ end) × (serves.history ≡ []) × (after.left ≡ before.left) × (after.right ≡ before.right) × IsStopping end)
+        ⊎ ((serves.reading ≡ Ok tt)
+        × (OpensNone unread source_faults held sink_faults seen disk_faults before after serves.history end
+        ⊎ Answers unread source_faults held sink_faults seen disk_faults before after serves.asked serves.history end)) → IsDone (status_of end)
+    by (inl (stopped, none, left, right, stopping)) =
+        stopped_done end bytes (unread after.source) serves.asked all stopping (subst (λ (e : Result (Unit {0}) Halt). ReadsTo Asks bytes (unread after.source) serves.asked e) stopped (serves.read bytes told)) spelled few read
+    by (inr (whole, inl opens)) = unopened_done (status_of end) opens.1 disk (MatchResult-at_ok _ _ start is (opens.2 l r told_l told_r)).0
     by (inr (whole, inr answers)) = answers_done serves.asked serves.history end answers sink disk
 
 -- ---- of each word
@@ -69,7 +86,7 @@ module _
     {S K D : Type 0} (unread : S → Option (List ℕ)) (source_faults : S → ℕ) (held : K → Option (List ℕ)) (sink_faults : K → ℕ) (seen : D → Option (List ℕ))
     (disk_faults : D → ℕ) (before after : Outside S K D) where
   pub complete :
-      ((l r : List ℕ) (s : State) → state_on l r ≡ Ok s → s.generation ≡ 1 → replay 1 opening (commands_on l r) ≡ Ok s)
+      ((l r : List ℕ) (s : State) → state_on l r ≡ Ok s → s.generation ≡ 1 → replay 1 (opening_with s.limit) (commands_on l r) ≡ Ok s)
       → (status : ℕ) (words : List (List ℕ)) → Ends unread source_faults held sink_faults seen disk_faults before after status words
       → IsComplete unread source_faults held sink_faults seen disk_faults before after status words
   complete leads status words ends =
@@ -78,11 +95,11 @@ module _
             let e = ends.ends word.Run asked in
             let ran = MatchResult-at_ok _ _ start stood.is (e.2 l r stood.left stood.right) bytes told in
             subst IsDone (sym e.1)
-            (run_done start bytes (unread after.source) requests all few e.0 (λ is. well (ends.source_fault (e.1 ∙ is))) (λ is. calm.sink (ends.sink_fault (e.1 ∙ is))) (λ is. calm.disk (ends.disk_fault (e.1 ∙ is))) ran.requests ran.read);
+            (run_done bytes (unread after.source) requests all few e.0 (λ is. well (ends.source_fault (e.1 ∙ is))) (λ is. calm.sink (ends.sink_fault (e.1 ∙ is))) (λ is. calm.disk (ends.disk_fault (e.1 ∙ is))) ran.statuses ran.requests ran.read);
         serve = λ asks bytes l r start asked told stood all few well calm.
             let e = ends.ends word.Serve asks in
             subst IsDone (sym e.1)
-            (serve_done unread held sink_faults seen before after e.0 e.2 bytes l r start asked told stood.left stood.right stood.is all few (λ is. well (ends.source_fault (e.1 ∙ is))) (λ is. calm.sink (ends.sink_fault (e.1 ∙ is))) (λ is. calm.disk (ends.disk_fault (e.1 ∙ is))));
+            (serve_done unread source_faults held sink_faults seen disk_faults before after e.0 e.2 bytes l r start asked told stood.left stood.right stood.is all few (λ is. well (ends.source_fault (e.1 ∙ is))) (λ is. calm.sink (ends.sink_fault (e.1 ∙ is))) (λ is. calm.disk (ends.disk_fault (e.1 ∙ is))));
         state = λ asked l r start stood calm.
             let e = ends.ends word.State asked in
             let told = MatchResult-at_ok _ _ start stood.is (e.2.1 l r stood.left stood.right) in
@@ -91,7 +108,7 @@ module _
             let e = ends.ends word.Audit asked in
             let told = MatchResult-at_ok _ _ start stood.is (e.2.1 l r stood.left stood.right) in
             subst IsDone (sym e.1)
-            (audit_done start (commands_on l r) e.0 told.0.0 first told.0.1 (λ number limit. no_limit (commands_on l r) start number (leads l r start stood.is first) within limit)
+            (audit_done start (commands_on l r) e.0 told.0.0 first told.0.1 (λ number limit. no_limit start.limit (commands_on l r) start number (leads l r start stood.is first) within limit)
             (λ is. calm.sink (ends.sink_fault (e.1 ∙ is))) (λ is. calm.disk (ends.disk_fault (e.1 ∙ is))));
         rotated = λ asked l r start stood later well.
             let e = ends.ends word.Audit asked in

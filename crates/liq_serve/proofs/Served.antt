@@ -9,7 +9,7 @@ use Rattle.liq_types.specs.declared.requests.Request.{Request}
 use Rattle.liq_types.specs.declared.requests.Request.TheVariants.{Do}
 use Rattle.liq_rules.specs.History.{Entry, state_after}
 use Rattle.liq_rules.specs.Step as rule
-use Rattle.liq_rules.specs.Step.{Allowed, ruling}
+use Rattle.liq_rules.specs.Step.{Allowed, Ruling, after_ruling, ruling}
 use Rattle.liq_journal.specs.declared.damage.Damage.{Damage}
 use Rattle.liq_pairs.specs.declared.side.Side.{Side}
 use Rattle.liq_pairs.specs.Kept.{IsKept}
@@ -31,14 +31,17 @@ use Rattle.liq_serving.specs.Input as serving
 use Rattle.liq_serving.specs.Input.{AnswersInput, Written, reading_of}
 use Rattle.liq_store.specs.declared.answers.StoreWhy.TheVariants as why
 use Rattle.liq_store.specs.Causes.{Faults}
+use Rattle.liq_store.specs.Keeping.{IsKeptAround}
 use Rattle.liq_ends.specs.declared.halts.Halt.{Halt}
-use Rattle.liq_ends.specs.declared.halts.Halt.TheVariants.{DiskFault}
+use Rattle.liq_ends.specs.declared.halts.Halt.TheVariants.{BadLine, ReadFault, WriteFault, DiskFault, Damaged, NoMemory, Limit}
 use Rattle.liq_ends.specs.Causes.{DiskCause, ReadCause, WriteCause}
 use Rattle.liq_ends.specs.Disks.{OfBoth}
+use Rattle.liq_ends.specs.Reading.{ReadsTo}
 use Rattle.liq_ends.specs.Unsaid.{WritesAll}
-use Rattle.liq_serve.specs.Finishing.{end_of}
+use Rattle.liq_ends.proofs.Causes.{six}
+use Rattle.liq_serve.specs.Finishing.{end_of, halt_at}
 use Rattle.liq_serve.specs.Outside.{Outside}
-use Rattle.liq_serve.specs.Serve.{Answers, AreLeft, Keep, OpensNone, halt_at}
+use Rattle.liq_serve.specs.Top.{Answers, AreLeft, Keep, OpensNone}
 
 -- ---- the counts
 
@@ -144,63 +147,96 @@ is_found : {T A B : Type 0} (found : Result T (A × B)) (P : T → Type 0) → (
 is_found (Ok x) P good bad = good x refl
 is_found (Err (a, b)) P good bad = absurd (bad a b refl)
 
-module _ {S K D : Type 0} (unread : S → Option (List ℕ)) (seen : D → Option (List ℕ)) (before after : Outside S K D) (asked : List (ℕ × Request)) (history : List Entry) where
+-- ---- what was read
+
+-- of a word whose reading stopped
+read_so : (why_not : Stop) (bytes : List ℕ) (left : Option (List ℕ)) (asked : List (ℕ × Request)) → StopsAfter Asks why_not bytes left asked → ReadsTo Asks bytes left asked (Err (halt_at why_not))
+read_so (stop.BadLine number) bytes left asked h = h
+read_so stop.ReadFault bytes left asked h = h
+read_so stop.NoMemory bytes left asked h = h
+read_so stop.Limit bytes left asked h = (refl, h)
+
+-- so it ends
+abbrev pub IsStopping : Result (Unit {0}) Halt → Type 0
+IsStopping end = (n : ℕ) × Contains (Err (BadLine n) ∷ Err ReadFault ∷ Err NoMemory ∷ Err (Limit LINES_MOST) ∷ []) end
+
+stopping : (why_not : Stop) → IsStopping (Err (halt_at why_not))
+stopping (stop.BadLine number) = (number, (0, lit< tt, refl))
+stopping stop.ReadFault = (0, (1, lit< tt, refl))
+stopping stop.NoMemory = (0, (2, lit< tt, refl))
+stopping stop.Limit = (0, (3, lit< tt, refl))
+
+-- ---- how it came to its end
+
+-- what is kept for the state after a command that was accepted is kept for the one after its request
+kept_around : (s : State) (request : Request) (c : Command) (a b : List ℕ) → request ≡ Do c → ruling s c ≡ Allowed → IsKept a b (rule.after s c) → IsKept a b (rule.step s request).0
+kept_around s request c a b is allowed kept =
+    subst (λ (r : Request). IsKept a b (rule.step s r).0) (sym is) (subst (λ (q : Ruling). IsKept a b (after_ruling s c q).0) (sym allowed) kept)
+
+module _
+    {S K D : Type 0} (unread : S → Option (List ℕ)) (source_faults : S → ℕ) (held : K → Option (List ℕ)) (sink_faults : K → ℕ) (seen : D → Option (List ℕ))
+    (disk_faults : D → ℕ) (before after : Outside S K D) (asked : List (ℕ × Request)) (history : List Entry) where
   abbrev AreWhole : Type 0
   AreWhole = (l r : List ℕ) (side : Side) (damage : Damage) → seen before.left ≡ Some l → seen before.right ≡ Some r → state_on l r ≡ Err (side, damage) → ⊥
 
+  abbrev Answered : Result (Unit {0}) Halt → Type 0
+  Answered end = Answers unread source_faults held sink_faults seen disk_faults before after asked history end
+
   -- disks that are not damaged stood for a state
   kept :
-      (P : State → List ℕ → List ℕ → Type 0)
-      → ((l r : List ℕ) (start : State) → seen before.left ≡ Some l → seen before.right ≡ Some r → state_on l r ≡ Ok start → OfBoth seen after.left after.right (P (state_after start history)))
-      → AreWhole → Keep seen before after asked history P
+      (P : List ℕ → List ℕ → State → Type 0)
+      → ((l r : List ℕ) (start : State) → seen before.left ≡ Some l → seen before.right ≡ Some r → state_on l r ≡ Ok start → OfBoth seen after.left after.right (λ a b. P a b (state_after start history)))
+      → AreWhole → Keep unread source_faults held sink_faults seen disk_faults before after history P
   kept P disks whole = λ l r told_l told_r. is_found (state_on l r) _ (λ start is. disks l r start told_l told_r is) (λ side damage is. whole l r side damage told_l told_r is)
 
   -- the call that met a disk's fault
   halted_by : (halted : Option (ℕ × Request)) → serving.Answers finish.DiskFault halted asked history
       → ((l r : List ℕ) (start : State) → seen before.left ≡ Some l → seen before.right ≡ Some r → state_on l r ≡ Ok start → serving.HoldsAfter seen finish.DiskFault halted history l r start after.left after.right)
-      → AreWhole → Answers seen before after asked history (Err DiskFault)
+      → AreWhole → Answered (Err DiskFault)
   halted_by None h disks whole = absurd h
   halted_by (Some (session, request)) h disks whole =
-      let held : State → List ℕ → List ℕ → Type 0 = λ s a b. IsKept a b s ⊎ ((c : Command) × (request ≡ Do c) × (ruling s c ≡ Allowed) × IsKept a b (rule.after s c)) in
-      (session, request, h.0, h.1, h.2, kept held disks whole)
+      (session, request, h.0, h.1, h.2, kept (λ a b s. IsKeptAround s request a b) (λ l r start told_l told_r is a b told_a told_b. by a b (state_after start history) (disks l r start told_l told_r is a b told_a told_b)) whole) where
+        by : (a b : List ℕ) (s : State) → IsKept a b s ⊎ ((c : Command) × (request ≡ Do c) × (ruling s c ≡ Allowed) × IsKept a b (rule.after s c)) → IsKeptAround s request a b
+        by a b s (inl same) = inl same
+        by a b s (inr (c, is, allowed, more)) = inr (kept_around s request c a b is allowed more)
 
-  abbrev pub Came : Result (Unit {0}) Halt → Type 0
-  Came end =
-      ((why_not : Stop) × (end ≡ Err (halt_at why_not)) × (history ≡ []) × (after.left ≡ before.left) × (after.right ≡ before.right)
-      × ((bytes : List ℕ) → unread before.source ≡ Some bytes → StopsAfter Asks why_not bytes (unread after.source) asked))
-      ⊎ (((bytes : List ℕ) → unread before.source ≡ Some bytes → AllZip Asks (lines_in bytes) asked × (unread after.source ≡ Some []))
-      × (OpensNone seen before after asked history end ⊎ Answers seen before after asked history end))
+  pub record Came (end : Result (Unit {0}) Halt) : Type 0 where
+    pub reading : Result (Unit {0}) Halt
+    pub read : (bytes : List ℕ) → unread before.source ≡ Some bytes → ReadsTo Asks bytes (unread after.source) asked reading
+    pub so :
+        ((reading ≡ end) × (history ≡ []) × (after.left ≡ before.left) × (after.right ≡ before.right) × IsStopping end)
+        ⊎ ((reading ≡ Ok tt) × (OpensNone unread source_faults held sink_faults seen disk_faults before after history end ⊎ Answered end))
+
+  -- all lines were read
+  came_whole :
+      (end : Result (Unit {0}) Halt) → ((bytes : List ℕ) → unread before.source ≡ Some bytes → AllZip Asks (lines_in bytes) asked × (unread after.source ≡ Some []))
+      → OpensNone unread source_faults held sink_faults seen disk_faults before after history end ⊎ Answered end → Came end
+  came_whole end read so = record { reading = Ok tt; read = read; so = inr (refl, so) }
 
   pub came_by : (how : Finish) → AnswersInput seen (unread before.source) (unread after.source) before.left before.right (record { left = after.left; right = after.right; finish = how }) asked history
       → ((why_not : Stop) → how ≡ finish.NotRead why_not → (after.left ≡ before.left) × (after.right ≡ before.right)) → Came (end_of how)
-  came_by finish.All a same = inr (a.read, inr (none_left asked history a.answers, kept (λ s a b. IsKept a b s) a.disks a.damaged))
-  came_by finish.WriteFault a same = inr (a.read, inr (none_left asked history a.answers, kept (λ s a b. IsKept a b s) a.disks a.damaged))
-  came_by finish.NoMemory a same = inr (a.read, inr (lacking asked history a.answers, kept (λ s a b. IsKept a b s) a.disks a.damaged))
-  came_by finish.DiskFault a same = inr (a.read, inr (halted_by a.halted a.answers a.disks a.damaged))
-  came_by (finish.NotRead why_not) a same = inl (why_not, refl, a.answers, (same why_not refl).0, (same why_not refl).1, a.read)
-  came_by (finish.NotOpened why.DiskFault) a same = inr (
-    a.read,
-    inl (record {
-      statuses = (0, lit< tt, refl);
-      none = a.answers;
-      disks = λ l r told_l told_r. by_found (state_on l r) _ _ (λ start is. ((λ e. omega (arith, e)), a.disks l r start told_l told_r is)) (λ side damage is. tt);
-    }),
-  )
-  came_by (finish.NotOpened why.NoMemory) a same = inr (
-    a.read,
-    inl (record {
-      statuses = (2, lit< tt, refl);
-      none = a.answers;
-      disks = λ l r told_l told_r. by_found (state_on l r) _ _ (λ start is. ((λ e. omega (arith, e)), a.disks l r start told_l told_r is)) (λ side damage is. a.damaged l r side damage told_l told_r is);
-    }),
-  )
-  came_by (finish.NotOpened (why.Damaged which met)) a same = inr (
-    a.read,
-    inl (record {
-      statuses = (1, lit< tt, refl);
-      none = a.answers;
-      disks = λ l r told_l told_r. by_found (state_on l r) _ _ (λ start is. absurd (a.disks l r start told_l told_r is)) (λ side damage is.
-          let h = a.damaged l r side damage told_l told_r is in
-          (h.0, ap (λ (d : Damage). d.index) h.1, h.2));
-    }),
-  )
+  came_by finish.All a same = came_whole (Ok tt) a.read (inr (kept IsKept a.disks a.damaged, (0, lit< tt, refl), none_left asked history a.answers))
+  came_by finish.WriteFault a same = came_whole (Err WriteFault) a.read (inr (kept IsKept a.disks a.damaged, (1, lit< tt, refl), none_left asked history a.answers))
+  came_by finish.NoMemory a same = came_whole (Err NoMemory) a.read (inr (kept IsKept a.disks a.damaged, lacking asked history a.answers))
+  came_by finish.DiskFault a same = came_whole (Err DiskFault) a.read (inr (halted_by a.halted a.answers a.disks a.damaged))
+  came_by (finish.NotRead why_not) a same =
+      record {
+        reading = Err (halt_at why_not);
+        read = λ bytes told. read_so why_not bytes (unread after.source) asked (a.read bytes told);
+        so = inl (refl, a.answers, (same why_not refl).0, (same why_not refl).1, stopping why_not);
+      }
+  came_by (finish.NotOpened why.DiskFault) a same =
+      came_whole (Err DiskFault) a.read
+      (inl (a.answers, (0, lit< tt, refl), λ l r told_l told_r. by_found (state_on l r) _ _ (λ start is. ((λ e. omega (arith, e)), a.disks l r start told_l told_r is)) (λ side damage is. tt)))
+  came_by (finish.NotOpened why.NoMemory) a same =
+      came_whole (Err NoMemory) a.read
+      (inl (a.answers, (2, lit< tt, refl), λ l r told_l told_r. by_found (state_on l r) _ _ (λ start is. ((λ e. omega (arith, e)), a.disks l r start told_l told_r is)) (λ side damage is. a.damaged l r side damage told_l told_r is)))
+  came_by (finish.NotOpened (why.Damaged which met)) a same =
+      came_whole (Err (Damaged which met.index)) a.read
+      (inl (
+        a.answers,
+        (1, lit< tt, six which met.index),
+        λ l r told_l told_r. by_found (state_on l r) _ _ (λ start is. absurd (a.disks l r start told_l told_r is)) (λ side damage is.
+            let h = a.damaged l r side damage told_l told_r is in
+            (h.0, ap (λ (d : Damage). d.index) h.1, h.2)),
+      ))

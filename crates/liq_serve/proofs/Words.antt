@@ -6,7 +6,6 @@ use Rattle.liq_outside.specs.Faults.{Rose}
 use Rattle.liq_types.specs.declared.amounts.TheConstants.{LINES_MOST}
 use Rattle.liq_types.specs.State.{State}
 use Rattle.liq_lines.specs.Lines.{lines_in}
-use Rattle.liq_lines.specs.declared.stops.Stop.TheVariants as stop
 use Rattle.liq_lines.specs.Reading.{taken_most, ReadsAtMost}
 use Rattle.liq_lines.proofs.Readings.{takes_none}
 use Rattle.liq_journal.specs.declared.damage.Damage.{Damage}
@@ -24,13 +23,12 @@ use Rattle.liq_ends.specs.Disks.{EndsDamaged}
 use Rattle.liq_ends.specs.Output.{last, usage}
 use Rattle.liq_ends.specs.Statuses.{status_of}
 use Rattle.liq_ends.specs.Stops.{Adds}
-use Rattle.liq_ends.proofs.Causes.{disk_causes, sink_causes, source_causes, unread_causes}
+use Rattle.liq_ends.proofs.Causes.{disk_causes, sink_causes, six, source_causes, unread_causes}
 use Rattle.liq_ends.proofs.Opened.{standing_still, state_formed, untouched}
 use Rattle.liq_ends.proofs.Shares.{all_shares}
 use Rattle.liq_store.specs.Causes.{counts_of}
 use Rattle.liq_serve.specs.Outside.{Outside}
-use Rattle.liq_serve.specs.Serve.{ServesTo}
-use Rattle.liq_serve.specs.Top.{Ends, Leaves, OpensFirst, Tells}
+use Rattle.liq_serve.specs.Top.{Ends, Leaves, OpensFirst, ServesTo, Tells}
 use Rattle.liq_serve.proofs.Served.{by_found, if_found, same_disks}
 use Rattle.liq_serve.proofs.StatusLaws.{status_known}
 
@@ -56,7 +54,7 @@ not_usage (Err (BadLine n)) is = omega (arith, is)
 not_usage (Err ReadFault) is = omega (arith, is)
 not_usage (Err WriteFault) is = omega (arith, is)
 not_usage (Err DiskFault) is = omega (arith, is)
-not_usage (Err (Damaged side number)) is = omega (arith, is)
+not_usage (Err (Damaged side number)) is = omega (arith, six side number, is)
 not_usage (Err NoMemory) is = omega (arith, is)
 not_usage (Err (Limit number)) is = omega (arith, is)
 not_usage (Err (Rotated generation)) is = omega (arith, is)
@@ -97,7 +95,7 @@ module _
   -- the last line of a word over damaged disks
   last_told : (side : Side) (damage : Damage) (halt : Halt) → EndsDamaged seen side damage (Err halt) after.left after.right
       → Adds [] (last halt) (Rose (sink_faults before.sink) (sink_faults after.sink)) (held before.sink) (held after.sink)
-      → Tells unread source_faults held sink_faults seen disk_faults before after [] (Err halt)
+      → Tells unread source_faults held sink_faults seen disk_faults before after [] [] (Err halt)
   last_told side damage (BadLine n) ends told = absurd ends
   last_told side damage ReadFault ends told = absurd ends
   last_told side damage WriteFault ends told = absurd ends
@@ -119,7 +117,7 @@ module _
       by_found (state_on l r) _ _ (λ start is. stood l r told_l told_r start is) (λ side damage is.
       let found = damaged l r told_l told_r side damage is in
       let so = found.1 in
-      let ends = subst (λ (e : Result (Unit {0}) Halt). EndsDamaged seen side damage e after.left after.right × Tells unread source_faults held sink_faults seen disk_faults before after [] e)
+      let ends = subst (λ (e : Result (Unit {0}) Halt). EndsDamaged seen side damage e after.left after.right × Tells unread source_faults held sink_faults seen disk_faults before after [] [] e)
       (sym so.1) (so.2, last_told side damage so.0 so.2 so.3) in
       (found.0, ends.0, ends.1))
 
@@ -160,7 +158,7 @@ module _
   abbrev Writes : List ℕ → Type 0
   Writes line = Adds [] line (Rose (sink_faults before.sink) (sink_faults now)) (held before.sink) (held now)
 
-  serves_nothing : Writes (last NoMemory) → ServesTo unread held sink_faults seen before after (Err NoMemory)
+  serves_nothing : Writes (last NoMemory) → ServesTo unread source_faults held sink_faults seen disk_faults before after (Err NoMemory)
   serves_nothing written =
       record {
         asked = [];
@@ -168,7 +166,9 @@ module _
         few = omega arith;
         fronts = λ k d has. ([], refl);
         sessions = All-nil _;
-        came = inl (stop.NoMemory, refl, refl, refl, refl, λ bytes told. (lines_in bytes, ([], tt, refl)));
+        reading = Err NoMemory;
+        read = λ bytes told. (lines_in bytes, ([], tt, refl));
+        came = inl (refl, refl, refl, refl, (0, (2, lit< tt, refl)));
         written = written;
         lawful = λ l r told_l told_r. if_found (state_on l r) _ (λ start is. (record { replies = refl; indices = λ session. refl }, all_shares start [] (state_formed l r start is)));
       }
@@ -185,8 +185,11 @@ module _
       (λ start is bytes told. record {
         requests = [];
         few = omega arith;
-        read = ((lines_in bytes, ([], tt, refl)), inl (refl, told));
+        statuses = (5, lit< tt, refl);
+        read = (lines_in bytes, ([], tt, refl));
+        memory = λ is. inl (refl, told);
         written = written;
+        cut = λ is. absurd cc;
         disks = standing_still seen before.left before.right bytes l r (unread before.source) start told is (untouched seen before.left before.right l r start told_l told_r is);
         shares = all_shares start [] (state_formed l r start is);
       })
@@ -201,7 +204,7 @@ module _
   nothing_done written word.Audit = (
     refl,
     λ l r told_l told_r. by_found (state_on l r) _ _
-        (λ start is. (([], tt, written), untouched seen before.left before.right l r start told_l told_r is))
+        (λ start is. (([], (1, lit< tt, refl), written), untouched seen before.left before.right l r start told_l told_r is))
         (λ side damage is. (refl, still side damage l r told_l told_r is, written)),
   )
   nothing_done written (word.Gen seed count) = (refl, (2, lit< tt, refl), written)

@@ -4,7 +4,7 @@ use Rattle.std.specs.List.{AllZip}
 use Rattle.liq_outside.specs.Faults.{Rose}
 use Rattle.liq_types.specs.declared.amounts.TheConstants.{LINES_MOST}
 use Rattle.liq_types.specs.declared.requests.Request.{Request}
-use Rattle.liq_types.specs.State.{State, opening}
+use Rattle.liq_types.specs.State.{State, opening_with}
 use Rattle.liq_rules.specs.Events.{events}
 use Rattle.liq_lines.specs.Lines.{lines_in}
 use Rattle.liq_pairs.specs.Pair.{commands_on, state_on}
@@ -57,7 +57,7 @@ module _
         Ask words word.State → (l r : List ℕ) (start : State) → StoodFor l r start → IsCalm → IsDone status
     pub audit :
         Ask words word.Audit → (l r : List ℕ) (start : State) → StoodFor l r start → start.generation ≡ 1
-        → number_above (events opening (commands_on l r)) ≡ None → IsCalm → IsDone status
+        → number_above (events (opening_with start.limit) (commands_on l r)) ≡ None → IsCalm → IsDone status
     pub rotated :
         Ask words word.Audit → (l r : List ℕ) (start : State) → StoodFor l r start → 1 < start.generation
         → AreKeptWell → (status ≡ 9) ⊎ (status ≡ 7)

@@ -1,11 +1,20 @@
 -- How serving an input ends, as an end of the program.
 use Rattle.std.specs.Prelude.{Result, Ok, Err}
+use Rattle.liq_types.specs.declared.amounts.TheConstants.{LINES_MOST}
+use Rattle.liq_lines.specs.declared.stops.Stop.{Stop}
+use Rattle.liq_lines.specs.declared.stops.Stop.TheVariants as stop
 use Rattle.liq_serving.specs.declared.input.Finish.{Finish}
 use Rattle.liq_serving.specs.declared.input.Finish.TheVariants as finish
 use Rattle.liq_ends.specs.declared.halts.Halt.{Halt}
-use Rattle.liq_ends.specs.declared.halts.Halt.TheVariants.{DiskFault, NoMemory, WriteFault}
+use Rattle.liq_ends.specs.declared.halts.Halt.TheVariants.{BadLine, ReadFault, WriteFault, DiskFault, NoMemory, Limit}
 use Rattle.liq_ends.specs.Unopened.{halt_of}
-use Rattle.liq_serve.specs.Serve.{halt_at}
+
+-- why a word stops whose input was not read to its end
+abbrev pub halt_at : Stop → Halt
+halt_at (stop.BadLine number) = BadLine number
+halt_at stop.ReadFault = ReadFault
+halt_at stop.NoMemory = NoMemory
+halt_at stop.Limit = Limit LINES_MOST
 
 abbrev pub end_of : Finish → Result (Unit {0}) Halt
 end_of finish.All = Ok tt

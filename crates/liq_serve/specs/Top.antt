@@ -1,27 +1,45 @@
 -- What the top call leaves, word by word, and which counts rise.
-use Rattle.std.specs.Prelude.{ℕ, ◌≡◌, ◌≢◌, ◌↔◌, List, [], ◌∷◌, Contains}
-use Rattle.std.specs.Prelude.{Option, Some, Result, MatchResult}
+use Rattle.std.specs.Prelude.{ℕ, ◌≡◌, ◌≢◌, ◌≤◌, ◌<◌, ◌==◌, ◌⊎◌, ◌↔◌, List, [], ◌∷◌, ◌++◌, length, map, filter}
+use Rattle.std.specs.Prelude.{All, Contains, Option, Some, Result, Ok, Err, IfOk, IsOkAnd, MatchResult}
 use Rattle.liq_outside.specs.Faults.{Rose}
 use Rattle.liq_types.specs.declared.amounts.TheConstants.{LINES_MOST}
+use Rattle.liq_types.specs.declared.requests.Request.{Request}
 use Rattle.liq_types.specs.State.{State, opening}
+use Rattle.liq_rules.specs.History.{Entry, IsLegal, own_entries, requests_of, state_after}
+use Rattle.liq_rules.specs.Step.{run}
 use Rattle.liq_lines.specs.Reading.{ReadsAtMost, taken_most}
+use Rattle.liq_lines.specs.Writing.{Writes}
+use Rattle.liq_pairs.specs.Kept.{IsKept}
 use Rattle.liq_pairs.specs.Pair.{commands_on, state_on}
+use Rattle.liq_scripts.specs.declared.scripts.TheConstants.{SESSIONS}
+use Rattle.liq_scripts.specs.Asked.{Asks}
+use Rattle.liq_scripts.specs.Output.{served}
+use Rattle.liq_scripts.specs.Sessions.{sessions}
 use Rattle.liq_sessions.specs.Generated.{generated}
-use Rattle.liq_store.specs.Causes.{OneRose, counts_of}
+use Rattle.liq_store.specs.Causes.{Faults, OneRose, counts_of}
+use Rattle.liq_store.specs.Keeping.{IsKeptAround}
+use Rattle.liq_store.specs.Memory.{TakesMemory}
+use Rattle.liq_text.specs.Spelling.{Spells}
 use Rattle.liq_words.specs.declared.words.Word.{Word}
 use Rattle.liq_words.specs.declared.words.Word.TheVariants as word
 use Rattle.liq_words.specs.Words.{Ask}
 use Rattle.liq_ends.specs.declared.halts.Halt.{Halt}
-use Rattle.liq_ends.specs.Disks.{DisksStay, EndsDamaged, OfBoth}
-use Rattle.liq_ends.specs.Output.{usage}
+use Rattle.liq_ends.specs.declared.halts.Halt.TheVariants.{BadLine, ReadFault, WriteFault, DiskFault, NoMemory, Limit}
+use Rattle.liq_ends.specs.Disks.{DisksHold, DisksStay, EndsDamaged, IsUnread, OfBoth}
+use Rattle.liq_ends.specs.Output.{lines, usage}
+use Rattle.liq_ends.specs.Reading.{ReadsTo}
+use Rattle.liq_ends.specs.Requests.{IsNext}
 use Rattle.liq_ends.specs.Statuses.{status_of}
-use Rattle.liq_ends.specs.Stops.{Adds, EndsIn}
-use Rattle.liq_ends.specs.Telling.{TellsAll}
+use Rattle.liq_ends.specs.Stops.{Adds, HaveTheirShares, TellsBehind}
 use Rattle.liq_tell.specs.Audit.{IsAuditOf}
 use Rattle.liq_tell.specs.State.{standing}
 use Rattle.liq_load.specs.Load.{load, summary}
 use Rattle.liq_serve.specs.Outside.{Outside}
-use Rattle.liq_serve.specs.Serve.{ServesTo}
+
+-- the first requests of the session are answered in the history, in order, and these are left
+abbrev pub AreLeft : List (ℕ × Request) → List Entry → ℕ → List Request → Type 0
+AreLeft asked history session left = map (λ (a : ℕ × Request). a.1) (filter (λ (a : ℕ × Request). a.0 == session) asked)
+    ≡ requests_of (own_entries session history) ++ left
 
 -- The six functions say what the source has left and the sink holds, what a disk holds, and their counts of faults.
 module _
@@ -32,54 +50,124 @@ module _
   abbrev pub SinkFails : Type 0
   SinkFails = Rose (sink_faults before.sink) (sink_faults after.sink)
 
-  -- the text was written, as far as the end says
-  abbrev pub Tells : List ℕ → Result (Unit {0}) Halt → Type 0
-  Tells text end = TellsAll text end SinkFails (held before.sink) (held after.sink)
+  abbrev pub disk_counts : Outside S K D → Faults
+  disk_counts outside = counts_of disk_faults outside.left outside.right
+
+  -- The text was written, as far as the end says. Where the word stopped, this was said of it, and then the last line.
+  abbrev pub Tells : List ℕ → List ℕ → Result (Unit {0}) Halt → Type 0
+  Tells said text end = TellsBehind said text end SinkFails (held before.sink) (held after.sink)
 
   -- A word that opens the disks before it reads. Of what both tell and of the state for which they stand it leaves P.
   -- Over disks of which one has a first damage nothing is read, and a last line alone is written.
   abbrev pub OpensFirst : Result (Unit {0}) Halt → (List ℕ → List ℕ → State → Type 0) → Type 0
-  OpensFirst end P =
-      OfBoth seen before.left before.right (λ l r.
-      MatchResult (state_on l r) (P l r) (λ first.
-      (after.source ≡ before.source) × EndsDamaged seen first.0 first.1 end after.left after.right × Tells [] end))
+  OpensFirst end P = OfBoth seen before.left before.right (λ l r. MatchResult (state_on l r) (P l r) (λ first.
+      (after.source ≡ before.source) × EndsDamaged seen first.0 first.1 end after.left after.right × Tells [] [] end))
+
+  -- ---- `run`
+
+  -- The lines of these bytes were answered from this state on, with l and r on the disks, as far as the end says.
+  pub record RunsTo (end : Result (Unit {0}) Halt) (l r : List ℕ) (start : State) (bytes : List ℕ) : Type 0 where
+    pub requests : List Request
+    -- they are no more than one run answers
+    pub few : length requests ≤ LINES_MOST
+    -- it goes on in whatever generation
+    pub statuses : Contains (0 ∷ 2 ∷ 3 ∷ 4 ∷ 5 ∷ 7 ∷ 8 ∷ []) (status_of end)
+    pub read : ReadsTo Spells bytes (unread after.source) requests end
+    -- memory is asked for before a line is read, and then only for a command that is allowed or plans a list
+    pub memory : end ≡ Err NoMemory → IsUnread bytes (unread after.source) requests
+        ⊎ ((request : Request) × IsNext bytes requests request × TakesMemory (run start requests).0 request)
+    -- all replies, and the last line where it stopped
+    pub written : Tells (lines start requests) (lines start requests) end
+    -- where the sink met a fault at a reply, that is the last one
+    pub cut : end ≡ Err WriteFault → (earlier : List Request) × (final : Request) × (requests ≡ earlier ++ final ∷ [])
+        × ((part : List ℕ) × Writes (held before.sink) (lines start earlier ++ part) (held after.sink))
+    pub disks : DisksHold seen end bytes (unread after.source) l r start after.left after.right requests
+    -- no depositor has more than its share then, or less by more than is allowed
+    pub shares : HaveTheirShares start requests
+
+  -- ---- `serve`
+
+  -- the disks stood for a state, and this holds of what they hold then and of the state after the history
+  abbrev pub Keep : List Entry → (List ℕ → List ℕ → State → Type 0) → Type 0
+  Keep history P = OfBoth seen before.left before.right (λ l r. IsOkAnd (state_on l r) (λ start.
+      OfBoth seen after.left after.right (λ a b. P a b (state_after start history))))
+
+  -- No store was opened: for a disk's fault, the disks' damage or want of memory.
+  abbrev pub OpensNone : List Entry → Result (Unit {0}) Halt → Type 0
+  OpensNone history end = (history ≡ []) × Contains (5 ∷ 6 ∷ 7 ∷ []) (status_of end)
+      × OfBoth seen before.left before.right (λ l r. MatchResult (state_on l r)
+      (λ start. (status_of end ≢ 6) × DisksStay seen end l r start after.left after.right)
+      -- a side and its first damage
+      (λ first. EndsDamaged seen first.0 first.1 end after.left after.right))
+
+  -- What was answered once a store was open, whose disks are not damaged, and what they hold then.
+  abbrev pub Answers : List (ℕ × Request) → List Entry → Result (Unit {0}) Halt → Type 0
+  -- A call met the fault, and it is that of the next request of its session. They are kept for that state, or for the
+  -- one after this request.
+  Answers asked history (Err DiskFault) =
+      (session : ℕ) × (request : Request) × (1 ≤ session) × (session ≤ SESSIONS) × ((later : List Request)
+      × AreLeft asked history session (request ∷ later)) × Keep history (λ a b s. IsKeptAround s request a b)
+  -- nothing; or not all of some session, and the book had room for it
+  Answers asked history (Err NoMemory) = Keep history IsKept × ((history ≡ []) ⊎ ((length history < LINES_MOST)
+      × ((session : ℕ) × Contains sessions session × (AreLeft asked history session [] → ⊥))))
+  -- all, session by session, and they are kept for the state after it
+  Answers asked history end = Keep history IsKept × Contains (0 ∷ 4 ∷ []) (status_of end)
+      × All (λ session. AreLeft asked history session []) sessions
+
+  -- Along one history a part of what the lines asked was answered, and it was written, as far as the end says.
+  pub record ServesTo (end : Result (Unit {0}) Halt) : Type 0 where
+    pub asked : List (ℕ × Request)
+    pub history : List Entry
+    pub few : length asked ≤ LINES_MOST
+    -- of each session the first requests, in order
+    pub fronts : All (λ session. (rest : List Request) × AreLeft asked history session rest) sessions
+    pub sessions : All (λ (e : Entry). (1 ≤ e.session) × (e.session ≤ SESSIONS)) history
+    -- how reading ended
+    pub reading : Result (Unit {0}) Halt
+    pub read :
+        (bytes : List ℕ) → unread before.source ≡ Some bytes → ReadsTo Asks bytes (unread after.source) asked reading
+    -- It stopped, nothing was opened, and the disks are as they were. Or all lines ask this.
+    pub came :
+        ((reading ≡ end) × (history ≡ []) × (after.left ≡ before.left) × (after.right ≡ before.right)
+        × ((n : ℕ) × Contains (Err (BadLine n) ∷ Err ReadFault ∷ Err NoMemory ∷ Err (Limit LINES_MOST) ∷ []) end))
+        ⊎ ((reading ≡ Ok tt) × (OpensNone history end ⊎ Answers asked history end))
+    pub written : Tells [] (served history) end
+    -- its replies are those of the rules from where the disks stood, and after it no depositor has more than its share,
+    -- or less by more than is allowed
+    pub lawful : OfBoth seen before.left before.right (λ l r. IfOk (state_on l r) (λ start.
+        IsLegal start history × HaveTheirShares start (requests_of history)))
+
+  -- ---- each word
 
   -- what a word leaves that came to this end
   abbrev pub Leaves : Word → Result (Unit {0}) Halt → Type 0
   -- where the source tells its bytes, what the end says of what came in, what went out, and what the disks hold
   Leaves word.Run end =
-      OpensFirst end (λ l r start. (bytes : List ℕ) → unread before.source ≡ Some bytes
-      → EndsIn seen start end bytes l r (unread after.source) SinkFails (held before.sink) (held after.sink)
-      after.left after.right)
+      OpensFirst end (λ l r start. (bytes : List ℕ) → unread before.source ≡ Some bytes → RunsTo end l r start bytes)
   -- each session's lines are answered in order, all sessions' at once, along one history
-  Leaves word.Serve end = ServesTo unread held sink_faults seen before after end
+  Leaves word.Serve end = ServesTo end
   -- nothing is read; it is told what stands, and the disks stay so
   Leaves word.State end =
-      (after.source ≡ before.source)
-      × OpensFirst end (λ l r start. Contains (0 ∷ 4 ∷ 5 ∷ 7 ∷ []) (status_of end)
-      × Tells (standing start) end × DisksStay seen end l r start after.left after.right)
+      (after.source ≡ before.source) × OpensFirst end (λ l r start. Contains (0 ∷ 4 ∷ 5 ∷ 7 ∷ []) (status_of end)
+      × Tells [] (standing start) end × DisksStay seen end l r start after.left after.right)
   -- Nothing is read, the review is told of the commands that lead to the state, and the disks stay so. At 0 each row of
   -- the review encloses the exact share of its account, and what the protocol gives it in that state is within the row.
   -- Where the state is of a generation above the first, the last line tells this generation, and nothing else is told.
   Leaves word.Audit end =
-      (after.source ≡ before.source)
-      × OpensFirst end (λ l r start.
-      ((text : List ℕ) × IsAuditOf start (commands_on l r) end text × Tells text end)
+      (after.source ≡ before.source) × OpensFirst end (λ l r start.
+      ((text : List ℕ) × IsAuditOf start (commands_on l r) end text × Tells [] text end)
       × DisksStay seen end l r start after.left after.right)
   -- nothing but the sink changes, and the seed's load is told by the rules' steps along its requests from the opening
   Leaves (word.Gen seed count) end =
       (after ≡ record before { sink = after.sink }) × Contains (0 ∷ 4 ∷ 7 ∷ []) (status_of end)
-      × Tells (summary (load opening (generated seed count))) end
+      × Tells [] (summary (load opening (generated seed count))) end
 
   -- the clause of the top call, for each list of words
   pub record Ends (status : ℕ) (words : List (List ℕ)) : Type 0 where
     pub understood : (status ≡ 1) ↔ ((word : Word) → Ask words word → ⊥)
-    pub usage :
-        status ≡ 1 → (after ≡ record before { sink = after.sink })
+    pub usage : status ≡ 1 → (after ≡ record before { sink = after.sink })
         × Adds [] usage SinkFails (held before.sink) (held after.sink)
-    pub ends :
-        (word : Word) → Ask words word
-        → (end : Result (Unit {0}) Halt) × (status ≡ status_of end) × Leaves word end
+    pub ends : (one : Word) → Ask words one → (end : Result (Unit {0}) Halt) × (status ≡ status_of end) × Leaves one end
     -- no more is taken than the lines that one run answers, each with its line end, and what one read asks for
     pub takes : ReadsAtMost (taken_most LINES_MOST) (unread before.source) (unread after.source)
     pub known : Contains (0 ∷ 1 ∷ 2 ∷ 3 ∷ 4 ∷ 5 ∷ 6 ∷ 7 ∷ 8 ∷ 9 ∷ []) status
@@ -88,8 +176,5 @@ module _
     pub source_same : status ≢ 3 → source_faults after.source ≡ source_faults before.source
     pub sink_fault : status ≡ 4 → SinkFails
     pub sink_same : status ≡ 0 → sink_faults after.sink ≡ sink_faults before.sink
-    pub disk_fault :
-        status ≡ 5
-        → OneRose (counts_of disk_faults before.left before.right) (counts_of disk_faults after.left after.right)
-    pub disk_same :
-        status ≢ 5 → counts_of disk_faults after.left after.right ≡ counts_of disk_faults before.left before.right
+    pub disk_fault : status ≡ 5 → OneRose (disk_counts before) (disk_counts after)
+    pub disk_same : status ≢ 5 → disk_counts after ≡ disk_counts before

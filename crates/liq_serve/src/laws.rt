@@ -6,7 +6,7 @@ ghost use Rattle.liq_serve.specs.Outside.{Outside};
 ghost use Rattle.liq_serve.specs.Top.{Ends};
 
 use liq_outside::{Disk, Sink, Source};
-use liq_pairs::laws::commands_lead_to_the_state;
+use liq_pairs::laws::{commands_lead_to_the_state, journals_keep_their_limit};
 
 /// Where nothing is wrong with lines, streams and disks a word is done, unless there was no memory. It follows from the
 /// clause of the top call.
@@ -16,4 +16,5 @@ pub fn calm_ends_are_done<S: Source, K: Sink, D: Disk>()
         → IsComplete S.left S.faults K.held K.faults D.seen D.faults before after status words }
 {
     commands_lead_to_the_state();
+    journals_keep_their_limit();
 }

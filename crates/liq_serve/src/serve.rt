@@ -5,8 +5,8 @@ ghost use Rattle.liq_types.specs.declared.amounts.TheConstants.{LINES_MOST};
 ghost use Rattle.liq_lines.specs.Reading.{taken_most, ReadsAtMost};
 ghost use Rattle.liq_store.specs.Causes.{counts_of};
 ghost use Rattle.liq_ends.specs.Causes.{DiskCause, LastCause, ReadCause};
-ghost use Rattle.liq_serve.specs.Finishing.{end_of};
-ghost use Rattle.liq_serve.specs.Serve.{ServesTo, halt_at};
+ghost use Rattle.liq_serve.specs.Finishing.{end_of, halt_at};
+ghost use Rattle.liq_serve.specs.Top.{ServesTo};
 
 use liq_ends::{Ending, Halt, tell_last};
 use liq_outside::{Disk, Sink, Source};
@@ -28,7 +28,7 @@ pub fn serve_on<S: Source, K: Sink, D: Disk + Send, G: Gate + Sync, R: Threads +
     left: D,
     right: D,
 ) -> Ending<D>
-    ensures served { ServesTo S.left K.held K.faults D.seen
+    ensures served { ServesTo S.left S.faults K.held K.faults D.seen D.faults
         (record { source = input.old; sink = out.old; left = left; right = right })
         (record { source = input.new; sink = out.new; left = result.left; right = result.right }) result.end }
     ensures takes { ReadsAtMost (taken_most LINES_MOST) (S.left input.old) (S.left input.new) }

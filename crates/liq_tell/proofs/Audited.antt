@@ -2,7 +2,7 @@
 use Rattle.std.proofs.Common.{◌≡◌, ◌≢◌, ℕ, List, Option, Some, None, Result, Ok, Err, inl, inr, refl, sym, ap, ◌∙◌}
 use Rattle.std.specs.Prelude.{◌⊎◌, ◌↔◌, IsSome}
 use Rattle.liq_types.specs.declared.requests.Command.{Command}
-use Rattle.liq_types.specs.State.{State, opening}
+use Rattle.liq_types.specs.State.{State, opening_with}
 use Rattle.liq_rules.specs.Events.{events}
 use Rattle.liq_pairs.specs.declared.side.Side.{Side}
 use Rattle.liq_pairs.specs.declared.side.Side.TheVariants.{Left, Right}
@@ -24,32 +24,35 @@ use Rattle.liq_ends.proofs.Opened.{is_some_of, some_of}
 
 -- ---- the review of commands that lead to a state
 
-reviewed_after : (commands : List Command) (s : State) → replay 1 opening commands ≡ Ok s → reviewed commands ≡ unless_above (number_above (events opening commands)) (shown (rows_of s (events opening commands)))
-reviewed_after commands s is = ap (review_of (events opening commands)) is
+module _ (limit : ℕ) (commands : List Command) where
+  reviewed_after : (s : State) → replay 1 (opening_with limit) commands ≡ Ok s
+      → reviewed limit commands ≡ unless_above (number_above (events (opening_with limit) commands)) (shown (rows_of s (events (opening_with limit) commands)))
+  reviewed_after s is = ap (review_of (events (opening_with limit) commands)) is
 
-unrefused : (above : Option ℕ) (text : List ℕ) (index code : ℕ) → unless_above above text ≡ Err (review.Refused index code) → ⊥
-unrefused None text index code is = absurd cc
-unrefused (Some number) text index code is = absurd cc
+  unrefused : (above : Option ℕ) (text : List ℕ) (index code : ℕ) → unless_above above text ≡ Err (review.Refused index code) → ⊥
+  unrefused None text index code is = absurd cc
+  unrefused (Some number) text index code is = absurd cc
 
--- none of them is refused
-not_refused : (commands : List Command) (s : State) (index code : ℕ) → replay 1 opening commands ≡ Ok s → reviewed commands ≡ Err (review.Refused index code) → ⊥
-not_refused commands s index code is refused = unrefused _ _ index code (sym (reviewed_after commands s is) ∙ refused)
+  -- none of them is refused
+  not_refused : (s : State) (index code : ℕ) → replay 1 (opening_with limit) commands ≡ Ok s → reviewed limit commands ≡ Err (review.Refused index code) → ⊥
+  not_refused s index code is refused = unrefused _ _ index code (sym (reviewed_after s is) ∙ refused)
 
-within : (above : Option ℕ) (text : List ℕ) (number : ℕ) → above ≡ None → unless_above above text ≡ Err (review.Limit number) → ⊥
-within None text number none is = absurd cc
-within (Some n) text number none is = absurd cc
+  within : (above : Option ℕ) (text : List ℕ) (number : ℕ) → above ≡ None → unless_above above text ≡ Err (review.Limit number) → ⊥
+  within None text number none is = absurd cc
+  within (Some n) text number none is = absurd cc
 
--- where no limit is passed, none is told
-pub no_limit : (commands : List Command) (s : State) (number : ℕ) → replay 1 opening commands ≡ Ok s → number_above (events opening commands) ≡ None → reviewed commands ≡ Err (review.Limit number) → ⊥
-no_limit commands s number is none limit = within _ _ number none (sym (reviewed_after commands s is) ∙ limit)
+  -- where no limit is passed, none is told
+  pub no_limit : (s : State) (number : ℕ) → replay 1 (opening_with limit) commands ≡ Ok s → number_above (events (opening_with limit) commands) ≡ None → reviewed limit commands ≡ Err (review.Limit number) → ⊥
+  no_limit s number is none passed = within _ _ number none (sym (reviewed_after s is) ∙ passed)
 
--- why there is no review of them
-pub not_reviewed : (commands : List Command) (s : State) (side : Side) (why : ReviewFault) (held : Option (List ℕ)) → replay 1 opening commands ≡ Ok s → (why ≡ review.NoMemory) ⊎ (reviewed commands ≡ Err why) → WritesText (reviewed commands) (Err (halt_on side why)) held held
-not_reviewed commands s side (review.Refused index code) held is (inl none) = absurd cc
-not_reviewed commands s side (review.Refused index code) held is (inr so) = absurd (not_refused commands s index code is so)
-not_reviewed commands s side (review.Limit number) held is (inl none) = absurd cc
-not_reviewed commands s side (review.Limit number) held is (inr so) = (so, refl)
-not_reviewed commands s side review.NoMemory held is so = refl
+  -- why there is no review of them
+  pub not_reviewed : (s : State) (side : Side) (why : ReviewFault) (held : Option (List ℕ)) → replay 1 (opening_with limit) commands ≡ Ok s → (why ≡ review.NoMemory) ⊎ (reviewed limit commands ≡ Err why)
+      → WritesText (reviewed limit commands) (Err (halt_on side why)) held held
+  not_reviewed s side (review.Refused index code) held is (inl none) = absurd cc
+  not_reviewed s side (review.Refused index code) held is (inr so) = absurd (not_refused s index code is so)
+  not_reviewed s side (review.Limit number) held is (inl none) = absurd cc
+  not_reviewed s side (review.Limit number) held is (inr so) = (so, refl)
+  not_reviewed s side review.NoMemory held is so = refl
 
 -- neither a disk nor a stream met a fault
 pub no_fault : (side : Side) (why : ReviewFault) → (halt_on side why ≢ DiskFault) × (halt_on side why ≢ ReadFault)

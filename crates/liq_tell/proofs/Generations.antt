@@ -3,25 +3,12 @@ use Rattle.std.proofs.Common.{◌≡◌, ◌≤◌, ℕ, List, Option, None, sub
 use Rattle.std.specs.Prelude.{IsSome}
 use Rattle.liq_types.specs.State.{State}
 use Rattle.liq_core.specs.Core.{StandsFor}
-use Rattle.liq_journal.proofs.Heading.{has_generation}
-use Rattle.liq_journal.proofs.Parity.{from_one}
-use Rattle.liq_pairs.specs.declared.side.Side.{Side}
-use Rattle.liq_pairs.specs.Kept.{IsSettledFor}
-use Rattle.liq_pairs.specs.Sides.{has_odd, on}
-use Rattle.liq_pairs.proofs.Keeping.{leads_generation, settled_leads}
+use Rattle.liq_pairs.proofs.Keeping.{settled_from_one}
 use Rattle.liq_store.specs.Keeping.{IsInOrder, IsInOrderWith}
 use Rattle.liq_store.specs.Stored.{Stored}
 use Rattle.liq_ends.proofs.Opened.{some_of}
 
--- a journal is of the first generation or of a later one, and leads to a state of its own
-settled_from_one : (side : Side) (l r : List ℕ) (s : State) → IsSettledFor side l r s → 1 ≤ s.generation
-settled_from_one side l r s settled =
-    let odd = has_odd side in
-    let found = settled.open_on.found in
-    subst (λ (n : ℕ). 1 ≤ n) (leads_generation odd (on side l r) settled.written s found (settled_leads side l r s settled))
-    (from_one odd settled.written.generation (has_generation odd (on side l r) settled.written found))
-
--- and so is a store's state
+-- a store's state is of the first generation or of a later one
 pub opened_from_one : {D : Type 0} (seen : D → Option (List ℕ)) (moment : D → ℕ) (left_at : D → ℕ → List ℕ → Type 0) (store : Stored D) (s : State)
     → store.stopped ≡ None → IsInOrder seen moment left_at store → StandsFor store.core s → IsSome (seen store.left) → IsSome (seen store.right) → 1 ≤ s.generation
 opened_from_one seen moment left_at store s going order stands left right =

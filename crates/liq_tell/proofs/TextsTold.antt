@@ -54,14 +54,14 @@ audit_told s commands (Ok done) before now h = (h.0.0, (h.1, h.0.1, h.2.0, h.2.1
 audit_told s commands (Err (BadLine n)) before now h = absurd h.0
 audit_told s commands (Err ReadFault) before now h = absurd h.0
 audit_told s commands (Err WriteFault) before now h = (h.0.0, (h.1, h.0.1), h.0.2)
-audit_told s commands (Err DiskFault) before now h = ([], tt, h)
+audit_told s commands (Err DiskFault) before now h = ([], (0, lit< tt, refl), h)
 audit_told s commands (Err (Damaged side number)) before now h = absurd h.0
-audit_told s commands (Err NoMemory) before now h = ([], tt, h)
+audit_told s commands (Err NoMemory) before now h = ([], (1, lit< tt, refl), h)
 audit_told s commands (Err (Limit number)) before now h = ([], (h.1, h.0.0), h.0.1)
 audit_told s commands (Err (Rotated generation)) before now h = ([], (h.1, h.2), h.0)
 
 -- the review of a state of the first generation is its audit
-pub audit_reviewed : (s : State) (commands : List Command) (end : Result (Unit {0}) Halt) (before now : Option (List ℕ)) → s.generation ≡ 1 → WritesText (reviewed commands) end before now → AuditHolds end s commands → WritesAudit s commands end before now
+pub audit_reviewed : (s : State) (commands : List Command) (end : Result (Unit {0}) Halt) (before now : Option (List ℕ)) → s.generation ≡ 1 → WritesText (reviewed s.limit commands) end before now → AuditHolds end s commands → WritesAudit s commands end before now
 audit_reviewed s commands (Ok done) before now first wrote holds = (wrote, first, holds)
 audit_reviewed s commands (Err (BadLine n)) before now first wrote holds = absurd wrote
 audit_reviewed s commands (Err ReadFault) before now first wrote holds = absurd wrote

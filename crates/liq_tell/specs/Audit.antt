@@ -1,7 +1,7 @@
 -- What the word `audit` tells.
-use Rattle.std.specs.Prelude.{ℕ, ◌≡◌, ◌<◌, List, Result, Ok, Err, All, count_by, length}
+use Rattle.std.specs.Prelude.{ℕ, ◌≡◌, ◌<◌, List, [], ◌∷◌, Result, Ok, Err, All, Contains, count_by, length}
 use Rattle.liq_types.specs.declared.requests.Command.{Command}
-use Rattle.liq_types.specs.State.{State, opening}
+use Rattle.liq_types.specs.State.{State, opening_with}
 use Rattle.liq_audit.specs.Auditable.{EnclosesShare}
 use Rattle.liq_rules.specs.Events.{events}
 use Rattle.liq_review.specs.Engine.{rows_of}
@@ -9,21 +9,19 @@ use Rattle.liq_review.specs.Reviewed.{reviewed}
 use Rattle.liq_review.specs.Shown.{is_within}
 use Rattle.liq_review.specs.declared.fault.ReviewFault.TheVariants as review
 use Rattle.liq_ends.specs.declared.halts.Halt.{Halt}
-use Rattle.liq_ends.specs.declared.halts.Halt.TheVariants.{DiskFault, Limit, NoMemory, Rotated, WriteFault}
+use Rattle.liq_ends.specs.declared.halts.Halt.TheVariants.{Limit, Rotated, WriteFault}
+use Rattle.liq_ends.specs.Statuses.{status_of}
 
--- An audit of the commands that lead from the opening to this state of the first generation ends so, and its text is
--- that of the review. At its end each row encloses the exact share of its account, and what the protocol gives that is
--- within its row. Or the review passes the limit by this number. Of a later generation's state there is none.
+-- An audit of the commands that lead to this state of the first generation, from the opening under its limit, ends so,
+-- and its text is that of the review. At its end each row encloses the exact share of its account, and what the protocol
+-- gives that is within its row. Or the review passes the limit by this number. Of a later generation's state there is
+-- none.
 abbrev pub IsAuditOf : State → List Command → Result (Unit {0}) Halt → List ℕ → Type 0
 IsAuditOf s commands (Ok done) text =
-    let made = events opening commands in
-    let rows = rows_of s made in
-    (s.generation ≡ 1) × (reviewed commands ≡ Ok text)
-    × All (EnclosesShare made) rows × (count_by is_within rows ≡ length rows)
-IsAuditOf s commands (Err WriteFault) text = (s.generation ≡ 1) × (reviewed commands ≡ Ok text)
-IsAuditOf s commands (Err (Limit number)) text =
-    (s.generation ≡ 1) × (reviewed commands ≡ Err (review.Limit number))
+    let made = events (opening_with s.limit) commands in let rows = rows_of s made in (s.generation ≡ 1)
+    × (reviewed s.limit commands ≡ Ok text) × All (EnclosesShare made) rows × (count_by is_within rows ≡ length rows)
+IsAuditOf s commands (Err WriteFault) text = (s.generation ≡ 1) × (reviewed s.limit commands ≡ Ok text)
+IsAuditOf s commands (Err (Limit n)) text = (s.generation ≡ 1) × (reviewed s.limit commands ≡ Err (review.Limit n))
 IsAuditOf s commands (Err (Rotated generation)) text = (1 < s.generation) × (generation ≡ s.generation)
-IsAuditOf s commands (Err DiskFault) text = Unit {0}
-IsAuditOf s commands (Err NoMemory) text = Unit {0}
-IsAuditOf s commands (Err _) text = ⊥
+-- a disk met a fault, or there was no memory
+IsAuditOf s commands end text = Contains (5 ∷ 7 ∷ []) (status_of end)

@@ -11,8 +11,7 @@ use Rattle.liq_text.specs.Replies.{reply_line}
 -- generation with its commands so far
 unfoldable pub standing : State → List ℕ
 standing s =
-    let words = pool_words s in
-    reply_line (step s (Ask System)).1 ++ reply_line (step s (Ask Pools)).1
-    ++ codes "pool " ++ decimal words.p ++ codes " " ++ decimal words.scale
-    ++ codes " " ++ decimal words.epoch ++ codes " " ++ decimal words.sum
-    ++ codes "\njournal " ++ decimal s.generation ++ codes " " ++ decimal s.records ++ 10 ∷ []
+    let words = pool_words s in reply_line (step s (Ask System)).1 ++ reply_line (step s (Ask Pools)).1
+    ++ codes "pool " ++ decimal words.p ++ codes " " ++ decimal words.scale ++ codes " " ++ decimal words.epoch
+    ++ codes " " ++ decimal words.sum ++ codes "\njournal " ++ decimal s.generation ++ codes " " ++ decimal s.records
+    ++ 10 ∷ []

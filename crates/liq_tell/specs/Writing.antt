@@ -2,7 +2,7 @@
 use Rattle.std.specs.Prelude.{ℕ, ◌≡◌, ◌<◌, List, Option, Result, Ok, Err}
 use Rattle.std.specs.Prelude.{All, count_by, length}
 use Rattle.liq_types.specs.declared.requests.Command.{Command}
-use Rattle.liq_types.specs.State.{State, opening}
+use Rattle.liq_types.specs.State.{State, opening_with}
 use Rattle.liq_audit.specs.Auditable.{EnclosesShare}
 use Rattle.liq_rules.specs.Events.{events}
 use Rattle.liq_review.specs.Engine.{rows_of}
@@ -25,13 +25,17 @@ WritesText told (Err NoMemory) before now = now ≡ before
 WritesText told (Err DiskFault) before now = now ≡ before
 WritesText told (Err _) before now = ⊥
 
--- each row of a review that was told encloses the exact share of its account, and what the protocol gives that is
--- within its row
-abbrev pub AuditHolds : Result (Unit {0}) Halt → State → List Command → Type 0
-AuditHolds (Ok done) s commands =
-    let made = events opening commands in
+-- each row of a review from the opening under this limit encloses the exact share of its account, and what the protocol
+-- gives that is within its row
+abbrev pub AuditAlong : ℕ → State → List Command → Type 0
+AuditAlong limit s commands =
+    let made = events (opening_with limit) commands in
     let rows = rows_of s made in
     All (EnclosesShare made) rows × (count_by is_within rows ≡ length rows)
+
+-- so it is of a review that was told
+abbrev pub AuditHolds : Result (Unit {0}) Halt → State → List Command → Type 0
+AuditHolds (Ok done) s commands = AuditAlong s.limit s commands
 AuditHolds (Err halt) s commands = Unit {0}
 
 -- The audit of a state to which these commands lead is their review, or the state is of a later generation than the
@@ -43,4 +47,4 @@ WritesAudit s commands (Err (Rotated generation)) before now =
 WritesAudit s commands (Err NoMemory) before now = now ≡ before
 WritesAudit s commands (Err DiskFault) before now = now ≡ before
 WritesAudit s commands end before now =
-    WritesText (reviewed commands) end before now × (s.generation ≡ 1) × AuditHolds end s commands
+    WritesText (reviewed s.limit commands) end before now × (s.generation ≡ 1) × AuditHolds end s commands

@@ -2,7 +2,8 @@
 
 ghost use Rattle.std.specs.Prelude.{◌≡◌, ◌≢◌, ◌≤◌, ◌⊎◌, All, List, ℕ, Some, None, Ok, Err, IfOk, IfErr, IsSome, false};
 ghost use Rattle.liq_types.specs.declared.requests.Command.{Command};
-ghost use Rattle.liq_types.specs.State.{State, opening};
+ghost use Rattle.liq_types.specs.Image.{IsLimit};
+ghost use Rattle.liq_types.specs.State.{State, opening_with};
 ghost use Rattle.liq_core.specs.Core.{StandsFor};
 ghost use Rattle.liq_journal.specs.Written.{Open, Written, found_on, is_rotate};
 ghost use Rattle.liq_pairs.specs.declared.side.Side.{Side};
@@ -15,6 +16,8 @@ ghost use Rattle.liq_ends.specs.Causes.{DiskCause, WriteCause};
 ghost use Rattle.liq_tell.specs.Reviewing.{halt_on};
 ghost use Rattle.liq_tell.specs.Writing.{AuditHolds, WritesAudit, WritesText};
 
+use liq_core::Protocol;
+use liq_core::laws::protocols_are_sound_states;
 use liq_ends::{Halt, write_text};
 use liq_outside::{Disk, Sink};
 use liq_review::{ReviewFault, review};
@@ -32,7 +35,7 @@ pub fn write_audit<K: Sink, D: Disk>(
     requires going { store.old.stopped ≡ None }
     ensures written { (held : List ℕ) (w : Written) (s : State)
         → D.seen (taken_disk store.old) ≡ Some held → found_on (has_odd store.old.side) held ≡ Open w
-        → StandsFor store.old.core s → 1 ≤ s.generation → (s.generation ≡ 1 → replay 1 opening w.commands ≡ Ok s)
+        → StandsFor store.old.core s → 1 ≤ s.generation → (s.generation ≡ 1 → replay 1 (opening_with s.limit) w.commands ≡ Ok s)
         → WritesAudit s w.commands result (K.held out.old) (K.held out.new) }
     ensures no_source { result ≢ Err Halt.ReadFault }
     ensures sink { WriteCause result (K.faults out.old) (K.faults out.new) }
@@ -46,9 +49,19 @@ pub fn write_audit<K: Sink, D: Disk>(
     if generation > 1 {
         return Err(Halt::Rotated(generation));
     }
+    let limit = limit_of(store.protocol());
     let side = store.side();
     let commands = kept_commands(store, side)?;
-    write_review(alloc, &commands, side, out)
+    write_review(alloc, limit, &commands, side, out)
+}
+
+/// The limit of a protocol's state, which is one of two.
+fn limit_of(protocol: &Protocol) -> u64
+    ensures known { result ≡ protocol.now.image.limit }
+    ensures one_of_two { IsLimit result }
+{
+    protocols_are_sound_states(protocol);
+    protocol.limit()
 }
 
 /// The commands that a store keeps, on the disk of this side.
@@ -75,21 +88,23 @@ fn kept_commands<D: Disk>(store: &mut Store<D>, side: Side) -> Result<Vec<Comman
     }
 }
 
-/// Writes the review of commands that stand on the disk of this side.
+/// Writes the review of commands that stand on the disk of this side, from the opening under this limit on.
 fn write_review<K: Sink>(
     alloc: Global,
+    limit: u64,
     commands: &[Command],
     side: Side,
     out: &mut K,
 ) -> Result<(), Halt>
-    requires { All (λ (c : Command). is_rotate c.call ≡ false) commands.now }
-    ensures written { (s : State) → replay 1 opening commands.now ≡ Ok s
-        → WritesText (reviewed commands.now) result (K.held out.old) (K.held out.new) × AuditHolds result s commands.now }
+    requires limit { IsLimit limit }
+    requires no_rotation { All (λ (c : Command). is_rotate c.call ≡ false) commands.now }
+    ensures written { (s : State) → s.limit ≡ limit → replay 1 (opening_with limit) commands.now ≡ Ok s
+        → WritesText (reviewed limit commands.now) result (K.held out.old) (K.held out.new) × AuditHolds result s commands.now }
     ensures no_disk { result ≢ Err Halt.DiskFault }
     ensures no_source { result ≢ Err Halt.ReadFault }
     ensures sink { WriteCause result (K.faults out.old) (K.faults out.new) }
 {
-    match review(alloc, commands) {
+    match review(alloc, limit, commands) {
         Ok(text) => write_text(out, &text),
         Err(fault) => Err(halt_on(side, fault)),
     }

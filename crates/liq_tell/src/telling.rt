@@ -2,7 +2,7 @@
 
 ghost use Rattle.std.specs.Prelude.{◌≡◌, ◌≢◌, ◌≤◌, [], List, ℕ, Some, None, Ok, Err};
 ghost use Rattle.liq_outside.specs.Faults.{Rose};
-ghost use Rattle.liq_types.specs.State.{State, opening};
+ghost use Rattle.liq_types.specs.State.{State, opening_with};
 ghost use Rattle.liq_core.specs.Core.{StandsFor};
 ghost use Rattle.liq_journal.specs.declared.damage.Damage.{Damage};
 ghost use Rattle.liq_journal.specs.Written.{Open, Written, found_on};
@@ -22,7 +22,7 @@ use crate::audit::write_audit;
 use crate::state::write_standing;
 use liq_ends::{Ending, Halt, tell_last, unopened};
 use liq_outside::{Disk, Sink};
-use liq_pairs::laws::commands_lead_to_the_state;
+use liq_pairs::laws::{commands_lead_to_the_state, journals_keep_their_limit};
 use liq_store::Store;
 use std::alloc::Global;
 
@@ -81,6 +81,7 @@ fn tell<K: Sink, D: Disk>(alloc: Global, what: Told, out: &mut K, left: D, right
     ensures disks { DiskCause result.end (counts_of D.faults left right) (counts_of D.faults result.left result.right) }
 {
     commands_lead_to_the_state();
+    journals_keep_their_limit();
     let mut store = match Store::open(alloc, left, right) {
         Ok(store) => store,
         Err(fault) => return unopened(fault),
@@ -100,7 +101,7 @@ fn write_told<K: Sink, D: Disk>(
     requires going { store.old.stopped ≡ None }
     ensures written { (held : List ℕ) (w : Written) (s : State)
         → D.seen (taken_disk store.old) ≡ Some held → found_on (has_odd store.old.side) held ≡ Open w
-        → StandsFor store.old.core s → 1 ≤ s.generation → (s.generation ≡ 1 → replay 1 opening w.commands ≡ Ok s)
+        → StandsFor store.old.core s → 1 ≤ s.generation → (s.generation ≡ 1 → replay 1 (opening_with s.limit) w.commands ≡ Ok s)
         → WritesTold what s w.commands result (K.held out.old) (K.held out.new) }
     ensures no_source { result ≢ Err Halt.ReadFault }
     ensures sink { WriteCause result (K.faults out.old) (K.faults out.new) }

@@ -23,14 +23,16 @@ returns-clause-served g c =
     let answered = served.answered in
     let before : Outside g.row.S.Denot g.row.K.Denot g.row.D.Denot = record { source = c.args.input.now; sink = start; left = c.args.left; right = c.args.right } in
     let after : Outside g.row.S.Denot g.row.K.Denot g.row.D.Denot = record { source = ran.new.input; sink = c.tell_last.new.out; left = ran.result.left; right = ran.result.right } in
-    let came = came_by g.S.Source.left g.D.Disk.seen before after served.asked served.history how answered ran.ensures.unread in
+    let came = came_by g.S.Source.left g.S.Source.faults held faults g.D.Disk.seen g.D.Disk.faults before after served.asked served.history how answered ran.ensures.unread in
     record {
       asked = served.asked;
       history = served.history;
       few = answered.few;
       fronts = answered.fronts;
       sessions = answered.sessions;
-      came = rw is came;
+      reading = came.reading;
+      read = came.read;
+      came = rw is came.so;
       written = c.tell_last.ensures.told (text_of served.history) (held start) (faults start) fewer (rw is (all_served held served.history start middle how served.written));
       lawful = λ l r told_l told_r. if_found (state_on l r) _ (λ start is. (answered.legal l r start told_l told_r is, all_shares start (requests_of served.history) (state_formed l r start is)));
     }

@@ -3,6 +3,7 @@ use Rattle.liq_words.specs.declared.words.Word.{Word}
 use Rattle.liq_words.specs.declared.words.Word.TheVariants as word
 use Rattle.liq_words.specs.Reading.{IsInRange}
 use Rattle.liq_serve.specs.Outside.{Outside}
+use Rattle.liq_serve.proofs.Ran.{runs_to}
 use Rattle.liq_serve.proofs.Words.{IsRead, opens_first, telling_ends, word_ends}
 use Rattle.liq_serve.proofs.top.carry_out.Goals as goal
 use Rattle.liq_lines.proofs.Readings.{takes_none}
@@ -16,7 +17,8 @@ returns-in-Run g c words asks only =
     let read = subst (λ (w : Word). IsRead words w) c.in-Run.is (record { asks = asks; only = only }) in
     word_ends g.S.Source.left g.S.Source.faults g.K.Sink.held g.K.Sink.faults g.D.Disk.seen g.D.Disk.faults before after words word.Run ran.result.end read
     (opens_first g.S.Source.left g.S.Source.faults g.K.Sink.held g.K.Sink.faults g.D.Disk.seen g.D.Disk.faults before after ran.result.end _
-    (λ l r told_l told_r start is bytes told. ran.ensures.run bytes l r told told_l told_r start is) ran.ensures.damaged)
+    (λ l r told_l told_r start is bytes told. runs_to g.S.Source.left g.S.Source.faults g.K.Sink.held g.K.Sink.faults g.D.Disk.seen g.D.Disk.faults before after start ran.result.end bytes l r (ran.ensures.run bytes l r told told_l told_r start is))
+    ran.ensures.damaged)
     (record { source = ran.ensures.source; sink = ran.ensures.sink; disks = ran.ensures.disks }) ran.ensures.few
 
 pub returns-in-State : goal.returns-in-State

@@ -1,8 +1,8 @@
-use Rattle.std.proofs.Common.{Ok, Err, Result, ap, sym, subst, ◌∙◌}
+use Rattle.std.proofs.Common.{ℕ, Ok, Err, Result, ap, sym, subst, ◌∙◌}
 use Rattle.liq_review.specs.Reviewed.{reviewed}
 use Rattle.liq_ends.specs.declared.halts.Halt.{Halt}
 use Rattle.liq_ends.specs.declared.halts.Halt.TheVariants.{DiskFault, ReadFault}
-use Rattle.liq_tell.specs.Writing.{AuditHolds}
+use Rattle.liq_tell.specs.Writing.{AuditAlong, AuditHolds}
 use Rattle.liq_ends.specs.Causes.{WriteCause}
 use Rattle.liq_tell.specs.Writing.{WritesText}
 use Rattle.liq_tell.proofs.Audited.{audit_holds, no_cause, no_fault, not_reviewed}
@@ -11,10 +11,10 @@ use Rattle.liq_tell.proofs.TextsTold.{text_written}
 use Rattle.liq_tell.proofs.audit.write_review.Goals as goal
 
 pub returns-in-Ok-clause-written : goal.returns-in-Ok-clause-written
-returns-in-Ok-clause-written g c s is =
+returns-in-Ok-clause-written g c s same is =
     let e = c.in-Ok.ensures in (
-      text_written (reviewed c.args.commands.now) _ c.write_text.result _ _ (e.text ∙ ap Ok (sym c.deref.ensures.value)) c.write_text.ensures.ok c.write_text.ensures.err,
-      audit_holds c.write_text.result s c.args.commands.now (e.shares s is, e.within s is),
+      text_written (reviewed c.args.limit c.args.commands.now) _ c.write_text.result _ _ (e.text ∙ ap Ok (sym c.deref.ensures.value)) c.write_text.ensures.ok c.write_text.ensures.err,
+      audit_holds c.write_text.result s c.args.commands.now (subst (λ (limit : ℕ). AuditAlong limit s c.args.commands.now) (sym same) (e.shares s is, e.within s is)),
     )
 
 pub returns-in-Ok-clause-no_disk : goal.returns-in-Ok-clause-no_disk
@@ -24,11 +24,11 @@ pub returns-in-Ok-clause-no_source : goal.returns-in-Ok-clause-no_source
 returns-in-Ok-clause-no_source g c = by_sink _ c.write_text.result ReadFault c.write_text.ensures.err (λ e. cc)
 
 pub returns-in-Err-clause-written : goal.returns-in-Err-clause-written
-returns-in-Err-clause-written g c s is =
+returns-in-Err-clause-written g c s same is =
     let held = g.K.Sink.held c.args.out.now in
     let commands = c.args.commands.now in
-    subst (λ (halt : Halt). WritesText (reviewed commands) (Err halt) held held × AuditHolds (Err halt) s commands) (sym c.halt_on.ensures)
-    (not_reviewed commands s c.args.side c.in-Err.fault held is c.in-Err.ensures.fault, tt)
+    subst (λ (halt : Halt). WritesText (reviewed c.args.limit commands) (Err halt) held held × AuditHolds (Err halt) s commands) (sym c.halt_on.ensures)
+    (not_reviewed c.args.limit commands s c.args.side c.in-Err.fault held is c.in-Err.ensures.fault, tt)
 
 pub returns-in-Err-clause-no_disk : goal.returns-in-Err-clause-no_disk
 returns-in-Err-clause-no_disk g c is = (no_fault c.args.side c.in-Err.fault).0 (sym c.halt_on.ensures ∙ cc)

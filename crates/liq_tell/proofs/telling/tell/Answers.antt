@@ -1,6 +1,6 @@
-use Rattle.std.proofs.Common.{◌≡◌, refl, Ok, List, sym, subst, ap, ◌∙◌}
+use Rattle.std.proofs.Common.{◌≡◌, refl, Ok, ℕ, List, sym, subst, ap, ◌∙◌}
 use Rattle.liq_types.specs.declared.requests.Command.{Command}
-use Rattle.liq_types.specs.State.{opening}
+use Rattle.liq_types.specs.State.{opening_with}
 use Rattle.liq_pairs.specs.Pair.{commands_on}
 use Rattle.liq_pairs.specs.Replay.{replay}
 use Rattle.liq_ends.specs.declared.ending.Ending.{Ending}
@@ -44,7 +44,9 @@ returns-clause-told g c l r told_l told_r start is =
     (c.in-Ok.ensures.left_telling.1 (is_some_of (seen c.args.left) l told_l)) (c.in-Ok.ensures.right_telling.1 (is_some_of (seen c.args.right) r told_r)) in
     let taken = taken_tells seen store.side c.args.left c.args.right store.left store.right c.in-Ok.ensures.left_telling c.in-Ok.ensures.right_telling l r told_l told_r in
     let holds = opened.commands l r taken.0 told_l told_r taken.1 in
-    let leads : start.generation ≡ 1 → replay 1 opening holds.written.commands ≡ Ok start = λ one. ap (replay 1 opening) holds.are ∙ c.commands_lead_to_the_state.ensures l r start is one in
+    let limit_is = c.journals_keep_their_limit.ensures.pair l r start is in
+    let leads : start.generation ≡ 1 → replay 1 (opening_with start.limit) holds.written.commands ≡ Ok start =
+    λ one. ap (replay 1 (opening_with start.limit)) holds.are ∙ ap (λ (limit : ℕ). replay 1 (opening_with limit) (commands_on l r)) limit_is ∙ c.commands_lead_to_the_state.ensures.first l r start is one in
     let written = wrote.ensures.written taken.0 holds.written start taken.1 holds.found stands from_one leads in
     let so = subst (λ (commands : List Command). WritesTold what start commands end (held c.args.out.now) (held wrote.new.out)) holds.are written in (
       so,
