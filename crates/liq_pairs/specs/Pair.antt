@@ -64,7 +64,7 @@ abbrev pub journal_commands : Option Written → List Command
 journal_commands None = []
 journal_commands (Some w) = w.commands
 
--- the limit in its header; where there is no journal, that of the one which is begun
+-- the limit of its version; where there is no journal, that of the one which is begun
 abbrev pub journal_limit : Option Written → ℕ
 journal_limit None = LIM
 journal_limit (Some w) = w.limit

@@ -19,7 +19,7 @@ use Rattle.liq_journal.specs.Written.{Written}
 abbrev pub bad_checkpoint : Written → ℕ → Result State Damage
 bad_checkpoint w place = Err (record { index = 0; what = what.Form (header_size (layout_with w.limit) + place) })
 
--- the image of this journal's generation, and of the limit in its header
+-- the image is of this journal's generation, and of the limit of its version
 abbrev pub is_image_of : Written → Image → Bool
 is_image_of w i = i.generation == w.generation && i.limit == w.limit
 
@@ -33,7 +33,7 @@ abbrev pub read_base : Written → Result Image ℕ → Result State Damage
 read_base w (Err place) = bad_checkpoint w place
 read_base w (Ok i) = sound_base w i (first_unsound i 0)
 
--- The state with which a journal begins: the first generation with the opening under the limit in its header, each
+-- The state with which a journal begins: the first generation with the opening under the limit of its version, each
 -- later one with the image in its checkpoint.
 unfoldable pub base_of : Written → Result State Damage
 base_of w =

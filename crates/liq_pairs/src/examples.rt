@@ -40,7 +40,7 @@ pub fn generations_example()
     ensures right_commands { (cs ds : List Command) → journal_commands (pair_journal (open_with 1 cs) (open_with 2 ds)) ≡ ds }
 {}
 
-/// The first generation begins with the opening under its header's limit. A later one has its damage at the place in the
+/// The first generation begins with the opening under the limit of its version. A later one has its damage at the place in the
 /// disk where its checkpoint is none: at the checkpoint's first byte where there is no name, and behind the name where
 /// nothing follows. The header of version 1 is shorter by 8 bytes.
 pub fn checkpoints_example()
@@ -72,7 +72,8 @@ pub fn whole_checkpoints_example()
 /// under the lesser limit, which a rotation leaves behind.
 pub fn rotation_example()
     ensures rotated { IsRotationOf opening (beginning 2 (spelling (image (after opening rotate)))) rotate }
-    ensures from_version_1 { IsRotationOf (opening_with LIM_OF_VERSION_1) (beginning 2 (spelling (image (after opening rotate)))) rotate }
+    ensures from_version_1 { IsRotationOf (opening_with LIM_OF_VERSION_1)
+        (beginning 2 (spelling (image (after opening rotate)))) rotate }
 {}
 
 /// An accepted command; one that comes again, as the second record; one that is out of turn, as the first; and one that is

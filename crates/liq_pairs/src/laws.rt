@@ -34,7 +34,7 @@ pub fn states_on_disks_are_well_formed()
     ensures { (l r : List ℕ) → (s : State) → state_on l r ≡ Ok s → IsWellFormed s }
 {}
 
-/// The state with which a journal begins is well formed, of the journal's generation and of the limit in its header. The
+/// The state with which a journal begins is well formed, of the journal's generation and of the limit of its version. The
 /// first generation begins with the opening under this limit, so its outcome is the replay from there.
 pub fn journals_begin_with_their_generation()
     ensures formed { (w : Written) → (s : State) → base_of w ≡ Ok s → IsWellFormed s }
@@ -55,7 +55,7 @@ pub fn generations_have_their_sides()
     ensures from_one { (side : Side) → (l r : List ℕ) → (s : State) → IsSettledFor side l r s → 1 ≤ s.generation }
 {}
 
-/// An open journal leads to a state of the limit in its header, which is one of two: no record changes it. So it is with
+/// An open journal leads to a state of the limit of its version, which is one of two: no record changes it. So it is with
 /// two disks, and their state has the limit of the journal that counts.
 pub fn journals_keep_their_limit()
     ensures state { (odd : Bool) → (bytes : List ℕ) → (w : Written) → (s : State) → found_on odd bytes ≡ Open w

@@ -1,7 +1,5 @@
 -- The state with which a journal begins, by its generation and what its checkpoint is read as.
 use Rattle.std.proofs.Common.{◌≡◌, ◌∙◌, ◌==◌, ◌&&◌, ◌+◌, ℕ, List, length, Some, None, Bool, true, false, Result, Ok, Err, if◌then◌else◌, refl, sym, ap, subst, arith}
-use Rattle.std.proofs.lemmas.Bool.{and_left, and_right}
-use Rattle.std.proofs.lemmas.Bool.Decides.{nat_tests}
 use Rattle.liq_types.specs.declared.image.Image.{Image}
 use Rattle.liq_types.specs.Soundness.{first_unsound}
 use Rattle.liq_types.specs.State.{State, started}
@@ -16,9 +14,6 @@ use Rattle.liq_pairs.proofs.Basing.{base_later}
 use Rattle.liq_store.specs.declared.answers.AcceptedFault.{AcceptedFault}
 use Rattle.liq_store.specs.declared.answers.AcceptedFault.TheVariants.{Damaged}
 use Rattle.liq_store.specs.Replays.{BeginsTo}
-
-unequal : (n m : ℕ) → (n ≡ m → ⊥) → (n == m) ≡ false
-unequal n m isnt = grind (arith, nat_tests)
 
 -- a later generation than the first
 pub begins_later : (w : Written) (generation : ℕ) (checkpoint : List ℕ) (read : Result Image ℕ) (result : Result Core AcceptedFault) → (generation ≡ 1 → ⊥) → w.generation ≡ generation → w.checkpoint ≡ checkpoint
@@ -45,15 +40,17 @@ begins_badly w limit place base why bad same is =
 pub unsound_base : (w : Written) (rule : ℕ) (i : Image) → first_unsound i 0 ≡ Some rule → read_base w (Ok i) ≡ bad_checkpoint w 0
 unsound_base w rule i is = ap (sound_base w i) is
 
-foreign_base : (w : Written) (i : Image) → first_unsound i 0 ≡ None → is_image_of w i ≡ false → read_base w (Ok i) ≡ bad_checkpoint w 0
+-- of another generation, or of another limit
+pub foreign_base : (w : Written) (i : Image) → first_unsound i 0 ≡ None → is_image_of w i ≡ false → read_base w (Ok i) ≡ bad_checkpoint w 0
 foreign_base w i sound isnt =
     ap (sound_base w i) sound ∙ ap (λ (b : Bool). if b then Ok (started i) else bad_checkpoint w 0) isnt
 
--- of another generation, or of another limit
-pub other_generation : (w : Written) (i : Image) → first_unsound i 0 ≡ None → (i.generation ≡ w.generation → ⊥) → read_base w (Ok i) ≡ bad_checkpoint w 0
-other_generation w i sound isnt =
-    foreign_base w i sound (and_left (i.generation == w.generation) (i.limit == w.limit) (unequal i.generation w.generation isnt))
+pub own_base : (w : Written) (i : Image) → first_unsound i 0 ≡ None → is_image_of w i ≡ true → read_base w (Ok i) ≡ Ok (started i)
+own_base w i sound is =
+    ap (sound_base w i) sound ∙ ap (λ (b : Bool). if b then Ok (started i) else bad_checkpoint w 0) is
 
-pub other_limit : (w : Written) (i : Image) → first_unsound i 0 ≡ None → (i.limit ≡ w.limit → ⊥) → read_base w (Ok i) ≡ bad_checkpoint w 0
-other_limit w i sound isnt =
-    foreign_base w i sound (and_right (i.generation == w.generation) (i.limit == w.limit) (unequal i.limit w.limit isnt))
+-- what was tested of a protocol is so of the image with which it begins
+pub tested_image : (w : Written) (i begun : Image) (generation limit : ℕ) → w.generation ≡ generation → w.limit ≡ limit → begun ≡ i
+    → is_image_of w i ≡ (begun.generation == generation && begun.limit == limit)
+tested_image w i begun generation limit same same_limit is =
+    let back = sym is in λ k. (back k).generation == same k && (back k).limit == same_limit k

@@ -1,5 +1,5 @@
 // What a journal begins with: the first one with the opening under its limit, each later one with its checkpoint.
-ghost use Rattle.std.specs.Prelude.{◌≡◌, ◌≢◌, ◌+◌, ◌<◌, ◌^◌, Ok, Err, IfOk};
+ghost use Rattle.std.specs.Prelude.{◌≡◌, ◌≢◌, ◌+◌, ◌<◌, ◌^◌, ◌==◌, ◌&&◌, Ok, Err, IfOk};
 ghost use Rattle.liq_types.specs.Image.{IsLimit};
 ghost use Rattle.liq_types.specs.Soundness.{HasTables};
 ghost use Rattle.liq_journal.specs.Layout.{header_size, layout_with};
@@ -51,6 +51,13 @@ pub fn base(
     }
 }
 
+// Whether the protocol is of this generation and of this limit.
+fn is_of(protocol: &Protocol, generation: u64, limit: u64) -> bool
+    ensures { result ≡ (protocol.now.image.generation == generation && protocol.now.image.limit == limit) }
+{
+    protocol.generation() == generation && protocol.limit() == limit
+}
+
 // The protocol of a checkpoint's image, which has to be that of this generation and this limit.
 fn begun(alloc: Global, generation: u64, limit: u64, image: Image) -> Result<Guided, AcceptedFault>
     requires tables { HasTables image }
@@ -66,10 +73,7 @@ fn begun(alloc: Global, generation: u64, limit: u64, image: Image) -> Result<Gui
         Err(ImageFault::NoMemory) => return Err(AcceptedFault::NoMemory),
     };
     protocols_are_sound(&protocol);
-    if protocol.generation() != generation {
-        return Err(misshapen(limit, 0));
-    }
-    if protocol.limit() != limit {
+    if !is_of(&protocol, generation, limit) {
         return Err(misshapen(limit, 0));
     }
     match Guided::of(alloc, protocol) {

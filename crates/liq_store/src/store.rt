@@ -102,6 +102,9 @@ impl<D: Disk> Store<D> {
     /// Opens the store of two disks. Each begins with a sync and is tested whole, and the byte behind the records of an open one is
     /// shut; then the records of the one that is taken are replayed. Where neither is open, generation 1 is created on the left one.
     ///
+    /// A journal of version 1 goes on in its own layout and under its own limit, until a rotation begins the next generation
+    /// under the greater one.
+    ///
     /// `DiskFault` comes exactly where a disk's count rose. `Damaged` has the first damage, the left disk's coming first: nothing is
     /// opened then, and the damage stays. The changes then tell the list to whoever has seen nothing.
     pub fn open(alloc: Global, left: D, right: D) -> Result<Store<D>, StoreFault<D>>
