@@ -1,10 +1,10 @@
 -- Bytes that were taken from a source and are unread.
-use Rattle.std.proofs.Common.{Result, Ok, Option, Some, ◌≡◌, ◌≢◌, ℕ, ◌+◌, ◌-◌, ◌<◌, ◌≤◌, List, [], ◌∷◌, ◌++◌, length, get_or, take, drop, suc, zero, refl, ap, sym, subst, ◌∙◌, arith}
+use Rattle.std.proofs.Common.{Result, Ok, Option, Some, ◌≡◌, ◌≢◌, ℕ, ◌+◌, ◌-◌, ◌<◌, ◌≤◌, List, [], ◌∷◌, ◌++◌, length, get_or, take, drop, suc, zero, refl, ap, sym, subst, ◌∙◌, arith, length-append}
 use Rattle.std.specs.Prelude.{Contains}
 use Rattle.std.specs.List.{slice_range}
 use Rattle.std.proofs.lemmas.List.{drop-take, drop-drop, length-take}
 use Rattle.liq_types.specs.declared.amounts.TheConstants.{LINE_BYTES}
-use Rattle.liq_lines.specs.Lines.{IsWithinLine}
+use Rattle.liq_lines.specs.Lines.{IsWithinLine, IsWholeLine}
 use Rattle.liq_outside.specs.declared.failed.Failed.{Failed}
 
 pub contained_some : (xs : List ℕ) (x : ℕ) → Contains xs x → (first : ℕ) × (rest : List ℕ) × (xs ≡ first ∷ rest)
@@ -30,12 +30,19 @@ range_rest xs start n end within =
     let rest : end - start ≡ n + (end - (start + n)) = omega (arith, within) in
     ap (λ (m : ℕ). drop n (take m (drop start xs))) rest ∙ drop-take n (end - (start + n)) (drop start xs) ∙ ap (λ (t : List ℕ). take (end - (start + n)) t) (drop-drop n start xs)
 
--- a line that stands whole in a range
-pub line_taken : (old chunk held line : List ℕ) (start at end : ℕ) → old ≡ slice_range chunk start end → held ≡ slice_range chunk start end → start ≤ end → at < length held → IsWithinLine (take at held) → held ≡ take at held ++ 10 ∷ drop (at + 1) held → line ≡ take at held → at ≤ LINE_BYTES → (old ≡ line ++ 10 ∷ slice_range chunk (start + (at + 1)) end) × IsWithinLine line × (length line ≤ LINE_BYTES)
-line_taken old chunk held line start at end old_is held_is ordered inside within split line_is few =
-    let fits : start + (at + 1) ≤ end = omega (arith, ordered, inside, ap length held_is, length-take (end - start) (drop start chunk)) in
-    let rest : drop (at + 1) held ≡ slice_range chunk (start + (at + 1)) end = ap (λ (t : List ℕ). drop (at + 1) t) held_is ∙ range_rest chunk start (at + 1) end fits in (
-      old_is ∙ sym held_is ∙ split ∙ ap (λ (t : List ℕ). take at held ++ 10 ∷ t) rest ∙ ap (λ (t : List ℕ). t ++ 10 ∷ slice_range chunk (start + (at + 1)) end) (sym line_is),
-      subst IsWithinLine (sym line_is) within,
-      omega (arith, ap length line_is, length-take at held, few),
-    )
+-- what stands behind a line that is passed
+pub passed : (old chunk : List ℕ) (start size end : ℕ) → old ≡ slice_range chunk start end → start ≤ end → IsWholeLine size old → old ≡ take size old ++ 10 ∷ slice_range chunk (start + (size + 1)) end
+passed old chunk start size end old_is ordered whole =
+    let fits : start + (size + 1) ≤ end = omega (arith, ordered, ap length old_is, length-take (end - start) (drop start chunk), ap length whole.2, length-append (take size old) (10 ∷ drop (size + 1) old), length-take size old) in
+    whole.2 ∙ ap (λ (t : List ℕ). take size old ++ 10 ∷ t) (ap (λ (t : List ℕ). drop (size + 1) t) old_is ∙ range_rest chunk start (size + 1) end fits)
+
+-- no line end stands before the first one
+none_before : (front rest : List ℕ) (at : ℕ) → IsWithinLine (take at (front ++ 10 ∷ rest)) → length front < at → ⊥
+none_before front rest zero within before = omega (arith, before)
+none_before [] rest (suc at) within before = within.0 refl
+none_before (byte ∷ front) rest (suc at) within before = none_before front rest at within.1 (omega (arith, before))
+
+-- where the first line end stands too far behind, no line stands whole in front
+pub none_whole : (bytes : List ℕ) (at size : ℕ) → IsWithinLine (take at bytes) → LINE_BYTES < at → IsWholeLine size bytes → ⊥
+none_whole bytes at size within far whole =
+    none_before (take size bytes) (drop (size + 1) bytes) at (subst (λ (t : List ℕ). IsWithinLine (take at t)) whole.2 within) (omega (arith, far, whole.0, length-take size bytes))

@@ -1,6 +1,6 @@
 -- The lines of a text.
 use Rattle.std.specs.Prelude.{ℕ, ◌≡◌, ◌≢◌, ◌≤◌, ◌==◌, if◌then◌else◌}
-use Rattle.std.specs.Prelude.{List, [], ◌∷◌, ◌++◌, length}
+use Rattle.std.specs.Prelude.{List, [], ◌∷◌, ◌++◌, ◌+◌, length, take, drop}
 use Rattle.std.specs.List.{flat_map, onto_first, AllByRecursion}
 use Rattle.liq_types.specs.declared.amounts.TheConstants.{LINE_BYTES, LINES_MOST}
 
@@ -16,6 +16,12 @@ ended lines = flat_map (λ line. line ++ 10 ∷ []) lines
 -- no line end stands in it
 abbrev pub IsWithinLine : List ℕ → Type 0
 IsWithinLine bytes = AllByRecursion (λ byte. byte ≢ 10) bytes
+
+-- the first line of these bytes has this length and is no longer than a line may be, and its line end stands behind it
+abbrev pub IsWholeLine : ℕ → List ℕ → Type 0
+IsWholeLine size bytes =
+    (size ≤ LINE_BYTES) × IsWithinLine (take size bytes)
+    × (bytes ≡ take size bytes ++ 10 ∷ drop (size + 1) bytes)
 
 -- What was given of the line behind so many others: it has no line end, and is no longer than a line may be. Behind the
 -- last line that is answered there is none of it.

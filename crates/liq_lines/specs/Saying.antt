@@ -1,6 +1,6 @@
 -- What the lines of a text say, and where reading them stops. Which line says what is a relation: of lines and
 -- requests, or of lines and what they ask in a session.
-use Rattle.std.specs.Prelude.{ℕ, ◌≡◌, ◌≤◌, ◌+◌, List, [], ◌∷◌, ◌++◌, length, Option, Some}
+use Rattle.std.specs.Prelude.{ℕ, ◌≡◌, ◌≤◌, ◌+◌, List, ◌∷◌, ◌++◌, length, Option, Some}
 use Rattle.std.specs.List.{AllZip}
 use Rattle.liq_types.specs.declared.amounts.TheConstants.{LINES_MOST}
 use Rattle.liq_lines.specs.declared.stops.Stop.{Stop}

@@ -1,8 +1,8 @@
 //! Reading lines from chunks that the source gives: at once where one stands whole in a chunk, else byte by byte.
 
-ghost use Rattle.std.specs.Prelude.{◌≡◌, ◌≤◌, ◌<◌, ◌+◌, ◌∷◌, [], Contains, ◌↔◌, IsTrue, IsFalse, ◌++◌, take, drop, OnOk, OnErr, IfOk, IsOk, Ok, Some, List, ℕ, IfSome, MatchOption, length, vec_len, vec_capacity};
+ghost use Rattle.std.specs.Prelude.{◌≡◌, ◌≤◌, ◌<◌, ◌+◌, ◌∷◌, [], Contains, ◌↔◌, IsTrue, IsFalse, ◌++◌, take, drop, OnOk, OnErr, IfOk, IsOk, Ok, Some, None, List, ℕ, IfSome, MatchOption, length, vec_len, vec_capacity};
 ghost use Rattle.liq_outside.specs.Faults.{HasCause};
-ghost use Rattle.liq_lines.specs.Lines.{IsWithinLine};
+ghost use Rattle.liq_lines.specs.Lines.{IsWithinLine, IsWholeLine};
 ghost use Rattle.liq_lines.specs.Reading.{unread, Reads, ReadsAtMost, ReadsLine, IsOver, IsEndOfInput};
 
 use liq_outside::{Failed, Source};
@@ -140,23 +140,50 @@ impl Reader {
         self.read_line(input, line)
     }
 
+    /// How long the next line is, where it was taken from the source to its line end and is no longer than a line may be.
+    pub fn whole_line(&self) -> Option<usize>
+        ensures line { IfSome result (λ size. IsWholeLine size self.now) }
+        ensures none { result ≡ None → (size : ℕ) → IsWholeLine size self.now → ⊥ }
+    {
+        match line_end_in(&self.chunk[self.start..self.end]) {
+            Some(at) if at <= LINE_BYTES => Some(at),
+            _ => None,
+        }
+    }
+
+    /// The line of this length that stands whole in front of what is unread, without its line end.
+    pub fn line(&self, size: usize) -> &[u8]
+        requires { IsWholeLine size self.now }
+        ensures { result.now ≡ take size self.now }
+    {
+        &self.chunk[self.start..self.start + size]
+    }
+
+    /// Passes the line of this length and its line end.
+    pub fn pass(&mut self, size: usize)
+        requires { IsWholeLine size self.old }
+        ensures rest { self.old ≡ take size self.old ++ LINE_END ∷ self.new }
+        ensures held { length self.new ≤ READ_BYTES }
+    {
+        self.start += size + 1;
+    }
+
     /// Takes the next line whole, where it was taken from the source to its line end and is no longer than a line may be.
     fn take_line(&mut self, line: &mut Vec<u8>) -> bool
         requires { LINE_BYTES ≤ vec_capacity line.old }
         ensures taken { IsTrue result → (self.old ≡ line.new.items ++ LINE_END ∷ self.new) × IsWithinLine line.new.items
             × (length line.new.items ≤ LINE_BYTES) }
-        ensures held { length self.old ≤ READ_BYTES }
+        ensures held { IsTrue result → length self.new ≤ READ_BYTES }
         ensures left { IsFalse result → self.new ≡ self.old }
         ensures capacity { vec_capacity line.new ≡ vec_capacity line.old }
     {
-        let held = &self.chunk[self.start..self.end];
-        match line_end_in(held) {
-            Some(at) if at <= LINE_BYTES => {
-                put(line, &held[..at]);
-                self.start += at + 1;
+        match self.whole_line() {
+            Some(size) => {
+                put(line, self.line(size));
+                self.pass(size);
                 true
             }
-            _ => false,
+            None => false,
         }
     }
 
@@ -188,8 +215,9 @@ impl Reader {
 
 /// Where the first line end stands.
 fn line_end_in(bytes: &[u8]) -> Option<usize>
-    ensures { IfSome result (λ at. (at < length bytes.now) × IsWithinLine (take at bytes.now)
+    ensures first { IfSome result (λ at. (at < length bytes.now) × IsWithinLine (take at bytes.now)
         × (bytes.now ≡ take at bytes.now ++ LINE_END ∷ drop (at + 1) bytes.now)) }
+    ensures none { result ≡ None → IsWithinLine bytes.now }
 {
     bytes.iter().position(|byte| *byte == LINE_END)
 }

@@ -1,6 +1,5 @@
 -- Lines that are no requests.
-use Rattle.std.proofs.Common.{◌≡◌, ℕ, ◌≤◌, List, ◌∷◌, ◌++◌, length, true, false, Ok, Result, Option, Some, None, [], append_assoc, append-nil, subst, ◌∙◌, ap, arith, length-append}
-use Rattle.liq_types.specs.declared.requests.Request.{Request}
+use Rattle.std.proofs.Common.{◌≡◌, ℕ, ◌≤◌, List, ◌∷◌, ◌++◌, length, Option, Some, None, [], append_assoc, append-nil, ◌∙◌, ap, arith, length-append}
 use Rattle.liq_types.specs.declared.amounts.TheConstants.{LINE_BYTES}
 use Rattle.liq_text.proofs.LineLengths.{request_short}
 use Rattle.liq_lines.specs.Lines.{lines_in, IsWithinLine}

@@ -7,4 +7,5 @@ mod Last
 mod Leaving
 mod Progressing
 mod Residual
+mod Taking
 mod Turning

@@ -1,16 +1,31 @@
 //! One request after another, as the store answers them.
 
-ghost use Rattle.std.specs.Prelude.{◌≡◌, ◌≢◌, [], Some, None, Err, List, ℕ};
+ghost use Rattle.std.specs.Prelude.{◌≡◌, ◌≢◌, ◌≤◌, ◌<◌, ◌+◌, ◌++◌, [], Some, None, Err, List, ℕ, vec_len, vec_capacity};
+ghost use Rattle.liq_types.specs.declared.requests.Request.TheVariants.{Ask};
+ghost use Rattle.liq_rules.specs.Step.{step};
+ghost use Rattle.liq_text.specs.Replies.{reply_line};
 ghost use Rattle.liq_types.specs.State.{State};
 ghost use Rattle.liq_core.specs.Core.{StandsFor};
 ghost use Rattle.liq_ends.specs.Causes.{DiskCause};
 ghost use Rattle.liq_run.specs.Calls.{Calls, IsCommand, IsStopped, KeepsAround};
 
+use crate::waiting::keep;
 use liq_core::laws::protocols_stand;
 use liq_ends::Halt;
 use liq_outside::Disk;
 use liq_store::Store;
-use liq_types::{Answer, Hint, Reply, Request};
+use liq_types::amounts::REPLY_BYTES;
+use liq_types::{Answer, Hint, Query, Reply, Request};
+
+/// Puts the reply to a query behind those that wait. The store is not called for it: so nothing is cleared or moved that a
+/// command's plan has room for.
+pub fn tell<D: Disk>(store: &Store<D>, query: &Query, waiting: &mut Vec<u8>)
+    requires { vec_len waiting.old + REPLY_BYTES < vec_capacity waiting.old }
+    ensures line { (s : State) → StandsFor store.now.core s → waiting.new.items ≡ waiting.old.items ++ reply_line (step s (Ask query.now)).1 }
+    ensures capacity { vec_capacity waiting.old ≤ vec_capacity waiting.new }
+{
+    keep(&store.protocol().query(query), waiting);
+}
 
 /// Makes the request's step, and gives its reply.
 pub fn call<D: Disk>(store: &mut Store<D>, request: &Request) -> Result<Reply, Halt>

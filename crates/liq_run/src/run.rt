@@ -1,6 +1,6 @@
 //! The word `run`: a store over two disks, and the lines that it is asked and answers.
 
-ghost use Rattle.std.specs.Prelude.{Contains, length, Err, Option, Some, None, ◌≡◌, ◌≢◌, IsTrue, ◌≤◌, ◌<◌, ◌+◌, [], ℕ, List, Ok, OnOk, OnErr, IfOk, IfErr, vec_capacity};
+ghost use Rattle.std.specs.Prelude.{length, Err, Option, Some, None, ◌≡◌, ◌≢◌, IsTrue, ◌≤◌, ◌<◌, ◌+◌, [], ℕ, List, Ok, OnOk, OnErr, IfOk, IfErr, IfSome, IsSome, vec_capacity};
 ghost use Rattle.liq_types.specs.State.{State};
 ghost use Rattle.liq_types.specs.declared.amounts.TheConstants.{LINE_BYTES, LINES_MOST};
 ghost use Rattle.liq_run.specs.declared.waiting.TheConstants.{WAITING_MOST};
@@ -14,14 +14,15 @@ ghost use Rattle.liq_store.specs.Causes.{Faults, counts_of};
 ghost use Rattle.liq_store.specs.Opening.{IsNotOpened, OpensOn};
 ghost use Rattle.liq_store.specs.Keeping.{IsInOrder};
 ghost use Rattle.liq_lines.specs.declared.reader.TheConstants.{READ_BYTES};
+ghost use Rattle.liq_lines.specs.Lines.{IsWholeLine};
 ghost use Rattle.liq_lines.specs.Reading.{unread, ReadsAtMost, taken_most, ReadsFew};
 ghost use Rattle.liq_ends.specs.Causes.{DiskCause, ReadCause, WriteCause};
 ghost use Rattle.liq_ends.specs.Disks.{EndsDamaged};
 
-use crate::calls::call;
+use crate::calls::{call, tell};
 use crate::waiting::{WAITING_MOST, catch_up, flush, keep, make_way};
 use liq_ends::{Ending, Halt, unopened};
-use liq_lines::{LINE_END, LineEnd, Reader};
+use liq_lines::{LineEnd, Reader};
 use liq_outside::{Disk, Failed, Sink, Source};
 use liq_store::{Store, StoreFault, StoreWhy};
 use liq_text::read_line;
@@ -40,8 +41,48 @@ enum Next {
     End,
 }
 
-/// Reads the next line's request. Behind a bad line nothing is read.
+/// Reads the next line's request: of this size where it was taken whole already. Behind a bad line nothing is read.
 fn next_request<S: Source>(
+    reader: &mut Reader,
+    whole: Option<usize>,
+    line: &mut Vec<u8>,
+    input: &mut S,
+    number: u64,
+) -> Result<Next, Halt>
+    requires room { LINE_BYTES ≤ vec_capacity line.old }
+    requires whole { IfSome whole (λ size. IsWholeLine size reader.old) }
+    ensures request { ReadsRequest (unread reader.old (S.left input.old)) (unread reader.new (S.left input.new)) reader.new number result }
+    ensures few { ReadsAtMost (LINE_BYTES + 1) (unread reader.old (S.left input.old)) (unread reader.new (S.left input.new)) }
+    ensures held { length reader.new ≤ READ_BYTES }
+    // Where the line was taken already, nothing is read.
+    ensures taken { IsSome whole → result ≢ Err Halt.ReadFault }
+    ensures capacity { vec_capacity line.new ≡ vec_capacity line.old }
+    ensures cause { ReadCause result (S.faults input.old) (S.faults input.new) }
+{
+    match whole {
+        Some(size) => taken_request(reader, size, number),
+        None => read_request(reader, line, input, number),
+    }
+}
+
+/// The request on the line of this size, which was taken whole.
+fn taken_request(reader: &mut Reader, size: usize, number: u64) -> Result<Next, Halt>
+    requires { IsWholeLine size reader.old }
+    ensures request { (left : Option (List ℕ)) → ReadsRequest (unread reader.old left) (unread reader.new left) reader.new number result }
+    ensures few { (left : Option (List ℕ)) → ReadsAtMost (LINE_BYTES + 1) (unread reader.old left) (unread reader.new left) }
+    ensures held { length reader.new ≤ READ_BYTES }
+    ensures taken { result ≢ Err Halt.ReadFault }
+{
+    let request = request_on(reader.line(size), number);
+    reader.pass(size);
+    match request {
+        Ok(request) => Ok(Next::Line(request)),
+        Err(halt) => Err(halt),
+    }
+}
+
+/// The same of a line that was not taken whole.
+fn read_request<S: Source>(
     reader: &mut Reader,
     line: &mut Vec<u8>,
     input: &mut S,
@@ -51,8 +92,6 @@ fn next_request<S: Source>(
     ensures request { ReadsRequest (unread reader.old (S.left input.old)) (unread reader.new (S.left input.new)) reader.new number result }
     ensures few { ReadsAtMost (LINE_BYTES + 1) (unread reader.old (S.left input.old)) (unread reader.new (S.left input.new)) }
     ensures held { length reader.new ≤ READ_BYTES }
-    // Where the line was taken already, nothing is read.
-    ensures taken { Contains reader.old LINE_END → result ≢ Err Halt.ReadFault }
     ensures capacity { vec_capacity line.new ≡ vec_capacity line.old }
     ensures cause { ReadCause result (S.faults input.old) (S.faults input.new) }
 {
@@ -268,8 +307,9 @@ impl<D: Disk> Run<D> {
         ensures stopped { IsStopped result self.new.store.stopped }
         ensures disks { DiskCause result (counts_of D.faults self.old.store.left self.old.store.right) (counts_of D.faults self.new.store.left self.new.store.right) }
     {
-        catch_up(&self.reader, &mut self.waiting, out)?;
-        match next_request(&mut self.reader, &mut self.line, input, answered + 1)? {
+        let whole = self.reader.whole_line();
+        catch_up(whole, &mut self.waiting, out)?;
+        match next_request(&mut self.reader, whole, &mut self.line, input, answered + 1)? {
             Next::End => Ok(false),
             Next::Line(request) => {
                 self.answer(&request, out)?;
@@ -297,8 +337,16 @@ impl<D: Disk> Run<D> {
         ensures disks { DiskCause result (counts_of D.faults self.old.store.left self.old.store.right) (counts_of D.faults self.new.store.left self.new.store.right) }
     {
         make_way(request, &mut self.waiting, out)?;
-        let reply = call(&mut self.store, request)?;
-        keep(&reply, &mut self.waiting);
-        Ok(())
+        match request {
+            Request::Ask(query) => {
+                tell(&self.store, query, &mut self.waiting);
+                Ok(())
+            }
+            Request::Do(_) => {
+                let reply = call(&mut self.store, request)?;
+                keep(&reply, &mut self.waiting);
+                Ok(())
+            }
+        }
     }
 }

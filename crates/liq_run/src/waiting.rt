@@ -1,13 +1,13 @@
 //! Replies that wait to be written.
 
-ghost use Rattle.std.specs.Prelude.{◌≡◌, ◌≤◌, ◌<◌, ◌+◌, ◌++◌, ◌⊎◌, [], Contains, OnOk, vec_len, vec_capacity};
+ghost use Rattle.std.specs.Prelude.{◌≡◌, ◌≤◌, ◌<◌, ◌+◌, ◌++◌, ◌⊎◌, [], IsSome, OnOk, vec_len, vec_capacity};
 ghost use Rattle.liq_ends.specs.Causes.{WriteCause};
 ghost use Rattle.liq_run.specs.Calls.{IsCommand};
 ghost use Rattle.liq_run.specs.Writing.{WritesFront};
 ghost use Rattle.liq_text.specs.Replies.{reply_line};
 
 use liq_ends::Halt;
-use liq_lines::{LINE_END, Reader, write_all};
+use liq_lines::{LINE_END, write_all};
 use liq_outside::{Failed, Sink};
 use liq_text::write_reply;
 use liq_types::amounts::REPLY_BYTES;
@@ -31,17 +31,21 @@ pub fn flush<K: Sink>(waiting: &mut Vec<u8>, out: &mut K) -> Result<(), Halt>
     }
 }
 
-/// Writes what waits, but where the next line was taken from the source already, so that the source is not read for it.
-pub fn catch_up<K: Sink>(reader: &Reader, waiting: &mut Vec<u8>, out: &mut K) -> Result<(), Halt>
+/// Writes what waits, but where the next line was taken from the source whole, so that the source is not read for it.
+pub fn catch_up<K: Sink>(
+    whole: Option<usize>,
+    waiting: &mut Vec<u8>,
+    out: &mut K,
+) -> Result<(), Halt>
     ensures written { WritesFront result waiting.old.items waiting.new.items (K.held out.old) (K.held out.new) }
-    ensures taken { OnOk result ((waiting.new.items ≡ []) ⊎ Contains reader.now LINE_END) }
+    ensures taken { OnOk result ((waiting.new.items ≡ []) ⊎ IsSome whole) }
     ensures capacity { vec_capacity waiting.new ≡ vec_capacity waiting.old }
     ensures cause { WriteCause result (K.faults out.old) (K.faults out.new) }
 {
-    if reader.has_line() {
-        return Ok(());
+    match whole {
+        Some(_) => Ok(()),
+        None => flush(waiting, out),
     }
-    flush(waiting, out)
 }
 
 /// Writes what waits where the request is a command, and where there is no room for another reply.

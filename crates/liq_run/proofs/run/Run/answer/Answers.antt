@@ -6,26 +6,26 @@ use Rattle.liq_ends.proofs.Causes.{write_same}
 use Rattle.liq_run.proofs.Residual.{handed_on, same_halt}
 use Rattle.liq_run.proofs.run.Run.answer.Goals as goal
 
-pub returns-in_err-reply-clause-other : goal.returns-in_err-reply-clause-other
-returns-in_err-reply-clause-other g c is =
-    let halt = c.in_err-reply.field-0.0 in
-    let same = same_halt c.from_residual-in_err-reply.result halt ReadFault (handed_on _ halt c.from_residual-in_err-reply.ensures.1) is in
-    c.in_err-reply.ensures.no_source (ap Err same)
+pub returns-in_err-reply-in-Do-clause-other : goal.returns-in_err-reply-in-Do-clause-other
+returns-in_err-reply-in-Do-clause-other g c is =
+    let halt = c.in_err-reply-in-Do.field-0.0 in
+    let same = same_halt c.from_residual-in_err-reply-in-Do.result halt ReadFault (handed_on _ halt c.from_residual-in_err-reply-in-Do.ensures.1) is in
+    c.in_err-reply-in-Do.ensures.no_source (ap Err same)
 
-pub returns-in_err-reply-clause-caught_up : goal.returns-in_err-reply-clause-caught_up
-returns-in_err-reply-clause-caught_up g c is =
-    let halt = c.in_err-reply.field-0.0 in
-    let same = same_halt c.from_residual-in_err-reply.result halt DiskFault (handed_on _ halt c.from_residual-in_err-reply.ensures.1) is in
-    c.in_ok-make_way.ensures.command (c.in_err-reply.ensures.command (ap Err same))
+pub returns-in_err-reply-in-Do-clause-caught_up : goal.returns-in_err-reply-in-Do-clause-caught_up
+returns-in_err-reply-in-Do-clause-caught_up g c is =
+    let halt = c.in_err-reply-in-Do.field-0.0 in
+    let same = same_halt c.from_residual-in_err-reply-in-Do.result halt DiskFault (handed_on _ halt c.from_residual-in_err-reply-in-Do.ensures.1) is in
+    c.in_ok-make_way.ensures.command (c.in_err-reply-in-Do.ensures.command (ap Err same))
 
-pub returns-in_err-reply-clause-kept : goal.returns-in_err-reply-clause-kept
-returns-in_err-reply-clause-kept g c is s stands =
-    let halt = c.in_err-reply.field-0.0 in
-    let same = same_halt c.from_residual-in_err-reply.result halt DiskFault (handed_on _ halt c.from_residual-in_err-reply.ensures.1) is in
-    c.in_err-reply.ensures.kept (ap Err same) s stands
+pub returns-in_err-reply-in-Do-clause-kept : goal.returns-in_err-reply-in-Do-clause-kept
+returns-in_err-reply-in-Do-clause-kept g c is s stands =
+    let halt = c.in_err-reply-in-Do.field-0.0 in
+    let same = same_halt c.from_residual-in_err-reply-in-Do.result halt DiskFault (handed_on _ halt c.from_residual-in_err-reply-in-Do.ensures.1) is in
+    c.in_err-reply-in-Do.ensures.kept (ap Err same) s stands
 
-pub returns-in_err-reply-clause-sink : goal.returns-in_err-reply-clause-sink
-returns-in_err-reply-clause-sink g c =
-    let halt = c.in_err-reply.field-0.0 in
-    subst (λ (end : Result (Unit {0}) Halt). WriteCause end (g.K.Sink.faults c.args.out.now) (g.K.Sink.faults c.make_way.new.out)) (sym (handed_on c.from_residual-in_err-reply.result halt c.from_residual-in_err-reply.ensures.1))
-    (write_same {T = Unit {0}} halt _ _ (λ e. c.in_err-reply.ensures.no_sink (ap Err (let failed : Result (Unit {0}) Halt = Err halt in same_halt failed halt WriteFault refl e))) c.in_ok-make_way.ensures.cause)
+pub returns-in_err-reply-in-Do-clause-sink : goal.returns-in_err-reply-in-Do-clause-sink
+returns-in_err-reply-in-Do-clause-sink g c =
+    let halt = c.in_err-reply-in-Do.field-0.0 in
+    subst (λ (end : Result (Unit {0}) Halt). WriteCause end (g.K.Sink.faults c.args.out.now) (g.K.Sink.faults c.make_way.new.out)) (sym (handed_on c.from_residual-in_err-reply-in-Do.result halt c.from_residual-in_err-reply-in-Do.ensures.1))
+    (write_same {T = Unit {0}} halt _ _ (λ e. c.in_err-reply-in-Do.ensures.no_sink (ap Err (let failed : Result (Unit {0}) Halt = Err halt in same_halt failed halt WriteFault refl e))) c.in_ok-make_way.ensures.cause)
