@@ -3,6 +3,7 @@
 use crate::tests::checks::shows;
 use crate::tests::commands::{commands_of, numbered};
 use liq_review::{ReviewFault, review};
+use liq_types::amounts::LIM;
 use std::alloc::{AllocError, Global};
 use std::test::Fail;
 
@@ -34,7 +35,7 @@ const STOPPED: [StoppedRow; 4] = [
 // Whether the review of these lines' commands stops so.
 fn stops(alloc: Global, lines: &str, index: u64, code: u8) -> Result<bool, Fail> {
     let commands = commands_of(alloc, lines)?;
-    Ok(match review(alloc, &commands) {
+    Ok(match review(alloc, LIM, &commands) {
         Err(
             ReviewFault::Refused {
                 index: at,
@@ -83,7 +84,7 @@ const REVIEWED: &str =
 fn offsets_reviewed(alloc: Global, count: u32) -> Result<(bool, bool), Fail> {
     let lines = numbered(alloc, &offsets(alloc, count)?)?;
     let commands = commands_of(alloc, &lines)?;
-    Ok(match review(alloc, &commands) {
+    Ok(match review(alloc, LIM, &commands) {
         Ok(text) => (text.as_slice() == REVIEWED.as_bytes(), false),
         Err(ReviewFault::Limit { number }) => (false, number == u128::from(count)),
         Err(_) => (false, false),
