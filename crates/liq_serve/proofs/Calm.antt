@@ -32,13 +32,13 @@ use Rattle.liq_serve.proofs.Telling.{audit_done, load_done, rotated_done, state_
 stopped_done :
     (end : Result (Unit {0}) Halt) (bytes : List ℕ) (left : Option (List ℕ)) (asked all : List (ℕ × Request)) → IsStopping end → ReadsTo Asks bytes left asked end → AllZip Asks (lines_in bytes) all → length all ≤ LINES_MOST
     → status_of end ≢ 3 → IsDone (status_of end)
-stopped_done end bytes left asked all (n, zero, within, is) h spelled few read =
+stopped_done end bytes left asked all (n, (zero, within, is)) h spelled few read =
     absurd (neither (λ e. cc) (λ e. cc) (stops_outside Asks (stop.BadLine n) bytes left asked all spelled few (subst (λ (e : Result (Unit {0}) Halt). ReadsTo Asks bytes left asked e) (sym is) h)))
-stopped_done end bytes left asked all (n, suc zero, within, is) h spelled few read = absurd (read (sym (ap status_of is)))
-stopped_done end bytes left asked all (n, suc (suc zero), within, is) h spelled few read = inr (sym (ap status_of is))
-stopped_done end bytes left asked all (n, suc (suc (suc zero)), within, is) h spelled few read =
+stopped_done end bytes left asked all (n, (suc zero, within, is)) h spelled few read = absurd (read (sym (ap status_of is)))
+stopped_done end bytes left asked all (n, (suc (suc zero), within, is)) h spelled few read = inr (sym (ap status_of is))
+stopped_done end bytes left asked all (n, (suc (suc (suc zero)), within, is)) h spelled few read =
     absurd (neither (λ e. cc) (λ e. cc) (stops_outside Asks stop.Limit bytes left asked all spelled few (subst (λ (e : Result (Unit {0}) Halt). ReadsTo Asks bytes left asked e) (sym is) h).1))
-stopped_done end bytes left asked all (n, suc (suc (suc (suc k))), within, is) h spelled few read = absurd (omega (arith, within))
+stopped_done end bytes left asked all (n, (suc (suc (suc (suc k))), within, is)) h spelled few read = absurd (omega (arith, within))
 
 unopened_done : (n : ℕ) → Contains (5 ∷ 6 ∷ 7 ∷ []) n → n ≢ 5 → n ≢ 6 → IsDone n
 unopened_done n (zero, within, is) disk damage = absurd (disk (sym is))
@@ -56,14 +56,14 @@ module _
     (disk_faults : D → ℕ) (before after : Outside S K D) where
   answers_done : (asked : List (ℕ × Request)) (history : List Entry) (end : Result (Unit {0}) Halt) → Answers unread source_faults held sink_faults seen disk_faults before after asked history end → status_of end ≢ 4 → status_of end ≢ 5 → IsDone (status_of end)
   answers_done asked history (Ok done) a sink disk = inl refl
-  answers_done asked history (Err (BadLine n)) a sink disk = whole_done _ a.1.0 sink
-  answers_done asked history (Err ReadFault) a sink disk = whole_done _ a.1.0 sink
+  answers_done asked history (Err (BadLine n)) a sink disk = whole_done _ a.1 sink
+  answers_done asked history (Err ReadFault) a sink disk = whole_done _ a.1 sink
   answers_done asked history (Err WriteFault) a sink disk = absurd (sink refl)
   answers_done asked history (Err DiskFault) a sink disk = absurd (disk refl)
-  answers_done asked history (Err (Damaged side number)) a sink disk = whole_done _ a.1.0 sink
+  answers_done asked history (Err (Damaged side number)) a sink disk = whole_done _ a.1 sink
   answers_done asked history (Err NoMemory) a sink disk = inr refl
-  answers_done asked history (Err (Limit number)) a sink disk = whole_done _ a.1.0 sink
-  answers_done asked history (Err (Rotated generation)) a sink disk = whole_done _ a.1.0 sink
+  answers_done asked history (Err (Limit number)) a sink disk = whole_done _ a.1 sink
+  answers_done asked history (Err (Rotated generation)) a sink disk = whole_done _ a.1 sink
 
   pub serve_done :
       (end : Result (Unit {0}) Halt) → ServesTo unread source_faults held sink_faults seen disk_faults before after end

@@ -52,7 +52,7 @@ told : (start : State) (end : Result (Unit {0}) Halt) (fault : Type 0) (requests
 told start (Ok done) fault requests before now h = h
 told start (Err (BadLine n)) fault requests before now h = h
 told start (Err ReadFault) fault requests before now h = h
-told start (Err WriteFault) fault requests before now (part, wrote, earlier, final, are, front, missing, some, whole) =
+told start (Err WriteFault) fault requests before now (part, wrote, (earlier, final, are, front, (missing, some, whole))) =
     let front_is : take (length part) (lines start requests) ≡ part = ap (λ (t : List ℕ). take (length part) t) whole ∙ take-append_seam part missing in
     (length part, cut_within part missing (lines start requests) some whole, subst (λ (t : List ℕ). Writes before t now) (sym front_is) wrote)
 told start (Err DiskFault) fault requests before now h = h
@@ -65,7 +65,7 @@ cut_last : (start : State) (end : Result (Unit {0}) Halt) (fault : Type 0) (requ
     → (earlier : List Request) × (final : Request) × (requests ≡ earlier ++ final ∷ []) × ((part : List ℕ) × Writes before (lines start earlier ++ part) now)
 cut_last start end fault requests before now h is = by (subst (λ (e : Result (Unit {0}) Halt). WritesUpTo start e fault requests before now) is h) where
   by : WritesUpTo start (Err WriteFault) fault requests before now → (earlier : List Request) × (final : Request) × (requests ≡ earlier ++ final ∷ []) × ((part : List ℕ) × Writes before (lines start earlier ++ part) now)
-  by (part, wrote, earlier, final, are, front, missing) = (earlier, final, are, (front.0, subst (λ (t : List ℕ). Writes before t now) front.1 wrote))
+  by (part, wrote, (earlier, final, are, front, missing)) = (earlier, final, are, (front.0, subst (λ (t : List ℕ). Writes before t now) front.1 wrote))
 
 module _
     {S K D : Type 0} (unread : S → Option (List ℕ)) (source_faults : S → ℕ) (held : K → Option (List ℕ)) (sink_faults : K → ℕ) (seen : D → Option (List ℕ))
