@@ -1,6 +1,6 @@
 -- What follows from the top call's clause where nothing is wrong.
-use Rattle.std.proofs.Common.{◌≡◌, ◌≢◌, ◌≤◌, ℕ, zero, suc, List, [], ◌∷◌, length, Option, Some, None, Ok, Err, Result, refl, sym, ap, subst, ◌∙◌, arith, inl, inr}
-use Rattle.std.specs.Prelude.{◌⊎◌, Contains, MatchResult}
+use Rattle.std.proofs.Common.{◌≡◌, ◌≢◌, ◌≤◌, ℕ, zero, suc, List, [], ◌∷◌, length, Option, Some, Ok, Err, Result, refl, sym, ap, subst, ◌∙◌, arith, inl, inr}
+use Rattle.std.specs.Prelude.{◌⊎◌, Contains}
 use Rattle.std.specs.List.{AllZip}
 use Rattle.std.proofs.lemmas.Result.{MatchResult-at_ok}
 use Rattle.liq_types.specs.declared.amounts.TheConstants.{LINES_MOST}
@@ -19,7 +19,7 @@ use Rattle.liq_ends.specs.declared.halts.Halt.TheVariants.{BadLine, ReadFault, W
 use Rattle.liq_ends.specs.Reading.{ReadsTo}
 use Rattle.liq_ends.specs.Statuses.{IsDone, status_of}
 use Rattle.liq_tell.proofs.Audited.{no_limit}
-use Rattle.liq_serve.specs.Calm.{IsCalm, IsComplete}
+use Rattle.liq_serve.specs.Calm.{IsComplete}
 use Rattle.liq_serve.specs.Outside.{Outside}
 use Rattle.liq_serve.specs.Top.{Answers, Ends, OpensNone, ServesTo}
 use Rattle.liq_serve.proofs.Served.{IsStopping}

@@ -1,4 +1,4 @@
-use Rattle.std.proofs.Common.{◌≡◌, Some, refl, subst, ap}
+use Rattle.std.proofs.Common.{refl, subst}
 use Rattle.liq_words.specs.declared.words.Word.{Word}
 use Rattle.liq_words.specs.declared.words.Word.TheVariants as word
 use Rattle.liq_words.specs.Reading.{IsInRange}
