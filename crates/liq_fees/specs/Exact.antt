@@ -1,4 +1,4 @@
--- The exact shares: what each account would have gained if nothing were rounded, as fractions. All have one denominator.
+-- The exact shares: what each account would have gained if nothing were rounded, as fractions with one denominator.
 use Rattle.std.specs.Prelude.{ℕ, ◌+◌, ◌*◌, ◌≤◌, ◌==◌, List, [], ◌∷◌, if◌then◌else◌}
 use Rattle.liq_num.specs.Quotient.{ceiling_of}
 use Rattle.liq_num.specs.declared.power.TheConstants.{ONE}

@@ -1,5 +1,5 @@
--- What accounts gain, in whole units: a sum for each unit of stake grows with each fee, and an account gains as the sum has
--- grown since its last change. Each division is rounded down.
+-- What accounts gain, in whole units: a sum for each unit of stake grows with each fee, and an account gains as the sum
+-- has grown since its last change. Each division is rounded down.
 use Rattle.std.specs.Prelude.{ℕ, ◌+◌, ◌-◌, ◌==◌, List, [], ◌∷◌, if◌then◌else◌}
 use Rattle.liq_num.specs.Quotient.{floor_of}
 use Rattle.liq_num.specs.declared.power.TheConstants.{ONE}
@@ -17,8 +17,10 @@ sum_of asset (Fee coll lusd ∷ past) =
 -- the sum at the account's last change
 abbrev pub mark_of : Asset → ℕ → List Happened → ℕ
 mark_of asset account [] = 0
-mark_of asset account (Put owner amount ∷ past) = if owner == account then sum_of asset past else mark_of asset account past
-mark_of asset account (Out owner amount ∷ past) = if owner == account then sum_of asset past else mark_of asset account past
+mark_of asset account (Put owner amount ∷ past) =
+    if owner == account then sum_of asset past else mark_of asset account past
+mark_of asset account (Out owner amount ∷ past) =
+    if owner == account then sum_of asset past else mark_of asset account past
 mark_of asset account (Fee coll lusd ∷ past) = mark_of asset account past
 
 -- what was got before, and what a stake gains by a rise of the sum

@@ -1,4 +1,5 @@
--- What happens to a fee pool that stakers share. A list of it has the latest first: what stands behind is what happened before.
+-- What happens to a fee pool that stakers share. A list of it has the latest first: what stands behind an item is what
+-- happened before it.
 use Rattle.std.specs.Prelude.{ℕ, ◌+◌, ◌-◌, ◌<◌, ◌≤◌, ◌==◌, List, [], ◌∷◌, if◌then◌else◌}
 use Rattle.liq_types.specs.declared.amounts.TheConstants.{ACCOUNTS, LIM}
 use Rattle.liq_fees.specs.declared.changes.TheConstants.{STAKED_MOST, CHANGES_MOST, FEES_MOST}

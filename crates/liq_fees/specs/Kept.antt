@@ -1,10 +1,12 @@
 -- What is kept of all that happened.
-use Rattle.std.specs.Prelude.{◌≡◌, ℕ, ◌+◌, ◌-◌, ◌*◌, ◌≤◌, ◌==◌, nat_lt, nat_le, Bool, List, unwrap_or, Option, None, Some, not, if◌then◌else◌}
+use Rattle.std.specs.Prelude.{◌≡◌, ℕ, ◌+◌, ◌-◌, ◌*◌, ◌≤◌, ◌==◌, nat_lt, nat_le, Bool, not, List}
+use Rattle.std.specs.Prelude.{Option, None, Some, unwrap_or, if◌then◌else◌}
 use Rattle.liq_num.specs.Quotient.{floor_of, ceiling_of}
 use Rattle.liq_num.specs.declared.power.TheConstants.{ONE}
 use Rattle.liq_types.specs.Tables.{Table, at}
 use Rattle.liq_types.specs.declared.amounts.TheConstants.{ACCOUNTS, LIM}
-use Rattle.liq_fees.specs.Happened.{Happened, Put, Out, Asset, of_coll, of_lusd, stake_of, staked_of, unshared_of, changes_of, shares_of, IsLawful}
+use Rattle.liq_fees.specs.Happened.{Happened, Put, Out, Asset, of_coll, of_lusd, stake_of, staked_of, unshared_of}
+use Rattle.liq_fees.specs.Happened.{changes_of, shares_of, IsLawful}
 use Rattle.liq_fees.specs.Exact.{weight_of, allowance_of}
 use Rattle.liq_fees.specs.Gains.{gained, sum_of, mark_of, got_of, gain_of}
 use Rattle.liq_fees.specs.declared.changes.TheConstants.{STAKED_MOST, CHANGES_MOST, FEES_MOST}

@@ -24,5 +24,6 @@ line_by at account out amount =
     Some (record { at = at; account = account; amount = amount; out = out })
 
 unfoldable pub line_of : List (List ℕ) → Option StakeLine
-line_of (at ∷ account ∷ verb ∷ amount ∷ []) = line_by (number_of at) (account_of account) (out_of verb) (number_of amount)
+line_of (at ∷ account ∷ verb ∷ amount ∷ []) =
+    line_by (number_of at) (account_of account) (out_of verb) (number_of amount)
 line_of _ = None

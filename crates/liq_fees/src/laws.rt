@@ -1,5 +1,5 @@
-//! What holds of the definitions that the contracts cite. The functions here do nothing: each is the place where the facts
-//! of its contract are proved.
+//! What holds of the definitions that the contracts cite. The functions here do nothing: each is the place where the
+//! facts of its contract are proved.
 
 ghost use Rattle.std.specs.Prelude.{◌≡◌, ℕ, ◌+◌, ◌-◌, ◌*◌, ◌≤◌, ◌<◌, List};
 ghost use Rattle.liq_num.specs.declared.power.TheConstants.{ONE};
