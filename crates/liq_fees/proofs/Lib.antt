@@ -1,0 +1,5 @@
+mod Steps
+mod Holding
+mod Conserving
+mod Keeping
+mod Reading

@@ -1,0 +1,112 @@
+//! Lines on which stakers ask, read.
+
+ghost use Rattle.std.specs.Prelude.{◌≡◌, ◌∷◌, ◌==◌, ◌<◌, [], Ok, IfOk, OnErr, IfSome, length, position};
+ghost use Rattle.liq_fees.specs.declared.lines.StakeLine.{StakeLine};
+ghost use Rattle.liq_fees.specs.Lines.{Spells};
+ghost use Rattle.liq_text.specs.Reading.{pieces_of, number_of, account_of};
+ghost use Rattle.liq_fees.specs.Reading.{words_left, out_of, line_of};
+
+use liq_text::read_number;
+
+/// What a staker asks for on a line.
+#[derive(Clone, Copy, PartialEq, Eq)]
+pub struct StakeLine {
+    /// After how many records of the journal the change is made.
+    pub at: u64,
+    pub account: u32,
+    /// In units of the staked token.
+    pub amount: u64,
+    /// Whether the amount is taken out.
+    pub out: bool,
+}
+
+/// A line is none on which a staker asks.
+#[derive(Clone, Copy, PartialEq, Eq)]
+pub struct BadStakeLine;
+
+/// What a line asks for, the line end not counted: `AT ACCOUNT stake AMOUNT` or `AT ACCOUNT unstake AMOUNT`, with one
+/// space between two words and numbers without leading zeros, the account below 2^32 and the others below 2^64.
+/// [`BadStakeLine`] exactly where it is no such line.
+pub fn read_stake_line(line: &[u8]) -> Result<StakeLine, BadStakeLine>
+    ensures found { IfOk result (λ l. Spells line.now l) }
+    // So at most one is spelled.
+    ensures only { (l : StakeLine) → Spells line.now l → result ≡ Ok l }
+    ensures bad { OnErr result ((l : StakeLine) → Spells line.now l → ⊥) }
+{
+    stake_line(line).ok_or(BadStakeLine)
+}
+
+#[tactic(auto, unfolding(crate::specs::Reading::words_left, crate::specs::Reading::line_of))]
+fn stake_line(line: &[u8]) -> Option<StakeLine>
+    ensures { result ≡ line_of (pieces_of line.now) }
+{
+    let (at, rest) = split_first(line);
+    let (account, rest) = split_first(rest?);
+    let (verb, rest) = split_first(rest?);
+    let (amount, rest) = split_first(rest?);
+    if rest.is_some() {
+        return None;
+    }
+    asked(at, account, verb, amount)
+}
+
+/// What four words ask for.
+#[tactic(auto, unfolding(crate::specs::Reading::line_of, crate::specs::Reading::line_by))]
+fn asked(at: &[u8], account: &[u8], verb: &[u8], amount: &[u8]) -> Option<StakeLine>
+    ensures { result ≡ line_of (at.now ∷ account.now ∷ verb.now ∷ amount.now ∷ []) }
+{
+    let at = number(at)?;
+    let account = account_in(account)?;
+    let out = is_out(verb)?;
+    let amount = number(amount)?;
+    Some(StakeLine {
+        at,
+        account,
+        amount,
+        out,
+    })
+}
+
+fn number(word: &[u8]) -> Option<u64>
+    ensures { result ≡ number_of word.now }
+{
+    let number = read_number(word)?;
+    Some(number)
+}
+
+#[tactic(auto, unfolding(liq_text::specs::Reading::account_of))]
+fn account_in(word: &[u8]) -> Option<u32>
+    ensures { result ≡ account_of word.now }
+{
+    u32::try_from(number(word)?).ok()
+}
+
+#[tactic(auto, unfolding(crate::specs::Reading::out_of))]
+fn is_out(verb: &[u8]) -> Option<bool>
+    ensures { result ≡ out_of verb.now }
+{
+    if verb == b"stake".as_slice() {
+        return Some(false);
+    }
+    if verb == b"unstake".as_slice() {
+        return Some(true);
+    }
+    None
+}
+
+/// The first word, and what stands behind its space where there is one.
+fn split_first(line: &[u8]) -> (&[u8], Option<&[u8]>)
+    ensures { pieces_of line.now ≡ result.0.now ∷ words_left result.1 }
+{
+    match space_in(line) {
+        None => (line, None),
+        Some(at) => (&line[..at], Some(&line[at + 1..])),
+    }
+}
+
+fn space_in(line: &[u8]) -> Option<usize>
+    ensures first { result ≡ position (λ b. b == 32) line.now }
+    ensures within { IfSome result (λ at. at < length line.now) }
+{
+    line.iter().position(|b| *b == b' ')
+}
