@@ -1,7 +1,7 @@
 -- A store in the midst of a run: how that begins, goes on and ends, by what a call says of both disks.
 use Rattle.std.proofs.Common.{◌≡◌, ◌⊎◌, ◌↔◌, inl, inr, ⊎_elim, ℕ, ◌+◌, ◌≤◌, List, [], ◌∷◌, ◌++◌, fold, Ok, Option, Some, None, IsSome, is_some, Bool, true, false, ◌&&◌, if◌then◌else◌, refl, sym, ◌∙◌, ap, subst, arith}
 use Rattle.std.specs.Prelude.{count_by}
-use Rattle.liq_outside.specs.Disk.{GoesOn, LeavesOnly, LeftNow, LeftSince, Only}
+use Rattle.liq_outside.specs.Disk.{GoesOn, LeavesOnly, LeftNow, LeftSince}
 use Rattle.liq_outside.proofs.Moments.{law}
 use Rattle.liq_types.specs.declared.events.ListChange.{ListChange}
 use Rattle.liq_types.specs.declared.image.Image.{Image}
@@ -9,10 +9,9 @@ use Rattle.liq_types.specs.declared.replies.Answer.{Answer}
 use Rattle.liq_types.specs.declared.replies.Answer.TheVariants as answer
 use Rattle.liq_types.specs.declared.replies.Reply.{Reply}
 use Rattle.liq_types.specs.declared.requests.Command.{Command}
-use Rattle.liq_types.specs.declared.requests.Query.{Query}
 use Rattle.liq_types.specs.declared.requests.Request.{Request}
 use Rattle.liq_types.specs.declared.requests.Request.TheVariants.{Do, Ask}
-use Rattle.liq_types.specs.State.{State, opening}
+use Rattle.liq_types.specs.State.{State}
 use Rattle.liq_core.specs.Core.{StandsFor}
 use Rattle.liq_rules.specs.Step.{Allowed, Refused, Repeated, Ruling, accepted, after, is_allowed, ruling, run, step}
 use Rattle.liq_rules.specs.Image.{image}
@@ -36,11 +35,11 @@ use Rattle.liq_pairs.proofs.Past.{generation_counts, left_of, left_whole, of_ali
 use Rattle.liq_pairs.proofs.Standings.{pair_ends}
 use Rattle.liq_store.specs.Answering.{Answers, read_back}
 use Rattle.liq_store.specs.Calling.{WritesOn}
-use Rattle.liq_store.specs.Keeping.{IsAtRest, IsGoing, IsInOrder, IsKeptAround, LeavesPairs}
+use Rattle.liq_store.specs.Keeping.{IsGoing, IsInOrder, IsKeptAround, LeavesPairs}
 use Rattle.liq_store.specs.Memory.{IsAccepted}
 use Rattle.liq_store.specs.Opening.{OpensOn}
 use Rattle.liq_store.specs.Past.{Past}
-use Rattle.liq_store.specs.Rotating.{is_rotation, rotation_of, side_after}
+use Rattle.liq_store.specs.Rotating.{is_rotation, rotation_of}
 use Rattle.liq_store.specs.Stored.{Stored, disk_beside, taken_disk}
 use Rattle.liq_store.proofs.Appending.{step_is_after}
 use Rattle.liq_store.proofs.Going.{going_of, rest_now, rest_only}
