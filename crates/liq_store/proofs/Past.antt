@@ -334,7 +334,8 @@ module _ {D : Type 0} (seen : D → Option (List ℕ)) (moment : D → ℕ) (lef
 
         before_beside : One (other old.side) (since (other old.side)) (disk_beside old)
         before_beside =
-            grown moment left_at l r start (other old.side) (since (other old.side)) requests later fault (disk_beside old)
+            grown moment left_at l r start (other old.side) (since (other old.side)) requests later fault
+            (disk_beside old)
             makes.grows
             (one_beside moment left_at l r start since requests NoFault old.left old.right past.leaves old.side)
 
@@ -413,7 +414,8 @@ module _ {D : Type 0} (seen : D → Option (List ℕ)) (moment : D → ℕ) (lef
               leads : (t : State) → IsKept (on old.side taken_bytes image) (on old.side image taken_bytes) t
                   → LeadsTo next t
               leads t kept =
-                  later_leads old.side taken_bytes image settled.written next now t leads_now settled.open_on.found found
+                  later_leads old.side taken_bytes image settled.written next now t leads_now
+                  settled.open_on.found found
                   (let g = generation in omega (arith, g)) kept.stands
 
               by : IsKeptAround now (Do c) (on old.side taken_bytes image) (on old.side image taken_bytes)
@@ -489,7 +491,8 @@ module _ {D : Type 0} (seen : D → Option (List ℕ)) (moment : D → ℕ) (lef
         makes = makes_replied moment left_at l r start requests c allowed
 
         later_then : (side : Side) → since side ≤ moment (on side new.left new.right)
-        later_then Left = let before = past.later Left in let time = writes.left_time.later in omega (arith, before, time)
+        later_then Left =
+            let before = past.later Left in let time = writes.left_time.later in omega (arith, before, time)
         later_then Right =
             let before = past.later Right in let time = writes.right_time.later in omega (arith, before, time)
 
@@ -568,8 +571,10 @@ module _ {D : Type 0} (seen : D → Option (List ℕ)) (moment : D → ℕ) (lef
               → Past seen moment left_at since l r start (requests ++ Do c ∷ []) new
           refused x is not_one isnt =
               let all : is_rotation now (Do c) ≡ (is_rotate c.call && false) =
-              ap (λ (y : Ruling). is_rotate c.call && is_allowed y) is ∙ ap (λ (b : Bool). is_rotate c.call && b) not_one in
-              idle (Do c) reply none stands writes (λ allowed. isnt (sym is ∙ allowed)) (all ∙ and_false (is_rotate c.call))
+              ap (λ (y : Ruling). is_rotate c.call && is_allowed y) is
+              ∙ ap (λ (b : Bool). is_rotate c.call && b) not_one in
+              idle (Do c) reply none stands writes (λ allowed. isnt (sym is ∙ allowed))
+              (all ∙ and_false (is_rotate c.call))
 
           by : (x : Ruling) → ruling now c ≡ x → Past seen moment left_at since l r start (requests ++ Do c ∷ []) new
           by Allowed is = replied c reply is writes none stands
@@ -657,7 +662,8 @@ module _ {D : Type 0} (seen : D → Option (List ℕ)) (moment : D → ℕ) (lef
   cut since l r start requests others store past same =
       let ends : (run start requests).0 ≡ (run start others).0 =
       run_folds start requests ∙ ap (fold after start) (sym same) ∙ sym (run_folds start others) in
-      still since l r start requests store store past others (grows_same l r start requests others (sym same)) past.going
+      still since l r start requests store store past others (grows_same l r start requests others (sym same))
+      past.going
       (subst (λ (s : State). StandsFor store.core s) ends past.stands) refl refl refl
 
   -- of a store with other changes of the list
@@ -749,7 +755,8 @@ module _ {D : Type 0} (seen : D → Option (List ℕ)) (moment : D → ℕ) (lef
         whole Left first few image was absent =
             left_whole l r start fault image kept first.written first.found (left_leaves.each image was) absent
         whole Right first few image was absent =
-            opening_whole Right l r start fault image kept first.written first.found (right_leaves.each image was) absent
+            opening_whole Right l r start fault image kept first.written first.found (right_leaves.each image was)
+            absent
 
   -- an opening's store
   module _ (l r : List ℕ) (start : State) (faults : D → ℕ) (left right : D) (store : Stored D)
