@@ -43,15 +43,13 @@ use Rattle.liq_store.specs.Rotating.{is_rotation, rotation_of}
 use Rattle.liq_store.specs.Stored.{Stored, disk_beside, taken_disk}
 use Rattle.liq_store.proofs.Appending.{step_is_after}
 use Rattle.liq_store.proofs.Going.{going_of, rest_now, rest_only}
+use Rattle.liq_store.proofs.OneDisk.{some_same}
 
 -- ---- sides
 
 told_of : (o : Option (List ℕ)) → IsSome o → (held : List ℕ) × (o ≡ Some held)
 told_of None is = absurd (cc (is))
 told_of (Some held) is = (held, refl)
-
-same_bytes : (a b : List ℕ) (o : Option (List ℕ)) → o ≡ Some a → o ≡ Some b → a ≡ b
-same_bytes a b o first second = let both : Some a ≡ Some b = sym first ∙ second in cc (both)
 
 sides_differ : (side : Side) → has_odd (other side) ≡ has_odd side → ⊥
 sides_differ Left is = absurd (cc (is))
@@ -517,7 +515,7 @@ module _ {D : Type 0} (seen : D → Option (List ℕ)) (moment : D → ℕ) (lef
             ap (λ (s : Side). beside s new.left new.right) side ∙ beside_other old.side new.left new.right
             ∙ writes.taken now past.stands is_yes in
             let bytes : taken_bytes ≡ held =
-            same_bytes taken_bytes held (seen (taken_disk old)) taken_told (ap seen (sym same) ∙ told) in
+            some_same taken_bytes held (seen (taken_disk old)) taken_told (ap seen (sym same) ∙ told) in
             let opens : IsOpenFor old.side held now = subst (λ (l : List ℕ). IsOpenFor old.side l now) bytes open_now in
             subst (λ (s : Side). IsOfRun s l r start longer NoFault image)
             (sym (ap other side ∙ other_twice old.side))
@@ -696,7 +694,7 @@ module _ {D : Type 0} (seen : D → Option (List ℕ)) (moment : D → ℕ) (lef
         → IsOfRun (other store.side) l r start [] NoFault image
     here_aside held image told stood =
         let bytes : held ≡ beside store.side l r =
-        same_bytes held (beside store.side l r) (seen (disk_beside store)) told
+        some_same held (beside store.side l r) (seen (disk_beside store)) told
         (beside_told seen store.side store.left store.right l r told_left told_right) in
         inr (inl (subst (λ (x : List ℕ). IsAsItStood x image) (bytes ∙ sym (on_other store.side l r)) stood))
 
