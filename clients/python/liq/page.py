@@ -171,7 +171,7 @@ def _by_list(shown: Market) -> Iterator[str]:
     system = shown.report.system
     yield "<h2>Troves in the list's order</h2>"
     yield "<p>From the list's end: redemptions and <code>liquidate_lowest</code> begin there. The order is by debt per "
-    yield "unit of stake, fixed at a trove's own operation. By rounding it may differ a little from that of the ratios.</p>"
+    yield "unit of stake, fixed at a trove's own operation: by rounding it may differ a little from the ratios.</p>"
     rows = []
     for place, account in enumerate(reversed(shown.order), 1):
         if place > ROWS_MOST:

@@ -324,6 +324,11 @@ def roomy(folder: Path) -> Optional[Path]:
     return MEMORY if MEMORY.is_dir() and shutil.disk_usage(MEMORY).free > 8 * size + 2**26 else None
 
 
+def counted(count: int, what: str) -> str:
+    """A count and what is counted."""
+    return f"{count} {what}" + ("" if count == 1 else "s")
+
+
 def cut_off(part: Fraction) -> str:
     """A fraction, cut off behind three places."""
     thousandths = part.numerator * 1000 // part.denominator
@@ -338,17 +343,18 @@ def said_of(result: Result) -> Iterator[str]:
     if replay.start:
         yield f"the commands before generation {replay.start.generation} are gone: shares count from its checkpoint on,"
         yield "which is taken as true, and by how much they may fall short is not known"
-    yield f"{replay.commands} commands and {replay.offsets} offsets lead to the market on the files"
+    done = counted(replay.commands, "command"), counted(replay.offsets, "offset")
+    yield f"{done[0]} and {done[1]} lead to the market on the files"
     most = max((short for row in rows for short in row.short), default=Fraction(0))
     wrong = sum(not row.holds for row in rows)
     if wrong:
-        yield f"{wrong} of {len(rows)} depositors are above their exact share, or short of it by more than they may be"
+        yield f"{wrong} of {counted(len(rows), 'depositor')} above the exact share, or short of it by more than allowed"
     else:
-        yield f"{len(rows)} depositors: none above its exact share, none short of it by more than {cut_off(most)}"
+        yield f"{counted(len(rows), 'depositor')}: none above its exact share, none short of it by more than {cut_off(most)}"
     if result.audit is None:
         yield f"audit ends with '{result.why_no_audit}': its rows could not be compared"
     elif not result.faults:
-        yield f"audit: its {result.audit.of} rows say the same, and each exact share lies within them"
+        yield f"audit says the same in {counted(result.audit.of, 'row')}, and each exact share lies within"
     yield "this shows one journal and proves nothing: the replies are those of the program that it checks"
 
 

@@ -1,6 +1,7 @@
 """Journals as bytes: made by scripts/forge, which knows the formats alone, and by the program."""
 import subprocess
 import sys
+import unittest
 
 from liq import Journal
 from liq.journal import Client, DamagedFile, Unknown
@@ -10,6 +11,7 @@ from .market import TOP, InFolder, OverProgram
 LINES = ["1 1 fund 1 10000000000", "2 1 advance 5", "1 2 fund 2 7"]
 
 
+@unittest.skipIf(sys.version_info < (3, 10), "scripts/forge wants Python 3.10")
 class OfForge(InFolder):
     """Cases over files that scripts/forge makes."""
 
@@ -106,8 +108,16 @@ class OfProgram(OverProgram):
                 client.fund(account, 10**10)
                 client.open(account, 10**10, lusd * 10**6)
             client.provide(2, 10**9)
+            client.price(330000000)
+            client.liquidate(4, 2)
             client.rotate()
+            system, pools = market.system(), market.pools()
         found = Journal(self.folder / "market").current.checkpoint
-        self.assertEqual(found.list_of_troves, [1, 3, 2])
-        self.assertEqual((found.troves[2].coll, found.troves[2].debt), (10**10, 5225000000))
-        self.assertEqual((found.deposits[2].amount, found.pool_lusd), (10**9, 10**9))
+        for asked in (system, pools):
+            shared = set(found._fields) - {"troves"}
+            named = {name: value for name, value in asked._asdict().items() if name in shared}
+            self.assertEqual(named, {name: getattr(found, name) for name in named})
+            self.assertGreater(len(named), 4)
+        self.assertEqual(found.list_of_troves, [1, 3])
+        self.assertEqual((found.troves[3].coll, found.troves[3].debt), (10**10, 4220000000))
+        self.assertEqual((found.deposits[2].amount, found.epoch, found.sum), (10**9, 0, 0))

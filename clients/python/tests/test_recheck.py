@@ -91,7 +91,7 @@ class OfMarkets(OverProgram):
         self.assertGreater(result.replay.offsets, 8)
         self.assertTrue(any(row.balance for row in result.rows))
         said = list(said_of(result))
-        self.assertIn("audit: its 30 rows say the same, and each exact share lies within them", said)
+        self.assertIn("audit says the same in 30 rows, and each exact share lies within", said)
         self.assertIn("proves nothing", said[-1])
 
     def test_the_files_are_left_alone(self) -> None:

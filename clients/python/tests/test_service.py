@@ -69,11 +69,13 @@ class StandIns(InFolder):
         return end.exception
 
     def test_each_status_is_its_own_exception(self) -> None:
-        lasts = {1: "usage: liq", 3: "read fault", 6: "damaged left 2", 7: "no memory", 8: "limit 5", 9: "rotated 2"}
-        for status, last in lasts.items():
+        for status, kind, last in (
+            (1, ends.Usage, "usage: liq"), (2, ends.BadLine, "bad line 1"), (3, ends.ReadFault, "read fault"),
+            (4, ends.WriteFault, ""), (5, ends.DiskFault, "disk fault"), (6, ends.Damaged, "damaged left 2"),
+            (7, ends.NoMemory, "no memory"), (8, ends.Limit, "limit 5"), (9, ends.Rotated, "rotated 2"),
+        ):
             end = self.end_of(f"import sys; sys.stdin.readline(); print({last!r}); sys.exit({status})")
-            self.assertIs(type(end), ends.BY_STATUS[status])
-            self.assertEqual((end.status, end.last), (status, last))
+            self.assertEqual((type(end), end.status, end.last), (kind, status, last))
 
     def test_no_memory_is_no_refusal(self) -> None:
         self.assertIs(type(self.end_of("print('no memory'); import sys; sys.exit(7)")), ends.NoMemory)
