@@ -16,7 +16,7 @@ from typing import Dict, Iterator, List, NamedTuple, Optional, Sequence
 from .chart import Panel, chart
 from .ends import End, Folder, NoJournal, Usage
 from .journal import SIDES, DamagedFile
-from .recheck import market, roomy
+from .recheck import Differs, market, roomy
 from .replies import Pools, System
 from .service import Service
 from .units import GWEI, show_ether, show_lusd
@@ -252,7 +252,7 @@ def main(words: List[str]) -> int:
     except Usage:
         print("page: this program does not have the word report", file=sys.stderr)
         return 1
-    except (NoJournal, FileNotFoundError, DamagedFile, End) as fault:
+    except (NoJournal, OSError, DamagedFile, Differs, End) as fault:
         print(f"page: {fault}", file=sys.stderr)
         return 1
     return 0

@@ -364,7 +364,7 @@ def main(words: List[str]) -> int:
         return 2
     try:
         result = recheck(words[0])
-    except (NoJournal, FileNotFoundError, DamagedFile, Differs, End) as fault:
+    except (NoJournal, OSError, DamagedFile, Differs, End) as fault:
         print(f"recheck refuses: {fault}")
         return 1
     for line in said_of(result):

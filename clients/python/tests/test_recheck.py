@@ -1,4 +1,6 @@
 """The exact shares, and the audit over them."""
+import contextlib
+import io
 import random
 import shutil
 import unittest
@@ -93,6 +95,14 @@ class OfMarkets(OverProgram):
         said = list(said_of(result))
         self.assertIn("audit says the same in 30 rows, and each exact share lies within", said)
         self.assertIn("proves nothing", said[-1])
+
+    def test_what_is_no_market(self) -> None:
+        with contextlib.redirect_stdout(io.StringIO()) as said, contextlib.redirect_stderr(said):
+            self.assertEqual((recheck.main([]), recheck.main([str(self.folder)])), (2, 1))
+            (self.folder / "left.liq").write_bytes(b"\1LIQJRNL2" + bytes(100))
+            self.assertEqual(recheck.main([str(self.folder)]), 1)
+        self.assertEqual(said.getvalue().count("recheck refuses: "), 2)
+        self.assertIn("left.liq is damaged at 0", said.getvalue())
 
     def test_the_files_are_left_alone(self) -> None:
         folder = self.crash()
