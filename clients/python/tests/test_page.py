@@ -56,6 +56,11 @@ class Pages(unittest.TestCase):
             self.assertIn(shown, text)
         self.assertIn("no price", text)
 
+    def test_the_list_is_shown_from_its_end(self) -> None:
+        listed = page.page(market_of()).partition("list's order")[2]
+        self.assertIn("<td>1</td><td>1</td><td>10.0000</td>", listed)
+        self.assertIn("<td>2</td><td>2</td><td>100.0000</td>", listed)
+
     def test_troves_that_can_be_liquidated_now_are_marked(self) -> None:
         self.assertIn('class="now"', page.page(market_of(price=464199999)))
         self.assertNotIn('class="now"', page.page(market_of(price=464200000)))

@@ -96,6 +96,16 @@ class OfMarkets(OverProgram):
         self.assertIn("audit says the same in 30 rows, and each exact share lies within", said)
         self.assertIn("proves nothing", said[-1])
 
+    def test_the_market_of_the_first_pages(self) -> None:
+        """docs/START.md has the balance, the gain, both allowances and, as a whole number, the exact gain."""
+        self.lines("market", [
+            "1 1 fund 1 8440000000", f"1 2 open 1 8440000000 4000000000 {10**18} - -",
+            "2 1 fund 2 12660000000", f"2 2 open 2 12660000000 4000000000 {10**18} - -",
+            "1 3 send 1 2 220000000", "2 3 provide 2 4220000000", "3 1 price 560000000", "3 2 liquidate 3 1",
+        ])
+        result = recheck.recheck(self.folder / "market")
+        self.assertEqual([str(row) for row in result.rows], ["2 0 0.000 6 8247839285 8247839286.000 66"])
+
     def test_what_is_no_market(self) -> None:
         with contextlib.redirect_stdout(io.StringIO()) as said, contextlib.redirect_stderr(said):
             self.assertEqual((recheck.main([]), recheck.main([str(self.folder)])), (2, 1))
