@@ -154,7 +154,7 @@ class Journal:
 # ---- a checkpoint
 
 
-class Client(NamedTuple):
+class KeptReply(NamedTuple):
     """A client's last number, and the reply that it gets again."""
 
     last: int
@@ -221,7 +221,7 @@ class Checkpoint(NamedTuple):
     surpluses: Dict[int, int]
     finished: Dict[Tuple[int, int], int]
     deposits: Dict[int, DepositRow]
-    clients: Dict[int, Client]
+    clients: Dict[int, KeptReply]
 
     @property
     def list_of_troves(self) -> List[int]:
@@ -275,18 +275,18 @@ def read_checkpoint(path: Path, data: bytes, header: int) -> Optional[Checkpoint
         surpluses={account: coll for account, (coll,) in reader.table(4, 8)},
         finished={(place >> 64, place % 2**64): grown for place, (grown,) in reader.table(16, 16)},
         deposits={account: DepositRow(*row) for account, row in reader.table(4, 8, 16, 16, 8, 8)},
-        clients={client: _client(reader, row) for client, row in reader.table(4, 8, 1, *[8] * 6)},
+        clients={client: _kept(reader, row) for client, row in reader.table(4, 8, 1, *[8] * 6)},
     )
     if reader.at != len(data):
         raise reader.fault("something follows")
     return made
 
 
-def _client(reader: _Reader, row: List[int]) -> Client:
+def _kept(reader: _Reader, row: List[int]) -> KeptReply:
     last, kind, *values = row
     if not 1 <= kind <= len(KINDS):
         raise reader.fault("a reply is that of no verb")
-    return Client(last, KINDS[kind - 1], tuple(values))
+    return KeptReply(last, KINDS[kind - 1], tuple(values))
 
 
 # ---- bytes

@@ -149,23 +149,14 @@ class Replay:
         return next(client for client in range(LAST_CLIENT, 0, -1) if client not in self.numbers)
 
     def _carry_out(self, command: Command) -> None:
-        for call in self._calls(command):
+        for at, call in enumerate(single_calls(command)):
             words = self._ask(command.client, call)
-            if words[0] != "ok":
-                if call == command.call or self.first:
-                    raise Differs(f"command {self.commands + 1}, {command.line}: {' '.join(words)}")
-                return
-            self.first = False
-            self._follow(command, [int(word) for word in words[1:]])
-
-    def _calls(self, command: Command) -> Iterator[str]:
-        """The calls that a command is carried out by."""
-        self.first = True
-        if command.verb != "liquidate_lowest":
-            yield command.call
-            return
-        for _ in range(command.amounts[0]):
-            yield f"liquidate_lowest {command.accounts[0]} 1"
+            if words[0] == "ok":
+                self._follow(command, [int(word) for word in words[1:]])
+            elif at == 0:
+                raise Differs(f"command {self.commands + 1}, {command.line}: {' '.join(words)}")
+            else:
+                return  # the first trove that may not be liquidated ends a `liquidate_lowest`
 
     def _follow(self, command: Command, values: List[int]) -> None:
         """What an accepted call did to the Stability Pool."""
@@ -197,6 +188,13 @@ class Replay:
         self.pool -= debt
         self.brought += coll
         self.offsets += 1
+
+
+def single_calls(command: Command) -> List[str]:
+    """The calls by which a command is carried out: a `liquidate_lowest` by as many of one trove."""
+    if command.verb != "liquidate_lowest":
+        return [command.call]
+    return [f"liquidate_lowest {command.accounts[0]} 1"] * command.amounts[0]
 
 
 def share_in(start: Checkpoint, deposit: DepositRow) -> Share:
@@ -345,12 +343,12 @@ def said_of(result: Result) -> Iterator[str]:
         yield "which is taken as true, and by how much they may fall short is not known"
     done = counted(replay.commands, "command"), counted(replay.offsets, "offset")
     yield f"{done[0]} and {done[1]} lead to the market on the files"
-    most = max((short for row in rows for short in row.short), default=Fraction(0))
+    most = cut_off(max((short for row in rows for short in row.short), default=Fraction(0)))
     wrong = sum(not row.holds for row in rows)
     if wrong:
         yield f"{wrong} of {counted(len(rows), 'depositor')} above the exact share, or short of it by more than allowed"
     else:
-        yield f"{counted(len(rows), 'depositor')}: none above its exact share, none short of it by more than {cut_off(most)}"
+        yield f"{counted(len(rows), 'depositor')}: none above its exact share, none short of it by more than {most}"
     if result.audit is None:
         yield f"audit ends with '{result.why_no_audit}': its rows could not be compared"
     elif not result.faults:

@@ -4,7 +4,7 @@ import sys
 import unittest
 
 from liq import Journal
-from liq.journal import Client, DamagedFile, Unknown
+from liq.journal import DamagedFile, KeptReply, Unknown
 
 from .market import TOP, InFolder, OverProgram
 
@@ -43,7 +43,7 @@ class Forged(OfForge):
             self.assertEqual((found.version, found.generation, found.minute), (second, 2, 5))
             self.assertEqual(found.brought, 10000000007)
             self.assertEqual(found.wallets, {1: (10000000000, 0), 2: (7, 0)})
-            self.assertEqual(found.clients[2], Client(last=1, verb="advance", values=(5, 0, 0, 0, 0, 0)))
+            self.assertEqual(found.clients[2], KeptReply(last=1, verb="advance", values=(5, 0, 0, 0, 0, 0)))
             self.assertEqual(found.clients[3].values[0], 2)
 
     def test_what_stands_behind_the_records_has_no_meaning(self) -> None:
