@@ -13,12 +13,13 @@ holds, with 1 where something does not or cannot be read, and with 2 where the w
 It writes a line `ACCOUNT BALANCE EXACT ALLOWANCE GAIN EXACT ALLOWANCE` for each depositor, the exact values cut off
 behind three places, and then what that comes to.
 """
+import itertools
 import shutil
 import sys
 import tempfile
 from fractions import Fraction
 from pathlib import Path
-from typing import Dict, Iterator, List, NamedTuple, Optional, Tuple
+from typing import Container, Dict, Iterator, List, NamedTuple, Optional, Tuple
 
 from .ends import End, Folder, Limit, NoJournal, Rotated
 from .journal import SIDES, Checkpoint, Command, DamagedFile, DepositRow, Disk, Journal
@@ -26,7 +27,6 @@ from .service import MEMORY, Service
 from .shares import PlainLedger, Share
 from .words import Audit, AuditRow, audit
 
-LAST_CLIENT = 2**20 - 1
 SAME = ("generation", "clients")  # the fields of a checkpoint in which a replay may differ
 
 
@@ -139,14 +139,11 @@ class Replay:
         number = self.numbers.get(client, 1)
         words = self.service.ask(f"{client} {number} {call}")
         if words[:2] == ["no", "81"]:  # single liquidations take more records than the journal had
-            self._ask(self._unused_client(), "rotate")
+            self._ask(unused_client(self.numbers), "rotate")
             return self._ask(client, call)
         if words[0] == "ok":
             self.numbers[client] = number + 1
         return words
-
-    def _unused_client(self) -> int:
-        return next(client for client in range(LAST_CLIENT, 0, -1) if client not in self.numbers)
 
     def _carry_out(self, command: Command) -> None:
         for at, call in enumerate(single_calls(command)):
@@ -262,8 +259,8 @@ def audited(folder: Path, program: Optional[Folder]) -> Tuple[Optional[Audit], s
 
 def market(folder: Path, program: Optional[Folder]) -> Checkpoint:
     """All that the files stand for: a rotation by a client that is not in use writes it down."""
+    unused = unused_client(last_numbers(Journal(folder).chain))
     with Service(folder, program) as service:
-        unused = next(client for client in range(LAST_CLIENT, 0, -1) if service.next_number(client) == 1)
         service.client(unused).rotate()
     found = Journal(folder).current.checkpoint
     assert found
@@ -278,6 +275,11 @@ def last_numbers(chain: List[Disk]) -> Dict[int, int]:
         for command in disk.commands:
             numbers[command.client] = max(command.number, numbers.get(command.client, 0))
     return numbers
+
+
+def unused_client(used: Container[int]) -> int:
+    """The lowest client that is not in use."""
+    return next(client for client in itertools.count(1) if client not in used)
 
 
 def compare_markets(stands: Checkpoint, comes: Checkpoint, numbers: Dict[int, int]) -> None:

@@ -38,18 +38,19 @@ class Service:
         self.program = find_program(program)
         self.pending: Optional[str] = None
         self._process: Optional["subprocess.Popen[bytes]"] = None
+        self._may_create = create
         if create:
             self.folder.mkdir(parents=True, exist_ok=True)
-        elif not holds_journal(self.folder):
-            raise NoJournal(self.folder)
         self.start()
 
     # ---- the process
 
     def start(self) -> None:
-        """Begins a run, where none goes on."""
+        """Begins a run, where none goes on. Files that were there before may not be missing."""
         if self._process is not None:
             return
+        if not self._may_create and not holds_journal(self.folder):
+            raise NoJournal(self.folder)
         pipe = subprocess.PIPE
         process = subprocess.Popen([self.program, "run"], cwd=self.folder, stdin=pipe, stdout=pipe, bufsize=0)
         assert process.stdin and process.stdout
@@ -124,6 +125,7 @@ class Service:
         self._lines_left -= 1
         words = self._read()
         self.pending = None
+        self._may_create = False
         return words
 
     def ask_many(self, queries: Iterable[str]) -> List[List[str]]:

@@ -18,6 +18,14 @@ class NewMarkets(OverProgram):
         self.assertRaises(NoJournal, Service, self.folder)
         self.assertFalse((self.folder / "right.liq").exists())
 
+    def test_files_that_are_gone_are_not_begun_anew(self) -> None:
+        market = self.service()
+        market.client(1).fund(1, 5)
+        market.kill()
+        for file in (self.folder / "market").iterdir():
+            file.unlink()
+        self.assertRaises(NoJournal, market.start)
+
     def test_a_market_goes_on(self) -> None:
         with Service(self.folder / "market", create=True) as first:
             first.client(1).fund(1, 5)
