@@ -7,10 +7,10 @@ Folder = Union[str, Path]
 
 
 class NoJournal(Exception):
-    """Neither file of the folder holds a journal, so liq would begin a new market there."""
+    """Neither file of the folder holds a journal. `Service(.., create=True)` lets liq begin a new market."""
 
     def __init__(self, folder: Folder) -> None:
-        super().__init__(f"no journal in {folder}: liq would begin a new market (create=True allows it)")
+        super().__init__(f"no journal in {folder}: liq would begin a new market there")
         self.folder = folder
 
 

@@ -1,15 +1,16 @@
 """The journal of a market, read from its two files as docs/FORMATS.md has them: versions 1 and 2, and checkpoints.
 
-It needs no program, and never writes. Read copies, or files that no liq has open: a record that is being written may
+It needs no program, and leaves the files alone. Read copies, or files that no liq has open: a record that is being written may
 be missing. A reader of journals does not know the rules: it finds out damage to the bytes, and no command that liq
 would refuse.
 """
 import hashlib
+import shutil
 import struct
 from pathlib import Path
 from typing import Dict, Iterator, List, NamedTuple, Optional, Tuple, Union
 
-from .ends import Folder
+from .ends import Folder, NoJournal
 
 VERBS: Dict[str, str] = {  # in the order of their kinds; a for an account, v for an amount, h for a hint
     "price": "v", "advance": "v", "fund": "av", "take": "av", "send": "aav", "open": "avvvhh", "adjust": "avvvvvhh",
@@ -31,7 +32,7 @@ class DamagedFile(Exception):
     """A file's bytes are not as liq wrote them: at record `record`, or in its header or checkpoint where that is 0."""
 
     def __init__(self, path: Path, record: int, why: str) -> None:
-        super().__init__(f"{path} is damaged at {record}: {why}")
+        super().__init__(f"{path.name} is damaged at {record}: {why}")
         self.path, self.record, self.why = path, record, why
 
 
@@ -306,6 +307,15 @@ def holds_journal(folder: Folder) -> bool:
                 if is_open(file.read(57)):
                     return True
     return False
+
+
+def copy_market(folder: Folder, to: Folder) -> None:
+    """Copies both files. A running liq may go on meanwhile, but for a rotation."""
+    if not holds_journal(folder):
+        raise NoJournal(folder)
+    for side in SIDES:
+        if Path(folder, f"{side}.liq").exists():
+            shutil.copy(Path(folder, f"{side}.liq"), to)
 
 
 def read_command(data: bytes) -> Optional[Command]:

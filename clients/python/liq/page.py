@@ -5,7 +5,6 @@ usage: python3 -m liq.page FOLDER > page.html
 It works on copies, so liq may run meanwhile. What it shows is what `liq report` tells, beside the pools; the order of
 the list of troves is read from a checkpoint, which the copy is made to write.
 """
-import shutil
 import sys
 import tempfile
 from fractions import Fraction
@@ -15,7 +14,7 @@ from typing import Dict, Iterator, List, NamedTuple, Optional, Sequence
 
 from .chart import Panel, chart
 from .ends import End, Folder, NoJournal, Usage
-from .journal import SIDES, DamagedFile
+from .journal import DamagedFile, copy_market
 from .recheck import Differs, market, roomy
 from .replies import Pools, System
 from .service import Service
@@ -57,9 +56,7 @@ class Market(NamedTuple):
 def read_market(folder: Folder, program: Optional[Folder] = None) -> Market:
     """A market, read from copies of a folder's files."""
     with tempfile.TemporaryDirectory(dir=roomy(Path(folder)), prefix="liq-page-") as scratch:
-        for side in SIDES:
-            if Path(folder, f"{side}.liq").exists():
-                shutil.copy(Path(folder, f"{side}.liq"), scratch)
+        copy_market(folder, scratch)
         reported = report(scratch, program)
         with Service(scratch, program) as service:
             pools = service.pools()

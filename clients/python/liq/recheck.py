@@ -22,7 +22,7 @@ from pathlib import Path
 from typing import Container, Dict, Iterator, List, NamedTuple, Optional, Tuple
 
 from .ends import End, Folder, Limit, NoJournal, Rotated
-from .journal import SIDES, Checkpoint, Command, DamagedFile, DepositRow, Disk, Journal
+from .journal import Checkpoint, Command, DamagedFile, DepositRow, Disk, Journal, copy_market
 from .service import MEMORY, Service
 from .shares import PlainLedger, Share
 from .words import Audit, AuditRow, audit
@@ -236,9 +236,7 @@ def recheck(folder: Folder, program: Optional[Folder] = None) -> Result:
         copied, again = Path(scratch, "copy"), Path(scratch, "again")
         copied.mkdir()
         again.mkdir()
-        for side in SIDES:
-            if Path(folder, f"{side}.liq").exists():
-                shutil.copy(Path(folder, f"{side}.liq"), copied)
+        copy_market(folder, copied)
         chain = Journal(copied).chain
         replay = Replay(chain, again, program)
         found, why = audited(copied, program)
