@@ -1,8 +1,8 @@
 """The journal of a market, read from its two files as docs/FORMATS.md has them: versions 1 and 2, and checkpoints.
 
-It needs no program, and leaves the files alone. Read copies, or files that no liq has open: a record that is being written may
-be missing. A reader of journals does not know the rules: it finds out damage to the bytes, and no command that liq
-would refuse.
+It needs no program, and leaves the files alone. Read copies, or files that no liq has open: a record that is being
+written may be missing. A reader of journals does not know the rules: it finds out damage to the bytes, and no command
+that liq would refuse.
 """
 import hashlib
 import shutil
