@@ -1,0 +1,100 @@
+"""How a run of liq ends: an exception for each status but 0. docs/OPERATING.md says what to do at each."""
+import re
+from pathlib import Path
+from typing import Dict, Optional, Type, Union
+
+Folder = Union[str, Path]
+
+
+class NoJournal(Exception):
+    """Neither file of the folder holds a journal. `Service(.., create=True)` lets liq begin a new market."""
+
+    def __init__(self, folder: Folder) -> None:
+        super().__init__(f"no journal in {folder}: liq would begin a new market there")
+        self.folder = folder
+
+
+class End(Exception):
+    """liq has ended before its time. What it answered stands.
+
+    `status` is that of the process, negative where a signal ended it. `last` is its last line, empty where there is
+    none. `pending` is the line that was sent and has no reply, the first of queries that were sent together, or None.
+    """
+
+    status: int
+
+    def __init__(self, status: int, last: str = "", pending: Optional[str] = None) -> None:
+        super().__init__(status, last, pending)
+        self.status, self.last, self.pending = status, last, pending
+
+    @property
+    def number(self) -> Optional[int]:
+        """The number in the last line: of the line, the record, the limit or the generation."""
+        found = re.search(r"[0-9]+", self.last)
+        return int(found[0]) if found else None
+
+    def __str__(self) -> str:
+        said = f", {self.last}" if self.last else ""
+        return f"liq ended with {self.status}{said}" + (f"; without a reply: {self.pending}" if self.pending else "")
+
+
+class Usage(End):
+    """1: the program has no such word."""
+
+
+class BadLine(End):
+    """2: a line is no request."""
+
+
+class ReadFault(End):
+    """3: reading the input failed."""
+
+
+class WriteFault(End):
+    """4: writing the output failed."""
+
+
+class DiskFault(End):
+    """5: a file met a fault, or another process holds it. The pending command may stand or not."""
+
+
+class Damaged(End):
+    """6: a file is not as liq wrote it. The last line says which file, and `number` which record."""
+
+
+class NoMemory(End):
+    """7: there was no memory. The pending command was not carried out."""
+
+
+class Limit(End):
+    """8: more lines than a run takes, or one of the limits of `audit`."""
+
+
+class Rotated(End):
+    """9: the commands before the last rotation are gone, so `audit` has nothing to tell."""
+
+
+class NotBuilt(End):
+    """70: bin/liq of a checkout found no program and could not build one."""
+
+
+class Killed(End):
+    """A signal ended it. The pending command may stand or not: send it again."""
+
+
+BY_STATUS: Dict[int, Type[End]] = {
+    1: Usage, 2: BadLine, 3: ReadFault, 4: WriteFault, 5: DiskFault, 6: Damaged, 7: NoMemory, 8: Limit, 9: Rotated,
+    70: NotBuilt,
+}
+
+
+def read_end(status: int, last: str = "", pending: Optional[str] = None) -> End:
+    """The end that a status says. A shell tells a signal as 128 and its number."""
+    kind = Killed if status < 0 or status > 128 else BY_STATUS.get(status, End)
+    return kind(status, last, pending)
+
+
+def is_reply(line: str) -> bool:
+    """Whether a line is a reply, and not a last line."""
+    first, _, rest = line.partition(" ")
+    return first in ("ok", "none") or first.isdigit() or (first == "no" and rest.partition(" ")[0].isdigit())

@@ -1,0 +1,374 @@
+"""An audit with arithmetic of its own, beside that of `liq audit`.
+
+usage: python3 -m liq.recheck FOLDER
+
+It copies both files, reads the commands, and has the program carry them out again in a folder of its own. From the
+replies it takes what each depositor put in and was paid, and what each liquidation took from the Stability Pool and
+brought to it. It follows each depositor through that in exact fractions (`shares`), and holds what the program has
+for it beside them. A `liquidate_lowest` is carried out as single ones, since its reply tells the sums alone.
+
+It refuses where the market that it comes to is not the one on the files, word for word. It ends with 0 where all
+holds, with 1 where something does not or cannot be read, and with 2 where the words are not understood.
+
+It writes a line `ACCOUNT BALANCE EXACT ALLOWANCE GAIN EXACT ALLOWANCE` for each depositor, the exact values cut off
+behind three places, and then what that comes to.
+"""
+import itertools
+import shutil
+import sys
+import tempfile
+from fractions import Fraction
+from pathlib import Path
+from typing import Container, Dict, Iterator, List, NamedTuple, Optional, Tuple
+
+from .ends import End, Folder, Limit, NoJournal, Rotated
+from .journal import Checkpoint, Command, DamagedFile, DepositRow, Disk, Journal, copy_market
+from .service import MEMORY, Service
+from .shares import PlainLedger, Share
+from .words import Audit, AuditRow, audit
+
+SAME = ("generation", "clients")  # the fields of a checkpoint in which a replay may differ
+
+
+class Differs(Exception):
+    """The commands do not lead where the files say."""
+
+
+class Row(NamedTuple):
+    """A depositor: what the program has for it, its exact share, and by how much that may fall short, if it is
+    known."""
+
+    account: int
+    balance: int
+    gain: int
+    share: Share
+    balance_allowance: Optional[int]
+    gain_allowance: Optional[int]
+
+    @property
+    def short(self) -> Tuple[Fraction, Fraction]:
+        """By how much balance and gain fall short of the exact share; below 0 where they lie above it."""
+        return self.share.balance - self.balance, self.share.gain - self.gain
+
+    @property
+    def holds(self) -> bool:
+        """Whether neither lies above the exact share, nor short of it by more than the allowance."""
+        allowed = (self.balance_allowance, self.gain_allowance)
+        return all(0 <= short and (most is None or short <= most) for short, most in zip(self.short, allowed))
+
+    def __str__(self) -> str:
+        allowed = ["-" if most is None else str(most) for most in (self.balance_allowance, self.gain_allowance)]
+        balance, gain = (cut_off(part) for part in self.share)
+        return f"{self.account} {self.balance} {balance} {allowed[0]} {self.gain} {gain} {allowed[1]}"
+
+
+class Allowances:
+    """By how much each depositor may fall short: docs/RULES.md, "What is owed"."""
+
+    def __init__(self) -> None:
+        self.p, self.scale, self.epoch = 10**18, 0, 0
+        self.recorded: Dict[int, Tuple[int, int, int]] = {}
+        self.weights: Dict[int, int] = {}
+        self.operations: Dict[int, int] = {}
+
+    def change(self, account: int, amount: int) -> None:
+        """An own operation, which leaves an amount."""
+        self.recorded[account] = amount, self.scale, self.epoch
+        self.operations[account] = self.operations.get(account, 0) + 1
+
+    def offset(self, debt: int, total: int) -> None:
+        """The pool takes over a debt."""
+        for account, (amount, scale, epoch) in self.recorded.items():
+            if epoch == self.epoch and amount:
+                cost = -(-amount // 10 ** (9 * (self.scale - scale)))
+                self.weights[account] = self.weights.get(account, 0) + cost
+        if debt == total:
+            self.p, self.scale, self.epoch = 10**18, 0, self.epoch + 1
+            return
+        left = self.p * (total - debt)
+        while left // total < 10**9:
+            left *= 10**9
+            self.scale += 1
+        self.p = left // total
+
+    def of(self, account: int) -> Tuple[int, int]:
+        """The allowances of balance and gain."""
+        weight, operations = self.weights.get(account, 0), self.operations[account]
+        return -(-weight // 10**9) + operations, -(-12 * weight // 10**9) + 15 * operations
+
+
+class Replay:
+    """The commands of a journal, carried out again, and each depositor followed through them."""
+
+    def __init__(self, chain: List[Disk], folder: Path, program: Optional[Folder] = None) -> None:
+        self.ledger, self.allowances = PlainLedger(), Allowances()
+        self.paid: Dict[int, int] = {}
+        self.pool = self.brought = self.offsets = self.commands = 0
+        self.start = chain[0].checkpoint
+        self.numbers = {client: row.last + 1 for client, row in self.start.clients.items()} if self.start else {}
+        if self.start:
+            self._begin(chain[0], folder)
+        with Service(folder, program, create=True) as self.service:
+            for at, disk in enumerate(chain):
+                if at > 0 and disk.checkpoint:
+                    self._ask(rotating_client(disk.checkpoint), "rotate")
+                for command in disk.commands:
+                    self._carry_out(command)
+                    self.commands += 1
+            accounts = sorted(self.ledger.balances)
+            self.deposits = {a: found or (0, 0) for a, found in zip(accounts, self.service.deposits(accounts))}
+
+    def rows(self) -> List[Row]:
+        """A row for each depositor."""
+        rows = []
+        for account, (balance, gain) in self.deposits.items():
+            allowed = (None, None) if self.start else self.allowances.of(account)
+            rows.append(Row(account, balance, self.paid.get(account, 0) + gain, self.ledger.share(account), *allowed))
+        return rows
+
+    def _begin(self, disk: Disk, folder: Path) -> None:
+        """Begins with a checkpoint, and with the share that each deposit has there."""
+        assert self.start
+        (folder / disk.path.name).write_bytes(disk.data[: disk.begin] + b"\0")
+        self.pool = self.start.pool_lusd
+        for account, deposit in self.start.deposits.items():
+            self.ledger.begin(account, share_in(self.start, deposit))
+
+    def _ask(self, client: int, call: str) -> List[str]:
+        """The reply to a call under the client's next number."""
+        number = self.numbers.get(client, 1)
+        words = self.service.ask(f"{client} {number} {call}")
+        if words[:2] == ["no", "81"]:  # single liquidations take more records than the journal had
+            self._ask(unused_client(self.numbers), "rotate")
+            return self._ask(client, call)
+        if words[0] == "ok":
+            self.numbers[client] = number + 1
+        return words
+
+    def _carry_out(self, command: Command) -> None:
+        for at, call in enumerate(single_calls(command)):
+            words = self._ask(command.client, call)
+            if words[0] == "ok":
+                self._follow(command, [int(word) for word in words[1:]])
+            elif at == 0:
+                raise Differs(f"command {self.commands + 1}, {command.line}: {' '.join(words)}")
+            else:
+                return  # the first trove that may not be liquidated ends a `liquidate_lowest`
+
+    def _follow(self, command: Command, values: List[int]) -> None:
+        """What an accepted call did to the Stability Pool."""
+        if command.verb in ("provide", "withdraw", "gain_to_trove"):
+            self._follow_depositor(command, values)
+        elif command.verb == "liquidate":
+            self._follow_offset(debt=values[1], coll=values[2])
+        elif command.verb == "liquidate_lowest":
+            self._follow_offset(debt=values[2], coll=values[3])
+
+    def _follow_depositor(self, command: Command, values: List[int]) -> None:
+        account = command.accounts[0]
+        put = command.amounts[0] if command.verb == "provide" else 0
+        paid = values[0] if command.verb == "withdraw" else 0
+        gain = values[0] if command.verb == "gain_to_trove" else values[1]
+        self.ledger.change(account, put, paid)
+        self.pool += put - paid
+        self.paid[account] = self.paid.get(account, 0) + gain
+        if not self.start:
+            (found,) = self.service.deposits([account])
+            self.allowances.change(account, found.balance if found else 0)
+
+    def _follow_offset(self, debt: int, coll: int) -> None:
+        if debt == 0:
+            return
+        self.ledger.offset(debt, coll, self.pool)
+        if not self.start:
+            self.allowances.offset(debt, self.pool)
+        self.pool -= debt
+        self.brought += coll
+        self.offsets += 1
+
+
+def single_calls(command: Command) -> List[str]:
+    """The calls by which a command is carried out: a `liquidate_lowest` by as many of one trove."""
+    if command.verb != "liquidate_lowest":
+        return [command.call]
+    return [f"liquidate_lowest {command.accounts[0]} 1"] * command.amounts[0]
+
+
+def share_in(start: Checkpoint, deposit: DepositRow) -> Share:
+    """What a deposit has and has gained by the words of a checkpoint, without rounding."""
+    rise = start.scale - deposit.scale
+    balance = Fraction(0)
+    grown = {scale: grown for (epoch, scale), grown in start.finished.items() if epoch == deposit.epoch}
+    if start.epoch == deposit.epoch:
+        balance = Fraction(deposit.amount * start.p, deposit.p * 10 ** (9 * rise))
+        grown[start.scale] = start.sum
+    gain = Fraction(-deposit.sum * deposit.amount, deposit.p)
+    for scale, sum_there in grown.items():
+        if scale >= deposit.scale:
+            gain += Fraction(sum_there * deposit.amount, deposit.p * 10 ** (9 * (scale - deposit.scale)))
+    return Share(balance, gain)
+
+
+def rotating_client(checkpoint: Checkpoint) -> int:
+    """The client whose `rotate` made this checkpoint."""
+    for client, row in checkpoint.clients.items():
+        if row.verb == "rotate" and row.values[0] == checkpoint.generation:
+            return client
+    raise Differs(f"no client of the checkpoint has begun generation {checkpoint.generation}")
+
+
+# ---- the whole
+
+
+class Result(NamedTuple):
+    """What a recheck has found."""
+
+    rows: List[Row]
+    replay: Replay
+    audit: Optional[Audit]
+    why_no_audit: str
+    faults: List[str]
+
+
+def recheck(folder: Folder, program: Optional[Folder] = None) -> Result:
+    """Rechecks the market of a folder, on copies. Raises `Differs` where its replay does not lead there."""
+    with tempfile.TemporaryDirectory(dir=roomy(Path(folder)), prefix="liq-recheck-") as scratch:
+        copied, again = Path(scratch, "copy"), Path(scratch, "again")
+        copied.mkdir()
+        again.mkdir()
+        copy_market(folder, copied)
+        chain = Journal(copied).chain
+        replay = Replay(chain, again, program)
+        found, why = audited(copied, program)
+        compare_markets(market(copied, program), market(again, program), last_numbers(chain))
+    rows = replay.rows()
+    faults = [f"does not hold: {row}" for row in rows if not row.holds]
+    faults += compare_sums(replay, rows) + (compare_audit(rows, found) if found else [])
+    return Result(rows, replay, found, why, faults)
+
+
+def audited(folder: Path, program: Optional[Folder]) -> Tuple[Optional[Audit], str]:
+    """What `audit` tells; or why it tells nothing."""
+    try:
+        return audit(folder, program), ""
+    except (Limit, Rotated) as end:
+        return None, end.last
+
+
+def market(folder: Path, program: Optional[Folder]) -> Checkpoint:
+    """All that the files stand for: a rotation by a client that is not in use writes it down."""
+    unused = unused_client(last_numbers(Journal(folder).chain))
+    with Service(folder, program) as service:
+        service.client(unused).rotate()
+    found = Journal(folder).current.checkpoint
+    assert found
+    del found.clients[unused]
+    return found
+
+
+def last_numbers(chain: List[Disk]) -> Dict[int, int]:
+    """Each client's last number, by the records."""
+    numbers = {client: row.last for disk in chain if disk.checkpoint for client, row in disk.checkpoint.clients.items()}
+    for disk in chain:
+        for command in disk.commands:
+            numbers[command.client] = max(command.number, numbers.get(command.client, 0))
+    return numbers
+
+
+def unused_client(used: Container[int]) -> int:
+    """The lowest client that is not in use."""
+    return next(client for client in itertools.count(1) if client not in used)
+
+
+def compare_markets(stands: Checkpoint, comes: Checkpoint, numbers: Dict[int, int]) -> None:
+    """Refuses where the replay comes to another market than the one that stands on the files."""
+    for name, here, there in zip(Checkpoint._fields, stands, comes):
+        if name not in SAME and here != there:
+            raise Differs(f"{name}: the files stand for {here}, the replay comes to {there}")
+    lasts = {client: row.last for client, row in stands.clients.items()}
+    if lasts != numbers:
+        raise Differs(f"clients: the files stand for {lasts}, the records come to {numbers}")
+
+
+def compare_sums(replay: Replay, rows: List[Row]) -> List[str]:
+    """Where the exact shares do not add up to what the pool has and what offsets brought."""
+    if replay.start:
+        return []
+    balances, gains = (sum((row.share[part] for row in rows), Fraction(0)) for part in (0, 1))
+    told = [("balances", balances, "the pool has", replay.pool), ("gains", gains, "offsets brought", replay.brought)]
+    return [f"the exact {what} add up to {here}, {has} {there}" for what, here, has, there in told if here != there]
+
+
+def compare_audit(rows: List[Row], found: Audit) -> List[str]:
+    """Where the rows of `audit` are others."""
+    def fits(row: Row, theirs: AuditRow) -> bool:
+        same = (row.account, row.balance, row.balance_allowance, row.gain, row.gain_allowance)
+        return (
+            same == (theirs.account, theirs.balance, theirs.balance_allowance, theirs.gain, theirs.gain_allowance)
+            and theirs.balance_low <= row.share.balance <= theirs.balance_high
+            and theirs.gain_low <= row.share.gain <= theirs.gain_high
+        )
+
+    pairs = zip(rows, found.rows)
+    faults = [f"audit has {' '.join(map(str, theirs))} for {row}" for row, theirs in pairs if not fits(row, theirs)]
+    if len(rows) != len(found.rows) or found.within != found.of:
+        faults.append(f"audit has {len(found.rows)} rows, within {found.within} of {found.of}, beside {len(rows)} here")
+    return faults
+
+
+def roomy(folder: Path) -> Optional[Path]:
+    """Memory, where there is room for the files many times over; else where temporary files go."""
+    size = sum(path.stat().st_size for path in folder.glob("*.liq"))
+    return MEMORY if MEMORY.is_dir() and shutil.disk_usage(MEMORY).free > 8 * size + 2**26 else None
+
+
+def counted(count: int, what: str) -> str:
+    """A count and what is counted."""
+    return f"{count} {what}" + ("" if count == 1 else "s")
+
+
+def cut_off(part: Fraction) -> str:
+    """A fraction, cut off behind three places."""
+    thousandths = part.numerator * 1000 // part.denominator
+    return f"{thousandths // 1000}.{thousandths % 1000:03}"
+
+
+def said_of(result: Result) -> Iterator[str]:
+    """What a recheck comes to, line by line."""
+    replay, rows = result.replay, result.rows
+    yield from map(str, rows)
+    yield from result.faults
+    if replay.start:
+        yield f"the commands before generation {replay.start.generation} are gone: shares count from its checkpoint on,"
+        yield "which is taken as true, and by how much they may fall short is not known"
+    done = counted(replay.commands, "command"), counted(replay.offsets, "offset")
+    yield f"{done[0]} and {done[1]} lead to the market on the files"
+    most = cut_off(max((short for row in rows for short in row.short), default=Fraction(0)))
+    wrong = sum(not row.holds for row in rows)
+    if wrong:
+        yield f"{wrong} of {counted(len(rows), 'depositor')} above the exact share, or short of it by more than allowed"
+    else:
+        yield f"{counted(len(rows), 'depositor')}: none above its exact share, none short of it by more than {most}"
+    if result.audit is None:
+        yield f"audit ends with '{result.why_no_audit}': its rows could not be compared"
+    elif not result.faults:
+        yield f"audit says the same in {counted(result.audit.of, 'row')}, and each exact share lies within"
+    yield "this shows one journal and proves nothing: the replies are those of the program that it checks"
+
+
+def main(words: List[str]) -> int:
+    if len(words) != 1:
+        print("usage: python3 -m liq.recheck FOLDER", file=sys.stderr)
+        return 2
+    try:
+        result = recheck(words[0])
+    except (NoJournal, OSError, DamagedFile, Differs, End) as fault:
+        print(f"recheck refuses: {fault}")
+        return 1
+    for line in said_of(result):
+        print(line)
+    return 1 if result.faults else 0
+
+
+if __name__ == "__main__":
+    sys.exit(main(sys.argv[1:]))

@@ -1,0 +1,247 @@
+"""A market as a process: `liq run` in its folder, asked line by line."""
+import fcntl
+import os
+import shutil
+import subprocess
+from pathlib import Path
+from types import TracebackType
+from typing import Iterable, Iterator, List, Optional, Sequence, Type
+
+from .client import Client
+from .ends import End, Folder, NoJournal, is_reply, read_end
+from .journal import holds_journal
+from .refusals import read_refusal
+from .replies import Deposit, Pools, System, Trove, Wallet
+
+LINES_OF_A_RUN = 1_000_000
+BYTES_AT_ONCE = 10_000
+MEMORY = Path("/dev/shm")  # where files cost no wait for a disk, and outlast no restart of the machine
+PIPE_SIZE = 1032  # fcntl.F_GETPIPE_SZ, which Python has a name for from 3.10 on
+
+
+def find_program(program: Optional[Folder] = None) -> str:
+    """The program: the one that is named, that of LIQ_PROGRAM, the `liq` of the PATH, or bin/liq of this checkout."""
+    named = program or os.environ.get("LIQ_PROGRAM") or shutil.which("liq")
+    return os.path.abspath(named or Path(__file__).resolve().parents[3] / "bin" / "liq")
+
+
+class Service:
+    """A run of liq over the files of a folder.
+
+    A folder without a journal is an error unless `create` is said, for liq would begin a new market there. After
+    1,000,000 lines the run is full, and another one begins by itself. Where liq ends, the call raises how (`ends`);
+    what was answered stands, and `start` begins again. A service is for one thread.
+    """
+
+    def __init__(self, folder: Folder, program: Optional[Folder] = None, create: bool = False) -> None:
+        self.folder = Path(folder)
+        self.program = find_program(program)
+        self.pending: Optional[str] = None
+        self._process: Optional["subprocess.Popen[bytes]"] = None
+        self._may_create = create
+        if create:
+            self.folder.mkdir(parents=True, exist_ok=True)
+        self.start()
+
+    # ---- the process
+
+    def start(self) -> None:
+        """Begins a run, where none goes on. Files that were there before may not be missing."""
+        if self._process is not None:
+            return
+        if not self._may_create and not holds_journal(self.folder):
+            raise NoJournal(self.folder)
+        pipe = subprocess.PIPE
+        process = subprocess.Popen([self.program, "run"], cwd=self.folder, stdin=pipe, stdout=pipe, bufsize=0)
+        assert process.stdin and process.stdout
+        self._process = process
+        self._in, self._out = process.stdin.fileno(), process.stdout.fileno()
+        self._room = min(BYTES_AT_ONCE, pipe_size(self._in))
+        self._unread = b""
+        self._lines_left = LINES_OF_A_RUN
+        self.pending = None
+
+    def close(self) -> None:
+        """Ends the run in good order. Raises how it ended, where that is not with 0."""
+        if self._process is not None:
+            end = self._end()
+            if end.status != 0:
+                raise end
+
+    def kill(self) -> None:
+        """Ends the run at once, as a crash would. What was answered stands."""
+        if self._process is not None:
+            self._process.kill()
+            self._end()
+
+    def _end(self) -> End:
+        """Closes both pipes, waits for the process, and gives how it ended."""
+        process, self._process = self._process, None
+        assert process and process.stdin and process.stdout
+        process.stdin.close()
+        said = (self._unread + process.stdout.read()).decode("ascii", "replace")
+        process.stdout.close()
+        last = said.rstrip("\n").rpartition("\n")[2] if said.endswith("\n") else ""
+        return read_end(process.wait(), "" if is_reply(last) else last, self.pending)
+
+    def _make_room(self) -> None:
+        """Begins another run where this one has had all its lines."""
+        if self._lines_left == 0:
+            self.close()
+            self.start()
+
+    def __enter__(self) -> "Service":
+        return self
+
+    def __exit__(
+        self, kind: Optional[Type[BaseException]], fault: Optional[BaseException], trace: Optional[TracebackType]
+    ) -> None:
+        if kind is None:
+            self.close()
+        else:
+            self.kill()
+
+    def __del__(self) -> None:
+        if getattr(self, "_process", None) is not None:
+            self.kill()
+
+    # ---- lines
+
+    def _check_ready(self) -> None:
+        if self._process is None:
+            raise RuntimeError("no run goes on: start() begins one")
+        if self.pending is not None:
+            raise RuntimeError(f"a line has no reply yet: {self.pending!r}; kill(), start(), and send it again")
+
+    def ask(self, line: str) -> List[str]:
+        """Sends a line, and gives the words of its reply. A client of its own numbers commands: see `client`."""
+        self._check_ready()
+        if "\n" in line:
+            raise ValueError("more than one line")
+        sent = line.encode("ascii") + b"\n"
+        self._make_room()
+        self.pending = line
+        self._write(sent)
+        self._lines_left -= 1
+        words = self._read()
+        self.pending = None
+        self._may_create = False
+        return words
+
+    def ask_many(self, queries: Iterable[str]) -> List[List[str]]:
+        """The words of the replies to many queries, which are sent together.
+
+        No more are sent at once than the pipe holds, so neither side waits for the other. Commands are not taken: a
+        refused one would leave its number to the next.
+        """
+        self._check_ready()
+        replies: List[List[str]] = []
+        for batch in self._batches(list(queries)):
+            self.pending = batch[0]
+            self._write("".join([query + "\n" for query in batch]).encode("ascii"))
+            self._lines_left -= len(batch)
+            replies += [self._read() for _ in batch]
+            self.pending = None
+        return replies
+
+    def _batches(self, queries: Sequence[str]) -> Iterator[List[str]]:
+        batch: List[str] = []
+        size = 0
+        for query in queries:
+            if not query.startswith("? ") or "\n" in query:
+                raise ValueError(f"no query: {query!r}")
+        for query in queries:
+            if size + len(query) + 1 > self._room or len(batch) == self._lines_left:
+                if batch:
+                    yield batch
+                self._make_room()
+                batch, size = [], 0
+            batch.append(query)
+            size += len(query) + 1
+        if batch:
+            yield batch
+
+    def _write(self, data: bytes) -> None:
+        try:
+            while data:
+                data = data[os.write(self._in, data):]
+        except BrokenPipeError:
+            raise self._end() from None
+
+    def _read(self) -> List[str]:
+        """The words of the next reply. Raises how liq ended where there is none."""
+        unread = self._unread
+        while b"\n" not in unread:
+            piece = os.read(self._out, 65536)
+            if not piece:
+                self._unread = unread
+                raise self._end()
+            unread = unread + piece if unread else piece
+        line, _, self._unread = unread.partition(b"\n")
+        text = line.decode("ascii", "replace")
+        if not text.startswith("ok") and not is_reply(text):
+            self._unread = line + b"\n" + self._unread
+            raise self._end()
+        return text.split(" ")
+
+    # ---- queries
+
+    def wallet(self, account: int) -> Wallet:
+        """The ether and the LUSD of an account."""
+        return self.wallets([account])[0]
+
+    def trove(self, account: int) -> Optional[Trove]:
+        """The trove of an account, with all that is pending; None where it has none."""
+        return self.troves([account])[0]
+
+    def deposit(self, account: int) -> Optional[Deposit]:
+        """The deposit of an account in the Stability Pool; None where it has none."""
+        return self.deposits([account])[0]
+
+    def wallets(self, accounts: Iterable[int]) -> List[Wallet]:
+        """The wallets of many accounts."""
+        return [Wallet(*row) for row in self._rows("wallet", accounts) if row is not None]
+
+    def troves(self, accounts: Iterable[int]) -> List[Optional[Trove]]:
+        """The troves of many accounts, None where an account has none."""
+        return [row and Trove(*row) for row in self._rows("trove", accounts)]
+
+    def deposits(self, accounts: Iterable[int]) -> List[Optional[Deposit]]:
+        """The deposits of many accounts, None where an account has none."""
+        return [row and Deposit(*row) for row in self._rows("deposit", accounts)]
+
+    def pools(self) -> Pools:
+        """The pools."""
+        return Pools(*map(int, self.ask("? pools")))
+
+    def system(self) -> System:
+        """The market as a whole."""
+        return System(*map(int, self.ask("? system")))
+
+    def next_number(self, client: int) -> int:
+        """The number of the client's next new command."""
+        words = self.ask(f"? next_number {client:d}")
+        if words[0] == "no":
+            raise read_refusal(words)
+        return int(words[0])
+
+    def _rows(self, query: str, accounts: Iterable[int]) -> List[Optional[List[int]]]:
+        """The numbers of the replies, None for `none`."""
+        rows: List[Optional[List[int]]] = []
+        for words in self.ask_many(f"? {query} {account:d}" for account in accounts):
+            if words[0] == "no":
+                raise read_refusal(words)
+            rows.append(None if words == ["none"] else [int(word) for word in words])
+        return rows
+
+    def client(self, client: int, rotate_when_full: bool = False) -> Client:
+        """A client of this market. Each program, and each thread of work, wants a number of its own."""
+        return Client(self, client, rotate_when_full)
+
+
+def pipe_size(descriptor: int) -> int:
+    """How many bytes a pipe holds."""
+    try:
+        return int(fcntl.fcntl(descriptor, PIPE_SIZE))
+    except OSError:
+        return 4096

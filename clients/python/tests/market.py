@@ -1,0 +1,49 @@
+"""What the cases share: a folder in memory for each, the program, and the documents."""
+import os
+import shutil
+import sys
+import tempfile
+import unittest
+from pathlib import Path
+from typing import List
+
+from liq.service import MEMORY, Service, find_program
+
+TOP = Path(__file__).resolve().parents[3]
+PROGRAM = find_program()
+READY = os.access(PROGRAM, os.X_OK)
+
+
+class InFolder(unittest.TestCase):
+    """A case with a folder of its own."""
+
+    def setUp(self) -> None:
+        self.folder = Path(tempfile.mkdtemp(dir=MEMORY if MEMORY.is_dir() else None, prefix="liq-test-"))
+        self.addCleanup(shutil.rmtree, self.folder)
+
+    def stand_in(self, text: str) -> Path:
+        """A program of these lines of Python, in the place of liq."""
+        path = self.folder / "stand-in"
+        path.write_text(f"#!{sys.executable}\n{text}")
+        path.chmod(0o700)
+        return path
+
+
+@unittest.skipUnless(READY, f"there is no program at {PROGRAM}")
+class OverProgram(InFolder):
+    """A case over the built program."""
+
+    def service(self, name: str = "market", create: bool = True) -> Service:
+        made = Service(self.folder / name, create=create)
+        self.addCleanup(made.kill)
+        return made
+
+    def lines(self, name: str, lines: List[str]) -> List[str]:
+        """The replies to lines, in a market of that name."""
+        with Service(self.folder / name, create=True) as service:
+            return [" ".join(service.ask(line)) for line in lines]
+
+
+def document(name: str) -> str:
+    """A document of the repository."""
+    return (TOP / "docs" / name).read_text()

@@ -1,0 +1,123 @@
+"""Journals as bytes: made by scripts/forge, which knows the formats alone, and by the program."""
+import subprocess
+import sys
+import unittest
+
+from liq import Journal
+from liq.journal import DamagedFile, KeptReply, Unknown
+
+from .market import TOP, InFolder, OverProgram
+
+LINES = ["1 1 fund 1 10000000000", "2 1 advance 5", "1 2 fund 2 7"]
+
+
+@unittest.skipIf(sys.version_info < (3, 10), "scripts/forge wants Python 3.10")
+class OfForge(InFolder):
+    """Cases over files that scripts/forge makes."""
+
+    def forge(self, versions: str, *lines: str) -> Journal:
+        forge = [sys.executable, TOP / "scripts/forge", versions, *lines]
+        made = subprocess.run(forge, stdout=subprocess.PIPE, check=True)
+        disks = dict(line.split(" ") for line in made.stdout.decode().splitlines())
+        for side in ("left", "right"):
+            (self.folder / f"{side}.liq").write_bytes(bytes.fromhex(disks.get(side, "")))
+        return Journal(self.folder)
+
+
+class Forged(OfForge):
+    """Files of both versions."""
+
+    def test_both_versions(self) -> None:
+        for version in (1, 2):
+            journal = self.forge(str(version), *LINES)
+            self.assertEqual((journal.current.version, journal.current.generation, journal.lines), (version, 1, LINES))
+            self.assertIsNone(journal.current.checkpoint)
+
+    def test_a_rotation_of_each_version(self) -> None:
+        for versions, first, second in (("1", 1, 1), ("12", 1, 2), ("2", 2, 2)):
+            journal = self.forge(versions, *LINES, "3 1 rotate", "3 2 fund 3 1")
+            self.assertEqual([disk.version for disk in journal.chain], [first, second])
+            self.assertEqual([disk.generation for disk in journal.chain], [1, 2])
+            self.assertEqual((journal.earlier.commands[0].line, journal.lines), (LINES[0], ["3 2 fund 3 1"]))
+            found = journal.current.checkpoint
+            self.assertEqual((found.version, found.generation, found.minute), (second, 2, 5))
+            self.assertEqual(found.brought, 10000000007)
+            self.assertEqual(found.wallets, {1: (10000000000, 0), 2: (7, 0)})
+            self.assertEqual(found.clients[2], KeptReply(last=1, verb="advance", values=(5, 0, 0, 0, 0, 0)))
+            self.assertEqual(found.clients[3].values[0], 2)
+
+    def test_what_stands_behind_the_records_has_no_meaning(self) -> None:
+        self.forge("2", *LINES)
+        file = self.folder / "left.liq"
+        whole = file.read_bytes()
+        file.write_bytes(whole + b"\7" + bytes(200))
+        self.assertEqual(Journal(self.folder).lines, LINES)
+        file.write_bytes(whole[:-2])
+        self.assertEqual(Journal(self.folder).lines, LINES[:2])
+
+    def test_each_byte_that_is_turned_is_found(self) -> None:
+        self.forge("2", *LINES)
+        file = self.folder / "left.liq"
+        whole = file.read_bytes()
+        for place in (*range(1, 65), 70, 150, 190, 193):
+            data = bytearray(whole)
+            data[place] ^= 1
+            file.write_bytes(data)
+            with self.subTest(place=place), self.assertRaises(DamagedFile) as damaged:
+                Journal(self.folder)
+            self.assertEqual(damaged.exception.record, 0 if place < 65 else 1)
+
+    def test_no_journal(self) -> None:
+        self.assertRaises(FileNotFoundError, Journal, self.folder)
+        (self.folder / "left.liq").write_bytes(bytes(65))
+        self.assertRaises(FileNotFoundError, Journal, self.folder)
+
+
+class Extends(OfForge):
+    """A journal beside an earlier copy of it."""
+
+    def test_a_journal_goes_on_from_its_own_copies(self) -> None:
+        older = self.forge("2", *LINES[:2])
+        self.assertTrue(older.extends(older))
+        newer = self.forge("2", *LINES)
+        self.assertTrue(newer.extends(older))
+        self.assertFalse(older.extends(newer))
+
+    def test_another_record_is_found(self) -> None:
+        older = self.forge("2", *LINES)
+        self.assertFalse(self.forge("2", LINES[0], "2 1 advance 6", LINES[2]).extends(older))
+        self.assertFalse(self.forge("2", LINES[0], LINES[2]).extends(older))
+        self.assertFalse(self.forge("1", *LINES).extends(older))
+
+    def test_over_rotations(self) -> None:
+        older = self.forge("2", *LINES)
+        once = self.forge("2", *LINES, "3 1 rotate", "3 2 fund 3 1")
+        self.assertTrue(once.extends(older))
+        self.assertFalse(self.forge("2", *LINES[:2], "3 1 rotate").extends(older))
+        twice = self.forge("2", *LINES, "3 1 rotate", "3 2 fund 3 1", "3 3 rotate")
+        self.assertTrue(twice.extends(once))
+        self.assertRaises(Unknown, twice.extends, older)
+        self.assertFalse(older.extends(once))
+
+
+class OfProgram(OverProgram):
+    def test_a_checkpoint_has_the_list_of_troves(self) -> None:
+        with self.service() as market:
+            client = market.client(1)
+            for account, lusd in ((1, 3000), (2, 5000), (3, 4000)):
+                client.fund(account, 10**10)
+                client.open(account, 10**10, lusd * 10**6)
+            client.provide(2, 10**9)
+            client.price(330000000)
+            client.liquidate(4, 2)
+            client.rotate()
+            system, pools = market.system(), market.pools()
+        found = Journal(self.folder / "market").current.checkpoint
+        for asked in (system, pools):
+            shared = set(found._fields) - {"troves"}
+            named = {name: value for name, value in asked._asdict().items() if name in shared}
+            self.assertEqual(named, {name: getattr(found, name) for name in named})
+            self.assertGreater(len(named), 4)
+        self.assertEqual(found.list_of_troves, [1, 3])
+        self.assertEqual((found.troves[3].coll, found.troves[3].debt), (10**10, 4220000000))
+        self.assertEqual((found.deposits[2].amount, found.epoch, found.sum), (10**9, 0, 0))
