@@ -61,6 +61,11 @@ class Service:
         self._lines_left = LINES_OF_A_RUN
         self.pending = None
 
+    @property
+    def pid(self) -> Optional[int]:
+        """The process's number; None where no run goes on."""
+        return self._process.pid if self._process else None
+
     def close(self) -> None:
         """Ends the run in good order. Raises how it ended, where that is not with 0."""
         if self._process is not None:

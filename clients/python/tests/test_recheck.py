@@ -96,6 +96,26 @@ class OfMarkets(OverProgram):
         self.assertIn("audit says the same in 30 rows, and each exact share lies within", said)
         self.assertIn("proves nothing", said[-1])
 
+    def test_over_scales_and_the_end_of_an_epoch(self) -> None:
+        """Offsets that leave next to nothing of the pool, and one that leaves nothing."""
+        with Service(self.folder / "market", create=True) as market:
+            client = market.client(1)
+            client.fund(1, 10**15)
+            client.open(1, 10**15, 10**13)
+            client.send(1, 2, 10**9)
+            for step, left in enumerate((1, 1000, 1, 7, 1, 0, 10**6, 1), 10):
+                client.fund(step, 10**10)
+                debt = client.open(step, 10**10, 4 * 10**9).debt
+                if step % 2:
+                    client.provide(2, 3000 * step)
+                client.provide(1, debt + left - market.pools().pool_lusd)
+                client.price(450 * 10**6)
+                self.assertEqual(client.liquidate(9, step).pool_debt, debt)
+                client.price(10**9)
+        result = recheck.recheck(self.folder / "market")
+        self.assertEqual((result.faults, result.replay.offsets, result.replay.allowances.epoch), ([], 8, 1))
+        self.assertGreater(result.replay.allowances.scale, 0)
+
     def test_the_market_of_the_first_pages(self) -> None:
         """docs/START.md has the balance, the gain, both allowances and, as a whole number, the exact gain."""
         self.lines("market", [

@@ -1,4 +1,5 @@
 """The process: its ends, a line sent again, many queries at once, a full run, a full journal."""
+import os
 import re
 import signal
 import unittest
@@ -124,8 +125,7 @@ class Again(OverProgram):
     def test_killed_before_the_line_came(self) -> None:
         market = self.service()
         client = market.client(1)
-        market._process.kill()
-        market._process.wait()
+        os.kill(market.pid, signal.SIGKILL)
         self.check_resent(market, client)
 
     def test_killed_behind_the_reply(self) -> None:
@@ -135,7 +135,7 @@ class Again(OverProgram):
 
         def lose():
             read()
-            market._process.kill()
+            os.kill(market.pid, signal.SIGKILL)
             raise market._end()
 
         with mock.patch.object(market, "_read", lose):
@@ -195,10 +195,10 @@ class Many(OverProgram):
         with mock.patch.object(service, "LINES_OF_A_RUN", 1000):
             market = self.service()
             client = market.client(1)
-            first = market._process
+            first = market.pid
             for _ in range(1500):
                 client.fund(1, 1)
-            self.assertIsNot(market._process, first)
+            self.assertNotEqual(market.pid, first)
             self.assertEqual(len(market.ask_many(["? pools"] * 2500)), 2500)
             self.assertEqual(market.wallet(1).coll, 1500)
         self.assertIn(f"| lines of one run | {service.LINES_OF_A_RUN:,},", document("OPERATING.md"))
