@@ -1,0 +1,3 @@
+pub mod Paid
+pub mod Asked
+pub mod Staked

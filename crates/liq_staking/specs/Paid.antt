@@ -1,0 +1,24 @@
+-- The fees that a journal's commands paid.
+use Rattle.std.specs.Prelude.{ℕ, ◌==◌, List, [], ◌∷◌, get_or, if◌then◌else◌}
+use Rattle.liq_types.specs.declared.replies.Done.{Done}
+use Rattle.liq_types.specs.declared.requests.Command.{Command}
+use Rattle.liq_types.specs.State.{State}
+use Rattle.liq_rules.specs.Rules.{done_of}
+use Rattle.liq_rules.specs.Step.{after}
+
+-- a fee: collateral (gwei) and LUSD (micro-LUSD)
+abbrev pub Fees : Type 0
+Fees = ℕ × ℕ
+
+-- Opening a trove and changing it pay LUSD, redeeming pays collateral; the reply has it as its second or third value.
+abbrev pub fee_of : Done → Fees
+fee_of done =
+    if done.kind == 6 then (0, get_or done.values 1 0)
+    else if done.kind == 7 then (0, get_or done.values 2 0)
+    else if done.kind == 14 then (get_or done.values 2 0, 0)
+    else (0, 0)
+
+-- the fee of each of a list of commands, each allowed after those before it
+abbrev pub fees_along : State → List Command → List Fees
+fees_along s [] = []
+fees_along s (c ∷ cs) = fee_of (done_of s c.call) ∷ fees_along (after s c) cs
