@@ -1,0 +1,6 @@
+mod Beginnings
+mod Found
+mod Fronts
+mod Headed
+mod Headers
+mod Replaying

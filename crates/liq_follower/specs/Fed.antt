@@ -1,0 +1,62 @@
+-- What bytes stand for that are the beginning of a journal of generation 1, as far as they go.
+use Rattle.std.specs.Prelude.{◌≡◌, ◌≤◌, ℕ, List, length, get_or, Ok, Err, Bool, true, false, ◌&&◌, ◌==◌}
+use Rattle.std.specs.Prelude.{nat_lt, nat_le, if◌then◌else◌}
+use Rattle.std.specs.Str.{bytes_eq}
+use Rattle.liq_types.specs.declared.amounts.TheConstants.{LIM, LIM_OF_VERSION_1, RECORDS_MOST}
+use Rattle.liq_types.specs.declared.requests.Command.{Command}
+use Rattle.liq_types.specs.State.{State, opening_with}
+use Rattle.liq_journal.specs.declared.damage.Damage.{Damage}
+use Rattle.liq_journal.specs.declared.damage.What.{What}
+use Rattle.liq_journal.specs.Layout.{generation_on, header_size, layout_on, name_on, version_1}
+use Rattle.liq_journal.specs.Written.{Open, Written, end_of, found_on, record_on}
+use Rattle.liq_pairs.specs.Pair.{Standing, Faulty, Holding, standing}
+use Rattle.liq_pairs.specs.Replay.{outcome}
+
+-- ---- what they stand for
+
+-- the gate at place 0 is open, and the header behind it is whole: as long as one of its version
+abbrev pub has_header : List ℕ → Bool
+has_header bytes = (get_or bytes 0 0 == 1) && nat_le (header_size (layout_on bytes)) (length bytes)
+
+-- The limit where no header is whole: that of version 1 where an open gate and the name of version 1 are there, else that
+-- of a journal that is begun.
+abbrev pub begun_limit : List ℕ → ℕ
+begun_limit bytes =
+    if (get_or bytes 0 0 == 1) && bytes_eq (name_on bytes) version_1.name then LIM_OF_VERSION_1 else LIM
+
+-- Behind a whole header they are what they are as the left one of two disks. Else they stand for the opening.
+unfoldable pub fed : List ℕ → Standing
+fed bytes = if has_header bytes then standing true bytes else Holding 1 (opening_with (begun_limit bytes))
+
+-- a whole header of either version says a later generation, whatever else is in it
+unfoldable pub is_turned : List ℕ → Bool
+is_turned bytes = has_header bytes && (bytes_eq (name_on bytes) (layout_on bytes).name && nat_lt 1 (generation_on bytes))
+
+-- ---- what that comes to
+
+-- they are those of a journal of the first generation, undamaged, that leads to the state
+abbrev pub LeadTo : List ℕ → State → Type 0
+LeadTo bytes s = (is_turned bytes ≡ false) × (fed bytes ≡ Holding 1 s)
+
+-- they are damaged: the record of this number is, or the header, which is 0
+abbrev pub AreDamagedAt : ℕ → List ℕ → Type 0
+AreDamagedAt index bytes =
+    (is_turned bytes ≡ false) × ((damage : Damage) × (fed bytes ≡ Faulty damage) × (damage.index ≡ index))
+
+-- a whole journal of the first generation, which ends with its last record and leads to the state
+pub record EndsWhole (bytes : List ℕ) (s : State) : Type 0 where
+  pub written : Written
+  pub found : found_on true bytes ≡ Open written
+  pub first : written.generation ≡ 1
+  pub came : outcome written ≡ Ok s
+  pub counted : s.records ≡ length written.commands
+  pub few : s.records ≤ RECORDS_MOST
+  pub ends : length bytes ≡ end_of written
+
+-- wherever it stands, this is the record of this number in the first generation, with this command
+abbrev pub IsRecordOf : ℕ → List ℕ → Command → Type 0
+IsRecordOf index raw command = (place : ℕ) → record_on 1 index place raw ≡ Ok command
+
+-- wherever it stands, it has a fault
+abbrev pub IsNoRecord : ℕ → List ℕ → Type 0
+IsNoRecord index raw = (place : ℕ) → (what : What) × (record_on 1 index place raw ≡ Err what)
