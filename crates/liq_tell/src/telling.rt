@@ -15,7 +15,7 @@ ghost use Rattle.liq_pairs.specs.Sides.{has_odd};
 ghost use Rattle.liq_store.specs.Causes.{counts_of};
 ghost use Rattle.liq_store.specs.Stored.{taken_disk};
 ghost use Rattle.liq_ends.specs.Causes.{DiskCause, LastCause, WriteCause};
-ghost use Rattle.liq_ends.specs.Disks.{DisksStay, EndsDamaged};
+ghost use Rattle.liq_ends.specs.Disks.{DisksStay, EndsDamaged, IsFaultOfTelling, LeavesOfRun};
 ghost use Rattle.liq_ends.specs.Output.{last};
 ghost use Rattle.liq_ends.specs.Stops.{Adds};
 ghost use Rattle.liq_tell.specs.Told.{EndsTelling, WritesTold};
@@ -54,6 +54,11 @@ pub fn tell_on<K: Sink, D: Disk>(
         → EndsTelling what start (commands_on l r) result.end
         (Rose (K.faults out.old) (K.faults out.new)) (K.held out.old) (K.held out.new)
         × DisksStay D.seen result.end l r start result.left result.right }
+    // What a crash at some moment may have left of both is that of an opening.
+    ensures past { (l r : List ℕ) → D.seen left ≡ Some l → D.seen right ≡ Some r
+        → (start : State) → state_on l r ≡ Ok start
+        → LeavesOfRun D.seen D.moment D.left_at left right (IsFaultOfTelling result.end) l r start []
+        result.left result.right }
     // Of damaged disks nothing is told.
     ensures damaged { (l r : List ℕ) → D.seen left ≡ Some l → D.seen right ≡ Some r
         → (side : Side) (damage : Damage) → state_on l r ≡ Err (side, damage)
@@ -61,9 +66,9 @@ pub fn tell_on<K: Sink, D: Disk>(
         × EndsDamaged D.seen side damage (Err halt) result.left result.right
         × Adds [] (last halt) (Rose (K.faults out.old) (K.faults out.new)) (K.held out.old) (K.held out.new) }
     ensures no_source { result.end ≢ Err Halt.ReadFault }
-    // It ends neither for a line of the input, nor a text of the state for a limit or the journal's generation.
+    // It ends for no line of the input, and only an audit ends for a limit or the journal's generation.
     ensures no_line { (number : ℕ) → result.end ≢ Err (Halt.BadLine number) }
-    ensures state { what ≡ Told.State → (number : ℕ) → (result.end ≢ Err (Halt.Limit number)) × (result.end ≢ Err (Halt.Rotated number)) }
+    ensures no_limit { what ≢ Told.Audit → (number : ℕ) → (result.end ≢ Err (Halt.Limit number)) × (result.end ≢ Err (Halt.Rotated number)) }
     ensures sink { LastCause result.end (K.faults out.old) (K.faults out.new) }
     ensures disks { DiskCause result.end (counts_of D.faults left right) (counts_of D.faults result.left result.right) }
     ensures left_time { GoesOn D.moment D.left_at left result.left }
@@ -80,13 +85,17 @@ fn tell<K: Sink, D: Disk>(alloc: Global, what: Told, out: &mut K, left: D, right
         → (start : State) → state_on l r ≡ Ok start
         → WritesTold what start (commands_on l r) result.end (K.held out.old) (K.held out.new)
         × DisksStay D.seen result.end l r start result.left result.right }
+    ensures past { (l r : List ℕ) → D.seen left ≡ Some l → D.seen right ≡ Some r
+        → (start : State) → state_on l r ≡ Ok start
+        → LeavesOfRun D.seen D.moment D.left_at left right (IsFaultOfTelling result.end) l r start []
+        result.left result.right }
     ensures damaged { (l r : List ℕ) → D.seen left ≡ Some l → D.seen right ≡ Some r
         → (side : Side) (damage : Damage) → state_on l r ≡ Err (side, damage)
         → (out.new ≡ out.old) × EndsDamaged D.seen side damage result.end result.left result.right }
     ensures no_source { result.end ≢ Err Halt.ReadFault }
-    // It ends neither for a line of the input, nor a text of the state for a limit or the journal's generation.
+    // It ends for no line of the input, and only an audit ends for a limit or the journal's generation.
     ensures no_line { (number : ℕ) → result.end ≢ Err (Halt.BadLine number) }
-    ensures state { what ≡ Told.State → (number : ℕ) → (result.end ≢ Err (Halt.Limit number)) × (result.end ≢ Err (Halt.Rotated number)) }
+    ensures no_limit { what ≢ Told.Audit → (number : ℕ) → (result.end ≢ Err (Halt.Limit number)) × (result.end ≢ Err (Halt.Rotated number)) }
     ensures sink { WriteCause result.end (K.faults out.old) (K.faults out.new) }
     ensures disks { DiskCause result.end (counts_of D.faults left right) (counts_of D.faults result.left result.right) }
     ensures left_time { GoesOn D.moment D.left_at left result.left }
@@ -116,9 +125,9 @@ fn write_told<K: Sink, D: Disk>(
         → StandsFor store.old.core s → 1 ≤ s.generation → (s.generation ≡ 1 → replay 1 (opening_with s.limit) w.commands ≡ Ok s)
         → WritesTold what s w.commands result (K.held out.old) (K.held out.new) }
     ensures no_source { result ≢ Err Halt.ReadFault }
-    // It ends neither for a line of the input, nor a text of the state for a limit or the journal's generation.
+    // It ends for no line of the input, and only an audit ends for a limit or the journal's generation.
     ensures no_line { (number : ℕ) → result ≢ Err (Halt.BadLine number) }
-    ensures state { what ≡ Told.State → (number : ℕ) → (result ≢ Err (Halt.Limit number)) × (result ≢ Err (Halt.Rotated number)) }
+    ensures no_limit { what ≢ Told.Audit → (number : ℕ) → (result ≢ Err (Halt.Limit number)) × (result ≢ Err (Halt.Rotated number)) }
     ensures sink { WriteCause result (K.faults out.old) (K.faults out.new) }
     // The disks are only looked at.
     ensures left { Looked D.seen D.moment D.left_at store.old.left store.new.left }
