@@ -88,6 +88,13 @@ impl Reader {
         Ok(())
     }
 
+    /// Whether a whole line was taken and is unread.
+    pub fn has_line(&self) -> bool
+        ensures { IsTrue result ↔ Contains self.now LINE_END }
+    {
+        self.chunk[self.start..self.end].contains(&LINE_END)
+    }
+
     /// The next byte, or none at the source's end.
     pub fn next_byte<S: Source>(&mut self, input: &mut S) -> Result<Option<u8>, Failed>
         ensures byte { IfOk result (λ found. MatchOption found
