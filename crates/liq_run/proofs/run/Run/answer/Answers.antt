@@ -1,8 +1,11 @@
-use Rattle.std.proofs.Common.{Err, Result, ap, sym, subst, refl}
+use Rattle.std.proofs.Common.{Err, List, Result, ◌∷◌, ◌++◌, [], ap, sym, subst, refl}
+use Rattle.liq_types.specs.declared.requests.Request.{Request}
 use Rattle.liq_ends.specs.declared.halts.Halt.{Halt}
 use Rattle.liq_ends.specs.declared.halts.Halt.TheVariants.{ReadFault, WriteFault, DiskFault}
 use Rattle.liq_ends.specs.Causes.{WriteCause}
 use Rattle.liq_ends.proofs.Causes.{write_same}
+use Rattle.liq_run.specs.Passing.{IsPastOf}
+use Rattle.liq_run.proofs.Passing.{asked_past}
 use Rattle.liq_run.proofs.Residual.{handed_on, same_halt}
 use Rattle.liq_run.proofs.run.Run.answer.Goals as goal
 
