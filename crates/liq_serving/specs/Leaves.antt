@@ -46,5 +46,5 @@ pub record Leaves
   pub left_time : GoesOnFrom left_origin moment left_at served.left
   pub right_time : GoesOnFrom right_origin moment left_at served.right
   pub past :
-      LeavesFrom moment left_at left_origin right_origin base (requests_of (map recorded served.history))
+      LeavesFrom seen moment left_at left_origin right_origin base (requests_of (map recorded served.history))
       (halt_of served.end) served.left served.right
