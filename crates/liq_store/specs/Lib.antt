@@ -6,6 +6,7 @@ pub mod Judging
 pub mod Keeping
 pub mod Memory
 pub mod Opening
+pub mod Past
 pub mod Preparing
 pub mod Reading
 pub mod Replays
