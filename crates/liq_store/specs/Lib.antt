@@ -4,6 +4,7 @@ pub mod Calling
 pub mod Causes
 pub mod Judging
 pub mod Keeping
+pub mod Leaving
 pub mod Memory
 pub mod Opening
 pub mod Past
