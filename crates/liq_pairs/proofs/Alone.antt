@@ -231,7 +231,7 @@ created_open l r s image kept left right found = record {
 -- ---- of a settled pair
 
 module _ (side : Side) (l r : List ℕ) (s : State) (settled : IsSettledFor side l r s) where
-  settled_kept_on : IsKeptOn side l r s
+  abbrev settled_kept_on : IsKeptOn side l r s
   settled_kept_on = record {
     written = settled.written;
     found = settled.open_on.found;

@@ -31,7 +31,7 @@ use Rattle.liq_pairs.specs.Unfinished.{LeftLeaves}
 use Rattle.liq_pairs.proofs.Alone.{IsOpenFor, first_parity, isnt_absent, later_leads, of_append, of_creation, open_alone, open_with, settled_first, settled_holds_none, settled_open}
 use Rattle.liq_pairs.proofs.FirstPlace.{absent_isnt_open}
 use Rattle.liq_pairs.proofs.Hints.{heard_after, heard_ruling}
-use Rattle.liq_pairs.proofs.Keeping.{LeadsTo, leads_generation, none_alike, settled_kept, settled_parity}
+use Rattle.liq_pairs.proofs.Keeping.{LeadsTo, leads_generation, none_alike, settled_kept, settled_leads, settled_parity}
 use Rattle.liq_pairs.proofs.Past.{generation_counts, left_of, left_whole, of_alike, of_halted, of_longer, of_same, opening_of, opening_whole, opening_with, prefix_whole, rotations_failed, rotations_halted, rotations_longer, rotations_more, run_folds}
 use Rattle.liq_pairs.proofs.Standings.{pair_ends}
 use Rattle.liq_store.specs.Answering.{Answers, read_back}
@@ -196,14 +196,14 @@ module _ {D : Type 0} (moment : D → ℕ) (left_at : D → ℕ → List ℕ →
   goes : (side : Side) (from : ℕ) (requests : List Request) (fault : Fault) (old new : D)
       → GoesOn moment left_at old new → from ≤ moment old → LeavesOne side from requests fault old
       → LeavesOne side (moment old) requests fault new → LeavesOne side from requests fault new
-  goes side from requests fault old new time le before then = record {
+  goes side from requests fault old new time le before done = record {
     images = λ image was. ⊎_elim
         (λ earlier. before.images image earlier)
-        (λ later. then.images image later)
+        (λ later. done.images image later)
         (law moment left_at old new time from image le was);
     whole = λ first few image was absent. ⊎_elim
         (λ earlier. before.whole first few image earlier absent)
-        (λ later. then.whole first few image later absent)
+        (λ later. done.whole first few image later absent)
         (law moment left_at old new time from image le was);
   }
 
@@ -311,6 +311,9 @@ module _ {D : Type 0} (seen : D → Option (List ℕ)) (moment : D → ℕ) (lef
     settled : IsSettledFor old.side left_held.0 right_held.0 now
     settled = going.settled left_held.0 right_held.0 left_held.1 right_held.1 now past.stands
 
+    leads_now : LeadsTo settled.written now
+    leads_now = settled_leads old.side left_held.0 right_held.0 now settled
+
     open_now : IsOpenFor old.side taken_bytes now
     open_now = settled_open old.side left_held.0 right_held.0 now settled
 
@@ -347,8 +350,8 @@ module _ {D : Type 0} (seen : D → Option (List ℕ)) (moment : D → ℕ) (lef
             → IsOpenFor old.side image now ⊎ IsOpenFor old.side image (after now c)
         append_open image was = ⊎_elim
             (λ before. inl before)
-            (λ then. inr (subst (λ (s : State). IsOpenFor old.side image s) (heard_after now c) then))
-            (of_append old.side settled.written (read_back c) now image open_now.leads
+            (λ done. inr (subst (λ (s : State). IsOpenFor old.side image s) (heard_after now c) done))
+            (of_append old.side settled.written (read_back c) now image leads_now
             (heard_ruling now c ∙ allowed) (append_leaves.each image was))
 
         append_one : One old.side (moment (taken_disk old)) (on old.side new.left new.right)
@@ -356,11 +359,11 @@ module _ {D : Type 0} (seen : D → Option (List ℕ)) (moment : D → ℕ) (lef
           images = λ image was. ⊎_elim
               (λ before. makes.grows.images old.side image
               (inr (inr (inl (prefix_whole old.side start requests image before)))))
-              (λ then. makes.made old.side image then)
+              (λ done. makes.made old.side image done)
               (append_open image was);
           whole = λ first few image was absent. ⊎_elim
               (λ before. isnt_absent old.side image now before absent)
-              (λ then. isnt_absent old.side image (after now c) then absent)
+              (λ done. isnt_absent old.side image (after now c) done absent)
               (append_open image was);
         }
 
@@ -377,7 +380,7 @@ module _ {D : Type 0} (seen : D → Option (List ℕ)) (moment : D → ℕ) (lef
         rotated : is_rotation now (Do c) ≡ true
         rotated = rotation_is c allowed true is
 
-        next : Written
+        abbrev next : Written
         next = rotation_of now c
 
         turn_leaves : LeavesOnly moment left_at (disk_beside old) (beside old.side new.left new.right)
@@ -406,12 +409,12 @@ module _ {D : Type 0} (seen : D → Option (List ℕ)) (moment : D → ℕ) (lef
           where
             generation : settled.written.generation ≡ now.generation
             generation =
-                leads_generation (has_odd old.side) taken_bytes settled.written now open_now.found open_now.leads
+                leads_generation (has_odd old.side) taken_bytes settled.written now settled.open_on.found leads_now
 
             leads : (t : State) → IsKept (on old.side taken_bytes image) (on old.side image taken_bytes) t
                 → LeadsTo next t
             leads t kept =
-                later_leads old.side taken_bytes image settled.written next now t open_now.leads open_now.found found
+                later_leads old.side taken_bytes image settled.written next now t leads_now settled.open_on.found found
                 (let g = generation in omega (arith, g)) kept.stands
 
             by : IsKeptAround now (Do c) (on old.side taken_bytes image) (on old.side image taken_bytes)
@@ -421,11 +424,11 @@ module _ {D : Type 0} (seen : D → Option (List ℕ)) (moment : D → ℕ) (lef
                     leads_generation (has_odd (other old.side)) image next now found (leads now kept) in
                 absurd (omega (arith, same))
             by (inr kept) =
-                let then = leads (step now (Do c)).0 kept in
+                let done = leads (step now (Do c)).0 kept in
                 record {
                   written = next;
                   found = found;
-                  leads = subst (λ (t : State). LeadsTo next t) (step_is_after now c allowed) then;
+                  leads = subst (λ (t : State). LeadsTo next t) (step_is_after now c allowed) done;
                 }
 
         turn_one : One (other old.side) (moment (disk_beside old)) (beside old.side new.left new.right)
@@ -564,15 +567,15 @@ module _ {D : Type 0} (seen : D → Option (List ℕ)) (moment : D → ℕ) (lef
 
         refused : (x : Ruling) → ruling now c ≡ x → is_allowed x ≡ false → (x ≡ Allowed → ⊥)
             → Past seen moment left_at since l r start (requests ++ Do c ∷ []) new
-        refused x is no isnt =
+        refused x is not_one isnt =
             let all : is_rotation now (Do c) ≡ (is_rotate c.call && false) =
-                ap (λ (y : Ruling). is_rotate c.call && is_allowed y) is ∙ ap (λ (b : Bool). is_rotate c.call && b) no in
+                ap (λ (y : Ruling). is_rotate c.call && is_allowed y) is ∙ ap (λ (b : Bool). is_rotate c.call && b) not_one in
             idle (Do c) reply none stands writes (λ allowed. isnt (sym is ∙ allowed)) (all ∙ and_false (is_rotate c.call))
 
         by : (x : Ruling) → ruling now c ≡ x → Past seen moment left_at since l r start (requests ++ Do c ∷ []) new
         by Allowed is = replied c reply is writes none stands
-        by (Refused refusal) is = refused (Refused refusal) is refl (λ no. absurd (cc (no)))
-        by (Repeated kept) is = refused (Repeated kept) is refl (λ no. absurd (cc (no)))
+        by (Refused refusal) is = refused (Refused refusal) is refl (λ is_one. absurd (cc (is_one)))
+        by (Repeated kept) is = refused (Repeated kept) is refl (λ is_one. absurd (cc (is_one)))
     goes_on (Ask query) reply none answers writes =
         idle (Ask query) reply none (answers now past.stands).0 writes (λ accepted. accepted) refl
 
@@ -615,7 +618,7 @@ module _ {D : Type 0} (seen : D → Option (List ℕ)) (moment : D → ℕ) (lef
             (moment new.left, writes.left_time.later, omega arith, la)
             (moment new.right, writes.right_time.later, omega arith, lb) in
         ⊎_elim (λ before. inl before)
-        (λ then. inr (allowed, subst (λ (s : State). IsKept a b s) (step_is_after now c allowed) then)) kept
+        (λ done. inr (allowed, subst (λ (s : State). IsKept a b s) (step_is_after now c allowed) done)) kept
 
     pub stops_kept : (request : Request) (c : Command) → request ≡ Do c
         → ((s : State) → StandsFor old.core s → Answers s request answer.DiskFault new.core)
@@ -888,7 +891,7 @@ module _ {D : Type 0} (seen : D → Option (List ℕ)) (moment : D → ℕ) (lef
       pub joins : LeavesPast moment left_at since l r start requests fault left right
       joins = all_of moment left_at l r start since requests fault left right (λ side.
           goes moment left_at l r start side (since side) requests fault (on side store.left store.right)
-          (on side left right) (time_on side) (past.later side) (before side) (then side))
+          (on side left right) (time_on side) (past.later side) (before side) (done side))
         where
           before : (side : Side)
               → LeavesOne moment left_at l r start side (since side) requests fault (on side store.left store.right)
@@ -899,9 +902,9 @@ module _ {D : Type 0} (seen : D → Option (List ℕ)) (moment : D → ℕ) (lef
                 past.leaves.whole side first (omega (arith, fewer, few)) image was absent;
           }
 
-          then : (side : Side) → LeavesOne moment left_at l r start side (moment (on side store.left store.right))
+          done : (side : Side) → LeavesOne moment left_at l r start side (moment (on side store.left store.right))
               requests fault (on side left right)
-          then side = record {
+          done side = record {
             images = λ image was. join_image side image (further.images side image was);
             whole = λ first few image was absent. further.whole side (join_first side first) few image was absent;
           }
