@@ -48,8 +48,11 @@ pub stood_again : (held image later : List ℕ) → IsAsItStood held image → I
 stood_again held image later (inl same) then = subst (λ (l : List ℕ). IsAsItStood l later) same then
 stood_again held image later (inr has) (inl same) = inr (has.0, same ∙ has.1)
 stood_again held image later (inr has) (inr more) =
-    inr (more.0, more.1 ∙ ap (λ (l : List ℕ). overwritten l 0 (more.0 ∷ [])) has.1
-    ∙ written_again 0 has.0 held (omega arith) more.0)
+    inr (
+      more.0,
+      more.1 ∙ ap (λ (l : List ℕ). overwritten l 0 (more.0 ∷ [])) has.1
+          ∙ written_again 0 has.0 held (omega arith) more.0,
+    )
 
 pub settled_stood : (held image : List ℕ) → SettleLeaves 0 held image → IsAsItStood held image
 settled_stood held image (inl same) = inl same
@@ -185,8 +188,11 @@ by_end side l r w s image leads (ended stands) = inl (record { written = w; foun
 by_end side l r w s image leads (pends c holds) =
     inl (record { written = w; found = holds.pending.found; leads = leads })
 by_end side l r w s image leads (finished c was allowed stands) =
-    inr (c, (side, inl was),
-    record { written = and_then w c; found = stands.found; leads = leads_further w c s leads allowed })
+    inr (
+      c,
+      (side, inl was),
+      record { written = and_then w c; found = stands.found; leads = leads_further w c s leads allowed },
+    )
 
 module _ (l r : List ℕ) (s : State) (stands : StandFor l r s) (image : List ℕ) where
   taken_end : (side : Side) → IsKeptOn side l r s → OpenLeaves (has_odd side) (on side l r) image
@@ -283,12 +289,12 @@ module _ (side : Side) (l r : List ℕ) (s : State) (settled : IsSettledFor side
   rotation_aside_no c is (inl (inr shut)) = is.unshut.isnt shut.1
   rotation_aside_no c is (inr smaller) =
       let both : Open smaller.written ≡ Open is.rotation.written =
-          sym smaller.stands.found ∙ is.rotation.stands.found in
+      sym smaller.stands.found ∙ is.rotation.stands.found in
       let same : smaller.written ≡ is.rotation.written = cc (both) in
       let generation = ap (λ (w : Written). w.generation) same in
       let next = is.rotation.rotation.generation_is in
       let now = leads_generation (has_odd side) (on side l r) settled.written s settled.open_on.found
-          (settled_leads side l r s settled) in
+      (settled_leads side l r s settled) in
       let less = smaller.smaller in
       omega (arith, generation, next, now, less)
 

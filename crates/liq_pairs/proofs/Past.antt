@@ -1,5 +1,5 @@
 -- An image that is one of a run: by the accepted commands, of a longer run, and of one from a state that is the same.
-use Rattle.std.proofs.Common.{◌≡◌, ◌⊎◌, inl, inr, ⊎_elim, ℕ, zero, suc, ◌+◌, ◌≤◌, List, [], ◌∷◌, ◌++◌, length, take, fold, Bool, true, false, cond, if◌then◌else◌, refl, sym, ◌∙◌, ap, subst, arith}
+use Rattle.std.proofs.Common.{◌≡◌, ◌⊎◌, inl, inr, ⊎_elim, ℕ, zero, suc, ◌+◌, ◌≤◌, List, [], ◌∷◌, ◌++◌, length, take, fold, Err, Bool, true, false, cond, if◌then◌else◌, refl, sym, ◌∙◌, ap, subst, arith}
 use Rattle.std.specs.Prelude.{count_by}
 use Rattle.std.proofs.lemmas.List.{append-nil, take_all}
 use Rattle.std.proofs.lemmas.List.Sums.{fold-append, sum_by-append, sum_by-cons}
@@ -15,19 +15,22 @@ use Rattle.liq_rules.proofs.AlikeReads.{Alike}
 use Rattle.liq_rules.proofs.AlikeReplies.{accepted_alike, after_alike, ruling_alike, run_alike}
 use Rattle.liq_rules.proofs.Runs.{run_accepted}
 use Rattle.liq_journal.specs.Crash.{HasByteAt, beginning}
+use Rattle.liq_journal.specs.declared.damage.Damage.{Damage}
 use Rattle.liq_journal.specs.Opened.{OpenLeaves}
-use Rattle.liq_journal.specs.Written.{Absent, Open, Written, found_on, is_rotate}
+use Rattle.liq_journal.specs.Written.{Absent, Damaged, Open, Written, found_on, is_rotate}
 use Rattle.liq_outside.specs.Disk.{overwritten}
 use Rattle.liq_pairs.specs.declared.side.Side.{Side}
-use Rattle.liq_pairs.specs.declared.side.Side.TheVariants.{Left}
+use Rattle.liq_pairs.specs.declared.side.Side.TheVariants.{Left, Right}
 use Rattle.liq_pairs.specs.Kept.{IsKept}
 use Rattle.liq_pairs.specs.Past.{AtCommand, Fault, InOpening, IsAsItStood, IsOfFailed, IsOfPrefix, IsOfRun, NoFault, StandsAlone, failed_commands, rotations}
+use Rattle.liq_pairs.specs.Pair.{Faulty, Nothing, standing}
 use Rattle.liq_pairs.specs.Sides.{has_odd, on}
 use Rattle.liq_pairs.specs.Unfinished.{LeftLeaves}
 use Rattle.liq_pairs.proofs.Alike.{stand_alike, unfinished_alike}
-use Rattle.liq_pairs.proofs.Alone.{IsOpenFor, IsOpenedFor, created_open, isnt_absent, of_creation, open_alone, open_left, open_with, stood_again}
+use Rattle.liq_pairs.proofs.Alone.{IsOpenFor, IsOpenedFor, created_open, empty_absent, isnt_absent, of_creation, open_alone, open_left, open_with, stood_again}
 use Rattle.liq_pairs.proofs.FirstPlace.{absent_isnt_open}
 use Rattle.liq_pairs.proofs.Generations.{after_generation}
+use Rattle.liq_pairs.proofs.Standings.{pair_ends, standing_absent, standing_damaged, state_by}
 
 -- ---- the accepted commands of a run
 
@@ -58,7 +61,7 @@ pub prefix_longer : (side : Side) (start : State) (requests more : List Request)
 prefix_longer side start requests more image (n, alone) =
     let m = take_longer n (accepted start requests) (accepted (run start requests).0 more) in
     let same : take m.0 (accepted start (requests ++ more)) ≡ take n (accepted start requests) =
-        ap (take m.0) (run_accepted start requests more) ∙ m.1 in
+    ap (take m.0) (run_accepted start requests more) ∙ m.1 in
     (m.0, subst (λ (cs : List Command). StandsAlone side image (fold after start cs)) (sym same) alone)
 
 -- all of them
@@ -68,7 +71,7 @@ prefix_whole side start requests image opens =
     let cs = accepted start requests in
     let all : take (length cs) cs ≡ cs = take_all (length cs) cs (omega arith) in
     let same : (run start requests).0 ≡ fold after start (take (length cs) cs) =
-        run_folds start requests ∙ ap (fold after start) (sym all) in
+    run_folds start requests ∙ ap (fold after start) (sym all) in
     (length cs, subst (λ (s : State). StandsAlone side image s) same (open_alone side image (run start requests).0 opens))
 
 -- ---- an image of a run
@@ -105,7 +108,7 @@ module _ (side : Side) (l r : List ℕ) (start : State) (requests : List Request
   of_same others fault same (inr (inr (inr (inl unfinished)))) = inr (inr (inr (inl unfinished)))
   of_same others fault same (inr (inr (inr (inr failed)))) =
       let ends : (run start requests).0 ≡ (run start others).0 =
-          run_folds start requests ∙ ap (fold after start) same ∙ sym (run_folds start others) in
+      run_folds start requests ∙ ap (fold after start) same ∙ sym (run_folds start others) in
       inr (inr (inr (inr (failed_by fault (run start requests).0 (run start others).0 ends failed))))
 
 -- ---- from a state that is the same
@@ -132,12 +135,18 @@ of_alike side l r s t requests fault image alike (inr (inl stood)) = inr (inl st
 of_alike side l r s t requests fault image alike (inr (inr (inl (n, alone)))) =
     let cs = accepted s requests in
     let there = alone_alike side image (fold after s (take n cs)) (fold after t (take n cs))
-        (fold_alike (take n cs) s t alike) alone in
-    inr (inr (inl (n, subst (λ (ds : List Command). StandsAlone side image (fold after t (take n ds)))
-    (accepted_alike requests alike) there)))
+    (fold_alike (take n cs) s t alike) alone in
+    inr (inr (inl (
+      n,
+      subst (λ (ds : List Command). StandsAlone side image (fold after t (take n ds)))
+          (accepted_alike requests alike) there,
+    )))
 of_alike side l r s t requests fault image alike (inr (inr (inr (inl (c, holds, alone))))) =
-    inr (inr (inr (inl (c, unfinished_alike alike l r c holds,
-    alone_alike side image (after s c) (after t c) (after_alike alike c) alone))))
+    inr (inr (inr (inl (
+      c,
+      unfinished_alike alike l r c holds,
+      alone_alike side image (after s c) (after t c) (after_alike alike c) alone,
+    ))))
 of_alike side l r s t requests fault image alike (inr (inr (inr (inr failed)))) =
     inr (inr (inr (inr (failed_alike side image (run s requests).0 (run t requests).0 fault
     (run_alike requests alike) failed))))
@@ -208,6 +217,41 @@ module _ (l r : List ℕ) (s : State) (fault : Fault) (image : List ℕ) (kept :
   left_whole w found (inl opened) absent = opening_whole Left l r s fault image kept w found opened absent
   left_whole w found (inr (left, right, created)) absent = absent_isnt_open true l w left found
 
+-- ---- what is damaged
+
+alone_undamaged : (side : Side) (image : List ℕ) (s : State) (damage : Damage) → StandsAlone side image s
+    → found_on (has_odd side) image ≡ Damaged damage → ⊥
+alone_undamaged Left image s damage stands found =
+    let no : pair_ends stands.state ≡ Err (Left, damage) = sym stands.is
+    ∙ state_by image [] (Faulty damage) (standing false []) (standing_damaged true image damage found) refl in
+    absurd (cc (no))
+alone_undamaged Right image s damage stands found =
+    let no : pair_ends stands.state ≡ Err (Right, damage) = sym stands.is
+    ∙ state_by [] image Nothing (Faulty damage) (standing_absent true [] (empty_absent true))
+    (standing_damaged false image damage found) in
+    absurd (cc (no))
+
+failed_undamaged : (side : Side) (image : List ℕ) (s : State) (fault : Fault) (damage : Damage)
+    → IsOfFailed side s fault image → found_on (has_odd side) image ≡ Damaged damage → ⊥
+failed_undamaged side image s NoFault damage none found = none
+failed_undamaged side image s InOpening damage none found = none
+failed_undamaged side image s (AtCommand c) damage failed found =
+    alone_undamaged side image (after s c) damage failed.1 found
+
+-- a damaged image is as the disk stood
+pub damaged_stood : (side : Side) (l r : List ℕ) (start : State) (requests : List Request) (fault : Fault)
+    (image : List ℕ) (damage : Damage) → IsOfRun side l r start requests fault image
+    → found_on (has_odd side) image ≡ Damaged damage → IsAsItStood (on side l r) image
+damaged_stood side l r start requests fault image damage (inl absent) found =
+    let no : Absent ≡ Damaged damage = sym absent ∙ found in absurd (cc (no))
+damaged_stood side l r start requests fault image damage (inr (inl stood)) found = stood
+damaged_stood side l r start requests fault image damage (inr (inr (inl (n, alone)))) found =
+    absurd (alone_undamaged side image (fold after start (take n (accepted start requests))) damage alone found)
+damaged_stood side l r start requests fault image damage (inr (inr (inr (inl (c, holds, alone))))) found =
+    absurd (alone_undamaged side image (after start c) damage alone found)
+damaged_stood side l r start requests fault image damage (inr (inr (inr (inr failed)))) found =
+    absurd (failed_undamaged side image (run start requests).0 fault damage failed found)
+
 -- ---- generations
 
 is_rotation : (call : Call) → is_rotate call ≡ true → call ≡ Rotate
@@ -239,7 +283,7 @@ pub generation_counts : (start : State) (requests : List Request)
 generation_counts start requests =
     let cs = accepted start requests in
     let same : (run start requests).0 ≡ fold after start (cs ++ []) =
-        run_folds start requests ∙ ap (fold after start) (sym (append-nil cs)) in
+    run_folds start requests ∙ ap (fold after start) (sym (append-nil cs)) in
     ap (λ (s : State). s.generation) same ∙ fold_generation (cs ++ []) start
 
 -- a longer run has no fewer
@@ -249,7 +293,7 @@ rotations_longer start requests more =
     let cs = accepted start requests in
     let ds = accepted (run start requests).0 more in
     let all : accepted start (requests ++ more) ++ [] ≡ cs ++ ds =
-        append-nil (accepted start (requests ++ more)) ∙ run_accepted start requests more in
+    append-nil (accepted start (requests ++ more)) ∙ run_accepted start requests more in
     let first = rotates_append cs [] in
     let both = ap rotates_in all ∙ rotates_append cs ds in
     let none : rotates_in [] ≡ 0 = refl in
@@ -272,10 +316,10 @@ rotations_more start requests c rotate allowed =
     let s = (run start requests).0 in
     let cs = accepted start requests in
     let newly : accepted s (Do c ∷ []) ≡ c ∷ [] =
-        ap (λ (x : Ruling). (if is_allowed x then c ∷ [] else []) ++ []) allowed in
+    ap (λ (x : Ruling). (if is_allowed x then c ∷ [] else []) ++ []) allowed in
     let all : accepted start (requests ++ Do c ∷ []) ++ [] ≡ cs ++ c ∷ [] =
-        append-nil (accepted start (requests ++ Do c ∷ [])) ∙ run_accepted start requests (Do c ∷ [])
-        ∙ ap (λ (ds : List Command). cs ++ ds) newly in
+    append-nil (accepted start (requests ++ Do c ∷ [])) ∙ run_accepted start requests (Do c ∷ [])
+    ∙ ap (λ (ds : List Command). cs ++ ds) newly in
     let first = rotates_append cs [] in
     let both = ap rotates_in all ∙ rotates_append cs (c ∷ []) in
     let one : rotates_in (c ∷ []) ≡ 1 = ap (λ (b : Bool). 0 + cond b 1 0) rotate in

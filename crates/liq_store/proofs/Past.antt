@@ -139,7 +139,7 @@ grows_same l r start requests others same = record {
   images = λ side image is. of_same side l r start requests image others NoFault same is;
   fewer =
       let equal : rotations start requests NoFault ≡ rotations start others NoFault =
-          ap (λ (cs : List Command). count_by (λ (c : Command). is_rotate c.call) (cs ++ [])) same in
+      ap (λ (cs : List Command). count_by (λ (c : Command). is_rotate c.call) (cs ++ [])) same in
       omega (arith, equal);
 }
 
@@ -223,7 +223,7 @@ module _ {D : Type 0} (moment : D → ℕ) (left_at : D → ℕ → List ℕ →
       let later = requests ++ Do c ∷ [] in
       let s = (run start requests).0 in
       let ends : (run start later).0 ≡ after s c =
-          run_state start requests (Do c ∷ []) ∙ step_is_after s c allowed in
+      run_state start requests (Do c ∷ []) ∙ step_is_after s c allowed in
       record {
         grows = grows_more l r start requests (Do c ∷ []);
         made = λ side image opens. inr (inr (inl (prefix_whole side start later image
@@ -283,353 +283,353 @@ module _ {D : Type 0} (seen : D → Option (List ℕ)) (moment : D → ℕ) (lef
 
   module _ (since : Side → ℕ) (l r : List ℕ) (start : State) (requests : List Request) (old new : Stored D)
       (past : Past seen moment left_at since l r start requests old) (order : IsInOrder seen moment left_at old)
-      where
-    abbrev now : State
-    now = (run start requests).0
+    where
+      abbrev now : State
+      now = (run start requests).0
 
-    going : IsGoing seen moment left_at old
-    going = going_of seen moment left_at old past.going order
+      going : IsGoing seen moment left_at old
+      going = going_of seen moment left_at old past.going order
 
-    left_held : (held : List ℕ) × (seen old.left ≡ Some held)
-    left_held = told_of (seen old.left) past.left_tells
+      left_held : (held : List ℕ) × (seen old.left ≡ Some held)
+      left_held = told_of (seen old.left) past.left_tells
 
-    right_held : (held : List ℕ) × (seen old.right ≡ Some held)
-    right_held = told_of (seen old.right) past.right_tells
+      right_held : (held : List ℕ) × (seen old.right ≡ Some held)
+      right_held = told_of (seen old.right) past.right_tells
 
-    abbrev taken_bytes : List ℕ
-    taken_bytes = on old.side left_held.0 right_held.0
+      abbrev taken_bytes : List ℕ
+      taken_bytes = on old.side left_held.0 right_held.0
 
-    abbrev beside_bytes : List ℕ
-    beside_bytes = beside old.side left_held.0 right_held.0
+      abbrev beside_bytes : List ℕ
+      beside_bytes = beside old.side left_held.0 right_held.0
 
-    taken_told : seen (taken_disk old) ≡ Some taken_bytes
-    taken_told = on_told seen old.side old.left old.right left_held.0 right_held.0 left_held.1 right_held.1
+      taken_told : seen (taken_disk old) ≡ Some taken_bytes
+      taken_told = on_told seen old.side old.left old.right left_held.0 right_held.0 left_held.1 right_held.1
 
-    aside_told : seen (disk_beside old) ≡ Some beside_bytes
-    aside_told = beside_told seen old.side old.left old.right left_held.0 right_held.0 left_held.1 right_held.1
+      aside_told : seen (disk_beside old) ≡ Some beside_bytes
+      aside_told = beside_told seen old.side old.left old.right left_held.0 right_held.0 left_held.1 right_held.1
 
-    settled : IsSettledFor old.side left_held.0 right_held.0 now
-    settled = going.settled left_held.0 right_held.0 left_held.1 right_held.1 now past.stands
+      settled : IsSettledFor old.side left_held.0 right_held.0 now
+      settled = going.settled left_held.0 right_held.0 left_held.1 right_held.1 now past.stands
 
-    leads_now : LeadsTo settled.written now
-    leads_now = settled_leads old.side left_held.0 right_held.0 now settled
+      leads_now : LeadsTo settled.written now
+      leads_now = settled_leads old.side left_held.0 right_held.0 now settled
 
-    open_now : IsOpenFor old.side taken_bytes now
-    open_now = settled_open old.side left_held.0 right_held.0 now settled
+      open_now : IsOpenFor old.side taken_bytes now
+      open_now = settled_open old.side left_held.0 right_held.0 now settled
 
-    rotation_is : (c : Command) → ruling now c ≡ Allowed → (b : Bool) → is_rotate c.call ≡ b
-        → is_rotation now (Do c) ≡ (b && true)
-    rotation_is c allowed b is =
-        ap (λ (x : Bool). x && is_allowed (ruling now c)) is ∙ ap (λ (x : Ruling). b && is_allowed x) allowed
+      rotation_is : (c : Command) → ruling now c ≡ Allowed → (b : Bool) → is_rotate c.call ≡ b
+          → is_rotation now (Do c) ≡ (b && true)
+      rotation_is c allowed b is =
+          ap (λ (x : Bool). x && is_allowed (ruling now c)) is ∙ ap (λ (x : Ruling). b && is_allowed x) allowed
 
-    module _ (c : Command) (a : Answer) (allowed : ruling now c ≡ Allowed)
-        (writes : WritesOn seen moment left_at old (Do c) a new) (later : List Request) (fault : Fault)
-        (makes : Makes moment left_at l r start requests later fault c) where
-      abbrev One : Side → ℕ → D → Type 0
-      One side from disk = LeavesOne moment left_at l r start side from later fault disk
+      module _ (c : Command) (a : Answer) (allowed : ruling now c ≡ Allowed)
+          (writes : WritesOn seen moment left_at old (Do c) a new) (later : List Request) (fault : Fault)
+          (makes : Makes moment left_at l r start requests later fault c) where
+        abbrev One : Side → ℕ → D → Type 0
+        One side from disk = LeavesOne moment left_at l r start side from later fault disk
 
-      before_taken : One old.side (since old.side) (taken_disk old)
-      before_taken =
-          grown moment left_at l r start old.side (since old.side) requests later fault (taken_disk old) makes.grows
-          (one_of moment left_at l r start since requests NoFault old.left old.right past.leaves old.side)
+        before_taken : One old.side (since old.side) (taken_disk old)
+        before_taken =
+            grown moment left_at l r start old.side (since old.side) requests later fault (taken_disk old) makes.grows
+            (one_of moment left_at l r start since requests NoFault old.left old.right past.leaves old.side)
 
-      before_beside : One (other old.side) (since (other old.side)) (disk_beside old)
-      before_beside =
-          grown moment left_at l r start (other old.side) (since (other old.side)) requests later fault (disk_beside old)
-          makes.grows
-          (one_beside moment left_at l r start since requests NoFault old.left old.right past.leaves old.side)
+        before_beside : One (other old.side) (since (other old.side)) (disk_beside old)
+        before_beside =
+            grown moment left_at l r start (other old.side) (since (other old.side)) requests later fault (disk_beside old)
+            makes.grows
+            (one_beside moment left_at l r start since requests NoFault old.left old.right past.leaves old.side)
 
-      -- a record behind the taken disk's journal
-      module _ (is : is_rotate c.call ≡ false) where
-        append_leaves : LeavesOnly moment left_at (taken_disk old) (on old.side new.left new.right)
-            (BeforeOrAfter (has_odd old.side) settled.written (read_back c))
-        append_leaves = writes.written past.going taken_bytes settled.written c taken_told settled.open_on.found refl
+        -- a record behind the taken disk's journal
+        module _ (is : is_rotate c.call ≡ false) where
+          append_leaves : LeavesOnly moment left_at (taken_disk old) (on old.side new.left new.right)
+              (BeforeOrAfter (has_odd old.side) settled.written (read_back c))
+          append_leaves = writes.written past.going taken_bytes settled.written c taken_told settled.open_on.found refl
 
-        append_open : (image : List ℕ)
-            → LeftSince moment left_at (on old.side new.left new.right) (moment (taken_disk old)) image
-            → IsOpenFor old.side image now ⊎ IsOpenFor old.side image (after now c)
-        append_open image was = ⊎_elim
-            (λ before. inl before)
-            (λ done. inr (subst (λ (s : State). IsOpenFor old.side image s) (heard_after now c) done))
-            (of_append old.side settled.written (read_back c) now image leads_now
-            (heard_ruling now c ∙ allowed) (append_leaves.each image was))
+          append_open : (image : List ℕ)
+              → LeftSince moment left_at (on old.side new.left new.right) (moment (taken_disk old)) image
+              → IsOpenFor old.side image now ⊎ IsOpenFor old.side image (after now c)
+          append_open image was = ⊎_elim
+              (λ before. inl before)
+              (λ done. inr (subst (λ (s : State). IsOpenFor old.side image s) (heard_after now c) done))
+              (of_append old.side settled.written (read_back c) now image leads_now
+              (heard_ruling now c ∙ allowed) (append_leaves.each image was))
 
-        append_one : One old.side (moment (taken_disk old)) (on old.side new.left new.right)
-        append_one = record {
-          images = λ image was. ⊎_elim
-              (λ before. makes.grows.images old.side image
-              (inr (inr (inl (prefix_whole old.side start requests image before)))))
-              (λ done. makes.made old.side image done)
-              (append_open image was);
-          whole = λ first few image was absent. ⊎_elim
-              (λ before. isnt_absent old.side image now before absent)
-              (λ done. isnt_absent old.side image (after now c) done absent)
-              (append_open image was);
+          append_one : One old.side (moment (taken_disk old)) (on old.side new.left new.right)
+          append_one = record {
+            images = λ image was. ⊎_elim
+                (λ before. makes.grows.images old.side image
+                (inr (inr (inl (prefix_whole old.side start requests image before)))))
+                (λ done. makes.made old.side image done)
+                (append_open image was);
+            whole = λ first few image was absent. ⊎_elim
+                (λ before. isnt_absent old.side image now before absent)
+                (λ done. isnt_absent old.side image (after now c) done absent)
+                (append_open image was);
+          }
+
+          appended : LeavesPast moment left_at since l r start later fault new.left new.right
+          appended =
+              by_side moment left_at l r start since later fault new.left new.right old.side
+              (goes moment left_at l r start old.side (since old.side) later fault (taken_disk old)
+              (on old.side new.left new.right) append_leaves.goes_on (past.later old.side) before_taken append_one)
+              (subst (λ (d : D). One (other old.side) (since (other old.side)) d)
+              (sym (writes.aside now past.stands (rotation_is c allowed false is))) before_beside)
+
+        -- the next generation on the other disk
+        module _ (is : is_rotate c.call ≡ true) where
+          rotated : is_rotation now (Do c) ≡ true
+          rotated = rotation_is c allowed true is
+
+          abbrev next : Written
+          next = rotation_of now c
+
+          turn_leaves : LeavesOnly moment left_at (disk_beside old) (beside old.side new.left new.right)
+              (CreateLeaves (has_odd (other old.side)) beside_bytes next)
+          turn_leaves = writes.created past.going now past.stands beside_bytes c aside_told refl rotated
+
+          still_taken : LeftSince moment left_at (on old.side new.left new.right) (moment (taken_disk old)) taken_bytes
+          still_taken =
+              subst (λ (d : D). LeftSince moment left_at d (moment (taken_disk old)) taken_bytes)
+              (sym (writes.taken now past.stands rotated))
+              (moment (taken_disk old), omega arith, omega arith, stays (taken_disk old) taken_bytes taken_told)
+
+          -- beside the taken disk it is kept for the state, or for it after the rotation
+          turn_kept : (image : List ℕ)
+              → LeftSince moment left_at (beside old.side new.left new.right) (moment (disk_beside old)) image
+              → IsKeptAround now (Do c) (on old.side taken_bytes image) (on old.side image taken_bytes)
+          turn_kept image was =
+              pair_by moment left_at old.side old.left old.right new.left new.right (IsKeptAround now (Do c))
+              (writes.kept past.going left_held.0 right_held.0 now left_held.1 right_held.1 past.stands)
+              taken_bytes image still_taken was
+
+          turn_open : (image : List ℕ)
+              → LeftSince moment left_at (beside old.side new.left new.right) (moment (disk_beside old)) image
+              → found_on (has_odd (other old.side)) image ≡ Open next → IsOpenFor (other old.side) image (after now c)
+          turn_open image was found = by (turn_kept image was)
+            where
+              generation : settled.written.generation ≡ now.generation
+              generation =
+                  leads_generation (has_odd old.side) taken_bytes settled.written now settled.open_on.found leads_now
+
+              leads : (t : State) → IsKept (on old.side taken_bytes image) (on old.side image taken_bytes) t
+                  → LeadsTo next t
+              leads t kept =
+                  later_leads old.side taken_bytes image settled.written next now t leads_now settled.open_on.found found
+                  (let g = generation in omega (arith, g)) kept.stands
+
+              by : IsKeptAround now (Do c) (on old.side taken_bytes image) (on old.side image taken_bytes)
+                  → IsOpenFor (other old.side) image (after now c)
+              by (inl kept) =
+                  let same : next.generation ≡ now.generation =
+                  leads_generation (has_odd (other old.side)) image next now found (leads now kept) in
+                  absurd (omega (arith, same))
+              by (inr kept) =
+                  let done = leads (step now (Do c)).0 kept in
+                  record {
+                    written = next;
+                    found = found;
+                    leads = subst (λ (t : State). LeadsTo next t) (step_is_after now c allowed) done;
+                  }
+
+          turn_one : One (other old.side) (moment (disk_beside old)) (beside old.side new.left new.right)
+          turn_one = record {
+            images = λ image was. by image was
+                (of_creation (other old.side) beside_bytes image next (turn_leaves.each image was));
+            whole = λ first few image was absent. not_first first few;
+          }
+            where
+              by : (image : List ℕ)
+                  → LeftSince moment left_at (beside old.side new.left new.right) (moment (disk_beside old)) image
+                  → (found_on (has_odd (other old.side)) image ≡ Absent)
+                  ⊎ (IsAsItStood beside_bytes image ⊎ (found_on (has_odd (other old.side)) image ≡ Open next))
+                  → IsOfRun (other old.side) l r start later fault image
+              by image was (inl absent) = inl absent
+              by image was (inr (inl stood)) =
+                  makes.grows.images (other old.side) image (past.aside beside_bytes image aside_told stood)
+              by image was (inr (inr found)) = makes.made (other old.side) image (turn_open image was found)
+
+              -- the disk that was taken first is beside only after a first rotation
+              not_first : IsTakenFirst (other old.side) l r → rotations start later fault ≤ 1 → ⊥
+              not_first first few =
+                  let more = makes.more is in
+                  let counts = generation_counts start requests in
+                  let same : now.generation ≡ start.generation = omega (arith, more, counts, few) in
+                  sides_differ old.side
+                  (first_parity (other old.side) l r start past.kept first ∙ ap is_odd (sym same)
+                  ∙ sym (settled_parity old.side left_held.0 right_held.0 now settled))
+
+          turned : LeavesPast moment left_at since l r start later fault new.left new.right
+          turned =
+              by_side moment left_at l r start since later fault new.left new.right old.side
+              (subst (λ (d : D). One old.side (since old.side) d) (sym (writes.taken now past.stands rotated))
+              before_taken)
+              (goes moment left_at l r start (other old.side) (since (other old.side)) later fault (disk_beside old)
+              (beside old.side new.left new.right) turn_leaves.goes_on (later_beside old.side) before_beside turn_one)
+            where
+              later_beside : (side : Side) → since (other side) ≤ moment (beside side old.left old.right)
+              later_beside Left = past.later Right
+              later_beside Right = past.later Left
+
+        called : LeavesPast moment left_at since l r start later fault new.left new.right
+        called = by (is_rotate c.call) refl
+          where
+            by : (b : Bool) → is_rotate c.call ≡ b
+                → LeavesPast moment left_at since l r start later fault new.left new.right
+            by true is = turned is
+            by false is = appended is
+
+      -- ---- what is known after it
+
+      -- an accepted command is answered
+      module _ (c : Command) (reply : Reply) (allowed : ruling now c ≡ Allowed)
+          (writes : WritesOn seen moment left_at old (Do c) (answer.Reply reply) new) where
+        abbrev longer : List Request
+        longer = requests ++ Do c ∷ []
+
+        makes : Makes moment left_at l r start requests longer NoFault c
+        makes = makes_replied moment left_at l r start requests c allowed
+
+        later_then : (side : Side) → since side ≤ moment (on side new.left new.right)
+        later_then Left = let before = past.later Left in let time = writes.left_time.later in omega (arith, before, time)
+        later_then Right =
+            let before = past.later Right in let time = writes.right_time.later in omega (arith, before, time)
+
+        aside_appended : is_rotate c.call ≡ false → (held image : List ℕ) → seen (disk_beside new) ≡ Some held
+            → IsAsItStood held image → IsOfRun (other new.side) l r start longer NoFault image
+        aside_appended is held image told stood =
+            let is_no = rotation_is c allowed false is in
+            let side : new.side ≡ old.side = writes.side now past.stands
+            ∙ ap (λ (b : Bool). if b then other old.side else old.side) is_no in
+            let same : disk_beside new ≡ disk_beside old =
+            ap (λ (s : Side). beside s new.left new.right) side ∙ writes.aside now past.stands is_no in
+            subst (λ (s : Side). IsOfRun (other s) l r start longer NoFault image) (sym side)
+            (makes.grows.images (other old.side) image (past.aside held image (ap seen (sym same) ∙ told) stood))
+
+        aside_turned : is_rotate c.call ≡ true → (held image : List ℕ) → seen (disk_beside new) ≡ Some held
+            → IsAsItStood held image → IsOfRun (other new.side) l r start longer NoFault image
+        aside_turned is held image told stood =
+            let is_yes = rotation_is c allowed true is in
+            let side : new.side ≡ other old.side = writes.side now past.stands
+            ∙ ap (λ (b : Bool). if b then other old.side else old.side) is_yes in
+            let same : disk_beside new ≡ taken_disk old =
+            ap (λ (s : Side). beside s new.left new.right) side ∙ beside_other old.side new.left new.right
+            ∙ writes.taken now past.stands is_yes in
+            let bytes : taken_bytes ≡ held =
+            same_bytes taken_bytes held (seen (taken_disk old)) taken_told (ap seen (sym same) ∙ told) in
+            let opens : IsOpenFor old.side held now = subst (λ (l : List ℕ). IsOpenFor old.side l now) bytes open_now in
+            subst (λ (s : Side). IsOfRun s l r start longer NoFault image)
+            (sym (ap other side ∙ other_twice old.side))
+            (⊎_elim (λ absent. inl absent)
+            (λ still_open. makes.grows.images old.side image
+            (inr (inr (inl (prefix_whole old.side start requests image still_open)))))
+            (open_with old.side held image now opens stood))
+
+        replied : new.stopped ≡ None → StandsFor new.core (step now (Do c)).0
+            → Past seen moment left_at since l r start longer new
+        replied none stands = record {
+          kept = past.kept;
+          going = none;
+          stands = subst (λ (s : State). StandsFor new.core s) (sym (run_state start requests (Do c ∷ []))) stands;
+          left_tells = writes.left_telling.1 past.left_tells;
+          right_tells = writes.right_telling.1 past.right_tells;
+          later = later_then;
+          leaves = called c (answer.Reply reply) allowed writes longer NoFault makes;
+          aside = by (is_rotate c.call) refl;
         }
-
-        appended : LeavesPast moment left_at since l r start later fault new.left new.right
-        appended =
-            by_side moment left_at l r start since later fault new.left new.right old.side
-            (goes moment left_at l r start old.side (since old.side) later fault (taken_disk old)
-            (on old.side new.left new.right) append_leaves.goes_on (past.later old.side) before_taken append_one)
-            (subst (λ (d : D). One (other old.side) (since (other old.side)) d)
-            (sym (writes.aside now past.stands (rotation_is c allowed false is))) before_beside)
-
-      -- the next generation on the other disk
-      module _ (is : is_rotate c.call ≡ true) where
-        rotated : is_rotation now (Do c) ≡ true
-        rotated = rotation_is c allowed true is
-
-        abbrev next : Written
-        next = rotation_of now c
-
-        turn_leaves : LeavesOnly moment left_at (disk_beside old) (beside old.side new.left new.right)
-            (CreateLeaves (has_odd (other old.side)) beside_bytes next)
-        turn_leaves = writes.created past.going now past.stands beside_bytes c aside_told refl rotated
-
-        still_taken : LeftSince moment left_at (on old.side new.left new.right) (moment (taken_disk old)) taken_bytes
-        still_taken =
-            subst (λ (d : D). LeftSince moment left_at d (moment (taken_disk old)) taken_bytes)
-            (sym (writes.taken now past.stands rotated))
-            (moment (taken_disk old), omega arith, omega arith, stays (taken_disk old) taken_bytes taken_told)
-
-        -- beside the taken disk it is kept for the state, or for it after the rotation
-        turn_kept : (image : List ℕ)
-            → LeftSince moment left_at (beside old.side new.left new.right) (moment (disk_beside old)) image
-            → IsKeptAround now (Do c) (on old.side taken_bytes image) (on old.side image taken_bytes)
-        turn_kept image was =
-            pair_by moment left_at old.side old.left old.right new.left new.right (IsKeptAround now (Do c))
-            (writes.kept past.going left_held.0 right_held.0 now left_held.1 right_held.1 past.stands)
-            taken_bytes image still_taken was
-
-        turn_open : (image : List ℕ)
-            → LeftSince moment left_at (beside old.side new.left new.right) (moment (disk_beside old)) image
-            → found_on (has_odd (other old.side)) image ≡ Open next → IsOpenFor (other old.side) image (after now c)
-        turn_open image was found = by (turn_kept image was)
           where
-            generation : settled.written.generation ≡ now.generation
-            generation =
-                leads_generation (has_odd old.side) taken_bytes settled.written now settled.open_on.found leads_now
+            by : (b : Bool) → is_rotate c.call ≡ b → (held image : List ℕ) → seen (disk_beside new) ≡ Some held
+                → IsAsItStood held image → IsOfRun (other new.side) l r start longer NoFault image
+            by true is = aside_turned is
+            by false is = aside_appended is
 
-            leads : (t : State) → IsKept (on old.side taken_bytes image) (on old.side image taken_bytes) t
-                → LeadsTo next t
-            leads t kept =
-                later_leads old.side taken_bytes image settled.written next now t leads_now settled.open_on.found found
-                (let g = generation in omega (arith, g)) kept.stands
-
-            by : IsKeptAround now (Do c) (on old.side taken_bytes image) (on old.side image taken_bytes)
-                → IsOpenFor (other old.side) image (after now c)
-            by (inl kept) =
-                let same : next.generation ≡ now.generation =
-                    leads_generation (has_odd (other old.side)) image next now found (leads now kept) in
-                absurd (omega (arith, same))
-            by (inr kept) =
-                let done = leads (step now (Do c)).0 kept in
-                record {
-                  written = next;
-                  found = found;
-                  leads = subst (λ (t : State). LeadsTo next t) (step_is_after now c allowed) done;
-                }
-
-        turn_one : One (other old.side) (moment (disk_beside old)) (beside old.side new.left new.right)
-        turn_one = record {
-          images = λ image was. by image was
-              (of_creation (other old.side) beside_bytes image next (turn_leaves.each image was));
-          whole = λ first few image was absent. not_first first few;
-        }
-          where
-            by : (image : List ℕ)
-                → LeftSince moment left_at (beside old.side new.left new.right) (moment (disk_beside old)) image
-                → (found_on (has_odd (other old.side)) image ≡ Absent)
-                ⊎ (IsAsItStood beside_bytes image ⊎ (found_on (has_odd (other old.side)) image ≡ Open next))
-                → IsOfRun (other old.side) l r start later fault image
-            by image was (inl absent) = inl absent
-            by image was (inr (inl stood)) =
-                makes.grows.images (other old.side) image (past.aside beside_bytes image aside_told stood)
-            by image was (inr (inr found)) = makes.made (other old.side) image (turn_open image was found)
-
-            -- the disk that was taken first is beside only after a first rotation
-            not_first : IsTakenFirst (other old.side) l r → rotations start later fault ≤ 1 → ⊥
-            not_first first few =
-                let more = makes.more is in
-                let counts = generation_counts start requests in
-                let same : now.generation ≡ start.generation = omega (arith, more, counts, few) in
-                sides_differ old.side
-                (first_parity (other old.side) l r start past.kept first ∙ ap is_odd (sym same)
-                ∙ sym (settled_parity old.side left_held.0 right_held.0 now settled))
-
-        turned : LeavesPast moment left_at since l r start later fault new.left new.right
-        turned =
-            by_side moment left_at l r start since later fault new.left new.right old.side
-            (subst (λ (d : D). One old.side (since old.side) d) (sym (writes.taken now past.stands rotated))
-            before_taken)
-            (goes moment left_at l r start (other old.side) (since (other old.side)) later fault (disk_beside old)
-            (beside old.side new.left new.right) turn_leaves.goes_on (later_beside old.side) before_beside turn_one)
-          where
-            later_beside : (side : Side) → since (other side) ≤ moment (beside side old.left old.right)
-            later_beside Left = past.later Right
-            later_beside Right = past.later Left
-
-      called : LeavesPast moment left_at since l r start later fault new.left new.right
-      called = by (is_rotate c.call) refl
-        where
-          by : (b : Bool) → is_rotate c.call ≡ b
-              → LeavesPast moment left_at since l r start later fault new.left new.right
-          by true is = turned is
-          by false is = appended is
-
-    -- ---- what is known after it
-
-    -- an accepted command is answered
-    module _ (c : Command) (reply : Reply) (allowed : ruling now c ≡ Allowed)
-        (writes : WritesOn seen moment left_at old (Do c) (answer.Reply reply) new) where
-      abbrev longer : List Request
-      longer = requests ++ Do c ∷ []
-
-      makes : Makes moment left_at l r start requests longer NoFault c
-      makes = makes_replied moment left_at l r start requests c allowed
-
-      later_then : (side : Side) → since side ≤ moment (on side new.left new.right)
-      later_then Left = let before = past.later Left in let time = writes.left_time.later in omega (arith, before, time)
-      later_then Right =
-          let before = past.later Right in let time = writes.right_time.later in omega (arith, before, time)
-
-      aside_appended : is_rotate c.call ≡ false → (held image : List ℕ) → seen (disk_beside new) ≡ Some held
-          → IsAsItStood held image → IsOfRun (other new.side) l r start longer NoFault image
-      aside_appended is held image told stood =
-          let is_no = rotation_is c allowed false is in
+      -- any other request
+      idle : (request : Request) (reply : Reply) → new.stopped ≡ None → StandsFor new.core (step now request).0
+          → WritesOn seen moment left_at old request (answer.Reply reply) new → (IsAccepted now request → ⊥)
+          → is_rotation now request ≡ false → Past seen moment left_at since l r start (requests ++ request ∷ []) new
+      idle request reply none stands writes refused stays_here =
+          let same = writes.unwritten now past.stands refused in
           let side : new.side ≡ old.side = writes.side now past.stands
-              ∙ ap (λ (b : Bool). if b then other old.side else old.side) is_no in
-          let same : disk_beside new ≡ disk_beside old =
-              ap (λ (s : Side). beside s new.left new.right) side ∙ writes.aside now past.stands is_no in
-          subst (λ (s : Side). IsOfRun (other s) l r start longer NoFault image) (sym side)
-          (makes.grows.images (other old.side) image (past.aside held image (ap seen (sym same) ∙ told) stood))
+          ∙ ap (λ (b : Bool). if b then other old.side else old.side) stays_here in
+          still since l r start requests old new past (requests ++ request ∷ [])
+          (grows_more l r start requests (request ∷ [])) none
+          (subst (λ (s : State). StandsFor new.core s) (sym (run_state start requests (request ∷ []))) stands)
+          same.0 same.1 side
 
-      aside_turned : is_rotate c.call ≡ true → (held image : List ℕ) → seen (disk_beside new) ≡ Some held
-          → IsAsItStood held image → IsOfRun (other new.side) l r start longer NoFault image
-      aside_turned is held image told stood =
-          let is_yes = rotation_is c allowed true is in
-          let side : new.side ≡ other old.side = writes.side now past.stands
-              ∙ ap (λ (b : Bool). if b then other old.side else old.side) is_yes in
-          let same : disk_beside new ≡ taken_disk old =
-              ap (λ (s : Side). beside s new.left new.right) side ∙ beside_other old.side new.left new.right
-              ∙ writes.taken now past.stands is_yes in
-          let bytes : taken_bytes ≡ held =
-              same_bytes taken_bytes held (seen (taken_disk old)) taken_told (ap seen (sym same) ∙ told) in
-          let opens : IsOpenFor old.side held now = subst (λ (l : List ℕ). IsOpenFor old.side l now) bytes open_now in
-          subst (λ (s : Side). IsOfRun s l r start longer NoFault image)
-          (sym (ap other side ∙ other_twice old.side))
-          (⊎_elim (λ absent. inl absent)
-          (λ still_open. makes.grows.images old.side image
-          (inr (inr (inl (prefix_whole old.side start requests image still_open)))))
-          (open_with old.side held image now opens stood))
-
-      replied : new.stopped ≡ None → StandsFor new.core (step now (Do c)).0
-          → Past seen moment left_at since l r start longer new
-      replied none stands = record {
-        kept = past.kept;
-        going = none;
-        stands = subst (λ (s : State). StandsFor new.core s) (sym (run_state start requests (Do c ∷ []))) stands;
-        left_tells = writes.left_telling.1 past.left_tells;
-        right_tells = writes.right_telling.1 past.right_tells;
-        later = later_then;
-        leaves = called c (answer.Reply reply) allowed writes longer NoFault makes;
-        aside = by (is_rotate c.call) refl;
-      }
+      -- A request is answered.
+      pub goes_on : (request : Request) (reply : Reply) → new.stopped ≡ None
+          → ((s : State) → StandsFor old.core s → Answers s request (answer.Reply reply) new.core)
+          → WritesOn seen moment left_at old request (answer.Reply reply) new
+          → Past seen moment left_at since l r start (requests ++ request ∷ []) new
+      goes_on (Do c) reply none answers writes = by (ruling now c) refl
         where
-          by : (b : Bool) → is_rotate c.call ≡ b → (held image : List ℕ) → seen (disk_beside new) ≡ Some held
-              → IsAsItStood held image → IsOfRun (other new.side) l r start longer NoFault image
-          by true is = aside_turned is
-          by false is = aside_appended is
+          stands : StandsFor new.core (step now (Do c)).0
+          stands = (answers now past.stands).0
 
-    -- any other request
-    idle : (request : Request) (reply : Reply) → new.stopped ≡ None → StandsFor new.core (step now request).0
-        → WritesOn seen moment left_at old request (answer.Reply reply) new → (IsAccepted now request → ⊥)
-        → is_rotation now request ≡ false → Past seen moment left_at since l r start (requests ++ request ∷ []) new
-    idle request reply none stands writes refused stays_here =
-        let same = writes.unwritten now past.stands refused in
-        let side : new.side ≡ old.side = writes.side now past.stands
-            ∙ ap (λ (b : Bool). if b then other old.side else old.side) stays_here in
-        still since l r start requests old new past (requests ++ request ∷ [])
-        (grows_more l r start requests (request ∷ [])) none
-        (subst (λ (s : State). StandsFor new.core s) (sym (run_state start requests (request ∷ []))) stands)
-        same.0 same.1 side
+          refused : (x : Ruling) → ruling now c ≡ x → is_allowed x ≡ false → (x ≡ Allowed → ⊥)
+              → Past seen moment left_at since l r start (requests ++ Do c ∷ []) new
+          refused x is not_one isnt =
+              let all : is_rotation now (Do c) ≡ (is_rotate c.call && false) =
+              ap (λ (y : Ruling). is_rotate c.call && is_allowed y) is ∙ ap (λ (b : Bool). is_rotate c.call && b) not_one in
+              idle (Do c) reply none stands writes (λ allowed. isnt (sym is ∙ allowed)) (all ∙ and_false (is_rotate c.call))
 
-    -- A request is answered.
-    pub goes_on : (request : Request) (reply : Reply) → new.stopped ≡ None
-        → ((s : State) → StandsFor old.core s → Answers s request (answer.Reply reply) new.core)
-        → WritesOn seen moment left_at old request (answer.Reply reply) new
-        → Past seen moment left_at since l r start (requests ++ request ∷ []) new
-    goes_on (Do c) reply none answers writes = by (ruling now c) refl
-      where
-        stands : StandsFor new.core (step now (Do c)).0
-        stands = (answers now past.stands).0
+          by : (x : Ruling) → ruling now c ≡ x → Past seen moment left_at since l r start (requests ++ Do c ∷ []) new
+          by Allowed is = replied c reply is writes none stands
+          by (Refused refusal) is = refused (Refused refusal) is refl (λ is_one. absurd (cc (is_one)))
+          by (Repeated kept) is = refused (Repeated kept) is refl (λ is_one. absurd (cc (is_one)))
+      goes_on (Ask query) reply none answers writes =
+          idle (Ask query) reply none (answers now past.stands).0 writes (λ accepted. accepted) refl
 
-        refused : (x : Ruling) → ruling now c ≡ x → is_allowed x ≡ false → (x ≡ Allowed → ⊥)
-            → Past seen moment left_at since l r start (requests ++ Do c ∷ []) new
-        refused x is not_one isnt =
-            let all : is_rotation now (Do c) ≡ (is_rotate c.call && false) =
-                ap (λ (y : Ruling). is_rotate c.call && is_allowed y) is ∙ ap (λ (b : Bool). is_rotate c.call && b) not_one in
-            idle (Do c) reply none stands writes (λ allowed. isnt (sym is ∙ allowed)) (all ∙ and_false (is_rotate c.call))
+      -- Memory was wanted for it.
+      pub waits : (request : Request) → new.stopped ≡ None
+          → ((s : State) → StandsFor old.core s → Answers s request answer.NoMemory new.core)
+          → WritesOn seen moment left_at old request answer.NoMemory new
+          → Past seen moment left_at since l r start requests new
+      waits request none answers writes =
+          let same = writes.no_memory refl in
+          still since l r start requests old new past requests (grows_halted l r start requests NoFault) none
+          (answers now past.stands).0 same.0 same.1 (writes.side now past.stands)
 
-        by : (x : Ruling) → ruling now c ≡ x → Past seen moment left_at since l r start (requests ++ Do c ∷ []) new
-        by Allowed is = replied c reply is writes none stands
-        by (Refused refusal) is = refused (Refused refusal) is refl (λ is_one. absurd (cc (is_one)))
-        by (Repeated kept) is = refused (Repeated kept) is refl (λ is_one. absurd (cc (is_one)))
-    goes_on (Ask query) reply none answers writes =
-        idle (Ask query) reply none (answers now past.stands).0 writes (λ accepted. accepted) refl
+      -- A disk met a fault at it.
+      stops_at : (c : Command) → ((s : State) → StandsFor old.core s → Answers s (Do c) answer.DiskFault new.core)
+          → WritesOn seen moment left_at old (Do c) answer.DiskFault new
+          → LeavesPast moment left_at since l r start requests (AtCommand c) new.left new.right
+      stops_at c answers writes =
+          let allowed = (answers now past.stands).1 in
+          called c answer.DiskFault allowed writes requests (AtCommand c)
+          (makes_failed moment left_at l r start requests c allowed)
 
-    -- Memory was wanted for it.
-    pub waits : (request : Request) → new.stopped ≡ None
-        → ((s : State) → StandsFor old.core s → Answers s request answer.NoMemory new.core)
-        → WritesOn seen moment left_at old request answer.NoMemory new
-        → Past seen moment left_at since l r start requests new
-    waits request none answers writes =
-        let same = writes.no_memory refl in
-        still since l r start requests old new past requests (grows_halted l r start requests NoFault) none
-        (answers now past.stands).0 same.0 same.1 (writes.side now past.stands)
+      pub stops : (request : Request) (c : Command) → request ≡ Do c
+          → ((s : State) → StandsFor old.core s → Answers s request answer.DiskFault new.core)
+          → WritesOn seen moment left_at old request answer.DiskFault new
+          → LeavesPast moment left_at since l r start requests (AtCommand c) new.left new.right
+      stops request c is =
+          subst (λ (q : Request). ((s : State) → StandsFor old.core s → Answers s q answer.DiskFault new.core)
+          → WritesOn seen moment left_at old q answer.DiskFault new
+          → LeavesPast moment left_at since l r start requests (AtCommand c) new.left new.right) (sym is) (stops_at c)
 
-    -- A disk met a fault at it.
-    stops_at : (c : Command) → ((s : State) → StandsFor old.core s → Answers s (Do c) answer.DiskFault new.core)
-        → WritesOn seen moment left_at old (Do c) answer.DiskFault new
-        → LeavesPast moment left_at since l r start requests (AtCommand c) new.left new.right
-    stops_at c answers writes =
-        let allowed = (answers now past.stands).1 in
-        called c answer.DiskFault allowed writes requests (AtCommand c)
-        (makes_failed moment left_at l r start requests c allowed)
+      kept_at : (c : Command) → ((s : State) → StandsFor old.core s → Answers s (Do c) answer.DiskFault new.core)
+          → WritesOn seen moment left_at old (Do c) answer.DiskFault new
+          → (a b : List ℕ) → LeftNow moment left_at new.left a → LeftNow moment left_at new.right b
+          → KeptAtEnd l r start requests (AtCommand c) a b
+      kept_at c answers writes a b la lb =
+          let allowed = (answers now past.stands).1 in
+          let kept : IsKeptAround now (Do c) a b =
+          writes.kept past.going left_held.0 right_held.0 now left_held.1 right_held.1 past.stands a b
+          (moment new.left, writes.left_time.later, omega arith, la)
+          (moment new.right, writes.right_time.later, omega arith, lb) in
+          ⊎_elim (λ before. inl before)
+          (λ done. inr (allowed, subst (λ (s : State). IsKept a b s) (step_is_after now c allowed) done)) kept
 
-    pub stops : (request : Request) (c : Command) → request ≡ Do c
-        → ((s : State) → StandsFor old.core s → Answers s request answer.DiskFault new.core)
-        → WritesOn seen moment left_at old request answer.DiskFault new
-        → LeavesPast moment left_at since l r start requests (AtCommand c) new.left new.right
-    stops request c is =
-        subst (λ (q : Request). ((s : State) → StandsFor old.core s → Answers s q answer.DiskFault new.core)
-        → WritesOn seen moment left_at old q answer.DiskFault new
-        → LeavesPast moment left_at since l r start requests (AtCommand c) new.left new.right) (sym is) (stops_at c)
-
-    kept_at : (c : Command) → ((s : State) → StandsFor old.core s → Answers s (Do c) answer.DiskFault new.core)
-        → WritesOn seen moment left_at old (Do c) answer.DiskFault new
-        → (a b : List ℕ) → LeftNow moment left_at new.left a → LeftNow moment left_at new.right b
-        → KeptAtEnd l r start requests (AtCommand c) a b
-    kept_at c answers writes a b la lb =
-        let allowed = (answers now past.stands).1 in
-        let kept : IsKeptAround now (Do c) a b =
-            writes.kept past.going left_held.0 right_held.0 now left_held.1 right_held.1 past.stands a b
-            (moment new.left, writes.left_time.later, omega arith, la)
-            (moment new.right, writes.right_time.later, omega arith, lb) in
-        ⊎_elim (λ before. inl before)
-        (λ done. inr (allowed, subst (λ (s : State). IsKept a b s) (step_is_after now c allowed) done)) kept
-
-    pub stops_kept : (request : Request) (c : Command) → request ≡ Do c
-        → ((s : State) → StandsFor old.core s → Answers s request answer.DiskFault new.core)
-        → WritesOn seen moment left_at old request answer.DiskFault new
-        → (a b : List ℕ) → LeftNow moment left_at new.left a → LeftNow moment left_at new.right b
-        → KeptAtEnd l r start requests (AtCommand c) a b
-    stops_kept request c is =
-        subst (λ (q : Request). ((s : State) → StandsFor old.core s → Answers s q answer.DiskFault new.core)
-        → WritesOn seen moment left_at old q answer.DiskFault new
-        → (a b : List ℕ) → LeftNow moment left_at new.left a → LeftNow moment left_at new.right b
-        → KeptAtEnd l r start requests (AtCommand c) a b) (sym is) (kept_at c)
+      pub stops_kept : (request : Request) (c : Command) → request ≡ Do c
+          → ((s : State) → StandsFor old.core s → Answers s request answer.DiskFault new.core)
+          → WritesOn seen moment left_at old request answer.DiskFault new
+          → (a b : List ℕ) → LeftNow moment left_at new.left a → LeftNow moment left_at new.right b
+          → KeptAtEnd l r start requests (AtCommand c) a b
+      stops_kept request c is =
+          subst (λ (q : Request). ((s : State) → StandsFor old.core s → Answers s q answer.DiskFault new.core)
+          → WritesOn seen moment left_at old q answer.DiskFault new
+          → (a b : List ℕ) → LeftNow moment left_at new.left a → LeftNow moment left_at new.right b
+          → KeptAtEnd l r start requests (AtCommand c) a b) (sym is) (kept_at c)
 
   -- ---- the end of a run that met no fault
 
@@ -644,8 +644,8 @@ module _ {D : Type 0} (seen : D → Option (List ℕ)) (moment : D → ℕ) (lef
       let same_left : a ≡ left.0 = rest_now seen moment left_at store.left left.0 left.1 go.left a la in
       let same_right : b ≡ right.0 = rest_now seen moment left_at store.right right.0 right.1 go.right b lb in
       let kept : IsKept left.0 right.0 (run start requests).0 =
-          settled_kept store.side left.0 right.0 (run start requests).0
-          (settled since l r start requests store store past order) in
+      settled_kept store.side left.0 right.0 (run start requests).0
+      (settled since l r start requests store store past order) in
       subst (λ (x : List ℕ). IsKept x b (run start requests).0) (sym same_left)
       (subst (λ (y : List ℕ). IsKept left.0 y (run start requests).0) (sym same_right) kept)
 
@@ -657,7 +657,7 @@ module _ {D : Type 0} (seen : D → Option (List ℕ)) (moment : D → ℕ) (lef
       → Past seen moment left_at since l r start others store
   cut since l r start requests others store past same =
       let ends : (run start requests).0 ≡ (run start others).0 =
-          run_folds start requests ∙ ap (fold after start) (sym same) ∙ sym (run_folds start others) in
+      run_folds start requests ∙ ap (fold after start) (sym same) ∙ sym (run_folds start others) in
       still since l r start requests store store past others (grows_same l r start requests others (sym same)) past.going
       (subst (λ (s : State). StandsFor store.core s) ends past.stands) refl refl refl
 
@@ -691,8 +691,8 @@ module _ {D : Type 0} (seen : D → Option (List ℕ)) (moment : D → ℕ) (lef
         → IsOfRun (other store.side) l r start [] NoFault image
     here_aside held image told stood =
         let bytes : held ≡ beside store.side l r =
-            same_bytes held (beside store.side l r) (seen (disk_beside store)) told
-            (beside_told seen store.side store.left store.right l r told_left told_right) in
+        same_bytes held (beside store.side l r) (seen (disk_beside store)) told
+        (beside_told seen store.side store.left store.right l r told_left told_right) in
         inr (inl (subst (λ (x : List ℕ). IsAsItStood x image) (bytes ∙ sym (on_other store.side l r)) stood))
 
     pub begins_here : Past seen moment left_at (λ side. moment (on side store.left store.right)) l r start [] store
@@ -785,7 +785,7 @@ module _ {D : Type 0} (seen : D → Option (List ℕ)) (moment : D → ℕ) (lef
         let go = going_of seen moment left_at store opened.going order in
         let parity = settled_parity store.side a.0 b.0 start (go.settled a.0 b.0 a.1 b.1 start opened_stands) in
         let first : start.generation ≡ 1 =
-            sym (ap (λ (i : Image). i.generation) (none_alike l r start kept.stands left_none right_none).image) in
+        sym (ap (λ (i : Image). i.generation) (none_alike l r start kept.stands left_none right_none).image) in
         let no : false ≡ true = ap has_odd (sym side) ∙ parity ∙ ap is_odd first in
         absurd (cc (no))
 
@@ -878,7 +878,7 @@ module _ {D : Type 0} (seen : D → Option (List ℕ)) (moment : D → ℕ) (lef
     join_first : (side : Side) → IsTakenFirst side l r → IsTakenFirst side a b
     join_first side first =
         let same : store.side ≡ side = one_side store.side side
-            (settled_parity store.side a b start join_settled ∙ sym (first_parity side l r start past.kept first)) in
+        (settled_parity store.side a b start join_settled ∙ sym (first_parity side l r start past.kept first)) in
         subst (λ (s : Side). IsTakenFirst s a b) same (settled_first store.side a b start join_settled)
 
     module _ (left_time : GoesOn moment left_at store.left left) (right_time : GoesOn moment left_at store.right right)
