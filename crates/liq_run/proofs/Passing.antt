@@ -1,5 +1,5 @@
 -- The disks of a store, over the parts of a run.
-use Rattle.std.proofs.Common.{◌≡◌, ℕ, List, [], ◌∷◌, ◌++◌, Option, Some, None, false, refl, sym, subst}
+use Rattle.std.proofs.Common.{◌≡◌, ℕ, List, [], ◌∷◌, ◌++◌, Option, Some, None, Err, false, refl, sym, subst}
 use Rattle.std.specs.Prelude.{◌↔◌, IsSome}
 use Rattle.liq_outside.specs.Disk.{LeavesOnly, LeftNow, Only}
 use Rattle.liq_outside.proofs.Moments.{joined, unmoved}
@@ -25,9 +25,22 @@ use Rattle.liq_store.specs.Opening.{OpensOn}
 use Rattle.liq_store.specs.Past.{Past}
 use Rattle.liq_store.specs.Stored.{Stored}
 use Rattle.liq_store.proofs.Past.{begins, cut, goes_on, stops, stops_kept, waits, with_changes}
+use Rattle.liq_ends.specs.declared.halts.Halt.{Halt}
+use Rattle.liq_ends.specs.declared.halts.Halt.TheVariants.{BadLine, ReadFault, WriteFault, DiskFault, Damaged, NoMemory, Limit, Rotated}
 use Rattle.liq_run.specs.Calls.{GoOn}
-use Rattle.liq_run.specs.Passing.{IsOfAccepted, IsPastOf, IsStoppedPastOf}
+use Rattle.liq_run.specs.Passing.{IsOfAccepted, IsPastOf, IsStoppedPastOf, PassesBy}
 use Rattle.liq_run.proofs.Progressing.{asked-more}
+
+-- what holds where the next request was not answered, whatever it was to give
+pub passes_as : (T U : Type 0) (past : List Request → Type 0) (stopped : List Request → Request → Type 0) (requests : List Request) (request : Request) (halt : Halt) → PassesBy {T = T} past stopped requests request (Err halt) → PassesBy {T = U} past stopped requests request (Err halt)
+passes_as T U past stopped requests request (BadLine n) h = h
+passes_as T U past stopped requests request ReadFault h = h
+passes_as T U past stopped requests request WriteFault h = h
+passes_as T U past stopped requests request DiskFault h = h
+passes_as T U past stopped requests request (Damaged side number) h = h
+passes_as T U past stopped requests request NoMemory h = h
+passes_as T U past stopped requests request (Limit number) h = h
+passes_as T U past stopped requests request (Rotated generation) h = h
 
 module _ {D : Type 0} (moment : D → ℕ) (left_at : D → ℕ → List ℕ → Type 0) where
   -- nothing was done
