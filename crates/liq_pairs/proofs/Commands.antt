@@ -1,7 +1,6 @@
 -- The journal that counts, of two disks: its commands lead to the state for which they stand, and its limit is this
 -- state's.
-use Rattle.std.proofs.Common.{◌≡◌, ℕ, List, [], inr, Option, Some, None, Result, Ok, Err, Bool, true, false, nat_lt, refl, sym, ◌∙◌, ap, subst, if◌then◌else◌}
-use Rattle.liq_types.specs.declared.amounts.TheConstants.{LIM}
+use Rattle.std.proofs.Common.{◌≡◌, ℕ, List, inr, Option, Some, None, Result, Ok, Err, Bool, true, false, nat_lt, refl, sym, ◌∙◌, ap, subst, if◌then◌else◌}
 use Rattle.liq_types.specs.Image.{IsLimit}
 use Rattle.liq_types.specs.State.{State, opening, opening_with}
 use Rattle.liq_journal.specs.declared.damage.Damage.{Damage}

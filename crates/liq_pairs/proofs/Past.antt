@@ -2,7 +2,7 @@
 use Rattle.std.proofs.Common.{◌≡◌, ◌⊎◌, inl, inr, ⊎_elim, ℕ, zero, suc, ◌+◌, ◌≤◌, List, [], ◌∷◌, ◌++◌, length, take, fold, Err, Bool, true, false, cond, if◌then◌else◌, refl, sym, ◌∙◌, ap, subst, arith}
 use Rattle.std.specs.Prelude.{count_by}
 use Rattle.std.proofs.lemmas.List.{append-nil, take_all}
-use Rattle.std.proofs.lemmas.List.Sums.{fold-append, sum_by-append, sum_by-cons}
+use Rattle.std.proofs.lemmas.List.Sums.{sum_by-append, sum_by-cons}
 use Rattle.liq_types.specs.declared.requests.Call.{Call}
 use Rattle.liq_types.specs.declared.requests.Call.TheVariants.{Rotate}
 use Rattle.liq_types.specs.declared.requests.Command.{Command}
@@ -71,8 +71,11 @@ prefix_whole side start requests image opens =
     let cs = accepted start requests in
     let all : take (length cs) cs ≡ cs = take_all (length cs) cs (omega arith) in
     let same : (run start requests).0 ≡ fold after start (take (length cs) cs) =
-    run_folds start requests ∙ ap (fold after start) (sym all) in
-    (length cs, subst (λ (s : State). StandsAlone side image s) same (open_alone side image (run start requests).0 opens))
+    run_folds start requests ∙ ap (fold after start) (sym all) in (
+      length cs,
+      subst (λ (s : State). StandsAlone side image s) same
+          (open_alone side image (run start requests).0 opens),
+    )
 
 -- ---- an image of a run
 
@@ -104,7 +107,10 @@ module _ (side : Side) (l r : List ℕ) (start : State) (requests : List Request
   of_same others fault same (inl absent) = inl absent
   of_same others fault same (inr (inl stood)) = inr (inl stood)
   of_same others fault same (inr (inr (inl (n, alone)))) =
-      inr (inr (inl (n, subst (λ (cs : List Command). StandsAlone side image (fold after start (take n cs))) same alone)))
+      inr (inr (inl (
+        n,
+        subst (λ (cs : List Command). StandsAlone side image (fold after start (take n cs))) same alone,
+      )))
   of_same others fault same (inr (inr (inr (inl unfinished)))) = inr (inr (inr (inl unfinished)))
   of_same others fault same (inr (inr (inr (inr failed)))) =
       let ends : (run start requests).0 ≡ (run start others).0 =
@@ -259,7 +265,8 @@ is_rotation Rotate is = refl
 is_rotation _ is = cc (is)
 
 -- one more at a rotation
-after_one : (s : State) (c : Command) (b : Bool) → is_rotate c.call ≡ b → (after s c).generation ≡ s.generation + cond b 1 0
+after_one : (s : State) (c : Command) (b : Bool) → is_rotate c.call ≡ b
+    → (after s c).generation ≡ s.generation + cond b 1 0
 after_one s c true is = ap (λ (call : Call). (effect s call).generation) (is_rotation c.call is)
 after_one s c false is = let stays = after_generation s c is in omega (arith, stays)
 

@@ -1,5 +1,5 @@
 -- The state with which a journal begins, by its generation and what its checkpoint is read as.
-use Rattle.std.proofs.Common.{◌≡◌, ◌∙◌, ◌==◌, ◌&&◌, ◌+◌, ℕ, List, length, Some, None, Bool, true, false, Result, Ok, Err, if◌then◌else◌, refl, sym, ap, subst, arith}
+use Rattle.std.proofs.Common.{◌≡◌, ◌∙◌, ◌==◌, ◌&&◌, ◌+◌, ℕ, List, length, Some, None, Bool, true, false, Result, Ok, Err, if◌then◌else◌, sym, ap, subst}
 use Rattle.liq_types.specs.declared.image.Image.{Image}
 use Rattle.liq_types.specs.Soundness.{first_unsound}
 use Rattle.liq_types.specs.State.{State, started}

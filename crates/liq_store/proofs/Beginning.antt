@@ -1,5 +1,5 @@
 -- The store that begins on two disks.
-use Rattle.std.proofs.Common.{◌+◌, ◌<◌, ◌≤◌, length, ◌≡◌, inl, inr, ⊎_elim, ◌↔◌, ℕ, List, [], Option, Some, None, IfSome, IsSome, Bool, true, false, nat_lt, if◌then◌else◌, Ok, refl, sym, ◌∙◌, ap, ap₂, subst, arith}
+use Rattle.std.proofs.Common.{◌<◌, ◌≤◌, ◌≡◌, inl, inr, ⊎_elim, ◌↔◌, ℕ, List, [], Option, Some, None, IfSome, IsSome, Bool, true, false, nat_lt, if◌then◌else◌, Ok, refl, sym, ◌∙◌, ap, ap₂, subst, arith}
 use Rattle.std.proofs.lemmas.Bool.Decides.{nat_tests}
 use Rattle.liq_types.specs.declared.image.Image.{Image}
 use Rattle.liq_types.specs.State.{State, opening}

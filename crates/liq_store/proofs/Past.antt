@@ -1,7 +1,7 @@
 -- A store in the midst of a run: how that begins, goes on and ends, by what a call says of both disks.
 use Rattle.std.proofs.Common.{◌≡◌, ◌⊎◌, ◌↔◌, inl, inr, ⊎_elim, ℕ, ◌+◌, ◌≤◌, List, [], ◌∷◌, ◌++◌, fold, Ok, Option, Some, None, IsSome, is_some, Bool, true, false, ◌&&◌, if◌then◌else◌, refl, sym, ◌∙◌, ap, subst, arith}
 use Rattle.std.specs.Prelude.{count_by}
-use Rattle.liq_outside.specs.Disk.{GoesOn, LeavesOnly, LeftNow, LeftSince, Only}
+use Rattle.liq_outside.specs.Disk.{GoesOn, LeavesOnly, LeftNow, LeftSince}
 use Rattle.liq_outside.proofs.Moments.{law}
 use Rattle.liq_types.specs.declared.events.ListChange.{ListChange}
 use Rattle.liq_types.specs.declared.image.Image.{Image}
@@ -9,10 +9,9 @@ use Rattle.liq_types.specs.declared.replies.Answer.{Answer}
 use Rattle.liq_types.specs.declared.replies.Answer.TheVariants as answer
 use Rattle.liq_types.specs.declared.replies.Reply.{Reply}
 use Rattle.liq_types.specs.declared.requests.Command.{Command}
-use Rattle.liq_types.specs.declared.requests.Query.{Query}
 use Rattle.liq_types.specs.declared.requests.Request.{Request}
 use Rattle.liq_types.specs.declared.requests.Request.TheVariants.{Do, Ask}
-use Rattle.liq_types.specs.State.{State, opening}
+use Rattle.liq_types.specs.State.{State}
 use Rattle.liq_core.specs.Core.{StandsFor}
 use Rattle.liq_rules.specs.Step.{Allowed, Refused, Repeated, Ruling, accepted, after, is_allowed, ruling, run, step}
 use Rattle.liq_rules.specs.Image.{image}
@@ -36,23 +35,21 @@ use Rattle.liq_pairs.proofs.Past.{generation_counts, left_of, left_whole, of_ali
 use Rattle.liq_pairs.proofs.Standings.{pair_ends}
 use Rattle.liq_store.specs.Answering.{Answers, read_back}
 use Rattle.liq_store.specs.Calling.{WritesOn}
-use Rattle.liq_store.specs.Keeping.{IsAtRest, IsGoing, IsInOrder, IsKeptAround, LeavesPairs}
+use Rattle.liq_store.specs.Keeping.{IsGoing, IsInOrder, IsKeptAround, LeavesPairs}
 use Rattle.liq_store.specs.Memory.{IsAccepted}
 use Rattle.liq_store.specs.Opening.{OpensOn}
 use Rattle.liq_store.specs.Past.{Past}
-use Rattle.liq_store.specs.Rotating.{is_rotation, rotation_of, side_after}
+use Rattle.liq_store.specs.Rotating.{is_rotation, rotation_of}
 use Rattle.liq_store.specs.Stored.{Stored, disk_beside, taken_disk}
 use Rattle.liq_store.proofs.Appending.{step_is_after}
 use Rattle.liq_store.proofs.Going.{going_of, rest_now, rest_only}
+use Rattle.liq_store.proofs.OneDisk.{some_same}
 
 -- ---- sides
 
 told_of : (o : Option (List ℕ)) → IsSome o → (held : List ℕ) × (o ≡ Some held)
 told_of None is = absurd (cc (is))
 told_of (Some held) is = (held, refl)
-
-same_bytes : (a b : List ℕ) (o : Option (List ℕ)) → o ≡ Some a → o ≡ Some b → a ≡ b
-same_bytes a b o first second = let both : Some a ≡ Some b = sym first ∙ second in cc (both)
 
 sides_differ : (side : Side) → has_odd (other side) ≡ has_odd side → ⊥
 sides_differ Left is = absurd (cc (is))
@@ -335,7 +332,8 @@ module _ {D : Type 0} (seen : D → Option (List ℕ)) (moment : D → ℕ) (lef
 
         before_beside : One (other old.side) (since (other old.side)) (disk_beside old)
         before_beside =
-            grown moment left_at l r start (other old.side) (since (other old.side)) requests later fault (disk_beside old)
+            grown moment left_at l r start (other old.side) (since (other old.side)) requests later fault
+            (disk_beside old)
             makes.grows
             (one_beside moment left_at l r start since requests NoFault old.left old.right past.leaves old.side)
 
@@ -414,7 +412,8 @@ module _ {D : Type 0} (seen : D → Option (List ℕ)) (moment : D → ℕ) (lef
               leads : (t : State) → IsKept (on old.side taken_bytes image) (on old.side image taken_bytes) t
                   → LeadsTo next t
               leads t kept =
-                  later_leads old.side taken_bytes image settled.written next now t leads_now settled.open_on.found found
+                  later_leads old.side taken_bytes image settled.written next now t leads_now
+                  settled.open_on.found found
                   (let g = generation in omega (arith, g)) kept.stands
 
               by : IsKeptAround now (Do c) (on old.side taken_bytes image) (on old.side image taken_bytes)
@@ -490,7 +489,8 @@ module _ {D : Type 0} (seen : D → Option (List ℕ)) (moment : D → ℕ) (lef
         makes = makes_replied moment left_at l r start requests c allowed
 
         later_then : (side : Side) → since side ≤ moment (on side new.left new.right)
-        later_then Left = let before = past.later Left in let time = writes.left_time.later in omega (arith, before, time)
+        later_then Left =
+            let before = past.later Left in let time = writes.left_time.later in omega (arith, before, time)
         later_then Right =
             let before = past.later Right in let time = writes.right_time.later in omega (arith, before, time)
 
@@ -515,7 +515,7 @@ module _ {D : Type 0} (seen : D → Option (List ℕ)) (moment : D → ℕ) (lef
             ap (λ (s : Side). beside s new.left new.right) side ∙ beside_other old.side new.left new.right
             ∙ writes.taken now past.stands is_yes in
             let bytes : taken_bytes ≡ held =
-            same_bytes taken_bytes held (seen (taken_disk old)) taken_told (ap seen (sym same) ∙ told) in
+            some_same taken_bytes held (seen (taken_disk old)) taken_told (ap seen (sym same) ∙ told) in
             let opens : IsOpenFor old.side held now = subst (λ (l : List ℕ). IsOpenFor old.side l now) bytes open_now in
             subst (λ (s : Side). IsOfRun s l r start longer NoFault image)
             (sym (ap other side ∙ other_twice old.side))
@@ -569,8 +569,10 @@ module _ {D : Type 0} (seen : D → Option (List ℕ)) (moment : D → ℕ) (lef
               → Past seen moment left_at since l r start (requests ++ Do c ∷ []) new
           refused x is not_one isnt =
               let all : is_rotation now (Do c) ≡ (is_rotate c.call && false) =
-              ap (λ (y : Ruling). is_rotate c.call && is_allowed y) is ∙ ap (λ (b : Bool). is_rotate c.call && b) not_one in
-              idle (Do c) reply none stands writes (λ allowed. isnt (sym is ∙ allowed)) (all ∙ and_false (is_rotate c.call))
+              ap (λ (y : Ruling). is_rotate c.call && is_allowed y) is
+              ∙ ap (λ (b : Bool). is_rotate c.call && b) not_one in
+              idle (Do c) reply none stands writes (λ allowed. isnt (sym is ∙ allowed))
+              (all ∙ and_false (is_rotate c.call))
 
           by : (x : Ruling) → ruling now c ≡ x → Past seen moment left_at since l r start (requests ++ Do c ∷ []) new
           by Allowed is = replied c reply is writes none stands
@@ -658,7 +660,8 @@ module _ {D : Type 0} (seen : D → Option (List ℕ)) (moment : D → ℕ) (lef
   cut since l r start requests others store past same =
       let ends : (run start requests).0 ≡ (run start others).0 =
       run_folds start requests ∙ ap (fold after start) (sym same) ∙ sym (run_folds start others) in
-      still since l r start requests store store past others (grows_same l r start requests others (sym same)) past.going
+      still since l r start requests store store past others (grows_same l r start requests others (sym same))
+      past.going
       (subst (λ (s : State). StandsFor store.core s) ends past.stands) refl refl refl
 
   -- of a store with other changes of the list
@@ -691,7 +694,7 @@ module _ {D : Type 0} (seen : D → Option (List ℕ)) (moment : D → ℕ) (lef
         → IsOfRun (other store.side) l r start [] NoFault image
     here_aside held image told stood =
         let bytes : held ≡ beside store.side l r =
-        same_bytes held (beside store.side l r) (seen (disk_beside store)) told
+        some_same held (beside store.side l r) (seen (disk_beside store)) told
         (beside_told seen store.side store.left store.right l r told_left told_right) in
         inr (inl (subst (λ (x : List ℕ). IsAsItStood x image) (bytes ∙ sym (on_other store.side l r)) stood))
 
@@ -750,7 +753,8 @@ module _ {D : Type 0} (seen : D → Option (List ℕ)) (moment : D → ℕ) (lef
         whole Left first few image was absent =
             left_whole l r start fault image kept first.written first.found (left_leaves.each image was) absent
         whole Right first few image was absent =
-            opening_whole Right l r start fault image kept first.written first.found (right_leaves.each image was) absent
+            opening_whole Right l r start fault image kept first.written first.found (right_leaves.each image was)
+            absent
 
   -- an opening's store
   module _ (l r : List ℕ) (start : State) (faults : D → ℕ) (left right : D) (store : Stored D)

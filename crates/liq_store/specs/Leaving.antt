@@ -11,7 +11,8 @@ module _ {D : Type 0} (seen : D → Option (List ℕ)) (moment : D → ℕ) (lef
   -- Nothing is pending at its end. After a disk's fault all that a crash may now leave of the one, beside all of the
   -- other, is kept instead.
   abbrev pub RestAtEnd : List ℕ → List ℕ → State → List Request → Fault → D → D → Type 0
-  RestAtEnd l r start requests NoFault left right = IsAtRest seen moment left_at left × IsAtRest seen moment left_at right
+  RestAtEnd l r start requests NoFault left right =
+      IsAtRest seen moment left_at left × IsAtRest seen moment left_at right
   RestAtEnd l r start requests fault left right =
       (a b : List ℕ) → LeftNow moment left_at left a → LeftNow moment left_at right b
       → KeptAtEnd l r start requests fault a b

@@ -1,4 +1,4 @@
-use Rattle.std.proofs.Common.{ℕ, List, ◌≡◌, ◌<◌, ◌^◌, Ok, inl, inr, ◌∙◌, ap, arith, refl}
+use Rattle.std.proofs.Common.{ℕ, ◌≡◌, ◌<◌, ◌^◌, Ok, inl, inr, ◌∙◌, ap, arith, refl}
 use Rattle.liq_types.specs.declared.amounts.TheConstants.{LIM, LIM_OF_VERSION_1}
 use Rattle.liq_types.specs.Image.{IsLimit}
 use Rattle.liq_checkpoint.specs.Spelling.{spelling}

@@ -1,4 +1,4 @@
-use Rattle.std.proofs.Common.{◌∙◌, ℕ, Ok, Err, ap, refl, sym, subst}
+use Rattle.std.proofs.Common.{◌∙◌, ℕ, Ok, Err, ap, sym, subst}
 use Rattle.liq_types.specs.State.{opening_with}
 use Rattle.liq_core.specs.Core.{StandsFor}
 use Rattle.liq_pairs.specs.Replay.{bad_checkpoint}
