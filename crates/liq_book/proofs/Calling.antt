@@ -8,18 +8,23 @@ use Rattle.liq_types.specs.declared.events.ListChange.{ListChange}
 use Rattle.liq_types.specs.declared.replies.Answer.{Answer}
 use Rattle.liq_types.specs.declared.replies.Answer.TheVariants as answer
 use Rattle.liq_types.specs.declared.replies.Reply.{Reply}
+use Rattle.liq_types.specs.declared.requests.Command.{Command}
 use Rattle.liq_types.specs.declared.requests.Request.{Request}
+use Rattle.liq_types.specs.declared.requests.Request.TheVariants.{Ask, Do}
 use Rattle.liq_types.specs.State.{State}
 use Rattle.liq_core.specs.Core.{StandsFor}
 use Rattle.liq_rules.specs.History as history
-use Rattle.liq_rules.specs.History.{own_entries, state_after}
+use Rattle.liq_rules.specs.History.{own_entries, requests_of, state_after}
 use Rattle.liq_rules.proofs.Histories.{legal-empty, legal-snoc, state-snoc}
+use Rattle.liq_pairs.specs.Past.{AtCommand}
 use Rattle.liq_pairs.proofs.Keeping.{settled_kept}
 use Rattle.liq_store.specs.Answering.{Answers}
 use Rattle.liq_store.specs.Calling.{WritesOn}
 use Rattle.liq_store.specs.Causes.{CausesAnswer, Faults, stopped_after}
 use Rattle.liq_store.specs.Keeping.{IsInOrder, IsInOrderWith}
+use Rattle.liq_store.specs.Memory.{IsAccepted}
 use Rattle.liq_store.specs.Stored.{Stored}
+use Rattle.liq_store.proofs.Past.{goes_on, stops, stops_kept, waits}
 use Rattle.liq_types.specs.declared.entries.Entry.{Entry}
 use Rattle.liq_book.specs.declared.items.Halt.{Halt}
 use Rattle.liq_book.specs.declared.items.TheConstants.{ENTRIES_MOST}
@@ -27,6 +32,8 @@ use Rattle.liq_book.specs.Booked.{IsBook, KeepsDisks}
 use Rattle.liq_book.specs.Entered.{Enters, IsTestedFirst}
 use Rattle.liq_rules.specs.Recorded.{recorded}
 use Rattle.liq_book.specs.Origin.{DiskAt, GoesOnFrom, IsAtOrigin}
+use Rattle.liq_book.specs.Past.{KeepsPast, since_origin}
+use Rattle.liq_book.proofs.Pasts.{begins_past, forgets_past, requests_more}
 use Rattle.liq_types.proofs.Tests.{value_of}
 
 -- a session has no more entries than there are
@@ -39,6 +46,11 @@ own_few session entries =
 pub goes : (stopped : Option ℕ) → ((sum : ℕ) → stopped ≡ Some sum → ⊥) → stopped ≡ None
 goes None some = refl
 goes (Some sum) some = absurd (some sum refl)
+
+-- only a command is accepted
+a_command : (s : State) (request : Request) → IsAccepted s request → (c : Command) × (request ≡ Do c)
+a_command s (Do c) is = (c, refl)
+a_command s (Ask query) is = absurd is
 
 -- a book whose store goes on has no halt
 pub no_halt : (halt : Option Halt) (stopped : Option ℕ) → stopped ≡ option_map (λ h. h.faults) halt → stopped ≡ None → halt ≡ None
@@ -68,6 +80,7 @@ module _ {D : Type 0} (seen : D → Option (List ℕ)) (faults : D → ℕ) (mom
     pub stops : new.stopped ≡ stopped_after old.stopped a (faults_in new)
     pub cause : CausesAnswer a (faults_in old) (faults_in new)
     pub disks : WritesOn seen moment left_at old request a new
+    pub ordered : IsInOrder seen moment left_at old
     pub order : IsInOrder seen moment left_at new
 
   -- a store that goes on keeps its disks for its state
@@ -77,9 +90,16 @@ module _ {D : Type 0} (seen : D → Option (List ℕ)) (faults : D → ℕ) (mom
       let keeps = subst P going order in
       settled_kept store.side l r s (keeps.settled l r told_left told_right s stands)
 
-  module _ (base : State) (left_origin right_origin : DiskAt) where
+  module _ (may_stay : (disk : D) (held : List ℕ) → seen disk ≡ Some held → LeftNow moment left_at disk held) (base : State) (left_origin right_origin : DiskAt) where
     abbrev pub Booking : Stored D → List Entry → Option Halt → Type 0
     Booking store entries halt = IsBook seen faults moment left_at base left_origin right_origin (record { store = store; entries = entries; halt = halt })
+
+    abbrev Keeps : List history.Entry → Option Halt → Stored D → Type 0
+    Keeps entries halt store = KeepsPast seen moment left_at left_origin right_origin base (requests_of entries) halt store
+
+    -- what is kept of the past where there is no halt
+    past_of : (store : Stored D) (entries : List Entry) (halt : Option Halt) → halt ≡ None → Booking store entries halt → Keeps (map recorded entries) None store
+    past_of store entries halt none b = subst (λ (h : Option Halt). Keeps (map recorded entries) h store) none b.past
 
     pub begins : (store : Stored D) → store.stopped ≡ None → IsAtOrigin seen faults moment left_at base left_origin right_origin store → IsInOrder seen moment left_at store → Booking store [] None
     begins store going at order = record {
@@ -91,6 +111,7 @@ module _ {D : Type 0} (seen : D → Option (List ℕ)) (faults : D → ℕ) (mom
       cause = rw (at.left.faults, at.right.faults) refl;
       left = at.left.time;
       right = at.right.time;
+      past = begins_past seen moment left_at left_origin right_origin may_stay faults base store going at order;
     }
 
     -- the same with other changes
@@ -104,6 +125,7 @@ module _ {D : Type 0} (seen : D → Option (List ℕ)) (faults : D → ℕ) (mom
       cause = b.cause;
       left = b.left;
       right = b.right;
+      past = forgets_past seen moment left_at left_origin right_origin base (requests_of (map recorded entries)) halt old changes b.past;
     }) where
       other : KeepsDisks seen moment left_at halt (state_after base (map recorded entries)) old → KeepsDisks seen moment left_at halt (state_after base (map recorded entries)) (record old { changes = changes })
       other keeps = at halt keeps where
@@ -133,6 +155,11 @@ module _ {D : Type 0} (seen : D → Option (List ℕ)) (faults : D → ℕ) (mom
           cause = c.cause ∙ (rw none at b.cause);
           left = goes_from left_origin old.left new.left b.left c.disks.left_time;
           right = goes_from right_origin old.right new.right b.right c.disks.right_time;
+          past =
+              subst (λ requests. KeepsPast seen moment left_at left_origin right_origin base requests None new) (sym (requests_more entries e))
+              (λ l r told_left told_right.
+                  goes_on seen moment left_at may_stay (since_origin left_origin right_origin) l r base (requests_of (map recorded entries)) old new
+                  (past_of old entries halt none b l r told_left told_right) c.ordered request reply still (c.step_is going) c.disks);
         })
 
     -- without memory nothing happened
@@ -152,14 +179,16 @@ module _ {D : Type 0} (seen : D → Option (List ℕ)) (faults : D → ℕ) (mom
           cause = c.cause ∙ (rw none at b.cause);
           left = goes_from left_origin old.left new.left b.left c.disks.left_time;
           right = goes_from right_origin old.right new.right b.right c.disks.right_time;
+          past = λ l r told_left told_right.
+              waits seen moment left_at may_stay (since_origin left_origin right_origin) l r base (requests_of (map recorded entries)) old new
+              (past_of old entries halt none b l r told_left told_right) c.ordered request still (c.step_is going) c.disks;
         })
 
     -- a fault of a disk is the halt
-    pub halts : (may_stay : (disk : D) (held : List ℕ) → seen disk ≡ Some held → LeftNow moment left_at disk held)
-        → (old new : Stored D) (entries : List Entry) (halt : Option Halt) (request : Request) (session sum : ℕ)
+    pub halts : (old new : Stored D) (entries : List Entry) (halt : Option Halt) (request : Request) (session sum : ℕ)
         → Booking old entries halt → old.stopped ≡ None → Calls old request answer.DiskFault new → new.stopped ≡ Some sum
         → Booking new entries (Some (record { session = session; request = request; faults = sum }))
-    halts may_stay old new entries halt request session sum b going c stopped =
+    halts old new entries halt request session sum b going c stopped =
         let s : State = state_after base (map recorded entries) in
         let none : halt ≡ None = no_halt halt old.stopped b.halt going in
         let stands = (c.step_is going s b.state).0 in
@@ -179,6 +208,14 @@ module _ {D : Type 0} (seen : D → Option (List ℕ)) (faults : D → ℕ) (mom
           cause = rw (rw none at b.cause) at c.cause;
           left = goes_from left_origin old.left new.left b.left c.disks.left_time;
           right = goes_from right_origin old.right new.right b.right c.disks.right_time;
+          past = λ l r told_left told_right.
+              let failed = a_command s request (c.step_is going s b.state).1 in
+              let earlier = past_of old entries halt none b l r told_left told_right in (
+                AtCommand failed.0,
+                (failed.0, failed.1, refl),
+                stops seen moment left_at may_stay (since_origin left_origin right_origin) l r base (requests_of (map recorded entries)) old new earlier c.ordered request failed.0 failed.1 (c.step_is going) c.disks,
+                stops_kept seen moment left_at may_stay (since_origin left_origin right_origin) l r base (requests_of (map recorded entries)) old new earlier c.ordered request failed.0 failed.1 (c.step_is going) c.disks,
+              );
         }
 
     -- any other answer leaves the book as it was

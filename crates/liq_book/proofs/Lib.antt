@@ -3,4 +3,5 @@ pub mod Calling
 pub mod Chronicles
 pub mod Gathering
 pub mod Learning
+pub mod Pasts
 pub mod Telling

@@ -1,5 +1,5 @@
 -- Serving an input, as an end of the program.
-use Rattle.std.proofs.Common.{◌≡◌, ◌<◌, ℕ, zero, suc, List, [], ◌∷◌, map, length, append-nil, Option, Some, None, Ok, Err, Result, refl, sym, subst, ap, ap₂, ◌∙◌, inl, inr, lit<, arith}
+use Rattle.std.proofs.Common.{◌≡◌, ◌≢◌, ◌<◌, ℕ, zero, suc, List, [], ◌∷◌, map, length, append-nil, Option, Some, None, Ok, Err, Result, refl, sym, subst, ap, ap₂, ◌∙◌, inl, inr, lit<, arith}
 use Rattle.std.specs.Prelude.{◌⊎◌, All, Contains, slice_index_or, IfOk, IsOkAnd, MatchResult}
 use Rattle.std.specs.List.{AllZip}
 use Rattle.liq_types.specs.declared.amounts.TheConstants.{LINES_MOST}
@@ -14,6 +14,7 @@ use Rattle.liq_journal.specs.declared.damage.Damage.{Damage}
 use Rattle.liq_pairs.specs.declared.side.Side.{Side}
 use Rattle.liq_pairs.specs.Kept.{IsKept}
 use Rattle.liq_pairs.specs.Pair.{state_on}
+use Rattle.liq_pairs.specs.Past.{Fault}
 use Rattle.liq_lines.specs.declared.stops.Stop.{Stop}
 use Rattle.liq_lines.specs.declared.stops.Stop.TheVariants as stop
 use Rattle.liq_lines.specs.Lines.{lines_in}
@@ -33,7 +34,7 @@ use Rattle.liq_store.specs.declared.answers.StoreWhy.TheVariants as why
 use Rattle.liq_store.specs.Causes.{Faults}
 use Rattle.liq_store.specs.Keeping.{IsKeptAround}
 use Rattle.liq_ends.specs.declared.halts.Halt.{Halt}
-use Rattle.liq_ends.specs.declared.halts.Halt.TheVariants.{BadLine, ReadFault, WriteFault, DiskFault, Damaged, NoMemory, Limit}
+use Rattle.liq_ends.specs.declared.halts.Halt.TheVariants.{BadLine, ReadFault, WriteFault, DiskFault, Damaged, NoMemory, Limit, Rotated}
 use Rattle.liq_ends.specs.Causes.{DiskCause, ReadCause, WriteCause}
 use Rattle.liq_ends.specs.Disks.{OfBoth}
 use Rattle.liq_ends.specs.Reading.{ReadsTo}
@@ -41,7 +42,7 @@ use Rattle.liq_ends.specs.Unsaid.{WritesAll}
 use Rattle.liq_ends.proofs.Causes.{six}
 use Rattle.liq_serve.specs.Finishing.{end_of, halt_at}
 use Rattle.liq_serve.specs.Outside.{Outside}
-use Rattle.liq_serve.specs.Top.{Answers, AreLeft, Keep, OpensNone}
+use Rattle.liq_serve.specs.Top.{Answers, AreLeft, IsFaultOfServing, Keep, OpensNone}
 
 -- ---- the counts
 
@@ -83,6 +84,20 @@ disk_cause (finish.NotOpened why.NoMemory) before after c = c
 disk_cause finish.NoMemory before after c = c
 disk_cause finish.DiskFault before after c = c
 disk_cause finish.WriteFault before after c = c
+
+-- it goes on in whatever generation
+pub never_rotated : (how : Finish) (generation : ℕ) → end_of how ≢ Err (Rotated generation)
+never_rotated finish.All generation = λ e. cc
+never_rotated (finish.NotRead (stop.BadLine number)) generation = λ e. cc
+never_rotated (finish.NotRead stop.ReadFault) generation = λ e. cc
+never_rotated (finish.NotRead stop.NoMemory) generation = λ e. cc
+never_rotated (finish.NotRead stop.Limit) generation = λ e. cc
+never_rotated (finish.NotOpened why.DiskFault) generation = λ e. cc
+never_rotated (finish.NotOpened (why.Damaged side damage)) generation = λ e. cc
+never_rotated (finish.NotOpened why.NoMemory) generation = λ e. cc
+never_rotated finish.NoMemory generation = λ e. cc
+never_rotated finish.DiskFault generation = λ e. cc
+never_rotated finish.WriteFault generation = λ e. cc
 
 -- ---- what is written
 
@@ -175,18 +190,18 @@ kept_around s request c a b is allowed kept =
 
 module _
     {S K D : Type 0} (unread : S → Option (List ℕ)) (source_faults : S → ℕ) (held : K → Option (List ℕ)) (sink_faults : K → ℕ) (seen : D → Option (List ℕ))
-    (disk_faults : D → ℕ) (before after : Outside S K D) (asked : List (ℕ × Request)) (history : List Entry) where
+    (disk_faults : D → ℕ) (moment : D → ℕ) (left_at : D → ℕ → List ℕ → Type 0) (before after : Outside S K D) (asked : List (ℕ × Request)) (history : List Entry) where
   abbrev AreWhole : Type 0
   AreWhole = (l r : List ℕ) (side : Side) (damage : Damage) → seen before.left ≡ Some l → seen before.right ≡ Some r → state_on l r ≡ Err (side, damage) → ⊥
 
   abbrev Answered : Result (Unit {0}) Halt → Type 0
-  Answered end = Answers unread source_faults held sink_faults seen disk_faults before after asked history end
+  Answered end = Answers unread source_faults held sink_faults seen disk_faults moment left_at before after asked history end
 
   -- disks that are not damaged stood for a state
   kept :
       (P : List ℕ → List ℕ → State → Type 0)
       → ((l r : List ℕ) (start : State) → seen before.left ≡ Some l → seen before.right ≡ Some r → state_on l r ≡ Ok start → OfBoth seen after.left after.right (λ a b. P a b (state_after start history)))
-      → AreWhole → Keep unread source_faults held sink_faults seen disk_faults before after history P
+      → AreWhole → Keep unread source_faults held sink_faults seen disk_faults moment left_at before after history P
   kept P disks whole = λ l r told_l told_r. is_found (state_on l r) _ (λ start is. disks l r start told_l told_r is) (λ side damage is. whole l r side damage told_l told_r is)
 
   -- the call that met a disk's fault
@@ -200,20 +215,36 @@ module _
         by a b s (inl same) = inl same
         by a b s (inr (c, is, allowed, more)) = inr (kept_around s request c a b is allowed more)
 
+  -- where a disk met a fault
+  pub fault_of : (how : Finish) (halted : Option (ℕ × Request)) (fault : Fault) → serving.Answers how halted asked history → serving.IsFaultAt how halted fault → IsFaultOfServing unread source_faults held sink_faults seen disk_faults moment left_at before after asked history (end_of how) fault
+  fault_of finish.DiskFault None fault answers is = absurd answers
+  fault_of finish.DiskFault (Some (session, request)) fault answers (c, at, is) =
+      inr (session, c, answers.2.0, at, subst (λ (q : Request). AreLeft asked history session (q ∷ answers.2.0)) is answers.2.1)
+  fault_of (finish.NotOpened why.DiskFault) halted fault answers is = inl (is, answers)
+  fault_of finish.All halted fault answers is = is
+  fault_of finish.WriteFault halted fault answers is = is
+  fault_of finish.NoMemory halted fault answers is = is
+  fault_of (finish.NotRead (stop.BadLine number)) halted fault answers is = is
+  fault_of (finish.NotRead stop.ReadFault) halted fault answers is = is
+  fault_of (finish.NotRead stop.NoMemory) halted fault answers is = is
+  fault_of (finish.NotRead stop.Limit) halted fault answers is = is
+  fault_of (finish.NotOpened (why.Damaged side damage)) halted fault answers is = is
+  fault_of (finish.NotOpened why.NoMemory) halted fault answers is = is
+
   pub record Came (end : Result (Unit {0}) Halt) : Type 0 where
     pub reading : Result (Unit {0}) Halt
     pub read : (bytes : List ℕ) → unread before.source ≡ Some bytes → ReadsTo Asks bytes (unread after.source) asked reading
     pub so :
         ((reading ≡ end) × (history ≡ []) × (after.left ≡ before.left) × (after.right ≡ before.right) × IsStopping end)
-        ⊎ ((reading ≡ Ok tt) × (OpensNone unread source_faults held sink_faults seen disk_faults before after history end ⊎ Answered end))
+        ⊎ ((reading ≡ Ok tt) × (OpensNone unread source_faults held sink_faults seen disk_faults moment left_at before after history end ⊎ Answered end))
 
   -- all lines were read
   came_whole :
       (end : Result (Unit {0}) Halt) → ((bytes : List ℕ) → unread before.source ≡ Some bytes → AllZip Asks (lines_in bytes) asked × (unread after.source ≡ Some []))
-      → OpensNone unread source_faults held sink_faults seen disk_faults before after history end ⊎ Answered end → Came end
+      → OpensNone unread source_faults held sink_faults seen disk_faults moment left_at before after history end ⊎ Answered end → Came end
   came_whole end read so = record { reading = Ok tt; read = read; so = inr (refl, so) }
 
-  pub came_by : (how : Finish) → AnswersInput seen (unread before.source) (unread after.source) before.left before.right (record { left = after.left; right = after.right; finish = how }) asked history
+  pub came_by : (how : Finish) → AnswersInput seen moment left_at (unread before.source) (unread after.source) before.left before.right (record { left = after.left; right = after.right; finish = how }) asked history
       → ((why_not : Stop) → how ≡ finish.NotRead why_not → (after.left ≡ before.left) × (after.right ≡ before.right)) → Came (end_of how)
   came_by finish.All a same = came_whole (Ok tt) a.read (inr (kept IsKept a.disks a.damaged, (0, lit< tt, refl), none_left asked history a.answers))
   came_by finish.WriteFault a same = came_whole (Err WriteFault) a.read (inr (kept IsKept a.disks a.damaged, (1, lit< tt, refl), none_left asked history a.answers))

@@ -4,7 +4,7 @@ use Rattle.liq_serve.specs.Outside.{Outside}
 use Rattle.liq_ends.proofs.Causes.{write_no_fewer}
 use Rattle.liq_pairs.specs.Pair.{state_on}
 use Rattle.liq_scripts.specs.Output.{served as text_of}
-use Rattle.liq_serve.proofs.Served.{all_served, came_by, disk_cause, if_found, sink_cause, source_cause}
+use Rattle.liq_serve.proofs.Served.{all_served, came_by, disk_cause, fault_of, if_found, never_rotated, sink_cause, source_cause}
 use Rattle.liq_ends.proofs.Opened.{state_formed}
 use Rattle.liq_ends.proofs.Shares.{all_shares}
 use Rattle.liq_serve.proofs.serve.serve_on.Goals as goal
@@ -23,7 +23,7 @@ returns-clause-served g c =
     let answered = served.answered in
     let before : Outside g.row.S.Denot g.row.K.Denot g.row.D.Denot = record { source = c.args.input.now; sink = start; left = c.args.left; right = c.args.right } in
     let after : Outside g.row.S.Denot g.row.K.Denot g.row.D.Denot = record { source = ran.new.input; sink = c.tell_last.new.out; left = ran.result.left; right = ran.result.right } in
-    let came = came_by g.S.Source.left g.S.Source.faults held faults g.D.Disk.seen g.D.Disk.faults before after served.asked served.history how answered ran.ensures.unread in
+    let came = came_by g.S.Source.left g.S.Source.faults held faults g.D.Disk.seen g.D.Disk.faults g.D.Disk.moment g.D.Disk.left_at before after served.asked served.history how answered ran.ensures.unread in
     record {
       asked = served.asked;
       history = served.history;
@@ -34,6 +34,14 @@ returns-clause-served g c =
       read = came.read;
       came = rw is came.so;
       written = c.tell_last.ensures.told (text_of served.history) (held start) (faults start) fewer (rw is (all_served held served.history start middle how served.written));
+      past = λ l r told_l told_r. if_found (state_on l r) _ (λ start at only_l only_r kept.
+          let so = answered.past l r start told_l told_r only_l only_r at kept in
+          record {
+            fault = so.fault;
+            fault_is = rw is (fault_of g.S.Source.left g.S.Source.faults held faults g.D.Disk.seen g.D.Disk.faults g.D.Disk.moment g.D.Disk.left_at before after served.asked served.history how answered.halted so.fault answered.answers so.fault_is);
+            images = so.images;
+            rests = so.rests;
+          });
       lawful = λ l r told_l told_r. if_found (state_on l r) _ (λ start is. (answered.legal l r start told_l told_r is, all_shares start (requests_of served.history) (state_formed l r start is)));
     }
 
@@ -46,3 +54,6 @@ returns-clause-sink g c =
 
 pub returns-clause-disks : goal.returns-clause-disks
 returns-clause-disks g c = rw c.end_of-end.ensures (disk_cause c.serve_input-left.result.finish _ _ c.serve_input-left.ensures.disks)
+
+pub returns-clause-goes_on : goal.returns-clause-goes_on
+returns-clause-goes_on g c generation = rw c.end_of-end.ensures (never_rotated c.serve_input-left.result.finish generation)

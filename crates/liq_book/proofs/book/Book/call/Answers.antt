@@ -17,9 +17,9 @@ overflow_add-calls g c =
 pub invariant_of-self-in-Reply : goal.invariant_of-self-in-Reply
 invariant_of-self-in-Reply g c =
     let going : c.forget_opening.new.store.stopped ≡ None = goes _ (λ sum is. let no = (c.in-Reply.ensures.stopped sum is).0 in cc) in
-    let book = forgets _ _ _ _ _ _ _ _ _ _ _ _ c.forget_opening.ensures.store c.self.invariant.0 in
+    let book = forgets _ _ _ _ g.met.D.Disk.seen_may_stay _ _ _ _ _ _ _ _ c.forget_opening.ensures.store c.self.invariant.0 in
     rw (c.push_reserved.ensures.items, c.try_reserve.ensures.items) (
-      enters _ _ _ _ _ _ _ _ _ _ _ _ _ _ _
+      enters _ _ _ _ g.met.D.Disk.seen_may_stay _ _ _ _ _ _ _ _ _ _ _
           book (omega (arith, c.if-len-eq-ENTRIES_MOST.false, c.len.ensures, c.self.invariant.0.few, c.self.inside.entries.ok.0)) (rw (← c.self.view_is) at c.requires.calls) going
           (record {
             stopped = c.in-Reply.ensures.stopped;
@@ -27,6 +27,7 @@ invariant_of-self-in-Reply g c =
             stops = c.in-Reply.ensures.stops;
             cause = c.in-Reply.ensures.cause;
             disks = c.in-Reply.ensures.disks;
+            ordered = c.forget_opening.ensures.order;
             order = c.in-Reply.ensures.order;
           }),
       entry_more _ c.forget_opening.new.store _ _ _ c.self.inside.halt _ _ _ (nothing_more _ _ c.forget_opening.new.store _ _ c.self.inside.halt _ _ c.self.invariant.1 (rw (c.as_slice.ensures.value, c.try_reserve.ensures.items) at c.forget_opening.ensures.changes))
@@ -36,18 +37,19 @@ invariant_of-self-in-Reply g c =
 pub invariant_of-self-in-DiskFault : goal.invariant_of-self-in-DiskFault
 invariant_of-self-in-DiskFault g c =
     let going : c.forget_opening.new.store.stopped ≡ None = goes _ (λ sum is. let no = (c.in-DiskFault.ensures.stopped sum is).0 in cc) in
-    let book = forgets _ _ _ _ _ _ _ _ _ _ _ _ c.forget_opening.ensures.store c.self.invariant.0 in
+    let book = forgets _ _ _ _ g.met.D.Disk.seen_may_stay _ _ _ _ _ _ _ _ c.forget_opening.ensures.store c.self.invariant.0 in
     let sum : ℕ = sum_of (record { left = g.D.Disk.faults c.call.new.self.left; right = g.D.Disk.faults c.call.new.self.right }) in
     let stopped : c.call.new.self.stopped ≡ Some sum = c.in-DiskFault.ensures.stops ∙ ap (λ o. stopped_after o answer.DiskFault (record { left = g.D.Disk.faults c.call.new.self.left; right = g.D.Disk.faults c.call.new.self.right })) going in
     let halt = c.halt_by-self-inside.ensures ∙ ap (option_map (λ sum. record { session = c.args.session; request = c.args.request.now; faults = sum })) (c.stopped.ensures.sum ∙ stopped) in
     rw (c.try_reserve.ensures.items, halt) (
-      halts _ _ _ _ _ _ _ g.met.D.Disk.seen_may_stay _ _ _ _ c.args.request.now c.args.session sum book going
+      halts _ _ _ _ g.met.D.Disk.seen_may_stay _ _ _ _ _ _ _ c.args.request.now c.args.session sum book going
           (record {
             stopped = c.in-DiskFault.ensures.stopped;
             step_is = c.in-DiskFault.ensures.step;
             stops = c.in-DiskFault.ensures.stops;
             cause = c.in-DiskFault.ensures.cause;
             disks = c.in-DiskFault.ensures.disks;
+            ordered = c.forget_opening.ensures.order;
             order = c.in-DiskFault.ensures.order;
           }) stopped,
       nothing_more _ c.forget_opening.new.store c.call.new.self _ c.self.inside.halt _ _ _ (nothing_more _ _ c.forget_opening.new.store _ _ c.self.inside.halt _ _ c.self.invariant.1 (rw (c.as_slice.ensures.value, c.try_reserve.ensures.items) at c.forget_opening.ensures.changes))
@@ -56,15 +58,16 @@ invariant_of-self-in-DiskFault g c =
 
 pub invariant_of-self-in_default : goal.invariant_of-self-in_default
 invariant_of-self-in_default g c =
-    let book = forgets _ _ _ _ _ _ _ _ _ _ _ _ c.forget_opening.ensures.store c.self.invariant.0 in
+    let book = forgets _ _ _ _ g.met.D.Disk.seen_may_stay _ _ _ _ _ _ _ _ c.forget_opening.ensures.store c.self.invariant.0 in
     rw c.try_reserve.ensures.items (
-      others _ _ _ _ _ _ _ _ _ _ _ c.args.request.now c.call.result
+      others _ _ _ _ g.met.D.Disk.seen_may_stay _ _ _ _ _ _ _ c.args.request.now c.call.result
           book (record {
             stopped = c.call.ensures.stopped;
             step_is = c.call.ensures.step;
             stops = c.call.ensures.stops;
             cause = c.call.ensures.cause;
             disks = c.call.ensures.disks;
+            ordered = c.forget_opening.ensures.order;
             order = c.call.ensures.order;
           }) c.in_default.not-Reply c.in_default.not-DiskFault,
       nothing_more _ c.forget_opening.new.store c.call.new.self _ c.self.inside.halt _ _ _ (nothing_more _ _ c.forget_opening.new.store _ _ c.self.inside.halt _ _ c.self.invariant.1 (rw (c.as_slice.ensures.value, c.try_reserve.ensures.items) at c.forget_opening.ensures.changes))
@@ -74,7 +77,7 @@ invariant_of-self-in_default g c =
 pub returns-in-Reply-clause-enters : goal.returns-in-Reply-clause-enters
 returns-in-Reply-clause-enters g c =
     let going : c.forget_opening.new.store.stopped ≡ None = goes _ (λ sum is. let no = (c.in-Reply.ensures.stopped sum is).0 in cc) in
-    let book = forgets _ _ _ _ _ _ _ _ _ _ _ _ c.forget_opening.ensures.store c.self.invariant.0 in
+    let book = forgets _ _ _ _ g.met.D.Disk.seen_may_stay _ _ _ _ _ _ _ _ c.forget_opening.ensures.store c.self.invariant.0 in
     let none = no_halt c.self.inside.halt c.forget_opening.new.store.stopped book.halt going in
     rw (← c.self.view_is, c.push_reserved.ensures.items, c.try_reserve.ensures.items) (none, none, refl, sym (c.in-Reply.ensures.step going _ book.state).1)
 
@@ -84,7 +87,7 @@ returns-in-Reply-clause-legal g c = (invariant_of-self-in-Reply g c).0.legal
 pub returns-in-DiskFault-clause-enters : goal.returns-in-DiskFault-clause-enters
 returns-in-DiskFault-clause-enters g c =
     let going : c.forget_opening.new.store.stopped ≡ None = goes _ (λ sum is. let no = (c.in-DiskFault.ensures.stopped sum is).0 in cc) in
-    let book = forgets _ _ _ _ _ _ _ _ _ _ _ _ c.forget_opening.ensures.store c.self.invariant.0 in
+    let book = forgets _ _ _ _ g.met.D.Disk.seen_may_stay _ _ _ _ _ _ _ _ c.forget_opening.ensures.store c.self.invariant.0 in
     let sum : ℕ = sum_of (record { left = g.D.Disk.faults c.call.new.self.left; right = g.D.Disk.faults c.call.new.self.right }) in
     let stopped : c.call.new.self.stopped ≡ Some sum = c.in-DiskFault.ensures.stops ∙ ap (λ o. stopped_after o answer.DiskFault (record { left = g.D.Disk.faults c.call.new.self.left; right = g.D.Disk.faults c.call.new.self.right })) going in
     let halt = c.halt_by-self-inside.ensures ∙ ap (option_map (λ sum. record { session = c.args.session; request = c.args.request.now; faults = sum })) (c.stopped.ensures.sum ∙ stopped) in
@@ -92,9 +95,9 @@ returns-in-DiskFault-clause-enters g c =
 
 pub returns-in_default : goal.returns-in_default
 returns-in_default g c =
-    let book = forgets _ _ _ _ _ _ _ _ _ _ _ _ c.forget_opening.ensures.store c.self.invariant.0 in
+    let book = forgets _ _ _ _ g.met.D.Disk.seen_may_stay _ _ _ _ _ _ _ _ c.forget_opening.ensures.store c.self.invariant.0 in
     let says =
-    others_answer _ _ _ _ _ _ _ c.self.inside.store _ c.call.new.self _ _
+    others_answer _ _ _ _ g.met.D.Disk.seen_may_stay _ _ _ c.self.inside.store _ c.call.new.self _ _
     c.args.request.now c.call.result c.args.session c.args.calls book
     (record {
       stopped = c.call.ensures.stopped;
@@ -102,6 +105,7 @@ returns-in_default g c =
       stops = c.call.ensures.stops;
       cause = c.call.ensures.cause;
       disks = c.call.ensures.disks;
+      ordered = c.forget_opening.ensures.order;
       order = c.call.ensures.order;
     })
     (omega (arith, c.if-len-eq-ENTRIES_MOST.false, c.len.ensures, c.self.invariant.0.few, c.self.inside.entries.ok.0))
