@@ -129,7 +129,8 @@ HaltsAt _ bytes requests waiting s past kept stopped = past requests
 -- a run came to its end, some replies wait, and the protocol stands for the state after the requests
 pub record Comes
     (start : State) (end : Result (Unit {0}) Halt) (core : Core) (past : List Request → Type 0)
-    (kept : State → Request → Type 0) (stopped : List Request → Request → Type 0) (bytes : List ℕ) (left : Option (List ℕ)) (waiting : List ℕ) (before now : Option (List ℕ)) : Type 0 where
+    (kept : State → Request → Type 0) (stopped : List Request → Request → Type 0) (bytes : List ℕ)
+    (left : Option (List ℕ)) (waiting : List ℕ) (before now : Option (List ℕ)) : Type 0 where
   pub requests : List Request
   pub few : length requests ≤ LINES_MOST
   pub read : EndsAfter start end bytes left requests
@@ -149,7 +150,8 @@ WritesReplies start _ requests before now = Writes before (lines start requests)
 -- a run is at its end, its last line is not written yet, and the protocol stands for the state after the requests
 pub record Ends
     (start : State) (end : Result (Unit {0}) Halt) (core : Core) (past : List Request → Type 0)
-    (kept : State → Request → Type 0) (stopped : List Request → Request → Type 0) (bytes : List ℕ) (left : Option (List ℕ)) (before now : Option (List ℕ)) : Type 0 where
+    (kept : State → Request → Type 0) (stopped : List Request → Request → Type 0) (bytes : List ℕ)
+    (left : Option (List ℕ)) (before now : Option (List ℕ)) : Type 0 where
   pub requests : List Request
   pub few : length requests ≤ LINES_MOST
   pub read : EndsAfter start end bytes left requests
