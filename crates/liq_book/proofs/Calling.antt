@@ -158,8 +158,8 @@ module _ {D : Type 0} (seen : D → Option (List ℕ)) (faults : D → ℕ) (mom
           past =
               subst (λ requests. KeepsPast seen moment left_at left_origin right_origin base requests None new) (sym (requests_more entries e))
               (λ l r told_left told_right.
-                  goes_on seen moment left_at may_stay (since_origin left_origin right_origin) l r base (requests_of (map recorded entries)) old new
-                  (past_of old entries halt none b l r told_left told_right) c.ordered request reply still (c.step_is going) c.disks);
+              goes_on seen moment left_at may_stay (since_origin left_origin right_origin) l r base (requests_of (map recorded entries)) old new
+              (past_of old entries halt none b l r told_left told_right) c.ordered request reply still (c.step_is going) c.disks);
         })
 
     -- without memory nothing happened

@@ -72,11 +72,11 @@ module _ {D : Type 0} (seen : D → Option (List ℕ)) (faults : D → ℕ) (mom
     by (Some halt) from =
         let c : Command = from.1.0 in
         (AtCommand c, (c, from.1.1, refl), leaves_at from.0 (AtCommand c) from.1.2 from.2, around c (rests_at from.0 (AtCommand c) from.1.2 from.3)) where
-      around : (c : Command) → RestAtEnd seen moment left_at l r s requests (AtCommand c) left right → RestAtEnd seen moment left_at l r t requests (AtCommand c) left right
-      around c kept a b in_left in_right = ⊎_elim
-          (λ before. inl (kept_alike (run_alike requests alike) a b before))
-          (λ later. inr (sym (ruling_alike (run_alike requests alike) c) ∙ later.0, kept_alike (after_alike (run_alike requests alike) c) a b later.1))
-          (kept a b in_left in_right)
+          around : (c : Command) → RestAtEnd seen moment left_at l r s requests (AtCommand c) left right → RestAtEnd seen moment left_at l r t requests (AtCommand c) left right
+          around c kept a b in_left in_right = ⊎_elim
+              (λ before. inl (kept_alike (run_alike requests alike) a b before))
+              (λ later. inr (sym (ruling_alike (run_alike requests alike) c) ∙ later.0, kept_alike (after_alike (run_alike requests alike) c) a b later.1))
+              (kept a b in_left in_right)
 
   pub serves_alike : {s t : State} → Alike s t → (left_origin right_origin : DiskAt) (scripts : List Script) (served : Served D)
       → Serves seen faults moment left_at s left_origin right_origin scripts served → Serves seen faults moment left_at t left_origin right_origin scripts served

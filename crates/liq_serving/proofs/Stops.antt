@@ -1,11 +1,10 @@
 -- What a stop leaves of the disks, at any moment of serving an input.
-use Rattle.std.proofs.Common.{ℕ, ◌≡◌, ◌≢◌, ◌≤◌, ◌⊎◌, inl, inr, List, [], map, Option, Some, None, Ok, refl, sym, ap, subst, arith}
+use Rattle.std.proofs.Common.{ℕ, ◌≡◌, ◌≢◌, ◌≤◌, inl, inr, List, [], map, Option, Some, None, Ok, refl, sym, subst, arith}
 use Rattle.std.specs.Prelude.{IfSome, IsSome, ◌↔◌, false}
 use Rattle.liq_outside.specs.Disk.{GoesOn, LeavesOnly, LeftNow, Only}
-use Rattle.liq_outside.proofs.Moments.{started, unmoved}
+use Rattle.liq_outside.proofs.Moments.{started}
 use Rattle.liq_types.specs.declared.requests.Command.{Command}
 use Rattle.liq_types.specs.declared.requests.Request.{Request}
-use Rattle.liq_types.specs.declared.requests.Request.TheVariants.{Do}
 use Rattle.liq_types.specs.State.{State}
 use Rattle.liq_types.proofs.Tests.{value_of}
 use Rattle.liq_rules.specs.History as history
@@ -28,8 +27,6 @@ use Rattle.liq_store.specs.Past.{Past}
 use Rattle.liq_store.specs.Stored.{Stored}
 use Rattle.liq_store.proofs.Past.{begins, joins, opening_leaves}
 use Rattle.liq_lines.specs.declared.stops.Stop.{Stop}
-use Rattle.liq_book.specs.declared.items.Halt.{Halt}
-use Rattle.liq_book.specs.Origin.{GoesOnFrom}
 use Rattle.liq_book.specs.Past.{IsFaultOf, since_origin}
 use Rattle.liq_sessions.specs.declared.script.Script.{Script}
 use Rattle.liq_serving.specs.declared.input.Finish.{Finish}

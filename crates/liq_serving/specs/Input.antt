@@ -115,7 +115,8 @@ IsFaultAt _ halted fault = fault ≡ NoFault
 
 -- What the lines asked was answered along this history, as far as the finish says. It is what they asked where the
 -- source told its bytes, and the history is legal from the state for which the disks stood, where they told theirs. If
--- they were kept for it, and nothing was pending, a stop at any moment leaves what one in a run of these requests does.
+-- they were kept for it, and nothing was pending, a stop at any moment leaves what one in a run of the history's
+-- requests leaves.
 pub record AnswersInput
     {D : Type 0} (seen : D → Option (List ℕ)) (moment : D → ℕ) (left_at : D → ℕ → List ℕ → Type 0)
     (before unread : Option (List ℕ)) (left right : D)
