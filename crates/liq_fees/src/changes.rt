@@ -9,10 +9,10 @@ use liq_types::amounts::ACCOUNTS;
 /// The most that all accounts together may have staked, in units of the staked token.
 pub const STAKED_MOST: u64 = 1_000_000_000_000_000_000;
 
-/// The most changes that one value takes.
+/// The most changes that one value takes: 2^40.
 pub const CHANGES_MOST: u64 = 1_099_511_627_776;
 
-/// The most fees that one value takes.
+/// The most fees that one value takes: 2^40.
 pub const FEES_MOST: u64 = 1_099_511_627_776;
 
 /// Why a change is refused. Its fields are printed in their order behind its code.

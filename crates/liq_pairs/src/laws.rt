@@ -139,8 +139,8 @@ pub fn settled_pairs_are_opened_again()
         → LeftLeaves l r a → OpenLeaves false r b → IsSettledFor side a b s }
 {}
 
-/// No stop damages a disk: an image of a run that is damaged is as the disk stood when the run began, with any byte at
-/// place 0.
+/// A damaged image of a run is the disk as it stood when the run began, with any byte at place 0: a run writes nothing that
+/// is damaged.
 pub fn runs_damage_no_disk()
     ensures { (side : Side) → (l r : List ℕ) → (s : State) → (requests : List Request) → (fault : Fault)
         → (image : List ℕ) → (damage : Damage) → IsOfRun side l r s requests fault image

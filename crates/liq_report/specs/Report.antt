@@ -28,7 +28,7 @@ trove_text sums row = object_text (
     ∷ (codes "debt", decimal (entire_by sums row.1).1)
     ∷ (codes "stake", decimal row.1.stake) ∷ [])
 
--- the Stability Pool's words; product and sum may need more than 64 bits, and are strings of digits
+-- the Stability Pool's words; product and sum are words of 128 bits, and strings of digits
 abbrev pub pool_text : State → List ℕ
 pool_text s =
     let words = pool_words s in object_text (

@@ -18,7 +18,7 @@ use std::alloc::{AllocError, Global};
 
 /// The report of a protocol: one object in JSON without spaces, in which the names of every object ascend. Collateral is
 /// in gwei, debt and LUSD in micro-LUSD. How the protocol came to be shows nowhere: states with one image and as many
-/// records have one report. It may want memory, and fails then alone.
+/// records have one report. Its names are `deposits`, `pool`, `system` and `troves`. [`NoMemory`] is the only error.
 pub fn report(alloc: Global, protocol: &Protocol) -> Result<Vec<u8>, NoMemory>
     ensures { IfOk result (λ text. (s : State) → StandsFor protocol.now s → text.items ≡ report_text s) }
 {

@@ -26,7 +26,7 @@ pub fn pool(alloc: Global, protocol: &Protocol) -> Result<Value, AllocError>
     pool_value(alloc, words.epoch, words.p, words.scale, words.sum)
 }
 
-/// The Stability Pool by its words. Product and sum are strings of digits, since they may need more than 64 bits.
+/// The Stability Pool by its words. Product and sum are words of 128 bits, and strings of digits.
 fn pool_value(
     alloc: Global,
     epoch: u64,

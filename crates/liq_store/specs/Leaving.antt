@@ -9,7 +9,7 @@ use Rattle.liq_store.specs.Keeping.{IsAtRest}
 
 module _ {D : Type 0} (seen : D → Option (List ℕ)) (moment : D → ℕ) (left_at : D → ℕ → List ℕ → Type 0) where
   -- Nothing is pending at its end. After a disk's fault all that a crash may now leave of the one, beside all of the
-  -- other, is kept instead.
+  -- other, is what `KeptAtEnd` says.
   abbrev pub RestAtEnd : List ℕ → List ℕ → State → List Request → Fault → D → D → Type 0
   RestAtEnd l r start requests NoFault left right =
       IsAtRest seen moment left_at left × IsAtRest seen moment left_at right

@@ -50,7 +50,7 @@ fn lines(rt: HostRuntime) {
     }
 }
 
-/// Two accounts share a fee of 20 LUSD, three to seven and four to seven. What is refused changes nothing.
+/// Two accounts share a fee of 20 LUSD, three sevenths and four sevenths of it. What is refused changes nothing.
 #[test]
 fn a_fee_is_shared(rt: HostRuntime) {
     let mut fees = Fees::new(rt.alloc());
@@ -82,6 +82,33 @@ fn a_fee_is_shared(rt: HostRuntime) {
     same(&rt, &fees.row(1), &first, "the first row");
     same(&rt, &fees.row(2), &second, "the second row");
     same(&rt, &fees.unshared(), &(0, 0), "nothing stays unshared");
+}
+
+/// What an account gained stays when it takes out its stake, and a later fee goes to the others.
+#[test]
+fn a_stake_is_taken_out(rt: HostRuntime) {
+    let mut fees = Fees::new(rt.alloc());
+    taken(&rt, fees.change(1, 3, false));
+    taken(&rt, fees.change(2, 4, false));
+    fees.share(0, 20_000_000);
+    taken(&rt, fees.change(1, 3, true));
+    fees.share(0, 4_000_000);
+    let first = StakeRow {
+        account: 1,
+        stake: 0,
+        coll: 0,
+        lusd: 8_571_428,
+        allow: 3,
+    };
+    let second = StakeRow {
+        account: 2,
+        stake: 4,
+        coll: 0,
+        lusd: 15_428_571,
+        allow: 2,
+    };
+    same(&rt, &fees.row(1), &first, "the row without a stake");
+    same(&rt, &fees.row(2), &second, "the row of all stakes");
 }
 
 #[test]
