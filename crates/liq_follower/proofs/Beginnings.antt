@@ -36,7 +36,7 @@ replay_front (suc n) index s end (c ∷ cs) came =
 
 -- ---- a journal
 
-too_short : (gate n m : ℕ) → m < n → ((gate == 1) && nat_le n m) ≡ false
+pub too_short : (gate n m : ℕ) → m < n → ((gate == 1) && nat_le n m) ≡ false
 too_short gate n m less = grind (arith, nat_tests)
 
 module _ (bytes rest : List ℕ) (w : Written) (s : State)

@@ -2,6 +2,10 @@
 use Rattle.std.proofs.Common.{◌≡◌, ℕ, ◌+◌, ◌<◌, ◌≤◌, List, [], ◌∷◌, ◌++◌, length, Bool, true, false, if◌then◌else◌, refl, sym, ◌∙◌, ap, subst, arith, length-append}
 use Rattle.std.specs.Prelude.{Some, cond}
 use Rattle.std.proofs.lemmas.List.Elements.{All-pop}
+use Rattle.std.proofs.lemmas.List.{get_or-append_right}
+use Rattle.std.proofs.Common.{get_or, ◌-◌}
+use Rattle.liq_journal.proofs.Reading.{isnt_long}
+use Rattle.liq_follower.specs.Fed.{LackOne}
 use Rattle.liq_types.specs.declared.requests.Command.{Command}
 use Rattle.liq_types.specs.State.{State, opening_with}
 use Rattle.liq_rules.specs.Step.{Allowed, after, effect, ruling}
@@ -105,3 +109,16 @@ module _ (front : List ℕ) (s : State) (e : EndsWhole front s) where
           few = let most : (after s c).records ≤ 1000000 = omega arith in most;
           ends = let l = long record_is in let ends = e.ends in omega arith;
         }
+
+  -- all bytes of a record but the last one are there
+  pub lacks_one : (held : List ℕ) → length held ≡ 127 → LackOne (front ++ 1 ∷ held)
+  lacks_one held size =
+      let none : begins_whole (1 ∷ held) ≡ false = isnt_long (1 ∷ held) (omega arith) in
+      let l = long (1 ∷ held) in
+      (w, stays_open (1 ∷ held) none, omega arith, gate)
+    where
+      same : end_of w - end_of w ≡ 0
+      same = omega arith
+
+      gate : get_or (front ++ 1 ∷ held) (end_of w) 0 ≡ 1
+      gate = get_or-append_right front (1 ∷ held) (end_of w) (end_of w) 0 e.ends (omega arith) ∙ ap (λ (k : ℕ). get_or (1 ∷ held) k 0) same

@@ -1,6 +1,12 @@
 mod Beginnings
 mod Found
 mod Fronts
+mod Growing
 mod Headed
 mod Headers
+mod Making
+mod Phases
 mod Replaying
+mod Steps
+mod Tests
+mod Verdicts

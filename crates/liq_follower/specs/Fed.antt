@@ -1,5 +1,5 @@
 -- What bytes stand for that are the beginning of a journal of generation 1, as far as they go.
-use Rattle.std.specs.Prelude.{◌≡◌, ◌≤◌, ℕ, List, length, get_or, Ok, Err, Bool, true, false, ◌&&◌, ◌==◌}
+use Rattle.std.specs.Prelude.{◌≡◌, ◌<◌, ◌≤◌, ℕ, ◌+◌, List, length, get_or, Ok, Err, Bool, true, false, ◌&&◌, ◌==◌}
 use Rattle.std.specs.Prelude.{nat_lt, nat_le, if◌then◌else◌}
 use Rattle.std.specs.Str.{bytes_eq}
 use Rattle.liq_types.specs.declared.amounts.TheConstants.{LIM, LIM_OF_VERSION_1, RECORDS_MOST}
@@ -11,6 +11,8 @@ use Rattle.liq_journal.specs.Layout.{generation_on, header_size, layout_on, name
 use Rattle.liq_journal.specs.Written.{Open, Written, end_of, found_on, record_on}
 use Rattle.liq_pairs.specs.Pair.{Standing, Faulty, Holding, standing}
 use Rattle.liq_pairs.specs.Replay.{outcome}
+use Rattle.liq_follower.specs.declared.answers.FedEnd.{FedEnd}
+use Rattle.liq_follower.specs.declared.answers.FedEnd.TheVariants.{All, Damaged, NoMemory, Rotated}
 
 -- ---- what they stand for
 
@@ -23,6 +25,11 @@ has_header bytes = (get_or bytes 0 0 == 1) && nat_le (header_size (layout_on byt
 abbrev pub begun_limit : List ℕ → ℕ
 begun_limit bytes =
     if (get_or bytes 0 0 == 1) && bytes_eq (name_on bytes) version_1.name then LIM_OF_VERSION_1 else LIM
+
+-- an open gate, and a header behind it that isn't whole
+pub record IsBegun (bytes : List ℕ) : Type 0 where
+  pub gate : get_or bytes 0 0 ≡ 1
+  pub short : length bytes < header_size (layout_on bytes)
 
 -- Behind a whole header they are what they are as the left one of two disks. Else they stand for the opening.
 unfoldable pub fed : List ℕ → Standing
@@ -60,3 +67,30 @@ IsRecordOf index raw command = (place : ℕ) → record_on 1 index place raw ≡
 -- wherever it stands, it has a fault
 abbrev pub IsNoRecord : ℕ → List ℕ → Type 0
 IsNoRecord index raw = (place : ℕ) → (what : What) × (record_on 1 index place raw ≡ Err what)
+
+-- ---- how feeding ends with them
+
+abbrev pub GoOn : List ℕ → Type 0
+GoOn bytes = (s : State) × LeadTo bytes s
+
+abbrev pub AreTurnedTo : ℕ → List ℕ → Type 0
+AreTurnedTo generation bytes = (is_turned bytes ≡ true) × (generation_on bytes ≡ generation)
+
+-- behind the whole records stand an open gate and all bytes of a record but the last one
+abbrev pub LackOne : List ℕ → Type 0
+LackOne bytes =
+    (w : Written)
+    × (found_on true bytes ≡ Open w)
+    × (length bytes ≡ end_of w + 128)
+    × (get_or bytes (end_of w) 0 ≡ 1)
+
+-- What each end says of all bytes that were taken. No two of `All`, `Damaged` and `Rotated` come with the same bytes.
+abbrev pub EndsWith : FedEnd → List ℕ → Type 0
+EndsWith All bytes = GoOn bytes
+EndsWith NoMemory bytes = GoOn bytes × LackOne bytes
+EndsWith (Damaged index) bytes = AreDamagedAt index bytes
+EndsWith (Rotated generation) bytes = AreTurnedTo generation bytes
+
+-- no feed takes any byte more
+abbrev pub AreOver : List ℕ → Type 0
+AreOver bytes = GoOn bytes → ⊥

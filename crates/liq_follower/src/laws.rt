@@ -11,6 +11,10 @@ ghost use Rattle.liq_journal.specs.Written.{Open, Written, first_fault, found_on
 ghost use Rattle.liq_pairs.specs.Replay.{outcome, replay};
 ghost use Rattle.liq_follower.specs.Fed.{AreDamagedAt, EndsWhole, IsNoRecord, IsRecordOf, LeadTo};
 ghost use Rattle.liq_follower.specs.Fed.{begun_limit, has_header, is_turned};
+ghost use Rattle.liq_core.specs.Core.{StandsFor};
+ghost use Rattle.liq_follower.specs.Following.{IsFed};
+
+use crate::follower::Follower;
 
 /// The beginning of an undamaged journal of the first generation is itself neither damaged nor of a later generation. Once it
 /// goes beyond the name of the version, it leads to the state after the first commands of the journal, as many as are whole.
@@ -48,4 +52,10 @@ pub fn records_lead_on()
         → AreDamagedAt (s.records + 1) (front ++ 1 ∷ raw) }
     ensures fault { (front raw : List ℕ) → (s : State) → EndsWhole front s → length raw ≡ 128
         → IsNoRecord (s.records + 1) raw → AreDamagedAt (s.records + 1) (front ++ 1 ∷ raw) }
+{}
+
+/// A follower stands for the state to which the bytes lead that it was fed, where they are neither damaged nor of a later
+/// generation. So it does not matter into which pieces they were cut.
+pub fn followers_stand(follower: &Follower)
+    ensures { (bytes : List ℕ) → (s : State) → IsFed bytes follower.now → LeadTo bytes s → StandsFor follower.now.core s }
 {}

@@ -1,0 +1,161 @@
+-- What each byte makes of the bytes and the phase.
+use Rattle.std.proofs.Common.{◌≡◌, ◌⊎◌, inl, inr, ℕ, ◌+◌, ◌<◌, ◌≤◌, List, [], ◌∷◌, ◌++◌, length, get_or, refl, sym, ◌∙◌, ap, subst, arith, length-append, append_assoc}
+use Rattle.liq_types.specs.declared.requests.Command.{Command}
+use Rattle.liq_types.specs.State.{State, opening_with}
+use Rattle.liq_rules.specs.Step.{Allowed, after, ruling}
+use Rattle.liq_core.specs.Core.{Core, StandsFor}
+use Rattle.liq_journal.specs.Layout.{header_size, layout_on}
+use Rattle.liq_follower.specs.declared.header.Judged.{Judged}
+use Rattle.liq_follower.specs.declared.header.Judged.TheVariants as judged
+use Rattle.liq_follower.specs.declared.phase.Phase.{Phase}
+use Rattle.liq_follower.specs.declared.phase.Phase.TheVariants.{Start, Header, Gate, Inside}
+use Rattle.liq_follower.specs.declared.record.Redone.TheVariants as redone
+use Rattle.liq_follower.specs.Fed.{AreDamagedAt, EndsWhole, IsBegun, IsNoRecord, IsRecordOf, LackOne, begun_limit}
+use Rattle.liq_follower.specs.Following.{EndsAs, IsInPhase, IsShut}
+use Rattle.liq_follower.specs.Judging.{IsJudged, IsTaken, phase_of}
+use Rattle.liq_follower.proofs.Fronts.{bad_command, bad_form, lacks_one, one_record_more}
+use Rattle.liq_follower.proofs.Growing.{gate_is, has_room, least, still_begun}
+use Rattle.liq_follower.proofs.Headers.{whole_header, wrong}
+
+-- ---- the header
+
+pub shut_first : (bytes held : List ℕ) (core : Core) (byte : ℕ) → (byte ≡ 1 → ⊥) → IsInPhase Start held bytes core → IsShut (bytes ++ byte ∷ []) core
+shut_first bytes held core byte isnt (none, stands) = record {
+  front = [];
+  gate = byte;
+  rest = [];
+  are = ap (λ (l : List ℕ). l ++ byte ∷ []) none;
+  shut = isnt;
+  whole = inl (refl, stands);
+}
+
+pub open_first : (bytes held : List ℕ) (core : Core) (byte : ℕ) → byte ≡ 1 → IsInPhase Start held bytes core → IsInPhase Header (byte ∷ []) (bytes ++ byte ∷ []) core
+open_first bytes held core byte is (none, stands) =
+    let are : bytes ++ byte ∷ [] ≡ byte ∷ [] = ap (λ (l : List ℕ). l ++ byte ∷ []) none in
+    let one : 1 ∷ [] ≡ bytes ++ byte ∷ [] = ap (λ (n : ℕ). n ∷ []) (sym is) ∙ sym are in
+    let l = least (1 ∷ []) in
+    let begun : IsBegun (1 ∷ []) = record { gate = refl; short = omega arith } in (
+      are,
+      subst IsBegun one begun,
+      subst (λ (l : List ℕ). StandsFor core (opening_with (begun_limit l))) one stands,
+    )
+
+-- behind a whole one
+judged_so : (bytes none : List ℕ) (core : Core) (j : Judged) → get_or bytes 0 0 ≡ 1 → length bytes ≡ header_size (layout_on bytes)
+    → StandsFor core (opening_with (begun_limit bytes)) → IsJudged bytes j → IsInPhase (phase_of j) none bytes core
+judged_so bytes none core judged.Right gate whole stands is = (opening_with (begun_limit bytes), whole_header bytes gate whole is.0 is.1, stands)
+judged_so bytes none core (judged.Turned generation) gate whole stands is = is
+judged_so bytes none core judged.Damaged gate whole stands is = wrong bytes gate whole is.1 is.0
+
+-- one byte more of the header
+pub record Grown (bytes : List ℕ) (held : List ℕ) (core : Core) : Type 0 where
+  pub are : bytes ≡ held
+  pub gate : get_or held 0 0 ≡ 1
+  pub stands : StandsFor core (opening_with (begun_limit held))
+  pub begun : (length held ≡ header_size (layout_on held) → ⊥) → IsBegun held
+
+pub grown : (bytes held more : List ℕ) (core next : Core) (byte limit : ℕ) → IsInPhase Header held bytes core
+    → (length held < 127 → more ≡ held ++ byte ∷ []) → ((before : ℕ) → StandsFor core (opening_with before) → StandsFor next (opening_with limit))
+    → limit ≡ begun_limit more → Grown (bytes ++ byte ∷ []) more next
+grown bytes held more core next byte limit (are, begun, stands) pushed opened is =
+    let begun_held : IsBegun held = subst IsBegun are begun in
+    let same : more ≡ held ++ byte ∷ [] = pushed (has_room held begun_held) in
+    record {
+      are = ap (λ (l : List ℕ). l ++ byte ∷ []) are ∙ sym same;
+      gate = subst (λ (l : List ℕ). get_or l 0 0 ≡ 1) (sym same) (gate_is held byte begun_held);
+      stands = subst (λ (n : ℕ). StandsFor next (opening_with n)) is (opened (begun_limit bytes) stands);
+      begun = subst (λ (l : List ℕ). (length l ≡ header_size (layout_on l) → ⊥) → IsBegun l) (sym same) (still_begun held byte begun_held);
+    }
+
+pub still_header : (bytes held : List ℕ) (core : Core) → Grown bytes held core → (length held ≡ header_size (layout_on held) → ⊥) → IsInPhase Header held bytes core
+still_header bytes held core g isnt = (g.are, subst IsBegun (sym g.are) (g.begun isnt), subst (λ (l : List ℕ). StandsFor core (opening_with (begun_limit l))) (sym g.are) g.stands)
+
+pub whole_so : (bytes held none : List ℕ) (core : Core) (j : Judged) (phase : Phase) → Grown bytes held core → length held ≡ header_size (layout_on held)
+    → (get_or held 0 0 ≡ 1 → IsJudged held j) → phase ≡ phase_of j → IsInPhase phase none bytes core
+whole_so bytes held none core j phase g whole judged is =
+    subst (λ (p : Phase). IsInPhase p none bytes core) (sym is)
+    (subst (λ (l : List ℕ). IsInPhase (phase_of j) none l core) (sym g.are) (judged_so held none core j g.gate whole g.stands (judged g.gate)))
+
+-- ---- gates
+
+pub gate_open : (bytes : List ℕ) (core : Core) (byte : ℕ) → byte ≡ 1 → IsInPhase Gate [] bytes core → IsInPhase Inside [] (bytes ++ byte ∷ []) core
+gate_open bytes core byte is e = (bytes, ap (λ (n : ℕ). bytes ++ n ∷ []) is, omega arith, e)
+
+pub gate_shut : (bytes : List ℕ) (core : Core) (byte : ℕ) → (byte ≡ 1 → ⊥) → EndsAs bytes core → IsShut (bytes ++ byte ∷ []) core
+gate_shut bytes core byte isnt e = record { front = bytes; gate = byte; rest = []; are = refl; shut = isnt; whole = inr e }
+
+pub still_shut : (bytes more : List ℕ) (core : Core) → IsShut bytes core → IsShut (bytes ++ more) core
+still_shut bytes more core s = record {
+  front = s.front;
+  gate = s.gate;
+  rest = s.rest ++ more;
+  are = ap (λ (l : List ℕ). l ++ more) s.are ∙ append_assoc s.front (s.gate ∷ s.rest) more;
+  shut = s.shut;
+  whole = s.whole;
+}
+
+-- ---- records
+
+pub still_inside : (bytes held more : List ℕ) (core : Core) → length held + length more < 128 → IsInPhase Inside held bytes core
+    → IsInPhase Inside (held ++ more) (bytes ++ more) core
+still_inside bytes held more core few (front, are, less, e) = (
+  front,
+  ap (λ (l : List ℕ). l ++ more) are ∙ append_assoc front (1 ∷ held) more,
+  (let n = length-append held more in omega (arith, n, few)),
+  e,
+)
+
+pub lacks : (bytes held : List ℕ) (core : Core) → length held ≡ 127 → IsInPhase Inside held bytes core → LackOne bytes
+lacks bytes held core size (front, are, less, (s, e, stands)) = subst LackOne (sym are) (lacks_one front s e held size)
+
+pub few_records : (bytes held : List ℕ) (core : Core) → IsInPhase Inside held bytes core → core.records ≤ 1000000
+few_records bytes held core (front, are, less, (s, e, stands)) =
+    let same = stands.records in
+    let few : s.records ≤ 1000000 = e.few in
+    omega arith
+
+-- the last byte of a record
+module _ (bytes held : List ℕ) (core : Core) (last index : ℕ) (size : length held ≡ 127) (next : index ≡ core.records + 1) (at : IsInPhase Inside held bytes core) where
+  abbrev raw : List ℕ
+  raw = held ++ last ∷ []
+
+  raw_long : length raw ≡ 128
+  raw_long = let n = length-append held (last ∷ []) in omega (arith, n, size)
+
+  all_are : at.0 ++ 1 ∷ raw ≡ bytes ++ last ∷ []
+  all_are = sym (ap (λ (l : List ℕ). l ++ last ∷ []) at.1 ∙ append_assoc at.0 (1 ∷ held) (last ∷ []))
+
+  abbrev pub state : State
+  state = at.3.0
+
+  front : EndsWhole at.0 state
+  front = at.3.1
+
+  index_is : index ≡ state.records + 1
+  index_is = next ∙ ap (λ (n : ℕ). n + 1) at.3.2.records
+
+  pub damaged_form : IsNoRecord index raw → AreDamagedAt index (bytes ++ last ∷ [])
+  damaged_form none = subst (AreDamagedAt index) all_are (bad_form at.0 state front raw raw_long index index_is none)
+
+  pub damaged_command : (c : Command) → IsRecordOf index raw c → (ruling state c ≡ Allowed → ⊥) → AreDamagedAt index (bytes ++ last ∷ [])
+  damaged_command c read isnt = subst (AreDamagedAt index) all_are (bad_command at.0 state front raw raw_long index index_is c read isnt)
+
+  pub record_made : (c : Command) → IsRecordOf index raw c → ruling state c ≡ Allowed → (next_core : Core) → StandsFor next_core (after state c)
+      → EndsAs (bytes ++ last ∷ []) next_core
+  record_made c read allowed next_core stands =
+      (after state c, subst (λ (l : List ℕ). EndsWhole l (after state c)) all_are (one_record_more at.0 state front raw raw_long index index_is c read allowed), stands)
+
+  pub record_refused : IsNoRecord index raw ⊎ ((c : Command) × IsRecordOf index raw c × (ruling state c ≡ Allowed → ⊥)) → AreDamagedAt index (bytes ++ last ∷ [])
+  record_refused (inl none) = damaged_form none
+  record_refused (inr (c, read, isnt)) = damaged_command c read isnt
+
+  -- by what the record was taken for, as its bytes were put together
+  pub made_by : (read : List ℕ) → read ≡ raw → (next_core : Core) → IsTaken state index read next_core redone.Made → EndsAs (bytes ++ last ∷ []) next_core
+  made_by read same next_core (c, is, allowed, stands) = record_made c (subst (λ (l : List ℕ). IsRecordOf index l c) same is) allowed next_core stands
+
+  pub refused_by : (read : List ℕ) → read ≡ raw → (next_core : Core) → IsTaken state index read next_core redone.Refused → AreDamagedAt index (bytes ++ last ∷ [])
+  refused_by read same next_core t =
+      record_refused (subst (λ (l : List ℕ). IsNoRecord index l ⊎ ((c : Command) × IsRecordOf index l c × (ruling state c ≡ Allowed → ⊥))) same t)
+
+  pub lacking : (next_core : Core) → StandsFor next_core state → IsInPhase Inside held bytes next_core × LackOne bytes
+  lacking next_core stands = ((at.0, at.1, at.2, (state, front, stands)), lacks bytes held core size at)

@@ -1,0 +1,45 @@
+-- What a whole header and a whole record are found to be, and what becomes of a record's command.
+use Rattle.std.specs.Prelude.{◌≡◌, ◌⊎◌, ℕ, List, Option, Some, None, true}
+use Rattle.liq_types.specs.declared.requests.Command.{Command}
+use Rattle.liq_types.specs.State.{State}
+use Rattle.liq_core.specs.Core.{Core, StandsFor}
+use Rattle.liq_rules.specs.Step.{Allowed, after, ruling}
+use Rattle.liq_journal.specs.Layout.{generation_on, layout_on}
+use Rattle.liq_journal.specs.Written.{first_fault, header_tests}
+use Rattle.liq_follower.specs.declared.header.Judged.{Judged}
+use Rattle.liq_follower.specs.declared.header.Judged.TheVariants.{Damaged, Right, Turned}
+use Rattle.liq_follower.specs.declared.record.Redone.{Redone}
+use Rattle.liq_follower.specs.declared.record.Redone.TheVariants.{Made, NoMemory, Refused}
+use Rattle.liq_follower.specs.declared.phase.Phase.{Phase}
+use Rattle.liq_follower.specs.declared.phase.Phase.TheVariants as phase
+use Rattle.liq_follower.specs.Fed.{IsNoRecord, IsRecordOf, is_turned}
+
+-- no test of the header fails; or one does, and it isn't turned
+abbrev pub IsJudged : List ℕ → Judged → Type 0
+IsJudged bytes Right = (first_fault (header_tests (layout_on bytes) true bytes) ≡ None) × (generation_on bytes ≡ 1)
+IsJudged bytes (Turned generation) = (is_turned bytes ≡ true) × (generation_on bytes ≡ generation)
+IsJudged bytes Damaged =
+    (is_turned bytes ≡ true → ⊥) × (first_fault (header_tests (layout_on bytes) true bytes) ≡ None → ⊥)
+
+-- where in the journal a follower is behind such a header
+abbrev pub phase_of : Judged → Phase
+phase_of Right = phase.Gate
+phase_of (Turned generation) = phase.Rotated generation
+phase_of Damaged = phase.Damaged 0
+
+-- a record that is tested: its command, or none
+abbrev pub IsTested : ℕ → List ℕ → Option Command → Type 0
+IsTested index raw (Some command) = IsRecordOf index raw command
+IsTested index raw None = IsNoRecord index raw
+
+-- what becomes of a command in a state that stands before it
+abbrev pub IsRedone : State → Command → Core → Redone → Type 0
+IsRedone s c core Made = (ruling s c ≡ Allowed) × StandsFor core (after s c)
+IsRedone s c core Refused = ruling s c ≡ Allowed → ⊥
+IsRedone s c core NoMemory = StandsFor core s
+
+-- what becomes of a whole record of this number, in a state that stands before it
+abbrev pub IsTaken : State → ℕ → List ℕ → Core → Redone → Type 0
+IsTaken s index raw core Made = (c : Command) × IsRecordOf index raw c × (ruling s c ≡ Allowed) × StandsFor core (after s c)
+IsTaken s index raw core Refused = IsNoRecord index raw ⊎ ((c : Command) × IsRecordOf index raw c × (ruling s c ≡ Allowed → ⊥))
+IsTaken s index raw core NoMemory = StandsFor core s

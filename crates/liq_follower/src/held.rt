@@ -1,0 +1,88 @@
+// The bytes of a header or a record that isn't whole.
+ghost use Rattle.std.specs.Prelude.{◌≡◌, ◌≤◌, ◌<◌, ◌+◌, ◌++◌, ◌∷◌, [], length};
+
+use std::marker::Model;
+
+/// How many bytes a record has behind its gate.
+pub const RECORD: usize = 128;
+
+/// Fewer bytes than a record has. Contracts see them.
+#[derive(Drop)]
+pub struct Held {
+    bytes: [u8; RECORD],
+    count: usize,
+}
+
+impl Model for Held {
+    ghost use Rattle.std.specs.Prelude.{◌<◌, ℕ, List, take};
+
+    ghost Value = { List ℕ };
+
+    ghost view = { λ h. take h.count h.bytes };
+
+    ghost invariant = { λ h. h.count < 128 };
+}
+
+impl Held {
+    /// None.
+    pub fn new() -> Held
+        ensures { result ≡ [] }
+    {
+        Held {
+            bytes: [0; RECORD],
+            count: 0,
+        }
+    }
+
+    /// How many there are.
+    pub fn len(&self) -> usize
+        ensures count { result ≡ length self.now }
+        ensures few { result < 128 }
+    {
+        self.count
+    }
+
+    /// The bytes.
+    pub fn bytes(&self) -> &[u8]
+        ensures { result.now ≡ self.now }
+    {
+        &self.bytes[..self.count]
+    }
+
+    /// Lets them go.
+    pub fn clear(&mut self)
+        ensures { self.new ≡ [] }
+    {
+        self.count = 0;
+    }
+
+    /// Takes one byte more, where there is room.
+    pub fn push(&mut self, byte: u8)
+        ensures { length self.old < 127 → self.new ≡ self.old ++ byte ∷ [] }
+    {
+        if self.count < RECORD - 1 {
+            self.bytes[self.count] = byte;
+            self.count += 1;
+        }
+    }
+
+    /// Takes more bytes, for which there is room.
+    pub fn extend(&mut self, piece: &[u8])
+        requires { length self.old + length piece.now < 128 }
+        ensures { self.new ≡ self.old ++ piece.now }
+    {
+        let end = self.count + piece.len();
+        self.bytes[self.count..end].copy_from_slice(piece);
+        self.count = end;
+    }
+
+    /// All bytes of a record, of which one was missing.
+    pub fn with(&self, last: u8) -> [u8; RECORD]
+        requires { length self.now ≡ 127 }
+        ensures { result ≡ self.now ++ last ∷ [] }
+    {
+        let mut record = self.bytes;
+        record[127] = last;
+        record
+    }
+}

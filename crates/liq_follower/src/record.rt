@@ -1,0 +1,102 @@
+// A whole record, tested, and its command, made again.
+ghost use Rattle.std.specs.Prelude.{◌≡◌, ◌+◌, ◌^◌, ◌<◌, false, length, IfSome};
+ghost use Rattle.byteorder.specs.Endian.{big_bytes};
+ghost use Rattle.liq_types.specs.State.{State};
+ghost use Rattle.liq_core.specs.Core.{StandsFor};
+ghost use Rattle.liq_journal.specs.Written.{is_rotate, record_digest};
+ghost use Rattle.liq_follower.specs.Judging.{IsRedone, IsTaken, IsTested};
+
+use crate::guided::Guided;
+use crate::held::RECORD;
+use byteorder::{BigEndian, ByteOrder};
+use liq_core::laws::protocols_stand;
+use liq_core::{PlanFault, Turn, unhinted};
+use liq_types::{Call, Command, Hint, Steps};
+use liq_wire::decode;
+use sha2::{Digest, Sha256};
+use std::marker::Brand;
+use std::sync::ledger::{Blank, Ledger};
+
+// What became of a command.
+#[derive(Clone, Copy)]
+pub enum Redone {
+    Made,
+    // The rules refuse it, or it is a repetition.
+    Refused,
+    NoMemory,
+}
+
+pub fn number(n: u64) -> [u8; 8]
+    ensures { result ≡ big_bytes 8 n }
+{
+    let mut bytes = [0; 8];
+    BigEndian::write_u64(&mut bytes, n);
+    bytes
+}
+
+// The digest of the record of this number in the first generation.
+fn digest(index: u64, body: &[u8; 96]) -> [u8; 32]
+    ensures { result ≡ record_digest 1 index body.now }
+{
+    let mut hasher = Sha256::new();
+    hasher.update(&number(1));
+    hasher.update(&number(index));
+    hasher.update(body);
+    hasher.finalize()
+}
+
+// The command of the record of this number in the first generation: its digest is right, and its body is a command that is no
+// rotation.
+pub fn tested(raw: &[u8; RECORD], index: u64) -> Option<Command>
+    ensures tested { IsTested index raw.now result }
+    ensures stays { IfSome result (λ c. is_rotate c.call ≡ false) }
+{
+    let mut body = [0; 96];
+    body.copy_from_slice(&raw[..96]);
+    if &raw[96..] != digest(index, &body).as_slice() {
+        return None;
+    }
+    match decode(&body) {
+        Ok(command) => match command.call {
+            Call::Rotate => None,
+            _ => Some(command),
+        },
+        Err(_) => None,
+    }
+}
+
+// Makes the step of a command. Its steps are counted on a ledger of their own.
+pub fn redo<L: Ledger>(protocol: &mut Guided, command: &Command, blank: Blank) -> Redone
+    requires name { blank.name ≡ L.name }
+    requires parts { blank.parts ≡ L.parts }
+    requires one { L.parts ≡ 1 }
+    requires stays { is_rotate command.now.call ≡ false }
+    ensures { (s : State) → StandsFor protocol.old s → IsRedone s command.now protocol.new result }
+{
+    protocols_stand(protocol.protocol());
+    let command = unhinted(command);
+    let planned = match protocol.plan(&command) {
+        Ok(Turn::New(planned)) => planned,
+        Ok(Turn::Again(_)) => return Redone::Refused,
+        Err(PlanFault::No(_)) => return Redone::Refused,
+        Err(PlanFault::NoMemory) => return Redone::NoMemory,
+    };
+    match protocol.reserve(&planned) {
+        Ok(()) => {
+            let mut steps = Steps::<L>::new(blank);
+            let _ = protocol.apply(planned, &Hint::NONE, &mut steps);
+            Redone::Made
+        }
+        Err(_) => Redone::NoMemory,
+    }
+}
+
+// Makes the step of the command of a whole record of this number, if it has one and the rules allow it.
+pub fn take(protocol: &mut Guided, raw: &[u8; RECORD], index: u64) -> Redone
+    ensures { (s : State) → StandsFor protocol.old s → IsTaken s index raw.now protocol.new result }
+{
+    match tested(raw, index) {
+        Some(command) => redo::<Brand>(protocol, &command, Blank::new(1)),
+        None => Redone::Refused,
+    }
+}
