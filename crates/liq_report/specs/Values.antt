@@ -1,0 +1,23 @@
+-- A value in JSON and its text, and which rows of an image stand in a protocol's tables.
+use Rattle.std.specs.Prelude.{ℕ, ◌≡◌, ◌<◌, List, Some, IsSome, false}
+use Rattle.liq_types.specs.declared.amounts.TheConstants.{ACCOUNTS}
+use Rattle.liq_types.specs.declared.image.TroveRow.{TroveRow}
+use Rattle.liq_types.specs.ImageRows.{trove_row}
+use Rattle.liq_types.specs.State.{State}
+use Rattle.liq_types.specs.Tables.{at}
+use Rattle.liq_troves.specs.StakeSums.{trove_rows}
+use Rattle.serde_json.specs.declared.value.Value.{Value}
+use Rattle.serde_json.specs.View.{view}
+use Rattle.serde_json.specs.Written.{compact_text, has_float}
+
+-- it is written so: it holds no fraction
+abbrev pub HasText : List ℕ → Value → Type 0
+HasText text value = (has_float (view value) ≡ false) × (compact_text (view value) ≡ text)
+
+-- the account has a deposit
+abbrev pub HasDeposit : State → ℕ → Type 0
+HasDeposit s account = (account < ACCOUNTS) × IsSome (at s.deposits account)
+
+-- the account has this trove
+abbrev pub HasTrove : State → TroveRow → Type 0
+HasTrove s row = (row.account < ACCOUNTS) × (at (trove_rows s) row.account ≡ Some (trove_row row).1)
