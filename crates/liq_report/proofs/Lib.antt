@@ -1,0 +1,3 @@
+mod Alike
+mod Stands
+mod Written

@@ -1,9 +1,9 @@
 -- A value in JSON and its text, and which rows of an image stand in a protocol's tables.
-use Rattle.std.specs.Prelude.{ℕ, ◌≡◌, ◌<◌, List, Some, IsSome, false}
+use Rattle.std.specs.Prelude.{ℕ, ◌≡◌, ◌<◌, List, Some, false}
 use Rattle.liq_types.specs.declared.amounts.TheConstants.{ACCOUNTS}
 use Rattle.liq_types.specs.declared.image.TroveRow.{TroveRow}
 use Rattle.liq_types.specs.ImageRows.{trove_row}
-use Rattle.liq_types.specs.State.{State}
+use Rattle.liq_types.specs.State.{State, DepositEntry}
 use Rattle.liq_types.specs.Tables.{at}
 use Rattle.liq_troves.specs.StakeSums.{trove_rows}
 use Rattle.serde_json.specs.declared.value.Value.{Value}
@@ -16,7 +16,7 @@ HasText text value = (has_float (view value) ≡ false) × (compact_text (view v
 
 -- the account has a deposit
 abbrev pub HasDeposit : State → ℕ → Type 0
-HasDeposit s account = (account < ACCOUNTS) × IsSome (at s.deposits account)
+HasDeposit s account = (account < ACCOUNTS) × ((d : DepositEntry) × (at s.deposits account ≡ Some d))
 
 -- the account has this trove
 abbrev pub HasTrove : State → TroveRow → Type 0

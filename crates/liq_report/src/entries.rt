@@ -1,8 +1,11 @@
 //! Deposits and troves, as lists of objects.
 
-ghost use Rattle.std.specs.Prelude.{◌≡◌, ℕ, All, IfOk, map};
+ghost use Rattle.std.specs.Prelude.{◌≡◌, ℕ, IfOk, map};
+ghost use Rattle.std.specs.List.{AllByRecursion};
 ghost use Rattle.liq_types.specs.declared.image.DepositRow.{DepositRow};
 ghost use Rattle.liq_types.specs.declared.image.TroveRow.{TroveRow};
+ghost use Rattle.liq_types.specs.declared.replies.Info.TheVariants as info;
+ghost use Rattle.liq_types.specs.declared.replies.Reply.TheVariants.{Told};
 ghost use Rattle.liq_types.specs.ImageRows.{trove_row};
 ghost use Rattle.liq_troves.specs.Rows.{entire_by};
 ghost use Rattle.liq_troves.specs.StakeSums.{sums_words};
@@ -12,10 +15,11 @@ ghost use Rattle.liq_report.specs.Report.{deposit_text, trove_text};
 ghost use Rattle.liq_report.specs.Texts.{list_text};
 ghost use Rattle.liq_report.specs.Values.{HasDeposit, HasText, HasTrove};
 
+use crate::objects::{deposit_object, trove_object};
 use liq_core::Protocol;
 use liq_core::laws::protocols_stand;
 use liq_types::{DepositRow, Info, Query, Reply, TroveRow};
-use serde_json::{Value, json};
+use serde_json::Value;
 use std::alloc::{AllocError, Global};
 
 /// The deposits of these rows, with their balances and gains of now.
@@ -24,7 +28,7 @@ pub fn deposits(
     protocol: &Protocol,
     rows: &[DepositRow],
 ) -> Result<Value, AllocError>
-    requires { All (λ (row : DepositRow). HasDeposit (state_of protocol.now) row.account) rows.now }
+    requires { AllByRecursion (λ (row : DepositRow). HasDeposit (state_of protocol.now) row.account) rows.now }
     ensures { IfOk result (HasText (list_text
         (map (λ (row : DepositRow). deposit_text (state_of protocol.now) row.account) rows.now))) }
 {
@@ -41,7 +45,7 @@ pub fn troves(
     protocol: &Protocol,
     rows: &[TroveRow],
 ) -> Result<Value, AllocError>
-    requires { All (HasTrove (state_of protocol.now)) rows.now }
+    requires { AllByRecursion (HasTrove (state_of protocol.now)) rows.now }
     ensures { IfOk result (HasText (list_text
         (map (λ (row : TroveRow). trove_text (sums_words (state_of protocol.now)) (trove_row row)) rows.now))) }
 {
@@ -57,8 +61,7 @@ fn deposit(alloc: Global, protocol: &Protocol, account: u32) -> Result<Value, Al
     requires { HasDeposit (state_of protocol.now) account }
     ensures { IfOk result (HasText (deposit_text (state_of protocol.now) account)) }
 {
-    let (balance, gain) = position(protocol, account);
-    json!(in alloc; {"account": account, "balance": balance, "gain": gain})
+    deposit_object(alloc, account, position(protocol, account))
 }
 
 /// One trove.
@@ -66,8 +69,7 @@ fn trove(alloc: Global, protocol: &Protocol, row: &TroveRow) -> Result<Value, Al
     requires { HasTrove (state_of protocol.now) row.now }
     ensures { IfOk result (HasText (trove_text (sums_words (state_of protocol.now)) (trove_row row.now))) }
 {
-    let (coll, debt) = entire(protocol, row);
-    json!(in alloc; {"account": row.account, "coll": coll, "debt": debt, "stake": row.stake})
+    trove_object(alloc, row.account, entire(protocol, row), row.stake)
 }
 
 /// What is left of a deposit (micro-LUSD), and what it has gained (gwei).
@@ -76,10 +78,8 @@ fn position(protocol: &Protocol, account: u32) -> (u64, u64)
     ensures { result ≡ (balance_of (state_of protocol.now) account, gain_of (state_of protocol.now) account) }
 {
     protocols_stand(protocol);
-    match protocol.query(&Query::Deposit(account)) {
-        Reply::Told(Info::Deposit { balance, gain }) => (balance, gain),
-        _ => unreachable!(),
-    }
+    let reply = protocol.query(&Query::Deposit(account));
+    deposit_in(&reply)
 }
 
 /// Collateral (gwei) and debt (micro-LUSD) of a trove: what is recorded and what is pending.
@@ -88,8 +88,26 @@ fn entire(protocol: &Protocol, row: &TroveRow) -> (u64, u64)
     ensures { result ≡ entire_by (sums_words (state_of protocol.now)) (trove_row row.now).1 }
 {
     protocols_stand(protocol);
-    match protocol.query(&Query::Trove(row.account)) {
+    let reply = protocol.query(&Query::Trove(row.account));
+    trove_in(&reply)
+}
+
+/// Balance and gain that a reply tells; of another reply nothing.
+fn deposit_in(reply: &Reply) -> (u64, u64)
+    ensures { (balance gain : ℕ) → reply.now ≡ Told (info.Deposit balance gain) → result ≡ (balance, gain) }
+{
+    match *reply {
+        Reply::Told(Info::Deposit { balance, gain }) => (balance, gain),
+        _ => (0, 0),
+    }
+}
+
+/// Collateral and debt that a reply tells; of another reply nothing.
+fn trove_in(reply: &Reply) -> (u64, u64)
+    ensures { (coll debt stake : ℕ) → reply.now ≡ Told (info.Trove coll debt stake) → result ≡ (coll, debt) }
+{
+    match *reply {
         Reply::Told(Info::Trove { coll, debt, .. }) => (coll, debt),
-        _ => unreachable!(),
+        _ => (0, 0),
     }
 }

@@ -3,6 +3,7 @@
 
 mod entries;
 pub mod laws;
+mod objects;
 mod text;
 mod totals;
 

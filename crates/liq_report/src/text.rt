@@ -8,11 +8,12 @@ ghost use Rattle.liq_report.specs.Values.{HasText};
 
 use crate::entries::{deposits, troves};
 use crate::laws::reports_follow_the_image;
+use crate::objects::report_object;
 use crate::totals::{pool, system};
 use liq_core::Protocol;
 use liq_core::laws::{protocols_are_sound_states, protocols_stand};
 use liq_types::{Image, NoMemory};
-use serde_json::{Value, json};
+use serde_json::Value;
 use std::alloc::{AllocError, Global};
 
 /// The report of a protocol: one object in JSON without spaces, whose names ascend in every object. Collateral is in gwei,
@@ -25,7 +26,8 @@ pub fn report(alloc: Global, protocol: &Protocol) -> Result<Vec<u8>, NoMemory>
     protocols_stand(protocol);
     let image = protocol.image()?;
     let value = report_value(alloc, protocol, &image)?;
-    Ok(value.to_vec(alloc)?)
+    let text = value.to_vec(alloc)?;
+    Ok(text)
 }
 
 /// The report as a value, by the image.
@@ -37,7 +39,7 @@ fn report_value(alloc: Global, protocol: &Protocol, image: &Image) -> Result<Val
     let troves = image_troves(alloc, protocol, image)?;
     let pool = pool(alloc, protocol)?;
     let system = system(alloc, protocol)?;
-    json!(in alloc; {"deposits": deposits, "pool": pool, "system": system, "troves": troves})
+    report_object(alloc, deposits, pool, system, troves)
 }
 
 /// The deposits of the image.

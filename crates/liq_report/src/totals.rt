@@ -1,47 +1,54 @@
 //! The Stability Pool's words and the totals, as objects.
 
-ghost use Rattle.std.specs.Prelude.{◌≡◌, IfOk};
+ghost use Rattle.std.specs.Prelude.{◌≡◌, ◌∷◌, [], ℕ, List, IfOk, codes, decimal};
+ghost use Rattle.liq_types.specs.declared.replies.Info.TheVariants as info;
+ghost use Rattle.liq_types.specs.declared.replies.Reply.TheVariants.{Told};
 ghost use Rattle.liq_rules.specs.Queries.{system};
 ghost use Rattle.liq_core.specs.Core.{state_of};
 ghost use Rattle.liq_report.specs.Report.{pool_text, system_text};
+ghost use Rattle.liq_report.specs.Texts.{object_text, string_text};
 ghost use Rattle.liq_report.specs.Values.{HasText};
 
+use crate::objects::{pool_object, system_object};
 use liq_core::Protocol;
 use liq_core::laws::protocols_stand;
 use liq_types::{Info, Query, Reply};
-use serde_json::{Value, json};
+use serde_json::Value;
 use std::alloc::{AllocError, Global};
 
-/// The Stability Pool's words. Product and sum are strings of digits, since they may need more than 64 bits.
+/// The Stability Pool's words.
 pub fn pool(alloc: Global, protocol: &Protocol) -> Result<Value, AllocError>
     ensures { IfOk result (HasText (pool_text (state_of protocol.now))) }
 {
     protocols_stand(protocol);
     let words = protocol.pool_words();
-    let (p, sum) = (words.p, words.sum);
+    pool_value(alloc, words.epoch, words.p, words.scale, words.sum)
+}
+
+/// The Stability Pool by its words. Product and sum are strings of digits, since they may need more than 64 bits.
+fn pool_value(
+    alloc: Global,
+    epoch: u64,
+    p: u128,
+    scale: u64,
+    sum: u128,
+) -> Result<Value, AllocError>
+    ensures { IfOk result (HasText (object_text (
+        (codes "epoch", decimal epoch)
+        ∷ (codes "p", string_text (decimal p))
+        ∷ (codes "scale", decimal scale)
+        ∷ (codes "sum", string_text (decimal sum)) ∷ []))) }
+{
     let p = format!(in alloc; "{p}")?;
     let sum = format!(in alloc; "{sum}")?;
-    json!(in alloc; {"epoch": words.epoch, "p": p, "scale": words.scale, "sum": sum})
+    pool_object(alloc, epoch, &p, scale, &sum)
 }
 
 /// Price, time, rate and totals, as `system` tells them.
 pub fn system(alloc: Global, protocol: &Protocol) -> Result<Value, AllocError>
     ensures { IfOk result (HasText (system_text (state_of protocol.now))) }
 {
-    let [price, minute, base, fee_minute, mode, troves, stakes, coll, debt, records] =
-        system_words(protocol);
-    json!(in alloc; {
-        "base": base,
-        "coll": coll,
-        "debt": debt,
-        "fee_minute": fee_minute,
-        "minute": minute,
-        "mode": mode,
-        "price": price,
-        "records": records,
-        "stakes": stakes,
-        "troves": troves,
-    })
+    system_object(alloc, system_words(protocol))
 }
 
 /// The ten words of the reply to `system`.
@@ -49,8 +56,16 @@ fn system_words(protocol: &Protocol) -> [u64; 10]
     ensures { result ≡ system (state_of protocol.now) }
 {
     protocols_stand(protocol);
-    match protocol.query(&Query::System) {
+    let reply = protocol.query(&Query::System);
+    words_in(&reply)
+}
+
+/// The ten words that a reply tells; of another reply nothing.
+fn words_in(reply: &Reply) -> [u64; 10]
+    ensures { (words : List ℕ) → reply.now ≡ Told (info.System words) → result ≡ words }
+{
+    match *reply {
         Reply::Told(Info::System { words }) => words,
-        _ => unreachable!(),
+        _ => [0; 10],
     }
 }
