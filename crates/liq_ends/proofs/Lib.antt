@@ -1,5 +1,6 @@
 pub mod Causes
 pub mod EndingLines
 pub mod Opened
+pub mod Passing
 pub mod Shares
 pub mod Shown

@@ -1,5 +1,6 @@
 -- What a run leaves on the disks.
 use Rattle.std.specs.Prelude.{ℕ, ◌≡◌, ◌⊎◌, [], List, Option, Some, Result, Ok, Err}
+use Rattle.liq_outside.specs.Disk.{LeftNow, Only}
 use Rattle.liq_types.specs.declared.requests.Command.{Command}
 use Rattle.liq_types.specs.declared.requests.Request.{Request}
 use Rattle.liq_types.specs.declared.requests.Request.TheVariants.{Do}
@@ -9,7 +10,9 @@ use Rattle.liq_journal.specs.declared.damage.Damage.{Damage}
 use Rattle.liq_pairs.specs.declared.side.Side.{Side}
 use Rattle.liq_pairs.specs.Kept.{IsKept}
 use Rattle.liq_pairs.specs.Pair.{StandFor, state_on}
+use Rattle.liq_pairs.specs.Past.{AtCommand, Fault, InOpening, NoFault}
 use Rattle.liq_pairs.specs.Unfinished.{IsRecovered}
+use Rattle.liq_store.specs.Leaving.{LeavesBoth}
 use Rattle.liq_ends.specs.declared.halts.Halt.{Halt}
 use Rattle.liq_ends.specs.declared.halts.Halt.TheVariants.{DiskFault, Damaged, NoMemory}
 use Rattle.liq_ends.specs.Requests.{IsNext}
@@ -17,6 +20,27 @@ use Rattle.liq_ends.specs.Requests.{IsNext}
 -- nothing was read, so that the opening may have failed
 abbrev pub IsUnread : List ℕ → Option (List ℕ) → List Request → Type 0
 IsUnread bytes unread requests = (requests ≡ []) × (unread ≡ Some bytes)
+
+-- where a run met a disk's fault: in the opening, before a line was read, or at the next line's command
+abbrev pub IsFaultOfRun : Result (Unit {0}) Halt → List ℕ → Option (List ℕ) → List Request → Fault → Type 0
+IsFaultOfRun (Err DiskFault) bytes unread requests fault =
+    ((fault ≡ InOpening) × IsUnread bytes unread requests)
+    ⊎ ((c : Command) × (fault ≡ AtCommand c) × IsNext bytes requests (Do c))
+IsFaultOfRun _ bytes unread requests fault = fault ≡ NoFault
+
+-- where a word met one that only tells what is on the disks: it leaves what an opening may leave
+abbrev pub IsFaultOfTelling : Result (Unit {0}) Halt → Fault → Type 0
+IsFaultOfTelling (Err DiskFault) fault = fault ≡ InOpening
+IsFaultOfTelling _ fault = fault ≡ NoFault
+
+-- Where nothing was pending before a word on either of these two disks, and they were kept for the state for which they
+-- stood, it leaves of them what a run of these requests leaves, with a fault where P says.
+abbrev pub LeavesOfRun :
+    {D : Type 0} → (D → Option (List ℕ)) → (D → ℕ) → (D → ℕ → List ℕ → Type 0) → D → D → (Fault → Type 0)
+    → List ℕ → List ℕ → State → List Request → D → D → Type 0
+LeavesOfRun seen moment left_at old_left old_right P l r start requests left right =
+    Only l (LeftNow moment left_at old_left) → Only r (LeftNow moment left_at old_right) → IsKept l r start
+    → LeavesBoth seen moment left_at old_left old_right P l r start requests left right
 
 module _ {D : Type 0} (seen : D → Option (List ℕ)) where
   -- where both disks tell their bytes, this holds of them

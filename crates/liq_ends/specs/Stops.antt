@@ -10,7 +10,7 @@ use Rattle.liq_rules.specs.Image.{IsSameState}
 use Rattle.liq_rules.specs.Step.{run, accepted}
 use Rattle.liq_ends.specs.declared.halts.Halt.{Halt}
 use Rattle.liq_ends.specs.declared.halts.Halt.TheVariants.{WriteFault, Damaged, NoMemory, Rotated}
-use Rattle.liq_ends.specs.Disks.{DisksHold, IsUnread}
+use Rattle.liq_ends.specs.Disks.{DisksHold, IsFaultOfRun, IsUnread, LeavesOfRun}
 use Rattle.liq_ends.specs.Output.{last, lines}
 use Rattle.liq_ends.specs.Requests.{IsNext, IsRequest}
 use Rattle.liq_ends.specs.Reading.{ReadsTo}
@@ -69,7 +69,8 @@ WritesUpTo start end fault requests before now =
 -- How a run ends that began with these bytes in its source and with l and r on its disks, for which they stood for this
 -- state. `unread` is what the source still tells, and `before` and `now` are what the sink held and holds.
 pub record EndsIn
-    {D : Type 0} (seen : D → Option (List ℕ)) (start : State) (end : Result (Unit {0}) Halt) (bytes l r : List ℕ)
+    {D : Type 0} (seen : D → Option (List ℕ)) (moment : D → ℕ) (left_at : D → ℕ → List ℕ → Type 0)
+    (old_left old_right : D) (start : State) (end : Result (Unit {0}) Halt) (bytes l r : List ℕ)
     (unread : Option (List ℕ)) (fault : Type 0) (before now : Option (List ℕ)) (left right : D) : Type 0 where
   pub requests : List Request
   -- they are no more than one run answers
@@ -77,5 +78,8 @@ pub record EndsIn
   pub read : EndsAfter start end bytes unread requests
   pub written : WritesUpTo start end fault requests before now
   pub disks : DisksHold seen end bytes unread l r start left right requests
+  pub past :
+      LeavesOfRun seen moment left_at old_left old_right (IsFaultOfRun end bytes unread requests) l r start requests left
+      right
   -- and after them no depositor has more than its share, or less by more than is allowed
   pub shares : HaveTheirShares start requests

@@ -1,12 +1,13 @@
 //! Reading lines from chunks that the source gives: at once where one stands whole in a chunk, else byte by byte.
 
-ghost use Rattle.std.specs.Prelude.{◌≡◌, ◌≤◌, ◌<◌, ◌+◌, ◌∷◌, [], Contains, ◌↔◌, IsTrue, IsFalse, ◌++◌, take, drop, OnOk, OnErr, IfOk, IsOk, Ok, Some, None, List, ℕ, IfSome, MatchOption, length, vec_len, vec_capacity};
+ghost use Rattle.std.specs.Prelude.{◌≡◌, ◌≤◌, ◌<◌, ◌+◌, ◌∷◌, [], Contains, IsTrue, IsFalse, ◌++◌, take, drop, OnOk, OnErr, IfOk, IsOk, Ok, Some, None, List, ℕ, IfSome, MatchOption, length, vec_len, vec_capacity};
 ghost use Rattle.liq_outside.specs.Faults.{HasCause};
 ghost use Rattle.liq_lines.specs.Lines.{IsWithinLine, IsWholeLine};
 ghost use Rattle.liq_lines.specs.Reading.{unread, Reads, ReadsAtMost, ReadsLine, IsOver, IsEndOfInput};
 
 use liq_outside::{Failed, Source};
 use liq_types::amounts::LINE_BYTES;
+use memchr::memchr;
 use std::alloc::{AllocError, Global};
 use std::marker::Model;
 
@@ -86,13 +87,6 @@ impl Reader {
         self.start = 0;
         self.end = count;
         Ok(())
-    }
-
-    /// Whether a whole line was taken and is unread.
-    pub fn has_line(&self) -> bool
-        ensures { IsTrue result ↔ Contains self.now LINE_END }
-    {
-        self.chunk[self.start..self.end].contains(&LINE_END)
     }
 
     /// The next byte, or none at the source's end.
@@ -219,7 +213,7 @@ fn line_end_in(bytes: &[u8]) -> Option<usize>
         × (bytes.now ≡ take at bytes.now ++ LINE_END ∷ drop (at + 1) bytes.now)) }
     ensures none { result ≡ None → IsWithinLine bytes.now }
 {
-    bytes.iter().position(|byte| *byte == LINE_END)
+    memchr(LINE_END, bytes)
 }
 
 /// Puts the bytes into the line in place of what was there.

@@ -31,9 +31,9 @@ all_written start NoMemory fault requests before now after h adds = line_behind 
 all_written start (Limit number) fault requests before now after h adds = line_behind fault (lines start requests) (last (Limit number)) before now after h adds
 all_written start (Rotated generation) fault requests before now after h adds = line_behind fault (lines start requests) (last (Rotated generation)) before now after h adds
 
-module _ {D : Type 0} (seen : D → Option (List ℕ)) (start : State) (formed : IsWellFormed start) (bytes l r : List ℕ) (unread : Option (List ℕ)) (fault : Type 0) (left right : D) where
-  pub last_written : (halt : Halt) (before now after : Option (List ℕ)) → GivesBack seen start (Err halt) bytes l r unread before now left right → Adds [] (last halt) fault now after
-      → EndsIn seen start (Err halt) bytes l r unread fault before after left right
+module _ {D : Type 0} (seen : D → Option (List ℕ)) (moment : D → ℕ) (left_at : D → ℕ → List ℕ → Type 0) (old_left old_right : D) (start : State) (formed : IsWellFormed start) (bytes l r : List ℕ) (unread : Option (List ℕ)) (fault : Type 0) (left right : D) where
+  pub last_written : (halt : Halt) (before now after : Option (List ℕ)) → GivesBack seen moment left_at old_left old_right start (Err halt) bytes l r unread before now left right → Adds [] (last halt) fault now after
+      → EndsIn seen moment left_at old_left old_right start (Err halt) bytes l r unread fault before after left right
   last_written halt before now after h adds =
       record {
         requests = h.requests;
@@ -41,11 +41,12 @@ module _ {D : Type 0} (seen : D → Option (List ℕ)) (start : State) (formed :
         read = h.read;
         written = all_written start halt fault h.requests before now after h.written adds;
         disks = h.disks;
+        past = h.past;
         shares = all_shares start h.requests formed;
       }
 
-  pub went_well : (end : Result (Unit {0}) Halt) (before now : Option (List ℕ)) → ((halt : Halt) → end ≡ Err halt → ⊥) → GivesBack seen start end bytes l r unread before now left right
-      → EndsIn seen start end bytes l r unread fault before now left right
+  pub went_well : (end : Result (Unit {0}) Halt) (before now : Option (List ℕ)) → ((halt : Halt) → end ≡ Err halt → ⊥) → GivesBack seen moment left_at old_left old_right start end bytes l r unread before now left right
+      → EndsIn seen moment left_at old_left old_right start end bytes l r unread fault before now left right
   went_well (Ok done) before now well h =
-      record { requests = h.requests; few = h.few; read = h.read; written = h.written; disks = h.disks; shares = all_shares start h.requests formed }
+      record { requests = h.requests; few = h.few; read = h.read; written = h.written; disks = h.disks; past = h.past; shares = all_shares start h.requests formed }
   went_well (Err halt) before now well h = absurd (well halt refl)

@@ -5,6 +5,7 @@ mod Cutting
 mod Faulted
 mod Last
 mod Leaving
+mod Passing
 mod Progressing
 mod Residual
 mod Taking

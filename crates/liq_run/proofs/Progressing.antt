@@ -1,9 +1,12 @@
 -- One more line, and where a run has come then.
 use Rattle.std.proofs.Common.{◌≡◌, ℕ, List, [], ◌∷◌, ◌++◌, refl, ap, sym, ◌∙◌, append_assoc, append-nil}
 use Rattle.std.specs.List.{AllZip}
+use Rattle.liq_types.specs.declared.requests.Query.{Query}
 use Rattle.liq_types.specs.declared.requests.Request.{Request}
+use Rattle.liq_types.specs.declared.requests.Request.TheVariants.{Ask}
 use Rattle.liq_types.specs.State.{State}
-use Rattle.liq_rules.specs.Step.{step, run}
+use Rattle.liq_rules.specs.Step.{accepted, step, run}
+use Rattle.liq_rules.proofs.Runs.{run_accepted}
 use Rattle.liq_ends.specs.Output.{lines}
 use Rattle.liq_ends.specs.Requests.{IsRequest}
 use Rattle.liq_text.specs.Replies.{reply_line}
@@ -23,3 +26,7 @@ requests-more [] [] line r h k = (k, tt)
 requests-more [] (q ∷ rs) line r h k = absurd h
 requests-more (l ∷ front) [] line r h k = absurd h
 requests-more (l ∷ front) (q ∷ rs) line r h k = (h.0, requests-more front rs line r h.1 k)
+
+-- a query more is no command that is accepted
+pub asked-more : (s : State) (rs : List Request) (query : Query) → accepted s (rs ++ Ask query ∷ []) ≡ accepted s rs
+asked-more s rs query = run_accepted s rs (Ask query ∷ []) ∙ append-nil (accepted s rs)

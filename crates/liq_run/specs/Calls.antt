@@ -1,5 +1,6 @@
 -- One request, as the store of two disks answers it.
 use Rattle.std.specs.Prelude.{ℕ, ◌≡◌, List, Option, Some, None, Result, Ok, Err}
+use Rattle.liq_outside.specs.Disk.{GoesOn}
 use Rattle.liq_types.specs.declared.replies.Reply.{Reply}
 use Rattle.liq_types.specs.declared.requests.Request.{Request}
 use Rattle.liq_types.specs.declared.requests.Request.TheVariants.{Do, Ask}
@@ -8,8 +9,9 @@ use Rattle.liq_core.specs.Core.{Core, StandsFor}
 use Rattle.liq_rules.specs.Step.{step}
 use Rattle.liq_store.specs.Keeping.{IsKeptAround}
 use Rattle.liq_store.specs.Memory.{IsAccepted, TakesMemory}
+use Rattle.liq_store.specs.Stored.{Stored}
 use Rattle.liq_ends.specs.declared.halts.Halt.{Halt}
-use Rattle.liq_ends.specs.declared.halts.Halt.TheVariants.{DiskFault, NoMemory}
+use Rattle.liq_ends.specs.declared.halts.Halt.TheVariants.{DiskFault, NoMemory, Rotated}
 
 abbrev pub IsCommand : Request → Type 0
 IsCommand (Do command) = Unit {0}
@@ -23,9 +25,10 @@ Calls s request (Err NoMemory) core = StandsFor core s × TakesMemory s request
 Calls s request (Err DiskFault) core = StandsFor core s × IsAccepted s request
 Calls s request (Err _) core = ⊥
 
--- a store is stopped by a disk's fault alone
+-- a store is stopped by a disk's fault alone, and nothing halts for the journal's generation
 abbrev pub IsStopped : {T : Type 0} → Result T Halt → Option ℕ → Type 0
 IsStopped (Err DiskFault) stopped = (sum : ℕ) × (stopped ≡ Some sum)
+IsStopped (Err (Rotated generation)) stopped = ⊥
 IsStopped _ stopped = stopped ≡ None
 
 module _ {D : Type 0} (seen : D → Option (List ℕ)) where
@@ -33,3 +36,8 @@ module _ {D : Type 0} (seen : D → Option (List ℕ)) where
   abbrev pub KeepsAround : D → D → State → Request → Type 0
   KeepsAround left right s request =
       (l r : List ℕ) → seen left ≡ Some l → seen right ≡ Some r → IsKeptAround s request l r
+
+-- for both disks of a store time goes on, and what a crash may have left at a past moment stays what it was
+pub record GoOn {D : Type 0} (moment : D → ℕ) (left_at : D → ℕ → List ℕ → Type 0) (old new : Stored D) : Type 0 where
+  pub left : GoesOn moment left_at old.left new.left
+  pub right : GoesOn moment left_at old.right new.right

@@ -1,3 +1,4 @@
 pub mod Calls
+pub mod Passing
 pub mod Progress
 pub mod Writing

@@ -6,11 +6,11 @@ use Rattle.liq_types.specs.declared.amounts.TheConstants.{LINE_BYTES, LINES_MOST
 use Rattle.liq_types.specs.declared.requests.Request.{Request}
 use Rattle.liq_types.specs.State.{State}
 use Rattle.liq_core.specs.Core.{Core, StandsFor}
-use Rattle.liq_rules.specs.Step.{run, step}
+use Rattle.liq_rules.specs.Step.{accepted, run, step}
 use Rattle.liq_ends.specs.declared.halts.Halt.{Halt}
 use Rattle.liq_ends.specs.declared.halts.Halt.TheVariants.{BadLine, ReadFault, WriteFault, DiskFault, NoMemory}
 use Rattle.liq_ends.specs.Output.{lines}
-use Rattle.liq_ends.specs.Disks.{DisksHold}
+use Rattle.liq_ends.specs.Disks.{DisksHold, IsFaultOfRun, LeavesOfRun}
 use Rattle.liq_ends.specs.Requests.{IsRequest, IsNext}
 use Rattle.liq_ends.specs.Stops.{EndsAfter}
 use Rattle.liq_run.specs.declared.run.Next.{Next}
@@ -72,12 +72,13 @@ pub record Written
   pub steady :
       (earlier later : List Request) (request : Request) → requests ≡ earlier ++ request ∷ later
       → length front < length (lines start (earlier ++ request ∷ []))
-      → (run start (earlier ++ request ∷ [])).0 ≡ (run start requests).0
+      → ((run start (earlier ++ request ∷ [])).0 ≡ (run start requests).0)
+      × (accepted start (earlier ++ request ∷ []) ≡ accepted start requests)
 
--- n lines were requests, and each is answered
+-- n lines were requests, and each is answered; this holds of them
 pub record Answered
     (start : State) (bytes : List ℕ) (n : ℕ) (core : Core) (unread : Option (List ℕ)) (waiting : List ℕ)
-    (before now : Option (List ℕ)) : Type 0 where
+    (before now : Option (List ℕ)) (past : List Request → Type 0) : Type 0 where
   pub requests : List Request
   pub front : List (List ℕ)
   pub rest : List ℕ
@@ -88,6 +89,7 @@ pub record Answered
   pub unread_is : unread ≡ Some rest
   pub stands : StandsFor core (run start requests).0
   pub written : Written start requests waiting before now
+  pub passed : past requests
 
 -- The request's step was made and its reply waits behind what waited, of which a front was written first: all where the
 -- request is a command. Or the sink met a fault at what waited, or there was no memory where it may be asked for: no
@@ -114,18 +116,20 @@ WrittenAt start (Err WriteFault) requests waiting before now =
     (part : List ℕ) × Writes before part now × IsCutInLastLine start part requests
 WrittenAt start _ requests waiting before now = Written start requests waiting before now
 
--- where a disk met a fault, the next line's command was on its way, nothing waits, and this holds of it
+-- Where a disk met a fault, the next line's command was on its way, nothing waits, and so it holds of it. Else this
+-- holds of the requests.
 abbrev pub HaltsAt :
-    Result (Unit {0}) Halt → List ℕ → List Request → List ℕ → State → (State → Request → Type 0)
-    → Type 0
-HaltsAt (Err DiskFault) bytes requests waiting s kept =
+    Result (Unit {0}) Halt → List ℕ → List Request → List ℕ → State → (List Request → Type 0)
+    → (State → Request → Type 0) → (List Request → Request → Type 0) → Type 0
+HaltsAt (Err DiskFault) bytes requests waiting s past kept stopped =
     (request : Request) × IsNext bytes requests request × IsAccepted s request × (waiting ≡ []) × kept s request
-HaltsAt _ bytes requests waiting s kept = Unit {0}
+    × stopped requests request
+HaltsAt _ bytes requests waiting s past kept stopped = past requests
 
 -- a run came to its end, some replies wait, and the protocol stands for the state after the requests
 pub record Comes
-    (start : State) (end : Result (Unit {0}) Halt) (core : Core) (kept : State → Request → Type 0)
-    (bytes : List ℕ) (left : Option (List ℕ)) (waiting : List ℕ) (before now : Option (List ℕ)) : Type 0 where
+    (start : State) (end : Result (Unit {0}) Halt) (core : Core) (past : List Request → Type 0)
+    (kept : State → Request → Type 0) (stopped : List Request → Request → Type 0) (bytes : List ℕ) (left : Option (List ℕ)) (waiting : List ℕ) (before now : Option (List ℕ)) : Type 0 where
   pub requests : List Request
   pub few : length requests ≤ LINES_MOST
   pub read : EndsAfter start end bytes left requests
@@ -133,7 +137,7 @@ pub record Comes
   pub begins : BeginsWith IsRequest bytes requests more
   pub written : WrittenAt start end requests waiting before now
   pub stands : StandsFor core (run start requests).0
-  pub halted : HaltsAt end bytes requests waiting (run start requests).0 kept
+  pub halted : HaltsAt end bytes requests waiting (run start requests).0 past kept stopped
 
 -- What is written at a run's end, but for the last line of one that stops: all replies, or up to a cut.
 abbrev pub WritesReplies :
@@ -144,32 +148,37 @@ WritesReplies start _ requests before now = Writes before (lines start requests)
 
 -- a run is at its end, its last line is not written yet, and the protocol stands for the state after the requests
 pub record Ends
-    (start : State) (end : Result (Unit {0}) Halt) (core : Core) (kept : State → Request → Type 0)
-    (bytes : List ℕ) (left : Option (List ℕ)) (before now : Option (List ℕ)) : Type 0 where
+    (start : State) (end : Result (Unit {0}) Halt) (core : Core) (past : List Request → Type 0)
+    (kept : State → Request → Type 0) (stopped : List Request → Request → Type 0) (bytes : List ℕ) (left : Option (List ℕ)) (before now : Option (List ℕ)) : Type 0 where
   pub requests : List Request
   pub few : length requests ≤ LINES_MOST
   pub read : EndsAfter start end bytes left requests
   pub written : WritesReplies start end requests before now
   pub stands : StandsFor core (run start requests).0
-  pub halted : HaltsAt end bytes requests [] (run start requests).0 kept
+  pub halted : HaltsAt end bytes requests [] (run start requests).0 past kept stopped
 
 -- the same of a run that has given back its disks
 pub record GivesBack
-    {D : Type 0} (seen : D → Option (List ℕ)) (start : State) (end : Result (Unit {0}) Halt) (bytes l r : List ℕ)
+    {D : Type 0} (seen : D → Option (List ℕ)) (moment : D → ℕ) (left_at : D → ℕ → List ℕ → Type 0)
+    (old_left old_right : D) (start : State) (end : Result (Unit {0}) Halt) (bytes l r : List ℕ)
     (unread before now : Option (List ℕ)) (left right : D) : Type 0 where
   pub requests : List Request
   pub few : length requests ≤ LINES_MOST
   pub read : EndsAfter start end bytes unread requests
   pub written : WritesReplies start end requests before now
   pub disks : DisksHold seen end bytes unread l r start left right requests
+  pub past :
+      LeavesOfRun seen moment left_at old_left old_right (IsFaultOfRun end bytes unread requests) l r start requests left
+      right
 
--- one more line was answered, or the run comes to its end
+-- One more line was answered, or the run comes to its end.
 abbrev pub Turns :
-    State → (State → Request → Type 0) → List ℕ → ℕ → Core → Option (List ℕ) → Option (List ℕ)
+    State → (List Request → Type 0) → (State → Request → Type 0) → (List Request → Request → Type 0)
+    → List ℕ → ℕ → Core → Option (List ℕ) → Option (List ℕ)
     → List ℕ → Option (List ℕ) → Option (List ℕ) → Result Bool Halt → Type 0
-Turns start kept bytes n core unread left waiting before now (Ok true) =
-    Answered start bytes (n + 1) core unread waiting before now
-Turns start kept bytes n core unread left waiting before now (Ok false) =
-    Comes start (Ok tt) core kept bytes left waiting before now
-Turns start kept bytes n core unread left waiting before now (Err halt) =
-    Comes start (Err halt) core kept bytes left waiting before now
+Turns start past kept stopped bytes n core unread left waiting before now (Ok true) =
+    Answered start bytes (n + 1) core unread waiting before now past
+Turns start past kept stopped bytes n core unread left waiting before now (Ok false) =
+    Comes start (Ok tt) core past kept stopped bytes left waiting before now
+Turns start past kept stopped bytes n core unread left waiting before now (Err halt) =
+    Comes start (Err halt) core past kept stopped bytes left waiting before now

@@ -1,13 +1,15 @@
 //! One request after another, as the store answers them.
 
 ghost use Rattle.std.specs.Prelude.{◌≡◌, ◌≢◌, ◌≤◌, ◌<◌, ◌+◌, ◌++◌, [], Some, None, Err, List, ℕ, vec_len, vec_capacity};
+ghost use Rattle.liq_types.specs.declared.requests.Request.{Request};
 ghost use Rattle.liq_types.specs.declared.requests.Request.TheVariants.{Ask};
 ghost use Rattle.liq_rules.specs.Step.{step};
 ghost use Rattle.liq_text.specs.Replies.{reply_line};
 ghost use Rattle.liq_types.specs.State.{State};
 ghost use Rattle.liq_core.specs.Core.{StandsFor};
 ghost use Rattle.liq_ends.specs.Causes.{DiskCause};
-ghost use Rattle.liq_run.specs.Calls.{Calls, IsCommand, IsStopped, KeepsAround};
+ghost use Rattle.liq_run.specs.Passing.{IsPastOf, Passes};
+ghost use Rattle.liq_run.specs.Calls.{Calls, GoOn, IsCommand, IsStopped, KeepsAround};
 
 use crate::waiting::keep;
 use liq_core::laws::protocols_stand;
@@ -35,10 +37,14 @@ pub fn call<D: Disk>(store: &mut Store<D>, request: &Request) -> Result<Reply, H
     ensures no_sink { result ≢ Err Halt.WriteFault }
     ensures command { result ≡ Err Halt.DiskFault → IsCommand request.now }
     ensures stopped { IsStopped result store.new.stopped }
+    ensures time { GoOn D.moment D.left_at store.old store.new }
     // Nobody follows the list here.
     ensures untold { store.new.changes ≡ [] }
     // Where a disk met a fault, both keep the state before the request or after it.
     ensures kept { result ≡ Err Halt.DiskFault → (s : State) → StandsFor store.old.core s → KeepsAround D.seen store.new.left store.new.right s request.now }
+    ensures past { (old_left old_right : D) (l r : List ℕ) (start : State) (requests : List Request)
+        → IsPastOf D.seen D.moment D.left_at old_left old_right l r start requests store.old
+        → Passes D.seen D.moment D.left_at old_left old_right l r start requests request.now result store.new }
     ensures cause { DiskCause result (record { left = D.faults store.old.left; right = D.faults store.old.right }) (record { left = D.faults store.new.left; right = D.faults store.new.right }) }
 {
     protocols_stand(store.protocol());

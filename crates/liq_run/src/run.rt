@@ -1,10 +1,13 @@
 //! The word `run`: a store over two disks, and the lines that it is asked and answers.
 
 ghost use Rattle.std.specs.Prelude.{length, Err, Option, Some, None, ◌≡◌, ◌≢◌, IsTrue, ◌≤◌, ◌<◌, ◌+◌, [], ℕ, List, Ok, OnOk, OnErr, IfOk, IfErr, IfSome, IsSome, vec_capacity};
+ghost use Rattle.liq_outside.specs.Disk.{GoesOn};
 ghost use Rattle.liq_types.specs.State.{State};
+ghost use Rattle.liq_types.specs.declared.requests.Request.{Request};
 ghost use Rattle.liq_types.specs.declared.amounts.TheConstants.{LINE_BYTES, LINES_MOST};
 ghost use Rattle.liq_run.specs.declared.waiting.TheConstants.{WAITING_MOST};
-ghost use Rattle.liq_run.specs.Calls.{IsStopped, KeepsAround};
+ghost use Rattle.liq_run.specs.Calls.{GoOn, IsStopped, KeepsAround};
+ghost use Rattle.liq_run.specs.Passing.{IsPastOf, IsStoppedPastOf, Passes};
 ghost use Rattle.liq_run.specs.Progress.{RequestOn, ReadsRequest, Answered, Answers, Turns, Comes, Ends, GivesBack};
 ghost use Rattle.liq_core.specs.Core.{StandsFor};
 ghost use Rattle.liq_journal.specs.declared.damage.Damage.{Damage};
@@ -16,8 +19,10 @@ ghost use Rattle.liq_store.specs.Keeping.{IsInOrder};
 ghost use Rattle.liq_lines.specs.declared.reader.TheConstants.{READ_BYTES};
 ghost use Rattle.liq_lines.specs.Lines.{IsWholeLine};
 ghost use Rattle.liq_lines.specs.Reading.{unread, ReadsAtMost, taken_most, ReadsFew};
+ghost use Rattle.liq_ends.specs.declared.halts.Halt.{Halt};
 ghost use Rattle.liq_ends.specs.Causes.{DiskCause, ReadCause, WriteCause};
-ghost use Rattle.liq_ends.specs.Disks.{EndsDamaged};
+ghost use Rattle.liq_ends.specs.Disks.{EndsDamaged, IsFaultOfTelling, LeavesOfRun};
+ghost use Rattle.liq_ends.specs.Unopened.{halt_of};
 
 use crate::calls::{call, tell};
 use crate::waiting::{WAITING_MOST, catch_up, flush, keep, make_way};
@@ -124,7 +129,7 @@ pub fn answer_input<S: Source, K: Sink, D: Disk>(
 ) -> Ending<D>
     ensures run { (bytes l r : List ℕ) → S.left input.old ≡ Some bytes → D.seen left ≡ Some l → D.seen right ≡ Some r
         → (start : State) → state_on l r ≡ Ok start
-        → GivesBack D.seen start result.end bytes l r (S.left input.new) (K.held out.old) (K.held out.new) result.left result.right }
+        → GivesBack D.seen D.moment D.left_at left right start result.end bytes l r (S.left input.new) (K.held out.old) (K.held out.new) result.left result.right }
     // Over damaged disks nothing is read or written.
     ensures damaged { (l r : List ℕ) → D.seen left ≡ Some l → D.seen right ≡ Some r → (side : Side) (damage : Damage) → state_on l r ≡ Err (side, damage)
         → (input.new ≡ input.old) × (out.new ≡ out.old) × EndsDamaged D.seen side damage result.end result.left result.right }
@@ -132,6 +137,10 @@ pub fn answer_input<S: Source, K: Sink, D: Disk>(
     ensures source { ReadCause result.end (S.faults input.old) (S.faults input.new) }
     ensures sink { WriteCause result.end (K.faults out.old) (K.faults out.new) }
     ensures disks { DiskCause result.end (counts_of D.faults left right) (counts_of D.faults result.left result.right) }
+    ensures left_time { GoesOn D.moment D.left_at left result.left }
+    ensures right_time { GoesOn D.moment D.left_at right result.right }
+    // It goes on in whatever generation.
+    ensures goes_on { (generation : ℕ) → result.end ≢ Err (Halt.Rotated generation) }
 {
     let mut run = match Run::open(alloc, left, right) {
         Ok(run) => run,
@@ -180,6 +189,13 @@ impl<D: Disk> Run<D> {
     pub fn open(alloc: Global, left: D, right: D) -> Result<Run<D>, StoreFault<D>>
         ensures opened { IfOk result (λ run. OpensOn D.seen D.faults left right run.store × (run.reader ≡ []) × (run.waiting.items ≡ [])) }
         ensures not_opened { IfErr result (IsNotOpened D.seen D.faults left right) }
+        // What a crash at some moment may have left of both disks is that of an opening.
+        ensures past { IfOk result (λ run. (l r : List ℕ) (start : State) → D.seen left ≡ Some l → D.seen right ≡ Some r → state_on l r ≡ Ok start
+            → IsPastOf D.seen D.moment D.left_at left right l r start [] run.store) }
+        ensures not_past { IfErr result (λ fault. (l r : List ℕ) (start : State) → D.seen left ≡ Some l → D.seen right ≡ Some r → state_on l r ≡ Ok start
+            → LeavesOfRun D.seen D.moment D.left_at left right (IsFaultOfTelling (Err (halt_of fault.why))) l r start [] fault.left fault.right) }
+        ensures time { IfOk result (λ run. GoesOn D.moment D.left_at left run.store.left × GoesOn D.moment D.left_at right run.store.right) }
+        ensures time_too { IfErr result (λ fault. GoesOn D.moment D.left_at left fault.left × GoesOn D.moment D.left_at right fault.right) }
     {
         let Buffers {
             reader,
@@ -228,11 +244,14 @@ impl<D: Disk> Run<D> {
         requires waiting { self.old.waiting.items ≡ [] }
         requires going { self.old.store.stopped ≡ None }
         ensures run { (start : State) → StandsFor self.old.store.core start → (bytes : List ℕ) → S.left input.old ≡ Some bytes
-            → Ends start result self.new.store.core (KeepsAround D.seen self.new.store.left self.new.store.right) bytes (S.left input.new) (K.held out.old) (K.held out.new) }
+            → (old_left old_right : D) (l r : List ℕ) → IsPastOf D.seen D.moment D.left_at old_left old_right l r start [] self.old.store
+            → Ends start result self.new.store.core (λ requests. IsPastOf D.seen D.moment D.left_at old_left old_right l r start requests self.new.store) (KeepsAround D.seen self.new.store.left self.new.store.right)
+            (λ requests request. IsStoppedPastOf D.seen D.moment D.left_at old_left old_right l r start requests request self.new.store) bytes (S.left input.new) (K.held out.old) (K.held out.new) }
         ensures few { ReadsAtMost (taken_most LINES_MOST) (S.left input.old) (S.left input.new) }
         ensures source { ReadCause result (S.faults input.old) (S.faults input.new) }
         ensures sink { WriteCause result (K.faults out.old) (K.faults out.new) }
         ensures stopped { IsStopped result self.new.store.stopped }
+        ensures time { GoOn D.moment D.left_at self.old.store self.new.store }
         ensures disks { DiskCause result (counts_of D.faults self.old.store.left self.old.store.right) (counts_of D.faults self.new.store.left self.new.store.right) }
     {
         let end = self.answer_lines(input, out);
@@ -245,13 +264,16 @@ impl<D: Disk> Run<D> {
         requires waiting { self.old.waiting.items ≡ [] }
         requires going { self.old.store.stopped ≡ None }
         ensures run { (start : State) → StandsFor self.old.store.core start → (bytes : List ℕ) → S.left input.old ≡ Some bytes
-            → Comes start result self.new.store.core (KeepsAround D.seen self.new.store.left self.new.store.right) bytes (S.left input.new) self.new.waiting.items (K.held out.old) (K.held out.new) }
+            → (old_left old_right : D) (l r : List ℕ) → IsPastOf D.seen D.moment D.left_at old_left old_right l r start [] self.old.store
+            → Comes start result self.new.store.core (λ requests. IsPastOf D.seen D.moment D.left_at old_left old_right l r start requests self.new.store) (KeepsAround D.seen self.new.store.left self.new.store.right)
+            (λ requests request. IsStoppedPastOf D.seen D.moment D.left_at old_left old_right l r start requests request self.new.store) bytes (S.left input.new) self.new.waiting.items (K.held out.old) (K.held out.new) }
         ensures few { ReadsAtMost (taken_most LINES_MOST) (S.left input.old) (S.left input.new) }
         ensures caught_up { result ≡ Err Halt.ReadFault → self.new.waiting.items ≡ [] }
         ensures caught_up_too { result ≡ Err Halt.DiskFault → self.new.waiting.items ≡ [] }
         ensures source { ReadCause result (S.faults input.old) (S.faults input.new) }
         ensures sink { WriteCause result (K.faults out.old) (K.faults out.new) }
         ensures stopped { IsStopped result self.new.store.stopped }
+        ensures time { GoOn D.moment D.left_at self.old.store self.new.store }
         ensures disks { DiskCause result (counts_of D.faults self.old.store.left self.old.store.right) (counts_of D.faults self.new.store.left self.new.store.right) }
     {
         for answered in 0..LINES_MOST {
@@ -269,8 +291,11 @@ impl<D: Disk> Run<D> {
 
     /// Writes what waits at the run's end. Where the sink meets a fault at it, that is the end.
     fn catch_up_at<K: Sink>(&mut self, end: Result<(), Halt>, out: &mut K) -> Result<(), Halt>
-        ensures run { (start : State) (bytes : List ℕ) (left before : Option (List ℕ)) → Comes start end self.old.store.core (KeepsAround D.seen self.old.store.left self.old.store.right) bytes left self.old.waiting.items before (K.held out.old)
-            → Ends start result self.new.store.core (KeepsAround D.seen self.new.store.left self.new.store.right) bytes left before (K.held out.new) }
+        ensures run { (start : State) (bytes : List ℕ) (left before : Option (List ℕ)) (old_left old_right : D) (l r : List ℕ)
+            → Comes start end self.old.store.core (λ requests. IsPastOf D.seen D.moment D.left_at old_left old_right l r start requests self.old.store) (KeepsAround D.seen self.old.store.left self.old.store.right)
+            (λ requests request. IsStoppedPastOf D.seen D.moment D.left_at old_left old_right l r start requests request self.old.store) bytes left self.old.waiting.items before (K.held out.old)
+            → Ends start result self.new.store.core (λ requests. IsPastOf D.seen D.moment D.left_at old_left old_right l r start requests self.new.store) (KeepsAround D.seen self.new.store.left self.new.store.right)
+            (λ requests request. IsStoppedPastOf D.seen D.moment D.left_at old_left old_right l r start requests request self.new.store) bytes left before (K.held out.new) }
         ensures source { (old new : ℕ) → (end ≡ Err Halt.ReadFault → self.old.waiting.items ≡ []) → ReadCause end old new → ReadCause result old new }
         ensures sink { (old : ℕ) → WriteCause end old (K.faults out.old) → WriteCause result old (K.faults out.new) }
         ensures disks { (old new : Faults) → (end ≡ Err Halt.DiskFault → self.old.waiting.items ≡ []) → DiskCause end old new → DiskCause result old new }
@@ -296,15 +321,17 @@ impl<D: Disk> Run<D> {
     ) -> Result<bool, Halt>
         requires few { answered < LINES_MOST }
         requires going { self.old.store.stopped ≡ None }
-        ensures turn { (start : State) (bytes : List ℕ) (before : Option (List ℕ))
-            → Answered start bytes answered self.old.store.core (unread self.old.reader (S.left input.old)) self.old.waiting.items before (K.held out.old)
-            → Turns start (KeepsAround D.seen self.new.store.left self.new.store.right) bytes answered self.new.store.core (unread self.new.reader (S.left input.new)) (S.left input.new) self.new.waiting.items before (K.held out.new) result }
+        ensures turn { (start : State) (bytes : List ℕ) (before : Option (List ℕ)) (old_left old_right : D) (l r : List ℕ)
+            → Answered start bytes answered self.old.store.core (unread self.old.reader (S.left input.old)) self.old.waiting.items before (K.held out.old) (λ requests. IsPastOf D.seen D.moment D.left_at old_left old_right l r start requests self.old.store)
+            → Turns start (λ requests. IsPastOf D.seen D.moment D.left_at old_left old_right l r start requests self.new.store) (KeepsAround D.seen self.new.store.left self.new.store.right)
+            (λ requests request. IsStoppedPastOf D.seen D.moment D.left_at old_left old_right l r start requests request self.new.store) bytes answered self.new.store.core (unread self.new.reader (S.left input.new)) (S.left input.new) self.new.waiting.items before (K.held out.new) result }
         ensures few { (before : Option (List ℕ)) → ReadsFew before answered self.old.reader (S.left input.old) → ReadsFew before (answered + 1) self.new.reader (S.left input.new) }
         ensures caught_up { result ≡ Err Halt.ReadFault → self.new.waiting.items ≡ [] }
         ensures caught_up_too { result ≡ Err Halt.DiskFault → self.new.waiting.items ≡ [] }
         ensures source { ReadCause result (S.faults input.old) (S.faults input.new) }
         ensures sink { WriteCause result (K.faults out.old) (K.faults out.new) }
         ensures stopped { IsStopped result self.new.store.stopped }
+        ensures time { GoOn D.moment D.left_at self.old.store self.new.store }
         ensures disks { DiskCause result (counts_of D.faults self.old.store.left self.old.store.right) (counts_of D.faults self.new.store.left self.new.store.right) }
     {
         let whole = self.reader.whole_line();
@@ -328,12 +355,16 @@ impl<D: Disk> Run<D> {
         ensures answer { (s : State) → StandsFor self.old.store.core s
             → Answers s request.now result self.new.store.core self.old.waiting.items self.new.waiting.items (K.held out.old) (K.held out.new) }
         ensures reader { self.new.reader ≡ self.old.reader }
+        ensures past { (old_left old_right : D) (l r : List ℕ) (start : State) (requests : List Request)
+            → IsPastOf D.seen D.moment D.left_at old_left old_right l r start requests self.old.store
+            → Passes D.seen D.moment D.left_at old_left old_right l r start requests request.now result self.new.store }
         ensures other { result ≢ Err Halt.ReadFault }
         // Where a disk met a fault nothing waits, and both disks keep the state before the request or after it.
         ensures caught_up { result ≡ Err Halt.DiskFault → self.new.waiting.items ≡ [] }
         ensures kept { result ≡ Err Halt.DiskFault → (s : State) → StandsFor self.old.store.core s → KeepsAround D.seen self.new.store.left self.new.store.right s request.now }
         ensures sink { WriteCause result (K.faults out.old) (K.faults out.new) }
         ensures stopped { IsStopped result self.new.store.stopped }
+        ensures time { GoOn D.moment D.left_at self.old.store self.new.store }
         ensures disks { DiskCause result (counts_of D.faults self.old.store.left self.old.store.right) (counts_of D.faults self.new.store.left self.new.store.right) }
     {
         make_way(request, &mut self.waiting, out)?;

@@ -53,8 +53,8 @@ whole_done n (suc (suc k), within, is) sink = absurd (omega (arith, within))
 
 module _
     {S K D : Type 0} (unread : S → Option (List ℕ)) (source_faults : S → ℕ) (held : K → Option (List ℕ)) (sink_faults : K → ℕ) (seen : D → Option (List ℕ))
-    (disk_faults : D → ℕ) (before after : Outside S K D) where
-  answers_done : (asked : List (ℕ × Request)) (history : List Entry) (end : Result (Unit {0}) Halt) → Answers unread source_faults held sink_faults seen disk_faults before after asked history end → status_of end ≢ 4 → status_of end ≢ 5 → IsDone (status_of end)
+    (disk_faults : D → ℕ) (moment : D → ℕ) (left_at : D → ℕ → List ℕ → Type 0) (before after : Outside S K D) where
+  answers_done : (asked : List (ℕ × Request)) (history : List Entry) (end : Result (Unit {0}) Halt) → Answers unread source_faults held sink_faults seen disk_faults moment left_at before after asked history end → status_of end ≢ 4 → status_of end ≢ 5 → IsDone (status_of end)
   answers_done asked history (Ok done) a sink disk = inl refl
   answers_done asked history (Err (BadLine n)) a sink disk = whole_done _ a.1 sink
   answers_done asked history (Err ReadFault) a sink disk = whole_done _ a.1 sink
@@ -66,15 +66,15 @@ module _
   answers_done asked history (Err (Rotated generation)) a sink disk = whole_done _ a.1 sink
 
   pub serve_done :
-      (end : Result (Unit {0}) Halt) → ServesTo unread source_faults held sink_faults seen disk_faults before after end
+      (end : Result (Unit {0}) Halt) → ServesTo unread source_faults held sink_faults seen disk_faults moment left_at before after end
       → (bytes l r : List ℕ) (start : State) (all : List (ℕ × Request)) → unread before.source ≡ Some bytes → seen before.left ≡ Some l → seen before.right ≡ Some r
       → state_on l r ≡ Ok start → AllZip Asks (lines_in bytes) all → length all ≤ LINES_MOST → status_of end ≢ 3 → status_of end ≢ 4 → status_of end ≢ 5
       → IsDone (status_of end)
   serve_done end serves bytes l r start all told told_l told_r is spelled few read sink disk = by serves.came where
     by : ((serves.reading ≡ end) × (serves.history ≡ []) × (after.left ≡ before.left) × (after.right ≡ before.right) × IsStopping end)
         ⊎ ((serves.reading ≡ Ok tt)
-        × (OpensNone unread source_faults held sink_faults seen disk_faults before after serves.history end
-        ⊎ Answers unread source_faults held sink_faults seen disk_faults before after serves.asked serves.history end)) → IsDone (status_of end)
+        × (OpensNone unread source_faults held sink_faults seen disk_faults moment left_at before after serves.history end
+        ⊎ Answers unread source_faults held sink_faults seen disk_faults moment left_at before after serves.asked serves.history end)) → IsDone (status_of end)
     by (inl (stopped, none, left, right, stopping)) =
         stopped_done end bytes (unread after.source) serves.asked all stopping (subst (λ (e : Result (Unit {0}) Halt). ReadsTo Asks bytes (unread after.source) serves.asked e) stopped (serves.read bytes told)) spelled few read
     by (inr (whole, inl opens)) = unopened_done (status_of end) opens.1 disk (MatchResult-at_ok _ _ start is (opens.2 l r told_l told_r)).0
@@ -84,11 +84,11 @@ module _
 
 module _
     {S K D : Type 0} (unread : S → Option (List ℕ)) (source_faults : S → ℕ) (held : K → Option (List ℕ)) (sink_faults : K → ℕ) (seen : D → Option (List ℕ))
-    (disk_faults : D → ℕ) (before after : Outside S K D) where
+    (disk_faults : D → ℕ) (moment : D → ℕ) (left_at : D → ℕ → List ℕ → Type 0) (before after : Outside S K D) where
   pub complete :
       ((l r : List ℕ) (s : State) → state_on l r ≡ Ok s → s.generation ≡ 1 → replay 1 (opening_with s.limit) (commands_on l r) ≡ Ok s)
-      → (status : ℕ) (words : List (List ℕ)) → Ends unread source_faults held sink_faults seen disk_faults before after status words
-      → IsComplete unread source_faults held sink_faults seen disk_faults before after status words
+      → (status : ℕ) (words : List (List ℕ)) → Ends unread source_faults held sink_faults seen disk_faults moment left_at before after status words
+      → IsComplete unread source_faults held sink_faults seen disk_faults moment left_at before after status words
   complete leads status words ends =
       record {
         run = λ asked bytes l r start requests told stood all few well calm.
@@ -99,7 +99,7 @@ module _
         serve = λ asks bytes l r start asked told stood all few well calm.
             let e = ends.ends word.Serve asks in
             subst IsDone (sym e.1)
-            (serve_done unread source_faults held sink_faults seen disk_faults before after e.0 e.2 bytes l r start asked told stood.left stood.right stood.is all few (λ is. well (ends.source_fault (e.1 ∙ is))) (λ is. calm.sink (ends.sink_fault (e.1 ∙ is))) (λ is. calm.disk (ends.disk_fault (e.1 ∙ is))));
+            (serve_done unread source_faults held sink_faults seen disk_faults moment left_at before after e.0 e.2 bytes l r start asked told stood.left stood.right stood.is all few (λ is. well (ends.source_fault (e.1 ∙ is))) (λ is. calm.sink (ends.sink_fault (e.1 ∙ is))) (λ is. calm.disk (ends.disk_fault (e.1 ∙ is))));
         state = λ asked l r start stood calm.
             let e = ends.ends word.State asked in
             let told = MatchResult-at_ok _ _ start stood.is (e.2.1 l r stood.left stood.right) in

@@ -69,11 +69,11 @@ cut_last start end fault requests before now h is = by (subst (λ (e : Result (U
 
 module _
     {S K D : Type 0} (unread : S → Option (List ℕ)) (source_faults : S → ℕ) (held : K → Option (List ℕ)) (sink_faults : K → ℕ) (seen : D → Option (List ℕ))
-    (disk_faults : D → ℕ) (before after : Outside S K D) where
+    (disk_faults : D → ℕ) (moment : D → ℕ) (left_at : D → ℕ → List ℕ → Type 0) (before after : Outside S K D) where
   pub runs_to :
       (start : State) (end : Result (Unit {0}) Halt) (bytes l r : List ℕ)
       → EndsIn seen start end bytes l r (unread after.source) (Rose (sink_faults before.sink) (sink_faults after.sink)) (held before.sink) (held after.sink) after.left after.right
-      → RunsTo unread source_faults held sink_faults seen disk_faults before after end l r start bytes
+      → RunsTo unread source_faults held sink_faults seen disk_faults moment left_at before after end l r start bytes
   runs_to start end bytes l r h =
       let fault = Rose (sink_faults before.sink) (sink_faults after.sink) in
       let read = read_to start end bytes (unread after.source) h.requests h.read in

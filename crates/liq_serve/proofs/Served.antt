@@ -1,5 +1,5 @@
 -- Serving an input, as an end of the program.
-use Rattle.std.proofs.Common.{◌≡◌, ◌<◌, ℕ, zero, suc, List, [], ◌∷◌, map, length, append-nil, Option, Some, None, Ok, Err, Result, refl, sym, subst, ap, ap₂, ◌∙◌, inl, inr, lit<, arith}
+use Rattle.std.proofs.Common.{◌≡◌, ◌≢◌, ◌<◌, ℕ, zero, suc, List, [], ◌∷◌, map, length, append-nil, Option, Some, None, Ok, Err, Result, refl, sym, subst, ap, ap₂, ◌∙◌, inl, inr, lit<, arith}
 use Rattle.std.specs.Prelude.{◌⊎◌, All, Contains, slice_index_or, IfOk, IsOkAnd, MatchResult}
 use Rattle.std.specs.List.{AllZip}
 use Rattle.liq_types.specs.declared.amounts.TheConstants.{LINES_MOST}
@@ -33,7 +33,7 @@ use Rattle.liq_store.specs.declared.answers.StoreWhy.TheVariants as why
 use Rattle.liq_store.specs.Causes.{Faults}
 use Rattle.liq_store.specs.Keeping.{IsKeptAround}
 use Rattle.liq_ends.specs.declared.halts.Halt.{Halt}
-use Rattle.liq_ends.specs.declared.halts.Halt.TheVariants.{BadLine, ReadFault, WriteFault, DiskFault, Damaged, NoMemory, Limit}
+use Rattle.liq_ends.specs.declared.halts.Halt.TheVariants.{BadLine, ReadFault, WriteFault, DiskFault, Damaged, NoMemory, Limit, Rotated}
 use Rattle.liq_ends.specs.Causes.{DiskCause, ReadCause, WriteCause}
 use Rattle.liq_ends.specs.Disks.{OfBoth}
 use Rattle.liq_ends.specs.Reading.{ReadsTo}
@@ -83,6 +83,20 @@ disk_cause (finish.NotOpened why.NoMemory) before after c = c
 disk_cause finish.NoMemory before after c = c
 disk_cause finish.DiskFault before after c = c
 disk_cause finish.WriteFault before after c = c
+
+-- it goes on in whatever generation
+pub never_rotated : (how : Finish) (generation : ℕ) → end_of how ≢ Err (Rotated generation)
+never_rotated finish.All generation = λ e. cc
+never_rotated (finish.NotRead (stop.BadLine number)) generation = λ e. cc
+never_rotated (finish.NotRead stop.ReadFault) generation = λ e. cc
+never_rotated (finish.NotRead stop.NoMemory) generation = λ e. cc
+never_rotated (finish.NotRead stop.Limit) generation = λ e. cc
+never_rotated (finish.NotOpened why.DiskFault) generation = λ e. cc
+never_rotated (finish.NotOpened (why.Damaged side damage)) generation = λ e. cc
+never_rotated (finish.NotOpened why.NoMemory) generation = λ e. cc
+never_rotated finish.NoMemory generation = λ e. cc
+never_rotated finish.DiskFault generation = λ e. cc
+never_rotated finish.WriteFault generation = λ e. cc
 
 -- ---- what is written
 
@@ -175,18 +189,18 @@ kept_around s request c a b is allowed kept =
 
 module _
     {S K D : Type 0} (unread : S → Option (List ℕ)) (source_faults : S → ℕ) (held : K → Option (List ℕ)) (sink_faults : K → ℕ) (seen : D → Option (List ℕ))
-    (disk_faults : D → ℕ) (before after : Outside S K D) (asked : List (ℕ × Request)) (history : List Entry) where
+    (disk_faults : D → ℕ) (moment : D → ℕ) (left_at : D → ℕ → List ℕ → Type 0) (before after : Outside S K D) (asked : List (ℕ × Request)) (history : List Entry) where
   abbrev AreWhole : Type 0
   AreWhole = (l r : List ℕ) (side : Side) (damage : Damage) → seen before.left ≡ Some l → seen before.right ≡ Some r → state_on l r ≡ Err (side, damage) → ⊥
 
   abbrev Answered : Result (Unit {0}) Halt → Type 0
-  Answered end = Answers unread source_faults held sink_faults seen disk_faults before after asked history end
+  Answered end = Answers unread source_faults held sink_faults seen disk_faults moment left_at before after asked history end
 
   -- disks that are not damaged stood for a state
   kept :
       (P : List ℕ → List ℕ → State → Type 0)
       → ((l r : List ℕ) (start : State) → seen before.left ≡ Some l → seen before.right ≡ Some r → state_on l r ≡ Ok start → OfBoth seen after.left after.right (λ a b. P a b (state_after start history)))
-      → AreWhole → Keep unread source_faults held sink_faults seen disk_faults before after history P
+      → AreWhole → Keep unread source_faults held sink_faults seen disk_faults moment left_at before after history P
   kept P disks whole = λ l r told_l told_r. is_found (state_on l r) _ (λ start is. disks l r start told_l told_r is) (λ side damage is. whole l r side damage told_l told_r is)
 
   -- the call that met a disk's fault
@@ -205,12 +219,12 @@ module _
     pub read : (bytes : List ℕ) → unread before.source ≡ Some bytes → ReadsTo Asks bytes (unread after.source) asked reading
     pub so :
         ((reading ≡ end) × (history ≡ []) × (after.left ≡ before.left) × (after.right ≡ before.right) × IsStopping end)
-        ⊎ ((reading ≡ Ok tt) × (OpensNone unread source_faults held sink_faults seen disk_faults before after history end ⊎ Answered end))
+        ⊎ ((reading ≡ Ok tt) × (OpensNone unread source_faults held sink_faults seen disk_faults moment left_at before after history end ⊎ Answered end))
 
   -- all lines were read
   came_whole :
       (end : Result (Unit {0}) Halt) → ((bytes : List ℕ) → unread before.source ≡ Some bytes → AllZip Asks (lines_in bytes) asked × (unread after.source ≡ Some []))
-      → OpensNone unread source_faults held sink_faults seen disk_faults before after history end ⊎ Answered end → Came end
+      → OpensNone unread source_faults held sink_faults seen disk_faults moment left_at before after history end ⊎ Answered end → Came end
   came_whole end read so = record { reading = Ok tt; read = read; so = inr (refl, so) }
 
   pub came_by : (how : Finish) → AnswersInput seen (unread before.source) (unread after.source) before.left before.right (record { left = after.left; right = after.right; finish = how }) asked history

@@ -13,6 +13,9 @@ use Rattle.liq_text.specs.Spelling.{Spells}
 use Rattle.liq_lines.specs.Lines.{lines_in}
 use Rattle.liq_lines.specs.declared.stops.Stop.TheVariants as stop
 use Rattle.liq_lines.proofs.Sayings.{stops_outside}
+use Rattle.liq_words.specs.declared.words.Word.{Word}
+use Rattle.liq_words.specs.declared.words.Word.TheVariants as word
+use Rattle.liq_serve.specs.Top.{statuses_of}
 
 pub status_known : (end : Result (Unit {0}) Halt) → Contains (0 ∷ 1 ∷ 2 ∷ 3 ∷ 4 ∷ 5 ∷ 6 ∷ 7 ∷ 8 ∷ 9 ∷ []) (status_of end)
 status_known (Ok done) = (0, lit< tt, refl)
@@ -24,6 +27,50 @@ status_known (Err (Damaged side number)) = (6, lit< tt, six side number)
 status_known (Err NoMemory) = (7, lit< tt, refl)
 status_known (Err (Limit number)) = (8, lit< tt, refl)
 status_known (Err (Rotated generation)) = (9, lit< tt, refl)
+
+-- of each word there may be no memory
+pub no_memory_known : (read : Word) → Contains (statuses_of read) 7
+no_memory_known word.Run = (6, lit< tt, refl)
+no_memory_known word.Serve = (6, lit< tt, refl)
+no_memory_known word.State = (4, lit< tt, refl)
+no_memory_known word.Report = (4, lit< tt, refl)
+no_memory_known word.Audit = (4, lit< tt, refl)
+no_memory_known (word.Gen seed count) = (2, lit< tt, refl)
+
+-- `run` and `serve` go on in whatever generation
+pub goes_on_known : (end : Result (Unit {0}) Halt) → ((generation : ℕ) → end ≢ Err (Rotated generation)) → Contains (statuses_of word.Run) (status_of end)
+goes_on_known (Ok done) on = (0, lit< tt, refl)
+goes_on_known (Err (BadLine n)) on = (1, lit< tt, refl)
+goes_on_known (Err ReadFault) on = (2, lit< tt, refl)
+goes_on_known (Err WriteFault) on = (3, lit< tt, refl)
+goes_on_known (Err DiskFault) on = (4, lit< tt, refl)
+goes_on_known (Err (Damaged side number)) on = (5, lit< tt, six side number)
+goes_on_known (Err NoMemory) on = (6, lit< tt, refl)
+goes_on_known (Err (Limit number)) on = (7, lit< tt, refl)
+goes_on_known (Err (Rotated generation)) on = absurd (on generation refl)
+
+-- a word that reads no line, and tells of the disks
+pub audit_known : (end : Result (Unit {0}) Halt) → end ≢ Err ReadFault → ((number : ℕ) → end ≢ Err (BadLine number)) → Contains (statuses_of word.Audit) (status_of end)
+audit_known (Ok done) no_source no_line = (0, lit< tt, refl)
+audit_known (Err (BadLine n)) no_source no_line = absurd (no_line n refl)
+audit_known (Err ReadFault) no_source no_line = absurd (no_source refl)
+audit_known (Err WriteFault) no_source no_line = (1, lit< tt, refl)
+audit_known (Err DiskFault) no_source no_line = (2, lit< tt, refl)
+audit_known (Err (Damaged side number)) no_source no_line = (3, lit< tt, six side number)
+audit_known (Err NoMemory) no_source no_line = (4, lit< tt, refl)
+audit_known (Err (Limit number)) no_source no_line = (5, lit< tt, refl)
+audit_known (Err (Rotated generation)) no_source no_line = (6, lit< tt, refl)
+
+pub state_known : (end : Result (Unit {0}) Halt) → end ≢ Err ReadFault → ((number : ℕ) → end ≢ Err (BadLine number)) → ((number : ℕ) → (end ≢ Err (Limit number)) × (end ≢ Err (Rotated number))) → Contains (statuses_of word.State) (status_of end)
+state_known (Ok done) no_source no_line no_number = (0, lit< tt, refl)
+state_known (Err (BadLine n)) no_source no_line no_number = absurd (no_line n refl)
+state_known (Err ReadFault) no_source no_line no_number = absurd (no_source refl)
+state_known (Err WriteFault) no_source no_line no_number = (1, lit< tt, refl)
+state_known (Err DiskFault) no_source no_line no_number = (2, lit< tt, refl)
+state_known (Err (Damaged side number)) no_source no_line no_number = (3, lit< tt, six side number)
+state_known (Err NoMemory) no_source no_line no_number = (4, lit< tt, refl)
+state_known (Err (Limit number)) no_source no_line no_number = absurd ((no_number number).0 refl)
+state_known (Err (Rotated generation)) no_source no_line no_number = absurd ((no_number generation).1 refl)
 
 -- ---- where all lines are requests
 

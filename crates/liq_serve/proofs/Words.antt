@@ -2,7 +2,9 @@
 use Rattle.std.proofs.Common.{◌≡◌, ◌≢◌, ℕ, List, [], ◌∷◌, Option, Some, Ok, Err, Result, refl, sym, subst, arith, lit<, inl, inr}
 use Rattle.std.specs.Prelude.{◌⊎◌, ◌↔◌, Contains, IfOk}
 use Rattle.std.proofs.lemmas.List.Elements.{All-nil}
+use Rattle.liq_outside.specs.Disk.{GoesOn}
 use Rattle.liq_outside.specs.Faults.{Rose}
+use Rattle.liq_outside.proofs.Moments.{unmoved}
 use Rattle.liq_types.specs.declared.amounts.TheConstants.{LINES_MOST}
 use Rattle.liq_types.specs.State.{State}
 use Rattle.liq_lines.specs.Lines.{lines_in}
@@ -28,9 +30,9 @@ use Rattle.liq_ends.proofs.Opened.{standing_still, state_formed, untouched}
 use Rattle.liq_ends.proofs.Shares.{all_shares}
 use Rattle.liq_store.specs.Causes.{counts_of}
 use Rattle.liq_serve.specs.Outside.{Outside}
-use Rattle.liq_serve.specs.Top.{Ends, Leaves, OpensFirst, ServesTo, Tells}
+use Rattle.liq_serve.specs.Top.{Ends, Leaves, OpensFirst, ServesTo, Tells, statuses_of}
 use Rattle.liq_serve.proofs.Served.{by_found, if_found, same_disks}
-use Rattle.liq_serve.proofs.StatusLaws.{status_known}
+use Rattle.liq_serve.proofs.StatusLaws.{no_memory_known, status_known}
 
 -- ---- the words ask for one thing
 
@@ -61,9 +63,12 @@ not_usage (Err (Rotated generation)) is = omega (arith, is)
 
 module _
     {S K D : Type 0} (unread : S → Option (List ℕ)) (source_faults : S → ℕ) (held : K → Option (List ℕ)) (sink_faults : K → ℕ) (seen : D → Option (List ℕ))
-    (disk_faults : D → ℕ) (before after : Outside S K D) where
-  -- the counts of a word's end
-  pub record HasCounts (end : Result (Unit {0}) Halt) : Type 0 where
+    (disk_faults : D → ℕ) (moment : D → ℕ) (left_at : D → ℕ → List ℕ → Type 0) (before after : Outside S K D) where
+  -- the status of a word's end, its counts, and the moments of its disks
+  pub record HasCounts (read : Word) (end : Result (Unit {0}) Halt) : Type 0 where
+    pub status : Contains (statuses_of read) (status_of end)
+    pub left_time : GoesOn moment left_at before.left after.left
+    pub right_time : GoesOn moment left_at before.right after.right
     pub source : ReadCause end (source_faults before.source) (source_faults after.source)
     pub sink : LastCause end (sink_faults before.sink) (sink_faults after.sink)
     pub disks : DiskCause end (counts_of disk_faults before.left before.right) (counts_of disk_faults after.left after.right)
@@ -71,9 +76,9 @@ module _
   -- a word that was read, and came to this end
   pub word_ends :
       (words : List (List ℕ)) (read : Word) (end : Result (Unit {0}) Halt) → IsRead words read
-      → Leaves unread source_faults held sink_faults seen disk_faults before after read end → HasCounts end
+      → Leaves unread source_faults held sink_faults seen disk_faults moment left_at before after read end → HasCounts read end
       → ReadsAtMost (taken_most LINES_MOST) (unread before.source) (unread after.source)
-      → Ends unread source_faults held sink_faults seen disk_faults before after (status_of end) words
+      → Ends unread source_faults held sink_faults seen disk_faults moment left_at before after (status_of end) words
   word_ends words read end is leaves counts few =
       let source = source_causes end (source_faults before.source) (source_faults after.source) counts.source in
       let sink = sink_causes end (sink_faults before.sink) (sink_faults after.sink) counts.sink in
@@ -81,21 +86,24 @@ module _
       record {
         understood = (λ e. absurd (not_usage end e), λ none. absurd (none read is.asks));
         usage = λ e. absurd (not_usage end e);
-        ends = λ other asked. (end, refl, subst (λ (w : Word). Leaves unread source_faults held sink_faults seen disk_faults before after w end) (is.only other asked) leaves);
+        ends = λ other asked. (end, refl, subst (λ (w : Word). Leaves unread source_faults held sink_faults seen disk_faults moment left_at before after w end) (is.only other asked) leaves);
         takes = few;
         known = status_known end;
+        status_is = λ other asked. subst (λ (w : Word). Contains (statuses_of w) (status_of end)) (is.only other asked) counts.status;
         source_fault = source.0;
         source_same = source.1;
         sink_fault = sink.0;
         sink_same = sink.1;
         disk_fault = disks.0;
         disk_same = disks.1;
+        left_time = counts.left_time;
+        right_time = counts.right_time;
       }
 
   -- the last line of a word over damaged disks
   last_told : (side : Side) (damage : Damage) (halt : Halt) → EndsDamaged seen side damage (Err halt) after.left after.right
       → Adds [] (last halt) (Rose (sink_faults before.sink) (sink_faults after.sink)) (held before.sink) (held after.sink)
-      → Tells unread source_faults held sink_faults seen disk_faults before after [] [] (Err halt)
+      → Tells unread source_faults held sink_faults seen disk_faults moment left_at before after [] [] (Err halt)
   last_told side damage (BadLine n) ends told = absurd ends
   last_told side damage ReadFault ends told = absurd ends
   last_told side damage WriteFault ends told = absurd ends
@@ -112,34 +120,38 @@ module _
       → ((l r : List ℕ) → seen before.left ≡ Some l → seen before.right ≡ Some r → (side : Side) (damage : Damage) → state_on l r ≡ Err (side, damage)
       → (after.source ≡ before.source) × ((halt : Halt) × (end ≡ Err halt) × EndsDamaged seen side damage (Err halt) after.left after.right
       × Adds [] (last halt) (Rose (sink_faults before.sink) (sink_faults after.sink)) (held before.sink) (held after.sink)))
-      → OpensFirst unread source_faults held sink_faults seen disk_faults before after end P
+      → OpensFirst unread source_faults held sink_faults seen disk_faults moment left_at before after end P
   opens_first end P stood damaged l r told_l told_r =
       by_found (state_on l r) _ _ (λ start is. stood l r told_l told_r start is) (λ side damage is.
       let found = damaged l r told_l told_r side damage is in
       let so = found.1 in
-      let ends = subst (λ (e : Result (Unit {0}) Halt). EndsDamaged seen side damage e after.left after.right × Tells unread source_faults held sink_faults seen disk_faults before after [] [] e)
+      let ends = subst (λ (e : Result (Unit {0}) Halt). EndsDamaged seen side damage e after.left after.right × Tells unread source_faults held sink_faults seen disk_faults moment left_at before after [] [] e)
       (sym so.1) (so.2, last_told side damage so.0 so.2 so.3) in
       (found.0, ends.0, ends.1))
 
   -- a word that reads nothing, and tells of the disks
   pub telling_ends :
       (words : List (List ℕ)) (read : Word) (end : Result (Unit {0}) Halt) (P : List ℕ → List ℕ → State → Type 0) → IsRead words read
-      → ((after.source ≡ before.source) × OpensFirst unread source_faults held sink_faults seen disk_faults before after end P
-      → Leaves unread source_faults held sink_faults seen disk_faults before after read end)
+      → ((after.source ≡ before.source) × OpensFirst unread source_faults held sink_faults seen disk_faults moment left_at before after end P
+      → Leaves unread source_faults held sink_faults seen disk_faults moment left_at before after read end)
       → after.source ≡ before.source
       → ((l r : List ℕ) → seen before.left ≡ Some l → seen before.right ≡ Some r → (start : State) → state_on l r ≡ Ok start → P l r start)
       → ((l r : List ℕ) → seen before.left ≡ Some l → seen before.right ≡ Some r → (side : Side) (damage : Damage) → state_on l r ≡ Err (side, damage)
       → (halt : Halt) × (end ≡ Err halt) × EndsDamaged seen side damage (Err halt) after.left after.right
       × Adds [] (last halt) (Rose (sink_faults before.sink) (sink_faults after.sink)) (held before.sink) (held after.sink))
-      → end ≢ Err ReadFault → LastCause end (sink_faults before.sink) (sink_faults after.sink)
+      → Contains (statuses_of read) (status_of end) → end ≢ Err ReadFault → LastCause end (sink_faults before.sink) (sink_faults after.sink)
       → DiskCause end (counts_of disk_faults before.left before.right) (counts_of disk_faults after.left after.right)
-      → Ends unread source_faults held sink_faults seen disk_faults before after (status_of end) words
-  telling_ends words read end P is leaves same told damaged no_source sink disks =
+      → GoesOn moment left_at before.left after.left → GoesOn moment left_at before.right after.right
+      → Ends unread source_faults held sink_faults seen disk_faults moment left_at before after (status_of end) words
+  telling_ends words read end P is leaves same told damaged status no_source sink disks left_time right_time =
       word_ends words read end is (leaves (same, opens_first end P told (λ l r told_l told_r side damage at. (same, damaged l r told_l told_r side damage at))))
       (record {
         source = subst (λ (s : S). ReadCause end (source_faults before.source) (source_faults s)) (sym same) (unread_causes end (source_faults before.source) no_source);
         sink = sink;
         disks = disks;
+        status = status;
+        left_time = left_time;
+        right_time = right_time;
       })
       (subst (λ (s : S). ReadsAtMost (taken_most LINES_MOST) (unread before.source) (unread s)) (sym same) (takes_none (unread before.source)))
 
@@ -147,18 +159,18 @@ module _
 
 module _
     {S K D : Type 0} (unread : S → Option (List ℕ)) (source_faults : S → ℕ) (held : K → Option (List ℕ)) (sink_faults : K → ℕ) (seen : D → Option (List ℕ))
-    (disk_faults : D → ℕ) (before : Outside S K D) (now : K) where
+    (disk_faults : D → ℕ) (moment : D → ℕ) (left_at : D → ℕ → List ℕ → Type 0) (before : Outside S K D) (now : K) where
   -- nothing but the sink changes
   abbrev after : Outside S K D
   after = record before { sink = now }
 
   abbrev EndsWriting : ℕ → List (List ℕ) → Type 0
-  EndsWriting status words = Ends unread source_faults held sink_faults seen disk_faults before after status words
+  EndsWriting status words = Ends unread source_faults held sink_faults seen disk_faults moment left_at before after status words
 
   abbrev Writes : List ℕ → Type 0
   Writes line = Adds [] line (Rose (sink_faults before.sink) (sink_faults now)) (held before.sink) (held now)
 
-  serves_nothing : Writes (last NoMemory) → ServesTo unread source_faults held sink_faults seen disk_faults before after (Err NoMemory)
+  serves_nothing : Writes (last NoMemory) → ServesTo unread source_faults held sink_faults seen disk_faults moment left_at before after (Err NoMemory)
   serves_nothing written =
       record {
         asked = [];
@@ -179,7 +191,7 @@ module _
   still side damage l r told_l told_r is a b told_a told_b = same_disks seen before.left before.right l r a b (Err (side, damage)) told_l told_r told_a told_b state_on is
 
   -- whatever the words ask for
-  nothing_done : Writes (last NoMemory) → (read : Word) → Leaves unread source_faults held sink_faults seen disk_faults before after read (Err NoMemory)
+  nothing_done : Writes (last NoMemory) → (read : Word) → Leaves unread source_faults held sink_faults seen disk_faults moment left_at before after read (Err NoMemory)
   nothing_done written word.Run =
       λ l r told_l told_r. by_found (state_on l r) _ _
       (λ start is bytes told. record {
@@ -221,12 +233,15 @@ module _
         ends = λ word asked. let none = wordless word asked in (Err NoMemory, none.0, nothing_done none.1 word);
         takes = takes_none (unread before.source);
         known = known;
+        status_is = λ one asked. subst (Contains (statuses_of one)) (sym (wordless one asked).0) (no_memory_known one);
         source_fault = λ is. absurd (no_source is);
         source_same = λ other. refl;
         sink_fault = λ is. absurd (no_sink is);
         sink_same = λ is. absurd (no_end is);
         disk_fault = λ is. absurd (no_disk is);
         disk_same = λ other. refl;
+        left_time = unmoved moment left_at before.left;
+        right_time = unmoved moment left_at before.right;
       }
 
   pub unread_ends :

@@ -20,8 +20,8 @@ use Rattle.liq_serve.specs.Outside.{Outside}
 -- The arguments are those of `Ends`.
 module _
     {S K D : Type 0} (unread : S → Option (List ℕ)) (source_faults : S → ℕ) (held : K → Option (List ℕ))
-    (sink_faults : K → ℕ) (seen : D → Option (List ℕ)) (disk_faults : D → ℕ)
-    (before after : Outside S K D) where
+    (sink_faults : K → ℕ) (seen : D → Option (List ℕ)) (disk_faults moment : D → ℕ)
+    (left_at : D → ℕ → List ℕ → Type 0) (before after : Outside S K D) where
   -- the source met no fault
   abbrev pub IsReadWell : Type 0
   IsReadWell = Rose (source_faults before.source) (source_faults after.source) → ⊥

@@ -1,9 +1,12 @@
 -- What the top call leaves, word by word, and which counts rise.
 use Rattle.std.specs.Prelude.{ℕ, ◌≡◌, ◌≢◌, ◌≤◌, ◌<◌, ◌==◌, ◌⊎◌, ◌↔◌, List, [], ◌∷◌, ◌++◌, length, map, filter}
 use Rattle.std.specs.Prelude.{All, Contains, Option, Some, Result, Ok, Err, IfOk, IsOkAnd, MatchResult}
+use Rattle.liq_outside.specs.Disk.{GoesOn}
 use Rattle.liq_outside.specs.Faults.{Rose}
 use Rattle.liq_types.specs.declared.amounts.TheConstants.{LINES_MOST}
+use Rattle.liq_types.specs.declared.requests.Command.{Command}
 use Rattle.liq_types.specs.declared.requests.Request.{Request}
+use Rattle.liq_types.specs.declared.requests.Request.TheVariants.{Do}
 use Rattle.liq_types.specs.State.{State, opening}
 use Rattle.liq_rules.specs.History.{Entry, IsLegal, own_entries, requests_of, state_after}
 use Rattle.liq_rules.specs.Step.{run}
@@ -11,6 +14,7 @@ use Rattle.liq_lines.specs.Reading.{ReadsAtMost, taken_most}
 use Rattle.liq_lines.specs.Writing.{Writes}
 use Rattle.liq_pairs.specs.Kept.{IsKept}
 use Rattle.liq_pairs.specs.Pair.{commands_on, state_on}
+use Rattle.liq_pairs.specs.Past.{AtCommand, Fault, InOpening, NoFault}
 use Rattle.liq_scripts.specs.declared.scripts.TheConstants.{SESSIONS}
 use Rattle.liq_scripts.specs.Asked.{Asks}
 use Rattle.liq_scripts.specs.Output.{served}
@@ -25,7 +29,8 @@ use Rattle.liq_words.specs.declared.words.Word.TheVariants as word
 use Rattle.liq_words.specs.Words.{Ask}
 use Rattle.liq_ends.specs.declared.halts.Halt.{Halt}
 use Rattle.liq_ends.specs.declared.halts.Halt.TheVariants.{BadLine, ReadFault, WriteFault, DiskFault, NoMemory, Limit}
-use Rattle.liq_ends.specs.Disks.{DisksHold, DisksStay, EndsDamaged, IsUnread, OfBoth}
+use Rattle.liq_ends.specs.Disks.{DisksHold, DisksStay, EndsDamaged, IsFaultOfRun, IsFaultOfTelling, IsUnread}
+use Rattle.liq_ends.specs.Disks.{LeavesOfRun, OfBoth}
 use Rattle.liq_ends.specs.Output.{lines, usage}
 use Rattle.liq_ends.specs.Reading.{ReadsTo}
 use Rattle.liq_ends.specs.Requests.{IsNext}
@@ -42,11 +47,21 @@ abbrev pub AreLeft : List (ℕ × Request) → List Entry → ℕ → List Reque
 AreLeft asked history session left = map (λ (a : ℕ × Request). a.1) (filter (λ (a : ℕ × Request). a.0 == session) asked)
     ≡ requests_of (own_entries session history) ++ left
 
--- The six functions say what the source has left and the sink holds, what a disk holds, and their counts of faults.
+-- the exit statuses to which a word may come
+abbrev pub statuses_of : Word → List ℕ
+statuses_of word.Run = 0 ∷ 2 ∷ 3 ∷ 4 ∷ 5 ∷ 6 ∷ 7 ∷ 8 ∷ []
+statuses_of word.Serve = 0 ∷ 2 ∷ 3 ∷ 4 ∷ 5 ∷ 6 ∷ 7 ∷ 8 ∷ []
+statuses_of word.State = 0 ∷ 4 ∷ 5 ∷ 6 ∷ 7 ∷ []
+statuses_of word.Report = 0 ∷ 4 ∷ 5 ∷ 6 ∷ 7 ∷ []
+statuses_of word.Audit = 0 ∷ 4 ∷ 5 ∷ 6 ∷ 7 ∷ 8 ∷ 9 ∷ []
+statuses_of (word.Gen seed count) = 0 ∷ 4 ∷ 7 ∷ []
+
+-- The first six functions say what the source has left and the sink holds, what a disk holds, and their counts of
+-- faults; the last two at which moment a disk is, and what a crash at a moment may have left of it.
 module _
     {S K D : Type 0} (unread : S → Option (List ℕ)) (source_faults : S → ℕ) (held : K → Option (List ℕ))
-    (sink_faults : K → ℕ) (seen : D → Option (List ℕ)) (disk_faults : D → ℕ)
-    (before after : Outside S K D) where
+    (sink_faults : K → ℕ) (seen : D → Option (List ℕ)) (disk_faults moment : D → ℕ)
+    (left_at : D → ℕ → List ℕ → Type 0) (before after : Outside S K D) where
   -- the sink met a fault
   abbrev pub SinkFails : Type 0
   SinkFails = Rose (sink_faults before.sink) (sink_faults after.sink)
@@ -57,6 +72,11 @@ module _
   -- The text was written, as far as the end says. Where the word stopped, this was said of it, and then the last line.
   abbrev pub Tells : List ℕ → List ℕ → Result (Unit {0}) Halt → Type 0
   Tells said text end = TellsBehind said text end SinkFails (held before.sink) (held after.sink)
+
+  -- What both disks leave of a run of these requests, with a fault where P says.
+  abbrev pub Leave : (Fault → Type 0) → List ℕ → List ℕ → State → List Request → Type 0
+  Leave P l r start requests =
+      LeavesOfRun seen moment left_at before.left before.right P l r start requests after.left after.right
 
   -- A word that opens the disks before it reads. Of what both tell and of the state for which they stand it leaves P.
   -- Over disks of which one has a first damage nothing is read, and a last line alone is written.
@@ -83,6 +103,8 @@ module _
     pub cut : end ≡ Err WriteFault → (earlier : List Request) × (final : Request) × (requests ≡ earlier ++ final ∷ [])
         × ((part : List ℕ) × Writes (held before.sink) (lines start earlier ++ part) (held after.sink))
     pub disks : DisksHold seen end bytes (unread after.source) l r start after.left after.right requests
+    -- and all that a crash at some moment may have left of them
+    pub past : Leave (IsFaultOfRun end bytes (unread after.source) requests) l r start requests
     -- no depositor has more than its share then, or less by more than is allowed
     pub shares : HaveTheirShares start requests
 
@@ -115,6 +137,13 @@ module _
   Answers asked history end = Keep history IsKept × Contains (0 ∷ 4 ∷ []) (status_of end)
       × All (λ session. AreLeft asked history session []) sessions
 
+  -- where serving met a disk's fault: in the opening, or at the command that is the next request of its session
+  abbrev pub IsFaultOfServing : List (ℕ × Request) → List Entry → Result (Unit {0}) Halt → Fault → Type 0
+  IsFaultOfServing asked history (Err DiskFault) fault = ((fault ≡ InOpening) × (history ≡ []))
+      ⊎ ((session : ℕ) × (c : Command) × (later : List Request) × (fault ≡ AtCommand c)
+      × AreLeft asked history session (Do c ∷ later))
+  IsFaultOfServing asked history _ fault = fault ≡ NoFault
+
   -- Along one history a part of what the lines asked was answered, and it was written, as far as the end says.
   pub record ServesTo (end : Result (Unit {0}) Halt) : Type 0 where
     pub asked : List (ℕ × Request)
@@ -137,6 +166,9 @@ module _
     -- or less by more than is allowed
     pub lawful : OfBoth seen before.left before.right (λ l r. IfOk (state_on l r) (λ start.
         IsLegal start history × HaveTheirShares start (requests_of history)))
+    -- all that a crash at some moment may have left of the disks is of one run of these requests
+    pub past : OfBoth seen before.left before.right (λ l r. IfOk (state_on l r) (λ start.
+        Leave (IsFaultOfServing asked history end) l r start (requests_of history)))
 
   -- ---- each word
 
@@ -150,18 +182,21 @@ module _
   -- nothing is read; it is told what stands, and the disks stay so
   Leaves word.State end =
       (after.source ≡ before.source) × OpensFirst end (λ l r start. Contains (0 ∷ 4 ∷ 5 ∷ 7 ∷ []) (status_of end)
-      × Tells [] (standing start) end × DisksStay seen end l r start after.left after.right)
+      × Tells [] (standing start) end × DisksStay seen end l r start after.left after.right
+      × Leave (IsFaultOfTelling end) l r start [])
   -- nothing is read; each trove and deposit is told as it stands, and the disks stay so
   Leaves word.Report end =
       (after.source ≡ before.source) × OpensFirst end (λ l r start. Contains (0 ∷ 4 ∷ 5 ∷ 7 ∷ []) (status_of end)
-      × Tells [] (reported start) end × DisksStay seen end l r start after.left after.right)
+      × Tells [] (reported start) end × DisksStay seen end l r start after.left after.right
+      × Leave (IsFaultOfTelling end) l r start [])
   -- Nothing is read, the review is told of the commands that lead to the state, and the disks stay so. At 0 each row of
   -- the review encloses the exact share of its account, and what the protocol gives it in that state is within the row.
   -- Where the state is of a generation above the first, the last line tells this generation, and nothing else is told.
   Leaves word.Audit end =
       (after.source ≡ before.source) × OpensFirst end (λ l r start.
       ((text : List ℕ) × IsAuditOf start (commands_on l r) end text × Tells [] text end)
-      × DisksStay seen end l r start after.left after.right)
+      × DisksStay seen end l r start after.left after.right
+      × Leave (IsFaultOfTelling end) l r start [])
   -- nothing but the sink changes, and the seed's load is told by the rules' steps along its requests from the opening
   Leaves (word.Gen seed count) end =
       (after ≡ record before { sink = after.sink }) × Contains (0 ∷ 4 ∷ 7 ∷ []) (status_of end)
@@ -176,6 +211,7 @@ module _
     -- no more is taken than the lines that one run answers, each with its line end, and what one read asks for
     pub takes : ReadsAtMost (taken_most LINES_MOST) (unread before.source) (unread after.source)
     pub known : Contains (0 ∷ 1 ∷ 2 ∷ 3 ∷ 4 ∷ 5 ∷ 6 ∷ 7 ∷ 8 ∷ 9 ∷ []) status
+    pub status_is : (one : Word) → Ask words one → Contains (statuses_of one) status
     -- a fault has its cause, and none is passed over
     pub source_fault : status ≡ 3 → Rose (source_faults before.source) (source_faults after.source)
     pub source_same : status ≢ 3 → source_faults after.source ≡ source_faults before.source
@@ -183,3 +219,6 @@ module _
     pub sink_same : status ≡ 0 → sink_faults after.sink ≡ sink_faults before.sink
     pub disk_fault : status ≡ 5 → OneRose (disk_counts before) (disk_counts after)
     pub disk_same : status ≢ 5 → disk_counts after ≡ disk_counts before
+    -- Whatever a disk holds, time goes on for it, and what a crash may have left at a past moment stays what it was.
+    pub left_time : GoesOn moment left_at before.left after.left
+    pub right_time : GoesOn moment left_at before.right after.right

@@ -12,8 +12,8 @@ use liq_pairs::laws::{commands_lead_to_the_state, journals_keep_their_limit};
 /// clause of the top call.
 pub fn calm_ends_are_done<S: Source, K: Sink, D: Disk>()
     ensures { (before after : Outside S K D) (status : ℕ) (words : List (List ℕ))
-        → Ends S.left S.faults K.held K.faults D.seen D.faults before after status words
-        → IsComplete S.left S.faults K.held K.faults D.seen D.faults before after status words }
+        → Ends S.left S.faults K.held K.faults D.seen D.faults D.moment D.left_at before after status words
+        → IsComplete S.left S.faults K.held K.faults D.seen D.faults D.moment D.left_at before after status words }
 {
     commands_lead_to_the_state();
     journals_keep_their_limit();

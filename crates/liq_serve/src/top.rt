@@ -51,7 +51,7 @@ pub fn protocol<S: Source, K: Sink, D: Disk + Send, G: Gate + Sync, R: Threads +
     left: D,
     right: D,
 ) -> Ended<D>
-    ensures { Ends S.left S.faults K.held K.faults D.seen D.faults
+    ensures { Ends S.left S.faults K.held K.faults D.seen D.faults D.moment D.left_at
         (record { source = input.old; sink = out.old; left = left; right = right })
         (record { source = input.new; sink = out.new; left = result.left; right = result.right })
         result.status (map string_bytes words.now) }
@@ -101,7 +101,7 @@ pub fn without_threads<S: Source, K: Sink, D: Disk>(
 ) -> Ended<D>
     // The words are not just `serve`.
     requires { Ask (map string_bytes words.now) Word.Serve → ⊥ }
-    ensures { Ends S.left S.faults K.held K.faults D.seen D.faults
+    ensures { Ends S.left S.faults K.held K.faults D.seen D.faults D.moment D.left_at
         (record { source = input.old; sink = out.old; left = left; right = right })
         (record { source = input.new; sink = out.new; left = result.left; right = result.right })
         result.status (map string_bytes words.now) }
@@ -125,7 +125,7 @@ fn answered<S: Source, K: Sink, D: Disk>(
     requires word { IfOk read (Ask (map string_bytes _words.now)) }
     requires only { (word : Word) → Ask (map string_bytes _words.now) word → (read ≡ Ok word) ⊎ (read ≡ Err WordsFault.NoMemory) }
     requires usage { (read ≡ Err WordsFault.Usage) ↔ ((word : Word) → Ask (map string_bytes _words.now) word → ⊥) }
-    ensures { Ends S.left S.faults K.held K.faults D.seen D.faults
+    ensures { Ends S.left S.faults K.held K.faults D.seen D.faults D.moment D.left_at
         (record { source = input.old; sink = out.old; left = left; right = right })
         (record { source = input.new; sink = out.new; left = result.left; right = result.right })
         result.status (map string_bytes _words.now) }
@@ -155,7 +155,7 @@ fn carry_out<S: Source, K: Sink, D: Disk>(
     requires range { IsInRange word }
     requires other { word ≢ Word.Serve }
     ensures { (words : List (List ℕ)) → Ask words word → ((other : Word) → Ask words other → word ≡ other)
-        → Ends S.left S.faults K.held K.faults D.seen D.faults
+        → Ends S.left S.faults K.held K.faults D.seen D.faults D.moment D.left_at
         (record { source = input.old; sink = out.old; left = left; right = right })
         (record { source = input.new; sink = out.new; left = result.left; right = result.right })
         (status_of result.end) words }

@@ -5,6 +5,7 @@ ghost use Rattle.liq_types.specs.declared.requests.Command.{Command};
 ghost use Rattle.liq_types.specs.Image.{IsLimit};
 ghost use Rattle.liq_types.specs.State.{State, opening_with};
 ghost use Rattle.liq_core.specs.Core.{StandsFor};
+ghost use Rattle.liq_journal.specs.Looked.{Looked};
 ghost use Rattle.liq_journal.specs.Written.{Open, Written, found_on, is_rotate};
 ghost use Rattle.liq_pairs.specs.declared.side.Side.{Side};
 ghost use Rattle.liq_pairs.specs.Replay.{replay};
@@ -38,10 +39,11 @@ pub fn write_audit<K: Sink, D: Disk>(
         → StandsFor store.old.core s → 1 ≤ s.generation → (s.generation ≡ 1 → replay 1 (opening_with s.limit) w.commands ≡ Ok s)
         → WritesAudit s w.commands result (K.held out.old) (K.held out.new) }
     ensures no_source { result ≢ Err Halt.ReadFault }
+    ensures no_line { (number : ℕ) → result ≢ Err (Halt.BadLine number) }
     ensures sink { WriteCause result (K.faults out.old) (K.faults out.new) }
     // The disks are only looked at.
-    ensures left { D.seen store.new.left ≡ D.seen store.old.left }
-    ensures right { D.seen store.new.right ≡ D.seen store.old.right }
+    ensures left { Looked D.seen D.moment D.left_at store.old.left store.new.left }
+    ensures right { Looked D.seen D.moment D.left_at store.old.right store.new.right }
     ensures disks { DiskCause result
         (counts_of D.faults store.old.left store.old.right) (counts_of D.faults store.new.left store.new.right) }
 {
@@ -75,9 +77,10 @@ fn kept_commands<D: Disk>(store: &mut Store<D>, side: Side) -> Result<Vec<Comman
     // A record that is none is told as damage of the disk of this side, at its number.
     ensures damaged { (which : Side) (number : ℕ) → result ≡ Err (Halt.Damaged which number) → (which ≡ side) × (1 ≤ number) × (number ≤ store.old.core.records) }
     ensures no_source { result ≢ Err Halt.ReadFault }
+    ensures no_line { (number : ℕ) → result ≢ Err (Halt.BadLine number) }
     ensures no_sink { result ≢ Err Halt.WriteFault }
-    ensures left { D.seen store.new.left ≡ D.seen store.old.left }
-    ensures right { D.seen store.new.right ≡ D.seen store.old.right }
+    ensures left { Looked D.seen D.moment D.left_at store.old.left store.new.left }
+    ensures right { Looked D.seen D.moment D.left_at store.old.right store.new.right }
     ensures disks { DiskCause result (counts_of D.faults store.old.left store.old.right) (counts_of D.faults store.new.left store.new.right) }
 {
     match store.accepted() {
@@ -102,6 +105,7 @@ fn write_review<K: Sink>(
         → WritesText (reviewed limit commands.now) result (K.held out.old) (K.held out.new) × AuditHolds result s commands.now }
     ensures no_disk { result ≢ Err Halt.DiskFault }
     ensures no_source { result ≢ Err Halt.ReadFault }
+    ensures no_line { (number : ℕ) → result ≢ Err (Halt.BadLine number) }
     ensures sink { WriteCause result (K.faults out.old) (K.faults out.new) }
 {
     match review(alloc, limit, commands) {

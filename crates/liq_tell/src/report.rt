@@ -1,6 +1,6 @@
 //! Each trove and deposit that stands on two disks, told.
 
-ghost use Rattle.std.specs.Prelude.{◌≡◌, ◌≢◌, Ok, Err, IfOk};
+ghost use Rattle.std.specs.Prelude.{◌≡◌, ◌≢◌, ℕ, Ok, Err, IfOk};
 ghost use Rattle.liq_types.specs.State.{State};
 ghost use Rattle.liq_core.specs.Core.{StandsFor};
 ghost use Rattle.liq_ends.specs.Causes.{WriteCause};
@@ -20,6 +20,7 @@ pub fn write_report<K: Sink>(alloc: Global, protocol: &Protocol, out: &mut K) ->
     ensures written { (s : State) → StandsFor protocol.now s → WritesText (Ok (reported s)) result (K.held out.old) (K.held out.new) }
     ensures no_disk { result ≢ Err Halt.DiskFault }
     ensures no_source { result ≢ Err Halt.ReadFault }
+    ensures no_number { (number : ℕ) → (result ≢ Err (Halt.BadLine number)) × (result ≢ Err (Halt.Limit number)) × (result ≢ Err (Halt.Rotated number)) }
     ensures sink { WriteCause result (K.faults out.old) (K.faults out.new) }
 {
     let line = line_of(alloc, protocol)?;

@@ -1,6 +1,6 @@
 //! What stands on two disks, told.
 
-ghost use Rattle.std.specs.Prelude.{◌≡◌, ◌≢◌, ◌++◌, Ok, Err, OnOk, IfOk};
+ghost use Rattle.std.specs.Prelude.{◌≡◌, ◌≢◌, ◌++◌, ℕ, Ok, Err, OnOk, IfOk};
 ghost use Rattle.std.specs.String.{string_bytes};
 ghost use Rattle.liq_types.specs.declared.requests.Query.TheVariants.{Pools, System};
 ghost use Rattle.liq_types.specs.declared.requests.Request.TheVariants.{Ask};
@@ -25,6 +25,7 @@ pub fn write_standing<K: Sink>(alloc: Global, protocol: &Protocol, out: &mut K) 
     ensures written { (s : State) → StandsFor protocol.now s → WritesText (Ok (standing s)) result (K.held out.old) (K.held out.new) }
     ensures no_disk { result ≢ Err Halt.DiskFault }
     ensures no_source { result ≢ Err Halt.ReadFault }
+    ensures no_number { (number : ℕ) → (result ≢ Err (Halt.BadLine number)) × (result ≢ Err (Halt.Limit number)) × (result ≢ Err (Halt.Rotated number)) }
     ensures sink { WriteCause result (K.faults out.old) (K.faults out.new) }
 {
     let text = text_of(alloc, protocol)?;

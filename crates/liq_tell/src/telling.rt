@@ -1,10 +1,12 @@
 //! The words `state`, `report` and `audit`: a text of what is on two disks, told.
 
 ghost use Rattle.std.specs.Prelude.{◌≡◌, ◌≢◌, ◌≤◌, [], List, ℕ, Some, None, Ok, Err};
+ghost use Rattle.liq_outside.specs.Disk.{GoesOn};
 ghost use Rattle.liq_outside.specs.Faults.{Rose};
 ghost use Rattle.liq_types.specs.State.{State, opening_with};
 ghost use Rattle.liq_core.specs.Core.{StandsFor};
 ghost use Rattle.liq_journal.specs.declared.damage.Damage.{Damage};
+ghost use Rattle.liq_journal.specs.Looked.{Looked};
 ghost use Rattle.liq_journal.specs.Written.{Open, Written, found_on};
 ghost use Rattle.liq_pairs.specs.declared.side.Side.{Side};
 ghost use Rattle.liq_pairs.specs.Pair.{commands_on, state_on};
@@ -13,7 +15,7 @@ ghost use Rattle.liq_pairs.specs.Sides.{has_odd};
 ghost use Rattle.liq_store.specs.Causes.{counts_of};
 ghost use Rattle.liq_store.specs.Stored.{taken_disk};
 ghost use Rattle.liq_ends.specs.Causes.{DiskCause, LastCause, WriteCause};
-ghost use Rattle.liq_ends.specs.Disks.{DisksStay, EndsDamaged};
+ghost use Rattle.liq_ends.specs.Disks.{DisksStay, EndsDamaged, IsFaultOfTelling, LeavesOfRun};
 ghost use Rattle.liq_ends.specs.Output.{last};
 ghost use Rattle.liq_ends.specs.Stops.{Adds};
 ghost use Rattle.liq_tell.specs.Told.{EndsTelling, WritesTold};
@@ -55,6 +57,11 @@ pub fn tell_on<K: Sink, D: Disk>(
         → EndsTelling what start (commands_on l r) result.end
         (Rose (K.faults out.old) (K.faults out.new)) (K.held out.old) (K.held out.new)
         × DisksStay D.seen result.end l r start result.left result.right }
+    // What a crash at some moment may have left of both is that of an opening.
+    ensures past { (l r : List ℕ) → D.seen left ≡ Some l → D.seen right ≡ Some r
+        → (start : State) → state_on l r ≡ Ok start
+        → LeavesOfRun D.seen D.moment D.left_at left right (IsFaultOfTelling result.end) l r start []
+        result.left result.right }
     // Of damaged disks nothing is told.
     ensures damaged { (l r : List ℕ) → D.seen left ≡ Some l → D.seen right ≡ Some r
         → (side : Side) (damage : Damage) → state_on l r ≡ Err (side, damage)
@@ -62,8 +69,13 @@ pub fn tell_on<K: Sink, D: Disk>(
         × EndsDamaged D.seen side damage (Err halt) result.left result.right
         × Adds [] (last halt) (Rose (K.faults out.old) (K.faults out.new)) (K.held out.old) (K.held out.new) }
     ensures no_source { result.end ≢ Err Halt.ReadFault }
+    // It ends for no line of the input, and only an audit ends for a limit or the journal's generation.
+    ensures no_line { (number : ℕ) → result.end ≢ Err (Halt.BadLine number) }
+    ensures no_limit { what ≢ Told.Audit → (number : ℕ) → (result.end ≢ Err (Halt.Limit number)) × (result.end ≢ Err (Halt.Rotated number)) }
     ensures sink { LastCause result.end (K.faults out.old) (K.faults out.new) }
     ensures disks { DiskCause result.end (counts_of D.faults left right) (counts_of D.faults result.left result.right) }
+    ensures left_time { GoesOn D.moment D.left_at left result.left }
+    ensures right_time { GoesOn D.moment D.left_at right result.right }
 {
     let ending = tell(alloc, what, out, left, right);
     tell_last(out, ending.end);
@@ -76,12 +88,21 @@ fn tell<K: Sink, D: Disk>(alloc: Global, what: Told, out: &mut K, left: D, right
         → (start : State) → state_on l r ≡ Ok start
         → WritesTold what start (commands_on l r) result.end (K.held out.old) (K.held out.new)
         × DisksStay D.seen result.end l r start result.left result.right }
+    ensures past { (l r : List ℕ) → D.seen left ≡ Some l → D.seen right ≡ Some r
+        → (start : State) → state_on l r ≡ Ok start
+        → LeavesOfRun D.seen D.moment D.left_at left right (IsFaultOfTelling result.end) l r start []
+        result.left result.right }
     ensures damaged { (l r : List ℕ) → D.seen left ≡ Some l → D.seen right ≡ Some r
         → (side : Side) (damage : Damage) → state_on l r ≡ Err (side, damage)
         → (out.new ≡ out.old) × EndsDamaged D.seen side damage result.end result.left result.right }
     ensures no_source { result.end ≢ Err Halt.ReadFault }
+    // It ends for no line of the input, and only an audit ends for a limit or the journal's generation.
+    ensures no_line { (number : ℕ) → result.end ≢ Err (Halt.BadLine number) }
+    ensures no_limit { what ≢ Told.Audit → (number : ℕ) → (result.end ≢ Err (Halt.Limit number)) × (result.end ≢ Err (Halt.Rotated number)) }
     ensures sink { WriteCause result.end (K.faults out.old) (K.faults out.new) }
     ensures disks { DiskCause result.end (counts_of D.faults left right) (counts_of D.faults result.left result.right) }
+    ensures left_time { GoesOn D.moment D.left_at left result.left }
+    ensures right_time { GoesOn D.moment D.left_at right result.right }
 {
     commands_lead_to_the_state();
     journals_keep_their_limit();
@@ -107,10 +128,13 @@ fn write_told<K: Sink, D: Disk>(
         → StandsFor store.old.core s → 1 ≤ s.generation → (s.generation ≡ 1 → replay 1 (opening_with s.limit) w.commands ≡ Ok s)
         → WritesTold what s w.commands result (K.held out.old) (K.held out.new) }
     ensures no_source { result ≢ Err Halt.ReadFault }
+    // It ends for no line of the input, and only an audit ends for a limit or the journal's generation.
+    ensures no_line { (number : ℕ) → result ≢ Err (Halt.BadLine number) }
+    ensures no_limit { what ≢ Told.Audit → (number : ℕ) → (result ≢ Err (Halt.Limit number)) × (result ≢ Err (Halt.Rotated number)) }
     ensures sink { WriteCause result (K.faults out.old) (K.faults out.new) }
     // The disks are only looked at.
-    ensures left { D.seen store.new.left ≡ D.seen store.old.left }
-    ensures right { D.seen store.new.right ≡ D.seen store.old.right }
+    ensures left { Looked D.seen D.moment D.left_at store.old.left store.new.left }
+    ensures right { Looked D.seen D.moment D.left_at store.old.right store.new.right }
     ensures disks { DiskCause result
         (counts_of D.faults store.old.left store.old.right) (counts_of D.faults store.new.left store.new.right) }
 {

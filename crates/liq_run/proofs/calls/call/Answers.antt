@@ -1,9 +1,11 @@
-use Rattle.std.proofs.Common.{rules, subst, sym}
+use Rattle.std.proofs.Common.{rules, subst, sym, ◌∙◌}
 use Rattle.liq_core.specs.Core.{state_of}
 use Rattle.liq_store.specs.Keeping.{IsKeptAround}
 use Rattle.liq_store.specs.Stored.{Stored}
+use Rattle.liq_store.proofs.Past.{failing}
 use Rattle.liq_run.specs.Calls.{KeepsAround}
 use Rattle.liq_run.proofs.Faulted.{accepted_command, no_other, read_so}
+use Rattle.liq_run.proofs.Passing.{called, replied_past, stopped_past, waiting_past}
 use Rattle.liq_run.proofs.calls.call.Goals as goal
 
 pub unreachable-requires : goal.unreachable-requires
@@ -25,3 +27,29 @@ pub returns-in-DiskFault-clause-command : goal.returns-in-DiskFault-clause-comma
 returns-in-DiskFault-clause-command g c fault =
     let s = state_of c.args.store.now.core in
     accepted_command s c.args.request.now (c.in-DiskFault.ensures.step c.requires.going s (search (rules, c.protocols_stand.ensures))).1
+
+pub returns-in-Reply-clause-past : goal.returns-in-Reply-clause-past
+returns-in-Reply-clause-past g c ol or l r start requests past =
+    replied_past g.D.Disk.seen g.D.Disk.moment g.D.Disk.left_at g.met.D.Disk.seen_may_stay ol or l r start requests c.args.request.now c.args.store.now c.call-answer.new.self c.clear_changes.new.self
+    c.clear_changes.ensures.cleared c.clear_changes.ensures.order past c.in-Reply.reply (c.in-Reply.ensures.stops ∙ c.requires.going) (c.in-Reply.ensures.step c.requires.going) c.in-Reply.ensures.disks
+
+pub returns-in-NoMemory-clause-past : goal.returns-in-NoMemory-clause-past
+returns-in-NoMemory-clause-past g c ol or l r start requests past =
+    waiting_past g.D.Disk.seen g.D.Disk.moment g.D.Disk.left_at g.met.D.Disk.seen_may_stay ol or l r start requests c.args.request.now c.args.store.now c.call-answer.new.self c.clear_changes.new.self
+    c.clear_changes.ensures.cleared c.clear_changes.ensures.order past (c.in-NoMemory.ensures.stops ∙ c.requires.going) (c.in-NoMemory.ensures.step c.requires.going) c.in-NoMemory.ensures.disks
+
+pub returns-in-DiskFault-clause-past : goal.returns-in-DiskFault-clause-past
+returns-in-DiskFault-clause-past g c ol or l r start requests past =
+    let s = state_of c.args.store.now.core in
+    let command = failing s c.args.request.now c.call-answer.new.self.core (c.in-DiskFault.ensures.step c.requires.going s (search (rules, c.protocols_stand.ensures))) in
+    stopped_past g.D.Disk.seen g.D.Disk.moment g.D.Disk.left_at g.met.D.Disk.seen_may_stay ol or l r start requests c.args.request.now c.args.store.now c.call-answer.new.self c.clear_changes.new.self
+    c.clear_changes.ensures.cleared c.clear_changes.ensures.order past command.0 command.1 (c.in-DiskFault.ensures.step c.requires.going) c.in-DiskFault.ensures.disks
+
+pub returns-in-Reply-clause-time : goal.returns-in-Reply-clause-time
+returns-in-Reply-clause-time g c = called g.D.Disk.moment g.D.Disk.left_at g.D.Disk.seen c.args.store.now c.call-answer.new.self c.clear_changes.new.self c.args.request.now _ c.call-answer.ensures.disks c.clear_changes.ensures.cleared
+
+pub returns-in-NoMemory-clause-time : goal.returns-in-NoMemory-clause-time
+returns-in-NoMemory-clause-time g c = called g.D.Disk.moment g.D.Disk.left_at g.D.Disk.seen c.args.store.now c.call-answer.new.self c.clear_changes.new.self c.args.request.now _ c.call-answer.ensures.disks c.clear_changes.ensures.cleared
+
+pub returns-in-DiskFault-clause-time : goal.returns-in-DiskFault-clause-time
+returns-in-DiskFault-clause-time g c = called g.D.Disk.moment g.D.Disk.left_at g.D.Disk.seen c.args.store.now c.call-answer.new.self c.clear_changes.new.self c.args.request.now _ c.call-answer.ensures.disks c.clear_changes.ensures.cleared

@@ -11,8 +11,11 @@ returns-in-Err-clause-run g c bytes l r told told_l told_r start is =
     let held = g.K.Sink.held c.args.out.now in
     let unread = g.S.Source.left c.args.input.now in
     let fault = c.in-Err.fault in
-    subst (λ (e : Ending g.row.D.Denot). GivesBack g.D.Disk.seen start e.end bytes l r unread held held e.left e.right) (sym c.unopened.ensures)
-    (unopened_by g.D.Disk.seen g.D.Disk.faults fault.why fault.left fault.right c.args.left c.args.right c.in-Err.ensures.not_opened bytes l r unread held told told_l told_r start is)
+    let moment = g.D.Disk.moment in
+    let left_at = g.D.Disk.left_at in
+    subst (λ (e : Ending g.row.D.Denot). GivesBack g.D.Disk.seen moment left_at c.args.left c.args.right start e.end bytes l r unread held held e.left e.right) (sym c.unopened.ensures)
+    (unopened_by g.D.Disk.seen g.D.Disk.faults moment left_at fault.why fault.left fault.right c.args.left c.args.right c.in-Err.ensures.not_opened bytes l r unread held told told_l told_r start is
+    (c.in-Err.ensures.not_past l r start told_l told_r is))
 
 pub returns-clause-run : goal.returns-clause-run
 returns-clause-run g c bytes l r told told_l told_r start is =
@@ -25,9 +28,12 @@ returns-clause-run g c bytes l r told told_l told_r start is =
     let unread = g.S.Source.left ran.new.input in
     let before = g.K.Sink.held c.args.out.now in
     let now = g.K.Sink.held ran.new.out in
-    let ends = gives_back seen g.D.Disk.faults g.D.Disk.moment g.D.Disk.left_at store end bytes l r unread before now start ran.ensures.stopped c.close-left.ensures.order (ran.ensures.run start stands bytes told) in
-    subst (λ (left : g.row.D.Denot). GivesBack seen start end bytes l r unread before now left c.close-left.result.1) (sym c.close-left.ensures.left)
-    (subst (λ (right : g.row.D.Denot). GivesBack seen start end bytes l r unread before now store.left right) (sym c.close-left.ensures.right) ends)
+    let moment = g.D.Disk.moment in
+    let left_at = g.D.Disk.left_at in
+    let ends = gives_back seen g.D.Disk.faults moment left_at c.args.left c.args.right store end bytes l r unread before now start ran.ensures.stopped c.close-left.ensures.order
+    (ran.ensures.run start stands bytes told c.args.left c.args.right l r (c.in-Ok.ensures.past l r start told_l told_r is)) in
+    subst (λ (left : g.row.D.Denot). GivesBack seen moment left_at c.args.left c.args.right start end bytes l r unread before now left c.close-left.result.1) (sym c.close-left.ensures.left)
+    (subst (λ (right : g.row.D.Denot). GivesBack seen moment left_at c.args.left c.args.right start end bytes l r unread before now store.left right) (sym c.close-left.ensures.right) ends)
 
 pub returns-clause-damaged : goal.returns-clause-damaged
 returns-clause-damaged g c l r told_l told_r side damage is =

@@ -4,7 +4,7 @@ use Rattle.liq_serve.specs.Outside.{Outside}
 use Rattle.liq_ends.proofs.Causes.{write_no_fewer}
 use Rattle.liq_pairs.specs.Pair.{state_on}
 use Rattle.liq_scripts.specs.Output.{served as text_of}
-use Rattle.liq_serve.proofs.Served.{all_served, came_by, disk_cause, if_found, sink_cause, source_cause}
+use Rattle.liq_serve.proofs.Served.{all_served, came_by, disk_cause, if_found, never_rotated, sink_cause, source_cause}
 use Rattle.liq_ends.proofs.Opened.{state_formed}
 use Rattle.liq_ends.proofs.Shares.{all_shares}
 use Rattle.liq_serve.proofs.serve.serve_on.Goals as goal
@@ -23,7 +23,7 @@ returns-clause-served g c =
     let answered = served.answered in
     let before : Outside g.row.S.Denot g.row.K.Denot g.row.D.Denot = record { source = c.args.input.now; sink = start; left = c.args.left; right = c.args.right } in
     let after : Outside g.row.S.Denot g.row.K.Denot g.row.D.Denot = record { source = ran.new.input; sink = c.tell_last.new.out; left = ran.result.left; right = ran.result.right } in
-    let came = came_by g.S.Source.left g.S.Source.faults held faults g.D.Disk.seen g.D.Disk.faults before after served.asked served.history how answered ran.ensures.unread in
+    let came = came_by g.S.Source.left g.S.Source.faults held faults g.D.Disk.seen g.D.Disk.faults g.D.Disk.moment g.D.Disk.left_at before after served.asked served.history how answered ran.ensures.unread in
     record {
       asked = served.asked;
       history = served.history;
@@ -46,3 +46,6 @@ returns-clause-sink g c =
 
 pub returns-clause-disks : goal.returns-clause-disks
 returns-clause-disks g c = rw c.end_of-end.ensures (disk_cause c.serve_input-left.result.finish _ _ c.serve_input-left.ensures.disks)
+
+pub returns-clause-goes_on : goal.returns-clause-goes_on
+returns-clause-goes_on g c generation = rw c.end_of-end.ensures (never_rotated c.serve_input-left.result.finish generation)

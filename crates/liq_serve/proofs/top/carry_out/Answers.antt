@@ -7,6 +7,8 @@ use Rattle.liq_serve.proofs.Ran.{runs_to}
 use Rattle.liq_serve.proofs.Words.{IsRead, opens_first, telling_ends, word_ends}
 use Rattle.liq_serve.proofs.top.carry_out.Goals as goal
 use Rattle.liq_lines.proofs.Readings.{takes_none}
+use Rattle.liq_outside.proofs.Moments.{unmoved}
+use Rattle.liq_serve.proofs.StatusLaws.{audit_known, goes_on_known, state_known}
 use Rattle.liq_serve.proofs.Telling.{disks_unasked, source_unasked}
 
 pub returns-in-Run : goal.returns-in-Run
@@ -15,11 +17,19 @@ returns-in-Run g c words asks only =
     let before : Outside g.row.S.Denot g.row.K.Denot g.row.D.Denot = record { source = c.args.input.now; sink = c.args.out.now; left = c.args.left; right = c.args.right } in
     let after : Outside g.row.S.Denot g.row.K.Denot g.row.D.Denot = record { source = ran.new.input; sink = ran.new.out; left = ran.result.left; right = ran.result.right } in
     let read = subst (λ (w : Word). IsRead words w) c.in-Run.is (record { asks = asks; only = only }) in
-    word_ends g.S.Source.left g.S.Source.faults g.K.Sink.held g.K.Sink.faults g.D.Disk.seen g.D.Disk.faults before after words word.Run ran.result.end read
-    (opens_first g.S.Source.left g.S.Source.faults g.K.Sink.held g.K.Sink.faults g.D.Disk.seen g.D.Disk.faults before after ran.result.end _
-    (λ l r told_l told_r start is bytes told. runs_to g.S.Source.left g.S.Source.faults g.K.Sink.held g.K.Sink.faults g.D.Disk.seen g.D.Disk.faults before after start ran.result.end bytes l r (ran.ensures.run bytes l r told told_l told_r start is))
+    word_ends g.S.Source.left g.S.Source.faults g.K.Sink.held g.K.Sink.faults g.D.Disk.seen g.D.Disk.faults g.D.Disk.moment g.D.Disk.left_at before after words word.Run ran.result.end read
+    (opens_first g.S.Source.left g.S.Source.faults g.K.Sink.held g.K.Sink.faults g.D.Disk.seen g.D.Disk.faults g.D.Disk.moment g.D.Disk.left_at before after ran.result.end _
+    (λ l r told_l told_r start is bytes told. runs_to g.S.Source.left g.S.Source.faults g.K.Sink.held g.K.Sink.faults g.D.Disk.seen g.D.Disk.faults g.D.Disk.moment g.D.Disk.left_at before after start ran.result.end bytes l r (ran.ensures.run bytes l r told told_l told_r start is))
     ran.ensures.damaged)
-    (record { source = ran.ensures.source; sink = ran.ensures.sink; disks = ran.ensures.disks }) ran.ensures.few
+    (record {
+      source = ran.ensures.source;
+      sink = ran.ensures.sink;
+      disks = ran.ensures.disks;
+      status = goes_on_known ran.result.end ran.ensures.goes_on;
+      left_time = ran.ensures.left_time;
+      right_time = ran.ensures.right_time;
+    })
+    ran.ensures.few
 
 pub returns-in-State : goal.returns-in-State
 returns-in-State g c words asks only =
@@ -27,8 +37,9 @@ returns-in-State g c words asks only =
     let before : Outside g.row.S.Denot g.row.K.Denot g.row.D.Denot = record { source = c.args.input.now; sink = c.args.out.now; left = c.args.left; right = c.args.right } in
     let after : Outside g.row.S.Denot g.row.K.Denot g.row.D.Denot = record { source = c.args.input.now; sink = ran.new.out; left = ran.result.left; right = ran.result.right } in
     let read = subst (λ (w : Word). IsRead words w) c.in-State.is (record { asks = asks; only = only }) in
-    telling_ends g.S.Source.left g.S.Source.faults g.K.Sink.held g.K.Sink.faults g.D.Disk.seen g.D.Disk.faults before after words word.State ran.result.end _ read
-    (λ leaves. leaves) refl (λ l r told_l told_r start is. let so = ran.ensures.told l r told_l told_r start is in (so.0.0, so.0.1, so.1)) ran.ensures.damaged ran.ensures.no_source ran.ensures.sink ran.ensures.disks
+    telling_ends g.S.Source.left g.S.Source.faults g.K.Sink.held g.K.Sink.faults g.D.Disk.seen g.D.Disk.faults g.D.Disk.moment g.D.Disk.left_at before after words word.State ran.result.end _ read
+    (λ leaves. leaves) refl (λ l r told_l told_r start is. let so = ran.ensures.told l r told_l told_r start is in (so.0.0, so.0.1, so.1)) ran.ensures.damaged
+    (state_known ran.result.end ran.ensures.no_source ran.ensures.no_line (ran.ensures.no_limit (λ e. cc))) ran.ensures.no_source ran.ensures.sink ran.ensures.disks ran.ensures.left_time ran.ensures.right_time
 
 pub returns-in-Report : goal.returns-in-Report
 returns-in-Report g c words asks only =
@@ -36,8 +47,9 @@ returns-in-Report g c words asks only =
     let before : Outside g.row.S.Denot g.row.K.Denot g.row.D.Denot = record { source = c.args.input.now; sink = c.args.out.now; left = c.args.left; right = c.args.right } in
     let after : Outside g.row.S.Denot g.row.K.Denot g.row.D.Denot = record { source = c.args.input.now; sink = ran.new.out; left = ran.result.left; right = ran.result.right } in
     let read = subst (λ (w : Word). IsRead words w) c.in-Report.is (record { asks = asks; only = only }) in
-    telling_ends g.S.Source.left g.S.Source.faults g.K.Sink.held g.K.Sink.faults g.D.Disk.seen g.D.Disk.faults before after words word.Report ran.result.end _ read
-    (λ leaves. leaves) refl (λ l r told_l told_r start is. let so = ran.ensures.told l r told_l told_r start is in (so.0.0, so.0.1, so.1)) ran.ensures.damaged ran.ensures.no_source ran.ensures.sink ran.ensures.disks
+    telling_ends g.S.Source.left g.S.Source.faults g.K.Sink.held g.K.Sink.faults g.D.Disk.seen g.D.Disk.faults g.D.Disk.moment g.D.Disk.left_at before after words word.Report ran.result.end _ read
+    (λ leaves. leaves) refl (λ l r told_l told_r start is. let so = ran.ensures.told l r told_l told_r start is in (so.0.0, so.0.1, so.1)) ran.ensures.damaged
+    (state_known ran.result.end ran.ensures.no_source ran.ensures.no_line (ran.ensures.no_limit (λ e. cc))) ran.ensures.no_source ran.ensures.sink ran.ensures.disks ran.ensures.left_time ran.ensures.right_time
 
 pub returns-in-Audit : goal.returns-in-Audit
 returns-in-Audit g c words asks only =
@@ -45,8 +57,9 @@ returns-in-Audit g c words asks only =
     let before : Outside g.row.S.Denot g.row.K.Denot g.row.D.Denot = record { source = c.args.input.now; sink = c.args.out.now; left = c.args.left; right = c.args.right } in
     let after : Outside g.row.S.Denot g.row.K.Denot g.row.D.Denot = record { source = c.args.input.now; sink = ran.new.out; left = ran.result.left; right = ran.result.right } in
     let read = subst (λ (w : Word). IsRead words w) c.in-Audit.is (record { asks = asks; only = only }) in
-    telling_ends g.S.Source.left g.S.Source.faults g.K.Sink.held g.K.Sink.faults g.D.Disk.seen g.D.Disk.faults before after words word.Audit ran.result.end _ read
-    (λ leaves. leaves) refl ran.ensures.told ran.ensures.damaged ran.ensures.no_source ran.ensures.sink ran.ensures.disks
+    telling_ends g.S.Source.left g.S.Source.faults g.K.Sink.held g.K.Sink.faults g.D.Disk.seen g.D.Disk.faults g.D.Disk.moment g.D.Disk.left_at before after words word.Audit ran.result.end _ read
+    (λ leaves. leaves) refl ran.ensures.told ran.ensures.damaged
+    (audit_known ran.result.end ran.ensures.no_source ran.ensures.no_line) ran.ensures.no_source ran.ensures.sink ran.ensures.disks ran.ensures.left_time ran.ensures.right_time
 
 pub returns-in-Gen : goal.returns-in-Gen
 returns-in-Gen g c words asks only =
@@ -54,9 +67,16 @@ returns-in-Gen g c words asks only =
     let before : Outside g.row.S.Denot g.row.K.Denot g.row.D.Denot = record { source = c.args.input.now; sink = c.args.out.now; left = c.args.left; right = c.args.right } in
     let after : Outside g.row.S.Denot g.row.K.Denot g.row.D.Denot = record { source = c.args.input.now; sink = ran.new.out; left = c.args.left; right = c.args.right } in
     let read = subst (λ (w : Word). IsRead words w) c.in-Gen.is (record { asks = asks; only = only }) in
-    word_ends g.S.Source.left g.S.Source.faults g.K.Sink.held g.K.Sink.faults g.D.Disk.seen g.D.Disk.faults before after words (word.Gen c.in-Gen.seed c.in-Gen.count) ran.result read
+    word_ends g.S.Source.left g.S.Source.faults g.K.Sink.held g.K.Sink.faults g.D.Disk.seen g.D.Disk.faults g.D.Disk.moment g.D.Disk.left_at before after words (word.Gen c.in-Gen.seed c.in-Gen.count) ran.result read
     (refl, ran.ensures.ends, ran.ensures.told)
-    (record { source = source_unasked ran.result _ ran.ensures.ends; sink = ran.ensures.sink; disks = disks_unasked ran.result _ ran.ensures.ends })
+    (record {
+      source = source_unasked ran.result _ ran.ensures.ends;
+      sink = ran.ensures.sink;
+      disks = disks_unasked ran.result _ ran.ensures.ends;
+      status = ran.ensures.ends;
+      left_time = unmoved g.D.Disk.moment g.D.Disk.left_at c.args.left;
+      right_time = unmoved g.D.Disk.moment g.D.Disk.left_at c.args.right;
+    })
     (takes_none (g.S.Source.left c.args.input.now))
 
 pub tell_load-end-requires-clause-few : goal.tell_load-end-requires-clause-few

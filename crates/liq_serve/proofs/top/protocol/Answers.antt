@@ -5,6 +5,7 @@ use Rattle.liq_words.specs.declared.words.Word.TheVariants.{Serve}
 use Rattle.liq_serve.specs.Outside.{Outside}
 use Rattle.liq_serve.specs.Top.{Ends}
 use Rattle.liq_serve.specs.declared.top.Ended.{Ended}
+use Rattle.liq_serve.proofs.StatusLaws.{goes_on_known}
 use Rattle.liq_serve.proofs.Words.{is_read, word_ends}
 use Rattle.liq_serve.proofs.top.protocol.Goals as goal
 
@@ -14,7 +15,14 @@ returns-then-is_serve g c =
     let before : Outside g.row.S.Denot g.row.K.Denot g.row.D.Denot = record { source = c.args.input.now; sink = c.args.out.now; left = c.args.left; right = c.args.right } in
     let ran = c.serve_on in
     let read = is_read words c.read_words-read.result Serve (c.is_serve.ensures.0 c.if-is_serve.true) c.read_words-read.ensures.word c.read_words-read.ensures.only in
-    subst (λ (e : Ended g.row.D.Denot). Ends g.S.Source.left g.S.Source.faults g.K.Sink.held g.K.Sink.faults g.D.Disk.seen g.D.Disk.faults before (record { source = ran.new.input; sink = ran.new.out; left = e.left; right = e.right }) e.status words)
+    subst (λ (e : Ended g.row.D.Denot). Ends g.S.Source.left g.S.Source.faults g.K.Sink.held g.K.Sink.faults g.D.Disk.seen g.D.Disk.faults g.D.Disk.moment g.D.Disk.left_at before (record { source = ran.new.input; sink = ran.new.out; left = e.left; right = e.right }) e.status words)
     (sym c.with_status.ensures)
-    (word_ends g.S.Source.left g.S.Source.faults g.K.Sink.held g.K.Sink.faults g.D.Disk.seen g.D.Disk.faults before _ words Serve ran.result.end read
-    ran.ensures.served (record { source = ran.ensures.source; sink = ran.ensures.sink; disks = ran.ensures.disks }) ran.ensures.takes)
+    (word_ends g.S.Source.left g.S.Source.faults g.K.Sink.held g.K.Sink.faults g.D.Disk.seen g.D.Disk.faults g.D.Disk.moment g.D.Disk.left_at before _ words Serve ran.result.end read
+    ran.ensures.served (record {
+      source = ran.ensures.source;
+      sink = ran.ensures.sink;
+      disks = ran.ensures.disks;
+      status = goes_on_known ran.result.end ran.ensures.goes_on;
+      left_time = ran.ensures.left_time;
+      right_time = ran.ensures.right_time;
+    }) ran.ensures.takes)

@@ -2,7 +2,9 @@ use Rattle.std.proofs.Common.{◌≡◌, [], ◌∷◌, ◌+◌, Result, arith, 
 use Rattle.liq_types.specs.declared.amounts.TheConstants.{LINES_MOST}
 use Rattle.liq_ends.specs.declared.halts.Halt.{Halt}
 use Rattle.liq_run.specs.Calls.{KeepsAround}
+use Rattle.liq_run.specs.Passing.{IsPastOf, IsStoppedPastOf}
 use Rattle.liq_run.specs.Progress.{Comes}
+use Rattle.liq_run.proofs.Passing.{behind, same_past, still}
 use Rattle.liq_run.proofs.Residual.{handed_on}
 use Rattle.liq_run.proofs.Turning.{opened, answered_on, answered_cut, reading_fails, reading_ends, limit_halts}
 use Rattle.liq_run.proofs.run.Run.answer_lines.Goals as goal
@@ -10,7 +12,8 @@ use Rattle.liq_lines.proofs.Readings.{few_begins, few_behind, few_in_all}
 
 pub loop-answered-init : goal.loop-answered-init
 loop-answered-init g c = record {
-  answered = λ start stands bytes told. opened start bytes c.args.self.now.reader c.args.self.now.waiting.items c.args.self.now.store.core (g.S.Source.left c.args.input.now) (g.K.Sink.held c.args.out.now) stands c.requires.unread c.requires.waiting told;
+  answered = λ start stands bytes told ol or l r past. opened start bytes c.args.self.now.reader c.args.self.now.waiting.items c.args.self.now.store.core (g.S.Source.left c.args.input.now) (g.K.Sink.held c.args.out.now) _ stands c.requires.unread c.requires.waiting told past;
+  time = still g.D.Disk.moment g.D.Disk.left_at c.args.self.now.store;
   few = few_begins (g.S.Source.left c.args.input.now) c.args.self.now.reader c.requires.unread;
   going = c.requires.going;
   disks_count = refl;
@@ -19,12 +22,13 @@ loop-answered-init g c = record {
 }
 
 pub returns-then-not-branch-clause-run : goal.returns-then-not-branch-clause-run
-returns-then-not-branch-clause-run g c start stands bytes told =
-    (rw c.if-not-branch.true at c.in_ok-turn.ensures.turn) start bytes (g.K.Sink.held c.args.out.now) (c.loop-answered.invariant.answered start stands bytes told)
+returns-then-not-branch-clause-run g c start stands bytes told ol or l r past =
+    (rw c.if-not-branch.true at c.in_ok-turn.ensures.turn) start bytes (g.K.Sink.held c.args.out.now) ol or l r (c.loop-answered.invariant.answered start stands bytes told ol or l r past)
 
 pub loop-answered-preserved : goal.loop-answered-preserved
 loop-answered-preserved g c = record {
-  answered = λ start stands bytes told. (rw c.if-not-branch.false at c.in_ok-turn.ensures.turn) start bytes (g.K.Sink.held c.args.out.now) (c.loop-answered.invariant.answered start stands bytes told);
+  answered = λ start stands bytes told ol or l r past. (rw c.if-not-branch.false at c.in_ok-turn.ensures.turn) start bytes (g.K.Sink.held c.args.out.now) ol or l r (c.loop-answered.invariant.answered start stands bytes told ol or l r past);
+  time = behind g.D.Disk.moment g.D.Disk.left_at _ _ _ c.loop-answered.invariant.time c.turn.ensures.time;
   few = c.turn.ensures.few (g.S.Source.left c.args.input.now) c.loop-answered.invariant.few;
   going = c.in_ok-turn.ensures.stopped;
   disks_count = c.in_ok-turn.ensures.disks ∙ c.loop-answered.invariant.disks_count;
@@ -33,31 +37,32 @@ loop-answered-preserved g c = record {
 }
 
 pub returns-in_err-flush-clause-run : goal.returns-in_err-flush-clause-run
-returns-in_err-flush-clause-run g c start stands bytes told =
+returns-in_err-flush-clause-run g c start stands bytes told ol or l r past =
     let left = g.S.Source.left c.loop-answered.input in
     let held = g.K.Sink.held in
     let halt = c.in_err-flush.field-0.0 in
-    subst (λ (end : Result (Unit {0}) Halt). Comes start end c.loop-answered.self.store.core (KeepsAround g.D.Disk.seen c.loop-answered.self.store.left c.loop-answered.self.store.right) bytes left c.flush.new.waiting.items (held c.args.out.now) (held c.flush.new.out)) (sym (handed_on c.from_residual-in_err-flush.result halt c.from_residual-in_err-flush.ensures.1))
-    (answered_cut start _ halt bytes c.loop-answered.answered _ _ left _ c.flush.new.waiting.items _ _ _ (omega (arith, c.loop-answered.auto.answered-end)) (c.loop-answered.invariant.answered start stands bytes told) c.in_err-flush.ensures.written)
+    subst (λ (end : Result (Unit {0}) Halt). Comes start end c.loop-answered.self.store.core (λ requests. IsPastOf g.D.Disk.seen g.D.Disk.moment g.D.Disk.left_at ol or l r start requests c.loop-answered.self.store)
+    (KeepsAround g.D.Disk.seen c.loop-answered.self.store.left c.loop-answered.self.store.right) (λ requests request. IsStoppedPastOf g.D.Disk.seen g.D.Disk.moment g.D.Disk.left_at ol or l r start requests request c.loop-answered.self.store) bytes left c.flush.new.waiting.items (held c.args.out.now) (held c.flush.new.out)) (sym (handed_on c.from_residual-in_err-flush.result halt c.from_residual-in_err-flush.ensures.1))
+    (answered_cut start _ _ _ (same_past g.D.Disk.seen g.D.Disk.moment g.D.Disk.left_at g.met.D.Disk.seen_may_stay ol or l r start c.loop-answered.self.store) halt bytes c.loop-answered.answered _ _ left _ c.flush.new.waiting.items _ _ _ (omega (arith, c.loop-answered.auto.answered-end)) (c.loop-answered.invariant.answered start stands bytes told ol or l r past) c.in_err-flush.ensures.written)
 
 pub returns-in-Ok-None-clause-run : goal.returns-in-Ok-None-clause-run
-returns-in-Ok-None-clause-run g c start stands bytes told =
-    let a = answered_on start bytes c.loop-answered.answered _ _ _ c.flush.new.waiting.items (g.K.Sink.held c.args.out.now) _ (g.K.Sink.held c.flush.new.out) (c.loop-answered.invariant.answered start stands bytes told) c.in_ok-flush.ensures.written in
+returns-in-Ok-None-clause-run g c start stands bytes told ol or l r past =
+    let a = answered_on start bytes c.loop-answered.answered _ _ _ c.flush.new.waiting.items (g.K.Sink.held c.args.out.now) _ (g.K.Sink.held c.flush.new.out) _ (c.loop-answered.invariant.answered start stands bytes told ol or l r past) c.in_ok-flush.ensures.written in
     let over = rw c.in-Ok-None.field-0-is at c.in-Ok-None.ensures.byte in
-    reading_ends start _ bytes c.next_byte.new.self c.loop-answered.answered _ _ (g.S.Source.left c.next_byte.new.input) _ _ _ (omega (arith, c.loop-answered.auto.answered-end)) over.0 over.1 a
+    reading_ends start _ _ _ bytes c.next_byte.new.self c.loop-answered.answered _ _ (g.S.Source.left c.next_byte.new.input) _ _ _ (omega (arith, c.loop-answered.auto.answered-end)) over.0 over.1 a
 
 pub returns-in-Ok-Some-clause-run : goal.returns-in-Ok-Some-clause-run
-returns-in-Ok-Some-clause-run g c start stands bytes told =
-    let a = answered_on start bytes c.loop-answered.answered _ _ _ c.flush.new.waiting.items (g.K.Sink.held c.args.out.now) _ (g.K.Sink.held c.flush.new.out) (c.loop-answered.invariant.answered start stands bytes told) c.in_ok-flush.ensures.written in
+returns-in-Ok-Some-clause-run g c start stands bytes told ol or l r past =
+    let a = answered_on start bytes c.loop-answered.answered _ _ _ c.flush.new.waiting.items (g.K.Sink.held c.args.out.now) _ (g.K.Sink.held c.flush.new.out) _ (c.loop-answered.invariant.answered start stands bytes told ol or l r past) c.in_ok-flush.ensures.written in
     let read = rw c.in-Ok-Some.field-0-is at c.in-Ok-Some.ensures.byte in
     let full : c.loop-answered.answered ≡ LINES_MOST = omega (arith, c.loop-answered-test.false, c.loop-answered.auto.answered-end) in
-    limit_halts start _ bytes c.loop-answered.answered _ _ _ _ (g.S.Source.left c.next_byte.new.input) _ _ _ c.from.result c.from.ensures full read a
+    limit_halts start _ _ _ bytes c.loop-answered.answered _ _ _ _ (g.S.Source.left c.next_byte.new.input) _ _ _ c.from.result c.from.ensures full read a
 
 pub returns-in-Err-clause-run : goal.returns-in-Err-clause-run
-returns-in-Err-clause-run g c start stands bytes told =
-    let a = answered_on start bytes c.loop-answered.answered _ _ _ c.flush.new.waiting.items (g.K.Sink.held c.args.out.now) _ (g.K.Sink.held c.flush.new.out) (c.loop-answered.invariant.answered start stands bytes told) c.in_ok-flush.ensures.written in
+returns-in-Err-clause-run g c start stands bytes told ol or l r past =
+    let a = answered_on start bytes c.loop-answered.answered _ _ _ c.flush.new.waiting.items (g.K.Sink.held c.args.out.now) _ (g.K.Sink.held c.flush.new.out) _ (c.loop-answered.invariant.answered start stands bytes told ol or l r past) c.in_ok-flush.ensures.written in
     let failed = c.in-Err.ensures.failed in
-    reading_fails start _ bytes c.next_byte.new.self c.loop-answered.answered _ _ (g.S.Source.left c.next_byte.new.input) _ _ _ (omega (arith, c.loop-answered.auto.answered-end)) ([], tt, failed.0, failed.1, omega arith) (λ e. refl) a
+    reading_fails start _ _ _ bytes c.next_byte.new.self c.loop-answered.answered _ _ (g.S.Source.left c.next_byte.new.input) _ _ _ (omega (arith, c.loop-answered.auto.answered-end)) ([], tt, failed.0, failed.1, omega arith) (λ e. refl) a
 
 -- ---- what is taken
 
