@@ -15,7 +15,8 @@ use Rattle.liq_rules.proofs.AlikeReads.{Alike, balance_alike, gain_alike, sums_b
 use Rattle.liq_rules.proofs.AlikeReplies.{answer_alike}
 use Rattle.liq_report.specs.Report.{deposit_text, deposits_text, pool_text, report_text, system_text, trove_text, troves_text}
 use Rattle.liq_report.specs.Texts.{list_text, object_text, string_text}
-use Rattle.liq_report.proofs.Written.{words_text}
+use Rattle.liq_report.specs.declared.objects.Totals.{Totals}
+use Rattle.liq_report.proofs.Written.{totals_text}
 
 map_alike : (f g : ℕ → List ℕ) → ((n : ℕ) → f n ≡ g n) → (ns : List ℕ) → map f ns ≡ map g ns
 map_alike f g same [] = refl
@@ -24,6 +25,22 @@ map_alike f g same (n ∷ ns) = ap₂ (λ (t : List ℕ) (ts : List (List ℕ)).
 told_words : Reply → List ℕ
 told_words (Told (info.System words)) = words
 told_words _ = []
+
+-- ten words by their names, from where `system` has them
+abbrev named : List ℕ → Totals
+named words =
+    record {
+      price = get_or words 0 0;
+      minute = get_or words 1 0;
+      base = get_or words 2 0;
+      fee_minute = get_or words 3 0;
+      mode = get_or words 4 0;
+      troves = get_or words 5 0;
+      stakes = get_or words 6 0;
+      coll = get_or words 7 0;
+      debt = get_or words 8 0;
+      records = get_or words 9 0;
+    }
 
 module _ {s t : State} (h : Alike s t) where
   deposit_alike : (account : ℕ) → deposit_text s account ≡ deposit_text t account
@@ -46,7 +63,7 @@ module _ {s t : State} (h : Alike s t) where
 
   totals_alike : system_text s ≡ system_text t
   unfolding told_words
-  totals_alike = ap (λ (reply : Reply). words_text (told_words reply)) (answer_alike h query.System)
+  totals_alike = ap (λ (reply : Reply). totals_text (named (told_words reply))) (answer_alike h query.System)
 
   pub report_alike : report_text s ≡ report_text t
   unfolding report_text

@@ -1,6 +1,6 @@
 -- The rows of an image stand in the tables of its state, and what the protocol tells of them.
 use Rattle.std.proofs.Common.{◌≡◌, ℕ, ◌<◌, Bool, true, false, cond, List, [], ◌∷◌, Option, Some, None, refl, sym, ap, subst, ◌∙◌, arith}
-use Rattle.std.specs.Prelude.{map, option_map, nat_le}
+use Rattle.std.specs.Prelude.{map, option_map, nat_le, if◌then◌else◌}
 use Rattle.std.specs.List.{AllByRecursion}
 use Rattle.std.specs.List.Sorted.{IsStrictlySortedBy}
 use Rattle.std.specs.Map.{keys_of}
@@ -15,7 +15,8 @@ use Rattle.liq_types.specs.declared.figures.Deposit.{Deposit}
 use Rattle.liq_types.specs.declared.image.DepositRow.{DepositRow}
 use Rattle.liq_types.specs.declared.image.TroveRow.{TroveRow}
 use Rattle.liq_types.specs.declared.replies.Info.TheVariants as info
-use Rattle.liq_types.specs.declared.replies.Reply.TheVariants.{Told}
+use Rattle.liq_types.specs.declared.replies.Refusal.TheVariants.{AccountRange}
+use Rattle.liq_types.specs.declared.replies.Reply.TheVariants.{Told, No}
 use Rattle.liq_types.specs.declared.requests.Query.TheVariants as query
 use Rattle.liq_types.specs.ImageRows as rows
 use Rattle.liq_types.specs.State.{State, DepositEntry}
@@ -26,7 +27,7 @@ use Rattle.liq_troves.specs.Rows.{entire_by}
 use Rattle.liq_troves.specs.StakeSums.{sums_words, trove_row, trove_rows}
 use Rattle.liq_stability.specs.Position.{balance_of, gain_of, deposit_row, deposit_rows}
 use Rattle.liq_rules.specs.Image.{image}
-use Rattle.liq_rules.specs.Queries.{answer, deposit_info, unless_out_of_range}
+use Rattle.liq_rules.specs.Queries.{answer, deposit_info}
 use Rattle.liq_rules.proofs.AlikeReplies.{trove_told, trove_told_at}
 use Rattle.liq_soundness.specs.SoundState.{IsSoundState}
 use Rattle.liq_soundness.proofs.SoundFacts.{KeysBelow}
@@ -109,7 +110,7 @@ below account l = grind (arith, nat_tests, l)
 
 pub deposit_told : (s : State) (account : ℕ) → HasDeposit s account → answer s (query.Deposit account) ≡ Told (info.Deposit (balance_of s account) (gain_of s account))
 deposit_told s account h =
-    ap (λ b. cond b (unless_out_of_range ACCOUNTS (Told info.NoDeposit)) (Told (deposit_info s account (at s.deposits account)))) (below account h.0)
+    ap (λ (b : Bool). if b then No (AccountRange account) else Told (deposit_info s account (at s.deposits account))) (below account h.0)
     ∙ ap (λ (o : Option DepositEntry). Told (deposit_info s account o)) h.1.1
 
 pub trove_told_of : (s : State) (r : TroveRow) → HasTrove s r

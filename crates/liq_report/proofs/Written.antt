@@ -11,6 +11,7 @@ use Rattle.serde_json.specs.View.{items_of, items_view, view}
 use Rattle.serde_json.specs.Written.{compact_text, has_float, items_have_float, items_text, members_text}
 use Rattle.serde_json.specs.declared.value.Value.{Value}
 use Rattle.serde_json.proofs.OnLiterals.{serde_json_on_literals}
+use Rattle.liq_report.specs.declared.objects.Totals.{Totals}
 use Rattle.liq_report.specs.Texts.{list_text, object_text, string_text}
 use Rattle.liq_report.specs.Values.{HasText}
 
@@ -136,38 +137,37 @@ unfolding serde_json_on_literals
 trove_written account coll debt stake =
     object_written (codes "account", count account) ((codes "coll", count coll) ∷ (codes "debt", count debt) ∷ (codes "stake", count stake) ∷ [])
 
--- the ten words by their names, from where `system` has them
-pub words_text : List ℕ → List ℕ
-words_text words = object_text (
-    (codes "base", decimal (get_or words 2 0))
-    ∷ (codes "coll", decimal (get_or words 7 0))
-    ∷ (codes "debt", decimal (get_or words 8 0))
-    ∷ (codes "fee_minute", decimal (get_or words 3 0))
-    ∷ (codes "minute", decimal (get_or words 1 0))
-    ∷ (codes "mode", decimal (get_or words 4 0))
-    ∷ (codes "price", decimal (get_or words 0 0))
-    ∷ (codes "records", decimal (get_or words 9 0))
-    ∷ (codes "stakes", decimal (get_or words 6 0))
-    ∷ (codes "troves", decimal (get_or words 5 0)) ∷ [])
+abbrev pub totals_text : Totals → List ℕ
+totals_text t = object_text (
+    (codes "base", decimal t.base)
+    ∷ (codes "coll", decimal t.coll)
+    ∷ (codes "debt", decimal t.debt)
+    ∷ (codes "fee_minute", decimal t.fee_minute)
+    ∷ (codes "minute", decimal t.minute)
+    ∷ (codes "mode", decimal t.mode)
+    ∷ (codes "price", decimal t.price)
+    ∷ (codes "records", decimal t.records)
+    ∷ (codes "stakes", decimal t.stakes)
+    ∷ (codes "troves", decimal t.troves) ∷ [])
 
-pub system_written : (words : List ℕ) → compact_text (object
-    (member (codes "base") (count (get_or words 2 0)) (member (codes "coll") (count (get_or words 7 0)) (member (codes "debt") (count (get_or words 8 0))
-    (member (codes "fee_minute") (count (get_or words 3 0)) (member (codes "minute") (count (get_or words 1 0)) (member (codes "mode") (count (get_or words 4 0))
-    (member (codes "price") (count (get_or words 0 0)) (member (codes "records") (count (get_or words 9 0)) (member (codes "stakes") (count (get_or words 6 0))
-    (member (codes "troves") (count (get_or words 5 0)) no_members)))))))))))
-    ≡ words_text words
-unfolding serde_json_on_literals words_text
-system_written words =
-    object_written (codes "base", count (get_or words 2 0)) (
-      (codes "coll", count (get_or words 7 0))
-      ∷ (codes "debt", count (get_or words 8 0))
-      ∷ (codes "fee_minute", count (get_or words 3 0))
-      ∷ (codes "minute", count (get_or words 1 0))
-      ∷ (codes "mode", count (get_or words 4 0))
-      ∷ (codes "price", count (get_or words 0 0))
-      ∷ (codes "records", count (get_or words 9 0))
-      ∷ (codes "stakes", count (get_or words 6 0))
-      ∷ (codes "troves", count (get_or words 5 0)) ∷ [])
+pub totals_written : (t : Totals) → compact_text (object
+    (member (codes "base") (count t.base) (member (codes "coll") (count t.coll) (member (codes "debt") (count t.debt)
+    (member (codes "fee_minute") (count t.fee_minute) (member (codes "minute") (count t.minute) (member (codes "mode") (count t.mode)
+    (member (codes "price") (count t.price) (member (codes "records") (count t.records) (member (codes "stakes") (count t.stakes)
+    (member (codes "troves") (count t.troves) no_members)))))))))))
+    ≡ totals_text t
+unfolding serde_json_on_literals
+totals_written t =
+    object_written (codes "base", count t.base) (
+    (codes "coll", count t.coll)
+    ∷ (codes "debt", count t.debt)
+    ∷ (codes "fee_minute", count t.fee_minute)
+    ∷ (codes "minute", count t.minute)
+    ∷ (codes "mode", count t.mode)
+    ∷ (codes "price", count t.price)
+    ∷ (codes "records", count t.records)
+    ∷ (codes "stakes", count t.stakes)
+    ∷ (codes "troves", count t.troves) ∷ [])
 
 pub pool_written : (epoch p scale sum : ℕ) → p < 2 ^ 128 → sum < 2 ^ 128
     → compact_text (object (member (codes "epoch") (count epoch) (member (codes "p") (string (decimal p)) (member (codes "scale") (count scale) (member (codes "sum") (string (decimal sum)) no_members)))))

@@ -1,11 +1,14 @@
--- A value in JSON and its text, and which rows of an image stand in a protocol's tables.
+-- A value in JSON and its text, which rows of an image stand in a state's tables, and a state's totals by their names.
 use Rattle.std.specs.Prelude.{ℕ, ◌≡◌, ◌<◌, List, Some, false}
 use Rattle.liq_types.specs.declared.amounts.TheConstants.{ACCOUNTS}
 use Rattle.liq_types.specs.declared.image.TroveRow.{TroveRow}
 use Rattle.liq_types.specs.ImageRows.{trove_row}
 use Rattle.liq_types.specs.State.{State, DepositEntry}
 use Rattle.liq_types.specs.Tables.{at}
+use Rattle.liq_types.specs.Totals.{stakes_of, total_coll, total_debt, trove_count}
 use Rattle.liq_troves.specs.StakeSums.{trove_rows}
+use Rattle.liq_rules.specs.Queries.{mode}
+use Rattle.liq_report.specs.declared.objects.Totals.{Totals}
 use Rattle.serde_json.specs.declared.value.Value.{Value}
 use Rattle.serde_json.specs.View.{view}
 use Rattle.serde_json.specs.Written.{compact_text, has_float}
@@ -21,3 +24,18 @@ HasDeposit s account = (account < ACCOUNTS) × ((d : DepositEntry) × (at s.depo
 -- the account has this trove
 abbrev pub HasTrove : State → TroveRow → Type 0
 HasTrove s row = (row.account < ACCOUNTS) × (at (trove_rows s) row.account ≡ Some (trove_row row).1)
+
+abbrev pub totals_of : State → Totals
+totals_of s =
+    record {
+      price = s.price;
+      minute = s.minute;
+      base = s.base;
+      fee_minute = s.fee_minute;
+      mode = mode s;
+      troves = trove_count s;
+      stakes = stakes_of s;
+      coll = total_coll s;
+      debt = total_debt s;
+      records = s.records;
+    }

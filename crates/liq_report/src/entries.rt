@@ -40,11 +40,7 @@ pub fn deposits(
 }
 
 /// The troves of these rows, with their entire amounts of now.
-pub fn troves(
-    alloc: Global,
-    protocol: &Protocol,
-    rows: &[TroveRow],
-) -> Result<Value, AllocError>
+pub fn troves(alloc: Global, protocol: &Protocol, rows: &[TroveRow]) -> Result<Value, AllocError>
     requires { AllByRecursion (HasTrove (state_of protocol.now)) rows.now }
     ensures { IfOk result (HasText (list_text
         (map (λ (row : TroveRow). trove_text (sums_words (state_of protocol.now)) (trove_row row)) rows.now))) }

@@ -1,6 +1,6 @@
 //! The objects of a report, as values.
 
-ghost use Rattle.std.specs.Prelude.{◌≡◌, IfOk, codes, get_or};
+ghost use Rattle.std.specs.Prelude.{◌≡◌, IfOk, codes};
 ghost use Rattle.serde_json.specs.Data.{member, no_members, number, object, string, unsigned};
 ghost use Rattle.serde_json.specs.View.{view};
 
@@ -54,32 +54,52 @@ pub fn pool_object(
     json!(in alloc; {"epoch": epoch, "p": p, "scale": scale, "sum": sum})
 }
 
-/// The ten words of the reply to `system`, by their names.
-pub fn system_object(alloc: Global, words: [u64; 10]) -> Result<Value, AllocError>
+/// The ten words of the reply to `system`.
+#[derive(Clone, Copy)]
+pub struct Totals {
+    /// Micro-LUSD per ether.
+    pub price: u64,
+    pub minute: u64,
+    /// The base rate as of the minute of the last fee, over 10^18.
+    pub base: u64,
+    pub fee_minute: u64,
+    /// 1 in Recovery Mode, else 0.
+    pub mode: u64,
+    /// How many troves there are.
+    pub troves: u64,
+    pub stakes: u64,
+    /// Collateral of all troves, in gwei.
+    pub coll: u64,
+    /// Debt of all troves, in micro-LUSD.
+    pub debt: u64,
+    pub records: u64,
+}
+
+/// The totals.
+pub fn system_object(alloc: Global, totals: Totals) -> Result<Value, AllocError>
     ensures { IfOk result (λ value. view value ≡ object
-        (member (codes "base") (number (unsigned (get_or words 2 0)))
-        (member (codes "coll") (number (unsigned (get_or words 7 0)))
-        (member (codes "debt") (number (unsigned (get_or words 8 0)))
-        (member (codes "fee_minute") (number (unsigned (get_or words 3 0)))
-        (member (codes "minute") (number (unsigned (get_or words 1 0)))
-        (member (codes "mode") (number (unsigned (get_or words 4 0)))
-        (member (codes "price") (number (unsigned (get_or words 0 0)))
-        (member (codes "records") (number (unsigned (get_or words 9 0)))
-        (member (codes "stakes") (number (unsigned (get_or words 6 0)))
-        (member (codes "troves") (number (unsigned (get_or words 5 0))) no_members))))))))))) }
+        (member (codes "base") (number (unsigned totals.base))
+        (member (codes "coll") (number (unsigned totals.coll))
+        (member (codes "debt") (number (unsigned totals.debt))
+        (member (codes "fee_minute") (number (unsigned totals.fee_minute))
+        (member (codes "minute") (number (unsigned totals.minute))
+        (member (codes "mode") (number (unsigned totals.mode))
+        (member (codes "price") (number (unsigned totals.price))
+        (member (codes "records") (number (unsigned totals.records))
+        (member (codes "stakes") (number (unsigned totals.stakes))
+        (member (codes "troves") (number (unsigned totals.troves)) no_members))))))))))) }
 {
-    let [price, minute, base, fee_minute, mode, troves, stakes, coll, debt, records] = words;
     json!(in alloc; {
-        "base": base,
-        "coll": coll,
-        "debt": debt,
-        "fee_minute": fee_minute,
-        "minute": minute,
-        "mode": mode,
-        "price": price,
-        "records": records,
-        "stakes": stakes,
-        "troves": troves,
+        "base": totals.base,
+        "coll": totals.coll,
+        "debt": totals.debt,
+        "fee_minute": totals.fee_minute,
+        "minute": totals.minute,
+        "mode": totals.mode,
+        "price": totals.price,
+        "records": totals.records,
+        "stakes": totals.stakes,
+        "troves": totals.troves,
     })
 }
 

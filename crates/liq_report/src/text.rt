@@ -16,9 +16,9 @@ use liq_types::{Image, NoMemory};
 use serde_json::Value;
 use std::alloc::{AllocError, Global};
 
-/// The report of a protocol: one object in JSON without spaces, whose names ascend in every object. Collateral is in gwei,
-/// debt and LUSD in micro-LUSD. It is a function of the protocol's image and its records: how the protocol came to them shows
-/// nowhere.
+/// The report of a protocol: one object in JSON without spaces, in which the names of every object ascend. Collateral is
+/// in gwei, debt and LUSD in micro-LUSD. How the protocol came to be shows nowhere: states with one image and as many
+/// records have one report. It may want memory, and fails then alone.
 pub fn report(alloc: Global, protocol: &Protocol) -> Result<Vec<u8>, NoMemory>
     ensures { IfOk result (λ text. (s : State) → StandsFor protocol.now s → text.items ≡ report_text s) }
 {

@@ -1,15 +1,16 @@
 //! The Stability Pool's words and the totals, as objects.
 
-ghost use Rattle.std.specs.Prelude.{◌≡◌, ◌∷◌, [], ℕ, List, IfOk, codes, decimal};
+ghost use Rattle.std.specs.Prelude.{◌≡◌, ◌∷◌, [], IfOk, codes, decimal};
 ghost use Rattle.liq_types.specs.declared.replies.Info.TheVariants as info;
 ghost use Rattle.liq_types.specs.declared.replies.Reply.TheVariants.{Told};
+ghost use Rattle.liq_types.specs.State.{State};
 ghost use Rattle.liq_rules.specs.Queries.{system};
 ghost use Rattle.liq_core.specs.Core.{state_of};
 ghost use Rattle.liq_report.specs.Report.{pool_text, system_text};
 ghost use Rattle.liq_report.specs.Texts.{object_text, string_text};
-ghost use Rattle.liq_report.specs.Values.{HasText};
+ghost use Rattle.liq_report.specs.Values.{HasText, totals_of};
 
-use crate::objects::{pool_object, system_object};
+use crate::objects::{Totals, pool_object, system_object};
 use liq_core::Protocol;
 use liq_core::laws::protocols_stand;
 use liq_types::{Info, Query, Reply};
@@ -48,24 +49,54 @@ fn pool_value(
 pub fn system(alloc: Global, protocol: &Protocol) -> Result<Value, AllocError>
     ensures { IfOk result (HasText (system_text (state_of protocol.now))) }
 {
-    system_object(alloc, system_words(protocol))
+    system_object(alloc, totals(protocol))
 }
 
-/// The ten words of the reply to `system`.
-fn system_words(protocol: &Protocol) -> [u64; 10]
-    ensures { result ≡ system (state_of protocol.now) }
+/// The words of the reply to `system`.
+fn totals(protocol: &Protocol) -> Totals
+    ensures { result ≡ totals_of (state_of protocol.now) }
 {
     protocols_stand(protocol);
     let reply = protocol.query(&Query::System);
-    words_in(&reply)
+    totals_in(&reply)
 }
 
-/// The ten words that a reply tells; of another reply nothing.
-fn words_in(reply: &Reply) -> [u64; 10]
-    ensures { (words : List ℕ) → reply.now ≡ Told (info.System words) → result ≡ words }
+/// The ten words that a reply tells, by their names; of another reply nothing.
+fn totals_in(reply: &Reply) -> Totals
+    ensures { (s : State) → reply.now ≡ Told (info.System (system s)) → result ≡ totals_of s }
 {
     match *reply {
-        Reply::Told(Info::System { words }) => words,
-        _ => [0; 10],
+        Reply::Told(Info::System { words }) => named(words),
+        _ => named([0; 10]),
+    }
+}
+
+/// Ten words by their names.
+fn named(words: [u64; 10]) -> Totals
+    ensures { (s : State) → words ≡ system s → result ≡ totals_of s }
+{
+    let [
+        price,
+        minute,
+        base,
+        fee_minute,
+        mode,
+        troves,
+        stakes,
+        coll,
+        debt,
+        records,
+    ] = words;
+    Totals {
+        price,
+        minute,
+        base,
+        fee_minute,
+        mode,
+        troves,
+        stakes,
+        coll,
+        debt,
+        records,
     }
 }

@@ -1,8 +1,6 @@
-use Rattle.std.proofs.Common.{◌≡◌, List, ℕ, ap, subst, ◌∙◌, map}
+use Rattle.std.proofs.Common.{List, ℕ, ap, subst, ◌∙◌}
 use Rattle.std.specs.Prelude.{IfOk}
 use Rattle.liq_types.specs.declared.image.Image.{Image}
-use Rattle.liq_types.specs.ImageRows.{deposit_row}
-use Rattle.liq_stability.specs.Position.{deposit_rows}
 use Rattle.liq_core.specs.Core.{state_of}
 use Rattle.liq_report.specs.Values.{HasText}
 use Rattle.liq_report.proofs.Stands.{deposits_are, deposits_stand}

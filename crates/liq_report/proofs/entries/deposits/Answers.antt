@@ -1,0 +1,18 @@
+use Rattle.liq_types.specs.declared.image.DepositRow.{DepositRow}
+use Rattle.liq_core.specs.Core.{state_of}
+use Rattle.liq_report.specs.Report.{deposit_text}
+use Rattle.serde_json.specs.declared.value.Value.{Array}
+use Rattle.serde_json.proofs.Views.{view-Array}
+use Rattle.liq_report.proofs.Written.{all_listed, row_listed}
+use Rattle.liq_report.proofs.entries.deposits.Goals as goal
+
+pub loop-row-preserved : goal.loop-row-preserved
+loop-row-preserved c =
+    row_listed (λ (row : DepositRow). deposit_text (state_of c.args.protocol.now) row.account)
+    c.loop-row.values.items c.push.new.self.items c.in_ok-deposit.field-0 c.args.rows.now c.loop-row.row-index _
+    c.loop-row-test.true c.in_ok-push.ensures.items c.loop-row.invariant c.in_ok-deposit.ensures
+
+pub returns : goal.returns
+returns c =
+    all_listed (λ (row : DepositRow). deposit_text (state_of c.args.protocol.now) row.account)
+    c.loop-row.values.items c.args.rows.now c.loop-row.row-index (Array c.loop-row.values) c.loop-row-test.false c.loop-row.invariant (view-Array c.loop-row.values)
