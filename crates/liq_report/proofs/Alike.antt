@@ -10,7 +10,6 @@ use Rattle.liq_types.specs.declared.replies.Reply.TheVariants.{Told}
 use Rattle.liq_types.specs.declared.requests.Query.TheVariants as query
 use Rattle.liq_types.specs.State.{State}
 use Rattle.liq_stability.specs.Position.{deposit_row}
-use Rattle.liq_rules.specs.Queries.{answer, system}
 use Rattle.liq_rules.proofs.AlikeReads.{Alike, balance_alike, gain_alike, sums_by}
 use Rattle.liq_rules.proofs.AlikeReplies.{answer_alike}
 use Rattle.liq_report.specs.Report.{deposit_text, deposits_text, pool_text, report_text, system_text, trove_text, troves_text}

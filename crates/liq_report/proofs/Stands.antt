@@ -11,7 +11,6 @@ use Rattle.std.proofs.lemmas.Map.Keys.{sorted_head, sorted_tail}
 use Rattle.std.proofs.lemmas.Map.Made.{keys_of-map_values}
 use Rattle.liq_types.specs.declared.amounts.TheConstants.{ACCOUNTS}
 use Rattle.liq_types.specs.declared.figures.Trove.{Trove}
-use Rattle.liq_types.specs.declared.figures.Deposit.{Deposit}
 use Rattle.liq_types.specs.declared.image.DepositRow.{DepositRow}
 use Rattle.liq_types.specs.declared.image.TroveRow.{TroveRow}
 use Rattle.liq_types.specs.declared.replies.Info.TheVariants as info
@@ -26,7 +25,6 @@ use Rattle.liq_types.proofs.MapRows.{at-map}
 use Rattle.liq_troves.specs.Rows.{entire_by}
 use Rattle.liq_troves.specs.StakeSums.{sums_words, trove_row, trove_rows}
 use Rattle.liq_stability.specs.Position.{balance_of, gain_of, deposit_row, deposit_rows}
-use Rattle.liq_rules.specs.Image.{image}
 use Rattle.liq_rules.specs.Queries.{answer, deposit_info}
 use Rattle.liq_rules.proofs.AlikeReplies.{trove_told, trove_told_at}
 use Rattle.liq_soundness.specs.SoundState.{IsSoundState}

@@ -32,6 +32,8 @@ fn line_of(alloc: Global, protocol: &Protocol) -> Result<Vec<u8>, NoMemory>
     ensures { IfOk result (λ line. (s : State) → StandsFor protocol.now s → line.items ≡ reported s) }
 {
     let mut line = report(alloc, protocol)?;
-    line.push(LINE_END)?;
-    Ok(line)
+    match line.push(LINE_END) {
+        Ok(()) => Ok(line),
+        Err(_) => Err(NoMemory),
+    }
 }
