@@ -4,7 +4,7 @@ use Rattle.std.specs.Option.{option_map}
 use Rattle.liq_outside.specs.Disk.{LeftNow}
 use Rattle.liq_types.specs.State.{State}
 use Rattle.liq_core.specs.Core.{StandsFor}
-use Rattle.liq_rules.specs.History.{IsLegal, state_after}
+use Rattle.liq_rules.specs.History.{IsLegal, requests_of, state_after}
 use Rattle.liq_pairs.specs.Kept.{IsKept}
 use Rattle.liq_store.specs.Causes.{Faults, OneRose}
 use Rattle.liq_store.specs.Keeping.{IsKeptAround}
@@ -14,6 +14,7 @@ use Rattle.liq_book.specs.declared.items.Halt.{Halt}
 use Rattle.liq_book.specs.declared.items.TheConstants.{ENTRIES_MOST}
 use Rattle.liq_rules.specs.Recorded.{recorded}
 use Rattle.liq_book.specs.Origin.{DiskAt, GoesOnFrom, faults_at}
+use Rattle.liq_book.specs.Past.{KeepsPast}
 
 -- the store that answers, all entries, and the halt, once there is one
 pub record Booked (D : Type 0) : Type 0 where
@@ -46,7 +47,8 @@ module _
       → IsKeptAround s halt.request a b)
 
 -- What holds of every book: the entries are a legal history from its base, and the store's protocol is in the state
--- after them. A halt is there exactly where the store is stopped, with the faults that it then tells.
+-- after them. A halt is there exactly where the store is stopped, with the faults that it then tells. What a crash may
+-- have left of its disks since the origin is of a run of the entries' requests.
 pub record IsBook
     {D : Type 0} (seen : D → Option (List ℕ)) (faults : D → ℕ) (moment : D → ℕ)
     (left_at : D → ℕ → List ℕ → Type 0)
@@ -61,3 +63,6 @@ pub record IsBook
       (record { left = faults book.store.left; right = faults book.store.right })
   pub left : GoesOnFrom left_origin moment left_at book.store.left
   pub right : GoesOnFrom right_origin moment left_at book.store.right
+  pub past :
+      KeepsPast seen moment left_at left_origin right_origin base (requests_of (map recorded book.entries)) book.halt
+      book.store

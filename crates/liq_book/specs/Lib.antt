@@ -4,5 +4,6 @@ pub mod Closing
 pub mod Entered
 pub mod Items
 pub mod Origin
+pub mod Past
 pub mod Publishing
 pub mod Seats

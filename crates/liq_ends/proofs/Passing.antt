@@ -20,7 +20,7 @@ use Rattle.liq_store.specs.declared.answers.StoreWhy.TheVariants as why
 use Rattle.liq_store.specs.Keeping.{IsAtRest, LeavesPairs}
 use Rattle.liq_store.specs.Leaving.{LeavesBoth}
 use Rattle.liq_store.specs.Opening.{IsNotOpened}
-use Rattle.liq_store.proofs.Past.{opening_stops}
+use Rattle.liq_store.proofs.Past.{opening_leaves}
 use Rattle.liq_ends.specs.declared.halts.Halt.{Halt}
 use Rattle.liq_ends.specs.declared.halts.Halt.TheVariants.{BadLine, ReadFault, WriteFault, DiskFault, Damaged, NoMemory, Limit, Rotated}
 use Rattle.liq_ends.specs.Disks.{IsFaultOfTelling, LeavesOfRun}
@@ -30,7 +30,7 @@ if_some : {A : Type 0} (o : Option A) (P Q : A → Type 0) → ((x : A) → P x 
 if_some None P Q gives h = tt
 if_some (Some x) P Q gives h = gives x h
 
-module _ {D : Type 0} (seen : D → Option (List ℕ)) (moment : D → ℕ) (left_at : D → ℕ → List ℕ → Type 0) where
+module _ {D : Type 0} (seen : D → Option (List ℕ)) (moment : D → ℕ) (left_at : D → ℕ → List ℕ → Type 0) (stays : (disk : D) (held : List ℕ) → seen disk ≡ Some held → LeftNow moment left_at disk held) where
   -- ---- disks that nobody touched
 
   since_now : (disk : D) (held image : List ℕ) → Only held (LeftNow moment left_at disk) → LeftSince moment left_at disk (moment disk) image → image ≡ held
@@ -78,7 +78,7 @@ module _ {D : Type 0} (seen : D → Option (List ℕ)) (moment : D → ℕ) (lef
       record {
         fault = InOpening;
         fault_is = refl;
-        images = opening_stops left right l r start fl fr kept (left_leaves l r told_l told_r only_l) (right_leaves r told_r only_r) InOpening;
+        images = opening_leaves seen moment left_at stays l r start left right fl fr kept (left_leaves l r told_l told_r only_l) (right_leaves r told_r only_r) InOpening;
         rests = λ a b at_a at_b. (refl, recovers l r start told_l told_r only_l only_r kept a b (now_since left fl a left_time at_a) (now_since right fr b right_time at_b));
       }
   unopened_past faults (why.Damaged side damage) fl fr left right h left_time right_time rest recovers left_leaves right_leaves l r start told_l told_r is only_l only_r kept =
@@ -87,7 +87,7 @@ module _ {D : Type 0} (seen : D → Option (List ℕ)) (moment : D → ℕ) (lef
       record {
         fault = NoFault;
         fault_is = refl;
-        images = opening_stops left right l r start fl fr kept (left_leaves l r told_l told_r only_l) (right_leaves r told_r only_r) NoFault;
+        images = opening_leaves seen moment left_at stays l r start left right fl fr kept (left_leaves l r told_l told_r only_l) (right_leaves r told_r only_r) NoFault;
         rests = rest (λ e. cc);
       }
 
@@ -121,8 +121,8 @@ module _ {D : Type 0} (seen : D → Option (List ℕ)) (moment : D → ℕ) (lef
       }
 
   module _ (since_left since_right : D) where
-    since : Side → ℕ
-    since side = moment (on side since_left since_right)
+    abbrev since : Side → ℕ
+    since = λ side. moment (on side since_left since_right)
 
     calm_looked : (l r : List ℕ) (start : State) (P : Fault → Type 0) → P NoFault → (ol or nl nr : D) → ((side : Side) → since side ≤ moment (on side ol or)) → Looked seen moment left_at ol nl → Looked seen moment left_at or nr
         → IsAtRest seen moment left_at ol → IsAtRest seen moment left_at or → LeavesPast moment left_at since l r start [] NoFault ol or

@@ -13,6 +13,8 @@ use Rattle.liq_journal.specs.Written.{Written}
 use Rattle.liq_pairs.specs.declared.side.Side.{Side}
 use Rattle.liq_pairs.specs.Kept.{HoldsRecord, IsKept, IsKeptOn, IsRotationOf, IsSettledFor, StandsBesideRotation}
 use Rattle.liq_pairs.specs.Pair.{StandFor}
+use Rattle.liq_pairs.specs.Sides.{has_odd, on}
+use Rattle.liq_pairs.specs.Unfinished.{HoldsUnfinished, IsUnfinishedRecord, IsUnfinishedRotation}
 
 -- the states for which a protocol stands
 pub core_alike : (core : Core) (s t : State) → StandsFor core s → StandsFor core t → Alike s t
@@ -91,6 +93,32 @@ module _ {s t : State} (alike : Alike s t) where
     stands = stand_alike l r kept.stands;
     rests = ⊎_elim (λ taken. inl (taken.0, kept_on_alike taken.0 l r taken.1)) (λ none. inr none) kept.rests;
   }
+
+  -- what they hold unfinished
+  record_unfinished : (odd : Bool) (bytes : List ℕ) (c : Command) → IsUnfinishedRecord odd bytes s c
+      → IsUnfinishedRecord odd bytes t c
+  record_unfinished odd bytes c is = record {
+    written = is.written;
+    record_is = record_alike odd bytes is.written c is.record_is;
+    unshut = is.unshut;
+  }
+
+  rotation_unfinished : (odd : Bool) (bytes : List ℕ) (c : Command) → IsUnfinishedRotation odd bytes s c
+      → IsUnfinishedRotation odd bytes t c
+  rotation_unfinished odd bytes c is = record {
+    rotation = record {
+      written = is.rotation.written;
+      stands = is.rotation.stands;
+      none = is.rotation.none;
+      rotation = rotation_alike is.rotation.written c is.rotation.rotation;
+      shut = is.rotation.shut;
+    };
+    unshut = is.unshut;
+  }
+
+  pub unfinished_alike : (l r : List ℕ) (c : Command) → HoldsUnfinished l r s c → HoldsUnfinished l r t c
+  unfinished_alike l r c (side, inl is) = (side, inl (record_unfinished (has_odd side) (on side l r) c is))
+  unfinished_alike l r c (side, inr is) = (side, inr (rotation_unfinished (has_odd side) (on side l r) c is))
 
 pub settled_same : (side : Side) (l r : List ℕ) (s t : State) → IsSettledFor side l r s → IsSameState s t → IsWellFormed t → IsSettledFor side l r t
 settled_same side l r s t settled same formed = settled_alike (record { image = same.image; records = same.records; left = settled.stands.formed; right = formed }) side l r settled

@@ -1,4 +1,5 @@
 pub mod Alike
+pub mod Alone
 pub mod Around
 pub mod AtEnd
 pub mod Basing
@@ -11,6 +12,7 @@ pub mod Generations
 pub mod Hints
 pub mod Keeping
 pub mod OneByte
+pub mod Past
 pub mod Recovering
 pub mod Replaying
 pub mod Standings

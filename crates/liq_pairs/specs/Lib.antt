@@ -1,6 +1,7 @@
 pub mod Examples
 pub mod Kept
 pub mod Pair
+pub mod Past
 pub mod Replay
 pub mod Sides
 pub mod Unfinished

@@ -4,6 +4,7 @@
 ghost use Rattle.std.specs.Prelude.{◌≡◌, ◌≤◌, ◌⊎◌, ◌+◌, List, ◌∷◌, [], ◌++◌, length, ℕ, Some, None, Ok, Bool, true, false};
 ghost use Rattle.liq_types.specs.declared.requests.Call.TheVariants.{Rotate};
 ghost use Rattle.liq_types.specs.declared.requests.Command.{Command};
+ghost use Rattle.liq_types.specs.declared.requests.Request.{Request};
 ghost use Rattle.liq_types.specs.Image.{IsLimit};
 ghost use Rattle.liq_types.specs.Soundness.{first_unsound};
 ghost use Rattle.liq_types.specs.State.{State, opening_with};
@@ -12,12 +13,14 @@ ghost use Rattle.liq_rules.specs.Image.{IsSameState, image};
 ghost use Rattle.liq_rules.specs.Step.{Allowed, after, ruling};
 ghost use Rattle.liq_checkpoint.specs.Reading.{image_at};
 ghost use Rattle.liq_checkpoint.specs.Spelling.{spelling};
+ghost use Rattle.liq_journal.specs.declared.damage.Damage.{Damage};
 ghost use Rattle.liq_journal.specs.Crash.{BeforeOrAfter, CreateLeaves, Stands, beginning, is_odd};
 ghost use Rattle.liq_journal.specs.Opened.{OpenLeaves};
-ghost use Rattle.liq_journal.specs.Written.{Open, Written, and_then, found_on};
+ghost use Rattle.liq_journal.specs.Written.{Damaged, Open, Written, and_then, found_on};
 ghost use Rattle.liq_pairs.specs.declared.side.Side.{Side};
 ghost use Rattle.liq_pairs.specs.Kept.{IsKept, IsRotationOf, IsSettledFor};
 ghost use Rattle.liq_pairs.specs.Pair.{commands_on, journal_on, limit_on, state_on};
+ghost use Rattle.liq_pairs.specs.Past.{Fault, IsAsItStood, IsOfRun};
 ghost use Rattle.liq_pairs.specs.Replay.{base_of, outcome, replay};
 ghost use Rattle.liq_pairs.specs.Sides.{beside, has_odd, on, other};
 ghost use Rattle.liq_pairs.specs.Unfinished.{IsRecovered, LeftLeaves};
@@ -134,4 +137,12 @@ pub fn settled_pairs_are_opened_again()
         → IsSameState t s }
     ensures settled { (side : Side) → (l r a b : List ℕ) → (s : State) → IsSettledFor side l r s
         → LeftLeaves l r a → OpenLeaves false r b → IsSettledFor side a b s }
+{}
+
+/// No stop damages a disk: an image of a run that is damaged is as the disk stood when the run began, with any byte at
+/// place 0.
+pub fn runs_damage_no_disk()
+    ensures { (side : Side) → (l r : List ℕ) → (s : State) → (requests : List Request) → (fault : Fault)
+        → (image : List ℕ) → (damage : Damage) → IsOfRun side l r s requests fault image
+        → found_on (has_odd side) image ≡ Damaged damage → IsAsItStood (on side l r) image }
 {}

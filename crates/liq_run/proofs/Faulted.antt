@@ -5,6 +5,7 @@ use Rattle.liq_outside.specs.Disk.{GoesOn, LeftNow, LeftSince}
 use Rattle.liq_types.specs.declared.replies.Answer.{Answer}
 use Rattle.liq_types.specs.declared.replies.Answer.TheVariants as answers
 use Rattle.liq_types.specs.declared.replies.Reply.{Reply}
+use Rattle.liq_types.specs.declared.requests.Command.{Command}
 use Rattle.liq_types.specs.declared.requests.Request.{Request}
 use Rattle.liq_types.specs.declared.requests.Request.TheVariants.{Do, Ask}
 use Rattle.liq_types.specs.State.{State}
@@ -27,6 +28,11 @@ no_other (answers.HistoryFull entries) s request core h a b c = h
 pub accepted_command : (s : State) (request : Request) → IsAccepted s request → IsCommand request
 accepted_command s (Do command) h = tt
 accepted_command s (Ask query) h = h
+
+-- a disk's fault is met at a command
+pub failing : (s : State) (request : Request) (core : Core) → Answers s request answers.DiskFault core → (c : Command) × (request ≡ Do c)
+failing s (Do command) core h = (command, refl)
+failing s (Ask query) core h = absurd h.1
 
 module _ {D : Type 0} (seen : D → Option (List ℕ)) (moment : D → ℕ) (left_at : D → ℕ → List ℕ → Type 0) where
   told_before : (old new : D) → (IsSome (seen new) ↔ IsSome (seen old)) → (a : List ℕ) → seen new ≡ Some a → (l : List ℕ) × (seen old ≡ Some l)

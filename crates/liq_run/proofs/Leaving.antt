@@ -43,7 +43,7 @@ module _ {D : Type 0} (seen : D → Option (List ℕ)) (faults : D → ℕ) wher
         written = writes_nothing before;
         disks = λ a b told_a told_b. inl ((refl, told), λ kept. h.reads l r a b start told_l told_r kept told_a told_b);
         past = λ only_l only_r kept. let so = past only_l only_r kept in
-            record { fault = so.fault; fault_is = inl (so.fault_is, refl, told); images = so.images; rests = so.rests };
+            record { fault = so.fault; fault_is = inl (so.fault_is, (refl, told)); images = so.images; rests = so.rests };
       }
   unopened_by moment left_at (why.Damaged side damage) fl fr left right h bytes l r unread before told told_l told_r start is past = absurd (cc (h.is_why l r told_l told_r, is))
   unopened_by moment left_at why.NoMemory fl fr left right h bytes l r unread before told told_l told_r start is past =
@@ -94,9 +94,8 @@ module _ {D : Type 0} (seen : D → Option (List ℕ)) (faults : D → ℕ) wher
       pub past_by : (store : Stored D) (end : Result (Unit {0}) Halt) (bytes : List ℕ) (unread : Option (List ℕ)) (l r : List ℕ) (start : State) (requests : List Request) (kept : State → Request → Type 0) → IsStopped end store.stopped
           → HaltsAt end bytes requests [] (run start requests).0 (λ rs. IsPastOf seen moment left_at old_left old_right l r start rs store) kept (λ rs q. IsStoppedPastOf seen moment left_at old_left old_right l r start rs q store)
           → LeavesOfRun seen moment left_at old_left old_right (IsFaultOfRun end bytes unread requests) l r start requests store.left store.right
-      past_by store (Err DiskFault) bytes unread l r start requests kept stopped halted only_l only_r was =
-          let so = halted.5 only_l only_r was in
-          record {
+      past_by store (Err DiskFault) bytes unread l r start requests kept stopped halted =
+          λ only_l only_r was. let so = halted.5 only_l only_r was in record {
             fault = so.fault;
             fault_is = inr (so.fault_is.0, so.fault_is.2, subst (IsNext bytes requests) so.fault_is.1 halted.1);
             images = so.images;

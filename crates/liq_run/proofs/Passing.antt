@@ -1,6 +1,7 @@
 -- The disks of a store, over the parts of a run.
-use Rattle.std.proofs.Common.{◌≡◌, ℕ, List, [], ◌∷◌, ◌++◌, Option, Some, None, refl, sym, subst}
-use Rattle.liq_outside.specs.Disk.{LeftNow}
+use Rattle.std.proofs.Common.{◌≡◌, ℕ, List, [], ◌∷◌, ◌++◌, Option, Some, None, Err, false, refl, sym, subst}
+use Rattle.std.specs.Prelude.{◌↔◌, IsSome}
+use Rattle.liq_outside.specs.Disk.{LeavesOnly, LeftNow, Only}
 use Rattle.liq_outside.proofs.Moments.{joined, unmoved}
 use Rattle.liq_types.specs.declared.replies.Answer.{Answer}
 use Rattle.liq_types.specs.declared.replies.Answer.TheVariants as answer
@@ -11,19 +12,35 @@ use Rattle.liq_types.specs.declared.requests.Request.{Request}
 use Rattle.liq_types.specs.declared.requests.Request.TheVariants.{Do, Ask}
 use Rattle.liq_types.specs.State.{State}
 use Rattle.liq_core.specs.Core.{StandsFor}
+use Rattle.liq_journal.specs.Opened.{OpenLeaves}
 use Rattle.liq_pairs.specs.declared.side.Side.{Side}
 use Rattle.liq_pairs.specs.Past.{AtCommand}
 use Rattle.liq_pairs.specs.Sides.{on}
+use Rattle.liq_pairs.specs.Unfinished.{LeftLeaves}
 use Rattle.liq_store.specs.Answering.{Answers}
 use Rattle.liq_store.specs.Calling.{WritesOn}
 use Rattle.liq_store.specs.Keeping.{IsInOrder}
 use Rattle.liq_store.specs.Leaving.{LeavesBoth}
+use Rattle.liq_store.specs.Opening.{OpensOn}
 use Rattle.liq_store.specs.Past.{Past}
 use Rattle.liq_store.specs.Stored.{Stored}
-use Rattle.liq_store.proofs.Past.{cut, goes_on, stops, stops_kept, waits, with_changes}
+use Rattle.liq_store.proofs.Past.{begins, cut, goes_on, stops, stops_kept, waits, with_changes}
+use Rattle.liq_ends.specs.declared.halts.Halt.{Halt}
+use Rattle.liq_ends.specs.declared.halts.Halt.TheVariants.{BadLine, ReadFault, WriteFault, DiskFault, Damaged, NoMemory, Limit, Rotated}
 use Rattle.liq_run.specs.Calls.{GoOn}
-use Rattle.liq_run.specs.Passing.{IsOfAccepted, IsPastOf, IsStoppedPastOf}
+use Rattle.liq_run.specs.Passing.{IsOfAccepted, IsPastOf, IsStoppedPastOf, PassesBy}
 use Rattle.liq_run.proofs.Progressing.{asked-more}
+
+-- what holds where the next request was not answered, whatever it was to give
+pub passes_as : (T U : Type 0) (past : List Request → Type 0) (stopped : List Request → Request → Type 0) (requests : List Request) (request : Request) (halt : Halt) → PassesBy {T = T} past stopped requests request (Err halt) → PassesBy {T = U} past stopped requests request (Err halt)
+passes_as T U past stopped requests request (BadLine n) h = h
+passes_as T U past stopped requests request ReadFault h = h
+passes_as T U past stopped requests request WriteFault h = h
+passes_as T U past stopped requests request DiskFault h = h
+passes_as T U past stopped requests request (Damaged side number) h = h
+passes_as T U past stopped requests request NoMemory h = h
+passes_as T U past stopped requests request (Limit number) h = h
+passes_as T U past stopped requests request (Rotated generation) h = h
 
 module _ {D : Type 0} (moment : D → ℕ) (left_at : D → ℕ → List ℕ → Type 0) where
   -- nothing was done
@@ -45,8 +62,8 @@ module _ {D : Type 0} (moment : D → ℕ) (left_at : D → ℕ → List ℕ →
 module _
     {D : Type 0} (seen : D → Option (List ℕ)) (moment : D → ℕ) (left_at : D → ℕ → List ℕ → Type 0) (stays : (disk : D) (held : List ℕ) → seen disk ≡ Some held → LeftNow moment left_at disk held)
     (old_left old_right : D) (l r : List ℕ) (start : State) where
-  since : Side → ℕ
-  since side = moment (on side old_left old_right)
+  abbrev since : Side → ℕ
+  since = λ side. moment (on side old_left old_right)
 
   -- the past of a run is that of its accepted commands
   pub same_past : (store : Stored D) → IsOfAccepted start (λ requests. IsPastOf seen moment left_at old_left old_right l r start requests store)
@@ -59,6 +76,20 @@ module _
       → IsPastOf seen moment left_at old_left old_right l r start (requests ++ Ask query ∷ []) store
   asked_past store requests query past = same_past store (requests ++ Ask query ∷ []) requests (asked-more start requests query) past
 
+  -- a store was opened, and its changes were let go
+  pub opened_past : (faults : D → ℕ) (store new : Stored D) → new ≡ record store { changes = [] } → IsInOrder seen moment left_at new
+      → seen old_left ≡ Some l → seen old_right ≡ Some r
+      → (Only l (LeftNow moment left_at old_left) → LeavesOnly moment left_at old_left store.left (LeftLeaves l r))
+      → (Only r (LeftNow moment left_at old_right) → LeavesOnly moment left_at old_right store.right (OpenLeaves false r))
+      → (IsSome (seen store.left) ↔ IsSome (seen old_left)) → (IsSome (seen store.right) ↔ IsSome (seen old_right))
+      → OpensOn seen faults old_left old_right store → IsInOrder seen moment left_at store
+      → IsPastOf seen moment left_at old_left old_right l r start [] new
+  opened_past faults store new cleared order told_l told_r left right left_tells right_tells opened order_first only_l only_r kept = (
+    subst (Past seen moment left_at since l r start []) (sym cleared)
+        (with_changes seen moment left_at stays since l r start [] store [] (begins seen moment left_at stays l r start faults old_left old_right store told_l told_r kept (left only_l) (right only_r) left_tells right_tells opened order_first)),
+    order,
+  )
+
   -- ---- a call, whose changes were let go
 
   module _ (requests : List Request) (request : Request) (old mid new : Stored D) (cleared : new ≡ record mid { changes = [] }) (order : IsInOrder seen moment left_at new)
@@ -68,7 +99,7 @@ module _
     replied_past reply going answers writes only_l only_r kept =
         let so = past only_l only_r kept in (
           subst (Past seen moment left_at since l r start (requests ++ request ∷ [])) (sym cleared)
-              (with_changes seen moment left_at stays since l r start (requests ++ request ∷ []) mid (goes_on seen moment left_at stays since l r start requests old mid so.0 so.1 request reply going answers writes) []),
+              (with_changes seen moment left_at stays since l r start (requests ++ request ∷ []) mid [] (goes_on seen moment left_at stays since l r start requests old mid so.0 so.1 request reply going answers writes)),
           order,
         )
 
@@ -77,7 +108,7 @@ module _
     waiting_past going answers writes only_l only_r kept =
         let so = past only_l only_r kept in (
           subst (Past seen moment left_at since l r start requests) (sym cleared)
-              (with_changes seen moment left_at stays since l r start requests mid (waits seen moment left_at stays since l r start requests old mid so.0 so.1 request going answers writes) []),
+              (with_changes seen moment left_at stays since l r start requests mid [] (waits seen moment left_at stays since l r start requests old mid so.0 so.1 request going answers writes)),
           order,
         )
 

@@ -72,7 +72,7 @@ module _
     (disk_faults : D → ℕ) (moment : D → ℕ) (left_at : D → ℕ → List ℕ → Type 0) (before after : Outside S K D) where
   pub runs_to :
       (start : State) (end : Result (Unit {0}) Halt) (bytes l r : List ℕ)
-      → EndsIn seen start end bytes l r (unread after.source) (Rose (sink_faults before.sink) (sink_faults after.sink)) (held before.sink) (held after.sink) after.left after.right
+      → EndsIn seen moment left_at before.left before.right start end bytes l r (unread after.source) (Rose (sink_faults before.sink) (sink_faults after.sink)) (held before.sink) (held after.sink) after.left after.right
       → RunsTo unread source_faults held sink_faults seen disk_faults moment left_at before after end l r start bytes
   runs_to start end bytes l r h =
       let fault = Rose (sink_faults before.sink) (sink_faults after.sink) in
@@ -86,5 +86,6 @@ module _
         written = told start end fault h.requests (held before.sink) (held after.sink) h.written;
         cut = cut_last start end fault h.requests (held before.sink) (held after.sink) h.written;
         disks = h.disks;
+        past = h.past;
         shares = h.shares;
       }

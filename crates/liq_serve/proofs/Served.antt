@@ -14,6 +14,7 @@ use Rattle.liq_journal.specs.declared.damage.Damage.{Damage}
 use Rattle.liq_pairs.specs.declared.side.Side.{Side}
 use Rattle.liq_pairs.specs.Kept.{IsKept}
 use Rattle.liq_pairs.specs.Pair.{state_on}
+use Rattle.liq_pairs.specs.Past.{Fault}
 use Rattle.liq_lines.specs.declared.stops.Stop.{Stop}
 use Rattle.liq_lines.specs.declared.stops.Stop.TheVariants as stop
 use Rattle.liq_lines.specs.Lines.{lines_in}
@@ -41,7 +42,7 @@ use Rattle.liq_ends.specs.Unsaid.{WritesAll}
 use Rattle.liq_ends.proofs.Causes.{six}
 use Rattle.liq_serve.specs.Finishing.{end_of, halt_at}
 use Rattle.liq_serve.specs.Outside.{Outside}
-use Rattle.liq_serve.specs.Top.{Answers, AreLeft, Keep, OpensNone}
+use Rattle.liq_serve.specs.Top.{Answers, AreLeft, IsFaultOfServing, Keep, OpensNone}
 
 -- ---- the counts
 
@@ -214,6 +215,22 @@ module _
         by a b s (inl same) = inl same
         by a b s (inr (c, is, allowed, more)) = inr (kept_around s request c a b is allowed more)
 
+  -- where a disk met a fault
+  pub fault_of : (how : Finish) (halted : Option (ℕ × Request)) (fault : Fault) → serving.Answers how halted asked history → serving.IsFaultAt how halted fault → IsFaultOfServing unread source_faults held sink_faults seen disk_faults moment left_at before after asked history (end_of how) fault
+  fault_of finish.DiskFault None fault answers is = absurd answers
+  fault_of finish.DiskFault (Some (session, request)) fault answers (c, at, is) =
+      inr (session, c, answers.2.0, at, subst (λ (q : Request). AreLeft asked history session (q ∷ answers.2.0)) is answers.2.1)
+  fault_of (finish.NotOpened why.DiskFault) halted fault answers is = inl (is, answers)
+  fault_of finish.All halted fault answers is = is
+  fault_of finish.WriteFault halted fault answers is = is
+  fault_of finish.NoMemory halted fault answers is = is
+  fault_of (finish.NotRead (stop.BadLine number)) halted fault answers is = is
+  fault_of (finish.NotRead stop.ReadFault) halted fault answers is = is
+  fault_of (finish.NotRead stop.NoMemory) halted fault answers is = is
+  fault_of (finish.NotRead stop.Limit) halted fault answers is = is
+  fault_of (finish.NotOpened (why.Damaged side damage)) halted fault answers is = is
+  fault_of (finish.NotOpened why.NoMemory) halted fault answers is = is
+
   pub record Came (end : Result (Unit {0}) Halt) : Type 0 where
     pub reading : Result (Unit {0}) Halt
     pub read : (bytes : List ℕ) → unread before.source ≡ Some bytes → ReadsTo Asks bytes (unread after.source) asked reading
@@ -227,7 +244,7 @@ module _
       → OpensNone unread source_faults held sink_faults seen disk_faults moment left_at before after history end ⊎ Answered end → Came end
   came_whole end read so = record { reading = Ok tt; read = read; so = inr (refl, so) }
 
-  pub came_by : (how : Finish) → AnswersInput seen (unread before.source) (unread after.source) before.left before.right (record { left = after.left; right = after.right; finish = how }) asked history
+  pub came_by : (how : Finish) → AnswersInput seen moment left_at (unread before.source) (unread after.source) before.left before.right (record { left = after.left; right = after.right; finish = how }) asked history
       → ((why_not : Stop) → how ≡ finish.NotRead why_not → (after.left ≡ before.left) × (after.right ≡ before.right)) → Came (end_of how)
   came_by finish.All a same = came_whole (Ok tt) a.read (inr (kept IsKept a.disks a.damaged, (0, lit< tt, refl), none_left asked history a.answers))
   came_by finish.WriteFault a same = came_whole (Err WriteFault) a.read (inr (kept IsKept a.disks a.damaged, (1, lit< tt, refl), none_left asked history a.answers))

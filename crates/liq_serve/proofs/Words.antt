@@ -2,7 +2,7 @@
 use Rattle.std.proofs.Common.{◌≡◌, ◌≢◌, ℕ, List, [], ◌∷◌, Option, Some, Ok, Err, Result, refl, sym, subst, arith, lit<, inl, inr}
 use Rattle.std.specs.Prelude.{◌⊎◌, ◌↔◌, Contains, IfOk}
 use Rattle.std.proofs.lemmas.List.Elements.{All-nil}
-use Rattle.liq_outside.specs.Disk.{GoesOn}
+use Rattle.liq_outside.specs.Disk.{GoesOn, LeftNow}
 use Rattle.liq_outside.specs.Faults.{Rose}
 use Rattle.liq_outside.proofs.Moments.{unmoved}
 use Rattle.liq_types.specs.declared.amounts.TheConstants.{LINES_MOST}
@@ -27,6 +27,7 @@ use Rattle.liq_ends.specs.Statuses.{status_of}
 use Rattle.liq_ends.specs.Stops.{Adds}
 use Rattle.liq_ends.proofs.Causes.{disk_causes, sink_causes, six, source_causes, unread_causes}
 use Rattle.liq_ends.proofs.Opened.{standing_still, state_formed, untouched}
+use Rattle.liq_ends.proofs.Passing.{untouched_past}
 use Rattle.liq_ends.proofs.Shares.{all_shares}
 use Rattle.liq_store.specs.Causes.{counts_of}
 use Rattle.liq_serve.specs.Outside.{Outside}
@@ -159,7 +160,8 @@ module _
 
 module _
     {S K D : Type 0} (unread : S → Option (List ℕ)) (source_faults : S → ℕ) (held : K → Option (List ℕ)) (sink_faults : K → ℕ) (seen : D → Option (List ℕ))
-    (disk_faults : D → ℕ) (moment : D → ℕ) (left_at : D → ℕ → List ℕ → Type 0) (before : Outside S K D) (now : K) where
+    (disk_faults : D → ℕ) (moment : D → ℕ) (left_at : D → ℕ → List ℕ → Type 0)
+    (stays : (disk : D) (bytes : List ℕ) → seen disk ≡ Some bytes → LeftNow moment left_at disk bytes) (before : Outside S K D) (now : K) where
   -- nothing but the sink changes
   abbrev after : Outside S K D
   after = record before { sink = now }
@@ -183,6 +185,7 @@ module _
         came = inl (refl, refl, refl, refl, (0, (2, lit< tt, refl)));
         written = written;
         lawful = λ l r told_l told_r. if_found (state_on l r) _ (λ start is. (record { replies = refl; indices = λ session. refl }, all_shares start [] (state_formed l r start is)));
+        past = λ l r told_l told_r. if_found (state_on l r) _ (λ start is. untouched_past seen moment left_at stays before.left before.right l r start _ refl told_l told_r);
       }
 
   -- the disks are as they were
@@ -203,6 +206,7 @@ module _
         written = written;
         cut = λ is. absurd cc;
         disks = standing_still seen before.left before.right bytes l r (unread before.source) start told is (untouched seen before.left before.right l r start told_l told_r is);
+        past = untouched_past seen moment left_at stays before.left before.right l r start _ refl told_l told_r;
         shares = all_shares start [] (state_formed l r start is);
       })
       (λ side damage is. (refl, still side damage l r told_l told_r is, written))
@@ -210,13 +214,22 @@ module _
   nothing_done written word.State = (
     refl,
     λ l r told_l told_r. by_found (state_on l r) _ _
-        (λ start is. ((3, lit< tt, refl), written, untouched seen before.left before.right l r start told_l told_r is))
+        (λ start is. (
+          (3, lit< tt, refl),
+          written,
+          untouched seen before.left before.right l r start told_l told_r is,
+          untouched_past seen moment left_at stays before.left before.right l r start _ refl told_l told_r,
+        ))
         (λ side damage is. (refl, still side damage l r told_l told_r is, written)),
   )
   nothing_done written word.Audit = (
     refl,
     λ l r told_l told_r. by_found (state_on l r) _ _
-        (λ start is. (([], (1, lit< tt, refl), written), untouched seen before.left before.right l r start told_l told_r is))
+        (λ start is. (
+          ([], (1, lit< tt, refl), written),
+          untouched seen before.left before.right l r start told_l told_r is,
+          untouched_past seen moment left_at stays before.left before.right l r start _ refl told_l told_r,
+        ))
         (λ side damage is. (refl, still side damage l r told_l told_r is, written)),
   )
   nothing_done written (word.Gen seed count) = (refl, (2, lit< tt, refl), written)

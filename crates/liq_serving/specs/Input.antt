@@ -2,21 +2,24 @@
 use Rattle.std.specs.Prelude.{ℕ, ◌≡◌, ◌≤◌, ◌⊎◌, List, [], length, All}
 use Rattle.std.specs.Prelude.{Option, Some, Result, Ok, Err}
 use Rattle.std.specs.Option.{IsSomeAnd}
+use Rattle.liq_outside.specs.Disk.{LeftNow, Only}
 use Rattle.liq_outside.specs.Faults.{Rose}
 use Rattle.liq_types.specs.declared.amounts.TheConstants.{LINES_MOST}
 use Rattle.liq_types.specs.declared.requests.Command.{Command}
 use Rattle.liq_types.specs.declared.requests.Request.{Request}
 use Rattle.liq_types.specs.declared.requests.Request.TheVariants.{Do}
 use Rattle.liq_types.specs.State.{State}
-use Rattle.liq_rules.specs.History.{Entry, IsLegal, state_after}
+use Rattle.liq_rules.specs.History.{Entry, IsLegal, requests_of, state_after}
 use Rattle.liq_rules.specs.Step.{Allowed, after, ruling}
 use Rattle.liq_journal.specs.declared.damage.Damage.{Damage}
 use Rattle.liq_pairs.specs.declared.side.Side.{Side}
 use Rattle.liq_pairs.specs.Kept.{IsKept}
 use Rattle.liq_pairs.specs.Pair.{state_on}
+use Rattle.liq_pairs.specs.Past.{AtCommand, Fault, InOpening, NoFault}
 use Rattle.liq_pairs.specs.Unfinished.{IsRecovered}
 use Rattle.liq_store.specs.declared.answers.StoreWhy.TheVariants as why
 use Rattle.liq_store.specs.Causes.{CausesWhy, Faults, OneRose}
+use Rattle.liq_store.specs.Leaving.{LeavesBoth}
 use Rattle.liq_lines.specs.Writing.{Writes, WritesPart}
 use Rattle.liq_lines.specs.declared.stops.Stop.{Stop}
 use Rattle.liq_scripts.specs.declared.scripts.TheConstants.{SESSIONS}
@@ -103,10 +106,19 @@ module _ {D : Type 0} (seen : D → Option (List ℕ)) where
       (which ≡ side) × (found ≡ damage) × StaysDamaged side damage left right
   EndsDamaged _ side damage left right = ⊥
 
+-- where a disk met a fault: in the opening, or at the command that a call was to write
+abbrev pub IsFaultAt : Finish → Option (ℕ × Request) → Fault → Type 0
+IsFaultAt finish.DiskFault halted fault =
+    (c : Command) × (fault ≡ AtCommand c) × IsSomeAnd halted (λ (call : ℕ × Request). call.1 ≡ Do c)
+IsFaultAt (finish.NotOpened why.DiskFault) halted fault = fault ≡ InOpening
+IsFaultAt _ halted fault = fault ≡ NoFault
+
 -- What the lines asked was answered along this history, as far as the finish says. It is what they asked where the
--- source told its bytes, and the history is legal from the state for which the disks stood, where they told theirs.
+-- source told its bytes, and the history is legal from the state for which the disks stood, where they told theirs. If
+-- they were kept for it, and nothing was pending, a stop at any moment leaves what one in a run of these requests does.
 pub record AnswersInput
-    {D : Type 0} (seen : D → Option (List ℕ)) (before unread : Option (List ℕ)) (left right : D)
+    {D : Type 0} (seen : D → Option (List ℕ)) (moment : D → ℕ) (left_at : D → ℕ → List ℕ → Type 0)
+    (before unread : Option (List ℕ)) (left right : D)
     (finished : Finished D) (asked : List (ℕ × Request)) (history : List Entry) : Type 0 where
   pub few : length asked ≤ LINES_MOST
   pub read : (bytes : List ℕ) → before ≡ Some bytes → EndsAfter (reading_of finished.finish) bytes unread asked
@@ -121,6 +133,12 @@ pub record AnswersInput
   pub disks :
       (l r : List ℕ) (start : State) → seen left ≡ Some l → seen right ≡ Some r → state_on l r ≡ Ok start
       → HoldsAfter seen finished.finish halted history l r start finished.left finished.right
+  pub past :
+      (l r : List ℕ) (start : State) → seen left ≡ Some l → seen right ≡ Some r
+      → Only l (LeftNow moment left_at left) → Only r (LeftNow moment left_at right)
+      → state_on l r ≡ Ok start → IsKept l r start
+      → LeavesBoth seen moment left_at left right (IsFaultAt finished.finish halted) l r start (requests_of history)
+      finished.left finished.right
   pub damaged :
       (l r : List ℕ) (side : Side) (damage : Damage) → seen left ≡ Some l → seen right ≡ Some r
       → state_on l r ≡ Err (side, damage)
@@ -128,11 +146,12 @@ pub record AnswersInput
 
 -- it was, and the history was written, as far as the finish says
 pub record ServesInput
-    {K D : Type 0} (held : K → Option (List ℕ)) (seen : D → Option (List ℕ)) (before unread : Option (List ℕ))
-    (out_before out_now : K) (left right : D) (finished : Finished D) : Type 0 where
+    {K D : Type 0} (held : K → Option (List ℕ)) (seen : D → Option (List ℕ)) (moment : D → ℕ)
+    (left_at : D → ℕ → List ℕ → Type 0) (before unread : Option (List ℕ)) (out_before out_now : K) (left right : D)
+    (finished : Finished D) : Type 0 where
   pub asked : List (ℕ × Request)
   pub history : List Entry
-  pub answered : AnswersInput seen before unread left right finished asked history
+  pub answered : AnswersInput seen moment left_at before unread left right finished asked history
   pub written : Written held finished.finish history out_before out_now
 
 -- ---- how it came to its end

@@ -1,7 +1,7 @@
 -- What a book leaves that is closed when its sessions have ended.
 use Rattle.std.specs.Prelude.{ℕ, ◌≡◌, List, [], ◌∷◌, map, All, Bool, Option, Some, None}
 use Rattle.liq_types.specs.State.{State}
-use Rattle.liq_rules.specs.History.{IsLegal, state_after}
+use Rattle.liq_rules.specs.History.{IsLegal, requests_of, state_after}
 use Rattle.liq_lock.specs.History.{Behind, Within}
 use Rattle.liq_book.specs.declared.items.Halt.{Halt}
 use Rattle.liq_book.specs.declared.items.Item.{Item}
@@ -11,6 +11,7 @@ use Rattle.liq_book.specs.Booked.{CausesHalt}
 use Rattle.liq_rules.specs.Recorded.{recorded}
 use Rattle.liq_book.specs.Items.{chronicle, session_of}
 use Rattle.liq_book.specs.Origin.{DiskAt, GoesOnFrom, faults_at}
+use Rattle.liq_book.specs.Past.{LeavesFrom}
 use Rattle.liq_book.specs.Seats.{items_seen, session_at}
 use Rattle.liq_serving.specs.declared.served.Served.{Served}
 use Rattle.liq_serving.specs.Ends.{end_of, halt_of}
@@ -44,3 +45,6 @@ pub record Leaves
       (record { left = faults served.left; right = faults served.right })
   pub left_time : GoesOnFrom left_origin moment left_at served.left
   pub right_time : GoesOnFrom right_origin moment left_at served.right
+  pub past :
+      LeavesFrom seen moment left_at left_origin right_origin base (requests_of (map recorded served.history))
+      (halt_of served.end) served.left served.right

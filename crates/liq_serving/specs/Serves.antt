@@ -5,7 +5,7 @@ use Rattle.liq_outside.specs.Disk.{LeftNow}
 use Rattle.liq_types.specs.declared.requests.Request.{Request}
 use Rattle.liq_types.specs.State.{State}
 use Rattle.liq_rules.specs.History as history
-use Rattle.liq_rules.specs.History.{IsLegal, state_after}
+use Rattle.liq_rules.specs.History.{IsLegal, requests_of, state_after}
 use Rattle.liq_pairs.specs.declared.side.Side.{Side}
 use Rattle.liq_pairs.specs.Kept.{IsSettledFor}
 use Rattle.liq_store.specs.Keeping.{IsAtRest, IsKeptAround}
@@ -13,6 +13,7 @@ use Rattle.liq_sessions.specs.declared.script.Script.{Script}
 use Rattle.liq_book.specs.Booked.{CausesHalt}
 use Rattle.liq_rules.specs.Recorded.{recorded}
 use Rattle.liq_book.specs.Origin.{DiskAt, GoesOnFrom, faults_at}
+use Rattle.liq_book.specs.Past.{LeavesFrom}
 use Rattle.liq_serving.specs.declared.served.End.{End}
 use Rattle.liq_serving.specs.declared.served.End.TheVariants as end
 use Rattle.liq_serving.specs.declared.served.Served.{Served}
@@ -55,7 +56,7 @@ module _
 
 -- The history is legal from the state with which the service began. Each session's entries in it are the first requests
 -- of its script, in order, and all of them where the service ended with all; no other session is in it. It ended so, or
--- by a fault, unless memory was wanted.
+-- by a fault, unless memory was wanted. What a crash may have left of the disks is of a run of the history's requests.
 pub record Serves
     {D : Type 0} (seen : D → Option (List ℕ)) (faults : D → ℕ) (moment : D → ℕ)
     (left_at : D → ℕ → List ℕ → Type 0) (base : State) (left_origin right_origin : DiskAt)
@@ -73,6 +74,9 @@ pub record Serves
       (record { left = faults served.left; right = faults served.right })
   pub left_time : GoesOnFrom left_origin moment left_at served.left
   pub right_time : GoesOnFrom right_origin moment left_at served.right
+  pub past :
+      LeavesFrom seen moment left_at left_origin right_origin base (requests_of (map recorded served.history))
+      (halt_of served.end) served.left served.right
 
 -- a disk as it is
 abbrev pub disk_at :

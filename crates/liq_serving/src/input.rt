@@ -1,6 +1,7 @@
 //! The word `serve`: what the lines of all sessions ask is answered at once over two disks, and the history is written.
 
 ghost use Rattle.std.specs.Prelude.{◌≡◌, [], map};
+ghost use Rattle.liq_outside.specs.Disk.{GoesOn};
 ghost use Rattle.liq_types.specs.declared.amounts.TheConstants.{LINES_MOST};
 ghost use Rattle.liq_store.specs.Causes.{counts_of};
 ghost use Rattle.liq_lines.specs.Reading.{taken_most, ReadsAtMost};
@@ -60,7 +61,7 @@ pub fn serve_input<S: Source, K: Sink, D: Disk + Send, G: Gate + Sync, R: Thread
     left: D,
     right: D,
 ) -> Finished<D>
-    ensures served { ServesInput K.held D.seen (S.left input.old) (S.left input.new) out.old out.new left right result }
+    ensures served { ServesInput K.held D.seen D.moment D.left_at (S.left input.old) (S.left input.new) out.old out.new left right result }
     ensures unread { (stop : Stop) → result.finish ≡ Finish.NotRead stop → (result.left ≡ left) × (result.right ≡ right) }
 
     // At most as many lines are taken from the source as are read, and what one read asks for.
@@ -70,6 +71,10 @@ pub fn serve_input<S: Source, K: Sink, D: Disk + Send, G: Gate + Sync, R: Thread
     ensures source { ReadCause (reading_of result.finish) (S.faults input.old) (S.faults input.new) }
     ensures sink { WriteCause result.finish (K.faults out.old) (K.faults out.new) }
     ensures disks { DiskCause result.finish (counts_of D.faults left right) (counts_of D.faults result.left result.right) }
+
+    // Time goes on at both disks, and what a crash may have left of them before stays what it was.
+    ensures left_time { GoesOn D.moment D.left_at left result.left }
+    ensures right_time { GoesOn D.moment D.left_at right result.right }
 {
     let Ok(mut outbox) = Outbox::new(alloc) else {
         let finish = Finish::NotRead(Stop::NoMemory);

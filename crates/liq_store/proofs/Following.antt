@@ -1,5 +1,5 @@
 -- What a call tells of the ordered list, and what an opening tells.
-use Rattle.std.proofs.Common.{◌≡◌, ◌∙◌, ℕ, List, Option, Result, Ok, Err, IfOk, IfErr, sym, ap, ap₂, subst}
+use Rattle.std.proofs.Common.{◌≡◌, ◌≢◌, ◌∙◌, ℕ, List, Option, None, Result, Ok, Err, IfOk, IfErr, sym, ap, ap₂, subst}
 use Rattle.liq_types.specs.declared.events.ListChange.{ListChange}
 use Rattle.liq_types.specs.declared.requests.Command.{Command}
 use Rattle.liq_types.specs.declared.requests.Request.TheVariants.{Do}
@@ -12,9 +12,11 @@ use Rattle.liq_store.specs.declared.answers.StoreFault.{StoreFault}
 use Rattle.liq_store.specs.declared.answers.StoreWhy.TheVariants as why
 use Rattle.liq_store.specs.Beginning.{IsUnbegun, IsUnbegunBy}
 use Rattle.liq_store.specs.Causes.{counts_of}
+use Rattle.liq_store.specs.Keeping.{IsAtRest, IsGoing, IsInOrder}
 use Rattle.liq_store.specs.Opening.{OpensOn, left_after, right_after}
 use Rattle.liq_store.specs.Stored.{Stored}
 use Rattle.liq_store.specs.Telling.{told_by, told_of}
+use Rattle.liq_store.proofs.Going.{going_of}
 use Rattle.liq_store.proofs.Steps.{planned_allowed}
 
 -- what is planned is told
@@ -64,6 +66,25 @@ module _ {D : Type 0} (store : Stored D) (result : Result (Stored D) (StoreFault
           counts = ap₂ (counts_of faults) refuses.0 refuses.1 ∙ opened.counts;
           stays = λ l r a b tl tr ta tb. opened.stays l r a b tl tr (ap seen (sym refuses.0) ∙ ta) (ap seen (sym refuses.1) ∙ tb);
         })
+
+  -- where there is no memory for it nothing is pending
+  module _ (seen : D → Option (List ℕ)) (moment : D → ℕ) (left_at : D → ℕ → List ℕ → Type 0) where
+    abbrev Rests : StoreFault D → Type 0
+    Rests e = e.why ≢ why.DiskFault → IsAtRest seen moment left_at e.left × IsAtRest seen moment left_at e.right
+
+    pub unlisted_rests : store.stopped ≡ None → IsInOrder seen moment left_at store → IfErr result Rests
+    unlisted_rests none order = by result refused
+      where
+        going : IsGoing seen moment left_at store
+        going = going_of seen moment left_at store none order
+
+        by : (r : Result (Stored D) (StoreFault D))
+            → IfErr r (λ e. (e.left ≡ store.left) × (e.right ≡ store.right) × (e.why ≡ why.NoMemory)) → IfErr r Rests
+        by (Ok listed) refuses = tt
+        by (Err e) refuses = λ cause. (
+          subst (IsAtRest seen moment left_at) (sym refuses.0) going.left,
+          subst (IsAtRest seen moment left_at) (sym refuses.1) going.right,
+        )
 
 pub uncreated : {D : Type 0} (seen : D → Option (List ℕ)) (faults : D → ℕ) (left right : D) (e : StoreFault D) → e.why ≡ why.DiskFault → Counted (faults left) (faults e.left) → IsUnbegun seen faults left right e
 uncreated seen faults left right e fault counted = subst (IsUnbegunBy seen faults left right e) (sym fault) counted

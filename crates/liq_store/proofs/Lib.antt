@@ -10,6 +10,7 @@ pub mod Listing
 pub mod Looking
 pub mod OneDisk
 pub mod Opening
+pub mod Past
 pub mod Recovered
 pub mod Replaying
 pub mod Steps

@@ -1,5 +1,5 @@
 -- What an opening of two disks finds and leaves, by what it finds and leaves of each.
-use Rattle.std.proofs.Common.{◌≡◌, ◌⊎◌, inl, inr, ◌↔◌, ℕ, List, [], Option, Some, None, IfSome, IsSome, Bool, true, false, Result, Ok, Err, IfOk, IfErr, refl, sym, ◌∙◌, ap, ap₂, subst, arith, ◌≤◌, ⊎_elim}
+use Rattle.std.proofs.Common.{◌≡◌, ◌≢◌, ◌⊎◌, inl, inr, ◌↔◌, ℕ, List, [], Option, Some, None, IfSome, IsSome, Bool, true, false, Result, Ok, Err, IfOk, IfErr, refl, sym, ◌∙◌, ap, ap₂, subst, arith, ◌≤◌, ⊎_elim}
 use Rattle.liq_outside.specs.Disk.{LeavesOnly, LeftNow, Only}
 use Rattle.liq_outside.specs.Faults.{Rose}
 use Rattle.liq_outside.proofs.Moments.{chained, weaker}
@@ -316,3 +316,14 @@ module _ {D : Type 0} (seen : D → Option (List ℕ)) (moment : D → ℕ) (lef
     reads = λ l r x y s tl tr kept tx ty.
         recovered l r x y s kept (left_reads seen moment left_at left right lr rr sl sr l r x tl e.left is_left tx) (right_reads seen moment left_at left right lr rr sl sr r y tr e.right is_right ty);
   }
+
+  -- and nothing is pending where no disk met a fault
+  pub judged_rests : (left right : D) (lr rr : Result (Stood D) (StandFault D))
+      → StandsAs seen moment left_at true left lr → StandsAs seen moment left_at false right rr
+      → (e : StoreFault D) → e.left ≡ disk_in lr → e.right ≡ disk_in rr → IsJudged lr rr e.why
+      → e.why ≢ why.DiskFault → IsAtRest seen moment left_at e.left × IsAtRest seen moment left_at e.right
+  judged_rests left right lr rr sl sr e is_left is_right judged other =
+      let faultless = judged_faultless lr rr e.why judged other in (
+        subst (IsAtRest seen moment left_at) (sym is_left) (sl.rest faultless.0),
+        subst (IsAtRest seen moment left_at) (sym is_right) (sr.rest faultless.1),
+      )

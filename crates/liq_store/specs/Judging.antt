@@ -39,10 +39,12 @@ IsFine (Ok stood) = Unit {0}
 IsFine (Err met) = ⊥
 
 -- a device's fault where one was met; else the left disk's damage before the right one's
-abbrev pub IsJudged : {D : Type 0} → Result (Stood D) (StandFault D) → Result (Stood D) (StandFault D) → StoreWhy → Type 0
+abbrev pub IsJudged : {D : Type 0}
+    → Result (Stood D) (StandFault D) → Result (Stood D) (StandFault D) → StoreWhy → Type 0
 IsJudged left right why.DiskFault = MetFault left ⊎ MetFault right
 IsJudged left right (why.Damaged Left damage) = IsDamagedBy damage left × IsFaultless left × IsFaultless right
-IsJudged left right (why.Damaged Right damage) = IsFine left × IsDamagedBy damage right × IsFaultless left × IsFaultless right
+IsJudged left right (why.Damaged Right damage) =
+    IsFine left × IsDamagedBy damage right × IsFaultless left × IsFaultless right
 IsJudged left right why.NoMemory = IsFaultless left × IsFaultless right
 
 -- Of two journals that of the greater generation is taken.

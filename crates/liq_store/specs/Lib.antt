@@ -4,8 +4,10 @@ pub mod Calling
 pub mod Causes
 pub mod Judging
 pub mod Keeping
+pub mod Leaving
 pub mod Memory
 pub mod Opening
+pub mod Past
 pub mod Preparing
 pub mod Reading
 pub mod Replays

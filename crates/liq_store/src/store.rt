@@ -1,5 +1,5 @@
 // The protocol over two disks.
-ghost use Rattle.std.specs.Prelude.{◌≡◌, ◌↔◌, ◌+◌, ◌++◌, [], min, Some, None, Ok, Err, List, ℕ, false};
+ghost use Rattle.std.specs.Prelude.{◌≡◌, ◌≢◌, ◌↔◌, ◌+◌, ◌++◌, [], min, Some, None, Ok, Err, List, ℕ, false};
 ghost use Rattle.std.specs.Prelude.{length, take, IfOk, IfErr, IfSome, IsSome, true};
 ghost use Rattle.std.specs.List.{All};
 ghost use Rattle.liq_outside.specs.Disk.{GoesOn, LeavesOnly, LeftNow, Only};
@@ -9,7 +9,6 @@ ghost use Rattle.liq_types.specs.State.{State, opening};
 ghost use Rattle.liq_core.specs.Core.{StandsFor};
 ghost use Rattle.liq_core.specs.Entries.{told_whole};
 ghost use Rattle.liq_rules.specs.View.{all_followed, view_of};
-ghost use Rattle.liq_journal.specs.declared.damage.Damage.{Damage};
 ghost use Rattle.liq_journal.specs.Causes.{Counted};
 ghost use Rattle.liq_journal.specs.Looked.{Looked};
 ghost use Rattle.liq_journal.specs.Opened.{IsUnshut, OpenLeaves};
@@ -118,8 +117,9 @@ impl<D: Disk> Store<D> {
         // A disk on which none is open has no other byte than 0 at place 0, if it has one.
         ensures shut { IfOk result (λ store. IfSome (D.seen (disk_beside store)) (λ now. found_on (has_odd (other store.side)) now ≡ Absent → IsUnshut now → ⊥)) }
 
-        // Both disks are synced before either is judged.
-        ensures synced { IfErr result (λ e. (side : Side) (damage : Damage) → e.why ≡ StoreWhy.Damaged side damage → IsAtRest D.seen D.moment D.left_at e.left × IsAtRest D.seen D.moment D.left_at e.right) }
+        // Where nothing is opened and no disk met a fault nothing is pending: both disks are synced before either is judged.
+        ensures rests { IfErr result (λ e. (e.why ≢ StoreWhy.DiskFault)
+            → IsAtRest D.seen D.moment D.left_at e.left × IsAtRest D.seen D.moment D.left_at e.right) }
 
         // Of two disks that are kept for a state a stop leaves two that are kept for it, or for it after the command that they held
         // unfinished; and so does a fault, whatever was pending.
@@ -319,6 +319,8 @@ fn begin_told<D: Disk>(
     ensures left { BeginsLeft D.seen D.moment D.left_at left right (left_after result) }
     ensures right { right_after result ≡ disk_of right }
     ensures cause { IfErr result (IsUnbegun D.seen D.faults (disk_of left) (disk_of right)) }
+    ensures rests { IfErr result (λ e. (e.why ≢ StoreWhy.DiskFault)
+        → IsAtRest D.seen D.moment D.left_at e.left × IsAtRest D.seen D.moment D.left_at e.right) }
 {
     match begin(alloc, left, right) {
         Ok(store) => with_list(store),

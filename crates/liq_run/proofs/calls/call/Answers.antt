@@ -2,9 +2,8 @@ use Rattle.std.proofs.Common.{rules, subst, sym, ◌∙◌}
 use Rattle.liq_core.specs.Core.{state_of}
 use Rattle.liq_store.specs.Keeping.{IsKeptAround}
 use Rattle.liq_store.specs.Stored.{Stored}
-use Rattle.liq_store.proofs.Past.{failing}
 use Rattle.liq_run.specs.Calls.{KeepsAround}
-use Rattle.liq_run.proofs.Faulted.{accepted_command, no_other, read_so}
+use Rattle.liq_run.proofs.Faulted.{accepted_command, failing, no_other, read_so}
 use Rattle.liq_run.proofs.Passing.{called, replied_past, stopped_past, waiting_past}
 use Rattle.liq_run.proofs.calls.call.Goals as goal
 

@@ -4,7 +4,7 @@ use Rattle.liq_serve.specs.Outside.{Outside}
 use Rattle.liq_ends.proofs.Causes.{write_no_fewer}
 use Rattle.liq_pairs.specs.Pair.{state_on}
 use Rattle.liq_scripts.specs.Output.{served as text_of}
-use Rattle.liq_serve.proofs.Served.{all_served, came_by, disk_cause, if_found, never_rotated, sink_cause, source_cause}
+use Rattle.liq_serve.proofs.Served.{all_served, came_by, disk_cause, fault_of, if_found, never_rotated, sink_cause, source_cause}
 use Rattle.liq_ends.proofs.Opened.{state_formed}
 use Rattle.liq_ends.proofs.Shares.{all_shares}
 use Rattle.liq_serve.proofs.serve.serve_on.Goals as goal
@@ -34,6 +34,14 @@ returns-clause-served g c =
       read = came.read;
       came = rw is came.so;
       written = c.tell_last.ensures.told (text_of served.history) (held start) (faults start) fewer (rw is (all_served held served.history start middle how served.written));
+      past = λ l r told_l told_r. if_found (state_on l r) _ (λ start at only_l only_r kept.
+          let so = answered.past l r start told_l told_r only_l only_r at kept in
+          record {
+            fault = so.fault;
+            fault_is = rw is (fault_of g.S.Source.left g.S.Source.faults held faults g.D.Disk.seen g.D.Disk.faults g.D.Disk.moment g.D.Disk.left_at before after served.asked served.history how answered.halted so.fault answered.answers so.fault_is);
+            images = so.images;
+            rests = so.rests;
+          });
       lawful = λ l r told_l told_r. if_found (state_on l r) _ (λ start is. (answered.legal l r start told_l told_r is, all_shares start (requests_of served.history) (state_formed l r start is)));
     }
 

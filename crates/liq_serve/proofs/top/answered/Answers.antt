@@ -27,4 +27,4 @@ returns-in-Err g c =
     let ran = c.end_unread-status in
     let failed : Result Word WordsFault = Err c.in-Err.fault in
     let none : (failed ≡ Err Usage) ↔ ((word : Word) → Ask words word → ⊥) = subst (λ (r : Result Word WordsFault). (r ≡ Err Usage) ↔ ((word : Word) → Ask words word → ⊥)) c.in-Err.is c.requires.usage in
-    unread_ends g.S.Source.left g.S.Source.faults g.K.Sink.held g.K.Sink.faults g.D.Disk.seen g.D.Disk.faults g.D.Disk.moment g.D.Disk.left_at before ran.new.out words c.in-Err.fault ran.result ran.ensures.no_memory ran.ensures.usage none
+    unread_ends g.S.Source.left g.S.Source.faults g.K.Sink.held g.K.Sink.faults g.D.Disk.seen g.D.Disk.faults g.D.Disk.moment g.D.Disk.left_at g.met.D.Disk.seen_may_stay before ran.new.out words c.in-Err.fault ran.result ran.ensures.no_memory ran.ensures.usage none

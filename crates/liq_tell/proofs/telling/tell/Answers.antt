@@ -1,11 +1,17 @@
-use Rattle.std.proofs.Common.{◌≡◌, refl, Ok, ℕ, List, sym, subst, ap, ◌∙◌}
+use Rattle.std.proofs.Common.{◌≡◌, refl, Ok, ℕ, List, [], Option, sym, subst, ap, ◌∙◌}
 use Rattle.liq_types.specs.declared.requests.Command.{Command}
 use Rattle.liq_types.specs.State.{opening_with}
 use Rattle.liq_pairs.specs.Pair.{commands_on}
 use Rattle.liq_pairs.specs.Replay.{replay}
 use Rattle.liq_ends.specs.declared.ending.Ending.{Ending}
-use Rattle.liq_ends.specs.Disks.{DisksStay}
+use Rattle.liq_outside.specs.Disk.{GoesOn}
+use Rattle.liq_outside.proofs.Moments.{joined}
+use Rattle.liq_store.specs.Keeping.{IsInOrderWith}
+use Rattle.liq_store.specs.Leaving.{LeavesBoth}
+use Rattle.liq_store.proofs.Past.{begins, ends_kept}
+use Rattle.liq_ends.specs.Disks.{DisksStay, IsFaultOfTelling, LeavesOfRun}
 use Rattle.liq_ends.proofs.Opened.{is_some_of, opened_at, opened_still}
+use Rattle.liq_ends.proofs.Passing.{looked_past, unopened_past}
 use Rattle.liq_tell.specs.Told.{WritesTold}
 use Rattle.liq_tell.proofs.Audited.{stand_too, taken_tells}
 use Rattle.liq_tell.proofs.Generations.{opened_from_one}
@@ -38,7 +44,7 @@ returns-clause-told g c l r told_l told_r start is =
     let end = wrote.result in
     let left = wrote.new.store in
     let stand = opened_still seen g.D.Disk.faults g.D.Disk.moment g.D.Disk.left_at c.args.left c.args.right store l r start opened c.in-Ok.ensures.order stands told_l told_r is in
-    let stay = disks_stay seen end l r start left.left left.right (stand_too seen l r start store.left store.right left.left left.right wrote.ensures.left wrote.ensures.right stand) in
+    let stay = disks_stay seen end l r start left.left left.right (stand_too seen l r start store.left store.right left.left left.right wrote.ensures.left.same wrote.ensures.right.same stand) in
     let from_one =
     opened_from_one seen g.D.Disk.moment g.D.Disk.left_at store start opened.going c.in-Ok.ensures.order stands
     (c.in-Ok.ensures.left_telling.1 (is_some_of (seen c.args.left) l told_l)) (c.in-Ok.ensures.right_telling.1 (is_some_of (seen c.args.right) r told_r)) in
@@ -56,3 +62,44 @@ returns-clause-told g c l r told_l told_r start is =
 
 pub returns-clause-damaged : goal.returns-clause-damaged
 returns-clause-damaged g c l r told_l told_r side damage is = absurd (cc ((c.in-Ok.ensures.opened.state l r told_l told_r).1, is))
+
+pub returns-in-Err-clause-past : goal.returns-in-Err-clause-past
+returns-in-Err-clause-past g c l r told_l told_r start is =
+    let seen = g.D.Disk.seen in
+    let moment = g.D.Disk.moment in
+    let left_at = g.D.Disk.left_at in
+    let fault = c.in-Err.fault in
+    let opens = c.in-Err.ensures in
+    subst (λ (e : Ending g.row.D.Denot). LeavesOfRun seen moment left_at c.args.left c.args.right (IsFaultOfTelling e.end) l r start [] e.left e.right) (sym c.unopened.ensures)
+    (unopened_past seen moment left_at g.met.D.Disk.seen_may_stay g.D.Disk.faults fault.why fault.left fault.right c.args.left c.args.right
+    opens.not_opened opens.left_time opens.right_time opens.rests opens.recovers opens.left_leaves opens.right_leaves l r start told_l told_r is)
+
+pub returns-clause-past : goal.returns-clause-past
+returns-clause-past g c l r told_l told_r start is only_l only_r kept =
+    let seen = g.D.Disk.seen in
+    let moment = g.D.Disk.moment in
+    let left_at = g.D.Disk.left_at in
+    let stays = g.met.D.Disk.seen_may_stay in
+    let opens = c.in-Ok.ensures in
+    let store = c.in-Ok.store in
+    let now = subst (λ (stopped : Option ℕ). IsInOrderWith seen moment left_at stopped store) opens.opened.going opens.order in
+    let past =
+    begins seen moment left_at stays l r start g.D.Disk.faults c.args.left c.args.right store told_l told_r kept (opens.left_leaves l r told_l told_r only_l) (opens.right_leaves r told_r only_r)
+    opens.left_telling opens.right_telling opens.opened opens.order in
+    let wrote = c.write_told-end in
+    let end = wrote.result in
+    let left = wrote.new.store in
+    subst (λ (d : g.row.D.Denot). LeavesBoth seen moment left_at c.args.left c.args.right (IsFaultOfTelling end) l r start [] d c.close-left.result.1) (sym c.close-left.ensures.left)
+    (subst (λ (d : g.row.D.Denot). LeavesBoth seen moment left_at c.args.left c.args.right (IsFaultOfTelling end) l r start [] left.left d) (sym c.close-left.ensures.right)
+    (looked_past seen moment left_at stays c.args.left c.args.right end l r start store.left store.right left.left left.right past.later wrote.ensures.left wrote.ensures.right now.left now.right past.leaves
+    (ends_kept seen moment left_at stays _ l r start [] store past opens.order)))
+
+pub returns-clause-left_time : goal.returns-clause-left_time
+returns-clause-left_time g c =
+    subst (GoesOn g.D.Disk.moment g.D.Disk.left_at c.args.left) (sym c.close-left.ensures.left)
+    (joined g.D.Disk.moment g.D.Disk.left_at c.args.left c.in-Ok.store.left c.write_told-end.new.store.left c.in-Ok.ensures.left_time c.write_told-end.ensures.left.leaves.goes_on)
+
+pub returns-clause-right_time : goal.returns-clause-right_time
+returns-clause-right_time g c =
+    subst (GoesOn g.D.Disk.moment g.D.Disk.left_at c.args.right) (sym c.close-left.ensures.right)
+    (joined g.D.Disk.moment g.D.Disk.left_at c.args.right c.in-Ok.store.right c.write_told-end.new.store.right c.in-Ok.ensures.right_time c.write_told-end.ensures.right.leaves.goes_on)

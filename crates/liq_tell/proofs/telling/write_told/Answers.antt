@@ -21,3 +21,9 @@ returns-in-Audit-clause-written g c held w s told found stands from_one leads =
     let wrote = c.write_audit in
     subst (λ (what : Told). WritesTold what s w.commands wrote.result (g.K.Sink.held c.args.out.now) (g.K.Sink.held wrote.new.out)) (sym c.in-Audit.is)
     (wrote.ensures.written held w s told found stands from_one leads)
+
+pub returns-in-State-clause-no_line : goal.returns-in-State-clause-no_line
+returns-in-State-clause-no_line g c number = (c.write_standing.ensures.no_number number).0
+
+pub returns-in-State-clause-no_limit : goal.returns-in-State-clause-no_limit
+returns-in-State-clause-no_limit g c other number = let so = c.write_standing.ensures.no_number number in (so.1, so.2)

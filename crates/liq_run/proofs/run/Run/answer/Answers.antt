@@ -1,8 +1,12 @@
-use Rattle.std.proofs.Common.{Err, Result, ap, sym, subst, refl}
+use Rattle.std.proofs.Common.{Err, List, Result, ◌∷◌, ◌++◌, [], ap, sym, subst, refl}
+use Rattle.liq_types.specs.declared.replies.Reply.{Reply}
+use Rattle.liq_types.specs.declared.requests.Request.{Request}
 use Rattle.liq_ends.specs.declared.halts.Halt.{Halt}
 use Rattle.liq_ends.specs.declared.halts.Halt.TheVariants.{ReadFault, WriteFault, DiskFault}
 use Rattle.liq_ends.specs.Causes.{WriteCause}
 use Rattle.liq_ends.proofs.Causes.{write_same}
+use Rattle.liq_run.specs.Passing.{IsPastOf, IsStoppedPastOf, Passes}
+use Rattle.liq_run.proofs.Passing.{asked_past, passes_as}
 use Rattle.liq_run.proofs.Residual.{handed_on, same_halt}
 use Rattle.liq_run.proofs.run.Run.answer.Goals as goal
 
@@ -33,4 +37,11 @@ returns-in_err-reply-in-Do-clause-sink g c =
 pub returns-in-Ask-clause-past : goal.returns-in-Ask-clause-past
 returns-in-Ask-clause-past g c ol or l r start requests past =
     subst (λ (q : Request). IsPastOf g.D.Disk.seen g.D.Disk.moment g.D.Disk.left_at ol or l r start (requests ++ q ∷ []) c.args.self.now.store) (sym c.in-Ask.is)
-    (asked_past g.D.Disk.seen g.D.Disk.moment g.D.Disk.left_at g.met.D.Disk.seen_may_stay ol or l r start c.args.self.now.store requests c.in-Ask.query.now past)
+    (asked_past g.D.Disk.seen g.D.Disk.moment g.D.Disk.left_at g.met.D.Disk.seen_may_stay ol or l r start c.args.self.now.store requests c.in-Ask.query past)
+
+pub returns-in_err-reply-in-Do-clause-past : goal.returns-in_err-reply-in-Do-clause-past
+returns-in_err-reply-in-Do-clause-past g c ol or l r start requests past =
+    let store = c.call.new.store in
+    let halt = c.in_err-reply-in-Do.field-0.0 in
+    subst (λ (end : Result (Unit {0}) Halt). Passes g.D.Disk.seen g.D.Disk.moment g.D.Disk.left_at ol or l r start requests c.args.request.now end store) (sym (handed_on c.from_residual-in_err-reply-in-Do.result halt c.from_residual-in_err-reply-in-Do.ensures.1))
+    (passes_as Reply (Unit {0}) (λ rs. IsPastOf g.D.Disk.seen g.D.Disk.moment g.D.Disk.left_at ol or l r start rs store) (λ rs q. IsStoppedPastOf g.D.Disk.seen g.D.Disk.moment g.D.Disk.left_at ol or l r start rs q store) requests c.args.request.now halt (c.in_err-reply-in-Do.ensures.past ol or l r start requests past))

@@ -92,3 +92,13 @@ pub returns-in-Err-clause-few : goal.returns-in-Err-clause-few
 returns-in-Err-clause-few g c =
     let failed = c.in-Err.ensures.failed in
     few_behind _ c.loop-answered.answered _ _ c.loop-answered.invariant.few (omega (arith, c.loop-answered.auto.answered-end)) [] _ _ failed.0 (omega (arith, c.next_byte.ensures.held))
+
+pub returns-in_err-turn-clause-run : goal.returns-in_err-turn-clause-run
+returns-in_err-turn-clause-run g c start stands bytes told ol or l r past =
+    let halt = c.in_err-turn.field-0.0 in
+    let store = c.turn.new.self.store in
+    let held = g.K.Sink.held in
+    subst (λ (end : Result (Unit {0}) Halt). Comes start end store.core (λ requests. IsPastOf g.D.Disk.seen g.D.Disk.moment g.D.Disk.left_at ol or l r start requests store) (KeepsAround g.D.Disk.seen store.left store.right)
+    (λ requests request. IsStoppedPastOf g.D.Disk.seen g.D.Disk.moment g.D.Disk.left_at ol or l r start requests request store) bytes (g.S.Source.left c.turn.new.input) c.turn.new.self.waiting.items (held c.args.out.now) (held c.turn.new.out))
+    (sym (handed_on c.from_residual.result halt c.from_residual.ensures.1))
+    (c.in_err-turn.ensures.turn start bytes (held c.args.out.now) ol or l r (c.loop-answered.invariant.answered start stands bytes told ol or l r past))

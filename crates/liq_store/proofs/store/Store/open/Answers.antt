@@ -4,7 +4,7 @@ use Rattle.liq_store.specs.declared.standing.StandFault.{StandFault}
 use Rattle.liq_store.specs.declared.standing.Stood.{Stood}
 use Rattle.liq_store.specs.Standing.{CountsStand, disk_in}
 use Rattle.liq_store.specs.Opening.{left_after, right_after}
-use Rattle.liq_store.proofs.Opening.{StandsAs, begun_not, begun_opened, begun_reads_kept, judged_not, left_begun, left_opened, right_opened, same_disk, stood_on}
+use Rattle.liq_store.proofs.Opening.{StandsAs, begun_not, begun_opened, begun_reads_kept, judged_not, judged_rests, left_begun, left_opened, right_opened, same_disk, stood_on}
 use Rattle.liq_store.proofs.store.Store.open.Goals as goal
 
 pub begin_told-requires-clause-left : goal.begin_told-requires-clause-left
@@ -85,3 +85,9 @@ returns-in-Err-clause-not_opened g c =
     let sl : StandsAs g.D.Disk.seen g.D.Disk.moment g.D.Disk.left_at true c.args.left c.stand-left.result = (record { found = c.stand-left.ensures.found; left = c.stand-left.ensures.left; same = c.stand-left.ensures.same; rest = c.stand-left.ensures.rest; journal = c.stand-left.ensures.journal; crash = c.stand-left.ensures.crash; reads = c.stand-left.ensures.reads; telling = c.stand-left.ensures.telling }) in
     let sr : StandsAs g.D.Disk.seen g.D.Disk.moment g.D.Disk.left_at false c.args.right c.stand-right.result = (record { found = c.stand-right.ensures.found; left = c.stand-right.ensures.left; same = c.stand-right.ensures.same; rest = c.stand-right.ensures.rest; journal = c.stand-right.ensures.journal; crash = c.stand-right.ensures.crash; reads = c.stand-right.ensures.reads; telling = c.stand-right.ensures.telling }) in
     judged_not g.D.Disk.seen g.D.Disk.moment g.D.Disk.left_at g.D.Disk.faults c.args.left c.args.right c.stand-left.result c.stand-right.result sl sr c.stand-left.ensures.cause c.stand-right.ensures.cause c.in-Err.fault c.in-Err.ensures.left c.in-Err.ensures.right c.in-Err.ensures.why
+
+pub returns-in-Err-clause-rests : goal.returns-in-Err-clause-rests
+returns-in-Err-clause-rests g c =
+    let sl : StandsAs g.D.Disk.seen g.D.Disk.moment g.D.Disk.left_at true c.args.left c.stand-left.result = (record { found = c.stand-left.ensures.found; left = c.stand-left.ensures.left; same = c.stand-left.ensures.same; rest = c.stand-left.ensures.rest; journal = c.stand-left.ensures.journal; crash = c.stand-left.ensures.crash; reads = c.stand-left.ensures.reads; telling = c.stand-left.ensures.telling }) in
+    let sr : StandsAs g.D.Disk.seen g.D.Disk.moment g.D.Disk.left_at false c.args.right c.stand-right.result = (record { found = c.stand-right.ensures.found; left = c.stand-right.ensures.left; same = c.stand-right.ensures.same; rest = c.stand-right.ensures.rest; journal = c.stand-right.ensures.journal; crash = c.stand-right.ensures.crash; reads = c.stand-right.ensures.reads; telling = c.stand-right.ensures.telling }) in
+    judged_rests g.D.Disk.seen g.D.Disk.moment g.D.Disk.left_at g.D.Disk.faults c.args.left c.args.right c.stand-left.result c.stand-right.result sl sr c.in-Err.fault c.in-Err.ensures.left c.in-Err.ensures.right c.in-Err.ensures.why
