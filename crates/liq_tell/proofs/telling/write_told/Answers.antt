@@ -27,3 +27,9 @@ returns-in-State-clause-no_line g c number = (c.write_standing.ensures.no_number
 
 pub returns-in-State-clause-no_limit : goal.returns-in-State-clause-no_limit
 returns-in-State-clause-no_limit g c other number = let so = c.write_standing.ensures.no_number number in (so.1, so.2)
+
+pub returns-in-Report-clause-no_line : goal.returns-in-Report-clause-no_line
+returns-in-Report-clause-no_line g c number = (c.write_report.ensures.no_number number).0
+
+pub returns-in-Report-clause-no_limit : goal.returns-in-Report-clause-no_limit
+returns-in-Report-clause-no_limit g c other number = let so = c.write_report.ensures.no_number number in (so.1, so.2)
