@@ -26,5 +26,5 @@ abbrev pub line : App
 line =
     let alone : Text → App → App = λ name app. with_subcommand app (new_app name).top in
     let words =
-        alone (codes "report") (alone (codes "audit") (alone (codes "state") (alone (codes "serve") (alone (codes "run") base)))) in
+    alone (codes "report") (alone (codes "audit") (alone (codes "state") (alone (codes "serve") (alone (codes "run") base)))) in
     with_subcommand words load.top
