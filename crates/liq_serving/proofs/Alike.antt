@@ -1,16 +1,23 @@
 -- Serving says the same of each state for which the store's protocol stands.
-use Rattle.std.proofs.Common.{ℕ, inl, inr, ⊎_elim, List, map, Option, ◌∙◌, refl, arith}
+use Rattle.std.proofs.Common.{ℕ, inl, inr, ⊎_elim, List, map, Option, Some, None, ◌∙◌, ◌≡◌, sym, subst, refl, arith}
+use Rattle.liq_types.specs.declared.requests.Command.{Command}
 use Rattle.liq_types.specs.declared.requests.Request.{Request}
 use Rattle.liq_types.specs.State.{State}
 use Rattle.liq_rules.specs.History as history
 use Rattle.liq_rules.specs.History.{IsLegal, requests_of}
 use Rattle.liq_rules.proofs.AlikeReads.{Alike}
-use Rattle.liq_rules.proofs.AlikeReplies.{replies_alike, run_alike, step_alike}
+use Rattle.liq_rules.proofs.AlikeReplies.{after_alike, replies_alike, ruling_alike, run_alike, step_alike}
+use Rattle.liq_pairs.specs.Past.{AtCommand, Fault, LeavesPast, NoFault}
 use Rattle.liq_pairs.proofs.Alike.{kept_alike, settled_alike}
+use Rattle.liq_store.proofs.Past.{past_alike}
 use Rattle.liq_sessions.specs.declared.script.Script.{Script}
 use Rattle.liq_store.specs.Keeping.{IsKeptAround}
+use Rattle.liq_store.specs.Leaving.{RestAtEnd}
 use Rattle.liq_rules.specs.Recorded.{recorded}
+use Rattle.liq_book.specs.declared.items.Halt.{Halt}
 use Rattle.liq_book.specs.Origin.{DiskAt, IsDiskAt}
+use Rattle.liq_book.specs.Past.{IsFaultOf, LeavesFrom, since_origin}
+use Rattle.liq_serving.specs.Ends.{halt_of}
 use Rattle.liq_serving.specs.declared.served.End.{End}
 use Rattle.liq_serving.specs.declared.served.End.TheVariants as end
 use Rattle.liq_serving.specs.declared.served.Served.{Served}
@@ -42,6 +49,35 @@ module _ {D : Type 0} (seen : D → Option (List ℕ)) (faults : D → ℕ) (mom
         (around_alike alike halt.request l r around.0, λ a b in_left in_right. around_alike alike halt.request a b (around.1 a b in_left in_right)),
   )
 
+  abbrev LeavesBy : DiskAt → DiskAt → List ℕ → List ℕ → State → List Request → Option Halt → D → D → Type 0
+  LeavesBy left_origin right_origin l r s requests halt left right =
+      (fault : Fault) × IsFaultOf halt fault
+      × LeavesPast moment left_at (since_origin left_origin right_origin) l r s requests fault left right
+      × RestAtEnd seen moment left_at l r s requests fault left right
+
+  from_alike : {s t : State} → Alike s t → (left_origin right_origin : DiskAt) (requests : List Request) (halt : Option Halt) (left right : D)
+      → LeavesFrom seen moment left_at left_origin right_origin s requests halt left right → LeavesFrom seen moment left_at left_origin right_origin t requests halt left right
+  from_alike {s} {t} alike left_origin right_origin requests halt left right from l r told_left told_right = by halt (from l r told_left told_right) where
+    leaves_at : (fault now : Fault) → fault ≡ now → LeavesPast moment left_at (since_origin left_origin right_origin) l r s requests fault left right
+        → LeavesPast moment left_at (since_origin left_origin right_origin) l r t requests now left right
+    leaves_at fault now is leaves =
+        past_alike moment left_at (since_origin left_origin right_origin) l r s t requests now left right alike
+        (subst (λ (f : Fault). LeavesPast moment left_at (since_origin left_origin right_origin) l r s requests f left right) is leaves)
+
+    rests_at : (fault now : Fault) → fault ≡ now → RestAtEnd seen moment left_at l r s requests fault left right → RestAtEnd seen moment left_at l r s requests now left right
+    rests_at fault now is rests = subst (λ (f : Fault). RestAtEnd seen moment left_at l r s requests f left right) is rests
+
+    by : (h : Option Halt) → LeavesBy left_origin right_origin l r s requests h left right → LeavesBy left_origin right_origin l r t requests h left right
+    by None from = (NoFault, refl, leaves_at from.0 NoFault from.1 from.2, rests_at from.0 NoFault from.1 from.3)
+    by (Some halt) from =
+        let c : Command = from.1.0 in
+        (AtCommand c, (c, from.1.1, refl), leaves_at from.0 (AtCommand c) from.1.2 from.2, around c (rests_at from.0 (AtCommand c) from.1.2 from.3)) where
+      around : (c : Command) → RestAtEnd seen moment left_at l r s requests (AtCommand c) left right → RestAtEnd seen moment left_at l r t requests (AtCommand c) left right
+      around c kept a b in_left in_right = ⊎_elim
+          (λ before. inl (kept_alike (run_alike requests alike) a b before))
+          (λ later. inr (sym (ruling_alike (run_alike requests alike) c) ∙ later.0, kept_alike (after_alike (run_alike requests alike) c) a b later.1))
+          (kept a b in_left in_right)
+
   pub serves_alike : {s t : State} → Alike s t → (left_origin right_origin : DiskAt) (scripts : List Script) (served : Served D)
       → Serves seen faults moment left_at s left_origin right_origin scripts served → Serves seen faults moment left_at t left_origin right_origin scripts served
   serves_alike alike left_origin right_origin scripts served it =
@@ -56,6 +92,7 @@ module _ {D : Type 0} (seen : D → Option (List ℕ)) (faults : D → ℕ) (mom
         cause = it.cause;
         left_time = it.left_time;
         right_time = it.right_time;
+        past = from_alike alike left_origin right_origin (requests_of entries) (halt_of served.end) served.left served.right it.past;
       }
 
   pub at_itself : (disk : D) → IsDiskAt (disk_at seen faults moment left_at disk) seen faults moment left_at disk

@@ -5,6 +5,7 @@ use Rattle.std.specs.List.{AllByRecursion, AllZip}
 use Rattle.std.proofs.lemmas.List.{length-map}
 use Rattle.std.proofs.lemmas.Slice.Zip.{AllZip-long}
 use Rattle.std.proofs.lemmas.List.Elements.{Contains-append_left, Contains-append_right}
+use Rattle.liq_outside.specs.Disk.{LeftNow}
 use Rattle.liq_types.specs.State.{State}
 use Rattle.liq_rules.specs.History as history
 use Rattle.liq_rules.specs.History.{state_after}
@@ -34,6 +35,7 @@ use Rattle.liq_book.specs.Items.{calls_of, chronicle, entries_of, faulted_in, se
 use Rattle.liq_book.specs.Origin.{DiskAt, IsAtOrigin}
 use Rattle.liq_book.specs.Seats.{AreSeated, IsNewSeat, items_seen, session_at}
 use Rattle.liq_book.proofs.Chronicles.{entries_of-chronicle}
+use Rattle.liq_book.proofs.Pasts.{begins_past, past_left}
 use Rattle.liq_serving.specs.Answered.{IsServedFrom, IsServedWhole, LacksMemory, answered_of}
 use Rattle.liq_serving.specs.declared.served.End.{End}
 use Rattle.liq_serving.specs.declared.served.End.TheVariants as end
@@ -235,13 +237,14 @@ module _ {D : Type 0} (seen : D → Option (List ℕ)) (faults : D → ℕ) (mom
         cause = l.cause;
         left_time = l.left_time;
         right_time = l.right_time;
+        past = l.past;
       }
 
   -- where there was no memory for a book
-  pub serves_none : (store : Stored D) (served : Served D) → served.left ≡ store.left → served.right ≡ store.right → served.history ≡ [] → served.end ≡ end.NoMemory
+  pub serves_none : (may_stay : (disk : D) (held : List ℕ) → seen disk ≡ Some held → LeftNow moment left_at disk held) (store : Stored D) (served : Served D) → served.left ≡ store.left → served.right ≡ store.right → served.history ≡ [] → served.end ≡ end.NoMemory
       → store.stopped ≡ None → IsInOrder seen moment left_at store → IsAtOrigin seen faults moment left_at base left_origin right_origin store
       → Serves seen faults moment left_at base left_origin right_origin scripts served
-  serves_none store served left_is right_is history_is end_is going order at = record {
+  serves_none may_stay store served left_is right_is history_is end_is going order at = record {
     legal = rw history_is (legal-empty base);
     fronts = rw history_is (λ k d within. ((slice_index_or scripts k d).requests, refl));
     whole = λ is. absurd (let e : end.NoMemory ≡ end.All = sym end_is ∙ is in cc);
@@ -251,6 +254,9 @@ module _ {D : Type 0} (seen : D → Option (List ℕ)) (faults : D → ℕ) (mom
     cause = rw (end_is, left_is, right_is, at.left.faults, at.right.faults) refl;
     left_time = rw left_is at.left.time;
     right_time = rw right_is at.right.time;
+    past =
+        rw (end_is, history_is, left_is, right_is) (past_left seen moment left_at left_origin right_origin base [] None store order going
+        (begins_past seen moment left_at left_origin right_origin may_stay faults base store going at order));
   }
 
 -- ---- what serving owes at each step

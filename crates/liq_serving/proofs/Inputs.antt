@@ -1,9 +1,11 @@
 -- What serving an input comes to, by what was read, opened and served.
 use Rattle.std.proofs.Common.{ℕ, zero, suc, ◌+◌, ◌<◌, ◌≤◌, ◌≡◌, ◌⊎◌, inl, inr, List, [], ◌∷◌, map, length, Option, Some, None, Result, Ok, Err, refl, sym, ap, ap₂, ◌∙◌, subst, arith}
-use Rattle.std.specs.Prelude.{All, Contains, Vec, slice_index_or}
+use Rattle.std.specs.Prelude.{◌↔◌, ◌≢◌, All, Contains, IsSome, Vec, slice_index_or}
 use Rattle.std.specs.List.{AllByRecursion}
 use Rattle.std.proofs.lemmas.List.Elements.{All-map}
 use Rattle.std.specs.Global.{Global}
+use Rattle.liq_outside.specs.Disk.{GoesOn, LeftNow}
+use Rattle.liq_outside.proofs.Moments.{joined}
 use Rattle.liq_types.specs.declared.amounts.TheConstants.{LINES_MOST}
 use Rattle.liq_types.specs.declared.requests.Command.{Command}
 use Rattle.liq_types.specs.declared.requests.Request.{Request}
@@ -23,7 +25,7 @@ use Rattle.liq_pairs.proofs.Keeping.{settled_kept}
 use Rattle.liq_store.specs.declared.answers.StoreWhy.{StoreWhy}
 use Rattle.liq_store.specs.declared.answers.StoreWhy.TheVariants as why
 use Rattle.liq_store.specs.Causes.{Faults, counts_of}
-use Rattle.liq_store.specs.Keeping.{IsKeptAround}
+use Rattle.liq_store.specs.Keeping.{IsAtRest, IsInOrder, IsKeptAround}
 use Rattle.liq_store.specs.Opening.{IsNotOpened, OpensOn}
 use Rattle.liq_store.specs.Stored.{Stored}
 use Rattle.liq_store.proofs.Recovered.{still_kept}
@@ -37,6 +39,7 @@ use Rattle.liq_scripts.specs.Gathering.{EndsAfter, Gathers}
 use Rattle.liq_scripts.specs.Sessions.{sessions}
 use Rattle.liq_book.specs.declared.items.Halt.{Halt}
 use Rattle.liq_book.specs.Booked.{CausesHalt}
+use Rattle.liq_book.specs.Origin.{GoesOnFrom}
 use Rattle.liq_serving.specs.Answered.{AreServedFrom, IsNextOf, IsServedFrom, IsServedWhole, LacksMemory}
 use Rattle.liq_serving.specs.declared.input.Finish.{Finish}
 use Rattle.liq_serving.specs.declared.input.Finish.TheVariants as finish
@@ -47,6 +50,7 @@ use Rattle.liq_serving.specs.declared.served.Served.{Served}
 use Rattle.liq_serving.specs.Ends.{halt_of}
 use Rattle.liq_serving.specs.Input.{Answers, DiskCause, EndsDamaged, HoldsAfter, IsFinishOf, ServesInput, StayFor, Written, reading_of}
 use Rattle.liq_serving.specs.Serves.{AreNumbered, AreSettled, LeavesDisks, Serves, disk_at}
+use Rattle.liq_serving.proofs.Stops.{LeavesAt, LeavesOpening, halted_in, leaves_served, leaves_unopened, leaves_unread}
 use Rattle.liq_serving.proofs.Told.{all_from, all_to, all_unmap}
 
 -- ---- the scripts of what was asked
@@ -104,12 +108,6 @@ around s (Do c) a b (inr kept) = by (ruling s c) refl where
   by (Repeated done) is = inl (subst (λ (r : Ruling). IsKept a b (after_ruling s c r).0) is kept)
   by Allowed is = inr (c, refl, is, subst (λ (r : Ruling). IsKept a b (after_ruling s c r).0) is kept)
 
--- the call that met it
-abbrev halted_in : End → Option (ℕ × Request)
-halted_in (end.DiskFault halt) = Some (halt.session, halt.request)
-halted_in end.All = None
-halted_in end.NoMemory = None
-
 -- ---- by the finish
 
 by_finish : (P : Finish → Type 0) (e : End) (how : Finish) → IsFinishOf e how
@@ -145,15 +143,17 @@ module _ {D : Type 0} (seen : D → Option (List ℕ)) (left right : D) where
       let right_is : b ≡ r = cc in
       (ap₂ state_on left_is right_is ∙ is, λ kept. subst (λ (x : List ℕ). IsKept x b start) (sym left_is) (subst (λ (x : List ℕ). IsKept l x start) (sym right_is) kept))
 
-module _ {K D : Type 0} (held : K → Option (List ℕ)) (seen : D → Option (List ℕ)) where
+module _ {K D : Type 0} (held : K → Option (List ℕ)) (seen : D → Option (List ℕ)) (moment : D → ℕ) (left_at : D → ℕ → List ℕ → Type 0)
+    (may_stay : (disk : D) (bytes : List ℕ) → seen disk ≡ Some bytes → LeftNow moment left_at disk bytes) where
   -- nothing was answered or written
   serves_none : (before unread : Option (List ℕ)) (out : K) (left right : D) (finished : Finished D) (asked : List (ℕ × Request)) → length asked ≤ LINES_MOST
       → ((bytes : List ℕ) → before ≡ Some bytes → EndsAfter (reading_of finished.finish) bytes unread asked)
       → Answers finished.finish None asked [] → Written held finished.finish [] out out
       → ((l r : List ℕ) (start : State) → seen left ≡ Some l → seen right ≡ Some r → state_on l r ≡ Ok start → HoldsAfter seen finished.finish None [] l r start finished.left finished.right)
       → ((l r : List ℕ) (side : Side) (damage : Damage) → seen left ≡ Some l → seen right ≡ Some r → state_on l r ≡ Err (side, damage) → EndsDamaged seen finished.finish side damage finished.left finished.right)
-      → ServesInput held seen before unread out out left right finished
-  serves_none before unread out left right finished asked few read answers written disks damaged = record {
+      → LeavesAt seen moment left_at left right finished.finish None [] finished.left finished.right
+      → ServesInput held seen moment left_at before unread out out left right finished
+  serves_none before unread out left right finished asked few read answers written disks damaged past = record {
     asked = asked;
     history = [];
     answered = record {
@@ -165,6 +165,7 @@ module _ {K D : Type 0} (held : K → Option (List ℕ)) (seen : D → Option (L
       answers = answers;
       legal = λ l r start told_l told_r is. legal-empty start;
       disks = disks;
+      past = past;
       damaged = damaged;
     };
     written = written;
@@ -172,14 +173,15 @@ module _ {K D : Type 0} (held : K → Option (List ℕ)) (seen : D → Option (L
 
   -- the input was not read to its end
   pub serves_unread : (before unread : Option (List ℕ)) (out : K) (left right : D) (why_not : Stop) → Gathers (Err why_not) before unread
-      → ServesInput held seen before unread out out left right (record { left = left; right = right; finish = finish.NotRead why_not })
+      → ServesInput held seen moment left_at before unread out out left right (record { left = left; right = right; finish = finish.NotRead why_not })
   serves_unread before unread out left right why_not gathers =
       serves_none before unread out left right (record { left = left; right = right; finish = finish.NotRead why_not }) gathers.asked gathers.few gathers.read refl refl
       (λ l r start told_l told_r is. untouched seen left right l r start told_l told_r is)
       (λ l r side damage told_l told_r is a b told_a told_b. same_state seen left right l r a b told_l told_r told_a told_b ∙ is)
+      (leaves_unread seen moment left_at may_stay left right why_not)
 
   -- there was no memory for the output, and nothing was read
-  pub serves_nothing : (before : Option (List ℕ)) (out : K) (left right : D) → ServesInput held seen before before out out left right (record { left = left; right = right; finish = finish.NotRead stop.NoMemory })
+  pub serves_nothing : (before : Option (List ℕ)) (out : K) (left right : D) → ServesInput held seen moment left_at before before out out left right (record { left = left; right = right; finish = finish.NotRead stop.NoMemory })
   serves_nothing before out left right = serves_unread before before out left right stop.NoMemory (record {
     asked = [];
     few = omega arith;
@@ -207,17 +209,27 @@ module _ {D : Type 0} (seen : D → Option (List ℕ)) (faults : D → ℕ) (lef
       (ap (λ (p : Side × Damage). p.0) same, ap (λ (p : Side × Damage). p.1) same, λ a b told_a told_b. unopened.stays (λ e. cc) l r a b told_l told_r told_a told_b ∙ is)
   unopened_damaged why.NoMemory now_left now_right unopened l r side damage told_l told_r is = λ a b told_a told_b. unopened.stays (λ e. cc) l r a b told_l told_r told_a told_b ∙ is
 
-module _ {K D : Type 0} (held : K → Option (List ℕ)) (seen : D → Option (List ℕ)) (faults : D → ℕ) (before unread : Option (List ℕ)) (out : K) (left right : D) where
+module _ {K D : Type 0} (held : K → Option (List ℕ)) (seen : D → Option (List ℕ)) (faults : D → ℕ) (moment : D → ℕ) (left_at : D → ℕ → List ℕ → Type 0)
+    (may_stay : (disk : D) (bytes : List ℕ) → seen disk ≡ Some bytes → LeftNow moment left_at disk bytes) (before unread : Option (List ℕ)) (out : K) (left right : D) where
   -- all was read, and no store was opened
   pub serves_unopened : (scripts : Vec Script Global) (why_not : StoreWhy) (now_left now_right : D) → Gathers (Ok scripts) before unread
       → IsNotOpened seen faults left right (record { left = now_left; right = now_right; why = why_not })
-      → ServesInput held seen before unread out out left right (record { left = now_left; right = now_right; finish = finish.NotOpened why_not })
-  serves_unopened scripts why_not now_left now_right gathers unopened =
-      serves_none held seen before unread out left right (record { left = now_left; right = now_right; finish = finish.NotOpened why_not }) gathers.asked gathers.few gathers.read refl refl
+      → LeavesOpening seen moment left_at left right now_left now_right
+      → GoesOn moment left_at left now_left → GoesOn moment left_at right now_right
+      → (why_not ≢ why.DiskFault → IsAtRest seen moment left_at now_left × IsAtRest seen moment left_at now_right)
+      → ServesInput held seen moment left_at before unread out out left right (record { left = now_left; right = now_right; finish = finish.NotOpened why_not })
+  serves_unopened scripts why_not now_left now_right gathers unopened opening left_time right_time rest =
+      serves_none held seen moment left_at may_stay before unread out left right (record { left = now_left; right = now_right; finish = finish.NotOpened why_not }) gathers.asked gathers.few gathers.read refl refl
       (unopened_holds seen faults left right why_not now_left now_right unopened)
       (unopened_damaged seen faults left right why_not now_left now_right unopened)
+      (leaves_unopened seen moment left_at may_stay left right why_not now_left now_right opening left_time right_time rest)
 
 -- ---- the sessions were served
+
+module _ {D : Type 0} (seen : D → Option (List ℕ)) (faults : D → ℕ) (moment : D → ℕ) (left_at : D → ℕ → List ℕ → Type 0) where
+  -- the law of moments from a disk as it was
+  pub time_since : (old new : D) → GoesOnFrom (disk_at seen faults moment left_at old) moment left_at new → GoesOn moment left_at old new
+  time_since old new from = record { later = from.later; past = from.past; kept = from.kept }
 
 module _ {D : Type 0} (seen : D → Option (List ℕ)) (faults : D → ℕ) (moment : D → ℕ) (left_at : D → ℕ → List ℕ → Type 0) (store : Stored D) (scripts : List Script) (served : Served D) (asked : List (ℕ × Request)) (are : scripts ≡ scripts_of asked) where
   abbrev ServesAt : State → Type 0
@@ -250,6 +262,13 @@ module _ {D : Type 0} (seen : D → Option (List ℕ)) (faults : D → ℕ) (mom
             → HoldsAfter seen finish.DiskFault (Some (halt.session, halt.request)) entries l r start served.left served.right
         fault halt kept a b told_a told_b = around (state_after start entries) halt.request a b (kept.1 a b told_a told_b).0
 
+  -- time went on, in the opening and since
+  pub left_time_by : (s : State) → ServesAt s → (left : D) → GoesOn moment left_at left store.left → GoesOn moment left_at left served.left
+  left_time_by s serves left opening = joined moment left_at left store.left served.left opening (time_since seen faults moment left_at store.left served.left serves.left_time)
+
+  pub right_time_by : (s : State) → ServesAt s → (right : D) → GoesOn moment left_at right store.right → GoesOn moment left_at right served.right
+  right_time_by s serves right opening = joined moment left_at right store.right served.right opening (time_since seen faults moment left_at store.right served.right serves.right_time)
+
   -- a count rose exactly where a call met a fault
   pub cause_by : (left right : D) (s : State) → ServesAt s → OpensOn seen faults left right store → (how : Finish) → IsFinishOf served.end how
       → DiskCause how (counts_of faults left right) (counts_of faults served.left served.right)
@@ -262,9 +281,12 @@ module _ {D : Type 0} (seen : D → Option (List ℕ)) (faults : D → ℕ) (mom
   module _ {K : Type 0} (held : K → Option (List ℕ)) (before unread : Option (List ℕ)) (out out_now : K) (left right : D) where
     pub serves_input : length asked ≤ LINES_MOST → ((bytes : List ℕ) → before ≡ Some bytes → EndsAfter {T = Unit {0}} (Ok tt) bytes unread asked)
         → OpensOn seen faults left right store → (base : State) → ServesAt base → ((s : State) → StandsFor store.core s → ServesAt s)
+        → (may_stay : (disk : D) (bytes : List ℕ) → seen disk ≡ Some bytes → LeftNow moment left_at disk bytes)
+        → LeavesOpening seen moment left_at left right store.left store.right → IsInOrder seen moment left_at store
+        → (IsSome (seen store.left) ↔ IsSome (seen left)) → (IsSome (seen store.right) ↔ IsSome (seen right))
         → (how : Finish) → IsFinishOf served.end how → Written held how (map recorded served.history) out out_now
-        → ServesInput held seen before unread out out_now left right (record { left = served.left; right = served.right; finish = how })
-    serves_input few read opened base serves serves_at how how_is written = record {
+        → ServesInput held seen moment left_at before unread out out_now left right (record { left = served.left; right = served.right; finish = how })
+    serves_input few read opened base serves serves_at may_stay opening order left_telling right_telling how how_is written = record {
       asked = asked;
       history = map recorded served.history;
       answered = record {
@@ -278,6 +300,10 @@ module _ {D : Type 0} (seen : D → Option (List ℕ)) (faults : D → ℕ) (mom
         answers = answers_by base serves how how_is;
         legal = λ l r start told_l told_r is. (serves_at start (stands_at l r start told_l told_r is)).legal;
         disks = λ l r start told_l told_r is. disks_by start (serves_at start (stands_at l r start told_l told_r is)) how how_is l r;
+        past =
+            leaves_served seen moment left_at may_stay left right faults store scripts served opening opened order left_telling right_telling
+            (time_since seen faults moment left_at store.left served.left serves.left_time) (time_since seen faults moment left_at store.right served.right serves.right_time)
+            (λ l r start told_l told_r is. serves_at start (stands_at l r start told_l told_r is)) how how_is;
         damaged = λ l r side damage told_l told_r is. absurd (cc ((opened.state l r told_l told_r).1, is));
       };
       written = written;

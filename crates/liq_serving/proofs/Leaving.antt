@@ -2,7 +2,7 @@
 use Rattle.std.proofs.Common.{ℕ, ◌≡◌, List, [], ◌∷◌, map, Bool, true, false, Option, Some, None, refl, sym, ap, ◌∙◌, subst}
 use Rattle.std.specs.Prelude.{All}
 use Rattle.liq_types.specs.State.{State}
-use Rattle.liq_rules.specs.History.{state_after}
+use Rattle.liq_rules.specs.History.{requests_of, state_after}
 use Rattle.liq_lock.specs.History.{Behind, Within}
 use Rattle.liq_store.specs.Keeping.{IsInOrder, IsInOrderWith}
 use Rattle.liq_store.specs.Stored.{Stored}
@@ -16,6 +16,7 @@ use Rattle.liq_rules.specs.Recorded.{recorded}
 use Rattle.liq_book.specs.Items.{chronicle, session_of}
 use Rattle.liq_book.specs.Origin.{DiskAt}
 use Rattle.liq_book.specs.Seats.{items_seen, session_at}
+use Rattle.liq_book.proofs.Pasts.{past_left}
 use Rattle.liq_core.specs.Core.{StandsFor}
 use Rattle.liq_serving.specs.declared.served.Served.{Served}
 use Rattle.liq_serving.specs.Ends.{end_of, halt_of}
@@ -67,4 +68,5 @@ module _ {D : Type 0} (seen : D → Option (List ℕ)) (faults : D → ℕ) (mom
           cause = rw (halt_is, left_is, right_is) book.cause;
           left_time = rw left_is book.left;
           right_time = rw right_is book.right;
+          past = rw (halt_is, history_is, left_is, right_is) (past_left seen moment left_at left_origin right_origin base (requests_of (map recorded history)) halt store order book.halt book.past);
         }

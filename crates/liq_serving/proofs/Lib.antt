@@ -3,4 +3,5 @@ mod Assembling
 mod Counting
 mod Inputs
 mod Leaving
+mod Stops
 mod Told

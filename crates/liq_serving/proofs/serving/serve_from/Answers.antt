@@ -7,7 +7,7 @@ pub returns-in-Err : goal.returns-in-Err
 returns-in-Err g c =
     let none = c.unserved.ensures in
     let back = c.in-Err.ensures.err in
-    serves_none _ _ _ _ _ _ _ _ c.in-Err.store c.unserved.result none.left none.right none.history none.end (rw back c.requires.going) none.order (rw back c.requires.origin)
+    serves_none _ _ _ _ _ _ _ _ (g.met.D.Disk g.world.𝓛 g.world.𝓜 g.world.𝓡 ((λ s x. x), (λ x. x), (λ x. x), λ x. x)).seen_may_stay c.in-Err.store c.unserved.result none.left none.right none.history none.end (rw back c.requires.going) none.order (rw back c.requires.origin)
 
 pub run_at-seats-requires-clause-short : goal.run_at-seats-requires-clause-short
 run_at-seats-requires-clause-short g c κs within = each_short c.args.scripts.items c.requires.total
