@@ -1,57 +1,59 @@
 -- Two runs, one after the other.
-use Rattle.std.proofs.Common.{◌≡◌, ◌≢◌, ℕ, List, [], ◌++◌, Option, Some, None, Ok, Err, Result, refl, sym, ap, subst, ◌∙◌, inl, inr}
-use Rattle.std.specs.Prelude.{◌⊎◌, IfSome}
+use Rattle.std.proofs.Common.{◌≡◌, ◌≢◌, ℕ, List, [], ◌∷◌, Option, Some, None, Ok, Err, Result, refl, sym, ap, subst, ◌∙◌, inl, inr}
+use Rattle.std.specs.Prelude.{◌⊎◌, IfSome, fold}
+use Rattle.std.proofs.lemmas.Result.{MatchResult-at_ok}
 use Rattle.liq_outside.specs.Disk.{LeftNow, Only}
 use Rattle.liq_types.specs.declared.requests.Command.{Command}
 use Rattle.liq_types.specs.declared.requests.Request.{Request}
 use Rattle.liq_types.specs.declared.requests.Request.TheVariants.{Do}
 use Rattle.liq_types.specs.State.{State}
 use Rattle.liq_rules.specs.Step.{Allowed, after, ruling, run}
+use Rattle.liq_rules.proofs.AlikeReads.{Alike}
+use Rattle.liq_rules.proofs.AlikeReplies.{run_alike}
 use Rattle.liq_pairs.specs.Kept.{IsKept}
+use Rattle.liq_pairs.specs.Pair.{state_on}
 use Rattle.liq_pairs.specs.Past.{AtCommand, Fault, InOpening, NoFault}
 use Rattle.liq_pairs.specs.Unfinished.{HoldsUnfinished, IsRecovered}
 use Rattle.liq_store.specs.Keeping.{IsAtRest}
 use Rattle.liq_store.specs.Leaving.{LeavesBoth, RestAtEnd}
+use Rattle.liq_words.specs.declared.words.Word.TheVariants as word
+use Rattle.liq_words.specs.Words.{Ask}
 use Rattle.liq_ends.specs.declared.halts.Halt.{Halt}
 use Rattle.liq_ends.specs.declared.halts.Halt.TheVariants.{BadLine, ReadFault, WriteFault, DiskFault, Damaged, NoMemory, Limit, Rotated}
 use Rattle.liq_ends.specs.Disks.{DisksHold, IsFaultOfRun, IsUnread}
 use Rattle.liq_ends.specs.Requests.{IsNext}
-use Rattle.liq_ends.proofs.Opened.{kept_again}
-use Rattle.liq_serve.specs.Twice.{BeginsBehind}
+use Rattle.liq_ends.proofs.Opened.{kept_again, some_of, state_formed}
+use Rattle.liq_serve.specs.Outside.{Outside}
+use Rattle.liq_serve.specs.Top.{Ends, RunsTo}
+use Rattle.liq_serve.specs.Twice.{AreBehind, BeginsBehind, FollowOn}
 
-module _ (l r : List ℕ) (start : State) (requests : List Request) where
+module _ (bytes l r : List ℕ) (start : State) (requests : List Request) where
   abbrev here : State
   here = (run start requests).0
 
   -- kept for the state after the requests
-  kept_here : (end : Result (Unit {0}) Halt) (a b : List ℕ) → IsKept a b here → BeginsBehind l r start requests end a b
-  kept_here end a b kept =
-      let t = kept.stands.state in
-      let again = kept_again a b here t kept kept.stands.is in
-      (t, kept.stands.is, again.1, inl again.0)
+  kept_here : (end : Result (Unit {0}) Halt) (a b : List ℕ) → IsKept a b here → BeginsBehind bytes l r start requests end a b
+  kept_here end a b kept = ([], tt, kept)
 
   -- or for it after one command more
-  kept_behind : (a b : List ℕ) (c : Command) → (ruling here c ≡ Allowed) ⊎ HoldsUnfinished l r start c → IsKept a b (after here c) → BeginsBehind l r start requests (Err DiskFault) a b
-  kept_behind a b c why kept =
-      let t = kept.stands.state in
-      let again = kept_again a b (after here c) t kept kept.stands.is in
-      (t, kept.stands.is, again.1, inr (refl, (c, why, again.0)))
+  kept_behind : (a b : List ℕ) (c : Command) → (IsNext bytes requests (Do c) × (ruling here c ≡ Allowed)) ⊎ ((requests ≡ []) × HoldsUnfinished l r start c) → IsKept a b (after here c) → BeginsBehind bytes l r start requests (Err DiskFault) a b
+  kept_behind a b c why kept = (c ∷ [], (refl, why), kept)
 
   -- as an opening that failed left them
-  recovered : (a b : List ℕ) → requests ≡ [] → IsRecovered l r start a b → BeginsBehind l r start requests (Err DiskFault) a b
+  recovered : (a b : List ℕ) → requests ≡ [] → IsRecovered l r start a b → BeginsBehind bytes l r start requests (Err DiskFault) a b
   recovered a b none (inl kept) = kept_here (Err DiskFault) a b (subst (λ (rs : List Request). IsKept a b (run start rs).0) (sym none) kept)
-  recovered a b none (inr (c, holds, kept)) = kept_behind a b c (inr holds) (subst (λ (rs : List Request). IsKept a b (after (run start rs).0 c)) (sym none) kept)
+  recovered a b none (inr (c, holds, kept)) = kept_behind a b c (inr (none, holds)) (subst (λ (rs : List Request). IsKept a b (after (run start rs).0 c)) (sym none) kept)
 
-  module _ {D : Type 0} (seen : D → Option (List ℕ)) (bytes : List ℕ) (unread : Option (List ℕ)) (left right : D) where
+  module _ {D : Type 0} (seen : D → Option (List ℕ)) (unread : Option (List ℕ)) (left right : D) where
     -- as they are read at the end
     pub read_behind : (end : Result (Unit {0}) Halt) → IsKept l r start → DisksHold seen end bytes unread l r start left right requests → (a b : List ℕ) → seen left ≡ Some a → seen right ≡ Some b
-        → BeginsBehind l r start requests end a b
+        → BeginsBehind bytes l r start requests end a b
     read_behind (Err DiskFault) were holds a b told_a told_b = by (holds a b told_a told_b) where
       by : (IsUnread bytes unread requests × (IsKept l r start → IsRecovered l r start a b))
-          ⊎ (IsKept a b here ⊎ ((c : Command) × IsNext bytes requests (Do c) × (ruling here c ≡ Allowed) × IsKept a b (after here c))) → BeginsBehind l r start requests (Err DiskFault) a b
+          ⊎ (IsKept a b here ⊎ ((c : Command) × IsNext bytes requests (Do c) × (ruling here c ≡ Allowed) × IsKept a b (after here c))) → BeginsBehind bytes l r start requests (Err DiskFault) a b
       by (inl (none, gives)) = recovered a b none.0 (gives were)
       by (inr (inl kept)) = kept_here (Err DiskFault) a b kept
-      by (inr (inr (c, next, allowed, kept))) = kept_behind a b c (inl allowed) kept
+      by (inr (inr (c, next, allowed, kept))) = kept_behind a b c (inl (next, allowed)) kept
     read_behind (Err NoMemory) were holds a b told_a told_b = kept_here (Err NoMemory) a b ((holds a b told_a told_b).1 (λ none. were))
     read_behind (Ok done) were holds a b told_a told_b = kept_here (Ok done) a b (holds a b told_a told_b)
     read_behind (Err (BadLine n)) were holds a b told_a told_b = kept_here (Err (BadLine n)) a b (holds a b told_a told_b)
@@ -77,17 +79,89 @@ module _ (l r : List ℕ) (start : State) (requests : List Request) where
       faulted (Err (Limit number)) fault is some = absurd (some is)
       faulted (Err (Rotated generation)) fault is some = absurd (some is)
 
+      next_at : (c : Command) → ((AtCommand c ≡ InOpening) × IsUnread bytes unread requests) ⊎ ((d : Command) × (AtCommand c ≡ AtCommand d) × IsNext bytes requests (Do d)) → IsNext bytes requests (Do c)
+      next_at c (inl (is, none)) = absurd cc
+      next_at c (inr (d, is, next)) =
+          let same : d ≡ c = cc in
+          subst (λ (e : Command). IsNext bytes requests (Do e)) same next
+
+      -- it is met at the next line's command
+      next_of : (end : Result (Unit {0}) Halt) (c : Command) → IsFaultOfRun end bytes unread requests (AtCommand c) → IsNext bytes requests (Do c)
+      next_of (Err DiskFault) c is = next_at c is
+      next_of (Ok done) c is = absurd cc
+      next_of (Err (BadLine n)) c is = absurd cc
+      next_of (Err ReadFault) c is = absurd cc
+      next_of (Err WriteFault) c is = absurd cc
+      next_of (Err (Damaged side number)) c is = absurd cc
+      next_of (Err NoMemory) c is = absurd cc
+      next_of (Err (Limit number)) c is = absurd cc
+      next_of (Err (Rotated generation)) c is = absurd cc
+
       -- or as a crash at the end leaves them
       pub left_behind : (end : Result (Unit {0}) Halt) (x y a b : List ℕ) → seen left ≡ Some x → seen right ≡ Some y → IsKept l r start → DisksHold seen end bytes unread l r start left right requests
           → (fault : Fault) → IsFaultOfRun end bytes unread requests fault → RestAtEnd seen moment left_at l r start requests fault left right → LeftNow moment left_at left a → LeftNow moment left_at right b
-          → BeginsBehind l r start requests end a b
+          → BeginsBehind bytes l r start requests end a b
       left_behind end x y a b told_x told_y were holds NoFault is rests at_a at_b =
           read_behind end were holds a b (told_x ∙ ap Some (sym (only_one left x a told_x rests.0 at_a))) (told_y ∙ ap Some (sym (only_one right y b told_y rests.1 at_b)))
       left_behind end x y a b told_x told_y were holds InOpening is rests at_a at_b =
           let so = rests a b at_a at_b in
-          subst (λ (e : Result (Unit {0}) Halt). BeginsBehind l r start requests e a b) (sym (faulted end InOpening is (λ e. cc))) (recovered a b so.0 so.1)
+          subst (λ (e : Result (Unit {0}) Halt). BeginsBehind bytes l r start requests e a b) (sym (faulted end InOpening is (λ e. cc))) (recovered a b so.0 so.1)
       left_behind end x y a b told_x told_y were holds (AtCommand c) is rests at_a at_b =
-          subst (λ (e : Result (Unit {0}) Halt). BeginsBehind l r start requests e a b) (sym (faulted end (AtCommand c) is (λ e. cc))) (by (rests a b at_a at_b)) where
-            by : IsKept a b here ⊎ ((ruling here c ≡ Allowed) × IsKept a b (after here c)) → BeginsBehind l r start requests (Err DiskFault) a b
+          subst (λ (e : Result (Unit {0}) Halt). BeginsBehind bytes l r start requests e a b) (sym (faulted end (AtCommand c) is (λ e. cc))) (by (rests a b at_a at_b)) where
+            by : IsKept a b here ⊎ ((ruling here c ≡ Allowed) × IsKept a b (after here c)) → BeginsBehind bytes l r start requests (Err DiskFault) a b
             by (inl kept) = kept_here (Err DiskFault) a b kept
-            by (inr (allowed, kept)) = kept_behind a b c (inl allowed) kept
+            by (inr (allowed, kept)) = kept_behind a b c (inl (next_of end c is, allowed)) kept
+
+-- ---- two calls
+
+module _
+    {S K D : Type 0} (unread : S → Option (List ℕ)) (source_faults : S → ℕ) (held : K → Option (List ℕ)) (sink_faults : K → ℕ) (seen : D → Option (List ℕ))
+    (disk_faults moment : D → ℕ) (left_at : D → ℕ → List ℕ → Type 0) (before middle again later : Outside S K D) where
+  abbrev RunsFirst : Result (Unit {0}) Halt → List ℕ → List ℕ → State → List ℕ → Type 0
+  RunsFirst end l r start bytes = RunsTo unread source_faults held sink_faults seen disk_faults moment left_at before middle end l r start bytes
+
+  -- what a run left begins the next one
+  pub runs_behind : (end : Result (Unit {0}) Halt) (bytes l r a b : List ℕ) (start : State) → (ran : RunsFirst end l r start bytes) → IsKept l r start
+      → AreBehind unread source_faults held sink_faults seen disk_faults moment left_at before middle l r a b → BeginsBehind bytes l r start ran.requests end a b
+  runs_behind end bytes l r a b start ran were (inl (told_a, told_b)) = read_behind bytes l r start ran.requests seen (unread middle.source) middle.left middle.right end were ran.disks a b told_a told_b
+  runs_behind end bytes l r a b start ran were (inr (only_l, only_r, tells_l, tells_r, at_a, at_b)) =
+      let past = ran.past only_l only_r were in
+      let x = some_of (seen middle.left) tells_l in
+      let y = some_of (seen middle.right) tells_r in
+      left_behind bytes l r start ran.requests seen (unread middle.source) middle.left middle.right moment left_at before.left before.right end x.0 y.0 a b x.1 y.1 were ran.disks past.fault past.fault_is past.rests at_a at_b
+
+  pub follow_on :
+      (status second_status : ℕ) (words others : List (List ℕ))
+      → Ends unread source_faults held sink_faults seen disk_faults moment left_at before middle status words
+      → Ends unread source_faults held sink_faults seen disk_faults moment left_at again later second_status others
+      → Ask words word.Run → Ask others word.Run → (bytes lines l r a b : List ℕ) (start : State)
+      → unread before.source ≡ Some bytes → unread again.source ≡ Some lines → seen before.left ≡ Some l → seen before.right ≡ Some r → state_on l r ≡ Ok start → IsKept l r start
+      → seen again.left ≡ Some a → seen again.right ≡ Some b → AreBehind unread source_faults held sink_faults seen disk_faults moment left_at before middle l r a b
+      → FollowOn unread source_faults held sink_faults seen disk_faults moment left_at before middle again later status second_status bytes lines l r a b start
+  follow_on status second_status words others one two asked asked_too bytes lines l r a b start told told_too told_l told_r is were told_a told_b behind =
+      let e = one.ends word.Run asked in
+      let ran = MatchResult-at_ok _ _ start is (e.2 l r told_l told_r) bytes told in
+      let begins = runs_behind e.0 bytes l r a b start ran were behind in
+      let between = fold after (run start ran.requests).0 begins.0 in
+      let t = begins.2.stands.state in
+      let stands = begins.2.stands.is in
+      let same = kept_again a b between t begins.2 stands in
+      let f = two.ends word.Run asked_too in
+      let second = MatchResult-at_ok _ _ t stands (f.2 a b told_a told_b) lines told_too in
+      let reached : Alike between t = record { image = same.0.image; records = same.0.records; left = begins.2.stands.formed; right = state_formed a b t stands } in
+      let then = run_alike second.requests reached in
+      record {
+        end = e.0;
+        status_is = e.1;
+        first = ran;
+        more = begins.0;
+        are = begins.1;
+        state = t;
+        is = stands;
+        kept = same.1;
+        begins = same.0;
+        ending = f.0;
+        later_is = f.1;
+        second = second;
+        ends = record { image = then.image; records = then.records };
+      }
