@@ -104,6 +104,10 @@ module _
             let e = ends.ends word.State asked in
             let told = MatchResult-at_ok _ _ start stood.is (e.2.1 l r stood.left stood.right) in
             subst IsDone (sym e.1) (state_done (status_of e.0) told.0 (λ is. calm.sink (ends.sink_fault (e.1 ∙ is))) (λ is. calm.disk (ends.disk_fault (e.1 ∙ is))));
+        report = λ asked l r start stood calm.
+            let e = ends.ends word.Report asked in
+            let told = MatchResult-at_ok _ _ start stood.is (e.2.1 l r stood.left stood.right) in
+            subst IsDone (sym e.1) (state_done (status_of e.0) told.0 (λ is. calm.sink (ends.sink_fault (e.1 ∙ is))) (λ is. calm.disk (ends.disk_fault (e.1 ∙ is))));
         audit = λ asked l r start stood first within calm.
             let e = ends.ends word.Audit asked in
             let told = MatchResult-at_ok _ _ start stood.is (e.2.1 l r stood.left stood.right) in

@@ -33,6 +33,7 @@ pub no_memory_known : (read : Word) → Contains (statuses_of read) 7
 no_memory_known word.Run = (6, lit< tt, refl)
 no_memory_known word.Serve = (6, lit< tt, refl)
 no_memory_known word.State = (4, lit< tt, refl)
+no_memory_known word.Report = (4, lit< tt, refl)
 no_memory_known word.Audit = (4, lit< tt, refl)
 no_memory_known (word.Gen seed count) = (2, lit< tt, refl)
 

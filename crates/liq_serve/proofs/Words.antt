@@ -222,6 +222,17 @@ module _
         ))
         (λ side damage is. (refl, still side damage l r told_l told_r is, written)),
   )
+  nothing_done written word.Report = (
+    refl,
+    λ l r told_l told_r. by_found (state_on l r) _ _
+        (λ start is. (
+          (3, lit< tt, refl),
+          written,
+          untouched seen before.left before.right l r start told_l told_r is,
+          untouched_past seen moment left_at stays before.left before.right l r start _ refl told_l told_r,
+        ))
+        (λ side damage is. (refl, still side damage l r told_l told_r is, written)),
+  )
   nothing_done written word.Audit = (
     refl,
     λ l r told_l told_r. by_found (state_on l r) _ _

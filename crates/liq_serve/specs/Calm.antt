@@ -55,6 +55,8 @@ module _
         → length asked ≤ LINES_MOST → IsReadWell → IsCalm → IsDone status
     pub state :
         Ask words word.State → (l r : List ℕ) (start : State) → StoodFor l r start → IsCalm → IsDone status
+    pub report :
+        Ask words word.Report → (l r : List ℕ) (start : State) → StoodFor l r start → IsCalm → IsDone status
     pub audit :
         Ask words word.Audit → (l r : List ℕ) (start : State) → StoodFor l r start → start.generation ≡ 1
         → number_above (events (opening_with start.limit) (commands_on l r)) ≡ None → IsCalm → IsDone status

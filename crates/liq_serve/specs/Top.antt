@@ -37,6 +37,7 @@ use Rattle.liq_ends.specs.Requests.{IsNext}
 use Rattle.liq_ends.specs.Statuses.{status_of}
 use Rattle.liq_ends.specs.Stops.{Adds, HaveTheirShares, TellsBehind}
 use Rattle.liq_tell.specs.Audit.{IsAuditOf}
+use Rattle.liq_tell.specs.Report.{reported}
 use Rattle.liq_tell.specs.State.{standing}
 use Rattle.liq_load.specs.Load.{load, summary}
 use Rattle.liq_serve.specs.Outside.{Outside}
@@ -51,6 +52,7 @@ abbrev pub statuses_of : Word → List ℕ
 statuses_of word.Run = 0 ∷ 2 ∷ 3 ∷ 4 ∷ 5 ∷ 6 ∷ 7 ∷ 8 ∷ []
 statuses_of word.Serve = 0 ∷ 2 ∷ 3 ∷ 4 ∷ 5 ∷ 6 ∷ 7 ∷ 8 ∷ []
 statuses_of word.State = 0 ∷ 4 ∷ 5 ∷ 6 ∷ 7 ∷ []
+statuses_of word.Report = 0 ∷ 4 ∷ 5 ∷ 6 ∷ 7 ∷ []
 statuses_of word.Audit = 0 ∷ 4 ∷ 5 ∷ 6 ∷ 7 ∷ 8 ∷ 9 ∷ []
 statuses_of (word.Gen seed count) = 0 ∷ 4 ∷ 7 ∷ []
 
@@ -181,6 +183,11 @@ module _
   Leaves word.State end =
       (after.source ≡ before.source) × OpensFirst end (λ l r start. Contains (0 ∷ 4 ∷ 5 ∷ 7 ∷ []) (status_of end)
       × Tells [] (standing start) end × DisksStay seen end l r start after.left after.right
+      × Leave (IsFaultOfTelling end) l r start [])
+  -- nothing is read; each trove and deposit is told as it stands, and the disks stay so
+  Leaves word.Report end =
+      (after.source ≡ before.source) × OpensFirst end (λ l r start. Contains (0 ∷ 4 ∷ 5 ∷ 7 ∷ []) (status_of end)
+      × Tells [] (reported start) end × DisksStay seen end l r start after.left after.right
       × Leave (IsFaultOfTelling end) l r start [])
   -- Nothing is read, the review is told of the commands that lead to the state, and the disks stay so. At 0 each row of
   -- the review encloses the exact share of its account, and what the protocol gives it in that state is within the row.

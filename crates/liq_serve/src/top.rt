@@ -77,7 +77,7 @@ fn is_serve(read: &Result<Word, WordsFault>) -> bool
 /// - 1: the words are not understood; nothing was read;
 /// - 2: a line is no request;
 /// - 3: the source met a fault;
-/// - 4: the sink met a fault at a reply, or at what a load, `state` or `audit` tells;
+/// - 4: the sink met a fault at a reply, or at what a load, `state`, `report` or `audit` tells;
 /// - 5: a disk met a fault;
 /// - 6: a disk is damaged;
 /// - 7: there was no memory;
@@ -86,8 +86,9 @@ fn is_serve(read: &Result<Word, WordsFault>) -> bool
 ///
 /// For `run` each line of the input is a request, and its reply is written once its call has answered; what is accepted is on
 /// the disks by then. For `gen` a seed's calls are carried out on a protocol of their own, and a line tells where they lead;
-/// nothing is read, and the disks stay. For `state` what stands on the disks is told, and for `audit` what each depositor has
-/// beside its exact share, if the journal is of the first generation; nothing is read.
+/// nothing is read, and the disks stay. For `state` what stands on the disks is told, for `report` each trove and deposit as it
+/// stands, and for `audit` what each depositor has beside its exact share, if the journal is of the first generation; nothing is
+/// read.
 ///
 /// At a status other than 0 and 4 a last line says so behind what was written.
 pub fn without_threads<S: Source, K: Sink, D: Disk>(
@@ -164,6 +165,7 @@ fn carry_out<S: Source, K: Sink, D: Disk>(
         Word::Serve => unreachable!(),
         Word::State => tell_on(alloc, Told::State, out, left, right),
         Word::Audit => tell_on(alloc, Told::Audit, out, left, right),
+        Word::Report => tell_on(alloc, Told::Report, out, left, right),
         Word::Gen { seed, count } => {
             let end = tell_load::<Brand, K>(alloc, seed, count, out, Blank::new(1));
             Ending { end, left, right }

@@ -14,6 +14,7 @@ use Rattle.liq_ends.specs.Unsaid.{WritesAll}
 use Rattle.liq_tell.specs.declared.telling.Told.{Told}
 use Rattle.liq_tell.specs.declared.telling.Told.TheVariants as which
 use Rattle.liq_tell.specs.Audit.{IsAuditOf}
+use Rattle.liq_tell.specs.Report.{reported}
 use Rattle.liq_tell.specs.State.{standing}
 use Rattle.liq_tell.specs.Told.{EndsTelling, WritesTold}
 use Rattle.liq_tell.specs.Writing.{AuditHolds, WritesAudit, WritesText}
@@ -29,7 +30,7 @@ text_written told text (Err NoMemory) before now is ok err = absurd (cc (err.0))
 text_written told text (Err (Limit number)) before now is ok err = absurd (cc (err.0))
 text_written told text (Err (Rotated generation)) before now is ok err = absurd (cc (err.0))
 
--- ---- of a state
+-- ---- of a state, or its report
 
 state_told : (text : List ℕ) (end : Result (Unit {0}) Halt) (before now : Option (List ℕ)) → WritesText (Ok text) end before now → Contains (0 ∷ 4 ∷ 5 ∷ 7 ∷ []) (status_of end) × WritesAll text end before now
 state_told text (Ok done) before now h =
@@ -72,11 +73,12 @@ audit_reviewed s commands (Err NoMemory) before now first wrote holds = wrote
 audit_reviewed s commands (Err (Limit number)) before now first wrote holds = (wrote, first, tt)
 audit_reviewed s commands (Err (Rotated generation)) before now first wrote holds = absurd wrote
 
--- ---- of either
+-- ---- of each
 
 -- a word that met a disk's fault, or no memory, wrote nothing
 pub nothing_told : (what : Told) (s : State) (commands : List Command) (held : Option (List ℕ)) → WritesTold what s commands (Err DiskFault) held held × WritesTold what s commands (Err NoMemory) held held
 nothing_told which.State s commands held = (refl, refl)
+nothing_told which.Report s commands held = (refl, refl)
 nothing_told which.Audit s commands held = (refl, refl)
 
 -- once the last line is written where that stops
@@ -87,6 +89,9 @@ pub all_told : (what : Told) (s : State) (commands : List Command) (end : Result
 all_told which.State s commands end fault before middle now wrote last =
     let so = state_told (standing s) end before middle wrote in
     (so.0, last (standing s) so.1)
+all_told which.Report s commands end fault before middle now wrote last =
+    let so = state_told (reported s) end before middle wrote in
+    (so.0, last (reported s) so.1)
 all_told which.Audit s commands end fault before middle now wrote last =
     let so = audit_told s commands end before middle wrote in
     (so.0, so.1, last so.0 so.2)

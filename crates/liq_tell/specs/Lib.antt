@@ -1,5 +1,6 @@
--- A reader of the top call's clause needs Audit and State. The others are for the contracts below it.
+-- A reader of the top call's clause needs Audit, Report and State. The others are for the contracts below it.
 pub mod Audit
+pub mod Report
 pub mod Reviewing
 pub mod State
 pub mod Told

@@ -8,6 +8,7 @@ use Rattle.liq_ends.specs.Telling.{TellsAll}
 use Rattle.liq_tell.specs.declared.telling.Told.{Told}
 use Rattle.liq_tell.specs.declared.telling.Told.TheVariants as which
 use Rattle.liq_tell.specs.Audit.{IsAuditOf}
+use Rattle.liq_tell.specs.Report.{reported}
 use Rattle.liq_tell.specs.State.{standing}
 use Rattle.liq_tell.specs.Writing.{WritesAudit, WritesText}
 
@@ -15,6 +16,7 @@ use Rattle.liq_tell.specs.Writing.{WritesAudit, WritesText}
 abbrev pub WritesTold :
     Told → State → List Command → Result (Unit {0}) Halt → Option (List ℕ) → Option (List ℕ) → Type 0
 WritesTold which.State s commands end before now = WritesText (Ok (standing s)) end before now
+WritesTold which.Report s commands end before now = WritesText (Ok (reported s)) end before now
 WritesTold which.Audit s commands end before now = WritesAudit s commands end before now
 
 -- the word has come to one of its ends, and the text is told, or the last line says why not
@@ -22,5 +24,7 @@ abbrev pub EndsTelling :
     Told → State → List Command → Result (Unit {0}) Halt → Type 0 → Option (List ℕ) → Option (List ℕ) → Type 0
 EndsTelling which.State s commands end fault before now =
     Contains (0 ∷ 4 ∷ 5 ∷ 7 ∷ []) (status_of end) × TellsAll (standing s) end fault before now
+EndsTelling which.Report s commands end fault before now =
+    Contains (0 ∷ 4 ∷ 5 ∷ 7 ∷ []) (status_of end) × TellsAll (reported s) end fault before now
 EndsTelling which.Audit s commands end fault before now =
     (text : List ℕ) × IsAuditOf s commands end text × TellsAll text end fault before now

@@ -1,7 +1,8 @@
-//! The words `state` and `audit`: what stands on two disks, and what their commands give each depositor, told.
+//! The words `state`, `report` and `audit`: what stands on two disks, and what their commands give each depositor, told.
 #![tactic(auto)]
 
 mod audit;
+mod report;
 mod state;
 mod telling;
 

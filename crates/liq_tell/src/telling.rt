@@ -1,4 +1,4 @@
-//! The words `state` and `audit`: a text of what is on two disks, told.
+//! The words `state`, `report` and `audit`: a text of what is on two disks, told.
 
 ghost use Rattle.std.specs.Prelude.{◌≡◌, ◌≢◌, ◌≤◌, [], List, ℕ, Some, None, Ok, Err};
 ghost use Rattle.liq_outside.specs.Disk.{GoesOn};
@@ -21,6 +21,7 @@ ghost use Rattle.liq_ends.specs.Stops.{Adds};
 ghost use Rattle.liq_tell.specs.Told.{EndsTelling, WritesTold};
 
 use crate::audit::write_audit;
+use crate::report::write_report;
 use crate::state::write_standing;
 use liq_ends::{Ending, Halt, tell_last, unopened};
 use liq_outside::{Disk, Sink};
@@ -34,6 +35,8 @@ pub enum Told {
     /// What stands on the disks: the replies to `system` and `pools`, the words of the Stability Pool, and the journal's
     /// generation with its records.
     State,
+    /// Each trove and deposit as it stands, with the totals and the Stability Pool's words, as one text in JSON.
+    Report,
     /// What the protocol gives each depositor beside its exact share, once the disks' commands are replayed from the
     /// opening. It is told of the first generation alone.
     Audit,
@@ -137,6 +140,7 @@ fn write_told<K: Sink, D: Disk>(
 {
     match what {
         Told::State => write_standing(alloc, store.protocol(), out),
+        Told::Report => write_report(alloc, store.protocol(), out),
         Told::Audit => write_audit(alloc, store, out),
     }
 }

@@ -39,6 +39,14 @@ pub audit_is_read : option_map (λ p. p.0) (subcommand_of line (codes "audit" �
 unfolding clap_on_literals
 audit_is_read = refl
 
+pub report_is_taken : takes line (codes "report" ∷ []) ≡ true
+unfolding clap_on_literals
+report_is_taken = refl
+
+pub report_is_read : option_map (λ p. p.0) (subcommand_of line (codes "report" ∷ [])) ≡ Some (codes "report")
+unfolding clap_on_literals
+report_is_read = refl
+
 pub gen_is_taken : (a b : ℕ) (seed count : Text) → (a == 45) ≡ false → (b == 45) ≡ false → takes line (codes "gen" ∷ (a ∷ seed) ∷ (b ∷ count) ∷ []) ≡ true
 unfolding clap_on_literals
 gen_is_taken a b seed count not_a not_b = simp (not_a, not_b)

@@ -25,5 +25,6 @@ base =
 abbrev pub line : App
 line =
     let alone : Text → App → App = λ name app. with_subcommand app (new_app name).top in
-    let words = alone (codes "audit") (alone (codes "state") (alone (codes "serve") (alone (codes "run") base))) in
+    let words =
+    alone (codes "report") (alone (codes "audit") (alone (codes "state") (alone (codes "serve") (alone (codes "run") base)))) in
     with_subcommand words load.top

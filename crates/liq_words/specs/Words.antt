@@ -1,7 +1,7 @@
 -- What the words of a command line ask for.
 use Rattle.std.specs.Prelude.{ℕ, ◌≡◌, ◌≤◌, ◌<◌, ◌^◌, List, [], ◌∷◌, codes, decimal}
 use Rattle.liq_words.specs.declared.words.Word.{Word}
-use Rattle.liq_words.specs.declared.words.Word.TheVariants.{Run, Serve, State, Audit, Gen}
+use Rattle.liq_words.specs.declared.words.Word.TheVariants.{Run, Serve, State, Audit, Report, Gen}
 
 -- the words are just those that ask for it; a number has no sign and no leading zero
 abbrev pub Ask : List (List ℕ) → Word → Type 0
@@ -9,6 +9,7 @@ Ask words Run = words ≡ codes "run" ∷ []
 Ask words Serve = words ≡ codes "serve" ∷ []
 Ask words State = words ≡ codes "state" ∷ []
 Ask words Audit = words ≡ codes "audit" ∷ []
+Ask words Report = words ≡ codes "report" ∷ []
 Ask words (Gen seed count) =
     (words ≡ codes "gen" ∷ decimal seed ∷ decimal count ∷ [])
     × (seed < 2 ^ 64) × (1 ≤ count) × (count ≤ 1000000)

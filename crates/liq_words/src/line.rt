@@ -22,6 +22,7 @@ pub fn line<'a>(alloc: Global) -> Result<Command<'a>, AllocError>
     let line = with_alone(alloc, line, "serve")?;
     let line = with_alone(alloc, line, "state")?;
     let line = with_alone(alloc, line, "audit")?;
+    let line = with_alone(alloc, line, "report")?;
     line.subcommand(load(alloc)?)
 }
 

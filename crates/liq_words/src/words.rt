@@ -27,6 +27,8 @@ pub enum Word {
     State,
     /// Tell what each depositor has beside its exact share.
     Audit,
+    /// Tell each trove and deposit as it stands, as one text in JSON.
+    Report,
     /// Carry out a seed's calls, so many of them drawn, and tell where they lead.
     Gen { seed: u64, count: u64 },
 }
@@ -95,6 +97,7 @@ fn alone(name: &str) -> Option<Word>
         "serve" => Some(Word::Serve),
         "state" => Some(Word::State),
         "audit" => Some(Word::Audit),
+        "report" => Some(Word::Report),
         _ => None,
     }
 }

@@ -6,18 +6,19 @@ use std::alloc::{AllocError, Global};
 use std::test::Fail;
 
 /// A line of words, the word that they ask for, the seed and the count.
-const ASKED: [(&str, &str, u64, u64); 7] = [
+const ASKED: [(&str, &str, u64, u64); 8] = [
     ("run", "run", 0, 0),
     ("serve", "serve", 0, 0),
     ("state", "state", 0, 0),
     ("audit", "audit", 0, 0),
+    ("report", "report", 0, 0),
     ("gen 7 20000", "gen", 7, 20_000),
     ("gen 0 1000000", "gen", 0, 1_000_000),
     ("gen 18446744073709551615 1", "gen", u64::MAX, 1),
 ];
 
 /// Lines of words that ask for nothing.
-const UNASKED: [&str; 34] = [
+const UNASKED: [&str; 36] = [
     "",
     "run x",
     "Run",
@@ -51,6 +52,8 @@ const UNASKED: [&str; 34] = [
     "Serve",
     "stat",
     "auditor",
+    "reports",
+    "report x",
     "serve serve",
 ];
 
@@ -76,6 +79,7 @@ fn named(read: Result<Word, WordsFault>) -> Asked {
         Ok(Word::Serve) => plain("serve"),
         Ok(Word::State) => plain("state"),
         Ok(Word::Audit) => plain("audit"),
+        Ok(Word::Report) => plain("report"),
         Ok(Word::Gen { seed, count }) => Asked {
             word: "gen",
             seed,

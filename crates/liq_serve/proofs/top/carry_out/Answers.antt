@@ -41,6 +41,16 @@ returns-in-State g c words asks only =
     (λ leaves. leaves) refl (λ l r told_l told_r start is. let so = ran.ensures.told l r told_l told_r start is in (so.0.0, so.0.1, so.1, ran.ensures.past l r told_l told_r start is)) ran.ensures.damaged
     (state_known ran.result.end ran.ensures.no_source ran.ensures.no_line (ran.ensures.no_limit (λ e. cc))) ran.ensures.no_source ran.ensures.sink ran.ensures.disks ran.ensures.left_time ran.ensures.right_time
 
+pub returns-in-Report : goal.returns-in-Report
+returns-in-Report g c words asks only =
+    let ran = c.tell_on-in-Report in
+    let before : Outside g.row.S.Denot g.row.K.Denot g.row.D.Denot = record { source = c.args.input.now; sink = c.args.out.now; left = c.args.left; right = c.args.right } in
+    let after : Outside g.row.S.Denot g.row.K.Denot g.row.D.Denot = record { source = c.args.input.now; sink = ran.new.out; left = ran.result.left; right = ran.result.right } in
+    let read = subst (λ (w : Word). IsRead words w) c.in-Report.is (record { asks = asks; only = only }) in
+    telling_ends g.S.Source.left g.S.Source.faults g.K.Sink.held g.K.Sink.faults g.D.Disk.seen g.D.Disk.faults g.D.Disk.moment g.D.Disk.left_at before after words word.Report ran.result.end _ read
+    (λ leaves. leaves) refl (λ l r told_l told_r start is. let so = ran.ensures.told l r told_l told_r start is in (so.0.0, so.0.1, so.1, ran.ensures.past l r told_l told_r start is)) ran.ensures.damaged
+    (state_known ran.result.end ran.ensures.no_source ran.ensures.no_line (ran.ensures.no_limit (λ e. cc))) ran.ensures.no_source ran.ensures.sink ran.ensures.disks ran.ensures.left_time ran.ensures.right_time
+
 pub returns-in-Audit : goal.returns-in-Audit
 returns-in-Audit g c words asks only =
     let ran = c.tell_on-in-Audit in

@@ -10,6 +10,12 @@ returns-in-State-clause-written g c held w s told found stands from_one leads =
     subst (λ (what : Told). WritesTold what s w.commands wrote.result (g.K.Sink.held c.args.out.now) (g.K.Sink.held wrote.new.out)) (sym c.in-State.is)
     (wrote.ensures.written s (subst (λ (core : Core). StandsFor core s) (sym c.protocol.ensures) stands))
 
+pub returns-in-Report-clause-written : goal.returns-in-Report-clause-written
+returns-in-Report-clause-written g c held w s told found stands from_one leads =
+    let wrote = c.write_report in
+    subst (λ (what : Told). WritesTold what s w.commands wrote.result (g.K.Sink.held c.args.out.now) (g.K.Sink.held wrote.new.out)) (sym c.in-Report.is)
+    (wrote.ensures.written s (subst (λ (core : Core). StandsFor core s) (sym c.protocol-in-Report.ensures) stands))
+
 pub returns-in-Audit-clause-written : goal.returns-in-Audit-clause-written
 returns-in-Audit-clause-written g c held w s told found stands from_one leads =
     let wrote = c.write_audit in
@@ -21,3 +27,9 @@ returns-in-State-clause-no_line g c number = (c.write_standing.ensures.no_number
 
 pub returns-in-State-clause-no_limit : goal.returns-in-State-clause-no_limit
 returns-in-State-clause-no_limit g c other number = let so = c.write_standing.ensures.no_number number in (so.1, so.2)
+
+pub returns-in-Report-clause-no_line : goal.returns-in-Report-clause-no_line
+returns-in-Report-clause-no_line g c number = (c.write_report.ensures.no_number number).0
+
+pub returns-in-Report-clause-no_limit : goal.returns-in-Report-clause-no_limit
+returns-in-Report-clause-no_limit g c other number = let so = c.write_report.ensures.no_number number in (so.1, so.2)
