@@ -169,7 +169,7 @@ impl Cases<'_> {
     /// Takes a request or a reply.
     fn take_line(&mut self, line: usize, text: &str) -> Result<(), Misread> {
         match &mut self.run {
-            Some(run) => run.lines.take(line, text),
+            Some(run) => run.take(line, text),
             None => Err(Misread::NotUnderstood),
         }
     }

@@ -6,7 +6,7 @@ ghost use Rattle.liq_words.specs.declared.words.Word.{Word};
 ghost use Rattle.liq_words.specs.Words.{Ask};
 
 use crate::disks::crash;
-use crate::run::Side;
+use crate::run::{Side, Start};
 use crate::sink::SmallSink;
 use liq_outside::{MemoryDisk, MemorySource};
 use liq_serve::{Ended, OpenGate, protocol, without_threads};
@@ -79,6 +79,15 @@ impl Outcome {
         };
         crash(alloc, &mut self.ended.left, left);
         crash(alloc, &mut self.ended.right, right);
+    }
+
+    /// Crashes both disks by this choice, and tells what they hold then.
+    pub fn crash_both(&mut self, alloc: Global, choice: u64) -> Result<Start, AllocError> {
+        crash(alloc, &mut self.ended.left, choice);
+        crash(alloc, &mut self.ended.right, choice);
+        let left = self.ended.left.bytes().to_vec(alloc)?;
+        let right = self.ended.right.bytes().to_vec(alloc)?;
+        Ok(Start { left, right })
     }
 }
 

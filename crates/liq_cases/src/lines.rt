@@ -70,6 +70,11 @@ impl Lines {
         Ok(())
     }
 
+    /// How many lines there are.
+    pub fn count(&self) -> usize {
+        self.ends.len()
+    }
+
     /// What comes in by the first so many lines.
     pub fn input_of(&self, lines: usize) -> &[u8] {
         let mut input = 0;

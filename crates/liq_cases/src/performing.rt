@@ -3,10 +3,12 @@
 use crate::devices::{Devices, Outcome, are_serve};
 use crate::disks::Disks;
 use crate::facts::check_facts;
+use crate::forged::check_forged;
 use crate::lines::Lines;
 use crate::run::{Asked, Run, Start};
 use crate::runs::run_by_both;
 use crate::sessions::check_served;
+use crate::stops::sweep_stops;
 use crate::sweeps::{sweep_disk, sweep_sink, sweep_source};
 use crate::told::{At, Told};
 use std::alloc::{AllocError, Global};
@@ -31,7 +33,7 @@ pub fn perform<R: Threads + Wait + Sync>(
     for asked in &stage.run.sweeps {
         sweep(rt, stage, told, *asked)?;
     }
-    told.replies = told.replies.saturating_add(stage.run.lines.replies);
+    told.replies = told.replies.saturating_add(stage.run.replies());
     for read in &stage.run.reads {
         for write in &stage.run.writes {
             make(rt, stage, told, disks, *read, *write)?;
@@ -50,6 +52,8 @@ fn sweep<R: Threads + Wait + Sync>(
         Asked::Source => sweep_source(rt, stage, told),
         Asked::Sink => sweep_sink(rt, stage, told),
         Asked::Disk(side, first, last) => sweep_disk(rt, stage, told, side, first, last),
+        Asked::Stops(first, last) => sweep_stops(rt, stage, told, first, last),
+        Asked::Forged(forged) => check_forged(rt, stage, told, forged),
     }
 }
 

@@ -2,6 +2,7 @@
 
 use crate::devices::Devices;
 use crate::facts::Fact;
+use crate::forged::Forged;
 use crate::lines::Lines;
 use crate::misread::Misread;
 use std::alloc::{AllocError, Global};
@@ -27,6 +28,8 @@ pub struct Run {
     pub failing: Failing,
     pub facts: Vec<Fact>,
     pub sweeps: Vec<Asked>,
+    /// What is found after none of the lines, after the first, after the first two, and so on.
+    pub found: Vec<Lines>,
     pub legal: bool,
 }
 
@@ -42,6 +45,7 @@ impl Drop for Run {
             failing: _,
             facts: _,
             sweeps: _,
+            found: _,
             legal: _,
         } = self;
     }
@@ -62,6 +66,25 @@ pub enum Asked {
     Source,
     Sink,
     Disk(Side, u64, u64),
+    /// From the first ones on to the last ones.
+    Stops(Stop, Stop),
+    /// No call fails, and a byte is another.
+    Forged(Forged),
+}
+
+/// From which call on each disk fails.
+#[derive(Clone, Copy)]
+pub struct Stop {
+    pub left: u64,
+    pub right: u64,
+}
+
+impl Stop {
+    /// No disk fails.
+    pub const NEVER: Stop = Stop {
+        left: u64::MAX,
+        right: u64::MAX,
+    };
 }
 
 /// One of the two disks.
@@ -120,8 +143,35 @@ impl Run {
             },
             facts: Vec::new(alloc),
             sweeps: Vec::new(alloc),
+            found: Vec::new(alloc),
             legal: false,
         }
+    }
+
+    /// Takes a line of the file: of what is found, where that is begun.
+    pub fn take(&mut self, line: usize, text: &str) -> Result<(), Misread> {
+        match self.found.last_mut() {
+            Some(found) => found.take(line, text),
+            None => self.lines.take(line, text),
+        }
+    }
+
+    /// Begins what is found after so many lines, one more than before.
+    pub fn begin_found(&mut self, alloc: Global, lines: u64) -> Result<(), Misread> {
+        if lines != self.found.len() as u64 {
+            return Err(Misread::NotUnderstood);
+        }
+        self.found.push(Lines::new(alloc))?;
+        Ok(())
+    }
+
+    /// How many lines must go out, of what is found too.
+    pub fn replies(&self) -> u64 {
+        let mut replies = self.lines.replies;
+        for found in &self.found {
+            replies = replies.saturating_add(found.replies);
+        }
+        replies
     }
 
     /// Takes the sizes that hold where no others are written.

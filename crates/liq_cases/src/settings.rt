@@ -1,8 +1,9 @@
 //! The settings of a run.
 
 use crate::facts::{Fact, Says, read_held};
+use crate::forged::Forged;
 use crate::misread::{Misread, byte, number, put_numbers};
-use crate::run::{Asked, Failing, Run, put_words, side_of};
+use crate::run::{Asked, Failing, Run, Stop, put_words, side_of};
 use std::alloc::Global;
 
 /// Takes the words of a setting, which stands in this line.
@@ -16,6 +17,7 @@ pub fn set(alloc: Global, run: &mut Run, line: usize, words: &[&str]) -> Result<
         ["status", status] => set_status(run, status),
         ["reads", sizes @ ..] => put_numbers(&mut run.reads, sizes),
         ["writes", sizes @ ..] => put_numbers(&mut run.writes, sizes),
+        ["found", lines] => run.begin_found(alloc, number(lines)?),
         ["legal"] => {
             run.legal = true;
             Ok(())
@@ -39,6 +41,10 @@ fn set_of_device(alloc: Global, run: &mut Run, line: usize, words: &[&str]) -> R
         [device, "fails", calls @ ..] => put_numbers(failing(&mut run.failing, device)?, calls),
         [device, "sweep", calls @ ..] => {
             run.sweeps.push(sweep(device, calls)?)?;
+            Ok(())
+        }
+        [disk, "forged", numbers @ ..] => {
+            run.sweeps.push(forged(disk, numbers)?)?;
             Ok(())
         }
         words => {
@@ -65,8 +71,40 @@ fn sweep(device: &str, calls: &[&str]) -> Result<Asked, Misread> {
     match calls {
         [] => stream_sweep(device),
         [first, last] => Ok(Asked::Disk(side_of(device)?, number(first)?, number(last)?)),
+        calls => both_sweep(device, calls),
+    }
+}
+
+/// The sweep over both disks' calls.
+fn both_sweep(devices: &str, calls: &[&str]) -> Result<Asked, Misread> {
+    match (devices, calls) {
+        ("disks", [left, last_left, right, last_right]) => Ok(Asked::Stops(
+            stop(left, right)?,
+            stop(last_left, last_right)?,
+        )),
         _ => Err(Misread::NotUnderstood),
     }
+}
+
+/// A byte of a disk that is another: the record that it damages, its place and itself.
+fn forged(disk: &str, numbers: &[&str]) -> Result<Asked, Misread> {
+    match numbers {
+        [index, place, value] => Ok(Asked::Forged(Forged {
+            side: side_of(disk)?,
+            index: number(index)?,
+            place: number(place)?,
+            byte: byte(value)?,
+        })),
+        _ => Err(Misread::NotUnderstood),
+    }
+}
+
+/// The calls that words spell.
+fn stop(left: &str, right: &str) -> Result<Stop, Misread> {
+    Ok(Stop {
+        left: number(left)?,
+        right: number(right)?,
+    })
 }
 
 /// The sweep over a stream's calls.

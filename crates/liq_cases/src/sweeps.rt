@@ -13,10 +13,10 @@ use std::thread::Threads;
 const READ_FAULT: &[u8] = b"read fault\n";
 
 /// The last line where a call of a disk fails.
-const DISK_FAULT: &[u8] = b"disk fault\n";
+pub const DISK_FAULT: &[u8] = b"disk fault\n";
 
 /// How many choices a crash has.
-const CRASHES: u64 = 8;
+pub const CRASHES: u64 = 8;
 
 /// No call has this number.
 const NONE: u64 = u64::MAX;
@@ -66,11 +66,7 @@ fn fail_read<R: Threads + Wait + Sync>(
     read: u64,
     call: u64,
 ) -> Result<Outcome, AllocError> {
-    told.at = At {
-        line: stage.run.line,
-        sweep: "read",
-        call,
-    };
+    told.at = At::call(stage.run.line, "read", call);
     let devices = Devices {
         read,
         source_fails: &[call],
@@ -137,11 +133,7 @@ fn fail_write<R: Threads + Wait + Sync>(
     write: u64,
     call: u64,
 ) -> Result<Outcome, AllocError> {
-    told.at = At {
-        line: stage.run.line,
-        sweep: "write",
-        call,
-    };
+    told.at = At::call(stage.run.line, "write", call);
     let devices = Devices {
         read,
         write,
@@ -210,11 +202,7 @@ fn fail_call<R: Threads + Wait + Sync>(
     failing: DiskCall,
 ) -> Result<Outcome, AllocError> {
     let DiskCall { side, call } = failing;
-    told.at = At {
-        line: stage.run.line,
-        sweep: "call of a disk",
-        call,
-    };
+    told.at = At::call(stage.run.line, "call of a disk", call);
     let (left, right) = match side {
         Side::Left => (call, NONE),
         Side::Right => (NONE, call),
@@ -243,7 +231,7 @@ fn check_failed_call<R: Threads + Wait + Sync>(
 }
 
 /// How many lines are answered where a call of a disk fails.
-fn check_replies(stage: &Stage<'_>, told: &mut Told, outcome: &Outcome) -> usize {
+pub fn check_replies(stage: &Stage<'_>, told: &mut Told, outcome: &Outcome) -> usize {
     let output = outcome.output();
     let (replies, last) = output.split_at(output.len().saturating_sub(DISK_FAULT.len()));
     let bytes = answering(stage, replies.len());

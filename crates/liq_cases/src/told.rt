@@ -1,14 +1,25 @@
 //! What is told of a file.
 
+use crate::run::Stop;
 use std::alloc::{AllocError, Global};
 
-/// Where a difference is found: at a line of the file, and in a sweep at the call that fails.
+/// Where a difference is found: at a line of the file, and in a sweep at one of its turns.
 #[derive(Clone, Copy)]
 pub struct At {
     pub line: usize,
-    /// The calls that a sweep goes over; empty for a run as it is written.
-    pub sweep: &'static str,
-    pub call: u64,
+    turn: Turn,
+}
+
+/// How a run differs from the one that is written.
+#[derive(Clone, Copy)]
+enum Turn {
+    Written,
+    /// This call fails, of those that are named.
+    Call(&'static str, u64),
+    /// The disks fail from these calls on.
+    Stop(Stop),
+    /// A byte at this place of a disk is another.
+    Byte(u64),
 }
 
 impl At {
@@ -16,8 +27,31 @@ impl At {
     pub fn line(line: usize) -> At {
         At {
             line,
-            sweep: "",
-            call: 0,
+            turn: Turn::Written,
+        }
+    }
+
+    /// A line of a run in which a call fails.
+    pub fn call(line: usize, calls: &'static str, call: u64) -> At {
+        At {
+            line,
+            turn: Turn::Call(calls, call),
+        }
+    }
+
+    /// A line of a run in which the disks fail from these calls on.
+    pub fn stop(line: usize, stop: Stop) -> At {
+        At {
+            line,
+            turn: Turn::Stop(stop),
+        }
+    }
+
+    /// A line of a run over a disk of which the byte at this place is another.
+    pub fn byte(line: usize, place: u64) -> At {
+        At {
+            line,
+            turn: Turn::Byte(place),
         }
     }
 }
@@ -86,15 +120,19 @@ impl Told {
         let line = self.at.line;
         let written = write!(self.text, "{file}:{line}: ");
         self.lost |= written.is_err();
-        if !self.at.sweep.is_empty() {
-            self.name_call();
-        }
+        self.name_turn();
     }
 
-    /// The call that fails.
-    fn name_call(&mut self) {
-        let At { sweep, call, .. } = self.at;
-        let written = write!(self.text, "{sweep} {call} fails: ");
+    /// The turn of a sweep.
+    fn name_turn(&mut self) {
+        let written = match self.at.turn {
+            Turn::Written => Ok(()),
+            Turn::Call(calls, call) => write!(self.text, "{calls} {call} fails: "),
+            Turn::Stop(Stop { left, right }) => {
+                write!(self.text, "calls {left} and {right} fail: ")
+            }
+            Turn::Byte(place) => write!(self.text, "byte {place} is another: "),
+        };
         self.lost |= written.is_err();
     }
 
