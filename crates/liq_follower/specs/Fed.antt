@@ -37,7 +37,8 @@ fed bytes = if has_header bytes then standing true bytes else Holding 1 (opening
 
 -- a whole header of either version says a later generation, whatever else is in it
 unfoldable pub is_turned : List ℕ → Bool
-is_turned bytes = has_header bytes && (bytes_eq (name_on bytes) (layout_on bytes).name && nat_lt 1 (generation_on bytes))
+is_turned bytes =
+    has_header bytes && (bytes_eq (name_on bytes) (layout_on bytes).name && nat_lt 1 (generation_on bytes))
 
 -- ---- what that comes to
 

@@ -40,6 +40,8 @@ IsRedone s c core NoMemory = StandsFor core s
 
 -- what becomes of a whole record of this number, in a state that stands before it
 abbrev pub IsTaken : State → ℕ → List ℕ → Core → Redone → Type 0
-IsTaken s index raw core Made = (c : Command) × IsRecordOf index raw c × (ruling s c ≡ Allowed) × StandsFor core (after s c)
-IsTaken s index raw core Refused = IsNoRecord index raw ⊎ ((c : Command) × IsRecordOf index raw c × (ruling s c ≡ Allowed → ⊥))
+IsTaken s index raw core Made =
+    (c : Command) × IsRecordOf index raw c × (ruling s c ≡ Allowed) × StandsFor core (after s c)
+IsTaken s index raw core Refused =
+    IsNoRecord index raw ⊎ ((c : Command) × IsRecordOf index raw c × (ruling s c ≡ Allowed → ⊥))
 IsTaken s index raw core NoMemory = StandsFor core s
