@@ -7,9 +7,8 @@ use Rattle.std.proofs.lemmas.List.{reverse-append}
 use Rattle.liq_types.specs.Ranked.{Ranked, rank_order, key_in, last_account, before_in, first_of, account_of, IsTight}
 use Rattle.liq_order.specs.Listed.{IsAbsent, AreDistinct}
 use Rattle.liq_order.specs.declared.places.Gap.{Gap}
-use Rattle.liq_order.specs.declared.places.Node.{Node}
 use Rattle.liq_order.specs.declared.places.NodeNo.{NodeNo}
-use Rattle.liq_order.specs.Nodes.{Memory, memory, Ring, at_place, entries, entry_of, entries_at, first_or, last_or, IsIn, Linked, node_of, Visits, IsBehind, IsAhead, gap_between, account_of_place, gap_behind}
+use Rattle.liq_order.specs.Nodes.{Memory, memory, Ring, at_place, entries, entry_of, entries_at, first_or, last_or, IsIn, Linked, node_of, Visits, IsBehind, gap_between, account_of_place, gap_behind}
 use Rattle.liq_order.proofs.Chains.{last_append, ends_with, in_middle, linked_back}
 use Rattle.liq_order.proofs.Changed.{entries_append, node_split, node_none, node_put}
 use Rattle.liq_order.proofs.Found.{key_absent, key_front, absent_from_key, before_found, distinct_front, IsAt}
@@ -296,9 +295,6 @@ tight_gap r e prev next t =
 
 -- ---- what is read of a node
 
-pub entry_is : (r : Ranked) (n m : Node) → r.0 ≡ n.key → r.1 ≡ n.account → n ≡ m → r ≡ entry_of m
-entry_is r n m k a e = ap (λ z. (z, r.1)) k ∙ ap (λ z. (n.key, z)) a ∙ ap (λ (l : Node). entry_of l) e
-
 -- ---- along the list
 
 pub begins : (r : Ring) (e : Ranked) (gap : Gap) → gap ≡ gap_between [] r.order → (b : IsBehind r e gap) × (length b.front ≡ 0)
@@ -312,9 +308,3 @@ ends_or_goes r e gap b = by b.back refl where
   by : (l : List NodeNo) → b.back ≡ l → (gap.next ≡ None) ⊎ (length b.front + 1 ≤ length r.order)
   by [] is = inl (ap (λ (g : Gap). g.next) b.gap_is ∙ ap (λ l. first_or None l) is)
   by (x ∷ xs) is = inr (omega (arith, ap (λ l. length l) b.whole, length-append b.front b.back, ap (λ l. length l) is))
-
-pub at_end : (r : Ring) (e : Ranked) (gap : Gap) (b : IsBehind r e gap) → length r.order ≤ length b.front → IsAhead r e gap
-at_end r e gap b all = elim (ends_or_goes r e gap b) [
-  | inl none ↦ subst (λ (o : Option NodeNo). IfSome o (λ p. rank_order e (entry_of (at_place r p)) ≡ Less)) (sym none) tt
-  | inr more ↦ absurd (omega (arith, all, more))
-]

@@ -192,7 +192,7 @@ impl Nodes {
         ensures step { steps.new ≡ steps.old + 1 }
     {
         let node = self.read(at, steps);
-        if comes_before(node.entry(), entry) {
+        if node.is_before(entry) {
             Some(Gap {
                 previous: Some(at),
                 next: node.next,
@@ -235,11 +235,8 @@ impl Nodes {
         ensures steps { steps.new ≤ steps.old + length self.now.order }
     {
         let mut gap = self.front();
-        for _passed in 0..self.nodes.len() {
-            match self.turn(gap, entry, steps) {
-                Some(further) => gap = further,
-                None => return gap,
-            }
+        while let Some(further) = self.turn(gap, entry, steps) {
+            gap = further;
         }
         gap
     }
@@ -250,6 +247,7 @@ impl Nodes {
         requires behind { IsBehind self.now entry gap }
         ensures on { IfSome result (λ further. (b : IsBehind self.now entry gap) → (c : IsBehind self.now entry further) × (length c.front ≡ length b.front + 1)) }
         ensures stop { IfNone result (IsAhead self.now entry gap) }
+        ensures step { IfSome result (λ _. steps.new ≡ steps.old + 1) }
         ensures steps { steps.new ≤ steps.old + 1 }
         ensures ended { gap.next ≡ None → steps.new ≡ steps.old }
     {

@@ -3,6 +3,7 @@
 ghost use Rattle.std.specs.Prelude.{◌≡◌};
 ghost use Rattle.std.specs.Ordering.{is_lt};
 ghost use Rattle.liq_types.specs.Ranked.{rank_order};
+ghost use Rattle.liq_order.specs.Nodes.{entry_of};
 
 /// The place of a node.
 #[derive(Clone, Copy, Debug, PartialEq, Eq)]
@@ -32,6 +33,16 @@ impl Node {
             previous,
             next,
         }
+    }
+
+    /// Whether the node's entry stands nearer the front than this one. Mostly the keys alone say it.
+    pub(crate) fn is_before(&self, entry: (i128, u32)) -> bool
+        ensures { result ≡ is_lt (rank_order (entry_of self.now) entry) }
+    {
+        if self.key < entry.0 {
+            return true;
+        }
+        self.key == entry.0 && self.account < entry.1
     }
 
     /// The key and the account.

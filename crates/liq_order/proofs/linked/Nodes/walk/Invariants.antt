@@ -1,10 +1,10 @@
-use Rattle.std.proofs.Common.{◌≡◌, ◌+◌, ◌≤◌, length}
+use Rattle.std.proofs.Common.{◌≡◌, ◌+◌, ◌-◌, length}
 use Rattle.liq_order.specs.Nodes.{IsBehind}
 use Rattle.liq_order.proofs.linked.Nodes.walk.Given as goal
 
--- so many entries were passed, with one step for each
-abbrev pub invariant-loop-passed : goal.invariant-loop-passed
-invariant-loop-passed g l = record {
-  behind : (b : IsBehind l.self l.entry l.gap) × (length b.front ≡ l._passed);
-  steps : l.steps ≤ l.initial.steps + l._passed;
-}
+-- each entry that was passed took one step
+abbrev pub invariant-loop-further : goal.invariant-loop-further
+invariant-loop-further g l = (b : IsBehind l.self l.entry l.gap) × (l.steps ≡ l.initial.steps + length b.front)
+
+abbrev pub decreases-loop-further : goal.decreases-loop-further
+decreases-loop-further g l = l.initial.steps + length l.self.order - l.steps
