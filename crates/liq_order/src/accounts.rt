@@ -93,15 +93,20 @@ impl Pairs {
         }
     }
 
-    /// An account loses its place.
-    pub fn take(&mut self, account: u32)
+    /// An account loses its place, which is the answer.
+    pub fn take(&mut self, account: u32) -> NodeNo
         requires { IsSome (place_of self.old account) }
+        ensures place { Some result ≡ place_of self.old account }
         ensures places { (a : ℕ) → place_of self.new a ≡ (if account == a then None else place_of self.old a) }
         ensures room { self.new.room ≡ self.old.room + 1 }
     {
         self.forget();
         match self.search(account) {
-            Ok(at) => self.gone = Some(at),
+            Ok(at) => {
+                let place = self.rows[at].1;
+                self.gone = Some(at);
+                place
+            }
             Err(_) => unreachable!(),
         }
     }

@@ -322,35 +322,15 @@ impl Nodes {
         );
     }
 
-    /// Takes an account's entry out. The steps are counted for themselves.
-    pub(crate) fn take<L: Ledger>(&mut self, id: u32, blank: Blank)
+    /// Takes an account's entry out.
+    pub(crate) fn take(&mut self, id: u32)
         requires there { IsSome (key_in (entries self.old) id) }
-        requires name { blank.name ≡ L.name }
-        requires parts { blank.parts ≡ L.parts }
-        requires one { L.parts ≡ 1 }
         ensures list { entries self.new ≡ without_ranked (entries self.old) id }
         ensures room { self.new.room ≡ self.old.room + 1 }
     {
-        let mut steps = Steps::<L>::new(blank);
-        match self.at(id, &mut steps) {
-            Some(at) => {
-                let node = *self.read(at, &mut steps);
-                self.take_between(id, at, node.previous, node.next);
-            }
-            None => unreachable!(),
-        }
-    }
-
-    // Takes out the node of an account, which is at this place between these two.
-    fn take_between(&mut self, id: u32, at: NodeNo, previous: Option<NodeNo>, next: Option<NodeNo>)
-        requires there { Some at ≡ node_of (memory self.old.nodes) self.old.order id }
-        requires previous { previous ≡ (at_place self.old at).previous }
-        requires next { next ≡ (at_place self.old at).next }
-        ensures list { entries self.new ≡ without_ranked (entries self.old) id }
-        ensures room { self.new.room ≡ self.old.room + 1 }
-    {
+        let at = self.pairs.take(id);
+        let Node { previous, next, .. } = self.nodes[at.0 as usize];
         self.free.push_reserved(at);
-        self.pairs.take(id);
         join(
             &mut self.nodes,
             &mut self.first,

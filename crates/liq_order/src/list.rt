@@ -85,7 +85,7 @@ impl Order {
         ensures list { self.new.entries ≡ without_ranked self.old.entries id }
         ensures room { self.new.room ≡ self.old.room + 1 }
     {
-        self.nodes.take::<Brand>(id, Blank::new(1));
+        self.nodes.take(id);
     }
 
     /// The last account of the list: `None` exactly where the list is empty.
