@@ -22,63 +22,33 @@ pub fn byte_at(bytes: &[u8], at: u64) -> u8 {
     bytes.get(at as usize).copied().unwrap_or(0)
 }
 
-// The bytes of a journal with two records, worked out apart from the program, 32 in each row.
-const TWO_RECORDS: [&str; 11] = [
-    "014c49514a524e4c32000000000000000100000000000000008ac7230489e800",
-    "003c06688a693ba179d1341da5ad3832e9f1bb0b73bf332f551421a1c34a5219",
-    "d60103000000000000010000000000000001000000010000000000000002540b",
-    "e400000000000000000000000000000000000000000000000000000000000000",
-    "0000000000000000000000000000000000000000000000000000000000000000",
-    "00002bbae90329fb731456cd94222cacf599c8feeef0b9b447b246e1343ff71e",
-    "1d4c010300000000000001000000000000000200000001000000000000000254",
-    "0be4000000000000000000000000000000000000000000000000000000000000",
-    "0000000000000000000000000000000000000000000000000000000000000000",
-    "000000eecdb3e89cc0633e30003d70fc87d2b151dcbccbcf6e49baf8e1b10890",
-    "da94d900",
-];
+/// The bytes of a journal with two records, worked out apart from the program: the header, each record behind its gate,
+/// and the gate of a third one.
+pub const TWO_RECORDS: &[u8] = b"\x01LIQJRNL2\0\0\0\0\0\0\0\x01\0\0\0\0\0\0\0\0\
+      \x8a\xc7\x23\x04\x89\xe8\0\0\
+      \x3c\x06\x68\x8a\x69\x3b\xa1\x79\xd1\x34\x1d\xa5\xad\x38\x32\xe9\
+      \xf1\xbb\x0b\x73\xbf\x33\x2f\x55\x14\x21\xa1\xc3\x4a\x52\x19\xd6\
+      \x01\x03\0\0\0\0\0\0\x01\0\0\0\0\0\0\0\x01\0\0\0\x01\0\0\0\0\0\0\0\x02\x54\x0b\xe4\0\
+      \0\0\0\0\0\0\0\0\0\0\0\0\0\0\0\0\0\0\0\0\0\0\0\0\0\0\0\0\0\0\0\0\
+      \0\0\0\0\0\0\0\0\0\0\0\0\0\0\0\0\0\0\0\0\0\0\0\0\0\0\0\0\0\0\0\0\
+      \x2b\xba\xe9\x03\x29\xfb\x73\x14\x56\xcd\x94\x22\x2c\xac\xf5\x99\
+      \xc8\xfe\xee\xf0\xb9\xb4\x47\xb2\x46\xe1\x34\x3f\xf7\x1e\x1d\x4c\
+      \x01\x03\0\0\0\0\0\0\x01\0\0\0\0\0\0\0\x02\0\0\0\x01\0\0\0\0\0\0\0\x02\x54\x0b\xe4\0\
+      \0\0\0\0\0\0\0\0\0\0\0\0\0\0\0\0\0\0\0\0\0\0\0\0\0\0\0\0\0\0\0\0\
+      \0\0\0\0\0\0\0\0\0\0\0\0\0\0\0\0\0\0\0\0\0\0\0\0\0\0\0\0\0\0\0\0\
+      \xee\xcd\xb3\xe8\x9c\xc0\x63\x3e\x30\x00\x3d\x70\xfc\x87\xd2\xb1\
+      \x51\xdc\xbc\xcb\xcf\x6e\x49\xba\xf8\xe1\xb1\x08\x90\xda\x94\xd9\
+      \0";
 
-// The header of version 1, of a first generation.
-const HEADER_OF_VERSION_1: [&str; 2] = [
-    "014c49514a524e4c31000000000000000100000000000000001e21683ade65f0",
-    "994ce3ede28e20fdeb1004a3a794b09dbb5b7baf9a10ae4028",
-];
-
-/// The bytes that a row of hexadecimal digits spells, behind others.
-pub fn push_row(bytes: &mut Vec<u8>, row: &str) -> Result<(), AllocError> {
-    let mut high = None;
-    for digit in row.bytes() {
-        let value = match digit {
-            b'0'..=b'9' => digit - b'0',
-            b'a'..=b'f' => digit - b'a' + 10,
-            _ => 0,
-        };
-        match high {
-            None => high = Some(value),
-            Some(first) => {
-                bytes.push((first << 4) | value)?;
-                high = None;
-            }
-        }
-    }
-    Ok(())
-}
-
-/// The bytes of a journal with two records.
-pub fn two_records(alloc: Global) -> Result<Vec<u8>, AllocError> {
-    let mut bytes = Vec::new(alloc);
-    for row in TWO_RECORDS {
-        push_row(&mut bytes, row)?;
-    }
-    Ok(bytes)
-}
+/// The header of version 1, of a first generation.
+const HEADER_OF_VERSION_1: &[u8] = b"\x01LIQJRNL1\0\0\0\0\0\0\0\x01\0\0\0\0\0\0\0\0\
+      \x1e\x21\x68\x3a\xde\x65\xf0\x99\x4c\xe3\xed\xe2\x8e\x20\xfd\xeb\
+      \x10\x04\xa3\xa7\x94\xb0\x9d\xbb\x5b\x7b\xaf\x9a\x10\xae\x40\x28";
 
 /// The bytes of a first generation with the same records as this one of version 2, but of version 1: its header has no
 /// limit, and no record's bytes rest on the version.
 pub fn as_version_1(alloc: Global, bytes: &[u8]) -> Result<Vec<u8>, AllocError> {
-    let mut older = Vec::new(alloc);
-    for row in HEADER_OF_VERSION_1 {
-        push_row(&mut older, row)?;
-    }
+    let mut older = HEADER_OF_VERSION_1.to_vec(alloc)?;
     older.extend_from_slice(bytes.get(65..).unwrap_or(&[]))?;
     Ok(older)
 }

@@ -1,13 +1,13 @@
 //! A journal in a real file, and disks over devices: in memory, and the system's.
 
 use crate::checks::{NOWHERE, same, shows};
-use crate::disks::two_records;
+use crate::disks::TWO_RECORDS;
 use crate::found::Found;
-use crate::journals::{append, create, fund, open};
+use crate::journals::{Opened, append, create, fund, open};
 use liq_outside::{DeviceDisk, Disk, FileDisk, MemoryDevice};
 use std::alloc::{AllocError, Global};
 use std::fs::{self, File, Files};
-use std::io::{self, ErrorKind};
+use std::io;
 use std::test::Fail;
 
 /// A file of this name, empty where it is new.
@@ -28,51 +28,53 @@ pub fn make_two(alloc: Global, disk: FileDisk) -> bool {
     created.made && first.made && second.made
 }
 
-// What is read of a disk.
+/// How many bytes a disk reads, where they are the first of these: else none.
+fn reads<D: Disk>(disk: &mut D, expected: &[u8]) -> u64 {
+    let mut bytes = [0; 400];
+    match disk.read_at(0, &mut bytes) {
+        Ok(count) if begins(expected, bytes.as_slice(), count) => count as u64,
+        _ => NOWHERE,
+    }
+}
+
+// Whether the first so many bytes of both are the same.
+fn begins(expected: &[u8], bytes: &[u8], count: usize) -> bool {
+    match (expected.get(..count), bytes.get(..count)) {
+        (Some(expected), Some(bytes)) => expected == bytes,
+        _ => false,
+    }
+}
+
+// What is read of a disk: what its journal is, the disk's length, how many bytes of two records, and its faults.
 #[derive(Clone, Copy)]
 struct Read {
     found: Found,
     length: u64,
-    is_right: bool,
+    read: u64,
     faults: u64,
 }
 
-// Opens the journal, and reads the disk, which is to hold these bytes.
-fn read_whole(alloc: Global, disk: FileDisk, expected: &[u8]) -> Read {
-    let opened = open(alloc, disk);
-    let mut disk = opened.disk;
-    let length = disk.length().unwrap_or(0);
-    let mut bytes = [0; 400];
-    let count = disk.read_at(0, &mut bytes).unwrap_or(0);
+// Opens the journal, and reads the disk.
+fn read_whole(alloc: Global, disk: FileDisk) -> Read {
+    let Opened { mut disk, found } = open(alloc, disk);
     Read {
-        found: opened.found,
-        length,
-        is_right: bytes.get(..count) == Some(expected),
+        found,
+        length: disk.length().unwrap_or(0),
+        read: reads(&mut disk, TWO_RECORDS),
         faults: disk.faults(),
     }
-}
-
-// Makes a journal of two records in a file, and reads it.
-fn read_two<F: Files<File = File>>(files: &F, alloc: Global) -> io::Result<Read> {
-    if !make_two(alloc, file(files, "journal.liq")?) {
-        return Err(io::Error::from(ErrorKind::Other));
-    }
-    let disk = file(files, "journal.liq")?;
-    let expected = two_records(alloc)?;
-    Ok(read_whole(alloc, disk, &expected))
 }
 
 #[test]
 fn two_records_in_a_file(rt: HostRuntime) -> Result<(), Fail> {
     let _ = fs::remove_file(&rt, "journal.liq");
-    let read = read_two(&rt, rt.alloc())?;
-    shows(
-        &rt,
-        "two records in a file",
-        read.found == Found::Records(2),
-    );
+    let made = make_two(rt.alloc(), file(&rt, "journal.liq")?);
+    shows(&rt, "a journal of two records", made);
+    let read = read_whole(rt.alloc(), file(&rt, "journal.liq")?);
+    let is_two = read.found == Found::Records(2);
+    shows(&rt, "two records in a file", is_two);
     same(&rt, read.length, 324, "the file's length");
-    shows(&rt, "the file's bytes", read.is_right);
+    same(&rt, read.read, 324, "the file's bytes");
     same(&rt, read.faults, 0, "faults at a file");
     Ok(())
 }
@@ -109,20 +111,19 @@ const WORD: &[u8] = b"liquidation";
 fn try_word(alloc: Global, chunk: u8, failing: u64) -> Result<Tried, AllocError> {
     let chunk = usize::from(chunk).max(1);
     let device = MemoryDevice::new(alloc, chunk, [failing].to_vec(alloc)?);
-    let mut disk = DeviceDisk::<MemoryDevice>::new(device);
+    Ok(try_on(DeviceDisk::<MemoryDevice>::new(device)))
+}
+
+fn try_on(mut disk: DeviceDisk<MemoryDevice>) -> Tried {
     let written = disk.write_at(0, WORD).is_ok();
     let synced = disk.sync().is_ok();
-    let mut bytes = [0; 20];
-    let read = match disk.read_at(0, &mut bytes) {
-        Ok(count) if bytes.get(..count) == WORD.get(..count) => count as u64,
-        _ => NOWHERE,
-    };
-    Ok(Tried {
+    let read = reads(&mut disk, WORD);
+    Tried {
         written,
         synced,
         read,
         faults: disk.faults(),
-    })
+    }
 }
 
 // The most that one call takes, the call that fails, whether the word is written and synced, and how many bytes of it
@@ -153,31 +154,34 @@ fn a_disk_goes_on_where_its_device_ended(rt: HostRuntime) -> Result<(), Fail> {
     Ok(())
 }
 
+// Whether a byte is read, written and synced, and the disk's faults then.
+fn try_byte(mut disk: FileDisk) -> ([bool; 3], u64) {
+    let done = [
+        disk.read_at(0, &mut [0; 4]).is_ok(),
+        disk.write_at(0, &[1]).is_ok(),
+        disk.sync().is_ok(),
+    ];
+    (done, disk.faults())
+}
+
+// All is full: nothing can be written, and neither device can be synced.
 #[test]
-fn the_full_device_fails(rt: HostRuntime) -> Result<(), Fail> {
-    let mut full = file(&rt, "/dev/full")?;
-    let is_full = full.write_at(0, &[1]).is_err();
-    shows(&rt, "a write where all is full", is_full);
-    same(&rt, full.faults(), 1, "the full device's faults");
+fn devices_fail(rt: HostRuntime) -> Result<(), Fail> {
+    let (done, faults) = try_byte(file(&rt, "/dev/full")?);
+    shows(&rt, "the full device", done == [true, false, false]);
+    same(&rt, faults, 2, "the full device's faults");
+    let (done, faults) = try_byte(file(&rt, "/dev/null")?);
+    shows(&rt, "the null device", done == [true, true, false]);
+    same(&rt, faults, 1, "the null device's faults");
     Ok(())
 }
 
-#[test]
-fn the_null_device_fails(rt: HostRuntime) -> Result<(), Fail> {
-    let mut null = file(&rt, "/dev/null")?;
-    let is_written = null.write_at(0, &[1]).is_ok();
-    shows(&rt, "a write to the null device", is_written);
-    shows(&rt, "a sync of the null device", null.sync().is_err());
-    same(&rt, null.faults(), 1, "the null device's faults");
-    Ok(())
-}
-
-// A read that fails is no end of the disk.
+// A read that fails is no end of the disk, and a folder that was opened to be read can't be written.
 #[test]
 fn a_folder_fails(rt: HostRuntime) -> Result<(), Fail> {
-    let mut folder = FileDisk::new(Some(File::open(&rt, ".")?));
-    let is_read = folder.read_at(0, &mut [0; 4]).is_ok();
+    let folder = FileDisk::new(Some(File::open(&rt, ".")?));
+    let ([is_read, is_written, _], _) = try_byte(folder);
     shows(&rt, "a read of a folder", !is_read);
-    same(&rt, folder.faults(), 1, "the folder's faults");
+    shows(&rt, "a write to a folder", !is_written);
     Ok(())
 }

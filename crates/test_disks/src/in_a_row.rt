@@ -6,7 +6,7 @@ ghost use Rattle.liq_journal.specs.Crash.{Stands};
 ghost use Rattle.liq_journal.specs.Written.{is_rotate};
 
 use crate::checks::{same, shows};
-use crate::disks;
+use crate::disks::{TWO_RECORDS, disk};
 use crate::journals::fund;
 use liq_journal::Journal;
 use liq_outside::{Disk, MemoryDisk};
@@ -36,18 +36,18 @@ fn two_records<D: Disk>(disk: D, first: &Command, second: &Command) -> Result<Jo
     }
 }
 
-// What is left of two appends in a row: how many records, and whether the disk holds these bytes.
+// What is left of two appends in a row: how many records, and whether the disk holds their bytes.
 #[derive(Clone, Copy)]
 struct Row {
     records: u64,
     is_right: bool,
 }
 
-fn of_two(disk: MemoryDisk, bytes: &[u8]) -> Row {
+fn of_two(disk: MemoryDisk) -> Row {
     match two_records(disk, &fund(1), &fund(2)) {
         Ok(journal) => Row {
             records: journal.records(),
-            is_right: journal.close().bytes() == bytes,
+            is_right: journal.close().bytes() == TWO_RECORDS,
         },
         Err(_) => Row {
             records: 0,
@@ -58,9 +58,7 @@ fn of_two(disk: MemoryDisk, bytes: &[u8]) -> Row {
 
 #[test]
 fn a_creation_and_two_appends(rt: HostRuntime) -> Result<(), Fail> {
-    let alloc = rt.alloc();
-    let expected = disks::two_records(alloc)?;
-    let row = of_two(disks::disk(alloc, &[], &[])?, &expected);
+    let row = of_two(disk(rt.alloc(), &[], &[])?);
     same(&rt, row.records, 2, "two appends in a row");
     shows(&rt, "their bytes", row.is_right);
     Ok(())

@@ -8,8 +8,6 @@
 #[cfg(test)]
 mod again;
 #[cfg(test)]
-mod changes;
-#[cfg(test)]
 mod checks;
 #[cfg(test)]
 mod cuts;
@@ -37,7 +35,5 @@ mod stops;
 mod stores;
 #[cfg(test)]
 mod streams;
-#[cfg(test)]
-mod turns;
 #[cfg(test)]
 mod wire;

@@ -1,7 +1,7 @@
 //! Looks at a disk, and bodies of records read back.
 
 use crate::checks::{NOWHERE, same, shows};
-use crate::disks::{byte_at, changed, disk, two_records};
+use crate::disks::{TWO_RECORDS, byte_at, changed, disk};
 use crate::files::{file, make_two};
 use crate::found::{Found, of_header, of_look};
 use crate::journals::fund;
@@ -13,81 +13,82 @@ use std::alloc::{AllocError, Global};
 use std::fs;
 use std::test::Fail;
 
-// What a look at these bytes finds, where the device call of this number fails. Of a journal it tells the generation alone: 1 is
-// told as no records.
-fn look_at(alloc: Global, bytes: &[u8], odd: bool, failing: &[u64]) -> Result<Found, AllocError> {
-    let mut disk = disk(alloc, bytes, failing)?;
-    Ok(match look(&mut disk, odd) {
+// What a look finds. Of a journal it tells the generation alone: 1 is told as no records.
+fn seen_by_a_look(mut disk: MemoryDisk, odd: bool) -> Found {
+    match look(&mut disk, odd) {
         Ok(Look::Absent) => Found::Absent,
         Ok(Look::Open { generation }) => Found::Records(generation.wrapping_sub(1)),
         Err(fault) => of_look(&fault),
-    })
+    }
+}
+
+// What a look at these bytes finds, where the device call of this number fails.
+fn look_at(alloc: Global, bytes: &[u8], odd: bool, failing: u64) -> Result<Found, AllocError> {
+    Ok(seen_by_a_look(disk(alloc, bytes, &[failing])?, odd))
 }
 
 const OPEN: Found = Found::Records(0);
 
-// What is looked at, how many of its bytes, as the left disk's, the call that fails, and what is found. A look reads the header and
-// the length.
-const LOOKS: [(&str, usize, bool, &[u64], Found); 11] = [
-    ("a whole journal", 324, true, &[], OPEN),
+// How many of the bytes there are, and what is found: a header of version 1 has 57, and one of version 2 has 65.
+const LENGTHS: [(u64, Found); 7] = [
+    (324, OPEN),
+    (0, Found::Absent),
+    (1, Found::Absent),
+    (56, Found::Absent),
     (
-        "on the other disk",
-        324,
-        false,
-        &[],
-        Found::NoForm { index: 0, place: 9 },
-    ),
-    ("no bytes", 0, true, &[], Found::Absent),
-    ("one byte", 1, true, &[], Found::Absent),
-    ("a header cut", 56, true, &[], Found::Absent),
-    (
-        "as many bytes as the header of version 1",
         57,
-        true,
-        &[],
         Found::NoForm {
             index: 0,
             place: 57,
         },
     ),
     (
-        "all but one byte of a header",
         64,
-        true,
-        &[],
         Found::NoForm {
             index: 0,
             place: 64,
         },
     ),
-    ("a header", 65, true, &[], OPEN),
-    ("the first call fails", 324, true, &[0], Found::DiskFault),
-    ("the second call fails", 324, true, &[1], Found::DiskFault),
-    ("there is no third call", 324, true, &[2], OPEN),
+    (65, OPEN),
 ];
 
 #[test]
 fn a_look_tells_the_header(rt: HostRuntime) -> Result<(), Fail> {
-    let bytes = two_records(rt.alloc())?;
-    for (what, length, odd, failing, expected) in LOOKS {
-        let part = bytes.get(..length).unwrap_or(&[]);
-        let found = look_at(rt.alloc(), part, odd, failing)?;
-        shows(&rt, what, found == expected);
+    for (length, expected) in LENGTHS {
+        let bytes = TWO_RECORDS.get(..length as usize).unwrap_or(&[]);
+        let found = look_at(rt.alloc(), bytes, true, NOWHERE)?;
+        shows(&rt, "a look at so many bytes", found == expected);
     }
     Ok(())
 }
 
+// A look reads the header and the length: there is no third call.
+#[test]
+fn a_look_makes_two_device_calls(rt: HostRuntime) -> Result<(), Fail> {
+    for (failing, expected) in [(0, Found::DiskFault), (1, Found::DiskFault), (2, OPEN)] {
+        let found = look_at(rt.alloc(), TWO_RECORDS, true, failing)?;
+        shows(&rt, "a look where a call fails", found == expected);
+    }
+    let other = look_at(rt.alloc(), TWO_RECORDS, false, NOWHERE)?;
+    shows(
+        &rt,
+        "on the other disk",
+        other == Found::NoForm { index: 0, place: 9 },
+    );
+    Ok(())
+}
+
 // What a look finds where a bit of the byte at a place is another.
-fn look_at_change(alloc: Global, bytes: &[u8], at: u64) -> Result<Found, AllocError> {
-    let bytes = changed(alloc, bytes, at, byte_at(bytes, at) ^ 4)?;
-    look_at(alloc, &bytes, true, &[])
+fn look_at_change(alloc: Global, at: u64) -> Result<Found, AllocError> {
+    let bytes = changed(alloc, TWO_RECORDS, at, byte_at(TWO_RECORDS, at) ^ 4)?;
+    look_at(alloc, &bytes, true, NOWHERE)
 }
 
 // The first place at which a change is told as something else.
-fn first_odd_look(alloc: Global, bytes: &[u8], places: u64) -> Result<u64, AllocError> {
-    for at in 0..places {
+fn first_odd_look(alloc: Global) -> Result<u64, AllocError> {
+    for at in 0..TWO_RECORDS.len() as u64 {
         let expected = if at < 65 { of_header(65, at, 4) } else { OPEN };
-        if look_at_change(alloc, bytes, at)? != expected {
+        if look_at_change(alloc, at)? != expected {
             return Ok(at);
         }
     }
@@ -96,86 +97,78 @@ fn first_odd_look(alloc: Global, bytes: &[u8], places: u64) -> Result<u64, Alloc
 
 #[test]
 fn a_look_at_changed_bytes(rt: HostRuntime) -> Result<(), Fail> {
-    let bytes = two_records(rt.alloc())?;
-    let place = first_odd_look(rt.alloc(), &bytes, 324)?;
+    let place = first_odd_look(rt.alloc())?;
     same(&rt, place, NOWHERE, "a look at a changed byte");
     Ok(())
 }
 
-// The body of a record, or what is found in its place: nothing where there is no record of this number.
-fn body<D: Disk>(journal: &mut Journal<D>, index: u64) -> Result<[u8; 96], Found> {
+// What comes of reading the body of a record: its own number where it has these bytes, and 0 where it has others.
+fn read_body<D: Disk>(journal: &mut Journal<D>, index: u64, bytes: &[u8]) -> Found {
     if index < 1 || index > journal.records() {
-        return Err(Found::Absent);
+        return Found::Absent;
     }
     match journal.body(index) {
-        Ok(body) => Ok(body),
-        Err(fault) => Err(of_look(&fault)),
+        Ok(body) if body.as_slice() == bytes => Found::Records(index),
+        Ok(_) => Found::Records(0),
+        Err(fault) => of_look(&fault),
     }
 }
 
-// Whether the record has these bytes as its body.
-fn has_body<D: Disk>(journal: &mut Journal<D>, index: u64, bytes: &[u8]) -> bool {
-    match body(journal, index) {
-        Ok(body) => body.as_slice() == bytes,
-        Err(_) => false,
-    }
-}
-
-// Whether this is found in place of the record's body.
-fn has_none<D: Disk>(journal: &mut Journal<D>, index: u64, found: Found) -> bool {
-    match body(journal, index) {
-        Ok(_) => false,
-        Err(other) => other == found,
-    }
-}
-
-// What was seen in turn: how many of the looks were as they are to be, and the disk's faults.
+// What was found in turn, and the disk's faults.
 #[derive(Clone, Copy)]
 struct Seen {
-    right: u64,
+    found: [Found; 4],
     faults: u64,
 }
 
 // Nothing is seen where there is no journal.
 const NOTHING: Seen = Seen {
-    right: NOWHERE,
+    found: [Found::NoMemory; 4],
     faults: NOWHERE,
 };
 
-// An opening makes six device calls where two records stand: a sync, the header, the length, both records at once, what stands behind them,
-// and the gate. A body is one more. Here the seventh call fails.
-fn bodies_of_two(journal: &mut Journal<MemoryDisk>, bytes: &[u8]) -> Seen {
-    let looks = [
-        has_none(journal, 1, Found::DiskFault),
-        journal.faults() == 1,
-        has_body(journal, 1, bytes.get(66..162).unwrap_or(&[])),
-        has_body(journal, 2, bytes.get(195..291).unwrap_or(&[])),
-        has_none(journal, 3, Found::Absent),
+// The journal on a disk, if there is one.
+fn journal_on<D: Disk + Drop>(alloc: Global, disk: D) -> Option<Journal<D>> {
+    match Journal::open(alloc, disk, true) {
+        Ok((journal, _)) => Some(journal),
+        Err(_) => None,
+    }
+}
+
+fn bodies_of_two(journal: &mut Journal<MemoryDisk>) -> Seen {
+    let one = TWO_RECORDS.get(66..162).unwrap_or(&[]);
+    let two = TWO_RECORDS.get(195..291).unwrap_or(&[]);
+    let found = [
+        read_body(journal, 1, one),
+        read_body(journal, 1, one),
+        read_body(journal, 2, two),
+        read_body(journal, 3, two),
     ];
     Seen {
-        right: count_true(&looks),
+        found,
         faults: journal.faults(),
     }
 }
 
-// How many hold before the first that does not.
-fn count_true(holds: &[bool]) -> u64 {
-    holds.iter().take_while(|holds| **holds).count() as u64
+fn see_bodies(alloc: Global, disk: MemoryDisk) -> Seen {
+    match journal_on(alloc, disk) {
+        Some(mut journal) => bodies_of_two(&mut journal),
+        None => NOTHING,
+    }
 }
 
-fn see_bodies(alloc: Global, disk: MemoryDisk, bytes: &[u8]) -> Seen {
-    let Ok((mut journal, _)) = Journal::open(alloc, disk, true) else {
-        return NOTHING;
-    };
-    bodies_of_two(&mut journal, bytes)
-}
-
+// An opening makes six device calls where two records stand: a sync, the header, the length, both records at once, what stands behind them,
+// and the gate. A body is one more. Here the seventh call fails.
 #[test]
 fn bodies_are_read_back(rt: HostRuntime) -> Result<(), Fail> {
-    let bytes = two_records(rt.alloc())?;
-    let disk = disk(rt.alloc(), &bytes, &[6])?;
-    let seen = see_bodies(rt.alloc(), disk, &bytes);
-    same(&rt, seen.right, 5, "looks at bodies");
+    let seen = see_bodies(rt.alloc(), disk(rt.alloc(), TWO_RECORDS, &[6])?);
+    let expected = [
+        Found::DiskFault,
+        Found::Records(1),
+        Found::Records(2),
+        Found::Absent,
+    ];
+    shows(&rt, "bodies", seen.found == expected);
     same(&rt, seen.faults, 1, "faults at bodies");
     Ok(())
 }
@@ -188,10 +181,7 @@ fn find_body(disk: MemoryDisk, bytes: &[u8; 96]) -> Found {
     if journal.append(bytes).is_err() {
         return Found::DiskFault;
     }
-    match body(&mut journal, 1) {
-        Ok(_) => Found::Records(1),
-        Err(found) => found,
-    }
+    read_body(&mut journal, 1, bytes)
 }
 
 // Whether a field of the body fits nothing, at this place of the disk.
@@ -224,31 +214,40 @@ fn a_body_that_is_no_command(rt: HostRuntime) -> Result<(), Fail> {
     Ok(())
 }
 
-// The bodies of two records, while the file is changed from outside. A gate that was shut since takes nothing back.
+// What comes of reading a body once the file has another byte at a place, which is written from outside.
+fn read_behind(
+    journal: &mut Journal<FileDisk>,
+    other: &mut FileDisk,
+    at: u16,
+    byte: u8,
+    index: u64,
+) -> Found {
+    match other.write_at(u64::from(at), &[byte]) {
+        Ok(()) => read_body(journal, index, &encode(&fund(index))),
+        Err(_) => Found::NoMemory,
+    }
+}
+
+// The bodies of two records, while the file is changed from outside: the first one's number, a gate that was shut since,
+// which takes nothing back, and the last byte of the second one's digest.
 fn bodies_behind_changes(journal: &mut Journal<FileDisk>, other: &mut FileDisk) -> Seen {
-    let one = encode(&fund(1));
-    let two = encode(&fund(2));
-    let looks = [
-        has_body(journal, 1, &one),
-        other.write_at(108, &[9]).is_ok(),
-        has_none(journal, 1, Found::OtherDigest(1)),
-        has_body(journal, 2, &two),
-        other.write_at(194, &[0]).is_ok(),
-        has_body(journal, 2, &two),
-        other.write_at(322, &[9]).is_ok(),
-        has_none(journal, 2, Found::OtherDigest(2)),
+    let found = [
+        read_body(journal, 1, &encode(&fund(1))),
+        read_behind(journal, other, 108, 9, 1),
+        read_behind(journal, other, 194, 0, 2),
+        read_behind(journal, other, 322, 9, 2),
     ];
     Seen {
-        right: count_true(&looks),
+        found,
         faults: journal.faults(),
     }
 }
 
 fn see_changes(alloc: Global, disk: FileDisk, other: &mut FileDisk) -> Seen {
-    let Ok((mut journal, _)) = Journal::open(alloc, disk, true) else {
-        return NOTHING;
-    };
-    bodies_behind_changes(&mut journal, other)
+    match journal_on(alloc, disk) {
+        Some(mut journal) => bodies_behind_changes(&mut journal, other),
+        None => NOTHING,
+    }
 }
 
 #[test]
@@ -259,7 +258,13 @@ fn bodies_of_a_file_that_was_changed(rt: HostRuntime) -> Result<(), Fail> {
     shows(&rt, "a journal of two bodies", made);
     let mut other = file(&rt, "bodies.liq")?;
     let seen = see_changes(alloc, file(&rt, "bodies.liq")?, &mut other);
-    same(&rt, seen.right, 8, "looks at bodies that change");
+    let expected = [
+        Found::Records(1),
+        Found::OtherDigest(1),
+        Found::Records(2),
+        Found::OtherDigest(2),
+    ];
+    shows(&rt, "bodies that change", seen.found == expected);
     same(&rt, seen.faults, 0, "faults at bodies that change");
     Ok(())
 }

@@ -8,36 +8,47 @@ use std::test::Fail;
 
 const WORD: &[u8] = b"liquidation";
 
-// What so many reads take, five bytes at most in each.
-fn take_by_fives<S: Source>(
-    alloc: Global,
-    source: &mut S,
-    reads: u8,
-) -> Result<Vec<u8>, AllocError> {
-    let mut bytes = Vec::new(alloc);
-    for _ in 0..reads {
-        let mut buf = [0; 5];
-        if let Ok(count) = source.read(&mut buf) {
-            bytes.extend_from_slice(&buf[..count])?;
-        }
+// Whether these bytes are the word's at a place, of which so many were read.
+fn are_next(place: usize, bytes: &[u8], count: usize) -> bool {
+    match (
+        WORD.get(place..place.saturating_add(count)),
+        bytes.get(..count),
+    ) {
+        (Some(expected), Some(bytes)) => expected == bytes,
+        _ => false,
     }
-    Ok(bytes)
+}
+
+// How many bytes one read takes that are the word's next, of five at most.
+fn take_next<S: Source>(source: &mut S, place: usize) -> usize {
+    let mut buf = [0; 5];
+    match source.read(&mut buf) {
+        Ok(count) if are_next(place, buf.as_slice(), count) => count,
+        _ => 0,
+    }
 }
 
 // Whether so many reads take the word.
-fn gives_the_word<S: Source>(alloc: Global, source: &mut S, reads: u8) -> Result<bool, AllocError> {
-    let bytes = take_by_fives(alloc, source, reads)?;
-    Ok(bytes.as_slice() == WORD)
+fn gives_the_word<S: Source>(source: &mut S, reads: u8) -> bool {
+    let mut place = 0usize;
+    for _ in 0..reads {
+        place = place.saturating_add(take_next(source, place));
+    }
+    place == WORD.len()
+}
+
+fn writes_whole<K: Sink>(sink: &mut K, piece: &[u8]) -> bool {
+    match sink.write(piece) {
+        Ok(count) => count == piece.len(),
+        Err(_) => false,
+    }
 }
 
 // How many of the pieces could not be written whole.
 fn write_each<K: Sink>(sink: &mut K, pieces: &[&[u8]]) -> u64 {
     let mut failed = 0u64;
     for piece in pieces {
-        match sink.write(piece) {
-            Ok(count) if count == piece.len() => {}
-            _ => failed = failed.saturating_add(1),
-        }
+        failed = failed.saturating_add(u64::from(!writes_whole(sink, piece)));
     }
     failed
 }
@@ -59,7 +70,7 @@ fn take_from_memory(
 ) -> Result<Taken, AllocError> {
     let chunk = usize::from(chunk).max(1);
     let mut source = MemorySource::new(WORD.to_vec(alloc)?, chunk, failing.to_vec(alloc)?);
-    let is_word = gives_the_word(alloc, &mut source, reads)?;
+    let is_word = gives_the_word(&mut source, reads);
     Ok(Taken {
         is_word,
         faults: source.faults(),
@@ -106,12 +117,11 @@ impl Read for BrokenReader {
 }
 
 #[test]
-fn a_reader_is_a_source(rt: HostRuntime) -> Result<(), Fail> {
+fn a_reader_is_a_source(rt: HostRuntime) {
     let mut source = StdSource::new(WORD);
-    let is_word = gives_the_word(rt.alloc(), &mut source, 4)?;
+    let is_word = gives_the_word(&mut source, 4);
     shows(&rt, "a reader gives its bytes", is_word);
     same(&rt, source.faults(), 0, "faults of a reader");
-    Ok(())
 }
 
 #[test]
