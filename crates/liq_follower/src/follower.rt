@@ -1,9 +1,9 @@
 //! A replica that is fed the bytes of a journal.
 
-ghost use Rattle.std.specs.Prelude.{◌≡◌, ◌≤◌, ◌<◌, ◌+◌, ◌-◌, ◌^◌, ◌∷◌, ◌++◌, [], List, ℕ, length, min, take, None, IfOk, OnErr, OnOk};
+ghost use Rattle.std.specs.Prelude.{◌≡◌, ◌≤◌, ◌<◌, ◌+◌, ◌-◌, ◌^◌, ◌∷◌, ◌++◌, [], List, ℕ, length, min, take, true, false, None, IfOk, OnErr, OnOk, slice_index};
 ghost use Rattle.liq_follower.specs.declared.phase.Phase.TheVariants as phase;
-ghost use Rattle.liq_follower.specs.Fed.{AreOver, EndsWith, GoOn, LackOne};
-ghost use Rattle.liq_follower.specs.Following.{IsAt, IsFed, stopped_in};
+ghost use Rattle.liq_follower.specs.Fed.{AreOver, Completes, EndsWith, GoOn, LackOne};
+ghost use Rattle.liq_follower.specs.Following.{IsAt, IsFed, StandsBeforeLast, stopped_in};
 ghost use Rattle.liq_follower.specs.Judging.{phase_of};
 
 use crate::answers::{Fed, FedEnd};
@@ -17,6 +17,9 @@ use liq_types::NoMemory;
 use liq_types::amounts::LIM;
 use std::alloc::Global;
 use std::marker::Model;
+
+// A count of bytes to which those of a record can be added.
+const MANY: u64 = u64::MAX - 128;
 
 /// A replica of the protocol that follows a journal's bytes. Each record makes its step once all its bytes are taken and its
 /// digest is right.
@@ -93,8 +96,20 @@ impl Follower {
         ensures end { (bytes : List ℕ) → IsFed bytes self.old → EndsWith result.end (bytes ++ take result.taken piece.now) }
         ensures all { result.end ≡ FedEnd.All → result.taken ≡ length piece.now }
         ensures memory { result.end ≡ FedEnd.NoMemory → result.taken < length piece.now }
+        ensures right { result.end ≡ FedEnd.NoMemory → (bytes : List ℕ) → IsFed bytes self.old
+            → Completes (slice_index piece.now result.taken) (bytes ++ take result.taken piece.now) }
         ensures over { (bytes : List ℕ) → IsFed bytes self.old → AreOver bytes → result.taken ≡ 0 }
+        ensures stays { (bytes : List ℕ) → IsFed bytes self.old → AreOver bytes → self.new ≡ self.old }
+        ensures again { (bytes : List ℕ) → IsFed bytes self.old → AreOver bytes → (e : FedEnd) → EndsWith e bytes → result.end ≡ e }
+        ensures first { (bytes : List ℕ) → IsFed bytes self.old → AreOver (bytes ++ take result.taken piece.now)
+            → StandsBeforeLast (bytes ++ take result.taken piece.now) self.new.core }
     {
+        if self.keeps(piece) {
+            return Fed {
+                taken: piece.len(),
+                end: FedEnd::All,
+            };
+        }
         let mut taken = 0;
         while taken < piece.len() {
             if let Some(end) = self.stopped() {
@@ -110,6 +125,46 @@ impl Follower {
         }
         let end = self.stopped().unwrap_or(FedEnd::All);
         Fed { taken, end }
+    }
+
+    // Whether the whole piece is inside a record, and not up to its last byte: it is taken then, and else nothing is. So a feed of a
+    // byte costs little.
+    fn keeps(&mut self, piece: &[u8]) -> bool
+        ensures inside { result ≡ true → (self.old.phase ≡ phase.Inside) × (self.new.phase ≡ phase.Inside) }
+        ensures fed { result ≡ true → (bytes : List ℕ) → IsFed bytes self.old
+            → IsFed (bytes ++ take (length piece.now) piece.now) self.new }
+        ensures stays { result ≡ false → self.new ≡ self.old }
+    {
+        if !self.fits(piece.len()) {
+            return false;
+        }
+        self.keep(piece);
+        self.tally_few(piece.len());
+        true
+    }
+
+    // Whether so many bytes are inside a record, and not up to its last one. Where the count of bytes is near its last value none is
+    // said to be.
+    fn fits(&self, count: usize) -> bool
+        ensures inside { result ≡ true → self.now.phase ≡ phase.Inside }
+        ensures room { result ≡ true → length self.now.held + count < 128 }
+        ensures few { result ≡ true → self.now.taken + count < 2 ^ 64 }
+    {
+        match self.phase {
+            Phase::Inside => count < RECORD - self.held.len() && self.taken < MANY,
+            _ => false,
+        }
+    }
+
+    // Keeps some bytes of a record, without counting.
+    fn keep(&mut self, piece: &[u8])
+        requires inside { self.old.phase ≡ phase.Inside }
+        requires room { length self.old.held + length piece.now < 128 }
+        ensures at { (bytes : List ℕ) → IsAt bytes self.old → IsAt (bytes ++ piece.now) self.new }
+        ensures inside { self.new.phase ≡ phase.Inside }
+        ensures taken { self.new.taken ≡ self.old.taken }
+    {
+        self.held.extend(piece);
     }
 
     // How feeding has ended for good, if it has.
@@ -130,7 +185,8 @@ impl Follower {
         ensures going { (bytes : List ℕ) → IsFed bytes self.old → GoOn bytes }
         ensures count { IfOk result (λ n. (1 ≤ n) × (n ≤ length piece.now)) }
         ensures fed { IfOk result (λ n. (bytes : List ℕ) → IsFed bytes self.old → IsFed (bytes ++ take n piece.now) self.new) }
-        ensures memory { OnErr result ((bytes : List ℕ) → IsFed bytes self.old → IsFed bytes self.new × LackOne bytes) }
+        ensures memory { OnErr result ((bytes : List ℕ) → IsFed bytes self.old
+            → IsFed bytes self.new × LackOne bytes × Completes (slice_index piece.now 0) bytes) }
     {
         match self.take(piece) {
             Ok(count) => {
@@ -144,18 +200,30 @@ impl Follower {
     // Counts bytes that were taken.
     fn tally(&mut self, count: usize)
         ensures at { (bytes : List ℕ) → IsAt bytes self.old → IsAt bytes self.new }
+        ensures phase { self.new.phase ≡ self.old.phase }
         ensures taken { self.new.taken ≡ min (self.old.taken + count) (2 ^ 64 - 1) }
     {
         self.taken = self.taken.saturating_add(count as u64);
     }
 
-    // The same without counting.
+    // The same for bytes after which the count isn't at its last value: an addition and no more.
+    fn tally_few(&mut self, count: usize)
+        requires few { self.old.taken + count < 2 ^ 64 }
+        ensures at { (bytes : List ℕ) → IsAt bytes self.old → IsAt bytes self.new }
+        ensures phase { self.new.phase ≡ self.old.phase }
+        ensures taken { self.new.taken ≡ min (self.old.taken + count) (2 ^ 64 - 1) }
+    {
+        self.taken += count as u64;
+    }
+
+    // Takes bytes without counting them.
     fn take(&mut self, piece: &[u8]) -> Result<usize, NoMemory>
         requires some { 1 ≤ length piece.now }
         requires goes { stopped_in self.old.phase ≡ None }
         ensures count { IfOk result (λ n. (1 ≤ n) × (n ≤ length piece.now)) }
         ensures at { IfOk result (λ n. (bytes : List ℕ) → IsAt bytes self.old → IsAt (bytes ++ take n piece.now) self.new) }
-        ensures memory { OnErr result ((bytes : List ℕ) → IsAt bytes self.old → IsAt bytes self.new × LackOne bytes) }
+        ensures memory { OnErr result ((bytes : List ℕ) → IsAt bytes self.old
+            → IsAt bytes self.new × LackOne bytes × Completes (slice_index piece.now 0) bytes) }
         ensures taken { self.new.taken ≡ self.old.taken }
     {
         match self.phase {
@@ -226,7 +294,8 @@ impl Follower {
         requires inside { self.old.phase ≡ phase.Inside }
         ensures count { IfOk result (λ n. (1 ≤ n) × (n ≤ length piece.now)) }
         ensures at { IfOk result (λ n. (bytes : List ℕ) → IsAt bytes self.old → IsAt (bytes ++ take n piece.now) self.new) }
-        ensures memory { OnErr result ((bytes : List ℕ) → IsAt bytes self.old → IsAt bytes self.new × LackOne bytes) }
+        ensures memory { OnErr result ((bytes : List ℕ) → IsAt bytes self.old
+            → IsAt bytes self.new × LackOne bytes × Completes (slice_index piece.now 0) bytes) }
         ensures taken { self.new.taken ≡ self.old.taken }
     {
         let missing = RECORD - 1 - self.held.len();
@@ -235,7 +304,7 @@ impl Follower {
             return Ok(1);
         }
         let count = missing.min(piece.len());
-        self.held.extend(&piece[..count]);
+        self.keep(&piece[..count]);
         Ok(count)
     }
 
@@ -244,7 +313,7 @@ impl Follower {
         requires inside { self.old.phase ≡ phase.Inside }
         requires full { length self.old.held ≡ 127 }
         ensures at { OnOk result ((bytes : List ℕ) → IsAt bytes self.old → IsAt (bytes ++ last ∷ []) self.new) }
-        ensures memory { OnErr result ((bytes : List ℕ) → IsAt bytes self.old → IsAt bytes self.new × LackOne bytes) }
+        ensures memory { OnErr result ((bytes : List ℕ) → IsAt bytes self.old → IsAt bytes self.new × LackOne bytes × Completes last bytes) }
         ensures taken { self.new.taken ≡ self.old.taken }
     {
         let index = self.guided.records().saturating_add(1);
