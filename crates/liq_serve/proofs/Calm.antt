@@ -15,7 +15,7 @@ use Rattle.liq_pairs.specs.Replay.{replay}
 use Rattle.liq_scripts.specs.Asked.{Asks}
 use Rattle.liq_words.specs.declared.words.Word.TheVariants as word
 use Rattle.liq_ends.specs.declared.halts.Halt.{Halt}
-use Rattle.liq_ends.specs.declared.halts.Halt.TheVariants.{BadLine, ReadFault, WriteFault, DiskFault, Damaged, NoMemory, Limit, Rotated}
+use Rattle.liq_ends.specs.declared.halts.Halt.TheVariants.{BadLine, ReadFault, WriteFault, DiskFault, Damaged, DamagedInput, NoMemory, Limit, Rotated}
 use Rattle.liq_ends.specs.Reading.{ReadsTo}
 use Rattle.liq_ends.specs.Statuses.{IsDone, status_of}
 use Rattle.liq_tell.proofs.Audited.{no_limit}
@@ -64,6 +64,7 @@ module _
   answers_done asked history (Err NoMemory) a sink disk = inr refl
   answers_done asked history (Err (Limit number)) a sink disk = whole_done _ a.1 sink
   answers_done asked history (Err (Rotated generation)) a sink disk = whole_done _ a.1 sink
+  answers_done asked history (Err (DamagedInput number)) a sink disk = whole_done _ a.1 sink
 
   pub serve_done :
       (end : Result (Unit {0}) Halt) → ServesTo unread source_faults held sink_faults seen disk_faults moment left_at before after end

@@ -5,7 +5,7 @@ use Rattle.std.specs.List.{AllZip}
 use Rattle.liq_types.specs.declared.amounts.TheConstants.{LINES_MOST}
 use Rattle.liq_types.specs.declared.requests.Request.{Request}
 use Rattle.liq_ends.specs.declared.halts.Halt.{Halt}
-use Rattle.liq_ends.specs.declared.halts.Halt.TheVariants.{BadLine, ReadFault, WriteFault, DiskFault, Damaged, NoMemory, Limit, Rotated}
+use Rattle.liq_ends.specs.declared.halts.Halt.TheVariants.{BadLine, ReadFault, WriteFault, DiskFault, Damaged, DamagedInput, NoMemory, Limit, Rotated}
 use Rattle.liq_ends.specs.Reading.{ReadsTo}
 use Rattle.liq_ends.specs.Statuses.{IsDone, status_of}
 use Rattle.liq_ends.proofs.Causes.{six}
@@ -27,6 +27,7 @@ status_known (Err (Damaged side number)) = (6, lit< tt, six side number)
 status_known (Err NoMemory) = (7, lit< tt, refl)
 status_known (Err (Limit number)) = (8, lit< tt, refl)
 status_known (Err (Rotated generation)) = (9, lit< tt, refl)
+status_known (Err (DamagedInput number)) = (9, lit< tt, refl)
 
 -- of each word there may be no memory
 pub no_memory_known : (read : Word) → Contains (statuses_of read) 7
@@ -48,6 +49,7 @@ goes_on_known (Err (Damaged side number)) on = (5, lit< tt, six side number)
 goes_on_known (Err NoMemory) on = (6, lit< tt, refl)
 goes_on_known (Err (Limit number)) on = (7, lit< tt, refl)
 goes_on_known (Err (Rotated generation)) on = absurd (on generation refl)
+goes_on_known (Err (DamagedInput number)) on = absurd (on generation refl)
 
 -- a word that reads no line, and tells of the disks
 pub audit_known : (end : Result (Unit {0}) Halt) → end ≢ Err ReadFault → ((number : ℕ) → end ≢ Err (BadLine number)) → Contains (statuses_of word.Audit) (status_of end)
@@ -60,6 +62,7 @@ audit_known (Err (Damaged side number)) no_source no_line = (3, lit< tt, six sid
 audit_known (Err NoMemory) no_source no_line = (4, lit< tt, refl)
 audit_known (Err (Limit number)) no_source no_line = (5, lit< tt, refl)
 audit_known (Err (Rotated generation)) no_source no_line = (6, lit< tt, refl)
+audit_known (Err (DamagedInput number)) no_source no_line = (6, lit< tt, refl)
 
 pub state_known : (end : Result (Unit {0}) Halt) → end ≢ Err ReadFault → ((number : ℕ) → end ≢ Err (BadLine number)) → ((number : ℕ) → (end ≢ Err (Limit number)) × (end ≢ Err (Rotated number))) → Contains (statuses_of word.State) (status_of end)
 state_known (Ok done) no_source no_line no_number = (0, lit< tt, refl)
@@ -71,6 +74,7 @@ state_known (Err (Damaged side number)) no_source no_line no_number = (3, lit< t
 state_known (Err NoMemory) no_source no_line no_number = (4, lit< tt, refl)
 state_known (Err (Limit number)) no_source no_line no_number = absurd ((no_number number).0 refl)
 state_known (Err (Rotated generation)) no_source no_line no_number = absurd ((no_number generation).1 refl)
+state_known (Err (DamagedInput number)) no_source no_line no_number = absurd ((no_number generation).1 refl)
 
 -- ---- where all lines are requests
 
@@ -100,3 +104,4 @@ run_done bytes left all spelled few (Err DiskFault) r w d ends answered e = absu
 run_done bytes left all spelled few (Err (Damaged side number)) r w d ends answered e = absurd ((listed _ ends).0 (sym (six side number)))
 run_done bytes left all spelled few (Err (Limit number)) r w d ends answered e = absurd (neither (λ is. cc) (λ is. cc) (stops_outside Spells stop.Limit bytes left answered all spelled few e.1))
 run_done bytes left all spelled few (Err (Rotated generation)) r w d ends answered e = absurd ((listed _ ends).1 refl)
+run_done bytes left all spelled few (Err (DamagedInput number)) r w d ends answered e = absurd ((listed _ ends).1 refl)

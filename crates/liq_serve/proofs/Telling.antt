@@ -7,7 +7,7 @@ use Rattle.liq_review.specs.Reviewed.{reviewed}
 use Rattle.liq_review.specs.declared.fault.ReviewFault.TheVariants as review
 use Rattle.liq_store.specs.Causes.{Faults}
 use Rattle.liq_ends.specs.declared.halts.Halt.{Halt}
-use Rattle.liq_ends.specs.declared.halts.Halt.TheVariants.{BadLine, ReadFault, WriteFault, DiskFault, Damaged, NoMemory, Limit, Rotated}
+use Rattle.liq_ends.specs.declared.halts.Halt.TheVariants.{BadLine, ReadFault, WriteFault, DiskFault, Damaged, DamagedInput, NoMemory, Limit, Rotated}
 use Rattle.liq_ends.specs.Causes.{DiskCause, ReadCause}
 use Rattle.liq_ends.specs.Statuses.{status_of}
 use Rattle.liq_ends.proofs.Causes.{six, unread_causes}
@@ -47,6 +47,7 @@ untouched_causes (Err (Damaged side number)) n other = refl
 untouched_causes (Err NoMemory) n other = refl
 untouched_causes (Err (Limit number)) n other = refl
 untouched_causes (Err (Rotated generation)) n other = refl
+untouched_causes (Err (DamagedInput number)) n other = refl
 
 pub disks_unasked : (end : Result (Unit {0}) Halt) (n : Faults) → Contains (0 ∷ 4 ∷ 7 ∷ []) (status_of end) → DiskCause end n n
 disks_unasked end n ends = untouched_causes end n (λ is. load_not (status_of end) 5 (load_list (status_of end) ends) (ap status_of is) (λ e. omega (arith, e)) (λ e. omega (arith, e)) (λ e. omega (arith, e)))
@@ -96,6 +97,7 @@ audit_done s commands (Err (Damaged side number)) text first h within_limits sin
 audit_done s commands (Err NoMemory) text first h within_limits sink disk = inr refl
 audit_done s commands (Err (Limit number)) text first h within_limits sink disk = absurd (within_limits number h.1)
 audit_done s commands (Err (Rotated generation)) text first h within_limits sink disk = absurd (omega (arith, first, h.0))
+audit_done s commands (Err (DamagedInput number)) text first h within_limits sink disk = absurd (omega (arith, first, h.0))
 
 -- of a later one
 pub rotated_done : (s : State) (commands : List Command) (end : Result (Unit {0}) Halt) (text : List ℕ) → 1 < s.generation → IsAuditOf s commands end text → status_of end ≢ 5 → (status_of end ≡ 9) ⊎ (status_of end ≡ 7)
@@ -108,3 +110,4 @@ rotated_done s commands (Err (Damaged side number)) text later h disk = absurd (
 rotated_done s commands (Err NoMemory) text later h disk = inr refl
 rotated_done s commands (Err (Limit number)) text later h disk = absurd (omega (arith, later, h.0))
 rotated_done s commands (Err (Rotated generation)) text later h disk = inl refl
+rotated_done s commands (Err (DamagedInput number)) text later h disk = inl refl

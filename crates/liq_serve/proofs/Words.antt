@@ -19,7 +19,7 @@ use Rattle.liq_words.specs.declared.words.WordsFault.{WordsFault}
 use Rattle.liq_words.specs.declared.words.WordsFault.TheVariants as fault
 use Rattle.liq_words.specs.Words.{Ask}
 use Rattle.liq_ends.specs.declared.halts.Halt.{Halt}
-use Rattle.liq_ends.specs.declared.halts.Halt.TheVariants.{BadLine, ReadFault, WriteFault, DiskFault, Damaged, NoMemory, Limit, Rotated}
+use Rattle.liq_ends.specs.declared.halts.Halt.TheVariants.{BadLine, ReadFault, WriteFault, DiskFault, Damaged, DamagedInput, NoMemory, Limit, Rotated}
 use Rattle.liq_ends.specs.Causes.{DiskCause, LastCause, ReadCause}
 use Rattle.liq_ends.specs.Disks.{EndsDamaged}
 use Rattle.liq_ends.specs.Output.{last, usage}
@@ -61,6 +61,7 @@ not_usage (Err (Damaged side number)) is = omega (arith, six side number, is)
 not_usage (Err NoMemory) is = omega (arith, is)
 not_usage (Err (Limit number)) is = omega (arith, is)
 not_usage (Err (Rotated generation)) is = omega (arith, is)
+not_usage (Err (DamagedInput number)) is = omega (arith, is)
 
 module _
     {S K D : Type 0} (unread : S → Option (List ℕ)) (source_faults : S → ℕ) (held : K → Option (List ℕ)) (sink_faults : K → ℕ) (seen : D → Option (List ℕ))
@@ -113,6 +114,7 @@ module _
   last_told side damage NoMemory ends told = told
   last_told side damage (Limit number) ends told = absurd ends
   last_told side damage (Rotated generation) ends told = absurd ends
+  last_told side damage (DamagedInput number) ends told = absurd ends
 
   -- a word that opens the disks before it reads
   pub opens_first :
