@@ -20,9 +20,13 @@ pub record IsWhole (read : List ℕ) (left : Option (List ℕ)) (text : List ℕ
 abbrev pub HasFront : List ℕ → (List ℕ → Type 0) → Type 0
 HasFront read P = (front rest : List ℕ) × (read ≡ front ++ rest) × P front
 
--- the last of these bytes is the first that shows a fault
+-- they show no fault before the last one
 abbrev pub IsFirstFault : List ℕ → Type 0
 IsFirstFault bytes = (before : List ℕ) × (byte : ℕ) × (bytes ≡ before ++ byte ∷ []) × GoOn before
+
+-- with the first fault that some bytes show, what stands up to there is so
+abbrev pub FaultIn : List ℕ → (List ℕ → Type 0) → Type 0
+FaultIn bytes P = HasFront bytes (λ front. IsFirstFault front × P front)
 
 -- why feeding stopped within the bytes that were read
 abbrev pub StopsWithin : Halt → List ℕ → Type 0
@@ -30,8 +34,8 @@ abbrev pub StopsWithin : Halt → List ℕ → Type 0
 StopsWithin ReadFault read = GoOn read
 -- nor in what was fed
 StopsWithin NoMemory read = HasFront read GoOn
-StopsWithin (DamagedInput index) read = HasFront read (λ front. IsFirstFault front × AreDamagedAt index front)
-StopsWithin (Rotated generation) read = HasFront read (λ front. IsFirstFault front × AreTurnedTo generation front)
+StopsWithin (DamagedInput index) read = FaultIn read (AreDamagedAt index)
+StopsWithin (Rotated generation) read = FaultIn read (AreTurnedTo generation)
 StopsWithin _ read = ⊥
 
 -- Where following ends. `read` is what was read of the input, `left` what the source still tells, `text` what is told.

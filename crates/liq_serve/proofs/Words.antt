@@ -5,11 +5,10 @@ use Rattle.std.proofs.lemmas.List.Elements.{All-nil}
 use Rattle.liq_outside.specs.Disk.{GoesOn, LeftNow}
 use Rattle.liq_outside.specs.Faults.{Rose}
 use Rattle.liq_outside.proofs.Moments.{unmoved}
-use Rattle.liq_types.specs.declared.amounts.TheConstants.{LINES_MOST}
 use Rattle.liq_types.specs.State.{State}
 use Rattle.liq_lines.specs.Lines.{lines_in}
-use Rattle.liq_lines.specs.Reading.{taken_most, ReadsAtMost}
-use Rattle.liq_lines.proofs.Readings.{takes_none}
+use Rattle.liq_lines.specs.Reading.{ReadsAtMost}
+use Rattle.liq_lines.proofs.Bytes.{reads_nothing}
 use Rattle.liq_journal.specs.declared.damage.Damage.{Damage}
 use Rattle.liq_pairs.specs.declared.side.Side.{Side}
 use Rattle.liq_pairs.specs.Pair.{state_on}
@@ -31,7 +30,8 @@ use Rattle.liq_ends.proofs.Passing.{untouched_past}
 use Rattle.liq_ends.proofs.Shares.{all_shares}
 use Rattle.liq_store.specs.Causes.{counts_of}
 use Rattle.liq_serve.specs.Outside.{Outside}
-use Rattle.liq_serve.specs.Top.{Ends, Leaves, OpensFirst, ServesTo, Tells, statuses_of}
+use Rattle.liq_follow.proofs.Beginning.{none_goes_on}
+use Rattle.liq_serve.specs.Top.{Ends, Leaves, OpensFirst, ServesTo, Tells, most_taken, statuses_of}
 use Rattle.liq_serve.proofs.Served.{by_found, if_found, same_disks}
 use Rattle.liq_serve.proofs.StatusLaws.{no_memory_known, status_known}
 
@@ -49,6 +49,10 @@ is_read words found read is asks only =
       by : (other : Word) → (found ≡ Ok other) ⊎ (found ≡ Err fault.NoMemory) → read ≡ other
       by other (inl same) = cc
       by other (inr none) = absurd cc
+
+-- who takes nothing takes no more than anything
+none_taken : (most : ℕ) (before : Option (List ℕ)) → ReadsAtMost most before before
+none_taken most before = ([], reads_nothing before, omega arith)
 
 -- no end of a word has the status of words that ask for nothing
 not_usage : (end : Result (Unit {0}) Halt) → status_of end ≡ 1 → ⊥
@@ -79,7 +83,7 @@ module _
   pub word_ends :
       (words : List (List ℕ)) (read : Word) (end : Result (Unit {0}) Halt) → IsRead words read
       → Leaves unread source_faults held sink_faults seen disk_faults moment left_at before after read end → HasCounts read end
-      → ReadsAtMost (taken_most LINES_MOST) (unread before.source) (unread after.source)
+      → ReadsAtMost (most_taken read) (unread before.source) (unread after.source)
       → Ends unread source_faults held sink_faults seen disk_faults moment left_at before after (status_of end) words
   word_ends words read end is leaves counts few =
       let source = source_causes end (source_faults before.source) (source_faults after.source) counts.source in
@@ -89,7 +93,7 @@ module _
         understood = (λ e. absurd (not_usage end e), λ none. absurd (none read is.asks));
         usage = λ e. absurd (not_usage end e);
         ends = λ other asked. (end, refl, subst (λ (w : Word). Leaves unread source_faults held sink_faults seen disk_faults moment left_at before after w end) (is.only other asked) leaves);
-        takes = few;
+        takes = λ other asked. subst (λ (w : Word). ReadsAtMost (most_taken w) (unread before.source) (unread after.source)) (is.only other asked) few;
         known = status_known end;
         status_is = λ other asked. subst (λ (w : Word). Contains (statuses_of w) (status_of end)) (is.only other asked) counts.status;
         source_fault = source.0;
@@ -156,7 +160,7 @@ module _
         left_time = left_time;
         right_time = right_time;
       })
-      (subst (λ (s : S). ReadsAtMost (taken_most LINES_MOST) (unread before.source) (unread s)) (sym same) (takes_none (unread before.source)))
+      (subst (λ (s : S). ReadsAtMost (most_taken read) (unread before.source) (unread s)) (sym same) (none_taken (most_taken read) (unread before.source)))
 
 -- ---- words that were not read
 
@@ -245,6 +249,7 @@ module _
         ))
         (λ side damage is. (refl, still side damage l r told_l told_r is, written)),
   )
+  nothing_done written word.Follow = (refl, ([], reads_nothing (unread before.source), ([], (omega arith, ([], [], refl, none_goes_on)), written)))
   nothing_done written (word.Gen seed count) = (refl, (2, lit< tt, refl), written)
 
   -- the status is that of neither a fault nor an end
@@ -257,7 +262,7 @@ module _
         understood = understood;
         usage = λ one. (refl, misused one);
         ends = λ word asked. let none = wordless word asked in (Err NoMemory, none.0, nothing_done none.1 word);
-        takes = takes_none (unread before.source);
+        takes = λ one asked. none_taken (most_taken one) (unread before.source);
         known = known;
         status_is = λ one asked. subst (Contains (statuses_of one)) (sym (wordless one asked).0) (no_memory_known one);
         source_fault = λ is. absurd (no_source is);
