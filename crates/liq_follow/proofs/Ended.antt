@@ -127,7 +127,7 @@ module _ (bytes read : List ℕ) (left : Option (List ℕ)) (reads : Reads (Some
   shows : (end : Result (Unit {0}) Halt) (text : List ℕ) → FollowsTo end read left text → Shows end
   shows (Ok done) text h = whole_shows text h
   shows (Err WriteFault) text h = whole_shows text h
-  shows (Err (Limit number)) text h = (h.0, long_shows h.1 h.2)
+  shows (Err (Limit number)) text h = let so = long_shows h.1 h.2 in (h.0, so.0, so.1)
   shows (Err (DamagedInput index)) text h = front_followed (λ (front : List ℕ). IsFirstFault front × AreDamagedAt index front) h.0 h.1
   shows (Err (Rotated generation)) text h = front_followed (λ (front : List ℕ). IsFirstFault front × AreTurnedTo generation front) h.0 h.1
   shows (Err ReadFault) text h = tt

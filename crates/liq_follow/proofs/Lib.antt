@@ -1,3 +1,4 @@
 pub mod Beginning
 pub mod Ended
 mod Pieces
+mod Underway

@@ -8,7 +8,6 @@ ghost use Rattle.liq_ends.specs.Causes.{ReadCause};
 ghost use Rattle.liq_follow.specs.Feeding.{FedAll, FedNext, FedPiece, IsFurther, end_of};
 
 use liq_ends::Halt;
-use liq_follower::laws::headers_lead_to_the_opening;
 use liq_follower::{FedEnd, Follower};
 use liq_outside::{Failed, Source};
 use liq_types::NoMemory;
@@ -33,7 +32,6 @@ pub fn feed_input<S: Source>(
     ensures source { ReadCause result (S.faults input.old) (S.faults input.new) }
     ensures no_sink { result ≢ Err Halt.WriteFault }
 {
-    headers_lead_to_the_opening();
     let mut piece = new_piece(alloc)?;
     let mut room = FED_MOST;
     while room > 0 {
