@@ -1,27 +1,30 @@
 -- The beginning of an undamaged journal is undamaged, and leads to a beginning of its commands.
-use Rattle.std.proofs.Common.{◌≡◌, inl, inr, ℕ, zero, suc, ◌+◌, ◌<◌, ◌≤◌, List, [], ◌∷◌, ◌++◌, length, take, drop, get_or, Ok, true, false, not, refl, sym, ◌∙◌, ap, subst, arith, length-append}
+use Rattle.std.proofs.Common.{◌≡◌, inl, inr, ℕ, zero, suc, ◌+◌, ◌<◌, ◌≤◌, List, [], ◌∷◌, ◌++◌, length, take, drop, get_or, Result, Ok, Err, true, false, not, refl, sym, ◌∙◌, ap, subst, arith, length-append}
 use Rattle.std.specs.Prelude.{◌⊎◌, ◌==◌, ◌&&◌, nat_le}
 use Rattle.std.specs.Str.{bytes_eq}
 use Rattle.std.proofs.lemmas.Bool.Decides.{nat_tests}
-use Rattle.std.proofs.lemmas.List.{drop-append-le, take_all, take_at}
+use Rattle.std.proofs.lemmas.Bool.{cases_Bool}
+use Rattle.std.proofs.lemmas.List.{drop-append-le, take-append-le, take_all, take_at}
 use Rattle.liq_types.specs.declared.requests.Command.{Command}
 use Rattle.liq_types.specs.State.{State, opening_with}
 use Rattle.liq_rules.specs.Step.{after}
 use Rattle.liq_journal.specs.Layout.{Layout, generation_on, header_size, layout_named, layout_on, name_on, size_on}
 use Rattle.liq_journal.specs.Records.{records}
-use Rattle.liq_journal.specs.Written.{Open, Written, found_on, found_records, header_tests, most_records, start_of}
+use Rattle.liq_journal.specs.declared.damage.Damage.{Damage}
+use Rattle.liq_journal.specs.Written.{Absent, Damaged, Found, Open, Written, found_on, found_records, header_tests, most_records, start_of}
 use Rattle.liq_journal.proofs.Heading.{IsOpen, are_false, header_decides, is_open, of_records}
 use Rattle.liq_journal.proofs.Reading.{byte_alike, number_alike, piece_alike}
-use Rattle.liq_pairs.specs.Pair.{Holding}
+use Rattle.liq_pairs.specs.Pair.{Holding, standing, standing_after, standing_of}
 use Rattle.liq_pairs.specs.Replay.{outcome, replay}
 use Rattle.liq_pairs.proofs.Basing.{outcome_first}
 use Rattle.liq_pairs.proofs.Replaying.{first_accepted, replay_allowed, replay_none}
 use Rattle.liq_pairs.proofs.Standings.{standing_open}
-use Rattle.liq_follower.specs.Fed.{LeadTo, begun_limit, has_header}
+use Rattle.liq_follower.specs.Fed.{GoOn, LeadTo, begun_limit, has_header}
 use Rattle.liq_follower.proofs.Found.{FrontOf, both, first_unturned, found_front, records_front}
 use Rattle.liq_follower.proofs.Fronts.{fed_behind}
+use Rattle.liq_follower.proofs.Growing.{least}
 use Rattle.liq_follower.proofs.Headed.{named, no_size}
-use Rattle.liq_follower.proofs.Headers.{no_header}
+use Rattle.liq_follower.proofs.Headers.{no_header, too_short}
 
 -- ---- commands
 
@@ -35,9 +38,6 @@ replay_front (suc n) index s end (c ∷ cs) came =
     (r.0, replay_allowed index s c (take n cs) a.allowed ∙ r.1)
 
 -- ---- a journal
-
-pub too_short : (gate n m : ℕ) → m < n → ((gate == 1) && nat_le n m) ≡ false
-too_short gate n m less = grind (arith, nat_tests)
 
 module _ (bytes rest : List ℕ) (w : Written) (s : State)
     (found : found_on true (bytes ++ rest) ≡ Open w) (first : w.generation ≡ 1) (came : outcome w ≡ Ok s) (named_there : 9 ≤ length bytes) where
@@ -145,3 +145,55 @@ module _ (bytes rest : List ℕ) (w : Written) (s : State)
     by : (m < header_size (layout_on bytes)) ⊎ (header_size (layout_on bytes) ≤ m) → Led
     by (inl less) = begun less
     by (inr whole) = whole_led whole
+
+-- ---- bytes that hold no fault
+
+-- the journal that is whole on them
+pub record Holds (found : Found) (s : State) : Type 0 where
+  pub written : Written
+  pub is : found ≡ Open written
+  pub first : written.generation ≡ 1
+  pub came : outcome written ≡ Ok s
+
+holding : (found : Found) (s : State) → standing_of found ≡ Holding 1 s → Holds found s
+holding Absent s is = absurd (cc (is))
+holding (Damaged damage) s is = absurd (cc (is))
+holding (Open w) s is = by (outcome w) refl is where
+  by : (came : Result State Damage) → outcome w ≡ came → standing_after w.generation came ≡ Holding 1 s → Holds (Open w) s
+  by (Err damage) came is = absurd (cc (is))
+  by (Ok t) came is =
+      let same : t ≡ s = cc (is) in
+      let one : w.generation ≡ 1 = cc (is) in
+      record { written = w; is = refl; first = one; came = came ∙ ap (λ (u : State). Ok u) same }
+
+pub held_by : (bytes : List ℕ) (s : State) → standing true bytes ≡ Holding 1 s → Holds (found_on true bytes) s
+unfolding standing
+held_by bytes s is = holding (found_on true bytes) s is
+
+-- a whole header is whole whatever follows
+still_headed : (bytes rest : List ℕ) → has_header bytes ≡ true → (9 ≤ length bytes) × (has_header (bytes ++ rest) ≡ true)
+still_headed bytes rest has =
+    let parts : (get_or bytes 0 0 ≡ 1) × (header_size (layout_on bytes) ≤ length bytes) = of_both (get_or bytes 0 0) (header_size (layout_on bytes)) (length bytes) has in
+    let l = least bytes in
+    let size = parts.1 in
+    let there : 9 ≤ length bytes = omega arith in
+    let alike : take 9 (bytes ++ rest) ≡ take 9 bytes = take-append-le 9 bytes rest there in
+    let gate : get_or (bytes ++ rest) 0 0 ≡ 1 = byte_alike 9 bytes (bytes ++ rest) alike 0 (omega arith) ∙ parts.0 in
+    let same : layout_on (bytes ++ rest) ≡ layout_on bytes = ap layout_named (piece_alike 9 bytes (bytes ++ rest) alike 1 8 (omega arith)) in
+    let long = length-append bytes rest in
+    let sizes = ap header_size same in
+    (there, both (get_or (bytes ++ rest) 0 0) (header_size (layout_on (bytes ++ rest))) (length (bytes ++ rest)) gate (omega arith))
+  where
+    of_both : (gate n m : ℕ) → ((gate == 1) && nat_le n m) ≡ true → (gate ≡ 1) × (n ≤ m)
+    of_both gate n m is = (grind (arith, nat_tests), grind (arith, nat_tests))
+
+-- a beginning of bytes that hold no fault holds none
+pub beginning_goes : (bytes rest : List ℕ) → GoOn (bytes ++ rest) → GoOn bytes
+beginning_goes bytes rest (s, lead) = elim (cases_Bool (has_header bytes)) [
+  | inr none ↦ (opening_with (begun_limit bytes), no_header bytes none)
+  | inl has ↦
+      let headed = still_headed bytes rest has in
+      let holds = held_by (bytes ++ rest) s (sym (fed_behind (bytes ++ rest) headed.1) ∙ lead.1) in
+      let led = beginning_leads bytes rest holds.written s holds.is holds.first holds.came headed.0 in
+      (led.1.0, led.1.2)
+]

@@ -1,11 +1,11 @@
 -- A whole journal that leads to a state, and bytes behind it.
-use Rattle.std.proofs.Common.{◌≡◌, ℕ, ◌+◌, ◌<◌, ◌≤◌, List, [], ◌∷◌, ◌++◌, length, Bool, true, false, if◌then◌else◌, refl, sym, ◌∙◌, ap, subst, arith, length-append}
+use Rattle.std.proofs.Common.{◌≡◌, ℕ, ◌+◌, ◌<◌, ◌≤◌, List, [], ◌∷◌, ◌++◌, length, Bool, true, false, if◌then◌else◌, refl, sym, ◌∙◌, ap, subst, arith, length-append, append_assoc}
 use Rattle.std.specs.Prelude.{Some, cond}
 use Rattle.std.proofs.lemmas.List.Elements.{All-pop}
 use Rattle.std.proofs.lemmas.List.{get_or-append_right}
 use Rattle.std.proofs.Common.{get_or, ◌-◌}
 use Rattle.liq_journal.proofs.Reading.{isnt_long}
-use Rattle.liq_follower.specs.Fed.{LackOne}
+use Rattle.liq_follower.specs.Fed.{Completes, LackOne}
 use Rattle.liq_types.specs.declared.requests.Command.{Command}
 use Rattle.liq_types.specs.State.{State, opening_with}
 use Rattle.liq_rules.specs.Step.{Allowed, after, effect, ruling}
@@ -109,6 +109,17 @@ module _ (front : List ℕ) (s : State) (e : EndsWhole front s) where
           few = let most : (after s c).records ≤ 1000000 = omega arith in most;
           ends = let l = long record_is in let ends = e.ends in omega arith;
         }
+
+  -- the last byte of a record of right form comes behind the others
+  pub completes : (held : List ℕ) (last index : ℕ) (c : Command) → length held ≡ 127 → index ≡ s.records + 1
+      → IsRecordOf index (held ++ last ∷ []) c → Completes last (front ++ 1 ∷ held)
+  completes held last index c size next read = (
+    w,
+    c,
+    stays_open (1 ∷ held) (isnt_long (1 ∷ held) (omega arith)),
+    ap (found_on true) (append_assoc front (1 ∷ held) (last ∷ []))
+        ∙ found_next (held ++ last ∷ []) (let n = length-append held (last ∷ []) in omega (arith, n, size)) index next c read,
+  )
 
   -- all bytes of a record but the last one are there
   pub lacks_one : (held : List ℕ) → length held ≡ 127 → LackOne (front ++ 1 ∷ held)

@@ -1,12 +1,13 @@
 -- A header and a record, as their bytes come.
 use Rattle.std.proofs.Common.{◌≡◌, ◌⊎◌, inl, inr, ℕ, ◌+◌, ◌<◌, ◌≤◌, List, [], ◌∷◌, ◌++◌, length, take, drop, get_or, Bool, true, false, if◌then◌else◌, sym, ◌∙◌, ap, arith, length-append, length-take}
-use Rattle.std.specs.Prelude.{set}
+use Rattle.std.specs.Prelude.{◌&&◌, ◌==◌, set}
 use Rattle.std.specs.Str.{bytes_eq}
 use Rattle.std.proofs.lemmas.List.{drop_all, set_split, take-append-le}
 use Rattle.std.proofs.lemmas.Slice.Eq.{bytes_eq-Decides}
 use Rattle.liq_journal.specs.Layout.{header_size, layout_named, layout_on, name_on, version_1, version_2}
-use Rattle.liq_journal.proofs.Reading.{piece_alike}
-use Rattle.liq_follower.specs.Fed.{IsBegun}
+use Rattle.liq_journal.proofs.Reading.{byte_alike, piece_alike}
+use Rattle.liq_types.specs.declared.amounts.TheConstants.{LIM, LIM_OF_VERSION_1}
+use Rattle.liq_follower.specs.Fed.{IsBegun, begun_limit}
 
 pub least : (bytes : List ℕ) → 57 ≤ header_size (layout_on bytes)
 least bytes = omega arith
@@ -65,6 +66,14 @@ module _ (held : List ℕ) (byte : ℕ) (begun : IsBegun held) where
     where
       below : (a b : ℕ) → a ≤ b → (a ≡ b → ⊥) → a < b
       below a b most isnt = grind arith
+
+-- behind its name one byte more leaves the limit
+pub same_limit : (held : List ℕ) (byte : ℕ) → 9 ≤ length held → begun_limit (held ++ byte ∷ []) ≡ begun_limit held
+same_limit held byte long =
+    let alike : take 9 (held ++ byte ∷ []) ≡ take 9 held = take-append-le 9 held (byte ∷ []) long in
+    let gate : get_or (held ++ byte ∷ []) 0 0 ≡ get_or held 0 0 = byte_alike 9 held (held ++ byte ∷ []) alike 0 (omega arith) in
+    let name : name_on (held ++ byte ∷ []) ≡ name_on held = piece_alike 9 held (held ++ byte ∷ []) alike 1 8 (omega arith) in
+    λ i. if (gate i == 1) && bytes_eq (name i) version_1.name then LIM_OF_VERSION_1 else LIM
 
 -- a header has fewer bytes than a record
 pub has_room : (held : List ℕ) → IsBegun held → length held < 127

@@ -1,5 +1,5 @@
 -- What a header leads to.
-use Rattle.std.proofs.Common.{◌≡◌, ℕ, ◌≤◌, List, length, get_or, None, Bool, true, false, if◌then◌else◌, refl, sym, ◌∙◌, ap, subst, arith}
+use Rattle.std.proofs.Common.{◌≡◌, ℕ, ◌<◌, ◌≤◌, List, length, get_or, None, Bool, true, false, if◌then◌else◌, refl, sym, ◌∙◌, ap, subst, arith}
 use Rattle.std.specs.Prelude.{◌&&◌, ◌==◌, nat_lt, nat_le}
 use Rattle.std.specs.Str.{bytes_eq}
 use Rattle.std.proofs.lemmas.Bool.Decides.{nat_tests}
@@ -24,6 +24,10 @@ no_header bytes none = (
   turned_by bytes ∙ ap (λ (b : Bool). b && (bytes_eq (name_on bytes) (layout_on bytes).name && nat_lt 1 (generation_on bytes))) none,
   ap (λ (b : Bool). if b then standing true bytes else Holding 1 (opening_with (begun_limit bytes))) none,
 )
+
+-- fewer bytes than those of a header hold none
+pub too_short : (gate n m : ℕ) → m < n → ((gate == 1) && nat_le n m) ≡ false
+too_short gate n m less = grind (arith, nat_tests)
 
 isnt_one : (gate : ℕ) → (gate ≡ 1 → ⊥) → (gate == 1) ≡ false
 isnt_one gate isnt = grind (arith, nat_tests)

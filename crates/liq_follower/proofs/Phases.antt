@@ -3,7 +3,7 @@ use Rattle.std.proofs.Common.{◌≡◌, ⊎_elim, ℕ, ◌+◌, ◌-◌, ◌^�
 use Rattle.std.specs.Prelude.{unwrap_or}
 use Rattle.std.proofs.Common.{length-take}
 use Rattle.std.proofs.Math.Seq.{take-add}
-use Rattle.std.proofs.lemmas.List.{append-nil}
+use Rattle.std.proofs.lemmas.List.{append-nil, get_or-drop}
 use Rattle.liq_types.specs.State.{State, opening, opening_with}
 use Rattle.liq_core.specs.Core.{Core, StandsFor}
 use Rattle.liq_journal.specs.declared.damage.Damage.{Damage}
@@ -13,11 +13,11 @@ use Rattle.liq_follower.specs.declared.answers.FedEnd.{FedEnd}
 use Rattle.liq_follower.specs.declared.answers.FedEnd.TheVariants as end
 use Rattle.liq_follower.specs.declared.phase.Phase.{Phase}
 use Rattle.liq_follower.specs.declared.phase.Phase.TheVariants.{Start, Header, Gate, Inside, Shut, Damaged, Rotated}
-use Rattle.liq_follower.specs.Fed.{EndsWith, GoOn, LeadTo, begun_limit, fed, is_turned}
-use Rattle.liq_follower.specs.Following.{EndsAs, Followed, IsAt, IsFed, IsInPhase, IsShut, stopped_in}
+use Rattle.liq_follower.specs.Fed.{AreOver, Completes, EndsWith, GoOn, LeadTo, begun_limit, fed, is_turned}
+use Rattle.liq_follower.specs.Following.{EndsAs, Followed, IsAt, IsFed, IsInPhase, IsShut, StandsBeforeLast, stopped_in}
 use Rattle.liq_follower.proofs.Fronts.{leads}
-use Rattle.liq_follower.proofs.Headers.{no_header, shut_leads}
-use Rattle.liq_follower.proofs.Beginnings.{too_short}
+use Rattle.liq_follower.proofs.Headers.{no_header, shut_leads, too_short}
+use Rattle.liq_follower.proofs.Verdicts.{apart}
 use Rattle.liq_journal.specs.Layout.{header_size, layout_on}
 use Rattle.liq_journal.specs.Records.{begins_whole}
 
@@ -88,17 +88,18 @@ going_leads (Rotated generation) held bytes core goes is = absurd (cc (goes))
 holds_no_fault : (a : Standing) (s : State) (damage : Damage) → a ≡ Holding 1 s → a ≡ Faulty damage → ⊥
 holds_no_fault a s damage one other = let e = sym one ∙ other in cc (e)
 
-true_false : (b : Bool) → b ≡ true → b ≡ false → ⊥
-true_false b one other = let e = sym one ∙ other in cc (e)
-
 pub lead_unstopped : (phase : Phase) (held bytes : List ℕ) (core : Core) (s : State) → IsInPhase phase held bytes core → LeadTo bytes s → stopped_in phase ≡ None
 lead_unstopped Start held bytes core s is lead = refl
 lead_unstopped Header held bytes core s is lead = refl
 lead_unstopped Gate held bytes core s is lead = refl
 lead_unstopped Inside held bytes core s is lead = refl
 lead_unstopped Shut held bytes core s is lead = refl
-lead_unstopped (Damaged index) held bytes core s (none, (damage, is, at)) lead = absurd (holds_no_fault (fed bytes) s damage lead.1 is)
-lead_unstopped (Rotated generation) held bytes core s (turned, at) lead = absurd (true_false (is_turned bytes) turned lead.0)
+lead_unstopped (Damaged index) held bytes core s ((none, (damage, is, at)), before) lead = absurd (holds_no_fault (fed bytes) s damage lead.1 is)
+lead_unstopped (Rotated generation) held bytes core s ((turned, at), before) lead = absurd (apart (is_turned bytes) turned lead.0)
+
+-- two damages of them are one
+same_damage : (a : Standing) (d e : Damage) → a ≡ Faulty d → a ≡ Faulty e → d ≡ e
+same_damage a d e one other = let same : Faulty d ≡ Faulty e = sym one ∙ other in cc (same)
 
 -- two states to which they lead are one
 same_state : (a : Standing) (s t : State) → a ≡ Holding 1 s → a ≡ Holding 1 t → s ≡ t
@@ -110,6 +111,21 @@ stands_for_it bytes f s is lead =
     let l = going_leads f.phase f.held bytes f.core (lead_unstopped f.phase f.held bytes f.core s at lead) at in
     subst (StandsFor f.core) (same_state (fed bytes) l.state s l.lead.1 lead.1) l.stands
 
+-- where feeding has ended, all bytes but the last one lead to a state, for which the core stands
+pub ended_stands : (bytes : List ℕ) (f : Followed) → IsFed bytes f → AreOver bytes → StandsBeforeLast bytes f.core
+ended_stands bytes f is over = by f.phase (fed_at bytes f is) where
+  goes : (phase : Phase) → stopped_in phase ≡ None → IsInPhase phase f.held bytes f.core → StandsBeforeLast bytes f.core
+  goes phase none at = absurd (over (let l = going_leads phase f.held bytes f.core none at in (l.state, l.lead)))
+
+  by : (phase : Phase) → IsInPhase phase f.held bytes f.core → StandsBeforeLast bytes f.core
+  by Start at = goes Start refl at
+  by Header at = goes Header refl at
+  by Gate at = goes Gate refl at
+  by Inside at = goes Inside refl at
+  by Shut at = goes Shut refl at
+  by (Damaged index) at = at.1
+  by (Rotated generation) at = at.1
+
 -- ---- what feeding answers
 
 stopped_with : (phase : Phase) (held bytes : List ℕ) (core : Core) (e : FedEnd) → IsInPhase phase held bytes core → stopped_in phase ≡ Some e → EndsWith e bytes
@@ -118,8 +134,8 @@ stopped_with Header held bytes core e is stopped = absurd (cc (stopped))
 stopped_with Gate held bytes core e is stopped = absurd (cc (stopped))
 stopped_with Inside held bytes core e is stopped = absurd (cc (stopped))
 stopped_with Shut held bytes core e is stopped = absurd (cc (stopped))
-stopped_with (Damaged index) held bytes core e is stopped = let same : end.Damaged index ≡ e = cc (stopped) in subst (λ (x : FedEnd). EndsWith x bytes) same is
-stopped_with (Rotated generation) held bytes core e is stopped = let same : end.Rotated generation ≡ e = cc (stopped) in subst (λ (x : FedEnd). EndsWith x bytes) same is
+stopped_with (Damaged index) held bytes core e is stopped = let same : end.Damaged index ≡ e = cc (stopped) in subst (λ (x : FedEnd). EndsWith x bytes) same is.0
+stopped_with (Rotated generation) held bytes core e is stopped = let same : end.Rotated generation ≡ e = cc (stopped) in subst (λ (x : FedEnd). EndsWith x bytes) same is.0
 
 pub ends_stopped : (bytes : List ℕ) (f : Followed) (e : FedEnd) → IsFed bytes f → stopped_in f.phase ≡ Some e → EndsWith e bytes
 ends_stopped bytes f e is stopped = stopped_with f.phase f.held bytes f.core e (fed_at bytes f is) stopped
@@ -135,11 +151,37 @@ ends_by bytes f (Some e) is stopped = ends_stopped bytes f e is stopped
 pub ends_there : (bytes : List ℕ) (f : Followed) → IsFed bytes f → EndsWith (unwrap_or (stopped_in f.phase) end.All) bytes
 ends_there bytes f is = ends_by bytes f (stopped_in f.phase) is refl
 
--- bytes that are over are taken by nobody
-pub none_over : (bytes : List ℕ) (taken more : ℕ) (piece : List ℕ) → GoOn (bytes ++ take taken piece) → (GoOn bytes → ⊥) → taken ≡ 0 → taken + more ≡ 0
-none_over bytes taken more piece goes over none =
+-- two ends that come with the same bytes, where none goes on
+one_end : (bytes : List ℕ) (a b : FedEnd) → AreOver bytes → EndsWith a bytes → EndsWith b bytes → a ≡ b
+one_end bytes end.All b over is other = absurd (over is)
+one_end bytes end.NoMemory b over is other = absurd (over is.0)
+one_end bytes a end.All over is other = absurd (over other)
+one_end bytes a end.NoMemory over is other = absurd (over other.0)
+one_end bytes (end.Damaged index) (end.Damaged later) over (none, (damage, is, at)) (nor, (damaged, so, there)) =
+    let same : damage ≡ damaged = same_damage (fed bytes) damage damaged is so in
+    ap end.Damaged (sym at ∙ ap (λ (d : Damage). d.index) same ∙ there)
+one_end bytes (end.Damaged index) (end.Rotated generation) over is other = absurd (apart (is_turned bytes) other.0 is.0)
+one_end bytes (end.Rotated generation) (end.Damaged index) over is other = absurd (apart (is_turned bytes) is.0 other.0)
+one_end bytes (end.Rotated generation) (end.Rotated later) over is other = ap end.Rotated (sym is.1 ∙ other.1)
+
+-- what was told of bytes behind which none is taken is told again
+pub told_again : (bytes piece : List ℕ) (taken : ℕ) (a b : FedEnd) → taken ≡ 0 → AreOver bytes → EndsWith a (bytes ++ take taken piece) → EndsWith b bytes → a ≡ b
+told_again bytes piece taken a b none over is other =
     let nothing : bytes ++ take taken piece ≡ bytes = ap (λ (n : ℕ). bytes ++ take n piece) none ∙ append-nil bytes in
-    absurd (over (subst GoOn nothing goes))
+    one_end bytes a b over (subst (EndsWith a) nothing is) other
+
+-- bytes that are over are taken by nobody
+pub goes_over : (bytes : List ℕ) (taken : ℕ) (piece : List ℕ) → GoOn (bytes ++ take taken piece) → AreOver bytes → taken ≡ 0 → ⊥
+goes_over bytes taken piece goes over none = over (subst GoOn (ap (λ (n : ℕ). bytes ++ take n piece) none ∙ append-nil bytes) goes)
+
+pub none_over : (bytes : List ℕ) (taken more : ℕ) (piece : List ℕ) → GoOn (bytes ++ take taken piece) → AreOver bytes → taken ≡ 0 → taken + more ≡ 0
+none_over bytes taken more piece goes over none = absurd (goes_over bytes taken piece goes over none)
+
+-- the first byte of what is left of a piece
+pub completes_at : (bytes piece rest : List ℕ) (taken : ℕ) → rest ≡ drop taken piece → Completes (get_or rest 0 0) bytes → Completes (get_or piece taken 0) bytes
+completes_at bytes piece rest taken is completes =
+    let same : taken + 0 ≡ taken = omega arith in
+    subst (λ (byte : ℕ). Completes byte bytes) (ap (λ (l : List ℕ). get_or l 0 0) is ∙ get_or-drop taken piece 0 0 ∙ ap (λ (k : ℕ). get_or piece k 0) same) completes
 
 -- one piece behind another
 pub fed_on : (bytes piece rest : List ℕ) (taken more : ℕ) (f : Followed) → rest ≡ drop taken piece → IsFed ((bytes ++ take taken piece) ++ take more rest) f → IsFed (bytes ++ take (taken + more) piece) f

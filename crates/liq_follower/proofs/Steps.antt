@@ -1,21 +1,22 @@
 -- What each byte makes of the bytes and the phase.
-use Rattle.std.proofs.Common.{◌≡◌, ◌⊎◌, inl, inr, ℕ, ◌+◌, ◌<◌, ◌≤◌, List, [], ◌∷◌, ◌++◌, length, get_or, refl, sym, ◌∙◌, ap, subst, arith, length-append, append_assoc}
+use Rattle.std.proofs.Common.{◌≡◌, inl, inr, ⊎_elim, ℕ, ◌+◌, ◌<◌, ◌≤◌, List, [], ◌∷◌, ◌++◌, length, get_or, refl, sym, ◌∙◌, ap, subst, arith, length-append, append_assoc}
 use Rattle.liq_types.specs.declared.requests.Command.{Command}
 use Rattle.liq_types.specs.State.{State, opening_with}
 use Rattle.liq_rules.specs.Step.{Allowed, after, ruling}
 use Rattle.liq_core.specs.Core.{Core, StandsFor}
 use Rattle.liq_journal.specs.Layout.{header_size, layout_on}
+use Rattle.liq_journal.proofs.Reading.{isnt_long}
 use Rattle.liq_follower.specs.declared.header.Judged.{Judged}
 use Rattle.liq_follower.specs.declared.header.Judged.TheVariants as judged
 use Rattle.liq_follower.specs.declared.phase.Phase.{Phase}
 use Rattle.liq_follower.specs.declared.phase.Phase.TheVariants.{Start, Header, Gate, Inside}
 use Rattle.liq_follower.specs.declared.record.Redone.TheVariants as redone
-use Rattle.liq_follower.specs.Fed.{AreDamagedAt, EndsWhole, IsBegun, IsNoRecord, IsRecordOf, LackOne, begun_limit}
-use Rattle.liq_follower.specs.Following.{EndsAs, IsInPhase, IsShut}
-use Rattle.liq_follower.specs.Judging.{IsJudged, IsTaken, phase_of}
-use Rattle.liq_follower.proofs.Fronts.{bad_command, bad_form, lacks_one, one_record_more}
-use Rattle.liq_follower.proofs.Growing.{gate_is, has_room, least, still_begun}
-use Rattle.liq_follower.proofs.Headers.{whole_header, wrong}
+use Rattle.liq_follower.specs.Fed.{AreDamagedAt, Completes, EndsWhole, IsBegun, IsNoRecord, IsRecordOf, LackOne, LeadTo, begun_limit}
+use Rattle.liq_follower.specs.Following.{EndsAs, IsInPhase, IsShut, StandsBeforeLast}
+use Rattle.liq_follower.specs.Judging.{IsJudged, IsTaken, IsUnfit, phase_of}
+use Rattle.liq_follower.proofs.Fronts.{bad_command, bad_form, completes, lacks_one, leads, one_record_more}
+use Rattle.liq_follower.proofs.Growing.{gate_is, has_room, least, same_limit, still_begun}
+use Rattle.liq_follower.proofs.Headers.{no_header, too_short, whole_header, wrong}
 
 -- ---- the header
 
@@ -42,10 +43,10 @@ open_first bytes held core byte is (none, stands) =
 
 -- behind a whole one
 judged_so : (bytes none : List ℕ) (core : Core) (j : Judged) → get_or bytes 0 0 ≡ 1 → length bytes ≡ header_size (layout_on bytes)
-    → StandsFor core (opening_with (begun_limit bytes)) → IsJudged bytes j → IsInPhase (phase_of j) none bytes core
-judged_so bytes none core judged.Right gate whole stands is = (opening_with (begun_limit bytes), whole_header bytes gate whole is.0 is.1, stands)
-judged_so bytes none core (judged.Turned generation) gate whole stands is = is
-judged_so bytes none core judged.Damaged gate whole stands is = wrong bytes gate whole is.1 is.0
+    → StandsFor core (opening_with (begun_limit bytes)) → StandsBeforeLast bytes core → IsJudged bytes j → IsInPhase (phase_of j) none bytes core
+judged_so bytes none core judged.Right gate whole stands before is = (opening_with (begun_limit bytes), whole_header bytes gate whole is.0 is.1, stands)
+judged_so bytes none core (judged.Turned generation) gate whole stands before is = (is, before)
+judged_so bytes none core judged.Damaged gate whole stands before is = (wrong bytes gate whole is.1 is.0, before)
 
 -- one byte more of the header
 pub record Grown (bytes : List ℕ) (held : List ℕ) (core : Core) : Type 0 where
@@ -53,6 +54,7 @@ pub record Grown (bytes : List ℕ) (held : List ℕ) (core : Core) : Type 0 whe
   pub gate : get_or held 0 0 ≡ 1
   pub stands : StandsFor core (opening_with (begun_limit held))
   pub begun : (length held ≡ header_size (layout_on held) → ⊥) → IsBegun held
+  pub before : length held ≡ header_size (layout_on held) → StandsBeforeLast bytes core
 
 pub grown : (bytes held more : List ℕ) (core next : Core) (byte limit : ℕ) → IsInPhase Header held bytes core
     → (length held < 127 → more ≡ held ++ byte ∷ []) → ((before : ℕ) → StandsFor core (opening_with before) → StandsFor next (opening_with limit))
@@ -60,11 +62,23 @@ pub grown : (bytes held more : List ℕ) (core next : Core) (byte limit : ℕ) �
 grown bytes held more core next byte limit (are, begun, stands) pushed opened is =
     let begun_held : IsBegun held = subst IsBegun are begun in
     let same : more ≡ held ++ byte ∷ [] = pushed (has_room held begun_held) in
+    let now : StandsFor next (opening_with (begun_limit more)) = subst (λ (n : ℕ). StandsFor next (opening_with n)) is (opened (begun_limit bytes) stands) in
     record {
       are = ap (λ (l : List ℕ). l ++ byte ∷ []) are ∙ sym same;
       gate = subst (λ (l : List ℕ). get_or l 0 0 ≡ 1) (sym same) (gate_is held byte begun_held);
-      stands = subst (λ (n : ℕ). StandsFor next (opening_with n)) is (opened (begun_limit bytes) stands);
+      stands = now;
       begun = subst (λ (l : List ℕ). (length l ≡ header_size (layout_on l) → ⊥) → IsBegun l) (sym same) (still_begun held byte begun_held);
+      before = λ whole.
+          let long : 9 ≤ length held = let n = ap length same in let m = length-append held (byte ∷ []) in let l = least more in omega arith in
+          let limit : begun_limit more ≡ begun_limit bytes = ap begun_limit same ∙ same_limit held byte long ∙ ap begun_limit (sym are) in
+          record {
+            front = bytes;
+            last = byte;
+            are = refl;
+            state = opening_with (begun_limit bytes);
+            lead = no_header bytes (too_short (get_or bytes 0 0) (header_size (layout_on bytes)) (length bytes) begun.short);
+            stands = subst (λ (n : ℕ). StandsFor next (opening_with n)) limit now;
+          };
     }
 
 pub still_header : (bytes held : List ℕ) (core : Core) → Grown bytes held core → (length held ≡ header_size (layout_on held) → ⊥) → IsInPhase Header held bytes core
@@ -74,7 +88,7 @@ pub whole_so : (bytes held none : List ℕ) (core : Core) (j : Judged) (phase : 
     → (get_or held 0 0 ≡ 1 → IsJudged held j) → phase ≡ phase_of j → IsInPhase phase none bytes core
 whole_so bytes held none core j phase g whole judged is =
     subst (λ (p : Phase). IsInPhase p none bytes core) (sym is)
-    (subst (λ (l : List ℕ). IsInPhase (phase_of j) none l core) (sym g.are) (judged_so held none core j g.gate whole g.stands (judged g.gate)))
+    (subst (λ (l : List ℕ). IsInPhase (phase_of j) none l core) (sym g.are) (judged_so held none core j g.gate whole g.stands (subst (λ (l : List ℕ). StandsBeforeLast l core) g.are (g.before whole)) (judged g.gate)))
 
 -- ---- gates
 
@@ -145,17 +159,32 @@ module _ (bytes held : List ℕ) (core : Core) (last index : ℕ) (size : length
   record_made c read allowed next_core stands =
       (after state c, subst (λ (l : List ℕ). EndsWhole l (after state c)) all_are (one_record_more at.0 state front raw raw_long index index_is c read allowed), stands)
 
-  pub record_refused : IsNoRecord index raw ⊎ ((c : Command) × IsRecordOf index raw c × (ruling state c ≡ Allowed → ⊥)) → AreDamagedAt index (bytes ++ last ∷ [])
-  record_refused (inl none) = damaged_form none
-  record_refused (inr (c, read, isnt)) = damaged_command c read isnt
+  -- all bytes before it lead to the state
+  leads_before : LeadTo bytes state
+  leads_before = subst (λ (l : List ℕ). LeadTo l state) (sym at.1) (leads at.0 state front (1 ∷ held) (isnt_long (1 ∷ held) (omega arith)))
+
+  pub record_refused : (next_core : Core) → IsUnfit state index raw × StandsFor next_core state
+      → AreDamagedAt index (bytes ++ last ∷ []) × StandsBeforeLast (bytes ++ last ∷ []) next_core
+  record_refused next_core (unfit, stands) = (
+    ⊎_elim damaged_form (λ r. damaged_command r.0 r.1 r.2) unfit,
+    record { front = bytes; last = last; are = refl; state = state; lead = leads_before; stands = stands },
+  )
 
   -- by what the record was taken for, as its bytes were put together
   pub made_by : (read : List ℕ) → read ≡ raw → (next_core : Core) → IsTaken state index read next_core redone.Made → EndsAs (bytes ++ last ∷ []) next_core
   made_by read same next_core (c, is, allowed, stands) = record_made c (subst (λ (l : List ℕ). IsRecordOf index l c) same is) allowed next_core stands
 
-  pub refused_by : (read : List ℕ) → read ≡ raw → (next_core : Core) → IsTaken state index read next_core redone.Refused → AreDamagedAt index (bytes ++ last ∷ [])
-  refused_by read same next_core t =
-      record_refused (subst (λ (l : List ℕ). IsNoRecord index l ⊎ ((c : Command) × IsRecordOf index l c × (ruling state c ≡ Allowed → ⊥))) same t)
+  pub refused_by : (read : List ℕ) → read ≡ raw → (next_core : Core) → IsTaken state index read next_core redone.Refused
+      → AreDamagedAt index (bytes ++ last ∷ []) × StandsBeforeLast (bytes ++ last ∷ []) next_core
+  refused_by read same next_core t = record_refused next_core (subst (λ (l : List ℕ). IsUnfit state index l × StandsFor next_core state) same t)
 
-  pub lacking : (next_core : Core) → StandsFor next_core state → IsInPhase Inside held bytes next_core × LackOne bytes
-  lacking next_core stands = ((at.0, at.1, at.2, (state, front, stands)), lacks bytes held core size at)
+  completed : (c : Command) → IsRecordOf index raw c → Completes last bytes
+  completed c read = subst (Completes last) (sym at.1) (completes at.0 state front held last index c size index_is read)
+
+  pub lacking : (read : List ℕ) → read ≡ raw → (next_core : Core) → IsTaken state index read next_core redone.NoMemory
+      → IsInPhase Inside held bytes next_core × LackOne bytes × Completes last bytes
+  lacking read same next_core (c, is, stands) = (
+    (at.0, at.1, at.2, (state, front, stands)),
+    lacks bytes held core size at,
+    completed c (subst (λ (l : List ℕ). IsRecordOf index l c) same is),
+  )

@@ -16,7 +16,7 @@ flip : (b : Bool) → b ≡ false → not b ≡ false → ⊥
 flip true is isnt = absurd (cc (is))
 flip false is isnt = absurd (cc (isnt))
 
-apart : (b : Bool) → b ≡ true → b ≡ false → ⊥
+pub apart : (b : Bool) → b ≡ true → b ≡ false → ⊥
 apart b one other = let e = sym one ∙ other in cc (e)
 
 last_false : (a b c : Bool) → c ≡ false → (a && (b && c)) ≡ false

@@ -1,5 +1,5 @@
 -- What bytes stand for that are the beginning of a journal of generation 1, as far as they go.
-use Rattle.std.specs.Prelude.{◌≡◌, ◌<◌, ◌≤◌, ℕ, ◌+◌, List, length, get_or, Ok, Err, Bool, true, false, ◌&&◌, ◌==◌}
+use Rattle.std.specs.Prelude.{◌≡◌, ◌<◌, ◌≤◌, ℕ, ◌+◌, List, [], ◌∷◌, ◌++◌, length, get_or, Ok, Err, Bool, true, false, ◌&&◌, ◌==◌}
 use Rattle.std.specs.Prelude.{nat_lt, nat_le, if◌then◌else◌}
 use Rattle.std.specs.Str.{bytes_eq}
 use Rattle.liq_types.specs.declared.amounts.TheConstants.{LIM, LIM_OF_VERSION_1, RECORDS_MOST}
@@ -8,7 +8,7 @@ use Rattle.liq_types.specs.State.{State, opening_with}
 use Rattle.liq_journal.specs.declared.damage.Damage.{Damage}
 use Rattle.liq_journal.specs.declared.damage.What.{What}
 use Rattle.liq_journal.specs.Layout.{generation_on, header_size, layout_on, name_on, version_1}
-use Rattle.liq_journal.specs.Written.{Open, Written, end_of, found_on, record_on}
+use Rattle.liq_journal.specs.Written.{Open, Written, and_then, end_of, found_on, record_on}
 use Rattle.liq_pairs.specs.Pair.{Standing, Faulty, Holding, standing}
 use Rattle.liq_pairs.specs.Replay.{outcome}
 use Rattle.liq_follower.specs.declared.answers.FedEnd.{FedEnd}
@@ -84,6 +84,14 @@ LackOne bytes =
     × (found_on true bytes ≡ Open w)
     × (length bytes ≡ end_of w + 128)
     × (get_or bytes (end_of w) 0 ≡ 1)
+
+-- This byte behind them completes a record whose digest and fields are right. Whether the rules allow its command is not said.
+abbrev pub Completes : ℕ → List ℕ → Type 0
+Completes byte bytes =
+    (w : Written)
+    × (c : Command)
+    × (found_on true bytes ≡ Open w)
+    × (found_on true (bytes ++ byte ∷ []) ≡ Open (and_then w c))
 
 -- What each end says of all bytes that were taken. No two of `All`, `Damaged` and `Rotated` come with the same bytes.
 abbrev pub EndsWith : FedEnd → List ℕ → Type 0

@@ -6,7 +6,7 @@ use Rattle.liq_follower.specs.declared.phase.Phase.{Phase}
 use Rattle.liq_follower.specs.declared.phase.Phase.TheVariants.{Start, Header, Gate, Inside, Shut, Damaged, Rotated}
 use Rattle.liq_follower.specs.declared.answers.FedEnd.{FedEnd}
 use Rattle.liq_follower.specs.declared.answers.FedEnd.TheVariants as end
-use Rattle.liq_follower.specs.Fed.{AreDamagedAt, AreTurnedTo, EndsWhole, IsBegun, begun_limit}
+use Rattle.liq_follower.specs.Fed.{AreDamagedAt, AreTurnedTo, EndsWhole, IsBegun, LeadTo, begun_limit}
 
 -- what contracts see of one: its protocol, where in the journal it is, the bytes of a header or a record that isn't whole,
 -- and how many bytes it has taken
@@ -29,6 +29,15 @@ pub record IsShut (bytes : List ℕ) (core : Core) : Type 0 where
   pub shut : gate ≢ 1
   pub whole : ((front ≡ []) × StandsFor core opening) ⊎ EndsAs front core
 
+-- all of them but the last one hold no fault, and the core stands for the state to which those lead
+pub record StandsBeforeLast (bytes : List ℕ) (core : Core) : Type 0 where
+  pub front : List ℕ
+  pub last : ℕ
+  pub are : bytes ≡ front ++ last ∷ []
+  pub state : State
+  pub lead : LeadTo front state
+  pub stands : StandsFor core state
+
 -- what is known of the bytes in each phase
 abbrev pub IsInPhase : Phase → List ℕ → List ℕ → Core → Type 0
 IsInPhase Start held bytes core = (bytes ≡ []) × StandsFor core opening
@@ -37,8 +46,8 @@ IsInPhase Gate held bytes core = EndsAs bytes core
 IsInPhase Inside held bytes core =
     (front : List ℕ) × (bytes ≡ front ++ 1 ∷ held) × (length held < 128) × EndsAs front core
 IsInPhase Shut held bytes core = IsShut bytes core
-IsInPhase (Damaged index) held bytes core = AreDamagedAt index bytes
-IsInPhase (Rotated generation) held bytes core = AreTurnedTo generation bytes
+IsInPhase (Damaged index) held bytes core = AreDamagedAt index bytes × StandsBeforeLast bytes core
+IsInPhase (Rotated generation) held bytes core = AreTurnedTo generation bytes × StandsBeforeLast bytes core
 
 abbrev pub IsAt : List ℕ → Followed → Type 0
 IsAt bytes f = IsInPhase f.phase f.held bytes f.core

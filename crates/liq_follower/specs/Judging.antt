@@ -1,11 +1,13 @@
 -- What a whole header and a whole record are found to be, and what becomes of a record's command.
-use Rattle.std.specs.Prelude.{◌≡◌, ◌⊎◌, ℕ, List, Option, Some, None, true}
+use Rattle.std.specs.Prelude.{◌≡◌, ◌⊎◌, ℕ, List, Option, Some, None, Ok, Err, take, true}
 use Rattle.liq_types.specs.declared.requests.Command.{Command}
 use Rattle.liq_types.specs.State.{State}
 use Rattle.liq_core.specs.Core.{Core, StandsFor}
 use Rattle.liq_rules.specs.Step.{Allowed, after, ruling}
+use Rattle.liq_wire.specs.Fields.{command_of}
+use Rattle.liq_journal.specs.declared.damage.What.{What}
 use Rattle.liq_journal.specs.Layout.{generation_on, layout_on}
-use Rattle.liq_journal.specs.Written.{first_fault, header_tests}
+use Rattle.liq_journal.specs.Written.{command_from, first_fault, header_tests}
 use Rattle.liq_follower.specs.declared.header.Judged.{Judged}
 use Rattle.liq_follower.specs.declared.header.Judged.TheVariants.{Damaged, Right, Turned}
 use Rattle.liq_follower.specs.declared.record.Redone.{Redone}
@@ -27,6 +29,11 @@ phase_of Right = phase.Gate
 phase_of (Turned generation) = phase.Rotated generation
 phase_of Damaged = phase.Damaged 0
 
+-- what the body of a record spells, whatever its digest: a command that is no rotation, or none
+abbrev pub IsSpelled : List ℕ → Option Command → Type 0
+IsSpelled raw (Some command) = (place : ℕ) → command_from place (command_of (take 96 raw)) ≡ Ok command
+IsSpelled raw None = (place : ℕ) → (what : What) × (command_from place (command_of (take 96 raw)) ≡ Err what)
+
 -- a record that is tested: its command, or none
 abbrev pub IsTested : ℕ → List ℕ → Option Command → Type 0
 IsTested index raw (Some command) = IsRecordOf index raw command
@@ -35,13 +42,16 @@ IsTested index raw None = IsNoRecord index raw
 -- what becomes of a command in a state that stands before it
 abbrev pub IsRedone : State → Command → Core → Redone → Type 0
 IsRedone s c core Made = (ruling s c ≡ Allowed) × StandsFor core (after s c)
-IsRedone s c core Refused = ruling s c ≡ Allowed → ⊥
+IsRedone s c core Refused = (ruling s c ≡ Allowed → ⊥) × StandsFor core s
 IsRedone s c core NoMemory = StandsFor core s
+
+-- the record of this number has a fault, or its command is not allowed
+abbrev pub IsUnfit : State → ℕ → List ℕ → Type 0
+IsUnfit s index raw = IsNoRecord index raw ⊎ ((c : Command) × IsRecordOf index raw c × (ruling s c ≡ Allowed → ⊥))
 
 -- what becomes of a whole record of this number, in a state that stands before it
 abbrev pub IsTaken : State → ℕ → List ℕ → Core → Redone → Type 0
 IsTaken s index raw core Made =
     (c : Command) × IsRecordOf index raw c × (ruling s c ≡ Allowed) × StandsFor core (after s c)
-IsTaken s index raw core Refused =
-    IsNoRecord index raw ⊎ ((c : Command) × IsRecordOf index raw c × (ruling s c ≡ Allowed → ⊥))
-IsTaken s index raw core NoMemory = StandsFor core s
+IsTaken s index raw core Refused = IsUnfit s index raw × StandsFor core s
+IsTaken s index raw core NoMemory = (c : Command) × IsRecordOf index raw c × StandsFor core s

@@ -1,7 +1,7 @@
 // What feeding answers.
 
 /// How feeding ended.
-#[derive(Clone, Copy)]
+#[derive(Clone, Copy, PartialEq, Eq)]
 pub enum FedEnd {
     /// The whole piece was taken.
     All,
@@ -15,7 +15,7 @@ pub enum FedEnd {
 }
 
 /// How many bytes of a piece were taken, and how that ended. A byte that shows a fault is taken.
-#[derive(Clone, Copy)]
+#[derive(Clone, Copy, PartialEq, Eq)]
 pub struct Fed {
     pub taken: usize,
     pub end: FedEnd,

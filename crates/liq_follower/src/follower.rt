@@ -1,9 +1,9 @@
 //! A replica that is fed the bytes of a journal.
 
-ghost use Rattle.std.specs.Prelude.{◌≡◌, ◌≤◌, ◌<◌, ◌+◌, ◌-◌, ◌^◌, ◌∷◌, ◌++◌, [], List, ℕ, length, min, take, None, IfOk, OnErr, OnOk};
+ghost use Rattle.std.specs.Prelude.{◌≡◌, ◌≤◌, ◌<◌, ◌+◌, ◌-◌, ◌^◌, ◌∷◌, ◌++◌, [], List, ℕ, length, min, take, None, IfOk, OnErr, OnOk, slice_index};
 ghost use Rattle.liq_follower.specs.declared.phase.Phase.TheVariants as phase;
-ghost use Rattle.liq_follower.specs.Fed.{AreOver, EndsWith, GoOn, LackOne};
-ghost use Rattle.liq_follower.specs.Following.{IsAt, IsFed, stopped_in};
+ghost use Rattle.liq_follower.specs.Fed.{AreOver, Completes, EndsWith, GoOn, LackOne};
+ghost use Rattle.liq_follower.specs.Following.{IsAt, IsFed, StandsBeforeLast, stopped_in};
 ghost use Rattle.liq_follower.specs.Judging.{phase_of};
 
 use crate::answers::{Fed, FedEnd};
@@ -93,7 +93,13 @@ impl Follower {
         ensures end { (bytes : List ℕ) → IsFed bytes self.old → EndsWith result.end (bytes ++ take result.taken piece.now) }
         ensures all { result.end ≡ FedEnd.All → result.taken ≡ length piece.now }
         ensures memory { result.end ≡ FedEnd.NoMemory → result.taken < length piece.now }
+        ensures right { result.end ≡ FedEnd.NoMemory → (bytes : List ℕ) → IsFed bytes self.old
+            → Completes (slice_index piece.now result.taken) (bytes ++ take result.taken piece.now) }
         ensures over { (bytes : List ℕ) → IsFed bytes self.old → AreOver bytes → result.taken ≡ 0 }
+        ensures stays { (bytes : List ℕ) → IsFed bytes self.old → AreOver bytes → self.new ≡ self.old }
+        ensures again { (bytes : List ℕ) → IsFed bytes self.old → AreOver bytes → (e : FedEnd) → EndsWith e bytes → result.end ≡ e }
+        ensures first { (bytes : List ℕ) → IsFed bytes self.old → AreOver (bytes ++ take result.taken piece.now)
+            → StandsBeforeLast (bytes ++ take result.taken piece.now) self.new.core }
     {
         let mut taken = 0;
         while taken < piece.len() {
@@ -130,7 +136,8 @@ impl Follower {
         ensures going { (bytes : List ℕ) → IsFed bytes self.old → GoOn bytes }
         ensures count { IfOk result (λ n. (1 ≤ n) × (n ≤ length piece.now)) }
         ensures fed { IfOk result (λ n. (bytes : List ℕ) → IsFed bytes self.old → IsFed (bytes ++ take n piece.now) self.new) }
-        ensures memory { OnErr result ((bytes : List ℕ) → IsFed bytes self.old → IsFed bytes self.new × LackOne bytes) }
+        ensures memory { OnErr result ((bytes : List ℕ) → IsFed bytes self.old
+            → IsFed bytes self.new × LackOne bytes × Completes (slice_index piece.now 0) bytes) }
     {
         match self.take(piece) {
             Ok(count) => {
@@ -155,7 +162,8 @@ impl Follower {
         requires goes { stopped_in self.old.phase ≡ None }
         ensures count { IfOk result (λ n. (1 ≤ n) × (n ≤ length piece.now)) }
         ensures at { IfOk result (λ n. (bytes : List ℕ) → IsAt bytes self.old → IsAt (bytes ++ take n piece.now) self.new) }
-        ensures memory { OnErr result ((bytes : List ℕ) → IsAt bytes self.old → IsAt bytes self.new × LackOne bytes) }
+        ensures memory { OnErr result ((bytes : List ℕ) → IsAt bytes self.old
+            → IsAt bytes self.new × LackOne bytes × Completes (slice_index piece.now 0) bytes) }
         ensures taken { self.new.taken ≡ self.old.taken }
     {
         match self.phase {
@@ -226,7 +234,8 @@ impl Follower {
         requires inside { self.old.phase ≡ phase.Inside }
         ensures count { IfOk result (λ n. (1 ≤ n) × (n ≤ length piece.now)) }
         ensures at { IfOk result (λ n. (bytes : List ℕ) → IsAt bytes self.old → IsAt (bytes ++ take n piece.now) self.new) }
-        ensures memory { OnErr result ((bytes : List ℕ) → IsAt bytes self.old → IsAt bytes self.new × LackOne bytes) }
+        ensures memory { OnErr result ((bytes : List ℕ) → IsAt bytes self.old
+            → IsAt bytes self.new × LackOne bytes × Completes (slice_index piece.now 0) bytes) }
         ensures taken { self.new.taken ≡ self.old.taken }
     {
         let missing = RECORD - 1 - self.held.len();
@@ -244,7 +253,7 @@ impl Follower {
         requires inside { self.old.phase ≡ phase.Inside }
         requires full { length self.old.held ≡ 127 }
         ensures at { OnOk result ((bytes : List ℕ) → IsAt bytes self.old → IsAt (bytes ++ last ∷ []) self.new) }
-        ensures memory { OnErr result ((bytes : List ℕ) → IsAt bytes self.old → IsAt bytes self.new × LackOne bytes) }
+        ensures memory { OnErr result ((bytes : List ℕ) → IsAt bytes self.old → IsAt bytes self.new × LackOne bytes × Completes last bytes) }
         ensures taken { self.new.taken ≡ self.old.taken }
     {
         let index = self.guided.records().saturating_add(1);

@@ -9,10 +9,10 @@ ghost use Rattle.liq_journal.specs.Layout.{generation_on, header_size, layout_on
 ghost use Rattle.liq_journal.specs.Records.{begins_whole};
 ghost use Rattle.liq_journal.specs.Written.{Open, Written, first_fault, found_on, header_tests};
 ghost use Rattle.liq_pairs.specs.Replay.{outcome, replay};
-ghost use Rattle.liq_follower.specs.Fed.{AreDamagedAt, EndsWhole, IsNoRecord, IsRecordOf, LeadTo};
+ghost use Rattle.liq_follower.specs.Fed.{AreDamagedAt, AreOver, EndsWhole, GoOn, IsNoRecord, IsRecordOf, LeadTo};
 ghost use Rattle.liq_follower.specs.Fed.{begun_limit, has_header, is_turned};
 ghost use Rattle.liq_core.specs.Core.{StandsFor};
-ghost use Rattle.liq_follower.specs.Following.{IsFed};
+ghost use Rattle.liq_follower.specs.Following.{IsFed, StandsBeforeLast};
 
 use crate::follower::Follower;
 
@@ -23,6 +23,11 @@ pub fn beginnings_lead_to_beginnings()
         → w.generation ≡ 1 → outcome w ≡ Ok s → 9 ≤ length bytes
         → (count : ℕ) × ((t : State)
         × (replay 1 (opening_with w.limit) (take count w.commands) ≡ Ok t) × LeadTo bytes t) }
+{}
+
+/// Bytes that hold no fault have no beginning that holds one.
+pub fn faults_stay()
+    ensures { (bytes rest : List ℕ) → GoOn (bytes ++ rest) → GoOn bytes }
 {}
 
 /// Bytes without a whole header behind an open gate lead to the opening, and behind a closed gate to that under the greater
@@ -58,4 +63,10 @@ pub fn records_lead_on()
 /// generation. So it does not matter into which pieces they were cut.
 pub fn followers_stand(follower: &Follower)
     ensures { (bytes : List ℕ) → (s : State) → IsFed bytes follower.now → LeadTo bytes s → StandsFor follower.now.core s }
+{}
+
+/// Where the bytes that a follower was fed are damaged or of a later generation, the last of them is the first that shows it: all
+/// the others lead to a state. The follower stands for that.
+pub fn ended_followers_stand(follower: &Follower)
+    ensures { (bytes : List ℕ) → IsFed bytes follower.now → AreOver bytes → StandsBeforeLast bytes follower.now.core }
 {}

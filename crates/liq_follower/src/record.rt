@@ -1,10 +1,11 @@
 // A whole record, tested, and its command, made again.
-ghost use Rattle.std.specs.Prelude.{◌≡◌, ◌+◌, ◌^◌, ◌<◌, false, length, IfSome};
+ghost use Rattle.std.specs.Prelude.{◌≡◌, false, take, drop, IfSome};
+ghost use Rattle.std.specs.Str.{bytes_eq};
 ghost use Rattle.byteorder.specs.Endian.{big_bytes};
 ghost use Rattle.liq_types.specs.State.{State};
 ghost use Rattle.liq_core.specs.Core.{StandsFor};
 ghost use Rattle.liq_journal.specs.Written.{is_rotate, record_digest};
-ghost use Rattle.liq_follower.specs.Judging.{IsRedone, IsTaken, IsTested};
+ghost use Rattle.liq_follower.specs.Judging.{IsRedone, IsSpelled, IsTaken, IsTested};
 
 use crate::guided::Guided;
 use crate::held::RECORD;
@@ -45,24 +46,46 @@ fn digest(index: u64, body: &[u8; 96]) -> [u8; 32]
     hasher.finalize()
 }
 
-// The command of the record of this number in the first generation: its digest is right, and its body is a command that is no
-// rotation.
-pub fn tested(raw: &[u8; RECORD], index: u64) -> Option<Command>
-    ensures tested { IsTested index raw.now result }
-    ensures stays { IfSome result (λ c. is_rotate c.call ≡ false) }
+// The body of a record.
+fn body_of(raw: &[u8; RECORD]) -> [u8; 96]
+    ensures { result ≡ take 96 raw.now }
 {
     let mut body = [0; 96];
     body.copy_from_slice(&raw[..96]);
-    if &raw[96..] != digest(index, &body).as_slice() {
-        return None;
-    }
-    match decode(&body) {
+    body
+}
+
+// Whether the digest behind the body is that of the record of this number in the first generation.
+fn has_digest(raw: &[u8; RECORD], index: u64) -> bool
+    ensures { result ≡ bytes_eq (drop 96 raw.now) (record_digest 1 index (take 96 raw.now)) }
+{
+    &raw[96..] == digest(index, &body_of(raw)).as_slice()
+}
+
+// The command that the body spells, whatever the digest: none where it is no command, or a rotation.
+fn spelled(raw: &[u8; RECORD]) -> Option<Command>
+    ensures spelled { IsSpelled raw.now result }
+    ensures stays { IfSome result (λ c. is_rotate c.call ≡ false) }
+{
+    match decode(&body_of(raw)) {
         Ok(command) => match command.call {
             Call::Rotate => None,
             _ => Some(command),
         },
         Err(_) => None,
     }
+}
+
+// The command of the record of this number in the first generation: its digest is right, and its body is a command that is no
+// rotation.
+fn tested(raw: &[u8; RECORD], index: u64) -> Option<Command>
+    ensures tested { IsTested index raw.now result }
+    ensures stays { IfSome result (λ c. is_rotate c.call ≡ false) }
+{
+    if !has_digest(raw, index) {
+        return None;
+    }
+    spelled(raw)
 }
 
 // Makes the step of a command. Its steps are counted on a ledger of their own.
@@ -91,12 +114,20 @@ pub fn redo<L: Ledger>(protocol: &mut Guided, command: &Command, blank: Blank) -
     }
 }
 
+// The same, on a ledger of one part.
+fn make(protocol: &mut Guided, command: &Command) -> Redone
+    requires stays { is_rotate command.now.call ≡ false }
+    ensures { (s : State) → StandsFor protocol.old s → IsRedone s command.now protocol.new result }
+{
+    redo::<Brand>(protocol, command, Blank::new(1))
+}
+
 // Makes the step of the command of a whole record of this number, if it has one and the rules allow it.
 pub fn take(protocol: &mut Guided, raw: &[u8; RECORD], index: u64) -> Redone
     ensures { (s : State) → StandsFor protocol.old s → IsTaken s index raw.now protocol.new result }
 {
     match tested(raw, index) {
-        Some(command) => redo::<Brand>(protocol, &command, Blank::new(1)),
+        Some(command) => make(protocol, &command),
         None => Redone::Refused,
     }
 }

@@ -19,4 +19,4 @@ returns-in-Err-clause-going c bytes is = goes_on bytes c.args.self.now is c.requ
 pub returns-in-Err-clause-memory : goal.returns-in-Err-clause-memory
 returns-in-Err-clause-memory c bytes is =
     let m = c.in-Err.ensures.memory bytes (fed_at bytes c.args.self.now is) in
-    (fed_by bytes c.take.new.self m.0 (c.take.ensures.taken ∙ fed_count bytes c.args.self.now is), m.1)
+    (fed_by bytes c.take.new.self m.0 (c.take.ensures.taken ∙ fed_count bytes c.args.self.now is), m.1, m.2)

@@ -27,5 +27,5 @@ returns-in-NoMemory-clause-memory c bytes at =
     let few = few_records bytes c.self.inside.held c.self.inside.guided here in
     let size = ap (λ (f : Followed). length f.held) c.self.view_is ∙ c.requires.full in
     let next : c.saturating_add-index.result ≡ c.self.inside.guided.records + 1 = let a = c.saturating_add-index.ensures in let r = c.records.ensures in omega (arith, few, a, r) in
-    let l = lacking bytes c.self.inside.held c.self.inside.guided c.args.last c.saturating_add-index.result size next here c.take.new.protocol (c.in-NoMemory.ensures here.3.0 here.3.2) in
-    (at_phase bytes c.self.inside.held c.take.new.protocol _ c.args.self.now phase.Inside c.self.view_is c.requires.inside l.0, l.1)
+    let l = lacking bytes c.self.inside.held c.self.inside.guided c.args.last c.saturating_add-index.result size next here c.with-raw.result c.with-raw.ensures c.take.new.protocol (c.in-NoMemory.ensures here.3.0 here.3.2) in
+    (at_phase bytes c.self.inside.held c.take.new.protocol _ c.args.self.now phase.Inside c.self.view_is c.requires.inside l.0, l.1, l.2)

@@ -4,11 +4,23 @@ use Rattle.liq_follower.specs.declared.answers.FedEnd.{FedEnd}
 use Rattle.liq_follower.specs.declared.answers.FedEnd.TheVariants as end
 use Rattle.liq_follower.specs.Fed.{EndsWith}
 use Rattle.std.proofs.lemmas.List.{take_rest}
-use Rattle.liq_follower.proofs.Phases.{ends_stopped, ends_there, fed_on, none_over}
+use Rattle.liq_follower.proofs.Phases.{completes_at, ended_stands, ends_stopped, ends_there, fed_on, goes_over, none_over, told_again}
 use Rattle.liq_follower.proofs.follower.Follower.feed.Goals as goal
+
+-- ---- it had ended
 
 pub returns-in-Some-clause-end : goal.returns-in-Some-clause-end
 returns-in-Some-clause-end c bytes is = ends_stopped _ _ _ (c.loop-taken.invariant.fed bytes is) (sym c.stopped.ensures ∙ c.in-Some.is)
+
+pub returns-in-Some-clause-again : goal.returns-in-Some-clause-again
+returns-in-Some-clause-again c bytes is over e ends =
+    told_again bytes c.args.piece.now c.loop-taken.taken _ e (c.loop-taken.invariant.over bytes is over) over
+    (ends_stopped _ _ _ (c.loop-taken.invariant.fed bytes is) (sym c.stopped.ensures ∙ c.in-Some.is)) ends
+
+pub returns-in-Some-clause-first : goal.returns-in-Some-clause-first
+returns-in-Some-clause-first c bytes is over = ended_stands _ _ (c.loop-taken.invariant.fed bytes is) over
+
+-- ---- it goes on
 
 pub loop-taken-preserved : goal.loop-taken-preserved
 loop-taken-preserved c =
@@ -19,10 +31,44 @@ loop-taken-preserved c =
           fed_on bytes piece _ before c.in-Ok.count _ (take_rest piece before) (c.in-Ok.ensures.fed (bytes ++ take before piece) (c.loop-taken.invariant.fed bytes is));
       over = λ bytes is over.
           none_over bytes before c.in-Ok.count piece (c.advance.ensures.going (bytes ++ take before piece) (c.loop-taken.invariant.fed bytes is)) over (c.loop-taken.invariant.over bytes is over);
+      stays = λ bytes is over.
+          absurd (goes_over bytes before piece (c.advance.ensures.going (bytes ++ take before piece) (c.loop-taken.invariant.fed bytes is)) over (c.loop-taken.invariant.over bytes is over));
     }
+
+-- ---- a byte finds no memory
+
+pub returns-in-Err-clause-right : goal.returns-in-Err-clause-right
+returns-in-Err-clause-right c told bytes is =
+    let piece = c.args.piece.now in
+    let before = c.loop-taken.taken in
+    let m = c.in-Err.ensures.memory (bytes ++ take before piece) (c.loop-taken.invariant.fed bytes is) in
+    completes_at (bytes ++ take before piece) piece _ before (take_rest piece before) m.2
+
+pub returns-in-Err-clause-stays : goal.returns-in-Err-clause-stays
+returns-in-Err-clause-stays c bytes is over =
+    let piece = c.args.piece.now in
+    let before = c.loop-taken.taken in
+    absurd (goes_over bytes before piece (c.advance.ensures.going (bytes ++ take before piece) (c.loop-taken.invariant.fed bytes is)) over (c.loop-taken.invariant.over bytes is over))
+
+pub returns-in-Err-clause-again : goal.returns-in-Err-clause-again
+returns-in-Err-clause-again c bytes is over e ends =
+    let piece = c.args.piece.now in
+    let before = c.loop-taken.taken in
+    absurd (goes_over bytes before piece (c.advance.ensures.going (bytes ++ take before piece) (c.loop-taken.invariant.fed bytes is)) over (c.loop-taken.invariant.over bytes is over))
+
+pub returns-in-Err-clause-first : goal.returns-in-Err-clause-first
+returns-in-Err-clause-first c bytes is over = absurd (over (c.advance.ensures.going (bytes ++ take c.loop-taken.taken c.args.piece.now) (c.loop-taken.invariant.fed bytes is)))
+
+-- ---- the whole piece is taken
 
 pub returns-clause-end : goal.returns-clause-end
 returns-clause-end c bytes is =
     subst (λ (e : FedEnd). EndsWith e (bytes ++ take c.loop-taken.taken c.args.piece.now))
     (sym (c.unwrap_or-end.ensures ∙ ap (λ (o : Option FedEnd). unwrap_or o end.All) c.stopped-2.ensures))
     (ends_there (bytes ++ take c.loop-taken.taken c.args.piece.now) c.loop-taken.self (c.loop-taken.invariant.fed bytes is))
+
+pub returns-clause-again : goal.returns-clause-again
+returns-clause-again c bytes is over e ends = told_again bytes c.args.piece.now c.loop-taken.taken _ e (c.loop-taken.invariant.over bytes is over) over (returns-clause-end c bytes is) ends
+
+pub returns-clause-first : goal.returns-clause-first
+returns-clause-first c bytes is over = ended_stands _ _ (c.loop-taken.invariant.fed bytes is) over

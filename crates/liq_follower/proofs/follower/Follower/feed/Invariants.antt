@@ -9,6 +9,7 @@ invariant-loop-taken l = record {
   within : l.taken ≤ length l.piece;
   fed : (bytes : List ℕ) → IsFed bytes l.fn.self → IsFed (bytes ++ take l.taken l.piece) l.self;
   over : (bytes : List ℕ) → IsFed bytes l.fn.self → AreOver bytes → l.taken ≡ 0;
+  stays : (bytes : List ℕ) → IsFed bytes l.fn.self → AreOver bytes → l.self ≡ l.fn.self;
 }
 
 abbrev pub decreases-loop-taken : goal.decreases-loop-taken
