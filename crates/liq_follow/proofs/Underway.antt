@@ -1,8 +1,8 @@
 -- The input on its way to the follower.
-use Rattle.std.proofs.Common.{◌≡◌, ◌≢◌, ℕ, ◌≤◌, ◌+◌, ◌-◌, List, [], ◌++◌, length, take, Option, Ok, Err, Result, refl, sym, ap, subst, ◌∙◌, append-nil, arith}
+use Rattle.std.proofs.Common.{◌≡◌, ℕ, ◌≤◌, ◌+◌, ◌-◌, List, [], ◌++◌, length, take, Option, Ok, Err, Result, refl, sym, ap, subst, ◌∙◌, append-nil, arith}
 use Rattle.std.proofs.Math.Seq.{take-append_seam}
 use Rattle.std.proofs.lemmas.List.{length-append}
-use Rattle.liq_lines.specs.Reading.{IsOver, Reads}
+use Rattle.liq_lines.specs.Reading.{Reads}
 use Rattle.liq_lines.proofs.Bytes.{reads_more, reads_nothing}
 use Rattle.liq_follower.specs.Fed.{GoOn}
 use Rattle.liq_follower.specs.Following.{Followed, IsFed}

@@ -6,7 +6,7 @@ use Rattle.liq_follower.specs.Following.{Followed, IsFed}
 use Rattle.liq_follower.specs.declared.answers.FedEnd.{FedEnd}
 use Rattle.liq_follower.specs.declared.answers.FedEnd.TheVariants as fed
 use Rattle.liq_ends.specs.declared.halts.Halt.{Halt}
-use Rattle.liq_ends.specs.declared.halts.Halt.TheVariants.{DamagedInput, Limit, NoMemory, ReadFault, Rotated, WriteFault}
+use Rattle.liq_ends.specs.declared.halts.Halt.TheVariants.{DamagedInput, Limit, NoMemory, ReadFault, Rotated}
 use Rattle.liq_follow.specs.declared.feeding.TheConstants.{FED_MOST}
 use Rattle.liq_follow.specs.Followed.{FollowsTo, StopsWithin}
 
