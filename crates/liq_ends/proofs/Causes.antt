@@ -2,7 +2,7 @@
 use Rattle.std.proofs.Common.{◌≡◌, ◌≢◌, ℕ, ◌≤◌, Ok, Err, Result, refl, arith}
 use Rattle.liq_outside.specs.Faults.{Rose}
 use Rattle.liq_ends.specs.declared.halts.Halt.{Halt}
-use Rattle.liq_ends.specs.declared.halts.Halt.TheVariants.{BadLine, ReadFault, WriteFault, DiskFault, Damaged, NoMemory, Limit, Rotated}
+use Rattle.liq_ends.specs.declared.halts.Halt.TheVariants.{BadLine, ReadFault, WriteFault, DiskFault, Damaged, DamagedInput, NoMemory, Limit, Rotated}
 use Rattle.liq_pairs.specs.declared.side.Side.{Side}
 use Rattle.liq_pairs.specs.declared.side.Side.TheVariants.{Left, Right}
 use Rattle.liq_store.specs.Causes.{Faults, OneRose}
@@ -19,6 +19,7 @@ read_same DiskFault before after other same = same
 read_same (Damaged side number) before after other same = same
 read_same (Limit number) before after other same = same
 read_same (Rotated generation) before after other same = same
+read_same (DamagedInput number) before after other same = same
 
 -- where the source is not read its count stays
 pub unread_causes : (end : Result (Unit {0}) Halt) (count : ℕ) → end ≢ Err ReadFault → ReadCause end count count
@@ -35,6 +36,7 @@ write_same DiskFault before after other same = same
 write_same (Damaged side number) before after other same = same
 write_same (Limit number) before after other same = same
 write_same (Rotated generation) before after other same = same
+write_same (DamagedInput number) before after other same = same
 
 pub write_no_fewer : {T : Type 0} (end : Result T Halt) (before after : ℕ) → WriteCause end before after → before ≤ after
 write_no_fewer (Ok x) before after c = omega (arith, c)
@@ -46,6 +48,7 @@ write_no_fewer (Err DiskFault) before after c = omega (arith, c)
 write_no_fewer (Err (Damaged side number)) before after c = omega (arith, c)
 write_no_fewer (Err (Limit number)) before after c = omega (arith, c)
 write_no_fewer (Err (Rotated generation)) before after c = omega (arith, c)
+write_no_fewer (Err (DamagedInput number)) before after c = omega (arith, c)
 
 -- ---- what a status says
 
@@ -64,6 +67,7 @@ source_causes (Err (Damaged Left number)) before after c = (λ h. absurd (omega 
 source_causes (Err (Damaged Right number)) before after c = (λ h. absurd (omega (arith, h)), λ _. c)
 source_causes (Err (Limit number)) before after c = (λ h. absurd (omega (arith, h)), λ _. c)
 source_causes (Err (Rotated generation)) before after c = (λ h. absurd (omega (arith, h)), λ _. c)
+source_causes (Err (DamagedInput number)) before after c = (λ h. absurd (omega (arith, h)), λ _. c)
 
 pub sink_causes : (end : Result (Unit {0}) Halt) (before after : ℕ) → LastCause end before after → (status_of end ≡ 4 → Rose before after) × (status_of end ≡ 0 → after ≡ before)
 sink_causes (Ok done) before after c = (λ h. absurd (omega (arith, h)), λ _. c)
@@ -76,6 +80,7 @@ sink_causes (Err (Damaged Left number)) before after c = (λ h. absurd (omega (a
 sink_causes (Err (Damaged Right number)) before after c = (λ h. absurd (omega (arith, h)), λ h. absurd (omega (arith, h)))
 sink_causes (Err (Limit number)) before after c = (λ h. absurd (omega (arith, h)), λ h. absurd (omega (arith, h)))
 sink_causes (Err (Rotated generation)) before after c = (λ h. absurd (omega (arith, h)), λ h. absurd (omega (arith, h)))
+sink_causes (Err (DamagedInput number)) before after c = (λ h. absurd (omega (arith, h)), λ h. absurd (omega (arith, h)))
 
 pub disk_causes : (end : Result (Unit {0}) Halt) (before after : Faults) → DiskCause end before after → (status_of end ≡ 5 → OneRose before after) × ((status_of end ≡ 5 → ⊥) → after ≡ before)
 disk_causes (Ok done) before after c = (λ h. absurd (omega (arith, h)), λ _. c)
@@ -88,3 +93,4 @@ disk_causes (Err (Damaged Right number)) before after c = (λ h. absurd (omega (
 disk_causes (Err NoMemory) before after c = (λ h. absurd (omega (arith, h)), λ _. c)
 disk_causes (Err (Limit number)) before after c = (λ h. absurd (omega (arith, h)), λ _. c)
 disk_causes (Err (Rotated generation)) before after c = (λ h. absurd (omega (arith, h)), λ _. c)
+disk_causes (Err (DamagedInput number)) before after c = (λ h. absurd (omega (arith, h)), λ _. c)

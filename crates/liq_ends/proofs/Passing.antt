@@ -22,7 +22,7 @@ use Rattle.liq_store.specs.Leaving.{LeavesBoth}
 use Rattle.liq_store.specs.Opening.{IsNotOpened}
 use Rattle.liq_store.proofs.Past.{opening_leaves}
 use Rattle.liq_ends.specs.declared.halts.Halt.{Halt}
-use Rattle.liq_ends.specs.declared.halts.Halt.TheVariants.{BadLine, ReadFault, WriteFault, DiskFault, Damaged, NoMemory, Limit, Rotated}
+use Rattle.liq_ends.specs.declared.halts.Halt.TheVariants.{BadLine, ReadFault, WriteFault, DiskFault, Damaged, DamagedInput, NoMemory, Limit, Rotated}
 use Rattle.liq_ends.specs.Disks.{IsFaultOfTelling, LeavesOfRun}
 use Rattle.liq_ends.specs.Unopened.{halt_of}
 
@@ -155,3 +155,4 @@ module _ {D : Type 0} (seen : D → Option (List ℕ)) (moment : D → ℕ) (lef
     looked_past (Err NoMemory) l r start ol or nl nr later left right rest_l rest_r past kept = calm_looked l r start _ refl ol or nl nr later left right rest_l rest_r past
     looked_past (Err (Limit number)) l r start ol or nl nr later left right rest_l rest_r past kept = calm_looked l r start _ refl ol or nl nr later left right rest_l rest_r past
     looked_past (Err (Rotated generation)) l r start ol or nl nr later left right rest_l rest_r past kept = calm_looked l r start _ refl ol or nl nr later left right rest_l rest_r past
+    looked_past (Err (DamagedInput number)) l r start ol or nl nr later left right rest_l rest_r past kept = calm_looked l r start _ refl ol or nl nr later left right rest_l rest_r past

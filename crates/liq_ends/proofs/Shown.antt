@@ -2,7 +2,7 @@
 use Rattle.std.proofs.Common.{◌≡◌, ◌≢◌, List, ℕ, [], Option, Ok, Err, Result, refl, sym, subst, ◌∙◌}
 use Rattle.std.specs.Prelude.{IfErr}
 use Rattle.liq_ends.specs.declared.halts.Halt.{Halt}
-use Rattle.liq_ends.specs.declared.halts.Halt.TheVariants.{BadLine, ReadFault, WriteFault, DiskFault, Damaged, NoMemory, Limit, Rotated}
+use Rattle.liq_ends.specs.declared.halts.Halt.TheVariants.{BadLine, ReadFault, WriteFault, DiskFault, Damaged, DamagedInput, NoMemory, Limit, Rotated}
 use Rattle.liq_ends.specs.Output.{last}
 use Rattle.liq_ends.specs.Stops.{Adds}
 use Rattle.liq_ends.specs.Telling.{TellsAll}
@@ -26,6 +26,7 @@ all_halted ReadFault text fault before now after h adds = added_to (last ReadFau
 all_halted (Damaged side number) text fault before now after h adds = added_to (last (Damaged side number)) fault before now after h adds
 all_halted (Limit number) text fault before now after h adds = added_to (last (Limit number)) fault before now after h adds
 all_halted (Rotated generation) text fault before now after h adds = added_to (last (Rotated generation)) fault before now after h adds
+all_halted (DamagedInput number) text fault before now after h adds = added_to (last (DamagedInput number)) fault before now after h adds
 all_halted DiskFault text fault before now after h adds = added_to (last DiskFault) fault before now after h adds
 all_halted NoMemory text fault before now after h adds = added_to (last NoMemory) fault before now after h adds
 all_halted WriteFault text fault before now after h adds = part_stays fault text before now after h adds

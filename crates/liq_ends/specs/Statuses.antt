@@ -3,7 +3,7 @@ use Rattle.std.specs.Prelude.{ℕ, ◌≡◌, ◌⊎◌, List, [], ◌∷◌, �
 use Rattle.liq_pairs.specs.declared.side.Side.TheVariants.{Left, Right}
 use Rattle.liq_ends.specs.declared.halts.Halt.{Halt}
 use Rattle.liq_ends.specs.declared.halts.Halt.TheVariants.{BadLine, ReadFault, WriteFault}
-use Rattle.liq_ends.specs.declared.halts.Halt.TheVariants.{DiskFault, Damaged, NoMemory, Limit, Rotated}
+use Rattle.liq_ends.specs.declared.halts.Halt.TheVariants.{DiskFault, Damaged, DamagedInput, NoMemory, Limit, Rotated}
 
 -- the status of a word that stops so, and its last line; a sink that met a fault is told nothing more
 abbrev pub ending : Halt → ℕ × List ℕ
@@ -13,6 +13,7 @@ ending WriteFault = (4, [])
 ending DiskFault = (5, codes "disk fault" ++ 10 ∷ [])
 ending (Damaged Left number) = (6, codes "damaged left " ++ decimal number ++ 10 ∷ [])
 ending (Damaged Right number) = (6, codes "damaged right " ++ decimal number ++ 10 ∷ [])
+ending (DamagedInput number) = (6, codes "damaged input " ++ decimal number ++ 10 ∷ [])
 ending NoMemory = (7, codes "no memory" ++ 10 ∷ [])
 ending (Limit number) = (8, codes "limit " ++ decimal number ++ 10 ∷ [])
 ending (Rotated generation) = (9, codes "rotated " ++ decimal generation ++ 10 ∷ [])

@@ -9,7 +9,7 @@ use Rattle.liq_rules.specs.Events.{events}
 use Rattle.liq_rules.specs.Image.{IsSameState}
 use Rattle.liq_rules.specs.Step.{run, accepted}
 use Rattle.liq_ends.specs.declared.halts.Halt.{Halt}
-use Rattle.liq_ends.specs.declared.halts.Halt.TheVariants.{WriteFault, Damaged, NoMemory, Rotated}
+use Rattle.liq_ends.specs.declared.halts.Halt.TheVariants.{WriteFault, Damaged, DamagedInput, NoMemory, Rotated}
 use Rattle.liq_ends.specs.Disks.{DisksHold, IsFaultOfRun, IsUnread, LeavesOfRun}
 use Rattle.liq_ends.specs.Output.{last, lines}
 use Rattle.liq_ends.specs.Requests.{IsNext, IsRequest}
@@ -45,7 +45,9 @@ TellsBehind said text (Err halt) fault before now = Adds said (last halt) fault 
 abbrev pub EndsAfter : State → Result (Unit {0}) Halt → List ℕ → Option (List ℕ) → List Request → Type 0
 -- a run over damaged disks begins nowhere
 EndsAfter start (Err (Damaged side number)) bytes left requests = ⊥
--- and a run goes on in whatever generation
+-- what it reads are requests
+EndsAfter start (Err (DamagedInput number)) bytes left requests = ⊥
+-- and it goes on in whatever generation
 EndsAfter start (Err (Rotated generation)) bytes left requests = ⊥
 -- memory is asked for before a line is read, and then only for a command that is allowed or plans a list
 EndsAfter start (Err NoMemory) bytes left requests =

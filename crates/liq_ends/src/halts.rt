@@ -19,9 +19,12 @@ pub enum Halt {
     DiskFault,
     /// The disk of this side is damaged at the record of this number; 0 is its header.
     Damaged(Side, u64),
+    /// The journal that came in is damaged at the record of this number; 0 is its header.
+    DamagedInput(u64),
     /// There was no memory.
     NoMemory,
-    /// This number of lines is all that one run answers, and there are more; or a number above a limit of the audit.
+    /// This number of lines is all that one run answers, or of bytes all that are followed, and there are more; or a number above a limit
+    /// of the audit.
     Limit(u128),
     /// The journal is of this generation, above the first, so that the commands before it are gone.
     Rotated(u64),

@@ -2,7 +2,7 @@
 use Rattle.std.proofs.Common.{ℕ, List, [], ◌∷◌, Option, Ok, Err, Result, refl, lit<}
 use Rattle.std.specs.Prelude.{Contains}
 use Rattle.liq_ends.specs.declared.halts.Halt.{Halt}
-use Rattle.liq_ends.specs.declared.halts.Halt.TheVariants.{BadLine, ReadFault, WriteFault, DiskFault, Damaged, NoMemory, Limit, Rotated}
+use Rattle.liq_ends.specs.declared.halts.Halt.TheVariants.{BadLine, ReadFault, WriteFault, DiskFault, Damaged, DamagedInput, NoMemory, Limit, Rotated}
 use Rattle.liq_ends.specs.Statuses.{status_of}
 use Rattle.liq_ends.specs.Unsaid.{WritesAll}
 use Rattle.liq_load.specs.Carrying.{WritesLine}
@@ -17,3 +17,4 @@ line_told line (Err (Damaged side number)) before now h = absurd h
 line_told line (Err NoMemory) before now h = ((2, lit< tt, refl), h)
 line_told line (Err (Limit number)) before now h = absurd h
 line_told line (Err (Rotated generation)) before now h = absurd h
+line_told line (Err (DamagedInput number)) before now h = absurd h

@@ -5,7 +5,7 @@ use Rattle.liq_types.specs.State.{State}
 use Rattle.liq_types.specs.declared.requests.Request.{Request}
 use Rattle.liq_core.specs.Core.{Core}
 use Rattle.liq_ends.specs.declared.halts.Halt.{Halt}
-use Rattle.liq_ends.specs.declared.halts.Halt.TheVariants.{BadLine, ReadFault, WriteFault, DiskFault, Damaged, NoMemory, Limit, Rotated}
+use Rattle.liq_ends.specs.declared.halts.Halt.TheVariants.{BadLine, ReadFault, WriteFault, DiskFault, Damaged, DamagedInput, NoMemory, Limit, Rotated}
 use Rattle.liq_ends.specs.Output.{lines}
 use Rattle.liq_run.specs.Passing.{IsOfAccepted}
 use Rattle.liq_run.specs.Progress.{Ends, Comes, HaltsAt, Written}
@@ -29,6 +29,7 @@ waited start core past kept stopped (Err DiskFault) bytes left w before now othe
 waited start core past kept stopped (Err (Damaged side number)) bytes left w before now other h = h.written
 waited start core past kept stopped (Err (Limit number)) bytes left w before now other h = h.written
 waited start core past kept stopped (Err (Rotated generation)) bytes left w before now other h = h.written
+waited start core past kept stopped (Err (DamagedInput number)) bytes left w before now other h = h.written
 
 -- of the requests it holds, or nothing waits behind a disk's fault
 still_past : (past : List Request → Type 0) (kept : State → Request → Type 0) (stopped : List Request → Request → Type 0) (end : Result (Unit {0}) Halt) (bytes : List ℕ) (requests : List Request) (w : List ℕ) (s : State) → HaltsAt end bytes requests w s past kept stopped → past requests ⊎ (w ≡ [])
@@ -41,6 +42,7 @@ still_past past kept stopped (Err DiskFault) bytes requests w s h = inr h.3
 still_past past kept stopped (Err (Damaged side number)) bytes requests w s h = inl h
 still_past past kept stopped (Err (Limit number)) bytes requests w s h = inl h
 still_past past kept stopped (Err (Rotated generation)) bytes requests w s h = inl h
+still_past past kept stopped (Err (DamagedInput number)) bytes requests w s h = inl h
 
 pub closing_cut : (start : State) (core : Core) (past : List Request → Type 0) (kept : State → Request → Type 0) (stopped : List Request → Request → Type 0) (end : Result (Unit {0}) Halt) (halt : Halt) (bytes : List ℕ) (left : Option (List ℕ)) (w w' : List ℕ) (before now after : Option (List ℕ)) → (end ≡ Err WriteFault → ⊥) → IsOfAccepted start past → Comes start end core past kept stopped bytes left w before now → WritesFront (Err halt) w w' now after → Ends start (Err halt) core past kept stopped bytes left before after
 closing_cut start core past kept stopped end (BadLine n) bytes left w w' before now after other same h f = absurd f
@@ -50,6 +52,7 @@ closing_cut start core past kept stopped end DiskFault bytes left w w' before no
 closing_cut start core past kept stopped end (Damaged side number) bytes left w w' before now after other same h f = absurd f
 closing_cut start core past kept stopped end (Limit number) bytes left w w' before now after other same h f = absurd f
 closing_cut start core past kept stopped end (Rotated generation) bytes left w w' before now after other same h f = absurd f
+closing_cut start core past kept stopped end (DamagedInput number) bytes left w w' before now after other same h f = absurd f
 closing_cut start core past kept stopped end WriteFault bytes left w w' before now after other same h f = by (still_past past kept stopped end bytes h.requests w _ h.halted) where
   by : past h.requests ⊎ (w ≡ []) → Ends start (Err WriteFault) core past kept stopped bytes left before after
   by (inl passed) =
@@ -80,5 +83,7 @@ closing_well start core past kept stopped (Err (Damaged side number)) bytes left
 closing_well start core past kept stopped (Err (Limit number)) bytes left w w' before now after other h f none =
     record { requests = h.requests; few = h.few; read = h.read; written = all_written start h.requests w w' before now after h.written f none; stands = h.stands; halted = h.halted }
 closing_well start core past kept stopped (Err (Rotated generation)) bytes left w w' before now after other h f none =
+    record { requests = h.requests; few = h.few; read = h.read; written = all_written start h.requests w w' before now after h.written f none; stands = h.stands; halted = h.halted }
+closing_well start core past kept stopped (Err (DamagedInput number)) bytes left w w' before now after other h f none =
     record { requests = h.requests; few = h.few; read = h.read; written = all_written start h.requests w w' before now after h.written f none; stands = h.stands; halted = h.halted }
 closing_well start core past kept stopped (Err WriteFault) bytes left w w' before now after other h f none = absurd (other refl)

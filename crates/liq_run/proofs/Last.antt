@@ -6,7 +6,7 @@ use Rattle.liq_types.specs.WellFormed.{IsWellFormed}
 use Rattle.liq_lines.specs.Writing.{Writes}
 use Rattle.liq_lines.proofs.Bytes.{writes_more}
 use Rattle.liq_ends.specs.declared.halts.Halt.{Halt}
-use Rattle.liq_ends.specs.declared.halts.Halt.TheVariants.{BadLine, ReadFault, WriteFault, DiskFault, Damaged, NoMemory, Limit, Rotated}
+use Rattle.liq_ends.specs.declared.halts.Halt.TheVariants.{BadLine, ReadFault, WriteFault, DiskFault, Damaged, DamagedInput, NoMemory, Limit, Rotated}
 use Rattle.liq_ends.specs.Output.{lines, last}
 use Rattle.liq_ends.specs.Stops.{Adds, EndsIn, WritesUpTo}
 use Rattle.liq_ends.proofs.EndingLines.{no_part}
@@ -30,6 +30,7 @@ all_written start (Damaged side number) fault requests before now after h adds =
 all_written start NoMemory fault requests before now after h adds = line_behind fault (lines start requests) (last NoMemory) before now after h adds
 all_written start (Limit number) fault requests before now after h adds = line_behind fault (lines start requests) (last (Limit number)) before now after h adds
 all_written start (Rotated generation) fault requests before now after h adds = line_behind fault (lines start requests) (last (Rotated generation)) before now after h adds
+all_written start (DamagedInput number) fault requests before now after h adds = line_behind fault (lines start requests) (last (DamagedInput number)) before now after h adds
 
 module _ {D : Type 0} (seen : D → Option (List ℕ)) (moment : D → ℕ) (left_at : D → ℕ → List ℕ → Type 0) (old_left old_right : D) (start : State) (formed : IsWellFormed start) (bytes l r : List ℕ) (unread : Option (List ℕ)) (fault : Type 0) (left right : D) where
   pub last_written : (halt : Halt) (before now after : Option (List ℕ)) → GivesBack seen moment left_at old_left old_right start (Err halt) bytes l r unread before now left right → Adds [] (last halt) fault now after

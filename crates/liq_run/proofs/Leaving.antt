@@ -19,7 +19,7 @@ use Rattle.liq_store.specs.Memory.{IsAccepted}
 use Rattle.liq_store.specs.Opening.{IsNotOpened}
 use Rattle.liq_store.specs.Stored.{Stored}
 use Rattle.liq_ends.specs.declared.halts.Halt.{Halt}
-use Rattle.liq_ends.specs.declared.halts.Halt.TheVariants.{BadLine, ReadFault, WriteFault, DiskFault, NoMemory, Limit, Rotated}
+use Rattle.liq_ends.specs.declared.halts.Halt.TheVariants.{BadLine, ReadFault, WriteFault, DiskFault, DamagedInput, NoMemory, Limit, Rotated}
 use Rattle.liq_ends.specs.declared.halts.Halt.TheVariants as halts
 use Rattle.liq_ends.specs.Disks.{DisksHold, IsFaultOfRun, IsFaultOfTelling, LeavesOfRun}
 use Rattle.liq_ends.specs.Requests.{IsNext}
@@ -81,6 +81,7 @@ module _ {D : Type 0} (seen : D → Option (List ℕ)) (faults : D → ℕ) wher
         λ a b told_a told_b. let kept = settled seen moment left_at store (run start requests).0 stopped order stands a b told_a told_b in (kept.stands, λ were. kept)
     left_by store (Err (Limit number)) bytes unread l r start requests stopped order stands past stopped_past halted = settled seen moment left_at store (run start requests).0 stopped order stands
     left_by store (Err (Rotated generation)) bytes unread l r start requests stopped order stands past stopped_past halted = absurd stopped
+    left_by store (Err (DamagedInput number)) bytes unread l r start requests stopped order stands past stopped_past halted = settled seen moment left_at store (run start requests).0 stopped order stands
 
     module _ (old_left old_right : D) where
       -- a store that went on is at rest, and each image is one of its past
@@ -109,6 +110,7 @@ module _ {D : Type 0} (seen : D → Option (List ℕ)) (faults : D → ℕ) wher
       past_by store (Err NoMemory) bytes unread l r start requests kept stopped halted = going_on store l r start requests _ refl stopped halted
       past_by store (Err (Limit number)) bytes unread l r start requests kept stopped halted = going_on store l r start requests _ refl stopped halted
       past_by store (Err (Rotated generation)) bytes unread l r start requests kept stopped halted = absurd stopped
+      past_by store (Err (DamagedInput number)) bytes unread l r start requests kept stopped halted = going_on store l r start requests _ refl stopped halted
 
       -- a run is at its end, and its store is closed
       pub gives_back : (store : Stored D) (end : Result (Unit {0}) Halt) (bytes l r : List ℕ) (unread before now : Option (List ℕ)) (start : State) → IsStopped end store.stopped → IsInOrder seen moment left_at store

@@ -26,7 +26,7 @@ use Rattle.liq_store.specs.Past.{Past}
 use Rattle.liq_store.specs.Stored.{Stored}
 use Rattle.liq_store.proofs.Past.{begins, cut, goes_on, stops, stops_kept, waits, with_changes}
 use Rattle.liq_ends.specs.declared.halts.Halt.{Halt}
-use Rattle.liq_ends.specs.declared.halts.Halt.TheVariants.{BadLine, ReadFault, WriteFault, DiskFault, Damaged, NoMemory, Limit, Rotated}
+use Rattle.liq_ends.specs.declared.halts.Halt.TheVariants.{BadLine, ReadFault, WriteFault, DiskFault, Damaged, DamagedInput, NoMemory, Limit, Rotated}
 use Rattle.liq_run.specs.Calls.{GoOn}
 use Rattle.liq_run.specs.Passing.{IsOfAccepted, IsPastOf, IsStoppedPastOf, PassesBy}
 use Rattle.liq_run.proofs.Progressing.{asked-more}
@@ -41,6 +41,7 @@ passes_as T U past stopped requests request (Damaged side number) h = h
 passes_as T U past stopped requests request NoMemory h = h
 passes_as T U past stopped requests request (Limit number) h = h
 passes_as T U past stopped requests request (Rotated generation) h = h
+passes_as T U past stopped requests request (DamagedInput number) h = h
 
 module _ {D : Type 0} (moment : D → ℕ) (left_at : D → ℕ → List ℕ → Type 0) where
   -- nothing was done

@@ -9,7 +9,7 @@ use Rattle.liq_types.specs.State.{State}
 use Rattle.liq_core.specs.Core.{Core, StandsFor}
 use Rattle.liq_rules.specs.Step.{accepted, step, run}
 use Rattle.liq_ends.specs.declared.halts.Halt.{Halt}
-use Rattle.liq_ends.specs.declared.halts.Halt.TheVariants.{BadLine, ReadFault, WriteFault, DiskFault, Damaged, NoMemory, Limit, Rotated}
+use Rattle.liq_ends.specs.declared.halts.Halt.TheVariants.{BadLine, ReadFault, WriteFault, DiskFault, Damaged, DamagedInput, NoMemory, Limit, Rotated}
 use Rattle.liq_ends.specs.Output.{lines}
 use Rattle.liq_ends.specs.Requests.{IsRequest}
 use Rattle.liq_lines.specs.Lines.{lines_in, ended, IsWithinLine}
@@ -75,6 +75,7 @@ answered_cut start past kept stopped same DiskFault bytes m core u left w w' bef
 answered_cut start past kept stopped same (Damaged side number) bytes m core u left w w' before now now' few a f = absurd f
 answered_cut start past kept stopped same (Limit number) bytes m core u left w w' before now now' few a f = absurd f
 answered_cut start past kept stopped same (Rotated generation) bytes m core u left w w' before now now' few a f = absurd f
+answered_cut start past kept stopped same (DamagedInput number) bytes m core u left w w' before now now' few a f = absurd f
 answered_cut start past kept stopped same WriteFault bytes m core u left w w' before now now' few a f =
     cut_comes start core past kept stopped same bytes a.requests left w w' (lines_in a.rest) before now now' (omega (arith, few, a.count)) (begins_with start bytes m core u w before now past a) a.written a.stands a.passed f
 
@@ -130,6 +131,7 @@ reading_halts start past kept stopped DiskFault bytes taken n core u left w befo
 reading_halts start past kept stopped (Damaged side number) bytes taken n core u left w before now few r a = absurd r
 reading_halts start past kept stopped (Limit number) bytes taken n core u left w before now few r a = absurd r
 reading_halts start past kept stopped (Rotated generation) bytes taken n core u left w before now few r a = absurd r
+reading_halts start past kept stopped (DamagedInput number) bytes taken n core u left w before now few r a = absurd r
 
 -- ---- the input is over
 
@@ -257,6 +259,7 @@ answering_halts start past past' kept stopped same (BadLine at) bytes line more 
 answering_halts start past past' kept stopped same ReadFault bytes line more r n core core' u left w w' before now now' few is a first failed kept_so passed = absurd failed
 answering_halts start past past' kept stopped same (Limit number) bytes line more r n core core' u left w w' before now now' few is a first failed kept_so passed = absurd failed
 answering_halts start past past' kept stopped same (Rotated generation) bytes line more r n core core' u left w w' before now now' few is a first failed kept_so passed = absurd failed
+answering_halts start past past' kept stopped same (DamagedInput number) bytes line more r n core core' u left w w' before now now' few is a first failed kept_so passed = absurd failed
 answering_halts start past past' kept stopped same (Damaged side number) bytes line more r n core core' u left w w' before now now' few is a first failed kept_so passed = absurd failed
 answering_halts start past past' kept stopped same DiskFault bytes line more r n core core' u left w w' before now now' few is a first failed kept_so passed =
     record {

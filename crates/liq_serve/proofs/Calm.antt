@@ -1,5 +1,5 @@
 -- What follows from the top call's clause where nothing is wrong.
-use Rattle.std.proofs.Common.{◌≡◌, ◌≢◌, ◌≤◌, ℕ, zero, suc, List, [], ◌∷◌, length, Option, Some, Ok, Err, Result, refl, sym, ap, subst, ◌∙◌, arith, inl, inr}
+use Rattle.std.proofs.Common.{◌≡◌, ◌≢◌, ◌≤◌, ℕ, zero, suc, List, [], ◌∷◌, ◌++◌, length, Option, Some, Ok, Err, Result, refl, sym, ap, subst, ◌∙◌, arith, inl, inr}
 use Rattle.std.specs.Prelude.{◌⊎◌, Contains}
 use Rattle.std.specs.List.{AllZip}
 use Rattle.std.proofs.lemmas.Result.{MatchResult-at_ok}
@@ -9,19 +9,23 @@ use Rattle.liq_types.specs.State.{State, opening_with}
 use Rattle.liq_rules.specs.History.{Entry}
 use Rattle.liq_lines.specs.declared.stops.Stop.TheVariants as stop
 use Rattle.liq_lines.specs.Lines.{lines_in}
+use Rattle.liq_lines.specs.Reading.{Reads}
 use Rattle.liq_lines.proofs.Sayings.{stops_outside}
 use Rattle.liq_pairs.specs.Pair.{commands_on, state_on}
 use Rattle.liq_pairs.specs.Replay.{replay}
 use Rattle.liq_scripts.specs.Asked.{Asks}
 use Rattle.liq_words.specs.declared.words.Word.TheVariants as word
 use Rattle.liq_ends.specs.declared.halts.Halt.{Halt}
-use Rattle.liq_ends.specs.declared.halts.Halt.TheVariants.{BadLine, ReadFault, WriteFault, DiskFault, Damaged, NoMemory, Limit, Rotated}
+use Rattle.liq_ends.specs.declared.halts.Halt.TheVariants.{BadLine, ReadFault, WriteFault, DiskFault, Damaged, DamagedInput, NoMemory, Limit, Rotated}
 use Rattle.liq_ends.specs.Reading.{ReadsTo}
 use Rattle.liq_ends.specs.Statuses.{IsDone, status_of}
 use Rattle.liq_tell.proofs.Audited.{no_limit}
-use Rattle.liq_serve.specs.Calm.{IsComplete}
+use Rattle.liq_follower.specs.Fed.{GoOn}
+use Rattle.liq_follow.specs.declared.feeding.TheConstants.{FED_MOST}
+use Rattle.liq_follow.proofs.Ended.{damaged_so, long_so, turned_so, whole_so}
+use Rattle.liq_serve.specs.Calm.{IsComplete, Stopped}
 use Rattle.liq_serve.specs.Outside.{Outside}
-use Rattle.liq_serve.specs.Top.{Answers, Ends, OpensNone, ServesTo}
+use Rattle.liq_serve.specs.Top.{Answers, Ends, OpensNone, ServesTo, Tells}
 use Rattle.liq_serve.proofs.Served.{IsStopping}
 use Rattle.liq_serve.proofs.StatusLaws.{neither, run_done}
 use Rattle.liq_serve.proofs.Telling.{audit_done, load_done, rotated_done, state_done}
@@ -64,6 +68,7 @@ module _
   answers_done asked history (Err NoMemory) a sink disk = inr refl
   answers_done asked history (Err (Limit number)) a sink disk = whole_done _ a.1 sink
   answers_done asked history (Err (Rotated generation)) a sink disk = whole_done _ a.1 sink
+  answers_done asked history (Err (DamagedInput number)) a sink disk = whole_done _ a.1 sink
 
   pub serve_done :
       (end : Result (Unit {0}) Halt) → ServesTo unread source_faults held sink_faults seen disk_faults moment left_at before after end
@@ -80,16 +85,34 @@ module _
     by (inr (whole, inl opens)) = unopened_done (status_of end) opens.1 disk (MatchResult-at_ok _ _ start is (opens.2 l r told_l told_r)).0
     by (inr (whole, inr answers)) = answers_done serves.asked serves.history end answers sink disk
 
+-- ---- of what is followed
+
+done_by : (end : Result (Unit {0}) Halt) → (end ≡ Ok tt) ⊎ (end ≡ Err NoMemory) → IsDone (status_of end)
+done_by end (inl is) = inl (ap status_of is)
+done_by end (inr is) = inr (ap status_of is)
+
+-- what holds of an end holds of the one that it is
+stopped_by : (P : Result (Unit {0}) Halt → Type 0) (end wanted : Result (Unit {0}) Halt) → P end → (end ≡ wanted) ⊎ (end ≡ Err NoMemory) → ((status_of end ≡ status_of wanted) × P wanted) ⊎ (status_of end ≡ 7)
+stopped_by P end wanted holds (inl is) = inl (ap status_of is, subst P is holds)
+stopped_by P end wanted holds (inr is) = inr (ap status_of is)
+
 -- ---- of each word
 
 module _
     {S K D : Type 0} (unread : S → Option (List ℕ)) (source_faults : S → ℕ) (held : K → Option (List ℕ)) (sink_faults : K → ℕ) (seen : D → Option (List ℕ))
     (disk_faults : D → ℕ) (moment : D → ℕ) (left_at : D → ℕ → List ℕ → Type 0) (before after : Outside S K D) where
+  abbrev Halted : ℕ → ℕ → Halt → Type 0
+  Halted = Stopped unread source_faults held sink_faults seen disk_faults moment left_at before after
+
+  abbrev Told : List ℕ → Result (Unit {0}) Halt → Type 0
+  Told text end = Tells unread source_faults held sink_faults seen disk_faults moment left_at before after [] text end
+
   pub complete :
       ((l r : List ℕ) (s : State) → state_on l r ≡ Ok s → s.generation ≡ 1 → replay 1 (opening_with s.limit) (commands_on l r) ≡ Ok s)
+      → ((front rest : List ℕ) → GoOn (front ++ rest) → GoOn front)
       → (status : ℕ) (words : List (List ℕ)) → Ends unread source_faults held sink_faults seen disk_faults moment left_at before after status words
       → IsComplete unread source_faults held sink_faults seen disk_faults moment left_at before after status words
-  complete leads status words ends =
+  complete leads stays status words ends =
       record {
         run = λ asked bytes l r start requests told stood all few well calm.
             let e = ends.ends word.Run asked in
@@ -118,6 +141,33 @@ module _
             let e = ends.ends word.Audit asked in
             let told = MatchResult-at_ok _ _ start stood.is (e.2.1 l r stood.left stood.right) in
             subst (λ (n : ℕ). (n ≡ 9) ⊎ (n ≡ 7)) (sym e.1) (rotated_done start (commands_on l r) e.0 told.0.0 later told.0.1 (λ is. well (ends.disk_fault (e.1 ∙ is))));
+        follow = λ asked bytes told few goes well none.
+            let e = ends.ends word.Follow asked in
+            let f = e.2.1 in
+            let reads = subst (λ (o : Option (List ℕ)). Reads o f.0 (unread after.source)) told f.1 in
+            subst IsDone (sym e.1)
+            (done_by e.0 (whole_so bytes f.0 (unread after.source) reads stays e.0 f.2.0 f.2.1 (λ is. well (ends.source_fault (e.1 ∙ is))) few goes (λ is. none (ends.sink_fault (e.1 ∙ is)))));
+        damaged_input = λ asked bytes told index fault well.
+            let e = ends.ends word.Follow asked in
+            let f = e.2.1 in
+            let reads = subst (λ (o : Option (List ℕ)). Reads o f.0 (unread after.source)) told f.1 in
+            subst (λ (n : ℕ). Halted n 6 (DamagedInput index)) (sym e.1)
+            (stopped_by (λ (end : Result (Unit {0}) Halt). Told f.2.0 end) e.0 (Err (DamagedInput index)) f.2.2
+            (damaged_so bytes f.0 (unread after.source) reads stays e.0 f.2.0 f.2.1 (λ is. well (ends.source_fault (e.1 ∙ is))) index fault));
+        rotated_input = λ asked bytes told generation fault well.
+            let e = ends.ends word.Follow asked in
+            let f = e.2.1 in
+            let reads = subst (λ (o : Option (List ℕ)). Reads o f.0 (unread after.source)) told f.1 in
+            subst (λ (n : ℕ). Halted n 9 (Rotated generation)) (sym e.1)
+            (stopped_by (λ (end : Result (Unit {0}) Halt). Told f.2.0 end) e.0 (Err (Rotated generation)) f.2.2
+            (turned_so bytes f.0 (unread after.source) reads stays e.0 f.2.0 f.2.1 (λ is. well (ends.source_fault (e.1 ∙ is))) generation fault));
+        long_input = λ asked bytes told long goes well.
+            let e = ends.ends word.Follow asked in
+            let f = e.2.1 in
+            let reads = subst (λ (o : Option (List ℕ)). Reads o f.0 (unread after.source)) told f.1 in
+            subst (λ (n : ℕ). Halted n 8 (Limit FED_MOST)) (sym e.1)
+            (stopped_by (λ (end : Result (Unit {0}) Halt). Told f.2.0 end) e.0 (Err (Limit FED_MOST)) f.2.2
+            (long_so bytes f.0 (unread after.source) reads stays e.0 f.2.0 f.2.1 (λ is. well (ends.source_fault (e.1 ∙ is))) long goes));
         gen = λ seed count asked none.
             let e = ends.ends (word.Gen seed count) asked in
             subst IsDone (sym e.1) (load_done (status_of e.0) e.2.1 (λ is. none (ends.sink_fault (e.1 ∙ is))));

@@ -11,7 +11,7 @@ use Rattle.liq_lines.specs.Writing.{Writes}
 use Rattle.liq_store.specs.Memory.{TakesMemory}
 use Rattle.liq_text.specs.Spelling.{Spells}
 use Rattle.liq_ends.specs.declared.halts.Halt.{Halt}
-use Rattle.liq_ends.specs.declared.halts.Halt.TheVariants.{BadLine, ReadFault, WriteFault, DiskFault, Damaged, NoMemory, Limit, Rotated}
+use Rattle.liq_ends.specs.declared.halts.Halt.TheVariants.{BadLine, ReadFault, WriteFault, DiskFault, Damaged, DamagedInput, NoMemory, Limit, Rotated}
 use Rattle.liq_ends.specs.Disks.{IsUnread}
 use Rattle.liq_ends.specs.Output.{lines}
 use Rattle.liq_ends.specs.Reading.{ReadsTo}
@@ -34,6 +34,7 @@ read_to start (Err (Damaged side number)) bytes left requests h = absurd h
 read_to start (Err NoMemory) bytes left requests h = ((5, lit< tt, refl), h.0)
 read_to start (Err (Limit number)) bytes left requests h = ((6, lit< tt, refl), h)
 read_to start (Err (Rotated generation)) bytes left requests h = absurd h
+read_to start (Err (DamagedInput number)) bytes left requests h = absurd h
 
 memory_wanted : (start : State) (end : Result (Unit {0}) Halt) (bytes : List ℕ) (left : Option (List ℕ)) (requests : List Request) → EndsAfter start end bytes left requests → end ≡ Err NoMemory
     → IsUnread bytes left requests ⊎ ((request : Request) × IsNext bytes requests request × TakesMemory (run start requests).0 request)
@@ -60,6 +61,7 @@ told start (Err (Damaged side number)) fault requests before now h = h
 told start (Err NoMemory) fault requests before now h = h
 told start (Err (Limit number)) fault requests before now h = h
 told start (Err (Rotated generation)) fault requests before now h = h
+told start (Err (DamagedInput number)) fault requests before now h = h
 
 cut_last : (start : State) (end : Result (Unit {0}) Halt) (fault : Type 0) (requests : List Request) (before now : Option (List ℕ)) → WritesUpTo start end fault requests before now → end ≡ Err WriteFault
     → (earlier : List Request) × (final : Request) × (requests ≡ earlier ++ final ∷ []) × ((part : List ℕ) × Writes before (lines start earlier ++ part) now)

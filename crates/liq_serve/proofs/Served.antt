@@ -34,7 +34,7 @@ use Rattle.liq_store.specs.declared.answers.StoreWhy.TheVariants as why
 use Rattle.liq_store.specs.Causes.{Faults}
 use Rattle.liq_store.specs.Keeping.{IsKeptAround}
 use Rattle.liq_ends.specs.declared.halts.Halt.{Halt}
-use Rattle.liq_ends.specs.declared.halts.Halt.TheVariants.{BadLine, ReadFault, WriteFault, DiskFault, Damaged, NoMemory, Limit, Rotated}
+use Rattle.liq_ends.specs.declared.halts.Halt.TheVariants.{BadLine, ReadFault, WriteFault, DiskFault, Damaged, DamagedInput, NoMemory, Limit, Rotated}
 use Rattle.liq_ends.specs.Causes.{DiskCause, ReadCause, WriteCause}
 use Rattle.liq_ends.specs.Disks.{OfBoth}
 use Rattle.liq_ends.specs.Reading.{ReadsTo}
@@ -258,10 +258,10 @@ module _
       }
   came_by (finish.NotOpened why.DiskFault) a same =
       came_whole (Err DiskFault) a.read
-      (inl (a.answers, (0, lit< tt, refl), λ l r told_l told_r. by_found (state_on l r) _ _ (λ start is. ((λ e. omega (arith, e)), a.disks l r start told_l told_r is)) (λ side damage is. tt)))
+      (inl (a.answers, (0, lit< tt, refl), λ l r told_l told_r. by_found (state_on l r) _ _ (λ start is. ((λ e. omega (arith, e)), a.disks l r start told_l told_r is)) (λ side damage is. tt), λ n e. cc))
   came_by (finish.NotOpened why.NoMemory) a same =
       came_whole (Err NoMemory) a.read
-      (inl (a.answers, (2, lit< tt, refl), λ l r told_l told_r. by_found (state_on l r) _ _ (λ start is. ((λ e. omega (arith, e)), a.disks l r start told_l told_r is)) (λ side damage is. a.damaged l r side damage told_l told_r is)))
+      (inl (a.answers, (2, lit< tt, refl), λ l r told_l told_r. by_found (state_on l r) _ _ (λ start is. ((λ e. omega (arith, e)), a.disks l r start told_l told_r is)) (λ side damage is. a.damaged l r side damage told_l told_r is), λ n e. cc))
   came_by (finish.NotOpened (why.Damaged which met)) a same =
       came_whole (Err (Damaged which met.index)) a.read
       (inl (
@@ -270,4 +270,5 @@ module _
         λ l r told_l told_r. by_found (state_on l r) _ _ (λ start is. absurd (a.disks l r start told_l told_r is)) (λ side damage is.
             let h = a.damaged l r side damage told_l told_r is in
             (h.0, ap (λ (d : Damage). d.index) h.1, h.2)),
+        λ n e. cc,
       ))

@@ -5,7 +5,7 @@ use Rattle.std.specs.List.{AllZip}
 use Rattle.liq_types.specs.declared.amounts.TheConstants.{LINES_MOST}
 use Rattle.liq_types.specs.declared.requests.Request.{Request}
 use Rattle.liq_ends.specs.declared.halts.Halt.{Halt}
-use Rattle.liq_ends.specs.declared.halts.Halt.TheVariants.{BadLine, ReadFault, WriteFault, DiskFault, Damaged, NoMemory, Limit, Rotated}
+use Rattle.liq_ends.specs.declared.halts.Halt.TheVariants.{BadLine, ReadFault, WriteFault, DiskFault, Damaged, DamagedInput, NoMemory, Limit, Rotated}
 use Rattle.liq_ends.specs.Reading.{ReadsTo}
 use Rattle.liq_ends.specs.Statuses.{IsDone, status_of}
 use Rattle.liq_ends.proofs.Causes.{six}
@@ -15,6 +15,7 @@ use Rattle.liq_lines.specs.declared.stops.Stop.TheVariants as stop
 use Rattle.liq_lines.proofs.Sayings.{stops_outside}
 use Rattle.liq_words.specs.declared.words.Word.{Word}
 use Rattle.liq_words.specs.declared.words.Word.TheVariants as word
+use Rattle.liq_follow.specs.Followed.{FollowsTo}
 use Rattle.liq_serve.specs.Top.{statuses_of}
 
 pub status_known : (end : Result (Unit {0}) Halt) → Contains (0 ∷ 1 ∷ 2 ∷ 3 ∷ 4 ∷ 5 ∷ 6 ∷ 7 ∷ 8 ∷ 9 ∷ []) (status_of end)
@@ -27,6 +28,7 @@ status_known (Err (Damaged side number)) = (6, lit< tt, six side number)
 status_known (Err NoMemory) = (7, lit< tt, refl)
 status_known (Err (Limit number)) = (8, lit< tt, refl)
 status_known (Err (Rotated generation)) = (9, lit< tt, refl)
+status_known (Err (DamagedInput number)) = (6, lit< tt, refl)
 
 -- of each word there may be no memory
 pub no_memory_known : (read : Word) → Contains (statuses_of read) 7
@@ -35,6 +37,7 @@ no_memory_known word.Serve = (6, lit< tt, refl)
 no_memory_known word.State = (4, lit< tt, refl)
 no_memory_known word.Report = (4, lit< tt, refl)
 no_memory_known word.Audit = (4, lit< tt, refl)
+no_memory_known word.Follow = (4, lit< tt, refl)
 no_memory_known (word.Gen seed count) = (2, lit< tt, refl)
 
 -- `run` and `serve` go on in whatever generation
@@ -48,6 +51,7 @@ goes_on_known (Err (Damaged side number)) on = (5, lit< tt, six side number)
 goes_on_known (Err NoMemory) on = (6, lit< tt, refl)
 goes_on_known (Err (Limit number)) on = (7, lit< tt, refl)
 goes_on_known (Err (Rotated generation)) on = absurd (on generation refl)
+goes_on_known (Err (DamagedInput number)) on = (5, lit< tt, refl)
 
 -- a word that reads no line, and tells of the disks
 pub audit_known : (end : Result (Unit {0}) Halt) → end ≢ Err ReadFault → ((number : ℕ) → end ≢ Err (BadLine number)) → Contains (statuses_of word.Audit) (status_of end)
@@ -60,6 +64,7 @@ audit_known (Err (Damaged side number)) no_source no_line = (3, lit< tt, six sid
 audit_known (Err NoMemory) no_source no_line = (4, lit< tt, refl)
 audit_known (Err (Limit number)) no_source no_line = (5, lit< tt, refl)
 audit_known (Err (Rotated generation)) no_source no_line = (6, lit< tt, refl)
+audit_known (Err (DamagedInput number)) no_source no_line = (3, lit< tt, refl)
 
 pub state_known : (end : Result (Unit {0}) Halt) → end ≢ Err ReadFault → ((number : ℕ) → end ≢ Err (BadLine number)) → ((number : ℕ) → (end ≢ Err (Limit number)) × (end ≢ Err (Rotated number))) → Contains (statuses_of word.State) (status_of end)
 state_known (Ok done) no_source no_line no_number = (0, lit< tt, refl)
@@ -71,6 +76,20 @@ state_known (Err (Damaged side number)) no_source no_line no_number = (3, lit< t
 state_known (Err NoMemory) no_source no_line no_number = (4, lit< tt, refl)
 state_known (Err (Limit number)) no_source no_line no_number = absurd ((no_number number).0 refl)
 state_known (Err (Rotated generation)) no_source no_line no_number = absurd ((no_number generation).1 refl)
+state_known (Err (DamagedInput number)) no_source no_line no_number = (3, lit< tt, refl)
+
+-- following reads no lines and asks no disk
+pub follow_known : (end : Result (Unit {0}) Halt) (read : List ℕ) (left : Option (List ℕ)) (text : List ℕ) → FollowsTo end read left text → Contains (statuses_of word.Follow) (status_of end)
+follow_known (Ok done) read left text h = (0, lit< tt, refl)
+follow_known (Err (BadLine n)) read left text h = absurd h.1
+follow_known (Err ReadFault) read left text h = (1, lit< tt, refl)
+follow_known (Err WriteFault) read left text h = (2, lit< tt, refl)
+follow_known (Err DiskFault) read left text h = absurd h.1
+follow_known (Err (Damaged side number)) read left text h = absurd h.1
+follow_known (Err (DamagedInput number)) read left text h = (3, lit< tt, refl)
+follow_known (Err NoMemory) read left text h = (4, lit< tt, refl)
+follow_known (Err (Limit number)) read left text h = (5, lit< tt, refl)
+follow_known (Err (Rotated generation)) read left text h = (6, lit< tt, refl)
 
 -- ---- where all lines are requests
 
@@ -100,3 +119,4 @@ run_done bytes left all spelled few (Err DiskFault) r w d ends answered e = absu
 run_done bytes left all spelled few (Err (Damaged side number)) r w d ends answered e = absurd ((listed _ ends).0 (sym (six side number)))
 run_done bytes left all spelled few (Err (Limit number)) r w d ends answered e = absurd (neither (λ is. cc) (λ is. cc) (stops_outside Spells stop.Limit bytes left answered all spelled few e.1))
 run_done bytes left all spelled few (Err (Rotated generation)) r w d ends answered e = absurd ((listed _ ends).1 refl)
+run_done bytes left all spelled few (Err (DamagedInput number)) r w d ends answered e = absurd ((listed _ ends).0 refl)

@@ -1,5 +1,5 @@
 -- What the status of a word that tells says.
-use Rattle.std.proofs.Common.{◌≡◌, ◌≢◌, ◌<◌, ℕ, zero, suc, List, [], ◌∷◌, Ok, Err, Result, refl, sym, ap, ◌∙◌, inl, inr, arith}
+use Rattle.std.proofs.Common.{◌≡◌, ◌≢◌, ◌<◌, ◌≤◌, ◌+◌, ℕ, zero, suc, List, [], ◌∷◌, length, Option, Ok, Err, Result, refl, sym, ap, subst, ◌∙◌, inl, inr, arith}
 use Rattle.std.specs.Prelude.{◌⊎◌, Contains}
 use Rattle.liq_types.specs.declared.requests.Command.{Command}
 use Rattle.liq_types.specs.State.{State}
@@ -7,11 +7,13 @@ use Rattle.liq_review.specs.Reviewed.{reviewed}
 use Rattle.liq_review.specs.declared.fault.ReviewFault.TheVariants as review
 use Rattle.liq_store.specs.Causes.{Faults}
 use Rattle.liq_ends.specs.declared.halts.Halt.{Halt}
-use Rattle.liq_ends.specs.declared.halts.Halt.TheVariants.{BadLine, ReadFault, WriteFault, DiskFault, Damaged, NoMemory, Limit, Rotated}
+use Rattle.liq_ends.specs.declared.halts.Halt.TheVariants.{BadLine, ReadFault, WriteFault, DiskFault, Damaged, DamagedInput, NoMemory, Limit, Rotated}
 use Rattle.liq_ends.specs.Causes.{DiskCause, ReadCause}
 use Rattle.liq_ends.specs.Statuses.{status_of}
 use Rattle.liq_ends.proofs.Causes.{six, unread_causes}
 use Rattle.liq_tell.specs.Audit.{IsAuditOf}
+use Rattle.liq_follow.specs.declared.feeding.TheConstants.{FED_MOST}
+use Rattle.liq_follow.specs.Followed.{FollowsTo}
 
 -- ---- of a load
 
@@ -47,9 +49,29 @@ untouched_causes (Err (Damaged side number)) n other = refl
 untouched_causes (Err NoMemory) n other = refl
 untouched_causes (Err (Limit number)) n other = refl
 untouched_causes (Err (Rotated generation)) n other = refl
+untouched_causes (Err (DamagedInput number)) n other = refl
 
 pub disks_unasked : (end : Result (Unit {0}) Halt) (n : Faults) → Contains (0 ∷ 4 ∷ 7 ∷ []) (status_of end) → DiskCause end n n
 disks_unasked end n ends = untouched_causes end n (λ is. load_not (status_of end) 5 (load_list (status_of end) ends) (ap status_of is) (λ e. omega (arith, e)) (λ e. omega (arith, e)) (λ e. omega (arith, e)))
+
+-- ---- of what is followed
+
+-- no disk is asked
+pub disks_unfollowed : (end : Result (Unit {0}) Halt) (read : List ℕ) (left : Option (List ℕ)) (text : List ℕ) → FollowsTo end read left text → (n : Faults) → DiskCause end n n
+disks_unfollowed end read left text h n = untouched_causes end n (λ is. absurd (subst (λ (e : Result (Unit {0}) Halt). FollowsTo e read left text) is h).1)
+
+-- no more is taken than is followed, and one byte more
+pub taken_followed : (end : Result (Unit {0}) Halt) (read : List ℕ) (left : Option (List ℕ)) (text : List ℕ) → FollowsTo end read left text → length read ≤ FED_MOST + 1
+taken_followed (Ok done) read left text h = let few = h.few in omega arith
+taken_followed (Err WriteFault) read left text h = let few = h.few in omega arith
+taken_followed (Err (Limit number)) read left text h = omega (arith, h.1)
+taken_followed (Err (BadLine n)) read left text h = absurd h.1
+taken_followed (Err ReadFault) read left text h = omega (arith, h.0)
+taken_followed (Err DiskFault) read left text h = absurd h.1
+taken_followed (Err (Damaged side number)) read left text h = absurd h.1
+taken_followed (Err (DamagedInput number)) read left text h = omega (arith, h.0)
+taken_followed (Err NoMemory) read left text h = omega (arith, h.0)
+taken_followed (Err (Rotated generation)) read left text h = omega (arith, h.0)
 
 -- ---- of a state
 
@@ -96,6 +118,7 @@ audit_done s commands (Err (Damaged side number)) text first h within_limits sin
 audit_done s commands (Err NoMemory) text first h within_limits sink disk = inr refl
 audit_done s commands (Err (Limit number)) text first h within_limits sink disk = absurd (within_limits number h.1)
 audit_done s commands (Err (Rotated generation)) text first h within_limits sink disk = absurd (omega (arith, first, h.0))
+audit_done s commands (Err (DamagedInput number)) text first h within_limits sink disk = absurd (no_damage _ h refl)
 
 -- of a later one
 pub rotated_done : (s : State) (commands : List Command) (end : Result (Unit {0}) Halt) (text : List ℕ) → 1 < s.generation → IsAuditOf s commands end text → status_of end ≢ 5 → (status_of end ≡ 9) ⊎ (status_of end ≡ 7)
@@ -108,3 +131,4 @@ rotated_done s commands (Err (Damaged side number)) text later h disk = absurd (
 rotated_done s commands (Err NoMemory) text later h disk = inr refl
 rotated_done s commands (Err (Limit number)) text later h disk = absurd (omega (arith, later, h.0))
 rotated_done s commands (Err (Rotated generation)) text later h disk = inl refl
+rotated_done s commands (Err (DamagedInput number)) text later h disk = absurd (no_damage _ h refl)

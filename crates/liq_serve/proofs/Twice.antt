@@ -19,7 +19,7 @@ use Rattle.liq_store.specs.Leaving.{LeavesBoth, RestAtEnd}
 use Rattle.liq_words.specs.declared.words.Word.TheVariants as word
 use Rattle.liq_words.specs.Words.{Ask}
 use Rattle.liq_ends.specs.declared.halts.Halt.{Halt}
-use Rattle.liq_ends.specs.declared.halts.Halt.TheVariants.{BadLine, ReadFault, WriteFault, DiskFault, Damaged, NoMemory, Limit, Rotated}
+use Rattle.liq_ends.specs.declared.halts.Halt.TheVariants.{BadLine, ReadFault, WriteFault, DiskFault, Damaged, DamagedInput, NoMemory, Limit, Rotated}
 use Rattle.liq_ends.specs.Disks.{DisksHold, IsFaultOfRun, IsUnread}
 use Rattle.liq_ends.specs.Requests.{IsNext}
 use Rattle.liq_ends.proofs.Opened.{kept_again, some_of, state_formed}
@@ -62,6 +62,7 @@ module _ (bytes l r : List ℕ) (start : State) (requests : List Request) where
     read_behind (Err (Damaged side number)) were holds a b told_a told_b = kept_here (Err (Damaged side number)) a b (holds a b told_a told_b)
     read_behind (Err (Limit number)) were holds a b told_a told_b = kept_here (Err (Limit number)) a b (holds a b told_a told_b)
     read_behind (Err (Rotated generation)) were holds a b told_a told_b = kept_here (Err (Rotated generation)) a b (holds a b told_a told_b)
+    read_behind (Err (DamagedInput number)) were holds a b told_a told_b = kept_here (Err (DamagedInput number)) a b (holds a b told_a told_b)
 
     module _ (moment : D → ℕ) (left_at : D → ℕ → List ℕ → Type 0) (old_left old_right : D) where
       only_one : (disk : D) (held image : List ℕ) → seen disk ≡ Some held → IsAtRest seen moment left_at disk → LeftNow moment left_at disk image → image ≡ held
@@ -78,6 +79,7 @@ module _ (bytes l r : List ℕ) (start : State) (requests : List Request) where
       faulted (Err NoMemory) fault is some = absurd (some is)
       faulted (Err (Limit number)) fault is some = absurd (some is)
       faulted (Err (Rotated generation)) fault is some = absurd (some is)
+      faulted (Err (DamagedInput number)) fault is some = absurd (some is)
 
       next_at : (c : Command) → ((AtCommand c ≡ InOpening) × IsUnread bytes unread requests) ⊎ ((d : Command) × (AtCommand c ≡ AtCommand d) × IsNext bytes requests (Do d)) → IsNext bytes requests (Do c)
       next_at c (inl (is, none)) = absurd cc
@@ -96,6 +98,7 @@ module _ (bytes l r : List ℕ) (start : State) (requests : List Request) where
       next_of (Err NoMemory) c is = absurd cc
       next_of (Err (Limit number)) c is = absurd cc
       next_of (Err (Rotated generation)) c is = absurd cc
+      next_of (Err (DamagedInput number)) c is = absurd cc
 
       -- or as a crash at the end leaves them
       pub left_behind : (end : Result (Unit {0}) Halt) (x y a b : List ℕ) → seen left ≡ Some x → seen right ≡ Some y → IsKept l r start → DisksHold seen end bytes unread l r start left right requests

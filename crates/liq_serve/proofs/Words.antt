@@ -5,11 +5,10 @@ use Rattle.std.proofs.lemmas.List.Elements.{All-nil}
 use Rattle.liq_outside.specs.Disk.{GoesOn, LeftNow}
 use Rattle.liq_outside.specs.Faults.{Rose}
 use Rattle.liq_outside.proofs.Moments.{unmoved}
-use Rattle.liq_types.specs.declared.amounts.TheConstants.{LINES_MOST}
 use Rattle.liq_types.specs.State.{State}
 use Rattle.liq_lines.specs.Lines.{lines_in}
-use Rattle.liq_lines.specs.Reading.{taken_most, ReadsAtMost}
-use Rattle.liq_lines.proofs.Readings.{takes_none}
+use Rattle.liq_lines.specs.Reading.{ReadsAtMost}
+use Rattle.liq_lines.proofs.Bytes.{reads_nothing}
 use Rattle.liq_journal.specs.declared.damage.Damage.{Damage}
 use Rattle.liq_pairs.specs.declared.side.Side.{Side}
 use Rattle.liq_pairs.specs.Pair.{state_on}
@@ -19,7 +18,7 @@ use Rattle.liq_words.specs.declared.words.WordsFault.{WordsFault}
 use Rattle.liq_words.specs.declared.words.WordsFault.TheVariants as fault
 use Rattle.liq_words.specs.Words.{Ask}
 use Rattle.liq_ends.specs.declared.halts.Halt.{Halt}
-use Rattle.liq_ends.specs.declared.halts.Halt.TheVariants.{BadLine, ReadFault, WriteFault, DiskFault, Damaged, NoMemory, Limit, Rotated}
+use Rattle.liq_ends.specs.declared.halts.Halt.TheVariants.{BadLine, ReadFault, WriteFault, DiskFault, Damaged, DamagedInput, NoMemory, Limit, Rotated}
 use Rattle.liq_ends.specs.Causes.{DiskCause, LastCause, ReadCause}
 use Rattle.liq_ends.specs.Disks.{EndsDamaged}
 use Rattle.liq_ends.specs.Output.{last, usage}
@@ -31,7 +30,8 @@ use Rattle.liq_ends.proofs.Passing.{untouched_past}
 use Rattle.liq_ends.proofs.Shares.{all_shares}
 use Rattle.liq_store.specs.Causes.{counts_of}
 use Rattle.liq_serve.specs.Outside.{Outside}
-use Rattle.liq_serve.specs.Top.{Ends, Leaves, OpensFirst, ServesTo, Tells, statuses_of}
+use Rattle.liq_follow.proofs.Beginning.{none_goes_on}
+use Rattle.liq_serve.specs.Top.{Ends, Leaves, OpensFirst, ServesTo, Tells, most_taken, statuses_of}
 use Rattle.liq_serve.proofs.Served.{by_found, if_found, same_disks}
 use Rattle.liq_serve.proofs.StatusLaws.{no_memory_known, status_known}
 
@@ -50,6 +50,10 @@ is_read words found read is asks only =
       by other (inl same) = cc
       by other (inr none) = absurd cc
 
+-- who takes nothing takes no more than anything
+none_taken : (most : ℕ) (before : Option (List ℕ)) → ReadsAtMost most before before
+none_taken most before = ([], reads_nothing before, omega arith)
+
 -- no end of a word has the status of words that ask for nothing
 not_usage : (end : Result (Unit {0}) Halt) → status_of end ≡ 1 → ⊥
 not_usage (Ok done) is = omega (arith, is)
@@ -61,6 +65,7 @@ not_usage (Err (Damaged side number)) is = omega (arith, six side number, is)
 not_usage (Err NoMemory) is = omega (arith, is)
 not_usage (Err (Limit number)) is = omega (arith, is)
 not_usage (Err (Rotated generation)) is = omega (arith, is)
+not_usage (Err (DamagedInput number)) is = omega (arith, is)
 
 module _
     {S K D : Type 0} (unread : S → Option (List ℕ)) (source_faults : S → ℕ) (held : K → Option (List ℕ)) (sink_faults : K → ℕ) (seen : D → Option (List ℕ))
@@ -78,7 +83,7 @@ module _
   pub word_ends :
       (words : List (List ℕ)) (read : Word) (end : Result (Unit {0}) Halt) → IsRead words read
       → Leaves unread source_faults held sink_faults seen disk_faults moment left_at before after read end → HasCounts read end
-      → ReadsAtMost (taken_most LINES_MOST) (unread before.source) (unread after.source)
+      → ReadsAtMost (most_taken read) (unread before.source) (unread after.source)
       → Ends unread source_faults held sink_faults seen disk_faults moment left_at before after (status_of end) words
   word_ends words read end is leaves counts few =
       let source = source_causes end (source_faults before.source) (source_faults after.source) counts.source in
@@ -88,7 +93,7 @@ module _
         understood = (λ e. absurd (not_usage end e), λ none. absurd (none read is.asks));
         usage = λ e. absurd (not_usage end e);
         ends = λ other asked. (end, refl, subst (λ (w : Word). Leaves unread source_faults held sink_faults seen disk_faults moment left_at before after w end) (is.only other asked) leaves);
-        takes = few;
+        takes = λ other asked. subst (λ (w : Word). ReadsAtMost (most_taken w) (unread before.source) (unread after.source)) (is.only other asked) few;
         known = status_known end;
         status_is = λ other asked. subst (λ (w : Word). Contains (statuses_of w) (status_of end)) (is.only other asked) counts.status;
         source_fault = source.0;
@@ -113,6 +118,7 @@ module _
   last_told side damage NoMemory ends told = told
   last_told side damage (Limit number) ends told = absurd ends
   last_told side damage (Rotated generation) ends told = absurd ends
+  last_told side damage (DamagedInput number) ends told = absurd ends
 
   -- a word that opens the disks before it reads
   pub opens_first :
@@ -154,7 +160,7 @@ module _
         left_time = left_time;
         right_time = right_time;
       })
-      (subst (λ (s : S). ReadsAtMost (taken_most LINES_MOST) (unread before.source) (unread s)) (sym same) (takes_none (unread before.source)))
+      (subst (λ (s : S). ReadsAtMost (most_taken read) (unread before.source) (unread s)) (sym same) (none_taken (most_taken read) (unread before.source)))
 
 -- ---- words that were not read
 
@@ -243,6 +249,7 @@ module _
         ))
         (λ side damage is. (refl, still side damage l r told_l told_r is, written)),
   )
+  nothing_done written word.Follow = (refl, ([], reads_nothing (unread before.source), ([], (omega arith, ([], [], refl, none_goes_on)), written)))
   nothing_done written (word.Gen seed count) = (refl, (2, lit< tt, refl), written)
 
   -- the status is that of neither a fault nor an end
@@ -255,7 +262,7 @@ module _
         understood = understood;
         usage = λ one. (refl, misused one);
         ends = λ word asked. let none = wordless word asked in (Err NoMemory, none.0, nothing_done none.1 word);
-        takes = takes_none (unread before.source);
+        takes = λ one asked. none_taken (most_taken one) (unread before.source);
         known = known;
         status_is = λ one asked. subst (Contains (statuses_of one)) (sym (wordless one asked).0) (no_memory_known one);
         source_fault = λ is. absurd (no_source is);

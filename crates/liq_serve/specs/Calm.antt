@@ -1,5 +1,5 @@
 -- Where nothing is wrong with lines, streams and disks a word is done, unless there was no memory.
-use Rattle.std.specs.Prelude.{ℕ, ◌≡◌, ◌≤◌, ◌<◌, ◌⊎◌, List, length, Option, Some, None, Ok}
+use Rattle.std.specs.Prelude.{ℕ, ◌≡◌, ◌≤◌, ◌<◌, ◌⊎◌, List, [], length, take, Option, Some, None, Ok}
 use Rattle.std.specs.List.{AllZip}
 use Rattle.liq_outside.specs.Faults.{Rose}
 use Rattle.liq_types.specs.declared.amounts.TheConstants.{LINES_MOST}
@@ -14,7 +14,14 @@ use Rattle.liq_store.specs.Causes.{OneRose, counts_of}
 use Rattle.liq_words.specs.declared.words.Word.TheVariants as word
 use Rattle.liq_words.specs.Words.{Ask}
 use Rattle.liq_ends.specs.Requests.{IsRequest}
+use Rattle.liq_ends.specs.declared.halts.Halt.{Halt}
+use Rattle.liq_ends.specs.declared.halts.Halt.TheVariants.{DamagedInput, Limit, Rotated}
+use Rattle.liq_ends.specs.Output.{last}
 use Rattle.liq_ends.specs.Statuses.{IsDone}
+use Rattle.liq_ends.specs.Stops.{Adds}
+use Rattle.liq_follower.specs.Fed.{AreDamagedAt, AreTurnedTo, GoOn}
+use Rattle.liq_follow.specs.declared.feeding.TheConstants.{FED_MOST}
+use Rattle.liq_follow.specs.Followed.{FaultIn}
 use Rattle.liq_serve.specs.Outside.{Outside}
 
 -- The arguments are those of `Ends`.
@@ -42,6 +49,13 @@ module _
     pub right : seen before.right ≡ Some r
     pub is : state_on l r ≡ Ok start
 
+  -- the word stopped so and told it, unless there was no memory
+  abbrev pub Stopped : ℕ → ℕ → Halt → Type 0
+  Stopped status wanted halt =
+      ((status ≡ wanted)
+      × Adds [] (last halt) (Rose (sink_faults before.sink) (sink_faults after.sink)) (held before.sink) (held after.sink))
+      ⊎ (status ≡ 7)
+
   -- Each word is done then, unless there was no memory. An audit stops where the generation is above the first: only
   -- that one has all commands.
   pub record IsComplete (status : ℕ) (words : List (List ℕ)) : Type 0 where
@@ -63,6 +77,20 @@ module _
     pub rotated :
         Ask words word.Audit → (l r : List ℕ) (start : State) → StoodFor l r start → 1 < start.generation
         → AreKeptWell → (status ≡ 9) ⊎ (status ≡ 7)
+    -- An input of no more bytes than are followed is followed to its end, where they show no fault. Their first fault is
+    -- told, and of more bytes which show none that they are more.
+    pub follow :
+        Ask words word.Follow → (bytes : List ℕ) → unread before.source ≡ Some bytes → length bytes ≤ FED_MOST → GoOn bytes
+        → IsReadWell → (Rose (sink_faults before.sink) (sink_faults after.sink) → ⊥) → IsDone status
+    pub damaged_input :
+        Ask words word.Follow → (bytes : List ℕ) → unread before.source ≡ Some bytes → (index : ℕ)
+        → FaultIn (take FED_MOST bytes) (AreDamagedAt index) → IsReadWell → Stopped status 6 (DamagedInput index)
+    pub rotated_input :
+        Ask words word.Follow → (bytes : List ℕ) → unread before.source ≡ Some bytes → (generation : ℕ)
+        → FaultIn (take FED_MOST bytes) (AreTurnedTo generation) → IsReadWell → Stopped status 9 (Rotated generation)
+    pub long_input :
+        Ask words word.Follow → (bytes : List ℕ) → unread before.source ≡ Some bytes → FED_MOST < length bytes
+        → GoOn (take FED_MOST bytes) → IsReadWell → Stopped status 8 (Limit FED_MOST)
     pub gen :
         (seed count : ℕ) → Ask words (word.Gen seed count)
         → (Rose (sink_faults before.sink) (sink_faults after.sink) → ⊥) → IsDone status

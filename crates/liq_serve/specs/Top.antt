@@ -1,5 +1,5 @@
 -- What the top call leaves, word by word, and which counts rise.
-use Rattle.std.specs.Prelude.{ℕ, ◌≡◌, ◌≢◌, ◌≤◌, ◌<◌, ◌==◌, ◌⊎◌, ◌↔◌, List, [], ◌∷◌, ◌++◌, length, map, filter}
+use Rattle.std.specs.Prelude.{ℕ, ◌≡◌, ◌≢◌, ◌+◌, ◌≤◌, ◌<◌, ◌==◌, ◌⊎◌, ◌↔◌, List, [], ◌∷◌, ◌++◌, length, map, filter}
 use Rattle.std.specs.Prelude.{All, Contains, Option, Some, Result, Ok, Err, IfOk, IsOkAnd, MatchResult}
 use Rattle.liq_outside.specs.Disk.{GoesOn}
 use Rattle.liq_outside.specs.Faults.{Rose}
@@ -10,7 +10,7 @@ use Rattle.liq_types.specs.declared.requests.Request.TheVariants.{Do}
 use Rattle.liq_types.specs.State.{State, opening}
 use Rattle.liq_rules.specs.History.{Entry, IsLegal, own_entries, requests_of, state_after}
 use Rattle.liq_rules.specs.Step.{run}
-use Rattle.liq_lines.specs.Reading.{ReadsAtMost, taken_most}
+use Rattle.liq_lines.specs.Reading.{Reads, ReadsAtMost, taken_most}
 use Rattle.liq_lines.specs.Writing.{Writes}
 use Rattle.liq_pairs.specs.Kept.{IsKept}
 use Rattle.liq_pairs.specs.Pair.{commands_on, state_on}
@@ -28,7 +28,7 @@ use Rattle.liq_words.specs.declared.words.Word.{Word}
 use Rattle.liq_words.specs.declared.words.Word.TheVariants as word
 use Rattle.liq_words.specs.Words.{Ask}
 use Rattle.liq_ends.specs.declared.halts.Halt.{Halt}
-use Rattle.liq_ends.specs.declared.halts.Halt.TheVariants.{BadLine, ReadFault, WriteFault, DiskFault, NoMemory, Limit}
+use Rattle.liq_ends.specs.declared.halts.Halt.TheVariants.{BadLine, ReadFault, WriteFault, DiskFault, DamagedInput, NoMemory, Limit}
 use Rattle.liq_ends.specs.Disks.{DisksHold, DisksStay, EndsDamaged, IsFaultOfRun, IsFaultOfTelling, IsUnread}
 use Rattle.liq_ends.specs.Disks.{LeavesOfRun, OfBoth}
 use Rattle.liq_ends.specs.Output.{lines, usage}
@@ -40,6 +40,8 @@ use Rattle.liq_tell.specs.Audit.{IsAuditOf}
 use Rattle.liq_tell.specs.Report.{reported}
 use Rattle.liq_tell.specs.State.{standing}
 use Rattle.liq_load.specs.Load.{load, summary}
+use Rattle.liq_follow.specs.declared.feeding.TheConstants.{FED_MOST}
+use Rattle.liq_follow.specs.Followed.{FollowsTo}
 use Rattle.liq_serve.specs.Outside.{Outside}
 
 -- the first requests of the session are answered in the history, in order, and these are left
@@ -54,7 +56,14 @@ statuses_of word.Serve = 0 ∷ 2 ∷ 3 ∷ 4 ∷ 5 ∷ 6 ∷ 7 ∷ 8 ∷ []
 statuses_of word.State = 0 ∷ 4 ∷ 5 ∷ 6 ∷ 7 ∷ []
 statuses_of word.Report = 0 ∷ 4 ∷ 5 ∷ 6 ∷ 7 ∷ []
 statuses_of word.Audit = 0 ∷ 4 ∷ 5 ∷ 6 ∷ 7 ∷ 8 ∷ 9 ∷ []
+statuses_of word.Follow = 0 ∷ 3 ∷ 4 ∷ 6 ∷ 7 ∷ 8 ∷ 9 ∷ []
 statuses_of (word.Gen seed count) = 0 ∷ 4 ∷ 7 ∷ []
+
+-- The most bytes that a word takes of the source: those that are followed, and one more; or the lines that one run answers,
+-- each with its line end, and what one read asks for.
+abbrev pub most_taken : Word → ℕ
+most_taken word.Follow = FED_MOST + 1
+most_taken _ = taken_most LINES_MOST
 
 -- The first six functions say what the source has left and the sink holds, what a disk holds, and their counts of
 -- faults; the last two at which moment a disk is, and what a crash at a moment may have left of it.
@@ -115,13 +124,14 @@ module _
   Keep history P = OfBoth seen before.left before.right (λ l r. IsOkAnd (state_on l r) (λ start.
       OfBoth seen after.left after.right (λ a b. P a b (state_after start history))))
 
-  -- No store was opened: for a disk's fault, the disks' damage or want of memory.
+  -- No store was opened: for a disk's fault, the disks' damage or want of memory. The input is no journal.
   abbrev pub OpensNone : List Entry → Result (Unit {0}) Halt → Type 0
   OpensNone history end = (history ≡ []) × Contains (5 ∷ 6 ∷ 7 ∷ []) (status_of end)
       × OfBoth seen before.left before.right (λ l r. MatchResult (state_on l r)
       (λ start. (status_of end ≢ 6) × DisksStay seen end l r start after.left after.right)
       -- a side and its first damage
       (λ first. EndsDamaged seen first.0 first.1 end after.left after.right))
+      × ((number : ℕ) → end ≢ Err (DamagedInput number))
 
   -- What was answered once a store was open, whose disks are not damaged, and what they hold then.
   abbrev pub Answers : List (ℕ × Request) → List Entry → Result (Unit {0}) Halt → Type 0
@@ -197,6 +207,12 @@ module _
       ((text : List ℕ) × IsAuditOf start (commands_on l r) end text × Tells [] text end)
       × DisksStay seen end l r start after.left after.right
       × Leave (IsFaultOfTelling end) l r start [])
+  -- The disks are not asked. The input is followed, at most the bytes that are followed, and at its end the state is told
+  -- to which they lead.
+  Leaves word.Follow end =
+      (after ≡ record before { source = after.source; sink = after.sink })
+      × ((read : List ℕ) × Reads (unread before.source) read (unread after.source)
+      × ((text : List ℕ) × FollowsTo end read (unread after.source) text × Tells [] text end))
   -- nothing but the sink changes, and the seed's load is told by the rules' steps along its requests from the opening
   Leaves (word.Gen seed count) end =
       (after ≡ record before { sink = after.sink }) × Contains (0 ∷ 4 ∷ 7 ∷ []) (status_of end)
@@ -208,8 +224,7 @@ module _
     pub usage : status ≡ 1 → (after ≡ record before { sink = after.sink })
         × Adds [] usage SinkFails (held before.sink) (held after.sink)
     pub ends : (one : Word) → Ask words one → (end : Result (Unit {0}) Halt) × (status ≡ status_of end) × Leaves one end
-    -- no more is taken than the lines that one run answers, each with its line end, and what one read asks for
-    pub takes : ReadsAtMost (taken_most LINES_MOST) (unread before.source) (unread after.source)
+    pub takes : (one : Word) → Ask words one → ReadsAtMost (most_taken one) (unread before.source) (unread after.source)
     pub known : Contains (0 ∷ 1 ∷ 2 ∷ 3 ∷ 4 ∷ 5 ∷ 6 ∷ 7 ∷ 8 ∷ 9 ∷ []) status
     pub status_is : (one : Word) → Ask words one → Contains (statuses_of one) status
     -- a fault has its cause, and none is passed over

@@ -14,6 +14,7 @@ ghost use Rattle.liq_serve.specs.Top.{Ends};
 
 use crate::serve::serve_on;
 use liq_ends::{Ending, Halt, status, write_last, write_usage};
+use liq_follow::follow_on;
 use liq_load::tell_load;
 use liq_outside::{Disk, Sink, Source};
 use liq_run::run_on;
@@ -36,7 +37,7 @@ pub struct Ended<D> {
 }
 
 /// Does what the words ask for, and waits for nobody but the sessions of `serve`. It is [`without_threads`] for all other words.
-/// Of the input no more is taken than 1,000,000 lines of 201 bytes, and what one read asks for.
+/// Of the input no more is taken than 1,000,000 lines of 201 bytes, and what one read asks for; for `follow`, than 2^28 bytes and one.
 ///
 /// For `serve` each line of the input has a session from 1 to 8 in front of its request. The input is read to its end before a disk is touched;
 /// then each session's lines are answered in order, all sessions' at once, and `gate` is told of each call. The replies are written
@@ -77,18 +78,18 @@ fn is_serve(read: &Result<Word, WordsFault>) -> bool
 /// - 1: the words are not understood; nothing was read;
 /// - 2: a line is no request;
 /// - 3: the source met a fault;
-/// - 4: the sink met a fault at a reply, or at what a load, `state`, `report` or `audit` tells;
+/// - 4: the sink met a fault at a reply, or at what a load, `state`, `report`, `audit` or `follow` tells;
 /// - 5: a disk met a fault;
-/// - 6: a disk is damaged;
+/// - 6: a disk is damaged, or the journal that comes in;
 /// - 7: there was no memory;
-/// - 8: there are more than 1,000,000 lines, or a limit of the audit is passed;
-/// - 9: the journal was rotated, so that there is no audit.
+/// - 8: there are more than 1,000,000 lines, or more bytes than are followed, or a limit of the audit is passed;
+/// - 9: the journal was rotated, so that there is no audit, and that it can't be followed.
 ///
 /// For `run` each line of the input is a request, and its reply is written once its call has answered; what is accepted is on
 /// the disks by then. For `gen` a seed's calls are carried out on a protocol of their own, and a line tells where they lead;
 /// nothing is read, and the disks stay. For `state` what stands on the disks is told, for `report` each trove and deposit as it
 /// stands, and for `audit` what each depositor has beside its exact share, if the journal is of the first generation; nothing is
-/// read.
+/// read. For `follow` the input is a journal of the first generation, and what stands at its end is told; the disks stay.
 ///
 /// At a status other than 0 and 4 a last line says so behind what was written.
 pub fn without_threads<S: Source, K: Sink, D: Disk>(
@@ -166,6 +167,10 @@ fn carry_out<S: Source, K: Sink, D: Disk>(
         Word::State => tell_on(alloc, Told::State, out, left, right),
         Word::Audit => tell_on(alloc, Told::Audit, out, left, right),
         Word::Report => tell_on(alloc, Told::Report, out, left, right),
+        Word::Follow => {
+            let end = follow_on(alloc, input, out);
+            Ending { end, left, right }
+        }
         Word::Gen { seed, count } => {
             let end = tell_load::<Brand, K>(alloc, seed, count, out, Blank::new(1));
             Ending { end, left, right }

@@ -11,7 +11,7 @@ use Rattle.liq_store.specs.declared.answers.StoreWhy.TheVariants as why
 use Rattle.liq_store.specs.Opening.{IsNotOpened}
 use Rattle.liq_ends.specs.declared.ending.Ending.{Ending}
 use Rattle.liq_ends.specs.declared.halts.Halt.{Halt}
-use Rattle.liq_ends.specs.declared.halts.Halt.TheVariants.{BadLine, ReadFault, WriteFault, DiskFault, Damaged, NoMemory, Limit, Rotated}
+use Rattle.liq_ends.specs.declared.halts.Halt.TheVariants.{BadLine, ReadFault, WriteFault, DiskFault, Damaged, DamagedInput, NoMemory, Limit, Rotated}
 use Rattle.liq_ends.specs.Disks.{DisksStay, EndsDamaged}
 use Rattle.liq_tell.specs.declared.telling.Told.{Told}
 use Rattle.liq_tell.specs.Told.{WritesTold}
@@ -58,3 +58,4 @@ disks_stay seen (Err (Damaged side number)) l r start left right stand = stand
 disks_stay seen (Err NoMemory) l r start left right stand = λ a b told_a told_b. let so = stand a b told_a told_b in (so.0, λ kept. so.1)
 disks_stay seen (Err (Limit number)) l r start left right stand = stand
 disks_stay seen (Err (Rotated generation)) l r start left right stand = stand
+disks_stay seen (Err (DamagedInput number)) l r start left right stand = stand

@@ -7,7 +7,7 @@ use Rattle.liq_lines.specs.Writing.{Writes, WritesPart}
 use Rattle.liq_review.specs.Reviewed.{reviewed}
 use Rattle.liq_review.specs.declared.fault.ReviewFault.{ReviewFault}
 use Rattle.liq_ends.specs.declared.halts.Halt.{Halt}
-use Rattle.liq_ends.specs.declared.halts.Halt.TheVariants.{BadLine, ReadFault, WriteFault, DiskFault, Damaged, NoMemory, Limit, Rotated}
+use Rattle.liq_ends.specs.declared.halts.Halt.TheVariants.{BadLine, ReadFault, WriteFault, DiskFault, Damaged, DamagedInput, NoMemory, Limit, Rotated}
 use Rattle.liq_ends.specs.Statuses.{status_of}
 use Rattle.liq_ends.specs.Telling.{TellsAll}
 use Rattle.liq_ends.specs.Unsaid.{WritesAll}
@@ -29,6 +29,7 @@ text_written told text (Err (Damaged side number)) before now is ok err = absurd
 text_written told text (Err NoMemory) before now is ok err = absurd (cc (err.0))
 text_written told text (Err (Limit number)) before now is ok err = absurd (cc (err.0))
 text_written told text (Err (Rotated generation)) before now is ok err = absurd (cc (err.0))
+text_written told text (Err (DamagedInput number)) before now is ok err = absurd (cc (err.0))
 
 -- ---- of a state, or its report
 
@@ -46,6 +47,7 @@ state_told text (Err (Damaged side number)) before now h = absurd h
 state_told text (Err NoMemory) before now h = ((3, lit< tt, refl), h)
 state_told text (Err (Limit number)) before now h = absurd (cc (h.0))
 state_told text (Err (Rotated generation)) before now h = absurd h
+state_told text (Err (DamagedInput number)) before now h = absurd h
 
 -- ---- of an audit
 
@@ -60,6 +62,7 @@ audit_told s commands (Err (Damaged side number)) before now h = absurd h.0
 audit_told s commands (Err NoMemory) before now h = ([], (1, lit< tt, refl), h)
 audit_told s commands (Err (Limit number)) before now h = ([], (h.1, h.0.0), h.0.1)
 audit_told s commands (Err (Rotated generation)) before now h = ([], (h.1, h.2), h.0)
+audit_told s commands (Err (DamagedInput number)) before now h = absurd h.0
 
 -- the review of a state of the first generation is its audit
 pub audit_reviewed : (s : State) (commands : List Command) (end : Result (Unit {0}) Halt) (before now : Option (List ℕ)) → s.generation ≡ 1 → WritesText (reviewed s.limit commands) end before now → AuditHolds end s commands → WritesAudit s commands end before now
@@ -72,6 +75,7 @@ audit_reviewed s commands (Err (Damaged side number)) before now first wrote hol
 audit_reviewed s commands (Err NoMemory) before now first wrote holds = wrote
 audit_reviewed s commands (Err (Limit number)) before now first wrote holds = (wrote, first, tt)
 audit_reviewed s commands (Err (Rotated generation)) before now first wrote holds = absurd wrote
+audit_reviewed s commands (Err (DamagedInput number)) before now first wrote holds = absurd wrote
 
 -- ---- of each
 

@@ -1,4 +1,5 @@
-//! The words `state`, `report` and `audit`: what stands on two disks, and what their commands give each depositor, told.
+//! The words `state`, `report` and `audit`: what stands on two disks, and what their commands give each depositor, told. And what
+//! stands in a protocol, told.
 #![tactic(auto)]
 
 mod audit;
@@ -6,4 +7,5 @@ mod report;
 mod state;
 mod telling;
 
+pub use state::write_standing;
 pub use telling::{Told, tell_on};

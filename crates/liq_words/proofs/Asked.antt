@@ -9,13 +9,13 @@ use Rattle.std.proofs.lemmas.Bool.{ne_eqb}
 use Rattle.std.proofs.lemmas.Fmt.{decimal_is_IsNumeral}
 use Rattle.clap.specs.Words.{Text, first_of, subcommand_of, takes}
 use Rattle.liq_words.specs.declared.words.Word.{Word}
-use Rattle.liq_words.specs.declared.words.Word.TheVariants.{Run, Serve, State, Audit, Report, Gen}
+use Rattle.liq_words.specs.declared.words.Word.TheVariants.{Run, Serve, State, Audit, Report, Follow, Gen}
 use Rattle.liq_words.specs.declared.words.WordsFault.{WordsFault}
 use Rattle.liq_words.specs.declared.words.WordsFault.TheVariants.{Usage, NoMemory}
 use Rattle.liq_words.specs.Line.{line}
 use Rattle.liq_words.specs.Reading.{HasRead, IsInRange}
 use Rattle.liq_words.specs.Words.{Ask}
-use Rattle.liq_words.proofs.Taken.{run_is_taken, run_is_read, serve_is_taken, serve_is_read, state_is_taken, state_is_read, audit_is_taken, audit_is_read, report_is_taken, report_is_read, gen_is_taken, gen_is_read, seed_is_read, count_is_read}
+use Rattle.liq_words.proofs.Taken.{run_is_taken, run_is_read, serve_is_taken, serve_is_read, state_is_taken, state_is_read, audit_is_taken, audit_is_read, report_is_taken, report_is_read, follow_is_taken, follow_is_read, gen_is_taken, gen_is_read, seed_is_read, count_is_read}
 
 -- ---- what words are that ask for something
 
@@ -25,6 +25,7 @@ words_of Serve = codes "serve" ∷ []
 words_of State = codes "state" ∷ []
 words_of Audit = codes "audit" ∷ []
 words_of Report = codes "report" ∷ []
+words_of Follow = codes "follow" ∷ []
 words_of (Gen seed count) = codes "gen" ∷ decimal seed ∷ decimal count ∷ []
 
 words_are : (words : List Text) (word : Word) → Ask words word → words ≡ words_of word
@@ -33,6 +34,7 @@ words_are words Serve h = h
 words_are words State h = h
 words_are words Audit h = h
 words_are words Report h = h
+words_are words Follow h = h
 words_are words (Gen seed count) h = h.0
 
 pub in_range : (words : List Text) (word : Word) → Ask words word → IsInRange word
@@ -66,6 +68,7 @@ word_taken Serve h = serve_is_taken
 word_taken State h = state_is_taken
 word_taken Audit h = audit_is_taken
 word_taken Report h = report_is_taken
+word_taken Follow h = follow_is_taken
 word_taken (Gen seed count) h =
     let s = number_begins seed h.0 in
     let c = number_begins count (omega (arith, h.2)) in
@@ -97,6 +100,7 @@ word_read Serve h = serve_is_read
 word_read State h = state_is_read
 word_read Audit h = audit_is_read
 word_read Report h = report_is_read
+word_read Follow h = follow_is_read
 word_read (Gen seed count) h = are_read (decimal seed) (decimal count) (number_begins seed h.0) (number_begins count (omega (arith, h.2)))
 
 -- clap reads the word
@@ -126,7 +130,8 @@ alone_of name =
     else if bytes_eq name (codes "serve") then Serve
     else if bytes_eq name (codes "state") then State
     else if bytes_eq name (codes "audit") then Audit
-    else Report
+    else if bytes_eq name (codes "report") then Report
+    else Follow
 
 same_word : (a b : Word) → IsInRange a → IsInRange b → words_of a ≡ words_of b → a ≡ b
 same_word (Gen seed count) (Gen other more) h k same =

@@ -5,7 +5,7 @@ use Rattle.clap.specs.declared.parser.matches.Found.{Found}
 use Rattle.clap.specs.Words.{Text, Row, first_of, first_value, rows_of}
 use Rattle.clap.proofs.WalkLemmas.{first_value-rows}
 use Rattle.liq_words.specs.declared.words.Word.{Word}
-use Rattle.liq_words.specs.declared.words.Word.TheVariants.{Run, Serve, State, Audit, Report, Gen}
+use Rattle.liq_words.specs.declared.words.Word.TheVariants.{Run, Serve, State, Audit, Report, Follow, Gen}
 use Rattle.liq_words.specs.Reading.{HasRead, IsInRange}
 use Rattle.liq_words.specs.Words.{Ask}
 
@@ -34,6 +34,7 @@ values_found name f found Serve is name_is rows_are within read = absurd (no_gen
 values_found name f found State is name_is rows_are within read = absurd (no_gen name (codes "state") found (λ e. omega (arith, e)) is name_is read)
 values_found name f found Audit is name_is rows_are within read = absurd (no_gen name (codes "audit") found (λ e. omega (arith, e)) is name_is read)
 values_found name f found Report is name_is rows_are within read = absurd (no_gen name (codes "report") found (λ e. omega (arith, e)) is name_is read)
+values_found name f found Follow is name_is rows_are within read = absurd (no_gen name (codes "follow") found (λ e. omega (arith, e)) is name_is read)
 values_found name f found (Gen seed count) is name_is rows_are within read = record {
   seed = decimal seed;
   count = decimal count;
@@ -56,4 +57,5 @@ stands_alone name found Serve apart name_is read = ap (λ o. unwrap_or o [] ∷ 
 stands_alone name found State apart name_is read = ap (λ o. unwrap_or o [] ∷ []) (name_is ∙ read)
 stands_alone name found Audit apart name_is read = ap (λ o. unwrap_or o [] ∷ []) (name_is ∙ read)
 stands_alone name found Report apart name_is read = ap (λ o. unwrap_or o [] ∷ []) (name_is ∙ read)
+stands_alone name found Follow apart name_is read = ap (λ o. unwrap_or o [] ∷ []) (name_is ∙ read)
 stands_alone name found (Gen seed count) apart name_is read = absurd (apart (ap (λ o. unwrap_or o []) (name_is ∙ read.0)))

@@ -47,6 +47,14 @@ pub report_is_read : option_map (λ p. p.0) (subcommand_of line (codes "report" 
 unfolding clap_on_literals
 report_is_read = refl
 
+pub follow_is_taken : takes line (codes "follow" ∷ []) ≡ true
+unfolding clap_on_literals
+follow_is_taken = refl
+
+pub follow_is_read : option_map (λ p. p.0) (subcommand_of line (codes "follow" ∷ [])) ≡ Some (codes "follow")
+unfolding clap_on_literals
+follow_is_read = refl
+
 pub gen_is_taken : (a b : ℕ) (seed count : Text) → (a == 45) ≡ false → (b == 45) ≡ false → takes line (codes "gen" ∷ (a ∷ seed) ∷ (b ∷ count) ∷ []) ≡ true
 unfolding clap_on_literals
 gen_is_taken a b seed count not_a not_b = simp (not_a, not_b)

@@ -2,7 +2,7 @@
 use Rattle.std.specs.Prelude.{◌≡◌, ◌≤◌, ◌<◌, ◌^◌, List, Option, Some, option_map, codes, decimal}
 use Rattle.clap.specs.Words.{Text, Row, first_of}
 use Rattle.liq_words.specs.declared.words.Word.{Word}
-use Rattle.liq_words.specs.declared.words.Word.TheVariants.{Run, Serve, State, Audit, Report, Gen}
+use Rattle.liq_words.specs.declared.words.Word.TheVariants.{Run, Serve, State, Audit, Report, Follow, Gen}
 
 -- the numbers of a word are in their ranges
 abbrev pub IsInRange : Word → Type 0
@@ -16,6 +16,7 @@ HasRead found Serve = option_map (λ p. p.0) found ≡ Some (codes "serve")
 HasRead found State = option_map (λ p. p.0) found ≡ Some (codes "state")
 HasRead found Audit = option_map (λ p. p.0) found ≡ Some (codes "audit")
 HasRead found Report = option_map (λ p. p.0) found ≡ Some (codes "report")
+HasRead found Follow = option_map (λ p. p.0) found ≡ Some (codes "follow")
 HasRead found (Gen seed count) =
     (option_map (λ p. p.0) found ≡ Some (codes "gen"))
     × (option_map (λ p. first_of (codes "seed") p.1) found ≡ Some (Some (decimal seed)))

@@ -1,7 +1,7 @@
 -- What the words of a command line ask for.
 use Rattle.std.specs.Prelude.{ℕ, ◌≡◌, ◌≤◌, ◌<◌, ◌^◌, List, [], ◌∷◌, codes, decimal}
 use Rattle.liq_words.specs.declared.words.Word.{Word}
-use Rattle.liq_words.specs.declared.words.Word.TheVariants.{Run, Serve, State, Audit, Report, Gen}
+use Rattle.liq_words.specs.declared.words.Word.TheVariants.{Run, Serve, State, Audit, Report, Follow, Gen}
 
 -- the words are just those that ask for it; a number has no sign and no leading zero
 abbrev pub Ask : List (List ℕ) → Word → Type 0
@@ -10,6 +10,7 @@ Ask words Serve = words ≡ codes "serve" ∷ []
 Ask words State = words ≡ codes "state" ∷ []
 Ask words Audit = words ≡ codes "audit" ∷ []
 Ask words Report = words ≡ codes "report" ∷ []
+Ask words Follow = words ≡ codes "follow" ∷ []
 Ask words (Gen seed count) =
     (words ≡ codes "gen" ∷ decimal seed ∷ decimal count ∷ [])
     × (seed < 2 ^ 64) × (1 ≤ count) × (count ≤ 1000000)
@@ -17,4 +18,5 @@ Ask words (Gen seed count) =
 -- it uses the disks
 abbrev pub UsesDisks : Word → Type 0
 UsesDisks (Gen seed count) = ⊥
+UsesDisks Follow = ⊥
 UsesDisks _ = Unit {0}

@@ -23,6 +23,7 @@ pub fn line<'a>(alloc: Global) -> Result<Command<'a>, AllocError>
     let line = with_alone(alloc, line, "state")?;
     let line = with_alone(alloc, line, "audit")?;
     let line = with_alone(alloc, line, "report")?;
+    let line = with_alone(alloc, line, "follow")?;
     line.subcommand(load(alloc)?)
 }
 

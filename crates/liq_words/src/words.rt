@@ -29,6 +29,8 @@ pub enum Word {
     Audit,
     /// Tell each trove and deposit as it stands, as one text in JSON.
     Report,
+    /// Follow a journal that comes in, and tell what stands at its end.
+    Follow,
     /// Carry out a seed's calls, so many of them drawn, and tell where they lead.
     Gen { seed: u64, count: u64 },
 }
@@ -57,12 +59,24 @@ pub fn read_words(alloc: Global, words: &[String]) -> Result<Word, WordsFault>
     word_of(&matches).ok_or(WordsFault::Usage)
 }
 
-/// Whether the words ask for something that uses the disks, which is all but `gen`. It takes no memory.
+/// Whether the words ask for something that uses the disks, which is all but `follow` and `gen`. It takes no memory.
 pub fn takes_disks(words: &[String]) -> bool
     ensures asks { IsTrue result → (word : Word) × Ask (map string_bytes words.now) word × UsesDisks word }
     ensures all { (word : Word) → Ask (map string_bytes words.now) word → UsesDisks word → IsTrue result }
 {
-    matches!(words, [word] if alone(word).is_some())
+    matches!(words, [word] if uses_disks(word))
+}
+
+/// Whether the name is that of a word that stands alone and uses the disks.
+fn uses_disks(name: &str) -> bool
+    ensures asks { IsTrue result → (word : Word) × Ask (name.now ∷ []) word × UsesDisks word }
+    ensures all { (word : Word) → Ask (name.now ∷ []) word → UsesDisks word → IsTrue result }
+{
+    match alone(name) {
+        Some(Word::Follow) => false,
+        Some(_) => true,
+        None => false,
+    }
 }
 
 /// Whether the words ask for something.
@@ -98,6 +112,7 @@ fn alone(name: &str) -> Option<Word>
         "state" => Some(Word::State),
         "audit" => Some(Word::Audit),
         "report" => Some(Word::Report),
+        "follow" => Some(Word::Follow),
         _ => None,
     }
 }

@@ -1,6 +1,6 @@
 use Rattle.std.proofs.Common.{ℕ, subst, sym, []}
 use Rattle.liq_outside.specs.Faults.{Rose}
-use Rattle.liq_ends.specs.declared.halts.Halt.TheVariants.{BadLine, Damaged, Rotated}
+use Rattle.liq_ends.specs.declared.halts.Halt.TheVariants.{BadLine, Damaged, DamagedInput, Rotated}
 use Rattle.liq_ends.specs.Output.{last}
 use Rattle.liq_ends.specs.Stops.{Adds}
 use Rattle.liq_ends.proofs.EndingLines.{adds_line, nothing_added}
@@ -55,3 +55,10 @@ returns-in-Rotated-clause-written g c =
     subst (λ halt. Adds [] (last halt) (Rose (g.K.Sink.faults c.args.out.now) (g.K.Sink.faults c.write_numbered-in-Rotated.new.out)) (g.K.Sink.held c.args.out.now) (g.K.Sink.held c.write_numbered-in-Rotated.new.out)) (sym c.in-Rotated.is)
     (subst (λ (n : ℕ). Adds [] (last (Rotated n)) (Rose (g.K.Sink.faults c.args.out.now) (g.K.Sink.faults c.write_numbered-in-Rotated.new.out)) (g.K.Sink.held c.args.out.now) (g.K.Sink.held c.write_numbered-in-Rotated.new.out)) c.from-in-Rotated.ensures
     (adds_line _ c.write_numbered-in-Rotated.result _ _ _ e.ok e.err e.cause.failed))
+
+pub returns-in-DamagedInput-clause-written : goal.returns-in-DamagedInput-clause-written
+returns-in-DamagedInput-clause-written g c =
+    let e = c.write_numbered-in-DamagedInput.ensures in
+    subst (λ halt. Adds [] (last halt) (Rose (g.K.Sink.faults c.args.out.now) (g.K.Sink.faults c.write_numbered-in-DamagedInput.new.out)) (g.K.Sink.held c.args.out.now) (g.K.Sink.held c.write_numbered-in-DamagedInput.new.out)) (sym c.in-DamagedInput.is)
+    (subst (λ (n : ℕ). Adds [] (last (DamagedInput n)) (Rose (g.K.Sink.faults c.args.out.now) (g.K.Sink.faults c.write_numbered-in-DamagedInput.new.out)) (g.K.Sink.held c.args.out.now) (g.K.Sink.held c.write_numbered-in-DamagedInput.new.out)) c.from-in-DamagedInput.ensures
+    (adds_line _ c.write_numbered-in-DamagedInput.result _ _ _ e.ok e.err e.cause.failed))

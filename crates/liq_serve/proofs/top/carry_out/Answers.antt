@@ -8,8 +8,8 @@ use Rattle.liq_serve.proofs.Words.{IsRead, opens_first, telling_ends, word_ends}
 use Rattle.liq_serve.proofs.top.carry_out.Goals as goal
 use Rattle.liq_lines.proofs.Readings.{takes_none}
 use Rattle.liq_outside.proofs.Moments.{unmoved}
-use Rattle.liq_serve.proofs.StatusLaws.{audit_known, goes_on_known, state_known}
-use Rattle.liq_serve.proofs.Telling.{disks_unasked, source_unasked}
+use Rattle.liq_serve.proofs.StatusLaws.{audit_known, follow_known, goes_on_known, state_known}
+use Rattle.liq_serve.proofs.Telling.{disks_unasked, disks_unfollowed, source_unasked, taken_followed}
 
 pub returns-in-Run : goal.returns-in-Run
 returns-in-Run g c words asks only =
@@ -60,6 +60,26 @@ returns-in-Audit g c words asks only =
     telling_ends g.S.Source.left g.S.Source.faults g.K.Sink.held g.K.Sink.faults g.D.Disk.seen g.D.Disk.faults g.D.Disk.moment g.D.Disk.left_at before after words word.Audit ran.result.end _ read
     (λ leaves. leaves) refl (λ l r told_l told_r start is. let so = ran.ensures.told l r told_l told_r start is in (so.0, so.1, ran.ensures.past l r told_l told_r start is)) ran.ensures.damaged
     (audit_known ran.result.end ran.ensures.no_source ran.ensures.no_line) ran.ensures.no_source ran.ensures.sink ran.ensures.disks ran.ensures.left_time ran.ensures.right_time
+
+pub returns-in-Follow : goal.returns-in-Follow
+returns-in-Follow g c words asks only =
+    let ran = c.follow_on-end in
+    let before : Outside g.row.S.Denot g.row.K.Denot g.row.D.Denot = record { source = c.args.input.now; sink = c.args.out.now; left = c.args.left; right = c.args.right } in
+    let after : Outside g.row.S.Denot g.row.K.Denot g.row.D.Denot = record { source = ran.new.input; sink = ran.new.out; left = c.args.left; right = c.args.right } in
+    let read = subst (λ (w : Word). IsRead words w) c.in-Follow.is (record { asks = asks; only = only }) in
+    let so = ran.ensures.followed in
+    let left = g.S.Source.left ran.new.input in
+    word_ends g.S.Source.left g.S.Source.faults g.K.Sink.held g.K.Sink.faults g.D.Disk.seen g.D.Disk.faults g.D.Disk.moment g.D.Disk.left_at before after words word.Follow ran.result read
+    (refl, so)
+    (record {
+      source = ran.ensures.source;
+      sink = ran.ensures.sink;
+      disks = disks_unfollowed ran.result so.0 left so.2.0 so.2.1 _;
+      status = follow_known ran.result so.0 left so.2.0 so.2.1;
+      left_time = unmoved g.D.Disk.moment g.D.Disk.left_at c.args.left;
+      right_time = unmoved g.D.Disk.moment g.D.Disk.left_at c.args.right;
+    })
+    (so.0, so.1, taken_followed ran.result so.0 left so.2.0 so.2.1)
 
 pub returns-in-Gen : goal.returns-in-Gen
 returns-in-Gen g c words asks only =

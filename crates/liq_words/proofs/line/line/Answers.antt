@@ -19,4 +19,5 @@ returns c =
     let three = c.in_ok-line-3.ensures ∙ ap (λ (a : App). with_subcommand a (new_app (codes "state")).top) two in
     let four = c.in_ok-line-4.ensures ∙ ap (λ (a : App). with_subcommand a (new_app (codes "audit")).top) three in
     let five = c.in_ok-line-5.ensures ∙ ap (λ (a : App). with_subcommand a (new_app (codes "report")).top) four in
-    added c.subcommand.result c.in_ok-line-5.line c.in_ok-load.field-0 _ load c.subcommand.ensures c.in_ok-load.ensures.local five c.in_ok-load.ensures.app
+    let six = c.in_ok-line-6.ensures ∙ ap (λ (a : App). with_subcommand a (new_app (codes "follow")).top) five in
+    added c.subcommand.result c.in_ok-line-6.line c.in_ok-load.field-0 _ load c.subcommand.ensures c.in_ok-load.ensures.local six c.in_ok-load.ensures.app

@@ -1,0 +1,5 @@
+pub mod Beginning
+pub mod Ended
+mod Pieces
+mod Telling
+mod Underway

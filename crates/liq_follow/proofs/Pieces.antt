@@ -1,0 +1,49 @@
+-- The bytes of the input, piece by piece.
+use Rattle.std.proofs.Common.{◌≡◌, ℕ, ◌≤◌, List, [], ◌++◌, length, take, drop, Option, Some, None, refl, sym, ap, subst, ◌∙◌, append_assoc, arith}
+use Rattle.std.specs.Prelude.{option_map, IfSome}
+use Rattle.std.proofs.lemmas.List.{take-append-drop, take_all}
+use Rattle.liq_lines.specs.Reading.{IsOver, Reads}
+use Rattle.liq_follower.specs.Fed.{AreDamagedAt, AreOver, AreTurnedTo, EndsWith, GoOn}
+use Rattle.liq_follower.specs.Following.{Followed, IsFed}
+use Rattle.liq_follower.specs.declared.answers.FedEnd.{FedEnd}
+use Rattle.liq_follower.specs.declared.answers.FedEnd.TheVariants as fed_end
+use Rattle.liq_follow.specs.Feeding.{FedPiece, end_of}
+use Rattle.liq_follow.specs.Followed.{IsFirstFault}
+
+-- what one read took
+pub taken : (before after : Option (List ℕ)) (n : ℕ) (held : List ℕ) → after ≡ option_map (drop n) before
+    → IfSome before (λ bytes. (n ≤ length bytes) × (take n held ≡ take n bytes)) → Reads before (take n held) after
+taken None after n held rest bytes = sym (ap (λ (o : Option (List ℕ)). option_map (λ left. take n held ++ left) o) rest)
+taken (Some all) after n held rest bytes =
+    ap Some (sym (ap (λ (xs : List ℕ). xs ++ drop n all) bytes.1 ∙ take-append-drop n all))
+    ∙ sym (ap (λ (o : Option (List ℕ)). option_map (λ left. take n held ++ left) o) rest)
+
+-- a source of which nothing was left
+pub still_over : (before after : Option (List ℕ)) → after ≡ option_map (drop 0) before → IfSome before (λ bytes. bytes ≡ []) → IsOver after
+still_over None after rest none = subst IsOver (sym rest) tt
+still_over (Some all) after rest none = subst IsOver (sym rest) none
+
+-- ---- a piece that was fed
+
+damage_is_over : (index : ℕ) (bytes : List ℕ) → AreDamagedAt index bytes → AreOver bytes
+damage_is_over index bytes damaged goes = cc (damaged.1.1, goes.1.1)
+
+turned_is_over : (generation : ℕ) (bytes : List ℕ) → AreTurnedTo generation bytes → AreOver bytes
+turned_is_over generation bytes turned goes = cc (turned.0, goes.1.0)
+
+module _ (taken : ℕ) (fed piece : List ℕ) where
+  abbrev front : List ℕ
+  front = fed ++ take taken piece
+
+  split : fed ++ piece ≡ front ++ drop taken piece
+  split = sym (append_assoc fed (take taken piece) (drop taken piece) ∙ ap (λ (xs : List ℕ). fed ++ xs) (take-append-drop taken piece))
+
+  pub fed_piece : (end : FedEnd) (follower : Followed) → IsFed front follower → EndsWith end front → (end ≡ fed_end.All → taken ≡ length piece) → (AreOver front → IsFirstFault front)
+      → FedPiece (end_of end) (fed ++ piece) follower
+  fed_piece fed_end.All follower is ends all first =
+      let size = all refl in
+      let same : front ≡ fed ++ piece = ap (λ (xs : List ℕ). fed ++ xs) (take_all taken piece (omega (arith, size))) in
+      (subst (λ (t : List ℕ). IsFed t follower) same is, subst GoOn same ends)
+  fed_piece fed_end.NoMemory follower is ends all first = (front, drop taken piece, split, ends.0)
+  fed_piece (fed_end.Damaged index) follower is ends all first = (front, drop taken piece, split, (first (damage_is_over index front ends), ends))
+  fed_piece (fed_end.Rotated generation) follower is ends all first = (front, drop taken piece, split, (first (turned_is_over generation front ends), ends))

@@ -1,0 +1,48 @@
+-- Where the word `follow` ends, and what it tells.
+use Rattle.std.specs.Prelude.{ℕ, ◌≡◌, ◌≤◌, ◌+◌, List, [], ◌∷◌, ◌++◌, length, take, Option, Result, Ok, Err}
+use Rattle.liq_types.specs.State.{State}
+use Rattle.liq_lines.specs.Reading.{IsOver}
+use Rattle.liq_follower.specs.Fed.{AreDamagedAt, AreTurnedTo, GoOn, LeadTo}
+use Rattle.liq_ends.specs.declared.halts.Halt.{Halt}
+use Rattle.liq_ends.specs.declared.halts.Halt.TheVariants.{DamagedInput, Limit, NoMemory, ReadFault, Rotated, WriteFault}
+use Rattle.liq_tell.specs.State.{standing}
+use Rattle.liq_follow.specs.declared.feeding.TheConstants.{FED_MOST}
+
+-- The input was read to its end. Its bytes are no more than are followed, and lead to a state of which this is told.
+pub record IsWhole (read : List ℕ) (left : Option (List ℕ)) (text : List ℕ) : Type 0 where
+  pub few : length read ≤ FED_MOST
+  pub over : IsOver left
+  pub state : State
+  pub leads : LeadTo read state
+  pub told : text ≡ standing state
+
+-- some first bytes of what was read are so
+abbrev pub HasFront : List ℕ → (List ℕ → Type 0) → Type 0
+HasFront read P = (front rest : List ℕ) × (read ≡ front ++ rest) × P front
+
+-- they show no fault before the last one
+abbrev pub IsFirstFault : List ℕ → Type 0
+IsFirstFault bytes = (before : List ℕ) × (byte : ℕ) × (bytes ≡ before ++ byte ∷ []) × GoOn before
+
+-- with the first fault that some bytes show, what stands up to there is so
+abbrev pub FaultIn : List ℕ → (List ℕ → Type 0) → Type 0
+FaultIn bytes P = HasFront bytes (λ front. IsFirstFault front × P front)
+
+-- why feeding stopped within the bytes that were read
+abbrev pub StopsWithin : Halt → List ℕ → Type 0
+-- no fault stands in what the source gave
+StopsWithin ReadFault read = GoOn read
+-- nor in what was fed
+StopsWithin NoMemory read = HasFront read GoOn
+StopsWithin (DamagedInput index) read = FaultIn read (AreDamagedAt index)
+StopsWithin (Rotated generation) read = FaultIn read (AreTurnedTo generation)
+StopsWithin _ read = ⊥
+
+-- Where following ends. `read` is what was read of the input, `left` what the source still tells, `text` what is told.
+abbrev pub FollowsTo : Result (Unit {0}) Halt → List ℕ → Option (List ℕ) → List ℕ → Type 0
+FollowsTo (Ok done) read left text = IsWhole read left text
+FollowsTo (Err WriteFault) read left text = IsWhole read left text
+-- one byte more than are followed was read, and those show no fault
+FollowsTo (Err (Limit number)) read left text =
+    (number ≡ FED_MOST) × (length read ≡ FED_MOST + 1) × GoOn (take FED_MOST read)
+FollowsTo (Err halt) read left text = (length read ≤ FED_MOST) × StopsWithin halt read

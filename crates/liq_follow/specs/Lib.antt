@@ -1,0 +1,3 @@
+-- A reader of the top call's clause needs Followed. Feeding is for the contracts below it.
+pub mod Feeding
+pub mod Followed

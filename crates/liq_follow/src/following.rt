@@ -1,0 +1,45 @@
+//! A journal that comes in, followed, and what stands at its end, told.
+
+ghost use Rattle.std.specs.Prelude.{List, ℕ};
+ghost use Rattle.liq_outside.specs.Faults.{Rose};
+ghost use Rattle.liq_lines.specs.Reading.{Reads};
+ghost use Rattle.liq_ends.specs.Causes.{LastCause, ReadCause, WriteCause};
+ghost use Rattle.liq_ends.specs.Telling.{TellsAll};
+ghost use Rattle.liq_ends.specs.Unsaid.{WritesAll};
+ghost use Rattle.liq_follow.specs.Followed.{FollowsTo};
+
+use crate::feeding::feed_input;
+use liq_ends::{Halt, tell_last};
+use liq_follower::Follower;
+use liq_follower::laws::followers_stand;
+use liq_outside::{Sink, Source};
+use liq_tell::write_standing;
+use std::alloc::Global;
+
+/// Follows the journal that the input is, at most its first 2^28 bytes, and tells what stands at its end. It writes the last line where
+/// that stops. It holds no more of the input than one piece and one record.
+pub fn follow_on<S: Source, K: Sink>(alloc: Global, input: &mut S, out: &mut K) -> Result<(), Halt>
+    ensures followed { (read : List ℕ) × Reads (S.left input.old) read (S.left input.new)
+        × ((text : List ℕ) × FollowsTo result read (S.left input.new) text
+        × TellsAll text result (Rose (K.faults out.old) (K.faults out.new)) (K.held out.old) (K.held out.new)) }
+    ensures source { ReadCause result (S.faults input.old) (S.faults input.new) }
+    ensures sink { LastCause result (K.faults out.old) (K.faults out.new) }
+{
+    let end = follow(alloc, input, out);
+    tell_last(out, end);
+    end
+}
+
+/// The same without the last line.
+fn follow<S: Source, K: Sink>(alloc: Global, input: &mut S, out: &mut K) -> Result<(), Halt>
+    ensures followed { (read : List ℕ) × Reads (S.left input.old) read (S.left input.new)
+        × ((text : List ℕ) × FollowsTo result read (S.left input.new) text
+        × WritesAll text result (K.held out.old) (K.held out.new)) }
+    ensures source { ReadCause result (S.faults input.old) (S.faults input.new) }
+    ensures sink { WriteCause result (K.faults out.old) (K.faults out.new) }
+{
+    let mut follower = Follower::new(alloc);
+    feed_input(alloc, input, &mut follower)?;
+    followers_stand(&follower);
+    write_standing(alloc, follower.protocol(), out)
+}

@@ -1,0 +1,8 @@
+//! The word `follow`: a journal of the first generation that comes in, followed to its end, and what stands there, told.
+#![tactic(auto)]
+
+mod feeding;
+mod following;
+
+pub use feeding::FED_MOST;
+pub use following::follow_on;
