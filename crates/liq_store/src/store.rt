@@ -5,6 +5,8 @@ ghost use Rattle.std.specs.List.{All};
 ghost use Rattle.liq_outside.specs.Disk.{GoesOn, LeavesOnly, LeftNow, Only};
 ghost use Rattle.liq_outside.specs.Faults.{count_most};
 ghost use Rattle.liq_types.specs.declared.requests.Command.{Command};
+ghost use Rattle.liq_types.specs.declared.requests.Query.{Query};
+ghost use Rattle.liq_types.specs.declared.requests.Request.TheVariants.{Ask};
 ghost use Rattle.liq_types.specs.State.{State, opening};
 ghost use Rattle.liq_core.specs.Core.{StandsFor};
 ghost use Rattle.liq_core.specs.Entries.{told_whole};
@@ -169,9 +171,26 @@ impl<D: Disk> Store<D> {
         if let Some(faults) = self.stopped {
             return Answer::Stopped { faults };
         }
+        if let Request::Ask(query) = request {
+            return Answer::Reply(self.protocol.query(query));
+        }
+        self.carry_out(request, hint)
+    }
+
+    // The same of a command, where the store isn't stopped: apart, so that what its plan takes is neither cleared nor moved for a query.
+    fn carry_out(&mut self, request: &Request, hint: &Hint) -> Answer
+        requires going { self.old.stopped ≡ None }
+        requires command { (query : Query) → request.now ≢ Ask query }
+        ensures step { (s : State) → StandsFor self.old.core s → Answers s request.now result self.new.core }
+        ensures stops { self.new.stopped ≡ stopped_after self.old.stopped result (record { left = D.faults self.new.left; right = D.faults self.new.right }) }
+        ensures told { (s : State) → StandsFor self.old.core s → self.new.changes ≡ self.old.changes ++ told s request.now result }
+        ensures cause { CausesAnswer result (record { left = D.faults self.old.left; right = D.faults self.old.right }) (record { left = D.faults self.new.left; right = D.faults self.new.right }) }
+        ensures disks { WritesOn D.seen D.moment D.left_at self.old request.now result self.new }
+        ensures order { IsInOrder D.seen D.moment D.left_at self.new }
+    {
         let command = match request {
             Request::Do(command) => command,
-            Request::Ask(query) => return Answer::Reply(self.protocol.query(query)),
+            Request::Ask(_) => unreachable!(),
         };
         let planned = match prepare(&mut self.protocol, &mut self.changes, command) {
             Prepared::Ready(planned) => planned,

@@ -9,9 +9,8 @@ use Rattle.liq_types.specs.declared.requests.Request.TheVariants.{Do, Ask}
 use Rattle.liq_types.specs.declared.requests.Call.{Call}
 use Rattle.liq_types.specs.declared.requests.Query.{Query}
 use Rattle.liq_text.specs.declared.names.Verb.{Verb}
-use Rattle.liq_text.specs.declared.names.Topic.{Topic}
-use Rattle.liq_text.specs.Names.{verb_of, topic_of}
-use Rattle.liq_text.specs.Reading.{◌>>=◌, Kind, an_account, a_number, a_hint, Value, value_of, Makes, first, others, is_empty, fields, number_of, account_of, hint_of, verb_kinds, call_with, topic_kinds, query_with, arguments_of, subject_of, call_of, query_of, request_of, session_of, session_request_of}
+use Rattle.liq_text.specs.Names.{verb_of}
+use Rattle.liq_text.specs.Reading.{◌>>=◌, Kind, an_account, a_number, a_hint, Value, value_of, Makes, first, others, is_empty, fields, number_of, account_of, hint_of, verb_kinds, call_with, topic_kinds, query_with, arguments_of, subject_of, call_of, request_of, pieces_of, session_of, session_request_of}
 use Rattle.liq_text.specs.Pieces.{first_word, nothing, value_read, fails, finished, unless}
 use Rattle.liq_text.proofs.SpellingLaws.{Values, made}
 use Rattle.liq_text.proofs.ReadingLaws.{number_of-empty}
@@ -91,11 +90,6 @@ pub arguments_read : (verb : Verb) (failed : Bool) (pieces : List (List ℕ))
 unfolding arguments_of
 arguments_read verb failed pieces = form_read (verb_kinds verb) (call_with verb) failed pieces
 
-pub subject_read : (topic : Topic) (failed : Bool) (pieces : List (List ℕ))
-    → finished (made (topic_kinds topic) (query_with topic) (values_read (topic_kinds topic) pieces)) (fails_at (topic_kinds topic) failed pieces) (left_by (topic_kinds topic) pieces) ≡ unless failed (subject_of topic pieces)
-unfolding subject_of
-subject_read topic failed pieces = form_read (topic_kinds topic) (query_with topic) failed pieces
-
 -- ---- a name and its form
 
 call_read : (pieces : List (List ℕ)) (verb : Option Verb) (failed : Bool) → verb ≡ verb_of (first_word pieces) → (verb >>= λ v. unless failed (arguments_of v (others pieces))) ≡ unless failed (call_of pieces)
@@ -106,14 +100,6 @@ call_read (piece ∷ pieces) None true e = refl
 call_read (piece ∷ pieces) (Some v) true e = refl
 call_read (piece ∷ pieces) verb false e = rw e refl
 
-query_read : (pieces : List (List ℕ)) (topic : Option Topic) (failed : Bool) → topic ≡ topic_of (first_word pieces) → (topic >>= λ t. unless failed (subject_of t (others pieces))) ≡ unless failed (query_of pieces)
-unfolding query_of first first_word others unless
-query_read [] topic true e = rw e refl
-query_read [] topic false e = rw e refl
-query_read (piece ∷ pieces) None true e = refl
-query_read (piece ∷ pieces) (Some t) true e = refl
-query_read (piece ∷ pieces) topic false e = rw e refl
-
 -- a reader that has come further
 pub moved : {A : Type 0} (f : List (List ℕ) → Option A) (now failed : Bool) (left rest : List (List ℕ)) → now ≡ failed → left ≡ rest → unless now (f left) ≡ unless failed (f rest)
 moved f now failed left rest same here = rw (same, here) refl
@@ -121,32 +107,15 @@ moved f now failed left rest same here = rw (same, here) refl
 pub call_unread : (pieces : List (List ℕ)) (verb : Option Verb) (failed : Bool) → verb ≡ None → verb ≡ verb_of (first_word pieces) → None ≡ unless failed (call_of pieces)
 call_unread pieces verb failed none e = let known = call_read pieces verb failed e in rw none at known
 
-pub query_unread : (pieces : List (List ℕ)) (topic : Option Topic) (failed : Bool) → topic ≡ None → topic ≡ topic_of (first_word pieces) → None ≡ unless failed (query_of pieces)
-query_unread pieces topic failed none e = let known = query_read pieces topic failed e in rw none at known
-
 pub call_done : (pieces : List (List ℕ)) (verb : Option Verb) (v : Verb) (failed now : Bool) (left : List (List ℕ)) (call : Option Call) → verb ≡ Some v → verb ≡ verb_of (first_word pieces)
     → now ≡ failed → left ≡ others pieces → call ≡ unless now (arguments_of v left) → call ≡ unless failed (call_of pieces)
 call_done pieces verb v failed now left call some e same here is =
     let known = call_read pieces verb failed e in is ∙ moved (arguments_of v) now failed left (others pieces) same here ∙ (rw some at known)
 
-pub query_done : (pieces : List (List ℕ)) (topic : Option Topic) (t : Topic) (failed now : Bool) (left : List (List ℕ)) (query : Option Query) → topic ≡ Some t → topic ≡ topic_of (first_word pieces)
-    → now ≡ failed → left ≡ others pieces → query ≡ unless now (subject_of t left) → query ≡ unless failed (query_of pieces)
-query_done pieces topic t failed now left query some e same here is =
-    let known = query_read pieces topic failed e in is ∙ moved (subject_of t) now failed left (others pieces) same here ∙ (rw some at known)
-
 -- ---- a request
-
-abbrev ask : Option Query → Option Request
-ask query = query >>= λ q. Some (Ask q)
 
 abbrev command : ℕ → ℕ → Option Call → Option Request
 command client number call = call >>= λ c. Some (Do (record { client = client; number = number; call = c }))
-
-pub ask_read : (pieces : List (List ℕ)) (query : Option Query) (failed : Bool) → bytes_eq (first_word pieces) (codes "?") ≡ true → query ≡ unless failed (query_of (others pieces)) → ask query ≡ unless failed (request_of pieces)
-unfolding request_of first first_word others unless
-ask_read [] query failed asks e = absurd cc
-ask_read (piece ∷ pieces) query true asks e = rw e refl
-ask_read (piece ∷ pieces) query false asks e = rw (e, asks) refl
 
 command_on : (failed : Bool) (client number : Option ℕ) (call : Option Call)
     → (client >>= λ a. command a (unwrap_or number 0) (unless (failed || not (is_some number)) call)) ≡ unless failed (client >>= λ a. number >>= λ n. command a n call)
@@ -164,20 +133,15 @@ command_read [] client number call true asks c n k = rw (c, account_of-nil) refl
 command_read [] client number call false asks c n k = rw (c, account_of-nil) refl
 command_read (piece ∷ pieces) client number call failed asks c n k = rw (c, n, k, asks) (command_on failed (account_of piece) (first number_of pieces) (call_of (others pieces)))
 
-pub no_client : (pieces : List (List ℕ)) (failed : Bool) → bytes_eq (first_word pieces) (codes "?") ≡ false → None ≡ account_of (first_word pieces) → None ≡ unless failed (request_of pieces)
-unfolding request_of first first_word others unless
-no_client [] true asks c = refl
-no_client [] false asks c = refl
-no_client (piece ∷ pieces) true asks c = refl
-no_client (piece ∷ pieces) false asks c = rw (asks, ← c) refl
+pub no_session : (line word : List ℕ) (pieces : List (List ℕ)) → pieces_of line ≡ word ∷ pieces → None ≡ session_of word → None ≡ session_request_of (pieces_of line)
+unfolding session_request_of first
+no_session line word pieces split s = rw (split, ← s) refl
 
-pub no_session : (pieces : List (List ℕ)) → None ≡ session_of (first_word pieces) → None ≡ session_request_of pieces
-unfolding session_request_of first first_word
-no_session [] s = refl
-no_session (piece ∷ pieces) s = rw (← s) refl
+pub session_read : (line word : List ℕ) (pieces : List (List ℕ)) (session : Option ℕ) (request : Option Request) → pieces_of line ≡ word ∷ pieces → session ≡ session_of word → request ≡ request_of pieces
+    → (session >>= λ s. request >>= λ r. Some (s, r)) ≡ session_request_of (pieces_of line)
+unfolding session_request_of first others
+session_read line word pieces session request split s r = rw (split, ← s, ← r) refl
 
-pub session_read : (pieces : List (List ℕ)) (session : Option ℕ) (request : Option Request) → session ≡ session_of (first_word pieces) → request ≡ unless false (request_of (others pieces))
-    → (session >>= λ s. request >>= λ r. Some (s, r)) ≡ session_request_of pieces
-unfolding session_request_of session_of first first_word others unless
-session_read [] session request s r = rw (s, number_of-nil) refl
-session_read (piece ∷ pieces) session request s r = rw (s, r) refl
+pub nothing_read : None ≡ request_of []
+unfolding request_of first
+nothing_read = refl

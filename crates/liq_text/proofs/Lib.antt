@@ -3,6 +3,7 @@ pub mod PieceLaws
 pub mod ReadingLaws
 pub mod SpellingLaws
 pub mod RequestLaws
+pub mod QueryLaws
 pub mod LineLaws
 pub mod FormLaws
 pub mod LineLengths

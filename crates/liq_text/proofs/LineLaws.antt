@@ -1,18 +1,24 @@
 -- A line and its words.
-use Rattle.std.proofs.Common.{◌≡◌, cond, leb, ℕ, ◌≤◌, Bool, true, false, eqb, List, [], ◌∷◌, Option, Some, None, Result, Ok, refl, sym, ap, subst, ◌∙◌}
-use Rattle.std.specs.Prelude.{not, ◌&&◌, IfOk, OnErr}
+use Rattle.std.proofs.Common.{◌≡◌, ◌≢◌, cond, leb, ℕ, ◌≤◌, Bool, true, false, eqb, List, [], ◌∷◌, ◌++◌, Option, Some, None, Result, Ok, refl, sym, ap, subst, ◌∙◌}
+use Rattle.std.specs.Prelude.{not, ◌&&◌, IfOk, IfSome, OnErr, codes}
 use Rattle.std.specs.Option.{ok_or}
-use Rattle.std.proofs.lemmas.Option.{same_Some, cond_some}
+use Rattle.std.proofs.lemmas.Option.{same_Some, cond_some, none-some}
 use Rattle.std.specs.List.{join_with_byte, AllByRecursion}
 use Rattle.std.proofs.lemmas.Bool.{and_parts, and_from, leb-true, le-leb}
 use Rattle.std.proofs.lemmas.List.Elements.{All-from_recursion}
 use Rattle.std.proofs.lemmas.List.Splits.{slice_split_none, slice_split_at, join_with_byte-slice_split}
+use Rattle.liq_types.specs.declared.requests.Query.{Query}
+use Rattle.liq_types.specs.declared.requests.Query.TheVariants as queries
 use Rattle.liq_types.specs.declared.requests.Request.{Request}
-use Rattle.liq_text.specs.Spelling.{number, Spell, SpellEach, request_words, Spells, SpellsInSession}
-use Rattle.liq_text.specs.Reading.{◌>>=◌, pieces_of, first, others, number_of, request_of, session_of, session_request_of}
-use Rattle.liq_text.proofs.ReadingLaws.{number_of-decimal, number_of-some, yes}
-use Rattle.liq_text.proofs.SpellingLaws.{bind_some, plain, IsPlain, plain_spelled}
-use Rattle.liq_text.proofs.RequestLaws.{request_takes, request_again, plain_request, nonempty_request}
+use Rattle.liq_types.specs.declared.requests.Request.TheVariants.{Do, Ask}
+use Rattle.liq_types.specs.declared.requests.Command.{Command}
+use Rattle.liq_text.specs.Spelling.{number, Spell, SpellEach, query_words, request_words, Spells, SpellsInSession}
+use Rattle.liq_text.specs.Reading.{◌>>=◌, pieces_of, first, others, number_of, account_of, query_of, request_of, session_of, session_request_of}
+use Rattle.std.specs.Str.{bytes_eq}
+use Rattle.liq_text.specs.Pieces.{first_word}
+use Rattle.liq_text.proofs.ReadingLaws.{number_of-decimal, number_of-some, none_from, yes}
+use Rattle.liq_text.proofs.SpellingLaws.{account_again, account_takes, bind_some, plain, IsPlain, plain_spelled}
+use Rattle.liq_text.proofs.RequestLaws.{queryless, request_takes, request_again, plain_request, nonempty_request}
 
 abbrev is_space : ℕ → Bool
 is_space b = eqb b 32
@@ -115,3 +121,53 @@ is_only {A} o r e x made found = made ∙ ap (λ (y : Option A). ok_or y e) foun
 pub is_bad : {A E Q : Type 0} (o : Option A) (r : Result A E) (e : E) → r ≡ ok_or o e → (o ≡ None → Q) → OnErr r Q
 is_bad (Some x) r e made none = rw made tt
 is_bad None r e made none = rw made (none refl)
+
+-- ---- a query
+
+asked_line : (rest : List ℕ) → request_of (pieces_of (codes "? " ++ rest)) ≡ (query_of (pieces_of rest) >>= λ query. Some (Ask query))
+unfolding request_of pieces_of first others
+asked_line rest = refl
+
+pub asked_read : (line rest : List ℕ) (read : Option Query) → line ≡ codes "? " ++ rest → read ≡ query_of (pieces_of rest) → (read >>= λ query. Some (Ask query)) ≡ request_of (pieces_of line)
+asked_read line rest read starts is = ap (λ (o : Option Query). o >>= λ query. Some (Ask query)) is ∙ sym (asked_line rest) ∙ ap (λ (l : List ℕ). request_of (pieces_of l)) (sym starts)
+
+pub query_found : (line rest : List ℕ) (read : Option Query) → line ≡ codes "? " ++ rest → read ≡ query_of (pieces_of rest) → IfSome read (λ query. Spells line (Ask query))
+query_found line rest None starts is = tt
+query_found line rest (Some query) starts is =
+    read_is_spelled line (Ask query) (ap (λ (l : List ℕ). request_of (pieces_of l)) starts ∙ asked_line rest ∙ ap (λ (o : Option Query). o >>= λ q. Some (Ask q)) (sym is))
+
+pub query_only : (line rest : List ℕ) (read : Option Query) (query : Query) → line ≡ codes "? " ++ rest → read ≡ query_of (pieces_of rest) → Spells line (Ask query) → read ≡ Some query
+query_only line rest read query starts is s =
+    let e : (query_of (pieces_of rest) >>= λ q. Some (Ask q)) ≡ Some (Ask query) = sym (asked_line rest) ∙ ap (λ (l : List ℕ). request_of (pieces_of l)) (sym starts) ∙ spelled_is_read line (Ask query) s in
+    let b = bind_some (query_of (pieces_of rest)) (λ q. Some (Ask q)) (Ask query) e in
+    let same : b.0 ≡ query = cc (b.2) in
+    is ∙ b.1 ∙ ap Some same
+
+named_query : (query : Query) → SpellEach [] (query_words query) → ⊥
+named_query (queries.Wallet owner) s = s
+named_query (queries.Trove owner) s = s
+named_query (queries.Deposit owner) s = s
+named_query queries.Pools s = s
+named_query queries.System s = s
+named_query (queries.NextNumber client) s = s
+
+pub query_starts : (line : List ℕ) (query : Query) (pieces : List (List ℕ)) → line ≡ join_with_byte 32 pieces → SpellEach pieces (request_words (Ask query)) → (rest : List ℕ) × (line ≡ codes "? " ++ rest)
+query_starts line query [] joined s = absurd s
+query_starts line query (first ∷ []) joined s = absurd (named_query query s.1)
+query_starts line query (first ∷ next ∷ pieces) joined s = (join_with_byte 32 (next ∷ pieces), joined ∙ ap (λ (p : List ℕ). p ++ 32 ∷ join_with_byte 32 (next ∷ pieces)) s.0)
+
+-- ---- a line that begins as no query does
+
+client_spelled : (pieces : List (List ℕ)) (c : Command) → SpellEach pieces (request_words (Do c)) → account_of (first_word pieces) ≡ Some c.client
+unfolding first_word
+client_spelled [] c s = absurd s
+client_spelled (piece ∷ pieces) c s = account_again piece c.client s.0.0 s.0.1
+
+pub no_client : (line : List ℕ) → ((rest : List ℕ) → line ≢ codes "? " ++ rest) → None ≡ account_of (first_word (pieces_of line)) → None ≡ request_of (pieces_of line)
+no_client line none client = none_from (request_of (pieces_of line)) (λ r e. by r (request_takes (pieces_of line) r e)) where
+  by : (r : Request) → SpellEach (pieces_of line) (request_words r) → ⊥
+  by (Ask query) s = let starts = query_starts line query (pieces_of line) (join-pieces_of line) s in none starts.0 starts.1
+  by (Do c) s = none-some c.client (client ∙ client_spelled (pieces_of line) c s)
+
+pub no_question : (piece : List ℕ) (client : ℕ) → Some client ≡ account_of piece → bytes_eq piece (codes "?") ≡ false
+no_question piece client e = let t = account_takes piece client (sym e) in queryless piece client t.0 t.1

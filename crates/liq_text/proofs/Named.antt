@@ -2,8 +2,8 @@
 use Rattle.std.specs.Prelude.{List, ℕ, codes}
 use Rattle.liq_text.specs.declared.names.Verb.{Verb}
 use Rattle.liq_text.specs.declared.names.Verb.TheVariants as verbs
-use Rattle.liq_text.specs.declared.names.Topic.{Topic}
-use Rattle.liq_text.specs.declared.names.Topic.TheVariants as topics
+use Rattle.liq_text.specs.Topics.{Topic}
+use Rattle.liq_text.specs.Topics as topics
 
 abbrev pub verb_name : Verb → List ℕ
 verb_name verbs.Price = codes "price"

@@ -17,10 +17,10 @@ use Rattle.liq_types.specs.declared.requests.Query.{Query}
 use Rattle.liq_types.specs.declared.requests.Query.TheVariants as queries
 use Rattle.liq_text.specs.declared.names.Verb.{Verb}
 use Rattle.liq_text.specs.declared.names.Verb.TheVariants as verbs
-use Rattle.liq_text.specs.declared.names.Topic.{Topic}
-use Rattle.liq_text.specs.declared.names.Topic.TheVariants as topics
-use Rattle.liq_text.specs.declared.names.TheConstants.{VERBS, TOPICS}
-use Rattle.liq_text.specs.Names.{named, verb_of, topic_of}
+use Rattle.liq_text.specs.Topics.{Topic}
+use Rattle.liq_text.specs.Topics as topics
+use Rattle.liq_text.specs.declared.names.TheConstants.{VERBS}
+use Rattle.liq_text.specs.Names.{named, verb_of, topics as topic_names, topic_of}
 use Rattle.liq_text.proofs.Named.{verb_name, topic_name}
 use Rattle.liq_text.specs.Spelling.{Word, text, account, number, Spell, SpellEach, call_words, query_words, request_words}
 use Rattle.liq_text.specs.Reading.{◌>>=◌, number_of, account_of, first, others, fields, verb_kinds, call_with, topic_kinds, query_with, arguments_of, subject_of, call_of, query_of, request_of}
@@ -163,7 +163,7 @@ call_plain pieces x s =
 -- ---- the topics
 
 topic_takes : (word : List ℕ) (found : Topic) → topic_of word ≡ Some found → word ≡ topic_name found
-topic_takes word found e = named_takes (λ row. row.0.now) (λ row. row.1) topic_name TOPICS word found ((refl, (refl, (refl, (refl, (refl, (refl, tt))))))) e
+topic_takes word found e = named_takes (λ row. row.0) (λ row. row.1) topic_name topic_names word found ((refl, (refl, (refl, (refl, (refl, (refl, tt))))))) e
 
 topic_again : (topic : Topic) → topic_of (topic_name topic) ≡ Some topic
 topic_again topics.Wallet = refl
@@ -240,7 +240,7 @@ otherwise false x y e = refl
 no_query : (a : ℕ) → a < 2 ^ 64 → codes "?" ≡ decimal a → ⊥
 no_query a lt e = let d : IsNumeral 10 (codes "?") = subst (λ (ds : List ℕ). IsNumeral 10 ds) (sym e) (decimal_is_IsNumeral a lt).0 in let far : digit_value 63 < 10 = d.1.0 in omega (arith, far)
 
-queryless : (piece : List ℕ) (a : ℕ) → a < 2 ^ 32 → piece ≡ decimal a → bytes_eq piece (codes "?") ≡ false
+pub queryless : (piece : List ℕ) (a : ℕ) → a < 2 ^ 32 → piece ≡ decimal a → bytes_eq piece (codes "?") ≡ false
 queryless piece a small e = false_from_ne_true (bytes_eq piece (codes "?")) (λ t. no_query a (omega arith) (sym ((bytes_eq-Decides piece (codes "?")).0 t) ∙ e))
 
 query_request : (pieces : List (List ℕ)) (r : Request) → (query_of pieces >>= λ q. Some (Ask q)) ≡ Some r → SpellEach (codes "?" ∷ pieces) (request_words r)

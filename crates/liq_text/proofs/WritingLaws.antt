@@ -1,8 +1,9 @@
 -- Words written one after the other.
-use Rattle.std.proofs.Common.{Option, Some, None, inl, suc, ◌≡◌, ℕ, ◌+◌, ◌*◌, ◌-◌, ◌<◌, ◌≤◌, List, [], ◌∷◌, ◌++◌, length, get_or, take, drop, refl, sym, ap, ◌∙◌, append_assoc, drop-cons, add-one, mul-le-mul_right, arith}
+use Rattle.std.proofs.Common.{Option, Some, None, inl, suc, ◌≡◌, ℕ, ◌+◌, ◌*◌, ◌-◌, ◌<◌, ◌≤◌, List, [], ◌∷◌, ◌++◌, length, get_or, set, take, drop, refl, sym, ap, ◌∙◌, append_assoc, drop-cons, add-one, mul-le-mul_right, ◌^◌, lit<, arith}
 use Rattle.std.specs.Prelude.{decimal, map}
 use Rattle.std.specs.List.{join_with_byte, AllByRecursion}
-use Rattle.std.proofs.lemmas.List.{append-nil, take_all}
+use Rattle.std.proofs.lemmas.Fmt.{length-decimal-le_wide}
+use Rattle.std.proofs.lemmas.List.{append-nil, drop-set, take_all}
 use Rattle.std.proofs.Math.ListN.{drop_of_length-le}
 use Rattle.liq_types.specs.declared.requests.Request.{Request}
 use Rattle.liq_types.specs.declared.hints.HintWords.{HintWords}
@@ -34,6 +35,23 @@ room_for len room n i w lt left =
     let more : (i + 1) * w ≤ n * w = mul-le-mul_right w (omega arith) in
     omega (arith, next_times i w, more)
 
+-- ---- numbers written from the last to the first
+
+pub number_short : (n : ℕ) → n < 2 ^ 64 → length (decimal n) ≤ 20
+number_short n small = length-decimal-le_wide 20 n (lit< tt) (omega (arith, small)) (omega (arith, small))
+
+pub nothing_behind : (buf numbers : List ℕ) (end all : ℕ) → length buf ≤ end → length numbers ≤ all → drop end buf ≡ spaced (map decimal (drop all numbers))
+nothing_behind buf numbers end all over behind = drop_of_length-le buf over ∙ ap (λ (ns : List ℕ). spaced (map decimal ns)) (sym (drop_of_length-le numbers behind))
+
+pub put_before : (old buf : List ℕ) (behind start at left i : ℕ) (numbers : List ℕ) → i + 1 ≡ left → left ≤ length numbers → drop behind old ≡ spaced (map decimal (drop left numbers))
+    → drop start buf ≡ decimal (get_or numbers i 0) ++ drop behind old → at + 1 ≡ start → at < length buf → drop at (set buf at 32) ≡ spaced (map decimal (drop i numbers))
+put_before old buf behind start at left i numbers next within so_far written step room =
+    let lt : i < length numbers = omega arith in
+    let cut : drop i numbers ≡ get_or numbers i 0 ∷ drop (i + 1) numbers = rw (add-one, drop-cons numbers i 0) refl in
+    let whole : drop i numbers ≡ get_or numbers i 0 ∷ drop left numbers = cut ∙ ap (λ (k : ℕ). get_or numbers i 0 ∷ drop k numbers) next in
+    let front : drop (at + 1) buf ≡ decimal (get_or numbers i 0) ++ spaced (map decimal (drop left numbers)) = ap (λ (k : ℕ). drop k buf) step ∙ written ∙ ap (λ (t : List ℕ). decimal (get_or numbers i 0) ++ t) so_far in
+    drop-set buf at 32 room ∙ ap (λ (t : List ℕ). 32 ∷ t) front ∙ ap (λ (ns : List ℕ). spaced (map decimal ns)) (sym whole)
+
 -- ---- joined words
 
 pub join_spaced : (piece : List ℕ) (pieces : List (List ℕ)) → join_with_byte 32 (piece ∷ pieces) ≡ piece ++ spaced pieces
@@ -44,12 +62,16 @@ pub put_behind : (out mid new piece : List ℕ) (pieces : List (List ℕ)) → m
 put_behind out mid new piece pieces first second =
     second ∙ ap (λ (m : List ℕ). m ++ spaced pieces) first ∙ append_assoc out piece (spaced pieces) ∙ ap (λ (t : List ℕ). out ++ t) (sym (join_spaced piece pieces))
 
-pub put_behind_first : (out mid new numbers : List ℕ) → 1 ≤ length numbers → mid ≡ out ++ decimal (get_or numbers 0 0) → new ≡ mid ++ spaced (map decimal (take (length numbers - 1) (drop 1 numbers)))
-    → new ≡ out ++ join_with_byte 32 (map decimal numbers)
-put_behind_first out mid new [] some first second = absurd (omega arith)
-put_behind_first out mid new (n ∷ ns) some first second =
+pub list_before : (buf rest numbers : List ℕ) (start : ℕ) → 1 ≤ length numbers → drop start buf ≡ decimal (get_or numbers 0 0) ++ rest → rest ≡ spaced (map decimal (take (length numbers - 1) (drop 1 numbers)))
+    → drop start buf ≡ join_with_byte 32 (map decimal numbers)
+list_before buf rest [] start some written behind = absurd (omega arith)
+list_before buf rest (n ∷ ns) start some written behind =
     let all : take (length (n ∷ ns) - 1) ns ≡ ns = take_all (length (n ∷ ns) - 1) ns (omega arith) in
-    put_behind out mid new (decimal n) (map decimal ns) first (second ∙ ap (λ (t : List ℕ). mid ++ spaced (map decimal t)) all)
+    written ∙ ap (λ (t : List ℕ). decimal n ++ t) (behind ∙ ap (λ (t : List ℕ). spaced (map decimal t)) all) ∙ sym (join_spaced (decimal n) (map decimal ns))
+
+pub no_list : (buf numbers : List ℕ) (end : ℕ) → length buf ≤ end → length numbers < 1 → drop end buf ≡ join_with_byte 32 (map decimal numbers)
+no_list buf [] end over none = drop_of_length-le buf over
+no_list buf (n ∷ ns) end over none = absurd (omega arith)
 
 -- ---- the words of a request
 

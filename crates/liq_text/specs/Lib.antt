@@ -1,4 +1,5 @@
 pub mod Spelling
+pub mod Topics
 pub mod Names
 pub mod Reading
 pub mod Pieces

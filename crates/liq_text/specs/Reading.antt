@@ -7,8 +7,8 @@ use Rattle.std.specs.Str.{bytes_eq}
 use Rattle.std.specs.Str.Parse.{digits_value}
 use Rattle.liq_text.specs.declared.names.Verb.{Verb}
 use Rattle.liq_text.specs.declared.names.Verb.TheVariants as verbs
-use Rattle.liq_text.specs.declared.names.Topic.{Topic}
-use Rattle.liq_text.specs.declared.names.Topic.TheVariants as topics
+use Rattle.liq_text.specs.Topics.{Topic}
+use Rattle.liq_text.specs.Topics as topics
 use Rattle.liq_text.specs.Names.{verb_of, topic_of}
 use Rattle.liq_types.specs.declared.requests.Request.{Request}
 use Rattle.liq_types.specs.declared.requests.Request.TheVariants.{Do, Ask}

@@ -14,7 +14,7 @@ mod values;
 mod writing;
 
 pub use bad_line::BadLine;
-pub use lines::{read_line, read_session_line};
+pub use lines::{read_line, read_query, read_session_line};
 pub use replies::write_reply;
 pub use requests::write_request;
 pub use values::read_number;

@@ -1,16 +1,18 @@
 //! Lines, read.
 
-ghost use Rattle.std.specs.Prelude.{◌≡◌, ℕ, Ok, IfOk, OnErr};
+ghost use Rattle.std.specs.Prelude.{◌≡◌, ◌≢◌, ◌++◌, ℕ, List, Ok, Some, IfOk, IfSome, OnErr, codes};
+ghost use Rattle.liq_types.specs.declared.requests.Query.{Query};
 ghost use Rattle.liq_types.specs.declared.requests.Request.{Request};
+ghost use Rattle.liq_types.specs.declared.requests.Request.TheVariants.{Ask};
 ghost use Rattle.liq_text.specs.Spelling.{Spells, SpellsInSession};
-ghost use Rattle.liq_text.specs.Reading.{pieces_of, call_of, query_of, request_of, session_of, session_request_of};
+ghost use Rattle.liq_text.specs.Reading.{pieces_of, call_of, request_of, session_of, session_request_of};
 ghost use Rattle.liq_text.specs.Pieces.{pieces_left, unless};
 
 use crate::bad_line::BadLine;
 use crate::calls::arguments;
-use crate::names::{TOPICS, VERBS, meaning};
-use crate::pieces::Pieces;
-use crate::queries::subject;
+use crate::names::{VERBS, meaning};
+use crate::pieces::{Pieces, split_first};
+use crate::queries::asked;
 use crate::values;
 use liq_types::{Call, Command, Query, Request};
 
@@ -22,29 +24,41 @@ fn call(words: &mut Pieces<'_>) -> Option<Call>
     words.is_done().then_some(call)
 }
 
-fn query(words: &mut Pieces<'_>) -> Option<Query>
-    ensures { result ≡ unless words.old.has_failed (query_of (pieces_left words.old)) }
+/// The request on a line that begins as no query does.
+fn commanded(line: &[u8]) -> Option<Request>
+    requires { (rest : List ℕ) → line.now ≢ codes "? " ++ rest }
+    ensures { result ≡ request_of (pieces_of line.now) }
 {
-    let topic = meaning(&TOPICS, words.next())?;
-    let query = subject(topic, words);
-    words.is_done().then_some(query)
-}
-
-fn request(words: &mut Pieces<'_>) -> Option<Request>
-    ensures { result ≡ unless words.old.has_failed (request_of (pieces_left words.old)) }
-{
-    let first = words.next();
-    if first == b"?".as_slice() {
-        return Some(Request::Ask(query(words)?));
-    }
-    let client = values::account(first)?;
+    let mut words = Pieces::new(line);
+    let client = values::account(words.next())?;
     let number = words.number();
-    let call = call(words)?;
+    let call = call(&mut words)?;
     Some(Request::Do(Command {
         client,
         number,
         call,
     }))
+}
+
+fn request(line: &[u8]) -> Option<Request>
+    ensures { result ≡ request_of (pieces_of line.now) }
+{
+    match line.strip_prefix(b"? ") {
+        Some(words) => Some(Request::Ask(asked(words)?)),
+        None => commanded(line),
+    }
+}
+
+/// The query that a line spells, the line end not counted: none where it spells none.
+pub fn read_query(line: &[u8]) -> Option<Query>
+    ensures found { IfSome result (λ query. Spells line.now (Ask query)) }
+    // So at most one query is spelled, and none is passed over.
+    ensures only { (query : Query) → Spells line.now (Ask query) → result ≡ Some query }
+{
+    match line.strip_prefix(b"? ") {
+        Some(words) => asked(words),
+        None => None,
+    }
 }
 
 /// The request that a line spells, the line end not counted: [`BadLine`] where no request is spelled so, as on every line of
@@ -55,7 +69,7 @@ pub fn read_line(line: &[u8]) -> Result<Request, BadLine>
     ensures only { (request : Request) → Spells line.now request → result ≡ Ok request }
     ensures bad { OnErr result ((request : Request) → Spells line.now request → ⊥) }
 {
-    request(&mut Pieces::new(line)).ok_or(BadLine)
+    request(line).ok_or(BadLine)
 }
 
 #[tactic(auto, unfolding(crate::specs::Reading::session_of))]
@@ -71,9 +85,9 @@ fn session(word: &[u8]) -> Option<u8>
 fn session_request_in(line: &[u8]) -> Option<(u8, Request)>
     ensures { result ≡ session_request_of (pieces_of line.now) }
 {
-    let mut words = Pieces::new(line);
-    let session = session(words.next())?;
-    let request = request(&mut words)?;
+    let (word, rest) = split_first(line);
+    let session = session(word)?;
+    let request = request(rest?)?;
     Some((session, request))
 }
 

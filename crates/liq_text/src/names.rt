@@ -1,4 +1,4 @@
-//! The verbs and the names of queries.
+//! The verbs.
 
 ghost use Rattle.std.specs.Prelude.{◌≡◌};
 ghost use Rattle.liq_text.specs.Names.{named};
@@ -23,17 +23,6 @@ pub(crate) enum Verb {
     Rotate,
 }
 
-/// What a query asks about.
-#[derive(Clone, Copy)]
-pub(crate) enum Topic {
-    Wallet,
-    Trove,
-    Deposit,
-    Pools,
-    System,
-    NextNumber,
-}
-
 /// The verb that each name stands for.
 pub(crate) const VERBS: [(&[u8], Verb); 16] = [
     (b"price", Verb::Price),
@@ -52,16 +41,6 @@ pub(crate) const VERBS: [(&[u8], Verb); 16] = [
     (b"redeem", Verb::Redeem),
     (b"claim", Verb::Claim),
     (b"rotate", Verb::Rotate),
-];
-
-/// What the name of each query asks about.
-pub(crate) const TOPICS: [(&[u8], Topic); 6] = [
-    (b"wallet", Topic::Wallet),
-    (b"trove", Topic::Trove),
-    (b"deposit", Topic::Deposit),
-    (b"pools", Topic::Pools),
-    (b"system", Topic::System),
-    (b"next_number", Topic::NextNumber),
 ];
 
 /// What a word stands for in a table of names.

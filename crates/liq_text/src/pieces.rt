@@ -96,8 +96,8 @@ impl<'a> Pieces<'a> {
     }
 }
 
-// The first word, and what stands behind its space where there is one.
-fn split_first(line: &[u8]) -> (&[u8], Option<&[u8]>)
+/// The first word, and what stands behind its space where there is one.
+pub(crate) fn split_first(line: &[u8]) -> (&[u8], Option<&[u8]>)
     ensures { pieces_of line.now ≡ result.0.now ∷ rest_pieces result.1 }
 {
     match space_in(line) {

@@ -1,23 +1,32 @@
-//! The words behind the name of a query.
+//! What a query asks.
 
 ghost use Rattle.std.specs.Prelude.{◌≡◌};
-ghost use Rattle.liq_text.specs.Reading.{subject_of};
-ghost use Rattle.liq_text.specs.Pieces.{pieces_left, finished, unless};
+ghost use Rattle.liq_text.specs.Reading.{pieces_of, query_of};
 
-use crate::names::Topic;
-use crate::pieces::Pieces;
+use crate::values::account;
 use liq_types::Query;
 
-/// The query that a name makes of the words behind it: one that counts only where the reader is then done.
-pub(crate) fn subject(topic: Topic, words: &mut Pieces<'_>) -> Query
-    ensures { finished result words.new.has_failed (pieces_left words.new) ≡ unless words.old.has_failed (subject_of topic (pieces_left words.old)) }
+/// The query that words spell. Each name is looked for with the space behind it, so that no word is searched for its end.
+pub(crate) fn asked(words: &[u8]) -> Option<Query>
+    ensures { result ≡ query_of (pieces_of words.now) }
 {
-    match topic {
-        Topic::Wallet => Query::Wallet(words.account()),
-        Topic::Trove => Query::Trove(words.account()),
-        Topic::Deposit => Query::Deposit(words.account()),
-        Topic::Pools => Query::Pools,
-        Topic::System => Query::System,
-        Topic::NextNumber => Query::NextNumber(words.account()),
+    if let Some(word) = words.strip_prefix(b"wallet ") {
+        return Some(Query::Wallet(account(word)?));
     }
+    if let Some(word) = words.strip_prefix(b"trove ") {
+        return Some(Query::Trove(account(word)?));
+    }
+    if let Some(word) = words.strip_prefix(b"deposit ") {
+        return Some(Query::Deposit(account(word)?));
+    }
+    if let Some(word) = words.strip_prefix(b"next_number ") {
+        return Some(Query::NextNumber(account(word)?));
+    }
+    if words == b"pools".as_slice() {
+        return Some(Query::Pools);
+    }
+    if words == b"system".as_slice() {
+        return Some(Query::System);
+    }
+    None
 }

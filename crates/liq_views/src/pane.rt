@@ -5,6 +5,7 @@ use crate::shelf::Shelf;
 use left_right::reader::Reader;
 
 mod look;
+mod number;
 mod window;
 
 /// A window at what a publisher publishes.

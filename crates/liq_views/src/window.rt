@@ -31,6 +31,15 @@ pub trait Window {
         ensures stays { OnErr result (shown self.new ≡ shown self.old) }
         ensures open { OnOk result (shut self.new ≡ shut self.old) }
         ensures cause { OnErr result (Rose (shut self.old) (shut self.new)) };
+
+    /// The number of the version that is then shown, by the same terms as [`Window::look`]: nobody's neighbours are looked up.
+    fn number(&mut self) -> Result<u64, Shut>
+        ensures told { IfOk result (λ number. IfSome (shown self.new) (λ v. number ≡ v.number)) }
+        ensures later { GoesOn (shown self.old) (shown self.new) }
+        ensures leads { leads self.old self.new }
+        ensures stays { OnErr result (shown self.new ≡ shown self.old) }
+        ensures open { OnOk result (shut self.new ≡ shut self.old) }
+        ensures cause { OnErr result (Rose (shut self.old) (shut self.new)) };
 }
 
 /// A window at which one version stands. It is never shut.
@@ -56,5 +65,9 @@ impl Window for Shown {
 
     fn look(&mut self, ask: &Ask) -> Result<Hint, Shut> {
         Ok(self.version.answer(ask))
+    }
+
+    fn number(&mut self) -> Result<u64, Shut> {
+        Ok(self.version.number())
     }
 }

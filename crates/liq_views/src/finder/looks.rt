@@ -10,12 +10,6 @@ use crate::window::{Shut, Window};
 use liq_types::Hint;
 use liq_version::Ask;
 
-/// What is asked where the number alone is wanted: the front of the list, before every key.
-const NUMBER_ALONE: Ask = Ask::At {
-    key: i128::MIN,
-    id: u32::MAX,
-};
-
 impl<V: Window + Drop> Finder<V> {
     /// A finder that has seen no version yet.
     pub fn new(window: V) -> Finder<V>
@@ -56,8 +50,11 @@ impl<V: Window + Drop> Finder<V> {
         ensures leads { V.leads self.old.window self.new.window }
         ensures rising { IsSome (V.shown self.old.window) → self.old.last ≤ self.new.last }
     {
-        match self.look(&NUMBER_ALONE) {
-            Ok(hint) => hint.version,
+        match self.window.number() {
+            Ok(number) => {
+                self.last = number;
+                number
+            }
             Err(_) => self.last,
         }
     }

@@ -19,4 +19,8 @@ impl Window for Pane {
     fn look(&mut self, ask: &Ask) -> Result<Hint, Shut> {
         self.look(ask)
     }
+
+    fn number(&mut self) -> Result<u64, Shut> {
+        self.number()
+    }
 }

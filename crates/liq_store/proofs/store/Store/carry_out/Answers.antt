@@ -1,0 +1,199 @@
+use Rattle.std.proofs.Common.{◌∙◌, ℕ, Option, Some, refl, sym, ap, subst, arith}
+use Rattle.liq_types.specs.declared.image.Image.{Image}
+use Rattle.liq_types.specs.declared.replies.Answer.TheVariants as answer
+use Rattle.liq_types.specs.declared.replies.Reply.TheVariants.{No, Said}
+use Rattle.liq_types.specs.State.{State}
+use Rattle.liq_core.specs.Core.{StandsFor, state_of}
+use Rattle.liq_core.proofs.SameContents.{stands_after}
+use Rattle.liq_rules.specs.Step.{after}
+use Rattle.liq_journal.specs.Settled.{JournalOn}
+use Rattle.liq_journal.specs.Written.{is_odd}
+use Rattle.liq_journal.proofs.Testing.{not_rotate}
+use Rattle.liq_pairs.specs.declared.side.Side.{Side}
+use Rattle.liq_pairs.specs.Sides.{other}
+use Rattle.liq_store.specs.Answering.{read_back}
+use Rattle.liq_store.specs.Calling.{WritesOn}
+use Rattle.liq_store.specs.Keeping.{IsInOrder}
+use Rattle.liq_store.specs.Rotating.{is_rotation}
+use Rattle.liq_store.specs.Stored.{Stored}
+use Rattle.liq_store.specs.Within.{IsWithin, stored}
+use Rattle.liq_store.proofs.Appending.{all_has, appends, appends_on, has_same, kept_near, some_isnt_none, still_has, went_on}
+use Rattle.liq_store.proofs.Calling.{refused_stays, repeated_stays, reply_stays, stays_on}
+use Rattle.liq_store.proofs.Generations.{counts_on, generation_stays}
+use Rattle.liq_store.proofs.Going.{order_going, order_halted, order_same, within_same}
+use Rattle.liq_store.proofs.Steps.{replied, stepped}
+use Rattle.liq_store.proofs.Turning.{rotation_from, turning_done, turning_failed, turning_halts, turning_within, turns_by}
+use Rattle.liq_store.proofs.store.Store.carry_out.Goals as goal
+
+pub invariant_of-self : goal.invariant_of-self
+invariant_of-self g c =
+    within_same g.D.Disk.seen g.D.Disk.moment g.D.Disk.left_at c.self.inside.side c.self.inside.taken c.self.inside.beside c.self.inside.protocol c.prepare.new.protocol c.self.inside.stopped c.prepare.ensures.same c.self.invariant
+
+pub invariant_of-self-in-No : goal.invariant_of-self-in-No
+invariant_of-self-in-No g c =
+    within_same g.D.Disk.seen g.D.Disk.moment g.D.Disk.left_at c.self.inside.side c.self.inside.taken c.self.inside.beside c.self.inside.protocol c.prepare.new.protocol c.self.inside.stopped c.prepare.ensures.same c.self.invariant
+
+pub invariant_of-self-in-NoMemory : goal.invariant_of-self-in-NoMemory
+invariant_of-self-in-NoMemory g c =
+    within_same g.D.Disk.seen g.D.Disk.moment g.D.Disk.left_at c.self.inside.side c.self.inside.taken c.self.inside.beside c.self.inside.protocol c.prepare.new.protocol c.self.inside.stopped c.prepare.ensures.same c.self.invariant
+
+pub invariant_of-self-in_default-checkpoint_after : goal.invariant_of-self-in_default-checkpoint_after
+invariant_of-self-in_default-checkpoint_after g c =
+    within_same g.D.Disk.seen g.D.Disk.moment g.D.Disk.left_at c.self.inside.side c.self.inside.taken c.self.inside.beside c.self.inside.protocol c.prepare.new.protocol c.self.inside.stopped c.prepare.ensures.same c.self.invariant
+
+pub returns-in-Again-clause-order : goal.returns-in-Again-clause-order
+returns-in-Again-clause-order g c =
+    order_same g.D.Disk.seen g.D.Disk.moment g.D.Disk.left_at c.self.inside.changes.items _ c.self.inside.side c.self.inside.taken c.self.inside.beside c.self.inside.protocol c.prepare.new.protocol c.self.inside.stopped c.prepare.ensures.same c.self.invariant.order
+
+pub returns-in-No-clause-order : goal.returns-in-No-clause-order
+returns-in-No-clause-order g c =
+    order_same g.D.Disk.seen g.D.Disk.moment g.D.Disk.left_at c.self.inside.changes.items _ c.self.inside.side c.self.inside.taken c.self.inside.beside c.self.inside.protocol c.prepare.new.protocol c.self.inside.stopped c.prepare.ensures.same c.self.invariant.order
+
+pub returns-in-NoMemory-clause-order : goal.returns-in-NoMemory-clause-order
+returns-in-NoMemory-clause-order g c =
+    order_same g.D.Disk.seen g.D.Disk.moment g.D.Disk.left_at c.self.inside.changes.items _ c.self.inside.side c.self.inside.taken c.self.inside.beside c.self.inside.protocol c.prepare.new.protocol c.self.inside.stopped c.prepare.ensures.same c.self.invariant.order
+
+pub returns-in_default-checkpoint_after-clause-order : goal.returns-in_default-checkpoint_after-clause-order
+returns-in_default-checkpoint_after-clause-order g c =
+    order_same g.D.Disk.seen g.D.Disk.moment g.D.Disk.left_at c.self.inside.changes.items _ c.self.inside.side c.self.inside.taken c.self.inside.beside c.self.inside.protocol c.prepare.new.protocol c.self.inside.stopped c.prepare.ensures.same c.self.invariant.order
+
+pub returns-in-Again-clause-disks : goal.returns-in-Again-clause-disks
+returns-in-Again-clause-disks g c =
+    stays_on g.D.Disk.seen g.D.Disk.moment g.D.Disk.left_at c.self.inside.side c.self.inside.taken c.self.inside.beside c.self.inside.protocol c.self.inside.stopped c.self.inside.changes.items c.self.invariant c.args.self.now c.self.view_is c.prepare.new.protocol c.self.inside.stopped c.prepare.new.changes.items c.args.request.now _
+    (λ s stands. reply_stays s c.args.request.now (Said c.in-Again.done) c.self.inside.side c.self.inside.taken.start (ap (is_rotation s) c.in-Do.is ∙ repeated_stays s c.in-Do.command c.in-Again.done (c.in-Again.ensures.prepared s stands)))
+
+pub returns-in-No-clause-disks : goal.returns-in-No-clause-disks
+returns-in-No-clause-disks g c =
+    stays_on g.D.Disk.seen g.D.Disk.moment g.D.Disk.left_at c.self.inside.side c.self.inside.taken c.self.inside.beside c.self.inside.protocol c.self.inside.stopped c.self.inside.changes.items c.self.invariant c.args.self.now c.self.view_is c.prepare.new.protocol c.self.inside.stopped c.prepare.new.changes.items c.args.request.now _
+    (λ s stands. reply_stays s c.args.request.now (No c.in-No.refusal) c.self.inside.side c.self.inside.taken.start (ap (is_rotation s) c.in-Do.is ∙ refused_stays s c.in-Do.command c.in-No.refusal (c.in-No.ensures.prepared s stands)))
+
+pub returns-in-NoMemory-clause-disks : goal.returns-in-NoMemory-clause-disks
+returns-in-NoMemory-clause-disks g c =
+    stays_on g.D.Disk.seen g.D.Disk.moment g.D.Disk.left_at c.self.inside.side c.self.inside.taken c.self.inside.beside c.self.inside.protocol c.self.inside.stopped c.self.inside.changes.items c.self.invariant c.args.self.now c.self.view_is c.prepare.new.protocol c.self.inside.stopped c.prepare.new.changes.items c.args.request.now _
+    (λ s stands. (refl, refl))
+
+pub returns-in_default-checkpoint_after-clause-disks : goal.returns-in_default-checkpoint_after-clause-disks
+returns-in_default-checkpoint_after-clause-disks g c =
+    stays_on g.D.Disk.seen g.D.Disk.moment g.D.Disk.left_at c.self.inside.side c.self.inside.taken c.self.inside.beside c.self.inside.protocol c.self.inside.stopped c.self.inside.changes.items c.self.invariant c.args.self.now c.self.view_is c.prepare.new.protocol c.self.inside.stopped c.prepare.new.changes.items c.args.request.now _
+    (λ s stands. (refl, refl))
+
+pub invariant_of-self-in-Err : goal.invariant_of-self-in-Err
+invariant_of-self-in-Err g c =
+    let t = turns_by g.D.Disk.seen g.D.Disk.moment g.D.Disk.left_at c.self.inside.side c.self.inside.taken c.self.inside.beside c.turn.new.beside c.self.inside.protocol c.self.inside.stopped c.in-Do.command c.deref.result.now (ap (λ (o : Stored g.row.D.Denot). o.stopped) c.self.view_is ∙ c.requires.going) c.self.invariant
+    (rotation_from c.self.inside.protocol c.prepare.new.protocol c.protocol.result.now c.in-Ready.planned c.in-Do.command c.in-Ok.checkpoint.items c.deref.result.now c.prepare.ensures.same c.protocol.ensures c.in-Ready.ensures.ready.0 c.deref.ensures.value c.in-Ok.ensures.rotation)
+    c.in-Err.ensures.telling c.in-Err.ensures.crash c.in-Err.ensures.time in
+    subst (λ (j : JournalOn g.row.D.Denot). IsWithin g.D.Disk.seen g.D.Disk.moment g.D.Disk.left_at c.self.inside.side j c.turn.new.beside c.prepare.new.protocol (Some c.sum_of_faults.result) c.prepare.new.changes.items) (sym c.in-Err.ensures.kept)
+    (turning_halts g.D.Disk.seen g.D.Disk.moment g.D.Disk.left_at c.self.inside.side c.self.inside.taken c.self.inside.beside c.turn.new.beside c.self.inside.protocol c.in-Do.command c.deref.result.now t g.met.D.Disk.seen_may_stay c.self.inside.stopped c.self.invariant c.prepare.new.protocol c.prepare.ensures.same c.sum_of_faults.result)
+
+pub returns-in-Err-clause-order : goal.returns-in-Err-clause-order
+returns-in-Err-clause-order g c =
+    let t = turns_by g.D.Disk.seen g.D.Disk.moment g.D.Disk.left_at c.self.inside.side c.self.inside.taken c.self.inside.beside c.turn.new.beside c.self.inside.protocol c.self.inside.stopped c.in-Do.command c.deref.result.now (ap (λ (o : Stored g.row.D.Denot). o.stopped) c.self.view_is ∙ c.requires.going) c.self.invariant
+    (rotation_from c.self.inside.protocol c.prepare.new.protocol c.protocol.result.now c.in-Ready.planned c.in-Do.command c.in-Ok.checkpoint.items c.deref.result.now c.prepare.ensures.same c.protocol.ensures c.in-Ready.ensures.ready.0 c.deref.ensures.value c.in-Ok.ensures.rotation)
+    c.in-Err.ensures.telling c.in-Err.ensures.crash c.in-Err.ensures.time in
+    subst (λ (j : JournalOn g.row.D.Denot). IsInOrder g.D.Disk.seen g.D.Disk.moment g.D.Disk.left_at (stored c.self.inside.side j c.turn.new.beside c.prepare.new.protocol (Some c.sum_of_faults.result) c.prepare.new.changes.items)) (sym c.in-Err.ensures.kept)
+    (turning_halts g.D.Disk.seen g.D.Disk.moment g.D.Disk.left_at c.self.inside.side c.self.inside.taken c.self.inside.beside c.turn.new.beside c.self.inside.protocol c.in-Do.command c.deref.result.now t {changes = c.prepare.new.changes.items} g.met.D.Disk.seen_may_stay c.self.inside.stopped c.self.invariant c.prepare.new.protocol c.prepare.ensures.same c.sum_of_faults.result).order
+
+pub returns-in-Err-clause-disks : goal.returns-in-Err-clause-disks
+returns-in-Err-clause-disks g c =
+    let t = turns_by g.D.Disk.seen g.D.Disk.moment g.D.Disk.left_at c.self.inside.side c.self.inside.taken c.self.inside.beside c.turn.new.beside c.self.inside.protocol c.self.inside.stopped c.in-Do.command c.deref.result.now (ap (λ (o : Stored g.row.D.Denot). o.stopped) c.self.view_is ∙ c.requires.going) c.self.invariant
+    (rotation_from c.self.inside.protocol c.prepare.new.protocol c.protocol.result.now c.in-Ready.planned c.in-Do.command c.in-Ok.checkpoint.items c.deref.result.now c.prepare.ensures.same c.protocol.ensures c.in-Ready.ensures.ready.0 c.deref.ensures.value c.in-Ok.ensures.rotation)
+    c.in-Err.ensures.telling c.in-Err.ensures.crash c.in-Err.ensures.time in
+    subst (λ (j : JournalOn g.row.D.Denot). WritesOn g.D.Disk.seen g.D.Disk.moment g.D.Disk.left_at c.args.self.now c.args.request.now answer.DiskFault (stored c.self.inside.side j c.turn.new.beside c.prepare.new.protocol (Some c.sum_of_faults.result) c.prepare.new.changes.items)) (sym c.in-Err.ensures.kept)
+    (turning_failed g.D.Disk.seen g.D.Disk.moment g.D.Disk.left_at c.self.inside.side c.self.inside.taken c.self.inside.beside c.turn.new.beside c.self.inside.protocol c.in-Do.command c.deref.result.now t c.self.inside.stopped c.self.inside.changes.items c.self.invariant c.args.self.now c.self.view_is c.args.request.now c.in-Do.is c.prepare.new.protocol (Some c.sum_of_faults.result) c.prepare.new.changes.items)
+
+pub invariant_of-self-in-Rotate : goal.invariant_of-self-in-Rotate
+invariant_of-self-in-Rotate g c =
+    let t = turns_by g.D.Disk.seen g.D.Disk.moment g.D.Disk.left_at c.self.inside.side c.self.inside.taken c.self.inside.beside c.turn.new.self.disk c.self.inside.protocol c.self.inside.stopped c.in-Do.command c.deref.result.now (ap (λ (o : Stored g.row.D.Denot). o.stopped) c.self.view_is ∙ c.requires.going) c.self.invariant
+    (rotation_from c.self.inside.protocol c.prepare.new.protocol c.protocol.result.now c.in-Ready.planned c.in-Do.command c.in-Ok.checkpoint.items c.deref.result.now c.prepare.ensures.same c.protocol.ensures c.in-Ready.ensures.ready.0 c.deref.ensures.value c.in-Ok.ensures.rotation)
+    c.in-Ok-turn.ensures.telling c.in-Ok-turn.ensures.crash c.in-Ok-turn.ensures.time in
+    subst (λ (x : Side). IsWithin g.D.Disk.seen g.D.Disk.moment g.D.Disk.left_at x c.turn.new.self c.turn.new.beside c.make-done.new.protocol c.self.inside.stopped c.prepare.new.changes.items) (sym c.other-self-inside.ensures)
+    (subst (λ (d : g.row.D.Denot). IsWithin g.D.Disk.seen g.D.Disk.moment g.D.Disk.left_at (other c.self.inside.side) c.turn.new.self d c.make-done.new.protocol c.self.inside.stopped c.prepare.new.changes.items) (sym c.in-Ok-turn.ensures.exchanged)
+    (subst (λ (o : Option ℕ). IsWithin g.D.Disk.seen g.D.Disk.moment g.D.Disk.left_at (other c.self.inside.side) c.turn.new.self c.self.inside.taken.disk c.make-done.new.protocol o c.prepare.new.changes.items) (sym (ap (λ (o : Stored g.row.D.Denot). o.stopped) c.self.view_is ∙ c.requires.going))
+    (turning_within g.D.Disk.seen g.D.Disk.moment g.D.Disk.left_at c.self.inside.side c.self.inside.taken c.self.inside.beside c.turn.new.self.disk c.self.inside.protocol c.in-Do.command c.deref.result.now t c.make-done.new.protocol (state_of c.self.inside.protocol) c.prepare.ensures.stands (λ t so. let is = c.in-Ready.ensures.prepared t so in stepped c.make-done.new.protocol t c.in-Do.command c.in-Ready.planned is (c.make-done.ensures.state t (stands_after c.self.inside.protocol c.prepare.new.protocol t c.prepare.ensures.same so))) c.in-Ok-turn.ensures.durable c.in-Ok-turn.ensures.created
+    c.turn.new.self.generation c.turn.new.self.limit c.turn.new.self.start c.turn.new.self.count c.in-Ok-turn.ensures.known.0 c.in-Ok-turn.ensures.known.3 c.in-Ok-turn.ensures.settled)))
+
+pub returns-in-Rotate-clause-order : goal.returns-in-Rotate-clause-order
+returns-in-Rotate-clause-order g c =
+    let t = turns_by g.D.Disk.seen g.D.Disk.moment g.D.Disk.left_at c.self.inside.side c.self.inside.taken c.self.inside.beside c.turn.new.self.disk c.self.inside.protocol c.self.inside.stopped c.in-Do.command c.deref.result.now (ap (λ (o : Stored g.row.D.Denot). o.stopped) c.self.view_is ∙ c.requires.going) c.self.invariant
+    (rotation_from c.self.inside.protocol c.prepare.new.protocol c.protocol.result.now c.in-Ready.planned c.in-Do.command c.in-Ok.checkpoint.items c.deref.result.now c.prepare.ensures.same c.protocol.ensures c.in-Ready.ensures.ready.0 c.deref.ensures.value c.in-Ok.ensures.rotation)
+    c.in-Ok-turn.ensures.telling c.in-Ok-turn.ensures.crash c.in-Ok-turn.ensures.time in
+    subst (λ (x : Side). IsInOrder g.D.Disk.seen g.D.Disk.moment g.D.Disk.left_at (stored x c.turn.new.self c.turn.new.beside c.make-done.new.protocol c.self.inside.stopped c.prepare.new.changes.items)) (sym c.other-self-inside.ensures)
+    (subst (λ (d : g.row.D.Denot). IsInOrder g.D.Disk.seen g.D.Disk.moment g.D.Disk.left_at (stored (other c.self.inside.side) c.turn.new.self d c.make-done.new.protocol c.self.inside.stopped c.prepare.new.changes.items)) (sym c.in-Ok-turn.ensures.exchanged)
+    (subst (λ (o : Option ℕ). IsInOrder g.D.Disk.seen g.D.Disk.moment g.D.Disk.left_at (stored (other c.self.inside.side) c.turn.new.self c.self.inside.taken.disk c.make-done.new.protocol o c.prepare.new.changes.items)) (sym (ap (λ (o : Stored g.row.D.Denot). o.stopped) c.self.view_is ∙ c.requires.going))
+    (turning_within g.D.Disk.seen g.D.Disk.moment g.D.Disk.left_at c.self.inside.side c.self.inside.taken c.self.inside.beside c.turn.new.self.disk c.self.inside.protocol c.in-Do.command c.deref.result.now t {changes = c.prepare.new.changes.items} c.make-done.new.protocol (state_of c.self.inside.protocol) c.prepare.ensures.stands (λ t so. let is = c.in-Ready.ensures.prepared t so in stepped c.make-done.new.protocol t c.in-Do.command c.in-Ready.planned is (c.make-done.ensures.state t (stands_after c.self.inside.protocol c.prepare.new.protocol t c.prepare.ensures.same so))) c.in-Ok-turn.ensures.durable c.in-Ok-turn.ensures.created
+    c.turn.new.self.generation c.turn.new.self.limit c.turn.new.self.start c.turn.new.self.count c.in-Ok-turn.ensures.known.0 c.in-Ok-turn.ensures.known.3 c.in-Ok-turn.ensures.settled).order))
+
+pub returns-in-Rotate-clause-disks : goal.returns-in-Rotate-clause-disks
+returns-in-Rotate-clause-disks g c =
+    let t = turns_by g.D.Disk.seen g.D.Disk.moment g.D.Disk.left_at c.self.inside.side c.self.inside.taken c.self.inside.beside c.turn.new.self.disk c.self.inside.protocol c.self.inside.stopped c.in-Do.command c.deref.result.now (ap (λ (o : Stored g.row.D.Denot). o.stopped) c.self.view_is ∙ c.requires.going) c.self.invariant
+    (rotation_from c.self.inside.protocol c.prepare.new.protocol c.protocol.result.now c.in-Ready.planned c.in-Do.command c.in-Ok.checkpoint.items c.deref.result.now c.prepare.ensures.same c.protocol.ensures c.in-Ready.ensures.ready.0 c.deref.ensures.value c.in-Ok.ensures.rotation)
+    c.in-Ok-turn.ensures.telling c.in-Ok-turn.ensures.crash c.in-Ok-turn.ensures.time in
+    subst (λ (x : Side). WritesOn g.D.Disk.seen g.D.Disk.moment g.D.Disk.left_at c.args.self.now c.args.request.now (answer.Reply (Said c.make-done.result)) (stored x c.turn.new.self c.turn.new.beside c.make-done.new.protocol c.self.inside.stopped c.prepare.new.changes.items)) (sym c.other-self-inside.ensures)
+    (subst (λ (d : g.row.D.Denot). WritesOn g.D.Disk.seen g.D.Disk.moment g.D.Disk.left_at c.args.self.now c.args.request.now (answer.Reply (Said c.make-done.result)) (stored (other c.self.inside.side) c.turn.new.self d c.make-done.new.protocol c.self.inside.stopped c.prepare.new.changes.items)) (sym c.in-Ok-turn.ensures.exchanged)
+    (turning_done g.D.Disk.seen g.D.Disk.moment g.D.Disk.left_at c.self.inside.side c.self.inside.taken c.self.inside.beside c.turn.new.self.disk c.self.inside.protocol c.in-Do.command c.deref.result.now t c.self.inside.stopped c.self.inside.changes.items c.self.invariant c.args.self.now c.self.view_is c.args.request.now c.in-Do.is (Said c.make-done.result) c.make-done.new.protocol c.self.inside.stopped c.prepare.new.changes.items c.turn.new.self.generation c.turn.new.self.limit c.turn.new.self.start c.turn.new.self.count c.in-Ok-turn.ensures.known.2))
+
+pub returns-in-Rotate-clause-step : goal.returns-in-Rotate-clause-step
+returns-in-Rotate-clause-step g c s stands =
+    let here : StandsFor c.self.inside.protocol s = subst (λ (o : Stored g.row.D.Denot). StandsFor o.core s) (sym c.self.view_is) stands in
+    let there = stands_after c.self.inside.protocol c.prepare.new.protocol s c.prepare.ensures.same here in
+    replied c.make-done.new.protocol s c.in-Do.command c.in-Ready.planned c.args.request.now c.make-done.result c.in-Do.is (c.in-Ready.ensures.prepared s here).0 (c.make-done.ensures.state s there) (c.make-done.ensures.reply s there)
+
+pub returns-clause-step : goal.returns-clause-step
+returns-clause-step g c s stands =
+    let here : StandsFor c.self.inside.protocol s = subst (λ (o : Stored g.row.D.Denot). StandsFor o.core s) (sym c.self.view_is) stands in
+    let there = stands_after c.self.inside.protocol c.prepare.new.protocol s c.prepare.ensures.same here in
+    replied c.make-done-2.new.protocol s c.in-Do.command c.in-Ready.planned c.args.request.now c.make-done-2.result c.in-Do.is (c.in-Ready.ensures.prepared s here).0 (c.make-done-2.ensures.state s there) (c.make-done-2.ensures.reply s there)
+
+pub append-requires-clause-few : goal.append-requires-clause-few
+append-requires-clause-few g c =
+    let few = c.in-Ready.ensures.ready.2 (not_rotate c.in-Do.command.call c.in_default.not-Rotate) in omega (arith, few, c.prepare.ensures.same.records, c.self.invariant.count_is)
+
+pub invariant_of-self-in-Err-append : goal.invariant_of-self-in-Err-append
+invariant_of-self-in-Err-append g c =
+    let a = appends g.D.Disk.seen g.D.Disk.moment g.D.Disk.left_at c.self.inside.side c.self.inside.taken c.append.new.self c.self.inside.beside c.self.inside.protocol c.self.inside.stopped c.in-Do.command c.encode.result c.in-Ready.planned (ap (λ (o : Stored g.row.D.Denot). o.stopped) c.self.view_is ∙ c.requires.going) c.self.invariant (not_rotate c.in-Do.command.call c.in_default.not-Rotate) c.encode.ensures.read c.in-Ready.ensures.prepared c.append.ensures.telling c.append.ensures.crash in
+    record {
+      order = order_same g.D.Disk.seen g.D.Disk.moment g.D.Disk.left_at c.self.inside.changes.items _ c.self.inside.side c.append.new.self c.self.inside.beside c.self.inside.protocol c.prepare.new.protocol (Some c.sum_of_faults-in-Err-append.result) c.prepare.ensures.same (order_halted g.D.Disk.seen g.D.Disk.moment g.D.Disk.left_at c.self.inside.side c.append.new.self c.self.inside.beside c.self.inside.protocol c.sum_of_faults-in-Err-append.result g.met.D.Disk.seen_may_stay (kept_near g.D.Disk.seen g.D.Disk.moment g.D.Disk.left_at c.self.inside.side c.self.inside.taken c.append.new.self c.self.inside.beside c.self.inside.protocol c.in-Do.command c.encode.result a));
+      generation_is = c.append.ensures.generation ∙ c.self.invariant.generation_is ∙ sym (ap (λ (i : Image). i.generation) c.prepare.ensures.same.image);
+      parity_is = ap is_odd c.append.ensures.generation ∙ c.self.invariant.parity_is;
+      count_is = c.in-Err-append.ensures.no_more ∙ c.self.invariant.count_is ∙ sym c.prepare.ensures.same.records;
+      told = has_same (g.D.Disk.seen c.append.new.self.disk) c.self.inside.taken.generation c.self.inside.taken.start c.self.inside.taken.count c.append.new.self.generation c.append.new.self.start c.append.new.self.count c.append.ensures.generation c.append.ensures.start c.in-Err-append.ensures.no_more (still_has g.D.Disk.seen g.D.Disk.moment g.D.Disk.left_at c.self.inside.side c.self.inside.taken c.append.new.self c.self.inside.beside c.self.inside.protocol c.in-Do.command c.encode.result a g.met.D.Disk.seen_may_stay);
+      settled = λ no. absurd (some_isnt_none c.sum_of_faults-in-Err-append.result no);
+    }
+
+pub returns-in-Err-append-clause-order : goal.returns-in-Err-append-clause-order
+returns-in-Err-append-clause-order g c =
+    let a = appends g.D.Disk.seen g.D.Disk.moment g.D.Disk.left_at c.self.inside.side c.self.inside.taken c.append.new.self c.self.inside.beside c.self.inside.protocol c.self.inside.stopped c.in-Do.command c.encode.result c.in-Ready.planned (ap (λ (o : Stored g.row.D.Denot). o.stopped) c.self.view_is ∙ c.requires.going) c.self.invariant (not_rotate c.in-Do.command.call c.in_default.not-Rotate) c.encode.ensures.read c.in-Ready.ensures.prepared c.append.ensures.telling c.append.ensures.crash in
+    order_same g.D.Disk.seen g.D.Disk.moment g.D.Disk.left_at c.self.inside.changes.items _ c.self.inside.side c.append.new.self c.self.inside.beside c.self.inside.protocol c.prepare.new.protocol (Some c.sum_of_faults-in-Err-append.result) c.prepare.ensures.same (order_halted g.D.Disk.seen g.D.Disk.moment g.D.Disk.left_at c.self.inside.side c.append.new.self c.self.inside.beside c.self.inside.protocol c.sum_of_faults-in-Err-append.result g.met.D.Disk.seen_may_stay (kept_near g.D.Disk.seen g.D.Disk.moment g.D.Disk.left_at c.self.inside.side c.self.inside.taken c.append.new.self c.self.inside.beside c.self.inside.protocol c.in-Do.command c.encode.result a))
+
+pub returns-in-Err-append-clause-disks : goal.returns-in-Err-append-clause-disks
+returns-in-Err-append-clause-disks g c =
+    let a = appends g.D.Disk.seen g.D.Disk.moment g.D.Disk.left_at c.self.inside.side c.self.inside.taken c.append.new.self c.self.inside.beside c.self.inside.protocol c.self.inside.stopped c.in-Do.command c.encode.result c.in-Ready.planned (ap (λ (o : Stored g.row.D.Denot). o.stopped) c.self.view_is ∙ c.requires.going) c.self.invariant (not_rotate c.in-Do.command.call c.in_default.not-Rotate) c.encode.ensures.read c.in-Ready.ensures.prepared c.append.ensures.telling c.append.ensures.crash in
+    appends_on g.D.Disk.seen g.D.Disk.moment g.D.Disk.left_at c.self.inside.side c.self.inside.taken c.append.new.self c.self.inside.beside c.self.inside.protocol c.in-Do.command c.encode.result a c.args.self.now c.self.inside.stopped c.self.view_is c.args.request.now c.in-Do.is (not_rotate c.in-Do.command.call c.in_default.not-Rotate) c.append.ensures.start c.append.ensures.time answer.DiskFault (λ none. absurd (cc (none))) c.prepare.new.protocol (Some c.sum_of_faults-in-Err-append.result) c.prepare.new.changes.items
+
+pub invariant_of-self-2 : goal.invariant_of-self-2
+invariant_of-self-2 g c =
+    let a = appends g.D.Disk.seen g.D.Disk.moment g.D.Disk.left_at c.self.inside.side c.self.inside.taken c.append.new.self c.self.inside.beside c.self.inside.protocol c.self.inside.stopped c.in-Do.command c.encode.result c.in-Ready.planned (ap (λ (o : Stored g.row.D.Denot). o.stopped) c.self.view_is ∙ c.requires.going) c.self.invariant (not_rotate c.in-Do.command.call c.in_default.not-Rotate) c.encode.ensures.read c.in-Ready.ensures.prepared c.append.ensures.telling c.append.ensures.crash in
+    let settled = c.in-Ok-append.ensures.settled (read_back c.in-Do.command) a.of in
+    let s = state_of c.self.inside.protocol in
+    let stands = c.prepare.ensures.stands in
+    let steps : (t : State) → StandsFor c.self.inside.protocol t → StandsFor c.make-done-2.new.protocol (after t c.in-Do.command) = (λ t so. let is = c.in-Ready.ensures.prepared t so in stepped c.make-done-2.new.protocol t c.in-Do.command c.in-Ready.planned is (c.make-done-2.ensures.state t (stands_after c.self.inside.protocol c.prepare.new.protocol t c.prepare.ensures.same so))) in
+    let step = steps s stands in
+    let counted = counts_on c.self.inside.protocol c.make-done-2.new.protocol s c.in-Do.command (not_rotate c.in-Do.command.call c.in_default.not-Rotate) stands step in
+    record {
+      order = subst (λ (o : Option ℕ). IsInOrder g.D.Disk.seen g.D.Disk.moment g.D.Disk.left_at (stored c.self.inside.side c.append.new.self c.self.inside.beside c.make-done-2.new.protocol o c.note.new.changes.items)) (sym (ap (λ (o : Stored g.row.D.Denot). o.stopped) c.self.view_is ∙ c.requires.going)) (order_going g.D.Disk.seen g.D.Disk.moment g.D.Disk.left_at c.self.inside.side c.append.new.self c.self.inside.beside c.make-done-2.new.protocol (went_on g.D.Disk.seen g.D.Disk.moment g.D.Disk.left_at c.self.inside.side c.self.inside.taken c.append.new.self c.self.inside.beside c.self.inside.protocol c.in-Do.command c.encode.result a c.make-done-2.new.protocol (state_of c.self.inside.protocol) c.prepare.ensures.stands (λ t so. let is = c.in-Ready.ensures.prepared t so in stepped c.make-done-2.new.protocol t c.in-Do.command c.in-Ready.planned is (c.make-done-2.ensures.state t (stands_after c.self.inside.protocol c.prepare.new.protocol t c.prepare.ensures.same so))) c.in-Ok-append.ensures.durable c.in-Ok-append.ensures.appended));
+      generation_is = c.append.ensures.generation ∙ c.self.invariant.generation_is ∙ sym (generation_stays c.self.inside.protocol c.make-done-2.new.protocol s c.in-Do.command (not_rotate c.in-Do.command.call c.in_default.not-Rotate) stands step);
+      parity_is = ap is_odd c.append.ensures.generation ∙ c.self.invariant.parity_is;
+      count_is = omega (arith, c.in-Ok-append.ensures.one_more, c.self.invariant.count_is, counted);
+      told = all_has (g.D.Disk.seen c.append.new.self.disk) c.append.new.self.generation c.append.new.self.start c.append.new.self.count settled;
+      settled = λ none. settled;
+    }
+
+pub returns-clause-order : goal.returns-clause-order
+returns-clause-order g c =
+    let a = appends g.D.Disk.seen g.D.Disk.moment g.D.Disk.left_at c.self.inside.side c.self.inside.taken c.append.new.self c.self.inside.beside c.self.inside.protocol c.self.inside.stopped c.in-Do.command c.encode.result c.in-Ready.planned (ap (λ (o : Stored g.row.D.Denot). o.stopped) c.self.view_is ∙ c.requires.going) c.self.invariant (not_rotate c.in-Do.command.call c.in_default.not-Rotate) c.encode.ensures.read c.in-Ready.ensures.prepared c.append.ensures.telling c.append.ensures.crash in
+    subst (λ (o : Option ℕ). IsInOrder g.D.Disk.seen g.D.Disk.moment g.D.Disk.left_at (stored c.self.inside.side c.append.new.self c.self.inside.beside c.make-done-2.new.protocol o c.note.new.changes.items)) (sym (ap (λ (o : Stored g.row.D.Denot). o.stopped) c.self.view_is ∙ c.requires.going)) (order_going g.D.Disk.seen g.D.Disk.moment g.D.Disk.left_at c.self.inside.side c.append.new.self c.self.inside.beside c.make-done-2.new.protocol (went_on g.D.Disk.seen g.D.Disk.moment g.D.Disk.left_at c.self.inside.side c.self.inside.taken c.append.new.self c.self.inside.beside c.self.inside.protocol c.in-Do.command c.encode.result a c.make-done-2.new.protocol (state_of c.self.inside.protocol) c.prepare.ensures.stands (λ t so. let is = c.in-Ready.ensures.prepared t so in stepped c.make-done-2.new.protocol t c.in-Do.command c.in-Ready.planned is (c.make-done-2.ensures.state t (stands_after c.self.inside.protocol c.prepare.new.protocol t c.prepare.ensures.same so))) c.in-Ok-append.ensures.durable c.in-Ok-append.ensures.appended))
+
+pub returns-clause-disks : goal.returns-clause-disks
+returns-clause-disks g c =
+    let a = appends g.D.Disk.seen g.D.Disk.moment g.D.Disk.left_at c.self.inside.side c.self.inside.taken c.append.new.self c.self.inside.beside c.self.inside.protocol c.self.inside.stopped c.in-Do.command c.encode.result c.in-Ready.planned (ap (λ (o : Stored g.row.D.Denot). o.stopped) c.self.view_is ∙ c.requires.going) c.self.invariant (not_rotate c.in-Do.command.call c.in_default.not-Rotate) c.encode.ensures.read c.in-Ready.ensures.prepared c.append.ensures.telling c.append.ensures.crash in
+    appends_on g.D.Disk.seen g.D.Disk.moment g.D.Disk.left_at c.self.inside.side c.self.inside.taken c.append.new.self c.self.inside.beside c.self.inside.protocol c.in-Do.command c.encode.result a c.args.self.now c.self.inside.stopped c.self.view_is c.args.request.now c.in-Do.is (not_rotate c.in-Do.command.call c.in_default.not-Rotate) c.append.ensures.start c.append.ensures.time (answer.Reply (Said c.make-done-2.result)) (λ none. absurd (cc (none))) c.make-done-2.new.protocol c.self.inside.stopped c.note.new.changes.items
