@@ -1,43 +1,25 @@
--- A replay that comes to a state comes to a sound one, and the commands of one generation are few.
-use Rattle.std.proofs.Common.{◌≡◌, ℕ, suc, ◌+◌, ◌≤◌, false, cond, List, [], ◌∷◌, length, Ok, refl, sym, ap, subst, ◌∙◌, arith}
-use Rattle.std.proofs.lemmas.List.Elements.{All-head, All-tail}
-use Rattle.liq_types.specs.declared.amounts.TheConstants.{RECORDS_MOST}
+-- The fees of a journal come to its fee pool, and can be shared.
+use Rattle.std.proofs.Common.{◌≡◌, ℕ, suc, List, [], ◌∷◌, length, Ok, refl, ap, subst, arith}
+use Rattle.std.specs.Prelude.{map}
+use Rattle.liq_types.specs.declared.events.PoolEvent.{PoolEvent}
+use Rattle.liq_types.specs.declared.replies.Done.{Done}
 use Rattle.liq_types.specs.declared.requests.Command.{Command}
+use Rattle.liq_types.specs.declared.requests.Request.TheVariants.{Do}
 use Rattle.liq_types.specs.Image.{IsLimit}
 use Rattle.liq_types.specs.State.{State, opening_with}
-use Rattle.liq_rules.specs.Rules.{effect}
+use Rattle.liq_rules.specs.Rules.{done_of}
 use Rattle.liq_rules.specs.Step.{after}
-use Rattle.liq_rules.specs.Verbs.{rotates}
-use Rattle.liq_rules.proofs.Allowed.{allowed_few, effect-records}
 use Rattle.liq_soundness.specs.SoundState.{IsSoundState}
 use Rattle.liq_soundness.proofs.SoundBounds.{amounts_within}
 use Rattle.liq_soundness.proofs.SoundStart.{opening_sound}
-use Rattle.liq_soundness.proofs.SoundStep.{after_sound}
-use Rattle.liq_journal.specs.Written.{is_rotate}
+use Rattle.liq_soundness.proofs.SoundStep.{run_sound}
 use Rattle.liq_pairs.specs.Replay.{replay}
-use Rattle.liq_pairs.proofs.Basing.{ok_same}
-use Rattle.liq_pairs.proofs.Generations.{HaveNoRotation, never_rotates}
-use Rattle.liq_pairs.proofs.Replaying.{first_accepted, replay_none}
-use Rattle.liq_staking.specs.Paid.{fees_along, coll_in, lusd_in}
+use Rattle.liq_pairs.proofs.Generations.{HaveNoRotation}
+use Rattle.liq_retold.specs.Retold.{noted}
+use Rattle.liq_retold.proofs.Runs.{replay_runs, replay_few}
+use Rattle.liq_staking.specs.Paid.{Fees, fee_of, fees_along, coll_in, lusd_in}
 use Rattle.liq_staking.specs.Answering.{CanBeShared}
 use Rattle.liq_staking.proofs.Adding.{replay_grows}
-
-module _ (end : State) where
-  replay_sound : (commands : List Command) (index : ℕ) (s : State) → IsSoundState s → replay index s commands ≡ Ok end → IsSoundState end
-  replay_sound [] index s h came = subst IsSoundState (ok_same s end (sym (replay_none index s) ∙ came)) h
-  replay_sound (c ∷ cs) index s h came =
-      let first = first_accepted index s end c cs came in
-      replay_sound cs (index + 1) (after s c) (after_sound s h c first.allowed) first.rest
-
-  commands_few : (commands : List Command) (index : ℕ) (s : State) → HaveNoRotation commands → s.records ≤ RECORDS_MOST → replay index s commands ≡ Ok end → s.records + length commands ≤ RECORDS_MOST
-  commands_few [] index s none few came = omega (arith, few)
-  commands_few (c ∷ cs) index s none few came =
-      let first = first_accepted index s end c cs came in
-      let stays : rotates c.call ≡ false = never_rotates c.call (All-head (λ (d : Command). is_rotate d.call ≡ false) c cs none) in
-      let counted : (after s c).records ≡ s.records + 1 = ap (λ b. cond b 0 ((effect s c.call).records + 1)) stays ∙ ap (λ n. n + 1) (effect-records s c.call) in
-      let less = allowed_few s c first.allowed stays in
-      let rest = commands_few cs (index + 1) (after s c) (All-tail (λ (d : Command). is_rotate d.call ≡ false) c cs none) (omega (arith, counted, less)) first.rest in
-      omega (arith, counted, rest)
 
 fees_each : (commands : List Command) (s : State) → length (fees_along s commands) ≡ length commands
 fees_each [] s = refl
@@ -52,11 +34,20 @@ module _ (limit : ℕ) (commands : List Command) (s : State) (came : replay 1 (o
 
   pub can_be_shared : IsLimit limit → HaveNoRotation commands → CanBeShared (fees_along (opening_with limit) commands)
   can_be_shared known none =
-      let sound = replay_sound s commands 1 (opening_with limit) (opening_sound limit known) came in
-      let within = amounts_within s sound in
-      let count = commands_few s commands 1 (opening_with limit) none (omega arith) came in
+      let run = replay_runs s commands 1 (opening_with limit) came in
+      let within = amounts_within s (subst IsSoundState run.state (run_sound (map Do commands) (opening_with limit) (opening_sound limit known))) in
+      let count = replay_few s commands 1 (opening_with limit) none (omega arith) came in
       record {
         coll = omega (arith, coll_adds_up, within.fee_coll);
         lusd = omega (arith, lusd_adds_up, within.fee_lusd);
         few = omega (arith, fees_each commands (opening_with limit), count);
       }
+
+-- ---- as they are noted
+
+abbrev pub fee_noted : ℕ → Done → List PoolEvent → List Fees
+fee_noted minute done events = fee_of done ∷ []
+
+pub noted_fees : (commands : List Command) (s : State) → noted fee_noted s commands ≡ fees_along s commands
+noted_fees [] s = refl
+noted_fees (c ∷ cs) s = ap (λ (fees : List Fees). fee_of (done_of s c.call) ∷ fees) (noted_fees cs (after s c))

@@ -30,7 +30,7 @@ pub(crate) struct Answering {
 /// The text that answers stakers, for the fees that the records of a journal paid (each collateral in gwei and LUSD in
 /// micro-LUSD) and these lines: a reply for each line, a line `ACCOUNT STAKE COLL LUSD ALLOW` for each account with an
 /// accepted change, ascending, and a line `unshared COLL LUSD`. It fails for want of memory alone.
-pub fn answer_stakers(
+pub(crate) fn answer_stakers(
     alloc: Global,
     fees: &[(u64, u64)],
     lines: &[StakeLine],

@@ -3,9 +3,9 @@
 
 mod answering;
 pub mod examples;
+mod journal;
 pub mod laws;
 mod paid;
 mod told;
 
-pub use answering::answer_stakers;
-pub use paid::fee_paid;
+pub use journal::staked;

@@ -16,7 +16,8 @@ pub(crate) fn put_out_of_place(
     least: u64,
     most: u64,
 ) -> Result<(), AllocError>
-    ensures { OnOk result (text.new.items ≡ text.old.items ++ line_of (codes "no" ∷ map decimal (44 ∷ at ∷ least ∷ most ∷ []))) }
+    ensures { OnOk result (text.new.items
+        ≡ text.old.items ++ line_of (codes "no" ∷ map decimal (44 ∷ at ∷ least ∷ most ∷ []))) }
 {
     let numbers = [44, u128::from(at), u128::from(least), u128::from(most)];
     put_line(text, b"no", &numbers)
@@ -24,7 +25,8 @@ pub(crate) fn put_out_of_place(
 
 /// Appends the reply to a line that is refused: the refusal's code and its values.
 pub(crate) fn put_refusal(text: &mut Vec<u8>, refusal: &StakeRefusal) -> Result<(), AllocError>
-    ensures { OnOk result (text.new.items ≡ text.old.items ++ line_of (codes "no" ∷ map decimal (numbers_of refusal.now))) }
+    ensures { OnOk result (text.new.items
+        ≡ text.old.items ++ line_of (codes "no" ∷ map decimal (numbers_of refusal.now))) }
 {
     match *refusal {
         StakeRefusal::AccountRange { value } => put_line(text, b"no", &[13, u128::from(value)]),
