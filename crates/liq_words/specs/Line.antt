@@ -27,6 +27,7 @@ line =
     let alone : Text → App → App = λ name app. with_subcommand app (new_app name).top in
     let words = alone (codes "run") base in
     let words = alone (codes "serve") words in
+    let words = alone (codes "staking") words in
     let words = alone (codes "state") words in
     let words = alone (codes "audit") words in
     let words = alone (codes "report") words in

@@ -23,6 +23,8 @@ pub enum Word {
     Run,
     /// Answer the scripts of the input, each in a session of its own.
     Serve,
+    /// Answer the stakers of the input, who share the fees of the commands on the disks.
+    Staking,
     /// Tell what stands.
     State,
     /// Tell what each depositor has beside its exact share.
@@ -109,6 +111,7 @@ fn alone(name: &str) -> Option<Word>
     match name {
         "run" => Some(Word::Run),
         "serve" => Some(Word::Serve),
+        "staking" => Some(Word::Staking),
         "state" => Some(Word::State),
         "audit" => Some(Word::Audit),
         "report" => Some(Word::Report),
