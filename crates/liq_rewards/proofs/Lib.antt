@@ -1,0 +1,5 @@
+pub mod Sharing
+pub mod Earning
+pub mod Issuing
+pub mod Along
+pub mod Conserving

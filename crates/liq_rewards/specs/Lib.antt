@@ -1,0 +1,4 @@
+pub mod Issued
+pub mod Timed
+pub mod Earning
+pub mod Exact
