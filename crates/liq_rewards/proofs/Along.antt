@@ -6,7 +6,7 @@ use Rattle.std.proofs.lemmas.Bool.Decides.{nat_tests}
 use Rattle.std.proofs.lemmas.Grind.{div_ceil_times}
 use Rattle.std.proofs.lemmas.List.Sums.{fold-append}
 use Rattle.liq_num.specs.Quotient.{floor_of, ceiling_of}
-use Rattle.liq_types.specs.declared.amounts.TheConstants.{RISES_MOST}
+use Rattle.liq_types.specs.declared.amounts.TheConstants.{P_LEAST, RISES_MOST}
 use Rattle.liq_types.specs.declared.events.PoolEvent.{PoolEvent}
 use Rattle.liq_types.specs.declared.events.PoolEvent.TheVariants as event
 use Rattle.liq_types.specs.Allowance.{balance_allowance, cost_of}
@@ -21,7 +21,7 @@ use Rattle.liq_types.proofs.Places.{IsUpTo, up_to_before, before_not_place, list
 use Rattle.liq_types.proofs.Watching.{Watch, no_watch, watch_after, watched}
 use Rattle.liq_stability.specs.Lawful.{IsLawfulUpTo, IsLawfulEvent}
 use Rattle.liq_stability.specs.Own.{after_event, after_events, owned, offset, with_deposit, amount_after}
-use Rattle.liq_stability.specs.Position.{balance_of}
+use Rattle.liq_stability.specs.Position.{balance_of, mark_of}
 use Rattle.liq_stability.specs.Words.{words_of}
 use Rattle.liq_stability.proofs.LawfulLists.{lawful_first, lawful_rest}
 use Rattle.liq_stability.proofs.Pool.{words-snoc, offset_now}
@@ -32,7 +32,7 @@ use Rattle.liq_rewards.specs.Timed.{Timed, events_of, state_of, total_of, words_
 use Rattle.liq_rewards.specs.declared.issuance.TheConstants.{SHARED_LEAST}
 use Rattle.liq_rewards.specs.Earning.{rise_by, rise_at, sum_of, sum_at, mark_sum, reward_mark, sums_from, reading, earned_of, reward_at}
 use Rattle.liq_rewards.specs.Exact.{RewardShare, no_reward, with_units, with_event, with_due, share_of, share_at, withheld_by, withheld_of, withheld_at, amount_left, recorded, own_place, cost_by, costs_of, costs_at, allowance_at, IsWithinAllowance}
-use Rattle.liq_rewards.proofs.Sharing.{EarnsNothing}
+use Rattle.liq_rewards.proofs.Steps.{EarnsNothing}
 use Rattle.liq_rewards.proofs.Earning.{EarnsBy, earns_alike, IsScaled, shared_earns, offset_earns, read_of, reads_earned, moved, own_earns, other_earns}
 
 -- ---- one event more
@@ -43,10 +43,10 @@ state-more t past = fold-append after_event opening (events_of past) (t.event �
 plain-more : (account : ℕ) (t : Timed) (past : List Timed) → exact_share account (events_of (t ∷ past)) ≡ share_after account (exact_share account (events_of past)) t.event
 plain-more account t past = fold-append (share_after account) no_share (events_of past) (t.event ∷ [])
 
-watched-more : (account : ℕ) (t : Timed) (past : List Timed) → watched account (events_of (t ∷ past)) ≡ watch_after account (watched account (events_of past)) t.event
+pub watched-more : (account : ℕ) (t : Timed) (past : List Timed) → watched account (events_of (t ∷ past)) ≡ watch_after account (watched account (events_of past)) t.event
 watched-more account t past = fold-append (watch_after account) no_watch (events_of past) (t.event ∷ [])
 
-owns-more : (account : ℕ) (t : Timed) (past : List Timed) → own_events_of account (events_of (t ∷ past)) ≡ own_events_of account (events_of past) + cond (is_own_of account t.event) 1 0
+pub owns-more : (account : ℕ) (t : Timed) (past : List Timed) → own_events_of account (events_of (t ∷ past)) ≡ own_events_of account (events_of past) + cond (is_own_of account t.event) 1 0
 owns-more account t past = fold-append (λ n e. n + cond (is_own_of account e) 1 0) 0 (events_of past) (t.event ∷ [])
 
 -- ---- nothing is shared past the place of now
@@ -60,10 +60,10 @@ none_risen : (minute : ℕ) (past : List Timed) (q : Place) (b : Bool) → is_pl
 none_risen minute past q true e = ap (λ c. cond c (rise_by minute past) 0) e
 none_risen minute past q false e = refl
 
-later_at : (minute : ℕ) (past : List Timed) (q : Place) → IsBefore (place_at past) q → sum_of past q ≡ 0 → sum_at minute past q ≡ 0
+pub later_at : (minute : ℕ) (past : List Timed) (q : Place) → IsBefore (place_at past) q → sum_of past q ≡ 0 → sum_at minute past q ≡ 0
 later_at minute past q before none = let idle = none_risen minute past q (is_shared_at minute past) (before_not_place (place_at past) q before) in omega (arith, none, idle)
 
-later_of : (past : List Timed) (q : Place) → IsBefore (place_at past) q → sum_of past q ≡ 0
+pub later_of : (past : List Timed) (q : Place) → IsBefore (place_at past) q → sum_of past q ≡ 0
 later_of [] q h = refl
 later_of (t ∷ past) q h =
     let here : IsBefore (place_of (words_of (after_event (state_of past) t.event))) q = subst (λ (s : State). IsBefore (place_of (words_of s)) q) (state-more t past) h in
@@ -123,12 +123,25 @@ enough minute past e = by (due_at minute past) (total_of past) e where
   by : (units total : ℕ) → (not (units == 0) && nat_le SHARED_LEAST total) ≡ true → SHARED_LEAST ≤ total
   by units total e = grind (arith, nat_tests, e)
 
+-- a deposit, beside what the events say of its account
+pub record HasDeposit (account : ℕ) (past : List Timed) (d : DepositEntry) : Type 0 where
+  pub amount : recorded account past ≡ d.amount
+  pub some : 1 ≤ d.amount
+  pub least : P_LEAST ≤ (mark_of (state_of past) d.mark).p
+  pub epoch : (own_place account past).0 ≡ (mark_of (state_of past) d.mark).epoch
+  pub scale : (own_place account past).1 ≡ (mark_of (state_of past) d.mark).scale
+  pub within : mark_sum account past ≤ sum_of past ((mark_of (state_of past) d.mark).epoch, (mark_of (state_of past) d.mark).scale + 0)
+
+abbrev pub IsDeposited : ℕ → List Timed → Option DepositEntry → Type 0
+IsDeposited account past None = recorded account past ≡ 0
+IsDeposited account past (Some d) = HasDeposit account past d
+
 module _ (most : ℕ) (served : most ≤ 10 ^ (9 * RISES_MOST)) (account : ℕ) where
   abbrev whole : (past : List Timed) → IsLawfulUpTo most opening (events_of past) → Whole (above_with account (events_of past)) (state_of past) (den_of (events_of past)) (offsets_coll (events_of past)) (λ a. exact_share a (events_of past)) (λ a. watched a (events_of past)) (λ a. gains_paid_to a (events_of past))
   whole past lawful = whole_with most served (events_of past) lawful account
 
   -- what is recorded of the account
-  amount_is : (past : List Timed) → (watched account (events_of past)).amount ≡ recorded account past
+  pub amount_is : (past : List Timed) → (watched account (events_of past)).amount ≡ recorded account past
   amount_is [] = refl
   amount_is (t ∷ past) = ap (λ (w : Watch). w.amount) (watched-more account t past) ∙ by t.event (watched account (events_of past)) (amount_is past) where
     either : (b : Bool) (w : Watch) (left now : ℕ) → w.amount ≡ now → (cond b (record w { amount = left; place = place_of w.now; own_events = w.own_events + 1 }) w).amount ≡ cond b left now
@@ -139,7 +152,7 @@ module _ (most : ℕ) (served : most ≤ 10 ^ (9 * RISES_MOST)) (account : ℕ) 
     by (event.Own owner put_in out gain left) w h = either (owner == account) w left (recorded account past) h
     by (event.Offset debt coll total rise) w h = h
 
-  place_is : (past : List Timed) → IsLawfulUpTo most opening (events_of past) → (watched account (events_of past)).place ≡ own_place account past
+  pub place_is : (past : List Timed) → IsLawfulUpTo most opening (events_of past) → (watched account (events_of past)).place ≡ own_place account past
   place_is [] lawful = refl
   place_is (t ∷ past) lawful =
       let before = lawful_first most opening (events_of past) (t.event ∷ []) lawful in
@@ -281,3 +294,23 @@ module _ (most : ℕ) (served : most ≤ 10 ^ (9 * RISES_MOST)) (account : ℕ) 
         at_least = le_of_mul-le-mul_right {k = 10 ^ 9}
             (allowed (reward_at account minute past) x.share.den x.rew (withheld_at account minute past) cost (ceiling_of cost 1 (10 ^ 9)) (own_events_of account (events_of past)) (10 ^ 9) (omega (arith, up)) read.lower) (omega arith);
       }
+
+  -- what is known of its deposit, if it has one
+  pub deposited : (past : List Timed) → IsLawfulUpTo most opening (events_of past) → IsDeposited account past (at (state_of past).deposits account)
+  unfolding EarnsOf
+  deposited past lawful = by (at (state_of past).deposits account) ((whole past lawful).each account) (earns_of past lawful) where
+    by : (o : Option DepositEntry) → StandsBy (state_of past) (exact_share account (events_of past)) (watched account (events_of past)) (gains_paid_to account (events_of past)) o
+        → EarnsBy (state_of past) (own_events_of account (events_of past)) (share_of account past) (earned_of account past) (withheld_of account past) (costs_of account past) (mark_sum account past) (sum_of past) o
+        → IsDeposited account past o
+    by None stands earns = sym (amount_is past) ∙ stands.0
+    by (Some d) stands earns =
+        let m = stands.1.1 in
+        let place = place_is past lawful in
+        record {
+          amount = sym (amount_is past) ∙ m.amount_is;
+          some = m.some;
+          least = m.least_p;
+          epoch = sym (ap (λ (q : Place). q.0) place) ∙ m.epoch_is;
+          scale = sym (ap (λ (q : Place). q.1) place) ∙ m.scale_is;
+          within = earns.1.within;
+        }

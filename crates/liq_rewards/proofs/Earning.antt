@@ -25,7 +25,7 @@ use Rattle.liq_stability.proofs.Pool.{mark-grown, mark-full}
 use Rattle.liq_stability.proofs.Reading.{IsLive, IsPast, reach_whole, some_power, balance_low, balance-past, gain_low, gain_high, grown, grown_more, grown_same, grown_none}
 use Rattle.liq_stability.proofs.Standing.{IsMarked, StandsLive, StandsPast, StandsAt, StandsBy, bare_balance, deposit_other}
 use Rattle.liq_rewards.specs.Exact.{RewardShare, with_units, with_event}
-use Rattle.liq_rewards.proofs.Sharing.{EarnsNothing, EarnsSome, none_shares, past_shares, live_shares, none_scaled, some_scaled, some_read, some_begun, none_left}
+use Rattle.liq_rewards.proofs.Steps.{EarnsNothing, EarnsSome, none_shares, past_shares, live_shares, none_scaled, some_scaled, some_read, some_begun, none_left}
 
 -- a mark with another sum
 abbrev pub marked : PoolMark → ℕ → PoolMark
@@ -187,7 +187,7 @@ offset_earns s account debt coll total rise events x earned held cost sum sums p
 -- ---- an own operation
 
 -- what its account has then
-deposit_left : (table : Table DepositEntry) (account : ℕ) (d : DepositEntry) → Ascends table → (at (with_deposit table account d) account ≡ None) ⊎ (at (with_deposit table account d) account ≡ Some d)
+pub deposit_left : (table : Table DepositEntry) (account : ℕ) (d : DepositEntry) → Ascends table → (at (with_deposit table account d) account ≡ None) ⊎ (at (with_deposit table account d) account ≡ Some d)
 deposit_left table account d h = by (d.amount == 0) where
   by : (b : Bool) → (at (cond b (without table account) (put table account d)) account ≡ None) ⊎ (at (cond b (without table account) (put table account d)) account ≡ Some d)
   by true = inl (at-without_same table account h)

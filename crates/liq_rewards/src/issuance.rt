@@ -15,6 +15,9 @@ pub const YEARS: u32 = 15;
 /// All units that are ever issued.
 pub const UNITS_MOST: u64 = 31_532_320_800;
 
+/// The most events that one value takes: 2^40.
+pub const EVENTS_MOST: u64 = 1_099_511_627_776;
+
 /// The least total of the pool (micro-LUSD) at which units are shared.
 pub const SHARED_LEAST: u64 = 1_000_000_000;
 

@@ -2,7 +2,13 @@
 //! each has earned is its exact share but for a stated allowance.
 #![tactic(auto)]
 
+mod earner;
 mod issuance;
 pub mod laws;
+mod lines;
+mod rewards;
+mod sharing;
 
-pub use issuance::{SHARED_LEAST, UNITS_AT_FIRST, UNITS_MOST, YEAR, YEARS, issued};
+pub use issuance::{EVENTS_MOST, SHARED_LEAST, UNITS_AT_FIRST, UNITS_MOST, YEAR, YEARS, issued};
+pub use lines::{BadTagLine, TagLine, read_tag_line};
+pub use rewards::{RewardRow, Rewards};
