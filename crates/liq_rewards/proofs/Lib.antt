@@ -1,0 +1,12 @@
+pub mod Steps
+pub mod Earning
+pub mod Issuing
+pub mod Along
+pub mod Conserving
+pub mod Reading
+pub mod Costs
+pub mod Small
+pub mod Dealing
+pub mod Keeping
+pub mod Following
+pub mod Rows

@@ -1,0 +1,14 @@
+//! Reward units that depositors of the Stability Pool earn by time: an account beside the protocol, with the law that
+//! what each has earned is its exact share but for a stated allowance.
+#![tactic(auto)]
+
+mod earner;
+mod issuance;
+pub mod laws;
+mod lines;
+mod rewards;
+mod sharing;
+
+pub use issuance::{EVENTS_MOST, SHARED_LEAST, UNITS_AT_FIRST, UNITS_MOST, YEAR, YEARS, issued};
+pub use lines::{BadTagLine, TagLine, read_tag_line};
+pub use rewards::{RewardRow, Rewards};

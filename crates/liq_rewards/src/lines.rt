@@ -1,0 +1,107 @@
+//! Lines on which depositors name a front end, read.
+
+ghost use Rattle.std.specs.Prelude.{◌≡◌, ◌∷◌, ◌==◌, ◌<◌, [], Ok, IfOk, OnErr, IfSome, length, position};
+ghost use Rattle.liq_rewards.specs.declared.lines.TagLine.{TagLine};
+ghost use Rattle.liq_rewards.specs.Lines.{Spells};
+ghost use Rattle.liq_text.specs.Reading.{pieces_of, number_of, account_of};
+ghost use Rattle.liq_rewards.specs.Reading.{words_left, tag_of, line_of};
+
+use liq_text::read_number;
+
+/// What a depositor says on a line: through whom it came, and what it keeps of its rewards.
+#[derive(Clone, Copy, PartialEq, Eq)]
+pub struct TagLine {
+    pub account: u32,
+    /// The account of the front end.
+    pub front: u32,
+    /// The part of the rewards that the depositor keeps, over 10^18.
+    pub rate: u64,
+}
+
+/// A line is none on which a depositor names a front end.
+#[derive(Clone, Copy, PartialEq, Eq)]
+pub struct BadTagLine;
+
+/// What a line says, the line end not counted: `tag ACCOUNT FRONT RATE`, with one space between two words and numbers
+/// without leading zeros, account and front below 2^32 and the rate below 2^64. [`BadTagLine`] exactly where it is no
+/// such line.
+pub fn read_tag_line(line: &[u8]) -> Result<TagLine, BadTagLine>
+    ensures found { IfOk result (λ l. Spells line.now l) }
+    // So at most one is spelled.
+    ensures only { (l : TagLine) → Spells line.now l → result ≡ Ok l }
+    ensures bad { OnErr result ((l : TagLine) → Spells line.now l → ⊥) }
+{
+    tag_line(line).ok_or(BadTagLine)
+}
+
+#[tactic(auto, unfolding(crate::specs::Reading::words_left, crate::specs::Reading::line_of))]
+fn tag_line(line: &[u8]) -> Option<TagLine>
+    ensures { result ≡ line_of (pieces_of line.now) }
+{
+    let (verb, rest) = split_first(line);
+    let (account, rest) = split_first(rest?);
+    let (front, rest) = split_first(rest?);
+    let (rate, rest) = split_first(rest?);
+    if rest.is_some() {
+        return None;
+    }
+    tagged(verb, account, front, rate)
+}
+
+/// What four words say.
+#[tactic(auto, unfolding(crate::specs::Reading::line_of, crate::specs::Reading::line_by))]
+fn tagged(verb: &[u8], account: &[u8], front: &[u8], rate: &[u8]) -> Option<TagLine>
+    ensures { result ≡ line_of (verb.now ∷ account.now ∷ front.now ∷ rate.now ∷ []) }
+{
+    tag_in(verb)?;
+    let account = account_in(account)?;
+    let front = account_in(front)?;
+    let rate = number(rate)?;
+    Some(TagLine {
+        account,
+        front,
+        rate,
+    })
+}
+
+fn number(word: &[u8]) -> Option<u64>
+    ensures { result ≡ number_of word.now }
+{
+    let number = read_number(word)?;
+    Some(number)
+}
+
+#[tactic(auto, unfolding(liq_text::specs::Reading::account_of))]
+fn account_in(word: &[u8]) -> Option<u32>
+    ensures { result ≡ account_of word.now }
+{
+    u32::try_from(number(word)?).ok()
+}
+
+#[tactic(auto, unfolding(crate::specs::Reading::tag_of))]
+fn tag_in(verb: &[u8]) -> Option<()>
+    ensures { result ≡ tag_of verb.now }
+{
+    if verb == b"tag".as_slice() {
+        Some(())
+    } else {
+        None
+    }
+}
+
+/// The first word, and what stands behind its space where there is one.
+fn split_first(line: &[u8]) -> (&[u8], Option<&[u8]>)
+    ensures { pieces_of line.now ≡ result.0.now ∷ words_left result.1 }
+{
+    match space_in(line) {
+        None => (line, None),
+        Some(at) => (&line[..at], Some(&line[at + 1..])),
+    }
+}
+
+fn space_in(line: &[u8]) -> Option<usize>
+    ensures first { result ≡ position (λ b. b == 32) line.now }
+    ensures within { IfSome result (λ at. at < length line.now) }
+{
+    line.iter().position(|b| *b == b' ')
+}
