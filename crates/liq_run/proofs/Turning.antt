@@ -1,5 +1,5 @@
 -- What one line more makes of a run.
-use Rattle.std.proofs.Common.{◌≡◌, ◌≢◌, ℕ, ◌+◌, ◌<◌, ◌≤◌, List, [], ◌∷◌, ◌++◌, Option, Some, None, refl, ap, sym, ap₂, subst, ◌∙◌, append_assoc, append-nil, length-append, arith, length, Ok, Err, inl, inr}
+use Rattle.std.proofs.Common.{◌≡◌, ◌≢◌, Bool, Result, ℕ, ◌+◌, ◌<◌, ◌≤◌, List, [], ◌∷◌, ◌++◌, Option, Some, None, refl, ap, sym, ap₂, subst, ◌∙◌, append_assoc, append-nil, length-append, arith, length, Ok, Err, inl, inr}
 use Rattle.std.specs.Prelude.{◌⊎◌}
 use Rattle.std.specs.List.{AllZip}
 use Rattle.liq_types.specs.declared.requests.Request.{Request}
@@ -19,7 +19,7 @@ use Rattle.liq_lines.proofs.LinesRead.{lines_in-ended, lines_in-unended, lines_i
 use Rattle.liq_lines.proofs.Told.{empty_end}
 use Rattle.liq_lines.specs.Saying.{BeginsWith}
 use Rattle.liq_run.specs.Passing.{IsOfAccepted, PassesBy}
-use Rattle.liq_run.specs.Progress.{ReadsRequest, ReadsBad, Written, Answered, Answers, Comes}
+use Rattle.liq_run.specs.Progress.{ReadsRequest, ReadsBad, Written, Answered, Answers, Comes, Turns}
 use Rattle.liq_run.specs.Calls.{IsCommand}
 use Rattle.liq_run.specs.Writing.{WritesFront}
 use Rattle.liq_run.proofs.BadLines.{first_is_bad}
@@ -342,3 +342,8 @@ limit_halts start past kept stopped bytes n byte core u (Some rest) left w befor
       stands = a.stands;
       halted = a.passed;
     }
+
+-- ---- a turn that stops the run
+
+pub turn_halts : (start : State) (past : List Request → Type 0) (kept : State → Request → Type 0) (stopped : List Request → Request → Type 0) (bytes : List ℕ) (n : ℕ) (core : Core) (u left : Option (List ℕ)) (w : List ℕ) (before now : Option (List ℕ)) (end : Result Bool Halt) (halt : Halt) → end ≡ Err halt → Comes start (Err halt) core past kept stopped bytes left w before now → Turns start past kept stopped bytes n core u left w before now end
+turn_halts start past kept stopped bytes n core u left w before now end halt is h = subst (λ (e : Result Bool Halt). Turns start past kept stopped bytes n core u left w before now e) (sym is) h

@@ -4,8 +4,10 @@ ghost use Rattle.std.specs.Prelude.{length, Err, Option, Some, None, ◌≡◌, 
 ghost use Rattle.liq_outside.specs.Disk.{GoesOn};
 ghost use Rattle.liq_types.specs.State.{State};
 ghost use Rattle.liq_types.specs.declared.requests.Request.{Request};
+ghost use Rattle.liq_types.specs.declared.requests.Request.TheVariants.{Ask};
 ghost use Rattle.liq_types.specs.declared.amounts.TheConstants.{LINE_BYTES, LINES_MOST};
 ghost use Rattle.liq_run.specs.declared.waiting.TheConstants.{WAITING_MOST};
+ghost use Rattle.liq_run.specs.declared.run.Next.TheVariants.{Line};
 ghost use Rattle.liq_run.specs.Calls.{GoOn, IsStopped, KeepsAround};
 ghost use Rattle.liq_run.specs.Passing.{IsPastOf, IsStoppedPastOf, Passes};
 ghost use Rattle.liq_run.specs.Progress.{RequestOn, ReadsRequest, Answered, Answers, Turns, Comes, Ends, GivesBack};
@@ -25,14 +27,14 @@ ghost use Rattle.liq_ends.specs.Disks.{EndsDamaged, IsFaultOfTelling, LeavesOfRu
 ghost use Rattle.liq_ends.specs.Unopened.{halt_of};
 
 use crate::calls::{call, tell};
-use crate::waiting::{WAITING_MOST, catch_up, flush, keep, make_way};
+use crate::waiting::{WAITING_MOST, catch_up, flush, keep, make_room};
 use liq_ends::{Ending, Halt, unopened};
 use liq_lines::{LineEnd, Reader};
 use liq_outside::{Disk, Failed, Sink, Source};
 use liq_store::{Store, StoreFault, StoreWhy};
-use liq_text::read_line;
-use liq_types::Request;
+use liq_text::{read_line, read_query};
 use liq_types::amounts::{LINE_BYTES, LINES_MOST};
+use liq_types::{Query, Request};
 use std::alloc::{AllocError, Global};
 
 /// What stands next in the input.
@@ -68,6 +70,20 @@ fn next_request<S: Source>(
         Some(size) => taken_request(reader, size, number),
         None => read_request(reader, line, input, number),
     }
+}
+
+/// The query on the next line, where that was taken whole and has one: then the line is passed, and else none is.
+fn next_query(reader: &mut Reader, whole: Option<usize>) -> Option<Query>
+    requires { IfSome whole (λ size. IsWholeLine size reader.old) }
+    ensures query { IfSome result (λ query. (number : ℕ) (left : Option (List ℕ)) → ReadsRequest (unread reader.old left) (unread reader.new left) reader.new number (Ok (Line (Ask query)))) }
+    ensures few { IfSome result (λ _. (left : Option (List ℕ)) → ReadsAtMost (LINE_BYTES + 1) (unread reader.old left) (unread reader.new left)) }
+    ensures held { IsSome result → length reader.new ≤ READ_BYTES }
+    ensures stays { result ≡ None → reader.new ≡ reader.old }
+{
+    let size = whole?;
+    let query = read_query(reader.line(size))?;
+    reader.pass(size);
+    Some(query)
 }
 
 /// The request on the line of this size, which was taken whole.
@@ -335,6 +351,37 @@ impl<D: Disk> Run<D> {
         ensures disks { DiskCause result (counts_of D.faults self.old.store.left self.old.store.right) (counts_of D.faults self.new.store.left self.new.store.right) }
     {
         let whole = self.reader.whole_line();
+        if let Some(query) = next_query(&mut self.reader, whole) {
+            self.answer_query(&query, out)?;
+            return Ok(true);
+        }
+        self.turn_at(whole, input, out, answered)
+    }
+
+    /// The same of a next line of this size, or of one that was not taken whole.
+    fn turn_at<S: Source, K: Sink>(
+        &mut self,
+        whole: Option<usize>,
+        input: &mut S,
+        out: &mut K,
+        answered: u64,
+    ) -> Result<bool, Halt>
+        requires whole { IfSome whole (λ size. IsWholeLine size self.old.reader) }
+        requires few { answered < LINES_MOST }
+        requires going { self.old.store.stopped ≡ None }
+        ensures turn { (start : State) (bytes : List ℕ) (before : Option (List ℕ)) (old_left old_right : D) (l r : List ℕ)
+            → Answered start bytes answered self.old.store.core (unread self.old.reader (S.left input.old)) self.old.waiting.items before (K.held out.old) (λ requests. IsPastOf D.seen D.moment D.left_at old_left old_right l r start requests self.old.store)
+            → Turns start (λ requests. IsPastOf D.seen D.moment D.left_at old_left old_right l r start requests self.new.store) (KeepsAround D.seen self.new.store.left self.new.store.right)
+            (λ requests request. IsStoppedPastOf D.seen D.moment D.left_at old_left old_right l r start requests request self.new.store) bytes answered self.new.store.core (unread self.new.reader (S.left input.new)) (S.left input.new) self.new.waiting.items before (K.held out.new) result }
+        ensures few { (before : Option (List ℕ)) → ReadsFew before answered self.old.reader (S.left input.old) → ReadsFew before (answered + 1) self.new.reader (S.left input.new) }
+        ensures caught_up { result ≡ Err Halt.ReadFault → self.new.waiting.items ≡ [] }
+        ensures caught_up_too { result ≡ Err Halt.DiskFault → self.new.waiting.items ≡ [] }
+        ensures source { ReadCause result (S.faults input.old) (S.faults input.new) }
+        ensures sink { WriteCause result (K.faults out.old) (K.faults out.new) }
+        ensures stopped { IsStopped result self.new.store.stopped }
+        ensures time { GoOn D.moment D.left_at self.old.store self.new.store }
+        ensures disks { DiskCause result (counts_of D.faults self.old.store.left self.old.store.right) (counts_of D.faults self.new.store.left self.new.store.right) }
+    {
         catch_up(whole, &mut self.waiting, out)?;
         match next_request(&mut self.reader, whole, &mut self.line, input, answered + 1)? {
             Next::End => Ok(false),
@@ -367,17 +414,36 @@ impl<D: Disk> Run<D> {
         ensures time { GoOn D.moment D.left_at self.old.store self.new.store }
         ensures disks { DiskCause result (counts_of D.faults self.old.store.left self.old.store.right) (counts_of D.faults self.new.store.left self.new.store.right) }
     {
-        make_way(request, &mut self.waiting, out)?;
         match request {
-            Request::Ask(query) => {
-                tell(&self.store, query, &mut self.waiting);
-                Ok(())
-            }
+            Request::Ask(query) => self.answer_query(query, out),
             Request::Do(_) => {
+                flush(&mut self.waiting, out)?;
                 let reply = call(&mut self.store, request)?;
                 keep(&reply, &mut self.waiting);
                 Ok(())
             }
         }
+    }
+
+    /// The same of a query: apart, so that nothing is cleared or moved for it that a command takes.
+    fn answer_query<K: Sink>(&mut self, query: &Query, out: &mut K) -> Result<(), Halt>
+        requires going { self.old.store.stopped ≡ None }
+        ensures answer { (s : State) → StandsFor self.old.store.core s
+            → Answers s (Ask query.now) result self.new.store.core self.old.waiting.items self.new.waiting.items (K.held out.old) (K.held out.new) }
+        ensures reader { self.new.reader ≡ self.old.reader }
+        ensures past { (old_left old_right : D) (l r : List ℕ) (start : State) (requests : List Request)
+            → IsPastOf D.seen D.moment D.left_at old_left old_right l r start requests self.old.store
+            → Passes D.seen D.moment D.left_at old_left old_right l r start requests (Ask query.now) result self.new.store }
+        ensures other { result ≢ Err Halt.ReadFault }
+        ensures caught_up { result ≡ Err Halt.DiskFault → self.new.waiting.items ≡ [] }
+        ensures kept { result ≡ Err Halt.DiskFault → (s : State) → StandsFor self.old.store.core s → KeepsAround D.seen self.new.store.left self.new.store.right s (Ask query.now) }
+        ensures sink { WriteCause result (K.faults out.old) (K.faults out.new) }
+        ensures stopped { IsStopped result self.new.store.stopped }
+        ensures time { GoOn D.moment D.left_at self.old.store self.new.store }
+        ensures disks { DiskCause result (counts_of D.faults self.old.store.left self.old.store.right) (counts_of D.faults self.new.store.left self.new.store.right) }
+    {
+        make_room(&mut self.waiting, out)?;
+        tell(&self.store, query, &mut self.waiting);
+        Ok(())
     }
 }

@@ -2,7 +2,6 @@
 
 ghost use Rattle.std.specs.Prelude.{◌≡◌, ◌≤◌, ◌<◌, ◌+◌, ◌++◌, ◌⊎◌, [], IsSome, OnOk, vec_len, vec_capacity};
 ghost use Rattle.liq_ends.specs.Causes.{WriteCause};
-ghost use Rattle.liq_run.specs.Calls.{IsCommand};
 ghost use Rattle.liq_run.specs.Writing.{WritesFront};
 ghost use Rattle.liq_text.specs.Replies.{reply_line};
 
@@ -10,8 +9,8 @@ use liq_ends::Halt;
 use liq_lines::{LINE_END, write_all};
 use liq_outside::{Failed, Sink};
 use liq_text::write_reply;
+use liq_types::Reply;
 use liq_types::amounts::REPLY_BYTES;
-use liq_types::{Reply, Request};
 
 /// How many bytes of replies may wait.
 pub const WAITING_MOST: usize = 16_384;
@@ -48,18 +47,18 @@ pub fn catch_up<K: Sink>(
     }
 }
 
-/// Writes what waits where the request is a command, and where there is no room for another reply.
-pub fn make_way<K: Sink>(request: &Request, waiting: &mut Vec<u8>, out: &mut K) -> Result<(), Halt>
+/// Writes what waits where there is no room for another reply.
+pub fn make_room<K: Sink>(waiting: &mut Vec<u8>, out: &mut K) -> Result<(), Halt>
     requires { WAITING_MOST ≤ vec_capacity waiting.old }
     ensures written { WritesFront result waiting.old.items waiting.new.items (K.held out.old) (K.held out.new) }
-    ensures command { OnOk result (IsCommand request.now → waiting.new.items ≡ []) }
     ensures room { OnOk result (vec_len waiting.new + REPLY_BYTES < vec_capacity waiting.new) }
     ensures capacity { vec_capacity waiting.new ≡ vec_capacity waiting.old }
     ensures cause { WriteCause result (K.faults out.old) (K.faults out.new) }
 {
-    match request {
-        Request::Ask(_) if waiting.len() < WAITING_MOST - REPLY_BYTES => Ok(()),
-        _ => flush(waiting, out),
+    if waiting.len() < WAITING_MOST - REPLY_BYTES {
+        Ok(())
+    } else {
+        flush(waiting, out)
     }
 }
 

@@ -5,12 +5,11 @@ use Rattle.std.specs.Bool.{then_some}
 use Rattle.std.specs.Option.{is_some}
 use Rattle.std.specs.Str.{bytes_eq}
 use Rattle.liq_types.specs.declared.requests.Request.{Request}
-use Rattle.liq_types.specs.declared.requests.Request.TheVariants.{Do, Ask}
+use Rattle.liq_types.specs.declared.requests.Request.TheVariants.{Do}
 use Rattle.liq_types.specs.declared.requests.Call.{Call}
-use Rattle.liq_types.specs.declared.requests.Query.{Query}
 use Rattle.liq_text.specs.declared.names.Verb.{Verb}
 use Rattle.liq_text.specs.Names.{verb_of}
-use Rattle.liq_text.specs.Reading.{◌>>=◌, Kind, an_account, a_number, a_hint, Value, value_of, Makes, first, others, is_empty, fields, number_of, account_of, hint_of, verb_kinds, call_with, topic_kinds, query_with, arguments_of, subject_of, call_of, request_of, pieces_of, session_of, session_request_of}
+use Rattle.liq_text.specs.Reading.{◌>>=◌, Kind, an_account, a_number, a_hint, Value, value_of, Makes, first, others, is_empty, fields, number_of, account_of, hint_of, verb_kinds, call_with, arguments_of, call_of, request_of, pieces_of, session_of, session_request_of}
 use Rattle.liq_text.specs.Pieces.{first_word, nothing, value_read, fails, finished, unless}
 use Rattle.liq_text.proofs.SpellingLaws.{Values, made}
 use Rattle.liq_text.proofs.ReadingLaws.{number_of-empty}

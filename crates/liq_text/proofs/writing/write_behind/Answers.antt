@@ -1,4 +1,4 @@
-use Rattle.std.proofs.Common.{◌+◌, ◌-◌, ◌*◌, ◌≤◌, length, get_or, arith}
+use Rattle.std.proofs.Common.{◌-◌, ◌≤◌, length, get_or, arith}
 use Rattle.std.specs.Prelude.{decimal}
 use Rattle.liq_text.proofs.WritingLaws.{nothing_behind, number_short, put_before}
 use Rattle.liq_text.proofs.writing.write_behind.Goals as goal

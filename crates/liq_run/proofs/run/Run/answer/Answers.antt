@@ -20,7 +20,7 @@ pub returns-in_err-reply-in-Do-clause-caught_up : goal.returns-in_err-reply-in-D
 returns-in_err-reply-in-Do-clause-caught_up g c is =
     let halt = c.in_err-reply-in-Do.field-0.0 in
     let same = same_halt c.from_residual-in_err-reply-in-Do.result halt DiskFault (handed_on _ halt c.from_residual-in_err-reply-in-Do.ensures.1) is in
-    c.in_ok-make_way.ensures.command (c.in_err-reply-in-Do.ensures.command (ap Err same))
+    c.flush.ensures.empty
 
 pub returns-in_err-reply-in-Do-clause-kept : goal.returns-in_err-reply-in-Do-clause-kept
 returns-in_err-reply-in-Do-clause-kept g c is s stands =
@@ -31,13 +31,8 @@ returns-in_err-reply-in-Do-clause-kept g c is s stands =
 pub returns-in_err-reply-in-Do-clause-sink : goal.returns-in_err-reply-in-Do-clause-sink
 returns-in_err-reply-in-Do-clause-sink g c =
     let halt = c.in_err-reply-in-Do.field-0.0 in
-    subst (λ (end : Result (Unit {0}) Halt). WriteCause end (g.K.Sink.faults c.args.out.now) (g.K.Sink.faults c.make_way.new.out)) (sym (handed_on c.from_residual-in_err-reply-in-Do.result halt c.from_residual-in_err-reply-in-Do.ensures.1))
-    (write_same {T = Unit {0}} halt _ _ (λ e. c.in_err-reply-in-Do.ensures.no_sink (ap Err (let failed : Result (Unit {0}) Halt = Err halt in same_halt failed halt WriteFault refl e))) c.in_ok-make_way.ensures.cause)
-
-pub returns-in-Ask-clause-past : goal.returns-in-Ask-clause-past
-returns-in-Ask-clause-past g c ol or l r start requests past =
-    subst (λ (q : Request). IsPastOf g.D.Disk.seen g.D.Disk.moment g.D.Disk.left_at ol or l r start (requests ++ q ∷ []) c.args.self.now.store) (sym c.in-Ask.is)
-    (asked_past g.D.Disk.seen g.D.Disk.moment g.D.Disk.left_at g.met.D.Disk.seen_may_stay ol or l r start c.args.self.now.store requests c.in-Ask.query past)
+    subst (λ (end : Result (Unit {0}) Halt). WriteCause end (g.K.Sink.faults c.args.out.now) (g.K.Sink.faults c.flush.new.out)) (sym (handed_on c.from_residual-in_err-reply-in-Do.result halt c.from_residual-in_err-reply-in-Do.ensures.1))
+    (write_same {T = Unit {0}} halt _ _ (λ e. c.in_err-reply-in-Do.ensures.no_sink (ap Err (let failed : Result (Unit {0}) Halt = Err halt in same_halt failed halt WriteFault refl e))) c.in_ok-flush-in-Do.ensures.cause)
 
 pub returns-in_err-reply-in-Do-clause-past : goal.returns-in_err-reply-in-Do-clause-past
 returns-in_err-reply-in-Do-clause-past g c ol or l r start requests past =
