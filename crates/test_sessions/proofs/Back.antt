@@ -1,5 +1,5 @@
 -- The seats of sessions that have run are those of their desk.
-use Rattle.std.proofs.Common.{ℕ, ◌≡◌, List, [], ◌∷◌, map, Option, arith}
+use Rattle.std.proofs.Common.{ℕ, List, [], ◌∷◌, map, Option, arith}
 use Rattle.std.specs.Prelude.{All}
 use Rattle.std.specs.List.{AllZip}
 use Rattle.std.proofs.lemmas.List.Elements.{All-cons}

@@ -19,7 +19,6 @@ use std::alloc::Global;
 use std::marker::Brand;
 use std::process::Abort;
 use std::sync::Wait;
-use std::test::Fail;
 use std::thread::Threads;
 
 /// How many entries a history has at the most.
@@ -46,10 +45,7 @@ fn give<D: Disk, O: Origin>(
         seat,
         hinter: NoHints,
     };
-    match works.push(work) {
-        Ok(()) => {}
-        Err(_) => panic!(rt; "no memory"),
-    }
+    works.push(work).expect(rt, "memory");
 }
 
 /// How sessions were answered: the replies of all, and how many of them were answered that the history is full.
@@ -135,22 +131,22 @@ fn run_two<D: Disk + Drop + Send, O: Origin + Send + Sync, R: Abort + Threads + 
     rt: &R,
     alloc: Global,
     store: Store<D>,
-) -> Result<Answered, Fail>
+) -> Answered
     requires going { store.stopped ≡ None }
     requires origin { IsAtOrigin D.seen D.faults D.moment D.left_at O.state O.left O.right store }
     requires listed { TellsList store }
 {
-    let first = script(alloc, 1, ENTRIES)?;
-    let second = script(alloc, 2, 1)?;
+    let first = script(rt, alloc, 1, ENTRIES);
+    let second = script(rt, alloc, 2, 1);
     let Ok((service, seats, _)) = Service::<D, O>::new(rt, alloc, store, 2) else {
-        return Err(Fail::from("no memory"));
+        panic!(rt; "no memory");
     };
     let works = two_works(rt, alloc, &service, seats, first, second);
     match run_sessions(rt, alloc, &service, &OpenGate, works) {
         Ok(done) => {
             let answered = count(&done);
             end(rt, service, seats_back(rt, alloc, done));
-            Ok(answered)
+            answered
         }
         Err(_) => panic!(rt; "no memory"),
     }
@@ -161,7 +157,7 @@ fn run_two_over<D: Disk + Drop + Send, R: Abort + Threads + Wait + Sync>(
     rt: &R,
     alloc: Global,
     store: Store<D>,
-) -> Result<Answered, Fail>
+) -> Answered
     requires going { store.stopped ≡ None }
     requires listed { TellsList store }
 {
@@ -171,9 +167,9 @@ fn run_two_over<D: Disk + Drop + Send, R: Abort + Threads + Wait + Sync>(
 
 /// The last of all calls is told that the history is full, and every other one has its reply.
 #[test]
-fn the_history_is_full(rt: HostRuntime) -> Result<(), Fail> {
-    let store = new_store(rt.alloc())?;
-    let answered = run_two_over(&rt, rt.alloc(), store)?;
+fn the_history_is_full(rt: HostRuntime) {
+    let store = new_store(&rt, rt.alloc());
+    let answered = run_two_over(&rt, rt.alloc(), store);
     same(
         &rt,
         answered.replies as u64,
@@ -181,5 +177,4 @@ fn the_history_is_full(rt: HostRuntime) -> Result<(), Fail> {
         "as many replies as entries",
     );
     same(&rt, answered.full, 1, "a session that found it full");
-    Ok(())
 }

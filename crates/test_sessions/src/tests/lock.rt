@@ -1,5 +1,5 @@
 //! The lock at a list of entries: a worked row, threads that take and give many times, and a seat that is out.
-ghost use Rattle.std.specs.Prelude.{◌≡◌, All, IfOk};
+ghost use Rattle.std.specs.Prelude.{◌≡◌, All};
 ghost use Rattle.liq_lock.specs.Seats.{lock_id, seat_id};
 
 use crate::tests::checks::{NOWHERE, same, shows};
@@ -9,8 +9,8 @@ use crate::tests::ledger::{Entry, Ledger};
 use crate::tests::looks::look_at_once;
 use liq_lock::{Lock, LockSeat, StillShared};
 use std::alloc::Global;
+use std::process::Abort;
 use std::sync::Wait;
-use std::test::Fail;
 use std::thread::Threads;
 
 const THREADS: u32 = 8;
@@ -34,18 +34,20 @@ fn first_odd(ledger: &Ledger) -> u64 {
 }
 
 /// A lock round an empty ledger with room for one entry, and a clerk for each of its two seats, the first one first.
-fn two_clerks(alloc: Global) -> Result<(Lock<Ledger>, Clerk, Clerk), Fail>
-    ensures first { IfOk result (λ made. seat_id made.1.seat ≡ lock_id made.0) }
-    ensures second { IfOk result (λ made. seat_id made.2.seat ≡ lock_id made.0) }
+fn two_clerks(rt: &impl Abort, alloc: Global) -> (Lock<Ledger>, Clerk, Clerk)
+    ensures first { seat_id result.1.seat ≡ lock_id result.0 }
+    ensures second { seat_id result.2.seat ≡ lock_id result.0 }
 {
-    let (lock, mut clerks) = open(alloc, 2, 1)?;
+    let Ok((lock, mut clerks)) = open(alloc, 2, 1) else {
+        panic!(rt; "no memory");
+    };
     let Some(first) = clerks.pop() else {
-        return Err(Fail::from("no clerk"));
+        panic!(rt; "no clerk");
     };
     let Some(second) = clerks.pop() else {
-        return Err(Fail::from("no other clerk"));
+        panic!(rt; "no other clerk");
     };
-    Ok((lock, first, second))
+    (lock, first, second)
 }
 
 /// What is seen of two seats, of which the first made an entry.
@@ -62,61 +64,66 @@ struct Seen {
     count: u32,
 }
 
-/// How many entries both seats have seen once they are joined, and the ledger, where the lock closes then.
+/// How many entries both seats have seen once they are joined, and the ledger: the lock closes then.
 fn close_joined(
+    rt: &impl Abort,
     lock: Lock<Ledger>,
     left: LockSeat<Entry>,
     right: LockSeat<Entry>,
-) -> Option<(u64, Ledger)>
+) -> (u64, Ledger)
     requires left { seat_id left ≡ lock_id lock }
     requires right { seat_id right ≡ lock_id lock }
 {
     let joined = lock.join_seat(left, right);
     let seen = joined.seen();
     match lock.close(joined) {
-        Ok(ledger) => Some((seen, ledger)),
-        Err(_) => None,
+        Ok(ledger) => (seen, ledger),
+        Err(_) => panic!(rt; "still shared"),
     }
 }
 
 /// Both seats of a lock: the first makes an entry, cannot close the lock while the second is out, and can once they are joined.
-fn see_two<R: Wait>(rt: &R, lock: Lock<Ledger>, first: Clerk, second: Clerk) -> Option<Seen>
+fn see_two<R: Abort + Wait>(rt: &R, lock: Lock<Ledger>, first: Clerk, second: Clerk) -> Seen
     requires first { seat_id first.seat ≡ lock_id lock }
     requires second { seat_id second.seat ≡ lock_id lock }
 {
-    let first = turn(rt, &lock, first);
-    let Clerk { seat, .. } = first;
+    let Clerk { seat, .. } = turn(rt, &lock, first);
     let Clerk { seat: other, .. } = second;
     let seen = [seat.seen(), other.seen()];
     let Err(StillShared { lock, seat, shares }) = lock.close(seat) else {
-        return None;
+        panic!(rt; "closed with a seat out");
     };
-    let (together, ledger) = close_joined(lock, other, seat)?;
-    let entry = ledger.entries.first().copied()?;
-    Some(Seen {
+    let (joined, ledger) = close_joined(rt, lock, other, seat);
+    let Entry { by, count } = first_of(&ledger);
+    Seen {
         first: seen[0],
         second: seen[1],
         shares,
-        joined: together,
+        joined,
         entries: ledger.entries.len() as u64,
-        by: entry.by,
-        count: entry.count,
-    })
+        by,
+        count,
+    }
+}
+
+/// The first entry, or one of nobody.
+fn first_of(ledger: &Ledger) -> Entry {
+    match ledger.entries.first() {
+        Some(entry) => *entry,
+        None => Entry { by: 0, count: 0 },
+    }
 }
 
 #[test]
-fn one_entry_and_a_seat_out(rt: HostRuntime) -> Result<(), Fail> {
-    let (lock, first, second) = two_clerks(rt.alloc())?;
-    let Some(seen) = see_two(&rt, lock, first, second) else {
-        return Err(Fail::from("closed with a seat out, or still shared"));
-    };
+fn one_entry_and_a_seat_out(rt: HostRuntime) {
+    let (lock, first, second) = two_clerks(&rt, rt.alloc());
+    let seen = see_two(&rt, lock, first, second);
     same(&rt, seen.first, 1, "seen by the first");
     same(&rt, seen.second, 0, "seen by the second");
     same(&rt, u64::from(seen.shares), 1, "a seat that is out");
     same(&rt, seen.joined, 1, "seen by both");
     same(&rt, seen.entries, 1, "one entry");
     shows(&rt, "the first by clerk 1", seen.by == 1 && seen.count == 1);
-    Ok(())
 }
 
 /// Two threads look at a value to which one of them has added: how many entries both have seen then, where the lock closes.
@@ -140,11 +147,10 @@ fn look_twice<R: Threads + Wait + Sync>(
 }
 
 #[test]
-fn both_look(rt: HostRuntime) -> Result<(), Fail> {
-    let (lock, first, second) = two_clerks(rt.alloc())?;
+fn both_look(rt: HostRuntime) {
+    let (lock, first, second) = two_clerks(&rt, rt.alloc());
     let seen = look_twice(&rt, lock, first, second);
     same(&rt, seen, 1, "seen by both threads");
-    Ok(())
 }
 
 /// What is seen by all clerks after so many turns at once, and the first that is odd then.
@@ -167,10 +173,13 @@ fn see_all<R: Threads + Wait + Sync>(
 
 /// Eight threads that take and give ten thousand times each.
 #[test]
-fn eight_threads(rt: HostRuntime) -> Result<(), Fail> {
-    let (lock, mut clerks) = open(rt.alloc(), THREADS, (THREADS * TIMES) as usize)?;
+fn eight_threads(rt: HostRuntime) {
+    let room = (THREADS * TIMES) as usize;
+    let Ok((lock, mut clerks)) = open(rt.alloc(), THREADS, room) else {
+        panic!(rt; "no memory");
+    };
     let Some(first) = clerks.pop() else {
-        return Err(Fail::from("no clerk"));
+        panic!(rt; "no clerk");
     };
     let (seen, odd) = see_all(&rt, lock, first, clerks);
     same(&rt, seen, 80_000, "seen by eight threads");
@@ -180,5 +189,4 @@ fn eight_threads(rt: HostRuntime) -> Result<(), Fail> {
         NOWHERE,
         "each clerk's entries, in order and none missing",
     );
-    Ok(())
 }

@@ -15,7 +15,6 @@ use std::alloc::Global;
 use std::marker::Brand;
 use std::process::Abort;
 use std::sync::Wait;
-use std::test::Fail;
 
 /// Five gwei come into the wallet of account 1.
 const FUND: Request = Request::Do(Command {
@@ -54,10 +53,7 @@ pub fn part<D: Disk, O: Origin>(
 pub fn put_back<S: Drop>(rt: &impl Abort, seats: &mut Vec<S>, seat: S)
     ensures { seats.new.items ≡ seats.old.items ++ seat ∷ [] }
 {
-    match seats.push(seat) {
-        Ok(()) => {}
-        Err(_) => panic!(rt; "no memory"),
-    }
+    seats.push(seat).expect(rt, "memory");
 }
 
 /// The last seat makes a call. The seats, and its answer.
@@ -147,34 +143,30 @@ fn two_seats<D: Disk + Drop, O: Origin, R: Abort + Wait>(
     rt: &R,
     alloc: Global,
     store: Store<D>,
-) -> Result<Seen, Fail>
+) -> Seen
     requires going { store.stopped ≡ None }
     requires origin { IsAtOrigin D.seen D.faults D.moment D.left_at O.state O.left O.right store }
     requires listed { TellsList store }
 {
     let Ok((service, seats, _)) = Service::<D, O>::new(rt, alloc, store, 2) else {
-        return Err(Fail::from("no memory"));
+        panic!(rt; "no memory");
     };
     let (seats, other) = part(rt, &service, seats);
     let (seats, funded) = call_by_last(rt, &service, seats, &FUND);
     let (other, looked) = service.call(rt, other, &LOOK, &Hint::NONE);
     let (calls, entries) = (other.calls(), other.seen());
     let end = close_late(rt, service, seats, other);
-    Ok(Seen {
+    Seen {
         is_funded: funded == Answer::Reply(FUNDED),
         is_looked: looked == Answer::Reply(LOOKED),
         calls,
         entries,
         end,
-    })
+    }
 }
 
 /// The same, from where the store is.
-fn two_seats_over<D: Disk + Drop, R: Abort + Wait>(
-    rt: &R,
-    alloc: Global,
-    store: Store<D>,
-) -> Result<Seen, Fail>
+fn two_seats_over<D: Disk + Drop, R: Abort + Wait>(rt: &R, alloc: Global, store: Store<D>) -> Seen
     requires going { store.stopped ≡ None }
     requires listed { TellsList store }
 {
@@ -183,9 +175,9 @@ fn two_seats_over<D: Disk + Drop, R: Abort + Wait>(
 }
 
 #[test]
-fn a_seat_is_out(rt: HostRuntime) -> Result<(), Fail> {
-    let store = new_store(rt.alloc())?;
-    let seen = two_seats_over(&rt, rt.alloc(), store)?;
+fn a_seat_is_out(rt: HostRuntime) {
+    let store = new_store(&rt, rt.alloc());
+    let seen = two_seats_over(&rt, rt.alloc(), store);
     shows(&rt, "the first funds", seen.is_funded);
     shows(&rt, "the second looks", seen.is_looked);
     same(&rt, u64::from(seen.calls), 1, "the second's calls");
@@ -193,5 +185,4 @@ fn a_seat_is_out(rt: HostRuntime) -> Result<(), Fail> {
     same(&rt, u64::from(seen.end.missing), 1, "a missing seat");
     shows(&rt, "the history", seen.end.is_history);
     shows(&rt, "no halt", !seen.end.is_halted);
-    Ok(())
 }

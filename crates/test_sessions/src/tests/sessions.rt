@@ -1,5 +1,5 @@
 //! Sessions at a desk whose replies are made up.
-ghost use Rattle.std.specs.Prelude.{◌≡◌, ◌≤◌, All, IfOk, length};
+ghost use Rattle.std.specs.Prelude.{◌≤◌, All, length};
 ghost use Rattle.liq_sessions.specs.declared.script.TheConstants.{REQUESTS_MOST};
 
 use crate::tests::checks::{NOWHERE, same, shows};
@@ -10,8 +10,8 @@ use liq_sessions::{
 };
 use liq_types::{Answer, Hinter, Query, Reply, Request};
 use std::alloc::Global;
+use std::process::Abort;
 use std::sync::{Arc, Wait};
-use std::test::Fail;
 use std::thread::Threads;
 
 /// The request at a place of each script, which are counted from 1.
@@ -20,20 +20,20 @@ fn request_at(index: u64) -> Request {
 }
 
 /// A script of so many requests.
-pub fn script(alloc: Global, session: u8, requests: usize) -> Result<Script, Fail>
+pub fn script(rt: &impl Abort, alloc: Global, session: u8, requests: usize) -> Script
     requires { requests ≤ REQUESTS_MOST }
-    ensures { IfOk result (λ script. length script.requests ≤ REQUESTS_MOST) }
+    ensures { length result.requests ≤ REQUESTS_MOST }
 {
     let mut list = Requests::new(alloc);
     for before in 0..requests {
         if list.push(request_at(before as u64 + 1)).is_err() {
-            return Err(Fail::from("no memory"));
+            panic!(rt; "no memory");
         }
     }
-    Ok(Script {
+    Script {
         session,
         requests: list,
-    })
+    }
 }
 
 /// A seat that has made no call.
@@ -48,41 +48,44 @@ fn seat(alloc: Global, session: u8) -> MadeUpSeat {
 
 /// The work of a session with so many requests.
 fn work(
+    rt: &impl Abort,
     alloc: Global,
     watch: &Arc<Watch>,
     session: u8,
     requests: usize,
-) -> Result<Work<MadeUpDesk, CountedHints>, Fail>
+) -> Work<MadeUpDesk, CountedHints>
     requires { requests ≤ REQUESTS_MOST }
-    ensures { IfOk result (λ work. length work.script.requests ≤ REQUESTS_MOST) }
+    ensures { length result.script.requests ≤ REQUESTS_MOST }
 {
     let hinter = CountedHints {
-        watch: Arc::try_clone(watch)?,
+        watch: Arc::try_clone(watch).expect(rt, "memory"),
         session,
         made: 0,
     };
-    Ok(Work {
-        script: script(alloc, session, requests)?,
+    Work {
+        script: script(rt, alloc, session, requests),
         seat: seat(alloc, session),
         hinter,
-    })
+    }
 }
 
 /// The works of sessions from 1 on, with so many requests each.
 fn works(
+    rt: &impl Abort,
     alloc: Global,
     watch: &Arc<Watch>,
     sessions: u8,
     requests: usize,
-) -> Result<Vec<Work<MadeUpDesk, CountedHints>>, Fail>
+) -> Vec<Work<MadeUpDesk, CountedHints>>
     requires { requests ≤ REQUESTS_MOST }
-    ensures { IfOk result (λ works. All (λ w. length w.script.requests ≤ REQUESTS_MOST) works.items) }
+    ensures { All (λ w. length w.script.requests ≤ REQUESTS_MOST) result.items }
 {
     let mut works = Vec::new(alloc);
     for before in 0..sessions {
-        works.push(work(alloc, watch, before + 1, requests)?)?;
+        let work = work(rt, alloc, watch, before + 1, requests);
+        works.push(work).expect(rt, "memory");
     }
-    Ok(works)
+    works
 }
 
 /// Whether the replies are a session's own, in order, and the calls are those of its script with just these replies.
@@ -159,50 +162,50 @@ struct Seen {
 }
 
 /// Runs sessions with so many requests each.
-fn run_watched<R: Threads + Wait + Sync>(
+fn run_watched<R: Abort + Threads + Wait + Sync>(
     rt: &R,
     alloc: Global,
     watch: &Arc<Watch>,
     setting: &Setting,
     requests: usize,
-) -> Result<Vec<SessionDone<MadeUpDesk, CountedHints>>, Fail>
+) -> Vec<SessionDone<MadeUpDesk, CountedHints>>
     requires { requests ≤ REQUESTS_MOST }
 {
     let desk = MadeUpDesk {
-        watch: Arc::try_clone(watch)?,
+        watch: Arc::try_clone(watch).expect(rt, "memory"),
         replies: setting.replies,
         trouble: setting.trouble,
     };
-    let works = works(alloc, watch, setting.sessions, requests)?;
+    let works = works(rt, alloc, watch, setting.sessions, requests);
     match run_sessions(rt, alloc, &desk, &**watch, works) {
-        Ok(done) => Ok(done),
-        Err(_) => Err(Fail::from("no memory")),
+        Ok(done) => done,
+        Err(_) => panic!(rt; "no memory"),
     }
 }
 
 /// Runs sessions through a gate that watches them: each call is entered, hinted, made and left.
-fn see<R: Threads + Wait + Sync>(
+fn see<R: Abort + Threads + Wait + Sync>(
     rt: &R,
     alloc: Global,
     setting: &Setting,
     requests: usize,
     wanted: &Wanted,
     steps: u64,
-) -> Result<Seen, Fail>
+) -> Seen
     requires { requests ≤ REQUESTS_MOST }
 {
-    let watch = Arc::new(alloc, Watch::new())?;
-    let done = run_watched(rt, alloc, &watch, setting, requests)?;
-    Ok(Seen {
+    let watch = Arc::new(alloc, Watch::new()).expect(rt, "memory");
+    let done = run_watched(rt, alloc, &watch, setting, requests);
+    Seen {
         sessions: done.len() as u64,
         odd: first_odd(&done, &watch, wanted, steps),
         missed: watch.has_missed(),
-    })
+    }
 }
 
 /// Eight sessions at once: each gets all its replies in order.
 #[test]
-fn eight_sessions(rt: HostRuntime) -> Result<(), Fail> {
+fn eight_sessions(rt: HostRuntime) {
     let setting = Setting {
         sessions: 8,
         replies: 2_000,
@@ -213,11 +216,10 @@ fn eight_sessions(rt: HostRuntime) -> Result<(), Fail> {
         answer: None,
         faulted: None,
     };
-    let seen = see(&rt, rt.alloc(), &setting, 2_000, &wanted, 8_000)?;
+    let seen = see(&rt, rt.alloc(), &setting, 2_000, &wanted, 8_000);
     same(&rt, seen.sessions, 8, "eight sessions");
     same(&rt, seen.odd, NOWHERE, "a session of eight");
     shows(&rt, "each step in its order", !seen.missed);
-    Ok(())
 }
 
 /// Each trouble, the answer that a session gets, and the request at which its seat met a fault.
@@ -232,13 +234,13 @@ const TROUBLES: [(Trouble, Answer, Option<Request>); 3] = [
 ];
 
 /// Runs two sessions that come to this trouble behind three replies each.
-fn see_trouble<R: Threads + Wait + Sync>(
+fn see_trouble<R: Abort + Threads + Wait + Sync>(
     rt: &R,
     alloc: Global,
     trouble: Trouble,
     answer: Answer,
     faulted: Option<Request>,
-) -> Result<Seen, Fail> {
+) -> Seen {
     let setting = Setting {
         sessions: 2,
         replies: 3,
@@ -254,48 +256,48 @@ fn see_trouble<R: Threads + Wait + Sync>(
 
 /// A session ends at the first answer that is no reply. That call is left too, and no later one is made.
 #[test]
-fn each_trouble(rt: HostRuntime) -> Result<(), Fail> {
+fn each_trouble(rt: HostRuntime) {
     for (trouble, answer, faulted) in TROUBLES {
-        let seen = see_trouble(&rt, rt.alloc(), trouble, answer, faulted)?;
+        let seen = see_trouble(&rt, rt.alloc(), trouble, answer, faulted);
         same(&rt, seen.sessions, 2, "sessions in trouble");
         same(&rt, seen.odd, NOWHERE, "a session in trouble");
         shows(&rt, "each step before the trouble", !seen.missed);
     }
-    Ok(())
 }
 
 /// The work of a session that looks for no hints.
 fn quiet_work(
+    rt: &impl Abort,
     alloc: Global,
     session: u8,
     requests: usize,
-) -> Result<Work<MadeUpDesk, NoHints>, Fail>
+) -> Work<MadeUpDesk, NoHints>
     requires { requests ≤ REQUESTS_MOST }
-    ensures { IfOk result (λ work. length work.script.requests ≤ REQUESTS_MOST) }
+    ensures { length result.script.requests ≤ REQUESTS_MOST }
 {
-    Ok(Work {
-        script: script(alloc, session, requests)?,
+    Work {
+        script: script(rt, alloc, session, requests),
         seat: seat(alloc, session),
         hinter: NoHints,
-    })
+    }
 }
 
 /// Runs sessions that look for no hints, through an open gate, at a desk with one reply for each.
-fn run_quiet<R: Threads + Wait + Sync>(
+fn run_quiet<R: Abort + Threads + Wait + Sync>(
     rt: &R,
     alloc: Global,
     works: Vec<Work<MadeUpDesk, NoHints>>,
-) -> Result<Vec<SessionDone<MadeUpDesk, NoHints>>, Fail>
+) -> Vec<SessionDone<MadeUpDesk, NoHints>>
     requires { All (λ w. length w.script.requests ≤ REQUESTS_MOST) works.items }
 {
     let desk = MadeUpDesk {
-        watch: Arc::new(alloc, Watch::new())?,
+        watch: Arc::new(alloc, Watch::new()).expect(rt, "memory"),
         replies: 1,
         trouble: Trouble::Stopped,
     };
     match run_sessions(rt, alloc, &desk, &OpenGate, works) {
-        Ok(done) => Ok(done),
-        Err(_) => Err(Fail::from("no memory")),
+        Ok(done) => done,
+        Err(_) => panic!(rt; "no memory"),
     }
 }
 
@@ -316,19 +318,25 @@ fn are_quiet(done: &[SessionDone<MadeUpDesk, NoHints>]) -> bool {
     }
 }
 
-/// A session with one request and one with none.
-#[test]
-fn quiet_sessions(rt: HostRuntime) -> Result<(), Fail> {
-    let alloc = rt.alloc();
-    let works = vec![in alloc; quiet_work(alloc, 7, 1)?, quiet_work(alloc, 5, 0)?]?;
-    let done = run_quiet(&rt, alloc, works)?;
-    shows(&rt, "one request and none", are_quiet(&done));
-    Ok(())
+/// The works of a session with one request, and of one with none.
+fn quiet_works(rt: &impl Abort, alloc: Global) -> Vec<Work<MadeUpDesk, NoHints>>
+    ensures { All (λ w. length w.script.requests ≤ REQUESTS_MOST) result.items }
+{
+    let mut works = Vec::new(alloc);
+    works.push(quiet_work(rt, alloc, 7, 1)).expect(rt, "memory");
+    works.push(quiet_work(rt, alloc, 5, 0)).expect(rt, "memory");
+    works
 }
 
 #[test]
-fn no_sessions(rt: HostRuntime) -> Result<(), Fail> {
-    let done = run_quiet(&rt, rt.alloc(), Vec::new(rt.alloc()))?;
+fn quiet_sessions(rt: HostRuntime) {
+    let works = quiet_works(&rt, rt.alloc());
+    let done = run_quiet(&rt, rt.alloc(), works);
+    shows(&rt, "one request and none", are_quiet(&done));
+}
+
+#[test]
+fn no_sessions(rt: HostRuntime) {
+    let done = run_quiet(&rt, rt.alloc(), Vec::new(rt.alloc()));
     same(&rt, done.len() as u64, 0, "no sessions");
-    Ok(())
 }

@@ -13,16 +13,6 @@ use std::test::Fail;
 /// What each entry asked: it is not shown.
 const ASKED: Request = Request::Ask(Query::Pools);
 
-/// A wallet of so much.
-const fn a_wallet(session: u8, index: u32, coll: u64) -> Entry {
-    Entry {
-        session,
-        index,
-        request: ASKED,
-        reply: Reply::Told(Info::Wallet { coll, lusd: 0 }),
-    }
-}
-
 const NO_TROVE: Reply = Reply::No(Refusal::NoTrove {
     account: 4_294_967_295,
 });
@@ -119,44 +109,5 @@ fn served(rt: HostRuntime) -> Result<(), Fail> {
     shows(&rt, "a mixed history, at once", at_once);
     let call = first_odd_call(alloc)?;
     same(&rt, call, NOWHERE, "a call that fails");
-    Ok(())
-}
-
-/// A long history of session 5, and what is written of it.
-#[derive(Drop)]
-struct Long {
-    entries: Vec<Entry>,
-    text: String,
-}
-
-// Appends so many entries, their replies, and then their places.
-fn put_long(long: &mut Long, most: u32) -> Result<(), AllocError> {
-    long.text.push_str("session 5\n")?;
-    for index in 1..most {
-        long.entries.push(a_wallet(5, index, 999_999_999_999))?;
-        long.text.push_str("999999999999 0\n")?;
-    }
-    long.text.push_str("history\n")?;
-    for index in 1..most {
-        writeln!(long.text, "5 {index}")?;
-    }
-    Ok(())
-}
-
-// Whether such a history is written so.
-fn long_is_written(alloc: Global) -> Result<bool, AllocError> {
-    let mut long = Long {
-        entries: Vec::new(alloc),
-        text: String::new(alloc),
-    };
-    put_long(&mut long, 5_001)?;
-    is_written(alloc, &long.entries, 1_000, NONE, long.text.as_bytes())
-}
-
-/// More than waits at once: one session with so many lines that some are written before the others.
-#[test]
-fn served_in_pieces(rt: HostRuntime) -> Result<(), Fail> {
-    let written = long_is_written(rt.alloc())?;
-    shows(&rt, "five thousand entries", written);
     Ok(())
 }

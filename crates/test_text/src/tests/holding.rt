@@ -8,6 +8,17 @@ use std::thread;
 /// How often a held session looks whether it may go on.
 pub const TURNS: u32 = 10_000_000;
 
+/// Stays until the flag is set, for many turns at the most. Whether it is.
+pub fn comes_in_time(flag: &AtomicBool) -> bool {
+    for _ in 0..TURNS {
+        if flag.load(Ordering::SeqCst) {
+            return true;
+        }
+        thread::yield_now();
+    }
+    false
+}
+
 /// Holds the first call of one session until the first call of another has left. After many turns it lets the call through and
 /// notes a miss.
 #[derive(Drop)]
@@ -36,16 +47,9 @@ impl Holding {
 
 impl Gate for Holding {
     fn enter(&self, session: u8, index: u32) {
-        if session != self.held || index != 1 {
-            return;
+        if session == self.held && index == 1 && !comes_in_time(&self.left) {
+            self.missed.store(true, Ordering::SeqCst);
         }
-        for _ in 0..TURNS {
-            if self.left.load(Ordering::SeqCst) {
-                return;
-            }
-            thread::yield_now();
-        }
-        self.missed.store(true, Ordering::SeqCst);
     }
 
     fn leave(&self, session: u8, index: u32, _hint: &Hint) {

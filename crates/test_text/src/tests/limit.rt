@@ -1,53 +1,19 @@
 //! As many lines as one run answers, and one more.
 
-ghost use Rattle.std.specs.Prelude.{◌≡◌, IsTrue, codes, map};
-ghost use Rattle.std.specs.String.{string_bytes};
-ghost use Rattle.liq_words.specs.declared.words.Word.{Word};
-ghost use Rattle.liq_words.specs.Words.{Ask};
-
 use crate::tests::checks::{NOWHERE, same, shows};
 use crate::tests::drip::Drip;
-use liq_outside::{MemoryDisk, MemorySource};
-use liq_serve::without_threads;
+use crate::tests::program::status;
+use liq_sessions::OpenGate;
 use std::alloc::{AllocError, Global};
+use std::sync::Wait;
 use std::test::Fail;
+use std::thread::Threads;
 
-const LINES: usize = 1_000_000;
+/// As many lines as there may be.
+pub const LINES: usize = 1_000_000;
 
-fn is_serve(word: &str) -> bool
-    ensures { word.now ≡ codes "serve" → IsTrue result }
-{
-    matches!(word, "serve")
-}
-
-// Whether the words ask for sessions, which want threads.
-fn are_serve(words: &[String]) -> bool
-    ensures { Ask (map string_bytes words.now) Word.Serve → IsTrue result }
-{
-    match words {
-        [word] => is_serve(word),
-        _ => false,
-    }
-}
-
-// A disk on which nothing stands, and which does not fail.
-fn empty(alloc: Global) -> MemoryDisk {
-    MemoryDisk::new(alloc, Vec::new(alloc), Vec::new(alloc))
-}
-
-// Answers the lines, over two empty disks. The status.
-fn run(alloc: Global, lines: &[u8], sink: &mut Drip) -> Result<u64, AllocError> {
-    let words = vec![in alloc; String::from_str(alloc, "run")?]?;
-    if are_serve(&words) {
-        return Ok(NOWHERE);
-    }
-    let mut source = MemorySource::new(lines.to_vec(alloc)?, 65_536, Vec::new(alloc));
-    let ended = without_threads(alloc, &words, &mut source, sink, empty(alloc), empty(alloc));
-    Ok(u64::from(ended.status))
-}
-
-// So many lines, one after the other.
-fn repeated(alloc: Global, line: &[u8]) -> Result<Vec<u8>, AllocError> {
+/// So many lines, one after the other.
+pub fn repeated(alloc: Global, line: &[u8]) -> Result<Vec<u8>, AllocError> {
     let mut bytes = Vec::new(alloc);
     for _ in 0..LINES {
         bytes.extend_from_slice(line)?;
@@ -78,7 +44,8 @@ struct Ran {
     is_text: bool,
 }
 
-fn run_on(
+fn run_on<R: Threads + Wait + Sync>(
+    rt: &R,
     alloc: Global,
     lines: &[u8],
     most: usize,
@@ -86,7 +53,7 @@ fn run_on(
     text: &[u8],
 ) -> Result<Ran, AllocError> {
     let mut sink = Drip::new(alloc, most.max(1), failing);
-    let status = run(alloc, lines, &mut sink)?;
+    let status = status(rt, alloc, &OpenGate, "run", lines, &mut sink)?;
     Ok(Ran {
         status,
         is_text: sink.bytes() == text,
@@ -97,19 +64,47 @@ fn run_on(
 const MOST: usize = 3;
 
 // What a sink that takes few bytes in a call got of all.
-fn whole_run(alloc: Global, long: &Long) -> Result<Drip, AllocError> {
+fn whole_run<R: Threads + Wait + Sync>(
+    rt: &R,
+    alloc: Global,
+    lines: &[u8],
+) -> Result<Drip, AllocError> {
     let mut sink = Drip::new(alloc, MOST, usize::MAX);
-    run(alloc, &long.lines, &mut sink)?;
+    status(rt, alloc, &OpenGate, "run", lines, &mut sink)?;
     Ok(sink)
 }
 
 // Whether the text is cut where one of its last five calls fails, or whole where none does, and the status stays.
-fn is_cut(alloc: Global, long: &Long, whole: &Drip, call: usize) -> Result<bool, AllocError> {
+fn is_cut<R: Threads + Wait + Sync>(
+    rt: &R,
+    alloc: Global,
+    long: &Long,
+    whole: &Drip,
+    call: usize,
+) -> Result<bool, AllocError> {
     let failing = whole.calls().saturating_sub(5).saturating_add(call);
     let text = long.text.as_slice();
     let held = text.get(..whole.before(failing)).unwrap_or(text);
-    let ran = run_on(alloc, &long.lines, MOST, failing, held)?;
+    let ran = run_on(rt, alloc, &long.lines, MOST, failing, held)?;
     Ok(ran.status == 8 && ran.is_text)
+}
+
+// The first of the last calls behind which something else is written, where it fails. Behind the last of all nothing fails.
+fn first_odd_cut<R: Threads + Wait + Sync>(
+    rt: &R,
+    alloc: Global,
+    long: &Long,
+) -> Result<u64, AllocError> {
+    let whole = whole_run(rt, alloc, &long.lines)?;
+    if whole.bytes() != long.text.as_slice() {
+        return Ok(0);
+    }
+    for call in 0..6 {
+        if !is_cut(rt, alloc, long, &whole, call)? {
+            return Ok(call as u64);
+        }
+    }
+    Ok(NOWHERE)
 }
 
 #[test]
@@ -118,20 +113,14 @@ fn limit(rt: HostRuntime) -> Result<(), Fail> {
     let long = long_run(alloc)?;
     let most = long.lines.get(..11 * LINES).unwrap_or(&[]);
     let replies = long.text.get(..4 * LINES).unwrap_or(&[]);
-    let ran = run_on(alloc, most, 65_536, usize::MAX, replies)?;
+    let ran = run_on(&rt, alloc, most, 65_536, usize::MAX, replies)?;
     same(&rt, ran.status, 0, "as many lines as there may be");
     shows(&rt, "a reply to each", ran.is_text);
     // One more line has begun with its first byte.
-    let ran = run_on(alloc, &long.lines, 65_536, usize::MAX, &long.text)?;
+    let ran = run_on(&rt, alloc, &long.lines, 65_536, usize::MAX, &long.text)?;
     same(&rt, ran.status, 8, "one line more");
     shows(&rt, "the limit behind the replies", ran.is_text);
-    let whole = whole_run(alloc, &long)?;
-    let is_text = whole.bytes() == long.text.as_slice();
-    shows(&rt, "the limit in small pieces", is_text);
-    // Behind the last of its calls nothing fails.
-    for call in 0..6 {
-        let cut = is_cut(alloc, &long, &whole, call)?;
-        shows(&rt, "the last line, cut", cut);
-    }
+    let cut = first_odd_cut(&rt, alloc, &long)?;
+    same(&rt, cut, NOWHERE, "the last line, in small pieces and cut");
     Ok(())
 }

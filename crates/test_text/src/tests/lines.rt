@@ -24,9 +24,9 @@ fn is_read(alloc: Global, line: &[u8], written: &[u8]) -> bool {
 }
 
 // The place of the first line that is not read and written again as it is.
-fn first_odd_line(alloc: Global, lines: &[&[u8]]) -> u64 {
-    for (place, line) in lines.iter().enumerate() {
-        if !is_read(alloc, line, line) {
+fn first_odd_line(alloc: Global, lines: &str) -> u64 {
+    for (place, line) in lines.split('\n').enumerate() {
+        if !is_read(alloc, line.as_bytes(), line.as_bytes()) {
             return place as u64;
         }
     }
@@ -85,57 +85,71 @@ fn first_odd_session(alloc: Global, lines: &[(&[u8], u8, &[u8])]) -> u64 {
 #[test]
 fn good_lines(rt: HostRuntime) {
     let alloc = rt.alloc();
-    let odd = [
-        ("wallets", first_odd_line(alloc, &spelled::WALLETS)),
-        ("troves", first_odd_line(alloc, &spelled::TROVES)),
-        ("the pool", first_odd_line(alloc, &spelled::POOL)),
-        ("others", first_odd_line(alloc, &spelled::OTHERS)),
-        ("queries", first_odd_line(alloc, &spelled::QUERIES)),
-        ("clients", first_odd_line(alloc, &spelled::CLIENTS)),
-        ("calls", first_odd_call(alloc, &requests::CALLS)),
-        ("asked", first_odd_query(alloc, &requests::QUERIES)),
-        ("no hints", first_odd_hint(alloc, &requests::ABSENT_HINTS)),
-        ("sessions", first_odd_session(alloc, &requests::IN_SESSIONS)),
+    let places = [
+        first_odd_line(alloc, spelled::WALLETS),
+        first_odd_line(alloc, spelled::TROVES),
+        first_odd_line(alloc, spelled::POOL),
+        first_odd_line(alloc, spelled::OTHERS),
+        first_odd_line(alloc, spelled::QUERIES),
+        first_odd_line(alloc, spelled::CLIENTS),
+        first_odd_call(alloc, &requests::CALLS),
+        first_odd_query(alloc, &requests::QUERIES),
+        first_odd_hint(alloc, &requests::ABSENT_HINTS),
+        first_odd_session(alloc, &requests::IN_SESSIONS),
     ];
-    for (what, place) in odd {
-        same(&rt, place, NOWHERE, what);
+    for place in places {
+        same(
+            &rt,
+            place,
+            NOWHERE,
+            "a line that is read or written otherwise",
+        );
     }
 }
 
-// The place of the first line that is read as a request.
-fn first_read(lines: &[&[u8]]) -> u64 {
-    match lines.iter().position(|line| read_line(line).is_ok()) {
-        Some(place) => place as u64,
-        None => NOWHERE,
+// The place of the first line of a text that is read as a request.
+fn first_read(lines: &str) -> u64 {
+    for (place, line) in lines.split('\n').enumerate() {
+        if read_line(line.as_bytes()).is_ok() {
+            return place as u64;
+        }
     }
+    NOWHERE
 }
 
-// The place of the first line that is read as a session and a request.
-fn first_read_in_session(lines: &[&[u8]]) -> u64 {
-    match lines
-        .iter()
-        .position(|line| read_session_line(line).is_ok())
-    {
-        Some(place) => place as u64,
-        None => NOWHERE,
+// The same of lines that no text has.
+fn first_read_of(lines: &[&[u8]]) -> u64 {
+    for (place, line) in lines.iter().enumerate() {
+        if read_line(line).is_ok() {
+            return place as u64;
+        }
     }
+    NOWHERE
+}
+
+// The place of the first line of a text that is read as a session and a request.
+fn first_read_in_session(lines: &str) -> u64 {
+    for (place, line) in lines.split('\n').enumerate() {
+        if read_session_line(line.as_bytes()).is_ok() {
+            return place as u64;
+        }
+    }
+    NOWHERE
 }
 
 #[test]
 fn bad_lines(rt: HostRuntime) {
-    for (what, place) in [
-        ("shapes", first_read(&misspelled::SHAPES)),
-        ("verbs", first_read(&misspelled::VERBS)),
-        ("words", first_read(&misspelled::WORDS)),
-        ("queries", first_read(&misspelled::QUERIES)),
-        ("numbers", first_read(&misspelled::NUMBERS)),
-        ("long lines", first_read(&misspelled::LONG)),
-        (
-            "in sessions",
-            first_read_in_session(&misspelled::IN_SESSIONS),
-        ),
-    ] {
-        same(&rt, place, NOWHERE, what);
+    let places = [
+        first_read_of(&misspelled::SHAPES),
+        first_read(misspelled::VERBS),
+        first_read(misspelled::WORDS),
+        first_read(misspelled::QUERIES),
+        first_read(misspelled::NUMBERS),
+        first_read(misspelled::LONG),
+        first_read_in_session(misspelled::IN_SESSIONS),
+    ];
+    for place in places {
+        same(&rt, place, NOWHERE, "a line that is read");
     }
 }
 

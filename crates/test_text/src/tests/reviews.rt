@@ -62,19 +62,19 @@ fn offsets(alloc: Global, count: u32) -> Result<String, AllocError> {
         "fund 1 100000000000000000\nopen 1 100000000000000000 30000000000000 1000000000000000000 - -\nprovide 1 30000000000000\n",
     )?;
     for i in 0..count {
-        let account = 100 + i % 64;
-        if account == 100 {
-            calls.push_str("price 1000000000\n")?;
-        }
-        writeln!(
-            calls,
-            "fund {account} 2300000000\nopen {account} 2300000000 1800000000 1000000000000000000 - -"
-        )?;
-        if account == 163 || i + 1 == count {
-            calls.push_str("price 900000000\nliquidate_lowest 2 64\n")?;
+        put_trove(&mut calls, 100 + i % 64)?;
+        if i % 64 == 63 || i + 1 == count {
+            calls.push_str("price 900000000\nliquidate_lowest 2 64\nprice 1000000000\n")?;
         }
     }
     Ok(calls)
+}
+
+fn put_trove(calls: &mut String, account: u32) -> Result<(), AllocError> {
+    writeln!(
+        calls,
+        "fund {account} 2300000000\nopen {account} 2300000000 1800000000 1000000000000000000 - -"
+    )
 }
 
 const REVIEWED: &str =

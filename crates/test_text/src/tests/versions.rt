@@ -1,13 +1,12 @@
 //! The versions of the list that sessions of the program are hinted by.
 
-use crate::tests::at_once::serve;
 use crate::tests::checks::{same, shows};
-use crate::tests::holding::TURNS;
+use crate::tests::holding::comes_in_time;
+use crate::tests::program::serve;
 use liq_sessions::Gate;
 use liq_types::Hint;
 use std::sync::atomic::{AtomicBool, AtomicU64, Ordering};
 use std::test::Fail;
-use std::thread;
 
 /// Each session funds a wallet, and then opens a trove.
 const LINES: &[u8] = b"1 1 1 fund 1 10000000000\n\
@@ -38,6 +37,14 @@ impl Hinted {
             prev: AtomicU64::new(u64::MAX),
             next: AtomicU64::new(u64::MAX),
         }
+    }
+
+    /// Both sides of the hint.
+    fn sides(&self) -> [u64; 2] {
+        [
+            self.prev.load(Ordering::SeqCst),
+            self.next.load(Ordering::SeqCst),
+        ]
     }
 
     fn keep(&self, hint: &Hint) {
@@ -89,16 +96,9 @@ impl Versions {
 
 impl Gate for Versions {
     fn enter(&self, session: u8, index: u32) {
-        if session != 2 || index != 1 {
-            return;
+        if session == 2 && index == 1 && !comes_in_time(&self.left) {
+            self.missed.store(true, Ordering::SeqCst);
         }
-        for _ in 0..TURNS {
-            if self.left.load(Ordering::SeqCst) {
-                return;
-            }
-            thread::yield_now();
-        }
-        self.missed.store(true, Ordering::SeqCst);
     }
 
     fn leave(&self, session: u8, index: u32, hint: &Hint) {
@@ -118,37 +118,16 @@ fn versions_seen(rt: HostRuntime) -> Result<(), Fail> {
     let gate = Versions::new();
     let status = serve(&rt, rt.alloc(), &gate, LINES)?;
     same(&rt, status, 0, "the status");
-    shows(
-        &rt,
-        "session 1 has left",
-        !gate.missed.load(Ordering::SeqCst),
-    );
-    same(&rt, gate.version(1, 1), 0, "the first version of session 1");
-    same(
-        &rt,
+    let has_missed = gate.missed.load(Ordering::SeqCst);
+    shows(&rt, "session 1 has left", !has_missed);
+    let versions = [
+        gate.version(1, 1),
         gate.version(1, 2),
-        0,
-        "the second version of session 1",
-    );
-    same(&rt, gate.version(2, 1), 2, "the first version of session 2");
-    same(
-        &rt,
+        gate.version(2, 1),
         gate.version(2, 2),
-        2,
-        "the second version of session 2",
-    );
-    let last = &gate.second[1];
-    same(
-        &rt,
-        last.prev.load(Ordering::SeqCst),
-        side(Some(1)),
-        "the account before",
-    );
-    same(
-        &rt,
-        last.next.load(Ordering::SeqCst),
-        side(None),
-        "none behind",
-    );
+    ];
+    shows(&rt, "the versions", versions == [0, 0, 2, 2]);
+    let last = gate.second[1].sides();
+    shows(&rt, "behind account 1", last == [side(Some(1)), side(None)]);
     Ok(())
 }

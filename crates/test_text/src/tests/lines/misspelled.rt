@@ -70,405 +70,399 @@ pub const SHAPES: [&[u8]; 65] = [
 ];
 
 /// Each verb with a word too many, with words too few, misspelled, and as a query.
-pub const VERBS: [&[u8]; 106] = [
-    b"1 1 price 12 1",
-    b"1 1 price",
-    b"1 1 pric 12",
-    b"1 1 prices 12",
-    b"1 1 PRICE 12",
-    b"? price 12",
-    b"1 1 advance 12 1",
-    b"1 1 advance",
-    b"1 1 advanc 12",
-    b"1 1 advances 12",
-    b"1 1 ADVANCE 12",
-    b"? advance 12",
-    b"1 1 fund 7 12 1",
-    b"1 1 fund 7",
-    b"1 1 fund",
-    b"1 1 fun 7 12",
-    b"1 1 funds 7 12",
-    b"1 1 FUND 7 12",
-    b"? fund 7 12",
-    b"1 1 take 7 12 1",
-    b"1 1 take 7",
-    b"1 1 take",
-    b"1 1 tak 7 12",
-    b"1 1 takes 7 12",
-    b"1 1 TAKE 7 12",
-    b"? take 7 12",
-    b"1 1 send 7 7 12 1",
-    b"1 1 send 7 7",
-    b"1 1 send",
-    b"1 1 sen 7 7 12",
-    b"1 1 sends 7 7 12",
-    b"1 1 SEND 7 7 12",
-    b"? send 7 7 12",
-    b"1 1 open 7 12 12 12 - - 1",
-    b"1 1 open 7 12 12 12 -",
-    b"1 1 open",
-    b"1 1 ope 7 12 12 12 - -",
-    b"1 1 opens 7 12 12 12 - -",
-    b"1 1 OPEN 7 12 12 12 - -",
-    b"? open 7 12 12 12 - -",
-    b"1 1 adjust 7 12 12 12 12 12 - - 1",
-    b"1 1 adjust 7 12 12 12 12 12 -",
-    b"1 1 adjust",
-    b"1 1 adjus 7 12 12 12 12 12 - -",
-    b"1 1 adjusts 7 12 12 12 12 12 - -",
-    b"1 1 ADJUST 7 12 12 12 12 12 - -",
-    b"? adjust 7 12 12 12 12 12 - -",
-    b"1 1 close 7 1",
-    b"1 1 close",
-    b"1 1 clos 7",
-    b"1 1 closes 7",
-    b"1 1 CLOSE 7",
-    b"? close 7",
-    b"1 1 provide 7 12 1",
-    b"1 1 provide 7",
-    b"1 1 provide",
-    b"1 1 provid 7 12",
-    b"1 1 provides 7 12",
-    b"1 1 PROVIDE 7 12",
-    b"? provide 7 12",
-    b"1 1 withdraw 7 12 1",
-    b"1 1 withdraw 7",
-    b"1 1 withdraw",
-    b"1 1 withdra 7 12",
-    b"1 1 withdraws 7 12",
-    b"1 1 WITHDRAW 7 12",
-    b"? withdraw 7 12",
-    b"1 1 gain_to_trove 7 - - 1",
-    b"1 1 gain_to_trove 7 -",
-    b"1 1 gain_to_trove",
-    b"1 1 gain_to_trov 7 - -",
-    b"1 1 gain_to_troves 7 - -",
-    b"1 1 GAIN_TO_TROVE 7 - -",
-    b"? gain_to_trove 7 - -",
-    b"1 1 liquidate 7 7 1",
-    b"1 1 liquidate 7",
-    b"1 1 liquidate",
-    b"1 1 liquidat 7 7",
-    b"1 1 liquidates 7 7",
-    b"1 1 LIQUIDATE 7 7",
-    b"? liquidate 7 7",
-    b"1 1 liquidate_lowest 7 12 1",
-    b"1 1 liquidate_lowest 7",
-    b"1 1 liquidate_lowest",
-    b"1 1 liquidate_lowes 7 12",
-    b"1 1 liquidate_lowests 7 12",
-    b"1 1 LIQUIDATE_LOWEST 7 12",
-    b"? liquidate_lowest 7 12",
-    b"1 1 redeem 7 12 12 - - 1",
-    b"1 1 redeem 7 12 12 -",
-    b"1 1 redeem",
-    b"1 1 redee 7 12 12 - -",
-    b"1 1 redeems 7 12 12 - -",
-    b"1 1 REDEEM 7 12 12 - -",
-    b"? redeem 7 12 12 - -",
-    b"1 1 claim 7 1",
-    b"1 1 claim",
-    b"1 1 clai 7",
-    b"1 1 claims 7",
-    b"1 1 CLAIM 7",
-    b"? claim 7",
-    b"1 1 rotate 1",
-    b"1 1 rotat",
-    b"1 1 rotates",
-    b"1 1 ROTATE",
-    b"? rotate",
-];
+pub const VERBS: &str = "\
+    1 1 price 12 1\n\
+    1 1 price\n\
+    1 1 pric 12\n\
+    1 1 prices 12\n\
+    1 1 PRICE 12\n\
+    ? price 12\n\
+    1 1 advance 12 1\n\
+    1 1 advance\n\
+    1 1 advanc 12\n\
+    1 1 advances 12\n\
+    1 1 ADVANCE 12\n\
+    ? advance 12\n\
+    1 1 fund 7 12 1\n\
+    1 1 fund 7\n\
+    1 1 fund\n\
+    1 1 fun 7 12\n\
+    1 1 funds 7 12\n\
+    1 1 FUND 7 12\n\
+    ? fund 7 12\n\
+    1 1 take 7 12 1\n\
+    1 1 take 7\n\
+    1 1 take\n\
+    1 1 tak 7 12\n\
+    1 1 takes 7 12\n\
+    1 1 TAKE 7 12\n\
+    ? take 7 12\n\
+    1 1 send 7 7 12 1\n\
+    1 1 send 7 7\n\
+    1 1 send\n\
+    1 1 sen 7 7 12\n\
+    1 1 sends 7 7 12\n\
+    1 1 SEND 7 7 12\n\
+    ? send 7 7 12\n\
+    1 1 open 7 12 12 12 - - 1\n\
+    1 1 open 7 12 12 12 -\n\
+    1 1 open\n\
+    1 1 ope 7 12 12 12 - -\n\
+    1 1 opens 7 12 12 12 - -\n\
+    1 1 OPEN 7 12 12 12 - -\n\
+    ? open 7 12 12 12 - -\n\
+    1 1 adjust 7 12 12 12 12 12 - - 1\n\
+    1 1 adjust 7 12 12 12 12 12 -\n\
+    1 1 adjust\n\
+    1 1 adjus 7 12 12 12 12 12 - -\n\
+    1 1 adjusts 7 12 12 12 12 12 - -\n\
+    1 1 ADJUST 7 12 12 12 12 12 - -\n\
+    ? adjust 7 12 12 12 12 12 - -\n\
+    1 1 close 7 1\n\
+    1 1 close\n\
+    1 1 clos 7\n\
+    1 1 closes 7\n\
+    1 1 CLOSE 7\n\
+    ? close 7\n\
+    1 1 provide 7 12 1\n\
+    1 1 provide 7\n\
+    1 1 provide\n\
+    1 1 provid 7 12\n\
+    1 1 provides 7 12\n\
+    1 1 PROVIDE 7 12\n\
+    ? provide 7 12\n\
+    1 1 withdraw 7 12 1\n\
+    1 1 withdraw 7\n\
+    1 1 withdraw\n\
+    1 1 withdra 7 12\n\
+    1 1 withdraws 7 12\n\
+    1 1 WITHDRAW 7 12\n\
+    ? withdraw 7 12\n\
+    1 1 gain_to_trove 7 - - 1\n\
+    1 1 gain_to_trove 7 -\n\
+    1 1 gain_to_trove\n\
+    1 1 gain_to_trov 7 - -\n\
+    1 1 gain_to_troves 7 - -\n\
+    1 1 GAIN_TO_TROVE 7 - -\n\
+    ? gain_to_trove 7 - -\n\
+    1 1 liquidate 7 7 1\n\
+    1 1 liquidate 7\n\
+    1 1 liquidate\n\
+    1 1 liquidat 7 7\n\
+    1 1 liquidates 7 7\n\
+    1 1 LIQUIDATE 7 7\n\
+    ? liquidate 7 7\n\
+    1 1 liquidate_lowest 7 12 1\n\
+    1 1 liquidate_lowest 7\n\
+    1 1 liquidate_lowest\n\
+    1 1 liquidate_lowes 7 12\n\
+    1 1 liquidate_lowests 7 12\n\
+    1 1 LIQUIDATE_LOWEST 7 12\n\
+    ? liquidate_lowest 7 12\n\
+    1 1 redeem 7 12 12 - - 1\n\
+    1 1 redeem 7 12 12 -\n\
+    1 1 redeem\n\
+    1 1 redee 7 12 12 - -\n\
+    1 1 redeems 7 12 12 - -\n\
+    1 1 REDEEM 7 12 12 - -\n\
+    ? redeem 7 12 12 - -\n\
+    1 1 claim 7 1\n\
+    1 1 claim\n\
+    1 1 clai 7\n\
+    1 1 claims 7\n\
+    1 1 CLAIM 7\n\
+    ? claim 7\n\
+    1 1 rotate 1\n\
+    1 1 rotat\n\
+    1 1 rotates\n\
+    1 1 ROTATE\n\
+    ? rotate";
 
 /// Each word behind a verb past its range, with a leading zero, and as no number.
-pub const WORDS: [&[u8]; 131] = [
-    b"1 1 price 18446744073709551616",
-    b"1 1 price 012",
-    b"1 1 price -",
-    b"1 1 advance 18446744073709551616",
-    b"1 1 advance 012",
-    b"1 1 advance -",
-    b"1 1 fund 4294967296 12",
-    b"1 1 fund 07 12",
-    b"1 1 fund - 12",
-    b"1 1 fund 7 18446744073709551616",
-    b"1 1 fund 7 012",
-    b"1 1 fund 7 -",
-    b"1 1 take 4294967296 12",
-    b"1 1 take 07 12",
-    b"1 1 take - 12",
-    b"1 1 take 7 18446744073709551616",
-    b"1 1 take 7 012",
-    b"1 1 take 7 -",
-    b"1 1 send 4294967296 7 12",
-    b"1 1 send 07 7 12",
-    b"1 1 send - 7 12",
-    b"1 1 send 7 4294967296 12",
-    b"1 1 send 7 07 12",
-    b"1 1 send 7 - 12",
-    b"1 1 send 7 7 18446744073709551616",
-    b"1 1 send 7 7 012",
-    b"1 1 send 7 7 -",
-    b"1 1 open 4294967296 12 12 12 - -",
-    b"1 1 open 07 12 12 12 - -",
-    b"1 1 open - 12 12 12 - -",
-    b"1 1 open 7 18446744073709551616 12 12 - -",
-    b"1 1 open 7 012 12 12 - -",
-    b"1 1 open 7 - 12 12 - -",
-    b"1 1 open 7 12 18446744073709551616 12 - -",
-    b"1 1 open 7 12 012 12 - -",
-    b"1 1 open 7 12 - 12 - -",
-    b"1 1 open 7 12 12 18446744073709551616 - -",
-    b"1 1 open 7 12 12 012 - -",
-    b"1 1 open 7 12 12 - - -",
-    b"1 1 open 7 12 12 12 4294967296 -",
-    b"1 1 open 7 12 12 12 07 -",
-    b"1 1 open 7 12 12 12 -- -",
-    b"1 1 open 7 12 12 12  -",
-    b"1 1 open 7 12 12 12 - 4294967296",
-    b"1 1 open 7 12 12 12 - 07",
-    b"1 1 open 7 12 12 12 - --",
-    b"1 1 open 7 12 12 12 - ",
-    b"1 1 adjust 4294967296 12 12 12 12 12 - -",
-    b"1 1 adjust 07 12 12 12 12 12 - -",
-    b"1 1 adjust - 12 12 12 12 12 - -",
-    b"1 1 adjust 7 18446744073709551616 12 12 12 12 - -",
-    b"1 1 adjust 7 012 12 12 12 12 - -",
-    b"1 1 adjust 7 - 12 12 12 12 - -",
-    b"1 1 adjust 7 12 18446744073709551616 12 12 12 - -",
-    b"1 1 adjust 7 12 012 12 12 12 - -",
-    b"1 1 adjust 7 12 - 12 12 12 - -",
-    b"1 1 adjust 7 12 12 18446744073709551616 12 12 - -",
-    b"1 1 adjust 7 12 12 012 12 12 - -",
-    b"1 1 adjust 7 12 12 - 12 12 - -",
-    b"1 1 adjust 7 12 12 12 18446744073709551616 12 - -",
-    b"1 1 adjust 7 12 12 12 012 12 - -",
-    b"1 1 adjust 7 12 12 12 - 12 - -",
-    b"1 1 adjust 7 12 12 12 12 18446744073709551616 - -",
-    b"1 1 adjust 7 12 12 12 12 012 - -",
-    b"1 1 adjust 7 12 12 12 12 - - -",
-    b"1 1 adjust 7 12 12 12 12 12 4294967296 -",
-    b"1 1 adjust 7 12 12 12 12 12 07 -",
-    b"1 1 adjust 7 12 12 12 12 12 -- -",
-    b"1 1 adjust 7 12 12 12 12 12  -",
-    b"1 1 adjust 7 12 12 12 12 12 - 4294967296",
-    b"1 1 adjust 7 12 12 12 12 12 - 07",
-    b"1 1 adjust 7 12 12 12 12 12 - --",
-    b"1 1 adjust 7 12 12 12 12 12 - ",
-    b"1 1 close 4294967296",
-    b"1 1 close 07",
-    b"1 1 close -",
-    b"1 1 provide 4294967296 12",
-    b"1 1 provide 07 12",
-    b"1 1 provide - 12",
-    b"1 1 provide 7 18446744073709551616",
-    b"1 1 provide 7 012",
-    b"1 1 provide 7 -",
-    b"1 1 withdraw 4294967296 12",
-    b"1 1 withdraw 07 12",
-    b"1 1 withdraw - 12",
-    b"1 1 withdraw 7 18446744073709551616",
-    b"1 1 withdraw 7 012",
-    b"1 1 withdraw 7 -",
-    b"1 1 gain_to_trove 4294967296 - -",
-    b"1 1 gain_to_trove 07 - -",
-    b"1 1 gain_to_trove - - -",
-    b"1 1 gain_to_trove 7 4294967296 -",
-    b"1 1 gain_to_trove 7 07 -",
-    b"1 1 gain_to_trove 7 -- -",
-    b"1 1 gain_to_trove 7  -",
-    b"1 1 gain_to_trove 7 - 4294967296",
-    b"1 1 gain_to_trove 7 - 07",
-    b"1 1 gain_to_trove 7 - --",
-    b"1 1 gain_to_trove 7 - ",
-    b"1 1 liquidate 4294967296 7",
-    b"1 1 liquidate 07 7",
-    b"1 1 liquidate - 7",
-    b"1 1 liquidate 7 4294967296",
-    b"1 1 liquidate 7 07",
-    b"1 1 liquidate 7 -",
-    b"1 1 liquidate_lowest 4294967296 12",
-    b"1 1 liquidate_lowest 07 12",
-    b"1 1 liquidate_lowest - 12",
-    b"1 1 liquidate_lowest 7 18446744073709551616",
-    b"1 1 liquidate_lowest 7 012",
-    b"1 1 liquidate_lowest 7 -",
-    b"1 1 redeem 4294967296 12 12 - -",
-    b"1 1 redeem 07 12 12 - -",
-    b"1 1 redeem - 12 12 - -",
-    b"1 1 redeem 7 18446744073709551616 12 - -",
-    b"1 1 redeem 7 012 12 - -",
-    b"1 1 redeem 7 - 12 - -",
-    b"1 1 redeem 7 12 18446744073709551616 - -",
-    b"1 1 redeem 7 12 012 - -",
-    b"1 1 redeem 7 12 - - -",
-    b"1 1 redeem 7 12 12 4294967296 -",
-    b"1 1 redeem 7 12 12 07 -",
-    b"1 1 redeem 7 12 12 -- -",
-    b"1 1 redeem 7 12 12  -",
-    b"1 1 redeem 7 12 12 - 4294967296",
-    b"1 1 redeem 7 12 12 - 07",
-    b"1 1 redeem 7 12 12 - --",
-    b"1 1 redeem 7 12 12 - ",
-    b"1 1 claim 4294967296",
-    b"1 1 claim 07",
-    b"1 1 claim -",
-];
+pub const WORDS: &str = "\
+    1 1 price 18446744073709551616\n\
+    1 1 price 012\n\
+    1 1 price -\n\
+    1 1 advance 18446744073709551616\n\
+    1 1 advance 012\n\
+    1 1 advance -\n\
+    1 1 fund 4294967296 12\n\
+    1 1 fund 07 12\n\
+    1 1 fund - 12\n\
+    1 1 fund 7 18446744073709551616\n\
+    1 1 fund 7 012\n\
+    1 1 fund 7 -\n\
+    1 1 take 4294967296 12\n\
+    1 1 take 07 12\n\
+    1 1 take - 12\n\
+    1 1 take 7 18446744073709551616\n\
+    1 1 take 7 012\n\
+    1 1 take 7 -\n\
+    1 1 send 4294967296 7 12\n\
+    1 1 send 07 7 12\n\
+    1 1 send - 7 12\n\
+    1 1 send 7 4294967296 12\n\
+    1 1 send 7 07 12\n\
+    1 1 send 7 - 12\n\
+    1 1 send 7 7 18446744073709551616\n\
+    1 1 send 7 7 012\n\
+    1 1 send 7 7 -\n\
+    1 1 open 4294967296 12 12 12 - -\n\
+    1 1 open 07 12 12 12 - -\n\
+    1 1 open - 12 12 12 - -\n\
+    1 1 open 7 18446744073709551616 12 12 - -\n\
+    1 1 open 7 012 12 12 - -\n\
+    1 1 open 7 - 12 12 - -\n\
+    1 1 open 7 12 18446744073709551616 12 - -\n\
+    1 1 open 7 12 012 12 - -\n\
+    1 1 open 7 12 - 12 - -\n\
+    1 1 open 7 12 12 18446744073709551616 - -\n\
+    1 1 open 7 12 12 012 - -\n\
+    1 1 open 7 12 12 - - -\n\
+    1 1 open 7 12 12 12 4294967296 -\n\
+    1 1 open 7 12 12 12 07 -\n\
+    1 1 open 7 12 12 12 -- -\n\
+    1 1 open 7 12 12 12  -\n\
+    1 1 open 7 12 12 12 - 4294967296\n\
+    1 1 open 7 12 12 12 - 07\n\
+    1 1 open 7 12 12 12 - --\n\
+    1 1 open 7 12 12 12 - \n\
+    1 1 adjust 4294967296 12 12 12 12 12 - -\n\
+    1 1 adjust 07 12 12 12 12 12 - -\n\
+    1 1 adjust - 12 12 12 12 12 - -\n\
+    1 1 adjust 7 18446744073709551616 12 12 12 12 - -\n\
+    1 1 adjust 7 012 12 12 12 12 - -\n\
+    1 1 adjust 7 - 12 12 12 12 - -\n\
+    1 1 adjust 7 12 18446744073709551616 12 12 12 - -\n\
+    1 1 adjust 7 12 012 12 12 12 - -\n\
+    1 1 adjust 7 12 - 12 12 12 - -\n\
+    1 1 adjust 7 12 12 18446744073709551616 12 12 - -\n\
+    1 1 adjust 7 12 12 012 12 12 - -\n\
+    1 1 adjust 7 12 12 - 12 12 - -\n\
+    1 1 adjust 7 12 12 12 18446744073709551616 12 - -\n\
+    1 1 adjust 7 12 12 12 012 12 - -\n\
+    1 1 adjust 7 12 12 12 - 12 - -\n\
+    1 1 adjust 7 12 12 12 12 18446744073709551616 - -\n\
+    1 1 adjust 7 12 12 12 12 012 - -\n\
+    1 1 adjust 7 12 12 12 12 - - -\n\
+    1 1 adjust 7 12 12 12 12 12 4294967296 -\n\
+    1 1 adjust 7 12 12 12 12 12 07 -\n\
+    1 1 adjust 7 12 12 12 12 12 -- -\n\
+    1 1 adjust 7 12 12 12 12 12  -\n\
+    1 1 adjust 7 12 12 12 12 12 - 4294967296\n\
+    1 1 adjust 7 12 12 12 12 12 - 07\n\
+    1 1 adjust 7 12 12 12 12 12 - --\n\
+    1 1 adjust 7 12 12 12 12 12 - \n\
+    1 1 close 4294967296\n\
+    1 1 close 07\n\
+    1 1 close -\n\
+    1 1 provide 4294967296 12\n\
+    1 1 provide 07 12\n\
+    1 1 provide - 12\n\
+    1 1 provide 7 18446744073709551616\n\
+    1 1 provide 7 012\n\
+    1 1 provide 7 -\n\
+    1 1 withdraw 4294967296 12\n\
+    1 1 withdraw 07 12\n\
+    1 1 withdraw - 12\n\
+    1 1 withdraw 7 18446744073709551616\n\
+    1 1 withdraw 7 012\n\
+    1 1 withdraw 7 -\n\
+    1 1 gain_to_trove 4294967296 - -\n\
+    1 1 gain_to_trove 07 - -\n\
+    1 1 gain_to_trove - - -\n\
+    1 1 gain_to_trove 7 4294967296 -\n\
+    1 1 gain_to_trove 7 07 -\n\
+    1 1 gain_to_trove 7 -- -\n\
+    1 1 gain_to_trove 7  -\n\
+    1 1 gain_to_trove 7 - 4294967296\n\
+    1 1 gain_to_trove 7 - 07\n\
+    1 1 gain_to_trove 7 - --\n\
+    1 1 gain_to_trove 7 - \n\
+    1 1 liquidate 4294967296 7\n\
+    1 1 liquidate 07 7\n\
+    1 1 liquidate - 7\n\
+    1 1 liquidate 7 4294967296\n\
+    1 1 liquidate 7 07\n\
+    1 1 liquidate 7 -\n\
+    1 1 liquidate_lowest 4294967296 12\n\
+    1 1 liquidate_lowest 07 12\n\
+    1 1 liquidate_lowest - 12\n\
+    1 1 liquidate_lowest 7 18446744073709551616\n\
+    1 1 liquidate_lowest 7 012\n\
+    1 1 liquidate_lowest 7 -\n\
+    1 1 redeem 4294967296 12 12 - -\n\
+    1 1 redeem 07 12 12 - -\n\
+    1 1 redeem - 12 12 - -\n\
+    1 1 redeem 7 18446744073709551616 12 - -\n\
+    1 1 redeem 7 012 12 - -\n\
+    1 1 redeem 7 - 12 - -\n\
+    1 1 redeem 7 12 18446744073709551616 - -\n\
+    1 1 redeem 7 12 012 - -\n\
+    1 1 redeem 7 12 - - -\n\
+    1 1 redeem 7 12 12 4294967296 -\n\
+    1 1 redeem 7 12 12 07 -\n\
+    1 1 redeem 7 12 12 -- -\n\
+    1 1 redeem 7 12 12  -\n\
+    1 1 redeem 7 12 12 - 4294967296\n\
+    1 1 redeem 7 12 12 - 07\n\
+    1 1 redeem 7 12 12 - --\n\
+    1 1 redeem 7 12 12 - \n\
+    1 1 claim 4294967296\n\
+    1 1 claim 07\n\
+    1 1 claim -";
 
 /// Each query in these ways.
-pub const QUERIES: [&[u8]; 46] = [
-    b"? wallet 7 1",
-    b"? wallet",
-    b"? wallet 4294967296",
-    b"? wallet 007",
-    b"? wallet -",
-    b"? walle 7",
-    b"? wallets 7",
-    b"? WALLET 7",
-    b"1 1 wallet 7",
-    b"? trove 7 1",
-    b"? trove",
-    b"? trove 4294967296",
-    b"? trove 007",
-    b"? trove -",
-    b"? trov 7",
-    b"? troves 7",
-    b"? TROVE 7",
-    b"1 1 trove 7",
-    b"? deposit 7 1",
-    b"? deposit",
-    b"? deposit 4294967296",
-    b"? deposit 007",
-    b"? deposit -",
-    b"? deposi 7",
-    b"? deposits 7",
-    b"? DEPOSIT 7",
-    b"1 1 deposit 7",
-    b"? pools 1",
-    b"? pool",
-    b"? poolss",
-    b"? POOLS",
-    b"1 1 pools",
-    b"? system 1",
-    b"? syste",
-    b"? systems",
-    b"? SYSTEM",
-    b"1 1 system",
-    b"? next_number 7 1",
-    b"? next_number",
-    b"? next_number 4294967296",
-    b"? next_number 007",
-    b"? next_number -",
-    b"? next_numbe 7",
-    b"? next_numbers 7",
-    b"? NEXT_NUMBER 7",
-    b"1 1 next_number 7",
-];
+pub const QUERIES: &str = "\
+    ? wallet 7 1\n\
+    ? wallet\n\
+    ? wallet 4294967296\n\
+    ? wallet 007\n\
+    ? wallet -\n\
+    ? walle 7\n\
+    ? wallets 7\n\
+    ? WALLET 7\n\
+    1 1 wallet 7\n\
+    ? trove 7 1\n\
+    ? trove\n\
+    ? trove 4294967296\n\
+    ? trove 007\n\
+    ? trove -\n\
+    ? trov 7\n\
+    ? troves 7\n\
+    ? TROVE 7\n\
+    1 1 trove 7\n\
+    ? deposit 7 1\n\
+    ? deposit\n\
+    ? deposit 4294967296\n\
+    ? deposit 007\n\
+    ? deposit -\n\
+    ? deposi 7\n\
+    ? deposits 7\n\
+    ? DEPOSIT 7\n\
+    1 1 deposit 7\n\
+    ? pools 1\n\
+    ? pool\n\
+    ? poolss\n\
+    ? POOLS\n\
+    1 1 pools\n\
+    ? system 1\n\
+    ? syste\n\
+    ? systems\n\
+    ? SYSTEM\n\
+    1 1 system\n\
+    ? next_number 7 1\n\
+    ? next_number\n\
+    ? next_number 4294967296\n\
+    ? next_number 007\n\
+    ? next_number -\n\
+    ? next_numbe 7\n\
+    ? next_numbers 7\n\
+    ? NEXT_NUMBER 7\n\
+    1 1 next_number 7";
 
 /// Numbers, clients and prices that are written in other ways.
-pub const NUMBERS: [&[u8]; 62] = [
-    b"1 1 price 00",
-    b"1 00 rotate",
-    b"00 1 rotate",
-    b"1 1 price 01",
-    b"1 01 rotate",
-    b"01 1 rotate",
-    b"1 1 price +0",
-    b"1 +0 rotate",
-    b"+0 1 rotate",
-    b"1 1 price -0",
-    b"1 -0 rotate",
-    b"-0 1 rotate",
-    b"1 1 price +1",
-    b"1 +1 rotate",
-    b"+1 1 rotate",
-    b"1 1 price -1",
-    b"1 -1 rotate",
-    b"-1 1 rotate",
-    b"1 1 price 1.",
-    b"1 1. rotate",
-    b"1. 1 rotate",
-    b"1 1 price 1.0",
-    b"1 1.0 rotate",
-    b"1.0 1 rotate",
-    b"1 1 price 1e18",
-    b"1 1e18 rotate",
-    b"1e18 1 rotate",
-    b"1 1 price 0x10",
-    b"1 0x10 rotate",
-    b"0x10 1 rotate",
-    b"1 1 price 0b1",
-    b"1 0b1 rotate",
-    b"0b1 1 rotate",
-    b"1 1 price 1_0",
-    b"1 1_0 rotate",
-    b"1_0 1 rotate",
-    b"1 1 price 1,000",
-    b"1 1,000 rotate",
-    b"1,000 1 rotate",
-    b"1 18446744073709551616 rotate",
-    b"1 1 price 100000000000000000000",
-    b"1 100000000000000000000 rotate",
-    b"100000000000000000000 1 rotate",
-    b"1 1 price 9999999999999999999999999999999999999999",
-    b"1 9999999999999999999999999999999999999999 rotate",
-    b"9999999999999999999999999999999999999999 1 rotate",
-    b"1 1 price 0000000000000000000000000000000000000000000000000000000000001",
-    b"1 0000000000000000000000000000000000000000000000000000000000001 rotate",
-    b"0000000000000000000000000000000000000000000000000000000000001 1 rotate",
-    b"1 1 price 1a",
-    b"1 1a rotate",
-    b"1a 1 rotate",
-    b"1 1 price a1",
-    b"1 a1 rotate",
-    b"a1 1 rotate",
-    b"1 1 price ",
-    b"1  rotate",
-    b" 1 rotate",
-    b"4294967296 1 rotate",
-    b"18446744073709551615 1 rotate",
-    b"- 1 rotate",
-    b"c1 1 rotate",
-];
+pub const NUMBERS: &str = "\
+    1 1 price 00\n\
+    1 00 rotate\n\
+    00 1 rotate\n\
+    1 1 price 01\n\
+    1 01 rotate\n\
+    01 1 rotate\n\
+    1 1 price +0\n\
+    1 +0 rotate\n\
+    +0 1 rotate\n\
+    1 1 price -0\n\
+    1 -0 rotate\n\
+    -0 1 rotate\n\
+    1 1 price +1\n\
+    1 +1 rotate\n\
+    +1 1 rotate\n\
+    1 1 price -1\n\
+    1 -1 rotate\n\
+    -1 1 rotate\n\
+    1 1 price 1.\n\
+    1 1. rotate\n\
+    1. 1 rotate\n\
+    1 1 price 1.0\n\
+    1 1.0 rotate\n\
+    1.0 1 rotate\n\
+    1 1 price 1e18\n\
+    1 1e18 rotate\n\
+    1e18 1 rotate\n\
+    1 1 price 0x10\n\
+    1 0x10 rotate\n\
+    0x10 1 rotate\n\
+    1 1 price 0b1\n\
+    1 0b1 rotate\n\
+    0b1 1 rotate\n\
+    1 1 price 1_0\n\
+    1 1_0 rotate\n\
+    1_0 1 rotate\n\
+    1 1 price 1,000\n\
+    1 1,000 rotate\n\
+    1,000 1 rotate\n\
+    1 18446744073709551616 rotate\n\
+    1 1 price 100000000000000000000\n\
+    1 100000000000000000000 rotate\n\
+    100000000000000000000 1 rotate\n\
+    1 1 price 9999999999999999999999999999999999999999\n\
+    1 9999999999999999999999999999999999999999 rotate\n\
+    9999999999999999999999999999999999999999 1 rotate\n\
+    1 1 price 0000000000000000000000000000000000000000000000000000000000001\n\
+    1 0000000000000000000000000000000000000000000000000000000000001 rotate\n\
+    0000000000000000000000000000000000000000000000000000000000001 1 rotate\n\
+    1 1 price 1a\n\
+    1 1a rotate\n\
+    1a 1 rotate\n\
+    1 1 price a1\n\
+    1 a1 rotate\n\
+    a1 1 rotate\n\
+    1 1 price \n\
+    1  rotate\n\
+    \x201 rotate\n\
+    4294967296 1 rotate\n\
+    18446744073709551615 1 rotate\n\
+    - 1 rotate\n\
+    c1 1 rotate";
 
 /// Long lines: of 200 bytes, and of more.
-pub const LONG: [&[u8]; 9] = [
-    b"1 1 price 00000000000000000000000000000000000000000000000000000000000000000000000000000000000000000000000000000000000000000000000000000000000000000000000000000000000000000000000000000000000000000000005",
-    b"1 1 price 1111111111111111111111111111111111111111111111111111111111111111111111111111111111111111111111111111111111111111111111111111111111111111111111111111111111111111111111111111111111111111111111",
-    b"1 1 price 11111111111111111111111111111111111111111111111111111111111111111111111111111111111111111111111111111111111111111111111111111111111111111111111111111111111111111111111111111111111111111111111",
-    b"? pools                                                                                                                                                                                                 ",
-    b"? pools                                                                                                                                                                                                  ",
-    b"xxxxxxxxxxxxxxxxxxxxxxxxxxxxxxxxxxxxxxxxxxxxxxxxxxxxxxxxxxxxxxxxxxxxxxxxxxxxxxxxxxxxxxxxxxxxxxxxxxxxxxxxxxxxxxxxxxxxxxxxxxxxxxxxxxxxxxxxxxxxxxxxxxxxxxxxxxxxxxxxxxxxxxxxxxxxxxxxxxxxxxxxxxxxxxxxxxxxxxxx",
-    b"xxxxxxxxxxxxxxxxxxxxxxxxxxxxxxxxxxxxxxxxxxxxxxxxxxxxxxxxxxxxxxxxxxxxxxxxxxxxxxxxxxxxxxxxxxxxxxxxxxxxxxxxxxxxxxxxxxxxxxxxxxxxxxxxxxxxxxxxxxxxxxxxxxxxxxxxxxxxxxxxxxxxxxxxxxxxxxxxxxxxxxxxxxxxxxxxxxxxxxxxx",
-    b"1 1 rotate                                                                                                                                                                                               ",
-    b"1 1 adjust 1 1 1 1 1 1 - -                                                                                                                                                                               ",
-];
+pub const LONG: &str = "\
+    1 1 price 00000000000000000000000000000000000000000000000000000000000000000000000000000000000000000000000000000000000000000000000000000000000000000000000000000000000000000000000000000000000000000000005\n\
+    1 1 price 1111111111111111111111111111111111111111111111111111111111111111111111111111111111111111111111111111111111111111111111111111111111111111111111111111111111111111111111111111111111111111111111\n\
+    1 1 price 11111111111111111111111111111111111111111111111111111111111111111111111111111111111111111111111111111111111111111111111111111111111111111111111111111111111111111111111111111111111111111111111\n\
+    ? pools                                                                                                                                                                                                 \n\
+    ? pools                                                                                                                                                                                                  \n\
+    xxxxxxxxxxxxxxxxxxxxxxxxxxxxxxxxxxxxxxxxxxxxxxxxxxxxxxxxxxxxxxxxxxxxxxxxxxxxxxxxxxxxxxxxxxxxxxxxxxxxxxxxxxxxxxxxxxxxxxxxxxxxxxxxxxxxxxxxxxxxxxxxxxxxxxxxxxxxxxxxxxxxxxxxxxxxxxxxxxxxxxxxxxxxxxxxxxxxxxxx\n\
+    xxxxxxxxxxxxxxxxxxxxxxxxxxxxxxxxxxxxxxxxxxxxxxxxxxxxxxxxxxxxxxxxxxxxxxxxxxxxxxxxxxxxxxxxxxxxxxxxxxxxxxxxxxxxxxxxxxxxxxxxxxxxxxxxxxxxxxxxxxxxxxxxxxxxxxxxxxxxxxxxxxxxxxxxxxxxxxxxxxxxxxxxxxxxxxxxxxxxxxxxx\n\
+    1 1 rotate                                                                                                                                                                                               \n\
+    1 1 adjust 1 1 1 1 1 1 - -                                                                                                                                                                               ";
 
 /// Lines that spell no session and request.
-pub const IN_SESSIONS: [&[u8]; 26] = [
-    b"0 ? pools",
-    b"9 ? pools",
-    b"10 ? pools",
-    b"01 ? pools",
-    b"+1 ? pools",
-    b"-1 ? pools",
-    b"1",
-    b"1 ",
-    b"",
-    b"1  ? pools",
-    b" 1 ? pools",
-    b"1 ? pools ",
-    b"? pools",
-    b"a ? pools",
-    b"- ? pools",
-    b"1 x",
-    b"1 1 price 5",
-    b"1? pools",
-    b"1\t? pools",
-    b"1 1 1 price 5 5",
-    b"1 1 ? pools",
-    b"18446744073709551617 ? pools",
-    b"1 ? pools\r",
-    b"1 xxxxxxxxxxxxxxxxxxxxxxxxxxxxxxxxxxxxxxxxxxxxxxxxxxxxxxxxxxxxxxxxxxxxxxxxxxxxxxxxxxxxxxxxxxxxxxxxxxxxxxxxxxxxxxxxxxxxxxxxxxxxxxxxxxxxxxxxxxxxxxxxxxxxxxxxxxxxxxxxxxxxxxxxxxxxxxxxxxxxxxxxxxxxxxxxxxxxxx",
-    b"1 xxxxxxxxxxxxxxxxxxxxxxxxxxxxxxxxxxxxxxxxxxxxxxxxxxxxxxxxxxxxxxxxxxxxxxxxxxxxxxxxxxxxxxxxxxxxxxxxxxxxxxxxxxxxxxxxxxxxxxxxxxxxxxxxxxxxxxxxxxxxxxxxxxxxxxxxxxxxxxxxxxxxxxxxxxxxxxxxxxxxxxxxxxxxxxxxxxxxxxx",
-    b"1 ? pools                                                                                                                                                                                                ",
-];
+pub const IN_SESSIONS: &str = "\
+    0 ? pools\n\
+    9 ? pools\n\
+    10 ? pools\n\
+    01 ? pools\n\
+    +1 ? pools\n\
+    -1 ? pools\n\
+    1\n\
+    1 \n\
+    \n\
+    1  ? pools\n\
+    \x201 ? pools\n\
+    1 ? pools \n\
+    ? pools\n\
+    a ? pools\n\
+    - ? pools\n\
+    1 x\n\
+    1 1 price 5\n\
+    1? pools\n\
+    1\t? pools\n\
+    1 1 1 price 5 5\n\
+    1 1 ? pools\n\
+    18446744073709551617 ? pools\n\
+    1 ? pools\r\n\
+    1 xxxxxxxxxxxxxxxxxxxxxxxxxxxxxxxxxxxxxxxxxxxxxxxxxxxxxxxxxxxxxxxxxxxxxxxxxxxxxxxxxxxxxxxxxxxxxxxxxxxxxxxxxxxxxxxxxxxxxxxxxxxxxxxxxxxxxxxxxxxxxxxxxxxxxxxxxxxxxxxxxxxxxxxxxxxxxxxxxxxxxxxxxxxxxxxxxxxxxx\n\
+    1 xxxxxxxxxxxxxxxxxxxxxxxxxxxxxxxxxxxxxxxxxxxxxxxxxxxxxxxxxxxxxxxxxxxxxxxxxxxxxxxxxxxxxxxxxxxxxxxxxxxxxxxxxxxxxxxxxxxxxxxxxxxxxxxxxxxxxxxxxxxxxxxxxxxxxxxxxxxxxxxxxxxxxxxxxxxxxxxxxxxxxxxxxxxxxxxxxxxxxxx\n\
+    1 ? pools                                                                                                                                                                                                ";

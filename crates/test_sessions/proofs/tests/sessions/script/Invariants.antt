@@ -2,4 +2,4 @@ use Rattle.std.proofs.Common.{◌≤◌, length}
 use Rattle.test_sessions.proofs.tests.sessions.script.Given as goal
 
 abbrev pub invariant-loop-before : goal.invariant-loop-before
-invariant-loop-before l = length l.list ≤ l.before
+invariant-loop-before g l = length l.list ≤ l.before
