@@ -1,36 +1,33 @@
 -- What holds of all that is kept, along the calls of a value.
 use denote.Struct.Props.{props}
-use Rattle.std.proofs.Common.{◌≡◌, ℕ, zero, suc, ◌+◌, ◌-◌, ◌*◌, ◌^◌, ◌≤◌, ◌<◌, Bool, true, false, cond, List, [], ◌∷◌, ◌++◌, length, map, refl, ap, sym, ◌∙◌, subst, arith, Some, None, Option, Result, Ok, Err}
+use Rattle.std.proofs.Common.{◌≡◌, ℕ, ◌+◌, ◌-◌, ◌≤◌, Bool, true, false, cond, List, [], ◌∷◌, ◌++◌, map, refl, ap, sym, ◌∙◌, subst, arith, Some, None, Option, Result, Ok, Err}
 use Rattle.std.specs.Prelude.{◌==◌, ◌||◌, OnOk, OnErr}
 use Rattle.std.specs.List.{AllByRecursion}
 use Rattle.std.specs.Option.{is_some}
 use Rattle.std.proofs.Math.Logic.{∥∥₁_elim, ∥∥₁_map}
 use Rattle.std.proofs.lemmas.Bool.Decides.{nat_tests}
-use Rattle.liq_types.specs.declared.amounts.TheConstants.{LIM, P_LEAST, P_OPENING}
+use Rattle.liq_types.specs.declared.amounts.TheConstants.{LIM, P_OPENING}
 use Rattle.liq_types.specs.declared.events.PoolEvent.{PoolEvent}
 use Rattle.liq_types.specs.declared.events.PoolEvent.TheVariants as event
 use Rattle.liq_types.specs.PlainLedger.{AreOwnedBelow, over_accounts}
-use Rattle.liq_types.specs.State.{opening}
 use Rattle.liq_types.specs.Tables.{at}
-use Rattle.liq_types.specs.Totals.{pool_total}
-use Rattle.liq_stability.specs.Lawful.{IsLawful, IsLawfulEvent, IsWithinLimit}
+use Rattle.liq_stability.specs.Lawful.{IsLawfulEvent, IsWithinLimit}
 use Rattle.liq_stability.specs.Own.{after_event}
 use Rattle.liq_stability.specs.declared.words.PoolWords.{PoolWords}
 use Rattle.liq_stability.proofs.Pool.{balance_within, owned-total}
 use Rattle.liq_rewards.specs.declared.earner.Earner.{Earner}
 use Rattle.liq_rewards.specs.declared.sharing.Sharing.{Sharing}
-use Rattle.liq_rewards.specs.declared.rewards.RewardRow.{RewardRow}
-use Rattle.liq_rewards.specs.declared.issuance.TheConstants.{EVENTS_MOST, UNITS_MOST}
+use Rattle.liq_rewards.specs.declared.issuance.TheConstants.{UNITS_MOST}
 use Rattle.liq_rewards.specs.Issued.{issued}
-use Rattle.liq_rewards.specs.Timed.{Timed, events_of, state_of, minute_of, AreInOrder, due_at, is_shared_at, unshared_of, unshared_by, unshared_at, shared_at}
-use Rattle.liq_rewards.specs.Earner.{no_earner, no_sums, sharing_of, dealt_with, earner_after, reward_by, allowance_by, IsSmallDue, IsSmall, HasSmallSums, CanGoOn}
+use Rattle.liq_rewards.specs.Timed.{Timed, events_of, state_of, minute_of, AreInOrder, due_at, is_shared_at, unshared_of, unshared_at}
+use Rattle.liq_rewards.specs.Earner.{no_earner, sharing_of, dealt_with, earner_after, reward_by, allowance_by, IsSmallDue, IsSmall, CanGoOn}
 use Rattle.liq_rewards.specs.Earning.{rise_by, reward_at}
-use Rattle.liq_rewards.specs.Kept.{Kept, earner_in, has_row, HasRoomFor, IsEarnerOf, words_kept, IsKeptOf, MayHappen, words_then, CanTake, CanHappen, row_by, row_of}
+use Rattle.liq_rewards.specs.Kept.{Kept, earner_in, has_row, HasRoomFor, IsEarnerOf, words_kept, IsKeptOf, MayHappen, words_then, CanHappen, row_by, row_of}
 use Rattle.liq_rewards.proofs.Dealing.{IsDealtOf, dealt, reads, allows, small_dealt, small_kept, small_reward}
 use Rattle.liq_rewards.proofs.Issuing.{issued-monotone}
 use Rattle.liq_rewards.proofs.Keeping.{all_after, others_after, words_follow}
 use Rattle.liq_rewards.proofs.Conserving.{all_units, all_rewards}
-use Rattle.liq_rewards.proofs.Small.{served, earlier, happens, stands, place_few, due_most, units_most}
+use Rattle.liq_rewards.proofs.Small.{served, happens, stands, place_few, due_most, units_most}
 
 -- ---- nothing
 

@@ -1,5 +1,5 @@
 -- What is issued, year by year.
-use Rattle.std.proofs.Common.{◌≡◌, ℕ, zero, suc, ◌+◌, ◌-◌, ◌*◌, ◌/◌, ◌^◌, ◌≤◌, ◌<◌, refl, ap, sym, ◌∙◌, subst, arith, lit<, inl, inr}
+use Rattle.std.proofs.Common.{◌≡◌, ℕ, zero, suc, ◌+◌, ◌-◌, ◌*◌, ◌/◌, ◌^◌, ◌≤◌, ◌<◌, refl, ap, ◌∙◌, arith, lit<, inl, inr}
 use Rattle.std.specs.Prelude.{min}
 use Rattle.std.proofs.Math.Nat.{div-lt_iff_lt-mul, le-div_iff_mul-le, pow-le-pow_right}
 use Rattle.std.proofs.lemmas.Bool.{cases_lt}
@@ -68,7 +68,9 @@ unfolding units_in
 none-in minute late =
     let year : YEARS ≤ minute / YEAR = (le-div_iff_mul-le (lit< tt)).1 late in
     let much : 2 ^ YEARS ≤ 2 ^ (minute / YEAR) = pow-le-pow_right (lit< tt) year in
-    let less : UNITS_AT_FIRST / 2 ^ (minute / YEAR) < 1 = (div-lt_iff_lt-mul (omega (arith, much))).1 (omega (arith, much)) in
+    let some : 0 < 2 ^ (minute / YEAR) = omega (arith, much) in
+    let few : UNITS_AT_FIRST < 1 * 2 ^ (minute / YEAR) = omega (arith, much) in
+    let less : UNITS_AT_FIRST / 2 ^ (minute / YEAR) < 1 = (div-lt_iff_lt-mul some).1 few in
     omega (arith, less)
 
 issued-after : (more : ℕ) → issued (YEARS * YEAR + more) ≡ issued (YEARS * YEAR)

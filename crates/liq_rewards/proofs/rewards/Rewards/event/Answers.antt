@@ -1,9 +1,8 @@
-use denote.Struct.Props.{props}
-use Rattle.std.proofs.Common.{◌≡◌, ◌+◌, ◌∷◌, cond, List, Option, length, map, true, ap, sym, subst, ◌∙◌, arith}
+use Rattle.std.proofs.Common.{◌≡◌, ◌+◌, ◌∷◌, List, Option, length, map, ap, sym, subst, ◌∙◌, arith}
 use Rattle.std.specs.List.{AllByRecursion}
 use Rattle.std.specs.declared.vec.Vec.{Vec}
 use Rattle.std.specs.Vec.{with_items}
-use Rattle.std.proofs.Math.Logic.{∥∥₁_elim, ∥∥₁_map}
+use Rattle.std.proofs.Math.Logic.{∥∥₁_map}
 use Rattle.std.proofs.lemmas.List.{with_items_is}
 use Rattle.liq_rewards.specs.declared.earner.Earner.{Earner}
 use Rattle.liq_rewards.specs.declared.sharing.Sharing.{Sharing}
