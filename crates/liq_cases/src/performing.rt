@@ -9,7 +9,7 @@ use crate::run::{Asked, Run, Start};
 use crate::runs::run_by_both;
 use crate::sessions::check_served;
 use crate::stops::sweep_stops;
-use crate::sweeps::{sweep_disk, sweep_sink, sweep_source};
+use crate::sweeps::{sweep_cuts, sweep_disk, sweep_sink, sweep_source};
 use crate::told::{At, Told};
 use std::alloc::{AllocError, Global};
 use std::sync::Wait;
@@ -52,6 +52,7 @@ fn sweep<R: Threads + Wait + Sync>(
         Asked::Source => sweep_source(rt, stage, told),
         Asked::Sink => sweep_sink(rt, stage, told),
         Asked::Disk(side, first, last) => sweep_disk(rt, stage, told, side, first, last),
+        Asked::Cuts(first, last) => sweep_cuts(rt, stage, told, first, last),
         Asked::Stops(first, last) => sweep_stops(rt, stage, told, first, last),
         Asked::Forged(forged) => check_forged(rt, stage, told, forged),
     }

@@ -19,6 +19,8 @@ pub struct Run {
     pub line: usize,
     pub words: Vec<String>,
     pub lines: Lines,
+    /// The disk whose bytes come in, where the lines don't.
+    pub input: Option<Side>,
     /// The exit status that must come; 0 where none is written.
     pub status: Option<u8>,
     /// How many bytes a read gives at most; there is a run for each.
@@ -39,6 +41,7 @@ impl Drop for Run {
             line: _,
             words: _,
             lines: _,
+            input: _,
             status: _,
             reads: _,
             writes: _,
@@ -66,6 +69,8 @@ pub enum Asked {
     Source,
     Sink,
     Disk(Side, u64, u64),
+    /// No call fails, and of the input only the first bytes come in, from so many on to so many.
+    Cuts(u64, u64),
     /// From the first ones on to the last ones.
     Stops(Stop, Stop),
     /// No call fails, and a byte is another.
@@ -132,6 +137,7 @@ impl Run {
             line,
             words: Vec::new(alloc),
             lines: Lines::new(alloc),
+            input: None,
             status: None,
             reads: Vec::new(alloc),
             writes: Vec::new(alloc),
@@ -185,6 +191,14 @@ impl Run {
         Ok(())
     }
 
+    /// All that comes in.
+    pub fn input<'a>(&'a self, start: &'a Start) -> &'a [u8] {
+        match self.input {
+            Some(side) => start.held(side),
+            None => &self.lines.input,
+        }
+    }
+
     /// What it meets at reads and writes of the first sizes.
     pub fn devices<'a>(&'a self, start: &'a Start) -> Devices<'a> {
         Devices {
@@ -200,7 +214,7 @@ impl Run {
     pub fn unfailing<'a>(&'a self, start: &'a Start) -> Devices<'a> {
         Devices {
             words: &self.words,
-            input: &self.lines.input,
+            input: self.input(start),
             read: self.reads.first().copied().unwrap_or(READ),
             write: self.writes.first().copied().unwrap_or(ALL),
             left: &start.left,

@@ -18,6 +18,7 @@ pub fn set(alloc: Global, run: &mut Run, line: usize, words: &[&str]) -> Result<
         ["reads", sizes @ ..] => put_numbers(&mut run.reads, sizes),
         ["writes", sizes @ ..] => put_numbers(&mut run.writes, sizes),
         ["found", lines] => run.begin_found(alloc, number(lines)?),
+        ["input", words @ ..] => set_input(run, words),
         ["legal"] => {
             run.legal = true;
             Ok(())
@@ -33,6 +34,21 @@ fn set_status(run: &mut Run, status: &str) -> Result<(), Misread> {
     }
     run.status = Some(byte(status)?);
     Ok(())
+}
+
+/// Takes the disk whose bytes come in, or how many of the first ones do.
+fn set_input(run: &mut Run, words: &[&str]) -> Result<(), Misread> {
+    match words {
+        [side] => {
+            run.input = Some(side_of(side)?);
+            Ok(())
+        }
+        ["cuts", first, last] => {
+            run.sweeps.push(Asked::Cuts(number(first)?, number(last)?))?;
+            Ok(())
+        }
+        _ => Err(Misread::NotUnderstood),
+    }
 }
 
 /// Takes calls that fail, a sweep, or a fact.

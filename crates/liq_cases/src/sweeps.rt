@@ -47,7 +47,7 @@ fn sweep_reads<R: Threads + Wait + Sync>(
     told: &mut Told,
     read: u64,
 ) -> Result<(), AllocError> {
-    let bytes = stage.run.lines.input.len() as u64;
+    let bytes = stage.run.input(stage.start).len() as u64;
     // The last read finds the end.
     let reads = bytes.div_ceil(read.max(1)).saturating_add(1);
     for call in 0..reads {
@@ -92,6 +92,41 @@ fn answering(stage: &Stage<'_>, bytes: usize) -> usize {
     } else {
         bytes
     }
+}
+
+/// Of the input only the first bytes come in, so many and one more, up to so many. The same goes out.
+pub fn sweep_cuts<R: Threads + Wait + Sync>(
+    rt: &R,
+    stage: &Stage<'_>,
+    told: &mut Told,
+    first: u64,
+    last: u64,
+) -> Result<(), AllocError> {
+    for read in &stage.run.reads {
+        for bytes in first..last.saturating_add(1) {
+            cut_input(rt, stage, told, *read, bytes)?;
+        }
+    }
+    Ok(())
+}
+
+/// The run where so many bytes come in.
+fn cut_input<R: Threads + Wait + Sync>(
+    rt: &R,
+    stage: &Stage<'_>,
+    told: &mut Told,
+    read: u64,
+    bytes: u64,
+) -> Result<(), AllocError> {
+    told.at = At::front(stage.run.line, bytes);
+    let devices = stage.run.unfailing(stage.start);
+    let devices = Devices {
+        read,
+        input: devices.input.get(..bytes as usize).unwrap_or(&[]),
+        ..devices
+    };
+    let outcome = run_by_both(rt, stage.alloc, told, &devices)?;
+    check(rt, stage, told, &outcome)
 }
 
 /// Each call of the sink fails in turn.

@@ -20,6 +20,8 @@ enum Turn {
     Stop(Stop),
     /// A byte at this place of a disk is another.
     Byte(u64),
+    /// Only so many first bytes come in.
+    Front(u64),
 }
 
 impl At {
@@ -52,6 +54,14 @@ impl At {
         At {
             line,
             turn: Turn::Byte(place),
+        }
+    }
+
+    /// A line of a run of which only so many first bytes come in.
+    pub fn front(line: usize, bytes: u64) -> At {
+        At {
+            line,
+            turn: Turn::Front(bytes),
         }
     }
 }
@@ -132,6 +142,7 @@ impl Told {
                 write!(self.text, "calls {left} and {right} fail: ")
             }
             Turn::Byte(place) => write!(self.text, "byte {place} is another: "),
+            Turn::Front(bytes) => write!(self.text, "the first {bytes} bytes: "),
         };
         self.lost |= written.is_err();
     }
