@@ -1,5 +1,5 @@
 -- What each byte makes of the bytes and the phase.
-use Rattle.std.proofs.Common.{◌≡◌, inl, inr, ⊎_elim, ℕ, ◌+◌, ◌<◌, ◌≤◌, List, [], ◌∷◌, ◌++◌, length, get_or, refl, sym, ◌∙◌, ap, subst, arith, length-append, append_assoc}
+use Rattle.std.proofs.Common.{◌≡◌, ⊎_elim, ℕ, ◌+◌, ◌<◌, ◌≤◌, List, [], ◌∷◌, ◌++◌, length, get_or, refl, sym, ◌∙◌, ap, subst, arith, length-append, append_assoc}
 use Rattle.liq_types.specs.declared.requests.Command.{Command}
 use Rattle.liq_types.specs.State.{State, opening_with}
 use Rattle.liq_rules.specs.Step.{Allowed, after, ruling}
@@ -9,10 +9,10 @@ use Rattle.liq_journal.proofs.Reading.{isnt_long}
 use Rattle.liq_follower.specs.declared.header.Judged.{Judged}
 use Rattle.liq_follower.specs.declared.header.Judged.TheVariants as judged
 use Rattle.liq_follower.specs.declared.phase.Phase.{Phase}
-use Rattle.liq_follower.specs.declared.phase.Phase.TheVariants.{Start, Header, Gate, Inside}
+use Rattle.liq_follower.specs.declared.phase.Phase.TheVariants.{Header, Inside}
 use Rattle.liq_follower.specs.declared.record.Redone.TheVariants as redone
 use Rattle.liq_follower.specs.Fed.{AreDamagedAt, Completes, EndsWhole, IsBegun, IsNoRecord, IsRecordOf, LackOne, LeadTo, begun_limit}
-use Rattle.liq_follower.specs.Following.{EndsAs, IsInPhase, IsShut, StandsBeforeLast}
+use Rattle.liq_follower.specs.Following.{EndsAs, IsInPhase, StandsBeforeLast}
 use Rattle.liq_follower.specs.Judging.{IsJudged, IsTaken, IsUnfit, phase_of}
 use Rattle.liq_follower.proofs.Fronts.{bad_command, bad_form, completes, lacks_one, leads, one_record_more}
 use Rattle.liq_follower.proofs.Growing.{gate_is, has_room, least, same_limit, still_begun}

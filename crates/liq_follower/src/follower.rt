@@ -1,6 +1,7 @@
 //! A replica that is fed the bytes of a journal.
 
-ghost use Rattle.std.specs.Prelude.{◌≡◌, ◌≤◌, ◌<◌, ◌+◌, ◌-◌, ◌^◌, ◌∷◌, ◌++◌, [], List, ℕ, length, min, take, true, false, None, IfOk, OnErr, OnOk, slice_index};
+ghost use Rattle.std.specs.Prelude.{◌≡◌, ◌≤◌, ◌<◌, ◌+◌, ◌-◌, ◌^◌, ◌∷◌, ◌++◌, [], List, ℕ, length, min, take};
+ghost use Rattle.std.specs.Prelude.{true, false, None, IfOk, OnErr, OnOk, slice_index};
 ghost use Rattle.liq_follower.specs.declared.phase.Phase.TheVariants as phase;
 ghost use Rattle.liq_follower.specs.Fed.{AreOver, Completes, EndsWith, GoOn, LackOne};
 ghost use Rattle.liq_follower.specs.Following.{IsAt, IsFed, StandsBeforeLast, stopped_in};
@@ -83,10 +84,10 @@ impl Follower {
     /// Takes the bytes of a piece, up to its end or the first byte at which feeding ends, and says how many.
     ///
     /// - `All`: the whole piece was taken.
-    /// - `NoMemory`: there is no memory for the step of the record that the byte behind those that were taken completes. That
-    ///   byte isn't taken, the protocol is as it was, and feeding may go on from it.
+    /// - `NoMemory`: there is no memory for the step of the record that the byte behind those that were taken completes.
+    ///   Its digest and form are right. That byte isn't taken, the protocol is as it was, and feeding may go on from it.
     /// - `Damaged`: the record of this number is damaged, or the header, which is 0, by the byte that was taken last. No byte
-    ///   is taken from then on, and each feed answers this.
+    ///   is taken from then on, each feed answers this, and the protocol stays at the state before that byte.
     /// - `Rotated`: the header is of this later generation. No byte is taken from then on, and each feed answers this.
     ///
     /// Behind a closed gate all bytes are taken and mean nothing.
@@ -100,7 +101,8 @@ impl Follower {
             → Completes (slice_index piece.now result.taken) (bytes ++ take result.taken piece.now) }
         ensures over { (bytes : List ℕ) → IsFed bytes self.old → AreOver bytes → result.taken ≡ 0 }
         ensures stays { (bytes : List ℕ) → IsFed bytes self.old → AreOver bytes → self.new ≡ self.old }
-        ensures again { (bytes : List ℕ) → IsFed bytes self.old → AreOver bytes → (e : FedEnd) → EndsWith e bytes → result.end ≡ e }
+        ensures again { (bytes : List ℕ) → IsFed bytes self.old → AreOver bytes → (e : FedEnd) → EndsWith e bytes
+            → result.end ≡ e }
         ensures first { (bytes : List ℕ) → IsFed bytes self.old → AreOver (bytes ++ take result.taken piece.now)
             → StandsBeforeLast (bytes ++ take result.taken piece.now) self.new.core }
     {
@@ -127,8 +129,8 @@ impl Follower {
         Fed { taken, end }
     }
 
-    // Whether the whole piece is inside a record, and not up to its last byte: it is taken then, and else nothing is. So a feed of a
-    // byte costs little.
+    // Whether the whole piece is inside a record, and not up to its last byte: it is taken then, and else nothing is.
+    // So a feed of a byte costs little.
     fn keeps(&mut self, piece: &[u8]) -> bool
         ensures inside { result ≡ true → (self.old.phase ≡ phase.Inside) × (self.new.phase ≡ phase.Inside) }
         ensures fed { result ≡ true → (bytes : List ℕ) → IsFed bytes self.old
@@ -143,8 +145,8 @@ impl Follower {
         true
     }
 
-    // Whether so many bytes are inside a record, and not up to its last one. Where the count of bytes is near its last value none is
-    // said to be.
+    // Whether so many bytes are inside a record, and not up to its last one. Where the count of bytes is near its last
+    // value none is said to be.
     fn fits(&self, count: usize) -> bool
         ensures inside { result ≡ true → self.now.phase ≡ phase.Inside }
         ensures room { result ≡ true → length self.now.held + count < 128 }
@@ -313,7 +315,8 @@ impl Follower {
         requires inside { self.old.phase ≡ phase.Inside }
         requires full { length self.old.held ≡ 127 }
         ensures at { OnOk result ((bytes : List ℕ) → IsAt bytes self.old → IsAt (bytes ++ last ∷ []) self.new) }
-        ensures memory { OnErr result ((bytes : List ℕ) → IsAt bytes self.old → IsAt bytes self.new × LackOne bytes × Completes last bytes) }
+        ensures memory { OnErr result ((bytes : List ℕ) → IsAt bytes self.old
+            → IsAt bytes self.new × LackOne bytes × Completes last bytes) }
         ensures taken { self.new.taken ≡ self.old.taken }
     {
         let index = self.guided.records().saturating_add(1);
