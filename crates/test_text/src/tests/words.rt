@@ -6,12 +6,13 @@ use std::alloc::{AllocError, Global};
 use std::test::Fail;
 
 /// A line of words, the word that they ask for, the seed and the count.
-const ASKED: [(&str, &str, u64, u64); 8] = [
+const ASKED: [(&str, &str, u64, u64); 9] = [
     ("run", "run", 0, 0),
     ("serve", "serve", 0, 0),
     ("state", "state", 0, 0),
     ("audit", "audit", 0, 0),
     ("report", "report", 0, 0),
+    ("follow", "follow", 0, 0),
     ("gen 7 20000", "gen", 7, 20_000),
     ("gen 0 1000000", "gen", 0, 1_000_000),
     ("gen 18446744073709551615 1", "gen", u64::MAX, 1),
@@ -80,6 +81,7 @@ fn named(read: Result<Word, WordsFault>) -> Asked {
         Ok(Word::State) => plain("state"),
         Ok(Word::Audit) => plain("audit"),
         Ok(Word::Report) => plain("report"),
+        Ok(Word::Follow) => plain("follow"),
         Ok(Word::Gen { seed, count }) => Asked {
             word: "gen",
             seed,
