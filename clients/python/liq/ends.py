@@ -59,7 +59,8 @@ class DiskFault(End):
 
 
 class Damaged(End):
-    """6: a file is not as liq wrote it. The last line says which file, and `number` which record."""
+    """6: a file is not as liq wrote it, or the journal that `follow` was given. The last line says which, and `number`
+    which record."""
 
 
 class NoMemory(End):
@@ -67,11 +68,11 @@ class NoMemory(End):
 
 
 class Limit(End):
-    """8: more lines than a run takes, or one of the limits of `audit`."""
+    """8: more lines than a run takes, more bytes than `follow` takes, or one of the limits of `audit`."""
 
 
 class Rotated(End):
-    """9: the commands before the last rotation are gone, so `audit` has nothing to tell."""
+    """9: the commands before the last rotation are gone, so `audit` and `follow` have nothing to tell."""
 
 
 class NotBuilt(End):

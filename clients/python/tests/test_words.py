@@ -115,6 +115,15 @@ class OfProgram(OverProgram):
         self.has("follow")
         data = (self.folder / "market/left.liq").read_bytes()
         self.assertEqual(words.follow(data), words.state(self.folder / "market"))
+        self.assertEqual(words.follow(data[:-130]).records, 1)
+        with self.assertRaises(ends.Damaged) as end:
+            words.follow(data[:70] + b"\7" + data[71:])
+        self.assertEqual((end.exception.last, end.exception.number), ("damaged input 1", 1))
+        with self.service() as market:
+            market.client(1).rotate()
+        with self.assertRaises(ends.Rotated) as rotated:
+            words.follow((self.folder / "market/right.liq").read_bytes())
+        self.assertEqual(rotated.exception.number, 2)
 
     def test_staking(self) -> None:
         self.borrow()
