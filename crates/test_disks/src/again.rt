@@ -1,6 +1,6 @@
 //! A store that is closed and opened again.
 
-use crate::checks::{same, shows};
+use crate::checks::shows;
 use crate::journals::fund;
 use crate::runs::{Made, funding, make_calls, run};
 use liq_outside::MemoryDisk;
@@ -76,9 +76,9 @@ fn closed_and_opened_again(rt: HostRuntime) -> Result<(), Fail> {
     let once = ask_again(alloc, run(alloc, &[], 3)?);
     let made = run(alloc, &[], 3)?;
     let twice = ask_again(alloc, make_calls(alloc, made.left, made.right, 0));
-    same(&rt, once.accepted, 3, "accepted");
-    same(&rt, twice.accepted, 3, "accepted, once opened again");
-    shows(&rt, "the wallet", once.answers[0] == WALLET);
-    shows(&rt, "the same answers", once.answers == twice.answers);
+    let are_three = (once.accepted, twice.accepted) == (3, 3);
+    shows(&rt, "three are accepted, opened again too", are_three);
+    let are_same = once.answers[0] == WALLET && once.answers == twice.answers;
+    shows(&rt, "the wallet, and the same answers", are_same);
     Ok(())
 }

@@ -1,6 +1,6 @@
 //! A journal of three records, of either version, that is cut at each byte, and one whose bytes are changed.
 
-use crate::checks::{NOWHERE, same};
+use crate::checks::{NOWHERE, shows};
 use crate::disks::{as_version_1, byte_at, changed};
 use crate::found::{Found, of_header};
 use crate::journals::{find_in, journal};
@@ -65,44 +65,41 @@ fn first_odd_change(alloc: Global, bytes: &[u8], header: u64) -> Result<u64, All
     Ok(NOWHERE)
 }
 
-// What is found in all of the bytes, and the first odd cut, change and row.
+// How many bytes there are and how many records are found in them, and the first odd cut, change and row.
 fn see(
     alloc: Global,
     bytes: &[u8],
     header: u64,
     rows: &[(u64, u8, Found)],
-) -> Result<(Found, [u64; 3]), AllocError> {
-    Ok((
-        find_in(alloc, bytes)?,
-        [
-            first_odd_cut(alloc, bytes, header)?,
-            first_odd_change(alloc, bytes, header)?,
-            first_odd_row(alloc, bytes, rows)?,
-        ],
-    ))
+) -> Result<[u64; 5], AllocError> {
+    Ok([
+        bytes.len() as u64,
+        records(find_in(alloc, bytes)?),
+        first_odd_cut(alloc, bytes, header)?,
+        first_odd_change(alloc, bytes, header)?,
+        first_odd_row(alloc, bytes, rows)?,
+    ])
 }
 
 #[test]
 fn a_journal_is_cut_and_changed_at_each_byte(rt: HostRuntime) -> Result<(), Fail> {
     let bytes = journal(rt.alloc(), 3)?;
-    same(&rt, bytes.len() as u64, 453, "three records");
-    let (found, [cut, change, row]) = see(rt.alloc(), &bytes, 65, &GATES_AND_FIELDS)?;
-    same(&rt, records(found), 3, "all three are found");
-    same(&rt, cut, NOWHERE, "cut at each byte");
-    same(&rt, change, NOWHERE, "changed at each byte");
-    same(&rt, row, NOWHERE, "gates and fields");
+    let seen = see(rt.alloc(), &bytes, 65, &GATES_AND_FIELDS)?;
+    let is_right = seen == [453, 3, NOWHERE, NOWHERE, NOWHERE];
+    shows(&rt, "each cut, each change and each row", is_right);
     Ok(())
 }
 
 #[test]
 fn version_1_is_cut_and_changed_at_each_byte(rt: HostRuntime) -> Result<(), Fail> {
     let bytes = as_version_1(rt.alloc(), &journal(rt.alloc(), 3)?)?;
-    same(&rt, bytes.len() as u64, 445, "three records of version 1");
-    let (found, [cut, change, row]) = see(rt.alloc(), &bytes, 57, &GATES_OF_VERSION_1)?;
-    same(&rt, records(found), 3, "all three are found in version 1");
-    same(&rt, cut, NOWHERE, "version 1 cut at each byte");
-    same(&rt, change, NOWHERE, "version 1 changed at each byte");
-    same(&rt, row, NOWHERE, "gates and fields of version 1");
+    let seen = see(rt.alloc(), &bytes, 57, &GATES_OF_VERSION_1)?;
+    let is_right = seen == [445, 3, NOWHERE, NOWHERE, NOWHERE];
+    shows(
+        &rt,
+        "each cut, each change and each row of version 1",
+        is_right,
+    );
     Ok(())
 }
 

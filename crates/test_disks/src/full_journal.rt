@@ -2,7 +2,7 @@
 
 ghost use Rattle.std.specs.Prelude.{◌≡◌};
 
-use crate::checks::{same, shows};
+use crate::checks::shows;
 use liq_core::{PlanFault, Protocol, Turn};
 use liq_types::{Call, Command, Done, Hint, NoMemory, Query, Refusal, Reply, Steps};
 use std::alloc::Global;
@@ -75,9 +75,8 @@ fn accept_all<L: Ledger>(protocol: &mut Protocol, steps: &mut Steps<L>) -> u64 {
 /// What is seen of a full journal.
 #[derive(Clone, Copy)]
 struct Seen {
-    generation: u64,
-    accepted: u64,
-    records: u64,
+    /// The generation, accepted commands, and records.
+    counts: [u64; 3],
     /// Of one command more, of a price out of its range, and of the last number again.
     outcomes: [Outcome; 3],
     told: bool,
@@ -93,9 +92,7 @@ fn see<L: Ledger>(protocol: &mut Protocol, steps: &mut Steps<L>) -> Seen {
         accept(protocol, &price(RECORDS, 1), steps),
     ];
     Seen {
-        generation,
-        accepted,
-        records,
+        counts: [generation, accepted, records],
         outcomes,
         told: matches!(protocol.query(&Query::System), Reply::Told(_)),
     }
@@ -114,13 +111,9 @@ fn see_full<L: Ledger>(alloc: Global, blank: Blank) -> Seen
 #[test]
 fn full_journal(rt: HostRuntime) {
     let seen = see_full::<Brand>(rt.alloc(), Blank::new(1));
-    same(&rt, seen.generation, 1, "the generation");
-    same(&rt, seen.accepted, RECORDS, "accepted commands");
-    same(&rt, seen.records, RECORDS, "records");
+    let is_full = seen.told && seen.counts == [1, RECORDS, RECORDS];
+    shows(&rt, "each is accepted, and a query answered", is_full);
     // A price out of range is told before that the journal is full, and the number that came last has its kept reply.
-    let [late, wrong, again] = seen.outcomes;
-    shows(&rt, "one more is refused", late == Outcome::Full);
-    shows(&rt, "a price out of range", wrong == Outcome::Range);
-    shows(&rt, "the last number again", again == Outcome::Price);
-    shows(&rt, "a query", seen.told);
+    let expected = [Outcome::Full, Outcome::Range, Outcome::Price];
+    shows(&rt, "one more", seen.outcomes == expected);
 }

@@ -65,16 +65,21 @@ fn a_look_tells_the_header(rt: HostRuntime) -> Result<(), Fail> {
 // A look reads the header and the length: there is no third call.
 #[test]
 fn a_look_makes_two_device_calls(rt: HostRuntime) -> Result<(), Fail> {
-    for (failing, expected) in [(0, Found::DiskFault), (1, Found::DiskFault), (2, OPEN)] {
-        let found = look_at(rt.alloc(), TWO_RECORDS, true, failing)?;
-        shows(&rt, "a look where a call fails", found == expected);
-    }
-    let other = look_at(rt.alloc(), TWO_RECORDS, false, NOWHERE)?;
-    shows(
-        &rt,
-        "on the other disk",
-        other == Found::NoForm { index: 0, place: 9 },
-    );
+    let alloc = rt.alloc();
+    let found = [
+        look_at(alloc, TWO_RECORDS, true, 0)?,
+        look_at(alloc, TWO_RECORDS, true, 1)?,
+        look_at(alloc, TWO_RECORDS, true, 2)?,
+        look_at(alloc, TWO_RECORDS, false, NOWHERE)?,
+    ];
+    // The last one is on the other disk.
+    let expected = [
+        Found::DiskFault,
+        Found::DiskFault,
+        OPEN,
+        Found::NoForm { index: 0, place: 9 },
+    ];
+    shows(&rt, "looks where a call fails", found == expected);
     Ok(())
 }
 
@@ -168,8 +173,8 @@ fn bodies_are_read_back(rt: HostRuntime) -> Result<(), Fail> {
         Found::Records(2),
         Found::Absent,
     ];
-    shows(&rt, "bodies", seen.found == expected);
-    same(&rt, seen.faults, 1, "faults at bodies");
+    let is_right = (seen.found, seen.faults) == (expected, 1);
+    shows(&rt, "bodies, and the faults at them", is_right);
     Ok(())
 }
 
@@ -207,10 +212,13 @@ fn fund_of_no_account() -> [u8; 96] {
 #[test]
 fn a_body_that_is_no_command(rt: HostRuntime) -> Result<(), Fail> {
     let alloc = rt.alloc();
-    shows(&rt, "nothing", is_refused(alloc, &[0; 96], 66)?);
-    shows(&rt, "a rotation", is_refused(alloc, &rotation(), 66)?);
-    let is_none = is_refused(alloc, &fund_of_no_account(), 86)?;
-    shows(&rt, "an account that is none", is_none);
+    // Nothing, a rotation, and an account that is none.
+    let refused = [
+        is_refused(alloc, &[0; 96], 66)?,
+        is_refused(alloc, &rotation(), 66)?,
+        is_refused(alloc, &fund_of_no_account(), 86)?,
+    ];
+    shows(&rt, "each is refused", refused == [true; 3]);
     Ok(())
 }
 
@@ -255,7 +263,6 @@ fn bodies_of_a_file_that_was_changed(rt: HostRuntime) -> Result<(), Fail> {
     let alloc = rt.alloc();
     let _ = fs::remove_file(&rt, "bodies.liq");
     let made = make_two(alloc, file(&rt, "bodies.liq")?);
-    shows(&rt, "a journal of two bodies", made);
     let mut other = file(&rt, "bodies.liq")?;
     let seen = see_changes(alloc, file(&rt, "bodies.liq")?, &mut other);
     let expected = [
@@ -264,7 +271,7 @@ fn bodies_of_a_file_that_was_changed(rt: HostRuntime) -> Result<(), Fail> {
         Found::Records(2),
         Found::OtherDigest(2),
     ];
-    shows(&rt, "bodies that change", seen.found == expected);
-    same(&rt, seen.faults, 0, "faults at bodies that change");
+    let is_right = made && (seen.found, seen.faults) == (expected, 0);
+    shows(&rt, "bodies that change, and no fault", is_right);
     Ok(())
 }

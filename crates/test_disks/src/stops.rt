@@ -3,6 +3,7 @@
 use crate::checks::shows;
 use crate::disks::disk;
 use liq_outside::{Disk, MemoryDisk};
+use std::alloc::{AllocError, Global};
 use std::test::Fail;
 
 const OLD: [u8; 4] = [1, 2, 3, 4];
@@ -36,15 +37,18 @@ fn torn_over(mut disk: MemoryDisk, synced: bool, choice: u64) -> (bool, bool) {
     }
 }
 
+// Whether a crash of this choice keeps all only by choice 0, and nothing by choice 1; and keeps what is synced.
+fn tears(alloc: Global, choice: u64) -> Result<bool, AllocError> {
+    let (is_old, is_new) = torn_over(disk(alloc, &OLD, &[])?, false, choice);
+    let (_, is_kept) = torn_over(disk(alloc, &OLD, &[])?, true, choice);
+    Ok(is_kept && is_new == (choice == 0) && (is_old || choice != 1))
+}
+
 #[test]
 fn a_crash_loses_what_is_not_synced(rt: HostRuntime) -> Result<(), Fail> {
-    let alloc = rt.alloc();
     for choice in 0..8 {
-        let (is_old, is_new) = torn_over(disk(alloc, &OLD, &[])?, false, choice);
-        shows(&rt, "choice 0 alone keeps all", is_new == (choice == 0));
-        shows(&rt, "choice 1 keeps nothing", is_old || choice != 1);
-        let (_, is_new) = torn_over(disk(alloc, &OLD, &[])?, true, choice);
-        shows(&rt, "what is synced is kept", is_new);
+        let is_right = tears(rt.alloc(), choice)?;
+        shows(&rt, "what a crash leaves", is_right);
     }
     Ok(())
 }

@@ -1,6 +1,6 @@
 //! Stores whose disks fail.
 
-use crate::checks::{same, shows};
+use crate::checks::shows;
 use crate::disks::disk;
 use crate::found::Found;
 use crate::runs::{CALLS, open, run};
@@ -14,13 +14,11 @@ const SAID: Option<Answer> = Some(Answer::Reply(Reply::Said(Done {
     values: [0; 6],
 })));
 
-// What a run tells: its answers, the faults at which it stopped, or 0, and those of each disk.
+// What a run tells: its answers; the faults at which it stopped, or 0, and those of each disk.
 #[derive(Clone, Copy)]
 struct Told {
     answers: [Option<Answer>; 6],
-    stopped: u64,
-    left: u64,
-    right: u64,
+    counts: [u64; 3],
 }
 
 // A run whose left disk fails at this device call.
@@ -28,9 +26,11 @@ fn run_failing(alloc: Global, failing: u64) -> Result<Told, AllocError> {
     let made = run(alloc, &[failing], CALLS)?;
     Ok(Told {
         answers: made.answers,
-        stopped: made.stopped.unwrap_or(0),
-        left: made.left.faults(),
-        right: made.right.faults(),
+        counts: [
+            made.stopped.unwrap_or(0),
+            made.left.faults(),
+            made.right.faults(),
+        ],
     })
 }
 
@@ -52,9 +52,8 @@ fn the_second_sync_of_the_fifth_call_fails(rt: HostRuntime) -> Result<(), Fail> 
         "four accepted, one met the fault, one is stopped",
         told.answers == answers,
     );
-    same(&rt, told.stopped, 1, "the faults at which it stopped");
-    same(&rt, told.left, 1, "the left disk's faults");
-    same(&rt, told.right, 0, "the right disk's faults");
+    let is_counted = told.counts == [1, 1, 0];
+    shows(&rt, "one fault, of the left disk", is_counted);
     Ok(())
 }
 
@@ -69,11 +68,9 @@ fn find_beside_fault(alloc: Global, bytes: &[u8]) -> Result<(Found, u64, u64), A
 fn the_right_disk_fails(rt: HostRuntime) -> Result<(), Fail> {
     // The right disk is synced although the left one is damaged, and its fault is told.
     for bytes in [[].as_slice(), [1; 57].as_slice()] {
-        let (found, left, right) = find_beside_fault(rt.alloc(), bytes)?;
-        let is_told = found == Found::DiskFault;
+        let told = find_beside_fault(rt.alloc(), bytes)?;
+        let is_told = told == (Found::DiskFault, 0, 1);
         shows(&rt, "the right disk's fault is told", is_told);
-        same(&rt, left, 0, "faults of the left disk");
-        same(&rt, right, 1, "faults of the right disk");
     }
     Ok(())
 }

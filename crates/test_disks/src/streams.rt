@@ -1,6 +1,6 @@
 //! Sources and sinks: that each form works over real bytes, and that each fault is counted.
 
-use crate::checks::{same, shows};
+use crate::checks::shows;
 use liq_outside::{MemorySink, MemorySource, Sink, Source, StdSink, StdSource};
 use std::alloc::{AllocError, Global};
 use std::io::{self, ErrorKind, Read};
@@ -54,13 +54,7 @@ fn write_each<K: Sink>(sink: &mut K, pieces: &[&[u8]]) -> u64 {
 }
 
 // What is seen of a source: whether it gives the word, its faults, how much is left, and whether it then gives nothing.
-#[derive(Clone, Copy)]
-struct Taken {
-    is_word: bool,
-    faults: u64,
-    left: u64,
-    is_at_end: bool,
-}
+type Taken = (bool, u64, u64, bool);
 
 fn take_from_memory(
     alloc: Global,
@@ -69,14 +63,21 @@ fn take_from_memory(
     failing: &[u64],
 ) -> Result<Taken, AllocError> {
     let chunk = usize::from(chunk).max(1);
-    let mut source = MemorySource::new(WORD.to_vec(alloc)?, chunk, failing.to_vec(alloc)?);
+    Ok(take_from(
+        MemorySource::new(WORD.to_vec(alloc)?, chunk, failing.to_vec(alloc)?),
+        reads,
+    ))
+}
+
+fn take_from(mut source: MemorySource, reads: u8) -> Taken {
     let is_word = gives_the_word(&mut source, reads);
-    Ok(Taken {
+    let (faults, left) = (source.faults(), source.left().len() as u64);
+    (
         is_word,
-        faults: source.faults(),
-        left: source.left().len() as u64,
-        is_at_end: matches!(source.read(&mut [0; 5]), Ok(0)),
-    })
+        faults,
+        left,
+        matches!(source.read(&mut [0; 5]), Ok(0)),
+    )
 }
 
 #[test]
@@ -84,26 +85,21 @@ fn a_memory_source_gives_its_bytes_in_chunks(rt: HostRuntime) -> Result<(), Fail
     // Chunks of 1: eleven reads and two that fail. Chunks of 7 into five places: 5, 5 and 1.
     for (chunk, reads, failing) in [(1, 13, [0, 3]), (7, 5, [1, 2])] {
         let taken = take_from_memory(rt.alloc(), chunk, reads, &failing)?;
-        shows(&rt, "a source gives its bytes", taken.is_word);
-        same(&rt, taken.faults, 2, "faults of a source");
-        same(&rt, taken.left, 0, "what is left");
-        shows(&rt, "a source ends", taken.is_at_end);
+        let is_right = taken == (true, 2, 0, true);
+        shows(&rt, "a source gives its bytes, and ends", is_right);
     }
     Ok(())
 }
 
+// The second of three pieces is lost.
 #[test]
 fn a_memory_sink_holds_what_did_not_fail(rt: HostRuntime) -> Result<(), Fail> {
     let alloc = rt.alloc();
     let mut sink = MemorySink::new(alloc, [1].to_vec(alloc)?);
     let failed = write_each(&mut sink, &[b"ab", b"cd", b"efg"]);
-    same(&rt, failed, 1, "pieces that are lost");
-    shows(
-        &rt,
-        "a sink holds the others",
-        sink.bytes() == b"abefg".as_slice(),
-    );
-    same(&rt, sink.faults(), 1, "faults of a sink");
+    let is_held = sink.bytes() == b"abefg".as_slice();
+    let is_right = is_held && (failed, sink.faults()) == (1, 1);
+    shows(&rt, "a sink holds the others", is_right);
     Ok(())
 }
 
@@ -119,29 +115,24 @@ impl Read for BrokenReader {
 #[test]
 fn a_reader_is_a_source(rt: HostRuntime) {
     let mut source = StdSource::new(WORD);
-    let is_word = gives_the_word(&mut source, 4);
+    let is_word = gives_the_word(&mut source, 4) && source.faults() == 0;
     shows(&rt, "a reader gives its bytes", is_word);
-    same(&rt, source.faults(), 0, "faults of a reader");
 }
 
 #[test]
 fn a_broken_reader_is_a_source(rt: HostRuntime) {
     let mut broken = StdSource::new(BrokenReader);
-    shows(&rt, "a broken reader", broken.read(&mut [0; 5]).is_err());
-    same(&rt, broken.faults(), 1, "faults of a broken reader");
+    let is_broken = broken.read(&mut [0; 5]).is_err() && broken.faults() == 1;
+    shows(&rt, "a broken reader", is_broken);
 }
 
+// The last piece finds no room, and the writer takes none of it.
 #[test]
 fn a_writer_is_a_sink(rt: HostRuntime) {
     let mut room = [0; 4];
     let mut sink = StdSink::new(room.as_mut_slice());
-    // The last piece finds no room, and the writer takes none of it.
     let failed = write_each(&mut sink, &[b"ab", b"cd", b"e"]);
-    same(&rt, failed, 1, "pieces without room");
-    same(&rt, sink.faults(), 1, "faults of a writer");
-    shows(
-        &rt,
-        "a writer holds the others",
-        room.as_slice() == b"abcd".as_slice(),
-    );
+    let is_counted = (failed, sink.faults()) == (1, 1);
+    let is_right = is_counted && room.as_slice() == b"abcd".as_slice();
+    shows(&rt, "a writer holds the others", is_right);
 }

@@ -1,7 +1,7 @@
 //! What is served.
 
 use liq_outside::{MemoryDisk, MemorySink, MemorySource};
-use liq_serve::protocol;
+use liq_serving::{Finish, serve_input};
 use liq_sessions::OpenGate;
 use std::alloc::{AllocError, Global};
 use std::sync::Wait;
@@ -53,36 +53,15 @@ fn line(alloc: Global, session: u8, before: u64, asked: Asked) -> Result<String,
     }
 }
 
-/// Serves the lines over new disks.
+/// Serves the lines over new disks. The status: 0 where each line was answered.
 pub fn status_of<R: Threads + Wait + Sync>(rt: &R, alloc: Global, input: Vec<u8>) -> u8 {
-    match words(alloc) {
-        Ok(words) => status_with(rt, alloc, &words, input),
-        Err(_) => 7,
-    }
-}
-
-fn words(alloc: Global) -> Result<Vec<String>, AllocError> {
-    Ok(vec![in alloc; String::from_str(alloc, "serve")?]?)
-}
-
-fn status_with<R>(rt: &R, alloc: Global, words: &[String], input: Vec<u8>) -> u8
-where
-    R: Threads + Wait + Sync,
-{
     let mut source = MemorySource::new(input, CHUNK, Vec::new(alloc));
     let mut sink = MemorySink::new(alloc, Vec::new(alloc));
     let (left, right) = (new_disk(alloc), new_disk(alloc));
-    protocol(
-        rt,
-        alloc,
-        &OpenGate,
-        words,
-        &mut source,
-        &mut sink,
-        left,
-        right,
-    )
-    .status
+    match serve_input(rt, alloc, &OpenGate, &mut source, &mut sink, left, right).finish {
+        Finish::All => 0,
+        _ => 7,
+    }
 }
 
 fn new_disk(alloc: Global) -> MemoryDisk {
