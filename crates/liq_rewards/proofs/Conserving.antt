@@ -25,7 +25,7 @@ units_by : (due : ℕ) (b : Bool) → cond b due 0 + cond b 0 due ≡ due
 units_by due true = omega arith
 units_by due false = omega arith
 
-up_to : (minute : ℕ) (past : List Timed) → AreInOrder minute past → minute_of past ≤ minute
+pub up_to : (minute : ℕ) (past : List Timed) → AreInOrder minute past → minute_of past ≤ minute
 up_to minute [] h = omega arith
 up_to minute (t ∷ past) h = h.0
 

@@ -25,8 +25,8 @@ use Rattle.liq_rewards.specs.Earning.{rise_by, reward_at}
 use Rattle.liq_rewards.specs.Kept.{Kept, earner_in, has_row, HasRoomFor, IsEarnerOf, words_kept, IsKeptOf, MayHappen, words_then, CanHappen, row_by, row_of}
 use Rattle.liq_rewards.proofs.Dealing.{IsDealtOf, dealt, reads, allows, small_dealt, small_kept, small_reward}
 use Rattle.liq_rewards.proofs.Issuing.{issued-monotone}
-use Rattle.liq_rewards.proofs.Keeping.{all_after, others_after, words_follow}
-use Rattle.liq_rewards.proofs.Conserving.{all_units, all_rewards}
+use Rattle.liq_rewards.proofs.Keeping.{all_after, others_after, words_follow, account-dealt}
+use Rattle.liq_rewards.proofs.Conserving.{all_units, all_rewards, up_to}
 use Rattle.liq_rewards.proofs.Small.{served, happens, stands, place_few, due_most, units_most}
 
 -- ---- nothing
@@ -148,10 +148,6 @@ module _ (k : Kept) (some : ∥ ((past : List Timed) × IsKeptOf k past) ∥₁)
 
 -- ---- what is told
 
-account-dealt : (e : Earner) (words : PoolWords) (sharing : Option Sharing) → (dealt_with e words sharing).account ≡ e.account
-account-dealt e words None = refl
-account-dealt e words (Some sharing) = refl
-
 pub row_is : (k : Kept) (past : List Timed) → IsKeptOf k past → (account : ℕ) → row_by account (dealt_with (earner_in k.earners account) k.words (sharing_of k.words k.due)) ≡ row_of account k.minute past
 row_is k past h account =
     let e = earner_in k.earners account in
@@ -179,17 +175,13 @@ order_later : (minute next : ℕ) (past : List Timed) → minute ≤ next → Ar
 order_later minute next [] h order = tt
 order_later minute next (t ∷ past) h order = (omega (arith, h, order.0), order.1)
 
-last_up_to : (minute : ℕ) (past : List Timed) → AreInOrder minute past → minute_of past ≤ minute
-last_up_to minute [] order = omega arith
-last_up_to minute (t ∷ past) order = order.0
-
 pub minute_kept : (k : Kept) (past : List Timed) (minute more : ℕ) → k.minute ≤ minute → more ≡ issued minute - issued k.minute → IsKeptOf k past → IsKeptOf (record k { minute = minute; due = k.due + more }) past
 minute_kept k past minute more later is h = record {
   lawful = h.lawful;
   order = order_later k.minute minute past later h.order;
   few = h.few;
   due =
-      let first = issued-monotone (minute_of past) k.minute (last_up_to k.minute past h.order) in
+      let first = issued-monotone (minute_of past) k.minute (up_to k.minute past h.order) in
       let second = issued-monotone k.minute minute later in
       omega (arith, h.due, is, first, second);
   unshared = h.unshared;

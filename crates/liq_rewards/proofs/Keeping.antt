@@ -2,6 +2,7 @@
 use Rattle.std.proofs.Common.{◌≡◌, ℕ, zero, suc, ◌+◌, ◌-◌, ◌*◌, ◌≤◌, ◌<◌, Bool, true, false, cond, List, [], ◌∷◌, length, map, refl, ap, sym, ◌∙◌, subst, arith, inl, inr, Some, None, Option}
 use Rattle.std.specs.Prelude.{◌==◌, ◌||◌}
 use Rattle.std.specs.List.{AllByRecursion}
+use Rattle.std.proofs.lemmas.Bool.{eq-eqb}
 use Rattle.std.proofs.lemmas.Bool.Decides.{nat_tests}
 use Rattle.std.proofs.lemmas.Grind.{div_ceil_times}
 use Rattle.liq_num.specs.Quotient.{ceiling_of}
@@ -113,9 +114,6 @@ deposit_begun s account put out sums e p none later =
 
 -- ---- an event
 
-itself : (n : ℕ) → (n == n) ≡ true
-itself n = grind (arith, nat_tests)
-
 none_more : (b : Bool) → b ≡ false → cond b 1 0 ≡ zero
 none_more b e = ap (λ b. cond b 1 0) e
 
@@ -178,7 +176,7 @@ module _ (minute : ℕ) (past : List Timed) (lawful : IsLawful opening (events_o
   own_happened put out gain left =
       let t : Timed = record { minute = minute; event = event.Own e.account put out gain left } in
       let x : Earner = owned_by e (words_kept past) left in
-      let alike = itself e.account in
+      let alike = eq-eqb e.account e.account refl in
       let owns = owns-more e.account t past in
       let weighs = weight-more e.account t past lawful in
       let one = one_more (e.account == e.account) alike in
@@ -239,7 +237,7 @@ none_happened account words (event.Own owner put out gain left) es absent room =
 
 -- ---- all rows
 
-account-dealt : (e : Earner) (words : PoolWords) (sharing : Option Sharing) → (dealt_with e words sharing).account ≡ e.account
+pub account-dealt : (e : Earner) (words : PoolWords) (sharing : Option Sharing) → (dealt_with e words sharing).account ≡ e.account
 account-dealt e words None = refl
 account-dealt e words (Some sharing) = refl
 
