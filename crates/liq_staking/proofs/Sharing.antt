@@ -7,6 +7,7 @@ use Rattle.std.proofs.lemmas.List.{take-append-drop}
 use Rattle.std.proofs.lemmas.List.Sums.{fold-append, fold_more, sum_by-cons}
 use Rattle.liq_types.specs.declared.amounts.TheConstants.{LIM}
 use Rattle.liq_fees.specs.Happened.{Happened, Fee, of_coll, of_lusd, staked_of, fees_of, changes_in, fees_in, AreStakedUpTo, IsLawful}
+use Rattle.liq_fees.specs.Kept.{Kept, IsKeptOf}
 use Rattle.liq_fees.specs.declared.changes.TheConstants.{STAKED_MOST, FEES_MOST}
 use Rattle.liq_staking.specs.Paid.{Fees, coll_in, lusd_in}
 use Rattle.liq_staking.specs.Asked.{shared}
@@ -113,3 +114,11 @@ pub some_shared : (past : List Happened) (fee : Fees) → 1 ≤ fee.0 + fee.1 �
 some_shared past fee some = ap (λ none. cond none past (Fee fee.0 fee.1 ∷ past)) (not_none (fee.0 + fee.1) some) where
   not_none : (n : ℕ) → 1 ≤ n → eqb n 0 ≡ false
   not_none n h = grind (arith, nat_tests, h)
+
+-- ---- a part of a list that is another list
+
+pub part_lawful : (past : List Happened) (part whole : List Fees) → part ≡ whole → IsLawful (fold shared past whole) → IsLawful (fold shared past part)
+part_lawful past part whole is h = subst (λ (fees : List Fees). IsLawful (fold shared past fees)) (sym is) h
+
+pub part_shared : (kept : Kept) (past : List Happened) (part whole : List Fees) → part ≡ whole → IsLawful (fold shared past whole) → (IsLawful (fold shared past part) → IsKeptOf kept (fold shared past part)) → IsKeptOf kept (fold shared past whole)
+part_shared kept past part whole is h shares = subst (λ (fees : List Fees). IsKeptOf kept (fold shared past fees)) is (shares (part_lawful past part whole is h))

@@ -1,6 +1,6 @@
 //! What stakers are answered, line by line.
 
-ghost use Rattle.std.specs.Prelude.{◌≡◌, ◌<◌, ◌≤◌, ◌++◌, [], List, fold, length, IfOk, OnOk};
+ghost use Rattle.std.specs.Prelude.{◌≡◌, ◌-◌, ◌<◌, ◌≤◌, ◌++◌, List, fold, length, take, drop, IfOk, OnOk};
 ghost use Rattle.std.specs.List.{flat_map};
 ghost use Rattle.liq_fees.specs.Happened.{Happened, changes_in, IsLawful, staked_of, stake_of};
 ghost use Rattle.liq_fees.specs.Kept.{IsKeptOf, refusal_of};
@@ -52,28 +52,32 @@ pub(crate) fn answer_stakers(
 }
 
 impl Answering {
-    /// Answers a line. It is out of place where its record comes before that of the last line in place, or is not there.
+    /// Answers a line. It is out of place where its record comes before that of the last line in place, or is not
+    /// there.
     fn answer(&mut self, fees: &[(u64, u64)], line: &StakeLine) -> Result<(), NoMemory>
         requires fees { CanBeShared fees.now }
-        requires few { ∥ ((a : Asked) × IsAsked self.old a × IsOnTheWay fees.now a × (changes_in a.past < CHANGES_MOST)) ∥₁ }
-        ensures { OnOk result ((a : Asked) → IsAsked self.old a → IsOnTheWay fees.now a → changes_in a.past < CHANGES_MOST →
-            IsAsked self.new (answered fees.now a line.now)) }
+        requires few { ∥ ((a : Asked) × IsAsked self.old a × IsOnTheWay fees.now a
+            × (changes_in a.past < CHANGES_MOST)) ∥₁ }
+        ensures { OnOk result ((a : Asked) → IsAsked self.old a → IsOnTheWay fees.now a
+            → changes_in a.past < CHANGES_MOST → IsAsked self.new (answered fees.now a line.now)) }
     {
         let most = fees.len() as u64;
         if line.at < self.least || most < line.at {
             return Ok(put_out_of_place(&mut self.text, line.at, self.least, most)?);
         }
-        share_all(&mut self.fees, &fees[self.least as usize..line.at as usize]);
+        share_all(&mut self.fees, fees_between(fees, self.least, line.at));
         self.change(line)
     }
 
-    /// Makes the change that a line in place asks for, once the fees up to its record are shared. It is the last line in
-    /// place then, whether it is refused or not.
+    /// Makes the change that a line in place asks for, once the fees up to its record are shared. It is the last line
+    /// in place then, whether it is refused or not.
     fn change(&mut self, line: &StakeLine) -> Result<(), NoMemory>
-        requires few { ∥ ((past : List Happened) × IsKeptOf self.old.fees past × (changes_in past < CHANGES_MOST)) ∥₁ }
-        ensures { OnOk result ((a : Asked) → IsAsked self.old a → changes_in a.past < CHANGES_MOST →
-            IsAsked self.new (changed (record a { least = line.now.at }) line.now
-            (refusal_of line.now.account line.now.amount line.now.out (staked_of a.past) (stake_of line.now.account a.past)))) }
+        requires few { ∥ ((past : List Happened) × IsKeptOf self.old.fees past
+            × (changes_in past < CHANGES_MOST)) ∥₁ }
+        ensures asked { OnOk result ((a : Asked) → IsAsked self.old a → changes_in a.past < CHANGES_MOST →
+            IsAsked self.new (changed (record a { least = line.now.at }) line.now (refusal_of line.now.account
+            line.now.amount line.now.out (staked_of a.past) (stake_of line.now.account a.past)))) }
+        ensures least { self.new.least ≡ line.now.at }
     {
         self.least = line.at;
         match self.fees.change(line.account, line.amount, line.out) {
@@ -94,7 +98,8 @@ impl Answering {
         requires fees { CanBeShared fees.now }
         requires least { self.least ≤ length fees.now }
         requires way { ∥ ((a : Asked) × IsAsked self a × IsOnTheWay fees.now a) ∥₁ }
-        ensures { IfOk result (λ text. (a : Asked) → IsAsked self a → IsOnTheWay fees.now a → text.items ≡ told_of fees.now a) }
+        ensures { IfOk result (λ text. (a : Asked) → IsAsked self a → IsOnTheWay fees.now a
+            → text.items ≡ told_of fees.now a) }
     {
         let Answering {
             fees: mut kept,
@@ -102,7 +107,7 @@ impl Answering {
             least,
             mut text,
         } = self;
-        share_all(&mut kept, &fees[least as usize..]);
+        share_all(&mut kept, fees_between(fees, least, fees.len() as u64));
         put_rows(&mut text, &kept, &stakers)?;
         let (coll, lusd) = kept.unshared();
         put_line(
@@ -112,6 +117,15 @@ impl Answering {
         )?;
         Ok(text)
     }
+}
+
+/// The fees of the records behind one, up to another.
+fn fees_between(fees: &[(u64, u64)], from: u64, to: u64) -> &[(u64, u64)]
+    requires order { from ≤ to }
+    requires there { to ≤ length fees.now }
+    ensures { result.now ≡ take (to - from) (drop from fees.now) }
+{
+    &fees[from as usize..to as usize]
 }
 
 /// Shares the fees of records, in order.
@@ -128,7 +142,8 @@ fn share_all(kept: &mut Fees, fees: &[(u64, u64)])
 /// Shares the fee of a record, where there is any.
 fn share(kept: &mut Fees, fee: (u64, u64))
     requires { ∥ ((past : List Happened) × IsKeptOf kept.old past × IsLawful (shared past fee)) ∥₁ }
-    ensures { (past : List Happened) → IsKeptOf kept.old past → IsLawful (shared past fee) → IsKeptOf kept.new (shared past fee) }
+    ensures { (past : List Happened) → IsKeptOf kept.old past → IsLawful (shared past fee)
+        → IsKeptOf kept.new (shared past fee) }
 {
     let (coll, lusd) = fee;
     if coll == 0 && lusd == 0 {

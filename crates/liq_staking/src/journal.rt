@@ -17,10 +17,10 @@ use liq_retold::{ReplayFault, retold};
 use liq_types::Command;
 use std::alloc::Global;
 
-/// The text that answers stakers on these lines, for a journal's commands, which are replayed from the opening under the
-/// journal's limit: a reply for each line, a line `ACCOUNT STAKE COLL LUSD ALLOW` for each account with an accepted change,
-/// ascending, and a line `unshared COLL LUSD`. A line's change is made behind its record, and each record's fee is shared by
-/// those who have a stake by then.
+/// The text that answers stakers on these lines, for a journal's commands, which are replayed from the opening under
+/// the journal's limit: a reply for each line, a line `ACCOUNT STAKE COLL LUSD ALLOW` for each account with an accepted
+/// change, ascending, and a line `unshared COLL LUSD`. A line's change is made behind its record, and each record's fee
+/// is shared by those who have a stake by then.
 ///
 /// [`ReplayFault::Damaged`] comes exactly where the replay does not accept a command, where there is memory.
 pub fn staked(
@@ -34,7 +34,8 @@ pub fn staked(
     requires no_rotation { All (λ (c : Command). is_rotate c.call ≡ false) commands.now }
     requires few { length lines.now ≤ CHANGES_MOST }
     ensures text { IfOk result (λ text. text.items ≡ staked_text limit commands.now lines.now) }
-    ensures damaged { (damage : Damage) → result ≡ Err (ReplayFault.Damaged damage) → replay 1 (opening_with limit) commands.now ≡ Err damage }
+    ensures damaged { (damage : Damage) → result ≡ Err (ReplayFault.Damaged damage)
+        → replay 1 (opening_with limit) commands.now ≡ Err damage }
     ensures whole { OnOk result ((damage : Damage) → replay 1 (opening_with limit) commands.now ≡ Err damage → ⊥) }
 {
     let mut paid = Paid::new(alloc);

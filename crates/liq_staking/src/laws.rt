@@ -10,13 +10,16 @@ ghost use Rattle.liq_pairs.specs.Replay.{replay};
 ghost use Rattle.liq_staking.specs.Paid.{fees_along, coll_in, lusd_in};
 ghost use Rattle.liq_staking.specs.Answering.{CanBeShared};
 
-/// The fees of commands come to what is in the fee pool after them, where they are replayed from the opening under a limit. So
-/// they are within the state's limit, and the fees of one generation can be shared.
+/// The fees of commands that are replayed from the opening under a limit come to what is in the fee pool after them. So
+/// the fees of one generation are within the greatest limit, and can be shared.
 pub fn fees_add_up()
-    ensures coll { (limit : ℕ) → (commands : List Command) → (s : State) → replay 1 (opening_with limit) commands ≡ Ok s →
-        coll_in (fees_along (opening_with limit) commands) ≡ s.fee_coll }
-    ensures lusd { (limit : ℕ) → (commands : List Command) → (s : State) → replay 1 (opening_with limit) commands ≡ Ok s →
-        lusd_in (fees_along (opening_with limit) commands) ≡ s.fee_lusd }
-    ensures shared { (limit : ℕ) → IsLimit limit → (commands : List Command) → All (λ (c : Command). is_rotate c.call ≡ false) commands →
-        (s : State) → replay 1 (opening_with limit) commands ≡ Ok s → CanBeShared (fees_along (opening_with limit) commands) }
+    ensures coll { (limit : ℕ) → (commands : List Command) → (s : State)
+        → replay 1 (opening_with limit) commands ≡ Ok s
+        → coll_in (fees_along (opening_with limit) commands) ≡ s.fee_coll }
+    ensures lusd { (limit : ℕ) → (commands : List Command) → (s : State)
+        → replay 1 (opening_with limit) commands ≡ Ok s
+        → lusd_in (fees_along (opening_with limit) commands) ≡ s.fee_lusd }
+    ensures shared { (limit : ℕ) → IsLimit limit → (commands : List Command)
+        → All (λ (c : Command). is_rotate c.call ≡ false) commands → (s : State)
+        → replay 1 (opening_with limit) commands ≡ Ok s → CanBeShared (fees_along (opening_with limit) commands) }
 {}
