@@ -50,14 +50,7 @@ pub fn write_staking<K: Sink, D: Disk>(
         (counts_of D.faults store.old.left store.old.right) (counts_of D.faults store.new.left store.new.right) }
 {
     let whole = whole_journal(store)?;
-    write_answers(
-        alloc,
-        whole.limit,
-        &whole.commands,
-        lines,
-        whole.side,
-        out,
-    )
+    write_answers(alloc, whole.limit, &whole.commands, lines, whole.side, out)
 }
 
 /// Writes what stakers are answered beside commands that stand on the disk of this side, from the opening under this limit on.

@@ -4,7 +4,7 @@ use Rattle.liq_types.specs.State.{opening_with}
 use Rattle.liq_pairs.specs.Replay.{replay}
 use Rattle.liq_review.specs.Reviewed.{reviewed}
 use Rattle.liq_tell.specs.Writing.{WritesAudit, WritesText}
-use Rattle.liq_tell.proofs.TextsTold.{audit_reviewed, whole_audit}
+use Rattle.liq_tell.proofs.TextsTold.{audit_reviewed}
 use Rattle.liq_tell.proofs.audit.write_audit.Goals as goal
 
 pub returns-clause-written : goal.returns-clause-written

@@ -4,7 +4,7 @@ use Rattle.liq_types.specs.State.{opening_with}
 use Rattle.liq_pairs.specs.Replay.{replay}
 use Rattle.liq_staking.specs.Staked.{staked_text}
 use Rattle.liq_tell.specs.Writing.{WritesStaked, WritesText}
-use Rattle.liq_tell.proofs.TextsTold.{staked_written, whole_staked}
+use Rattle.liq_tell.proofs.TextsTold.{staked_written}
 use Rattle.liq_tell.proofs.staking.write_staking.Goals as goal
 
 pub returns-clause-written : goal.returns-clause-written
