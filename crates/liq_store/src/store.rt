@@ -177,7 +177,8 @@ impl<D: Disk> Store<D> {
         self.carry_out(request, hint)
     }
 
-    // The same of a command, where the store isn't stopped: apart, so that what its plan takes is neither cleared nor moved for a query.
+    // The same of a command, where the store isn't stopped: apart, so that what its plan takes is neither cleared nor
+    // moved for a query.
     fn carry_out(&mut self, request: &Request, hint: &Hint) -> Answer
         requires going { self.old.stopped ≡ None }
         requires command { (query : Query) → request.now ≢ Ask query }

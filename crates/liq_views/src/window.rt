@@ -32,7 +32,7 @@ pub trait Window {
         ensures open { OnOk result (shut self.new ≡ shut self.old) }
         ensures cause { OnErr result (Rose (shut self.old) (shut self.new)) };
 
-    /// The number of the version that is then shown, by the same terms as [`Window::look`]: nobody's neighbours are looked up.
+    /// The number of the version that is then shown, by the terms of [`Window::look`]. Nobody's neighbours are looked up.
     fn number(&mut self) -> Result<u64, Shut>
         ensures told { IfOk result (λ number. IfSome (shown self.new) (λ v. number ≡ v.number)) }
         ensures later { GoesOn (shown self.old) (shown self.new) }
