@@ -8,7 +8,7 @@ use Rattle.liq_types.specs.declared.requests.Request.TheVariants.{Do}
 use Rattle.liq_types.specs.State.{State}
 use Rattle.liq_rules.specs.Step.{accepted}
 use Rattle.liq_pairs.specs.Kept.{IsKept}
-use Rattle.liq_pairs.specs.Past.{AtCommand, Fault}
+use Rattle.liq_pairs.specs.Past.{AtCommand}
 use Rattle.liq_pairs.specs.Sides.{on}
 use Rattle.liq_store.specs.Keeping.{IsInOrder}
 use Rattle.liq_store.specs.Past.{Past}

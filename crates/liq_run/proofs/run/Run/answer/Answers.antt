@@ -1,12 +1,11 @@
-use Rattle.std.proofs.Common.{Err, List, Result, ◌∷◌, ◌++◌, [], ap, sym, subst, refl}
+use Rattle.std.proofs.Common.{Err, Result, ap, sym, subst, refl}
 use Rattle.liq_types.specs.declared.replies.Reply.{Reply}
-use Rattle.liq_types.specs.declared.requests.Request.{Request}
 use Rattle.liq_ends.specs.declared.halts.Halt.{Halt}
 use Rattle.liq_ends.specs.declared.halts.Halt.TheVariants.{ReadFault, WriteFault, DiskFault}
 use Rattle.liq_ends.specs.Causes.{WriteCause}
 use Rattle.liq_ends.proofs.Causes.{write_same}
 use Rattle.liq_run.specs.Passing.{IsPastOf, IsStoppedPastOf, Passes}
-use Rattle.liq_run.proofs.Passing.{asked_past, passes_as}
+use Rattle.liq_run.proofs.Passing.{passes_as}
 use Rattle.liq_run.proofs.Residual.{handed_on, same_halt}
 use Rattle.liq_run.proofs.run.Run.answer.Goals as goal
 

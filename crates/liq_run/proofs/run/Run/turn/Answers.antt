@@ -1,4 +1,4 @@
-use Rattle.std.proofs.Common.{◌≡◌, refl, ℕ, ◌+◌, ◌++◌, ◌∷◌, [], List, Option, Err, Bool, Result, ap, subst, sym, arith}
+use Rattle.std.proofs.Common.{refl, ℕ, ◌+◌, ◌++◌, ◌∷◌, [], List, Option, Err, ap, subst, sym}
 use Rattle.liq_rules.specs.Step.{run}
 use Rattle.liq_types.specs.declared.requests.Request.TheVariants.{Ask}
 use Rattle.liq_run.specs.Passing.{IsPastOf}

@@ -1,11 +1,7 @@
-use Rattle.std.proofs.Common.{◌≡◌, ℕ, ◌+◌, ◌++◌, ◌∷◌, [], List, Option, Err, Bool, Result, ap, subst, sym, arith}
-use Rattle.liq_core.specs.Core.{Core}
+use Rattle.std.proofs.Common.{ℕ, ◌+◌, ◌++◌, ◌∷◌, [], List, Option, Err, ap, subst, sym, arith}
 use Rattle.liq_rules.specs.Step.{run}
-use Rattle.liq_types.specs.State.{State}
-use Rattle.liq_types.specs.declared.requests.Request.{Request}
-use Rattle.liq_ends.specs.declared.halts.Halt.{Halt}
 use Rattle.liq_run.specs.Passing.{IsPastOf}
-use Rattle.liq_run.specs.Progress.{Answered, Turns, Comes}
+use Rattle.liq_run.specs.Progress.{Answered}
 use Rattle.liq_run.proofs.Passing.{same_past}
 use Rattle.liq_run.proofs.Residual.{handed_on}
 use Rattle.liq_run.proofs.Turning.{turn_halts, answered_on, answered_cut, reading_halts, reading_ends, line_answered, last_answered, answering_halts, first_line, last_line}
