@@ -112,8 +112,8 @@ fn try_on(mut disk: DeviceDisk<MemoryDevice>) -> Tried {
     (written, synced, read, disk.faults())
 }
 
-// The most that one call takes, the call that fails, and what is seen. By threes the word is four writes, a sync, and four
-// reads with a fifth at the end.
+// The most that one call takes, the call that fails, and what is seen. By threes the word is four writes, a sync,
+// and four reads with a fifth at the end.
 const TRIALS: [(u8, u64, Tried); 6] = [
     (20, NOWHERE, (true, true, 11, 0)),
     (1, NOWHERE, (true, true, 11, 0)),

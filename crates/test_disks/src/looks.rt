@@ -162,8 +162,8 @@ fn see_bodies(alloc: Global, disk: MemoryDisk) -> Seen {
     }
 }
 
-// An opening makes six device calls where two records stand: a sync, the header, the length, both records at once, what stands behind them,
-// and the gate. A body is one more. Here the seventh call fails.
+// An opening makes six device calls where two records stand: a sync, the header, the length, both records at once,
+// what stands behind them, and the gate. A body is one more. Here the seventh call fails.
 #[test]
 fn bodies_are_read_back(rt: HostRuntime) -> Result<(), Fail> {
     let seen = see_bodies(rt.alloc(), disk(rt.alloc(), TWO_RECORDS, &[6])?);
@@ -236,8 +236,8 @@ fn read_behind(
     }
 }
 
-// The bodies of two records, while the file is changed from outside: the first one's number, a gate that was shut since,
-// which takes nothing back, and the last byte of the second one's digest.
+// The bodies of two records, while the file is changed from outside: the first one's number, a gate that was shut
+// since, which takes nothing back, and the last byte of the second one's digest.
 fn bodies_behind_changes(journal: &mut Journal<FileDisk>, other: &mut FileDisk) -> Seen {
     let found = [
         read_body(journal, 1, &encode(&fund(1))),

@@ -89,7 +89,7 @@ fn is_cut<R: Threads + Wait + Sync>(
     Ok(ran.status == 8 && ran.is_text)
 }
 
-// The first of the last calls behind which something else is written, where it fails. Behind the last of all nothing fails.
+// The first of the last calls that leaves something else where it fails. Behind the last of all nothing fails.
 fn first_odd_cut<R: Threads + Wait + Sync>(
     rt: &R,
     alloc: Global,
