@@ -20,7 +20,7 @@ issued-more minute = by (minute + 1) (suc minute) (omega arith) where
   by a b e = ap issued e
 
 -- the first minutes of a year
-issued-in : (year r : ℕ) → r ≤ YEAR → issued (year * YEAR + r) ≡ issued (year * YEAR) + r * rate_in year
+pub issued-in : (year r : ℕ) → r ≤ YEAR → issued (year * YEAR + r) ≡ issued (year * YEAR) + r * rate_in year
 unfolding units_in
 issued-in year zero low =
     let same : issued (year * YEAR + 0) ≡ issued (year * YEAR) = ap issued (omega arith) in
@@ -118,6 +118,13 @@ issued-most minutes =
     let rises = issued-monotone (min minutes (YEARS * YEAR)) (YEARS * YEAR) (omega arith) in
     let years = whole_years YEARS in
     omega (arith, all, rises, years, all_rates)
+
+pub issued-late : (minutes : ℕ) → YEARS * YEAR ≤ minutes → issued minutes ≡ UNITS_MOST
+issued-late minutes late =
+    let all = issued-all minutes in
+    let first : issued (min minutes (YEARS * YEAR)) ≡ issued (YEARS * YEAR) = ap issued (omega arith) in
+    let years = whole_years YEARS in
+    omega (arith, all, first, years, all_rates)
 
 none_yet : issued 0 ≡ 0
 unfolding issued

@@ -1,7 +1,7 @@
 //! What holds of the definitions that the contracts cite. The functions here do nothing: each is the place where the
 //! facts of its contract are proved.
 
-ghost use Rattle.std.specs.Prelude.{◌≡◌, ℕ, ◌+◌, ◌*◌, ◌^◌, ◌≤◌, List};
+ghost use Rattle.std.specs.Prelude.{◌≡◌, ℕ, ◌+◌, ◌*◌, ◌/◌, ◌^◌, ◌≤◌, List};
 ghost use Rattle.liq_types.specs.PlainLedger.{AreOwnedBelow, over_accounts};
 ghost use Rattle.liq_types.specs.State.{opening};
 ghost use Rattle.liq_stability.specs.Lawful.{IsLawfulUpTo};
@@ -10,7 +10,18 @@ ghost use Rattle.liq_rewards.specs.Timed.{Timed, events_of, AreInOrder, shared_a
 ghost use Rattle.liq_rewards.specs.Earning.{reward_at};
 ghost use Rattle.liq_rewards.specs.Exact.{IsWithinAllowance, allowance_at};
 
+use crate::issuance::{UNITS_AT_FIRST, UNITS_MOST, YEAR, YEARS};
 use liq_types::amounts::RISES_MOST;
+
+/// What is issued goes by years: each minute of a year issues the same, half as much as one of the year before, rounded
+/// down. It never falls, and comes to a most.
+pub fn units_are_issued_by_years()
+    ensures year { (year : ℕ) → (minutes : ℕ) → minutes ≤ YEAR →
+        issued (year * YEAR + minutes) ≡ issued (year * YEAR) + minutes * (UNITS_AT_FIRST / 2 ^ year) }
+    ensures rising { (first : ℕ) → (last : ℕ) → first ≤ last → issued first ≤ issued last }
+    ensures most { (minutes : ℕ) → issued minutes ≤ UNITS_MOST }
+    ensures all { (minutes : ℕ) → YEARS * YEAR ≤ minutes → issued minutes ≡ UNITS_MOST }
+{}
 
 /// After lawful events no account has earned more units than its exact share of those that were shared, nor less by
 /// more than its allowance, at any minute, what is due then being shared too.

@@ -128,3 +128,28 @@ risen_lawful_1 = earlier (timed 1 (Offset 999999999999999999 0 10000000000000000
 
 pub risen_may_1 : MayHappen (timed 0 (Own 1 1000000000000000000 0 0 1000000000000000000)) []
 risen_may_1 = record { lawful = risen_lawful_1; few = omega arith }
+
+abbrev pub taken_1 : List Timed
+taken_1 = timed 0 (Own 1 3000000000 0 0 3000000000) ∷ []
+
+abbrev pub taken_2 : List Timed
+taken_2 = timed 1 (Own 2 1000000000 0 0 1000000000) ∷ taken_1
+
+abbrev pub taken_3 : List Timed
+taken_3 = timed 2 (Own 1 0 3000000000 0 0) ∷ taken_2
+
+taken_lawful : IsLawful opening (events_of taken_3)
+unfolding least_from
+taken_lawful = (record { total = omega arith; coll = omega arith }, record { gain_is = refl; paid_is = omega arith; amount_is = refl }, (record { total = omega arith; coll = omega arith }, record { gain_is = refl; paid_is = omega arith; amount_is = refl }, (record { total = omega arith; coll = omega arith }, record { gain_is = refl; paid_is = omega arith; amount_is = refl }, record { total = omega arith; coll = omega arith })))
+
+pub taken_may_3 : MayHappen (timed 2 (Own 1 0 3000000000 0 0)) taken_2
+taken_may_3 = record { lawful = taken_lawful; few = omega arith }
+
+taken_lawful_2 : IsLawful opening (events_of taken_2)
+taken_lawful_2 = earlier (timed 2 (Own 1 0 3000000000 0 0)) taken_2 taken_lawful
+
+pub taken_may_2 : MayHappen (timed 1 (Own 2 1000000000 0 0 1000000000)) taken_1
+taken_may_2 = record { lawful = taken_lawful_2; few = omega arith }
+
+pub taken_may_1 : MayHappen (timed 0 (Own 1 3000000000 0 0 3000000000)) []
+taken_may_1 = record { lawful = earlier (timed 1 (Own 2 1000000000 0 0 1000000000)) taken_1 taken_lawful_2; few = omega arith }

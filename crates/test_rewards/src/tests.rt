@@ -84,6 +84,33 @@ fn provide<R: Abort>(
     happens(rt, rewards, minute, event);
 }
 
+/// LUSD out of an account's deposit, which has this amount then.
+fn withdraw<R: Abort>(
+    rt: &R,
+    rewards: &mut Rewards,
+    minute: u64,
+    account: u32,
+    paid: u64,
+    amount: u64,
+)
+    requires later { rewards.old.minute ≤ minute }
+    requires may { ∥ ((past : List Timed) × IsKeptOf rewards.old past
+        × MayHappen (timed minute (PoolEvent.Own account 0 paid 0 amount)) past) ∥₁ }
+    ensures kept { (past : List Timed) → IsKeptOf rewards.old past →
+        MayHappen (timed minute (PoolEvent.Own account 0 paid 0 amount)) past →
+        IsKeptOf rewards.new (timed minute (PoolEvent.Own account 0 paid 0 amount) ∷ past) }
+    ensures minute { rewards.new.minute ≡ minute }
+{
+    let event = PoolEvent::Own {
+        account,
+        put: 0,
+        paid,
+        gain: 0,
+        amount,
+    };
+    happens(rt, rewards, minute, event);
+}
+
 /// The pool takes over debt, and has this total before.
 fn offset<R: Abort>(
     rt: &R,
@@ -218,6 +245,29 @@ fn the_least_total(rt: HostRuntime) {
     rewards.to_minute(2);
     earned(&rt, &rewards, 1, 30_000, 10);
     told(&rt, &rewards, 60_000, 30_000);
+}
+
+/// What is issued while nobody has a deposit stays unshared.
+#[test]
+fn nobody_has_a_deposit(rt: HostRuntime) {
+    let mut rewards = Rewards::new(rt.alloc());
+    told(&rt, &rewards, 0, 0);
+    rewards.to_minute(YEAR + 1);
+    earned(&rt, &rewards, 1, 0, 0);
+    told(&rt, &rewards, 15_768_015_000, 15_768_015_000);
+}
+
+/// What an account earned stays when it takes out its deposit, and its allowance may grow on.
+#[test]
+fn a_deposit_is_taken_out(rt: HostRuntime) {
+    let mut rewards = Rewards::new(rt.alloc());
+    provide(&rt, &mut rewards, 0, 1, 3_000_000_000, 3_000_000_000);
+    provide(&rt, &mut rewards, 1, 2, 1_000_000_000, 1_000_000_000);
+    withdraw(&rt, &mut rewards, 2, 1, 3_000_000_000, 0);
+    rewards.to_minute(3);
+    earned(&rt, &rewards, 1, 52_500, 17);
+    earned(&rt, &rewards, 2, 37_500, 8);
+    told(&rt, &rewards, 90_000, 0);
 }
 
 /// The scale rises by one and then by two, and the allowances cover what is lost.
