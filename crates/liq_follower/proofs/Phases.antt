@@ -1,5 +1,5 @@
 -- What each phase says of the bytes.
-use Rattle.std.proofs.Common.{◌≡◌, ⊎_elim, ℕ, ◌+◌, ◌-◌, ◌^◌, ◌≤◌, min, List, [], ◌∷◌, ◌++◌, length, take, drop, get_or, Option, Some, None, Bool, true, false, refl, sym, ◌∙◌, ap, subst, arith, length-append, append_assoc}
+use Rattle.std.proofs.Common.{◌≡◌, ⊎_elim, ℕ, ◌+◌, ◌-◌, ◌^◌, ◌≤◌, min, List, [], ◌∷◌, ◌++◌, length, take, drop, get_or, Option, Some, None, false, refl, sym, ◌∙◌, ap, subst, arith, length-append, append_assoc}
 use Rattle.std.specs.Prelude.{unwrap_or}
 use Rattle.std.proofs.Common.{length-take}
 use Rattle.std.proofs.Math.Seq.{take-add}
@@ -142,6 +142,9 @@ ends_stopped bytes f e is stopped = stopped_with f.phase f.held bytes f.core e (
 
 pub goes_on : (bytes : List ℕ) (f : Followed) → IsFed bytes f → stopped_in f.phase ≡ None → GoOn bytes
 goes_on bytes f is goes = let l = going_leads f.phase f.held bytes f.core goes (fed_at bytes f is) in (l.state, l.lead)
+
+pub goes_inside : (bytes : List ℕ) (f : Followed) → IsFed bytes f → f.phase ≡ Inside → GoOn bytes
+goes_inside bytes f is inside = goes_on bytes f is (ap stopped_in inside)
 
 ends_by : (bytes : List ℕ) (f : Followed) (o : Option FedEnd) → IsFed bytes f → stopped_in f.phase ≡ o → EndsWith (unwrap_or o end.All) bytes
 ends_by bytes f None is goes = goes_on bytes f is goes

@@ -1,5 +1,5 @@
 -- What each byte makes of the bytes and the phase.
-use Rattle.std.proofs.Common.{◌≡◌, inl, inr, ⊎_elim, ℕ, ◌+◌, ◌<◌, ◌≤◌, List, [], ◌∷◌, ◌++◌, length, get_or, refl, sym, ◌∙◌, ap, subst, arith, length-append, append_assoc}
+use Rattle.std.proofs.Common.{◌≡◌, ⊎_elim, ℕ, ◌+◌, ◌<◌, ◌≤◌, List, [], ◌∷◌, ◌++◌, length, get_or, refl, sym, ◌∙◌, ap, subst, arith, length-append, append_assoc}
 use Rattle.liq_types.specs.declared.requests.Command.{Command}
 use Rattle.liq_types.specs.State.{State, opening_with}
 use Rattle.liq_rules.specs.Step.{Allowed, after, ruling}
@@ -9,37 +9,16 @@ use Rattle.liq_journal.proofs.Reading.{isnt_long}
 use Rattle.liq_follower.specs.declared.header.Judged.{Judged}
 use Rattle.liq_follower.specs.declared.header.Judged.TheVariants as judged
 use Rattle.liq_follower.specs.declared.phase.Phase.{Phase}
-use Rattle.liq_follower.specs.declared.phase.Phase.TheVariants.{Start, Header, Gate, Inside}
+use Rattle.liq_follower.specs.declared.phase.Phase.TheVariants.{Header, Inside}
 use Rattle.liq_follower.specs.declared.record.Redone.TheVariants as redone
 use Rattle.liq_follower.specs.Fed.{AreDamagedAt, Completes, EndsWhole, IsBegun, IsNoRecord, IsRecordOf, LackOne, LeadTo, begun_limit}
-use Rattle.liq_follower.specs.Following.{EndsAs, IsInPhase, IsShut, StandsBeforeLast}
+use Rattle.liq_follower.specs.Following.{EndsAs, IsInPhase, StandsBeforeLast}
 use Rattle.liq_follower.specs.Judging.{IsJudged, IsTaken, IsUnfit, phase_of}
 use Rattle.liq_follower.proofs.Fronts.{bad_command, bad_form, completes, lacks_one, leads, one_record_more}
 use Rattle.liq_follower.proofs.Growing.{gate_is, has_room, least, same_limit, still_begun}
 use Rattle.liq_follower.proofs.Headers.{no_header, too_short, whole_header, wrong}
 
 -- ---- the header
-
-pub shut_first : (bytes held : List ℕ) (core : Core) (byte : ℕ) → (byte ≡ 1 → ⊥) → IsInPhase Start held bytes core → IsShut (bytes ++ byte ∷ []) core
-shut_first bytes held core byte isnt (none, stands) = record {
-  front = [];
-  gate = byte;
-  rest = [];
-  are = ap (λ (l : List ℕ). l ++ byte ∷ []) none;
-  shut = isnt;
-  whole = inl (refl, stands);
-}
-
-pub open_first : (bytes held : List ℕ) (core : Core) (byte : ℕ) → byte ≡ 1 → IsInPhase Start held bytes core → IsInPhase Header (byte ∷ []) (bytes ++ byte ∷ []) core
-open_first bytes held core byte is (none, stands) =
-    let are : bytes ++ byte ∷ [] ≡ byte ∷ [] = ap (λ (l : List ℕ). l ++ byte ∷ []) none in
-    let one : 1 ∷ [] ≡ bytes ++ byte ∷ [] = ap (λ (n : ℕ). n ∷ []) (sym is) ∙ sym are in
-    let l = least (1 ∷ []) in
-    let begun : IsBegun (1 ∷ []) = record { gate = refl; short = omega arith } in (
-      are,
-      subst IsBegun one begun,
-      subst (λ (l : List ℕ). StandsFor core (opening_with (begun_limit l))) one stands,
-    )
 
 -- behind a whole one
 judged_so : (bytes none : List ℕ) (core : Core) (j : Judged) → get_or bytes 0 0 ≡ 1 → length bytes ≡ header_size (layout_on bytes)
@@ -90,34 +69,7 @@ whole_so bytes held none core j phase g whole judged is =
     subst (λ (p : Phase). IsInPhase p none bytes core) (sym is)
     (subst (λ (l : List ℕ). IsInPhase (phase_of j) none l core) (sym g.are) (judged_so held none core j g.gate whole g.stands (subst (λ (l : List ℕ). StandsBeforeLast l core) g.are (g.before whole)) (judged g.gate)))
 
--- ---- gates
-
-pub gate_open : (bytes : List ℕ) (core : Core) (byte : ℕ) → byte ≡ 1 → IsInPhase Gate [] bytes core → IsInPhase Inside [] (bytes ++ byte ∷ []) core
-gate_open bytes core byte is e = (bytes, ap (λ (n : ℕ). bytes ++ n ∷ []) is, omega arith, e)
-
-pub gate_shut : (bytes : List ℕ) (core : Core) (byte : ℕ) → (byte ≡ 1 → ⊥) → EndsAs bytes core → IsShut (bytes ++ byte ∷ []) core
-gate_shut bytes core byte isnt e = record { front = bytes; gate = byte; rest = []; are = refl; shut = isnt; whole = inr e }
-
-pub still_shut : (bytes more : List ℕ) (core : Core) → IsShut bytes core → IsShut (bytes ++ more) core
-still_shut bytes more core s = record {
-  front = s.front;
-  gate = s.gate;
-  rest = s.rest ++ more;
-  are = ap (λ (l : List ℕ). l ++ more) s.are ∙ append_assoc s.front (s.gate ∷ s.rest) more;
-  shut = s.shut;
-  whole = s.whole;
-}
-
 -- ---- records
-
-pub still_inside : (bytes held more : List ℕ) (core : Core) → length held + length more < 128 → IsInPhase Inside held bytes core
-    → IsInPhase Inside (held ++ more) (bytes ++ more) core
-still_inside bytes held more core few (front, are, less, e) = (
-  front,
-  ap (λ (l : List ℕ). l ++ more) are ∙ append_assoc front (1 ∷ held) more,
-  (let n = length-append held more in omega (arith, n, few)),
-  e,
-)
 
 pub lacks : (bytes held : List ℕ) (core : Core) → length held ≡ 127 → IsInPhase Inside held bytes core → LackOne bytes
 lacks bytes held core size (front, are, less, (s, e, stands)) = subst LackOne (sym are) (lacks_one front s e held size)

@@ -1,11 +1,10 @@
 -- What a whole record is found to be.
-use Rattle.std.proofs.Common.{◌≡◌, ℕ, ◌+◌, List, length, take, drop, Option, Some, None, Ok, Err, Result, Bool, true, false, not, if◌then◌else◌, refl, sym, ◌∙◌, ap, arith, length-drop}
+use Rattle.std.proofs.Common.{◌≡◌, ℕ, ◌+◌, List, length, take, drop, Option, Some, None, Ok, Err, Bool, true, false, not, if◌then◌else◌, refl, sym, ◌∙◌, ap, arith, length-drop}
 use Rattle.std.proofs.lemmas.List.{take_all}
 use Rattle.std.specs.Str.{bytes_eq}
 use Rattle.liq_types.specs.declared.requests.Call.TheVariants.{Rotate}
 use Rattle.liq_types.specs.declared.requests.Command.{Command}
 use Rattle.liq_wire.specs.Fields.{command_of}
-use Rattle.liq_journal.specs.declared.damage.What.{What}
 use Rattle.liq_journal.specs.declared.damage.What.TheVariants.{Digest, Form}
 use Rattle.liq_journal.specs.Written.{command_from, record_digest, record_on}
 use Rattle.liq_journal.proofs.Testing.{no_rotation, rotation}

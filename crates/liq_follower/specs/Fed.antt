@@ -1,5 +1,6 @@
 -- What bytes stand for that are the beginning of a journal of generation 1, as far as they go.
-use Rattle.std.specs.Prelude.{◌≡◌, ◌<◌, ◌≤◌, ℕ, ◌+◌, List, [], ◌∷◌, ◌++◌, length, get_or, Ok, Err, Bool, true, false, ◌&&◌, ◌==◌}
+use Rattle.std.specs.Prelude.{◌≡◌, ◌<◌, ◌≤◌, ℕ, ◌+◌, List, [], ◌∷◌, ◌++◌, length, get_or, Ok, Err}
+use Rattle.std.specs.Prelude.{Bool, true, false, ◌&&◌, ◌==◌}
 use Rattle.std.specs.Prelude.{nat_lt, nat_le, if◌then◌else◌}
 use Rattle.std.specs.Str.{bytes_eq}
 use Rattle.liq_types.specs.declared.amounts.TheConstants.{LIM, LIM_OF_VERSION_1, RECORDS_MOST}
@@ -85,7 +86,8 @@ LackOne bytes =
     × (length bytes ≡ end_of w + 128)
     × (get_or bytes (end_of w) 0 ≡ 1)
 
--- This byte behind them completes a record whose digest and fields are right. Whether the rules allow its command is not said.
+-- This byte behind them completes a record whose digest and fields are right. Whether the rules allow its command is not
+-- said.
 abbrev pub Completes : ℕ → List ℕ → Type 0
 Completes byte bytes =
     (w : Written)

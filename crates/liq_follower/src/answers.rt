@@ -5,8 +5,8 @@
 pub enum FedEnd {
     /// The whole piece was taken.
     All,
-    /// There is no memory for what the byte behind those that were taken would complete: a record. Feeding may go on from
-    /// that byte.
+    /// There is no memory for what the byte behind those that were taken would complete: a record, whose digest and form
+    /// are right. Feeding may go on from that byte.
     NoMemory,
     /// The bytes are damaged: the record of this number is, or, where it is 0, the header.
     Damaged { index: u64 },

@@ -1,6 +1,7 @@
 //! A replica that is fed the bytes of a journal.
 
-ghost use Rattle.std.specs.Prelude.{◌≡◌, ◌≤◌, ◌<◌, ◌+◌, ◌-◌, ◌^◌, ◌∷◌, ◌++◌, [], List, ℕ, length, min, take, None, IfOk, OnErr, OnOk, slice_index};
+ghost use Rattle.std.specs.Prelude.{◌≡◌, ◌≤◌, ◌<◌, ◌+◌, ◌-◌, ◌^◌, ◌∷◌, ◌++◌, [], List, ℕ, length, min, take};
+ghost use Rattle.std.specs.Prelude.{true, false, None, IfOk, OnErr, OnOk, slice_index};
 ghost use Rattle.liq_follower.specs.declared.phase.Phase.TheVariants as phase;
 ghost use Rattle.liq_follower.specs.Fed.{AreOver, Completes, EndsWith, GoOn, LackOne};
 ghost use Rattle.liq_follower.specs.Following.{IsAt, IsFed, StandsBeforeLast, stopped_in};
@@ -17,6 +18,9 @@ use liq_types::NoMemory;
 use liq_types::amounts::LIM;
 use std::alloc::Global;
 use std::marker::Model;
+
+// A count of bytes to which those of a record can be added.
+const MANY: u64 = u64::MAX - 128;
 
 /// A replica of the protocol that follows a journal's bytes. Each record makes its step once all its bytes are taken and its
 /// digest is right.
@@ -80,10 +84,10 @@ impl Follower {
     /// Takes the bytes of a piece, up to its end or the first byte at which feeding ends, and says how many.
     ///
     /// - `All`: the whole piece was taken.
-    /// - `NoMemory`: there is no memory for the step of the record that the byte behind those that were taken completes. That
-    ///   byte isn't taken, the protocol is as it was, and feeding may go on from it.
+    /// - `NoMemory`: there is no memory for the step of the record that the byte behind those that were taken completes.
+    ///   Its digest and form are right. That byte isn't taken, the protocol is as it was, and feeding may go on from it.
     /// - `Damaged`: the record of this number is damaged, or the header, which is 0, by the byte that was taken last. No byte
-    ///   is taken from then on, and each feed answers this.
+    ///   is taken from then on, each feed answers this, and the protocol stays at the state before that byte.
     /// - `Rotated`: the header is of this later generation. No byte is taken from then on, and each feed answers this.
     ///
     /// Behind a closed gate all bytes are taken and mean nothing.
@@ -97,10 +101,17 @@ impl Follower {
             → Completes (slice_index piece.now result.taken) (bytes ++ take result.taken piece.now) }
         ensures over { (bytes : List ℕ) → IsFed bytes self.old → AreOver bytes → result.taken ≡ 0 }
         ensures stays { (bytes : List ℕ) → IsFed bytes self.old → AreOver bytes → self.new ≡ self.old }
-        ensures again { (bytes : List ℕ) → IsFed bytes self.old → AreOver bytes → (e : FedEnd) → EndsWith e bytes → result.end ≡ e }
+        ensures again { (bytes : List ℕ) → IsFed bytes self.old → AreOver bytes → (e : FedEnd) → EndsWith e bytes
+            → result.end ≡ e }
         ensures first { (bytes : List ℕ) → IsFed bytes self.old → AreOver (bytes ++ take result.taken piece.now)
             → StandsBeforeLast (bytes ++ take result.taken piece.now) self.new.core }
     {
+        if self.keeps(piece) {
+            return Fed {
+                taken: piece.len(),
+                end: FedEnd::All,
+            };
+        }
         let mut taken = 0;
         while taken < piece.len() {
             if let Some(end) = self.stopped() {
@@ -116,6 +127,46 @@ impl Follower {
         }
         let end = self.stopped().unwrap_or(FedEnd::All);
         Fed { taken, end }
+    }
+
+    // Whether the whole piece is inside a record, and not up to its last byte: it is taken then, and else nothing is.
+    // So a feed of a byte costs little.
+    fn keeps(&mut self, piece: &[u8]) -> bool
+        ensures inside { result ≡ true → (self.old.phase ≡ phase.Inside) × (self.new.phase ≡ phase.Inside) }
+        ensures fed { result ≡ true → (bytes : List ℕ) → IsFed bytes self.old
+            → IsFed (bytes ++ take (length piece.now) piece.now) self.new }
+        ensures stays { result ≡ false → self.new ≡ self.old }
+    {
+        if !self.fits(piece.len()) {
+            return false;
+        }
+        self.keep(piece);
+        self.tally_few(piece.len());
+        true
+    }
+
+    // Whether so many bytes are inside a record, and not up to its last one. Where the count of bytes is near its last
+    // value none is said to be.
+    fn fits(&self, count: usize) -> bool
+        ensures inside { result ≡ true → self.now.phase ≡ phase.Inside }
+        ensures room { result ≡ true → length self.now.held + count < 128 }
+        ensures few { result ≡ true → self.now.taken + count < 2 ^ 64 }
+    {
+        match self.phase {
+            Phase::Inside => count < RECORD - self.held.len() && self.taken < MANY,
+            _ => false,
+        }
+    }
+
+    // Keeps some bytes of a record, without counting.
+    fn keep(&mut self, piece: &[u8])
+        requires inside { self.old.phase ≡ phase.Inside }
+        requires room { length self.old.held + length piece.now < 128 }
+        ensures at { (bytes : List ℕ) → IsAt bytes self.old → IsAt (bytes ++ piece.now) self.new }
+        ensures inside { self.new.phase ≡ phase.Inside }
+        ensures taken { self.new.taken ≡ self.old.taken }
+    {
+        self.held.extend(piece);
     }
 
     // How feeding has ended for good, if it has.
@@ -151,12 +202,23 @@ impl Follower {
     // Counts bytes that were taken.
     fn tally(&mut self, count: usize)
         ensures at { (bytes : List ℕ) → IsAt bytes self.old → IsAt bytes self.new }
+        ensures phase { self.new.phase ≡ self.old.phase }
         ensures taken { self.new.taken ≡ min (self.old.taken + count) (2 ^ 64 - 1) }
     {
         self.taken = self.taken.saturating_add(count as u64);
     }
 
-    // The same without counting.
+    // The same for bytes after which the count isn't at its last value: an addition and no more.
+    fn tally_few(&mut self, count: usize)
+        requires few { self.old.taken + count < 2 ^ 64 }
+        ensures at { (bytes : List ℕ) → IsAt bytes self.old → IsAt bytes self.new }
+        ensures phase { self.new.phase ≡ self.old.phase }
+        ensures taken { self.new.taken ≡ min (self.old.taken + count) (2 ^ 64 - 1) }
+    {
+        self.taken += count as u64;
+    }
+
+    // Takes bytes without counting them.
     fn take(&mut self, piece: &[u8]) -> Result<usize, NoMemory>
         requires some { 1 ≤ length piece.now }
         requires goes { stopped_in self.old.phase ≡ None }
@@ -244,7 +306,7 @@ impl Follower {
             return Ok(1);
         }
         let count = missing.min(piece.len());
-        self.held.extend(&piece[..count]);
+        self.keep(&piece[..count]);
         Ok(count)
     }
 
@@ -253,7 +315,8 @@ impl Follower {
         requires inside { self.old.phase ≡ phase.Inside }
         requires full { length self.old.held ≡ 127 }
         ensures at { OnOk result ((bytes : List ℕ) → IsAt bytes self.old → IsAt (bytes ++ last ∷ []) self.new) }
-        ensures memory { OnErr result ((bytes : List ℕ) → IsAt bytes self.old → IsAt bytes self.new × LackOne bytes × Completes last bytes) }
+        ensures memory { OnErr result ((bytes : List ℕ) → IsAt bytes self.old
+            → IsAt bytes self.new × LackOne bytes × Completes last bytes) }
         ensures taken { self.new.taken ≡ self.old.taken }
     {
         let index = self.guided.records().saturating_add(1);

@@ -65,8 +65,8 @@ pub fn followers_stand(follower: &Follower)
     ensures { (bytes : List ℕ) → (s : State) → IsFed bytes follower.now → LeadTo bytes s → StandsFor follower.now.core s }
 {}
 
-/// Where the bytes that a follower was fed are damaged or of a later generation, the last of them is the first that shows it: all
-/// the others lead to a state. The follower stands for that.
+/// Where the bytes that a follower was fed are damaged or of a later generation, the last of them is the first that shows
+/// it: all the others lead to a state. The follower stands for that.
 pub fn ended_followers_stand(follower: &Follower)
     ensures { (bytes : List ℕ) → IsFed bytes follower.now → AreOver bytes → StandsBeforeLast bytes follower.now.core }
 {}

@@ -1,4 +1,3 @@
-use Rattle.std.proofs.Common.{◌∙◌}
 use Rattle.liq_journal.proofs.Testing.{not_rotate}
 use Rattle.liq_follower.proofs.Tests.{spells, spells_none, spells_rotation}
 use Rattle.liq_follower.proofs.record.spelled.Goals as goal

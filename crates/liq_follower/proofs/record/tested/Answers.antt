@@ -1,4 +1,4 @@
-use Rattle.std.proofs.Common.{◌∙◌, sym, not, ap}
+use Rattle.std.proofs.Common.{◌∙◌, sym}
 use Rattle.liq_follower.proofs.Tests.{tested_by, undigested}
 use Rattle.liq_follower.proofs.record.tested.Goals as goal
 

@@ -4,8 +4,28 @@ use Rattle.liq_follower.specs.declared.answers.FedEnd.{FedEnd}
 use Rattle.liq_follower.specs.declared.answers.FedEnd.TheVariants as end
 use Rattle.liq_follower.specs.Fed.{EndsWith}
 use Rattle.std.proofs.lemmas.List.{take_rest}
-use Rattle.liq_follower.proofs.Phases.{completes_at, ended_stands, ends_stopped, ends_there, fed_on, goes_over, none_over, told_again}
+use Rattle.liq_follower.proofs.Phases.{completes_at, ended_stands, ends_stopped, ends_there, fed_on, goes_inside, goes_over, none_over, told_again}
 use Rattle.liq_follower.proofs.follower.Follower.feed.Goals as goal
+
+-- ---- it is kept
+
+pub returns-then-keeps-clause-fed : goal.returns-then-keeps-clause-fed
+returns-then-keeps-clause-fed c bytes is = c.keeps.ensures.fed c.if-keeps.true bytes is
+
+pub returns-then-keeps-clause-end : goal.returns-then-keeps-clause-end
+returns-then-keeps-clause-end c bytes is = goes_inside _ _ (c.keeps.ensures.fed c.if-keeps.true bytes is) (c.keeps.ensures.inside c.if-keeps.true).1
+
+pub returns-then-keeps-clause-over : goal.returns-then-keeps-clause-over
+returns-then-keeps-clause-over c bytes is over = absurd (over (goes_inside bytes c.args.self.now is (c.keeps.ensures.inside c.if-keeps.true).0))
+
+pub returns-then-keeps-clause-stays : goal.returns-then-keeps-clause-stays
+returns-then-keeps-clause-stays c bytes is over = absurd (over (goes_inside bytes c.args.self.now is (c.keeps.ensures.inside c.if-keeps.true).0))
+
+pub returns-then-keeps-clause-again : goal.returns-then-keeps-clause-again
+returns-then-keeps-clause-again c bytes is over e ends = absurd (over (goes_inside bytes c.args.self.now is (c.keeps.ensures.inside c.if-keeps.true).0))
+
+pub returns-then-keeps-clause-first : goal.returns-then-keeps-clause-first
+returns-then-keeps-clause-first c bytes is over = absurd (over (returns-then-keeps-clause-end c bytes is))
 
 -- ---- it had ended
 

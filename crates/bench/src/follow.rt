@@ -1,0 +1,100 @@
+//! The left file of the current folder, followed beside the opening of both.
+
+use liq_follower::Follower;
+use liq_outside::FileDisk;
+use liq_store::Store;
+use std::alloc::Global;
+use std::fs::{File, Files};
+use std::io;
+use std::os::unix::fs::FileExt;
+use std::rt::Clock;
+use std::time::{Duration, Instant};
+
+/// How many bytes are read at once, where a piece is no larger.
+const READ: usize = 4096;
+
+/// The largest piece: a full journal.
+const MOST: usize = 1 << 28;
+
+fn file<F: Files<File = File>>(files: &F, name: &str) -> io::Result<File> {
+    File::options()
+        .read(true)
+        .write(true)
+        .create(true)
+        .open(files, name)
+}
+
+/// How many records an opening of both files finds.
+fn opened(alloc: Global, left: File, right: File) -> u64 {
+    match Store::open(
+        alloc,
+        FileDisk::new(Some(left)),
+        FileDisk::new(Some(right)),
+    ) {
+        Ok(store) => store.protocol().records(),
+        Err(_) => 0,
+    }
+}
+
+/// Feeds what was read, in pieces of this size.
+fn feed(follower: &mut Follower, read: &[u8], size: usize) {
+    for piece in read.chunks(size.max(1)) {
+        let _ = follower.feed(piece);
+    }
+}
+
+/// How many records a follower has that is fed the file in pieces of this size, `READ` bytes or a piece being read at once.
+fn followed(alloc: Global, file: &File, size: usize) -> io::Result<u64> {
+    let mut follower = Follower::new(alloc);
+    let mut buffer = vec![in alloc; 0; size.clamp(READ, MOST)]?;
+    let mut at = 0;
+    for _ in 0..u64::MAX {
+        let count = file.read_at(&mut buffer, at)?;
+        if count == 0 {
+            break;
+        }
+        feed(&mut follower, &buffer[..count.min(buffer.len())], size);
+        at = at.saturating_add(count as u64);
+    }
+    Ok(follower.protocol().records())
+}
+
+/// The records of an opening and how long it took.
+fn opening<R: Clock + Files<File = File>>(rt: &R, alloc: Global) -> io::Result<(u64, Duration)> {
+    let left = file(rt, "left.liq")?;
+    let right = file(rt, "right.liq")?;
+    let start = Instant::now(rt)?;
+    let records = opened(alloc, left, right);
+    Ok((records, start.elapsed(rt)?))
+}
+
+/// The records of a follower and how long it took.
+fn following<R>(rt: &R, alloc: Global, size: usize) -> io::Result<(u64, Duration)>
+where
+    R: Clock + Files<File = File>,
+{
+    let left = file(rt, "left.liq")?;
+    let start = Instant::now(rt)?;
+    let records = followed(alloc, &left, size)?;
+    Ok((records, start.elapsed(rt)?))
+}
+
+/// Both begin with nothing and find a journal without records.
+pub fn a_few<R: Print + Clock + Files<File = File>>(rt: &R, alloc: Global) -> io::Result<()> {
+    let (opened, _) = opening(rt, alloc)?;
+    let (followed, _) = following(rt, alloc, 1)?;
+    println!(rt; "follow: {opened} records opened, {followed} followed")
+}
+
+/// How long an opening takes, where the size is 0, or else a follower that is fed in pieces of this size.
+pub fn measure<R>(rt: &R, alloc: Global, size: u64) -> io::Result<()>
+where
+    R: Print + Clock + Files<File = File>,
+{
+    let (records, time) = if size == 0 {
+        opening(rt, alloc)?
+    } else {
+        following(rt, alloc, size as usize)?
+    };
+    println!(rt; "{records} records in {} us", time.as_micros())
+}
