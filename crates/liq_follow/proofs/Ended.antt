@@ -13,10 +13,10 @@ use Rattle.liq_follow.specs.Followed.{FaultIn, FollowsTo, HasFront, IsFirstFault
 
 -- ---- faults do not go on
 
-damage_ends : (index : ℕ) (bytes : List ℕ) → AreDamagedAt index bytes → GoOn bytes → ⊥
+pub damage_ends : (index : ℕ) (bytes : List ℕ) → AreDamagedAt index bytes → GoOn bytes → ⊥
 damage_ends index bytes damaged goes = cc (damaged.1.1, goes.1.1)
 
-turning_ends : (generation : ℕ) (bytes : List ℕ) → AreTurnedTo generation bytes → GoOn bytes → ⊥
+pub turning_ends : (generation : ℕ) (bytes : List ℕ) → AreTurnedTo generation bytes → GoOn bytes → ⊥
 turning_ends generation bytes turned goes = cc (turned.0, goes.1.0)
 
 -- neither is the other

@@ -7,6 +7,7 @@ use Rattle.liq_follower.specs.Fed.{AreDamagedAt, AreOver, AreTurnedTo, EndsWith,
 use Rattle.liq_follower.specs.Following.{Followed, IsFed}
 use Rattle.liq_follower.specs.declared.answers.FedEnd.{FedEnd}
 use Rattle.liq_follower.specs.declared.answers.FedEnd.TheVariants as fed_end
+use Rattle.liq_follow.proofs.Ended.{damage_ends, turning_ends}
 use Rattle.liq_follow.specs.Feeding.{FedPiece, end_of}
 use Rattle.liq_follow.specs.Followed.{IsFirstFault}
 
@@ -25,12 +26,6 @@ still_over (Some all) after rest none = subst IsOver (sym rest) none
 
 -- ---- a piece that was fed
 
-damage_is_over : (index : ℕ) (bytes : List ℕ) → AreDamagedAt index bytes → AreOver bytes
-damage_is_over index bytes damaged goes = cc (damaged.1.1, goes.1.1)
-
-turned_is_over : (generation : ℕ) (bytes : List ℕ) → AreTurnedTo generation bytes → AreOver bytes
-turned_is_over generation bytes turned goes = cc (turned.0, goes.1.0)
-
 module _ (taken : ℕ) (fed piece : List ℕ) where
   abbrev front : List ℕ
   front = fed ++ take taken piece
@@ -45,5 +40,5 @@ module _ (taken : ℕ) (fed piece : List ℕ) where
       let same : front ≡ fed ++ piece = ap (λ (xs : List ℕ). fed ++ xs) (take_all taken piece (omega (arith, size))) in
       (subst (λ (t : List ℕ). IsFed t follower) same is, subst GoOn same ends)
   fed_piece fed_end.NoMemory follower is ends all first = (front, drop taken piece, split, ends.0)
-  fed_piece (fed_end.Damaged index) follower is ends all first = (front, drop taken piece, split, (first (damage_is_over index front ends), ends))
-  fed_piece (fed_end.Rotated generation) follower is ends all first = (front, drop taken piece, split, (first (turned_is_over generation front ends), ends))
+  fed_piece (fed_end.Damaged index) follower is ends all first = (front, drop taken piece, split, (first (damage_ends index front ends), ends))
+  fed_piece (fed_end.Rotated generation) follower is ends all first = (front, drop taken piece, split, (first (turning_ends generation front ends), ends))

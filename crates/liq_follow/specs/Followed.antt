@@ -4,7 +4,8 @@ use Rattle.liq_types.specs.State.{State}
 use Rattle.liq_lines.specs.Reading.{IsOver}
 use Rattle.liq_follower.specs.Fed.{AreDamagedAt, AreTurnedTo, GoOn, LeadTo}
 use Rattle.liq_ends.specs.declared.halts.Halt.{Halt}
-use Rattle.liq_ends.specs.declared.halts.Halt.TheVariants.{DamagedInput, Limit, NoMemory, ReadFault, Rotated, WriteFault}
+use Rattle.liq_ends.specs.declared.halts.Halt.TheVariants.{DamagedInput, Limit, NoMemory}
+use Rattle.liq_ends.specs.declared.halts.Halt.TheVariants.{ReadFault, Rotated, WriteFault}
 use Rattle.liq_tell.specs.State.{standing}
 use Rattle.liq_follow.specs.declared.feeding.TheConstants.{FED_MOST}
 

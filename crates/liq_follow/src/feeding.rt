@@ -19,8 +19,8 @@ pub const FED_MOST: usize = 268_435_456;
 /// The most that one read asks of the source, in bytes.
 const PIECE_BYTES: usize = 4_096;
 
-/// Reads the input to its end, piece by piece, and feeds it to a follower that has taken no byte. It stops at the first byte that shows a
-/// fault, and behind the most bytes that are followed it only looks whether there is one more.
+/// Reads the input to its end, piece by piece, and feeds it to a follower that has taken no byte. It stops at the first byte
+/// that shows a fault, and behind the most bytes that are followed it only looks whether there is one more.
 pub fn feed_input<S: Source>(
     alloc: Global,
     input: &mut S,
@@ -99,7 +99,8 @@ fn end_of(end: FedEnd) -> Result<(), Halt>
 
 /// Looks whether the source has a byte more, which is too much.
 fn look_further<S: Source>(input: &mut S) -> Result<(), Halt>
-    ensures further { (read : List ℕ) × Reads (S.left input.old) read (S.left input.new) × IsFurther result read (S.left input.new) }
+    ensures further { (read : List ℕ) × Reads (S.left input.old) read (S.left input.new)
+        × IsFurther result read (S.left input.new) }
     ensures source { ReadCause result (S.faults input.old) (S.faults input.new) }
 {
     let mut byte = [0];

@@ -54,9 +54,8 @@ module _
   -- the word stopped so and told it, unless there was no memory
   abbrev pub Stopped : ℕ → ℕ → Halt → Type 0
   Stopped status wanted halt =
-      ((status ≡ wanted)
-      × Adds [] (last halt) (Rose (sink_faults before.sink) (sink_faults after.sink)) (held before.sink) (held after.sink))
-      ⊎ (status ≡ 7)
+      let fault = Rose (sink_faults before.sink) (sink_faults after.sink) in
+      ((status ≡ wanted) × Adds [] (last halt) fault (held before.sink) (held after.sink)) ⊎ (status ≡ 7)
 
   -- Each word is done then, unless there was no memory. An audit stops where the generation is above the first: only
   -- that one has all commands.
@@ -84,11 +83,11 @@ module _
     pub rotated :
         Ask words word.Audit → (l r : List ℕ) (start : State) → StoodFor l r start → 1 < start.generation
         → AreKeptWell → (status ≡ 9) ⊎ (status ≡ 7)
-    -- An input of no more bytes than are followed is followed to its end, where they show no fault. Their first fault is
-    -- told, and of more bytes which show none that they are more.
+    -- An input of no more bytes than are followed is followed to its end, where they show no fault. Their first fault
+    -- is told, and of more bytes which show none that they are more.
     pub follow :
-        Ask words word.Follow → (bytes : List ℕ) → unread before.source ≡ Some bytes → length bytes ≤ FED_MOST → GoOn bytes
-        → IsReadWell → (Rose (sink_faults before.sink) (sink_faults after.sink) → ⊥) → IsDone status
+        Ask words word.Follow → (bytes : List ℕ) → unread before.source ≡ Some bytes → length bytes ≤ FED_MOST
+        → GoOn bytes → IsReadWell → (Rose (sink_faults before.sink) (sink_faults after.sink) → ⊥) → IsDone status
     pub damaged_input :
         Ask words word.Follow → (bytes : List ℕ) → unread before.source ≡ Some bytes → (index : ℕ)
         → FaultIn (take FED_MOST bytes) (AreDamagedAt index) → IsReadWell → Stopped status 6 (DamagedInput index)

@@ -28,7 +28,8 @@ use Rattle.liq_words.specs.declared.words.Word.{Word}
 use Rattle.liq_words.specs.declared.words.Word.TheVariants as word
 use Rattle.liq_words.specs.Words.{Ask}
 use Rattle.liq_ends.specs.declared.halts.Halt.{Halt}
-use Rattle.liq_ends.specs.declared.halts.Halt.TheVariants.{BadLine, ReadFault, WriteFault, DiskFault, DamagedInput, NoMemory, Limit}
+use Rattle.liq_ends.specs.declared.halts.Halt.TheVariants.{BadLine, ReadFault, WriteFault, DiskFault, NoMemory, Limit}
+use Rattle.liq_ends.specs.declared.halts.Halt.TheVariants.{DamagedInput}
 use Rattle.liq_ends.specs.Disks.{DisksHold, DisksStay, EndsDamaged, IsFaultOfRun, IsFaultOfTelling, IsUnread}
 use Rattle.liq_ends.specs.Disks.{LeavesOfRun, OfBoth}
 use Rattle.liq_ends.specs.Output.{lines, usage}
@@ -61,8 +62,8 @@ statuses_of word.Audit = 0 ∷ 4 ∷ 5 ∷ 6 ∷ 7 ∷ 8 ∷ 9 ∷ []
 statuses_of word.Follow = 0 ∷ 3 ∷ 4 ∷ 6 ∷ 7 ∷ 8 ∷ 9 ∷ []
 statuses_of (word.Gen seed count) = 0 ∷ 4 ∷ 7 ∷ []
 
--- The most bytes that a word takes of the source: those that are followed, and one more; or the lines that one run answers,
--- each with its line end, and what one read asks for.
+-- The most bytes that a word takes of the source: those that are followed, and one more; or the lines that one run
+-- answers, each with its line end, and what one read asks for.
 abbrev pub most_taken : Word → ℕ
 most_taken word.Follow = FED_MOST + 1
 most_taken _ = taken_most LINES_MOST
@@ -211,8 +212,7 @@ module _
       ((text : List ℕ) × IsAuditOf start (commands_on l r) end text × Tells [] text end)
       × DisksStay seen end l r start after.left after.right
       × Leave (IsFaultOfTelling end) l r start [])
-  -- The disks are not asked. The input is followed, at most the bytes that are followed, and at its end the state is told
-  -- to which they lead.
+  -- The disks are not asked. The bytes that come in are followed, and at their end the state is told to which they lead.
   Leaves word.Follow end =
       (after ≡ record before { source = after.source; sink = after.sink })
       × ((read : List ℕ) × Reads (unread before.source) read (unread after.source)

@@ -15,8 +15,8 @@ use liq_follower::laws::faults_stay;
 use liq_outside::{Disk, Sink, Source};
 use liq_pairs::laws::{commands_lead_to_the_state, journals_keep_their_limit};
 
-/// Where nothing is wrong with lines, streams and disks a word is done, unless there was no memory; and what is wrong with a journal
-/// that is followed is told. It follows from the clause of the top call.
+/// Where nothing is wrong with lines, streams and disks a word is done, unless there was no memory; and what is wrong with a
+/// journal that is followed is told. It follows from the clause of the top call.
 pub fn calm_ends_are_done<S: Source, K: Sink, D: Disk>()
     ensures { (before after : Outside S K D) (status : ℕ) (words : List (List ℕ))
         → Ends S.left S.faults K.held K.faults D.seen D.faults D.moment D.left_at before after status words

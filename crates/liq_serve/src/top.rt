@@ -38,7 +38,8 @@ pub struct Ended<D> {
 }
 
 /// Does what the words ask for, and waits for nobody but the sessions of `serve`. It is [`without_threads`] for all other words.
-/// Of the input no more is taken than 1,000,000 lines of 201 bytes, and what one read asks for; for `follow`, than 2^28 bytes and one.
+/// Of the input no more is taken than 1,000,000 lines of 201 bytes, and what one read asks for; for `follow`, than 2^28 bytes
+/// and one.
 ///
 /// For `serve` each line of the input has a session from 1 to 8 in front of its request. The input is read to its end before a disk is touched;
 /// then each session's lines are answered in order, all sessions' at once, and `gate` is told of each call. The replies are written
