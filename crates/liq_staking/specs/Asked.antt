@@ -1,5 +1,5 @@
 -- What stakers ask, line by line, between the records of a journal.
-use Rattle.std.specs.Prelude.{◌≡◌, ℕ, ◌+◌, ◌-◌, ◌==◌, ◌||◌, nat_lt, List, [], ◌∷◌, ◌++◌, Option, None, Some}
+use Rattle.std.specs.Prelude.{ℕ, ◌+◌, ◌-◌, ◌==◌, ◌||◌, nat_lt, List, [], ◌∷◌, ◌++◌, Option, None, Some}
 use Rattle.std.specs.Prelude.{length, map, fold, take, drop, codes, decimal, if◌then◌else◌}
 use Rattle.std.specs.List.{join_with_byte}
 use Rattle.liq_fees.specs.Happened.{Happened, Fee, stake_of, staked_of}

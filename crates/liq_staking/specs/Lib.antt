@@ -1,3 +1,4 @@
 pub mod Paid
 pub mod Asked
 pub mod Staked
+pub mod Answering

@@ -1,5 +1,5 @@
 -- The fees that a journal's commands paid.
-use Rattle.std.specs.Prelude.{ℕ, ◌==◌, List, [], ◌∷◌, get_or, if◌then◌else◌}
+use Rattle.std.specs.Prelude.{ℕ, ◌==◌, List, [], ◌∷◌, get_or, sum_by, if◌then◌else◌}
 use Rattle.liq_types.specs.declared.replies.Done.{Done}
 use Rattle.liq_types.specs.declared.requests.Command.{Command}
 use Rattle.liq_types.specs.State.{State}
@@ -22,3 +22,10 @@ fee_of done =
 abbrev pub fees_along : State → List Command → List Fees
 fees_along s [] = []
 fees_along s (c ∷ cs) = fee_of (done_of s c.call) ∷ fees_along (after s c) cs
+
+-- what they come to
+abbrev pub coll_in : List Fees → ℕ
+coll_in fees = sum_by (λ (fee : Fees). fee.0) fees
+
+abbrev pub lusd_in : List Fees → ℕ
+lusd_in fees = sum_by (λ (fee : Fees). fee.1) fees

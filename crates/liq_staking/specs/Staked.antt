@@ -11,9 +11,15 @@ use Rattle.liq_fees.specs.declared.lines.StakeLine.{StakeLine}
 use Rattle.liq_staking.specs.Paid.{Fees, fees_along}
 use Rattle.liq_staking.specs.Asked.{Asked, answered_all, shared_up_to}
 
--- the accounts with an accepted change, ascending
+-- the accounts below n with an accepted change, ascending
+unfoldable pub stakers_below : ℕ → List Happened → List ℕ
+stakers_below n past = filter (λ account. nat_lt 0 (changes_of account past)) (range_with_len 0 n)
+
 abbrev pub stakers : List Happened → List ℕ
-stakers past = filter (λ account. nat_lt 0 (changes_of account past)) (range_with_len 0 ACCOUNTS)
+stakers past = stakers_below ACCOUNTS past
+
+abbrev pub line_of : List (List ℕ) → List ℕ
+line_of words = join_with_byte 32 words ++ 10 ∷ []
 
 abbrev pub row_words : StakeRow → List (List ℕ)
 row_words row = map decimal (row.account ∷ row.stake ∷ row.coll ∷ row.lusd ∷ row.allow ∷ [])
@@ -21,15 +27,15 @@ row_words row = map decimal (row.account ∷ row.stake ∷ row.coll ∷ row.lusd
 abbrev pub unshared_words : List Happened → List (List ℕ)
 unshared_words past = codes "unshared" ∷ map decimal (unshared_of of_coll past ∷ unshared_of of_lusd past ∷ [])
 
-abbrev pub line_of : List (List ℕ) → List ℕ
-line_of words = join_with_byte 32 words ++ 10 ∷ []
+abbrev pub row_line : List Happened → ℕ → List ℕ
+row_line past account = line_of (row_words (row_of account past))
+
+abbrev pub reply_lines : List (List ℕ) → List ℕ
+reply_lines replies = flat_map (λ reply. reply ++ 10 ∷ []) replies
 
 -- what is told at the end, once the fees of all records are shared
 abbrev pub told : List (List ℕ) → List Happened → List ℕ
-told replies past =
-    flat_map (λ reply. reply ++ 10 ∷ []) replies
-    ++ flat_map (λ account. line_of (row_words (row_of account past))) (stakers past)
-    ++ line_of (unshared_words past)
+told replies past = reply_lines replies ++ flat_map (row_line past) (stakers past) ++ line_of (unshared_words past)
 
 abbrev pub told_of : List Fees → Asked → List ℕ
 told_of fees a = told a.replies (shared_up_to fees a.past a.least (length fees))

@@ -1,4 +1,11 @@
-//! What stakers ask beside a journal's commands, and are answered, as a text. Definitions; no code runs yet.
+//! What stakers ask beside a journal's commands, and are answered, as a text.
 #![tactic(auto)]
 
+mod answering;
 pub mod examples;
+mod journal;
+pub mod laws;
+mod paid;
+mod told;
+
+pub use journal::staked;

@@ -1,0 +1,121 @@
+//! Commands, made again one after the other.
+
+ghost use Rattle.std.specs.Prelude.{◌≡◌, All, [], false, Err, IfOk};
+ghost use Rattle.liq_types.specs.declared.requests.Command.{Command};
+ghost use Rattle.liq_types.specs.Image.{IsLimit};
+ghost use Rattle.liq_types.specs.State.{State, opening_with};
+ghost use Rattle.liq_core.specs.Core.{StandsFor};
+ghost use Rattle.liq_journal.specs.declared.damage.Damage.{Damage};
+ghost use Rattle.liq_journal.specs.Written.{is_rotate};
+ghost use Rattle.liq_pairs.specs.Replay.{replay};
+ghost use Rattle.liq_retold.specs.Retold.{HasCome, IsRetold};
+ghost use Rattle.liq_retold.specs.Making.{PlansNext, MakesNext};
+
+use crate::fault::ReplayFault;
+use crate::onlooker::Onlooker;
+use liq_core::{PlanFault, Planned, Protocol, Turn, unhinted};
+use liq_guide::Guide;
+use liq_journal::{Damage, What};
+use liq_pairs::code_of;
+use liq_types::{Command, Hint, Steps};
+use std::alloc::Global;
+use std::marker::Brand;
+use std::sync::ledger::{Blank, Ledger};
+
+/// Makes the commands, one after the other, on a protocol of their own that begins with the opening under this limit, and gives
+/// the protocol after them. The onlooker notes each. [`ReplayFault::Damaged`] comes exactly where the replay does not accept a
+/// command, where there is memory.
+pub fn retold<O: Onlooker>(
+    alloc: Global,
+    limit: u64,
+    commands: &[Command],
+    onlooker: &mut O,
+) -> Result<Protocol, ReplayFault>
+    requires limit { IsLimit limit }
+    // The commands of one generation hold no rotation.
+    requires no_rotation { All (λ (c : Command). is_rotate c.call ≡ false) commands.now }
+    requires fresh { O.notes onlooker.old ≡ [] }
+    ensures done { IfOk result (λ protocol. IsRetold O.adds limit commands.now protocol (O.notes onlooker.new)) }
+    ensures damaged { (damage : Damage) → result ≡ Err (ReplayFault.Damaged damage) → replay 1 (opening_with limit) commands.now ≡ Err damage }
+{
+    retold_on::<O, Brand>(alloc, limit, commands, onlooker, Blank::new(1))
+}
+
+/// The same, on a ledger of its own.
+fn retold_on<O: Onlooker, L: Ledger>(
+    alloc: Global,
+    limit: u64,
+    commands: &[Command],
+    onlooker: &mut O,
+    blank: Blank,
+) -> Result<Protocol, ReplayFault>
+    requires limit { IsLimit limit }
+    requires no_rotation { All (λ (c : Command). is_rotate c.call ≡ false) commands.now }
+    requires fresh { O.notes onlooker.old ≡ [] }
+    requires name { blank.name ≡ L.name }
+    requires parts { blank.parts ≡ L.parts }
+    requires one { L.parts ≡ 1 }
+    ensures done { IfOk result (λ protocol. IsRetold O.adds limit commands.now protocol (O.notes onlooker.new)) }
+    ensures damaged { (damage : Damage) → result ≡ Err (ReplayFault.Damaged damage) → replay 1 (opening_with limit) commands.now ≡ Err damage }
+{
+    let mut steps = Steps::<L>::new(blank);
+    let mut protocol = Protocol::with_limit(alloc, limit);
+    let mut guide = Guide::new(alloc);
+    for (i, command) in commands.iter().enumerate() {
+        // Its own hint words change nothing.
+        let command = unhinted(command);
+        make(
+            &mut protocol,
+            &mut guide,
+            onlooker,
+            &command,
+            i as u64 + 1,
+            &mut steps,
+        )?;
+    }
+    Ok(protocol)
+}
+
+/// Makes a command, which has this number among the commands. The guide's hint saves steps and changes nothing.
+fn make<O: Onlooker, L: Ledger>(
+    protocol: &mut Protocol,
+    guide: &mut Guide,
+    onlooker: &mut O,
+    command: &Command,
+    index: u64,
+    steps: &mut Steps<L>,
+) -> Result<(), ReplayFault>
+    requires { HasCome O.adds protocol.old (O.notes onlooker.old) }
+    ensures { (s : State) → StandsFor protocol.old s
+        → MakesNext O.adds s command.now index protocol.new (O.notes onlooker.old) (O.notes onlooker.new) result }
+{
+    let planned = plan(protocol, command, index)?;
+    onlooker.see(protocol, &planned)?;
+    protocol.reserve(&planned)?;
+    guide.follow(planned.list_changes())?;
+    let hint = guide.hint(planned.list_changes()).unwrap_or(Hint::NONE);
+    protocol.apply(planned, &hint, steps);
+    Ok(())
+}
+
+/// Plans a command, which must be new and allowed.
+fn plan(protocol: &Protocol, command: &Command, index: u64) -> Result<Planned, ReplayFault>
+    ensures { (s : State) → StandsFor protocol.now s → PlansNext s command.now index result }
+{
+    match protocol.plan(command) {
+        Ok(Turn::New(planned)) => Ok(planned),
+        Ok(Turn::Again(_)) => Err(damaged(index, 0)),
+        Err(PlanFault::No(refusal)) => Err(damaged(index, code_of(&refusal))),
+        Err(PlanFault::NoMemory) => Err(ReplayFault::NoMemory),
+    }
+}
+
+/// The command of this number is not accepted, for this reason.
+fn damaged(index: u64, code: u8) -> ReplayFault
+    ensures { result ≡ ReplayFault.Damaged (record { index = index; what = What.Replay code }) }
+{
+    ReplayFault::Damaged(Damage {
+        index,
+        what: What::Replay { code },
+    })
+}
