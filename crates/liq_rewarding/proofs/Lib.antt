@@ -1,0 +1,4 @@
+pub mod Minutes
+pub mod Following
+pub mod Lines
+pub mod Finding

@@ -1,0 +1,4 @@
+pub mod Tagged
+pub mod Happened
+pub mod Rewarded
+pub mod Telling
