@@ -1,5 +1,5 @@
 -- The lists of events that the tests make, each one event longer than the one before, and that they are lawful.
-use Rattle.std.proofs.Common.{ℕ, List, [], ◌∷◌, refl, arith}
+use Rattle.std.proofs.Common.{List, [], ◌∷◌, refl, arith}
 use Rattle.liq_types.specs.declared.events.PoolEvent.TheVariants.{Own, Offset}
 use Rattle.liq_types.specs.Product.{least_from}
 use Rattle.liq_types.specs.State.{opening}

@@ -1,4 +1,4 @@
-use Rattle.std.proofs.Common.{[], ◌∷◌}
+use Rattle.std.proofs.Common.{[]}
 use Rattle.liq_rewards.specs.Kept.{IsKeptOf}
 use Rattle.test_rewards.proofs.Lists.{taken_1, taken_2, taken_may_1, taken_may_2, taken_may_3}
 use Rattle.test_rewards.proofs.tests.a_deposit_is_taken_out.Goals as goal

@@ -1,4 +1,4 @@
-use Rattle.std.proofs.Common.{[], ◌∷◌}
+use Rattle.std.proofs.Common.{[]}
 use Rattle.liq_rewards.specs.Kept.{IsKeptOf}
 use Rattle.test_rewards.proofs.Lists.{ended_1, ended_2, ended_may_1, ended_may_2, ended_may_3}
 use Rattle.test_rewards.proofs.tests.an_epoch_ends.Goals as goal

@@ -1,4 +1,4 @@
-use Rattle.std.proofs.Common.{[], ◌∷◌}
+use Rattle.std.proofs.Common.{[]}
 use Rattle.liq_rewards.specs.Kept.{IsKeptOf}
 use Rattle.test_rewards.proofs.Lists.{least_1, least_may_1, least_may_2}
 use Rattle.test_rewards.proofs.tests.the_least_total.Goals as goal

@@ -1,4 +1,4 @@
-use Rattle.std.proofs.Common.{[], ◌∷◌}
+use Rattle.std.proofs.Common.{[]}
 use Rattle.liq_rewards.specs.Kept.{IsKeptOf}
 use Rattle.test_rewards.proofs.Lists.{risen_1, risen_2, risen_3, risen_4, risen_may_1, risen_may_2, risen_may_3, risen_may_4, risen_may_5}
 use Rattle.test_rewards.proofs.tests.the_scale_rises.Goals as goal

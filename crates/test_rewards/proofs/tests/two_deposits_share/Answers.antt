@@ -1,4 +1,4 @@
-use Rattle.std.proofs.Common.{[], ◌∷◌}
+use Rattle.std.proofs.Common.{[]}
 use Rattle.liq_rewards.specs.Kept.{IsKeptOf}
 use Rattle.test_rewards.proofs.Lists.{shared_1, shared_2, shared_may_1, shared_may_2, shared_may_3}
 use Rattle.test_rewards.proofs.tests.two_deposits_share.Goals as goal
