@@ -28,7 +28,7 @@ pub fn make_two(alloc: Global, disk: FileDisk) -> bool {
     created.made && first.made && second.made
 }
 
-/// How many bytes a disk reads, where they are the first of these: else none.
+// How many bytes a disk reads, where they are the first of these: else none.
 fn reads<D: Disk>(disk: &mut D, expected: &[u8]) -> u64 {
     let mut bytes = [0; 400];
     match disk.read_at(0, &mut bytes) {
