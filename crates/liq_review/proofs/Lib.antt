@@ -1,6 +1,5 @@
 pub mod Gains
 pub mod Lines
-pub mod Replays
 pub mod Residual
 pub mod Rows
 pub mod Runs

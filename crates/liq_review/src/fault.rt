@@ -1,8 +1,11 @@
 //! Why there is no review.
 
 ghost use Rattle.std.specs.Prelude.{◌≡◌};
+ghost use Rattle.liq_review.specs.Reviewed.{stopped};
 
 use liq_audit::AuditFault;
+use liq_journal::{Damage, What};
+use liq_retold::ReplayFault;
 use liq_types::NoMemory;
 
 /// Why a list of commands has no review.
@@ -38,5 +41,32 @@ impl From<AuditFault> for ReviewFault {
             },
             AuditFault::NoMemory => ReviewFault::NoMemory,
         }
+    }
+}
+
+impl From<ReplayFault> for ReviewFault {
+    ghost use Rattle.liq_review.specs.Replaying.{fault_of_replay};
+
+    ghost from_gives = { λ replay fault. fault ≡ fault_of_replay replay };
+
+    fn from(fault: ReplayFault) -> ReviewFault {
+        match fault {
+            ReplayFault::Damaged(damage) => refused(&damage),
+            ReplayFault::NoMemory => ReviewFault::NoMemory,
+        }
+    }
+}
+
+/// The command that a replay does not accept, and why.
+fn refused(damage: &Damage) -> ReviewFault
+    ensures { result ≡ stopped damage.now }
+{
+    let code = match damage.what {
+        What::Replay { code } => code,
+        _ => 0,
+    };
+    ReviewFault::Refused {
+        index: damage.index,
+        code,
     }
 }

@@ -1,18 +1,16 @@
 //! The replay of a list of commands, and what they do to the Stability Pool.
 
-ghost use Rattle.std.specs.Prelude.{◌≡◌, ◌<◌, ◌^◌, ◌++◌, IfOk, IfErr, OnOk};
+ghost use Rattle.std.specs.Prelude.{◌≡◌, ◌++◌, All, false, IfOk, IfErr, OnOk};
+ghost use Rattle.liq_types.specs.declared.requests.Command.{Command};
 ghost use Rattle.liq_types.specs.Image.{IsLimit};
-ghost use Rattle.liq_types.specs.State.{State};
-ghost use Rattle.liq_core.specs.Core.{StandsFor};
-ghost use Rattle.liq_review.specs.Replaying.{PlansNext, MakesNext, IsReplayed, StopsWithin};
+ghost use Rattle.liq_journal.specs.Written.{is_rotate};
+ghost use Rattle.liq_review.specs.Replaying.{IsReplayed, StopsWithin};
 
 use crate::fault::ReviewFault;
-use liq_core::{PlanFault, Planned, Protocol, Turn, unhinted};
-use liq_guide::Guide;
-use liq_pairs::code_of;
-use liq_types::{Command, Hint, NoMemory, PoolEvent, Steps};
+use liq_core::{Planned, Protocol};
+use liq_retold::{Onlooker, retold};
+use liq_types::{Command, NoMemory, PoolEvent};
 use std::alloc::Global;
-use std::sync::ledger::{Blank, Ledger};
 
 /// A protocol after commands from an opening on, and what they did to the Stability Pool.
 #[derive(Drop)]
@@ -21,57 +19,39 @@ pub(crate) struct Made {
     pub(crate) events: Vec<PoolEvent>,
 }
 
-/// Makes the commands' steps, one after the other, from the opening under this limit on, on a ledger of its own.
-pub(crate) fn replayed<L: Ledger>(
-    alloc: Global,
-    limit: u64,
-    commands: &[Command],
-    blank: Blank,
-) -> Result<Made, ReviewFault>
+/// Makes the commands again, one after the other, from the opening under this limit on.
+pub(crate) fn replayed(alloc: Global, limit: u64, commands: &[Command]) -> Result<Made, ReviewFault>
     requires limit { IsLimit limit }
-    requires name { blank.name ≡ L.name }
-    requires parts { blank.parts ≡ L.parts }
-    requires one { L.parts ≡ 1 }
+    requires no_rotation { All (λ (c : Command). is_rotate c.call ≡ false) commands.now }
     ensures done { IfOk result (λ r. IsReplayed limit commands.now r.protocol r.events.items) }
     ensures fault { IfErr result (StopsWithin limit commands.now) }
 {
-    let mut steps = Steps::<L>::new(blank);
-    let mut protocol = Protocol::with_limit(alloc, limit);
-    let mut guide = Guide::new(alloc);
-    let mut events = Vec::new(alloc);
-    for (i, command) in commands.iter().enumerate() {
-        // Its own hint words change nothing.
-        let command = unhinted(command);
-        make(
-            &mut protocol,
-            &mut guide,
-            &mut events,
-            &command,
-            i as u64 + 1,
-            &mut steps,
-        )?;
-    }
-    Ok(Made { protocol, events })
+    let mut seen = Seen {
+        events: Vec::new(alloc),
+    };
+    let protocol = retold(alloc, limit, commands, &mut seen)?;
+    Ok(Made {
+        protocol,
+        events: seen.events,
+    })
 }
 
-/// Makes a command's step, which has this number among the commands. The guide's hint saves steps and changes nothing.
-fn make<L: Ledger>(
-    protocol: &mut Protocol,
-    guide: &mut Guide,
-    events: &mut Vec<PoolEvent>,
-    command: &Command,
-    index: u64,
-    steps: &mut Steps<L>,
-) -> Result<(), ReviewFault>
-    ensures { (s : State) → StandsFor protocol.old s → MakesNext s command.now index protocol.new events.old.items events.new.items result }
-{
-    let planned = plan(protocol, command, index)?;
-    append(events, planned.events())?;
-    protocol.reserve(&planned)?;
-    guide.follow(planned.list_changes())?;
-    let hint = guide.hint(planned.list_changes()).unwrap_or(Hint::NONE);
-    protocol.apply(planned, &hint, steps);
-    Ok(())
+/// What was seen to happen to the Stability Pool.
+#[derive(Drop)]
+struct Seen {
+    events: Vec<PoolEvent>,
+}
+
+impl Onlooker for Seen {
+    type Note = PoolEvent;
+
+    ghost notes = { λ seen. seen.events.items };
+
+    ghost adds = { λ minute done events. events };
+
+    fn see(&mut self, _before: &Protocol, planned: &Planned) -> Result<(), NoMemory> {
+        append(&mut self.events, planned.events())
+    }
 }
 
 /// Puts further events behind the others.
@@ -79,19 +59,4 @@ fn append(events: &mut Vec<PoolEvent>, more: &[PoolEvent]) -> Result<(), NoMemor
     ensures { OnOk result (events.new.items ≡ events.old.items ++ more.now) }
 {
     Ok(events.extend_from_slice(more)?)
-}
-
-/// Plans a command, which must be new and allowed.
-fn plan(protocol: &Protocol, command: &Command, index: u64) -> Result<Planned, ReviewFault>
-    ensures { (s : State) → StandsFor protocol.now s → PlansNext s command.now index result }
-{
-    match protocol.plan(command) {
-        Ok(Turn::New(planned)) => Ok(planned),
-        Ok(Turn::Again(_)) => Err(ReviewFault::Refused { index, code: 0 }),
-        Err(PlanFault::No(refusal)) => {
-            let code = code_of(&refusal);
-            Err(ReviewFault::Refused { index, code })
-        }
-        Err(PlanFault::NoMemory) => Err(ReviewFault::NoMemory),
-    }
 }

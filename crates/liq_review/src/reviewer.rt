@@ -26,8 +26,6 @@ use liq_audit::{Row, audit};
 use liq_core::Protocol;
 use liq_types::{Command, PoolEvent};
 use std::alloc::Global;
-use std::marker::Brand;
-use std::sync::ledger::Blank;
 
 /// The review of a journal's commands, as a text: for each account with an own operation, ascending, a line
 /// `ACCOUNT BLO BHI BALANCE BALLOW GLO GHI GAIN GALLOW`, and at last a line `within N of M`. The commands are replayed from the
@@ -50,7 +48,7 @@ pub fn review(alloc: Global, limit: u64, commands: &[Command]) -> Result<Vec<u8>
     ensures within { OnOk result ((s : State) → replay 1 (opening_with limit) commands.now ≡ Ok s →
         let rows = rows_of s (events (opening_with limit) commands.now) in count_by is_within rows ≡ length rows) }
 {
-    let made = replayed::<Brand>(alloc, limit, commands, Blank::new(1))?;
+    let made = replayed(alloc, limit, commands)?;
     limit_gains(&made.events)?;
     let rows = audited(alloc, &made.protocol, &made.events)?;
     Ok(shown(alloc, &rows)?)

@@ -9,7 +9,7 @@ use Rattle.liq_lines.specs.Writing.{Writes, WritesPart}
 use Rattle.liq_lines.proofs.Bytes.{writes_nothing, writes_more}
 use Rattle.liq_lines.proofs.Parts.{part_first, part_second}
 use Rattle.liq_scripts.specs.Sending.{Sends}
-use Rattle.liq_scripts.proofs.Residual.{handed_on}
+use Rattle.liq_gathered.proofs.Residual.{handed_on}
 
 pub sends_nothing : (w : List ℕ) (before : Option (List ℕ)) → Sends (Ok tt) w [] w before before
 sends_nothing w before = ([], writes_nothing before, append-nil w)

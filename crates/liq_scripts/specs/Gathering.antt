@@ -1,25 +1,19 @@
 -- Where reading ends, and which scripts it gives.
-use Rattle.std.specs.Prelude.{ℕ, ◌≡◌, ◌≤◌, List, [], length, Option, Some, Result, Ok, Err, IfOk, Vec}
-use Rattle.std.specs.List.{AllZip}
+use Rattle.std.specs.Prelude.{ℕ, ◌≡◌, ◌≤◌, List, length, Option, Some, Result, IfOk, Vec}
 use Rattle.std.specs.Global.{Global}
 use Rattle.liq_types.specs.declared.amounts.TheConstants.{LINES_MOST}
 use Rattle.liq_types.specs.declared.requests.Request.{Request}
-use Rattle.liq_outside.specs.Faults.{Rose}
 use Rattle.liq_lines.specs.declared.stops.Stop.{Stop}
-use Rattle.liq_lines.specs.declared.stops.Stop.TheVariants.{ReadFault}
-use Rattle.liq_lines.specs.Lines.{lines_in}
-use Rattle.liq_lines.specs.Saying.{StopsAfter}
+use Rattle.liq_gathered.specs.Gathering as lines
+pub use Rattle.liq_gathered.specs.Gathering.{ReadCause}
 use Rattle.liq_sessions.specs.declared.script.Script.{Script}
 use Rattle.liq_scripts.specs.Asked.{Asks}
 use Rattle.liq_scripts.specs.BySession.{scripts_of}
 
--- how reading the bytes ended after the lines that ask this
+-- how reading the bytes ended after the lines that ask this: they are all, and the source is at its end, or it stopped
 abbrev pub EndsAfter :
     {T : Type 0} → Result T Stop → List ℕ → Option (List ℕ) → List (ℕ × Request) → Type 0
--- they are all, and the source is at its end
-EndsAfter (Ok done) bytes left asked = AllZip Asks (lines_in bytes) asked × (left ≡ Some [])
--- it stopped
-EndsAfter (Err stop) bytes left asked = StopsAfter Asks stop bytes left asked
+EndsAfter end bytes left asked = lines.EndsAfter Asks end bytes left asked
 
 -- What was asked is in the scripts, in order. It is what the lines asked, where the source told its bytes.
 pub record Gathers (result : Result (Vec Script Global) Stop) (before left : Option (List ℕ)) : Type 0 where
@@ -27,8 +21,3 @@ pub record Gathers (result : Result (Vec Script Global) Stop) (before left : Opt
   pub few : length asked ≤ LINES_MOST
   pub scripts : IfOk result (λ scripts. scripts.items ≡ scripts_of asked)
   pub read : (bytes : List ℕ) → before ≡ Some bytes → EndsAfter result bytes left asked
-
--- The source's count of faults: it rose where reading stopped at a fault, and else it stays.
-abbrev pub ReadCause : {T : Type 0} → Result T Stop → ℕ → ℕ → Type 0
-ReadCause (Err ReadFault) before after = (before ≤ after) × Rose before after
-ReadCause _ before after = after ≡ before

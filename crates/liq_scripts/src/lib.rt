@@ -9,6 +9,6 @@ mod output;
 mod scripts;
 
 pub use input::read_scripts;
-pub use liq_lines::Stop;
+pub use liq_gathered::Stop;
 pub use outbox::Outbox;
 pub use output::{Shown, write_served};

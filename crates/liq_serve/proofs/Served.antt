@@ -165,17 +165,17 @@ is_found (Err (a, b)) P good bad = absurd (bad a b refl)
 -- ---- what was read
 
 -- of a word whose reading stopped
-read_so : (why_not : Stop) (bytes : List ℕ) (left : Option (List ℕ)) (asked : List (ℕ × Request)) → StopsAfter Asks why_not bytes left asked → ReadsTo Asks bytes left asked (Err (halt_at why_not))
-read_so (stop.BadLine number) bytes left asked h = h
-read_so stop.ReadFault bytes left asked h = h
-read_so stop.NoMemory bytes left asked h = h
-read_so stop.Limit bytes left asked h = (refl, h)
+pub read_so : {X : Type 0} (Says : List ℕ → X → Type 0) (why_not : Stop) (bytes : List ℕ) (left : Option (List ℕ)) (said : List X) → StopsAfter Says why_not bytes left said → ReadsTo Says bytes left said (Err (halt_at why_not))
+read_so Says (stop.BadLine number) bytes left said h = h
+read_so Says stop.ReadFault bytes left said h = h
+read_so Says stop.NoMemory bytes left said h = h
+read_so Says stop.Limit bytes left said h = (refl, h)
 
 -- so it ends
 abbrev pub IsStopping : Result (Unit {0}) Halt → Type 0
 IsStopping end = (n : ℕ) × Contains (Err (BadLine n) ∷ Err ReadFault ∷ Err NoMemory ∷ Err (Limit LINES_MOST) ∷ []) end
 
-stopping : (why_not : Stop) → IsStopping (Err (halt_at why_not))
+pub stopping : (why_not : Stop) → IsStopping (Err (halt_at why_not))
 stopping (stop.BadLine number) = (number, (0, lit< tt, refl))
 stopping stop.ReadFault = (0, (1, lit< tt, refl))
 stopping stop.NoMemory = (0, (2, lit< tt, refl))
@@ -253,7 +253,7 @@ module _
   came_by (finish.NotRead why_not) a same =
       record {
         reading = Err (halt_at why_not);
-        read = λ bytes told. read_so why_not bytes (unread after.source) asked (a.read bytes told);
+        read = λ bytes told. read_so Asks why_not bytes (unread after.source) asked (a.read bytes told);
         so = inl (refl, a.answers, (same why_not refl).0, (same why_not refl).1, stopping why_not);
       }
   came_by (finish.NotOpened why.DiskFault) a same =

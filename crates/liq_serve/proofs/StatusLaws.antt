@@ -32,6 +32,7 @@ status_known (Err (Rotated generation)) = (9, lit< tt, refl)
 pub no_memory_known : (read : Word) → Contains (statuses_of read) 7
 no_memory_known word.Run = (6, lit< tt, refl)
 no_memory_known word.Serve = (6, lit< tt, refl)
+no_memory_known word.Staking = (6, lit< tt, refl)
 no_memory_known word.State = (4, lit< tt, refl)
 no_memory_known word.Report = (4, lit< tt, refl)
 no_memory_known word.Audit = (4, lit< tt, refl)
@@ -48,6 +49,18 @@ goes_on_known (Err (Damaged side number)) on = (5, lit< tt, six side number)
 goes_on_known (Err NoMemory) on = (6, lit< tt, refl)
 goes_on_known (Err (Limit number)) on = (7, lit< tt, refl)
 goes_on_known (Err (Rotated generation)) on = absurd (on generation refl)
+
+-- a word that may end in each way
+pub staking_known : (end : Result (Unit {0}) Halt) → Contains (statuses_of word.Staking) (status_of end)
+staking_known (Ok done) = (0, lit< tt, refl)
+staking_known (Err (BadLine n)) = (1, lit< tt, refl)
+staking_known (Err ReadFault) = (2, lit< tt, refl)
+staking_known (Err WriteFault) = (3, lit< tt, refl)
+staking_known (Err DiskFault) = (4, lit< tt, refl)
+staking_known (Err (Damaged side number)) = (5, lit< tt, six side number)
+staking_known (Err NoMemory) = (6, lit< tt, refl)
+staking_known (Err (Limit number)) = (7, lit< tt, refl)
+staking_known (Err (Rotated generation)) = (8, lit< tt, refl)
 
 -- a word that reads no line, and tells of the disks
 pub audit_known : (end : Result (Unit {0}) Halt) → end ≢ Err ReadFault → ((number : ℕ) → end ≢ Err (BadLine number)) → Contains (statuses_of word.Audit) (status_of end)

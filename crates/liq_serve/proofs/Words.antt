@@ -31,6 +31,7 @@ use Rattle.liq_ends.proofs.Passing.{untouched_past}
 use Rattle.liq_ends.proofs.Shares.{all_shares}
 use Rattle.liq_store.specs.Causes.{counts_of}
 use Rattle.liq_serve.specs.Outside.{Outside}
+use Rattle.liq_serve.specs.Staking.{StakesTo}
 use Rattle.liq_serve.specs.Top.{Ends, Leaves, OpensFirst, ServesTo, Tells, statuses_of}
 use Rattle.liq_serve.proofs.Served.{by_found, if_found, same_disks}
 use Rattle.liq_serve.proofs.StatusLaws.{no_memory_known, status_known}
@@ -102,7 +103,7 @@ module _
       }
 
   -- the last line of a word over damaged disks
-  last_told : (side : Side) (damage : Damage) (halt : Halt) → EndsDamaged seen side damage (Err halt) after.left after.right
+  pub last_told : (side : Side) (damage : Damage) (halt : Halt) → EndsDamaged seen side damage (Err halt) after.left after.right
       → Adds [] (last halt) (Rose (sink_faults before.sink) (sink_faults after.sink)) (held before.sink) (held after.sink)
       → Tells unread source_faults held sink_faults seen disk_faults moment left_at before after [] [] (Err halt)
   last_told side damage (BadLine n) ends told = absurd ends
@@ -188,6 +189,16 @@ module _
         past = λ l r told_l told_r. if_found (state_on l r) _ (λ start is. untouched_past seen moment left_at stays before.left before.right l r start _ refl told_l told_r);
       }
 
+  stakes_nothing : Writes (last NoMemory) → StakesTo unread held sink_faults seen moment left_at before after (Err NoMemory)
+  stakes_nothing written =
+      record {
+        asked = [];
+        few = omega arith;
+        reading = Err NoMemory;
+        read = λ bytes told. (lines_in bytes, ([], tt, refl));
+        came = inl (refl, (refl, refl, written, (0, (2, lit< tt, refl))));
+      }
+
   -- the disks are as they were
   still : (side : Side) (damage : Damage) (l r : List ℕ) → seen before.left ≡ Some l → seen before.right ≡ Some r → state_on l r ≡ Err (side, damage)
       → EndsDamaged seen side damage (Err NoMemory) before.left before.right
@@ -211,6 +222,7 @@ module _
       })
       (λ side damage is. (refl, still side damage l r told_l told_r is, written))
   nothing_done written word.Serve = serves_nothing written
+  nothing_done written word.Staking = stakes_nothing written
   nothing_done written word.State = (
     refl,
     λ l r told_l told_r. by_found (state_on l r) _ _

@@ -41,6 +41,7 @@ use Rattle.liq_tell.specs.Report.{reported}
 use Rattle.liq_tell.specs.State.{standing}
 use Rattle.liq_load.specs.Load.{load, summary}
 use Rattle.liq_serve.specs.Outside.{Outside}
+use Rattle.liq_serve.specs.Staking.{StakesTo}
 
 -- the first requests of the session are answered in the history, in order, and these are left
 abbrev pub AreLeft : List (ℕ × Request) → List Entry → ℕ → List Request → Type 0
@@ -51,6 +52,7 @@ AreLeft asked history session left = map (λ (a : ℕ × Request). a.1) (filter 
 abbrev pub statuses_of : Word → List ℕ
 statuses_of word.Run = 0 ∷ 2 ∷ 3 ∷ 4 ∷ 5 ∷ 6 ∷ 7 ∷ 8 ∷ []
 statuses_of word.Serve = 0 ∷ 2 ∷ 3 ∷ 4 ∷ 5 ∷ 6 ∷ 7 ∷ 8 ∷ []
+statuses_of word.Staking = 0 ∷ 2 ∷ 3 ∷ 4 ∷ 5 ∷ 6 ∷ 7 ∷ 8 ∷ 9 ∷ []
 statuses_of word.State = 0 ∷ 4 ∷ 5 ∷ 6 ∷ 7 ∷ []
 statuses_of word.Report = 0 ∷ 4 ∷ 5 ∷ 6 ∷ 7 ∷ []
 statuses_of word.Audit = 0 ∷ 4 ∷ 5 ∷ 6 ∷ 7 ∷ 8 ∷ 9 ∷ []
@@ -179,6 +181,8 @@ module _
       OpensFirst end (λ l r start. (bytes : List ℕ) → unread before.source ≡ Some bytes → RunsTo end l r start bytes)
   -- each session's lines are answered in order, all sessions' at once, along one history
   Leaves word.Serve end = ServesTo end
+  -- stakers are answered beside the commands that lead to the state, and the disks stay so
+  Leaves word.Staking end = StakesTo unread held sink_faults seen moment left_at before after end
   -- nothing is read; it is told what stands, and the disks stay so
   Leaves word.State end =
       (after.source ≡ before.source) × OpensFirst end (λ l r start. Contains (0 ∷ 4 ∷ 5 ∷ 7 ∷ []) (status_of end)

@@ -3,6 +3,7 @@
 
 pub mod laws;
 mod serve;
+mod staking;
 mod top;
 
 pub use liq_sessions::OpenGate;

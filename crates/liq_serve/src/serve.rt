@@ -67,7 +67,7 @@ fn end_of(finish: Finish) -> Result<(), Halt>
 }
 
 /// Why the program stops whose input was not read to its end.
-fn halt_at(stop: Stop) -> Halt
+pub(crate) fn halt_at(stop: Stop) -> Halt
     ensures { result ≡ halt_at stop }
 {
     match stop {

@@ -13,6 +13,7 @@ ghost use Rattle.liq_ends.specs.Stops.{Adds};
 ghost use Rattle.liq_serve.specs.Top.{Ends};
 
 use crate::serve::serve_on;
+use crate::staking::stake_on;
 use liq_ends::{Ending, Halt, status, write_last, write_usage};
 use liq_load::tell_load;
 use liq_outside::{Disk, Sink, Source};
@@ -75,20 +76,23 @@ fn is_serve(read: &Result<Word, WordsFault>) -> bool
 ///
 /// - 0: all is done and written;
 /// - 1: the words are not understood; nothing was read;
-/// - 2: a line is no request;
+/// - 2: a line is no request, or, for `staking`, none on which a staker asks;
 /// - 3: the source met a fault;
-/// - 4: the sink met a fault at a reply, or at what a load, `state`, `report` or `audit` tells;
+/// - 4: the sink met a fault at a reply, or at what a load, `state`, `report`, `audit` or `staking` tells;
 /// - 5: a disk met a fault;
 /// - 6: a disk is damaged;
 /// - 7: there was no memory;
 /// - 8: there are more than 1,000,000 lines, or a limit of the audit is passed;
-/// - 9: the journal was rotated, so that there is no audit.
+/// - 9: the journal was rotated, so that there is no audit, and stakers have no answer.
 ///
 /// For `run` each line of the input is a request, and its reply is written once its call has answered; what is accepted is on
 /// the disks by then. For `gen` a seed's calls are carried out on a protocol of their own, and a line tells where they lead;
 /// nothing is read, and the disks stay. For `state` what stands on the disks is told, for `report` each trove and deposit as it
 /// stands, and for `audit` what each depositor has beside its exact share, if the journal is of the first generation; nothing is
 /// read.
+///
+/// For `staking` the whole input is read first, each line a staker's; then stakers are answered beside the commands on the disks, if
+/// the journal is of the first generation. The disks stay.
 ///
 /// At a status other than 0 and 4 a last line says so behind what was written.
 pub fn without_threads<S: Source, K: Sink, D: Disk>(
@@ -163,6 +167,7 @@ fn carry_out<S: Source, K: Sink, D: Disk>(
     match word {
         Word::Run => run_on(alloc, input, out, left, right),
         Word::Serve => unreachable!(),
+        Word::Staking => stake_on(alloc, input, out, left, right),
         Word::State => tell_on(alloc, Told::State, out, left, right),
         Word::Audit => tell_on(alloc, Told::Audit, out, left, right),
         Word::Report => tell_on(alloc, Told::Report, out, left, right),

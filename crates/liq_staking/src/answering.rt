@@ -74,9 +74,10 @@ impl Answering {
     fn change(&mut self, line: &StakeLine) -> Result<(), NoMemory>
         requires few { ∥ ((past : List Happened) × IsKeptOf self.old.fees past
             × (changes_in past < CHANGES_MOST)) ∥₁ }
-        ensures { OnOk result ((a : Asked) → IsAsked self.old a → changes_in a.past < CHANGES_MOST →
+        ensures asked { OnOk result ((a : Asked) → IsAsked self.old a → changes_in a.past < CHANGES_MOST →
             IsAsked self.new (changed (record a { least = line.now.at }) line.now (refusal_of line.now.account
             line.now.amount line.now.out (staked_of a.past) (stake_of line.now.account a.past)))) }
+        ensures least { self.new.least ≡ line.now.at }
     {
         self.least = line.at;
         match self.fees.change(line.account, line.amount, line.out) {

@@ -1,5 +1,6 @@
 pub mod Audited
 mod DamagedTold
 mod Generations
+pub mod StakeLines
 mod Standing
 mod TextsTold

@@ -1,8 +1,11 @@
-//! The words `state`, `report` and `audit`: what stands on two disks, and what their commands give each depositor, told.
+//! The words `state`, `report`, `audit` and `staking`: what stands on two disks, what their commands give each depositor, and what
+//! stakers have of their fees, told.
 #![tactic(auto)]
 
 mod audit;
+mod journal;
 mod report;
+mod staking;
 mod state;
 mod telling;
 

@@ -1,6 +1,6 @@
-//! The words `state`, `report` and `audit`: a text of what is on two disks, told.
+//! The words `state`, `report`, `audit` and `staking`: a text of what is on two disks, told.
 
-ghost use Rattle.std.specs.Prelude.{◌≡◌, ◌≢◌, ◌≤◌, [], List, ℕ, Some, None, Ok, Err};
+ghost use Rattle.std.specs.Prelude.{◌≡◌, ◌≢◌, ◌≤◌, ◌⊎◌, [], List, ℕ, Some, None, Ok, Err};
 ghost use Rattle.liq_outside.specs.Disk.{GoesOn};
 ghost use Rattle.liq_outside.specs.Faults.{Rose};
 ghost use Rattle.liq_types.specs.State.{State, opening_with};
@@ -18,19 +18,21 @@ ghost use Rattle.liq_ends.specs.Causes.{DiskCause, LastCause, WriteCause};
 ghost use Rattle.liq_ends.specs.Disks.{DisksStay, EndsDamaged, IsFaultOfTelling, LeavesOfRun};
 ghost use Rattle.liq_ends.specs.Output.{last};
 ghost use Rattle.liq_ends.specs.Stops.{Adds};
-ghost use Rattle.liq_tell.specs.Told.{EndsTelling, WritesTold};
+ghost use Rattle.liq_tell.specs.Told.{EndsTelling, HasFewLines, WritesTold};
 
 use crate::audit::write_audit;
 use crate::report::write_report;
+use crate::staking::write_staking;
 use crate::state::write_standing;
 use liq_ends::{Ending, Halt, tell_last, unopened};
+use liq_fees::StakeLine;
 use liq_outside::{Disk, Sink};
 use liq_pairs::laws::{commands_lead_to_the_state, journals_keep_their_limit};
 use liq_store::Store;
 use std::alloc::Global;
 
 /// Which text is told.
-#[derive(Clone, Copy)]
+#[derive(Drop)]
 pub enum Told {
     /// What stands on the disks: the replies to `system` and `pools`, the words of the Stability Pool, and the journal's
     /// generation with its records.
@@ -40,6 +42,9 @@ pub enum Told {
     /// What the protocol gives each depositor beside its exact share, once the disks' commands are replayed from the
     /// opening. It is told of the first generation alone.
     Audit,
+    /// What stakers with these lines are answered, once the disks' commands are replayed from the opening. It is told of the first
+    /// generation alone.
+    Staking(Vec<StakeLine>),
 }
 
 /// Tells a text of two disks, and writes the last line where that stops. All of the text is made before it is written.
@@ -50,6 +55,7 @@ pub fn tell_on<K: Sink, D: Disk>(
     left: D,
     right: D,
 ) -> Ending<D>
+    requires { HasFewLines what }
     // Of the state for which the disks stand, and of the commands that lead to it, the text is told. They stand for it
     // then.
     ensures told { (l r : List ℕ) → D.seen left ≡ Some l → D.seen right ≡ Some r
@@ -69,9 +75,10 @@ pub fn tell_on<K: Sink, D: Disk>(
         × EndsDamaged D.seen side damage (Err halt) result.left result.right
         × Adds [] (last halt) (Rose (K.faults out.old) (K.faults out.new)) (K.held out.old) (K.held out.new) }
     ensures no_source { result.end ≢ Err Halt.ReadFault }
-    // It ends for no line of the input, and only an audit ends for a limit or the journal's generation.
+    // It ends for no line of the input, and what stands is told whatever the limits and the journal's generation are.
     ensures no_line { (number : ℕ) → result.end ≢ Err (Halt.BadLine number) }
-    ensures no_limit { what ≢ Told.Audit → (number : ℕ) → (result.end ≢ Err (Halt.Limit number)) × (result.end ≢ Err (Halt.Rotated number)) }
+    ensures no_limit { (what ≡ Told.State) ⊎ (what ≡ Told.Report)
+        → (number : ℕ) → (result.end ≢ Err (Halt.Limit number)) × (result.end ≢ Err (Halt.Rotated number)) }
     ensures sink { LastCause result.end (K.faults out.old) (K.faults out.new) }
     ensures disks { DiskCause result.end (counts_of D.faults left right) (counts_of D.faults result.left result.right) }
     ensures left_time { GoesOn D.moment D.left_at left result.left }
@@ -84,6 +91,7 @@ pub fn tell_on<K: Sink, D: Disk>(
 
 /// Tells a text of two disks.
 fn tell<K: Sink, D: Disk>(alloc: Global, what: Told, out: &mut K, left: D, right: D) -> Ending<D>
+    requires { HasFewLines what }
     ensures told { (l r : List ℕ) → D.seen left ≡ Some l → D.seen right ≡ Some r
         → (start : State) → state_on l r ≡ Ok start
         → WritesTold what start (commands_on l r) result.end (K.held out.old) (K.held out.new)
@@ -96,9 +104,10 @@ fn tell<K: Sink, D: Disk>(alloc: Global, what: Told, out: &mut K, left: D, right
         → (side : Side) (damage : Damage) → state_on l r ≡ Err (side, damage)
         → (out.new ≡ out.old) × EndsDamaged D.seen side damage result.end result.left result.right }
     ensures no_source { result.end ≢ Err Halt.ReadFault }
-    // It ends for no line of the input, and only an audit ends for a limit or the journal's generation.
+    // It ends for no line of the input, and what stands is told whatever the limits and the journal's generation are.
     ensures no_line { (number : ℕ) → result.end ≢ Err (Halt.BadLine number) }
-    ensures no_limit { what ≢ Told.Audit → (number : ℕ) → (result.end ≢ Err (Halt.Limit number)) × (result.end ≢ Err (Halt.Rotated number)) }
+    ensures no_limit { (what ≡ Told.State) ⊎ (what ≡ Told.Report)
+        → (number : ℕ) → (result.end ≢ Err (Halt.Limit number)) × (result.end ≢ Err (Halt.Rotated number)) }
     ensures sink { WriteCause result.end (K.faults out.old) (K.faults out.new) }
     ensures disks { DiskCause result.end (counts_of D.faults left right) (counts_of D.faults result.left result.right) }
     ensures left_time { GoesOn D.moment D.left_at left result.left }
@@ -110,7 +119,7 @@ fn tell<K: Sink, D: Disk>(alloc: Global, what: Told, out: &mut K, left: D, right
         Ok(store) => store,
         Err(fault) => return unopened(fault),
     };
-    let end = write_told(alloc, what, &mut store, out);
+    let end = write_told(alloc, &what, &mut store, out);
     let (left, right) = store.close();
     Ending { end, left, right }
 }
@@ -118,19 +127,21 @@ fn tell<K: Sink, D: Disk>(alloc: Global, what: Told, out: &mut K, left: D, right
 /// Writes the text of a store.
 fn write_told<K: Sink, D: Disk>(
     alloc: Global,
-    what: Told,
+    what: &Told,
     store: &mut Store<D>,
     out: &mut K,
 ) -> Result<(), Halt>
     requires going { store.old.stopped ≡ None }
+    requires few { HasFewLines what.now }
     ensures written { (held : List ℕ) (w : Written) (s : State)
         → D.seen (taken_disk store.old) ≡ Some held → found_on (has_odd store.old.side) held ≡ Open w
         → StandsFor store.old.core s → 1 ≤ s.generation → (s.generation ≡ 1 → replay 1 (opening_with s.limit) w.commands ≡ Ok s)
-        → WritesTold what s w.commands result (K.held out.old) (K.held out.new) }
+        → WritesTold what.now s w.commands result (K.held out.old) (K.held out.new) }
     ensures no_source { result ≢ Err Halt.ReadFault }
-    // It ends for no line of the input, and only an audit ends for a limit or the journal's generation.
+    // It ends for no line of the input, and what stands is told whatever the limits and the journal's generation are.
     ensures no_line { (number : ℕ) → result ≢ Err (Halt.BadLine number) }
-    ensures no_limit { what ≢ Told.Audit → (number : ℕ) → (result ≢ Err (Halt.Limit number)) × (result ≢ Err (Halt.Rotated number)) }
+    ensures no_limit { (what.now ≡ Told.State) ⊎ (what.now ≡ Told.Report)
+        → (number : ℕ) → (result ≢ Err (Halt.Limit number)) × (result ≢ Err (Halt.Rotated number)) }
     ensures sink { WriteCause result (K.faults out.old) (K.faults out.new) }
     // The disks are only looked at.
     ensures left { Looked D.seen D.moment D.left_at store.old.left store.new.left }
@@ -142,5 +153,6 @@ fn write_told<K: Sink, D: Disk>(
         Told::State => write_standing(alloc, store.protocol(), out),
         Told::Report => write_report(alloc, store.protocol(), out),
         Told::Audit => write_audit(alloc, store, out),
+        Told::Staking(lines) => write_staking(alloc, store, lines, out),
     }
 }

@@ -9,19 +9,20 @@ use Rattle.std.proofs.lemmas.Bool.{ne_eqb}
 use Rattle.std.proofs.lemmas.Fmt.{decimal_is_IsNumeral}
 use Rattle.clap.specs.Words.{Text, first_of, subcommand_of, takes}
 use Rattle.liq_words.specs.declared.words.Word.{Word}
-use Rattle.liq_words.specs.declared.words.Word.TheVariants.{Run, Serve, State, Audit, Report, Gen}
+use Rattle.liq_words.specs.declared.words.Word.TheVariants.{Run, Serve, Staking, State, Audit, Report, Gen}
 use Rattle.liq_words.specs.declared.words.WordsFault.{WordsFault}
 use Rattle.liq_words.specs.declared.words.WordsFault.TheVariants.{Usage, NoMemory}
 use Rattle.liq_words.specs.Line.{line}
 use Rattle.liq_words.specs.Reading.{HasRead, IsInRange}
 use Rattle.liq_words.specs.Words.{Ask}
-use Rattle.liq_words.proofs.Taken.{run_is_taken, run_is_read, serve_is_taken, serve_is_read, state_is_taken, state_is_read, audit_is_taken, audit_is_read, report_is_taken, report_is_read, gen_is_taken, gen_is_read, seed_is_read, count_is_read}
+use Rattle.liq_words.proofs.Taken.{run_is_taken, run_is_read, serve_is_taken, serve_is_read, staking_is_taken, staking_is_read, state_is_taken, state_is_read, audit_is_taken, audit_is_read, report_is_taken, report_is_read, gen_is_taken, gen_is_read, seed_is_read, count_is_read}
 
 -- ---- what words are that ask for something
 
 abbrev words_of : Word → List Text
 words_of Run = codes "run" ∷ []
 words_of Serve = codes "serve" ∷ []
+words_of Staking = codes "staking" ∷ []
 words_of State = codes "state" ∷ []
 words_of Audit = codes "audit" ∷ []
 words_of Report = codes "report" ∷ []
@@ -30,6 +31,7 @@ words_of (Gen seed count) = codes "gen" ∷ decimal seed ∷ decimal count ∷ [
 words_are : (words : List Text) (word : Word) → Ask words word → words ≡ words_of word
 words_are words Run h = h
 words_are words Serve h = h
+words_are words Staking h = h
 words_are words State h = h
 words_are words Audit h = h
 words_are words Report h = h
@@ -63,6 +65,7 @@ number_begins n small = begins (decimal n) (decimal_is_IsNumeral n small).0
 word_taken : (word : Word) → IsInRange word → takes line (words_of word) ≡ true
 word_taken Run h = run_is_taken
 word_taken Serve h = serve_is_taken
+word_taken Staking h = staking_is_taken
 word_taken State h = state_is_taken
 word_taken Audit h = audit_is_taken
 word_taken Report h = report_is_taken
@@ -94,6 +97,7 @@ are_read seed count s c =
 word_read : (word : Word) → IsInRange word → HasRead (subcommand_of line (words_of word)) word
 word_read Run h = run_is_read
 word_read Serve h = serve_is_read
+word_read Staking h = staking_is_read
 word_read State h = state_is_read
 word_read Audit h = audit_is_read
 word_read Report h = report_is_read
@@ -124,6 +128,7 @@ abbrev alone_of : Text → Word
 alone_of name =
     if bytes_eq name (codes "run") then Run
     else if bytes_eq name (codes "serve") then Serve
+    else if bytes_eq name (codes "staking") then Staking
     else if bytes_eq name (codes "state") then State
     else if bytes_eq name (codes "audit") then Audit
     else Report

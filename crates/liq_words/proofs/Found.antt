@@ -5,7 +5,7 @@ use Rattle.clap.specs.declared.parser.matches.Found.{Found}
 use Rattle.clap.specs.Words.{Text, Row, first_of, first_value, rows_of}
 use Rattle.clap.proofs.WalkLemmas.{first_value-rows}
 use Rattle.liq_words.specs.declared.words.Word.{Word}
-use Rattle.liq_words.specs.declared.words.Word.TheVariants.{Run, Serve, State, Audit, Report, Gen}
+use Rattle.liq_words.specs.declared.words.Word.TheVariants.{Run, Serve, Staking, State, Audit, Report, Gen}
 use Rattle.liq_words.specs.Reading.{HasRead, IsInRange}
 use Rattle.liq_words.specs.Words.{Ask}
 
@@ -31,6 +31,7 @@ no_gen name other found apart is name_is read = apart (sym (ap (λ o. get_or (un
 pub values_found : (name : Text) (f : Found) (found : Option (Text × List Row)) (word : Word) → name ≡ codes "gen" → Some name ≡ option_map (λ p. p.0) found → Some (rows_of f) ≡ option_map (λ p. p.1) found → IsInRange word → HasRead found word → Values f word
 values_found name f found Run is name_is rows_are within read = absurd (no_gen name (codes "run") found (λ e. omega (arith, e)) is name_is read)
 values_found name f found Serve is name_is rows_are within read = absurd (no_gen name (codes "serve") found (λ e. omega (arith, e)) is name_is read)
+values_found name f found Staking is name_is rows_are within read = absurd (no_gen name (codes "staking") found (λ e. omega (arith, e)) is name_is read)
 values_found name f found State is name_is rows_are within read = absurd (no_gen name (codes "state") found (λ e. omega (arith, e)) is name_is read)
 values_found name f found Audit is name_is rows_are within read = absurd (no_gen name (codes "audit") found (λ e. omega (arith, e)) is name_is read)
 values_found name f found Report is name_is rows_are within read = absurd (no_gen name (codes "report") found (λ e. omega (arith, e)) is name_is read)
@@ -53,6 +54,7 @@ asks f word v seed count seed_is count_is =
 pub stands_alone : (name : Text) (found : Option (Text × List Row)) (word : Word) → (name ≡ codes "gen" → ⊥) → Some name ≡ option_map (λ p. p.0) found → HasRead found word → Ask (name ∷ []) word
 stands_alone name found Run apart name_is read = ap (λ o. unwrap_or o [] ∷ []) (name_is ∙ read)
 stands_alone name found Serve apart name_is read = ap (λ o. unwrap_or o [] ∷ []) (name_is ∙ read)
+stands_alone name found Staking apart name_is read = ap (λ o. unwrap_or o [] ∷ []) (name_is ∙ read)
 stands_alone name found State apart name_is read = ap (λ o. unwrap_or o [] ∷ []) (name_is ∙ read)
 stands_alone name found Audit apart name_is read = ap (λ o. unwrap_or o [] ∷ []) (name_is ∙ read)
 stands_alone name found Report apart name_is read = ap (λ o. unwrap_or o [] ∷ []) (name_is ∙ read)

@@ -31,6 +31,14 @@ pub serve_is_read : option_map (λ p. p.0) (subcommand_of line (codes "serve" �
 unfolding clap_on_literals
 serve_is_read = refl
 
+pub staking_is_taken : takes line (codes "staking" ∷ []) ≡ true
+unfolding clap_on_literals
+staking_is_taken = refl
+
+pub staking_is_read : option_map (λ p. p.0) (subcommand_of line (codes "staking" ∷ [])) ≡ Some (codes "staking")
+unfolding clap_on_literals
+staking_is_read = refl
+
 pub audit_is_taken : takes line (codes "audit" ∷ []) ≡ true
 unfolding clap_on_literals
 audit_is_taken = refl

@@ -25,6 +25,10 @@ base =
 abbrev pub line : App
 line =
     let alone : Text → App → App = λ name app. with_subcommand app (new_app name).top in
-    let words =
-    alone (codes "report") (alone (codes "audit") (alone (codes "state") (alone (codes "serve") (alone (codes "run") base)))) in
+    let words = alone (codes "run") base in
+    let words = alone (codes "serve") words in
+    let words = alone (codes "staking") words in
+    let words = alone (codes "state") words in
+    let words = alone (codes "audit") words in
+    let words = alone (codes "report") words in
     with_subcommand words load.top

@@ -20,6 +20,7 @@ pub fn line<'a>(alloc: Global) -> Result<Command<'a>, AllocError>
         .subcommand_required(true);
     let line = with_alone(alloc, base, "run")?;
     let line = with_alone(alloc, line, "serve")?;
+    let line = with_alone(alloc, line, "staking")?;
     let line = with_alone(alloc, line, "state")?;
     let line = with_alone(alloc, line, "audit")?;
     let line = with_alone(alloc, line, "report")?;

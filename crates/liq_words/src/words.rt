@@ -23,6 +23,8 @@ pub enum Word {
     Run,
     /// Answer the scripts of the input, each in a session of its own.
     Serve,
+    /// Answer the stakers of the input, who share the fees of the commands on the disks.
+    Staking,
     /// Tell what stands.
     State,
     /// Tell what each depositor has beside its exact share.
@@ -62,7 +64,18 @@ pub fn takes_disks(words: &[String]) -> bool
     ensures asks { IsTrue result → (word : Word) × Ask (map string_bytes words.now) word × UsesDisks word }
     ensures all { (word : Word) → Ask (map string_bytes words.now) word → UsesDisks word → IsTrue result }
 {
-    matches!(words, [word] if alone(word).is_some())
+    matches!(words, [word] if uses_disks(word))
+}
+
+/// Whether the name is that of a word that stands alone and uses the disks.
+fn uses_disks(name: &str) -> bool
+    ensures asks { IsTrue result → (word : Word) × Ask (name.now ∷ []) word × UsesDisks word }
+    ensures all { (word : Word) → Ask (name.now ∷ []) word → UsesDisks word → IsTrue result }
+{
+    match alone(name) {
+        Some(_) => true,
+        None => false,
+    }
 }
 
 /// Whether the words ask for something.
@@ -95,6 +108,7 @@ fn alone(name: &str) -> Option<Word>
     match name {
         "run" => Some(Word::Run),
         "serve" => Some(Word::Serve),
+        "staking" => Some(Word::Staking),
         "state" => Some(Word::State),
         "audit" => Some(Word::Audit),
         "report" => Some(Word::Report),

@@ -1,4 +1,4 @@
-use Rattle.std.proofs.Common.{refl, subst}
+use Rattle.std.proofs.Common.{refl, subst, inl, inr}
 use Rattle.liq_words.specs.declared.words.Word.{Word}
 use Rattle.liq_words.specs.declared.words.Word.TheVariants as word
 use Rattle.liq_words.specs.Reading.{IsInRange}
@@ -8,7 +8,7 @@ use Rattle.liq_serve.proofs.Words.{IsRead, opens_first, telling_ends, word_ends}
 use Rattle.liq_serve.proofs.top.carry_out.Goals as goal
 use Rattle.liq_lines.proofs.Readings.{takes_none}
 use Rattle.liq_outside.proofs.Moments.{unmoved}
-use Rattle.liq_serve.proofs.StatusLaws.{audit_known, goes_on_known, state_known}
+use Rattle.liq_serve.proofs.StatusLaws.{audit_known, goes_on_known, staking_known, state_known}
 use Rattle.liq_serve.proofs.Telling.{disks_unasked, source_unasked}
 
 pub returns-in-Run : goal.returns-in-Run
@@ -31,6 +31,24 @@ returns-in-Run g c words asks only =
     })
     ran.ensures.few
 
+pub returns-in-Staking : goal.returns-in-Staking
+returns-in-Staking g c words asks only =
+    let ran = c.stake_on in
+    let before : Outside g.row.S.Denot g.row.K.Denot g.row.D.Denot = record { source = c.args.input.now; sink = c.args.out.now; left = c.args.left; right = c.args.right } in
+    let after : Outside g.row.S.Denot g.row.K.Denot g.row.D.Denot = record { source = ran.new.input; sink = ran.new.out; left = ran.result.left; right = ran.result.right } in
+    let read = subst (λ (w : Word). IsRead words w) c.in-Staking.is (record { asks = asks; only = only }) in
+    word_ends g.S.Source.left g.S.Source.faults g.K.Sink.held g.K.Sink.faults g.D.Disk.seen g.D.Disk.faults g.D.Disk.moment g.D.Disk.left_at before after words word.Staking ran.result.end read
+    ran.ensures.staked
+    (record {
+      source = ran.ensures.source;
+      sink = ran.ensures.sink;
+      disks = ran.ensures.disks;
+      status = staking_known ran.result.end;
+      left_time = ran.ensures.left_time;
+      right_time = ran.ensures.right_time;
+    })
+    ran.ensures.takes
+
 pub returns-in-State : goal.returns-in-State
 returns-in-State g c words asks only =
     let ran = c.tell_on in
@@ -39,7 +57,7 @@ returns-in-State g c words asks only =
     let read = subst (λ (w : Word). IsRead words w) c.in-State.is (record { asks = asks; only = only }) in
     telling_ends g.S.Source.left g.S.Source.faults g.K.Sink.held g.K.Sink.faults g.D.Disk.seen g.D.Disk.faults g.D.Disk.moment g.D.Disk.left_at before after words word.State ran.result.end _ read
     (λ leaves. leaves) refl (λ l r told_l told_r start is. let so = ran.ensures.told l r told_l told_r start is in (so.0.0, so.0.1, so.1, ran.ensures.past l r told_l told_r start is)) ran.ensures.damaged
-    (state_known ran.result.end ran.ensures.no_source ran.ensures.no_line (ran.ensures.no_limit (λ e. cc))) ran.ensures.no_source ran.ensures.sink ran.ensures.disks ran.ensures.left_time ran.ensures.right_time
+    (state_known ran.result.end ran.ensures.no_source ran.ensures.no_line (ran.ensures.no_limit (inl refl))) ran.ensures.no_source ran.ensures.sink ran.ensures.disks ran.ensures.left_time ran.ensures.right_time
 
 pub returns-in-Report : goal.returns-in-Report
 returns-in-Report g c words asks only =
@@ -49,7 +67,7 @@ returns-in-Report g c words asks only =
     let read = subst (λ (w : Word). IsRead words w) c.in-Report.is (record { asks = asks; only = only }) in
     telling_ends g.S.Source.left g.S.Source.faults g.K.Sink.held g.K.Sink.faults g.D.Disk.seen g.D.Disk.faults g.D.Disk.moment g.D.Disk.left_at before after words word.Report ran.result.end _ read
     (λ leaves. leaves) refl (λ l r told_l told_r start is. let so = ran.ensures.told l r told_l told_r start is in (so.0.0, so.0.1, so.1, ran.ensures.past l r told_l told_r start is)) ran.ensures.damaged
-    (state_known ran.result.end ran.ensures.no_source ran.ensures.no_line (ran.ensures.no_limit (λ e. cc))) ran.ensures.no_source ran.ensures.sink ran.ensures.disks ran.ensures.left_time ran.ensures.right_time
+    (state_known ran.result.end ran.ensures.no_source ran.ensures.no_line (ran.ensures.no_limit (inr refl))) ran.ensures.no_source ran.ensures.sink ran.ensures.disks ran.ensures.left_time ran.ensures.right_time
 
 pub returns-in-Audit : goal.returns-in-Audit
 returns-in-Audit g c words asks only =

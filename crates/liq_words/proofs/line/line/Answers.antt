@@ -16,7 +16,8 @@ returns c =
     let base_is : app_of c.subcommand_required-base.result ≡ base = search rules in
     let one = c.in_ok-line.ensures ∙ ap (λ (a : App). with_subcommand a (new_app (codes "run")).top) base_is in
     let two = c.in_ok-line-2.ensures ∙ ap (λ (a : App). with_subcommand a (new_app (codes "serve")).top) one in
-    let three = c.in_ok-line-3.ensures ∙ ap (λ (a : App). with_subcommand a (new_app (codes "state")).top) two in
-    let four = c.in_ok-line-4.ensures ∙ ap (λ (a : App). with_subcommand a (new_app (codes "audit")).top) three in
-    let five = c.in_ok-line-5.ensures ∙ ap (λ (a : App). with_subcommand a (new_app (codes "report")).top) four in
-    added c.subcommand.result c.in_ok-line-5.line c.in_ok-load.field-0 _ load c.subcommand.ensures c.in_ok-load.ensures.local five c.in_ok-load.ensures.app
+    let three = c.in_ok-line-3.ensures ∙ ap (λ (a : App). with_subcommand a (new_app (codes "staking")).top) two in
+    let four = c.in_ok-line-4.ensures ∙ ap (λ (a : App). with_subcommand a (new_app (codes "state")).top) three in
+    let five = c.in_ok-line-5.ensures ∙ ap (λ (a : App). with_subcommand a (new_app (codes "audit")).top) four in
+    let six = c.in_ok-line-6.ensures ∙ ap (λ (a : App). with_subcommand a (new_app (codes "report")).top) five in
+    added c.subcommand.result c.in_ok-line-6.line c.in_ok-load.field-0 _ load c.subcommand.ensures c.in_ok-load.ensures.local six c.in_ok-load.ensures.app

@@ -40,4 +40,4 @@ returns c =
       text = h.text;
     })
     (subst (λ n. n < CHANGES_MOST) (sym (same_count c.args.fees.now c.args.self.now a c.args.line.now h)) few)))
-    c.change.ensures
+    c.change.ensures.asked

@@ -2,7 +2,7 @@ use Rattle.std.proofs.Common.{ℕ, subst, sym}
 use Rattle.liq_types.specs.Image.{IsLimit}
 use Rattle.liq_core.specs.Core.{state_of}
 use Rattle.liq_soundness.proofs.SoundTests.{sound_facts}
-use Rattle.liq_tell.proofs.audit.limit_of.Goals as goal
+use Rattle.liq_tell.proofs.journal.limit_of.Goals as goal
 
 pub returns-clause-one_of_two : goal.returns-clause-one_of_two
 returns-clause-one_of_two c =

@@ -1,0 +1,97 @@
+//! All commands of a store's journal.
+
+ghost use Rattle.std.specs.Prelude.{◌≡◌, ◌≢◌, ◌≤◌, ◌⊎◌, All, List, ℕ, Some, None, Ok, Err, IfOk, IfErr, IsSome, false};
+ghost use Rattle.liq_types.specs.declared.requests.Command.{Command};
+ghost use Rattle.liq_types.specs.Image.{IsLimit};
+ghost use Rattle.liq_types.specs.State.{State, opening_with};
+ghost use Rattle.liq_core.specs.Core.{StandsFor};
+ghost use Rattle.liq_journal.specs.Looked.{Looked};
+ghost use Rattle.liq_journal.specs.Written.{Open, Written, found_on, is_rotate};
+ghost use Rattle.liq_pairs.specs.declared.side.Side.{Side};
+ghost use Rattle.liq_pairs.specs.Replay.{replay};
+ghost use Rattle.liq_pairs.specs.Sides.{has_odd};
+ghost use Rattle.liq_store.specs.Causes.{counts_of};
+ghost use Rattle.liq_store.specs.Stored.{taken_disk};
+ghost use Rattle.liq_ends.specs.Causes.{DiskCause};
+ghost use Rattle.liq_tell.specs.Whole.{FindsWhole};
+
+use liq_core::Protocol;
+use liq_core::laws::protocols_are_sound_states;
+use liq_ends::Halt;
+use liq_outside::Disk;
+use liq_store::{AcceptedFault, Side, Store};
+use liq_types::Command;
+
+/// All commands since the opening under a limit, as they stand on the disk of a side.
+#[derive(Drop)]
+pub(crate) struct Whole {
+    pub(crate) limit: u64,
+    pub(crate) side: Side,
+    pub(crate) commands: Vec<Command>,
+}
+
+/// All commands of a store since the opening. A generation above the first has not kept those before its checkpoint: there
+/// it stops.
+pub(crate) fn whole_journal<D: Disk>(store: &mut Store<D>) -> Result<Whole, Halt>
+    requires going { store.old.stopped ≡ None }
+    ensures found { (held : List ℕ) (w : Written) (s : State)
+        → D.seen (taken_disk store.old) ≡ Some held → found_on (has_odd store.old.side) held ≡ Open w
+        → StandsFor store.old.core s → 1 ≤ s.generation → (s.generation ≡ 1 → replay 1 (opening_with s.limit) w.commands ≡ Ok s)
+        → FindsWhole s w.commands result }
+    ensures limit { IfOk result (λ whole. IsLimit whole.limit) }
+    ensures no_rotation { IfOk result (λ whole. All (λ (c : Command). is_rotate c.call ≡ false) whole.commands.items) }
+    ensures no_source { result ≢ Err Halt.ReadFault }
+    ensures no_line { (number : ℕ) → result ≢ Err (Halt.BadLine number) }
+    ensures no_sink { result ≢ Err Halt.WriteFault }
+    // The disks are only looked at.
+    ensures left { Looked D.seen D.moment D.left_at store.old.left store.new.left }
+    ensures right { Looked D.seen D.moment D.left_at store.old.right store.new.right }
+    ensures disks { DiskCause result (counts_of D.faults store.old.left store.old.right) (counts_of D.faults store.new.left store.new.right) }
+{
+    let generation = store.protocol().generation();
+    if generation > 1 {
+        return Err(Halt::Rotated(generation));
+    }
+    let limit = limit_of(store.protocol());
+    let side = store.side();
+    let commands = kept_commands(store, side)?;
+    Ok(Whole {
+        limit,
+        side,
+        commands,
+    })
+}
+
+/// The limit of a protocol's state, which is one of two.
+fn limit_of(protocol: &Protocol) -> u64
+    ensures known { result ≡ protocol.now.image.limit }
+    ensures one_of_two { IsLimit result }
+{
+    protocols_are_sound_states(protocol);
+    protocol.limit()
+}
+
+/// The commands that a store keeps, on the disk of this side.
+fn kept_commands<D: Disk>(store: &mut Store<D>, side: Side) -> Result<Vec<Command>, Halt>
+    requires going { store.old.stopped ≡ None }
+    ensures commands { (held : List ℕ) (w : Written) → D.seen (taken_disk store.old) ≡ Some held → found_on (has_odd store.old.side) held ≡ Open w
+        → IfOk result (λ commands. commands.items ≡ w.commands) }
+    ensures no_rotation { IfOk result (λ commands. All (λ (c : Command). is_rotate c.call ≡ false) commands.items) }
+    // Where the disk tells its bytes no record is unreadable.
+    ensures fault { IsSome (D.seen (taken_disk store.old)) → IfErr result (λ halt. (halt ≡ Halt.NoMemory) ⊎ (halt ≡ Halt.DiskFault)) }
+    // A record that is none is told as damage of the disk of this side, at its number.
+    ensures damaged { (which : Side) (number : ℕ) → result ≡ Err (Halt.Damaged which number) → (which ≡ side) × (1 ≤ number) × (number ≤ store.old.core.records) }
+    ensures no_source { result ≢ Err Halt.ReadFault }
+    ensures no_line { (number : ℕ) → result ≢ Err (Halt.BadLine number) }
+    ensures no_sink { result ≢ Err Halt.WriteFault }
+    ensures left { Looked D.seen D.moment D.left_at store.old.left store.new.left }
+    ensures right { Looked D.seen D.moment D.left_at store.old.right store.new.right }
+    ensures disks { DiskCause result (counts_of D.faults store.old.left store.old.right) (counts_of D.faults store.new.left store.new.right) }
+{
+    match store.accepted() {
+        Ok(commands) => Ok(commands),
+        Err(AcceptedFault::DiskFault) => Err(Halt::DiskFault),
+        Err(AcceptedFault::Damaged(damage)) => Err(Halt::Damaged(side, damage.index)),
+        Err(AcceptedFault::NoMemory) => Err(Halt::NoMemory),
+    }
+}
