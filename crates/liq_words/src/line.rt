@@ -3,7 +3,7 @@
 ghost use Rattle.std.specs.Prelude.{◌≡◌, IfOk, false};
 ghost use Rattle.clap.specs.Words.{app_of, new_app, with_subcommand};
 ghost use Rattle.clap.specs.declared.builder.command.Command.TheViews.{out-Command};
-ghost use Rattle.liq_words.specs.Line.{line, load};
+ghost use Rattle.liq_words.specs.Line.{base, line, load};
 
 use clap::{Arg, Command};
 use std::alloc::{AllocError, Global};
@@ -13,18 +13,25 @@ use std::alloc::{AllocError, Global};
 pub fn line<'a>(alloc: Global) -> Result<Command<'a>, AllocError>
     ensures { IfOk result (λ command. app_of command ≡ line) }
 {
-    let base = Command::new(alloc, "liq")
-        .no_binary_name(true)
-        .disable_help_flag(true)
-        .disable_help_subcommand(true)
-        .subcommand_required(true);
-    let line = with_alone(alloc, base, "run")?;
+    let line = with_alone(alloc, base(alloc), "run")?;
     let line = with_alone(alloc, line, "serve")?;
     let line = with_alone(alloc, line, "staking")?;
+    let line = with_alone(alloc, line, "rewards")?;
     let line = with_alone(alloc, line, "state")?;
     let line = with_alone(alloc, line, "audit")?;
     let line = with_alone(alloc, line, "report")?;
     line.subcommand(load(alloc)?)
+}
+
+/// The command without a word.
+fn base<'a>(alloc: Global) -> Command<'a>
+    ensures { app_of result ≡ base }
+{
+    Command::new(alloc, "liq")
+        .no_binary_name(true)
+        .disable_help_flag(true)
+        .disable_help_subcommand(true)
+        .subcommand_required(true)
 }
 
 /// One more word, which stands alone.
