@@ -28,11 +28,11 @@ AreGathered items said = items.items ≡ said
 -- ---- where reading stopped
 
 -- the counts
-pub stop_source : {T : Type 0} (why_not : Stop) (before after : ℕ) → lines.ReadCause {T = T} (Err why_not) before after → ReadCause {T = Unit {0}} (Err (halt_at why_not)) before after
-stop_source (stop.BadLine number) before after c = c
-stop_source stop.ReadFault before after c = c
-stop_source stop.NoMemory before after c = c
-stop_source stop.Limit before after c = c
+pub stop_source : (X : Type 0) (why_not : Stop) (before after : ℕ) → lines.ReadCause {T = Vec X Global} (Err why_not) before after → ReadCause {T = Unit {0}} (Err (halt_at why_not)) before after
+stop_source X (stop.BadLine number) before after c = c
+stop_source X stop.ReadFault before after c = c
+stop_source X stop.NoMemory before after c = c
+stop_source X stop.Limit before after c = c
 
 pub stop_sink : (why_not : Stop) (before after : ℕ) → LastCause (Err (halt_at why_not)) before after
 stop_sink (stop.BadLine number) before after = tt

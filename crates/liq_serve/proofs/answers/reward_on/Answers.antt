@@ -8,6 +8,7 @@ use Rattle.liq_ends.specs.Stops.{TellsBehind}
 use Rattle.liq_outside.specs.Faults.{Rose}
 use Rattle.liq_ends.proofs.Causes.{unread_causes}
 use Rattle.liq_serve.specs.Outside.{Outside}
+use Rattle.liq_rewards.specs.declared.lines.TagLine.{TagLine}
 use Rattle.liq_rewards.specs.Lines as tags
 use Rattle.liq_rewarding.specs.Rewarded.{rewarded_text}
 use Rattle.liq_serve.specs.Answered.{AnswersLines}
@@ -53,4 +54,4 @@ pub returns-in-Err-clause-source : goal.returns-in-Err-clause-source
 returns-in-Err-clause-source g c =
     let before = g.S.Source.faults c.args.input.now in
     let after = g.S.Source.faults c.gather.new.input in
-    subst (λ (e : Ending g.row.D.Denot). ReadCause e.end before after) (sym c.stopped.ensures.ending) (stop_source c.in-Err.stop before after c.in-Err.ensures.source)
+    subst (λ (e : Ending g.row.D.Denot). ReadCause e.end before after) (sym c.stopped.ensures.ending) (stop_source TagLine c.in-Err.stop before after c.in-Err.ensures.source)
