@@ -6,9 +6,10 @@ use std::alloc::{AllocError, Global};
 use std::test::Fail;
 
 /// A line of words, the word that they ask for, the seed and the count.
-const ASKED: [(&str, &str, u64, u64); 8] = [
+const ASKED: [(&str, &str, u64, u64); 9] = [
     ("run", "run", 0, 0),
     ("serve", "serve", 0, 0),
+    ("staking", "staking", 0, 0),
     ("state", "state", 0, 0),
     ("audit", "audit", 0, 0),
     ("report", "report", 0, 0),
@@ -77,6 +78,7 @@ fn named(read: Result<Word, WordsFault>) -> Asked {
     match read {
         Ok(Word::Run) => plain("run"),
         Ok(Word::Serve) => plain("serve"),
+        Ok(Word::Staking) => plain("staking"),
         Ok(Word::State) => plain("state"),
         Ok(Word::Audit) => plain("audit"),
         Ok(Word::Report) => plain("report"),
