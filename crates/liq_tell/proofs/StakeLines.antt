@@ -1,5 +1,5 @@
 -- How long a line is on which a staker asks.
-use Rattle.std.proofs.Common.{ℕ, ◌+◌, ◌^◌, ◌<◌, ◌≤◌, List, [], ◌∷◌, ◌++◌, Bool, true, false, length, ap, length-append, arith, lit≤, lit<}
+use Rattle.std.proofs.Common.{ℕ, ◌^◌, ◌<◌, ◌≤◌, List, ◌∷◌, ◌++◌, Bool, true, false, length, ap, length-append, arith, lit≤, lit<}
 use Rattle.std.specs.Prelude.{decimal}
 use Rattle.std.proofs.lemmas.Fmt.{length-decimal-le_wide}
 use Rattle.liq_types.specs.declared.amounts.TheConstants.{LINE_BYTES}

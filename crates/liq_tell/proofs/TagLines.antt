@@ -1,5 +1,5 @@
 -- How long a line is on which a depositor names a front end.
-use Rattle.std.proofs.Common.{ℕ, ◌+◌, ◌^◌, ◌<◌, ◌≤◌, List, [], ◌∷◌, ◌++◌, length, ap, length-append, arith}
+use Rattle.std.proofs.Common.{ℕ, ◌≤◌, List, ◌∷◌, ◌++◌, length, ap, length-append, arith}
 use Rattle.std.specs.Prelude.{decimal, codes}
 use Rattle.liq_types.specs.declared.amounts.TheConstants.{LINE_BYTES}
 use Rattle.liq_rewards.specs.declared.lines.TagLine.{TagLine}

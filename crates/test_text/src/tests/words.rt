@@ -6,10 +6,11 @@ use std::alloc::{AllocError, Global};
 use std::test::Fail;
 
 /// A line of words, the word that they ask for, the seed and the count.
-const ASKED: [(&str, &str, u64, u64); 9] = [
+const ASKED: [(&str, &str, u64, u64); 10] = [
     ("run", "run", 0, 0),
     ("serve", "serve", 0, 0),
     ("staking", "staking", 0, 0),
+    ("rewards", "rewards", 0, 0),
     ("state", "state", 0, 0),
     ("audit", "audit", 0, 0),
     ("report", "report", 0, 0),
@@ -79,6 +80,7 @@ fn named(read: Result<Word, WordsFault>) -> Asked {
         Ok(Word::Run) => plain("run"),
         Ok(Word::Serve) => plain("serve"),
         Ok(Word::Staking) => plain("staking"),
+        Ok(Word::Rewards) => plain("rewards"),
         Ok(Word::State) => plain("state"),
         Ok(Word::Audit) => plain("audit"),
         Ok(Word::Report) => plain("report"),

@@ -1,4 +1,4 @@
-use Rattle.std.proofs.Common.{◌≡◌, List, [], Err, Ok, Result, refl, sym, subst, ap, ◌∙◌, arith, length}
+use Rattle.std.proofs.Common.{[], Result, refl, sym, subst}
 use Rattle.liq_pairs.specs.Pair.{state_on}
 use Rattle.liq_ends.specs.declared.ending.Ending.{Ending}
 use Rattle.liq_ends.specs.declared.halts.Halt.{Halt}
