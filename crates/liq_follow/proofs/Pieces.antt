@@ -3,7 +3,7 @@ use Rattle.std.proofs.Common.{◌≡◌, inr, ℕ, ◌+◌, ◌≤◌, ◌<◌, 
 use Rattle.std.specs.Prelude.{option_map, IfSome}
 use Rattle.std.proofs.lemmas.List.{drop_more, take-append-drop, take_all}
 use Rattle.liq_lines.specs.Reading.{IsOver, Reads}
-use Rattle.liq_follower.specs.Fed.{AreDamagedAt, AreOver, AreTurnedTo, Completes, EndsWith, GoOn}
+use Rattle.liq_follower.specs.Fed.{AreOver, Completes, EndsWith, GoOn}
 use Rattle.liq_follower.specs.Following.{Followed, IsFed}
 use Rattle.liq_follower.specs.declared.answers.FedEnd.{FedEnd}
 use Rattle.liq_follower.specs.declared.answers.FedEnd.TheVariants as fed_end
