@@ -5,3 +5,4 @@ pub mod Stakers
 pub mod Lines
 pub mod Answered
 pub mod Limits
+pub mod Shares

@@ -29,7 +29,7 @@ shared_adds past fee = by (eqb (fee.0 + fee.1) 0) refl where
       record { coll = omega (arith, zero); lusd = omega (arith, zero); few = omega arith; changes = refl }
   by false is = record { coll = refl; lusd = refl; few = omega arith; changes = refl }
 
-staked_least : (past : List Happened) → AreStakedUpTo STAKED_MOST past → staked_of past ≤ STAKED_MOST
+pub staked_least : (past : List Happened) → AreStakedUpTo STAKED_MOST past → staked_of past ≤ STAKED_MOST
 staked_least [] h = omega arith
 staked_least (e ∷ past) h = h.0
 

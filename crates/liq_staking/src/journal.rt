@@ -36,7 +36,8 @@ pub fn staked(
     ensures text { IfOk result (λ text. text.items ≡ staked_text limit commands.now lines.now) }
     ensures damaged { (damage : Damage) → result ≡ Err (ReplayFault.Damaged damage)
         → replay 1 (opening_with limit) commands.now ≡ Err damage }
-    ensures whole { OnOk result ((damage : Damage) → replay 1 (opening_with limit) commands.now ≡ Err damage → ⊥) }
+    ensures whole { OnOk result ((damage : Damage)
+        → replay 1 (opening_with limit) commands.now ≡ Err damage → ⊥) }
 {
     let mut paid = Paid::new(alloc);
     retold(alloc, limit, commands, &mut paid)?;
