@@ -1,39 +1,38 @@
 -- What every account has earned along a lawful list, beside its exact share.
-use Rattle.std.proofs.Common.{◌≡◌, ℕ, ◌+◌, ◌-◌, ◌*◌, ◌^◌, ◌≤◌, ◌<◌, Bool, true, false, cond, eqb, leb, List, [], ◌∷◌, ◌++◌, refl, ap, sym, ◌∙◌, subst, arith, inl, inr, Some, None, Option, length}
-use Rattle.std.specs.Prelude.{fold, ◌==◌, ◌&&◌, not, nat_le}
+use Rattle.std.proofs.Common.{◌≡◌, ℕ, ◌+◌, ◌-◌, ◌*◌, ◌^◌, ◌≤◌, Bool, true, false, cond, List, [], ◌∷◌, refl, ap, sym, ◌∙◌, subst, arith, inr, Some, None, Option, length}
+use Rattle.std.specs.Prelude.{◌==◌, ◌&&◌, not, nat_le}
 use Rattle.std.proofs.Math.Nat.{mul-sub, mul-le-mul_right, le_of_mul-le-mul_right}
 use Rattle.std.proofs.lemmas.Bool.Decides.{nat_tests}
 use Rattle.std.proofs.lemmas.Grind.{div_ceil_times}
 use Rattle.std.proofs.lemmas.List.Sums.{fold-append}
-use Rattle.liq_num.specs.Quotient.{floor_of, ceiling_of}
+use Rattle.liq_num.specs.Quotient.{ceiling_of}
 use Rattle.liq_types.specs.declared.amounts.TheConstants.{P_LEAST, RISES_MOST}
 use Rattle.liq_types.specs.declared.events.PoolEvent.{PoolEvent}
 use Rattle.liq_types.specs.declared.events.PoolEvent.TheVariants as event
 use Rattle.liq_types.specs.Allowance.{balance_allowance, cost_of}
 use Rattle.liq_types.specs.PlainLedger.{Share, no_share, share_after, exact_share, is_own_of, own_events_of, gains_paid_to, den_of, offsets_coll}
-use Rattle.liq_types.specs.Product.{ScaledProduct, after_offset, place_of, is_place}
-use Rattle.liq_types.specs.State.{State, PoolMark, DepositEntry, After, opening}
+use Rattle.liq_types.specs.Product.{ScaledProduct, place_of, is_place}
+use Rattle.liq_types.specs.State.{State, DepositEntry, After, opening}
 use Rattle.liq_types.specs.Tables.{Place, at}
-use Rattle.liq_types.specs.Totals.{pool_total}
 use Rattle.liq_types.specs.WellFormed.{IsBefore}
 use Rattle.liq_types.proofs.Accounts.{above_with, under_with}
 use Rattle.liq_types.proofs.Places.{IsUpTo, up_to_before, before_not_place, list_reaches}
 use Rattle.liq_types.proofs.Watching.{Watch, no_watch, watch_after, watched}
-use Rattle.liq_stability.specs.Lawful.{IsLawfulUpTo, IsLawfulEvent}
-use Rattle.liq_stability.specs.Own.{after_event, after_events, owned, offset, with_deposit, amount_after}
+use Rattle.liq_stability.specs.Lawful.{IsLawfulUpTo}
+use Rattle.liq_stability.specs.Own.{after_event, owned, offset, amount_after}
 use Rattle.liq_stability.specs.Position.{balance_of, mark_of}
 use Rattle.liq_stability.specs.Words.{words_of}
-use Rattle.liq_stability.proofs.LawfulLists.{lawful_first, lawful_rest}
+use Rattle.liq_stability.proofs.LawfulLists.{lawful_first}
 use Rattle.liq_stability.proofs.Pool.{words-snoc, offset_now}
 use Rattle.liq_stability.proofs.Promise.{whole_with, balance_at_least}
 use Rattle.liq_stability.proofs.Standing.{StandsBy, bare_balance, deposit_other}
 use Rattle.liq_stability.proofs.Whole.{Whole, balance_bare}
-use Rattle.liq_rewards.specs.Timed.{Timed, events_of, state_of, total_of, words_at, place_at, due_at, is_shared_at}
+use Rattle.liq_rewards.specs.Timed.{Timed, events_of, state_of, total_of, place_at, due_at, is_shared_at}
 use Rattle.liq_rewards.specs.declared.issuance.TheConstants.{SHARED_LEAST}
-use Rattle.liq_rewards.specs.Earning.{rise_by, rise_at, sum_of, sum_at, mark_sum, reward_mark, sums_from, reading, earned_of, reward_at}
-use Rattle.liq_rewards.specs.Exact.{RewardShare, no_reward, with_units, with_event, with_due, share_of, share_at, withheld_by, withheld_of, withheld_at, amount_left, recorded, own_place, cost_by, costs_of, costs_at, allowance_at, IsWithinAllowance}
+use Rattle.liq_rewards.specs.Earning.{rise_by, sum_of, sum_at, mark_sum, reading, earned_of, reward_at}
+use Rattle.liq_rewards.specs.Exact.{RewardShare, with_units, with_event, share_of, share_at, withheld_of, withheld_at, amount_left, recorded, own_place, costs_of, costs_at, allowance_at, IsWithinAllowance}
 use Rattle.liq_rewards.proofs.Steps.{EarnsNothing}
-use Rattle.liq_rewards.proofs.Earning.{EarnsBy, earns_alike, IsScaled, shared_earns, offset_earns, read_of, reads_earned, moved, own_earns, other_earns}
+use Rattle.liq_rewards.proofs.Earning.{EarnsBy, earns_alike, IsScaled, shared_earns, offset_earns, read_of, reads_earned, own_earns, other_earns}
 
 -- ---- one event more
 

@@ -1,5 +1,5 @@
 -- All accounts together: what they have earned is at most what was shared, and with what was not it is all that was issued.
-use Rattle.std.proofs.Common.{◌≡◌, ℕ, ◌+◌, ◌-◌, ◌*◌, ◌^◌, ◌≤◌, ◌<◌, Bool, true, false, cond, List, [], ◌∷◌, ◌++◌, refl, ap, sym, ◌∙◌, subst, arith}
+use Rattle.std.proofs.Common.{◌≡◌, ℕ, ◌+◌, ◌*◌, ◌^◌, ◌≤◌, ◌<◌, Bool, true, false, cond, List, [], ◌∷◌, ◌++◌, refl, ap, ◌∙◌, subst, arith}
 use Rattle.std.proofs.Math.Nat.{mul-le-mul_right, le_of_mul-le-mul_right}
 use Rattle.std.proofs.lemmas.List.Sums.{fold-append}
 use Rattle.liq_types.specs.declared.amounts.TheConstants.{RISES_MOST}
@@ -13,11 +13,10 @@ use Rattle.liq_stability.specs.Lawful.{IsLawfulUpTo}
 use Rattle.liq_stability.proofs.LawfulLists.{lawful_first}
 use Rattle.liq_stability.proofs.Promise.{all_balances_are, one_den}
 use Rattle.liq_rewards.specs.Issued.{issued}
-use Rattle.liq_rewards.specs.Timed.{Timed, events_of, total_of, minute_of, AreInOrder, due_at, is_shared_at, shared_by, unshared_by, shared_of, shared_at, unshared_of, unshared_at}
+use Rattle.liq_rewards.specs.Timed.{Timed, events_of, total_of, minute_of, AreInOrder, due_at, is_shared_at, shared_of, shared_at, unshared_of, unshared_at}
 use Rattle.liq_rewards.specs.Earning.{reward_at}
-use Rattle.liq_rewards.specs.Exact.{RewardShare, with_units, with_event, share_of, share_at, allowance_at}
+use Rattle.liq_rewards.specs.Exact.{RewardShare, with_units, with_event, share_of, share_at}
 use Rattle.liq_rewards.proofs.Issuing.{issued-monotone}
-use Rattle.liq_rewards.proofs.Earning.{IsScaled}
 use Rattle.liq_rewards.proofs.Along.{times_of, times_by, scaled_at, scaled_of, enough, within_allowance}
 
 -- ---- units
@@ -26,7 +25,7 @@ units_by : (due : ℕ) (b : Bool) → cond b due 0 + cond b 0 due ≡ due
 units_by due true = omega arith
 units_by due false = omega arith
 
-up_to : (minute : ℕ) (past : List Timed) → AreInOrder minute past → minute_of past ≤ minute
+pub up_to : (minute : ℕ) (past : List Timed) → AreInOrder minute past → minute_of past ≤ minute
 up_to minute [] h = omega arith
 up_to minute (t ∷ past) h = h.0
 

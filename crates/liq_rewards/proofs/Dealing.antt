@@ -1,9 +1,9 @@
 -- What is kept of an account, once what is due is dealt with, and what is read of it.
-use Rattle.std.proofs.Common.{◌≡◌, ℕ, ◌+◌, ◌-◌, ◌*◌, ◌^◌, ◌≤◌, ◌<◌, Bool, true, false, cond, List, length, refl, ap, sym, ◌∙◌, subst, arith, Some, None, Option}
+use Rattle.std.proofs.Common.{◌≡◌, ℕ, ◌+◌, ◌-◌, ◌*◌, ◌^◌, ◌≤◌, Bool, true, false, cond, List, length, refl, ap, sym, ◌∙◌, arith, Some, None, Option}
 use Rattle.std.specs.Prelude.{◌==◌}
 use Rattle.std.proofs.lemmas.Bool.Decides.{nat_tests}
 use Rattle.liq_num.specs.Quotient.{floor_of, ceiling_of}
-use Rattle.liq_types.specs.declared.amounts.TheConstants.{LIM, P_LEAST}
+use Rattle.liq_types.specs.declared.amounts.TheConstants.{LIM}
 use Rattle.liq_types.specs.Allowance.{weight_of, balance_allowance, cost_of}
 use Rattle.liq_types.specs.PlainLedger.{own_events_of}
 use Rattle.liq_types.specs.Product.{is_place}
@@ -11,16 +11,15 @@ use Rattle.liq_types.specs.State.{PoolMark, DepositEntry, opening}
 use Rattle.liq_types.specs.Tables.{Place, at}
 use Rattle.liq_stability.specs.Lawful.{IsLawful}
 use Rattle.liq_stability.specs.Position.{mark_of, gain_by, growth}
-use Rattle.liq_stability.specs.declared.words.PoolWords.{PoolWords}
 use Rattle.liq_rewards.specs.declared.earner.Earner.{Earner}
 use Rattle.liq_rewards.specs.declared.earner.Sums.{Sums}
 use Rattle.liq_rewards.specs.declared.issuance.TheConstants.{EVENTS_MOST, UNITS_MOST}
-use Rattle.liq_rewards.specs.Timed.{Timed, events_of, state_of, total_of, words_at, place_at, AreInOrder, due_at, is_shared_at}
-use Rattle.liq_rewards.specs.Earner.{SUM_MOST, sharing_of, shared_with, dealt_with, sums_risen, risen, reading_by, reward_by, allowance_by, IsSmall, HasSmallSums}
+use Rattle.liq_rewards.specs.Timed.{Timed, events_of, state_of, total_of, place_at, AreInOrder, due_at, is_shared_at}
+use Rattle.liq_rewards.specs.Earner.{SUM_MOST, sharing_of, dealt_with, sums_risen, reading_by, reward_by, allowance_by, IsSmall, HasSmallSums}
 use Rattle.liq_rewards.specs.Earning.{rise_by, sum_of, sum_at, mark_sum, reward_mark, sums_from, reading, earned_of, reward_at}
 use Rattle.liq_rewards.specs.Exact.{recorded, own_place, withheld_of, withheld_at, costs_of, costs_at, allowance_at}
 use Rattle.liq_rewards.specs.Kept.{sums_since, IsDepositOf, IsEarnerOf, words_kept}
-use Rattle.liq_rewards.proofs.Along.{HasDeposit, IsDeposited, deposited}
+use Rattle.liq_rewards.proofs.Along.{IsDeposited, deposited}
 use Rattle.liq_rewards.proofs.Small.{served, recorded_most, weight_most, owns_most, own_few, withheld_most, costs_most, sum_most, reward_most}
 
 -- once what is due at a minute is dealt with

@@ -1,18 +1,18 @@
 -- What one account has earned at a moment of a lawful list, and how a sharing and an event keep it.
-use Rattle.std.proofs.Common.{◌≡◌, ℕ, suc, ◌+◌, ◌-◌, ◌*◌, ◌^◌, ◌≤◌, ◌<◌, Bool, true, false, cond, List, refl, ap, sym, ◌∙◌, subst, arith, inl, inr, Some, None, Option, length}
+use Rattle.std.proofs.Common.{◌≡◌, ℕ, suc, ◌+◌, ◌-◌, ◌*◌, ◌^◌, ◌≤◌, ◌<◌, Bool, true, false, cond, refl, ap, sym, ◌∙◌, subst, arith, inl, inr, Some, None, Option, length}
 use Rattle.std.specs.Prelude.{◌⊎◌, ◌==◌, ◌&&◌, not}
 use Rattle.std.proofs.Math.Nat.{mul-le-mul_right}
 use Rattle.std.proofs.lemmas.Bool.Decides.{nat_tests}
 use Rattle.std.proofs.lemmas.Grind.{div_ceil_times}
 use Rattle.liq_num.specs.Quotient.{floor_of, ceiling_of}
 use Rattle.liq_types.specs.declared.amounts.TheConstants.{P_LEAST}
-use Rattle.liq_types.specs.declared.events.PoolEvent.TheVariants.{Own, Offset}
+use Rattle.liq_types.specs.declared.events.PoolEvent.TheVariants.{Offset}
 use Rattle.liq_types.specs.Allowance.{cost_of}
-use Rattle.liq_types.specs.PlainLedger.{Share, share_after}
-use Rattle.liq_types.specs.Product.{ScaledProduct, place_of, is_place, mark_after}
+use Rattle.liq_types.specs.PlainLedger.{Share}
+use Rattle.liq_types.specs.Product.{place_of, is_place, mark_after}
 use Rattle.liq_types.specs.State.{State, PoolMark, PoolOffset, After, DepositEntry}
 use Rattle.liq_types.specs.Tables.{Place, Table, at, put, without}
-use Rattle.liq_types.specs.WellFormed.{IsMoment, IsBefore, Ascends}
+use Rattle.liq_types.specs.WellFormed.{IsBefore, Ascends}
 use Rattle.liq_types.proofs.Lookups.{at-put_same, at-without_same}
 use Rattle.liq_types.proofs.Rounding.{weight_covers}
 use Rattle.liq_types.proofs.Watching.{Watch}
@@ -22,8 +22,8 @@ use Rattle.liq_stability.specs.Words.{words_of}
 use Rattle.liq_stability.specs.Worth.{base_of, reach}
 use Rattle.liq_stability.proofs.Falling.{gained_low, gained_near, live_place, past_place}
 use Rattle.liq_stability.proofs.Pool.{mark-grown, mark-full}
-use Rattle.liq_stability.proofs.Reading.{IsLive, IsPast, reach_whole, some_power, balance_low, balance-past, gain_low, gain_high, grown, grown_more, grown_same, grown_none}
-use Rattle.liq_stability.proofs.Standing.{IsMarked, StandsLive, StandsPast, StandsAt, StandsBy, bare_balance, deposit_other}
+use Rattle.liq_stability.proofs.Reading.{IsPast, reach_whole, some_power, balance_low, balance-past, gain_low, gain_high, grown, grown_more, grown_same, grown_none}
+use Rattle.liq_stability.proofs.Standing.{IsMarked, StandsLive, StandsBy, bare_balance}
 use Rattle.liq_rewards.specs.Exact.{RewardShare, with_units, with_event}
 use Rattle.liq_rewards.proofs.Steps.{EarnsNothing, EarnsSome, none_shares, past_shares, live_shares, none_scaled, some_scaled, some_read, some_begun, none_left}
 

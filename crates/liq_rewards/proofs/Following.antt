@@ -1,36 +1,33 @@
 -- What holds of all that is kept, along the calls of a value.
 use denote.Struct.Props.{props}
-use Rattle.std.proofs.Common.{◌≡◌, ℕ, zero, suc, ◌+◌, ◌-◌, ◌*◌, ◌^◌, ◌≤◌, ◌<◌, Bool, true, false, cond, List, [], ◌∷◌, ◌++◌, length, map, refl, ap, sym, ◌∙◌, subst, arith, Some, None, Option, Result, Ok, Err}
+use Rattle.std.proofs.Common.{◌≡◌, ℕ, ◌+◌, ◌-◌, ◌≤◌, Bool, true, false, cond, List, [], ◌∷◌, ◌++◌, map, refl, ap, sym, ◌∙◌, subst, arith, Some, None, Option, Result, Ok, Err}
 use Rattle.std.specs.Prelude.{◌==◌, ◌||◌, OnOk, OnErr}
 use Rattle.std.specs.List.{AllByRecursion}
 use Rattle.std.specs.Option.{is_some}
 use Rattle.std.proofs.Math.Logic.{∥∥₁_elim, ∥∥₁_map}
 use Rattle.std.proofs.lemmas.Bool.Decides.{nat_tests}
-use Rattle.liq_types.specs.declared.amounts.TheConstants.{LIM, P_LEAST, P_OPENING}
+use Rattle.liq_types.specs.declared.amounts.TheConstants.{LIM, P_OPENING}
 use Rattle.liq_types.specs.declared.events.PoolEvent.{PoolEvent}
 use Rattle.liq_types.specs.declared.events.PoolEvent.TheVariants as event
 use Rattle.liq_types.specs.PlainLedger.{AreOwnedBelow, over_accounts}
-use Rattle.liq_types.specs.State.{opening}
 use Rattle.liq_types.specs.Tables.{at}
-use Rattle.liq_types.specs.Totals.{pool_total}
-use Rattle.liq_stability.specs.Lawful.{IsLawful, IsLawfulEvent, IsWithinLimit}
+use Rattle.liq_stability.specs.Lawful.{IsLawfulEvent, IsWithinLimit}
 use Rattle.liq_stability.specs.Own.{after_event}
 use Rattle.liq_stability.specs.declared.words.PoolWords.{PoolWords}
 use Rattle.liq_stability.proofs.Pool.{balance_within, owned-total}
 use Rattle.liq_rewards.specs.declared.earner.Earner.{Earner}
 use Rattle.liq_rewards.specs.declared.sharing.Sharing.{Sharing}
-use Rattle.liq_rewards.specs.declared.rewards.RewardRow.{RewardRow}
-use Rattle.liq_rewards.specs.declared.issuance.TheConstants.{EVENTS_MOST, UNITS_MOST}
+use Rattle.liq_rewards.specs.declared.issuance.TheConstants.{UNITS_MOST}
 use Rattle.liq_rewards.specs.Issued.{issued}
-use Rattle.liq_rewards.specs.Timed.{Timed, events_of, state_of, minute_of, AreInOrder, due_at, is_shared_at, unshared_of, unshared_by, unshared_at, shared_at}
-use Rattle.liq_rewards.specs.Earner.{no_earner, no_sums, sharing_of, dealt_with, earner_after, reward_by, allowance_by, IsSmallDue, IsSmall, HasSmallSums, CanGoOn}
+use Rattle.liq_rewards.specs.Timed.{Timed, events_of, state_of, minute_of, AreInOrder, due_at, is_shared_at, unshared_of, unshared_at}
+use Rattle.liq_rewards.specs.Earner.{no_earner, sharing_of, dealt_with, earner_after, reward_by, allowance_by, IsSmallDue, IsSmall, CanGoOn}
 use Rattle.liq_rewards.specs.Earning.{rise_by, reward_at}
-use Rattle.liq_rewards.specs.Kept.{Kept, earner_in, has_row, HasRoomFor, IsEarnerOf, words_kept, IsKeptOf, MayHappen, words_then, CanTake, CanHappen, row_by, row_of}
+use Rattle.liq_rewards.specs.Kept.{Kept, earner_in, has_row, HasRoomFor, IsEarnerOf, words_kept, IsKeptOf, MayHappen, words_then, CanHappen, row_by, row_of}
 use Rattle.liq_rewards.proofs.Dealing.{IsDealtOf, dealt, reads, allows, small_dealt, small_kept, small_reward}
 use Rattle.liq_rewards.proofs.Issuing.{issued-monotone}
-use Rattle.liq_rewards.proofs.Keeping.{all_after, others_after, words_follow}
-use Rattle.liq_rewards.proofs.Conserving.{all_units, all_rewards}
-use Rattle.liq_rewards.proofs.Small.{served, earlier, happens, stands, place_few, due_most, units_most}
+use Rattle.liq_rewards.proofs.Keeping.{all_after, others_after, words_follow, account-dealt}
+use Rattle.liq_rewards.proofs.Conserving.{all_units, all_rewards, up_to}
+use Rattle.liq_rewards.proofs.Small.{served, happens, stands, place_few, due_most, units_most}
 
 -- ---- nothing
 
@@ -151,10 +148,6 @@ module _ (k : Kept) (some : ∥ ((past : List Timed) × IsKeptOf k past) ∥₁)
 
 -- ---- what is told
 
-account-dealt : (e : Earner) (words : PoolWords) (sharing : Option Sharing) → (dealt_with e words sharing).account ≡ e.account
-account-dealt e words None = refl
-account-dealt e words (Some sharing) = refl
-
 pub row_is : (k : Kept) (past : List Timed) → IsKeptOf k past → (account : ℕ) → row_by account (dealt_with (earner_in k.earners account) k.words (sharing_of k.words k.due)) ≡ row_of account k.minute past
 row_is k past h account =
     let e = earner_in k.earners account in
@@ -182,17 +175,13 @@ order_later : (minute next : ℕ) (past : List Timed) → minute ≤ next → Ar
 order_later minute next [] h order = tt
 order_later minute next (t ∷ past) h order = (omega (arith, h, order.0), order.1)
 
-last_up_to : (minute : ℕ) (past : List Timed) → AreInOrder minute past → minute_of past ≤ minute
-last_up_to minute [] order = omega arith
-last_up_to minute (t ∷ past) order = order.0
-
 pub minute_kept : (k : Kept) (past : List Timed) (minute more : ℕ) → k.minute ≤ minute → more ≡ issued minute - issued k.minute → IsKeptOf k past → IsKeptOf (record k { minute = minute; due = k.due + more }) past
 minute_kept k past minute more later is h = record {
   lawful = h.lawful;
   order = order_later k.minute minute past later h.order;
   few = h.few;
   due =
-      let first = issued-monotone (minute_of past) k.minute (last_up_to k.minute past h.order) in
+      let first = issued-monotone (minute_of past) k.minute (up_to k.minute past h.order) in
       let second = issued-monotone k.minute minute later in
       omega (arith, h.due, is, first, second);
   unshared = h.unshared;

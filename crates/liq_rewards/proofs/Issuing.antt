@@ -1,5 +1,5 @@
 -- What is issued, year by year.
-use Rattle.std.proofs.Common.{◌≡◌, ℕ, zero, suc, ◌+◌, ◌-◌, ◌*◌, ◌/◌, ◌^◌, ◌≤◌, ◌<◌, refl, ap, sym, ◌∙◌, subst, arith, lit<, inl, inr}
+use Rattle.std.proofs.Common.{◌≡◌, ℕ, zero, suc, ◌+◌, ◌-◌, ◌*◌, ◌/◌, ◌^◌, ◌≤◌, ◌<◌, refl, ap, ◌∙◌, arith, lit<, inl, inr}
 use Rattle.std.specs.Prelude.{min}
 use Rattle.std.proofs.Math.Nat.{div-lt_iff_lt-mul, le-div_iff_mul-le, pow-le-pow_right}
 use Rattle.std.proofs.lemmas.Bool.{cases_lt}
@@ -20,7 +20,7 @@ issued-more minute = by (minute + 1) (suc minute) (omega arith) where
   by a b e = ap issued e
 
 -- the first minutes of a year
-issued-in : (year r : ℕ) → r ≤ YEAR → issued (year * YEAR + r) ≡ issued (year * YEAR) + r * rate_in year
+pub issued-in : (year r : ℕ) → r ≤ YEAR → issued (year * YEAR + r) ≡ issued (year * YEAR) + r * rate_in year
 unfolding units_in
 issued-in year zero low =
     let same : issued (year * YEAR + 0) ≡ issued (year * YEAR) = ap issued (omega arith) in
@@ -68,7 +68,9 @@ unfolding units_in
 none-in minute late =
     let year : YEARS ≤ minute / YEAR = (le-div_iff_mul-le (lit< tt)).1 late in
     let much : 2 ^ YEARS ≤ 2 ^ (minute / YEAR) = pow-le-pow_right (lit< tt) year in
-    let less : UNITS_AT_FIRST / 2 ^ (minute / YEAR) < 1 = (div-lt_iff_lt-mul (omega (arith, much))).1 (omega (arith, much)) in
+    let some : 0 < 2 ^ (minute / YEAR) = omega (arith, much) in
+    let few : UNITS_AT_FIRST < 1 * 2 ^ (minute / YEAR) = omega (arith, much) in
+    let less : UNITS_AT_FIRST / 2 ^ (minute / YEAR) < 1 = (div-lt_iff_lt-mul some).1 few in
     omega (arith, less)
 
 issued-after : (more : ℕ) → issued (YEARS * YEAR + more) ≡ issued (YEARS * YEAR)
@@ -116,6 +118,13 @@ issued-most minutes =
     let rises = issued-monotone (min minutes (YEARS * YEAR)) (YEARS * YEAR) (omega arith) in
     let years = whole_years YEARS in
     omega (arith, all, rises, years, all_rates)
+
+pub issued-late : (minutes : ℕ) → YEARS * YEAR ≤ minutes → issued minutes ≡ UNITS_MOST
+issued-late minutes late =
+    let all = issued-all minutes in
+    let first : issued (min minutes (YEARS * YEAR)) ≡ issued (YEARS * YEAR) = ap issued (omega arith) in
+    let years = whole_years YEARS in
+    omega (arith, all, first, years, all_rates)
 
 none_yet : issued 0 ≡ 0
 unfolding issued

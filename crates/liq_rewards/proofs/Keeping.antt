@@ -1,18 +1,16 @@
 -- What is kept stands for the same list after an event.
-use denote.Struct.Props.{props}
-use Rattle.std.proofs.Common.{◌≡◌, ℕ, zero, suc, ◌+◌, ◌-◌, ◌*◌, ◌^◌, ◌≤◌, ◌<◌, ◌⊎◌, Bool, true, false, cond, eqb, List, [], ◌∷◌, length, map, refl, ap, sym, ◌∙◌, subst, arith, inl, inr, Some, None, Option}
-use Rattle.std.specs.Prelude.{◌==◌, ◌||◌, ◌&&◌}
+use Rattle.std.proofs.Common.{◌≡◌, ℕ, zero, suc, ◌+◌, ◌-◌, ◌*◌, ◌≤◌, ◌<◌, Bool, true, false, cond, List, [], ◌∷◌, length, map, refl, ap, sym, ◌∙◌, subst, arith, inl, inr, Some, None, Option}
+use Rattle.std.specs.Prelude.{◌==◌, ◌||◌}
 use Rattle.std.specs.List.{AllByRecursion}
-use Rattle.std.specs.Option.{is_some}
-use Rattle.std.proofs.Math.Logic.{∥∥₁_elim, ∥∥₁_map}
+use Rattle.std.proofs.lemmas.Bool.{eq-eqb}
 use Rattle.std.proofs.lemmas.Bool.Decides.{nat_tests}
 use Rattle.std.proofs.lemmas.Grind.{div_ceil_times}
-use Rattle.liq_num.specs.Quotient.{floor_of, ceiling_of}
-use Rattle.liq_types.specs.declared.amounts.TheConstants.{LIM, P_OPENING}
+use Rattle.liq_num.specs.Quotient.{ceiling_of}
+use Rattle.liq_types.specs.declared.amounts.TheConstants.{LIM}
 use Rattle.liq_types.specs.declared.events.PoolEvent.{PoolEvent}
 use Rattle.liq_types.specs.declared.events.PoolEvent.TheVariants as event
 use Rattle.liq_types.specs.Allowance.{weight_of, cost_of}
-use Rattle.liq_types.specs.PlainLedger.{Share, exact_share, own_events_of, gains_paid_to}
+use Rattle.liq_types.specs.PlainLedger.{Share, exact_share, gains_paid_to}
 use Rattle.liq_types.specs.Product.{ScaledProduct, after_offset, place_of, mark_after}
 use Rattle.liq_types.specs.State.{State, PoolMark, DepositEntry, After, opening}
 use Rattle.liq_types.specs.Tables.{Place, at}
@@ -20,8 +18,8 @@ use Rattle.liq_types.specs.Totals.{pool_total}
 use Rattle.liq_types.specs.WellFormed.{IsBefore}
 use Rattle.liq_types.proofs.Watching.{Watch, watched, watch_after, weight_is}
 use Rattle.liq_stability.specs.Lawful.{IsLawful, IsLawfulEvent, IsWithinLimit}
-use Rattle.liq_stability.specs.Own.{after_event, owned, offset, with_deposit, amount_after}
-use Rattle.liq_stability.specs.Position.{mark_of, growth, balance_of}
+use Rattle.liq_stability.specs.Own.{after_event, owned, offset, amount_after}
+use Rattle.liq_stability.specs.Position.{mark_of, growth}
 use Rattle.liq_stability.specs.Words.{words_of}
 use Rattle.liq_stability.specs.declared.words.PoolWords.{PoolWords}
 use Rattle.liq_stability.proofs.Pool.{balance_within, owned-total, offset-total, offset_now, words-snoc, mark-grown, mark-full}
@@ -30,17 +28,15 @@ use Rattle.liq_stability.proofs.Standing.{StandsBy, deposit_other}
 use Rattle.liq_rewards.specs.declared.earner.Earner.{Earner}
 use Rattle.liq_rewards.specs.declared.earner.Sums.{Sums}
 use Rattle.liq_rewards.specs.declared.sharing.Sharing.{Sharing}
-use Rattle.liq_rewards.specs.declared.issuance.TheConstants.{EVENTS_MOST, SHARED_LEAST, UNITS_MOST}
-use Rattle.liq_rewards.specs.Issued.{issued}
-use Rattle.liq_rewards.specs.Timed.{Timed, events_of, state_of, total_of, words_at, place_at, AreInOrder, due_at, is_shared_at, unshared_of, unshared_by}
-use Rattle.liq_rewards.specs.Earner.{no_earner, no_sums, sharing_of, shared_with, dealt_with, owned_by, with_event, earner_after, reward_by, cost_now, IsSmallDue, IsSmall, HasSmallSums, CanGoOn}
+use Rattle.liq_rewards.specs.Timed.{Timed, events_of, state_of, words_at, place_at, due_at, is_shared_at}
+use Rattle.liq_rewards.specs.Earner.{no_earner, no_sums, sharing_of, shared_with, dealt_with, owned_by, with_event, earner_after, cost_now}
 use Rattle.liq_rewards.specs.Earning.{rise_by, sum_of, sum_at, mark_sum, reading, earned_of}
-use Rattle.liq_rewards.specs.Exact.{recorded, own_place, withheld_at, costs_at}
-use Rattle.liq_rewards.specs.Kept.{Kept, earner_in, has_row, HasRoomFor, sums_since, IsDepositOf, IsEarnerOf, words_kept, IsKeptOf, MayHappen, words_then, CanHappen}
+use Rattle.liq_rewards.specs.Exact.{recorded, own_place}
+use Rattle.liq_rewards.specs.Kept.{has_row, HasRoomFor, IsDepositOf, IsEarnerOf, words_kept, words_then}
 use Rattle.liq_rewards.proofs.Along.{state-more, watched-more, owns-more, amount_is, place_is, later_at, later_of, enough}
-use Rattle.liq_rewards.proofs.Dealing.{IsDealtOf, dealt, reads, small_dealt, small_kept, small_reward}
+use Rattle.liq_rewards.proofs.Dealing.{IsDealtOf, dealt, reads}
 use Rattle.liq_rewards.proofs.Earning.{deposit_left}
-use Rattle.liq_rewards.proofs.Small.{served, earlier, happens, stands, place_few, due_most, units_most}
+use Rattle.liq_rewards.proofs.Small.{served, happens, stands}
 
 -- ---- the weight
 
@@ -118,9 +114,6 @@ deposit_begun s account put out sums e p none later =
 
 -- ---- an event
 
-itself : (n : ℕ) → (n == n) ≡ true
-itself n = grind (arith, nat_tests)
-
 none_more : (b : Bool) → b ≡ false → cond b 1 0 ≡ zero
 none_more b e = ap (λ b. cond b 1 0) e
 
@@ -183,7 +176,7 @@ module _ (minute : ℕ) (past : List Timed) (lawful : IsLawful opening (events_o
   own_happened put out gain left =
       let t : Timed = record { minute = minute; event = event.Own e.account put out gain left } in
       let x : Earner = owned_by e (words_kept past) left in
-      let alike = itself e.account in
+      let alike = eq-eqb e.account e.account refl in
       let owns = owns-more e.account t past in
       let weighs = weight-more e.account t past lawful in
       let one = one_more (e.account == e.account) alike in
@@ -244,7 +237,7 @@ none_happened account words (event.Own owner put out gain left) es absent room =
 
 -- ---- all rows
 
-account-dealt : (e : Earner) (words : PoolWords) (sharing : Option Sharing) → (dealt_with e words sharing).account ≡ e.account
+pub account-dealt : (e : Earner) (words : PoolWords) (sharing : Option Sharing) → (dealt_with e words sharing).account ≡ e.account
 account-dealt e words None = refl
 account-dealt e words (Some sharing) = refl
 

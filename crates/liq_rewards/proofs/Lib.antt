@@ -4,7 +4,6 @@ pub mod Issuing
 pub mod Along
 pub mod Conserving
 pub mod Reading
-pub mod Costs
 pub mod Small
 pub mod Dealing
 pub mod Keeping

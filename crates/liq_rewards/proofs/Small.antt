@@ -1,35 +1,34 @@
 -- The numbers that are kept are small, along a lawful list.
-use Rattle.std.proofs.Common.{◌≡◌, ℕ, zero, suc, ◌+◌, ◌-◌, ◌*◌, ◌^◌, ◌≤◌, ◌<◌, Bool, true, false, cond, List, [], ◌∷◌, length, refl, ap, sym, ◌∙◌, subst, arith}
+use Rattle.std.proofs.Common.{◌≡◌, ℕ, zero, suc, ◌+◌, ◌-◌, ◌*◌, ◌^◌, ◌≤◌, ◌<◌, Bool, true, false, cond, List, [], ◌∷◌, length, refl, sym, subst, arith}
 use Rattle.std.specs.Prelude.{◌==◌, ◌&&◌, not}
 use Rattle.std.proofs.Math.Nat.{mul-le-mul_right, le_of_mul-le-mul_right}
 use Rattle.std.proofs.lemmas.Grind.{div_ceil_times}
 use Rattle.liq_num.specs.Quotient.{floor_of, ceiling_of}
-use Rattle.liq_types.specs.declared.amounts.TheConstants.{LIM, P_OPENING, P_LEAST, RISES_MOST}
+use Rattle.liq_types.specs.declared.amounts.TheConstants.{LIM, P_OPENING, RISES_MOST}
 use Rattle.liq_types.specs.declared.events.PoolEvent.{PoolEvent}
 use Rattle.liq_types.specs.declared.events.PoolEvent.TheVariants as event
 use Rattle.liq_types.specs.Allowance.{weight_of, balance_allowance, cost_of}
-use Rattle.liq_types.specs.PlainLedger.{is_own_of, own_events_of, over_accounts}
+use Rattle.liq_types.specs.PlainLedger.{is_own_of, own_events_of}
 use Rattle.liq_types.specs.Product.{ScaledProduct, TakesPartUpTo, after_offset, is_place, place_of}
-use Rattle.liq_types.specs.State.{State, PoolOffset, opening}
+use Rattle.liq_types.specs.State.{State, opening}
 use Rattle.liq_types.specs.Tables.{Place, at}
 use Rattle.liq_types.specs.Totals.{pool_total}
 use Rattle.liq_types.proofs.Accounts.{over-term, above_with, owned_with, under_with}
 use Rattle.liq_types.proofs.Ranges.{rise_few}
 use Rattle.liq_types.proofs.Sums.{leaves_part, takes_all}
 use Rattle.liq_types.proofs.Watching.{Watch, watched, watch_after, weight_is}
-use Rattle.liq_stability.specs.Lawful.{IsLawful, IsLawfulUpTo, IsLawfulEvent, IsWithinLimit}
+use Rattle.liq_stability.specs.Lawful.{IsLawful, IsLawfulEvent, IsWithinLimit}
 use Rattle.liq_stability.specs.Own.{after_event}
 use Rattle.liq_stability.specs.Position.{balance_of}
 use Rattle.liq_stability.specs.Words.{words_of}
-use Rattle.liq_stability.proofs.LawfulLists.{lawful_first, lawful_rest, lawful_limit}
+use Rattle.liq_stability.proofs.LawfulLists.{lawful_first, lawful_rest}
 use Rattle.liq_stability.proofs.Pool.{balance_within, owned-total, offset_now, words-snoc}
 use Rattle.liq_stability.proofs.Promise.{pool_stands}
 use Rattle.liq_stability.proofs.Reading.{floor_low, some_power}
 use Rattle.liq_stability.proofs.Whole.{PoolStands}
 use Rattle.liq_rewards.specs.declared.issuance.TheConstants.{SHARED_LEAST, UNITS_MOST}
-use Rattle.liq_rewards.specs.Issued.{issued}
-use Rattle.liq_rewards.specs.Timed.{Timed, events_of, state_of, total_of, words_at, place_at, AreInOrder, due_at, is_shared_at, shared_by, shared_of, shared_at, unshared_of, unshared_at}
-use Rattle.liq_rewards.specs.Earning.{rise_by, rise_at, sum_of, sum_at, reward_at}
+use Rattle.liq_rewards.specs.Timed.{Timed, events_of, state_of, total_of, words_at, place_at, AreInOrder, due_at, is_shared_at, shared_of, shared_at, unshared_at}
+use Rattle.liq_rewards.specs.Earning.{rise_by, sum_of, sum_at, reward_at}
 use Rattle.liq_rewards.specs.Exact.{withheld_by, withheld_of, withheld_at, amount_left, recorded, own_place, cost_by, costs_of, costs_at}
 use Rattle.liq_rewards.proofs.Along.{state-more, watched-more, owns-more, enough, amount_is}
 use Rattle.liq_rewards.proofs.Conserving.{all_units, all_rewards}

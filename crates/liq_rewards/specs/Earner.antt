@@ -1,7 +1,7 @@
 -- What is kept of an account, and what a sharing and an event make of it.
-use Rattle.std.specs.Prelude.{◌≡◌, ℕ, ◌+◌, ◌*◌, ◌^◌, ◌≤◌, ◌==◌, ◌&&◌, nat_le, not, Option, Some, None, if◌then◌else◌}
+use Rattle.std.specs.Prelude.{ℕ, ◌+◌, ◌*◌, ◌^◌, ◌≤◌, ◌==◌, ◌&&◌, nat_le, not, Option, Some, None, if◌then◌else◌}
 use Rattle.liq_num.specs.Quotient.{floor_of, ceiling_of}
-use Rattle.liq_types.specs.declared.amounts.TheConstants.{LIM, P_LEAST, P_OPENING}
+use Rattle.liq_types.specs.declared.amounts.TheConstants.{LIM, P_LEAST}
 use Rattle.liq_types.specs.declared.events.PoolEvent.{PoolEvent}
 use Rattle.liq_types.specs.declared.events.PoolEvent.TheVariants.{Own, Offset}
 use Rattle.liq_types.specs.Allowance.{cost_of}

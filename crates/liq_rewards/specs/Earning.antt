@@ -1,5 +1,5 @@
--- What accounts earn, in whole units: at each place a sum for a whole deposit grows with each sharing, and a deposit earns
--- as the sums of its epoch have grown since its mark. Each division is rounded down.
+-- What accounts earn, in whole units: at each place a sum for a whole deposit grows with each sharing, and a deposit
+-- earns as the sums of its epoch have grown since its mark. Each division is rounded down.
 use Rattle.std.specs.Prelude.{ℕ, ◌+◌, List, [], ◌∷◌, Option, Some, None, if◌then◌else◌}
 use Rattle.liq_num.specs.Quotient.{floor_of}
 use Rattle.liq_types.specs.PlainLedger.{is_own_of}

@@ -1,5 +1,5 @@
--- The exact rewards: what each account would have earned if nothing were rounded, as fractions with one denominator; and by
--- how much a reward may fall short.
+-- The exact rewards: what each account would have earned if nothing were rounded, as fractions with one denominator;
+-- and by how much a reward may fall short.
 use Rattle.std.specs.Prelude.{ℕ, ◌+◌, ◌*◌, ◌^◌, ◌≤◌, List, [], ◌∷◌, if◌then◌else◌}
 use Rattle.liq_num.specs.Quotient.{ceiling_of}
 use Rattle.liq_types.specs.declared.events.PoolEvent.{PoolEvent}

@@ -1,5 +1,6 @@
 -- What is kept of all that happened.
-use Rattle.std.specs.Prelude.{◌≡◌, ℕ, ◌+◌, ◌-◌, ◌^◌, ◌<◌, ◌≤◌, ◌||◌, ◌==◌, Bool, true, false, List, [], ◌∷◌, length, Option, None, Some, if◌then◌else◌}
+use Rattle.std.specs.Prelude.{◌≡◌, ℕ, ◌+◌, ◌-◌, ◌^◌, ◌<◌, ◌≤◌, ◌||◌, ◌==◌, Bool, true, false, List, [], ◌∷◌, length}
+use Rattle.std.specs.Prelude.{Option, None, Some, if◌then◌else◌}
 use Rattle.std.specs.List.{AllByRecursion}
 use Rattle.liq_types.specs.declared.events.PoolEvent.{PoolEvent}
 use Rattle.liq_types.specs.declared.events.PoolEvent.TheVariants.{Own, Offset}
@@ -22,8 +23,8 @@ use Rattle.liq_rewards.specs.Earner.{no_earner, reward_by, allowance_by}
 use Rattle.liq_rewards.specs.Earning.{reward_mark, sum_of, earned_of, reward_at}
 use Rattle.liq_rewards.specs.Exact.{recorded, own_place, withheld_of, costs_of, allowance_at}
 
--- The minute of now; the units that are due then, and those that were not shared before; the pool's words, of which product,
--- place and total count; and the accounts that have room.
+-- The minute of now; the units that are due then, and those that were not shared before; the pool's words, of which
+-- product, place and total count; and the accounts that have room.
 pub record Kept : Type 0 where
   pub minute : ℕ
   pub due : ℕ

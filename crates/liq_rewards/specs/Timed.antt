@@ -15,6 +15,9 @@ pub record Timed : Type 0 where
   pub minute : ℕ
   pub event : PoolEvent
 
+abbrev pub timed : ℕ → PoolEvent → Timed
+timed minute event = record { minute = minute; event = event }
+
 -- the events alone, in the order in which they happened
 abbrev pub events_of : List Timed → List PoolEvent
 events_of [] = []

@@ -2,7 +2,9 @@
 
 ghost use Rattle.std.specs.Prelude.{◌≡◌, ◌+◌, ◌*◌, ◌^◌, ◌≤◌, ◌<◌, ◌==◌, if◌then◌else◌};
 ghost use Rattle.liq_num.specs.Quotient.{floor_of, ceiling_of};
-ghost use Rattle.liq_rewards.specs.Earner.{no_earner, no_sums, cost_now, balance_short, risen, sums_risen, shared_with, dealt_with, part_by, reading_by, reward_by, owned_by, with_event, earner_after, allowance_by, SUM_MOST, IsSmallSharing, IsSmallDue, HasSmallSums, IsSmall, CanGoOn};
+ghost use Rattle.liq_rewards.specs.Earner.{no_earner, no_sums, cost_now, balance_short, risen, sums_risen, shared_with};
+ghost use Rattle.liq_rewards.specs.Earner.{dealt_with, part_by, reading_by, reward_by, owned_by, earner_after};
+ghost use Rattle.liq_rewards.specs.Earner.{allowance_by, SUM_MOST, IsSmallSharing, IsSmallDue, IsSmall, CanGoOn};
 
 use crate::issuance::UNITS_MOST;
 use crate::sharing::Sharing;
@@ -14,7 +16,8 @@ use liq_types::amounts::{LIM, P_LEAST};
 /// One step of the scale.
 const STEP: u64 = 1_000_000_000;
 
-/// How the sums of an epoch grew since a mark, at the mark's scale and the next three: what a whole deposit got, over 10^18.
+/// How the sums of an epoch grew since a mark, at the mark's scale and the next three: what a whole deposit got, over
+/// 10^18.
 #[derive(Clone, Copy)]
 pub struct Sums {
     pub first: u128,

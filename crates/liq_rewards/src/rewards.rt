@@ -1,17 +1,19 @@
 //! The account of all reward units.
 
-ghost use Rattle.std.specs.Prelude.{◌≡◌, ℕ, ◌+◌, ◌-◌, ◌<◌, ◌≤◌, ◌==◌, true, [], ◌∷◌, ◌++◌, List, map, IsOk, OnOk, OnErr, IfSome, IsTrue, ◌↔◌, if◌then◌else◌};
+ghost use Rattle.std.specs.Prelude.{◌≡◌, ℕ, ◌+◌, ◌-◌, ◌<◌, ◌≤◌, ◌==◌, true, [], ◌∷◌, ◌++◌, List, map};
+ghost use Rattle.std.specs.Prelude.{IsOk, OnOk, OnErr, IfSome, if◌then◌else◌};
 ghost use Rattle.std.specs.List.{AllByRecursion};
 ghost use Rattle.std.specs.Option.{is_some};
 ghost use Rattle.liq_types.specs.PlainLedger.{AreOwnedBelow, over_accounts};
 ghost use Rattle.liq_types.specs.Product.{after_offset};
 ghost use Rattle.liq_stability.specs.Words.{words_in, offset_in};
 ghost use Rattle.liq_rewards.specs.Issued.{issued};
-ghost use Rattle.liq_rewards.specs.Timed.{Timed, events_of, unshared_at};
+ghost use Rattle.liq_rewards.specs.Timed.{Timed, timed, events_of, unshared_at};
 ghost use Rattle.liq_rewards.specs.Earning.{reward_at};
 ghost use Rattle.liq_rewards.specs.Exact.{IsWithinAllowance};
-ghost use Rattle.liq_rewards.specs.Earner.{no_earner, sharing_of, dealt_with, earner_after, CanGoOn};
-ghost use Rattle.liq_rewards.specs.Kept.{Kept, earner_in, has_row, HasRoomFor, IsKeptOf, MayHappen, row_of, words_then, CanHappen};
+ghost use Rattle.liq_rewards.specs.Earner.{no_earner, sharing_of, dealt_with, earner_after, CanGoOn, IsSmallDue};
+ghost use Rattle.liq_rewards.specs.Kept.{Kept, earner_in, has_row, HasRoomFor, IsKeptOf, MayHappen, row_of};
+ghost use Rattle.liq_rewards.specs.Kept.{words_then, CanHappen};
 
 use crate::earner::Earner;
 use crate::issuance::{EVENTS_MOST, UNITS_MOST, issued};
@@ -124,25 +126,26 @@ impl Rewards {
         self.minute = minute;
     }
 
-    /// An event happens in the last minute that was told. First what is due is shared, where the pool has enough, or counts as
-    /// unshared. All events so far and this one are a lawful list, and a value takes at most [`EVENTS_MOST`].
+    /// An event happens in the last minute that was told. First what is due is shared, where the pool has enough, or
+    /// counts as unshared. All events so far and this one are a lawful list, and a value takes at most [`EVENTS_MOST`].
     pub fn event(&mut self, event: &PoolEvent)
         requires room { HasRoomFor self.old.earners event.now }
-        requires lawful { ∥ ((past : List Timed) × IsKeptOf self.old past × MayHappen (record { minute = self.old.minute; event = event.now }) past) ∥₁ }
-        ensures kept { (past : List Timed) → IsKeptOf self.old past → MayHappen (record { minute = self.old.minute; event = event.now }) past →
-            IsKeptOf self.new (record { minute = self.old.minute; event = event.now } ∷ past) }
+        requires lawful { ∥ ((past : List Timed) × IsKeptOf self.old past
+            × MayHappen (timed self.old.minute event.now) past) ∥₁ }
+        ensures kept { (past : List Timed) → IsKeptOf self.old past → MayHappen (timed self.old.minute event.now) past →
+            IsKeptOf self.new (timed self.old.minute event.now ∷ past) }
         ensures minute { self.new.minute ≡ self.old.minute }
         ensures room { (a : ℕ) → has_row self.old.earners a ≡ true → has_row self.new.earners a ≡ true }
     {
-        let sharing = Sharing::of(&self.words, self.due);
+        let (sharing, words) = shared_first(&self.words, self.due, event);
         all_after(&mut self.earners, &self.words, sharing, event);
         self.unshared += unshared_by(sharing, self.due);
-        self.words = words_after(&self.words, event);
+        self.words = words;
         self.due = 0;
     }
 
-    /// All units that an account has earned, what is due now being shared too: never more than its exact share, and less by at
-    /// most what the row allows.
+    /// All units that an account has earned, what is due now being shared too: never more than its exact share, and
+    /// less by at most what the row allows.
     pub fn row(&self, account: u32) -> RewardRow
         ensures row { (past : List Timed) → IsKeptOf self.now past → result ≡ row_of account self.now.minute past }
         ensures share { (past : List Timed) → IsKeptOf self.now past →
@@ -164,8 +167,8 @@ impl Rewards {
         issued(self.minute)
     }
 
-    /// The units that were not shared, what is due counted where it is not shared now. With all rewards they are at most those
-    /// that were issued.
+    /// The units that were not shared, what is due counted where it is not shared now. With all rewards they are at
+    /// most those that were issued.
     pub fn unshared(&self) -> u64
         ensures unshared { (past : List Timed) → IsKeptOf self.now past → result ≡ unshared_at self.now.minute past }
         ensures whole { (past : List Timed) → IsKeptOf self.now past → (n : ℕ) → AreOwnedBelow n (events_of past) →
@@ -203,10 +206,25 @@ fn unshared_by(sharing: Option<Sharing>, due: u64) -> u64
     if sharing.is_some() { 0 } else { due }
 }
 
+/// What is shared before an event, which is by the words before it, and the words after it.
+fn shared_first(words: &PoolWords, due: u64, event: &PoolEvent) -> (Option<Sharing>, PoolWords)
+    requires happens { CanHappen words.now event.now }
+    requires units { due ≤ UNITS_MOST }
+    requires product { words.now.p ≤ P_OPENING }
+    ensures sharing { result.0 ≡ sharing_of words.now due }
+    ensures small { IsSmallDue words.now result.0 }
+    ensures words { result.1 ≡ words_then words.now event.now }
+{
+    let after = words_after(words, event);
+    (Sharing::of(words, due), after)
+}
+
 /// The words that count, after an event.
 fn words_after(words: &PoolWords, event: &PoolEvent) -> PoolWords
-    requires { CanHappen words.now event.now }
-    ensures { result ≡ words_then words.now event.now }
+    requires happens { CanHappen words.now event.now }
+    requires product { words.now.p ≤ P_OPENING }
+    ensures words { result ≡ words_then words.now event.now }
+    ensures product { result.p ≤ P_OPENING }
 {
     match *event {
         PoolEvent::Own { put, paid, .. } => PoolWords {

@@ -1,4 +1,4 @@
-use Rattle.std.proofs.Common.{◌≡◌, sym, subst, List, get_or, length, ◌∙◌, arith}
+use Rattle.std.proofs.Common.{sym, subst, List, get_or, ◌∙◌, arith}
 use Rattle.liq_rewards.specs.declared.earner.Earner.{Earner}
 use Rattle.liq_rewards.specs.Earner.{earner_after, CanGoOn}
 use Rattle.liq_rewards.proofs.Rows.{next_same, one_changed, all_changed, holds_at}

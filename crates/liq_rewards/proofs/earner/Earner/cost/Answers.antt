@@ -1,5 +1,5 @@
 use Rattle.std.proofs.Common.{◌-◌, arith}
-use Rattle.liq_rewards.proofs.Costs.{cost_one}
+use Rattle.liq_audit.proofs.Costs.{cost_one}
 use Rattle.liq_rewards.proofs.earner.Earner.cost.Goals as goal
 
 pub returns-in_default : goal.returns-in_default

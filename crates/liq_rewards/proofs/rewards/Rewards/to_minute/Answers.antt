@@ -1,6 +1,5 @@
-use Rattle.std.proofs.Common.{◌≡◌, ◌-◌, ◌≤◌, ap, sym, subst, ◌∙◌, arith}
+use Rattle.std.proofs.Common.{◌≤◌, sym, subst, arith}
 use Rattle.std.proofs.Math.Logic.{∥∥₁_map}
-use Rattle.liq_rewards.specs.Issued.{issued}
 use Rattle.liq_rewards.specs.Kept.{Kept, IsKeptOf}
 use Rattle.liq_rewards.proofs.Following.{due_small, minute_kept}
 use Rattle.liq_rewards.proofs.rewards.Rewards.to_minute.Goals as goal
