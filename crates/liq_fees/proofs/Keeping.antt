@@ -241,6 +241,13 @@ is_allowed account amount out staked stake e = by (leb ACCOUNTS account) (eqb am
   by false false false short true f s o e = absurd cc
   by false false false short false f s o e = record { owner = leb-false ACCOUNTS account f; room = λ no. ltb-false STAKED_MOST (staked + amount) o; enough = λ yes. absurd cc }
 
+-- the same, of what is kept
+pub refusal_is : (k : Kept) (past : List Happened) → IsKeptOf k past → (account amount : ℕ) (out : Bool)
+    → refusal_of account amount out k.staked (staker_in k.stakers account).stake ≡ refusal_of account amount out (staked_of past) (stake_of account past)
+refusal_is k past h account amount out =
+    ap (λ n. refusal_of account amount out n (staker_in k.stakers account).stake) h.staked
+    ∙ ap (λ n. refusal_of account amount out (staked_of past) n) (h.stakers account).stake
+
 -- an account that changes
 own_kept : (account next : ℕ) (s : Staker) (coll lusd : Pot) (shares : ℕ) (past after : List Happened) → IsStakerOf account s past → IsPotOf of_coll coll past → IsPotOf of_lusd lusd past → shares ≡ shares_of past
     → next ≡ stake_of account after

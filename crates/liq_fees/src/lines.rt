@@ -7,6 +7,7 @@ ghost use Rattle.liq_text.specs.Reading.{pieces_of, number_of, account_of};
 ghost use Rattle.liq_fees.specs.Reading.{words_left, out_of, line_of};
 
 use liq_text::read_number;
+use thiserror::Error;
 
 /// What a staker asks for on a line.
 #[derive(Clone, Copy, PartialEq, Eq)]
@@ -21,7 +22,8 @@ pub struct StakeLine {
 }
 
 /// A line is none on which a staker asks.
-#[derive(Clone, Copy, PartialEq, Eq)]
+#[derive(Clone, Copy, Debug, PartialEq, Eq, Error)]
+#[error("no staker asks so")]
 pub struct BadStakeLine;
 
 /// What a line asks for, the line end not counted: `AT ACCOUNT stake AMOUNT` or `AT ACCOUNT unstake AMOUNT`, with one

@@ -2,7 +2,7 @@
 
 ghost use Rattle.std.specs.Prelude.{◌≡◌, ℕ, ◌+◌, ◌-◌, ◌<◌, ◌≤◌, ◌==◌, ◌↔◌, true, false, [], ◌∷◌, List, Some, Err, OnOk, OnErr, if◌then◌else◌};
 ghost use Rattle.liq_types.specs.PlainLedger.{over_accounts};
-ghost use Rattle.liq_fees.specs.Happened.{Happened, Fee, of_coll, of_lusd, unshared_of, fees_of, changes_in, IsLawful};
+ghost use Rattle.liq_fees.specs.Happened.{Happened, Fee, of_coll, of_lusd, staked_of, stake_of, unshared_of, fees_of, changes_in, IsLawful};
 ghost use Rattle.liq_fees.specs.Exact.{IsWithinAllowance};
 ghost use Rattle.liq_fees.specs.Gains.{gain_of};
 ghost use Rattle.liq_fees.specs.Kept.{IsKeptOf, staker_in, change_by, refusal_of, row_of};
@@ -75,13 +75,14 @@ impl Fees {
     /// An account puts an amount in, or takes it out (units of the staked token). Refused where the account is not
     /// below [`ACCOUNTS`], the amount is 0, the account has less than it takes out, or all that is staked would pass
     /// [`STAKED_MOST`]. Refused or without memory, nothing changes. A value takes at most [`CHANGES_MOST`] changes.
+    #[tactic(auto, using(crate::proofs::Keeping::refusal_is))]
     pub fn change(&mut self, account: u32, amount: u64, out: bool) -> Result<(), ChangeFault>
         requires few { ∥ ((past : List Happened) × IsKeptOf self.old past × (changes_in past < CHANGES_MOST)) ∥₁ }
         ensures changed { OnOk result ((past : List Happened) → IsKeptOf self.old past → changes_in past < CHANGES_MOST →
             IsKeptOf self.new (change_by account amount out ∷ past)) }
-        ensures refused { (refusal : StakeRefusal) →
+        ensures refused { (past : List Happened) → IsKeptOf self.old past → (refusal : StakeRefusal) →
             (result ≡ Err (No refusal))
-            ↔ (refusal_of account amount out self.old.staked (staker_in self.old.stakers account).stake ≡ Some refusal) }
+            ↔ (refusal_of account amount out (staked_of past) (stake_of account past) ≡ Some refusal) }
         ensures err { OnErr result (self.new ≡ self.old) }
     {
         let staker = self.staker(account);

@@ -8,7 +8,7 @@ use Rattle.std.proofs.lemmas.Bool.{leb-false}
 use Rattle.std.proofs.lemmas.Bool.Decides.{nat_tests}
 use Rattle.liq_types.specs.declared.amounts.TheConstants.{ACCOUNTS}
 use Rattle.liq_fees.specs.Happened.{Happened, of_coll, of_lusd, unshared_of, changes_in, stake_of, staked_of, IsLawful}
-use Rattle.liq_fees.specs.Kept.{Kept, IsKeptOf, staker_in, change_by, refusal_of}
+use Rattle.liq_fees.specs.Kept.{Kept, IsKeptOf, change_by, refusal_of}
 use Rattle.liq_fees.specs.declared.changes.StakeRefusal.{StakeRefusal}
 use Rattle.liq_fees.specs.declared.changes.StakeRefusal.TheVariants.{AccountRange}
 use Rattle.liq_fees.specs.declared.lines.StakeLine.{StakeLine}
@@ -52,22 +52,17 @@ in_range account amount out staked stake = by (leb ACCOUNTS account) _ refl wher
 
 module _ (kept next : Answering) (a : Asked) (l : StakeLine) (h : IsAsked kept a) where
   abbrev pub asked_for : Option StakeRefusal
-  asked_for = refusal_of l.account l.amount l.out kept.fees.staked (staker_in kept.fees.stakers l.account).stake
-
-  same_refusal : asked_for ≡ refusal_of l.account l.amount l.out (staked_of a.past) (stake_of l.account a.past)
-  same_refusal =
-      ap (λ n. refusal_of l.account l.amount l.out n (staker_in kept.fees.stakers l.account).stake) h.fees.staked
-      ∙ ap (λ n. refusal_of l.account l.amount l.out (staked_of a.past) n) (h.fees.stakers l.account).stake
+  asked_for = refusal_of l.account l.amount l.out (staked_of a.past) (stake_of l.account a.past)
 
   abbrev pub moved : Asked
   moved = record a { least = l.at }
 
   pub made : asked_for ≡ None → IsKeptOf next.fees (change_by l.account l.amount l.out ∷ a.past) → next.stakers.keys ≡ insert_key nat_cmp kept.stakers.keys l.account
       → next.least ≡ l.at → next.text.items ≡ kept.text.items ++ line_of (codes "ok" ∷ [])
-      → IsAsked next (changed moved l (refusal_of l.account l.amount l.out (staked_of a.past) (stake_of l.account a.past)))
+      → IsAsked next (changed moved l asked_for)
   made none fees keys least text =
-      let low = in_range l.account l.amount l.out kept.fees.staked (staker_in kept.fees.stakers l.account).stake none in
-      subst (λ (o : Option StakeRefusal). IsAsked next (changed moved l o)) (sym none ∙ same_refusal)
+      let low = in_range l.account l.amount l.out (staked_of a.past) (stake_of l.account a.past) none in
+      subst (λ (o : Option StakeRefusal). IsAsked next (changed moved l o)) (sym none)
       (record {
         fees = fees;
         stakers = keys ∙ ap (λ (ks : List ℕ). insert_key nat_cmp ks l.account) h.stakers ∙ one_more_staker ACCOUNTS l.account l.amount l.out a.past low;
@@ -77,9 +72,9 @@ module _ (kept next : Answering) (a : Asked) (l : StakeLine) (h : IsAsked kept a
 
   pub refused_only : (refusal : StakeRefusal) → asked_for ≡ Some refusal → next.fees ≡ kept.fees → next.stakers.keys ≡ kept.stakers.keys
       → next.least ≡ l.at → next.text.items ≡ kept.text.items ++ line_of (codes "no" ∷ map decimal (numbers_of refusal))
-      → IsAsked next (changed moved l (refusal_of l.account l.amount l.out (staked_of a.past) (stake_of l.account a.past)))
+      → IsAsked next (changed moved l asked_for)
   refused_only refusal some fees keys least text =
-      subst (λ (o : Option StakeRefusal). IsAsked next (changed moved l o)) (sym some ∙ same_refusal)
+      subst (λ (o : Option StakeRefusal). IsAsked next (changed moved l o)) (sym some)
       (record {
         fees = subst (λ (k : Kept). IsKeptOf k a.past) (sym fees) h.fees;
         stakers = keys ∙ h.stakers;

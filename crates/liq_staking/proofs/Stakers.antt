@@ -5,6 +5,7 @@ use Rattle.std.specs.List.{range_with_len}
 use Rattle.std.specs.BTreeSet.{insert_key}
 use Rattle.std.specs.Ordering.{nat_cmp, match_ordering}
 use Rattle.std.specs.declared.cmp.Ordering.TheVariants.{Less, Equal, Greater}
+use Rattle.std.proofs.lemmas.Bool.{eqb-true, eqb-false}
 use Rattle.std.proofs.lemmas.Bool.Decides.{nat_tests}
 use Rattle.liq_fees.specs.Happened.{Happened, Fee, changes_of}
 use Rattle.liq_fees.specs.Kept.{change_by}
@@ -77,12 +78,6 @@ module _ (key low : ℕ) (p : ℕ → Bool) (rest more : List ℕ) where
         ∙ ap (λ t. cond (cond t true true) (low ∷ more) more) (sym other)
     by false = later ∙ ap (λ t. cond (cond t true false) (low ∷ more) more) (sym other)
 
-same_key : (j k : ℕ) → (j == k) ≡ true → j ≡ k
-same_key j k h = grind (arith, nat_tests, h)
-
-other_key : (j k : ℕ) → (j == k) ≡ false → j ≡ k → ⊥
-other_key j k h = grind (arith, nat_tests, h)
-
 other_later : (j k : ℕ) → j < k → (j == k) ≡ false
 other_later j k h = grind (arith, nat_tests, h)
 
@@ -94,12 +89,12 @@ inserted key (suc n) low p le lt = by (key == low) refl (λ less. inserted key n
       → insert_key nat_cmp (cond (p low) (low ∷ from (low + 1) n p) (from (low + 1) n p)) key
       ≡ cond (with_key key p low) (low ∷ from (low + 1) n (with_key key p)) (from (low + 1) n (with_key key p))
   by true is later =
-      let same = same_key key low is in
+      let same = eqb-true key low is in
       here key low p (from (low + 1) n p) (from (low + 1) n (with_key key p)) same
       (same_from n (low + 1) (with_key key p) p (λ k high. ap (λ t. cond t true (p k)) (other_later key k (omega (arith, same, high)))))
       (insert_first key n (low + 1) p (omega (arith, same)))
   by false is later =
-      let not_same = other_key key low is in
+      let not_same = eqb-false key low is in
       let less : low < key = omega (arith, le, not_same) in
       behind key low p (from (low + 1) n p) (from (low + 1) n (with_key key p)) less (later less)
 

@@ -9,6 +9,9 @@ use itoa::Buffer;
 use liq_fees::{StakeRefusal, StakeRow};
 use std::alloc::AllocError;
 
+/// The code of a line that is out of place.
+const OUT_OF_PLACE: u128 = 44;
+
 /// Appends the reply to a line that is out of place: its record, and the least and the most that it could have been.
 pub(crate) fn put_out_of_place(
     text: &mut Vec<u8>,
@@ -19,7 +22,12 @@ pub(crate) fn put_out_of_place(
     ensures { OnOk result (text.new.items
         ≡ text.old.items ++ line_of (codes "no" ∷ map decimal (44 ∷ at ∷ least ∷ most ∷ []))) }
 {
-    let numbers = [44, u128::from(at), u128::from(least), u128::from(most)];
+    let numbers = [
+        OUT_OF_PLACE,
+        u128::from(at),
+        u128::from(least),
+        u128::from(most),
+    ];
     put_line(text, b"no", &numbers)
 }
 
