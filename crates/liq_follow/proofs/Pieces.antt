@@ -1,9 +1,9 @@
 -- The bytes of the input, piece by piece.
-use Rattle.std.proofs.Common.{◌≡◌, ℕ, ◌≤◌, List, [], ◌++◌, length, take, drop, Option, Some, None, refl, sym, ap, subst, ◌∙◌, append_assoc, arith}
+use Rattle.std.proofs.Common.{◌≡◌, inr, ℕ, ◌+◌, ◌≤◌, ◌<◌, List, [], ◌++◌, length, take, drop, get_or, Option, Some, None, refl, sym, ap, subst, ◌∙◌, append_assoc, arith}
 use Rattle.std.specs.Prelude.{option_map, IfSome}
-use Rattle.std.proofs.lemmas.List.{take-append-drop, take_all}
+use Rattle.std.proofs.lemmas.List.{drop_more, take-append-drop, take_all}
 use Rattle.liq_lines.specs.Reading.{IsOver, Reads}
-use Rattle.liq_follower.specs.Fed.{AreDamagedAt, AreOver, AreTurnedTo, EndsWith, GoOn}
+use Rattle.liq_follower.specs.Fed.{AreOver, Completes, EndsWith, GoOn}
 use Rattle.liq_follower.specs.Following.{Followed, IsFed}
 use Rattle.liq_follower.specs.declared.answers.FedEnd.{FedEnd}
 use Rattle.liq_follower.specs.declared.answers.FedEnd.TheVariants as fed_end
@@ -34,11 +34,13 @@ module _ (taken : ℕ) (fed piece : List ℕ) where
   split = sym (append_assoc fed (take taken piece) (drop taken piece) ∙ ap (λ (xs : List ℕ). fed ++ xs) (take-append-drop taken piece))
 
   pub fed_piece : (end : FedEnd) (follower : Followed) → IsFed front follower → EndsWith end front → (end ≡ fed_end.All → taken ≡ length piece) → (AreOver front → IsFirstFault front)
-      → FedPiece (end_of end) (fed ++ piece) follower
-  fed_piece fed_end.All follower is ends all first =
+      → (end ≡ fed_end.NoMemory → taken < length piece) → (end ≡ fed_end.NoMemory → Completes (get_or piece taken 0) front) → FedPiece (end_of end) (fed ++ piece) follower
+  fed_piece fed_end.All follower is ends all first less right =
       let size = all refl in
       let same : front ≡ fed ++ piece = ap (λ (xs : List ℕ). fed ++ xs) (take_all taken piece (omega (arith, size))) in
       (subst (λ (t : List ℕ). IsFed t follower) same is, subst GoOn same ends)
-  fed_piece fed_end.NoMemory follower is ends all first = (front, drop taken piece, split, ends.0)
-  fed_piece (fed_end.Damaged index) follower is ends all first = (front, drop taken piece, split, (first (damage_ends index front ends), ends))
-  fed_piece (fed_end.Rotated generation) follower is ends all first = (front, drop taken piece, split, (first (turning_ends generation front ends), ends))
+  fed_piece fed_end.NoMemory follower is ends all first less right =
+      let behind = drop_more piece taken 0 (less refl) in
+      inr (front, drop (taken + 1) piece, get_or piece taken 0, (split ∙ ap (λ (xs : List ℕ). front ++ xs) behind), ends.0, right refl)
+  fed_piece (fed_end.Damaged index) follower is ends all first less right = (front, drop taken piece, split, (first (damage_ends index front ends), ends))
+  fed_piece (fed_end.Rotated generation) follower is ends all first less right = (front, drop taken piece, split, (first (turning_ends generation front ends), ends))

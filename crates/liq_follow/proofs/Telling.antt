@@ -1,5 +1,5 @@
 -- What stands at the input's end, told.
-use Rattle.std.proofs.Common.{◌≡◌, ◌≢◌, List, ℕ, [], Option, Ok, Err, Result, refl, sym, subst, append-nil}
+use Rattle.std.proofs.Common.{◌≡◌, ◌≢◌, inl, List, ℕ, Option, Ok, Err, Result, refl, subst}
 use Rattle.liq_lines.specs.Writing.{Writes, WritesPart}
 use Rattle.liq_ends.specs.declared.halts.Halt.{Halt}
 use Rattle.liq_ends.specs.declared.halts.Halt.TheVariants.{BadLine, ReadFault, WriteFault, DiskFault, Damaged, DamagedInput, NoMemory, Limit, Rotated}
@@ -19,7 +19,7 @@ told_whole read left before now text (Ok done) whole no_disk h =
 told_whole read left before now text (Err WriteFault) whole no_disk h =
     let same : h.0 ≡ text = cc h.1 in
     (whole, subst (λ (t : List ℕ). WritesPart before t now) same h.2)
-told_whole read left before now text (Err NoMemory) whole no_disk h = ((whole.few, (read, [], sym (append-nil read), (whole.state, whole.leads))), h)
+told_whole read left before now text (Err NoMemory) whole no_disk h = ((whole.few, inl (whole.state, whole.leads)), h)
 told_whole read left before now text (Err (Limit number)) whole no_disk h = absurd (cc h.0)
 told_whole read left before now text (Err DiskFault) whole no_disk h = absurd (no_disk refl)
 told_whole read left before now text (Err (BadLine n)) whole no_disk h = absurd h

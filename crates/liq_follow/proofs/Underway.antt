@@ -1,5 +1,5 @@
 -- The input on its way to the follower.
-use Rattle.std.proofs.Common.{◌≡◌, ℕ, ◌≤◌, ◌+◌, ◌-◌, List, [], ◌++◌, length, take, Option, Ok, Err, Result, refl, sym, ap, subst, ◌∙◌, append-nil, arith}
+use Rattle.std.proofs.Common.{◌≡◌, inl, ℕ, ◌≤◌, ◌+◌, ◌-◌, List, [], ◌++◌, length, take, Option, Ok, Err, Result, refl, sym, ap, subst, ◌∙◌, append-nil, arith}
 use Rattle.std.proofs.Math.Seq.{take-append_seam}
 use Rattle.std.proofs.lemmas.List.{length-append}
 use Rattle.liq_lines.specs.Reading.{Reads}
@@ -31,7 +31,7 @@ begun start follower is = record { read = []; reads = reads_nothing start; size 
 
 -- where there is no memory for a piece
 pub none_read : (start : Option (List ℕ)) (follower : Followed) → Came (Err NoMemory) start start follower
-none_read start follower = ([], reads_nothing start, (omega arith, ([], [], refl, none_goes_on)))
+none_read start follower = ([], reads_nothing start, (omega arith, inl none_goes_on))
 
 stopped_within : (halt : Halt) (read : List ℕ) (left : Option (List ℕ)) → length read ≤ FED_MOST → StopsWithin halt read → FollowsTo (Err halt) read left []
 stopped_within ReadFault read left few h = (few, h)

@@ -1,8 +1,8 @@
 -- Where the word `follow` ends, and what it tells.
-use Rattle.std.specs.Prelude.{ℕ, ◌≡◌, ◌≤◌, ◌+◌, List, [], ◌∷◌, ◌++◌, length, take, Option, Result, Ok, Err}
+use Rattle.std.specs.Prelude.{ℕ, ◌≡◌, ◌⊎◌, ◌≤◌, ◌+◌, List, [], ◌∷◌, ◌++◌, length, take, Option, Result, Ok, Err}
 use Rattle.liq_types.specs.State.{State}
 use Rattle.liq_lines.specs.Reading.{IsOver}
-use Rattle.liq_follower.specs.Fed.{AreDamagedAt, AreTurnedTo, GoOn, LeadTo}
+use Rattle.liq_follower.specs.Fed.{AreDamagedAt, AreTurnedTo, Completes, GoOn, LeadTo}
 use Rattle.liq_ends.specs.declared.halts.Halt.{Halt}
 use Rattle.liq_ends.specs.declared.halts.Halt.TheVariants.{DamagedInput, Limit, NoMemory}
 use Rattle.liq_ends.specs.declared.halts.Halt.TheVariants.{ReadFault, Rotated, WriteFault}
@@ -29,12 +29,17 @@ IsFirstFault bytes = (before : List ℕ) × (byte : ℕ) × (bytes ≡ before ++
 abbrev pub FaultIn : List ℕ → (List ℕ → Type 0) → Type 0
 FaultIn bytes P = HasFront bytes (λ front. IsFirstFault front × P front)
 
+-- a byte completes a record of right digest and form, and no fault stands before it
+abbrev pub FindsNoMemory : List ℕ → Type 0
+FindsNoMemory bytes =
+    (front rest : List ℕ) × (byte : ℕ) × (bytes ≡ front ++ byte ∷ rest) × GoOn front × Completes byte front
+
 -- why feeding stopped within the bytes that were read
 abbrev pub StopsWithin : Halt → List ℕ → Type 0
 -- no fault stands in what the source gave
 StopsWithin ReadFault read = GoOn read
--- nor in what was fed
-StopsWithin NoMemory read = HasFront read GoOn
+-- nor in what was read; or there was no memory for a record's step
+StopsWithin NoMemory read = GoOn read ⊎ FindsNoMemory read
 StopsWithin (DamagedInput index) read = FaultIn read (AreDamagedAt index)
 StopsWithin (Rotated generation) read = FaultIn read (AreTurnedTo generation)
 StopsWithin _ read = ⊥

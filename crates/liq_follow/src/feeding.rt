@@ -82,7 +82,8 @@ fn feed_piece(follower: &mut Follower, piece: &[u8]) -> Result<(), Halt>
     ensures no_source { result ≢ Err Halt.ReadFault }
     ensures no_sink { result ≢ Err Halt.WriteFault }
 {
-    end_of(follower.feed(piece).end)
+    let end = follower.feed(piece).end;
+    end_of(end)
 }
 
 /// How following goes on where a feed ended so.

@@ -5,7 +5,7 @@ use Rattle.std.proofs.lemmas.List.Elements.{All-pop}
 use Rattle.std.proofs.lemmas.List.{get_or-append_right}
 use Rattle.std.proofs.Common.{get_or, ◌-◌}
 use Rattle.liq_journal.proofs.Reading.{isnt_long}
-use Rattle.liq_follower.specs.Fed.{Completes, LackOne}
+use Rattle.liq_follower.specs.Fed.{Completes, LackOne, MayWantMemory}
 use Rattle.liq_types.specs.declared.requests.Command.{Command}
 use Rattle.liq_types.specs.State.{State, opening_with}
 use Rattle.liq_rules.specs.Step.{Allowed, after, effect, ruling}
@@ -112,14 +112,18 @@ module _ (front : List ℕ) (s : State) (e : EndsWhole front s) where
 
   -- the last byte of a record of right form comes behind the others
   pub completes : (held : List ℕ) (last index : ℕ) (c : Command) → length held ≡ 127 → index ≡ s.records + 1
-      → IsRecordOf index (held ++ last ∷ []) c → Completes last (front ++ 1 ∷ held)
-  completes held last index c size next read = (
-    w,
-    c,
-    stays_open (1 ∷ held) (isnt_long (1 ∷ held) (omega arith)),
-    ap (found_on true) (append_assoc front (1 ∷ held) (last ∷ []))
-        ∙ found_next (held ++ last ∷ []) (let n = length-append held (last ∷ []) in omega (arith, n, size)) index next c read,
-  )
+      → IsRecordOf index (held ++ last ∷ []) c → MayWantMemory s c → Completes last (front ++ 1 ∷ held)
+  completes held last index c size next read wants =
+      let none : begins_whole (1 ∷ held) ≡ false = isnt_long (1 ∷ held) (omega arith) in (
+        w,
+        c,
+        s,
+        stays_open (1 ∷ held) none,
+        ap (found_on true) (append_assoc front (1 ∷ held) (last ∷ []))
+            ∙ found_next (held ++ last ∷ []) (let n = length-append held (last ∷ []) in omega (arith, n, size)) index next c read,
+        leads (1 ∷ held) none,
+        wants,
+      )
 
   -- all bytes of a record but the last one are there
   pub lacks_one : (held : List ℕ) → length held ≡ 127 → LackOne (front ++ 1 ∷ held)

@@ -11,7 +11,7 @@ use Rattle.liq_follower.specs.declared.header.Judged.TheVariants as judged
 use Rattle.liq_follower.specs.declared.phase.Phase.{Phase}
 use Rattle.liq_follower.specs.declared.phase.Phase.TheVariants.{Header, Inside}
 use Rattle.liq_follower.specs.declared.record.Redone.TheVariants as redone
-use Rattle.liq_follower.specs.Fed.{AreDamagedAt, Completes, EndsWhole, IsBegun, IsNoRecord, IsRecordOf, LackOne, LeadTo, begun_limit}
+use Rattle.liq_follower.specs.Fed.{AreDamagedAt, Completes, EndsWhole, IsBegun, IsNoRecord, IsRecordOf, LackOne, LeadTo, MayWantMemory, begun_limit}
 use Rattle.liq_follower.specs.Following.{EndsAs, IsInPhase, StandsBeforeLast}
 use Rattle.liq_follower.specs.Judging.{IsJudged, IsTaken, IsUnfit, phase_of}
 use Rattle.liq_follower.proofs.Fronts.{bad_command, bad_form, completes, lacks_one, leads, one_record_more}
@@ -130,13 +130,13 @@ module _ (bytes held : List ℕ) (core : Core) (last index : ℕ) (size : length
       → AreDamagedAt index (bytes ++ last ∷ []) × StandsBeforeLast (bytes ++ last ∷ []) next_core
   refused_by read same next_core t = record_refused next_core (subst (λ (l : List ℕ). IsUnfit state index l × StandsFor next_core state) same t)
 
-  completed : (c : Command) → IsRecordOf index raw c → Completes last bytes
-  completed c read = subst (Completes last) (sym at.1) (completes at.0 state front held last index c size index_is read)
+  completed : (c : Command) → IsRecordOf index raw c → MayWantMemory state c → Completes last bytes
+  completed c read wants = subst (Completes last) (sym at.1) (completes at.0 state front held last index c size index_is read wants)
 
   pub lacking : (read : List ℕ) → read ≡ raw → (next_core : Core) → IsTaken state index read next_core redone.NoMemory
       → IsInPhase Inside held bytes next_core × LackOne bytes × Completes last bytes
-  lacking read same next_core (c, is, stands) = (
+  lacking read same next_core (c, is, wants, stands) = (
     (at.0, at.1, at.2, (state, front, stands)),
     lacks bytes held core size at,
-    completed c (subst (λ (l : List ℕ). IsRecordOf index l c) same is),
+    completed c (subst (λ (l : List ℕ). IsRecordOf index l c) same is) wants,
   )

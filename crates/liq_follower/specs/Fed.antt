@@ -1,11 +1,13 @@
 -- What bytes stand for that are the beginning of a journal of generation 1, as far as they go.
-use Rattle.std.specs.Prelude.{◌≡◌, ◌<◌, ◌≤◌, ℕ, ◌+◌, List, [], ◌∷◌, ◌++◌, length, get_or, Ok, Err}
+use Rattle.std.specs.Prelude.{◌≡◌, ◌⊎◌, ◌<◌, ◌≤◌, ℕ, ◌+◌, List, [], ◌∷◌, ◌++◌, length, get_or, Ok, Err}
 use Rattle.std.specs.Prelude.{Bool, true, false, ◌&&◌, ◌==◌}
 use Rattle.std.specs.Prelude.{nat_lt, nat_le, if◌then◌else◌}
 use Rattle.std.specs.Str.{bytes_eq}
 use Rattle.liq_types.specs.declared.amounts.TheConstants.{LIM, LIM_OF_VERSION_1, RECORDS_MOST}
 use Rattle.liq_types.specs.declared.requests.Command.{Command}
 use Rattle.liq_types.specs.State.{State, opening_with}
+use Rattle.liq_rules.specs.Lists.{PlansList}
+use Rattle.liq_rules.specs.Step.{Allowed, ruling}
 use Rattle.liq_journal.specs.declared.damage.Damage.{Damage}
 use Rattle.liq_journal.specs.declared.damage.What.{What}
 use Rattle.liq_journal.specs.Layout.{generation_on, header_size, layout_on, name_on, version_1}
@@ -21,8 +23,8 @@ use Rattle.liq_follower.specs.declared.answers.FedEnd.TheVariants.{All, Damaged,
 abbrev pub has_header : List ℕ → Bool
 has_header bytes = (get_or bytes 0 0 == 1) && nat_le (header_size (layout_on bytes)) (length bytes)
 
--- The limit where no header is whole: that of version 1 where an open gate and the name of version 1 are there, else that
--- of a journal that is begun.
+-- The limit where no header is whole: that of version 1 where an open gate and the name of version 1 are there, else
+-- that of a journal that is begun.
 abbrev pub begun_limit : List ℕ → ℕ
 begun_limit bytes =
     if (get_or bytes 0 0 == 1) && bytes_eq (name_on bytes) version_1.name then LIM_OF_VERSION_1 else LIM
@@ -86,14 +88,21 @@ LackOne bytes =
     × (length bytes ≡ end_of w + 128)
     × (get_or bytes (end_of w) 0 ≡ 1)
 
--- This byte behind them completes a record whose digest and fields are right. Whether the rules allow its command is not
--- said.
+-- memory may be wanted for this command: the rules allow it, or a list of troves is planned for it
+abbrev pub MayWantMemory : State → Command → Type 0
+MayWantMemory s c = (ruling s c ≡ Allowed) ⊎ PlansList s c
+
+-- This byte behind them completes a record whose digest and fields are right, and for whose command memory may be
+-- wanted in the state to which they lead.
 abbrev pub Completes : ℕ → List ℕ → Type 0
 Completes byte bytes =
     (w : Written)
     × (c : Command)
+    × (s : State)
     × (found_on true bytes ≡ Open w)
     × (found_on true (bytes ++ byte ∷ []) ≡ Open (and_then w c))
+    × LeadTo bytes s
+    × MayWantMemory s c
 
 -- What each end says of all bytes that were taken. No two of `All`, `Damaged` and `Rotated` come with the same bytes.
 abbrev pub EndsWith : FedEnd → List ℕ → Type 0

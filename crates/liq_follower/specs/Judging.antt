@@ -14,7 +14,7 @@ use Rattle.liq_follower.specs.declared.record.Redone.{Redone}
 use Rattle.liq_follower.specs.declared.record.Redone.TheVariants.{Made, NoMemory, Refused}
 use Rattle.liq_follower.specs.declared.phase.Phase.{Phase}
 use Rattle.liq_follower.specs.declared.phase.Phase.TheVariants as phase
-use Rattle.liq_follower.specs.Fed.{IsNoRecord, IsRecordOf, is_turned}
+use Rattle.liq_follower.specs.Fed.{IsNoRecord, IsRecordOf, MayWantMemory, is_turned}
 
 -- no test of the header fails; or one does, and it isn't turned
 abbrev pub IsJudged : List ℕ → Judged → Type 0
@@ -43,7 +43,7 @@ IsTested index raw None = IsNoRecord index raw
 abbrev pub IsRedone : State → Command → Core → Redone → Type 0
 IsRedone s c core Made = (ruling s c ≡ Allowed) × StandsFor core (after s c)
 IsRedone s c core Refused = (ruling s c ≡ Allowed → ⊥) × StandsFor core s
-IsRedone s c core NoMemory = StandsFor core s
+IsRedone s c core NoMemory = MayWantMemory s c × StandsFor core s
 
 -- the record of this number has a fault, or its command is not allowed
 abbrev pub IsUnfit : State → ℕ → List ℕ → Type 0
@@ -54,4 +54,4 @@ abbrev pub IsTaken : State → ℕ → List ℕ → Core → Redone → Type 0
 IsTaken s index raw core Made =
     (c : Command) × IsRecordOf index raw c × (ruling s c ≡ Allowed) × StandsFor core (after s c)
 IsTaken s index raw core Refused = IsUnfit s index raw × StandsFor core s
-IsTaken s index raw core NoMemory = (c : Command) × IsRecordOf index raw c × StandsFor core s
+IsTaken s index raw core NoMemory = (c : Command) × IsRecordOf index raw c × MayWantMemory s c × StandsFor core s

@@ -85,7 +85,8 @@ impl Follower {
     ///
     /// - `All`: the whole piece was taken.
     /// - `NoMemory`: there is no memory for the step of the record that the byte behind those that were taken completes.
-    ///   Its digest and form are right. That byte isn't taken, the protocol is as it was, and feeding may go on from it.
+    ///   Its digest and form are right, and the rules allow its command, or a list of troves is planned for it. That byte
+    ///   isn't taken, the protocol is as it was, and feeding may go on from it.
     /// - `Damaged`: the record of this number is damaged, or the header, which is 0, by the byte that was taken last. No byte
     ///   is taken from then on, each feed answers this, and the protocol stays at the state before that byte.
     /// - `Rotated`: the header is of this later generation. No byte is taken from then on, and each feed answers this.

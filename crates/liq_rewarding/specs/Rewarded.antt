@@ -1,4 +1,5 @@
--- The text that tells rewards: a reply for each line, what each account has earned and keeps of it, and what was issued.
+-- The text that tells rewards: a reply for each line, what each account has earned and keeps of it, and what was
+-- issued.
 use Rattle.std.specs.Prelude.{ℕ, List, [], ◌∷◌, ◌++◌, Option, map, codes, decimal}
 use Rattle.std.specs.List.{flat_map}
 use Rattle.liq_types.specs.declared.requests.Command.{Command}
@@ -34,8 +35,8 @@ told lines minute past accounts =
     ++ flat_map (row_line (tags_of lines) minute past) accounts
     ++ line_of (issued_words minute past)
 
--- the text for these commands of a journal, from the opening under its limit on, and these lines: of each account with an own
--- operation, ascending
+-- the text for these commands of a journal, from the opening under its limit on, and these lines: of each account with
+-- an own operation, ascending
 abbrev pub rewarded_text : ℕ → List Command → List TagLine → List ℕ
 rewarded_text limit commands lines =
     let start = opening_with limit in

@@ -16,8 +16,9 @@ ghost use Rattle.liq_rewards.specs.Exact.{IsWithinAllowance, allowance_at};
 ghost use Rattle.liq_rules.specs.Events.{events};
 ghost use Rattle.liq_rewarding.specs.Happened.{past_after, minute_after};
 
-/// The rewards that are told of a journal's commands, which are replayed from the opening under a limit, are exact shares but
-/// for the allowance that is told beside each, and with the unshared units they are at most those that were issued.
+/// The rewards that are told of a journal's commands, which are replayed from the opening under a limit, are exact
+/// shares but for the allowance that is told beside each, and with the unshared units they are at most those that were
+/// issued.
 pub fn rewards_of_commands_are_shares()
     ensures events { (limit : ℕ) → (commands : List Command)
         → events_of (past_after [] (opening_with limit) commands) ≡ events (opening_with limit) commands }

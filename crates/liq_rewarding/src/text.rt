@@ -14,11 +14,11 @@ use std::alloc::{AllocError, Global};
 use std::collections::BTreeMap;
 
 /// Appends the text that tells rewards: a reply for each line on which a depositor names a front end, a line
-/// `ACCOUNT REWARD ALLOW KEPT FRONT GIVEN` for each of these accounts, and a line `issued I unshared U`. Without memory nothing
-/// is appended.
+/// `ACCOUNT REWARD ALLOW KEPT FRONT GIVEN` for each of these accounts, and a line `issued I unshared U`. Without memory
+/// nothing is appended.
 ///
-/// KEPT is the part of REWARD that the account's tag says, rounded down, and GIVEN the rest, which is FRONT's; without a tag
-/// FRONT is `-`, and GIVEN is 0.
+/// KEPT is the part of REWARD that the account's tag says, rounded down, and GIVEN the rest, which is FRONT's; without
+/// a tag FRONT is `-`, and GIVEN is 0.
 pub fn rewards_text(
     lines: &[TagLine],
     rewards: &Rewards,

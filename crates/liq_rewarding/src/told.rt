@@ -24,7 +24,8 @@ pub(crate) fn put_refusal(text: &mut Vec<u8>, refusal: &TagRefusal) -> Result<()
     }
 }
 
-/// Appends an account's line: its reward, by how much that may fall short, what it keeps, and what its front end is given.
+/// Appends an account's line: its reward, by how much that may fall short, what it keeps, and what its front end is
+/// given.
 pub(crate) fn put_row(
     text: &mut Vec<u8>,
     row: RewardRow,

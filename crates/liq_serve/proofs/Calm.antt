@@ -8,8 +8,11 @@ use Rattle.liq_types.specs.declared.requests.Request.{Request}
 use Rattle.liq_types.specs.State.{State, opening_with}
 use Rattle.liq_rules.specs.History.{Entry}
 use Rattle.liq_lines.specs.declared.stops.Stop.TheVariants as stop
-use Rattle.liq_fees.specs.declared.lines.StakeLine.{StakeLine}
-use Rattle.liq_fees.specs.Lines.{Spells}
+use Rattle.liq_types.specs.declared.requests.Command.{Command}
+use Rattle.liq_fees.specs.Lines as stakes
+use Rattle.liq_staking.specs.Staked.{staked_text}
+use Rattle.liq_rewards.specs.Lines as tags
+use Rattle.liq_rewarding.specs.Rewarded.{rewarded_text}
 use Rattle.liq_lines.specs.Lines.{lines_in}
 use Rattle.liq_lines.specs.Reading.{Reads}
 use Rattle.liq_lines.proofs.Sayings.{stops_outside}
@@ -21,14 +24,14 @@ use Rattle.liq_ends.specs.declared.halts.Halt.{Halt}
 use Rattle.liq_ends.specs.declared.halts.Halt.TheVariants.{BadLine, ReadFault, WriteFault, DiskFault, Damaged, DamagedInput, NoMemory, Limit, Rotated}
 use Rattle.liq_ends.specs.Reading.{ReadsTo}
 use Rattle.liq_ends.specs.Statuses.{IsDone, status_of}
-use Rattle.liq_tell.specs.Staking.{IsStakingOf}
+use Rattle.liq_tell.specs.Answers.{IsAnswerOf}
 use Rattle.liq_tell.proofs.Audited.{no_limit}
 use Rattle.liq_follower.specs.Fed.{GoOn}
 use Rattle.liq_follow.specs.declared.feeding.TheConstants.{FED_MOST}
 use Rattle.liq_follow.proofs.Ended.{damaged_so, long_so, turned_so, whole_so}
 use Rattle.liq_serve.specs.Calm.{IsComplete, Stopped}
 use Rattle.liq_serve.specs.Outside.{Outside}
-use Rattle.liq_serve.specs.Staking.{AnswersStakers, StakesTo, StopsUnopened}
+use Rattle.liq_serve.specs.Answered.{AnswersBeside, AnswersLines, StopsUnopened}
 use Rattle.liq_serve.specs.Top.{Answers, Ends, OpensNone, ServesTo, Tells}
 use Rattle.liq_serve.proofs.Served.{IsStopping}
 use Rattle.liq_serve.proofs.StatusLaws.{neither, run_done}
@@ -101,31 +104,32 @@ stopped_by : (P : Result (Unit {0}) Halt → Type 0) (end wanted : Result (Unit 
 stopped_by P end wanted holds (inl is) = inl (ap status_of is, subst P is holds)
 stopped_by P end wanted holds (inr is) = inr (ap status_of is)
 
--- ---- of `staking`
+-- ---- of lines that are answered
 
 -- of the first generation
-staked_done : (s : State) (end : Result (Unit {0}) Halt) → s.generation ≡ 1 → IsStakingOf s end → status_of end ≢ 4 → status_of end ≢ 5 → IsDone (status_of end)
-staked_done s (Ok done) first h sink disk = inl refl
-staked_done s (Err WriteFault) first h sink disk = absurd (sink refl)
-staked_done s (Err DiskFault) first h sink disk = absurd (disk refl)
-staked_done s (Err NoMemory) first h sink disk = inr refl
-staked_done s (Err (Rotated generation)) first h sink disk = absurd (omega (arith, first, h.0))
-staked_done s (Err _) first h sink disk = absurd h
+answers_beside_done : (s : State) (end : Result (Unit {0}) Halt) → s.generation ≡ 1 → IsAnswerOf s end → status_of end ≢ 4 → status_of end ≢ 5 → IsDone (status_of end)
+answers_beside_done s (Ok done) first h sink disk = inl refl
+answers_beside_done s (Err WriteFault) first h sink disk = absurd (sink refl)
+answers_beside_done s (Err DiskFault) first h sink disk = absurd (disk refl)
+answers_beside_done s (Err NoMemory) first h sink disk = inr refl
+answers_beside_done s (Err (Rotated generation)) first h sink disk = absurd (omega (arith, first, h.0))
+answers_beside_done s (Err _) first h sink disk = absurd h
 
 module _
     {S K D : Type 0} (unread : S → Option (List ℕ)) (held : K → Option (List ℕ)) (sink_faults : K → ℕ) (seen : D → Option (List ℕ))
-    (moment : D → ℕ) (left_at : D → ℕ → List ℕ → Type 0) (before after : Outside S K D) where
-  staking_done :
-      (end : Result (Unit {0}) Halt) (stakes : StakesTo unread held sink_faults seen moment left_at before after end)
-      → (bytes l r : List ℕ) (start : State) (all : List StakeLine) → unread before.source ≡ Some bytes → seen before.left ≡ Some l → seen before.right ≡ Some r
-      → state_on l r ≡ Ok start → start.generation ≡ 1 → AllZip Spells (lines_in bytes) all → length all ≤ LINES_MOST → status_of end ≢ 3 → status_of end ≢ 4 → status_of end ≢ 5
+    (moment : D → ℕ) (left_at : D → ℕ → List ℕ → Type 0) (before after : Outside S K D)
+    {X : Type 0} (Says : List ℕ → X → Type 0) (text : ℕ → List Command → List X → List ℕ) where
+  lines_done :
+      (end : Result (Unit {0}) Halt) (answered : AnswersLines unread held sink_faults seen moment left_at before after Says text end)
+      → (bytes l r : List ℕ) (start : State) (all : List X) → unread before.source ≡ Some bytes → seen before.left ≡ Some l → seen before.right ≡ Some r
+      → state_on l r ≡ Ok start → start.generation ≡ 1 → AllZip Says (lines_in bytes) all → length all ≤ LINES_MOST → status_of end ≢ 3 → status_of end ≢ 4 → status_of end ≢ 5
       → IsDone (status_of end)
-  staking_done end stakes bytes l r start all told told_l told_r is first spelled few read sink disk = by stakes.came where
-    by : ((stakes.reading ≡ end) × StopsUnopened unread held sink_faults seen moment left_at before after end)
-        ⊎ ((stakes.reading ≡ Ok tt) × AnswersStakers unread held sink_faults seen moment left_at before after stakes.asked end) → IsDone (status_of end)
+  lines_done end answered bytes l r start all told told_l told_r is first spelled few read sink disk = by answered.came where
+    by : ((answered.reading ≡ end) × StopsUnopened unread held sink_faults seen moment left_at before after end)
+        ⊎ ((answered.reading ≡ Ok tt) × AnswersBeside unread held sink_faults seen moment left_at before after (λ limit commands. text limit commands answered.asked) end) → IsDone (status_of end)
     by (inl (stopped, unopened)) =
-        stopped_done Spells end bytes (unread after.source) stakes.asked all unopened.3 (subst (λ (e : Result (Unit {0}) Halt). ReadsTo Spells bytes (unread after.source) stakes.asked e) stopped (stakes.read bytes told)) spelled few read
-    by (inr (whole, answers)) = staked_done start end first (MatchResult-at_ok _ _ start is (answers l r told_l told_r)).0 sink disk
+        stopped_done Says end bytes (unread after.source) answered.asked all unopened.3 (subst (λ (e : Result (Unit {0}) Halt). ReadsTo Says bytes (unread after.source) answered.asked e) stopped (answered.read bytes told)) spelled few read
+    by (inr (whole, answers)) = answers_beside_done start end first (MatchResult-at_ok _ _ start is (answers l r told_l told_r)).0 sink disk
 
 -- ---- of each word
 
@@ -157,7 +161,11 @@ module _
         staking = λ asks bytes l r start asked told stood all few first well calm.
             let e = ends.ends word.Staking asks in
             subst IsDone (sym e.1)
-            (staking_done unread held sink_faults seen moment left_at before after e.0 e.2 bytes l r start asked told stood.left stood.right stood.is first all few (λ is. well (ends.source_fault (e.1 ∙ is))) (λ is. calm.sink (ends.sink_fault (e.1 ∙ is))) (λ is. calm.disk (ends.disk_fault (e.1 ∙ is))));
+            (lines_done unread held sink_faults seen moment left_at before after stakes.Spells staked_text e.0 e.2 bytes l r start asked told stood.left stood.right stood.is first all few (λ is. well (ends.source_fault (e.1 ∙ is))) (λ is. calm.sink (ends.sink_fault (e.1 ∙ is))) (λ is. calm.disk (ends.disk_fault (e.1 ∙ is))));
+        rewards = λ asks bytes l r start asked told stood all few first well calm.
+            let e = ends.ends word.Rewards asks in
+            subst IsDone (sym e.1)
+            (lines_done unread held sink_faults seen moment left_at before after tags.Spells rewarded_text e.0 e.2 bytes l r start asked told stood.left stood.right stood.is first all few (λ is. well (ends.source_fault (e.1 ∙ is))) (λ is. calm.sink (ends.sink_fault (e.1 ∙ is))) (λ is. calm.disk (ends.disk_fault (e.1 ∙ is))));
         state = λ asked l r start stood calm.
             let e = ends.ends word.State asked in
             let told = MatchResult-at_ok _ _ start stood.is (e.2.1 l r stood.left stood.right) in

@@ -1,5 +1,5 @@
 -- Two runs, one after the other.
-use Rattle.std.proofs.Common.{◌≡◌, ◌≢◌, ℕ, List, [], ◌∷◌, Option, Some, None, Ok, Err, Result, refl, sym, ap, subst, ◌∙◌, inl, inr}
+use Rattle.std.proofs.Common.{◌≡◌, ◌≢◌, ℕ, List, [], ◌∷◌, Option, Some, Ok, Err, Result, refl, sym, ap, subst, ◌∙◌, inl, inr}
 use Rattle.std.specs.Prelude.{◌⊎◌, IfSome, fold}
 use Rattle.std.proofs.lemmas.Result.{MatchResult-at_ok}
 use Rattle.liq_outside.specs.Disk.{LeftNow, Only}
@@ -15,7 +15,7 @@ use Rattle.liq_pairs.specs.Pair.{state_on}
 use Rattle.liq_pairs.specs.Past.{AtCommand, Fault, InOpening, NoFault}
 use Rattle.liq_pairs.specs.Unfinished.{HoldsUnfinished, IsRecovered}
 use Rattle.liq_store.specs.Keeping.{IsAtRest}
-use Rattle.liq_store.specs.Leaving.{LeavesBoth, RestAtEnd}
+use Rattle.liq_store.specs.Leaving.{RestAtEnd}
 use Rattle.liq_words.specs.declared.words.Word.TheVariants as word
 use Rattle.liq_words.specs.Words.{Ask}
 use Rattle.liq_ends.specs.declared.halts.Halt.{Halt}

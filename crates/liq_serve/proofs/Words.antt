@@ -29,9 +29,14 @@ use Rattle.liq_ends.proofs.Opened.{standing_still, state_formed, untouched}
 use Rattle.liq_ends.proofs.Passing.{untouched_past}
 use Rattle.liq_ends.proofs.Shares.{all_shares}
 use Rattle.liq_store.specs.Causes.{counts_of}
+use Rattle.liq_types.specs.declared.requests.Command.{Command}
+use Rattle.liq_fees.specs.Lines as stakes
+use Rattle.liq_staking.specs.Staked.{staked_text}
+use Rattle.liq_rewards.specs.Lines as tags
+use Rattle.liq_rewarding.specs.Rewarded.{rewarded_text}
+use Rattle.liq_serve.specs.Answered.{AnswersLines}
 use Rattle.liq_serve.specs.Outside.{Outside}
 use Rattle.liq_follow.proofs.Beginning.{none_goes_on}
-use Rattle.liq_serve.specs.Staking.{StakesTo}
 use Rattle.liq_serve.specs.Top.{Ends, Leaves, OpensFirst, ServesTo, Tells, most_taken, statuses_of}
 use Rattle.liq_serve.proofs.Served.{by_found, if_found, same_disks}
 use Rattle.liq_serve.proofs.StatusLaws.{no_memory_known, status_known}
@@ -195,8 +200,9 @@ module _
         past = λ l r told_l told_r. if_found (state_on l r) _ (λ start is. untouched_past seen moment left_at stays before.left before.right l r start _ refl told_l told_r);
       }
 
-  stakes_nothing : Writes (last NoMemory) → StakesTo unread held sink_faults seen moment left_at before after (Err NoMemory)
-  stakes_nothing written =
+  lines_nothing : {X : Type 0} (Says : List ℕ → X → Type 0) (text : ℕ → List Command → List X → List ℕ) → Writes (last NoMemory)
+      → AnswersLines unread held sink_faults seen moment left_at before after Says text (Err NoMemory)
+  lines_nothing Says text written =
       record {
         asked = [];
         few = omega arith;
@@ -228,7 +234,8 @@ module _
       })
       (λ side damage is. (refl, still side damage l r told_l told_r is, written))
   nothing_done written word.Serve = serves_nothing written
-  nothing_done written word.Staking = stakes_nothing written
+  nothing_done written word.Staking = lines_nothing stakes.Spells staked_text written
+  nothing_done written word.Rewards = lines_nothing tags.Spells rewarded_text written
   nothing_done written word.State = (
     refl,
     λ l r told_l told_r. by_found (state_on l r) _ _

@@ -7,7 +7,9 @@ use Rattle.liq_types.specs.declared.requests.Request.{Request}
 use Rattle.liq_types.specs.State.{State, opening_with}
 use Rattle.liq_rules.specs.Events.{events}
 use Rattle.liq_fees.specs.declared.lines.StakeLine.{StakeLine}
-use Rattle.liq_fees.specs.Lines.{Spells}
+use Rattle.liq_fees.specs.Lines as stakes
+use Rattle.liq_rewards.specs.declared.lines.TagLine.{TagLine}
+use Rattle.liq_rewards.specs.Lines as tags
 use Rattle.liq_lines.specs.Lines.{lines_in}
 use Rattle.liq_pairs.specs.Pair.{commands_on, state_on}
 use Rattle.liq_review.specs.Limits.{number_above}
@@ -68,10 +70,14 @@ module _
         Ask words word.Serve → (bytes l r : List ℕ) (start : State) (asked : List (ℕ × Request))
         → unread before.source ≡ Some bytes → StoodFor l r start → AllZip Asks (lines_in bytes) asked
         → length asked ≤ LINES_MOST → IsReadWell → IsCalm → IsDone status
-    -- Stakers too are answered beside the first generation alone.
+    -- Stakers too are answered beside the first generation alone, and so are those who name front ends.
     pub staking :
         Ask words word.Staking → (bytes l r : List ℕ) (start : State) (asked : List StakeLine)
-        → unread before.source ≡ Some bytes → StoodFor l r start → AllZip Spells (lines_in bytes) asked
+        → unread before.source ≡ Some bytes → StoodFor l r start → AllZip stakes.Spells (lines_in bytes) asked
+        → length asked ≤ LINES_MOST → start.generation ≡ 1 → IsReadWell → IsCalm → IsDone status
+    pub rewards :
+        Ask words word.Rewards → (bytes l r : List ℕ) (start : State) (asked : List TagLine)
+        → unread before.source ≡ Some bytes → StoodFor l r start → AllZip tags.Spells (lines_in bytes) asked
         → length asked ≤ LINES_MOST → start.generation ≡ 1 → IsReadWell → IsCalm → IsDone status
     pub state :
         Ask words word.State → (l r : List ℕ) (start : State) → StoodFor l r start → IsCalm → IsDone status

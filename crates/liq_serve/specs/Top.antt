@@ -38,13 +38,17 @@ use Rattle.liq_ends.specs.Requests.{IsNext}
 use Rattle.liq_ends.specs.Statuses.{status_of}
 use Rattle.liq_ends.specs.Stops.{Adds, HaveTheirShares, TellsBehind}
 use Rattle.liq_tell.specs.Audit.{IsAuditOf}
+use Rattle.liq_fees.specs.Lines as stakes
+use Rattle.liq_staking.specs.Staked.{staked_text}
+use Rattle.liq_rewards.specs.Lines as tags
+use Rattle.liq_rewarding.specs.Rewarded.{rewarded_text}
 use Rattle.liq_tell.specs.Report.{reported}
 use Rattle.liq_tell.specs.State.{standing}
 use Rattle.liq_load.specs.Load.{load, summary}
 use Rattle.liq_follow.specs.declared.feeding.TheConstants.{FED_MOST}
 use Rattle.liq_follow.specs.Followed.{FollowsTo}
+use Rattle.liq_serve.specs.Answered.{AnswersLines}
 use Rattle.liq_serve.specs.Outside.{Outside}
-use Rattle.liq_serve.specs.Staking.{StakesTo}
 
 -- the first requests of the session are answered in the history, in order, and these are left
 abbrev pub AreLeft : List (ℕ × Request) → List Entry → ℕ → List Request → Type 0
@@ -56,6 +60,7 @@ abbrev pub statuses_of : Word → List ℕ
 statuses_of word.Run = 0 ∷ 2 ∷ 3 ∷ 4 ∷ 5 ∷ 6 ∷ 7 ∷ 8 ∷ []
 statuses_of word.Serve = 0 ∷ 2 ∷ 3 ∷ 4 ∷ 5 ∷ 6 ∷ 7 ∷ 8 ∷ []
 statuses_of word.Staking = 0 ∷ 2 ∷ 3 ∷ 4 ∷ 5 ∷ 6 ∷ 7 ∷ 8 ∷ 9 ∷ []
+statuses_of word.Rewards = 0 ∷ 2 ∷ 3 ∷ 4 ∷ 5 ∷ 6 ∷ 7 ∷ 8 ∷ 9 ∷ []
 statuses_of word.State = 0 ∷ 4 ∷ 5 ∷ 6 ∷ 7 ∷ []
 statuses_of word.Report = 0 ∷ 4 ∷ 5 ∷ 6 ∷ 7 ∷ []
 statuses_of word.Audit = 0 ∷ 4 ∷ 5 ∷ 6 ∷ 7 ∷ 8 ∷ 9 ∷ []
@@ -193,7 +198,11 @@ module _
   -- each session's lines are answered in order, all sessions' at once, along one history
   Leaves word.Serve end = ServesTo end
   -- stakers are answered beside the commands that lead to the state, and the disks stay so
-  Leaves word.Staking end = StakesTo unread held sink_faults seen moment left_at before after end
+  Leaves word.Staking end =
+      AnswersLines unread held sink_faults seen moment left_at before after stakes.Spells staked_text end
+  -- so are those who name front ends
+  Leaves word.Rewards end =
+      AnswersLines unread held sink_faults seen moment left_at before after tags.Spells rewarded_text end
   -- nothing is read; it is told what stands, and the disks stay so
   Leaves word.State end =
       (after.source ≡ before.source) × OpensFirst end (λ l r start. Contains (0 ∷ 4 ∷ 5 ∷ 7 ∷ []) (status_of end)

@@ -1,9 +1,9 @@
 //! The top call: from the words and the bytes that come in to the bytes that go out.
 #![tactic(auto)]
 
+mod answers;
 pub mod laws;
 mod serve;
-mod staking;
 mod top;
 
 pub use liq_sessions::OpenGate;

@@ -12,8 +12,8 @@ ghost use Rattle.liq_ends.specs.Statuses.{status_of};
 ghost use Rattle.liq_ends.specs.Stops.{Adds};
 ghost use Rattle.liq_serve.specs.Top.{Ends};
 
+use crate::answers::{reward_on, stake_on};
 use crate::serve::serve_on;
-use crate::staking::stake_on;
 use liq_ends::{Ending, Halt, status, write_last, write_usage};
 use liq_follow::follow_on;
 use liq_load::tell_load;
@@ -78,14 +78,16 @@ fn is_serve(read: &Result<Word, WordsFault>) -> bool
 ///
 /// - 0: all is done and written;
 /// - 1: the words are not understood; nothing was read;
-/// - 2: a line is no request, or, for `staking`, none on which a staker asks;
+/// - 2: a line is no request, or, for `staking`, none on which a staker asks, or, for `rewards`, none that names a front
+///   end;
 /// - 3: the source met a fault;
-/// - 4: the sink met a fault at a reply, or at what a load, `state`, `report`, `audit`, `staking` or `follow` tells;
+/// - 4: the sink met a fault at a reply, or at what a load, `state`, `report`, `audit`, `staking`, `rewards` or `follow`
+///   tells;
 /// - 5: a disk met a fault;
 /// - 6: a disk is damaged, or the journal that comes in;
 /// - 7: there was no memory;
 /// - 8: there are more than 1,000,000 lines, or more bytes than are followed, or a limit of the audit is passed;
-/// - 9: the journal was rotated, so that there is no audit, stakers have no answer, and it can't be followed.
+/// - 9: the journal was rotated, so that there is no audit, lines have no answer, and it can't be followed.
 ///
 /// For `run` each line of the input is a request, and its reply is written once its call has answered; what is accepted is on
 /// the disks by then. For `gen` a seed's calls are carried out on a protocol of their own, and a line tells where they lead;
@@ -93,8 +95,9 @@ fn is_serve(read: &Result<Word, WordsFault>) -> bool
 /// stands, and for `audit` what each depositor has beside its exact share, if the journal is of the first generation; nothing is
 /// read. For `follow` the input is a journal of the first generation, and what stands at its end is told; the disks stay.
 ///
-/// For `staking` the whole input is read first, each line a staker's; then stakers are answered beside the commands on the disks, if
-/// the journal is of the first generation. The disks stay.
+/// For `staking` the whole input is read first, each line a staker's; then stakers are answered beside the commands on the
+/// disks, if the journal is of the first generation. For `rewards` each line names a depositor's front end, and all
+/// rewards are told. The disks stay.
 ///
 /// At a status other than 0 and 4 a last line says so behind what was written.
 pub fn without_threads<S: Source, K: Sink, D: Disk>(
@@ -170,6 +173,7 @@ fn carry_out<S: Source, K: Sink, D: Disk>(
         Word::Run => run_on(alloc, input, out, left, right),
         Word::Serve => unreachable!(),
         Word::Staking => stake_on(alloc, input, out, left, right),
+        Word::Rewards => reward_on(alloc, input, out, left, right),
         Word::State => tell_on(alloc, Told::State, out, left, right),
         Word::Audit => tell_on(alloc, Told::Audit, out, left, right),
         Word::Report => tell_on(alloc, Told::Report, out, left, right),

@@ -4,8 +4,6 @@ use Rattle.std.specs.Prelude.{Contains, IfErr, OnOk}
 use Rattle.liq_types.specs.declared.requests.Command.{Command}
 use Rattle.liq_types.specs.State.{State}
 use Rattle.liq_lines.specs.Writing.{Writes, WritesPart}
-use Rattle.liq_fees.specs.declared.lines.StakeLine.{StakeLine}
-use Rattle.liq_staking.specs.Staked.{staked_text}
 use Rattle.liq_review.specs.Reviewed.{reviewed}
 use Rattle.liq_review.specs.declared.fault.ReviewFault.{ReviewFault}
 use Rattle.liq_ends.specs.declared.halts.Halt.{Halt}
@@ -15,13 +13,14 @@ use Rattle.liq_ends.specs.Telling.{TellsAll}
 use Rattle.liq_ends.specs.Unsaid.{WritesAll}
 use Rattle.liq_tell.specs.declared.telling.Told.{Told}
 use Rattle.liq_tell.specs.declared.telling.Told.TheVariants as which
+use Rattle.liq_tell.specs.declared.answers.Asked.{Asked}
+use Rattle.liq_tell.specs.Answers.{IsAnswerOf, asked_text}
 use Rattle.liq_tell.specs.Audit.{IsAuditOf}
 use Rattle.liq_tell.specs.Report.{reported}
-use Rattle.liq_tell.specs.Staking.{IsStakingOf}
 use Rattle.liq_tell.specs.State.{standing}
 use Rattle.liq_tell.specs.Told.{EndsTelling, WritesTold}
 use Rattle.liq_tell.specs.Whole.{FindsWhole}
-use Rattle.liq_tell.specs.Writing.{AuditHolds, WritesAudit, WritesStaked, WritesText}
+use Rattle.liq_tell.specs.Writing.{AuditHolds, WritesAudit, WritesAnswers, WritesText}
 
 pub text_written : (told : Result (List ℕ) ReviewFault) (text : List ℕ) (end : Result (Unit {0}) Halt) (before now : Option (List ℕ)) → told ≡ Ok text → OnOk end (Writes before text now) → IfErr end (λ halt. (halt ≡ WriteFault) × WritesPart before text now) → WritesText told end before now
 text_written told text (Ok done) before now is ok err = (text, is, ok)
@@ -81,30 +80,30 @@ audit_reviewed s commands (Err (Limit number)) before now first wrote holds = (w
 audit_reviewed s commands (Err (Rotated generation)) before now first wrote holds = absurd wrote
 audit_reviewed s commands (Err (DamagedInput number)) before now first wrote holds = absurd wrote
 
--- ---- of stakers
+-- ---- of lines that are answered
 
-staking_told : (s : State) (commands : List Command) (lines : List StakeLine) (end : Result (Unit {0}) Halt) (before now : Option (List ℕ)) → WritesStaked s commands lines end before now
-    → IsStakingOf s end × WritesAll (staked_text s.limit commands lines) end before now
-staking_told s commands lines (Ok done) before now h =
-    let same : h.0.0 ≡ staked_text s.limit commands lines = cc (h.0.1) in
+answers_told : (s : State) (commands : List Command) (asked : Asked) (end : Result (Unit {0}) Halt) (before now : Option (List ℕ)) → WritesAnswers s commands asked end before now
+    → IsAnswerOf s end × WritesAll (asked_text asked s.limit commands) end before now
+answers_told s commands asked (Ok done) before now h =
+    let same : h.0.0 ≡ asked_text asked s.limit commands = cc (h.0.1) in
     (h.1, subst (λ (t : List ℕ). Writes before t now) same h.0.2)
-staking_told s commands lines (Err WriteFault) before now h =
-    let same : h.0.0 ≡ staked_text s.limit commands lines = cc (h.0.1) in
+answers_told s commands asked (Err WriteFault) before now h =
+    let same : h.0.0 ≡ asked_text asked s.limit commands = cc (h.0.1) in
     (h.1, subst (λ (t : List ℕ). WritesPart before t now) same h.0.2)
-staking_told s commands lines (Err DiskFault) before now h = (tt, h)
-staking_told s commands lines (Err NoMemory) before now h = (tt, h)
-staking_told s commands lines (Err (Limit number)) before now h = absurd (cc (h.0.0))
-staking_told s commands lines (Err (Rotated generation)) before now h = ((h.1, h.2), h.0)
-staking_told s commands lines (Err _) before now h = absurd h.0
+answers_told s commands asked (Err DiskFault) before now h = (tt, h)
+answers_told s commands asked (Err NoMemory) before now h = (tt, h)
+answers_told s commands asked (Err (Limit number)) before now h = absurd (cc (h.0.0))
+answers_told s commands asked (Err (Rotated generation)) before now h = ((h.1, h.2), h.0)
+answers_told s commands asked (Err _) before now h = absurd h.0
 
 -- a text for a state of the first generation
-pub staked_written : (s : State) (commands : List Command) (lines : List StakeLine) (end : Result (Unit {0}) Halt) (before now : Option (List ℕ)) → s.generation ≡ 1 → WritesText (Ok (staked_text s.limit commands lines)) end before now → WritesStaked s commands lines end before now
-staked_written s commands lines (Ok done) before now first wrote = (wrote, first)
-staked_written s commands lines (Err WriteFault) before now first wrote = (wrote, first)
-staked_written s commands lines (Err DiskFault) before now first wrote = wrote
-staked_written s commands lines (Err NoMemory) before now first wrote = wrote
-staked_written s commands lines (Err (Limit number)) before now first wrote = (wrote, first)
-staked_written s commands lines (Err _) before now first wrote = absurd wrote
+pub answers_written : (s : State) (commands : List Command) (asked : Asked) (end : Result (Unit {0}) Halt) (before now : Option (List ℕ)) → s.generation ≡ 1 → WritesText (Ok (asked_text asked s.limit commands)) end before now → WritesAnswers s commands asked end before now
+answers_written s commands asked (Ok done) before now first wrote = (wrote, first)
+answers_written s commands asked (Err WriteFault) before now first wrote = (wrote, first)
+answers_written s commands asked (Err DiskFault) before now first wrote = wrote
+answers_written s commands asked (Err NoMemory) before now first wrote = wrote
+answers_written s commands asked (Err (Limit number)) before now first wrote = (wrote, first)
+answers_written s commands asked (Err _) before now first wrote = absurd wrote
 
 -- ---- where not all commands are found
 
@@ -114,11 +113,11 @@ whole_audit s commands DiskFault held h = refl
 whole_audit s commands NoMemory held h = refl
 whole_audit s commands _ held h = absurd h
 
-pub whole_staked : (s : State) (commands : List Command) (lines : List StakeLine) (halt : Halt) (held : Option (List ℕ)) → FindsWhole s commands (Err halt) → WritesStaked s commands lines (Err halt) held held
-whole_staked s commands lines (Rotated generation) held h = (refl, h.0, h.1)
-whole_staked s commands lines DiskFault held h = refl
-whole_staked s commands lines NoMemory held h = refl
-whole_staked s commands lines _ held h = absurd h
+pub whole_answers : (s : State) (commands : List Command) (asked : Asked) (halt : Halt) (held : Option (List ℕ)) → FindsWhole s commands (Err halt) → WritesAnswers s commands asked (Err halt) held held
+whole_answers s commands asked (Rotated generation) held h = (refl, h.0, h.1)
+whole_answers s commands asked DiskFault held h = refl
+whole_answers s commands asked NoMemory held h = refl
+whole_answers s commands asked _ held h = absurd h
 
 -- ---- of each
 
@@ -127,7 +126,7 @@ pub nothing_told : (what : Told) (s : State) (commands : List Command) (held : O
 nothing_told which.State s commands held = (refl, refl)
 nothing_told which.Report s commands held = (refl, refl)
 nothing_told which.Audit s commands held = (refl, refl)
-nothing_told (which.Staking lines) s commands held = (refl, refl)
+nothing_told (which.Answers asked) s commands held = (refl, refl)
 
 -- once the last line is written where that stops
 pub all_told : (what : Told) (s : State) (commands : List Command) (end : Result (Unit {0}) Halt) (fault : Type 0) (before middle now : Option (List ℕ))
@@ -143,6 +142,6 @@ all_told which.Report s commands end fault before middle now wrote last =
 all_told which.Audit s commands end fault before middle now wrote last =
     let so = audit_told s commands end before middle wrote in
     (so.0, so.1, last so.0 so.2)
-all_told (which.Staking lines) s commands end fault before middle now wrote last =
-    let so = staking_told s commands lines.items end before middle wrote in
-    (so.0, last (staked_text s.limit commands lines.items) so.1)
+all_told (which.Answers asked) s commands end fault before middle now wrote last =
+    let so = answers_told s commands asked end before middle wrote in
+    (so.0, last (asked_text asked s.limit commands) so.1)

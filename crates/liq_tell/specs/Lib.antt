@@ -1,8 +1,8 @@
--- A reader of the top call's clause needs Audit, Report, Staking and State. The others are for the contracts below it.
+-- A reader of the top call's clause needs Answers, Audit, Report and State. The others are for the contracts below it.
+pub mod Answers
 pub mod Audit
 pub mod Report
 pub mod Reviewing
-pub mod Staking
 pub mod State
 pub mod Told
 pub mod Writing

@@ -1,19 +1,17 @@
 -- Which text a word tells of two disks, and how it ends.
-use Rattle.std.specs.Prelude.{ℕ, ◌≤◌, List, [], ◌∷◌, length, Contains, Option, Result, Ok}
+use Rattle.std.specs.Prelude.{ℕ, List, [], ◌∷◌, Contains, Option, Result, Ok}
 use Rattle.liq_types.specs.declared.requests.Command.{Command}
 use Rattle.liq_types.specs.State.{State}
-use Rattle.liq_fees.specs.declared.changes.TheConstants.{CHANGES_MOST}
-use Rattle.liq_staking.specs.Staked.{staked_text}
 use Rattle.liq_ends.specs.declared.halts.Halt.{Halt}
 use Rattle.liq_ends.specs.Statuses.{status_of}
 use Rattle.liq_ends.specs.Telling.{TellsAll}
 use Rattle.liq_tell.specs.declared.telling.Told.{Told}
 use Rattle.liq_tell.specs.declared.telling.Told.TheVariants as which
+use Rattle.liq_tell.specs.Answers.{IsAnswerOf, AreFew, asked_text}
 use Rattle.liq_tell.specs.Audit.{IsAuditOf}
 use Rattle.liq_tell.specs.Report.{reported}
-use Rattle.liq_tell.specs.Staking.{IsStakingOf}
 use Rattle.liq_tell.specs.State.{standing}
-use Rattle.liq_tell.specs.Writing.{WritesAudit, WritesStaked, WritesText}
+use Rattle.liq_tell.specs.Writing.{WritesAudit, WritesAnswers, WritesText}
 
 -- what is written of a state and of the commands that lead to it, before the last line
 abbrev pub WritesTold :
@@ -21,7 +19,7 @@ abbrev pub WritesTold :
 WritesTold which.State s commands end before now = WritesText (Ok (standing s)) end before now
 WritesTold which.Report s commands end before now = WritesText (Ok (reported s)) end before now
 WritesTold which.Audit s commands end before now = WritesAudit s commands end before now
-WritesTold (which.Staking lines) s commands end before now = WritesStaked s commands lines.items end before now
+WritesTold (which.Answers asked) s commands end before now = WritesAnswers s commands asked end before now
 
 -- the word has come to one of its ends, and the text is told, or the last line says why not
 abbrev pub EndsTelling :
@@ -32,10 +30,10 @@ EndsTelling which.Report s commands end fault before now =
     Contains (0 ∷ 4 ∷ 5 ∷ 7 ∷ []) (status_of end) × TellsAll (reported s) end fault before now
 EndsTelling which.Audit s commands end fault before now =
     (text : List ℕ) × IsAuditOf s commands end text × TellsAll text end fault before now
-EndsTelling (which.Staking lines) s commands end fault before now =
-    IsStakingOf s end × TellsAll (staked_text s.limit commands lines.items) end fault before now
+EndsTelling (which.Answers asked) s commands end fault before now =
+    IsAnswerOf s end × TellsAll (asked_text asked s.limit commands) end fault before now
 
--- there are no more lines than stakers may change
+-- there are no more lines than can be answered
 abbrev pub HasFewLines : Told → Type 0
-HasFewLines (which.Staking lines) = length lines.items ≤ CHANGES_MOST
+HasFewLines (which.Answers asked) = AreFew asked
 HasFewLines _ = Unit {0}

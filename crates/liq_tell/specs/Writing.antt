@@ -8,13 +8,13 @@ use Rattle.liq_rules.specs.Events.{events}
 use Rattle.liq_review.specs.Engine.{rows_of}
 use Rattle.liq_review.specs.Reviewed.{reviewed}
 use Rattle.liq_review.specs.Shown.{is_within}
-use Rattle.liq_fees.specs.declared.lines.StakeLine.{StakeLine}
-use Rattle.liq_staking.specs.Staked.{staked_text}
 use Rattle.liq_lines.specs.Writing.{Writes, WritesPart}
 use Rattle.liq_review.specs.declared.fault.ReviewFault.{ReviewFault}
 use Rattle.liq_review.specs.declared.fault.ReviewFault.TheVariants as review
 use Rattle.liq_ends.specs.declared.halts.Halt.{Halt}
 use Rattle.liq_ends.specs.declared.halts.Halt.TheVariants.{WriteFault, DiskFault, NoMemory, Limit, Rotated}
+use Rattle.liq_tell.specs.declared.answers.Asked.{Asked}
+use Rattle.liq_tell.specs.Answers.{asked_text}
 
 -- The text was written, or the sink met a fault within it. Or nothing was: a limit is passed, there was no memory, or a
 -- disk met a fault.
@@ -51,13 +51,13 @@ WritesAudit s commands (Err DiskFault) before now = now ≡ before
 WritesAudit s commands end before now =
     WritesText (reviewed s.limit commands) end before now × (s.generation ≡ 1) × AuditHolds end s commands
 
--- Stakers are answered beside the commands that lead to a state, or the state is of a later generation than the first,
+-- Lines are answered beside the commands that lead to a state, or the state is of a later generation than the first,
 -- and nothing was written. Where a disk met a fault, or there was no memory, nothing shows which it is.
-abbrev pub WritesStaked :
-    State → List Command → List StakeLine → Result (Unit {0}) Halt → Option (List ℕ) → Option (List ℕ) → Type 0
-WritesStaked s commands lines (Err (Rotated generation)) before now =
+abbrev pub WritesAnswers :
+    State → List Command → Asked → Result (Unit {0}) Halt → Option (List ℕ) → Option (List ℕ) → Type 0
+WritesAnswers s commands asked (Err (Rotated generation)) before now =
     (now ≡ before) × (1 < s.generation) × (generation ≡ s.generation)
-WritesStaked s commands lines (Err NoMemory) before now = now ≡ before
-WritesStaked s commands lines (Err DiskFault) before now = now ≡ before
-WritesStaked s commands lines end before now =
-    WritesText (Ok (staked_text s.limit commands lines)) end before now × (s.generation ≡ 1)
+WritesAnswers s commands asked (Err NoMemory) before now = now ≡ before
+WritesAnswers s commands asked (Err DiskFault) before now = now ≡ before
+WritesAnswers s commands asked end before now =
+    WritesText (Ok (asked_text asked s.limit commands)) end before now × (s.generation ≡ 1)

@@ -1,13 +1,15 @@
-//! The words `state`, `report`, `audit` and `staking`: what stands on two disks, what their commands give each depositor, and what
-//! stakers have of their fees, told. And what stands in a protocol, told.
+//! The words `state`, `report`, `audit`, `staking` and `rewards`: what stands on two disks, what their commands give each
+//! depositor, and what stakers have of their fees and depositors of the rewards, told. And what stands in a
+//! protocol, told.
 #![tactic(auto)]
 
+mod answers;
 mod audit;
 mod journal;
 mod report;
-mod staking;
 mod state;
 mod telling;
 
+pub use answers::Asked;
 pub use state::write_standing;
 pub use telling::{Told, tell_on};

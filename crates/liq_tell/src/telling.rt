@@ -1,4 +1,4 @@
-//! The words `state`, `report`, `audit` and `staking`: a text of what is on two disks, told.
+//! The words `state`, `report`, `audit`, `staking` and `rewards`: a text of what is on two disks, told.
 
 ghost use Rattle.std.specs.Prelude.{◌≡◌, ◌≢◌, ◌≤◌, ◌⊎◌, [], List, ℕ, Some, None, Ok, Err};
 ghost use Rattle.liq_outside.specs.Disk.{GoesOn};
@@ -20,12 +20,11 @@ ghost use Rattle.liq_ends.specs.Output.{last};
 ghost use Rattle.liq_ends.specs.Stops.{Adds};
 ghost use Rattle.liq_tell.specs.Told.{EndsTelling, HasFewLines, WritesTold};
 
+use crate::answers::{Asked, write_answers};
 use crate::audit::write_audit;
 use crate::report::write_report;
-use crate::staking::write_staking;
 use crate::state::write_standing;
 use liq_ends::{Ending, Halt, tell_last, unopened};
-use liq_fees::StakeLine;
 use liq_outside::{Disk, Sink};
 use liq_pairs::laws::{commands_lead_to_the_state, journals_keep_their_limit};
 use liq_store::Store;
@@ -42,9 +41,9 @@ pub enum Told {
     /// What the protocol gives each depositor beside its exact share, once the disks' commands are replayed from the
     /// opening. It is told of the first generation alone.
     Audit,
-    /// What stakers with these lines are answered, once the disks' commands are replayed from the opening. It is told of the first
+    /// What is answered to lines, once the disks' commands are replayed from the opening. It is told of the first
     /// generation alone.
-    Staking(Vec<StakeLine>),
+    Answers(Asked),
 }
 
 /// Tells a text of two disks, and writes the last line where that stops. All of the text is made before it is written.
@@ -153,6 +152,6 @@ fn write_told<K: Sink, D: Disk>(
         Told::State => write_standing(alloc, store.protocol(), out),
         Told::Report => write_report(alloc, store.protocol(), out),
         Told::Audit => write_audit(alloc, store, out),
-        Told::Staking(lines) => write_staking(alloc, store, lines, out),
+        Told::Answers(asked) => write_answers(alloc, store, asked, out),
     }
 }

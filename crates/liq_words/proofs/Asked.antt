@@ -9,13 +9,13 @@ use Rattle.std.proofs.lemmas.Bool.{ne_eqb}
 use Rattle.std.proofs.lemmas.Fmt.{decimal_is_IsNumeral}
 use Rattle.clap.specs.Words.{Text, first_of, subcommand_of, takes}
 use Rattle.liq_words.specs.declared.words.Word.{Word}
-use Rattle.liq_words.specs.declared.words.Word.TheVariants.{Run, Serve, Staking, State, Audit, Report, Follow, Gen}
+use Rattle.liq_words.specs.declared.words.Word.TheVariants.{Run, Serve, Staking, Rewards, State, Audit, Report, Follow, Gen}
 use Rattle.liq_words.specs.declared.words.WordsFault.{WordsFault}
 use Rattle.liq_words.specs.declared.words.WordsFault.TheVariants.{Usage, NoMemory}
 use Rattle.liq_words.specs.Line.{line}
 use Rattle.liq_words.specs.Reading.{HasRead, IsInRange}
 use Rattle.liq_words.specs.Words.{Ask}
-use Rattle.liq_words.proofs.Taken.{run_is_taken, run_is_read, serve_is_taken, serve_is_read, staking_is_taken, staking_is_read, state_is_taken, state_is_read, audit_is_taken, audit_is_read, report_is_taken, report_is_read, follow_is_taken, follow_is_read, gen_is_taken, gen_is_read, seed_is_read, count_is_read}
+use Rattle.liq_words.proofs.Taken.{run_is_taken, run_is_read, serve_is_taken, serve_is_read, staking_is_taken, staking_is_read, rewards_is_taken, rewards_is_read, state_is_taken, state_is_read, audit_is_taken, audit_is_read, report_is_taken, report_is_read, follow_is_taken, follow_is_read, gen_is_taken, gen_is_read, seed_is_read, count_is_read}
 
 -- ---- what words are that ask for something
 
@@ -23,6 +23,7 @@ abbrev words_of : Word → List Text
 words_of Run = codes "run" ∷ []
 words_of Serve = codes "serve" ∷ []
 words_of Staking = codes "staking" ∷ []
+words_of Rewards = codes "rewards" ∷ []
 words_of State = codes "state" ∷ []
 words_of Audit = codes "audit" ∷ []
 words_of Report = codes "report" ∷ []
@@ -33,6 +34,7 @@ words_are : (words : List Text) (word : Word) → Ask words word → words ≡ w
 words_are words Run h = h
 words_are words Serve h = h
 words_are words Staking h = h
+words_are words Rewards h = h
 words_are words State h = h
 words_are words Audit h = h
 words_are words Report h = h
@@ -68,6 +70,7 @@ word_taken : (word : Word) → IsInRange word → takes line (words_of word) ≡
 word_taken Run h = run_is_taken
 word_taken Serve h = serve_is_taken
 word_taken Staking h = staking_is_taken
+word_taken Rewards h = rewards_is_taken
 word_taken State h = state_is_taken
 word_taken Audit h = audit_is_taken
 word_taken Report h = report_is_taken
@@ -101,6 +104,7 @@ word_read : (word : Word) → IsInRange word → HasRead (subcommand_of line (wo
 word_read Run h = run_is_read
 word_read Serve h = serve_is_read
 word_read Staking h = staking_is_read
+word_read Rewards h = rewards_is_read
 word_read State h = state_is_read
 word_read Audit h = audit_is_read
 word_read Report h = report_is_read
@@ -133,6 +137,7 @@ alone_of name =
     if bytes_eq name (codes "run") then Run
     else if bytes_eq name (codes "serve") then Serve
     else if bytes_eq name (codes "staking") then Staking
+    else if bytes_eq name (codes "rewards") then Rewards
     else if bytes_eq name (codes "state") then State
     else if bytes_eq name (codes "audit") then Audit
     else if bytes_eq name (codes "report") then Report

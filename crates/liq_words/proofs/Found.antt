@@ -5,7 +5,7 @@ use Rattle.clap.specs.declared.parser.matches.Found.{Found}
 use Rattle.clap.specs.Words.{Text, Row, first_of, first_value, rows_of}
 use Rattle.clap.proofs.WalkLemmas.{first_value-rows}
 use Rattle.liq_words.specs.declared.words.Word.{Word}
-use Rattle.liq_words.specs.declared.words.Word.TheVariants.{Run, Serve, Staking, State, Audit, Report, Follow, Gen}
+use Rattle.liq_words.specs.declared.words.Word.TheVariants.{Run, Serve, Staking, Rewards, State, Audit, Report, Follow, Gen}
 use Rattle.liq_words.specs.Reading.{HasRead, IsInRange}
 use Rattle.liq_words.specs.Words.{Ask}
 
@@ -32,6 +32,7 @@ pub values_found : (name : Text) (f : Found) (found : Option (Text × List Row))
 values_found name f found Run is name_is rows_are within read = absurd (no_gen name (codes "run") found (λ e. omega (arith, e)) is name_is read)
 values_found name f found Serve is name_is rows_are within read = absurd (no_gen name (codes "serve") found (λ e. omega (arith, e)) is name_is read)
 values_found name f found Staking is name_is rows_are within read = absurd (no_gen name (codes "staking") found (λ e. omega (arith, e)) is name_is read)
+values_found name f found Rewards is name_is rows_are within read = absurd (no_gen name (codes "rewards") found (λ e. omega (arith, e)) is name_is read)
 values_found name f found State is name_is rows_are within read = absurd (no_gen name (codes "state") found (λ e. omega (arith, e)) is name_is read)
 values_found name f found Audit is name_is rows_are within read = absurd (no_gen name (codes "audit") found (λ e. omega (arith, e)) is name_is read)
 values_found name f found Report is name_is rows_are within read = absurd (no_gen name (codes "report") found (λ e. omega (arith, e)) is name_is read)
@@ -56,6 +57,7 @@ pub stands_alone : (name : Text) (found : Option (Text × List Row)) (word : Wor
 stands_alone name found Run apart name_is read = ap (λ o. unwrap_or o [] ∷ []) (name_is ∙ read)
 stands_alone name found Serve apart name_is read = ap (λ o. unwrap_or o [] ∷ []) (name_is ∙ read)
 stands_alone name found Staking apart name_is read = ap (λ o. unwrap_or o [] ∷ []) (name_is ∙ read)
+stands_alone name found Rewards apart name_is read = ap (λ o. unwrap_or o [] ∷ []) (name_is ∙ read)
 stands_alone name found State apart name_is read = ap (λ o. unwrap_or o [] ∷ []) (name_is ∙ read)
 stands_alone name found Audit apart name_is read = ap (λ o. unwrap_or o [] ∷ []) (name_is ∙ read)
 stands_alone name found Report apart name_is read = ap (λ o. unwrap_or o [] ∷ []) (name_is ∙ read)

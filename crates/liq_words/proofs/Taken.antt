@@ -39,6 +39,14 @@ pub staking_is_read : option_map (λ p. p.0) (subcommand_of line (codes "staking
 unfolding clap_on_literals
 staking_is_read = refl
 
+pub rewards_is_taken : takes line (codes "rewards" ∷ []) ≡ true
+unfolding clap_on_literals
+rewards_is_taken = refl
+
+pub rewards_is_read : option_map (λ p. p.0) (subcommand_of line (codes "rewards" ∷ [])) ≡ Some (codes "rewards")
+unfolding clap_on_literals
+rewards_is_read = refl
+
 pub audit_is_taken : takes line (codes "audit" ∷ []) ≡ true
 unfolding clap_on_literals
 audit_is_taken = refl

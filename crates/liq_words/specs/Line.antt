@@ -28,6 +28,7 @@ line =
     let words = alone (codes "run") base in
     let words = alone (codes "serve") words in
     let words = alone (codes "staking") words in
+    let words = alone (codes "rewards") words in
     let words = alone (codes "state") words in
     let words = alone (codes "audit") words in
     let words = alone (codes "report") words in

@@ -2,7 +2,7 @@
 use Rattle.std.specs.Prelude.{◌≡◌, ◌≤◌, ◌<◌, ◌^◌, List, Option, Some, option_map, codes, decimal}
 use Rattle.clap.specs.Words.{Text, Row, first_of}
 use Rattle.liq_words.specs.declared.words.Word.{Word}
-use Rattle.liq_words.specs.declared.words.Word.TheVariants.{Run, Serve, Staking, State, Audit, Report, Follow, Gen}
+use Rattle.liq_words.specs.declared.words.Word.TheVariants.{Run, Serve, Staking, Rewards, State, Audit, Report, Follow, Gen}
 
 -- the numbers of a word are in their ranges
 abbrev pub IsInRange : Word → Type 0
@@ -14,6 +14,7 @@ abbrev pub HasRead : Option (Text × List Row) → Word → Type 0
 HasRead found Run = option_map (λ p. p.0) found ≡ Some (codes "run")
 HasRead found Serve = option_map (λ p. p.0) found ≡ Some (codes "serve")
 HasRead found Staking = option_map (λ p. p.0) found ≡ Some (codes "staking")
+HasRead found Rewards = option_map (λ p. p.0) found ≡ Some (codes "rewards")
 HasRead found State = option_map (λ p. p.0) found ≡ Some (codes "state")
 HasRead found Audit = option_map (λ p. p.0) found ≡ Some (codes "audit")
 HasRead found Report = option_map (λ p. p.0) found ≡ Some (codes "report")

@@ -1,13 +1,14 @@
 -- What the words of a command line ask for.
 use Rattle.std.specs.Prelude.{ℕ, ◌≡◌, ◌≤◌, ◌<◌, ◌^◌, List, [], ◌∷◌, codes, decimal}
 use Rattle.liq_words.specs.declared.words.Word.{Word}
-use Rattle.liq_words.specs.declared.words.Word.TheVariants.{Run, Serve, Staking, State, Audit, Report, Follow, Gen}
+use Rattle.liq_words.specs.declared.words.Word.TheVariants.{Run, Serve, Staking, Rewards, State, Audit, Report, Follow, Gen}
 
 -- the words are just those that ask for it; a number has no sign and no leading zero
 abbrev pub Ask : List (List ℕ) → Word → Type 0
 Ask words Run = words ≡ codes "run" ∷ []
 Ask words Serve = words ≡ codes "serve" ∷ []
 Ask words Staking = words ≡ codes "staking" ∷ []
+Ask words Rewards = words ≡ codes "rewards" ∷ []
 Ask words State = words ≡ codes "state" ∷ []
 Ask words Audit = words ≡ codes "audit" ∷ []
 Ask words Report = words ≡ codes "report" ∷ []

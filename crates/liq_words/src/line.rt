@@ -13,10 +13,10 @@ use std::alloc::{AllocError, Global};
 pub fn line<'a>(alloc: Global) -> Result<Command<'a>, AllocError>
     ensures { IfOk result (λ command. app_of command ≡ line) }
 {
-    let base = without_words(alloc);
-    let line = with_alone(alloc, base, "run")?;
+    let line = with_alone(alloc, base(alloc), "run")?;
     let line = with_alone(alloc, line, "serve")?;
     let line = with_alone(alloc, line, "staking")?;
+    let line = with_alone(alloc, line, "rewards")?;
     let line = with_alone(alloc, line, "state")?;
     let line = with_alone(alloc, line, "audit")?;
     let line = with_alone(alloc, line, "report")?;
@@ -24,8 +24,8 @@ pub fn line<'a>(alloc: Global) -> Result<Command<'a>, AllocError>
     line.subcommand(load(alloc)?)
 }
 
-/// The program, which asks for a word and knows none yet.
-fn without_words<'a>(alloc: Global) -> Command<'a>
+/// The command without a word.
+fn base<'a>(alloc: Global) -> Command<'a>
     ensures { app_of result ≡ base }
 {
     Command::new(alloc, "liq")

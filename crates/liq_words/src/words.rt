@@ -25,6 +25,8 @@ pub enum Word {
     Serve,
     /// Answer the stakers of the input, who share the fees of the commands on the disks.
     Staking,
+    /// Tell the rewards of the depositors on the disks, and what the front ends of the input are given of them.
+    Rewards,
     /// Tell what stands.
     State,
     /// Tell what each depositor has beside its exact share.
@@ -112,6 +114,7 @@ fn alone(name: &str) -> Option<Word>
         "run" => Some(Word::Run),
         "serve" => Some(Word::Serve),
         "staking" => Some(Word::Staking),
+        "rewards" => Some(Word::Rewards),
         "state" => Some(Word::State),
         "audit" => Some(Word::Audit),
         "report" => Some(Word::Report),

@@ -7,7 +7,9 @@ ghost use Rattle.liq_rewards.specs.Kept.{HasRoomFor, IsKeptOf, MayHappen};
 use liq_rewards::{
     BadTagLine, RewardRow, Rewards, TagLine, UNITS_MOST, YEAR, YEARS, issued, read_tag_line,
 };
+use liq_rewarding::rewards_text;
 use liq_types::PoolEvent;
+use std::alloc::Global;
 use std::process::Abort;
 
 /// Something is what was worked out.
@@ -29,6 +31,21 @@ fn earned<R: Abort>(rt: &R, rewards: &Rewards, account: u32, reward: u64, allow:
 fn told<R: Abort>(rt: &R, rewards: &Rewards, issued: u64, unshared: u64) {
     same(rt, &rewards.issued(), &issued, "what was issued");
     same(rt, &rewards.unshared(), &unshared, "what was not shared");
+}
+
+/// So the rewards of accounts are told, where lines name front ends.
+fn text<R: Abort>(
+    rt: &R,
+    alloc: Global,
+    rewards: &Rewards,
+    lines: &[TagLine],
+    accounts: &[u32],
+    want: &[u8],
+) {
+    let mut out = Vec::new(alloc);
+    let told = rewards_text(lines, rewards, accounts, &mut out);
+    assert!(rt; told.is_ok(), "the text is made");
+    assert!(rt; out.as_slice() == want, "the text");
 }
 
 fn room<R: Abort>(rt: &R, rewards: &mut Rewards, event: &PoolEvent)
@@ -195,7 +212,8 @@ fn years(rt: HostRuntime) {
     same(&rt, &issued(last + 1), &UNITS_MOST, "and no more");
 }
 
-/// Two deposits share units before an offset and after it, one third and two thirds of them.
+/// Two deposits share units before an offset and after it, one third and two thirds of them. One of them came through a
+/// front end.
 #[test]
 fn two_deposits_share(rt: HostRuntime) {
     let mut rewards = Rewards::new(rt.alloc());
@@ -215,6 +233,13 @@ fn two_deposits_share(rt: HostRuntime) {
     earned(&rt, &rewards, 2, 79_999, 10);
     earned(&rt, &rewards, 3, 0, 0);
     told(&rt, &rewards, 120_000, 0);
+    let tag = TagLine {
+        account: 1,
+        front: 9,
+        rate: 250_000_000_000_000_000,
+    };
+    let want = b"ok\n1 39999 8 9999 9 30000\n2 79999 10 79999 - 0\nissued 120000 unshared 0\n";
+    text(&rt, rt.alloc(), &rewards, &[tag], &[1, 2], want);
 }
 
 /// An epoch's end in the minute of a sharing. What is issued while nobody has a deposit is not shared.

@@ -8,7 +8,7 @@ use Rattle.liq_serve.proofs.Words.{IsRead, opens_first, telling_ends, word_ends}
 use Rattle.liq_serve.proofs.top.carry_out.Goals as goal
 use Rattle.liq_lines.proofs.Readings.{takes_none}
 use Rattle.liq_outside.proofs.Moments.{unmoved}
-use Rattle.liq_serve.proofs.StatusLaws.{audit_known, follow_known, goes_on_known, staking_known, state_known}
+use Rattle.liq_serve.proofs.StatusLaws.{audit_known, follow_known, goes_on_known, answers_known, state_known}
 use Rattle.liq_serve.proofs.Telling.{disks_unasked, disks_unfollowed, source_unasked, taken_followed}
 
 pub returns-in-Run : goal.returns-in-Run
@@ -38,12 +38,30 @@ returns-in-Staking g c words asks only =
     let after : Outside g.row.S.Denot g.row.K.Denot g.row.D.Denot = record { source = ran.new.input; sink = ran.new.out; left = ran.result.left; right = ran.result.right } in
     let read = subst (λ (w : Word). IsRead words w) c.in-Staking.is (record { asks = asks; only = only }) in
     word_ends g.S.Source.left g.S.Source.faults g.K.Sink.held g.K.Sink.faults g.D.Disk.seen g.D.Disk.faults g.D.Disk.moment g.D.Disk.left_at before after words word.Staking ran.result.end read
-    ran.ensures.staked
+    ran.ensures.answered
     (record {
       source = ran.ensures.source;
       sink = ran.ensures.sink;
       disks = ran.ensures.disks;
-      status = staking_known ran.result.end;
+      status = answers_known ran.result.end;
+      left_time = ran.ensures.left_time;
+      right_time = ran.ensures.right_time;
+    })
+    ran.ensures.takes
+
+pub returns-in-Rewards : goal.returns-in-Rewards
+returns-in-Rewards g c words asks only =
+    let ran = c.reward_on in
+    let before : Outside g.row.S.Denot g.row.K.Denot g.row.D.Denot = record { source = c.args.input.now; sink = c.args.out.now; left = c.args.left; right = c.args.right } in
+    let after : Outside g.row.S.Denot g.row.K.Denot g.row.D.Denot = record { source = ran.new.input; sink = ran.new.out; left = ran.result.left; right = ran.result.right } in
+    let read = subst (λ (w : Word). IsRead words w) c.in-Rewards.is (record { asks = asks; only = only }) in
+    word_ends g.S.Source.left g.S.Source.faults g.K.Sink.held g.K.Sink.faults g.D.Disk.seen g.D.Disk.faults g.D.Disk.moment g.D.Disk.left_at before after words word.Rewards ran.result.end read
+    ran.ensures.answered
+    (record {
+      source = ran.ensures.source;
+      sink = ran.ensures.sink;
+      disks = ran.ensures.disks;
+      status = answers_known ran.result.end;
       left_time = ran.ensures.left_time;
       right_time = ran.ensures.right_time;
     })

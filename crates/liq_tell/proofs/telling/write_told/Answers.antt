@@ -1,9 +1,7 @@
-use Rattle.std.proofs.Common.{List, sym, subst}
-use Rattle.liq_fees.specs.declared.lines.StakeLine.{StakeLine}
+use Rattle.std.proofs.Common.{sym, subst}
 use Rattle.liq_core.specs.Core.{Core, StandsFor}
 use Rattle.liq_tell.specs.declared.telling.Told.{Told}
 use Rattle.liq_tell.specs.Told.{WritesTold}
-use Rattle.liq_tell.specs.Writing.{WritesStaked}
 use Rattle.liq_tell.proofs.telling.write_told.Goals as goal
 
 pub returns-in-State-clause-written : goal.returns-in-State-clause-written
@@ -24,12 +22,11 @@ returns-in-Audit-clause-written g c held w s told found stands from_one leads =
     subst (λ (what : Told). WritesTold what s w.commands wrote.result (g.K.Sink.held c.args.out.now) (g.K.Sink.held wrote.new.out)) (sym c.in-Audit.is)
     (wrote.ensures.written held w s told found stands from_one leads)
 
-pub returns-in-Staking-clause-written : goal.returns-in-Staking-clause-written
-returns-in-Staking-clause-written g c held w s told found stands from_one leads =
-    let wrote = c.write_staking in
-    subst (λ (what : Told). WritesTold what s w.commands wrote.result (g.K.Sink.held c.args.out.now) (g.K.Sink.held wrote.new.out)) (sym c.in-Staking.is)
-    (subst (λ (lines : List StakeLine). WritesStaked s w.commands lines wrote.result (g.K.Sink.held c.args.out.now) (g.K.Sink.held wrote.new.out)) c.deref.ensures.value
-    (wrote.ensures.written held w s told found stands from_one leads))
+pub returns-in-Answers-clause-written : goal.returns-in-Answers-clause-written
+returns-in-Answers-clause-written g c held w s told found stands from_one leads =
+    let wrote = c.write_answers in
+    subst (λ (what : Told). WritesTold what s w.commands wrote.result (g.K.Sink.held c.args.out.now) (g.K.Sink.held wrote.new.out)) (sym c.in-Answers.is)
+    (wrote.ensures.written held w s told found stands from_one leads)
 
 pub returns-in-State-clause-no_line : goal.returns-in-State-clause-no_line
 returns-in-State-clause-no_line g c number = (c.write_standing.ensures.no_number number).0

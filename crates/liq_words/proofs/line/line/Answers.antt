@@ -13,11 +13,12 @@ added (Err e) old sub before more adds local old_is sub_is = tt
 
 pub returns : goal.returns
 returns c =
-    let one = c.in_ok-line.ensures ∙ ap (λ (a : App). with_subcommand a (new_app (codes "run")).top) c.without_words-base.ensures in
+    let one = c.in_ok-line.ensures ∙ ap (λ (a : App). with_subcommand a (new_app (codes "run")).top) c.base.ensures in
     let two = c.in_ok-line-2.ensures ∙ ap (λ (a : App). with_subcommand a (new_app (codes "serve")).top) one in
     let three = c.in_ok-line-3.ensures ∙ ap (λ (a : App). with_subcommand a (new_app (codes "staking")).top) two in
-    let four = c.in_ok-line-4.ensures ∙ ap (λ (a : App). with_subcommand a (new_app (codes "state")).top) three in
-    let five = c.in_ok-line-5.ensures ∙ ap (λ (a : App). with_subcommand a (new_app (codes "audit")).top) four in
-    let six = c.in_ok-line-6.ensures ∙ ap (λ (a : App). with_subcommand a (new_app (codes "report")).top) five in
-    let seven = c.in_ok-line-7.ensures ∙ ap (λ (a : App). with_subcommand a (new_app (codes "follow")).top) six in
-    added c.subcommand.result c.in_ok-line-7.line c.in_ok-load.field-0 _ load c.subcommand.ensures c.in_ok-load.ensures.local seven c.in_ok-load.ensures.app
+    let four = c.in_ok-line-4.ensures ∙ ap (λ (a : App). with_subcommand a (new_app (codes "rewards")).top) three in
+    let five = c.in_ok-line-5.ensures ∙ ap (λ (a : App). with_subcommand a (new_app (codes "state")).top) four in
+    let six = c.in_ok-line-6.ensures ∙ ap (λ (a : App). with_subcommand a (new_app (codes "audit")).top) five in
+    let seven = c.in_ok-line-7.ensures ∙ ap (λ (a : App). with_subcommand a (new_app (codes "report")).top) six in
+    let eight = c.in_ok-line-8.ensures ∙ ap (λ (a : App). with_subcommand a (new_app (codes "follow")).top) seven in
+    added c.subcommand.result c.in_ok-line-8.line c.in_ok-load.field-0 _ load c.subcommand.ensures c.in_ok-load.ensures.local eight c.in_ok-load.ensures.app

@@ -1,18 +1,16 @@
--- What the word `staking` leaves.
+-- What the words `staking` and `rewards` leave: lines are answered beside the commands on the disks.
 use Rattle.std.specs.Prelude.{ℕ, ◌≡◌, ◌≤◌, ◌⊎◌, List, [], ◌∷◌, length, Contains}
 use Rattle.std.specs.Prelude.{Option, Some, Result, Ok, Err, MatchResult}
 use Rattle.liq_outside.specs.Faults.{Rose}
 use Rattle.liq_types.specs.declared.amounts.TheConstants.{LINES_MOST}
-use Rattle.liq_fees.specs.declared.lines.StakeLine.{StakeLine}
-use Rattle.liq_fees.specs.Lines.{Spells}
+use Rattle.liq_types.specs.declared.requests.Command.{Command}
 use Rattle.liq_pairs.specs.Pair.{commands_on, state_on}
-use Rattle.liq_staking.specs.Staked.{staked_text}
 use Rattle.liq_ends.specs.declared.halts.Halt.{Halt}
 use Rattle.liq_ends.specs.declared.halts.Halt.TheVariants.{BadLine, ReadFault, NoMemory, Limit}
 use Rattle.liq_ends.specs.Disks.{DisksStay, EndsDamaged, IsFaultOfTelling, LeavesOfRun, OfBoth}
 use Rattle.liq_ends.specs.Reading.{ReadsTo}
 use Rattle.liq_ends.specs.Stops.{TellsBehind}
-use Rattle.liq_tell.specs.Staking.{IsStakingOf}
+use Rattle.liq_tell.specs.Answers.{IsAnswerOf}
 use Rattle.liq_serve.specs.Outside.{Outside}
 
 -- The functions say what the source has left and the sink holds, its count of faults, and what a disk holds; the last
@@ -33,24 +31,27 @@ module _
       (after.left ≡ before.left) × (after.right ≡ before.right) × TellsText [] end
       × ((n : ℕ) × Contains (Err (BadLine n) ∷ Err ReadFault ∷ Err NoMemory ∷ Err (Limit LINES_MOST) ∷ []) end)
 
-  -- These lines were answered beside the commands that lead to the state for which the disks stood, and the disks stay
-  -- so. Of damaged disks nothing is told but the first damage.
-  abbrev pub AnswersStakers : List StakeLine → Result (Unit {0}) Halt → Type 0
-  AnswersStakers asked end =
+  -- Lines to which this text answers were answered beside the commands that lead to the state for which the disks stood,
+  -- from the opening under its limit on, and the disks stay so. Of damaged disks nothing is told but the first damage.
+  abbrev pub AnswersBeside : (ℕ → List Command → List ℕ) → Result (Unit {0}) Halt → Type 0
+  AnswersBeside text end =
       OfBoth seen before.left before.right (λ l r. MatchResult (state_on l r) (λ start.
-      IsStakingOf start end × TellsText (staked_text start.limit (commands_on l r) asked) end
+      IsAnswerOf start end × TellsText (text start.limit (commands_on l r)) end
       × DisksStay seen end l r start after.left after.right
       × LeavesOfRun seen moment left_at before.left before.right (IsFaultOfTelling end) l r start [] after.left after.right)
       -- a side and its first damage
       (λ first. EndsDamaged seen first.0 first.1 end after.left after.right × TellsText [] end))
 
-  -- The whole input is read first: each line asks for a stake, in order, or reading stops.
-  pub record StakesTo (end : Result (Unit {0}) Halt) : Type 0 where
-    pub asked : List StakeLine
+  -- The whole input is read first: each line says something of one kind, in order, or reading stops. `text` is what
+  -- is answered to lines, beside commands from the opening under a limit on.
+  pub record AnswersLines
+      {X : Type 0} (Says : List ℕ → X → Type 0) (text : ℕ → List Command → List X → List ℕ)
+      (end : Result (Unit {0}) Halt) : Type 0 where
+    pub asked : List X
     -- they are no more than one run answers
     pub few : length asked ≤ LINES_MOST
     -- how reading ended
     pub reading : Result (Unit {0}) Halt
     pub read :
-        (bytes : List ℕ) → unread before.source ≡ Some bytes → ReadsTo Spells bytes (unread after.source) asked reading
-    pub came : ((reading ≡ end) × StopsUnopened end) ⊎ ((reading ≡ Ok tt) × AnswersStakers asked end)
+        (bytes : List ℕ) → unread before.source ≡ Some bytes → ReadsTo Says bytes (unread after.source) asked reading
+    pub came : ((reading ≡ end) × StopsUnopened end) ⊎ ((reading ≡ Ok tt) × AnswersBeside (λ limit commands. text limit commands asked) end)

@@ -2,20 +2,20 @@ use Rattle.std.proofs.Common.{◌≡◌, ℕ, List, Ok, ap, subst, ◌∙◌}
 use Rattle.liq_types.specs.declared.requests.Command.{Command}
 use Rattle.liq_types.specs.State.{opening_with}
 use Rattle.liq_pairs.specs.Replay.{replay}
-use Rattle.liq_staking.specs.Staked.{staked_text}
-use Rattle.liq_tell.specs.Writing.{WritesStaked, WritesText}
-use Rattle.liq_tell.proofs.TextsTold.{staked_written}
-use Rattle.liq_tell.proofs.staking.write_staking.Goals as goal
+use Rattle.liq_tell.specs.Answers.{asked_text}
+use Rattle.liq_tell.specs.Writing.{WritesAnswers, WritesText}
+use Rattle.liq_tell.proofs.TextsTold.{answers_written}
+use Rattle.liq_tell.proofs.answers.write_answers.Goals as goal
 
 pub returns-clause-written : goal.returns-clause-written
 returns-clause-written g c held w s told found stands from_one leads =
-    let end = c.write_answers.result in
-    let lines = c.args.lines.now in
+    let end = c.write_answered.result in
+    let asked = c.args.asked.now in
     let before = g.K.Sink.held c.args.out.now in
-    let now = g.K.Sink.held c.write_answers.new.out in
+    let now = g.K.Sink.held c.write_answered.new.out in
     let whole = c.in_ok-whole.ensures.found held w s told found stands from_one leads in
     let are : c.deref.result.now ≡ w.commands = c.deref.ensures.value ∙ whole.2 in
     let led : replay 1 (opening_with c.in_ok-whole.whole.limit) c.deref.result.now ≡ Ok s =
     ap (replay 1 (opening_with c.in_ok-whole.whole.limit)) are ∙ ap (λ (limit : ℕ). replay 1 (opening_with limit) w.commands) whole.1 ∙ whole.3 in
-    let wrote = subst (λ (limit : ℕ). WritesText (Ok (staked_text limit c.deref.result.now lines)) end before now) whole.1 (c.write_answers.ensures.written s led) in
-    subst (λ (commands : List Command). WritesStaked s commands lines end before now) are (staked_written s c.deref.result.now lines end before now whole.0 wrote)
+    let wrote = subst (λ (limit : ℕ). WritesText (Ok (asked_text asked limit c.deref.result.now)) end before now) whole.1 (c.write_answered.ensures.written s led) in
+    subst (λ (commands : List Command). WritesAnswers s commands asked end before now) are (answers_written s c.deref.result.now asked end before now whole.0 wrote)

@@ -1,6 +1,6 @@
-//! What stakers are answered, told beside the commands on two disks.
+//! Lines that are answered beside the commands on two disks: those of stakers, and those that name front ends.
 
-ghost use Rattle.std.specs.Prelude.{◌≡◌, ◌≢◌, ◌≤◌, All, List, ℕ, Some, None, Ok, Err, false, length};
+ghost use Rattle.std.specs.Prelude.{◌≡◌, ◌≢◌, ◌≤◌, All, List, ℕ, Some, None, Ok, Err, false, IfOk, OnOk};
 ghost use Rattle.liq_types.specs.declared.requests.Command.{Command};
 ghost use Rattle.liq_types.specs.Image.{IsLimit};
 ghost use Rattle.liq_types.specs.State.{State, opening_with};
@@ -11,35 +11,46 @@ ghost use Rattle.liq_pairs.specs.Replay.{replay};
 ghost use Rattle.liq_pairs.specs.Sides.{has_odd};
 ghost use Rattle.liq_store.specs.Causes.{counts_of};
 ghost use Rattle.liq_store.specs.Stored.{taken_disk};
-ghost use Rattle.liq_fees.specs.declared.changes.TheConstants.{CHANGES_MOST};
-ghost use Rattle.liq_staking.specs.Staked.{staked_text};
+ghost use Rattle.liq_journal.specs.declared.damage.Damage.{Damage};
 ghost use Rattle.liq_ends.specs.Causes.{DiskCause, WriteCause};
-ghost use Rattle.liq_tell.specs.Writing.{WritesStaked, WritesText};
+ghost use Rattle.liq_tell.specs.Answers.{AreFew, asked_text};
+ghost use Rattle.liq_tell.specs.Writing.{WritesAnswers, WritesText};
 
 use crate::journal::whole_journal;
 use liq_ends::{Halt, write_text};
 use liq_fees::StakeLine;
 use liq_outside::{Disk, Sink};
 use liq_retold::ReplayFault;
+use liq_rewarding::rewarded;
+use liq_rewards::TagLine;
 use liq_staking::staked;
 use liq_store::{Side, Store};
 use liq_types::Command;
 use std::alloc::Global;
 
-/// Writes what stakers are answered beside the commands of a store. They are all commands since the opening, and a generation
+/// Lines, all of one kind.
+#[derive(Drop)]
+pub enum Asked {
+    /// Stakers ask for changes of their stakes, and share the fees of the commands.
+    Stakes(Vec<StakeLine>),
+    /// Depositors name front ends, to which they give a part of their rewards.
+    Tags(Vec<TagLine>),
+}
+
+/// Writes what is answered to lines beside the commands of a store. They are all commands since the opening, and a generation
 /// above the first has not kept those before its checkpoint: there it stops.
-pub fn write_staking<K: Sink, D: Disk>(
+pub fn write_answers<K: Sink, D: Disk>(
     alloc: Global,
     store: &mut Store<D>,
-    lines: &[StakeLine],
+    asked: &Asked,
     out: &mut K,
 ) -> Result<(), Halt>
     requires going { store.old.stopped ≡ None }
-    requires few { length lines.now ≤ CHANGES_MOST }
+    requires few { AreFew asked.now }
     ensures written { (held : List ℕ) (w : Written) (s : State)
         → D.seen (taken_disk store.old) ≡ Some held → found_on (has_odd store.old.side) held ≡ Open w
         → StandsFor store.old.core s → 1 ≤ s.generation → (s.generation ≡ 1 → replay 1 (opening_with s.limit) w.commands ≡ Ok s)
-        → WritesStaked s w.commands lines.now result (K.held out.old) (K.held out.new) }
+        → WritesAnswers s w.commands asked.now result (K.held out.old) (K.held out.new) }
     ensures no_source { result ≢ Err Halt.ReadFault }
     ensures no_line { (number : ℕ) → result ≢ Err (Halt.BadLine number) }
     ensures sink { WriteCause result (K.faults out.old) (K.faults out.new) }
@@ -50,31 +61,52 @@ pub fn write_staking<K: Sink, D: Disk>(
         (counts_of D.faults store.old.left store.old.right) (counts_of D.faults store.new.left store.new.right) }
 {
     let whole = whole_journal(store)?;
-    write_answers(alloc, whole.limit, &whole.commands, lines, whole.side, out)
+    write_answered(alloc, whole.limit, &whole.commands, asked, whole.side, out)
 }
 
-/// Writes what stakers are answered beside commands that stand on the disk of this side, from the opening under this limit on.
-fn write_answers<K: Sink>(
+/// Writes what is answered to lines beside commands that stand on the disk of this side, from the opening under this limit on.
+fn write_answered<K: Sink>(
     alloc: Global,
     limit: u64,
     commands: &[Command],
-    lines: &[StakeLine],
+    asked: &Asked,
     side: Side,
     out: &mut K,
 ) -> Result<(), Halt>
     requires limit { IsLimit limit }
     requires no_rotation { All (λ (c : Command). is_rotate c.call ≡ false) commands.now }
-    requires few { length lines.now ≤ CHANGES_MOST }
+    requires few { AreFew asked.now }
     ensures written { (s : State) → replay 1 (opening_with limit) commands.now ≡ Ok s
-        → WritesText (Ok (staked_text limit commands.now lines.now)) result (K.held out.old) (K.held out.new) }
+        → WritesText (Ok (asked_text asked.now limit commands.now)) result (K.held out.old) (K.held out.new) }
     ensures no_disk { result ≢ Err Halt.DiskFault }
     ensures no_source { result ≢ Err Halt.ReadFault }
     ensures no_line { (number : ℕ) → result ≢ Err (Halt.BadLine number) }
     ensures sink { WriteCause result (K.faults out.old) (K.faults out.new) }
 {
-    match staked(alloc, limit, commands, lines) {
+    match answered(alloc, limit, commands, asked) {
         Ok(text) => write_text(out, &text),
         Err(ReplayFault::Damaged(damage)) => Err(Halt::Damaged(side, damage.index)),
         Err(ReplayFault::NoMemory) => Err(Halt::NoMemory),
+    }
+}
+
+/// What is answered to lines beside commands from the opening under this limit on, as a text.
+fn answered(
+    alloc: Global,
+    limit: u64,
+    commands: &[Command],
+    asked: &Asked,
+) -> Result<Vec<u8>, ReplayFault>
+    requires limit { IsLimit limit }
+    requires no_rotation { All (λ (c : Command). is_rotate c.call ≡ false) commands.now }
+    requires few { AreFew asked.now }
+    ensures text { IfOk result (λ text. text.items ≡ asked_text asked.now limit commands.now) }
+    ensures damaged { (damage : Damage) → result ≡ Err (ReplayFault.Damaged damage)
+        → replay 1 (opening_with limit) commands.now ≡ Err damage }
+    ensures whole { OnOk result ((damage : Damage) → replay 1 (opening_with limit) commands.now ≡ Err damage → ⊥) }
+{
+    match asked {
+        Asked::Stakes(lines) => staked(alloc, limit, commands, lines),
+        Asked::Tags(lines) => rewarded(alloc, limit, commands, lines),
     }
 }

@@ -1,13 +1,13 @@
 use Rattle.std.proofs.Common.{Ok, ap, sym, ◌∙◌}
 use Rattle.liq_ends.specs.declared.halts.Halt.TheVariants.{DiskFault, ReadFault}
 use Rattle.liq_ends.proofs.Shown.{by_sink}
-use Rattle.liq_staking.specs.Staked.{staked_text}
+use Rattle.liq_tell.specs.Answers.{asked_text}
 use Rattle.liq_tell.proofs.TextsTold.{text_written}
-use Rattle.liq_tell.proofs.staking.write_answers.Goals as goal
+use Rattle.liq_tell.proofs.answers.write_answered.Goals as goal
 
 pub returns-in-Ok-clause-written : goal.returns-in-Ok-clause-written
 returns-in-Ok-clause-written g c s is =
-    text_written (Ok (staked_text c.args.limit c.args.commands.now c.args.lines.now)) _ c.write_text.result _ _ (ap Ok (sym (c.deref.ensures.value ∙ c.in-Ok.ensures.text))) c.write_text.ensures.ok c.write_text.ensures.err
+    text_written (Ok (asked_text c.args.asked.now c.args.limit c.args.commands.now)) _ c.write_text.result _ _ (ap Ok (sym (c.deref.ensures.value ∙ c.in-Ok.ensures.text))) c.write_text.ensures.ok c.write_text.ensures.err
 
 pub returns-in-Ok-clause-no_disk : goal.returns-in-Ok-clause-no_disk
 returns-in-Ok-clause-no_disk g c = by_sink _ c.write_text.result DiskFault c.write_text.ensures.err (λ e. cc)

@@ -1,42 +1,36 @@
--- Stakers' lines, read to their end or not.
-use Rattle.std.proofs.Common.{◌≡◌, ◌≢◌, ◌≤◌, ℕ, List, [], ◌∷◌, length, Option, Some, Ok, Err, Result, refl, sym, subst, ap, ◌∙◌, arith, inl, inr}
+-- Lines of one kind, read to their end or not.
+use Rattle.std.proofs.Common.{◌≡◌, ℕ, List, [], length, Option, Some, Ok, Err, Result, refl, sym, subst, ap, arith, inl, inr}
 use Rattle.std.specs.Prelude.{Vec}
 use Rattle.std.specs.Global.{Global}
 use Rattle.std.specs.List.{AllZip}
-use Rattle.liq_types.specs.declared.amounts.TheConstants.{LINES_MOST}
 use Rattle.liq_outside.specs.Faults.{Rose}
-use Rattle.liq_fees.specs.declared.lines.StakeLine.{StakeLine}
-use Rattle.liq_fees.specs.Lines.{Spells}
+use Rattle.liq_types.specs.declared.requests.Command.{Command}
 use Rattle.liq_gathered.specs.Gathering as lines
 use Rattle.liq_lines.specs.declared.stops.Stop.{Stop}
 use Rattle.liq_lines.specs.declared.stops.Stop.TheVariants as stop
 use Rattle.liq_lines.specs.Lines.{lines_in}
 use Rattle.liq_store.specs.Causes.{Faults}
-use Rattle.liq_ends.specs.declared.ending.Ending.{Ending}
 use Rattle.liq_ends.specs.declared.halts.Halt.{Halt}
 use Rattle.liq_ends.specs.Causes.{DiskCause, LastCause, ReadCause}
 use Rattle.liq_ends.specs.Output.{last}
 use Rattle.liq_ends.specs.Stops.{Adds, TellsBehind}
 use Rattle.liq_serve.specs.Finishing.{halt_at}
 use Rattle.liq_serve.specs.Outside.{Outside}
-use Rattle.liq_serve.specs.Staking.{AnswersStakers, StakesTo, StopsUnopened}
+use Rattle.liq_serve.specs.Answered.{AnswersBeside, AnswersLines}
 use Rattle.liq_serve.proofs.Served.{read_so, stopping}
 
-abbrev pub Stakes : Type 0
-Stakes = Vec StakeLine Global
-
 -- these lines were gathered
-abbrev pub AreGathered : Stakes → List StakeLine → Type 0
+abbrev pub AreGathered : {X : Type 0} → Vec X Global → List X → Type 0
 AreGathered items said = items.items ≡ said
 
 -- ---- where reading stopped
 
 -- the counts
-pub stop_source : (why_not : Stop) (before after : ℕ) → lines.ReadCause {T = Stakes} (Err why_not) before after → ReadCause {T = Unit {0}} (Err (halt_at why_not)) before after
-stop_source (stop.BadLine number) before after c = c
-stop_source stop.ReadFault before after c = c
-stop_source stop.NoMemory before after c = c
-stop_source stop.Limit before after c = c
+pub stop_source : (X : Type 0) (why_not : Stop) (before after : ℕ) → lines.ReadCause {T = Vec X Global} (Err why_not) before after → ReadCause {T = Unit {0}} (Err (halt_at why_not)) before after
+stop_source X (stop.BadLine number) before after c = c
+stop_source X stop.ReadFault before after c = c
+stop_source X stop.NoMemory before after c = c
+stop_source X stop.Limit before after c = c
 
 pub stop_sink : (why_not : Stop) (before after : ℕ) → LastCause (Err (halt_at why_not)) before after
 stop_sink (stop.BadLine number) before after = tt
@@ -59,34 +53,35 @@ stop_told stop.Limit fault before now h = h
 
 module _
     {S K D : Type 0} (unread : S → Option (List ℕ)) (held : K → Option (List ℕ)) (sink_faults : K → ℕ) (seen : D → Option (List ℕ))
-    (moment : D → ℕ) (left_at : D → ℕ → List ℕ → Type 0) where
+    (moment : D → ℕ) (left_at : D → ℕ → List ℕ → Type 0) {X : Type 0} (Says : List ℕ → X → Type 0)
+    (text : ℕ → List Command → List X → List ℕ) where
   -- reading stopped: a last line is written
-  pub stakes_stopped :
-      (before after : Outside S K D) (why_not : Stop) → lines.Gathers Spells AreGathered (Err why_not) (unread before.source) (unread after.source)
+  pub lines_stopped :
+      (before after : Outside S K D) (why_not : Stop) → lines.Gathers Says AreGathered (Err why_not) (unread before.source) (unread after.source)
       → after.left ≡ before.left → after.right ≡ before.right
       → (let fault = Rose (sink_faults before.sink) (sink_faults after.sink) in Adds [] (last (halt_at why_not)) fault (held before.sink) (held after.sink))
-      → StakesTo unread held sink_faults seen moment left_at before after (Err (halt_at why_not))
-  stakes_stopped before after why_not read left right told =
+      → AnswersLines unread held sink_faults seen moment left_at before after Says text (Err (halt_at why_not))
+  lines_stopped before after why_not read left right told =
       record {
         asked = read.said;
         few = read.few;
         reading = Err (halt_at why_not);
-        read = λ bytes is. read_so Spells why_not bytes (unread after.source) read.said (read.read bytes is);
+        read = λ bytes is. read_so Says why_not bytes (unread after.source) read.said (read.read bytes is);
         came = inl (refl, (left, right, stop_told why_not _ (held before.sink) (held after.sink) told, stopping why_not));
       }
 
   -- ---- where all lines were read
 
-  pub stakes_whole :
-      (before after : Outside S K D) (items : Stakes) (end : Result (Unit {0}) Halt) → lines.Gathers Spells AreGathered (Ok items) (unread before.source) (unread after.source)
-      → AnswersStakers unread held sink_faults seen moment left_at before after items.items end
-      → StakesTo unread held sink_faults seen moment left_at before after end
-  stakes_whole before after items end read answers =
+  pub lines_whole :
+      (before after : Outside S K D) (items : Vec X Global) (end : Result (Unit {0}) Halt) → lines.Gathers Says AreGathered (Ok items) (unread before.source) (unread after.source)
+      → AnswersBeside unread held sink_faults seen moment left_at before after (λ limit commands. text limit commands items.items) end
+      → AnswersLines unread held sink_faults seen moment left_at before after Says text end
+  lines_whole before after items end read answers =
       record {
         asked = items.items;
         few = omega (arith, read.few, ap length read.has);
         reading = Ok tt;
-        read = λ bytes is. subst (λ (said : List StakeLine). AllZip Spells (lines_in bytes) said × (unread after.source ≡ Some [])) (sym read.has) (read.read bytes is);
+        read = λ bytes is. subst (λ (said : List X). AllZip Says (lines_in bytes) said × (unread after.source ≡ Some [])) (sym read.has) (read.read bytes is);
         came = inr (refl, answers);
       }
 
