@@ -79,7 +79,7 @@ pot_after pot fee staked =
 abbrev pub gain_at : ℕ → Gain → ℕ → Gain
 gain_at stake gain sum = record { mark = sum; got = gained gain.got stake (sum - gain.mark) }
 
--- an account after a change that leaves it a stake
+-- an account after a change that leaves it this stake
 abbrev pub staker_after : Staker → ℕ → Pot → Pot → ℕ → Staker
 staker_after s stake coll lusd shares =
     record {

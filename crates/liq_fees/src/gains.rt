@@ -4,7 +4,8 @@ ghost use Rattle.std.specs.Prelude.{◌≡◌, ◌+◌, ◌-◌, ◌*◌, ◌^�
 ghost use Rattle.liq_num.specs.Quotient.{floor_of, ceiling_of};
 ghost use Rattle.liq_num.specs.declared.power.TheConstants.{ONE};
 ghost use Rattle.liq_fees.specs.Gains.{gained};
-ghost use Rattle.liq_fees.specs.Kept.{no_staker, weight_at, pot_after, gain_at, staker_after, row_by, CanGain, CanBeRead};
+ghost use Rattle.liq_fees.specs.Kept.{no_staker, weight_at, pot_after, gain_at, staker_after, row_by};
+ghost use Rattle.liq_fees.specs.Kept.{CanGain, CanBeRead};
 
 use crate::changes::{CHANGES_MOST, FEES_MOST};
 use liq_num::{ONE, mul_div, mul_div_up};

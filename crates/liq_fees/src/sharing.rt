@@ -1,8 +1,10 @@
 //! The account of all fees and stakes.
 
-ghost use Rattle.std.specs.Prelude.{◌≡◌, ℕ, ◌+◌, ◌-◌, ◌<◌, ◌≤◌, ◌==◌, ◌↔◌, true, false, [], ◌∷◌, List, Some, Err, OnOk, OnErr, if◌then◌else◌};
+ghost use Rattle.std.specs.Prelude.{◌≡◌, ℕ, ◌+◌, ◌-◌, ◌<◌, ◌≤◌, ◌==◌, ◌↔◌, true, false, if◌then◌else◌};
+ghost use Rattle.std.specs.Prelude.{[], ◌∷◌, List, Some, Err, OnOk, OnErr};
 ghost use Rattle.liq_types.specs.PlainLedger.{over_accounts};
-ghost use Rattle.liq_fees.specs.Happened.{Happened, Fee, of_coll, of_lusd, staked_of, stake_of, unshared_of, fees_of, changes_in, IsLawful};
+ghost use Rattle.liq_fees.specs.Happened.{Happened, Fee, of_coll, of_lusd, staked_of, stake_of, unshared_of, fees_of};
+ghost use Rattle.liq_fees.specs.Happened.{changes_in, IsLawful};
 ghost use Rattle.liq_fees.specs.Exact.{IsWithinAllowance};
 ghost use Rattle.liq_fees.specs.Gains.{gain_of};
 ghost use Rattle.liq_fees.specs.Kept.{IsKeptOf, staker_in, change_by, refusal_of, row_of};
@@ -78,8 +80,8 @@ impl Fees {
     #[tactic(auto, using(crate::proofs::Keeping::refusal_is))]
     pub fn change(&mut self, account: u32, amount: u64, out: bool) -> Result<(), ChangeFault>
         requires few { ∥ ((past : List Happened) × IsKeptOf self.old past × (changes_in past < CHANGES_MOST)) ∥₁ }
-        ensures changed { OnOk result ((past : List Happened) → IsKeptOf self.old past → changes_in past < CHANGES_MOST →
-            IsKeptOf self.new (change_by account amount out ∷ past)) }
+        ensures changed { OnOk result ((past : List Happened) → IsKeptOf self.old past →
+            changes_in past < CHANGES_MOST → IsKeptOf self.new (change_by account amount out ∷ past)) }
         ensures refused { (past : List Happened) → IsKeptOf self.old past → (refusal : StakeRefusal) →
             (result ≡ Err (No refusal))
             ↔ (refusal_of account amount out (staked_of past) (stake_of account past) ≡ Some refusal) }
