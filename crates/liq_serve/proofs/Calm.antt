@@ -1,6 +1,6 @@
 -- What follows from the top call's clause where nothing is wrong.
 use Rattle.std.proofs.Common.{◌≡◌, ◌≢◌, ◌≤◌, ℕ, zero, suc, List, [], ◌∷◌, ◌++◌, length, Option, Some, Ok, Err, Result, refl, sym, ap, subst, ◌∙◌, arith, inl, inr}
-use Rattle.std.specs.Prelude.{◌⊎◌, Contains}
+use Rattle.std.specs.Prelude.{◌⊎◌, ◌<◌, Contains}
 use Rattle.std.specs.List.{AllZip}
 use Rattle.std.proofs.lemmas.Result.{MatchResult-at_ok}
 use Rattle.liq_types.specs.declared.amounts.TheConstants.{LINES_MOST}
@@ -41,16 +41,16 @@ use Rattle.liq_serve.proofs.Telling.{audit_done, load_done, rotated_done, state_
 
 -- reading stopped
 module _ {X : Type 0} (Says : List ℕ → X → Type 0) where
-  stopped_done :
+  stopped_seven :
       (end : Result (Unit {0}) Halt) (bytes : List ℕ) (left : Option (List ℕ)) (asked all : List X) → IsStopping end → ReadsTo Says bytes left asked end → AllZip Says (lines_in bytes) all → length all ≤ LINES_MOST
-      → status_of end ≢ 3 → IsDone (status_of end)
-  stopped_done end bytes left asked all (n, (zero, within, is)) h spelled few read =
+      → status_of end ≢ 3 → status_of end ≡ 7
+  stopped_seven end bytes left asked all (n, (zero, within, is)) h spelled few read =
       absurd (neither (λ e. cc) (λ e. cc) (stops_outside Says (stop.BadLine n) bytes left asked all spelled few (subst (λ (e : Result (Unit {0}) Halt). ReadsTo Says bytes left asked e) (sym is) h)))
-  stopped_done end bytes left asked all (n, (suc zero, within, is)) h spelled few read = absurd (read (sym (ap status_of is)))
-  stopped_done end bytes left asked all (n, (suc (suc zero), within, is)) h spelled few read = inr (sym (ap status_of is))
-  stopped_done end bytes left asked all (n, (suc (suc (suc zero)), within, is)) h spelled few read =
+  stopped_seven end bytes left asked all (n, (suc zero, within, is)) h spelled few read = absurd (read (sym (ap status_of is)))
+  stopped_seven end bytes left asked all (n, (suc (suc zero), within, is)) h spelled few read = sym (ap status_of is)
+  stopped_seven end bytes left asked all (n, (suc (suc (suc zero)), within, is)) h spelled few read =
       absurd (neither (λ e. cc) (λ e. cc) (stops_outside Says stop.Limit bytes left asked all spelled few (subst (λ (e : Result (Unit {0}) Halt). ReadsTo Says bytes left asked e) (sym is) h).1))
-  stopped_done end bytes left asked all (n, (suc (suc (suc (suc k))), within, is)) h spelled few read = absurd (omega (arith, within))
+  stopped_seven end bytes left asked all (n, (suc (suc (suc (suc k))), within, is)) h spelled few read = absurd (omega (arith, within))
 
 unopened_done : (n : ℕ) → Contains (5 ∷ 6 ∷ 7 ∷ []) n → n ≢ 5 → n ≢ 6 → IsDone n
 unopened_done n (zero, within, is) disk damage = absurd (disk (sym is))
@@ -89,7 +89,7 @@ module _
         × (OpensNone unread source_faults held sink_faults seen disk_faults moment left_at before after serves.history end
         ⊎ Answers unread source_faults held sink_faults seen disk_faults moment left_at before after serves.asked serves.history end)) → IsDone (status_of end)
     by (inl (stopped, none, left, right, stopping)) =
-        stopped_done Asks end bytes (unread after.source) serves.asked all stopping (subst (λ (e : Result (Unit {0}) Halt). ReadsTo Asks bytes (unread after.source) serves.asked e) stopped (serves.read bytes told)) spelled few read
+        inr (stopped_seven Asks end bytes (unread after.source) serves.asked all stopping (subst (λ (e : Result (Unit {0}) Halt). ReadsTo Asks bytes (unread after.source) serves.asked e) stopped (serves.read bytes told)) spelled few read)
     by (inr (whole, inl opens)) = unopened_done (status_of end) opens.1 disk (MatchResult-at_ok _ _ start is (opens.2 l r told_l told_r)).0
     by (inr (whole, inr answers)) = answers_done serves.asked serves.history end answers sink disk
 
@@ -115,21 +115,39 @@ answers_beside_done s (Err NoMemory) first h sink disk = inr refl
 answers_beside_done s (Err (Rotated generation)) first h sink disk = absurd (omega (arith, first, h.0))
 answers_beside_done s (Err _) first h sink disk = absurd h
 
+-- of a later one
+answers_beside_rotated : (s : State) (end : Result (Unit {0}) Halt) → 1 < s.generation → IsAnswerOf s end → status_of end ≢ 5 → (status_of end ≡ 9) ⊎ (status_of end ≡ 7)
+answers_beside_rotated s (Ok done) later h disk = absurd (omega (arith, later, h))
+answers_beside_rotated s (Err WriteFault) later h disk = absurd (omega (arith, later, h))
+answers_beside_rotated s (Err DiskFault) later h disk = absurd (disk refl)
+answers_beside_rotated s (Err NoMemory) later h disk = inr refl
+answers_beside_rotated s (Err (Rotated generation)) later h disk = inl refl
+answers_beside_rotated s (Err _) later h disk = absurd h
+
 module _
     {S K D : Type 0} (unread : S → Option (List ℕ)) (held : K → Option (List ℕ)) (sink_faults : K → ℕ) (seen : D → Option (List ℕ))
     (moment : D → ℕ) (left_at : D → ℕ → List ℕ → Type 0) (before after : Outside S K D)
     {X : Type 0} (Says : List ℕ → X → Type 0) (text : ℕ → List Command → List X → List ℕ) where
-  lines_done :
+  -- Where all lines were read well, they were answered beside the state, or there was no memory to read them.
+  lines_came :
       (end : Result (Unit {0}) Halt) (answered : AnswersLines unread held sink_faults seen moment left_at before after Says text end)
       → (bytes l r : List ℕ) (start : State) (all : List X) → unread before.source ≡ Some bytes → seen before.left ≡ Some l → seen before.right ≡ Some r
-      → state_on l r ≡ Ok start → start.generation ≡ 1 → AllZip Says (lines_in bytes) all → length all ≤ LINES_MOST → status_of end ≢ 3 → status_of end ≢ 4 → status_of end ≢ 5
-      → IsDone (status_of end)
-  lines_done end answered bytes l r start all told told_l told_r is first spelled few read sink disk = by answered.came where
+      → state_on l r ≡ Ok start → AllZip Says (lines_in bytes) all → length all ≤ LINES_MOST → status_of end ≢ 3
+      → IsAnswerOf start end ⊎ (status_of end ≡ 7)
+  lines_came end answered bytes l r start all told told_l told_r is spelled few read = by answered.came where
     by : ((answered.reading ≡ end) × StopsUnopened unread held sink_faults seen moment left_at before after end)
-        ⊎ ((answered.reading ≡ Ok tt) × AnswersBeside unread held sink_faults seen moment left_at before after (λ limit commands. text limit commands answered.asked) end) → IsDone (status_of end)
+        ⊎ ((answered.reading ≡ Ok tt) × AnswersBeside unread held sink_faults seen moment left_at before after (λ limit commands. text limit commands answered.asked) end) → IsAnswerOf start end ⊎ (status_of end ≡ 7)
     by (inl (stopped, unopened)) =
-        stopped_done Says end bytes (unread after.source) answered.asked all unopened.3 (subst (λ (e : Result (Unit {0}) Halt). ReadsTo Says bytes (unread after.source) answered.asked e) stopped (answered.read bytes told)) spelled few read
-    by (inr (whole, answers)) = answers_beside_done start end first (MatchResult-at_ok _ _ start is (answers l r told_l told_r)).0 sink disk
+        inr (stopped_seven Says end bytes (unread after.source) answered.asked all unopened.3 (subst (λ (e : Result (Unit {0}) Halt). ReadsTo Says bytes (unread after.source) answered.asked e) stopped (answered.read bytes told)) spelled few read)
+    by (inr (whole, answers)) = inl (MatchResult-at_ok _ _ start is (answers l r told_l told_r)).0
+
+lines_done : (s : State) (end : Result (Unit {0}) Halt) → IsAnswerOf s end ⊎ (status_of end ≡ 7) → s.generation ≡ 1 → status_of end ≢ 4 → status_of end ≢ 5 → IsDone (status_of end)
+lines_done s end (inl h) first sink disk = answers_beside_done s end first h sink disk
+lines_done s end (inr seven) first sink disk = inr seven
+
+lines_rotated : (s : State) (end : Result (Unit {0}) Halt) → IsAnswerOf s end ⊎ (status_of end ≡ 7) → 1 < s.generation → status_of end ≢ 5 → (status_of end ≡ 9) ⊎ (status_of end ≡ 7)
+lines_rotated s end (inl h) later disk = answers_beside_rotated s end later h disk
+lines_rotated s end (inr seven) later disk = inr seven
 
 -- ---- of each word
 
@@ -161,11 +179,19 @@ module _
         staking = λ asks bytes l r start asked told stood all few first well calm.
             let e = ends.ends word.Staking asks in
             subst IsDone (sym e.1)
-            (lines_done unread held sink_faults seen moment left_at before after stakes.Spells staked_text e.0 e.2 bytes l r start asked told stood.left stood.right stood.is first all few (λ is. well (ends.source_fault (e.1 ∙ is))) (λ is. calm.sink (ends.sink_fault (e.1 ∙ is))) (λ is. calm.disk (ends.disk_fault (e.1 ∙ is))));
+            (lines_done start e.0 (lines_came unread held sink_faults seen moment left_at before after stakes.Spells staked_text e.0 e.2 bytes l r start asked told stood.left stood.right stood.is all few (λ is. well (ends.source_fault (e.1 ∙ is)))) first (λ is. calm.sink (ends.sink_fault (e.1 ∙ is))) (λ is. calm.disk (ends.disk_fault (e.1 ∙ is))));
+        staking_rotated = λ asks bytes l r start asked told stood all few later well kept.
+            let e = ends.ends word.Staking asks in
+            subst (λ (n : ℕ). (n ≡ 9) ⊎ (n ≡ 7)) (sym e.1)
+            (lines_rotated start e.0 (lines_came unread held sink_faults seen moment left_at before after stakes.Spells staked_text e.0 e.2 bytes l r start asked told stood.left stood.right stood.is all few (λ is. well (ends.source_fault (e.1 ∙ is)))) later (λ is. kept (ends.disk_fault (e.1 ∙ is))));
         rewards = λ asks bytes l r start asked told stood all few first well calm.
             let e = ends.ends word.Rewards asks in
             subst IsDone (sym e.1)
-            (lines_done unread held sink_faults seen moment left_at before after tags.Spells rewarded_text e.0 e.2 bytes l r start asked told stood.left stood.right stood.is first all few (λ is. well (ends.source_fault (e.1 ∙ is))) (λ is. calm.sink (ends.sink_fault (e.1 ∙ is))) (λ is. calm.disk (ends.disk_fault (e.1 ∙ is))));
+            (lines_done start e.0 (lines_came unread held sink_faults seen moment left_at before after tags.Spells rewarded_text e.0 e.2 bytes l r start asked told stood.left stood.right stood.is all few (λ is. well (ends.source_fault (e.1 ∙ is)))) first (λ is. calm.sink (ends.sink_fault (e.1 ∙ is))) (λ is. calm.disk (ends.disk_fault (e.1 ∙ is))));
+        rewards_rotated = λ asks bytes l r start asked told stood all few later well kept.
+            let e = ends.ends word.Rewards asks in
+            subst (λ (n : ℕ). (n ≡ 9) ⊎ (n ≡ 7)) (sym e.1)
+            (lines_rotated start e.0 (lines_came unread held sink_faults seen moment left_at before after tags.Spells rewarded_text e.0 e.2 bytes l r start asked told stood.left stood.right stood.is all few (λ is. well (ends.source_fault (e.1 ∙ is)))) later (λ is. kept (ends.disk_fault (e.1 ∙ is))));
         state = λ asked l r start stood calm.
             let e = ends.ends word.State asked in
             let told = MatchResult-at_ok _ _ start stood.is (e.2.1 l r stood.left stood.right) in

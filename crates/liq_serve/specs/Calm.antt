@@ -79,6 +79,15 @@ module _
         Ask words word.Rewards → (bytes l r : List ℕ) (start : State) (asked : List TagLine)
         → unread before.source ≡ Some bytes → StoodFor l r start → AllZip tags.Spells (lines_in bytes) asked
         → length asked ≤ LINES_MOST → start.generation ≡ 1 → IsReadWell → IsCalm → IsDone status
+    -- behind a rotation there is no answer for either
+    pub staking_rotated :
+        Ask words word.Staking → (bytes l r : List ℕ) (start : State) (asked : List StakeLine)
+        → unread before.source ≡ Some bytes → StoodFor l r start → AllZip stakes.Spells (lines_in bytes) asked
+        → length asked ≤ LINES_MOST → 1 < start.generation → IsReadWell → AreKeptWell → (status ≡ 9) ⊎ (status ≡ 7)
+    pub rewards_rotated :
+        Ask words word.Rewards → (bytes l r : List ℕ) (start : State) (asked : List TagLine)
+        → unread before.source ≡ Some bytes → StoodFor l r start → AllZip tags.Spells (lines_in bytes) asked
+        → length asked ≤ LINES_MOST → 1 < start.generation → IsReadWell → AreKeptWell → (status ≡ 9) ⊎ (status ≡ 7)
     pub state :
         Ask words word.State → (l r : List ℕ) (start : State) → StoodFor l r start → IsCalm → IsDone status
     pub report :
