@@ -26,11 +26,7 @@ fn file<F: Files<File = File>>(files: &F, name: &str) -> io::Result<File> {
 
 /// How many records an opening of both files finds.
 fn opened(alloc: Global, left: File, right: File) -> u64 {
-    match Store::open(
-        alloc,
-        FileDisk::new(Some(left)),
-        FileDisk::new(Some(right)),
-    ) {
+    match Store::open(alloc, FileDisk::new(Some(left)), FileDisk::new(Some(right))) {
         Ok(store) => store.protocol().records(),
         Err(_) => 0,
     }

@@ -268,7 +268,7 @@ module _
         ))
         (λ side damage is. (refl, still side damage l r told_l told_r is, written)),
   )
-  nothing_done written word.Follow = (refl, ([], reads_nothing (unread before.source), ([], (omega arith, ([], [], refl, none_goes_on)), written)))
+  nothing_done written word.Follow = (refl, ([], reads_nothing (unread before.source), ([], (omega arith, inl none_goes_on), written)))
   nothing_done written (word.Gen seed count) = (refl, (2, lit< tt, refl), written)
 
   -- the status is that of neither a fault nor an end
