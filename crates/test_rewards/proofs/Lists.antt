@@ -129,6 +129,52 @@ risen_lawful_1 = earlier (timed 1 (Offset 999999999999999999 0 10000000000000000
 pub risen_may_1 : MayHappen (timed 0 (Own 1 1000000000000000000 0 0 1000000000000000000)) []
 risen_may_1 = record { lawful = risen_lawful_1; few = omega arith }
 
+abbrev pub fourth_1 : List Timed
+fourth_1 = timed 0 (Own 1 1000000000000000000 0 0 1000000000000000000) ∷ []
+
+abbrev pub fourth_2 : List Timed
+fourth_2 = timed 0 (Offset 999999999999999999 0 1000000000000000000 1) ∷ fourth_1
+
+abbrev pub fourth_3 : List Timed
+fourth_3 = timed 0 (Own 2 9999999999999999999 0 0 9999999999999999999) ∷ fourth_2
+
+abbrev pub fourth_4 : List Timed
+fourth_4 = timed 0 (Offset 9999999999999999999 0 10000000000000000000 3) ∷ fourth_3
+
+abbrev pub fourth_5 : List Timed
+fourth_5 = timed 0 (Own 3 1000000000 0 0 1000000000) ∷ fourth_4
+
+fourth_lawful : IsLawful opening (events_of fourth_5)
+unfolding least_from
+fourth_lawful = (record { total = omega arith; coll = omega arith }, record { gain_is = refl; paid_is = omega arith; amount_is = refl }, (record { total = omega arith; coll = omega arith }, record { some = omega arith; within = omega arith; total_is = refl; coll_is = omega arith; rise_is = refl }, (record { total = omega arith; coll = omega arith }, record { gain_is = refl; paid_is = omega arith; amount_is = refl }, (record { total = omega arith; coll = omega arith }, record { some = omega arith; within = omega arith; total_is = refl; coll_is = omega arith; rise_is = refl }, (record { total = omega arith; coll = omega arith }, record { gain_is = refl; paid_is = omega arith; amount_is = refl }, record { total = omega arith; coll = omega arith })))))
+
+pub fourth_may_5 : MayHappen (timed 0 (Own 3 1000000000 0 0 1000000000)) fourth_4
+fourth_may_5 = record { lawful = fourth_lawful; few = omega arith }
+
+fourth_lawful_4 : IsLawful opening (events_of fourth_4)
+fourth_lawful_4 = earlier (timed 0 (Own 3 1000000000 0 0 1000000000)) fourth_4 fourth_lawful
+
+pub fourth_may_4 : MayHappen (timed 0 (Offset 9999999999999999999 0 10000000000000000000 3)) fourth_3
+fourth_may_4 = record { lawful = fourth_lawful_4; few = omega arith }
+
+fourth_lawful_3 : IsLawful opening (events_of fourth_3)
+fourth_lawful_3 = earlier (timed 0 (Offset 9999999999999999999 0 10000000000000000000 3)) fourth_3 fourth_lawful_4
+
+pub fourth_may_3 : MayHappen (timed 0 (Own 2 9999999999999999999 0 0 9999999999999999999)) fourth_2
+fourth_may_3 = record { lawful = fourth_lawful_3; few = omega arith }
+
+fourth_lawful_2 : IsLawful opening (events_of fourth_2)
+fourth_lawful_2 = earlier (timed 0 (Own 2 9999999999999999999 0 0 9999999999999999999)) fourth_2 fourth_lawful_3
+
+pub fourth_may_2 : MayHappen (timed 0 (Offset 999999999999999999 0 1000000000000000000 1)) fourth_1
+fourth_may_2 = record { lawful = fourth_lawful_2; few = omega arith }
+
+fourth_lawful_1 : IsLawful opening (events_of fourth_1)
+fourth_lawful_1 = earlier (timed 0 (Offset 999999999999999999 0 1000000000000000000 1)) fourth_1 fourth_lawful_2
+
+pub fourth_may_1 : MayHappen (timed 0 (Own 1 1000000000000000000 0 0 1000000000000000000)) []
+fourth_may_1 = record { lawful = fourth_lawful_1; few = omega arith }
+
 abbrev pub taken_1 : List Timed
 taken_1 = timed 0 (Own 1 3000000000 0 0 3000000000) ∷ []
 

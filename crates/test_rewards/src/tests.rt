@@ -4,10 +4,10 @@ ghost use Rattle.std.specs.Prelude.{◌≡◌, ◌≤◌, [], ◌∷◌, List};
 ghost use Rattle.liq_rewards.specs.Timed.{Timed, timed};
 ghost use Rattle.liq_rewards.specs.Kept.{HasRoomFor, IsKeptOf, MayHappen};
 
+use liq_rewarding::rewards_text;
 use liq_rewards::{
     BadTagLine, RewardRow, Rewards, TagLine, UNITS_MOST, YEAR, YEARS, issued, read_tag_line,
 };
-use liq_rewarding::rewards_text;
 use liq_types::PoolEvent;
 use std::alloc::Global;
 use std::process::Abort;
@@ -310,4 +310,22 @@ fn the_scale_rises(rt: HostRuntime) {
     earned(&rt, &rewards, 2, 0, 1_000_000_006);
     earned(&rt, &rewards, 3, 0, 1_000_000_005);
     told(&rt, &rewards, 90_000, 0);
+}
+
+/// One offset raises the scale by three, and then an account earns in the fourth scale of its mark alone.
+#[test]
+fn the_fourth_scale(rt: HostRuntime) {
+    let whole = 1_000_000_000_000_000_000;
+    let most = 10_000_000_000_000_000_000;
+    let mut rewards = Rewards::new(rt.alloc());
+    provide(&rt, &mut rewards, 0, 1, whole, whole);
+    offset(&rt, &mut rewards, 0, whole - 1, 0, whole, 1);
+    provide(&rt, &mut rewards, 0, 2, most - 1, most - 1);
+    offset(&rt, &mut rewards, 0, most - 1, 0, most, 3);
+    provide(&rt, &mut rewards, 0, 3, 1_000_000_000, 1_000_000_000);
+    rewards.to_minute(8_000_000);
+    earned(&rt, &rewards, 1, 0, 31_532_320_837);
+    earned(&rt, &rewards, 2, 31, 315_323_207_722);
+    earned(&rt, &rewards, 3, 31_532_320_768, 37);
+    told(&rt, &rewards, 31_532_320_800, 0);
 }
