@@ -47,6 +47,19 @@ pub record StandsAs {D : Type 0} (seen : D → Option (List ℕ)) (moment : D �
   pub reads : ReadsOfOpen seen old (disk_in result) odd
   pub telling : IsSome (seen (disk_in result)) ↔ IsSome (seen old)
 
+-- both disks were opened and tested so, and their faults counted
+pub record BothStand {D : Type 0} (seen : D → Option (List ℕ)) (moment : D → ℕ) (left_at : D → ℕ → List ℕ → Type 0) (faults : D → ℕ) (left right : D) (lr rr : Result (Stood D) (StandFault D)) : Type 0 where
+  pub on_left : StandsAs seen moment left_at true left lr
+  pub on_right : StandsAs seen moment left_at false right rr
+  pub left_counts : CountsStand lr (faults left) (faults (disk_in lr))
+  pub right_counts : CountsStand rr (faults right) (faults (disk_in rr))
+
+pub both_fine : {D : Type 0} (seen : D → Option (List ℕ)) (moment : D → ℕ) (left_at : D → ℕ → List ℕ → Type 0) (faults : D → ℕ) (left right : D) (lr rr : Result (Stood D) (StandFault D)) (stood_left stood_right : Stood D)
+    → (lr ≡ Ok stood_left) × (rr ≡ Ok stood_right) → BothStand seen moment left_at faults left right lr rr → BothStand seen moment left_at faults left right (Ok stood_left) (Ok stood_right)
+both_fine {D} seen moment left_at faults left right lr rr stood_left stood_right fine both =
+    subst (λ (x : Result (Stood D) (StandFault D)). BothStand seen moment left_at faults left right x (Ok stood_right)) fine.0
+    (subst (λ (y : Result (Stood D) (StandFault D)). BothStand seen moment left_at faults left right lr y) fine.1 both)
+
 module _ {D : Type 0} (seen : D → Option (List ℕ)) (moment : D → ℕ) (left_at : D → ℕ → List ℕ → Type 0) where
   as_it_stands : (odd : Bool) (held now : List ℕ) (stood : Stood D) → found_on odd now ≡ found_on odd held → IsFoundOn odd held (Ok stood) → IsLeftOn now (Ok stood) → IsStanding odd now stood
   as_it_stands odd held now (Nothing disk) same found left = left
