@@ -5,10 +5,10 @@ use Rattle.liq_types.specs.declared.amounts.TheConstants.{RECORDS_MOST}
 use Rattle.liq_types.specs.declared.requests.Command.{Command}
 use Rattle.liq_types.specs.declared.requests.Request.TheVariants.{Do}
 use Rattle.liq_types.specs.State.{State}
-use Rattle.liq_rules.specs.Rules.{effect}
 use Rattle.liq_rules.specs.Step.{Ruling, Refused, Repeated, Allowed, ruling, after, after_ruling, run, accepted, is_allowed}
 use Rattle.liq_rules.specs.Verbs.{rotates}
-use Rattle.liq_rules.proofs.Allowed.{allowed_few, effect-records}
+use Rattle.liq_rules.proofs.Allowed.{allowed_few}
+use Rattle.liq_guided.proofs.Steps.{after-records}
 use Rattle.liq_pairs.specs.Replay.{replay, replayed}
 use Rattle.liq_pairs.proofs.Generations.{HaveNoRotation, never_rotates}
 
@@ -47,7 +47,7 @@ module _ (end : State) where
     stays = never_rotates c.call (none zero c (omega arith))
 
     counted : (after s c).records ≡ s.records + 1
-    counted = ap (λ b. cond b 0 ((effect s c.call).records + 1)) stays ∙ ap (λ n. n + 1) (effect-records s c.call)
+    counted = after-records s c stays
 
     by : (r : Ruling) → ruling s c ≡ r → replayed index r (replay (index + 1) (after s c) cs) ≡ Ok end → ((after s c).records ≤ RECORDS_MOST → replay (index + 1) (after s c) cs ≡ Ok end → (after s c).records + length cs ≤ RECORDS_MOST) → s.records + length (c ∷ cs) ≤ RECORDS_MOST
     by (Refused refusal) is k more = cc

@@ -14,7 +14,7 @@ ghost use Rattle.liq_retold.specs.Making.{PlansNext, MakesNext};
 use crate::fault::ReplayFault;
 use crate::onlooker::Onlooker;
 use liq_core::{PlanFault, Planned, Protocol, Turn, unhinted};
-use liq_guide::Guide;
+use liq_guided::Guided;
 use liq_journal::{Damage, What};
 use liq_pairs::code_of;
 use liq_types::{Command, Hint, Steps};
@@ -59,27 +59,18 @@ fn retold_on<O: Onlooker, L: Ledger>(
     ensures damaged { (damage : Damage) → result ≡ Err (ReplayFault.Damaged damage) → replay 1 (opening_with limit) commands.now ≡ Err damage }
 {
     let mut steps = Steps::<L>::new(blank);
-    let mut protocol = Protocol::with_limit(alloc, limit);
-    let mut guide = Guide::new(alloc);
+    let mut protocol = Guided::with_limit(alloc, limit);
     for (i, command) in commands.iter().enumerate() {
         // Its own hint words change nothing.
         let command = unhinted(command);
-        make(
-            &mut protocol,
-            &mut guide,
-            onlooker,
-            &command,
-            i as u64 + 1,
-            &mut steps,
-        )?;
+        make(&mut protocol, onlooker, &command, i as u64 + 1, &mut steps)?;
     }
-    Ok(protocol)
+    Ok(protocol.into_protocol())
 }
 
-/// Makes a command, which has this number among the commands. The guide's hint saves steps and changes nothing.
+/// Makes a command, which has this number among the commands.
 fn make<O: Onlooker, L: Ledger>(
-    protocol: &mut Protocol,
-    guide: &mut Guide,
+    protocol: &mut Guided,
     onlooker: &mut O,
     command: &Command,
     index: u64,
@@ -90,16 +81,14 @@ fn make<O: Onlooker, L: Ledger>(
         → MakesNext O.adds s command.now index protocol.new (O.notes onlooker.old) (O.notes onlooker.new) result }
 {
     let planned = plan(protocol, command, index)?;
-    onlooker.see(protocol, &planned)?;
+    onlooker.see(protocol.protocol(), &planned)?;
     protocol.reserve(&planned)?;
-    guide.follow(planned.list_changes())?;
-    let hint = guide.hint(planned.list_changes()).unwrap_or(Hint::NONE);
-    protocol.apply(planned, &hint, steps);
+    protocol.apply(planned, &Hint::NONE, steps);
     Ok(())
 }
 
 /// Plans a command, which must be new and allowed.
-fn plan(protocol: &Protocol, command: &Command, index: u64) -> Result<Planned, ReplayFault>
+fn plan(protocol: &Guided, command: &Command, index: u64) -> Result<Planned, ReplayFault>
     ensures { (s : State) → StandsFor protocol.now s → PlansNext s command.now index result }
 {
     match protocol.plan(command) {

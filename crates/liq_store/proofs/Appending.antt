@@ -13,6 +13,7 @@ use Rattle.liq_wire.specs.Fields.{command_of, heard}
 use Rattle.liq_core.specs.Core.{Core, StandsFor}
 use Rattle.liq_core.specs.Plan.{Plan, IsPlan}
 use Rattle.liq_rules.specs.Step.{Allowed, after, after_ruling, ruling, step}
+use Rattle.liq_guided.proofs.Steps.{planned_allowed}
 use Rattle.liq_journal.specs.Crash.{BeforeOrAfter, IsBodyOf, Stands, is_odd}
 use Rattle.liq_journal.specs.Settled.{IsSettled, JournalOn}
 use Rattle.liq_journal.specs.Written.{Open, Written, and_then, found_on, is_rotate, start_of}
@@ -31,7 +32,6 @@ use Rattle.liq_store.specs.Stored.{Stored}
 use Rattle.liq_store.specs.Within.{HasRecords, IsWithin, stored}
 use Rattle.liq_store.proofs.Calling.{answer_stays, other_stays, writes_on}
 use Rattle.liq_store.proofs.Going.{Going, going_by, rest_now, rest_only}
-use Rattle.liq_store.proofs.Steps.{planned_allowed}
 use Rattle.liq_store.proofs.OneDisk.{some_same, told_too}
 
 pub some_isnt_none : (n : ℕ) → Some n ≡ None → ⊥

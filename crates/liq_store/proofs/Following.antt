@@ -7,6 +7,7 @@ use Rattle.liq_types.specs.State.{State}
 use Rattle.liq_core.specs.Plan.{Plan, IsPlan}
 use Rattle.liq_rules.specs.Rules.{call_changes}
 use Rattle.liq_rules.specs.Step.{Ruling}
+use Rattle.liq_guided.proofs.Steps.{planned_allowed}
 use Rattle.liq_journal.specs.Causes.{Counted}
 use Rattle.liq_store.specs.declared.answers.StoreFault.{StoreFault}
 use Rattle.liq_store.specs.declared.answers.StoreWhy.TheVariants as why
@@ -17,7 +18,6 @@ use Rattle.liq_store.specs.Opening.{OpensOn, left_after, right_after}
 use Rattle.liq_store.specs.Stored.{Stored}
 use Rattle.liq_store.specs.Telling.{told_by, told_of}
 use Rattle.liq_store.proofs.Going.{going_of}
-use Rattle.liq_store.proofs.Steps.{planned_allowed}
 
 -- what is planned is told
 pub tells_planned : (s : State) (c : Command) (plan : Plan) → (plan.command ≡ c) × IsPlan s plan → plan.changes ≡ told_of s (Do c)

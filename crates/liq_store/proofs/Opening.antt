@@ -1,6 +1,6 @@
 -- What an opening of two disks finds and leaves, by what it finds and leaves of each.
 use Rattle.std.proofs.Common.{◌≡◌, ◌≢◌, ◌⊎◌, inl, inr, ◌↔◌, ℕ, List, [], Option, Some, None, IfSome, IsSome, Bool, true, false, Result, Ok, Err, IfOk, IfErr, refl, sym, ◌∙◌, ap, ap₂, subst, arith, ◌≤◌, ⊎_elim}
-use Rattle.liq_outside.specs.Disk.{LeavesOnly, LeftNow, Only}
+use Rattle.liq_outside.specs.Disk.{GoesOn, LeavesOnly, LeftNow, Only}
 use Rattle.liq_outside.specs.Faults.{Rose}
 use Rattle.liq_outside.proofs.Moments.{chained, weaker}
 use Rattle.liq_types.specs.State.{State}
@@ -36,18 +36,31 @@ use Rattle.liq_store.specs.Standing.{CountsStand, IsCounted, IsFaultless, IsFoun
 use Rattle.liq_store.specs.Stored.{Stored}
 use Rattle.liq_store.proofs.OneDisk.{told_too}
 
--- all that is said of one disk that was opened and tested, whole
-pub record StandsAs {D : Type 0} (seen : D → Option (List ℕ)) (moment : D → ℕ) (left_at : D → ℕ → List ℕ → Type 0) (odd : Bool) (old : D) (result : Result (Stood D) (StandFault D)) : Type 0 where
-  pub found : (held : List ℕ) → seen old ≡ Some held → IsFoundOn odd held result
-  pub left : IfSome (seen (disk_in result)) (λ after. IsLeftOn after result)
-  pub same : IsFaultless result → (held after : List ℕ) → seen old ≡ Some held → seen (disk_in result) ≡ Some after → found_on odd after ≡ found_on odd held
-  pub rest : IsFaultless result → IsAtRest seen moment left_at (disk_in result)
-  pub journal : IfOk result (IsCounted odd)
-  pub crash : CrashOfOpen seen moment left_at old (disk_in result) odd
-  pub reads : ReadsOfOpen seen old (disk_in result) odd
-  pub telling : IsSome (seen (disk_in result)) ↔ IsSome (seen old)
+-- All that is said of one disk that was opened and tested, whole: what `stand` ensures of it.
+abbrev pub StandsAs : {D : Type 0} (seen : D → Option (List ℕ)) (moment : D → ℕ) (left_at : D → ℕ → List ℕ → Type 0) (faults : D → ℕ) (odd : Bool) (old : D) (result : Result (Stood D) (StandFault D)) → Type 0
+StandsAs seen moment left_at faults odd old result = record {
+  found : (held : List ℕ) → seen old ≡ Some held → IsFoundOn odd held result;
+  left : IfSome (seen (disk_in result)) (λ after. IsLeftOn after result);
+  same : IsFaultless result → (held after : List ℕ) → seen old ≡ Some held → seen (disk_in result) ≡ Some after → found_on odd after ≡ found_on odd held;
+  rest : IsFaultless result → IsAtRest seen moment left_at (disk_in result);
+  journal : IfOk result (IsCounted odd);
+  crash : CrashOfOpen seen moment left_at old (disk_in result) odd;
+  reads : ReadsOfOpen seen old (disk_in result) odd;
+  telling : IsSome (seen (disk_in result)) ↔ IsSome (seen old);
+  time : GoesOn moment left_at old (disk_in result);
+  cause : CountsStand result (faults old) (faults (disk_in result));
+}
 
-module _ {D : Type 0} (seen : D → Option (List ℕ)) (moment : D → ℕ) (left_at : D → ℕ → List ℕ → Type 0) where
+-- nothing was wrong with either of two
+pub both_fine : {D : Type 0} (seen : D → Option (List ℕ)) (moment : D → ℕ) (left_at : D → ℕ → List ℕ → Type 0) (faults : D → ℕ) (left right : D) (lr rr : Result (Stood D) (StandFault D)) (stood_left stood_right : Stood D)
+    → (lr ≡ Ok stood_left) × (rr ≡ Ok stood_right) → StandsAs seen moment left_at faults true left lr → StandsAs seen moment left_at faults false right rr
+    → StandsAs seen moment left_at faults true left (Ok stood_left) × StandsAs seen moment left_at faults false right (Ok stood_right)
+both_fine {D} seen moment left_at faults left right lr rr stood_left stood_right fine sl sr = (
+  subst (λ (x : Result (Stood D) (StandFault D)). StandsAs seen moment left_at faults true left x) fine.0 sl,
+  subst (λ (y : Result (Stood D) (StandFault D)). StandsAs seen moment left_at faults false right y) fine.1 sr,
+)
+
+module _ {D : Type 0} (seen : D → Option (List ℕ)) (moment : D → ℕ) (left_at : D → ℕ → List ℕ → Type 0) (faults : D → ℕ) where
   as_it_stands : (odd : Bool) (held now : List ℕ) (stood : Stood D) → found_on odd now ≡ found_on odd held → IsFoundOn odd held (Ok stood) → IsLeftOn now (Ok stood) → IsStanding odd now stood
   as_it_stands odd held now (Nothing disk) same found left = left
   as_it_stands odd held now (Holding journal core) same found left =
@@ -57,7 +70,7 @@ module _ {D : Type 0} (seen : D → Option (List ℕ)) (moment : D → ℕ) (lef
   disk_same (Nothing disk) = refl
   disk_same (Holding journal core) = refl
 
-  pub stood_on : (odd : Bool) (old : D) (stood : Stood D) → StandsAs seen moment left_at odd old (Ok stood) → IsStoodOn seen moment left_at odd stood
+  pub stood_on : (odd : Bool) (old : D) (stood : Stood D) → StandsAs seen moment left_at faults odd old (Ok stood) → IsStoodOn seen moment left_at odd stood
   stood_on odd old stood is = record {
     counted = is.journal;
     rests = subst (IsAtRest seen moment left_at) (disk_same stood) (is.rest tt);
@@ -71,7 +84,7 @@ module _ {D : Type 0} (seen : D → Option (List ℕ)) (moment : D → ℕ) (lef
           as_it_stands odd before.0 now stood (is.same tt before.0 now before.1 told) (is.found before.0 before.1)
           (subst (λ (o : Option (List ℕ)). IfSome o (λ after. IsLeftOn after (Ok stood))) told is.left)
 
-  module _ (left right : D) (lr rr : Result (Stood D) (StandFault D)) (sl : StandsAs seen moment left_at true left lr) (sr : StandsAs seen moment left_at false right rr) where
+  module _ (left right : D) (lr rr : Result (Stood D) (StandFault D)) (sl : StandsAs seen moment left_at faults true left lr) (sr : StandsAs seen moment left_at faults false right rr) where
     -- ---- both stand as they did
 
     pub stands_still : IsFaultless lr → IsFaultless rr → (l r x y : List ℕ) → seen left ≡ Some l → seen right ≡ Some r → seen (disk_in lr) ≡ Some x → seen (disk_in rr) ≡ Some y → state_on x y ≡ state_on l r
@@ -116,7 +129,7 @@ module _ {D : Type 0} (seen : D → Option (List ℕ)) (moment : D → ℕ) (lef
 
   -- ---- the first generation is created on the left one
 
-  module _ (left right dl dr now : D) (sl : StandsAs seen moment left_at true left (Ok (Nothing dl))) (sr : StandsAs seen moment left_at false right (Ok (Nothing dr))) (creates : Creates seen moment left_at dl now) where
+  module _ (left right dl dr now : D) (sl : StandsAs seen moment left_at faults true left (Ok (Nothing dl))) (sr : StandsAs seen moment left_at faults false right (Ok (Nothing dr))) (creates : Creates seen moment left_at dl now) where
     from_old : (l r m image : List ℕ) → seen left ≡ Some l → seen right ≡ Some r → seen dl ≡ Some m → CreateLeaves true m (beginning 1 []) image → LeftLeaves l r image
     from_old l r m image tl tr tm made =
         let shut : IsUnshut m → ⊥ = subst (λ (o : Option (List ℕ)). IfSome o (λ after. IsUnshut after → ⊥)) tm sl.left in
@@ -139,14 +152,14 @@ module _ {D : Type 0} (seen : D → Option (List ℕ)) (moment : D → ℕ) (lef
 
   -- ---- whichever it is
 
-  pub left_begun : (left right : D) (stood_left stood_right : Stood D) (now : D) → StandsAs seen moment left_at true left (Ok stood_left) → StandsAs seen moment left_at false right (Ok stood_right) → BeginsLeft seen moment left_at stood_left stood_right now
+  pub left_begun : (left right : D) (stood_left stood_right : Stood D) (now : D) → StandsAs seen moment left_at faults true left (Ok stood_left) → StandsAs seen moment left_at faults false right (Ok stood_right) → BeginsLeft seen moment left_at stood_left stood_right now
       → (l r : List ℕ) → seen left ≡ Some l → seen right ≡ Some r → Only l (LeftNow moment left_at left) → LeavesOnly moment left_at left now (LeftLeaves l r)
   left_begun left right stood_left stood_right now sl sr (inl same) l r tl tr only = left_opened left right (Ok stood_left) (Ok stood_right) sl sr l r tl only now (same ∙ sym (disk_same stood_left))
   left_begun left right (Nothing dl) (Nothing dr) now sl sr (inr made) l r tl tr only = left_created left right dl dr now sl sr made.2 l r tl tr only
   left_begun left right (Nothing dl) (Holding journal core) now sl sr (inr made) l r tl tr only = absurd made.1
   left_begun left right (Holding journal core) stood_right now sl sr (inr made) l r tl tr only = absurd made.0
 
-  pub begun_reads : (left right : D) (stood_left stood_right : Stood D) (now : D) → StandsAs seen moment left_at true left (Ok stood_left) → StandsAs seen moment left_at false right (Ok stood_right) → BeginsLeft seen moment left_at stood_left stood_right now
+  pub begun_reads : (left right : D) (stood_left stood_right : Stood D) (now : D) → StandsAs seen moment left_at faults true left (Ok stood_left) → StandsAs seen moment left_at faults false right (Ok stood_right) → BeginsLeft seen moment left_at stood_left stood_right now
       → (l r x : List ℕ) → seen left ≡ Some l → seen right ≡ Some r → seen now ≡ Some x → LeftLeaves l r x
   begun_reads left right stood_left stood_right now sl sr (inl same) l r x tl tr tx = left_reads left right (Ok stood_left) (Ok stood_right) sl sr l r x tl now (same ∙ sym (disk_same stood_left)) tx
   begun_reads left right (Nothing dl) (Nothing dr) now sl sr (inr made) l r x tl tr tx = created_reads left right dl dr now sl sr made.2 l r x tl tr tx
@@ -157,86 +170,85 @@ module _ {D : Type 0} (seen : D → Option (List ℕ)) (moment : D → ℕ) (lef
   same_disk stood now is = is ∙ sym (disk_same stood)
 
   -- what both read then, of two that were kept
-  begun_recovered : (left right : D) (stood_left stood_right : Stood D) (a b : D) → StandsAs seen moment left_at true left (Ok stood_left) → StandsAs seen moment left_at false right (Ok stood_right)
+  begun_recovered : (left right : D) (stood_left stood_right : Stood D) (a b : D) → StandsAs seen moment left_at faults true left (Ok stood_left) → StandsAs seen moment left_at faults false right (Ok stood_right)
       → BeginsLeft seen moment left_at stood_left stood_right a → b ≡ disk_of stood_right
       → (l r x y : List ℕ) (s : State) → seen left ≡ Some l → seen right ≡ Some r → IsKept l r s → seen a ≡ Some x → seen b ≡ Some y → IsRecovered l r s x y
   begun_recovered left right stood_left stood_right a b sl sr begins same l r x y s tl tr kept tx ty =
       recovered l r x y s kept (begun_reads left right stood_left stood_right a sl sr begins l r x tl tr tx)
       (right_reads left right (Ok stood_left) (Ok stood_right) sl sr r y tr b (same_disk stood_right b same) ty)
 
-  pub begun_reads_kept : (left right : D) (stood_left stood_right : Stood D) → StandsAs seen moment left_at true left (Ok stood_left) → StandsAs seen moment left_at false right (Ok stood_right) → (result : Result (Stored D) (StoreFault D))
+  pub begun_reads_kept : (left right : D) (stood_left stood_right : Stood D) → StandsAs seen moment left_at faults true left (Ok stood_left) → StandsAs seen moment left_at faults false right (Ok stood_right) → (result : Result (Stored D) (StoreFault D))
       → BeginsLeft seen moment left_at stood_left stood_right (left_after result) → right_after result ≡ disk_of stood_right
       → IfOk result (λ store. (l r x y : List ℕ) (s : State) → seen left ≡ Some l → seen right ≡ Some r → IsKept l r s → seen store.left ≡ Some x → seen store.right ≡ Some y → IsRecovered l r s x y)
   begun_reads_kept left right stood_left stood_right sl sr (Ok store) begins same = begun_recovered left right stood_left stood_right store.left store.right sl sr begins same
   begun_reads_kept left right stood_left stood_right sl sr (Err e) begins same = tt
 
-  module _ (faults : D → ℕ) where
-    -- ---- a store was opened
+  -- ---- a store was opened
 
-    same_counts : (left right : D) (stood_left stood_right : Stood D) → CountsStand (Ok stood_left) (faults left) (faults (disk_in (Ok stood_left))) → CountsStand (Ok stood_right) (faults right) (faults (disk_in (Ok stood_right)))
-        → counts_of faults (disk_of stood_left) (disk_of stood_right) ≡ counts_of faults left right
-    same_counts left right stood_left stood_right cl cr =
-        let both : ℕ → ℕ → Faults = λ m n. record { left = m; right = n } in
-        ap₂ both (ap faults (sym (disk_same stood_left)) ∙ cl) (ap faults (sym (disk_same stood_right)) ∙ cr)
+  same_counts : (left right : D) (stood_left stood_right : Stood D) → CountsStand (Ok stood_left) (faults left) (faults (disk_in (Ok stood_left))) → CountsStand (Ok stood_right) (faults right) (faults (disk_in (Ok stood_right)))
+      → counts_of faults (disk_of stood_left) (disk_of stood_right) ≡ counts_of faults left right
+  same_counts left right stood_left stood_right cl cr =
+      let both : ℕ → ℕ → Faults = λ m n. record { left = m; right = n } in
+      ap₂ both (ap faults (sym (disk_same stood_left)) ∙ cl) (ap faults (sym (disk_same stood_right)) ∙ cr)
 
-    pub begun_opened : (left right : D) (stood_left stood_right : Stood D) → StandsAs seen moment left_at true left (Ok stood_left) → StandsAs seen moment left_at false right (Ok stood_right)
-        → CountsStand (Ok stood_left) (faults left) (faults (disk_in (Ok stood_left))) → CountsStand (Ok stood_right) (faults right) (faults (disk_in (Ok stood_right)))
-        → (result : Result (Stored D) (StoreFault D)) → IfOk result (OpensOn seen faults (disk_of stood_left) (disk_of stood_right)) → IfOk result (OpensOn seen faults left right)
-    begun_opened left right stood_left stood_right sl sr cl cr (Ok store) is =
-        let on_left : (m : List ℕ) → seen (disk_in (Ok stood_left)) ≡ Some m → seen (disk_of stood_left) ≡ Some m = λ m told. ap seen (sym (disk_same stood_left)) ∙ told in
-        let on_right : (n : List ℕ) → seen (disk_in (Ok stood_right)) ≡ Some n → seen (disk_of stood_right) ≡ Some n = λ n told. ap seen (sym (disk_same stood_right)) ∙ told in
-        record {
-          state = state_before left right (Ok stood_left) (Ok stood_right) sl sr tt tt store.core (λ m n tm tn. is.state m n (on_left m tm) (on_right n tn));
-          commands = λ l r now tl tr tn.
-              let m = left_told left right (Ok stood_left) (Ok stood_right) sl sr l tl in
-              let n = right_told left right (Ok stood_left) (Ok stood_right) sl sr r tr in
-              let holds = is.commands m.0 n.0 now (on_left m.0 m.1) (on_right n.0 n.1) tn in
-              record {
-                written = holds.written;
-                found = holds.found;
-                begins = holds.begins;
-                are = holds.are ∙ commands_alike l r m.0 n.0 (sl.same tt l m.0 tl m.1) (sr.same tt r n.0 tr n.1);
-              };
-          going = is.going;
-          counts = is.counts ∙ same_counts left right stood_left stood_right cl cr;
-          stays = λ l r x y tl tr tx ty. still_before left right (Ok stood_left) (Ok stood_right) sl sr tt tt x y (λ m n tm tn. is.stays m n x y (on_left m tm) (on_right n tn) tx ty) l r tl tr;
-        }
-    begun_opened left right stood_left stood_right sl sr cl cr (Err e) is = tt
-
-    -- ---- none was opened: the first generation was not created
-
-    pub begun_not : (left right : D) (stood_left stood_right : Stood D) → StandsAs seen moment left_at true left (Ok stood_left) → StandsAs seen moment left_at false right (Ok stood_right)
-        → CountsStand (Ok stood_left) (faults left) (faults (disk_in (Ok stood_left))) → CountsStand (Ok stood_right) (faults right) (faults (disk_in (Ok stood_right)))
-        → (result : Result (Stored D) (StoreFault D)) → BeginsLeft seen moment left_at stood_left stood_right (left_after result) → right_after result ≡ disk_of stood_right
-        → IfErr result (IsUnbegun seen faults (disk_of stood_left) (disk_of stood_right)) → IfErr result (IsNotOpened seen faults left right)
-    begun_not left right stood_left stood_right sl sr cl cr (Ok store) begins same unbegun = tt
-    begun_not left right stood_left stood_right sl sr cl cr (Err e) begins same unbegun = by e.why refl unbegun
-      where
-        reads_kept : (l r x y : List ℕ) (s : State) → seen left ≡ Some l → seen right ≡ Some r → IsKept l r s → seen e.left ≡ Some x → seen e.right ≡ Some y → IsRecovered l r s x y
-        reads_kept = begun_recovered left right stood_left stood_right e.left e.right sl sr begins same
-
-        by : (y : StoreWhy) → e.why ≡ y → IsUnbegunBy seen faults (disk_of stood_left) (disk_of stood_right) e y → IsNotOpened seen faults left right e
-        by why.DiskFault fault counted =
-            let left_is : faults (disk_of stood_left) ≡ faults left = ap faults (sym (disk_same stood_left)) ∙ cl in
-            let right_is : faults e.right ≡ faults right = ap faults (same ∙ sym (disk_same stood_right)) ∙ cr in
-            let rose : Counted (faults left) (faults e.left) = subst (λ (n : ℕ). Counted n (faults e.left)) left_is counted in
-            let one : OneRose (counts_of faults left right) (counts_of faults e.left e.right) = record { left = rose.later; right = omega arith; rose = inl rose.rose } in
+  pub begun_opened : (left right : D) (stood_left stood_right : Stood D) → StandsAs seen moment left_at faults true left (Ok stood_left) → StandsAs seen moment left_at faults false right (Ok stood_right)
+      → CountsStand (Ok stood_left) (faults left) (faults (disk_in (Ok stood_left))) → CountsStand (Ok stood_right) (faults right) (faults (disk_in (Ok stood_right)))
+      → (result : Result (Stored D) (StoreFault D)) → IfOk result (OpensOn seen faults (disk_of stood_left) (disk_of stood_right)) → IfOk result (OpensOn seen faults left right)
+  begun_opened left right stood_left stood_right sl sr cl cr (Ok store) is =
+      let on_left : (m : List ℕ) → seen (disk_in (Ok stood_left)) ≡ Some m → seen (disk_of stood_left) ≡ Some m = λ m told. ap seen (sym (disk_same stood_left)) ∙ told in
+      let on_right : (n : List ℕ) → seen (disk_in (Ok stood_right)) ≡ Some n → seen (disk_of stood_right) ≡ Some n = λ n told. ap seen (sym (disk_same stood_right)) ∙ told in
+      record {
+        state = state_before left right (Ok stood_left) (Ok stood_right) sl sr tt tt store.core (λ m n tm tn. is.state m n (on_left m tm) (on_right n tn));
+        commands = λ l r now tl tr tn.
+            let m = left_told left right (Ok stood_left) (Ok stood_right) sl sr l tl in
+            let n = right_told left right (Ok stood_left) (Ok stood_right) sl sr r tr in
+            let holds = is.commands m.0 n.0 now (on_left m.0 m.1) (on_right n.0 n.1) tn in
             record {
-              cause = subst (λ (y : StoreWhy). CausesWhy y (counts_of faults left right) (counts_of faults e.left e.right)) (sym fault) one;
-              is_why = λ l r tl tr. subst (λ (y : StoreWhy). IsWhyOf l r y) (sym fault) tt;
-              stays = λ other. absurd (other fault);
-              reads = reads_kept;
-            }
-        by (why.Damaged side damage) fault unbegun = absurd unbegun
-        by why.NoMemory fault still =
-            record {
-              cause = subst (λ (y : StoreWhy). CausesWhy y (counts_of faults left right) (counts_of faults e.left e.right)) (sym fault) (still.counts ∙ same_counts left right stood_left stood_right cl cr);
-              is_why = λ l r tl tr. subst (λ (y : StoreWhy). IsWhyOf l r y) (sym fault) tt;
-              stays = λ other l r x y tl tr tx ty.
-                  still_before left right (Ok stood_left) (Ok stood_right) sl sr tt tt x y
-                  (λ m n tm tn. still.stays m n x y (ap seen (sym (disk_same stood_left)) ∙ tm) (ap seen (sym (disk_same stood_right)) ∙ tn) tx ty) l r tl tr;
-              reads = reads_kept;
-            }
+              written = holds.written;
+              found = holds.found;
+              begins = holds.begins;
+              are = holds.are ∙ commands_alike l r m.0 n.0 (sl.same tt l m.0 tl m.1) (sr.same tt r n.0 tr n.1);
+            };
+        going = is.going;
+        counts = is.counts ∙ same_counts left right stood_left stood_right cl cr;
+        stays = λ l r x y tl tr tx ty. still_before left right (Ok stood_left) (Ok stood_right) sl sr tt tt x y (λ m n tm tn. is.stays m n x y (on_left m tm) (on_right n tn) tx ty) l r tl tr;
+      }
+  begun_opened left right stood_left stood_right sl sr cl cr (Err e) is = tt
+
+  -- ---- none was opened: the first generation was not created
+
+  pub begun_not : (left right : D) (stood_left stood_right : Stood D) → StandsAs seen moment left_at faults true left (Ok stood_left) → StandsAs seen moment left_at faults false right (Ok stood_right)
+      → CountsStand (Ok stood_left) (faults left) (faults (disk_in (Ok stood_left))) → CountsStand (Ok stood_right) (faults right) (faults (disk_in (Ok stood_right)))
+      → (result : Result (Stored D) (StoreFault D)) → BeginsLeft seen moment left_at stood_left stood_right (left_after result) → right_after result ≡ disk_of stood_right
+      → IfErr result (IsUnbegun seen faults (disk_of stood_left) (disk_of stood_right)) → IfErr result (IsNotOpened seen faults left right)
+  begun_not left right stood_left stood_right sl sr cl cr (Ok store) begins same unbegun = tt
+  begun_not left right stood_left stood_right sl sr cl cr (Err e) begins same unbegun = by e.why refl unbegun
+    where
+      reads_kept : (l r x y : List ℕ) (s : State) → seen left ≡ Some l → seen right ≡ Some r → IsKept l r s → seen e.left ≡ Some x → seen e.right ≡ Some y → IsRecovered l r s x y
+      reads_kept = begun_recovered left right stood_left stood_right e.left e.right sl sr begins same
+
+      by : (y : StoreWhy) → e.why ≡ y → IsUnbegunBy seen faults (disk_of stood_left) (disk_of stood_right) e y → IsNotOpened seen faults left right e
+      by why.DiskFault fault counted =
+          let left_is : faults (disk_of stood_left) ≡ faults left = ap faults (sym (disk_same stood_left)) ∙ cl in
+          let right_is : faults e.right ≡ faults right = ap faults (same ∙ sym (disk_same stood_right)) ∙ cr in
+          let rose : Counted (faults left) (faults e.left) = subst (λ (n : ℕ). Counted n (faults e.left)) left_is counted in
+          let one : OneRose (counts_of faults left right) (counts_of faults e.left e.right) = record { left = rose.later; right = omega arith; rose = inl rose.rose } in
+          record {
+            cause = subst (λ (y : StoreWhy). CausesWhy y (counts_of faults left right) (counts_of faults e.left e.right)) (sym fault) one;
+            is_why = λ l r tl tr. subst (λ (y : StoreWhy). IsWhyOf l r y) (sym fault) tt;
+            stays = λ other. absurd (other fault);
+            reads = reads_kept;
+          }
+      by (why.Damaged side damage) fault unbegun = absurd unbegun
+      by why.NoMemory fault still =
+          record {
+            cause = subst (λ (y : StoreWhy). CausesWhy y (counts_of faults left right) (counts_of faults e.left e.right)) (sym fault) (still.counts ∙ same_counts left right stood_left stood_right cl cr);
+            is_why = λ l r tl tr. subst (λ (y : StoreWhy). IsWhyOf l r y) (sym fault) tt;
+            stays = λ other l r x y tl tr tx ty.
+                still_before left right (Ok stood_left) (Ok stood_right) sl sr tt tt x y
+                (λ m n tm tn. still.stays m n x y (ap seen (sym (disk_same stood_left)) ∙ tm) (ap seen (sym (disk_same stood_right)) ∙ tn) tx ty) l r tl tr;
+            reads = reads_kept;
+          }
 
 -- ---- why nothing is opened
 
@@ -303,7 +315,7 @@ module _ {D : Type 0} (lr rr : Result (Stood D) (StandFault D)) (before after : 
 -- ---- none was opened: something was wrong with one of the disks
 
 module _ {D : Type 0} (seen : D → Option (List ℕ)) (moment : D → ℕ) (left_at : D → ℕ → List ℕ → Type 0) (faults : D → ℕ) where
-  pub judged_not : (left right : D) (lr rr : Result (Stood D) (StandFault D)) → StandsAs seen moment left_at true left lr → StandsAs seen moment left_at false right rr
+  pub judged_not : (left right : D) (lr rr : Result (Stood D) (StandFault D)) → StandsAs seen moment left_at faults true left lr → StandsAs seen moment left_at faults false right rr
       → CountsStand lr (faults left) (faults (disk_in lr)) → CountsStand rr (faults right) (faults (disk_in rr))
       → (e : StoreFault D) → e.left ≡ disk_in lr → e.right ≡ disk_in rr → IsJudged lr rr e.why → IsNotOpened seen faults left right e
   judged_not left right lr rr sl sr cl cr e is_left is_right judged = record {
@@ -312,14 +324,14 @@ module _ {D : Type 0} (seen : D → Option (List ℕ)) (moment : D → ℕ) (lef
     is_why = λ l r tl tr. judged_why l r lr rr e.why judged (sl.found l tl) (sr.found r tr);
     stays = λ other l r x y tl tr tx ty.
         let faultless = judged_faultless lr rr e.why judged other in
-        stands_still seen moment left_at left right lr rr sl sr faultless.0 faultless.1 l r x y tl tr (ap seen (sym is_left) ∙ tx) (ap seen (sym is_right) ∙ ty);
+        stands_still seen moment left_at faults left right lr rr sl sr faultless.0 faultless.1 l r x y tl tr (ap seen (sym is_left) ∙ tx) (ap seen (sym is_right) ∙ ty);
     reads = λ l r x y s tl tr kept tx ty.
-        recovered l r x y s kept (left_reads seen moment left_at left right lr rr sl sr l r x tl e.left is_left tx) (right_reads seen moment left_at left right lr rr sl sr r y tr e.right is_right ty);
+        recovered l r x y s kept (left_reads seen moment left_at faults left right lr rr sl sr l r x tl e.left is_left tx) (right_reads seen moment left_at faults left right lr rr sl sr r y tr e.right is_right ty);
   }
 
   -- and nothing is pending where no disk met a fault
   pub judged_rests : (left right : D) (lr rr : Result (Stood D) (StandFault D))
-      → StandsAs seen moment left_at true left lr → StandsAs seen moment left_at false right rr
+      → StandsAs seen moment left_at faults true left lr → StandsAs seen moment left_at faults false right rr
       → (e : StoreFault D) → e.left ≡ disk_in lr → e.right ≡ disk_in rr → IsJudged lr rr e.why
       → e.why ≢ why.DiskFault → IsAtRest seen moment left_at e.left × IsAtRest seen moment left_at e.right
   judged_rests left right lr rr sl sr e is_left is_right judged other =

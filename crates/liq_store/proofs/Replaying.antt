@@ -1,16 +1,15 @@
 -- How a replay goes on from record to record.
 use Rattle.std.proofs.Common.{◌≡◌, ℕ, ◌+◌, ◌-◌, ◌<◌, ◌≤◌, List, [], ◌∷◌, length, drop, slice_get, slice_index_or, Some, Ok, Err, sym, ◌∙◌, ap, subst, arith, refl}
-use Rattle.std.specs.Prelude.{Result}
 use Rattle.std.proofs.lemmas.List.{drop_more, drop_all}
 use Rattle.std.proofs.lemmas.Option.{slice_get-get_or}
 use Rattle.liq_types.specs.declared.requests.Command.{Command}
 use Rattle.liq_types.specs.State.{State}
 use Rattle.liq_core.specs.Core.{Core, StandsFor}
-use Rattle.liq_rules.specs.Step.{Allowed, Ruling, ruling, after}
+use Rattle.liq_rules.specs.Step.{Allowed, ruling, after}
 use Rattle.liq_journal.specs.Bodies.{IsJournalOf}
 use Rattle.liq_journal.specs.Written.{Written}
 use Rattle.liq_journal.specs.declared.damage.Damage.{Damage}
-use Rattle.liq_pairs.specs.Replay.{replay, replayed}
+use Rattle.liq_pairs.specs.Replay.{replay}
 use Rattle.liq_store.specs.declared.answers.AcceptedFault.{AcceptedFault}
 use Rattle.liq_store.specs.declared.answers.AcceptedFault.TheVariants.{DiskFault, Damaged, NoMemory}
 use Rattle.liq_store.specs.Answering.{IsReadable}
@@ -26,14 +25,6 @@ pub unread : (s : State) (c : Command) (index : ℕ) (core : Core) (why : Accept
 unread s c index core DiskFault readable = tt
 unread s c index core (Damaged damage) readable = absurd readable
 unread s c index core NoMemory readable = tt
-
--- nothing else counts than what the rules say of the command
-pub outcome_same : (s : State) (c d : Command) → ruling s d ≡ ruling s c → after s d ≡ after s c → (index : ℕ) (core : Core) (result : Result (Unit {0}) AcceptedFault) → IsOutcome s d index core result → IsOutcome s c index core result
-outcome_same s c d ruled made index core (Ok done) h = (sym ruled ∙ h.0, subst (StandsFor core) made h.1)
-outcome_same s c d ruled made index core (Err DiskFault) h = tt
-outcome_same s c d ruled made index core (Err (Damaged damage)) h =
-    subst (λ (r : Ruling). (rest : Result State Damage) → replayed index r rest ≡ Err damage) ruled h
-outcome_same s c d ruled made index core (Err NoMemory) h = tt
 
 -- after so many records the protocol stands for a state from which the rest is replayed
 pub record Reached (s : State) (commands : List Command) (done : ℕ) (core : Core) : Type 0 where

@@ -1,4 +1,4 @@
--- From the planning of a command to the step that it makes.
+-- What is answered is the reply of the step, and the step is made.
 use Rattle.std.proofs.Common.{◌≡◌, sym, subst}
 use Rattle.liq_types.specs.declared.replies.Done.{Done}
 use Rattle.liq_types.specs.declared.replies.Reply.TheVariants.{Said}
@@ -7,19 +7,9 @@ use Rattle.liq_types.specs.declared.requests.Request.{Request}
 use Rattle.liq_types.specs.declared.requests.Request.TheVariants.{Do}
 use Rattle.liq_types.specs.State.{State}
 use Rattle.liq_core.specs.Core.{Core, StandsFor}
-use Rattle.liq_core.specs.Plan.{Plan, IsPlan}
-use Rattle.liq_rules.specs.Step.{Allowed, after, after_ruling, ruling, step}
+use Rattle.liq_core.specs.Plan.{Plan}
+use Rattle.liq_rules.specs.Step.{step}
 
--- a planned command is allowed
-pub planned_allowed : (s : State) (c : Command) (plan : Plan) → (plan.command ≡ c) × IsPlan s plan → ruling s c ≡ Allowed
-planned_allowed s c plan is = subst (λ (k : Command). ruling s k ≡ Allowed) is.0 is.1.allowed
-
-pub stepped : (done : Core) (s : State) (c : Command) (plan : Plan) → (plan.command ≡ c) × IsPlan s plan → StandsFor done (step s (Do plan.command)).0 → StandsFor done (after s c)
-stepped done s c plan is stands =
-    let here : StandsFor done (step s (Do c)).0 = subst (λ (k : Command). StandsFor done (step s (Do k)).0) is.0 stands in
-    subst (λ r. StandsFor done (after_ruling s c r).0) (planned_allowed s c plan is) here
-
--- what is answered is the reply of the step, and the step is made
 pub replied : (done : Core) (s : State) (c : Command) (plan : Plan) (request : Request) (reply : Done) → request ≡ Do c → plan.command ≡ c → StandsFor done (step s (Do plan.command)).0 → (step s (Do plan.command)).1 ≡ Said reply
     → StandsFor done (step s request).0 × ((step s request).1 ≡ Said reply)
 replied done s c plan request reply is_do is stands said =

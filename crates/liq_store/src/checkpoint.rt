@@ -8,10 +8,10 @@ ghost use Rattle.liq_pairs.specs.Replay.{base_of, read_base};
 ghost use Rattle.liq_store.specs.Replays.{BeginsTo};
 
 use crate::answers::AcceptedFault;
-use crate::guided::Guided;
 use liq_checkpoint::{ImageBytes, decode};
 use liq_core::laws::protocols_are_sound;
 use liq_core::{ImageFault, Protocol};
+use liq_guided::Guided;
 use liq_journal::{Damage, What, header_size};
 use liq_types::Image;
 use std::alloc::Global;

@@ -4,8 +4,8 @@ ghost use Rattle.liq_store.specs.Judging.{IsJudged, disk_of, first_of, later_sid
 ghost use Rattle.liq_store.specs.Standing.{disk_in};
 
 use crate::answers::{AcceptedFault, StoreFault, StoreWhy};
-use crate::guided::Guided;
 use crate::standing::{StandFault, Stood};
+use liq_guided::Guided;
 use liq_outside::Disk;
 use liq_pairs::Side;
 

@@ -4,7 +4,6 @@
 
 mod answers;
 mod checkpoint;
-mod guided;
 mod judging;
 mod preparing;
 mod reading;

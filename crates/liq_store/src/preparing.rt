@@ -8,9 +8,9 @@ ghost use Rattle.liq_core.specs.Plan.{HasRoom, IsPlannedOn};
 ghost use Rattle.liq_rules.specs.Step.{step};
 ghost use Rattle.liq_store.specs.Preparing.{HasRoomBehind, IsPrepared, IsReady};
 
-use crate::guided::Guided;
 use liq_core::laws::protocols_stand;
 use liq_core::{PlanFault, Planned, Turn};
+use liq_guided::Guided;
 use liq_types::{Command, Done, Hint, ListChange, Refusal, Steps};
 use std::sync::ledger::{Blank, Ledger};
 

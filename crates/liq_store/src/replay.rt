@@ -13,14 +13,12 @@ ghost use Rattle.liq_store.specs.Reading.{CountsReading};
 ghost use Rattle.liq_store.specs.Replays.{IsOutcome, Replays};
 
 use crate::answers::AcceptedFault;
-use crate::guided::Guided;
 use crate::reading::tested_command;
-use liq_core::laws::protocols_stand;
-use liq_core::{PlanFault, Turn, unhinted};
+use liq_guided::{Guided, RedoFault};
 use liq_journal::{Block, Damage, Journal, What};
 use liq_outside::Disk;
 use liq_pairs::code_of;
-use liq_types::{Command, Hint, Steps};
+use liq_types::{Command, Steps};
 use std::sync::ledger::{Blank, Ledger};
 
 // The record of this number is damaged: the rules refuse its command, with this code; or it is a repetition, and the code is 0.
@@ -44,19 +42,11 @@ fn redo<L: Ledger>(
     ensures generation { OnOk result (protocol.new.image.generation ≡ protocol.old.image.generation) }
     ensures no_device { result ≢ Err AcceptedFault.DiskFault }
 {
-    protocols_stand(protocol.protocol());
-    let planned = match protocol.plan(command) {
-        Ok(Turn::New(planned)) => planned,
-        Ok(Turn::Again(_)) => return Err(unaccepted(index, 0)),
-        Err(PlanFault::No(refusal)) => return Err(unaccepted(index, code_of(&refusal))),
-        Err(PlanFault::NoMemory) => return Err(AcceptedFault::NoMemory),
-    };
-    match protocol.reserve(&planned) {
-        Ok(()) => {
-            let _ = protocol.apply(planned, &Hint::NONE, steps);
-            Ok(())
-        }
-        Err(_) => Err(AcceptedFault::NoMemory),
+    match protocol.redo(command, steps) {
+        Ok(()) => Ok(()),
+        Err(RedoFault::Again(_)) => Err(unaccepted(index, 0)),
+        Err(RedoFault::No(refusal)) => Err(unaccepted(index, code_of(&refusal))),
+        Err(RedoFault::NoMemory) => Err(AcceptedFault::NoMemory),
     }
 }
 
@@ -84,7 +74,7 @@ fn redo_record<D: Disk, L: Ledger>(
         Ok(command) => command,
         Err(why) => return Err(why),
     };
-    redo(protocol, &unhinted(&command), index, steps)
+    redo(protocol, &command, index, steps)
 }
 
 // Makes the steps of all of a journal's records, on the protocol with which it begins.

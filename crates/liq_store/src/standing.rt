@@ -10,8 +10,8 @@ ghost use Rattle.liq_store.specs.Standing.{Continues, CountsStand, HoldsTo, IsCo
 
 use crate::answers::AcceptedFault;
 use crate::checkpoint::base;
-use crate::guided::Guided;
 use crate::replay::replay;
+use liq_guided::Guided;
 use liq_journal::{Journal, OpenFault, OpenWhy};
 use liq_outside::Disk;
 use std::alloc::Global;

@@ -33,7 +33,6 @@ ghost use Rattle.liq_store.specs.Telling.{told};
 ghost use Rattle.liq_store.specs.Within.{IsWithin, stored};
 
 use crate::answers::{AcceptedFault, StoreFault, StoreWhy};
-use crate::guided::Guided;
 use crate::judging::{disk_of, judge, later_side};
 use crate::preparing::{Prepared, make, prepare};
 use crate::reading::read_commands;
@@ -41,6 +40,7 @@ use crate::rotating::checkpoint_after;
 use crate::standing::{Stood, stand};
 use crate::telling::{clear, note};
 use liq_core::Protocol;
+use liq_guided::Guided;
 use liq_journal::Journal;
 use liq_outside::Disk;
 use liq_pairs::Side;

@@ -1,6 +1,8 @@
-use Rattle.std.proofs.Common.{◌+◌, Ok, Err, ap, ◌∙◌}
+use Rattle.std.proofs.Common.{◌+◌, Ok, Err, ap, ◌∙◌, subst, sym}
 use Rattle.liq_types.specs.declared.requests.Command.{Command}
 use Rattle.liq_rules.specs.Rules.{done_of}
+use Rattle.liq_core.specs.Core.{Core}
+use Rattle.liq_retold.specs.Retold.{IsRetold}
 use Rattle.liq_retold.proofs.Replays.{begun, next_made, next_stops, all_made, makes_same, has_come, done_same, handed_fault}
 use Rattle.liq_retold.proofs.replay.retold_on.Goals as goal
 
@@ -19,7 +21,8 @@ loop-i-preserved g c =
 
 pub returns-clause-done : goal.returns-clause-done
 returns-clause-done g c =
-    all_made g.O.Onlooker.adds c.args.limit c.args.commands.now c.loop-i.i c.loop-i.protocol _ c.loop-i.invariant c.loop-i-test.false
+    subst (λ (core : Core). IsRetold g.O.Onlooker.adds c.args.limit c.args.commands.now core (g.O.Onlooker.notes c.loop-i.onlooker)) (sym c.into_protocol.ensures)
+    (all_made g.O.Onlooker.adds c.args.limit c.args.commands.now c.loop-i.i c.loop-i.protocol _ c.loop-i.invariant c.loop-i-test.false)
 
 pub returns-in_err-make-clause-damaged : goal.returns-in_err-make-clause-damaged
 returns-in_err-make-clause-damaged g c damage is =

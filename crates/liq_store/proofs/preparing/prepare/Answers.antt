@@ -1,8 +1,8 @@
 use Rattle.std.proofs.Common.{arith, subst}
 use Rattle.liq_core.specs.Core.{Core, StandsFor, state_of}
 use Rattle.liq_rules.proofs.Allowed.{allowed_few}
+use Rattle.liq_guided.proofs.Steps.{planned_allowed}
 use Rattle.liq_pairs.proofs.Generations.{never_rotates}
-use Rattle.liq_store.proofs.Steps.{planned_allowed}
 use Rattle.liq_store.proofs.preparing.prepare.Goals as goal
 
 pub returns-in-Ok-reserve-clause-ready : goal.returns-in-Ok-reserve-clause-ready

@@ -1,14 +1,9 @@
-use Rattle.std.proofs.Common.{◌∙◌, ap, ◌-◌, ◌≤◌, length, subst, arith}
+use Rattle.std.proofs.Common.{◌-◌, ◌≤◌, length, subst, arith}
 use Rattle.std.proofs.lemmas.Option.{slice_get_within}
 use Rattle.liq_types.specs.declared.requests.Command.{Command}
-use Rattle.liq_journal.specs.Written.{is_rotate}
 use Rattle.liq_store.specs.Replays.{IsOutcome}
-use Rattle.liq_store.proofs.Replaying.{outcome_same, same_record, unread}
-use Rattle.liq_store.proofs.Verbs.{unhinted_stays}
+use Rattle.liq_store.proofs.Replaying.{same_record, unread}
 use Rattle.liq_store.proofs.replay.redo_record.Goals as goal
-
-pub redo-requires : goal.redo-requires
-redo-requires g c = ap (λ (k : Command). is_rotate k.call) c.unhinted.ensures.same ∙ unhinted_stays c.in-Ok.command.call ∙ c.in-Ok.ensures.no_rotation
 
 pub returns-in-Err-clause-replayed : goal.returns-in-Err-clause-replayed
 returns-in-Err-clause-replayed g c held w s k told journal recorded stands =
@@ -19,5 +14,4 @@ pub returns-clause-replayed : goal.returns-clause-replayed
 returns-clause-replayed g c held w s k told journal recorded stands =
     let room : c.args.index ≤ length w.commands = (let h = slice_get_within w.commands (c.args.index - 1) k recorded in omega arith) in
     let same = same_record w.commands (c.args.index - 1) c.in-Ok.command k (c.in-Ok.ensures.command held w told journal room) recorded in
-    subst (λ (d : Command). IsOutcome s d c.args.index c.redo.new.protocol c.redo.result) same
-    (outcome_same s c.in-Ok.command c.unhinted.result (c.unhinted.ensures.ruling s) (c.unhinted.ensures.after s) c.args.index c.redo.new.protocol c.redo.result (c.redo.ensures.outcome s stands))
+    subst (λ (d : Command). IsOutcome s d c.args.index c.redo.new.protocol c.redo.result) same (c.redo.ensures.outcome s stands)

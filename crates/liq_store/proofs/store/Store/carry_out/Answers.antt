@@ -6,11 +6,13 @@ use Rattle.liq_types.specs.State.{State}
 use Rattle.liq_core.specs.Core.{StandsFor, state_of}
 use Rattle.liq_core.proofs.SameContents.{stands_after}
 use Rattle.liq_rules.specs.Step.{after}
+use Rattle.liq_guided.proofs.Steps.{counts_on, generation_stays, stepped}
 use Rattle.liq_journal.specs.Settled.{JournalOn}
 use Rattle.liq_journal.specs.Written.{is_odd}
 use Rattle.liq_journal.proofs.Testing.{not_rotate}
 use Rattle.liq_pairs.specs.declared.side.Side.{Side}
 use Rattle.liq_pairs.specs.Sides.{other}
+use Rattle.liq_pairs.proofs.Generations.{never_rotates}
 use Rattle.liq_store.specs.Answering.{read_back}
 use Rattle.liq_store.specs.Calling.{WritesOn}
 use Rattle.liq_store.specs.Keeping.{IsInOrder}
@@ -19,9 +21,8 @@ use Rattle.liq_store.specs.Stored.{Stored}
 use Rattle.liq_store.specs.Within.{IsWithin, stored}
 use Rattle.liq_store.proofs.Appending.{all_has, appends, appends_on, has_same, kept_near, some_isnt_none, still_has, went_on}
 use Rattle.liq_store.proofs.Calling.{refused_stays, repeated_stays, reply_stays, stays_on}
-use Rattle.liq_store.proofs.Generations.{counts_on, generation_stays}
 use Rattle.liq_store.proofs.Going.{order_going, order_halted, order_same, within_same}
-use Rattle.liq_store.proofs.Steps.{replied, stepped}
+use Rattle.liq_store.proofs.Steps.{replied}
 use Rattle.liq_store.proofs.Turning.{rotation_from, turning_done, turning_failed, turning_halts, turning_within, turns_by}
 use Rattle.liq_store.proofs.store.Store.carry_out.Goals as goal
 
@@ -178,10 +179,11 @@ invariant_of-self-2 g c =
     let stands = c.prepare.ensures.stands in
     let steps : (t : State) → StandsFor c.self.inside.protocol t → StandsFor c.make-done-2.new.protocol (after t c.in-Do.command) = (λ t so. let is = c.in-Ready.ensures.prepared t so in stepped c.make-done-2.new.protocol t c.in-Do.command c.in-Ready.planned is (c.make-done-2.ensures.state t (stands_after c.self.inside.protocol c.prepare.new.protocol t c.prepare.ensures.same so))) in
     let step = steps s stands in
-    let counted = counts_on c.self.inside.protocol c.make-done-2.new.protocol s c.in-Do.command (not_rotate c.in-Do.command.call c.in_default.not-Rotate) stands step in
+    let stays = never_rotates c.in-Do.command.call (not_rotate c.in-Do.command.call c.in_default.not-Rotate) in
+    let counted = counts_on c.self.inside.protocol c.make-done-2.new.protocol s c.in-Do.command stays stands step in
     record {
       order = subst (λ (o : Option ℕ). IsInOrder g.D.Disk.seen g.D.Disk.moment g.D.Disk.left_at (stored c.self.inside.side c.append.new.self c.self.inside.beside c.make-done-2.new.protocol o c.note.new.changes.items)) (sym (ap (λ (o : Stored g.row.D.Denot). o.stopped) c.self.view_is ∙ c.requires.going)) (order_going g.D.Disk.seen g.D.Disk.moment g.D.Disk.left_at c.self.inside.side c.append.new.self c.self.inside.beside c.make-done-2.new.protocol (went_on g.D.Disk.seen g.D.Disk.moment g.D.Disk.left_at c.self.inside.side c.self.inside.taken c.append.new.self c.self.inside.beside c.self.inside.protocol c.in-Do.command c.encode.result a c.make-done-2.new.protocol (state_of c.self.inside.protocol) c.prepare.ensures.stands (λ t so. let is = c.in-Ready.ensures.prepared t so in stepped c.make-done-2.new.protocol t c.in-Do.command c.in-Ready.planned is (c.make-done-2.ensures.state t (stands_after c.self.inside.protocol c.prepare.new.protocol t c.prepare.ensures.same so))) c.in-Ok-append.ensures.durable c.in-Ok-append.ensures.appended));
-      generation_is = c.append.ensures.generation ∙ c.self.invariant.generation_is ∙ sym (generation_stays c.self.inside.protocol c.make-done-2.new.protocol s c.in-Do.command (not_rotate c.in-Do.command.call c.in_default.not-Rotate) stands step);
+      generation_is = c.append.ensures.generation ∙ c.self.invariant.generation_is ∙ sym (generation_stays c.self.inside.protocol c.make-done-2.new.protocol s c.in-Do.command stays stands step);
       parity_is = ap is_odd c.append.ensures.generation ∙ c.self.invariant.parity_is;
       count_is = omega (arith, c.in-Ok-append.ensures.one_more, c.self.invariant.count_is, counted);
       told = all_has (g.D.Disk.seen c.append.new.self.disk) c.append.new.self.generation c.append.new.self.start c.append.new.self.count settled;
