@@ -10,7 +10,7 @@ use Rattle.liq_rules.specs.Lists.{PlansList}
 use Rattle.liq_rules.specs.Step.{Allowed, ruling}
 use Rattle.liq_journal.specs.declared.damage.Damage.{Damage}
 use Rattle.liq_journal.specs.declared.damage.What.{What}
-use Rattle.liq_journal.specs.Layout.{generation_on, header_size, layout_on, name_on, version_1}
+use Rattle.liq_header.specs.Layout.{generation_on, header_size, layout_on, name_on, version_1}
 use Rattle.liq_journal.specs.Written.{Open, Written, and_then, end_of, found_on, record_on}
 use Rattle.liq_pairs.specs.Pair.{Standing, Faulty, Holding, standing}
 use Rattle.liq_pairs.specs.Replay.{outcome}

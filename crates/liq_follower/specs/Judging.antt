@@ -6,7 +6,7 @@ use Rattle.liq_core.specs.Core.{Core, StandsFor}
 use Rattle.liq_rules.specs.Step.{Allowed, after, ruling}
 use Rattle.liq_wire.specs.Fields.{command_of}
 use Rattle.liq_journal.specs.declared.damage.What.{What}
-use Rattle.liq_journal.specs.Layout.{generation_on, layout_on}
+use Rattle.liq_header.specs.Layout.{generation_on, layout_on}
 use Rattle.liq_journal.specs.Written.{command_from, first_fault, header_tests}
 use Rattle.liq_follower.specs.declared.header.Judged.{Judged}
 use Rattle.liq_follower.specs.declared.header.Judged.TheVariants.{Damaged, Right, Turned}
