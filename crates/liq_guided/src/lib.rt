@@ -1,0 +1,8 @@
+//! A protocol whose list is asked with the hint of a guide, and commands that are made again on it.
+#![tactic(auto)]
+
+mod guided;
+mod redone;
+
+pub use guided::Guided;
+pub use redone::RedoFault;
