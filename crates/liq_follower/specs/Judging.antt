@@ -14,7 +14,8 @@ use Rattle.liq_follower.specs.declared.record.Redone.{Redone}
 use Rattle.liq_follower.specs.declared.record.Redone.TheVariants.{Made, NoMemory, Refused}
 use Rattle.liq_follower.specs.declared.phase.Phase.{Phase}
 use Rattle.liq_follower.specs.declared.phase.Phase.TheVariants as phase
-use Rattle.liq_follower.specs.Fed.{IsNoRecord, IsRecordOf, MayWantMemory, is_turned}
+use Rattle.liq_guided.specs.Redone.{MayWantMemory}
+use Rattle.liq_follower.specs.Fed.{IsNoRecord, IsRecordOf, is_turned}
 
 -- no test of the header fails; or one does, and it isn't turned
 abbrev pub IsJudged : List ℕ → Judged → Type 0

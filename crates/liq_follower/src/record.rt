@@ -7,12 +7,10 @@ ghost use Rattle.liq_journal.specs.Written.{is_rotate};
 ghost use Rattle.liq_header.specs.RecordDigest.{record_digest};
 ghost use Rattle.liq_follower.specs.Judging.{IsRedone, IsSpelled, IsTaken, IsTested};
 
-use crate::guided::Guided;
 use crate::held::RECORD;
-use liq_core::laws::protocols_stand;
-use liq_core::{PlanFault, Turn, unhinted};
+use liq_guided::{Guided, RedoFault};
 use liq_header::record_digest;
-use liq_types::{Call, Command, Hint, Steps};
+use liq_types::{Call, Command, Steps};
 use liq_wire::decode;
 use std::marker::Brand;
 use std::sync::ledger::{Blank, Ledger};
@@ -76,21 +74,12 @@ pub fn redo<L: Ledger>(protocol: &mut Guided, command: &Command, blank: Blank) -
     requires stays { is_rotate command.now.call ≡ false }
     ensures { (s : State) → StandsFor protocol.old s → IsRedone s command.now protocol.new result }
 {
-    protocols_stand(protocol.protocol());
-    let command = unhinted(command);
-    let planned = match protocol.plan(&command) {
-        Ok(Turn::New(planned)) => planned,
-        Ok(Turn::Again(_)) => return Redone::Refused,
-        Err(PlanFault::No(_)) => return Redone::Refused,
-        Err(PlanFault::NoMemory) => return Redone::NoMemory,
-    };
-    match protocol.reserve(&planned) {
-        Ok(()) => {
-            let mut steps = Steps::<L>::new(blank);
-            let _ = protocol.apply(planned, &Hint::NONE, &mut steps);
-            Redone::Made
-        }
-        Err(_) => Redone::NoMemory,
+    let mut steps = Steps::<L>::new(blank);
+    match protocol.redo(command, &mut steps) {
+        Ok(()) => Redone::Made,
+        Err(RedoFault::Again(_)) => Redone::Refused,
+        Err(RedoFault::No(_)) => Redone::Refused,
+        Err(RedoFault::NoMemory) => Redone::NoMemory,
     }
 }
 
