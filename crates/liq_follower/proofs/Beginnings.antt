@@ -8,7 +8,7 @@ use Rattle.std.proofs.lemmas.List.{drop-append-le, take-append-le, take_all, tak
 use Rattle.liq_types.specs.declared.requests.Command.{Command}
 use Rattle.liq_types.specs.State.{State, opening_with}
 use Rattle.liq_rules.specs.Step.{after}
-use Rattle.liq_journal.specs.Layout.{Layout, generation_on, header_size, layout_named, layout_on, name_on, size_on}
+use Rattle.liq_header.specs.Layout.{Layout, generation_on, header_size, layout_named, layout_on, name_on, size_on}
 use Rattle.liq_journal.specs.Records.{records}
 use Rattle.liq_journal.specs.declared.damage.Damage.{Damage}
 use Rattle.liq_journal.specs.Written.{Absent, Damaged, Found, Open, Written, found_on, found_records, header_tests, most_records, start_of}

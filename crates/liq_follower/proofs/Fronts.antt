@@ -1,20 +1,22 @@
 -- A whole journal that leads to a state, and bytes behind it.
 use Rattle.std.proofs.Common.{◌≡◌, ℕ, ◌+◌, ◌<◌, ◌≤◌, List, [], ◌∷◌, ◌++◌, length, Bool, true, false, if◌then◌else◌, refl, sym, ◌∙◌, ap, subst, arith, length-append, append_assoc}
-use Rattle.std.specs.Prelude.{Some, cond}
+use Rattle.std.specs.Prelude.{Some}
 use Rattle.std.proofs.lemmas.List.Elements.{All-pop}
 use Rattle.std.proofs.lemmas.List.{get_or-append_right}
 use Rattle.std.proofs.Common.{get_or, ◌-◌}
 use Rattle.liq_journal.proofs.Reading.{isnt_long}
-use Rattle.liq_follower.specs.Fed.{Completes, LackOne, MayWantMemory}
+use Rattle.liq_guided.specs.Redone.{MayWantMemory}
+use Rattle.liq_follower.specs.Fed.{Completes, LackOne}
 use Rattle.liq_types.specs.declared.requests.Command.{Command}
 use Rattle.liq_types.specs.State.{State, opening_with}
-use Rattle.liq_rules.specs.Step.{Allowed, after, effect, ruling}
-use Rattle.liq_rules.proofs.Allowed.{allowed_few, effect-records}
+use Rattle.liq_rules.specs.Step.{Allowed, after, ruling}
+use Rattle.liq_rules.proofs.Allowed.{allowed_few}
 use Rattle.liq_journal.specs.declared.damage.Damage.{Damage}
 use Rattle.liq_journal.specs.Records.{begins_whole}
 use Rattle.liq_journal.specs.Written.{Open, Written, and_then, end_of, found_on, is_rotate, record_on}
 use Rattle.liq_journal.proofs.Bodies.{found_no_rotation}
 use Rattle.liq_pairs.specs.Pair.{Faulty, Holding, standing}
+use Rattle.liq_guided.proofs.Steps.{after-records}
 use Rattle.liq_pairs.proofs.Generations.{never_rotates}
 use Rattle.liq_pairs.proofs.Replaying.{outcome_then}
 use Rattle.liq_pairs.proofs.Standings.{standing_damaged, standing_faulty, standing_open}
@@ -26,11 +28,6 @@ use Rattle.liq_follower.proofs.Replaying.{outcome_refused}
 pub fed_behind : (bytes : List ℕ) → has_header bytes ≡ true → fed bytes ≡ standing true bytes
 unfolding fed
 fed_behind bytes has = ap (λ (b : Bool). if b then standing true bytes else Holding 1 (opening_with (begun_limit bytes))) has
-
-after-records : (s : State) (c : Command) → is_rotate c.call ≡ false → (after s c).records ≡ s.records + 1
-after-records s c stays =
-    ap (λ (b : Bool). cond b 0 ((effect s c.call).records + 1)) (never_rotates c.call stays)
-    ∙ ap (λ n. n + 1) (effect-records s c.call)
 
 module _ (front : List ℕ) (s : State) (e : EndsWhole front s) where
   abbrev w : Written
@@ -97,7 +94,7 @@ module _ (front : List ℕ) (s : State) (e : EndsWhole front s) where
     one_record_more c read allowed =
         let open_more = found_next c read in
         let stays : is_rotate c.call ≡ false = (All-pop (λ (d : Command). is_rotate d.call ≡ false) (w.commands ++ c ∷ []) w.commands (Some c) refl (found_no_rotation true (front ++ record_is) (and_then w c) open_more)).1 in
-        let more = after-records s c stays in
+        let more = after-records s c (never_rotates c.call stays) in
         let commands = length-append w.commands (c ∷ []) in
         let room : s.records < 1000000 = allowed_few s c allowed (never_rotates c.call stays) in
         record {

@@ -4,7 +4,6 @@ mod Fronts
 mod Growing
 mod Headed
 mod Headers
-mod Making
 mod Phases
 mod Replaying
 mod Steps

@@ -18,7 +18,7 @@ use Rattle.liq_follower.specs.Following.{EndsAs, Followed, IsAt, IsFed, IsInPhas
 use Rattle.liq_follower.proofs.Fronts.{leads}
 use Rattle.liq_follower.proofs.Headers.{no_header, shut_leads, too_short}
 use Rattle.liq_follower.proofs.Verdicts.{apart}
-use Rattle.liq_journal.specs.Layout.{header_size, layout_on}
+use Rattle.liq_header.specs.Layout.{header_size, layout_on}
 use Rattle.liq_journal.specs.Records.{begins_whole}
 
 -- ---- what is fed is in a phase, and counted

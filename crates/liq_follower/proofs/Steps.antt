@@ -1,22 +1,24 @@
 -- What each byte makes of the bytes and the phase.
-use Rattle.std.proofs.Common.{◌≡◌, ⊎_elim, ℕ, ◌+◌, ◌<◌, ◌≤◌, List, [], ◌∷◌, ◌++◌, length, get_or, refl, sym, ◌∙◌, ap, subst, arith, length-append, append_assoc}
+use Rattle.std.proofs.Common.{◌≡◌, ⊎_elim, ℕ, ◌+◌, ◌-◌, ◌^◌, ◌<◌, ◌≤◌, min, List, [], ◌∷◌, ◌++◌, length, get_or, refl, sym, ◌∙◌, ap, subst, arith, length-append, append_assoc}
 use Rattle.liq_types.specs.declared.requests.Command.{Command}
 use Rattle.liq_types.specs.State.{State, opening_with}
 use Rattle.liq_rules.specs.Step.{Allowed, after, ruling}
 use Rattle.liq_core.specs.Core.{Core, StandsFor}
-use Rattle.liq_journal.specs.Layout.{header_size, layout_on}
+use Rattle.liq_header.specs.Layout.{header_size, layout_on}
 use Rattle.liq_journal.proofs.Reading.{isnt_long}
 use Rattle.liq_follower.specs.declared.header.Judged.{Judged}
 use Rattle.liq_follower.specs.declared.header.Judged.TheVariants as judged
 use Rattle.liq_follower.specs.declared.phase.Phase.{Phase}
 use Rattle.liq_follower.specs.declared.phase.Phase.TheVariants.{Header, Inside}
 use Rattle.liq_follower.specs.declared.record.Redone.TheVariants as redone
-use Rattle.liq_follower.specs.Fed.{AreDamagedAt, Completes, EndsWhole, IsBegun, IsNoRecord, IsRecordOf, LackOne, LeadTo, MayWantMemory, begun_limit}
-use Rattle.liq_follower.specs.Following.{EndsAs, IsInPhase, StandsBeforeLast}
+use Rattle.liq_guided.specs.Redone.{MayWantMemory}
+use Rattle.liq_follower.specs.Fed.{AreDamagedAt, Completes, EndsWhole, IsBegun, IsNoRecord, IsRecordOf, LackOne, LeadTo, begun_limit}
+use Rattle.liq_follower.specs.Following.{EndsAs, Followed, IsAt, IsInPhase, StandsBeforeLast}
 use Rattle.liq_follower.specs.Judging.{IsJudged, IsTaken, IsUnfit, phase_of}
 use Rattle.liq_follower.proofs.Fronts.{bad_command, bad_form, completes, lacks_one, leads, one_record_more}
 use Rattle.liq_follower.proofs.Growing.{gate_is, has_room, least, same_limit, still_begun}
 use Rattle.liq_follower.proofs.Headers.{no_header, too_short, whole_header, wrong}
+use Rattle.liq_follower.proofs.Phases.{in_phase}
 
 -- ---- the header
 
@@ -79,6 +81,19 @@ few_records bytes held core (front, are, less, (s, e, stands)) =
     let same = stands.records in
     let few : s.records ≤ 1000000 = e.few in
     omega arith
+
+-- inside a record, all of whose bytes but the last are held: that of the number after the core's
+pub record IsFull (bytes : List ℕ) (f : Followed) (index : ℕ) : Type 0 where
+  pub at : IsInPhase Inside f.held bytes f.core
+  pub size : length f.held ≡ 127
+  pub next : index ≡ f.core.records + 1
+
+pub full : (bytes : List ℕ) (f now : Followed) (told index : ℕ) → f ≡ now → now.phase ≡ Inside → length now.held ≡ 127
+    → told ≡ f.core.records → index ≡ min (told + 1) (2 ^ 64 - 1) → IsAt bytes now → IsFull bytes f index
+full bytes f now told index same is size counted next at =
+    let here = in_phase bytes f now Inside same is at in
+    let few = few_records bytes f.held f.core here in
+    record { at = here; size = ap (λ (g : Followed). length g.held) same ∙ size; next = omega (arith, few, counted, next) }
 
 -- the last byte of a record
 module _ (bytes held : List ℕ) (core : Core) (last index : ℕ) (size : length held ≡ 127) (next : index ≡ core.records + 1) (at : IsInPhase Inside held bytes core) where

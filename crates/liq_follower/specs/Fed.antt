@@ -1,16 +1,15 @@
 -- What bytes stand for that are the beginning of a journal of generation 1, as far as they go.
-use Rattle.std.specs.Prelude.{◌≡◌, ◌⊎◌, ◌<◌, ◌≤◌, ℕ, ◌+◌, List, [], ◌∷◌, ◌++◌, length, get_or, Ok, Err}
+use Rattle.std.specs.Prelude.{◌≡◌, ◌<◌, ◌≤◌, ℕ, ◌+◌, List, [], ◌∷◌, ◌++◌, length, get_or, Ok, Err}
 use Rattle.std.specs.Prelude.{Bool, true, false, ◌&&◌, ◌==◌}
 use Rattle.std.specs.Prelude.{nat_lt, nat_le, if◌then◌else◌}
 use Rattle.std.specs.Str.{bytes_eq}
 use Rattle.liq_types.specs.declared.amounts.TheConstants.{LIM, LIM_OF_VERSION_1, RECORDS_MOST}
 use Rattle.liq_types.specs.declared.requests.Command.{Command}
 use Rattle.liq_types.specs.State.{State, opening_with}
-use Rattle.liq_rules.specs.Lists.{PlansList}
-use Rattle.liq_rules.specs.Step.{Allowed, ruling}
+use Rattle.liq_guided.specs.Redone.{MayWantMemory}
 use Rattle.liq_journal.specs.declared.damage.Damage.{Damage}
 use Rattle.liq_journal.specs.declared.damage.What.{What}
-use Rattle.liq_journal.specs.Layout.{generation_on, header_size, layout_on, name_on, version_1}
+use Rattle.liq_header.specs.Layout.{generation_on, header_size, layout_on, name_on, version_1}
 use Rattle.liq_journal.specs.Written.{Open, Written, and_then, end_of, found_on, record_on}
 use Rattle.liq_pairs.specs.Pair.{Standing, Faulty, Holding, standing}
 use Rattle.liq_pairs.specs.Replay.{outcome}
@@ -87,10 +86,6 @@ LackOne bytes =
     × (found_on true bytes ≡ Open w)
     × (length bytes ≡ end_of w + 128)
     × (get_or bytes (end_of w) 0 ≡ 1)
-
--- memory may be wanted for this command: the rules allow it, or a list of troves is planned for it
-abbrev pub MayWantMemory : State → Command → Type 0
-MayWantMemory s c = (ruling s c ≡ Allowed) ⊎ PlansList s c
 
 -- This byte behind them completes a record whose digest and fields are right, and for whose command memory may be
 -- wanted in the state to which they lead.

@@ -8,12 +8,12 @@ ghost use Rattle.liq_follower.specs.Following.{IsAt, IsFed, StandsBeforeLast, st
 ghost use Rattle.liq_follower.specs.Judging.{phase_of};
 
 use crate::answers::{Fed, FedEnd};
-use crate::guided::Guided;
 use crate::header::{Judged, begun_limit, header_size, judge};
 use crate::held::{Held, RECORD};
 use crate::phase::Phase;
 use crate::record::{Redone, take};
 use liq_core::Protocol;
+use liq_guided::Guided;
 use liq_types::NoMemory;
 use liq_types::amounts::LIM;
 use std::alloc::Global;

@@ -5,7 +5,7 @@ ghost use Rattle.std.specs.Prelude.{◌≡◌, ◌≤◌, ◌+◌, ◌++◌, ◌
 ghost use Rattle.liq_types.specs.declared.requests.Command.{Command};
 ghost use Rattle.liq_types.specs.State.{State, opening, opening_with};
 ghost use Rattle.liq_rules.specs.Step.{Allowed, after, ruling};
-ghost use Rattle.liq_journal.specs.Layout.{generation_on, header_size, layout_on};
+ghost use Rattle.liq_header.specs.Layout.{generation_on, header_size, layout_on};
 ghost use Rattle.liq_journal.specs.Records.{begins_whole};
 ghost use Rattle.liq_journal.specs.Written.{Open, Written, first_fault, found_on, header_tests};
 ghost use Rattle.liq_pairs.specs.Replay.{outcome, replay};

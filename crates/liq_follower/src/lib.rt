@@ -4,7 +4,6 @@
 
 mod answers;
 mod follower;
-mod guided;
 mod header;
 mod held;
 pub mod laws;

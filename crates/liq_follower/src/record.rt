@@ -1,20 +1,17 @@
 // A whole record, tested, and its command, made again.
 ghost use Rattle.std.specs.Prelude.{◌≡◌, false, take, drop, IfSome};
 ghost use Rattle.std.specs.Str.{bytes_eq};
-ghost use Rattle.byteorder.specs.Endian.{big_bytes};
 ghost use Rattle.liq_types.specs.State.{State};
 ghost use Rattle.liq_core.specs.Core.{StandsFor};
-ghost use Rattle.liq_journal.specs.Written.{is_rotate, record_digest};
+ghost use Rattle.liq_journal.specs.Written.{is_rotate};
+ghost use Rattle.liq_header.specs.RecordDigest.{record_digest};
 ghost use Rattle.liq_follower.specs.Judging.{IsRedone, IsSpelled, IsTaken, IsTested};
 
-use crate::guided::Guided;
 use crate::held::RECORD;
-use byteorder::{BigEndian, ByteOrder};
-use liq_core::laws::protocols_stand;
-use liq_core::{PlanFault, Turn, unhinted};
-use liq_types::{Call, Command, Hint, Steps};
+use liq_guided::{Guided, RedoFault};
+use liq_header::record_digest;
+use liq_types::{Call, Command, Steps};
 use liq_wire::decode;
-use sha2::{Digest, Sha256};
 use std::marker::Brand;
 use std::sync::ledger::{Blank, Ledger};
 
@@ -25,25 +22,6 @@ pub enum Redone {
     // The rules refuse it, or it is a repetition.
     Refused,
     NoMemory,
-}
-
-pub fn number(n: u64) -> [u8; 8]
-    ensures { result ≡ big_bytes 8 n }
-{
-    let mut bytes = [0; 8];
-    BigEndian::write_u64(&mut bytes, n);
-    bytes
-}
-
-// The digest of the record of this number in the first generation.
-fn digest(index: u64, body: &[u8; 96]) -> [u8; 32]
-    ensures { result ≡ record_digest 1 index body.now }
-{
-    let mut hasher = Sha256::new();
-    hasher.update(&number(1));
-    hasher.update(&number(index));
-    hasher.update(body);
-    hasher.finalize()
 }
 
 // The body of a record.
@@ -59,7 +37,7 @@ fn body_of(raw: &[u8; RECORD]) -> [u8; 96]
 fn has_digest(raw: &[u8; RECORD], index: u64) -> bool
     ensures { result ≡ bytes_eq (drop 96 raw.now) (record_digest 1 index (take 96 raw.now)) }
 {
-    &raw[96..] == digest(index, &body_of(raw)).as_slice()
+    &raw[96..] == record_digest(1, index, &body_of(raw)).as_slice()
 }
 
 // The command that the body spells, whatever the digest: none where it is no command, or a rotation.
@@ -96,21 +74,12 @@ pub fn redo<L: Ledger>(protocol: &mut Guided, command: &Command, blank: Blank) -
     requires stays { is_rotate command.now.call ≡ false }
     ensures { (s : State) → StandsFor protocol.old s → IsRedone s command.now protocol.new result }
 {
-    protocols_stand(protocol.protocol());
-    let command = unhinted(command);
-    let planned = match protocol.plan(&command) {
-        Ok(Turn::New(planned)) => planned,
-        Ok(Turn::Again(_)) => return Redone::Refused,
-        Err(PlanFault::No(_)) => return Redone::Refused,
-        Err(PlanFault::NoMemory) => return Redone::NoMemory,
-    };
-    match protocol.reserve(&planned) {
-        Ok(()) => {
-            let mut steps = Steps::<L>::new(blank);
-            let _ = protocol.apply(planned, &Hint::NONE, &mut steps);
-            Redone::Made
-        }
-        Err(_) => Redone::NoMemory,
+    let mut steps = Steps::<L>::new(blank);
+    match protocol.redo(command, &mut steps) {
+        Ok(()) => Redone::Made,
+        Err(RedoFault::Again(_)) => Redone::Refused,
+        Err(RedoFault::No(_)) => Redone::Refused,
+        Err(RedoFault::NoMemory) => Redone::NoMemory,
     }
 }
 

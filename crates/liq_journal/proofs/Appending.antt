@@ -1,5 +1,5 @@
 -- What each write of an append leaves.
-use Rattle.std.proofs.Common.{◌≡◌, ◌⊎◌, inl, inr, ⊎_elim, ℕ, zero, suc, ◌+◌, ◌*◌, ◌-◌, ◌<◌, ◌≤◌, List, [], ◌∷◌, ◌++◌, length, take, drop, get_or, replicate, Option, Some, None, option_map, IfSome, Ok, Err, Bool, false, not, if◌then◌else◌, refl, sym, ◌∙◌, ap, subst, arith, length-take, length-drop, length-append, append_assoc}
+use Rattle.std.proofs.Common.{◌≡◌, ◌⊎◌, inl, inr, ⊎_elim, ℕ, zero, suc, ◌+◌, ◌*◌, ◌-◌, ◌<◌, ◌≤◌, List, [], ◌∷◌, ◌++◌, length, take, drop, get_or, Option, Some, None, option_map, IfSome, Ok, Err, Bool, false, not, if◌then◌else◌, refl, sym, ◌∙◌, ap, subst, arith, length-take, length-drop, length-append, append_assoc}
 use Rattle.std.specs.Str.{bytes_eq}
 use Rattle.std.proofs.lemmas.Slice.Eq.{bytes_eq-Decides}
 use Rattle.std.proofs.lemmas.List.{take-take, take_at, drop_at, get_or-drop, drop-drop, append-nil, get_or-append_right}
@@ -7,29 +7,18 @@ use Rattle.liq_types.specs.declared.requests.Command.{Command}
 use Rattle.liq_wire.specs.Fields.{command_of}
 use Rattle.liq_outside.specs.Disk.{Torn, overwritten, Only, LeftNow, LeavesOnly}
 use Rattle.liq_outside.proofs.Moments.{weaker, at_last}
-use Rattle.byteorder.specs.Endian.{big_bytes}
-use Rattle.sha2.specs.Sha256.{sha256}
-use Rattle.sha2.proofs.Facts256.{length-sha256}
 use Rattle.liq_journal.specs.Settled.{JournalOn, IsSettled}
 use Rattle.liq_outside.proofs.Steps.{torn_whole}
 use Rattle.liq_journal.specs.declared.damage.What.TheVariants.{Digest, Form}
 use Rattle.liq_journal.specs.Records.{records}
-use Rattle.liq_journal.specs.Layout.{piece}
-use Rattle.liq_journal.specs.Written.{Written, Open, found_records, most_records, found_on, start_of, end_of, EndsWith, and_then, opened, record_on, record_digest, command_from}
-use Rattle.liq_journal.specs.Crash.{Stands, BeforeOrAfter, GatedLeaves, IsBodyOf, gated, is_odd}
+use Rattle.liq_header.specs.Layout.{piece}
+use Rattle.liq_journal.specs.Written.{Written, Open, found_records, most_records, found_on, start_of, end_of, EndsWith, and_then, opened, record_on, command_from}
+use Rattle.liq_header.specs.RecordDigest.{record_digest}
+use Rattle.liq_header.proofs.Hashed.{length-record_digest}
+use Rattle.liq_journal.specs.Crash.{Stands, BeforeOrAfter, GatedLeaves, IsBodyOf, gated}
+use Rattle.liq_header.specs.Header.{is_odd}
 use Rattle.liq_journal.proofs.Reading.{records_whole, records_none, records_alike, is_whole, isnt_open, front_behind, byte_alike}
 use Rattle.liq_journal.proofs.Heading.{is_open, header_decides, of_records, found_more}
-
--- a body, a digest and a 0, written over zeros
-pub record_is : (body digest : List ℕ) → length body ≡ 96 → length digest ≡ 32 → take 96 (body ++ drop (0 + length body) (replicate 129 0)) ++ digest ++ drop (96 + length digest) (body ++ drop (0 + length body) (replicate 129 0)) ≡ (body ++ digest) ++ 0 ∷ []
-record_is body digest size digest_size =
-    let zeros = replicate 129 0 in
-    let front : take 96 (body ++ drop (0 + length body) zeros) ≡ body = take_at body (drop (0 + length body) zeros) 96 size in
-    let n : 96 + length digest ≡ 96 + 32 = omega arith in
-    let m : 0 + length body ≡ 96 = omega arith in
-    let back : drop (96 + length digest) (body ++ drop (0 + length body) zeros) ≡ 0 ∷ [] =
-    ap (λ (k : ℕ). drop k (body ++ drop (0 + length body) zeros)) n ∙ sym (drop-drop 32 96 (body ++ drop (0 + length body) zeros)) ∙ ap (drop 32) (drop_at body (drop (0 + length body) zeros) 96 size ∙ ap (λ (k : ℕ). drop k zeros) m) in
-    (λ i. front i ++ digest ++ back i)
 
 -- a record read back
 pub read_record : (generation index place : ℕ) (body digest : List ℕ) (command : Command) → length body ≡ 96 → digest ≡ record_digest generation index body → IsBodyOf body command → record_on generation index place (body ++ digest) ≡ Ok command
@@ -237,14 +226,6 @@ module _ (odd : Bool) (held : List ℕ) (w : Written) (stands : Stands odd held 
     -- both writes done
     pub appended : Stands odd (overwritten staged (end_of w) (1 ∷ [])) (and_then w command)
     appended = after (overwritten staged (end_of w) (1 ∷ [])) (torn_whole staged (end_of w) (1 ∷ []) (omega (arith, long_staged))) (open_gate staged (omega (arith, long_staged)))
-
-pub record_digest_is : (generation index : ℕ) (body : List ℕ) → sha256 (big_bytes 8 generation ++ big_bytes 8 index ++ body) ≡ record_digest generation index body
-unfolding record_digest
-record_digest_is generation index body = refl
-
-pub length-record_digest : (generation index : ℕ) (body : List ℕ) → length (record_digest generation index body) ≡ 32
-unfolding record_digest
-length-record_digest generation index body = length-sha256 _
 
 -- what is known of the journal is what stands on the disk
 pub record Agrees (generation start count : ℕ) (w : Written) : Type 0 where

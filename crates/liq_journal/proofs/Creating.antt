@@ -1,24 +1,24 @@
 -- What a creation writes, and what a crash leaves of it.
-use Rattle.std.proofs.Common.{◌≡◌, inl, inr, ℕ, ◌+◌, ◌<◌, ◌≤◌, ◌^◌, List, [], ◌∷◌, ◌++◌, length, take, drop, get_or, replicate, Option, Some, None, option_map, IfSome, IsSome, rules, Bool, true, false, not, nat_lt, refl, sym, ◌∙◌, ap, subst, arith, length-take, length-drop, length-append, append_assoc, take-append-drop}
+use Rattle.std.proofs.Common.{◌≡◌, inl, inr, ℕ, ◌+◌, ◌<◌, ◌≤◌, ◌^◌, List, [], ◌∷◌, ◌++◌, length, take, drop, get_or, Option, Some, None, option_map, IfSome, IsSome, rules, Bool, true, false, not, nat_lt, refl, sym, ◌∙◌, ap, subst, arith, length-take, length-drop, length-append, append_assoc, take-append-drop}
 use Rattle.std.specs.Str.{bytes_eq}
 use Rattle.std.proofs.lemmas.Bool.Decides.{nat_tests}
 use Rattle.std.proofs.lemmas.Slice.Eq.{bytes_eq-Decides}
-use Rattle.std.proofs.lemmas.List.{take-take, take_at, drop_at, get_or-drop, drop-drop, append-nil}
+use Rattle.std.proofs.lemmas.List.{take-take, take_at, drop_at, get_or-drop, drop-drop}
 use Rattle.byteorder.specs.Endian.{big_bytes, big_number}
 use Rattle.byteorder.specs.Numbers.{big_number-reads_back}
-use Rattle.sha2.proofs.Facts256.{length-sha256}
 use Rattle.liq_types.specs.declared.amounts.TheConstants.{LIM}
 use Rattle.liq_wire.specs.Fields.{number_at}
 use Rattle.liq_outside.specs.Disk.{Torn, overwritten, Only, LeftNow, LeavesOnly, Elapses, Follows}
 use Rattle.liq_outside.proofs.Moments.{chained, weaker, at_last, call}
 use Rattle.liq_journal.specs.Records.{records}
-use Rattle.liq_journal.specs.Layout.{Layout, IsVersion, version_2, layout_named, fields_size, header_size, piece, name_on, generation_on, size_on, own_on, fields_on, stored_on, start_on, checkpoint_on, header_digest, digest_on, header_of, fields_of}
-use Rattle.liq_journal.specs.Written.{Written, header_tests, is_generation, is_size, found_records, most_records, start_of, end_of, opened}
+use Rattle.liq_header.specs.Layout.{Layout, IsVersion, version_2, layout_named, fields_size, header_size, piece, name_on, generation_on, size_on, own_on, fields_on, stored_on, start_on, checkpoint_on, header_digest, digest_on, header_of, fields_of}
+use Rattle.liq_journal.specs.Written.{Written, header_tests, found_records, most_records, start_of, end_of, opened}
+use Rattle.liq_header.specs.Header.{is_generation, is_size, is_odd}
 use Rattle.liq_journal.specs.Crash.{CrashOfCreate, CreateLeaves, HasGate, IsShut, ReadsOfCreate, SettleLeaves, Stands, beginning, filled}
-use Rattle.liq_journal.specs.Crash.{is_odd}
 use Rattle.liq_journal.proofs.Reading.{records_none, isnt_open}
 use Rattle.liq_journal.proofs.Heading.{Headed, found_behind_it, no_fault}
-use Rattle.liq_journal.proofs.Versions.{is_version_2}
+use Rattle.liq_header.proofs.Hashed.{length-header_digest}
+use Rattle.liq_header.proofs.Versions.{is_version_2}
 
 -- behind place 0 a shut gate stays
 pub shut_stays : (at n : ℕ) (held image : List ℕ) → 1 ≤ at → IsShut held → Torn at n held image → IsShut image
@@ -28,21 +28,6 @@ shut_stays at n held image behind shut torn =
 pub write_leaves_shut : {D : Type 0} (moment : D → ℕ) (left_at : D → ℕ → List ℕ → Type 0) (old new : D) (at n : ℕ) → 1 ≤ at → Elapses moment left_at old new → Follows (Torn at n) (LeftNow moment left_at old) (LeftNow moment left_at new) → ((image : List ℕ) → LeftNow moment left_at old image → IsShut image) → LeavesOnly moment left_at old new IsShut
 write_leaves_shut moment left_at old new at n behind time follows shut =
     call moment left_at old new IsShut time shut (λ image left. let from = follows image left in shut_stays at n from.0 image behind (shut from.0 from.1) from.2)
-
-pub length-header_digest : (fields checkpoint : List ℕ) → length (header_digest fields checkpoint) ≡ 32
-unfolding header_digest
-length-header_digest fields checkpoint = length-sha256 _
-
--- a digest written behind 32 bytes of fields, over zeros
-pub header_is : (fields digest : List ℕ) → length fields ≡ 32 → length digest ≡ 32 → take 32 (fields ++ drop (0 + length fields) (replicate 64 0)) ++ digest ++ drop (32 + length digest) (fields ++ drop (0 + length fields) (replicate 64 0)) ≡ fields ++ digest
-header_is fields digest size digest_size =
-    let zeros = replicate 64 0 in
-    let front : take 32 (fields ++ drop (0 + length fields) zeros) ≡ fields = take_at fields (drop (0 + length fields) zeros) 32 size in
-    let n : 32 + length digest ≡ 32 + 32 = omega arith in
-    let m : 0 + length fields ≡ 32 = omega arith in
-    let back : drop (32 + length digest) (fields ++ drop (0 + length fields) zeros) ≡ [] =
-    ap (λ (k : ℕ). drop k (fields ++ drop (0 + length fields) zeros)) n ∙ sym (drop-drop 32 32 (fields ++ drop (0 + length fields) zeros)) ∙ ap (drop 32) (drop_at fields (drop (0 + length fields) zeros) 32 size ∙ ap (λ (k : ℕ). drop k zeros) m) in
-    (λ i. front i ++ digest ++ back i) ∙ append-nil (fields ++ digest)
 
 -- a write behind a front
 over_front : (front back bytes : List ℕ) (at : ℕ) → length front ≡ at → overwritten (front ++ back) at bytes ≡ front ++ bytes ++ drop (length bytes) back

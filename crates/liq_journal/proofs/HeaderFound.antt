@@ -2,37 +2,26 @@
 use Rattle.std.proofs.Common.{◌≡◌, ◌⊎◌, inl, inr, ℕ, ◌+◌, ◌<◌, ◌≤◌, List, [], ◌∷◌, length, take, drop, get_or, Option, Some, None, IfSome, Result, Ok, Err, Bool, true, false, not, nat_lt, ◌==◌, ◌||◌, if◌then◌else◌, refl, sym, ◌∙◌, ap, subst, arith}
 use Rattle.std.specs.Str.{bytes_eq}
 use Rattle.std.proofs.lemmas.Bool.Decides.{nat_tests}
-use Rattle.liq_types.specs.Image.{IsLimit}
 use Rattle.liq_wire.specs.Fields.{first_place}
 use Rattle.liq_journal.specs.declared.damage.What.{What}
 use Rattle.liq_journal.specs.declared.damage.What.TheVariants.{Form}
 use Rattle.liq_journal.specs.declared.damage.Damage.{Damage}
-use Rattle.liq_journal.specs.declared.head.Head.{Head}
+use Rattle.liq_header.specs.declared.head.Head.{Head}
 use Rattle.liq_journal.specs.declared.answers.LookFault.{LookFault}
 use Rattle.liq_journal.specs.declared.answers.LookFault.TheVariants as fault
 use Rattle.liq_journal.specs.declared.answers.Look.{Look}
 use Rattle.liq_journal.specs.declared.answers.Look.TheVariants as look
 use Rattle.liq_journal.specs.Look.{look_behind, look_in, look_on}
-use Rattle.liq_journal.specs.Header.{HasFields, IsHeadOf, MaybeHeadOf, IsDamageOf}
-use Rattle.liq_journal.specs.Layout.{Layout, IsVersion, layout_on, layout_with, layout_named, fields_size, header_size, least_header, greatest_header, piece, name_on, generation_on, size_on, start_on}
+use Rattle.liq_header.specs.Header.{HasFields, is_generation, is_size, place_tests, is_absent}
+use Rattle.liq_journal.specs.Header.{IsHeadOf, MaybeHeadOf, IsDamageOf}
+use Rattle.liq_header.specs.Layout.{Layout, IsVersion, layout_on, layout_with, layout_named, fields_size, header_size, least_header, greatest_header, name_on, generation_on, size_on, start_on}
 use Rattle.liq_journal.specs.Looked.{IsRead}
-use Rattle.liq_journal.specs.Written.{Absent, Damaged, is_generation, is_size, place_tests, last_tests, forms_then, first_fault, header_tests, is_absent, found_behind, found_on}
+use Rattle.liq_journal.specs.Written.{Absent, Damaged, last_tests, first_fault, header_tests, found_behind, found_on}
 use Rattle.std.proofs.lemmas.List.{take-take}
-use Rattle.liq_journal.proofs.Versions.{has_version, one_version}
+use Rattle.liq_header.proofs.Versions.{one_version}
+use Rattle.liq_journal.proofs.Heading.{forms_fit, form_found}
 use Rattle.liq_journal.proofs.Reading.{piece_alike, byte_alike, number_alike}
 use Rattle.liq_journal.proofs.Told.{if_some, if_both}
-
--- the first field that is wrong is the first fault
-form_found : (tests : List (Bool × ℕ)) (rest : List (Bool × What)) (place : ℕ) → first_place tests ≡ Some place → first_fault (forms_then tests rest) ≡ Some (Form place)
-form_found [] rest place is = absurd (cc (is))
-form_found ((true, at) ∷ tests) rest place is = cc (is)
-form_found ((false, at) ∷ tests) rest place is = form_found tests rest place is
-
--- where none is, the first fault is behind them
-pub forms_fit : (tests : List (Bool × ℕ)) (rest : List (Bool × What)) → first_place tests ≡ None → first_fault (forms_then tests rest) ≡ first_fault rest
-forms_fit [] rest is = refl
-forms_fit ((true, at) ∷ tests) rest is = absurd (cc (is))
-forms_fit ((false, at) ∷ tests) rest is = forms_fit tests rest is
 
 -- a look and an opening by the same tests
 module _ (layout : Layout) (odd : Bool) (held : List ℕ) where
@@ -97,20 +86,6 @@ module _ (layout : Layout) (odd : Bool) (held bytes : List ℕ) where
     fields = has.fields ∙ sym (piece_alike (header_size layout) bytes held alike 1 (fields_size layout) (omega arith));
     stored = has.stored ∙ sym (piece_alike (header_size layout) bytes held alike (1 + fields_size layout) 32 (omega arith));
   }
-
--- the fields of a header of a version with a limit that may be
-pub fields_of_version : (limit : ℕ) → IsLimit limit → (head : Head) (bytes : List ℕ) → head.limit ≡ limit → head.generation ≡ generation_on bytes → head.size ≡ size_on bytes → head.fields ≡ piece 1 32 bytes → head.stored ≡ piece (1 + fields_size (layout_with limit)) 32 bytes → HasFields (layout_with limit) head bytes
-fields_of_version limit is head bytes limit_is generation size fields stored =
-    let has = has_version limit is in
-    let n = fields_size (layout_with limit) in
-    let few : n ≤ 32 = let w = has.version.whole in omega arith in
-    record {
-      limit = limit_is ∙ has.limit_is;
-      generation = generation;
-      size = size;
-      fields = ap (take n) fields ∙ take-take n 32 (drop 1 bytes) few;
-      stored = stored;
-    }
 
 -- a read of the front, into a buffer that a header fits in
 module _ (odd : Bool) (n : ℕ) (bytes : List ℕ) (long : least_header ≤ n) (gate : get_or bytes 0 0 ≡ 1) where

@@ -4,11 +4,14 @@ use Rattle.std.specs.Str.{bytes_eq}
 use Rattle.std.proofs.lemmas.Bool.Decides.{nat_tests}
 use Rattle.liq_types.specs.Image.{IsLimit}
 use Rattle.liq_types.specs.declared.requests.Command.{Command}
+use Rattle.liq_wire.specs.Fields.{first_place}
 use Rattle.liq_journal.specs.declared.damage.What.{What}
+use Rattle.liq_journal.specs.declared.damage.What.TheVariants.{Form}
 use Rattle.liq_journal.specs.Records.{records}
-use Rattle.liq_journal.specs.Layout.{Layout, layout_with, layout_named, layout_on, fields_size, header_size, least_header, piece, generation_on, size_on, start_on, checkpoint_on, header_digest}
-use Rattle.liq_journal.specs.Written.{is_generation, is_size, first_fault, header_tests, is_absent, record_on, Written, Found, Absent, Damaged, Open, with_command, found_record, found_records, found_behind, most_records, found_in, found_on, and_then, start_of}
-use Rattle.liq_journal.proofs.Versions.{one_version}
+use Rattle.liq_header.specs.Layout.{Layout, layout_with, layout_named, layout_on, fields_size, header_size, least_header, piece, generation_on, size_on, start_on, checkpoint_on, header_digest}
+use Rattle.liq_header.specs.Header.{is_generation, is_size, is_absent}
+use Rattle.liq_journal.specs.Written.{first_fault, forms_then, header_tests, record_on, Written, Found, Absent, Damaged, Open, with_command, found_record, found_records, found_behind, most_records, found_in, found_on, and_then, start_of}
+use Rattle.liq_header.proofs.Versions.{one_version}
 use Rattle.liq_journal.proofs.Reading.{piece_alike, byte_alike, length_alike, number_alike}
 
 abbrev pub AreFalse : List (Bool × What) → Type 0
@@ -26,6 +29,18 @@ are_false (test ∷ tests) is = let first = first_false test.0 test.1 (first_fau
 pub no_fault : (tests : List (Bool × What)) → AreFalse tests → first_fault tests ≡ None
 no_fault [] false_all = refl
 no_fault (test ∷ tests) (first, rest) = ap (λ (b : Bool). if b then Some test.1 else first_fault tests) first ∙ no_fault tests rest
+
+-- the first field that is wrong is the first fault
+pub form_found : (tests : List (Bool × ℕ)) (rest : List (Bool × What)) (place : ℕ) → first_place tests ≡ Some place → first_fault (forms_then tests rest) ≡ Some (Form place)
+form_found [] rest place is = absurd (cc (is))
+form_found ((true, at) ∷ tests) rest place is = cc (is)
+form_found ((false, at) ∷ tests) rest place is = form_found tests rest place is
+
+-- where none is, the first fault is behind them
+pub forms_fit : (tests : List (Bool × ℕ)) (rest : List (Bool × What)) → first_place tests ≡ None → first_fault (forms_then tests rest) ≡ first_fault rest
+forms_fit [] rest is = refl
+forms_fit ((true, at) ∷ tests) rest is = absurd (cc (is))
+forms_fit ((false, at) ∷ tests) rest is = forms_fit tests rest is
 
 -- an open header of this version with no fault
 pub record Headed (layout : Layout) (odd : Bool) (bytes : List ℕ) (generation : ℕ) (checkpoint : List ℕ) (start : ℕ) : Type 0 where

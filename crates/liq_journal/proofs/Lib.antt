@@ -14,4 +14,3 @@ mod Scanning
 mod Settling
 pub mod Testing
 mod Told
-mod Versions

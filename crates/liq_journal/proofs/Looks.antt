@@ -2,7 +2,8 @@
 use Rattle.std.proofs.Common.{◌≡◌, ℕ, ◌+◌, ◌-◌, ◌≤◌, List, ◌++◌, length, take, drop, Option, Some, None, IfSome, ◌∙◌, sym, ap, subst, arith, refl, take-append-drop, append_assoc, length-append, length-take}
 use Rattle.std.proofs.lemmas.List.{take-take, drop-take, drop-drop}
 use Rattle.sha2.specs.Sha256.{sha256}
-use Rattle.liq_journal.specs.Layout.{header_digest, piece}
+use Rattle.liq_header.specs.Layout.{header_digest, piece}
+use Rattle.liq_header.proofs.Hashed.{header_digest_is}
 use Rattle.liq_outside.specs.Disk.{LeftNow, Within, Elapses}
 use Rattle.liq_outside.proofs.Moments.{chained, weaker, call, started}
 use Rattle.liq_journal.specs.Looked.{IsRead, Looked}
@@ -59,10 +60,6 @@ digest_more told now same place size done n fields part buf Holds HoldsMore upda
     go : (o : Option (List ℕ)) → IfSome o (IsRead (place + done) (length buf) n part) → IfSome o (HasDigested Holds place size fields done) → IfSome o (HasDigested HoldsMore place size fields (done + n))
     go None r s = tt
     go (Some held) r s = λ room. subst HoldsMore (append_assoc fields (piece place done held) (take n part) ∙ ap (λ (l : List ℕ). fields ++ (piece place done held ++ l)) r.1 ∙ ap (λ (l : List ℕ). fields ++ l) (piece_more place done n held)) (update (fields ++ piece place done held) (s room))
-
-pub header_digest_is : (fields checkpoint : List ℕ) → sha256 (fields ++ checkpoint) ≡ header_digest fields checkpoint
-unfolding header_digest
-header_digest_is fields checkpoint = refl
 
 -- all of it is
 pub digest_done : (told : Option (List ℕ)) (place size done : ℕ) → done ≡ size → (fields digest : List ℕ) (Holds : List ℕ → Type 0) → ((m : List ℕ) → Holds m → digest ≡ sha256 m) → IfSome told (HasDigested Holds place size fields done) → IfSome told (λ held. place + size ≤ length held → digest ≡ header_digest fields (piece place size held))

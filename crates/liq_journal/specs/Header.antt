@@ -1,21 +1,13 @@
--- What a header is found to be, before its digest is tested.
-use Rattle.std.specs.Prelude.{◌≡◌, ◌≤◌, ℕ, List, length, take, Bool, false, Option, Some, None, Ok, Err}
+-- What the header of a disk is found to be, before its digest is tested.
+use Rattle.std.specs.Prelude.{◌≡◌, ◌≤◌, ℕ, List, length, Bool, false, Option, Some, None, Ok, Err}
 use Rattle.liq_wire.specs.Fields.{first_place}
-use Rattle.liq_journal.specs.declared.head.Head.{Head}
+use Rattle.liq_header.specs.declared.head.Head.{Head}
 use Rattle.liq_journal.specs.Look.{look_on}
 use Rattle.liq_journal.specs.declared.answers.Look.TheVariants.{Absent}
 use Rattle.liq_journal.specs.declared.answers.LookFault.{LookFault}
 use Rattle.liq_journal.specs.declared.answers.LookFault.TheVariants as fault
-use Rattle.liq_journal.specs.Layout.{Layout, layout_on, layout_with, fields_size, generation_on, size_on, fields_on, stored_on, start_on}
-use Rattle.liq_journal.specs.Written.{is_absent, place_tests}
-
--- the version, and the fields of these bytes
-pub record HasFields (layout : Layout) (head : Head) (bytes : List ℕ) : Type 0 where
-  pub limit : head.limit ≡ layout.limit
-  pub generation : head.generation ≡ generation_on bytes
-  pub size : head.size ≡ size_on bytes
-  pub fields : take (fields_size layout) head.fields ≡ fields_on layout bytes
-  pub stored : head.stored ≡ stored_on layout bytes
+use Rattle.liq_header.specs.Layout.{Layout, layout_on, layout_with, start_on}
+use Rattle.liq_header.specs.Header.{HasFields, is_absent, place_tests}
 
 -- an open header of this version, whose fields are right and whose checkpoint is there
 pub record IsHeadOf (layout : Layout) (odd : Bool) (held : List ℕ) (head : Head) : Type 0 where

@@ -3,7 +3,6 @@ pub mod Causes
 pub mod Counted
 pub mod Crash
 pub mod Header
-pub mod Layout
 pub mod Look
 pub mod Looked
 pub mod Opened

@@ -5,8 +5,9 @@ use Rattle.liq_journal.specs.declared.answers.Look.{Look}
 use Rattle.liq_journal.specs.declared.answers.Look.TheVariants.{Absent, Open}
 use Rattle.liq_journal.specs.declared.answers.LookFault.{LookFault}
 use Rattle.liq_journal.specs.declared.answers.LookFault.TheVariants.{Damaged}
-use Rattle.liq_journal.specs.Layout.{Layout, layout_on, generation_on}
-use Rattle.liq_journal.specs.Written.{first_fault, header_tests, is_absent}
+use Rattle.liq_header.specs.Layout.{Layout, layout_on, generation_on}
+use Rattle.liq_journal.specs.Written.{first_fault, header_tests}
+use Rattle.liq_header.specs.Header.{is_absent}
 
 -- by the first fault of the header of a disk whose gate is open
 abbrev pub look_behind : List ℕ → Option What → Result Look LookFault

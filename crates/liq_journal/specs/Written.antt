@@ -1,10 +1,8 @@
 -- What one disk is: absent, damaged, or open with its generation, its checkpoint and its commands.
-use Rattle.std.specs.Prelude.{◌≡◌, ℕ, ◌+◌, ◌*◌, ◌%◌, ◌<◌, Option, Some, None, Result, Ok, Err}
+use Rattle.std.specs.Prelude.{◌≡◌, ℕ, ◌+◌, ◌*◌, ◌<◌, Option, Some, None, Result, Ok, Err}
 use Rattle.std.specs.Prelude.{List, [], ◌∷◌, ◌++◌, length, take, drop, get_or}
-use Rattle.std.specs.Prelude.{Bool, true, false, not, ◌||◌, ◌&&◌, ◌==◌, nat_lt, nat_le, if◌then◌else◌}
+use Rattle.std.specs.Prelude.{Bool, true, false, not, nat_lt, if◌then◌else◌}
 use Rattle.std.specs.Str.{bytes_eq}
-use Rattle.byteorder.specs.Endian.{big_bytes}
-use Rattle.sha2.specs.Sha256.{sha256}
 use Rattle.liq_types.specs.declared.requests.Command.{Command}
 use Rattle.liq_types.specs.declared.requests.Call.{Call}
 use Rattle.liq_types.specs.declared.requests.Call.TheVariants.{Rotate}
@@ -13,38 +11,16 @@ use Rattle.liq_outside.specs.Disk.{overwritten}
 use Rattle.liq_journal.specs.declared.damage.Damage.{Damage}
 use Rattle.liq_journal.specs.declared.damage.What.{What}
 use Rattle.liq_journal.specs.declared.damage.What.TheVariants.{Digest, Form}
-use Rattle.liq_journal.specs.Layout.{Layout, layout_on, layout_with, header_size, least_header, name_on, generation_on, size_on}
-use Rattle.liq_journal.specs.Layout.{own_on, stored_on, checkpoint_on, start_on, digest_on}
+use Rattle.liq_header.specs.Header.{is_absent, place_tests}
+pub use Rattle.liq_header.specs.Header.{is_generation, is_odd, is_size}
+use Rattle.liq_header.specs.Layout.{Layout, layout_on, layout_with, header_size, generation_on, stored_on, checkpoint_on, start_on, digest_on}
+use Rattle.liq_header.specs.RecordDigest.{record_digest}
 use Rattle.liq_journal.specs.Records.{records}
-
-unfoldable pub record_digest : ℕ → ℕ → List ℕ → List ℕ
-record_digest generation index body = sha256 (big_bytes 8 generation ++ big_bytes 8 index ++ body)
-
--- the parity of a generation
-abbrev pub is_odd : ℕ → Bool
-is_odd n = (n % 2) == 1
-
--- The generations that a disk may have, from 1 on: the odd ones, or the even ones.
-abbrev pub is_generation : Bool → ℕ → Bool
-is_generation odd generation = nat_le 1 generation && (if odd then is_odd generation else not (is_odd generation))
-
--- The first generation begins with the opening state and has no checkpoint, every other has one.
-abbrev pub is_size : ℕ → ℕ → Bool
-is_size generation size = if generation == 1 then size == 0 else nat_lt 0 size && nat_lt size 68719476737
 
 -- the first fault of those whose test holds
 abbrev pub first_fault : List (Bool × What) → Option What
 first_fault [] = None
 first_fault (test ∷ tests) = if test.0 then Some test.1 else first_fault tests
-
--- what the fields of an open disk's header have to be, in the order of their places
-abbrev pub place_tests : Layout → Bool → List ℕ → List (Bool × ℕ)
-place_tests layout odd bytes =
-    (not (bytes_eq (name_on bytes) layout.name), 1)
-    ∷ (not (is_generation odd (generation_on bytes)), 9)
-    ∷ (not (is_size (generation_on bytes) (size_on bytes)), 17)
-    ∷ (not (bytes_eq (own_on layout bytes) layout.own), 25)
-    ∷ []
 
 -- these tests and then others: the field at the place has a wrong form
 abbrev pub forms_then : List (Bool × ℕ) → List (Bool × What) → List (Bool × What)
@@ -63,10 +39,6 @@ last_tests layout bytes =
 -- what an open disk's header has to be
 abbrev pub header_tests : Layout → Bool → List ℕ → List (Bool × What)
 header_tests layout odd bytes = forms_then (place_tests layout odd bytes) (last_tests layout bytes)
-
--- fewer bytes than a header's, or a gate that isn't open
-abbrev pub is_absent : List ℕ → Bool
-is_absent bytes = nat_lt (length bytes) least_header || not (get_or bytes 0 0 == 1)
 
 abbrev pub is_rotate : Call → Bool
 is_rotate Rotate = true

@@ -3,7 +3,7 @@ ghost use Rattle.std.specs.Prelude.{◌≡◌, ◌≤◌, [], length, take, IfOk
 ghost use Rattle.liq_outside.specs.Faults.{HasCause};
 ghost use Rattle.liq_journal.specs.Looked.{IsRead, Looked};
 ghost use Rattle.liq_journal.specs.Parts.{IsPartOf, bytes_from};
-ghost use Rattle.liq_journal.specs.Layout.{piece};
+ghost use Rattle.liq_header.specs.Layout.{piece};
 
 use crate::journal::RECORD;
 use crate::reads::read_at;

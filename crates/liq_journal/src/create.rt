@@ -2,14 +2,13 @@
 ghost use Rattle.std.specs.Prelude.{◌≡◌, ◌≤◌, ◌+◌, ◌^◌, ◌↔◌, Some, true, List, ℕ, length, option_map, OnOk, IfSome, IsSome};
 ghost use Rattle.liq_outside.specs.Disk.{GoesOn, LeavesOnly, LeftNow, Only, overwritten};
 ghost use Rattle.liq_outside.specs.Faults.{HasCause};
-ghost use Rattle.liq_journal.specs.Crash.{CrashOfCreate, ReadsOfCreate, IsShut, Stands, beginning, filled, is_odd};
-ghost use Rattle.liq_journal.specs.Layout.{version_2};
-ghost use Rattle.liq_journal.specs.Written.{is_size};
+ghost use Rattle.liq_journal.specs.Crash.{CrashOfCreate, ReadsOfCreate, IsShut, Stands, beginning, filled};
+ghost use Rattle.liq_header.specs.Header.{is_odd, is_size};
+ghost use Rattle.liq_header.specs.Layout.{version_2};
 
 use crate::bytes::write_synced;
-use crate::digests::header_bytes;
 use crate::gate::settle;
-use crate::header::HEADER;
+use liq_header::{HEADER, header_bytes};
 use liq_outside::{Disk, Failed};
 
 // Writes bytes behind the shut gate, unless there are none. No device call is made for none.

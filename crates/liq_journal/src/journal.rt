@@ -8,22 +8,22 @@ ghost use Rattle.liq_outside.specs.Disk.{GoesOn, LeavesOnly, LeftNow, Only};
 ghost use Rattle.liq_outside.specs.Faults.{HasCause};
 ghost use Rattle.liq_journal.specs.Bodies.{IsAccepted, IsBodyFault, IsJournalOf, IsRecorded, body_at};
 ghost use Rattle.liq_journal.specs.Causes.{CauseOfOpen, Counted, CountsLook};
-ghost use Rattle.liq_journal.specs.Crash.{BeforeOrAfter, CrashOfCreate, IsBodyOf, ReadsOfCreate, Stands, beginning, is_odd};
+ghost use Rattle.liq_journal.specs.Crash.{BeforeOrAfter, CrashOfCreate, IsBodyOf, ReadsOfCreate, Stands, beginning};
+ghost use Rattle.liq_header.specs.Header.{is_odd, is_generation, is_size};
 ghost use Rattle.liq_journal.specs.Looked.{Looked};
 ghost use Rattle.liq_journal.specs.Opened.{CrashOfOpen, IsAtRest, IsKept, IsOpened, IsUnshut, IsWhyOf, ReadsOfOpen};
 ghost use Rattle.liq_journal.specs.Parts.{IsPartOf};
 ghost use Rattle.liq_journal.specs.Settled.{IsSettled};
-ghost use Rattle.liq_journal.specs.Written.{Open, Written, and_then, found_on, is_generation, is_size, start_of};
+ghost use Rattle.liq_journal.specs.Written.{Open, Written, and_then, found_on, start_of};
 
 use crate::answers::{CreateFault, DiskFault, LookFault, OpenFault, OpenWhy};
 use crate::block::Block;
 use crate::bytes::write_gated;
 use crate::create::make;
-use crate::digests::record_bytes;
-use crate::header::HEADER;
 use crate::open::open_on;
 use crate::records::{read_body, read_command};
 use crate::scanned::Scanned;
+use liq_header::{HEADER, record_bytes};
 use liq_outside::Disk;
 use liq_types::Command;
 use liq_types::amounts::LIM;
@@ -48,7 +48,7 @@ pub struct Journal<D> {
 impl<D> Model for Journal<D> {
     ghost use Rattle.std.specs.Prelude.{◌≤◌};
     ghost use Rattle.liq_journal.specs.Opened.{CrashOfOpen, IsAtRest, IsKept, IsOpened, IsUnshut, IsWhyOf, ReadsOfOpen};
-    ghost use Rattle.liq_journal.specs.Layout.{StartsWithin};
+    ghost use Rattle.liq_header.specs.Layout.{StartsWithin};
     ghost use Rattle.liq_journal.specs.Settled.{JournalOn};
 
     ghost Value = { JournalOn D };

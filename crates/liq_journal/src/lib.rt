@@ -1,6 +1,6 @@
 //! A journal on one disk: a header, a checkpoint, and records of 96 bytes, each behind a gate byte and
 //! before its digest. A crash at any moment leaves the records before a call or with its new one.
-//! Headers of both versions are read, and version 2 alone is written.
+//! Headers of both versions are read, and version 2 alone is written: `liq_header` has both.
 #![tactic(auto)]
 
 mod answers;
@@ -8,9 +8,7 @@ mod block;
 mod bytes;
 mod create;
 mod damage;
-mod digests;
 mod gate;
-mod head;
 mod header;
 mod journal;
 mod looking;
@@ -22,8 +20,8 @@ mod scanned;
 pub use answers::{CreateFault, DiskFault, Look, LookFault, OpenFault, OpenWhy};
 pub use block::Block;
 pub use damage::{Damage, What};
-pub use header::header_size;
 pub use journal::Journal;
+pub use liq_header::header_size;
 pub use looking::look;
 
 pub mod laws;

@@ -4,12 +4,13 @@ ghost use Rattle.liq_outside.specs.Faults.{HasCause};
 ghost use Rattle.liq_journal.specs.Causes.{CountsLook};
 ghost use Rattle.liq_journal.specs.Look.{look_on};
 ghost use Rattle.liq_journal.specs.Looked.{Looked};
-ghost use Rattle.liq_journal.specs.Layout.{header_digest, piece};
+ghost use Rattle.liq_header.specs.Layout.{header_digest, piece};
 
 use crate::answers::{Look, LookFault};
 use crate::damage::{Damage, What};
-use crate::header::{fields_size, header_size, read_header};
+use crate::header::read_header;
 use crate::reads::read_at;
+use liq_header::{fields_size, header_size};
 use liq_outside::{Disk, Failed};
 use sha2::{Digest, Sha256};
 

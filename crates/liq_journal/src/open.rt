@@ -8,19 +8,20 @@ ghost use Rattle.liq_journal.specs.Causes.{CountsOpen};
 ghost use Rattle.liq_journal.specs.declared.damage.Damage.{Damage};
 ghost use Rattle.liq_journal.specs.Looked.{Looked};
 ghost use Rattle.liq_journal.specs.Opened.{AbsentLeaves, IsAtRest, IsKept, IsScanOf, IsUnshut, IsWhyOf, OpenLeaves, why_of};
-ghost use Rattle.liq_journal.specs.Layout.{StartsWithin, piece};
-ghost use Rattle.liq_journal.specs.Written.{Open, Written, found_on, is_generation};
+ghost use Rattle.liq_header.specs.Layout.{StartsWithin, piece};
+ghost use Rattle.liq_journal.specs.Written.{Open, Written, found_on};
+ghost use Rattle.liq_header.specs.Header.{is_generation};
 
 use crate::answers::{LookFault, OpenWhy};
 use crate::bytes::write_synced;
 use crate::damage::{Damage, What};
-use crate::digests::header_digest;
 use crate::gate::settle;
-use crate::header::{fields_size, header_size, read_header};
+use crate::header::read_header;
 use crate::journal::RECORD;
 use crate::reads::read_at;
 use crate::records::count_records;
 use crate::scanned::Scanned;
+use liq_header::{fields_size, header_digest, header_size};
 use liq_outside::{Disk, Failed};
 use std::alloc::Global;
 

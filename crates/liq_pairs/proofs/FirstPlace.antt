@@ -6,7 +6,7 @@ use Rattle.liq_types.specs.State.{State}
 use Rattle.liq_outside.specs.Disk.{overwritten}
 use Rattle.liq_journal.specs.Crash.{IsClosed, HasGate, SettleLeaves, Stands}
 use Rattle.liq_journal.specs.Opened.{IsUnshut, OpenLeaves}
-use Rattle.liq_journal.specs.Layout.{least_header}
+use Rattle.liq_header.specs.Layout.{least_header}
 use Rattle.liq_journal.specs.Written.{Absent, Open, Written, end_of, found_on, is_generation, opened}
 use Rattle.liq_journal.proofs.Heading.{absent_found, has_generation, is_open}
 use Rattle.liq_pairs.specs.Kept.{HoldsRotation, IsFirst, IsOlder}

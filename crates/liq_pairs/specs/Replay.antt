@@ -10,7 +10,7 @@ use Rattle.liq_rules.specs.Step.{Ruling, Refused, Repeated, Allowed, ruling, aft
 use Rattle.liq_checkpoint.specs.Reading.{image_at}
 use Rattle.liq_journal.specs.declared.damage.Damage.{Damage}
 use Rattle.liq_journal.specs.declared.damage.What.TheVariants as what
-use Rattle.liq_journal.specs.Layout.{header_size, layout_with}
+use Rattle.liq_header.specs.Layout.{header_size, layout_with}
 use Rattle.liq_journal.specs.Written.{Written}
 
 -- ---- where it begins

@@ -2,7 +2,7 @@
 ghost use Rattle.std.specs.Prelude.{◌≡◌, ◌≢◌, ◌+◌, ◌<◌, ◌^◌, ◌==◌, ◌&&◌, Ok, Err, IfOk};
 ghost use Rattle.liq_types.specs.Image.{IsLimit};
 ghost use Rattle.liq_types.specs.Soundness.{HasTables};
-ghost use Rattle.liq_journal.specs.Layout.{header_size, layout_with};
+ghost use Rattle.liq_header.specs.Layout.{header_size, layout_with};
 ghost use Rattle.liq_journal.specs.Written.{Written};
 ghost use Rattle.liq_pairs.specs.Replay.{base_of, read_base};
 ghost use Rattle.liq_store.specs.Replays.{BeginsTo};

@@ -140,6 +140,14 @@ fn damage_is_told(rt: HostRuntime) {
     }
 }
 
+// The journal of version 2 with the first record and these bytes behind it, which are a second one.
+fn behind_the_first(second: &[u8; 130]) -> [u8; 324] {
+    let mut bytes = [0; 324];
+    bytes[..194].copy_from_slice(&SECOND[..194]);
+    bytes[194..].copy_from_slice(second);
+    bytes
+}
+
 // What is seen of a journal with a record that is whole and whose command is not accepted.
 fn unaccepted(bytes: &[u8], records: u64, limit: u64) -> Seen {
     Seen {
@@ -153,8 +161,10 @@ fn unaccepted(bytes: &[u8], records: u64, limit: u64) -> Seen {
 #[test]
 fn commands_that_are_not_accepted_are_damage(rt: HostRuntime) {
     let alloc = rt.alloc();
-    is_seen(&rt, alloc, &REPEATED, unaccepted(&REPEATED, 1, LIM));
-    is_seen(&rt, alloc, &REFUSED, unaccepted(&REFUSED, 1, LIM));
+    let repeated = behind_the_first(&REPEATED);
+    is_seen(&rt, alloc, &repeated, unaccepted(&repeated, 1, LIM));
+    let refused = behind_the_first(&REFUSED);
+    is_seen(&rt, alloc, &refused, unaccepted(&refused, 1, LIM));
     is_seen(&rt, alloc, &ROTATING, unaccepted(&ROTATING, 0, LIM));
     is_seen(&rt, alloc, &ABOVE, unaccepted(&ABOVE, 0, LIM_OF_VERSION_1));
     let later = Seen {
@@ -236,7 +246,7 @@ fn an_empty_piece_takes_nothing(rt: HostRuntime) {
         "inside a record"
     );
     let mut ended = Follower::new(rt.alloc());
-    let _ = feed(&mut ended, &REFUSED);
+    let _ = feed(&mut ended, &behind_the_first(&REFUSED));
     assert!(&rt; ended.feed(&[]) == nothing(damaged(2)), "behind damage");
     assert!(&rt; ended.feed(&SECOND) == nothing(damaged(2)), "and again");
     assert!(&rt;

@@ -1,7 +1,7 @@
 use Rattle.std.proofs.Common.{◌≡◌, ◌∙◌, List, ℕ, ◌∷◌, [], Some, option_map, rules}
 use Rattle.liq_outside.specs.Disk.{overwritten}
 use Rattle.liq_journal.specs.Crash.{Stands, beginning}
-use Rattle.liq_journal.specs.Crash.{is_odd}
+use Rattle.liq_header.specs.Header.{is_odd}
 use Rattle.liq_journal.proofs.Creating.{some_is, gate_shut, only_shut, after_shut, after_fill, after_open, made, reads_then}
 use Rattle.liq_journal.proofs.Parity.{of_its_parity}
 use Rattle.liq_outside.proofs.Moments.{joined}

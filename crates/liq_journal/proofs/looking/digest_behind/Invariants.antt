@@ -1,7 +1,7 @@
 use Rattle.std.proofs.Common.{◌≡◌, ◌+◌, ◌-◌, ◌≤◌, ◌++◌, IfSome, length}
 use Rattle.sha2.specs.Hashers.{Holds256}
 use Rattle.liq_journal.specs.Looked.{Looked}
-use Rattle.liq_journal.specs.Layout.{piece}
+use Rattle.liq_header.specs.Layout.{piece}
 use Rattle.liq_journal.proofs.looking.digest_behind.Given as goal
 
 abbrev pub invariant-loop-done : goal.invariant-loop-done

@@ -1,5 +1,5 @@
 use Rattle.std.proofs.Common.{◌∙◌, Option, IfSome, sym, subst}
-use Rattle.liq_journal.specs.declared.head.Head.{Head}
+use Rattle.liq_header.specs.declared.head.Head.{Head}
 use Rattle.liq_journal.specs.Header.{MaybeHeadOf}
 use Rattle.liq_journal.proofs.Looks.{looked_on}
 use Rattle.liq_journal.proofs.Scanning.{told_digest_at, told_look_damaged, told_look_open}

@@ -1,10 +1,10 @@
 use Rattle.std.proofs.Common.{◌∙◌, ◌+◌, List, ℕ, take, Option, IfSome, refl, sym, subst, ap}
-use Rattle.liq_journal.specs.declared.head.Head.{Head}
+use Rattle.liq_header.specs.declared.head.Head.{Head}
 use Rattle.liq_journal.specs.declared.answers.OpenWhy.{OpenWhy}
 use Rattle.liq_journal.specs.Header.{MaybeHeadOf}
 use Rattle.liq_journal.specs.Counted.{AreRecords, IsFaultIn}
 use Rattle.liq_journal.specs.Opened.{IsWhyOf}
-use Rattle.liq_journal.specs.Layout.{header_digest}
+use Rattle.liq_header.specs.Layout.{header_digest}
 use Rattle.liq_journal.proofs.Looks.{looked_on}
 use Rattle.liq_journal.proofs.Scanning.{IsReadBehind, told_absent_header, told_digest, told_header_fault, told_scan, told_record_fault}
 use Rattle.liq_journal.proofs.open.scan.Goals as goal

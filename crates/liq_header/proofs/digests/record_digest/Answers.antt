@@ -1,8 +1,8 @@
 use Rattle.std.proofs.Common.{◌≡◌, ◌++◌, ◌∙◌, [], List, ℕ, ap}
 use Rattle.byteorder.specs.Endian.{big_bytes}
 use Rattle.sha2.specs.Sha256.{sha256}
-use Rattle.liq_journal.proofs.Appending.{record_digest_is}
-use Rattle.liq_journal.proofs.digests.record_digest.Goals as goal
+use Rattle.liq_header.proofs.Hashed.{record_digest_is}
+use Rattle.liq_header.proofs.digests.record_digest.Goals as goal
 
 pub returns : goal.returns
 returns c =

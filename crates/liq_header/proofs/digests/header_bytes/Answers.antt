@@ -1,7 +1,7 @@
 use Rattle.std.proofs.Common.{◌≡◌, ◌∙◌, ap, List, ℕ, ◌+◌, ◌++◌, length, take, drop, rules}
-use Rattle.liq_journal.specs.Layout.{fields_of, header_digest, version_2}
-use Rattle.liq_journal.proofs.Creating.{header_is}
-use Rattle.liq_journal.proofs.digests.header_bytes.Goals as goal
+use Rattle.liq_header.specs.Layout.{fields_of, header_digest, version_2}
+use Rattle.liq_header.proofs.Hashed.{header_is}
+use Rattle.liq_header.proofs.digests.header_bytes.Goals as goal
 
 pub returns : goal.returns
 returns c =

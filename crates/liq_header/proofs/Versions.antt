@@ -2,7 +2,7 @@
 use Rattle.std.proofs.Common.{◌≡◌, ℕ, List, Bool, true, false, if◌then◌else◌, inl, inr, refl, sym, subst, arith}
 use Rattle.std.specs.Str.{bytes_eq}
 use Rattle.liq_types.specs.Image.{IsLimit}
-use Rattle.liq_journal.specs.Layout.{IsVersion, version_1, version_2, layout_on, layout_with, name_on}
+use Rattle.liq_header.specs.Layout.{IsVersion, version_1, version_2, layout_on, layout_with, name_on}
 
 pub is_version_1 : IsVersion version_1
 is_version_1 = record { named = refl; fields = omega arith; whole = omega arith; limit = inl refl; by_name = refl; by_limit = refl }

@@ -1,8 +1,8 @@
 // The digests of a journal, and the bytes of a record.
 ghost use Rattle.std.specs.Prelude.{◌≡◌, ◌≤◌, ◌+◌, ◌++◌, ◌∷◌, [], length, take, drop};
 ghost use Rattle.byteorder.specs.Endian.{big_bytes};
-ghost use Rattle.liq_journal.specs.Layout.{fields_of, header_digest, header_of, version_2};
-ghost use Rattle.liq_journal.specs.Written.{record_digest};
+ghost use Rattle.liq_header.specs.Layout.{fields_of, header_digest, header_of, version_2};
+ghost use Rattle.liq_header.specs.RecordDigest.{record_digest};
 
 use byteorder::{BigEndian, ByteOrder};
 use liq_types::amounts::LIM;

@@ -1,6 +1,6 @@
 use Rattle.std.proofs.Common.{◌∙◌, ap, List, ℕ, ◌+◌, ◌++◌, ◌∷◌, [], length, take, drop, rules}
-use Rattle.liq_journal.proofs.Appending.{record_is}
-use Rattle.liq_journal.proofs.digests.record_bytes.Goals as goal
+use Rattle.liq_header.proofs.Hashed.{record_is}
+use Rattle.liq_header.proofs.digests.record_bytes.Goals as goal
 
 pub returns : goal.returns
 returns c =

@@ -1,7 +1,7 @@
 use Rattle.std.proofs.Common.{◌≡◌, ◌++◌, ◌∙◌, []}
 use Rattle.sha2.specs.Sha256.{sha256}
-use Rattle.liq_journal.proofs.Looks.{header_digest_is}
-use Rattle.liq_journal.proofs.digests.header_digest.Goals as goal
+use Rattle.liq_header.proofs.Hashed.{header_digest_is}
+use Rattle.liq_header.proofs.digests.header_digest.Goals as goal
 
 pub returns : goal.returns
 returns c =

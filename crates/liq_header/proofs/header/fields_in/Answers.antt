@@ -1,7 +1,7 @@
 use Rattle.std.proofs.Common.{◌≡◌, ◌∙◌, ◌+◌, ◌-◌, ℕ, take, drop, ap, refl, arith}
-use Rattle.liq_journal.specs.Layout.{piece}
-use Rattle.liq_journal.proofs.HeaderFound.{fields_of_version}
-use Rattle.liq_journal.proofs.header.fields_in.Goals as goal
+use Rattle.liq_header.specs.Layout.{piece}
+use Rattle.liq_header.proofs.Fields.{fields_of_version}
+use Rattle.liq_header.proofs.header.fields_in.Goals as goal
 
 pub returns : goal.returns
 returns c =
@@ -10,4 +10,4 @@ returns c =
     let digest = 1 + c.fields_size-digest.result in
     let count : digest + 32 - digest ≡ 32 = omega arith in
     let stored : c.copy_from_slice-2.new.self ≡ piece digest 32 bytes = c.copy_from_slice-2.ensures.after ∙ ap (λ (n : ℕ). take n (drop digest bytes)) count in
-    fields_of_version c.args.limit c.requires _ bytes refl c.u64_at.ensures c.u64_at-2.ensures fields (stored ∙ ap (λ (n : ℕ). piece (1 + n) 32 bytes) c.fields_size-digest.ensures)
+    fields_of_version c.args.limit c.requires.limit _ bytes refl c.u64_at.ensures c.u64_at-2.ensures fields (stored ∙ ap (λ (n : ℕ). piece (1 + n) 32 bytes) c.fields_size-digest.ensures)
