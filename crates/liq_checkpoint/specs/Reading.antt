@@ -3,7 +3,7 @@
 -- `end` is how many bytes there are in all, and `at` are those that are still to be read.
 use Rattle.std.specs.Prelude.{◌≡◌, ℕ, zero, suc, ◌-◌, List, [], ◌∷◌, length, take, drop, get_or}
 use Rattle.std.specs.Prelude.{Option, Some, None, Result, Ok, Err, if◌then◌else◌}
-use Rattle.std.specs.Prelude.{Bool, true, not, ◌==◌, ◌&&◌, nat_lt, nat_le}
+use Rattle.std.specs.Prelude.{Bool, not, ◌==◌, ◌&&◌, nat_lt, nat_le}
 use Rattle.std.specs.Str.{bytes_eq}
 use Rattle.byteorder.specs.Endian.{big_number}
 use Rattle.liq_types.specs.declared.amounts.TheConstants.{LIM, LIM_OF_VERSION_1}
@@ -14,7 +14,7 @@ use Rattle.liq_types.specs.declared.figures.Deposit.{Deposit}
 use Rattle.liq_types.specs.declared.image.Image.{Image}
 use Rattle.liq_types.specs.Image.{opening_image_with}
 use Rattle.liq_types.specs.Tables.{Place}
-use Rattle.liq_types.specs.Soundness.{is_before}
+pub use Rattle.liq_layout.specs.Keys.{follows, epoch_follows, place_follows}
 use Rattle.liq_checkpoint.specs.declared.image_bytes.ImageBytes.{ImageBytes}
 use Rattle.liq_checkpoint.specs.declared.image_bytes.ImageBytes.TheVariants.{Bad, NoMemory}
 use Rattle.liq_checkpoint.specs.Spelling.{name}
@@ -59,11 +59,6 @@ some_at end count at = do
 
 -- ---- rows
 
--- a key is above the one before it
-abbrev pub follows : Option ℕ → ℕ → Bool
-follows None key = true
-follows (Some last) key = nat_lt last key
-
 -- the key of a row: an account or a client
 unfoldable pub key_at : ℕ → Option ℕ → List ℕ → Result (ℕ × List ℕ) ℕ
 key_at end last at = do
@@ -104,15 +99,6 @@ surplus_at end last at = do
   account ← key_at end last at
   coll ← some_at end 8 account.1
   Ok ((account.0, coll.0), coll.1)
-
--- a place comes behind the one before it; its epoch is told where that is below the last one already
-abbrev pub epoch_follows : Option Place → ℕ → Bool
-epoch_follows None epoch = true
-epoch_follows (Some last) epoch = nat_le last.0 epoch
-
-abbrev pub place_follows : Option Place → Place → Bool
-place_follows None place = true
-place_follows (Some last) place = is_before last place
 
 unfoldable pub finished_at : ℕ → Option Place → List ℕ → Result ((Place × ℕ) × List ℕ) ℕ
 finished_at end last at = do

@@ -1,8 +1,7 @@
 -- How an image is spelled: a name, and then its numbers one after the other, each with its high byte first.
-use Rattle.std.specs.Prelude.{◌≡◌, ℕ, ◌<◌, ◌^◌, ◌==◌, List, [], ◌∷◌, ◌++◌, length, map, if◌then◌else◌}
+use Rattle.std.specs.Prelude.{◌≡◌, ℕ, ◌<◌, ◌^◌, List, [], ◌∷◌, ◌++◌, length, map}
 use Rattle.std.specs.List.{flat_map, AllByRecursion}
 use Rattle.byteorder.specs.Endian.{big_bytes}
-use Rattle.liq_types.specs.declared.amounts.TheConstants.{LIM}
 use Rattle.liq_types.specs.declared.figures.Wallet.{Wallet}
 use Rattle.liq_types.specs.declared.figures.Client.{Client}
 use Rattle.liq_types.specs.declared.figures.Trove.{Trove}
@@ -11,6 +10,7 @@ use Rattle.liq_types.specs.declared.image.Image.{Image}
 use Rattle.liq_types.specs.Image.{IsLimit}
 use Rattle.liq_types.specs.Tables.{Place}
 use Rattle.liq_types.specs.Soundness.{HasTables}
+pub use Rattle.liq_layout.specs.Names.{name}
 
 -- ---- fields
 
@@ -70,14 +70,6 @@ abbrev pub table : {R : Type 0} → (R → List Field) → List R → List Field
 table row rows = (8, length rows) ∷ flat_map row rows
 
 -- ---- an image
-
--- the digit of the version: 2 for an image under the limit LIM, 1 for one under the limit of version 1
-abbrev pub digit : ℕ → ℕ
-digit limit = if limit == LIM then 50 else 49
-
--- LIQSTAT and the digit
-abbrev pub name : ℕ → List ℕ
-name limit = 76 ∷ 73 ∷ 81 ∷ 83 ∷ 84 ∷ 65 ∷ 84 ∷ digit limit ∷ []
 
 abbrev pub words : Image → List Field
 words i =

@@ -11,7 +11,8 @@ use crate::numbers_out::{put_numbers, put_u128};
 use crate::tables_out::{
     put_clients, put_deposits, put_sums, put_surpluses, put_troves, put_wallets,
 };
-use liq_types::amounts::{CHECKPOINT_BYTES_MOST, LIM};
+use liq_layout::name;
+use liq_types::amounts::CHECKPOINT_BYTES_MOST;
 use liq_types::{Image, NoMemory, RowCounts};
 use std::alloc::{AllocError, Global};
 
@@ -38,17 +39,6 @@ fn written(alloc: Global, image: &Image) -> Result<Vec<u8>, NoMemory>
     put_words(&mut out, image)?;
     put_tables(&mut out, image)?;
     Ok(out)
-}
-
-// The name of a checkpoint of an image under this limit.
-fn name(limit: u64) -> [u8; 8]
-    ensures { result ≡ name limit }
-{
-    if limit == LIM {
-        *b"LIQSTAT2"
-    } else {
-        *b"LIQSTAT1"
-    }
 }
 
 // How many rows its tables have.

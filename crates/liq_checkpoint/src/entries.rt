@@ -2,20 +2,12 @@
 
 ghost use Rattle.std.specs.Prelude.{◌≡◌, ◌==◌, length};
 ghost use Rattle.liq_types.specs.ImageRows.{wallet_row, trove_row, surplus_row, finished_row, deposit_row, client_row};
-ghost use Rattle.liq_checkpoint.specs.Reading.{Gives, follows, epoch_follows, place_follows, key_at, some_at, wallet_at, trove_at, surplus_at, finished_at, deposit_at, client_at};
+ghost use Rattle.liq_checkpoint.specs.Reading.{Gives, key_at, some_at, wallet_at, trove_at, surplus_at, finished_at, deposit_at, client_at};
 
 use crate::image_bytes::ImageBytes;
 use crate::numbers::{bad, numbers_at, u8_at, u32_at, u64_at, u128_at};
+use liq_layout::{epoch_follows, follows, place_follows};
 use liq_types::{ClientRow, DepositRow, FinishedSum, SurplusRow, TroveRow, WalletRow};
-
-fn follows(last: Option<u32>, key: u32) -> bool
-    ensures { result ≡ follows last key }
-{
-    match last {
-        None => true,
-        Some(last) => last < key,
-    }
-}
 
 #[tactic(auto, unfolding(crate::specs::Reading::key_at))]
 fn key_at(end: u64, last: Option<u32>, at: &[u8]) -> Result<(u32, &[u8]), ImageBytes>
@@ -85,24 +77,6 @@ pub fn surplus_at(end: u64, last: Option<u32>, at: &[u8]) -> Result<(SurplusRow,
     let (account, at) = key_at(end, last, at)?;
     let (coll, at) = some_at(end, at)?;
     Ok((SurplusRow { account, coll }, at))
-}
-
-fn epoch_follows(last: Option<(u64, u64)>, epoch: u64) -> bool
-    ensures { result ≡ epoch_follows last epoch }
-{
-    match last {
-        None => true,
-        Some(last) => last.0 <= epoch,
-    }
-}
-
-fn place_follows(last: Option<(u64, u64)>, place: (u64, u64)) -> bool
-    ensures { result ≡ place_follows last place }
-{
-    match last {
-        None => true,
-        Some(last) => last.0 < place.0 || last.0 == place.0 && last.1 < place.1,
-    }
 }
 
 #[tactic(auto, unfolding(crate::specs::Reading::finished_at, crate::specs::Reading::some_at))]

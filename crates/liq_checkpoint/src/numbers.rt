@@ -6,6 +6,7 @@ ghost use Rattle.liq_checkpoint.specs.Reading.{Gives, limit_at, number_at, numbe
 
 use crate::image_bytes::ImageBytes;
 use byteorder::{BigEndian, ByteOrder};
+use liq_layout::place_of;
 use liq_types::amounts::{LIM, LIM_OF_VERSION_1};
 
 // What begins here fits no checkpoint.
@@ -13,7 +14,7 @@ pub fn bad(end: u64, at: &[u8]) -> ImageBytes
     ensures { result ≡ Bad (end - length at.now) }
 {
     ImageBytes::Bad {
-        place: end.saturating_sub(at.len() as u64),
+        place: place_of(end, at),
     }
 }
 

@@ -3,10 +3,11 @@
 ghost use Rattle.std.specs.Prelude.{◌≡◌};
 ghost use Rattle.liq_types.specs.Soundness.{first_failing, first_unsound};
 
-use crate::{
-    has_accounts, has_coll_at_home, has_lusd_at_home, has_ranges, has_sound_clients,
-    has_sound_deposits, has_sound_troves, has_sound_words, has_surplus_at_home,
-    has_troves_added_up, is_backed,
+use crate::backing::is_backed;
+use crate::ranges::has_ranges;
+use liq_rows::{
+    has_accounts, has_coll_at_home, has_lusd_at_home, has_sound_clients, has_sound_deposits,
+    has_sound_troves, has_sound_words, has_surplus_at_home, has_troves_added_up,
 };
 use liq_types::Image;
 

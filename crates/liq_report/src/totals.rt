@@ -75,18 +75,8 @@ fn totals_in(reply: &Reply) -> Totals
 fn named(words: [u64; 10]) -> Totals
     ensures { (s : State) → words ≡ system s → result ≡ totals_of s }
 {
-    let [
-        price,
-        minute,
-        base,
-        fee_minute,
-        mode,
-        troves,
-        stakes,
-        coll,
-        debt,
-        records,
-    ] = words;
+    let [price, minute, base, fee_minute, mode, ..] = words;
+    let [.., troves, stakes, coll, debt, records] = words;
     Totals {
         price,
         minute,
