@@ -1,5 +1,5 @@
 -- A line of a staker and its words.
-use Rattle.std.proofs.Common.{◌≡◌, ◌≢◌, ℕ, ◌^◌, ◌<◌, inl, inr, Bool, true, false, cond, List, [], ◌∷◌, length, Some, None, refl, ap, subst, ◌∙◌, arith}
+use Rattle.std.proofs.Common.{◌≡◌, ℕ, ◌^◌, ◌<◌, inl, inr, Bool, true, false, cond, List, [], ◌∷◌, Some, None, refl, ap, subst, ◌∙◌, arith}
 use Rattle.std.specs.Prelude.{decimal, codes}
 use Rattle.std.specs.List.{join_with_byte, AllByRecursion}
 use Rattle.std.specs.Str.{bytes_eq}
@@ -7,7 +7,7 @@ use Rattle.std.proofs.lemmas.Option.{same_Some, cond_some}
 use Rattle.std.proofs.lemmas.Slice.Eq.{bytes_eq-Decides}
 use Rattle.liq_text.specs.Reading.{◌>>=◌, pieces_of, number_of, account_of}
 use Rattle.liq_text.proofs.PieceLaws.{same_four}
-use Rattle.liq_text.proofs.ReadingLaws.{none_from, number_of-decimal, number_of-some}
+use Rattle.liq_text.proofs.ReadingLaws.{number_of-decimal, number_of-some}
 use Rattle.liq_text.proofs.SpellingLaws.{bind_some, either_some, account_takes, account_again, IsPlain, decimal_plain}
 use Rattle.liq_text.proofs.LineLaws.{pieces_of-join, join-pieces_of}
 use Rattle.liq_fees.specs.Lines.{verb_of, words_of, Spells}
@@ -47,7 +47,7 @@ takes at account verb amount l e =
     subst (λ (l : StakeLine). (l.at < 2 ^ 64) × (l.account < 2 ^ 32) × (l.amount < 2 ^ 64) × ((at ∷ account ∷ verb ∷ amount ∷ []) ≡ words_of l)) is
     (at_is.0, account_is.0, amount_is.0, same_four at_is.1 account_is.1 (out_takes verb o.0 o.1) amount_is.1)
 
-line_takes : (words : List (List ℕ)) (l : StakeLine) → line_of words ≡ Some l → (l.at < 2 ^ 64) × (l.account < 2 ^ 32) × (l.amount < 2 ^ 64) × (words ≡ words_of l)
+pub line_takes : (words : List (List ℕ)) (l : StakeLine) → line_of words ≡ Some l → (l.at < 2 ^ 64) × (l.account < 2 ^ 32) × (l.amount < 2 ^ 64) × (words ≡ words_of l)
 unfolding line_of
 line_takes [] l e = absurd cc
 line_takes (at ∷ []) l e = absurd cc
@@ -60,10 +60,6 @@ line_again : (l : StakeLine) → l.at < 2 ^ 64 → l.account < 2 ^ 32 → l.amou
 unfolding line_of line_by
 line_again l at account amount =
     rw (number_of-decimal (decimal l.at) l.at at refl, account_again (decimal l.account) l.account account refl, out_again (verb_of l.out) l.out refl, number_of-decimal (decimal l.amount) l.amount amount refl) refl
-
--- where there are fewer words or more
-pub not_four : (words : List (List ℕ)) → length words ≢ 4 → None ≡ line_of words
-not_four words other = none_from (line_of words) (λ l e. other (ap length (line_takes words l e).3))
 
 -- ---- the line
 

@@ -1,5 +1,5 @@
 -- A line that names a front end and its words.
-use Rattle.std.proofs.Common.{◌≡◌, ◌≢◌, ℕ, ◌^◌, ◌<◌, List, [], ◌∷◌, length, Some, None, refl, ap, subst, ◌∙◌, arith}
+use Rattle.std.proofs.Common.{◌≡◌, ℕ, ◌^◌, ◌<◌, List, [], ◌∷◌, Some, refl, ap, subst, ◌∙◌, arith}
 use Rattle.std.specs.Prelude.{decimal, codes}
 use Rattle.std.specs.List.{join_with_byte, AllByRecursion}
 use Rattle.std.specs.Str.{bytes_eq}
@@ -7,7 +7,7 @@ use Rattle.std.proofs.lemmas.Option.{same_Some, cond_some}
 use Rattle.std.proofs.lemmas.Slice.Eq.{bytes_eq-Decides}
 use Rattle.liq_text.specs.Reading.{◌>>=◌, pieces_of, number_of, account_of}
 use Rattle.liq_text.proofs.PieceLaws.{same_four}
-use Rattle.liq_text.proofs.ReadingLaws.{none_from, number_of-decimal, number_of-some}
+use Rattle.liq_text.proofs.ReadingLaws.{number_of-decimal, number_of-some}
 use Rattle.liq_text.proofs.SpellingLaws.{bind_some, account_takes, account_again, IsPlain, decimal_plain}
 use Rattle.liq_text.proofs.LineLaws.{pieces_of-join, join-pieces_of}
 use Rattle.liq_rewards.specs.Lines.{words_of, Spells}
@@ -35,7 +35,7 @@ takes verb account front rate l e =
     subst (λ (l : TagLine). (l.account < 2 ^ 32) × (l.front < 2 ^ 32) × (l.rate < 2 ^ 64) × ((verb ∷ account ∷ front ∷ rate ∷ []) ≡ words_of l)) is
     (account_is.0, front_is.0, rate_is.0, same_four (tag_takes verb v.0 v.1) account_is.1 front_is.1 rate_is.1)
 
-line_takes : (words : List (List ℕ)) (l : TagLine) → line_of words ≡ Some l → (l.account < 2 ^ 32) × (l.front < 2 ^ 32) × (l.rate < 2 ^ 64) × (words ≡ words_of l)
+pub line_takes : (words : List (List ℕ)) (l : TagLine) → line_of words ≡ Some l → (l.account < 2 ^ 32) × (l.front < 2 ^ 32) × (l.rate < 2 ^ 64) × (words ≡ words_of l)
 unfolding line_of
 line_takes [] l e = absurd cc
 line_takes (verb ∷ []) l e = absurd cc
@@ -48,10 +48,6 @@ line_again : (l : TagLine) → l.account < 2 ^ 32 → l.front < 2 ^ 32 → l.rat
 unfolding line_of line_by tag_of
 line_again l account front rate =
     rw (account_again (decimal l.account) l.account account refl, account_again (decimal l.front) l.front front refl, number_of-decimal (decimal l.rate) l.rate rate refl) refl
-
--- where there are fewer words or more
-pub not_four : (words : List (List ℕ)) → length words ≢ 4 → None ≡ line_of words
-not_four words other = none_from (line_of words) (λ l e. other (ap length (line_takes words l e).3))
 
 -- ---- the line
 
