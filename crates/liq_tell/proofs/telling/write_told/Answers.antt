@@ -2,6 +2,7 @@ use Rattle.std.proofs.Common.{sym, subst}
 use Rattle.liq_core.specs.Core.{Core, StandsFor}
 use Rattle.liq_tell.specs.declared.telling.Told.{Told}
 use Rattle.liq_tell.specs.Told.{WritesTold}
+use Rattle.liq_tell.proofs.TextsTold.{may_end}
 use Rattle.liq_tell.proofs.telling.write_told.Goals as goal
 
 pub returns-in-State-clause-written : goal.returns-in-State-clause-written
@@ -28,14 +29,8 @@ returns-in-Answers-clause-written g c held w s told found stands from_one leads 
     subst (λ (what : Told). WritesTold what s w.commands wrote.result (g.K.Sink.held c.args.out.now) (g.K.Sink.held wrote.new.out)) (sym c.in-Answers.is)
     (wrote.ensures.written held w s told found stands from_one leads)
 
-pub returns-in-State-clause-no_line : goal.returns-in-State-clause-no_line
-returns-in-State-clause-no_line g c number = (c.write_standing.ensures.no_number number).0
+pub returns-in-State-clause-ends : goal.returns-in-State-clause-ends
+returns-in-State-clause-ends g c = may_end c.args.what.now c.write_standing.result c.write_standing.ensures.no_source c.write_standing.ensures.no_number
 
-pub returns-in-State-clause-no_limit : goal.returns-in-State-clause-no_limit
-returns-in-State-clause-no_limit g c other number = let so = c.write_standing.ensures.no_number number in (so.1, so.2)
-
-pub returns-in-Report-clause-no_line : goal.returns-in-Report-clause-no_line
-returns-in-Report-clause-no_line g c number = (c.write_report.ensures.no_number number).0
-
-pub returns-in-Report-clause-no_limit : goal.returns-in-Report-clause-no_limit
-returns-in-Report-clause-no_limit g c other number = let so = c.write_report.ensures.no_number number in (so.1, so.2)
+pub returns-in-Report-clause-ends : goal.returns-in-Report-clause-ends
+returns-in-Report-clause-ends g c = may_end c.args.what.now c.write_report.result c.write_report.ensures.no_source c.write_report.ensures.no_number
