@@ -1,12 +1,9 @@
 //! The cases of a file.
 
-use crate::counting::{Block, counted};
-use crate::disks::{Disks, is_change};
-use crate::misread::{Misread, number};
-use crate::performing::{Stage, perform};
-use crate::run::{Run, put_words, side_of};
-use crate::settings::set;
-use crate::told::Told;
+use liq_casefiles::{
+    Block, Misread, Run, Told, counted, is_change, number, put_words, set, side_of,
+};
+use liq_caseruns::{Disks, Stage, perform};
 use std::alloc::{AllocError, Global};
 use std::sync::Wait;
 use std::thread::Threads;

@@ -3,24 +3,6 @@
 #![tactic(auto)]
 
 mod cases;
-mod counting;
-mod devices;
-mod disks;
-mod facts;
-mod forged;
-mod lines;
-mod misread;
-mod performing;
-mod run;
-mod runs;
-mod sessions;
-mod settings;
-mod signing;
-mod sink;
-mod stops;
-mod sweeps;
-mod told;
-mod written;
 
 use cases::tell_file;
 use std::{env, fs, io};

@@ -2,12 +2,11 @@
 //! that opening is stopped too.
 
 use crate::devices::{Devices, are_serve, by_protocol};
-use crate::lines::Lines;
-use crate::performing::{Stage, check};
-use crate::run::{Start, Stop, put_words};
+use crate::performing::check;
 use crate::runs::run_by_both;
+use crate::stage::Stage;
 use crate::sweeps::{CRASHES, DISK_FAULT, check_replies};
-use crate::told::{At, Told};
+use liq_casefiles::{At, Lines, Start, Stop, Told, put_words};
 use liq_outside::Disk;
 use std::alloc::AllocError;
 use std::sync::Wait;
@@ -75,7 +74,7 @@ impl<'a> Stops<'a> {
         Devices {
             left_fails: self.since(stop.left),
             right_fails: self.since(stop.right),
-            ..self.stage.run.unfailing(self.stage.start)
+            ..self.stage.unfailing()
         }
     }
 

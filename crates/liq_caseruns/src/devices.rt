@@ -6,8 +6,8 @@ ghost use Rattle.liq_words.specs.declared.words.Word.{Word};
 ghost use Rattle.liq_words.specs.Words.{Ask};
 
 use crate::disks::crash;
-use crate::run::{Side, Start};
 use crate::sink::SmallSink;
+use liq_casefiles::{Side, Start};
 use liq_outside::{MemoryDisk, MemorySource};
 use liq_serve::{Ended, OpenGate, protocol, without_threads};
 use std::alloc::{AllocError, Global};

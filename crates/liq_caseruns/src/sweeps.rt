@@ -1,10 +1,10 @@
 //! Runs that are made again for each place where something may fail.
 
 use crate::devices::{Devices, Outcome, are_serve};
-use crate::performing::{Stage, check, make_once};
-use crate::run::Side;
+use crate::performing::{check, make_once};
 use crate::runs::{run_by_both, run_word};
-use crate::told::{At, Told};
+use crate::stage::Stage;
+use liq_casefiles::{At, Side, Told};
 use std::alloc::AllocError;
 use std::sync::Wait;
 use std::thread::Threads;
@@ -47,7 +47,7 @@ fn sweep_reads<R: Threads + Wait + Sync>(
     told: &mut Told,
     read: u64,
 ) -> Result<(), AllocError> {
-    let bytes = stage.run.input(stage.start).len() as u64;
+    let bytes = stage.input().len() as u64;
     // The last read finds the end.
     let reads = bytes.div_ceil(read.max(1)).saturating_add(1);
     for call in 0..reads {
@@ -70,7 +70,7 @@ fn fail_read<R: Threads + Wait + Sync>(
     let devices = Devices {
         read,
         source_fails: &[call],
-        ..stage.run.unfailing(stage.start)
+        ..stage.unfailing()
     };
     run_by_both(rt, stage.alloc, told, &devices)
 }
@@ -119,7 +119,7 @@ fn cut_input<R: Threads + Wait + Sync>(
     bytes: u64,
 ) -> Result<(), AllocError> {
     told.at = At::front(stage.run.line, bytes);
-    let devices = stage.run.unfailing(stage.start);
+    let devices = stage.unfailing();
     let devices = Devices {
         read,
         input: devices.input.get(..bytes as usize).unwrap_or(&[]),
@@ -173,7 +173,7 @@ fn fail_write<R: Threads + Wait + Sync>(
         read,
         write,
         sink_fails: &[call],
-        ..stage.run.devices(stage.start)
+        ..stage.devices()
     };
     run_by_both(rt, stage.alloc, told, &devices)
 }
@@ -245,7 +245,7 @@ fn fail_call<R: Threads + Wait + Sync>(
     let devices = Devices {
         left_fails: &[left],
         right_fails: &[right],
-        ..stage.run.unfailing(stage.start)
+        ..stage.unfailing()
     };
     run_by_both(rt, stage.alloc, told, &devices)
 }
@@ -323,7 +323,7 @@ fn state_after<R: Threads + Wait + Sync>(
 ) -> Result<Vec<u8>, AllocError> {
     let devices = Devices {
         input: stage.run.lines.input_of(lines),
-        ..stage.run.unfailing(stage.start)
+        ..stage.unfailing()
     };
     let outcome = run_by_both(rt, stage.alloc, told, &devices)?;
     state_over(rt, stage, told, &outcome)
@@ -339,7 +339,7 @@ fn state_over<R: Threads + Wait + Sync>(
     let devices = Devices {
         left: left_behind.held(Side::Left),
         right: left_behind.held(Side::Right),
-        ..stage.run.unfailing(stage.start)
+        ..stage.unfailing()
     };
     let outcome = run_word(rt, stage.alloc, told, "state", &devices)?;
     outcome.output().to_vec(stage.alloc)

@@ -1,8 +1,7 @@
 //! A run by both calls.
 
 use crate::devices::{Devices, Outcome, are_serve, by_one_thread, by_protocol};
-use crate::run::{Side, put_words};
-use crate::told::Told;
+use liq_casefiles::{Side, Told, put_words};
 use liq_outside::Disk;
 use std::alloc::{AllocError, Global};
 use std::sync::Wait;

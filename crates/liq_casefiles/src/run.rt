@@ -1,6 +1,5 @@
 //! A run as it is written in a file.
 
-use crate::devices::Devices;
 use crate::facts::Fact;
 use crate::forged::Forged;
 use crate::lines::Lines;
@@ -196,33 +195,6 @@ impl Run {
         match self.input {
             Some(side) => start.held(side),
             None => &self.lines.input,
-        }
-    }
-
-    /// What it meets at reads and writes of the first sizes.
-    pub fn devices<'a>(&'a self, start: &'a Start) -> Devices<'a> {
-        Devices {
-            source_fails: &self.failing.source,
-            sink_fails: &self.failing.sink,
-            left_fails: &self.failing.left,
-            right_fails: &self.failing.right,
-            ..self.unfailing(start)
-        }
-    }
-
-    /// The same where no call fails.
-    pub fn unfailing<'a>(&'a self, start: &'a Start) -> Devices<'a> {
-        Devices {
-            words: &self.words,
-            input: self.input(start),
-            read: self.reads.first().copied().unwrap_or(READ),
-            write: self.writes.first().copied().unwrap_or(ALL),
-            left: &start.left,
-            right: &start.right,
-            source_fails: &[],
-            sink_fails: &[],
-            left_fails: &[],
-            right_fails: &[],
         }
     }
 }

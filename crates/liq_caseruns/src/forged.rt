@@ -1,24 +1,12 @@
 //! Runs over a disk of which one byte is another, with a digest that is true.
 
 use crate::devices::Devices;
-use crate::misread::Misread;
-use crate::performing::Stage;
-use crate::run::Side;
 use crate::runs::run_by_both;
-use crate::signing::sign;
-use crate::told::{At, Told};
+use crate::stage::Stage;
+use liq_casefiles::{At, Forged, Misread, Side, Told, forge};
 use std::alloc::AllocError;
 use std::sync::Wait;
 use std::thread::Threads;
-
-/// A byte that is put at a place of a disk, and the number of the record that it damages: 0 is the header and its checkpoint.
-#[derive(Clone, Copy)]
-pub struct Forged {
-    pub side: Side,
-    pub index: u64,
-    pub place: u64,
-    pub byte: u8,
-}
 
 /// The run finds the damage, tells just that, and leaves it.
 pub fn check_forged<R: Threads + Wait + Sync>(
@@ -28,7 +16,7 @@ pub fn check_forged<R: Threads + Wait + Sync>(
     forged: Forged,
 ) -> Result<(), AllocError> {
     told.at = At::byte(stage.run.line, forged.place);
-    match forge(stage, forged) {
+    match forged_disk(stage, forged) {
         Ok(held) => check_held(rt, stage, told, forged, &held),
         Err(Misread::NoMemory) => Err(AllocError),
         Err(Misread::NotUnderstood) => {
@@ -39,13 +27,9 @@ pub fn check_forged<R: Threads + Wait + Sync>(
 }
 
 /// What the disk holds then.
-fn forge(stage: &Stage<'_>, forged: Forged) -> Result<Vec<u8>, Misread> {
+fn forged_disk(stage: &Stage<'_>, forged: Forged) -> Result<Vec<u8>, Misread> {
     let mut held = stage.start.held(forged.side).to_vec(stage.alloc)?;
-    match held.get_mut(forged.place as usize) {
-        Some(byte) => *byte = forged.byte,
-        None => return Err(Misread::NotUnderstood),
-    }
-    sign(held.as_mut_slice(), forged.index)?;
+    forge(held.as_mut_slice(), forged)?;
     Ok(held)
 }
 
@@ -56,7 +40,7 @@ fn check_held<R: Threads + Wait + Sync>(
     forged: Forged,
     held: &[u8],
 ) -> Result<(), AllocError> {
-    let devices = stage.run.unfailing(stage.start);
+    let devices = stage.unfailing();
     let (name, devices) = match forged.side {
         Side::Left => (
             "left",

@@ -4,24 +4,15 @@ use crate::devices::{Devices, Outcome, are_serve};
 use crate::disks::Disks;
 use crate::facts::check_facts;
 use crate::forged::check_forged;
-use crate::lines::Lines;
-use crate::run::{Asked, Run, Start};
 use crate::runs::run_by_both;
 use crate::sessions::check_served;
+use crate::stage::Stage;
 use crate::stops::sweep_stops;
 use crate::sweeps::{sweep_cuts, sweep_disk, sweep_sink, sweep_source};
-use crate::told::{At, Told};
-use std::alloc::{AllocError, Global};
+use liq_casefiles::{Asked, At, Lines, Told};
+use std::alloc::AllocError;
 use std::sync::Wait;
 use std::thread::Threads;
-
-/// A run that is to be made, and what the disks hold where it begins.
-#[derive(Drop)]
-pub struct Stage<'a> {
-    pub alloc: Global,
-    pub run: &'a Run,
-    pub start: &'a Start,
-}
 
 /// Makes a run's sweeps, and then the run for each of its sizes. The disks become those that the last size leaves.
 pub fn perform<R: Threads + Wait + Sync>(
@@ -85,7 +76,7 @@ pub fn make_once<R: Threads + Wait + Sync>(
     let devices = Devices {
         read,
         write,
-        ..stage.run.devices(stage.start)
+        ..stage.devices()
     };
     let outcome = run_by_both(rt, stage.alloc, told, &devices)?;
     check(rt, stage, told, &outcome)?;

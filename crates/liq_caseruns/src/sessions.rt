@@ -1,11 +1,9 @@
 //! What `serve` writes, taken apart, and asked again by one session.
 
 use crate::devices::{Devices, Outcome};
-use crate::lines::{Lines, ends_line};
-use crate::performing::Stage;
-use crate::run::Side;
 use crate::runs::run_word;
-use crate::told::Told;
+use crate::stage::Stage;
+use liq_casefiles::{Lines, Side, Told, ends_line};
 use liq_text::read_number;
 use std::alloc::{AllocError, Global};
 use std::sync::Wait;
@@ -348,7 +346,7 @@ fn check_legal<R: Threads + Wait + Sync>(
 ) -> Result<(), AllocError> {
     let devices = Devices {
         input: &merged.lines,
-        ..stage.run.unfailing(stage.start)
+        ..stage.unfailing()
     };
     let outcome = run_word(rt, stage.alloc, told, "run", &devices)?;
     told.number("status along the history", 0, outcome.status());
