@@ -20,7 +20,7 @@ use Rattle.liq_words.specs.Words.{Ask}
 use Rattle.liq_ends.specs.declared.halts.Halt.{Halt}
 use Rattle.liq_ends.specs.declared.halts.Halt.TheVariants.{BadLine, ReadFault, WriteFault, DiskFault, Damaged, DamagedInput, NoMemory, Limit, Rotated}
 use Rattle.liq_ends.specs.Causes.{DiskCause, LastCause, ReadCause}
-use Rattle.liq_ends.specs.Disks.{EndsDamaged}
+use Rattle.liq_ends.specs.Disks.{DisksStay, EndsDamaged, IsFaultOfTelling, LeavesOfRun}
 use Rattle.liq_ends.specs.Output.{last, usage}
 use Rattle.liq_ends.specs.Statuses.{status_of}
 use Rattle.liq_ends.specs.Stops.{Adds}
@@ -216,11 +216,32 @@ module _
       → EndsDamaged seen side damage (Err NoMemory) before.left before.right
   still side damage l r told_l told_r is a b told_a told_b = same_disks seen before.left before.right l r a b (Err (side, damage)) told_l told_r told_a told_b state_on is
 
+  -- the disks stay for the state for which they stood, whatever a stop leaves of them
+  abbrev Stays : List ℕ → List ℕ → State → Type 0
+  Stays l r start =
+      DisksStay seen (Err NoMemory) l r start before.left before.right
+      × LeavesOfRun seen moment left_at before.left before.right (IsFaultOfTelling (Err NoMemory)) l r start [] before.left before.right
+
+  -- a word that opens the disks before it reads
+  opens_nothing :
+      (P : List ℕ → List ℕ → State → Type 0) → Writes (last NoMemory)
+      → ((l r : List ℕ) (start : State) → state_on l r ≡ Ok start → Stays l r start → P l r start)
+      → (after.source ≡ before.source) × OpensFirst unread source_faults held sink_faults seen disk_faults moment left_at before after (Err NoMemory) P
+  opens_nothing P written stood = (
+    refl,
+    λ l r told_l told_r. by_found (state_on l r) _ _
+        (λ start is. stood l r start is (
+          untouched seen before.left before.right l r start told_l told_r is,
+          untouched_past seen moment left_at stays before.left before.right l r start _ refl told_l told_r,
+        ))
+        (λ side damage is. (refl, still side damage l r told_l told_r is, written)),
+  )
+
   -- whatever the words ask for
   nothing_done : Writes (last NoMemory) → (read : Word) → Leaves unread source_faults held sink_faults seen disk_faults moment left_at before after read (Err NoMemory)
   nothing_done written word.Run =
-      λ l r told_l told_r. by_found (state_on l r) _ _
-      (λ start is bytes told. record {
+      (opens_nothing _ written
+      (λ l r start is stay bytes told. record {
         requests = [];
         few = omega arith;
         statuses = (5, lit< tt, refl);
@@ -228,46 +249,16 @@ module _
         memory = λ is. inl (refl, told);
         written = written;
         cut = λ is. absurd cc;
-        disks = standing_still seen before.left before.right bytes l r (unread before.source) start told is (untouched seen before.left before.right l r start told_l told_r is);
-        past = untouched_past seen moment left_at stays before.left before.right l r start _ refl told_l told_r;
+        disks = standing_still seen before.left before.right bytes l r (unread before.source) start told is stay.0;
+        past = stay.1;
         shares = all_shares start [] (state_formed l r start is);
-      })
-      (λ side damage is. (refl, still side damage l r told_l told_r is, written))
+      })).1
   nothing_done written word.Serve = serves_nothing written
   nothing_done written word.Staking = lines_nothing stakes.Spells staked_text written
   nothing_done written word.Rewards = lines_nothing tags.Spells rewarded_text written
-  nothing_done written word.State = (
-    refl,
-    λ l r told_l told_r. by_found (state_on l r) _ _
-        (λ start is. (
-          (3, lit< tt, refl),
-          written,
-          untouched seen before.left before.right l r start told_l told_r is,
-          untouched_past seen moment left_at stays before.left before.right l r start _ refl told_l told_r,
-        ))
-        (λ side damage is. (refl, still side damage l r told_l told_r is, written)),
-  )
-  nothing_done written word.Report = (
-    refl,
-    λ l r told_l told_r. by_found (state_on l r) _ _
-        (λ start is. (
-          (3, lit< tt, refl),
-          written,
-          untouched seen before.left before.right l r start told_l told_r is,
-          untouched_past seen moment left_at stays before.left before.right l r start _ refl told_l told_r,
-        ))
-        (λ side damage is. (refl, still side damage l r told_l told_r is, written)),
-  )
-  nothing_done written word.Audit = (
-    refl,
-    λ l r told_l told_r. by_found (state_on l r) _ _
-        (λ start is. (
-          ([], (1, lit< tt, refl), written),
-          untouched seen before.left before.right l r start told_l told_r is,
-          untouched_past seen moment left_at stays before.left before.right l r start _ refl told_l told_r,
-        ))
-        (λ side damage is. (refl, still side damage l r told_l told_r is, written)),
-  )
+  nothing_done written word.State = opens_nothing _ written (λ l r start is stay. ((3, lit< tt, refl), written, stay.0, stay.1))
+  nothing_done written word.Report = opens_nothing _ written (λ l r start is stay. ((3, lit< tt, refl), written, stay.0, stay.1))
+  nothing_done written word.Audit = opens_nothing _ written (λ l r start is stay. (([], (1, lit< tt, refl), written), stay.0, stay.1))
   nothing_done written word.Follow = (refl, ([], reads_nothing (unread before.source), ([], (omega arith, inl none_goes_on), written)))
   nothing_done written (word.Gen seed count) = (refl, (2, lit< tt, refl), written)
 

@@ -221,7 +221,8 @@ module _
       ((text : List ℕ) × IsAuditOf start (commands_on l r) end text × Tells [] text end)
       × DisksStay seen end l r start after.left after.right
       × Leave (IsFaultOfTelling end) l r start [])
-  -- The disks are not asked. The bytes that come in are followed, and at their end the state is told to which they lead.
+  -- The disks are not asked. The bytes that come in are followed, and at their end the state is told to which they
+  -- lead.
   Leaves word.Follow end =
       (after ≡ record before { source = after.source; sink = after.sink })
       × ((read : List ℕ) × Reads (unread before.source) read (unread after.source)

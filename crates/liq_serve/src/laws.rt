@@ -41,5 +41,6 @@ pub fn runs_follow_on<S: Source, K: Sink, D: Disk>()
         → D.seen before.left ≡ Some l → D.seen before.right ≡ Some r → state_on l r ≡ Ok start → IsKept l r start
         → D.seen again.left ≡ Some a → D.seen again.right ≡ Some b
         → AreBehind S.left S.faults K.held K.faults D.seen D.faults D.moment D.left_at before middle l r a b
-        → FollowOn S.left S.faults K.held K.faults D.seen D.faults D.moment D.left_at before middle again after status later bytes lines l r a b start }
+        → FollowOn S.left S.faults K.held K.faults D.seen D.faults D.moment D.left_at before middle again after status later
+        bytes lines l r a b start }
 {}

@@ -4,7 +4,7 @@ use Rattle.liq_serve.specs.Outside.{Outside}
 use Rattle.liq_ends.proofs.Causes.{write_no_fewer}
 use Rattle.liq_pairs.specs.Pair.{state_on}
 use Rattle.liq_scripts.specs.Output.{served as text_of}
-use Rattle.liq_serve.proofs.Served.{all_served, came_by, disk_cause, fault_of, if_found, never_rotated, sink_cause, source_cause}
+use Rattle.liq_serve.proofs.Served.{all_served, came_by, causes_kept, fault_of, if_found, never_rotated}
 use Rattle.liq_ends.proofs.Opened.{state_formed}
 use Rattle.liq_ends.proofs.Shares.{all_shares}
 use Rattle.liq_serve.proofs.serve.serve_on.Goals as goal
@@ -19,7 +19,7 @@ returns-clause-served g c =
     let served = ran.ensures.served in
     let start = c.args.out.now in
     let middle = ran.new.out in
-    let fewer = write_no_fewer (end_of how) (faults start) (faults middle) (sink_cause how (faults start) (faults middle) ran.ensures.sink) in
+    let fewer = write_no_fewer (end_of how) (faults start) (faults middle) (causes_kept how _ _ (faults start) (faults middle) _ _ ran.ensures.source ran.ensures.sink ran.ensures.disks).1 in
     let answered = served.answered in
     let before : Outside g.row.S.Denot g.row.K.Denot g.row.D.Denot = record { source = c.args.input.now; sink = start; left = c.args.left; right = c.args.right } in
     let after : Outside g.row.S.Denot g.row.K.Denot g.row.D.Denot = record { source = ran.new.input; sink = c.tell_last.new.out; left = ran.result.left; right = ran.result.right } in
@@ -46,14 +46,19 @@ returns-clause-served g c =
     }
 
 pub returns-clause-source : goal.returns-clause-source
-returns-clause-source g c = rw c.end_of-end.ensures (source_cause c.serve_input-left.result.finish _ _ c.serve_input-left.ensures.source)
+returns-clause-source g c =
+    let ran = c.serve_input-left in
+    rw c.end_of-end.ensures (causes_kept ran.result.finish _ _ _ _ _ _ ran.ensures.source ran.ensures.sink ran.ensures.disks).0
 
 pub returns-clause-sink : goal.returns-clause-sink
 returns-clause-sink g c =
-    c.tell_last.ensures.sink (g.K.Sink.faults c.args.out.now) (rw c.end_of-end.ensures (sink_cause c.serve_input-left.result.finish _ _ c.serve_input-left.ensures.sink))
+    let ran = c.serve_input-left in
+    c.tell_last.ensures.sink (g.K.Sink.faults c.args.out.now) (rw c.end_of-end.ensures (causes_kept ran.result.finish _ _ _ _ _ _ ran.ensures.source ran.ensures.sink ran.ensures.disks).1)
 
 pub returns-clause-disks : goal.returns-clause-disks
-returns-clause-disks g c = rw c.end_of-end.ensures (disk_cause c.serve_input-left.result.finish _ _ c.serve_input-left.ensures.disks)
+returns-clause-disks g c =
+    let ran = c.serve_input-left in
+    rw c.end_of-end.ensures (causes_kept ran.result.finish _ _ _ _ _ _ ran.ensures.source ran.ensures.sink ran.ensures.disks).2
 
 pub returns-clause-goes_on : goal.returns-clause-goes_on
 returns-clause-goes_on g c generation = rw c.end_of-end.ensures (never_rotated c.serve_input-left.result.finish generation)

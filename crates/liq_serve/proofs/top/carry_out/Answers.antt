@@ -33,7 +33,7 @@ returns-in-Run g c words asks only =
 
 pub returns-in-Staking : goal.returns-in-Staking
 returns-in-Staking g c words asks only =
-    let ran = c.stake_on in
+    let ran = c.answer_on in
     let before : Outside g.row.S.Denot g.row.K.Denot g.row.D.Denot = record { source = c.args.input.now; sink = c.args.out.now; left = c.args.left; right = c.args.right } in
     let after : Outside g.row.S.Denot g.row.K.Denot g.row.D.Denot = record { source = ran.new.input; sink = ran.new.out; left = ran.result.left; right = ran.result.right } in
     let read = subst (λ (w : Word). IsRead words w) c.in-Staking.is (record { asks = asks; only = only }) in
@@ -51,7 +51,7 @@ returns-in-Staking g c words asks only =
 
 pub returns-in-Rewards : goal.returns-in-Rewards
 returns-in-Rewards g c words asks only =
-    let ran = c.reward_on in
+    let ran = c.answer_on-in-Rewards in
     let before : Outside g.row.S.Denot g.row.K.Denot g.row.D.Denot = record { source = c.args.input.now; sink = c.args.out.now; left = c.args.left; right = c.args.right } in
     let after : Outside g.row.S.Denot g.row.K.Denot g.row.D.Denot = record { source = ran.new.input; sink = ran.new.out; left = ran.result.left; right = ran.result.right } in
     let read = subst (λ (w : Word). IsRead words w) c.in-Rewards.is (record { asks = asks; only = only }) in
