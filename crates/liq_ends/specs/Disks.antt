@@ -47,6 +47,15 @@ module _ {D : Type 0} (seen : D → Option (List ℕ)) where
   abbrev pub OfBoth : D → D → (List ℕ → List ℕ → Type 0) → Type 0
   OfBoth left right P = (a b : List ℕ) → seen left ≡ Some a → seen right ≡ Some b → P a b
 
+  -- where these bytes stand for a state, this holds of them and of it
+  abbrev pub OfState : D → D → (List ℕ → List ℕ → State → Type 0) → Type 0
+  OfState left right P = OfBoth left right (λ l r. (start : State) → state_on l r ≡ Ok start → P l r start)
+
+  -- where one of the disks is damaged, this holds of its side and of the first damage
+  abbrev pub OfDamage : D → D → (Side → Damage → Type 0) → Type 0
+  OfDamage left right P =
+      OfBoth left right (λ l r. (side : Side) (damage : Damage) → state_on l r ≡ Err (side, damage) → P side damage)
+
   -- The disks of a run that began with l and r on them, for which they stood for the state `start`: they are kept for
   -- the state after the requests.
   abbrev pub DisksHold :

@@ -1,7 +1,8 @@
--- A reader of the top call's clause needs Disks, Output, Reading, Requests, Statuses, and of Stops all but its last
--- part. That part, Causes, Telling, Unopened and Unsaid are for the contracts below it.
+-- A reader of the top call's clause needs Disks, Outside, Output, Reading, Requests, Statuses, and of Stops all but its
+-- last part. That part, Causes, Telling, Unopened and Unsaid are for the contracts below it.
 pub mod Causes
 pub mod Disks
+pub mod Outside
 pub mod Output
 pub mod Reading
 pub mod Requests

@@ -8,9 +8,11 @@ use Rattle.liq_stability.specs.Promise.{IsWithinAllowance}
 use Rattle.liq_rules.specs.Events.{events}
 use Rattle.liq_rules.specs.Image.{IsSameState}
 use Rattle.liq_rules.specs.Step.{run, accepted}
+use Rattle.liq_journal.specs.declared.damage.Damage.{Damage}
+use Rattle.liq_pairs.specs.declared.side.Side.{Side}
 use Rattle.liq_ends.specs.declared.halts.Halt.{Halt}
 use Rattle.liq_ends.specs.declared.halts.Halt.TheVariants.{WriteFault, Damaged, DamagedInput, NoMemory, Rotated}
-use Rattle.liq_ends.specs.Disks.{DisksHold, IsFaultOfRun, IsUnread, LeavesOfRun}
+use Rattle.liq_ends.specs.Disks.{DisksHold, EndsDamaged, IsFaultOfRun, IsUnread, LeavesOfRun}
 use Rattle.liq_ends.specs.Output.{last, lines}
 use Rattle.liq_ends.specs.Requests.{IsNext, IsRequest}
 use Rattle.liq_ends.specs.Reading.{ReadsTo}
@@ -40,6 +42,14 @@ TellsBehind said text (Err WriteFault) fault before now = WritesPart before text
 TellsBehind said text (Err halt) fault before now = Adds said (last halt) fault before now
 
 -- ---- for the contracts below the top call's
+
+-- A word over damaged disks stops, and writes its last line alone.
+abbrev pub StopsDamaged :
+    {D : Type 0} → (D → Option (List ℕ)) → Side → Damage → Result (Unit {0}) Halt → Type 0 → Option (List ℕ)
+    → Option (List ℕ) → D → D → Type 0
+StopsDamaged seen side damage end fault before now left right =
+    (halt : Halt) × (end ≡ Err halt) × EndsDamaged seen side damage (Err halt) left right
+    × Adds [] (last halt) fault before now
 
 -- Why a run from a state ended after these requests of the bytes. `left` is what the source still tells.
 abbrev pub EndsAfter : State → Result (Unit {0}) Halt → List ℕ → Option (List ℕ) → List Request → Type 0
@@ -81,7 +91,7 @@ pub record EndsIn
   pub written : WritesUpTo start end fault requests before now
   pub disks : DisksHold seen end bytes unread l r start left right requests
   pub past :
-      LeavesOfRun seen moment left_at old_left old_right (IsFaultOfRun end bytes unread requests) l r start requests left
-      right
+      LeavesOfRun seen moment left_at old_left old_right (IsFaultOfRun end bytes unread requests) l r start requests
+      left right
   -- and after them no depositor has more than its share, or less by more than is allowed
   pub shares : HaveTheirShares start requests

@@ -1,5 +1,5 @@
--- What a crash at some moment may have left of the disks of a run that is on its way. It began with two disks on which l
--- and r stood, for which they stood for the state `start`.
+-- What a crash at some moment may have left of the disks of a run that is on its way. It began with two disks on which
+-- l and r stood, for which they stood for the state `start`.
 use Rattle.std.specs.Prelude.{ℕ, ◌≡◌, List, [], ◌∷◌, ◌++◌, Option, Result, Ok, Err}
 use Rattle.liq_outside.specs.Disk.{LeftNow, Only}
 use Rattle.liq_types.specs.declared.requests.Command.{Command}

@@ -170,8 +170,8 @@ pub record GivesBack
   pub written : WritesReplies start end requests before now
   pub disks : DisksHold seen end bytes unread l r start left right requests
   pub past :
-      LeavesOfRun seen moment left_at old_left old_right (IsFaultOfRun end bytes unread requests) l r start requests left
-      right
+      LeavesOfRun seen moment left_at old_left old_right (IsFaultOfRun end bytes unread requests) l r start requests
+      left right
 
 -- One more line was answered, or the run comes to its end.
 abbrev pub Turns :

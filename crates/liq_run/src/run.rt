@@ -12,8 +12,6 @@ ghost use Rattle.liq_run.specs.Calls.{GoOn, IsStopped, KeepsAround};
 ghost use Rattle.liq_run.specs.Passing.{IsPastOf, IsStoppedPastOf, Passes};
 ghost use Rattle.liq_run.specs.Progress.{RequestOn, ReadsRequest, Answered, Answers, Turns, Comes, Ends, GivesBack};
 ghost use Rattle.liq_core.specs.Core.{StandsFor};
-ghost use Rattle.liq_journal.specs.declared.damage.Damage.{Damage};
-ghost use Rattle.liq_pairs.specs.declared.side.Side.{Side};
 ghost use Rattle.liq_pairs.specs.Pair.{state_on};
 ghost use Rattle.liq_store.specs.Causes.{Faults, counts_of};
 ghost use Rattle.liq_store.specs.Opening.{IsNotOpened, OpensOn};
@@ -22,8 +20,8 @@ ghost use Rattle.liq_lines.specs.declared.reader.TheConstants.{READ_BYTES};
 ghost use Rattle.liq_lines.specs.Lines.{IsWholeLine};
 ghost use Rattle.liq_lines.specs.Reading.{unread, ReadsAtMost, taken_most, ReadsFew};
 ghost use Rattle.liq_ends.specs.declared.halts.Halt.{Halt};
-ghost use Rattle.liq_ends.specs.Causes.{DiskCause, ReadCause, WriteCause};
-ghost use Rattle.liq_ends.specs.Disks.{EndsDamaged, IsFaultOfTelling, LeavesOfRun};
+ghost use Rattle.liq_ends.specs.Causes.{DiskCause, DisksGoOn, ReadCause, WriteCause};
+ghost use Rattle.liq_ends.specs.Disks.{EndsDamaged, IsFaultOfTelling, LeavesOfRun, OfDamage, OfState};
 ghost use Rattle.liq_ends.specs.Unopened.{halt_of};
 
 use crate::calls::{call, tell};
@@ -143,18 +141,16 @@ pub fn answer_input<S: Source, K: Sink, D: Disk>(
     left: D,
     right: D,
 ) -> Ending<D>
-    ensures run { (bytes l r : List ℕ) → S.left input.old ≡ Some bytes → D.seen left ≡ Some l → D.seen right ≡ Some r
-        → (start : State) → state_on l r ≡ Ok start
-        → GivesBack D.seen D.moment D.left_at left right start result.end bytes l r (S.left input.new) (K.held out.old) (K.held out.new) result.left result.right }
+    ensures run { OfState D.seen left right (λ l r start. (bytes : List ℕ) → S.left input.old ≡ Some bytes
+        → GivesBack D.seen D.moment D.left_at left right start result.end bytes l r (S.left input.new)
+        (K.held out.old) (K.held out.new) result.left result.right) }
     // Over damaged disks nothing is read or written.
-    ensures damaged { (l r : List ℕ) → D.seen left ≡ Some l → D.seen right ≡ Some r → (side : Side) (damage : Damage) → state_on l r ≡ Err (side, damage)
-        → (input.new ≡ input.old) × (out.new ≡ out.old) × EndsDamaged D.seen side damage result.end result.left result.right }
+    ensures damaged { OfDamage D.seen left right (λ side damage. (input.new ≡ input.old) × (out.new ≡ out.old)
+        × EndsDamaged D.seen side damage result.end result.left result.right) }
     ensures few { ReadsAtMost (taken_most LINES_MOST) (S.left input.old) (S.left input.new) }
     ensures source { ReadCause result.end (S.faults input.old) (S.faults input.new) }
     ensures sink { WriteCause result.end (K.faults out.old) (K.faults out.new) }
-    ensures disks { DiskCause result.end (counts_of D.faults left right) (counts_of D.faults result.left result.right) }
-    ensures left_time { GoesOn D.moment D.left_at left result.left }
-    ensures right_time { GoesOn D.moment D.left_at right result.right }
+    ensures disks { DisksGoOn D.faults D.moment D.left_at left right result.end result.left result.right }
     // It goes on in whatever generation.
     ensures goes_on { (generation : ℕ) → result.end ≢ Err (Halt.Rotated generation) }
 {

@@ -13,9 +13,9 @@ use Rattle.liq_ends.specs.declared.halts.Halt.TheVariants.{Limit, Rotated, Write
 use Rattle.liq_ends.specs.Statuses.{status_of}
 
 -- An audit of the commands that lead to this state of the first generation, from the opening under its limit, ends so,
--- and its text is that of the review. At its end each row encloses the exact share of its account, and what the protocol
--- gives that is within its row. Or the review passes the limit by this number. Of a later generation's state there is
--- none.
+-- and its text is that of the review. At its end each row encloses the exact share of its account, and what the
+-- protocol gives that is within its row. Or the review passes the limit by this number. Of a later generation's state
+-- there is none.
 abbrev pub IsAuditOf : State → List Command → Result (Unit {0}) Halt → List ℕ → Type 0
 IsAuditOf s commands (Ok done) text =
     let made = events (opening_with s.limit) commands in let rows = rows_of s made in (s.generation ≡ 1)

@@ -1,8 +1,9 @@
 -- Which text a word tells of two disks, and how it ends.
-use Rattle.std.specs.Prelude.{ℕ, List, [], ◌∷◌, Contains, Option, Result, Ok}
+use Rattle.std.specs.Prelude.{ℕ, ◌≡◌, ◌≢◌, ◌⊎◌, List, [], ◌∷◌, Contains, Option, Result, Ok, Err}
 use Rattle.liq_types.specs.declared.requests.Command.{Command}
 use Rattle.liq_types.specs.State.{State}
 use Rattle.liq_ends.specs.declared.halts.Halt.{Halt}
+use Rattle.liq_ends.specs.declared.halts.Halt.TheVariants.{BadLine, Limit, ReadFault, Rotated}
 use Rattle.liq_ends.specs.Statuses.{status_of}
 use Rattle.liq_ends.specs.Telling.{TellsAll}
 use Rattle.liq_tell.specs.declared.telling.Told.{Told}
@@ -32,6 +33,14 @@ EndsTelling which.Audit s commands end fault before now =
     (text : List ℕ) × IsAuditOf s commands end text × TellsAll text end fault before now
 EndsTelling (which.Answers asked) s commands end fault before now =
     IsAnswerOf s end × TellsAll (asked_text asked s.limit commands) end fault before now
+
+-- It ends for nothing that comes in; and what stands is told whatever the limits and the journal's generation are.
+pub record MayEnd (what : Told) (end : Result (Unit {0}) Halt) : Type 0 where
+  pub no_source : end ≢ Err ReadFault
+  pub no_line : (number : ℕ) → end ≢ Err (BadLine number)
+  pub no_limit :
+      (what ≡ which.State) ⊎ (what ≡ which.Report)
+      → (number : ℕ) → (end ≢ Err (Limit number)) × (end ≢ Err (Rotated number))
 
 -- there are no more lines than can be answered
 abbrev pub HasFewLines : Told → Type 0

@@ -1,19 +1,15 @@
 //! Lines that are answered beside the commands on two disks: those of stakers, and those that name front ends.
 
-ghost use Rattle.std.specs.Prelude.{◌≡◌, ◌≢◌, ◌≤◌, All, List, ℕ, Some, None, Ok, Err, false, IfOk, OnOk};
+ghost use Rattle.std.specs.Prelude.{◌≡◌, ◌≢◌, All, ℕ, None, Ok, Err, false, IfOk, OnOk};
 ghost use Rattle.liq_types.specs.declared.requests.Command.{Command};
 ghost use Rattle.liq_types.specs.Image.{IsLimit};
 ghost use Rattle.liq_types.specs.State.{State, opening_with};
-ghost use Rattle.liq_core.specs.Core.{StandsFor};
-ghost use Rattle.liq_journal.specs.Looked.{Looked};
-ghost use Rattle.liq_journal.specs.Written.{Open, Written, found_on, is_rotate};
-ghost use Rattle.liq_pairs.specs.Replay.{replay};
-ghost use Rattle.liq_pairs.specs.Sides.{has_odd};
-ghost use Rattle.liq_store.specs.Causes.{counts_of};
-ghost use Rattle.liq_store.specs.Stored.{taken_disk};
 ghost use Rattle.liq_journal.specs.declared.damage.Damage.{Damage};
-ghost use Rattle.liq_ends.specs.Causes.{DiskCause, WriteCause};
+ghost use Rattle.liq_journal.specs.Written.{is_rotate};
+ghost use Rattle.liq_pairs.specs.Replay.{replay};
+ghost use Rattle.liq_ends.specs.Causes.{WriteCause};
 ghost use Rattle.liq_tell.specs.Answers.{AreFew, asked_text};
+ghost use Rattle.liq_tell.specs.Whole.{OfJournal, OnlyLooks};
 ghost use Rattle.liq_tell.specs.Writing.{WritesAnswers, WritesText};
 
 use crate::journal::whole_journal;
@@ -37,8 +33,8 @@ pub enum Asked {
     Tags(Vec<TagLine>),
 }
 
-/// Writes what is answered to lines beside the commands of a store. They are all commands since the opening, and a generation
-/// above the first has not kept those before its checkpoint: there it stops.
+/// Writes what is answered to lines beside the commands of a store. They are all commands since the opening, and a
+/// generation above the first has not kept those before its checkpoint: there it stops.
 pub fn write_answers<K: Sink, D: Disk>(
     alloc: Global,
     store: &mut Store<D>,
@@ -47,24 +43,19 @@ pub fn write_answers<K: Sink, D: Disk>(
 ) -> Result<(), Halt>
     requires going { store.old.stopped ≡ None }
     requires few { AreFew asked.now }
-    ensures written { (held : List ℕ) (w : Written) (s : State)
-        → D.seen (taken_disk store.old) ≡ Some held → found_on (has_odd store.old.side) held ≡ Open w
-        → StandsFor store.old.core s → 1 ≤ s.generation → (s.generation ≡ 1 → replay 1 (opening_with s.limit) w.commands ≡ Ok s)
-        → WritesAnswers s w.commands asked.now result (K.held out.old) (K.held out.new) }
+    ensures written { OfJournal D.seen store.old (λ s commands.
+        WritesAnswers s commands asked.now result (K.held out.old) (K.held out.new)) }
     ensures no_source { result ≢ Err Halt.ReadFault }
     ensures no_line { (number : ℕ) → result ≢ Err (Halt.BadLine number) }
     ensures sink { WriteCause result (K.faults out.old) (K.faults out.new) }
-    // The disks are only looked at.
-    ensures left { Looked D.seen D.moment D.left_at store.old.left store.new.left }
-    ensures right { Looked D.seen D.moment D.left_at store.old.right store.new.right }
-    ensures disks { DiskCause result
-        (counts_of D.faults store.old.left store.old.right) (counts_of D.faults store.new.left store.new.right) }
+    ensures disks { OnlyLooks D.seen D.faults D.moment D.left_at store.old store.new result }
 {
     let whole = whole_journal(store)?;
     write_answered(alloc, whole.limit, &whole.commands, asked, whole.side, out)
 }
 
-/// Writes what is answered to lines beside commands that stand on the disk of this side, from the opening under this limit on.
+/// Writes what is answered to lines beside commands that stand on the disk of this side, from the opening under this
+/// limit on.
 fn write_answered<K: Sink>(
     alloc: Global,
     limit: u64,

@@ -1,19 +1,15 @@
 //! What each depositor has beside its exact share, told of the commands on two disks.
 
-ghost use Rattle.std.specs.Prelude.{◌≡◌, ◌≢◌, ◌≤◌, All, List, ℕ, Some, None, Ok, Err, false};
+ghost use Rattle.std.specs.Prelude.{◌≡◌, ◌≢◌, All, ℕ, None, Ok, Err, false};
 ghost use Rattle.liq_types.specs.declared.requests.Command.{Command};
 ghost use Rattle.liq_types.specs.Image.{IsLimit};
 ghost use Rattle.liq_types.specs.State.{State, opening_with};
-ghost use Rattle.liq_core.specs.Core.{StandsFor};
-ghost use Rattle.liq_journal.specs.Looked.{Looked};
-ghost use Rattle.liq_journal.specs.Written.{Open, Written, found_on, is_rotate};
+ghost use Rattle.liq_journal.specs.Written.{is_rotate};
 ghost use Rattle.liq_pairs.specs.Replay.{replay};
-ghost use Rattle.liq_pairs.specs.Sides.{has_odd};
-ghost use Rattle.liq_store.specs.Causes.{counts_of};
-ghost use Rattle.liq_store.specs.Stored.{taken_disk};
 ghost use Rattle.liq_review.specs.Reviewed.{reviewed};
-ghost use Rattle.liq_ends.specs.Causes.{DiskCause, WriteCause};
+ghost use Rattle.liq_ends.specs.Causes.{WriteCause};
 ghost use Rattle.liq_tell.specs.Reviewing.{halt_on};
+ghost use Rattle.liq_tell.specs.Whole.{OfJournal, OnlyLooks};
 ghost use Rattle.liq_tell.specs.Writing.{AuditHolds, WritesAudit, WritesText};
 
 use crate::journal::whole_journal;
@@ -32,18 +28,12 @@ pub fn write_audit<K: Sink, D: Disk>(
     out: &mut K,
 ) -> Result<(), Halt>
     requires going { store.old.stopped ≡ None }
-    ensures written { (held : List ℕ) (w : Written) (s : State)
-        → D.seen (taken_disk store.old) ≡ Some held → found_on (has_odd store.old.side) held ≡ Open w
-        → StandsFor store.old.core s → 1 ≤ s.generation → (s.generation ≡ 1 → replay 1 (opening_with s.limit) w.commands ≡ Ok s)
-        → WritesAudit s w.commands result (K.held out.old) (K.held out.new) }
+    ensures written { OfJournal D.seen store.old (λ s commands.
+        WritesAudit s commands result (K.held out.old) (K.held out.new)) }
     ensures no_source { result ≢ Err Halt.ReadFault }
     ensures no_line { (number : ℕ) → result ≢ Err (Halt.BadLine number) }
     ensures sink { WriteCause result (K.faults out.old) (K.faults out.new) }
-    // The disks are only looked at.
-    ensures left { Looked D.seen D.moment D.left_at store.old.left store.new.left }
-    ensures right { Looked D.seen D.moment D.left_at store.old.right store.new.right }
-    ensures disks { DiskCause result
-        (counts_of D.faults store.old.left store.old.right) (counts_of D.faults store.new.left store.new.right) }
+    ensures disks { OnlyLooks D.seen D.faults D.moment D.left_at store.old store.new result }
 {
     let whole = whole_journal(store)?;
     write_review(alloc, whole.limit, &whole.commands, whole.side, out)
@@ -60,7 +50,8 @@ fn write_review<K: Sink>(
     requires limit { IsLimit limit }
     requires no_rotation { All (λ (c : Command). is_rotate c.call ≡ false) commands.now }
     ensures written { (s : State) → s.limit ≡ limit → replay 1 (opening_with limit) commands.now ≡ Ok s
-        → WritesText (reviewed limit commands.now) result (K.held out.old) (K.held out.new) × AuditHolds result s commands.now }
+        → WritesText (reviewed limit commands.now) result (K.held out.old) (K.held out.new)
+        × AuditHolds result s commands.now }
     ensures no_disk { result ≢ Err Halt.DiskFault }
     ensures no_source { result ≢ Err Halt.ReadFault }
     ensures no_line { (number : ℕ) → result ≢ Err (Halt.BadLine number) }
@@ -72,7 +63,8 @@ fn write_review<K: Sink>(
     }
 }
 
-/// Why commands that stand on the disk of this side have no review. Where one of them is refused, its record is damaged.
+/// Why commands that stand on the disk of this side have no review. Where one of them is refused, its record is
+/// damaged.
 fn halt_on(side: Side, fault: ReviewFault) -> Halt
     ensures { result ≡ halt_on side fault }
 {

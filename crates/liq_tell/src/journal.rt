@@ -3,17 +3,11 @@
 ghost use Rattle.std.specs.Prelude.{◌≡◌, ◌≢◌, ◌≤◌, ◌⊎◌, All, List, ℕ, Some, None, Ok, Err, IfOk, IfErr, IsSome, false};
 ghost use Rattle.liq_types.specs.declared.requests.Command.{Command};
 ghost use Rattle.liq_types.specs.Image.{IsLimit};
-ghost use Rattle.liq_types.specs.State.{State, opening_with};
-ghost use Rattle.liq_core.specs.Core.{StandsFor};
-ghost use Rattle.liq_journal.specs.Looked.{Looked};
 ghost use Rattle.liq_journal.specs.Written.{Open, Written, found_on, is_rotate};
 ghost use Rattle.liq_pairs.specs.declared.side.Side.{Side};
-ghost use Rattle.liq_pairs.specs.Replay.{replay};
 ghost use Rattle.liq_pairs.specs.Sides.{has_odd};
-ghost use Rattle.liq_store.specs.Causes.{counts_of};
 ghost use Rattle.liq_store.specs.Stored.{taken_disk};
-ghost use Rattle.liq_ends.specs.Causes.{DiskCause};
-ghost use Rattle.liq_tell.specs.Whole.{FindsWhole};
+ghost use Rattle.liq_tell.specs.Whole.{FindsWhole, OfJournal, OnlyLooks};
 
 use liq_core::Protocol;
 use liq_core::laws::protocols_are_sound_states;
@@ -30,23 +24,19 @@ pub(crate) struct Whole {
     pub(crate) commands: Vec<Command>,
 }
 
-/// All commands of a store since the opening. A generation above the first has not kept those before its checkpoint: there
-/// it stops.
+/// All commands of a store since the opening. A generation above the first has not kept those before its checkpoint:
+/// there it stops.
 pub(crate) fn whole_journal<D: Disk>(store: &mut Store<D>) -> Result<Whole, Halt>
     requires going { store.old.stopped ≡ None }
-    ensures found { (held : List ℕ) (w : Written) (s : State)
-        → D.seen (taken_disk store.old) ≡ Some held → found_on (has_odd store.old.side) held ≡ Open w
-        → StandsFor store.old.core s → 1 ≤ s.generation → (s.generation ≡ 1 → replay 1 (opening_with s.limit) w.commands ≡ Ok s)
-        → FindsWhole s w.commands result }
+    ensures found { OfJournal D.seen store.old (λ s commands. FindsWhole s commands result) }
+    // They stand on the disk that the store took.
+    ensures side { IfOk result (λ whole. whole.side ≡ store.old.side) }
     ensures limit { IfOk result (λ whole. IsLimit whole.limit) }
     ensures no_rotation { IfOk result (λ whole. All (λ (c : Command). is_rotate c.call ≡ false) whole.commands.items) }
     ensures no_source { result ≢ Err Halt.ReadFault }
     ensures no_line { (number : ℕ) → result ≢ Err (Halt.BadLine number) }
     ensures no_sink { result ≢ Err Halt.WriteFault }
-    // The disks are only looked at.
-    ensures left { Looked D.seen D.moment D.left_at store.old.left store.new.left }
-    ensures right { Looked D.seen D.moment D.left_at store.old.right store.new.right }
-    ensures disks { DiskCause result (counts_of D.faults store.old.left store.old.right) (counts_of D.faults store.new.left store.new.right) }
+    ensures disks { OnlyLooks D.seen D.faults D.moment D.left_at store.old store.new result }
 {
     let generation = store.protocol().generation();
     if generation > 1 {
@@ -74,19 +64,20 @@ fn limit_of(protocol: &Protocol) -> u64
 /// The commands that a store keeps, on the disk of this side.
 fn kept_commands<D: Disk>(store: &mut Store<D>, side: Side) -> Result<Vec<Command>, Halt>
     requires going { store.old.stopped ≡ None }
-    ensures commands { (held : List ℕ) (w : Written) → D.seen (taken_disk store.old) ≡ Some held → found_on (has_odd store.old.side) held ≡ Open w
+    ensures commands { (held : List ℕ) (w : Written)
+        → D.seen (taken_disk store.old) ≡ Some held → found_on (has_odd store.old.side) held ≡ Open w
         → IfOk result (λ commands. commands.items ≡ w.commands) }
     ensures no_rotation { IfOk result (λ commands. All (λ (c : Command). is_rotate c.call ≡ false) commands.items) }
     // Where the disk tells its bytes no record is unreadable.
-    ensures fault { IsSome (D.seen (taken_disk store.old)) → IfErr result (λ halt. (halt ≡ Halt.NoMemory) ⊎ (halt ≡ Halt.DiskFault)) }
+    ensures fault { IsSome (D.seen (taken_disk store.old))
+        → IfErr result (λ halt. (halt ≡ Halt.NoMemory) ⊎ (halt ≡ Halt.DiskFault)) }
     // A record that is none is told as damage of the disk of this side, at its number.
-    ensures damaged { (which : Side) (number : ℕ) → result ≡ Err (Halt.Damaged which number) → (which ≡ side) × (1 ≤ number) × (number ≤ store.old.core.records) }
+    ensures damaged { (which : Side) (number : ℕ) → result ≡ Err (Halt.Damaged which number)
+        → (which ≡ side) × (1 ≤ number) × (number ≤ store.old.core.records) }
     ensures no_source { result ≢ Err Halt.ReadFault }
     ensures no_line { (number : ℕ) → result ≢ Err (Halt.BadLine number) }
     ensures no_sink { result ≢ Err Halt.WriteFault }
-    ensures left { Looked D.seen D.moment D.left_at store.old.left store.new.left }
-    ensures right { Looked D.seen D.moment D.left_at store.old.right store.new.right }
-    ensures disks { DiskCause result (counts_of D.faults store.old.left store.old.right) (counts_of D.faults store.new.left store.new.right) }
+    ensures disks { OnlyLooks D.seen D.faults D.moment D.left_at store.old store.new result }
 {
     match store.accepted() {
         Ok(commands) => Ok(commands),

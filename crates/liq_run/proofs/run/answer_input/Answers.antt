@@ -7,7 +7,7 @@ use Rattle.liq_run.proofs.run.answer_input.Goals as goal
 use Rattle.liq_lines.proofs.Readings.{takes_none}
 
 pub returns-in-Err-clause-run : goal.returns-in-Err-clause-run
-returns-in-Err-clause-run g c bytes l r told told_l told_r start is =
+returns-in-Err-clause-run g c l r told_l told_r start is bytes told =
     let held = g.K.Sink.held c.args.out.now in
     let unread = g.S.Source.left c.args.input.now in
     let fault = c.in-Err.fault in
@@ -18,7 +18,7 @@ returns-in-Err-clause-run g c bytes l r told told_l told_r start is =
     (c.in-Err.ensures.not_past l r start told_l told_r is))
 
 pub returns-clause-run : goal.returns-clause-run
-returns-clause-run g c bytes l r told told_l told_r start is =
+returns-clause-run g c l r told_l told_r start is bytes told =
     let found = c.in-Ok.ensures.opened.0.state l r told_l told_r in
     let stands = opened_at found.0 start _ _ found.1 is found.2 in
     let ran = c.answer_all-end in

@@ -12,7 +12,7 @@ use Rattle.liq_run.proofs.Last.{last_written, went_well}
 use Rattle.liq_run.proofs.whole.run_on.Goals as goal
 
 pub returns-in-Err-clause-run : goal.returns-in-Err-clause-run
-returns-in-Err-clause-run g c bytes l r told told_l told_r start is =
+returns-in-Err-clause-run g c l r told_l told_r start is bytes told =
     let faults = g.K.Sink.faults in
     let held = g.K.Sink.held in
     let seen = g.D.Disk.seen in
@@ -27,16 +27,16 @@ returns-in-Err-clause-run g c bytes l r told told_l told_r start is =
     let rose = Rose (faults c.args.out.now) (faults after) in
     subst (λ (e : Result (Unit {0}) Halt). EndsIn seen moment left_at c.args.left c.args.right start e bytes l r unread rose (held c.args.out.now) (held after) ran.result.left ran.result.right) (sym c.in-Err.is)
     (last_written seen moment left_at c.args.left c.args.right start (state_formed l r start is) bytes l r unread rose ran.result.left ran.result.right halt (held c.args.out.now) (held middle) (held after)
-    (subst (λ (e : Result (Unit {0}) Halt). GivesBack seen moment left_at c.args.left c.args.right start e bytes l r unread (held c.args.out.now) (held middle) ran.result.left ran.result.right) c.in-Err.is (ran.ensures.run bytes l r told told_l told_r start is))
+    (subst (λ (e : Result (Unit {0}) Halt). GivesBack seen moment left_at c.args.left c.args.right start e bytes l r unread (held c.args.out.now) (held middle) ran.result.left ran.result.right) c.in-Err.is (ran.ensures.run l r told_l told_r start is bytes told))
     (adds_weaker (last halt) (Rose (faults middle) (faults after)) rose (held middle) (held after)
     (rose_later (faults c.args.out.now) (faults middle) (faults after) (write_no_fewer end (faults c.args.out.now) (faults middle) ran.ensures.sink))
     c.write_last.ensures.written))
 
 pub returns-in_default-clause-run : goal.returns-in_default-clause-run
-returns-in_default-clause-run g c bytes l r told told_l told_r start is =
+returns-in_default-clause-run g c l r told_l told_r start is bytes told =
     let ran = c.answer_input-ending in
     went_well g.D.Disk.seen g.D.Disk.moment g.D.Disk.left_at c.args.left c.args.right start (state_formed l r start is) bytes l r (g.S.Source.left ran.new.input) (Rose (g.K.Sink.faults c.args.out.now) (g.K.Sink.faults ran.new.out)) ran.result.left ran.result.right
-    ran.result.end (g.K.Sink.held c.args.out.now) (g.K.Sink.held ran.new.out) c.in_default.not-Err (ran.ensures.run bytes l r told told_l told_r start is)
+    ran.result.end (g.K.Sink.held c.args.out.now) (g.K.Sink.held ran.new.out) c.in_default.not-Err (ran.ensures.run l r told_l told_r start is bytes told)
 
 pub returns-in-Err-clause-damaged : goal.returns-in-Err-clause-damaged
 returns-in-Err-clause-damaged g c l r told_l told_r side damage is =

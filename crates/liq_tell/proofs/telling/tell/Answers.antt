@@ -1,4 +1,4 @@
-use Rattle.std.proofs.Common.{◌≡◌, refl, Ok, ℕ, List, [], Option, sym, subst, ap, ◌∙◌}
+use Rattle.std.proofs.Common.{rules, ◌≡◌, refl, Ok, ℕ, List, [], Option, sym, subst, ap, ◌∙◌}
 use Rattle.liq_types.specs.declared.requests.Command.{Command}
 use Rattle.liq_types.specs.State.{opening_with}
 use Rattle.liq_pairs.specs.Pair.{commands_on}
@@ -44,7 +44,7 @@ returns-clause-told g c l r told_l told_r start is =
     let end = wrote.result in
     let left = wrote.new.store in
     let stand = opened_still seen g.D.Disk.faults g.D.Disk.moment g.D.Disk.left_at c.args.left c.args.right store l r start opened c.in-Ok.ensures.order stands told_l told_r is in
-    let stay = disks_stay seen end l r start left.left left.right (stand_too seen l r start store.left store.right left.left left.right wrote.ensures.left.same wrote.ensures.right.same stand) in
+    let stay = disks_stay seen end l r start left.left left.right (stand_too seen l r start store.left store.right left.left left.right wrote.ensures.disks.left.same wrote.ensures.disks.right.same stand) in
     let from_one =
     opened_from_one seen g.D.Disk.moment g.D.Disk.left_at store start opened.going c.in-Ok.ensures.order stands
     (c.in-Ok.ensures.left_telling.1 (is_some_of (seen c.args.left) l told_l)) (c.in-Ok.ensures.right_telling.1 (is_some_of (seen c.args.right) r told_r)) in
@@ -91,15 +91,20 @@ returns-clause-past g c l r told_l told_r start is only_l only_r kept =
     let left = wrote.new.store in
     subst (λ (d : g.row.D.Denot). LeavesBoth seen moment left_at c.args.left c.args.right (IsFaultOfTelling end) l r start [] d c.close-left.result.1) (sym c.close-left.ensures.left)
     (subst (λ (d : g.row.D.Denot). LeavesBoth seen moment left_at c.args.left c.args.right (IsFaultOfTelling end) l r start [] left.left d) (sym c.close-left.ensures.right)
-    (looked_past seen moment left_at stays c.args.left c.args.right end l r start store.left store.right left.left left.right past.later wrote.ensures.left wrote.ensures.right now.left now.right past.leaves
+    (looked_past seen moment left_at stays c.args.left c.args.right end l r start store.left store.right left.left left.right past.later wrote.ensures.disks.left wrote.ensures.disks.right now.left now.right past.leaves
     (ends_kept seen moment left_at stays _ l r start [] store past opens.order)))
 
-pub returns-clause-left_time : goal.returns-clause-left_time
-returns-clause-left_time g c =
-    subst (GoesOn g.D.Disk.moment g.D.Disk.left_at c.args.left) (sym c.close-left.ensures.left)
-    (joined g.D.Disk.moment g.D.Disk.left_at c.args.left c.in-Ok.store.left c.write_told-end.new.store.left c.in-Ok.ensures.left_time c.write_told-end.ensures.left.leaves.goes_on)
-
-pub returns-clause-right_time : goal.returns-clause-right_time
-returns-clause-right_time g c =
-    subst (GoesOn g.D.Disk.moment g.D.Disk.left_at c.args.right) (sym c.close-left.ensures.right)
-    (joined g.D.Disk.moment g.D.Disk.left_at c.args.right c.in-Ok.store.right c.write_told-end.new.store.right c.in-Ok.ensures.right_time c.write_told-end.ensures.right.leaves.goes_on)
+pub returns-clause-disks : goal.returns-clause-disks
+returns-clause-disks g c =
+    let moment = g.D.Disk.moment in
+    let left_at = g.D.Disk.left_at in
+    let looked = c.write_told-end.ensures.disks in
+    let opened = c.in-Ok.store in
+    let closed = c.write_told-end.new.store in
+    record {
+      count = search rules;
+      left_time = subst (GoesOn moment left_at c.args.left) (sym c.close-left.ensures.left)
+          (joined moment left_at c.args.left opened.left closed.left c.in-Ok.ensures.left_time looked.left.leaves.goes_on);
+      right_time = subst (GoesOn moment left_at c.args.right) (sym c.close-left.ensures.right)
+          (joined moment left_at c.args.right opened.right closed.right c.in-Ok.ensures.right_time looked.right.leaves.goes_on);
+    }

@@ -28,14 +28,20 @@ returns-in-Answers-clause-written g c held w s told found stands from_one leads 
     subst (λ (what : Told). WritesTold what s w.commands wrote.result (g.K.Sink.held c.args.out.now) (g.K.Sink.held wrote.new.out)) (sym c.in-Answers.is)
     (wrote.ensures.written held w s told found stands from_one leads)
 
-pub returns-in-State-clause-no_line : goal.returns-in-State-clause-no_line
-returns-in-State-clause-no_line g c number = (c.write_standing.ensures.no_number number).0
+pub returns-in-State-clause-ends : goal.returns-in-State-clause-ends
+returns-in-State-clause-ends g c =
+    let e = c.write_standing.ensures in
+    record {
+      no_source = e.no_source;
+      no_line = λ number. (e.no_number number).0;
+      no_limit = λ other number. let so = e.no_number number in (so.1, so.2);
+    }
 
-pub returns-in-State-clause-no_limit : goal.returns-in-State-clause-no_limit
-returns-in-State-clause-no_limit g c other number = let so = c.write_standing.ensures.no_number number in (so.1, so.2)
-
-pub returns-in-Report-clause-no_line : goal.returns-in-Report-clause-no_line
-returns-in-Report-clause-no_line g c number = (c.write_report.ensures.no_number number).0
-
-pub returns-in-Report-clause-no_limit : goal.returns-in-Report-clause-no_limit
-returns-in-Report-clause-no_limit g c other number = let so = c.write_report.ensures.no_number number in (so.1, so.2)
+pub returns-in-Report-clause-ends : goal.returns-in-Report-clause-ends
+returns-in-Report-clause-ends g c =
+    let e = c.write_report.ensures in
+    record {
+      no_source = e.no_source;
+      no_line = λ number. (e.no_number number).0;
+      no_limit = λ other number. let so = e.no_number number in (so.1, so.2);
+    }
