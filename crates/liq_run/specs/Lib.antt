@@ -1,4 +1,5 @@
 pub mod Calls
 pub mod Passing
 pub mod Progress
+pub mod Turns
 pub mod Writing

@@ -1,6 +1,6 @@
 //! The word `run`: a store over two disks, and the lines that it is asked and answers.
 
-ghost use Rattle.std.specs.Prelude.{length, Err, Option, Some, None, ◌≡◌, ◌≢◌, IsTrue, ◌≤◌, ◌<◌, ◌+◌, [], ℕ, List, Ok, OnOk, OnErr, IfOk, IfErr, IfSome, IsSome, vec_capacity};
+ghost use Rattle.std.specs.Prelude.{length, Err, Option, Some, None, ◌≡◌, ◌≢◌, ◌≤◌, ◌<◌, ◌+◌, [], ℕ, List, Ok, IfOk, IfErr, IfSome, IsSome, vec_capacity};
 ghost use Rattle.liq_outside.specs.Disk.{GoesOn};
 ghost use Rattle.liq_types.specs.State.{State};
 ghost use Rattle.liq_types.specs.declared.requests.Request.{Request};
@@ -10,7 +10,8 @@ ghost use Rattle.liq_run.specs.declared.waiting.TheConstants.{WAITING_MOST};
 ghost use Rattle.liq_run.specs.declared.run.Next.TheVariants.{Line};
 ghost use Rattle.liq_run.specs.Calls.{GoOn, IsStopped, KeepsAround};
 ghost use Rattle.liq_run.specs.Passing.{IsPastOf, IsStoppedPastOf, Passes};
-ghost use Rattle.liq_run.specs.Progress.{RequestOn, ReadsRequest, Answered, Answers, Turns, Comes, Ends, GivesBack};
+ghost use Rattle.liq_run.specs.Progress.{RequestOn, ReadsRequest, Answers, Comes, Ends, GivesBack};
+ghost use Rattle.liq_run.specs.Turns.{PartShows, TakesTurn};
 ghost use Rattle.liq_core.specs.Core.{StandsFor};
 ghost use Rattle.liq_pairs.specs.Pair.{state_on};
 ghost use Rattle.liq_store.specs.Causes.{Faults, counts_of};
@@ -18,7 +19,7 @@ ghost use Rattle.liq_store.specs.Opening.{IsNotOpened, OpensOn};
 ghost use Rattle.liq_store.specs.Keeping.{IsInOrder};
 ghost use Rattle.liq_lines.specs.declared.reader.TheConstants.{READ_BYTES};
 ghost use Rattle.liq_lines.specs.Lines.{IsWholeLine};
-ghost use Rattle.liq_lines.specs.Reading.{unread, ReadsAtMost, taken_most, ReadsFew};
+ghost use Rattle.liq_lines.specs.Reading.{unread, ReadsAtMost, taken_most};
 ghost use Rattle.liq_ends.specs.declared.halts.Halt.{Halt};
 ghost use Rattle.liq_ends.specs.Causes.{DiskCause, DisksGoOn, ReadCause, WriteCause};
 ghost use Rattle.liq_ends.specs.Disks.{EndsDamaged, IsFaultOfTelling, LeavesOfRun, OfDamage, OfState};
@@ -280,13 +281,7 @@ impl<D: Disk> Run<D> {
             → Comes start result self.new.store.core (λ requests. IsPastOf D.seen D.moment D.left_at old_left old_right l r start requests self.new.store) (KeepsAround D.seen self.new.store.left self.new.store.right)
             (λ requests request. IsStoppedPastOf D.seen D.moment D.left_at old_left old_right l r start requests request self.new.store) bytes (S.left input.new) self.new.waiting.items (K.held out.old) (K.held out.new) }
         ensures few { ReadsAtMost (taken_most LINES_MOST) (S.left input.old) (S.left input.new) }
-        ensures caught_up { result ≡ Err Halt.ReadFault → self.new.waiting.items ≡ [] }
-        ensures caught_up_too { result ≡ Err Halt.DiskFault → self.new.waiting.items ≡ [] }
-        ensures source { ReadCause result (S.faults input.old) (S.faults input.new) }
-        ensures sink { WriteCause result (K.faults out.old) (K.faults out.new) }
-        ensures stopped { IsStopped result self.new.store.stopped }
-        ensures time { GoOn D.moment D.left_at self.old.store self.new.store }
-        ensures disks { DiskCause result (counts_of D.faults self.old.store.left self.old.store.right) (counts_of D.faults self.new.store.left self.new.store.right) }
+        ensures shows { PartShows D.faults D.moment D.left_at self.old.store self.new.store self.new.waiting.items (S.faults input.old) (S.faults input.new) (K.faults out.old) (K.faults out.new) result }
     {
         for answered in 0..LINES_MOST {
             if !self.turn(input, out, answered)? {
@@ -333,18 +328,9 @@ impl<D: Disk> Run<D> {
     ) -> Result<bool, Halt>
         requires few { answered < LINES_MOST }
         requires going { self.old.store.stopped ≡ None }
-        ensures turn { (start : State) (bytes : List ℕ) (before : Option (List ℕ)) (old_left old_right : D) (l r : List ℕ)
-            → Answered start bytes answered self.old.store.core (unread self.old.reader (S.left input.old)) self.old.waiting.items before (K.held out.old) (λ requests. IsPastOf D.seen D.moment D.left_at old_left old_right l r start requests self.old.store)
-            → Turns start (λ requests. IsPastOf D.seen D.moment D.left_at old_left old_right l r start requests self.new.store) (KeepsAround D.seen self.new.store.left self.new.store.right)
-            (λ requests request. IsStoppedPastOf D.seen D.moment D.left_at old_left old_right l r start requests request self.new.store) bytes answered self.new.store.core (unread self.new.reader (S.left input.new)) (S.left input.new) self.new.waiting.items before (K.held out.new) result }
-        ensures few { (before : Option (List ℕ)) → ReadsFew before answered self.old.reader (S.left input.old) → ReadsFew before (answered + 1) self.new.reader (S.left input.new) }
-        ensures caught_up { result ≡ Err Halt.ReadFault → self.new.waiting.items ≡ [] }
-        ensures caught_up_too { result ≡ Err Halt.DiskFault → self.new.waiting.items ≡ [] }
-        ensures source { ReadCause result (S.faults input.old) (S.faults input.new) }
-        ensures sink { WriteCause result (K.faults out.old) (K.faults out.new) }
-        ensures stopped { IsStopped result self.new.store.stopped }
-        ensures time { GoOn D.moment D.left_at self.old.store self.new.store }
-        ensures disks { DiskCause result (counts_of D.faults self.old.store.left self.old.store.right) (counts_of D.faults self.new.store.left self.new.store.right) }
+        ensures turn { TakesTurn D.seen D.moment D.left_at answered (record { store = self.old.store; taken = self.old.reader; left = S.left input.old; waiting = self.old.waiting.items; held = K.held out.old })
+            (record { store = self.new.store; taken = self.new.reader; left = S.left input.new; waiting = self.new.waiting.items; held = K.held out.new }) result }
+        ensures shows { PartShows D.faults D.moment D.left_at self.old.store self.new.store self.new.waiting.items (S.faults input.old) (S.faults input.new) (K.faults out.old) (K.faults out.new) result }
     {
         let whole = self.reader.whole_line();
         if let Some(query) = next_query(&mut self.reader, whole) {
@@ -365,18 +351,9 @@ impl<D: Disk> Run<D> {
         requires whole { IfSome whole (λ size. IsWholeLine size self.old.reader) }
         requires few { answered < LINES_MOST }
         requires going { self.old.store.stopped ≡ None }
-        ensures turn { (start : State) (bytes : List ℕ) (before : Option (List ℕ)) (old_left old_right : D) (l r : List ℕ)
-            → Answered start bytes answered self.old.store.core (unread self.old.reader (S.left input.old)) self.old.waiting.items before (K.held out.old) (λ requests. IsPastOf D.seen D.moment D.left_at old_left old_right l r start requests self.old.store)
-            → Turns start (λ requests. IsPastOf D.seen D.moment D.left_at old_left old_right l r start requests self.new.store) (KeepsAround D.seen self.new.store.left self.new.store.right)
-            (λ requests request. IsStoppedPastOf D.seen D.moment D.left_at old_left old_right l r start requests request self.new.store) bytes answered self.new.store.core (unread self.new.reader (S.left input.new)) (S.left input.new) self.new.waiting.items before (K.held out.new) result }
-        ensures few { (before : Option (List ℕ)) → ReadsFew before answered self.old.reader (S.left input.old) → ReadsFew before (answered + 1) self.new.reader (S.left input.new) }
-        ensures caught_up { result ≡ Err Halt.ReadFault → self.new.waiting.items ≡ [] }
-        ensures caught_up_too { result ≡ Err Halt.DiskFault → self.new.waiting.items ≡ [] }
-        ensures source { ReadCause result (S.faults input.old) (S.faults input.new) }
-        ensures sink { WriteCause result (K.faults out.old) (K.faults out.new) }
-        ensures stopped { IsStopped result self.new.store.stopped }
-        ensures time { GoOn D.moment D.left_at self.old.store self.new.store }
-        ensures disks { DiskCause result (counts_of D.faults self.old.store.left self.old.store.right) (counts_of D.faults self.new.store.left self.new.store.right) }
+        ensures turn { TakesTurn D.seen D.moment D.left_at answered (record { store = self.old.store; taken = self.old.reader; left = S.left input.old; waiting = self.old.waiting.items; held = K.held out.old })
+            (record { store = self.new.store; taken = self.new.reader; left = S.left input.new; waiting = self.new.waiting.items; held = K.held out.new }) result }
+        ensures shows { PartShows D.faults D.moment D.left_at self.old.store self.new.store self.new.waiting.items (S.faults input.old) (S.faults input.new) (K.faults out.old) (K.faults out.new) result }
     {
         catch_up(whole, &mut self.waiting, out)?;
         match next_request(&mut self.reader, whole, &mut self.line, input, answered + 1)? {

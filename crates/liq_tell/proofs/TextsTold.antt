@@ -1,5 +1,5 @@
 -- What was told, by the end of the word.
-use Rattle.std.proofs.Common.{◌≡◌, ℕ, List, [], ◌∷◌, Option, Ok, Err, Result, refl, subst, lit<}
+use Rattle.std.proofs.Common.{◌≡◌, ◌≢◌, ℕ, List, [], ◌∷◌, Option, Ok, Err, Result, refl, subst, lit<}
 use Rattle.std.specs.Prelude.{Contains, IfErr, OnOk}
 use Rattle.liq_types.specs.declared.requests.Command.{Command}
 use Rattle.liq_types.specs.State.{State}
@@ -18,7 +18,7 @@ use Rattle.liq_tell.specs.Answers.{IsAnswerOf, asked_text}
 use Rattle.liq_tell.specs.Audit.{IsAuditOf}
 use Rattle.liq_tell.specs.Report.{reported}
 use Rattle.liq_tell.specs.State.{standing}
-use Rattle.liq_tell.specs.Told.{EndsTelling, WritesTold}
+use Rattle.liq_tell.specs.Told.{EndsTelling, MayEnd, WritesTold}
 use Rattle.liq_tell.specs.Whole.{FindsWhole}
 use Rattle.liq_tell.specs.Writing.{AuditHolds, WritesAudit, WritesAnswers, WritesText}
 
@@ -120,6 +120,11 @@ whole_answers s commands asked NoMemory held h = refl
 whole_answers s commands asked _ held h = absurd h
 
 -- ---- of each
+
+-- what stands is told whatever the limits and the journal's generation are
+pub may_end : (what : Told) (end : Result (Unit {0}) Halt) → end ≢ Err ReadFault → ((number : ℕ) → (end ≢ Err (BadLine number)) × (end ≢ Err (Limit number)) × (end ≢ Err (Rotated number))) → MayEnd what end
+may_end what end no_source no_number =
+    record { no_source = no_source; no_line = λ number. (no_number number).0; no_limit = λ other number. let so = no_number number in (so.1, so.2) }
 
 -- a word that met a disk's fault, or no memory, wrote nothing
 pub nothing_told : (what : Told) (s : State) (commands : List Command) (held : Option (List ℕ)) → WritesTold what s commands (Err DiskFault) held held × WritesTold what s commands (Err NoMemory) held held

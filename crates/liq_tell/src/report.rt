@@ -17,10 +17,12 @@ use std::alloc::Global;
 
 /// Writes the report of what stands, as a line.
 pub fn write_report<K: Sink>(alloc: Global, protocol: &Protocol, out: &mut K) -> Result<(), Halt>
-    ensures written { (s : State) → StandsFor protocol.now s → WritesText (Ok (reported s)) result (K.held out.old) (K.held out.new) }
+    ensures written { (s : State) → StandsFor protocol.now s
+        → WritesText (Ok (reported s)) result (K.held out.old) (K.held out.new) }
     ensures no_disk { result ≢ Err Halt.DiskFault }
     ensures no_source { result ≢ Err Halt.ReadFault }
-    ensures no_number { (number : ℕ) → (result ≢ Err (Halt.BadLine number)) × (result ≢ Err (Halt.Limit number)) × (result ≢ Err (Halt.Rotated number)) }
+    ensures no_number { (number : ℕ) → (result ≢ Err (Halt.BadLine number))
+        × (result ≢ Err (Halt.Limit number)) × (result ≢ Err (Halt.Rotated number)) }
     ensures sink { WriteCause result (K.faults out.old) (K.faults out.new) }
 {
     let line = line_of(alloc, protocol)?;

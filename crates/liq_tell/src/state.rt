@@ -22,10 +22,12 @@ use std::alloc::{AllocError, Global};
 
 /// Writes the text of what stands.
 pub fn write_standing<K: Sink>(alloc: Global, protocol: &Protocol, out: &mut K) -> Result<(), Halt>
-    ensures written { (s : State) → StandsFor protocol.now s → WritesText (Ok (standing s)) result (K.held out.old) (K.held out.new) }
+    ensures written { (s : State) → StandsFor protocol.now s
+        → WritesText (Ok (standing s)) result (K.held out.old) (K.held out.new) }
     ensures no_disk { result ≢ Err Halt.DiskFault }
     ensures no_source { result ≢ Err Halt.ReadFault }
-    ensures no_number { (number : ℕ) → (result ≢ Err (Halt.BadLine number)) × (result ≢ Err (Halt.Limit number)) × (result ≢ Err (Halt.Rotated number)) }
+    ensures no_number { (number : ℕ) → (result ≢ Err (Halt.BadLine number))
+        × (result ≢ Err (Halt.Limit number)) × (result ≢ Err (Halt.Rotated number)) }
     ensures sink { WriteCause result (K.faults out.old) (K.faults out.new) }
 {
     let text = text_of(alloc, protocol)?;

@@ -2,6 +2,7 @@ use Rattle.std.proofs.Common.{sym, subst}
 use Rattle.liq_core.specs.Core.{Core, StandsFor}
 use Rattle.liq_tell.specs.declared.telling.Told.{Told}
 use Rattle.liq_tell.specs.Told.{WritesTold}
+use Rattle.liq_tell.proofs.TextsTold.{may_end}
 use Rattle.liq_tell.proofs.telling.write_told.Goals as goal
 
 pub returns-in-State-clause-written : goal.returns-in-State-clause-written
@@ -29,19 +30,7 @@ returns-in-Answers-clause-written g c held w s told found stands from_one leads 
     (wrote.ensures.written held w s told found stands from_one leads)
 
 pub returns-in-State-clause-ends : goal.returns-in-State-clause-ends
-returns-in-State-clause-ends g c =
-    let e = c.write_standing.ensures in
-    record {
-      no_source = e.no_source;
-      no_line = λ number. (e.no_number number).0;
-      no_limit = λ other number. let so = e.no_number number in (so.1, so.2);
-    }
+returns-in-State-clause-ends g c = may_end c.args.what.now c.write_standing.result c.write_standing.ensures.no_source c.write_standing.ensures.no_number
 
 pub returns-in-Report-clause-ends : goal.returns-in-Report-clause-ends
-returns-in-Report-clause-ends g c =
-    let e = c.write_report.ensures in
-    record {
-      no_source = e.no_source;
-      no_line = λ number. (e.no_number number).0;
-      no_limit = λ other number. let so = e.no_number number in (so.1, so.2);
-    }
+returns-in-Report-clause-ends g c = may_end c.args.what.now c.write_report.result c.write_report.ensures.no_source c.write_report.ensures.no_number

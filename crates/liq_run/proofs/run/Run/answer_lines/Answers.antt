@@ -23,17 +23,17 @@ loop-answered-init g c = record {
 
 pub returns-then-not-branch-clause-run : goal.returns-then-not-branch-clause-run
 returns-then-not-branch-clause-run g c start stands bytes told ol or l r past =
-    (rw c.if-not-branch.true at c.in_ok-turn.ensures.turn) start bytes (g.K.Sink.held c.args.out.now) ol or l r (c.loop-answered.invariant.answered start stands bytes told ol or l r past)
+    (rw c.if-not-branch.true at c.in_ok-turn.ensures.turn).turn start bytes (g.K.Sink.held c.args.out.now) ol or l r (c.loop-answered.invariant.answered start stands bytes told ol or l r past)
 
 pub loop-answered-preserved : goal.loop-answered-preserved
 loop-answered-preserved g c = record {
-  answered = λ start stands bytes told ol or l r past. (rw c.if-not-branch.false at c.in_ok-turn.ensures.turn) start bytes (g.K.Sink.held c.args.out.now) ol or l r (c.loop-answered.invariant.answered start stands bytes told ol or l r past);
-  time = behind g.D.Disk.moment g.D.Disk.left_at _ _ _ c.loop-answered.invariant.time c.turn.ensures.time;
-  few = c.turn.ensures.few (g.S.Source.left c.args.input.now) c.loop-answered.invariant.few;
-  going = c.in_ok-turn.ensures.stopped;
-  disks_count = c.in_ok-turn.ensures.disks ∙ c.loop-answered.invariant.disks_count;
-  source_count = c.in_ok-turn.ensures.source ∙ c.loop-answered.invariant.source_count;
-  sink_count = c.in_ok-turn.ensures.sink ∙ c.loop-answered.invariant.sink_count;
+  answered = λ start stands bytes told ol or l r past. (rw c.if-not-branch.false at c.in_ok-turn.ensures.turn).turn start bytes (g.K.Sink.held c.args.out.now) ol or l r (c.loop-answered.invariant.answered start stands bytes told ol or l r past);
+  time = behind g.D.Disk.moment g.D.Disk.left_at _ _ _ c.loop-answered.invariant.time c.turn.ensures.shows.time;
+  few = c.turn.ensures.turn.few (g.S.Source.left c.args.input.now) c.loop-answered.invariant.few;
+  going = c.in_ok-turn.ensures.shows.stopped;
+  disks_count = c.in_ok-turn.ensures.shows.disks ∙ c.loop-answered.invariant.disks_count;
+  source_count = c.in_ok-turn.ensures.shows.source ∙ c.loop-answered.invariant.source_count;
+  sink_count = c.in_ok-turn.ensures.shows.sink ∙ c.loop-answered.invariant.sink_count;
 }
 
 pub returns-in_err-flush-clause-run : goal.returns-in_err-flush-clause-run
@@ -68,11 +68,11 @@ returns-in-Err-clause-run g c start stands bytes told ol or l r past =
 
 pub returns-then-not-branch-clause-few : goal.returns-then-not-branch-clause-few
 returns-then-not-branch-clause-few g c =
-    few_in_all _ (c.loop-answered.answered + 1) _ _ (c.turn.ensures.few (g.S.Source.left c.args.input.now) c.loop-answered.invariant.few) (omega (arith, c.loop-answered-test.true))
+    few_in_all _ (c.loop-answered.answered + 1) _ _ (c.turn.ensures.turn.few (g.S.Source.left c.args.input.now) c.loop-answered.invariant.few) (omega (arith, c.loop-answered-test.true))
 
 pub returns-in_err-turn-clause-few : goal.returns-in_err-turn-clause-few
 returns-in_err-turn-clause-few g c =
-    few_in_all _ (c.loop-answered.answered + 1) _ _ (c.turn.ensures.few (g.S.Source.left c.args.input.now) c.loop-answered.invariant.few) (omega (arith, c.loop-answered-test.true))
+    few_in_all _ (c.loop-answered.answered + 1) _ _ (c.turn.ensures.turn.few (g.S.Source.left c.args.input.now) c.loop-answered.invariant.few) (omega (arith, c.loop-answered-test.true))
 
 pub returns-in_err-flush-clause-few : goal.returns-in_err-flush-clause-few
 returns-in_err-flush-clause-few g c = few_in_all _ c.loop-answered.answered _ _ c.loop-answered.invariant.few (omega (arith, c.loop-answered.auto.answered-end))
@@ -101,4 +101,4 @@ returns-in_err-turn-clause-run g c start stands bytes told ol or l r past =
     subst (λ (end : Result (Unit {0}) Halt). Comes start end store.core (λ requests. IsPastOf g.D.Disk.seen g.D.Disk.moment g.D.Disk.left_at ol or l r start requests store) (KeepsAround g.D.Disk.seen store.left store.right)
     (λ requests request. IsStoppedPastOf g.D.Disk.seen g.D.Disk.moment g.D.Disk.left_at ol or l r start requests request store) bytes (g.S.Source.left c.turn.new.input) c.turn.new.self.waiting.items (held c.args.out.now) (held c.turn.new.out))
     (sym (handed_on c.from_residual.result halt c.from_residual.ensures.1))
-    (c.in_err-turn.ensures.turn start bytes (held c.args.out.now) ol or l r (c.loop-answered.invariant.answered start stands bytes told ol or l r past))
+    (c.in_err-turn.ensures.turn.turn start bytes (held c.args.out.now) ol or l r (c.loop-answered.invariant.answered start stands bytes told ol or l r past))

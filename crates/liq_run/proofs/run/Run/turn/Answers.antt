@@ -11,47 +11,41 @@ use Rattle.liq_lines.proofs.Readings.{few_line}
 use Rattle.liq_run.proofs.run.Run.turn.Goals as goal
 
 pub returns-in-Some-clause-turn : goal.returns-in-Some-clause-turn
-returns-in-Some-clause-turn g c start bytes before ol or l r a =
-    let left = g.S.Source.left c.args.input.now in
-    let read = c.in-Some.ensures.query (c.args.answered + 1) left in
-    let said = c.in_ok-answer_query.ensures.answer (run start a.requests).0 a.stands in
-    subst (λ (taken : List ℕ). Answered start bytes (c.args.answered + 1) c.answer_query.new.self.store.core (unread taken left) c.answer_query.new.self.waiting.items before (g.K.Sink.held c.answer_query.new.out)
-    (λ requests. IsPastOf g.D.Disk.seen g.D.Disk.moment g.D.Disk.left_at ol or l r start requests c.answer_query.new.self.store)) (sym c.answer_query.ensures.reader)
-    (line_answered start bytes read.0 (Ask c.in-Some.query) c.args.answered c.args.self.now.store.core c.answer_query.new.self.store.core _ _ _ _ before _ _ _ _ read.1 read.2 read.3 a said (c.in_ok-answer_query.ensures.past ol or l r start a.requests a.passed))
+returns-in-Some-clause-turn g c = record {
+  turn = λ start bytes before ol or l r a. let left = g.S.Source.left c.args.input.now in
+      let read = c.in-Some.ensures.query (c.args.answered + 1) left in
+      let said = c.in_ok-answer_query.ensures.answer (run start a.requests).0 a.stands in
+      subst (λ (taken : List ℕ). Answered start bytes (c.args.answered + 1) c.answer_query.new.self.store.core (unread taken left) c.answer_query.new.self.waiting.items before (g.K.Sink.held c.answer_query.new.out)
+      (λ requests. IsPastOf g.D.Disk.seen g.D.Disk.moment g.D.Disk.left_at ol or l r start requests c.answer_query.new.self.store)) (sym c.answer_query.ensures.reader)
+      (line_answered start bytes read.0 (Ask c.in-Some.query) c.args.answered c.args.self.now.store.core c.answer_query.new.self.store.core _ _ _ _ before _ _ _ _ read.1 read.2 read.3 a said (c.in_ok-answer_query.ensures.past ol or l r start a.requests a.passed));
+  few = λ before h. let left = g.S.Source.left c.args.input.now in
+      subst (λ (taken : List ℕ). ReadsFew before (c.args.answered + 1) taken left) (sym c.answer_query.ensures.reader)
+      (few_line before c.args.answered _ _ h _ _ (c.in-Some.ensures.few left) (c.in-Some.ensures.held refl));
+}
 
 pub returns-in_err-answer_query-clause-turn : goal.returns-in_err-answer_query-clause-turn
-returns-in_err-answer_query-clause-turn g c start bytes before ol or l r a =
-    let left = g.S.Source.left c.args.input.now in
-    let read = c.in-Some.ensures.query (c.args.answered + 1) left in
-    let said = c.in_err-answer_query.ensures.answer (run start a.requests).0 a.stands in
-    let first = first_line a.rest read.0 _ read.2 (subst (λ (u : Option (List ℕ)). Reads u (read.0 ++ 10 ∷ []) (unread c.next_query.new.reader left)) a.unread_is read.3) in
-    let halt = c.in_err-answer_query.field-0.0 in
-    turn_halts start _ _ _ bytes c.args.answered _ _ left c.answer_query.new.self.waiting.items before (g.K.Sink.held c.answer_query.new.out) c.from_residual.result halt
-    (handed_on c.from_residual.result halt c.from_residual.ensures.1)
-    (answering_halts start _ _ _ _ (same_past g.D.Disk.seen g.D.Disk.moment g.D.Disk.left_at g.met.D.Disk.seen_may_stay ol or l r start c.answer_query.new.self.store)
-    halt bytes read.0 first.0 (Ask c.in-Some.query) c.args.answered c.args.self.now.store.core c.answer_query.new.self.store.core _ left _ _ before _ _ c.requires.few read.1 a first.1 said (λ is. c.in_err-answer_query.ensures.kept (ap Err is) (run start a.requests).0 a.stands)
-    (c.in_err-answer_query.ensures.past ol or l r start a.requests a.passed))
-
-pub returns-in-Some-clause-few : goal.returns-in-Some-clause-few
-returns-in-Some-clause-few g c before h =
-    let left = g.S.Source.left c.args.input.now in
-    subst (λ (taken : List ℕ). ReadsFew before (c.args.answered + 1) taken left) (sym c.answer_query.ensures.reader)
-    (few_line before c.args.answered _ _ h _ _ (c.in-Some.ensures.few left) (c.in-Some.ensures.held refl))
-
-pub returns-in_err-answer_query-clause-few : goal.returns-in_err-answer_query-clause-few
-returns-in_err-answer_query-clause-few g c before h =
-    let left = g.S.Source.left c.args.input.now in
-    subst (λ (taken : List ℕ). ReadsFew before (c.args.answered + 1) taken left) (sym c.answer_query.ensures.reader)
-    (few_line before c.args.answered _ _ h _ _ (c.in-Some.ensures.few left) (c.in-Some.ensures.held refl))
+returns-in_err-answer_query-clause-turn g c = record {
+  turn = λ start bytes before ol or l r a. let left = g.S.Source.left c.args.input.now in
+      let read = c.in-Some.ensures.query (c.args.answered + 1) left in
+      let said = c.in_err-answer_query.ensures.answer (run start a.requests).0 a.stands in
+      let first = first_line a.rest read.0 _ read.2 (subst (λ (u : Option (List ℕ)). Reads u (read.0 ++ 10 ∷ []) (unread c.next_query.new.reader left)) a.unread_is read.3) in
+      let halt = c.in_err-answer_query.field-0.0 in
+      turn_halts start _ _ _ bytes c.args.answered _ _ left c.answer_query.new.self.waiting.items before (g.K.Sink.held c.answer_query.new.out) c.from_residual.result halt
+      (handed_on c.from_residual.result halt c.from_residual.ensures.1)
+      (answering_halts start _ _ _ _ (same_past g.D.Disk.seen g.D.Disk.moment g.D.Disk.left_at g.met.D.Disk.seen_may_stay ol or l r start c.answer_query.new.self.store)
+      halt bytes read.0 first.0 (Ask c.in-Some.query) c.args.answered c.args.self.now.store.core c.answer_query.new.self.store.core _ left _ _ before _ _ c.requires.few read.1 a first.1 said (λ is. c.in_err-answer_query.ensures.kept (ap Err is) (run start a.requests).0 a.stands)
+      (c.in_err-answer_query.ensures.past ol or l r start a.requests a.passed));
+  few = λ before h. let left = g.S.Source.left c.args.input.now in
+      subst (λ (taken : List ℕ). ReadsFew before (c.args.answered + 1) taken left) (sym c.answer_query.ensures.reader)
+      (few_line before c.args.answered _ _ h _ _ (c.in-Some.ensures.few left) (c.in-Some.ensures.held refl));
+}
 
 pub returns-clause-turn : goal.returns-clause-turn
-returns-clause-turn g c start bytes before ol or l r a =
-    let left = g.S.Source.left c.args.input.now in
-    c.turn_at.ensures.turn start bytes before ol or l r
-    (subst (λ (taken : List ℕ). Answered start bytes c.args.answered c.args.self.now.store.core (unread taken left) c.args.self.now.waiting.items before (g.K.Sink.held c.args.out.now)
-    (λ requests. IsPastOf g.D.Disk.seen g.D.Disk.moment g.D.Disk.left_at ol or l r start requests c.args.self.now.store)) (sym (c.in_default.ensures.stays refl)) a)
-
-pub returns-clause-few : goal.returns-clause-few
-returns-clause-few g c before h =
-    let left = g.S.Source.left c.args.input.now in
-    c.turn_at.ensures.few before (subst (λ (taken : List ℕ). ReadsFew before c.args.answered taken left) (sym (c.in_default.ensures.stays refl)) h)
+returns-clause-turn g c = record {
+  turn = λ start bytes before ol or l r a. let left = g.S.Source.left c.args.input.now in
+      c.turn_at.ensures.turn.turn start bytes before ol or l r
+      (subst (λ (taken : List ℕ). Answered start bytes c.args.answered c.args.self.now.store.core (unread taken left) c.args.self.now.waiting.items before (g.K.Sink.held c.args.out.now)
+      (λ requests. IsPastOf g.D.Disk.seen g.D.Disk.moment g.D.Disk.left_at ol or l r start requests c.args.self.now.store)) (sym (c.in_default.ensures.stays refl)) a);
+  few = λ before h. let left = g.S.Source.left c.args.input.now in
+      c.turn_at.ensures.turn.few before (subst (λ (taken : List ℕ). ReadsFew before c.args.answered taken left) (sym (c.in_default.ensures.stays refl)) h);
+}

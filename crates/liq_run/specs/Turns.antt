@@ -1,0 +1,50 @@
+-- One turn of a run, and what a part of a run shows at its end.
+use Rattle.std.specs.Prelude.{ℕ, ◌≡◌, ◌+◌, [], List, Option, Result, Err, Bool}
+use Rattle.liq_types.specs.State.{State}
+use Rattle.liq_store.specs.Causes.{counts_of}
+use Rattle.liq_store.specs.Stored.{Stored}
+use Rattle.liq_ends.specs.declared.halts.Halt.{Halt}
+use Rattle.liq_ends.specs.declared.halts.Halt.TheVariants.{ReadFault, DiskFault}
+use Rattle.liq_ends.specs.Causes.{DiskCause, ReadCause, WriteCause}
+use Rattle.liq_lines.specs.Reading.{unread, ReadsFew}
+use Rattle.liq_run.specs.Calls.{GoOn, IsStopped, KeepsAround}
+use Rattle.liq_run.specs.Passing.{IsPastOf, IsStoppedPastOf}
+use Rattle.liq_run.specs.Progress.{Answered, Turns}
+
+-- Where a run has come to: its store, the bytes that were taken from the source and not answered yet, what it still
+-- tells, the replies that wait, and what the sink holds.
+pub record Place (D : Type 0) : Type 0 where
+  pub store : Stored D
+  pub taken : List ℕ
+  pub left : Option (List ℕ)
+  pub waiting : List ℕ
+  pub held : Option (List ℕ)
+
+-- The next line was taken, of which there were n before it. Where these are answered, on whatever disks the run began,
+-- so is one more, or the run comes to its end; and no more bytes were taken than a line has.
+pub record TakesTurn
+    {D : Type 0} (seen : D → Option (List ℕ)) (moment : D → ℕ) (left_at : D → ℕ → List ℕ → Type 0) (n : ℕ)
+    (old new : Place D) (result : Result Bool Halt) : Type 0 where
+  pub turn :
+      (start : State) (bytes : List ℕ) (before : Option (List ℕ)) (old_left old_right : D) (l r : List ℕ)
+      → Answered start bytes n old.store.core (unread old.taken old.left) old.waiting before old.held
+      (λ requests. IsPastOf seen moment left_at old_left old_right l r start requests old.store)
+      → Turns start (λ requests. IsPastOf seen moment left_at old_left old_right l r start requests new.store)
+      (KeepsAround seen new.store.left new.store.right)
+      (λ requests request. IsStoppedPastOf seen moment left_at old_left old_right l r start requests request new.store)
+      bytes n new.store.core (unread new.taken new.left) new.left new.waiting before new.held result
+  pub few :
+      (before : Option (List ℕ)) → ReadsFew before n old.taken old.left → ReadsFew before (n + 1) new.taken new.left
+
+-- A part of a run came to this answer. At a fault of the source or of a disk no reply waits; each fault is counted; the
+-- store is stopped by a disk's alone; and for both disks time goes on.
+pub record PartShows
+    {D T : Type 0} (faults moment : D → ℕ) (left_at : D → ℕ → List ℕ → Type 0) (old new : Stored D)
+    (waiting : List ℕ) (source_old source_new sink_old sink_new : ℕ) (result : Result T Halt) : Type 0 where
+  pub caught_up : result ≡ Err ReadFault → waiting ≡ []
+  pub caught_up_too : result ≡ Err DiskFault → waiting ≡ []
+  pub source : ReadCause result source_old source_new
+  pub sink : WriteCause result sink_old sink_new
+  pub stopped : IsStopped result new.stopped
+  pub time : GoOn moment left_at old new
+  pub disks : DiskCause result (counts_of faults old.left old.right) (counts_of faults new.left new.right)
