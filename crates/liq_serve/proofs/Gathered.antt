@@ -16,7 +16,7 @@ use Rattle.liq_ends.specs.Causes.{DiskCause, LastCause, ReadCause}
 use Rattle.liq_ends.specs.Output.{last}
 use Rattle.liq_ends.specs.Stops.{Adds, TellsBehind}
 use Rattle.liq_serve.specs.Finishing.{halt_at}
-use Rattle.liq_serve.specs.Outside.{Outside}
+use Rattle.liq_ends.specs.Outside.{Outside}
 use Rattle.liq_serve.specs.Answered.{AnswersBeside, AnswersLines}
 use Rattle.liq_serve.proofs.Served.{read_so, stopping}
 

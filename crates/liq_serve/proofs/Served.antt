@@ -41,7 +41,7 @@ use Rattle.liq_ends.specs.Reading.{ReadsTo}
 use Rattle.liq_ends.specs.Unsaid.{WritesAll}
 use Rattle.liq_ends.proofs.Causes.{six}
 use Rattle.liq_serve.specs.Finishing.{end_of, halt_at}
-use Rattle.liq_serve.specs.Outside.{Outside}
+use Rattle.liq_ends.specs.Outside.{Outside}
 use Rattle.liq_serve.specs.Top.{Answers, AreLeft, IsFaultOfServing, Keep, OpensNone}
 
 -- ---- the counts

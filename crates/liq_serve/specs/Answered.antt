@@ -11,7 +11,7 @@ use Rattle.liq_ends.specs.Disks.{DisksStay, EndsDamaged, IsFaultOfTelling, Leave
 use Rattle.liq_ends.specs.Reading.{ReadsTo}
 use Rattle.liq_ends.specs.Stops.{TellsBehind}
 use Rattle.liq_tell.specs.Answers.{IsAnswerOf}
-use Rattle.liq_serve.specs.Outside.{Outside}
+use Rattle.liq_ends.specs.Outside.{Outside}
 
 -- The functions say what the source has left and the sink holds, its count of faults, and what a disk holds; the last
 -- two at which moment a disk is, and what a crash at a moment may have left of it.

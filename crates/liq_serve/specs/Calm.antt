@@ -24,7 +24,7 @@ use Rattle.liq_ends.specs.Stops.{Adds}
 use Rattle.liq_follower.specs.Fed.{AreDamagedAt, AreTurnedTo, GoOn}
 use Rattle.liq_follow.specs.declared.feeding.TheConstants.{FED_MOST}
 use Rattle.liq_follow.specs.Followed.{FaultIn}
-use Rattle.liq_serve.specs.Outside.{Outside}
+use Rattle.liq_ends.specs.Outside.{Outside}
 
 -- The arguments are those of `Ends`.
 module _

@@ -48,7 +48,7 @@ use Rattle.liq_load.specs.Load.{load, summary}
 use Rattle.liq_follow.specs.declared.feeding.TheConstants.{FED_MOST}
 use Rattle.liq_follow.specs.Followed.{FollowsTo}
 use Rattle.liq_serve.specs.Answered.{AnswersLines}
-use Rattle.liq_serve.specs.Outside.{Outside}
+use Rattle.liq_ends.specs.Outside.{Outside}
 
 -- the first requests of the session are answered in the history, in order, and these are left
 abbrev pub AreLeft : List (ℕ × Request) → List Entry → ℕ → List Request → Type 0

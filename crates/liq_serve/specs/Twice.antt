@@ -15,7 +15,7 @@ use Rattle.liq_ends.specs.declared.halts.Halt.{Halt}
 use Rattle.liq_ends.specs.declared.halts.Halt.TheVariants.{DiskFault}
 use Rattle.liq_ends.specs.Requests.{IsNext}
 use Rattle.liq_ends.specs.Statuses.{status_of}
-use Rattle.liq_serve.specs.Outside.{Outside}
+use Rattle.liq_ends.specs.Outside.{Outside}
 use Rattle.liq_serve.specs.Top.{RunsTo}
 
 -- What disks hold behind the requests that a run answered: nothing; or, where a disk met a fault, one command more. It

@@ -1,13 +1,11 @@
 //! The words `staking` and `rewards`: lines are answered beside the commands on two disks.
 
 ghost use Rattle.std.specs.Prelude.{◌≡◌, ◌≤◌, ℕ, List, [], Err, length};
-ghost use Rattle.liq_outside.specs.Disk.{GoesOn};
 ghost use Rattle.liq_outside.specs.Faults.{Rose};
 ghost use Rattle.liq_types.specs.declared.amounts.TheConstants.{LINES_MOST};
 ghost use Rattle.liq_types.specs.declared.requests.Command.{Command};
 ghost use Rattle.liq_lines.specs.Reading.{taken_most, ReadsAtMost};
-ghost use Rattle.liq_store.specs.Causes.{counts_of};
-ghost use Rattle.liq_ends.specs.Causes.{DiskCause, LastCause, ReadCause};
+ghost use Rattle.liq_ends.specs.Causes.{DisksGoOn, HasCauses, LastCause};
 ghost use Rattle.liq_ends.specs.Output.{last};
 ghost use Rattle.liq_ends.specs.Stops.{Adds};
 ghost use Rattle.liq_tell.specs.Answers.{AreFew, asked_text};
@@ -52,11 +50,9 @@ where
         (record { source = input.new; sink = out.new; left = result.left; right = result.right })
         F.says F.text result.end }
     ensures takes { ReadsAtMost (taken_most LINES_MOST) (S.left input.old) (S.left input.new) }
-    ensures source { ReadCause result.end (S.faults input.old) (S.faults input.new) }
-    ensures sink { LastCause result.end (K.faults out.old) (K.faults out.new) }
-    ensures disks { DiskCause result.end (counts_of D.faults left right) (counts_of D.faults result.left result.right) }
-    ensures left_time { GoesOn D.moment D.left_at left result.left }
-    ensures right_time { GoesOn D.moment D.left_at right result.right }
+    ensures causes { HasCauses S.faults K.faults D.faults D.moment D.left_at
+        (record { source = input.old; sink = out.old; left = left; right = right })
+        (record { source = input.new; sink = out.new; left = result.left; right = result.right }) result.end }
 {
     match gather::<F, S>(alloc, input) {
         Ok(lines) => tell_on(alloc, Told::Answers(F::asked(lines)), out, left, right),
@@ -136,9 +132,7 @@ fn stopped<K: Sink, D: Disk>(stop: Stop, out: &mut K, left: D, right: D) -> Endi
     ensures written { Adds [] (last (halt_at stop)) (Rose (K.faults out.old) (K.faults out.new))
         (K.held out.old) (K.held out.new) }
     ensures sink { LastCause result.end (K.faults out.old) (K.faults out.new) }
-    ensures disks { DiskCause result.end (counts_of D.faults left right) (counts_of D.faults result.left result.right) }
-    ensures left_time { GoesOn D.moment D.left_at left result.left }
-    ensures right_time { GoesOn D.moment D.left_at right result.right }
+    ensures disks { DisksGoOn D.faults D.moment D.left_at left right result.end result.left result.right }
 {
     let halt = halt_at(stop);
     write_last(out, halt);

@@ -7,7 +7,7 @@ ghost use Rattle.liq_pairs.specs.Pair.{state_on};
 ghost use Rattle.liq_words.specs.declared.words.Word.{Word};
 ghost use Rattle.liq_words.specs.Words.{Ask};
 ghost use Rattle.liq_serve.specs.Calm.{IsComplete};
-ghost use Rattle.liq_serve.specs.Outside.{Outside};
+ghost use Rattle.liq_ends.specs.Outside.{Outside};
 ghost use Rattle.liq_serve.specs.Top.{Ends};
 ghost use Rattle.liq_serve.specs.Twice.{AreBehind, FollowOn};
 

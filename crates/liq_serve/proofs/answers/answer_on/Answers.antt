@@ -7,7 +7,7 @@ use Rattle.liq_ends.specs.Disks.{EndsDamaged}
 use Rattle.liq_ends.specs.Stops.{TellsBehind}
 use Rattle.liq_outside.specs.Faults.{Rose}
 use Rattle.liq_ends.proofs.Causes.{unread_causes}
-use Rattle.liq_serve.specs.Outside.{Outside}
+use Rattle.liq_ends.specs.Outside.{Outside}
 use Rattle.liq_serve.specs.Answered.{AnswersLines}
 use Rattle.liq_serve.proofs.Served.{by_found}
 use Rattle.liq_serve.proofs.Gathered.{lines_stopped, lines_whole, stop_source, source_kept}
@@ -26,7 +26,7 @@ returns-in-Ok-clause-answered g c =
     let before : Outside g.row.S.Denot g.row.K.Denot g.row.D.Denot = record { source = c.args.input.now; sink = c.args.out.now; left = c.args.left; right = c.args.right } in
     let after : Outside g.row.S.Denot g.row.K.Denot g.row.D.Denot = record { source = c.gather.new.input; sink = ran.new.out; left = ran.result.left; right = ran.result.right } in
     lines_whole g.S.Source.left held faults seen g.D.Disk.moment g.D.Disk.left_at g.F.Form.says g.F.Asking.text before after c.in-Ok.lines ran.result.end c.in-Ok.ensures.read
-    ran.ensures.no_source ran.ensures.no_line
+    ran.ensures.ends.no_source ran.ensures.ends.no_line
     (λ l r told_l told_r. by_found (state_on l r) _ _
     (λ start is.
     let so = ran.ensures.told l r told_l told_r start is in
@@ -50,12 +50,22 @@ returns-in-Err-clause-answered g c =
 
 -- ---- the counts
 
-pub returns-in-Ok-clause-source : goal.returns-in-Ok-clause-source
-returns-in-Ok-clause-source g c =
-    source_kept c.tell_on.result.end _ _ c.in-Ok.ensures.source (unread_causes c.tell_on.result.end _ c.tell_on.ensures.no_source)
+pub returns-in-Ok-clause-causes : goal.returns-in-Ok-clause-causes
+returns-in-Ok-clause-causes g c =
+    let told = c.tell_on.ensures in
+    let end = c.tell_on.result.end in
+    record {
+      source = source_kept end _ _ c.in-Ok.ensures.source (unread_causes end _ told.ends.no_source);
+      sink = told.sink;
+      disks = told.disks;
+    }
 
-pub returns-in-Err-clause-source : goal.returns-in-Err-clause-source
-returns-in-Err-clause-source g c =
+pub returns-in-Err-clause-causes : goal.returns-in-Err-clause-causes
+returns-in-Err-clause-causes g c =
     let before = g.S.Source.faults c.args.input.now in
     let after = g.S.Source.faults c.gather.new.input in
-    subst (λ (e : Ending g.row.D.Denot). ReadCause e.end before after) (sym c.stopped.ensures.ending) (stop_source g.row.F-Item.Denot c.in-Err.stop before after c.in-Err.ensures.source)
+    record {
+      source = subst (λ (e : Ending g.row.D.Denot). ReadCause e.end before after) (sym c.stopped.ensures.ending) (stop_source g.row.F-Item.Denot c.in-Err.stop before after c.in-Err.ensures.source);
+      sink = c.stopped.ensures.sink;
+      disks = c.stopped.ensures.disks;
+    }

@@ -1,6 +1,6 @@
 use Rattle.liq_rules.specs.History.{requests_of}
 use Rattle.liq_serve.specs.Finishing.{end_of}
-use Rattle.liq_serve.specs.Outside.{Outside}
+use Rattle.liq_ends.specs.Outside.{Outside}
 use Rattle.liq_ends.proofs.Causes.{write_no_fewer}
 use Rattle.liq_pairs.specs.Pair.{state_on}
 use Rattle.liq_scripts.specs.Output.{served as text_of}
@@ -45,20 +45,16 @@ returns-clause-served g c =
       lawful = λ l r told_l told_r. if_found (state_on l r) _ (λ start is. (answered.legal l r start told_l told_r is, all_shares start (requests_of served.history) (state_formed l r start is)));
     }
 
-pub returns-clause-source : goal.returns-clause-source
-returns-clause-source g c =
+pub returns-clause-causes : goal.returns-clause-causes
+returns-clause-causes g c =
     let ran = c.serve_input-left in
-    rw c.end_of-end.ensures (causes_kept ran.result.finish _ _ _ _ _ _ ran.ensures.source ran.ensures.sink ran.ensures.disks).0
-
-pub returns-clause-sink : goal.returns-clause-sink
-returns-clause-sink g c =
-    let ran = c.serve_input-left in
-    c.tell_last.ensures.sink (g.K.Sink.faults c.args.out.now) (rw c.end_of-end.ensures (causes_kept ran.result.finish _ _ _ _ _ _ ran.ensures.source ran.ensures.sink ran.ensures.disks).1)
-
-pub returns-clause-disks : goal.returns-clause-disks
-returns-clause-disks g c =
-    let ran = c.serve_input-left in
-    rw c.end_of-end.ensures (causes_kept ran.result.finish _ _ _ _ _ _ ran.ensures.source ran.ensures.sink ran.ensures.disks).2
+    let is = c.end_of-end.ensures in
+    let causes = causes_kept ran.result.finish _ _ _ _ _ _ ran.ensures.source ran.ensures.sink ran.ensures.disks in
+    record {
+      source = rw is causes.0;
+      sink = c.tell_last.ensures.sink (g.K.Sink.faults c.args.out.now) (rw is causes.1);
+      disks = record { count = rw is causes.2; left_time = ran.ensures.left_time; right_time = ran.ensures.right_time };
+    }
 
 pub returns-clause-goes_on : goal.returns-clause-goes_on
 returns-clause-goes_on g c generation = rw c.end_of-end.ensures (never_rotated c.serve_input-left.result.finish generation)
