@@ -3,6 +3,7 @@ use Rattle.std.proofs.Common.{◌≡◌, ◌≢◌, ◌≤◌, ℕ, zero, suc, L
 use Rattle.std.specs.Prelude.{◌⊎◌, ◌<◌, Contains}
 use Rattle.std.specs.List.{AllZip}
 use Rattle.std.proofs.lemmas.Result.{MatchResult-at_ok}
+use Rattle.liq_outside.specs.Faults.{Rose}
 use Rattle.liq_types.specs.declared.amounts.TheConstants.{LINES_MOST}
 use Rattle.liq_types.specs.declared.requests.Request.{Request}
 use Rattle.liq_types.specs.State.{State, opening_with}
@@ -20,19 +21,22 @@ use Rattle.liq_pairs.specs.Pair.{commands_on, state_on}
 use Rattle.liq_pairs.specs.Replay.{replay}
 use Rattle.liq_scripts.specs.Asked.{Asks}
 use Rattle.liq_words.specs.declared.words.Word.TheVariants as word
+use Rattle.liq_words.specs.Words.{Ask}
 use Rattle.liq_ends.specs.declared.halts.Halt.{Halt}
 use Rattle.liq_ends.specs.declared.halts.Halt.TheVariants.{BadLine, ReadFault, WriteFault, DiskFault, Damaged, DamagedInput, NoMemory, Limit, Rotated}
 use Rattle.liq_ends.specs.Reading.{ReadsTo}
 use Rattle.liq_ends.specs.Statuses.{IsDone, status_of}
+use Rattle.liq_store.specs.Causes.{OneRose, counts_of}
 use Rattle.liq_tell.specs.Answers.{IsAnswerOf}
 use Rattle.liq_tell.proofs.Audited.{no_limit}
 use Rattle.liq_follower.specs.Fed.{GoOn}
 use Rattle.liq_follow.specs.declared.feeding.TheConstants.{FED_MOST}
+use Rattle.liq_follow.specs.Followed.{FollowsTo}
 use Rattle.liq_follow.proofs.Ended.{damaged_so, long_so, turned_so, whole_so}
-use Rattle.liq_serve.specs.Calm.{IsComplete, Stopped}
-use Rattle.liq_serve.specs.Outside.{Outside}
-use Rattle.liq_serve.specs.Answered.{AnswersBeside, AnswersLines, StopsUnopened}
-use Rattle.liq_serve.specs.Top.{Answers, Ends, OpensNone, ServesTo, Tells}
+use Rattle.liq_serve.specs.Calm.{AnswersFirst, IsComplete, RefusesLater}
+use Rattle.liq_ends.specs.Outside.{Outside}
+use Rattle.liq_serve.specs.Answered.{AnswersBeside, AnswersLines, IsOfNoInput, StopsUnopened}
+use Rattle.liq_serve.specs.Top.{Answers, Ends, Leaves, OpensNone, ServesTo, Tells}
 use Rattle.liq_serve.proofs.Served.{IsStopping}
 use Rattle.liq_serve.proofs.StatusLaws.{neither, run_done}
 use Rattle.liq_serve.proofs.Telling.{audit_done, load_done, rotated_done, state_done}
@@ -136,10 +140,10 @@ module _
       → IsAnswerOf start end ⊎ (status_of end ≡ 7)
   lines_came end answered bytes l r start all told told_l told_r is spelled few read = by answered.came where
     by : ((answered.reading ≡ end) × StopsUnopened unread held sink_faults seen moment left_at before after end)
-        ⊎ ((answered.reading ≡ Ok tt) × AnswersBeside unread held sink_faults seen moment left_at before after (λ limit commands. text limit commands answered.asked) end) → IsAnswerOf start end ⊎ (status_of end ≡ 7)
+        ⊎ ((answered.reading ≡ Ok tt) × IsOfNoInput unread held sink_faults seen moment left_at before after end × AnswersBeside unread held sink_faults seen moment left_at before after (λ limit commands. text limit commands answered.asked) end) → IsAnswerOf start end ⊎ (status_of end ≡ 7)
     by (inl (stopped, unopened)) =
         inr (stopped_seven Says end bytes (unread after.source) answered.asked all unopened.3 (subst (λ (e : Result (Unit {0}) Halt). ReadsTo Says bytes (unread after.source) answered.asked e) stopped (answered.read bytes told)) spelled few read)
-    by (inr (whole, answers)) = inl (MatchResult-at_ok _ _ start is (answers l r told_l told_r)).0
+    by (inr (whole, own, answers)) = inl (MatchResult-at_ok _ _ start is (answers l r told_l told_r)).0
 
 lines_done : (s : State) (end : Result (Unit {0}) Halt) → IsAnswerOf s end ⊎ (status_of end ≡ 7) → s.generation ≡ 1 → status_of end ≢ 4 → status_of end ≢ 5 → IsDone (status_of end)
 lines_done s end (inl h) first sink disk = answers_beside_done s end first h sink disk
@@ -154,11 +158,62 @@ lines_rotated s end (inr seven) later disk = inr seven
 module _
     {S K D : Type 0} (unread : S → Option (List ℕ)) (source_faults : S → ℕ) (held : K → Option (List ℕ)) (sink_faults : K → ℕ) (seen : D → Option (List ℕ))
     (disk_faults : D → ℕ) (moment : D → ℕ) (left_at : D → ℕ → List ℕ → Type 0) (before after : Outside S K D) where
-  abbrev Halted : ℕ → ℕ → Halt → Type 0
-  Halted = Stopped unread source_faults held sink_faults seen disk_faults moment left_at before after
+  -- the counts that rose, by a status
+  record Rises (status : ℕ) : Type 0 where
+    source : status ≡ 3 → Rose (source_faults before.source) (source_faults after.source)
+    sink : status ≡ 4 → Rose (sink_faults before.sink) (sink_faults after.sink)
+    disk : status ≡ 5 → OneRose (counts_of disk_faults before.left before.right) (counts_of disk_faults after.left after.right)
+
+  abbrev First : {X : Type 0} → (List ℕ → X → Type 0) → ℕ → Type 0
+  First Says status = AnswersFirst unread source_faults held sink_faults seen disk_faults moment left_at before after Says status
+
+  abbrev Later : {X : Type 0} → (List ℕ → X → Type 0) → ℕ → Type 0
+  Later Says status = RefusesLater unread source_faults held sink_faults seen disk_faults moment left_at before after Says status
+
+  -- lines of one kind that are answered
+  module _
+      {X : Type 0} (Says : List ℕ → X → Type 0) (text : ℕ → List Command → List X → List ℕ) (end : Result (Unit {0}) Halt)
+      (answered : AnswersLines unread held sink_faults seen moment left_at before after Says text end) (rises : Rises (status_of end)) where
+    lines_first : First Says (status_of end)
+    lines_first bytes l r start asked told stood all few first well calm =
+        lines_done start end (lines_came unread held sink_faults seen moment left_at before after Says text end answered bytes l r start asked told stood.left stood.right stood.is all few (λ is. well (rises.source is)))
+        first (λ is. calm.sink (rises.sink is)) (λ is. calm.disk (rises.disk is))
+
+    lines_later : Later Says (status_of end)
+    lines_later bytes l r start asked told stood all few later well kept =
+        lines_rotated start end (lines_came unread held sink_faults seen moment left_at before after Says text end answered bytes l r start asked told stood.left stood.right stood.is all few (λ is. well (rises.source is)))
+        later (λ is. kept (rises.disk is))
 
   abbrev Told : List ℕ → Result (Unit {0}) Halt → Type 0
   Told text end = Tells unread source_faults held sink_faults seen disk_faults moment left_at before after [] text end
+
+  -- what was followed of a source that told its bytes
+  record Follows (bytes : List ℕ) (end : Result (Unit {0}) Halt) : Type 0 where
+    read : List ℕ
+    reads : Reads (Some bytes) read (unread after.source)
+    text : List ℕ
+    so : FollowsTo end read (unread after.source) text
+    told : Told text end
+
+  module _ (status : ℕ) (words : List (List ℕ)) (ends : Ends unread source_faults held sink_faults seen disk_faults moment left_at before after status words)
+      (asked : Ask words word.Follow) (bytes : List ℕ) (is : unread before.source ≡ Some bytes) where
+    abbrev followed : Result (Unit {0}) Halt
+    followed = (ends.ends word.Follow asked).0
+
+    follows : Follows bytes followed
+    follows =
+        let f = (ends.ends word.Follow asked).2.1 in
+        record { read = f.0; reads = subst (λ (o : Option (List ℕ)). Reads o f.0 (unread after.source)) is f.1; text = f.2.0; so = f.2.1; told = f.2.2 }
+
+    -- no fault of the source stopped it
+    well_read : (Rose (source_faults before.source) (source_faults after.source) → ⊥) → status_of followed ≢ 3
+    well_read well three = well (ends.source_fault ((ends.ends word.Follow asked).1 ∙ three))
+
+    -- it stopped so and told it, unless there was no memory
+    follow_halts : (halt : Halt) → (followed ≡ Err halt) ⊎ (followed ≡ Err NoMemory) → ((status ≡ status_of (Err halt)) × Told follows.text (Err halt)) ⊎ (status ≡ 7)
+    follow_halts halt so =
+        subst (λ (n : ℕ). ((n ≡ status_of (Err halt)) × Told follows.text (Err halt)) ⊎ (n ≡ 7)) (sym (ends.ends word.Follow asked).1)
+        (stopped_by (Told follows.text) followed (Err halt) follows.told so)
 
   pub complete :
       ((l r : List ℕ) (s : State) → state_on l r ≡ Ok s → s.generation ≡ 1 → replay 1 (opening_with s.limit) (commands_on l r) ≡ Ok s)
@@ -166,6 +221,7 @@ module _
       → (status : ℕ) (words : List (List ℕ)) → Ends unread source_faults held sink_faults seen disk_faults moment left_at before after status words
       → IsComplete unread source_faults held sink_faults seen disk_faults moment left_at before after status words
   complete leads stays status words ends =
+      let rises : Rises status = record { source = ends.source_fault; sink = ends.sink_fault; disk = ends.disk_fault } in
       record {
         run = λ asked bytes l r start requests told stood all few well calm.
             let e = ends.ends word.Run asked in
@@ -176,22 +232,18 @@ module _
             let e = ends.ends word.Serve asks in
             subst IsDone (sym e.1)
             (serve_done unread source_faults held sink_faults seen disk_faults moment left_at before after e.0 e.2 bytes l r start asked told stood.left stood.right stood.is all few (λ is. well (ends.source_fault (e.1 ∙ is))) (λ is. calm.sink (ends.sink_fault (e.1 ∙ is))) (λ is. calm.disk (ends.disk_fault (e.1 ∙ is))));
-        staking = λ asks bytes l r start asked told stood all few first well calm.
+        staking = λ asks.
             let e = ends.ends word.Staking asks in
-            subst IsDone (sym e.1)
-            (lines_done start e.0 (lines_came unread held sink_faults seen moment left_at before after stakes.Spells staked_text e.0 e.2 bytes l r start asked told stood.left stood.right stood.is all few (λ is. well (ends.source_fault (e.1 ∙ is)))) first (λ is. calm.sink (ends.sink_fault (e.1 ∙ is))) (λ is. calm.disk (ends.disk_fault (e.1 ∙ is))));
-        staking_rotated = λ asks bytes l r start asked told stood all few later well kept.
+            subst (First stakes.Spells) (sym e.1) (lines_first stakes.Spells staked_text e.0 e.2 (subst Rises e.1 rises));
+        rewards = λ asks.
+            let e = ends.ends word.Rewards asks in
+            subst (First tags.Spells) (sym e.1) (lines_first tags.Spells rewarded_text e.0 e.2 (subst Rises e.1 rises));
+        staking_rotated = λ asks.
             let e = ends.ends word.Staking asks in
-            subst (λ (n : ℕ). (n ≡ 9) ⊎ (n ≡ 7)) (sym e.1)
-            (lines_rotated start e.0 (lines_came unread held sink_faults seen moment left_at before after stakes.Spells staked_text e.0 e.2 bytes l r start asked told stood.left stood.right stood.is all few (λ is. well (ends.source_fault (e.1 ∙ is)))) later (λ is. kept (ends.disk_fault (e.1 ∙ is))));
-        rewards = λ asks bytes l r start asked told stood all few first well calm.
+            subst (Later stakes.Spells) (sym e.1) (lines_later stakes.Spells staked_text e.0 e.2 (subst Rises e.1 rises));
+        rewards_rotated = λ asks.
             let e = ends.ends word.Rewards asks in
-            subst IsDone (sym e.1)
-            (lines_done start e.0 (lines_came unread held sink_faults seen moment left_at before after tags.Spells rewarded_text e.0 e.2 bytes l r start asked told stood.left stood.right stood.is all few (λ is. well (ends.source_fault (e.1 ∙ is)))) first (λ is. calm.sink (ends.sink_fault (e.1 ∙ is))) (λ is. calm.disk (ends.disk_fault (e.1 ∙ is))));
-        rewards_rotated = λ asks bytes l r start asked told stood all few later well kept.
-            let e = ends.ends word.Rewards asks in
-            subst (λ (n : ℕ). (n ≡ 9) ⊎ (n ≡ 7)) (sym e.1)
-            (lines_rotated start e.0 (lines_came unread held sink_faults seen moment left_at before after tags.Spells rewarded_text e.0 e.2 bytes l r start asked told stood.left stood.right stood.is all few (λ is. well (ends.source_fault (e.1 ∙ is)))) later (λ is. kept (ends.disk_fault (e.1 ∙ is))));
+            subst (Later tags.Spells) (sym e.1) (lines_later tags.Spells rewarded_text e.0 e.2 (subst Rises e.1 rises));
         state = λ asked l r start stood calm.
             let e = ends.ends word.State asked in
             let told = MatchResult-at_ok _ _ start stood.is (e.2.1 l r stood.left stood.right) in
@@ -212,31 +264,18 @@ module _
             subst (λ (n : ℕ). (n ≡ 9) ⊎ (n ≡ 7)) (sym e.1) (rotated_done start (commands_on l r) e.0 told.0.0 later told.0.1 (λ is. well (ends.disk_fault (e.1 ∙ is))));
         follow = λ asked bytes told few goes well none.
             let e = ends.ends word.Follow asked in
-            let f = e.2.1 in
-            let reads = subst (λ (o : Option (List ℕ)). Reads o f.0 (unread after.source)) told f.1 in
+            let f = follows status words ends asked bytes told in
             subst IsDone (sym e.1)
-            (done_by e.0 (whole_so bytes f.0 (unread after.source) reads stays e.0 f.2.0 f.2.1 (λ is. well (ends.source_fault (e.1 ∙ is))) few goes (λ is. none (ends.sink_fault (e.1 ∙ is)))));
+            (done_by e.0 (whole_so bytes f.read (unread after.source) f.reads stays e.0 f.text f.so (well_read status words ends asked bytes told well) few goes (λ is. none (ends.sink_fault (e.1 ∙ is)))));
         damaged_input = λ asked bytes told index fault well.
-            let e = ends.ends word.Follow asked in
-            let f = e.2.1 in
-            let reads = subst (λ (o : Option (List ℕ)). Reads o f.0 (unread after.source)) told f.1 in
-            subst (λ (n : ℕ). Halted n 6 (DamagedInput index)) (sym e.1)
-            (stopped_by (λ (end : Result (Unit {0}) Halt). Told f.2.0 end) e.0 (Err (DamagedInput index)) f.2.2
-            (damaged_so bytes f.0 (unread after.source) reads stays e.0 f.2.0 f.2.1 (λ is. well (ends.source_fault (e.1 ∙ is))) index fault));
+            let f = follows status words ends asked bytes told in
+            follow_halts status words ends asked bytes told (DamagedInput index) (damaged_so bytes f.read (unread after.source) f.reads stays _ f.text f.so (well_read status words ends asked bytes told well) index fault);
         rotated_input = λ asked bytes told generation fault well.
-            let e = ends.ends word.Follow asked in
-            let f = e.2.1 in
-            let reads = subst (λ (o : Option (List ℕ)). Reads o f.0 (unread after.source)) told f.1 in
-            subst (λ (n : ℕ). Halted n 9 (Rotated generation)) (sym e.1)
-            (stopped_by (λ (end : Result (Unit {0}) Halt). Told f.2.0 end) e.0 (Err (Rotated generation)) f.2.2
-            (turned_so bytes f.0 (unread after.source) reads stays e.0 f.2.0 f.2.1 (λ is. well (ends.source_fault (e.1 ∙ is))) generation fault));
+            let f = follows status words ends asked bytes told in
+            follow_halts status words ends asked bytes told (Rotated generation) (turned_so bytes f.read (unread after.source) f.reads stays _ f.text f.so (well_read status words ends asked bytes told well) generation fault);
         long_input = λ asked bytes told long goes well.
-            let e = ends.ends word.Follow asked in
-            let f = e.2.1 in
-            let reads = subst (λ (o : Option (List ℕ)). Reads o f.0 (unread after.source)) told f.1 in
-            subst (λ (n : ℕ). Halted n 8 (Limit FED_MOST)) (sym e.1)
-            (stopped_by (λ (end : Result (Unit {0}) Halt). Told f.2.0 end) e.0 (Err (Limit FED_MOST)) f.2.2
-            (long_so bytes f.0 (unread after.source) reads stays e.0 f.2.0 f.2.1 (λ is. well (ends.source_fault (e.1 ∙ is))) long goes));
+            let f = follows status words ends asked bytes told in
+            follow_halts status words ends asked bytes told (Limit FED_MOST) (long_so bytes f.read (unread after.source) f.reads stays _ f.text f.so (well_read status words ends asked bytes told well) long goes);
         gen = λ seed count asked none.
             let e = ends.ends (word.Gen seed count) asked in
             subst IsDone (sym e.1) (load_done (status_of e.0) e.2.1 (λ is. none (ends.sink_fault (e.1 ∙ is))));

@@ -1,5 +1,5 @@
 -- Lines of one kind, read to their end or not.
-use Rattle.std.proofs.Common.{◌≡◌, ℕ, List, [], length, Option, Some, Ok, Err, Result, refl, sym, subst, ap, arith, inl, inr}
+use Rattle.std.proofs.Common.{◌≡◌, ◌≢◌, ℕ, List, [], length, Option, Some, Ok, Err, Result, refl, sym, subst, ap, arith, inl, inr}
 use Rattle.std.specs.Prelude.{Vec}
 use Rattle.std.specs.Global.{Global}
 use Rattle.std.specs.List.{AllZip}
@@ -11,11 +11,12 @@ use Rattle.liq_lines.specs.declared.stops.Stop.TheVariants as stop
 use Rattle.liq_lines.specs.Lines.{lines_in}
 use Rattle.liq_store.specs.Causes.{Faults}
 use Rattle.liq_ends.specs.declared.halts.Halt.{Halt}
+use Rattle.liq_ends.specs.declared.halts.Halt.TheVariants.{BadLine, ReadFault}
 use Rattle.liq_ends.specs.Causes.{DiskCause, LastCause, ReadCause}
 use Rattle.liq_ends.specs.Output.{last}
 use Rattle.liq_ends.specs.Stops.{Adds, TellsBehind}
 use Rattle.liq_serve.specs.Finishing.{halt_at}
-use Rattle.liq_serve.specs.Outside.{Outside}
+use Rattle.liq_ends.specs.Outside.{Outside}
 use Rattle.liq_serve.specs.Answered.{AnswersBeside, AnswersLines}
 use Rattle.liq_serve.proofs.Served.{read_so, stopping}
 
@@ -74,15 +75,16 @@ module _
 
   pub lines_whole :
       (before after : Outside S K D) (items : Vec X Global) (end : Result (Unit {0}) Halt) → lines.Gathers Says AreGathered (Ok items) (unread before.source) (unread after.source)
+      → end ≢ Err ReadFault → ((number : ℕ) → end ≢ Err (BadLine number))
       → AnswersBeside unread held sink_faults seen moment left_at before after (λ limit commands. text limit commands items.items) end
       → AnswersLines unread held sink_faults seen moment left_at before after Says text end
-  lines_whole before after items end read answers =
+  lines_whole before after items end read no_source no_line answers =
       record {
         asked = items.items;
         few = omega (arith, read.few, ap length read.has);
         reading = Ok tt;
         read = λ bytes is. subst (λ (said : List X). AllZip Says (lines_in bytes) said × (unread after.source ≡ Some [])) (sym read.has) (read.read bytes is);
-        came = inr (refl, answers);
+        came = inr (refl, (no_source, no_line), answers);
       }
 
 -- a word that read nothing more keeps the source's count

@@ -41,49 +41,27 @@ use Rattle.liq_ends.specs.Reading.{ReadsTo}
 use Rattle.liq_ends.specs.Unsaid.{WritesAll}
 use Rattle.liq_ends.proofs.Causes.{six}
 use Rattle.liq_serve.specs.Finishing.{end_of, halt_at}
-use Rattle.liq_serve.specs.Outside.{Outside}
+use Rattle.liq_ends.specs.Outside.{Outside}
 use Rattle.liq_serve.specs.Top.{Answers, AreLeft, IsFaultOfServing, Keep, OpensNone}
 
 -- ---- the counts
 
-pub source_cause : (how : Finish) (before after : ℕ) → scripts.ReadCause (reading_of how) before after → ReadCause (end_of how) before after
-source_cause finish.All before after c = c
-source_cause (finish.NotRead (stop.BadLine number)) before after c = c
-source_cause (finish.NotRead stop.ReadFault) before after c = c
-source_cause (finish.NotRead stop.NoMemory) before after c = c
-source_cause (finish.NotRead stop.Limit) before after c = c
-source_cause (finish.NotOpened why.DiskFault) before after c = c
-source_cause (finish.NotOpened (why.Damaged side damage)) before after c = c
-source_cause (finish.NotOpened why.NoMemory) before after c = c
-source_cause finish.NoMemory before after c = c
-source_cause finish.DiskFault before after c = c
-source_cause finish.WriteFault before after c = c
-
-pub sink_cause : (how : Finish) (before after : ℕ) → serving.WriteCause how before after → WriteCause (end_of how) before after
-sink_cause finish.All before after c = c
-sink_cause (finish.NotRead (stop.BadLine number)) before after c = c
-sink_cause (finish.NotRead stop.ReadFault) before after c = c
-sink_cause (finish.NotRead stop.NoMemory) before after c = c
-sink_cause (finish.NotRead stop.Limit) before after c = c
-sink_cause (finish.NotOpened why.DiskFault) before after c = c
-sink_cause (finish.NotOpened (why.Damaged side damage)) before after c = c
-sink_cause (finish.NotOpened why.NoMemory) before after c = c
-sink_cause finish.NoMemory before after c = c
-sink_cause finish.DiskFault before after c = c
-sink_cause finish.WriteFault before after c = c
-
-pub disk_cause : (how : Finish) (before after : Faults) → serving.DiskCause how before after → DiskCause (end_of how) before after
-disk_cause finish.All before after c = c
-disk_cause (finish.NotRead (stop.BadLine number)) before after c = c
-disk_cause (finish.NotRead stop.ReadFault) before after c = c
-disk_cause (finish.NotRead stop.NoMemory) before after c = c
-disk_cause (finish.NotRead stop.Limit) before after c = c
-disk_cause (finish.NotOpened why.DiskFault) before after c = c
-disk_cause (finish.NotOpened (why.Damaged side damage)) before after c = c
-disk_cause (finish.NotOpened why.NoMemory) before after c = c
-disk_cause finish.NoMemory before after c = c
-disk_cause finish.DiskFault before after c = c
-disk_cause finish.WriteFault before after c = c
+-- of the source, of the sink and of the disks
+pub causes_kept :
+    (how : Finish) (source source_now sink sink_now : ℕ) (disks disks_now : Faults)
+    → scripts.ReadCause (reading_of how) source source_now → serving.WriteCause how sink sink_now → serving.DiskCause how disks disks_now
+    → ReadCause (end_of how) source source_now × WriteCause (end_of how) sink sink_now × DiskCause (end_of how) disks disks_now
+causes_kept finish.All _ _ _ _ _ _ s k d = (s, k, d)
+causes_kept (finish.NotRead (stop.BadLine number)) _ _ _ _ _ _ s k d = (s, k, d)
+causes_kept (finish.NotRead stop.ReadFault) _ _ _ _ _ _ s k d = (s, k, d)
+causes_kept (finish.NotRead stop.NoMemory) _ _ _ _ _ _ s k d = (s, k, d)
+causes_kept (finish.NotRead stop.Limit) _ _ _ _ _ _ s k d = (s, k, d)
+causes_kept (finish.NotOpened why.DiskFault) _ _ _ _ _ _ s k d = (s, k, d)
+causes_kept (finish.NotOpened (why.Damaged side damage)) _ _ _ _ _ _ s k d = (s, k, d)
+causes_kept (finish.NotOpened why.NoMemory) _ _ _ _ _ _ s k d = (s, k, d)
+causes_kept finish.NoMemory _ _ _ _ _ _ s k d = (s, k, d)
+causes_kept finish.DiskFault _ _ _ _ _ _ s k d = (s, k, d)
+causes_kept finish.WriteFault _ _ _ _ _ _ s k d = (s, k, d)
 
 -- it goes on in whatever generation
 pub never_rotated : (how : Finish) (generation : ℕ) → end_of how ≢ Err (Rotated generation)

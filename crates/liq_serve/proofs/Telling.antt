@@ -5,10 +5,11 @@ use Rattle.liq_types.specs.declared.requests.Command.{Command}
 use Rattle.liq_types.specs.State.{State}
 use Rattle.liq_review.specs.Reviewed.{reviewed}
 use Rattle.liq_review.specs.declared.fault.ReviewFault.TheVariants as review
-use Rattle.liq_store.specs.Causes.{Faults}
+use Rattle.liq_outside.proofs.Moments.{unmoved}
+use Rattle.liq_store.specs.Causes.{Faults, counts_of}
 use Rattle.liq_ends.specs.declared.halts.Halt.{Halt}
 use Rattle.liq_ends.specs.declared.halts.Halt.TheVariants.{BadLine, ReadFault, WriteFault, DiskFault, Damaged, DamagedInput, NoMemory, Limit, Rotated}
-use Rattle.liq_ends.specs.Causes.{DiskCause, ReadCause}
+use Rattle.liq_ends.specs.Causes.{DiskCause, DisksGoOn, ReadCause}
 use Rattle.liq_ends.specs.Statuses.{status_of}
 use Rattle.liq_ends.proofs.Causes.{six, unread_causes}
 use Rattle.liq_tell.specs.Audit.{IsAuditOf}
@@ -50,6 +51,12 @@ untouched_causes (Err NoMemory) n other = refl
 untouched_causes (Err (Limit number)) n other = refl
 untouched_causes (Err (Rotated generation)) n other = refl
 untouched_causes (Err (DamagedInput number)) n other = refl
+
+-- disks that nobody asks
+pub same_go_on : {D : Type 0} (faults moment : D → ℕ) (left_at : D → ℕ → List ℕ → Type 0) (left right : D) (end : Result (Unit {0}) Halt)
+    → DiskCause end (counts_of faults left right) (counts_of faults left right) → DisksGoOn faults moment left_at left right end left right
+same_go_on faults moment left_at left right end cause =
+    record { count = cause; left_time = unmoved moment left_at left; right_time = unmoved moment left_at right }
 
 pub disks_unasked : (end : Result (Unit {0}) Halt) (n : Faults) → Contains (0 ∷ 4 ∷ 7 ∷ []) (status_of end) → DiskCause end n n
 disks_unasked end n ends = untouched_causes end n (λ is. load_not (status_of end) 5 (load_list (status_of end) ends) (ap status_of is) (λ e. omega (arith, e)) (λ e. omega (arith, e)) (λ e. omega (arith, e)))

@@ -23,7 +23,7 @@ use Rattle.liq_ends.specs.declared.halts.Halt.TheVariants.{BadLine, ReadFault, W
 use Rattle.liq_ends.specs.Disks.{DisksHold, IsFaultOfRun, IsUnread}
 use Rattle.liq_ends.specs.Requests.{IsNext}
 use Rattle.liq_ends.proofs.Opened.{kept_again, some_of, state_formed}
-use Rattle.liq_serve.specs.Outside.{Outside}
+use Rattle.liq_ends.specs.Outside.{Outside}
 use Rattle.liq_serve.specs.Top.{Ends, RunsTo}
 use Rattle.liq_serve.specs.Twice.{AreBehind, BeginsBehind, FollowOn}
 

@@ -2,7 +2,7 @@
 use Rattle.std.proofs.Common.{◌≡◌, ◌≢◌, ℕ, List, [], ◌∷◌, Option, Some, Ok, Err, Result, refl, sym, subst, arith, lit<, inl, inr}
 use Rattle.std.specs.Prelude.{◌⊎◌, ◌↔◌, Contains, IfOk}
 use Rattle.std.proofs.lemmas.List.Elements.{All-nil}
-use Rattle.liq_outside.specs.Disk.{GoesOn, LeftNow}
+use Rattle.liq_outside.specs.Disk.{LeftNow}
 use Rattle.liq_outside.specs.Faults.{Rose}
 use Rattle.liq_outside.proofs.Moments.{unmoved}
 use Rattle.liq_types.specs.State.{State}
@@ -19,11 +19,11 @@ use Rattle.liq_words.specs.declared.words.WordsFault.TheVariants as fault
 use Rattle.liq_words.specs.Words.{Ask}
 use Rattle.liq_ends.specs.declared.halts.Halt.{Halt}
 use Rattle.liq_ends.specs.declared.halts.Halt.TheVariants.{BadLine, ReadFault, WriteFault, DiskFault, Damaged, DamagedInput, NoMemory, Limit, Rotated}
-use Rattle.liq_ends.specs.Causes.{DiskCause, LastCause, ReadCause}
-use Rattle.liq_ends.specs.Disks.{EndsDamaged}
+use Rattle.liq_ends.specs.Causes.{DisksGoOn, HasCauses, LastCause, ReadCause}
+use Rattle.liq_ends.specs.Disks.{DisksStay, EndsDamaged, IsFaultOfTelling, LeavesOfRun, OfDamage, OfState}
 use Rattle.liq_ends.specs.Output.{last, usage}
 use Rattle.liq_ends.specs.Statuses.{status_of}
-use Rattle.liq_ends.specs.Stops.{Adds}
+use Rattle.liq_ends.specs.Stops.{Adds, StopsDamaged}
 use Rattle.liq_ends.proofs.Causes.{disk_causes, sink_causes, six, source_causes, unread_causes}
 use Rattle.liq_ends.proofs.Opened.{standing_still, state_formed, untouched}
 use Rattle.liq_ends.proofs.Passing.{untouched_past}
@@ -35,7 +35,7 @@ use Rattle.liq_staking.specs.Staked.{staked_text}
 use Rattle.liq_rewards.specs.Lines as tags
 use Rattle.liq_rewarding.specs.Rewarded.{rewarded_text}
 use Rattle.liq_serve.specs.Answered.{AnswersLines}
-use Rattle.liq_serve.specs.Outside.{Outside}
+use Rattle.liq_ends.specs.Outside.{Outside}
 use Rattle.liq_follow.proofs.Beginning.{none_goes_on}
 use Rattle.liq_serve.specs.Top.{Ends, Leaves, OpensFirst, ServesTo, Tells, most_taken, statuses_of}
 use Rattle.liq_serve.proofs.Served.{by_found, if_found, same_disks}
@@ -76,40 +76,32 @@ not_usage (Err (DamagedInput number)) is = omega (arith, is)
 module _
     {S K D : Type 0} (unread : S → Option (List ℕ)) (source_faults : S → ℕ) (held : K → Option (List ℕ)) (sink_faults : K → ℕ) (seen : D → Option (List ℕ))
     (disk_faults : D → ℕ) (moment : D → ℕ) (left_at : D → ℕ → List ℕ → Type 0) (before after : Outside S K D) where
-  -- the status of a word's end, its counts, and the moments of its disks
-  pub record HasCounts (read : Word) (end : Result (Unit {0}) Halt) : Type 0 where
-    pub status : Contains (statuses_of read) (status_of end)
-    pub left_time : GoesOn moment left_at before.left after.left
-    pub right_time : GoesOn moment left_at before.right after.right
-    pub source : ReadCause end (source_faults before.source) (source_faults after.source)
-    pub sink : LastCause end (sink_faults before.sink) (sink_faults after.sink)
-    pub disks : DiskCause end (counts_of disk_faults before.left before.right) (counts_of disk_faults after.left after.right)
-
   -- a word that was read, and came to this end
   pub word_ends :
       (words : List (List ℕ)) (read : Word) (end : Result (Unit {0}) Halt) → IsRead words read
-      → Leaves unread source_faults held sink_faults seen disk_faults moment left_at before after read end → HasCounts read end
+      → Leaves unread source_faults held sink_faults seen disk_faults moment left_at before after read end
+      → Contains (statuses_of read) (status_of end) → HasCauses source_faults sink_faults disk_faults moment left_at before after end
       → ReadsAtMost (most_taken read) (unread before.source) (unread after.source)
       → Ends unread source_faults held sink_faults seen disk_faults moment left_at before after (status_of end) words
-  word_ends words read end is leaves counts few =
-      let source = source_causes end (source_faults before.source) (source_faults after.source) counts.source in
-      let sink = sink_causes end (sink_faults before.sink) (sink_faults after.sink) counts.sink in
-      let disks = disk_causes end (counts_of disk_faults before.left before.right) (counts_of disk_faults after.left after.right) counts.disks in
+  word_ends words read end is leaves status causes few =
+      let source = source_causes end (source_faults before.source) (source_faults after.source) causes.source in
+      let sink = sink_causes end (sink_faults before.sink) (sink_faults after.sink) causes.sink in
+      let disks = disk_causes end (counts_of disk_faults before.left before.right) (counts_of disk_faults after.left after.right) causes.disks.count in
       record {
         understood = (λ e. absurd (not_usage end e), λ none. absurd (none read is.asks));
         usage = λ e. absurd (not_usage end e);
         ends = λ other asked. (end, refl, subst (λ (w : Word). Leaves unread source_faults held sink_faults seen disk_faults moment left_at before after w end) (is.only other asked) leaves);
         takes = λ other asked. subst (λ (w : Word). ReadsAtMost (most_taken w) (unread before.source) (unread after.source)) (is.only other asked) few;
         known = status_known end;
-        status_is = λ other asked. subst (λ (w : Word). Contains (statuses_of w) (status_of end)) (is.only other asked) counts.status;
+        status_is = λ other asked. subst (λ (w : Word). Contains (statuses_of w) (status_of end)) (is.only other asked) status;
         source_fault = source.0;
         source_same = source.1;
         sink_fault = sink.0;
         sink_same = sink.1;
         disk_fault = disks.0;
         disk_same = disks.1;
-        left_time = counts.left_time;
-        right_time = counts.right_time;
+        left_time = causes.disks.left_time;
+        right_time = causes.disks.right_time;
       }
 
   -- the last line of a word over damaged disks
@@ -126,13 +118,15 @@ module _
   last_told side damage (Rotated generation) ends told = absurd ends
   last_told side damage (DamagedInput number) ends told = absurd ends
 
+  -- over damaged disks it stopped, and wrote its last line alone
+  abbrev TellsDamage : Result (Unit {0}) Halt → Side → Damage → Type 0
+  TellsDamage end side damage =
+      StopsDamaged seen side damage end (Rose (sink_faults before.sink) (sink_faults after.sink)) (held before.sink) (held after.sink) after.left after.right
+
   -- a word that opens the disks before it reads
   pub opens_first :
-      (end : Result (Unit {0}) Halt) (P : List ℕ → List ℕ → State → Type 0)
-      → ((l r : List ℕ) → seen before.left ≡ Some l → seen before.right ≡ Some r → (start : State) → state_on l r ≡ Ok start → P l r start)
-      → ((l r : List ℕ) → seen before.left ≡ Some l → seen before.right ≡ Some r → (side : Side) (damage : Damage) → state_on l r ≡ Err (side, damage)
-      → (after.source ≡ before.source) × ((halt : Halt) × (end ≡ Err halt) × EndsDamaged seen side damage (Err halt) after.left after.right
-      × Adds [] (last halt) (Rose (sink_faults before.sink) (sink_faults after.sink)) (held before.sink) (held after.sink)))
+      (end : Result (Unit {0}) Halt) (P : List ℕ → List ℕ → State → Type 0) → OfState seen before.left before.right P
+      → OfDamage seen before.left before.right (λ side damage. (after.source ≡ before.source) × TellsDamage end side damage)
       → OpensFirst unread source_faults held sink_faults seen disk_faults moment left_at before after end P
   opens_first end P stood damaged l r told_l told_r =
       by_found (state_on l r) _ _ (λ start is. stood l r told_l told_r start is) (λ side damage is.
@@ -147,24 +141,17 @@ module _
       (words : List (List ℕ)) (read : Word) (end : Result (Unit {0}) Halt) (P : List ℕ → List ℕ → State → Type 0) → IsRead words read
       → ((after.source ≡ before.source) × OpensFirst unread source_faults held sink_faults seen disk_faults moment left_at before after end P
       → Leaves unread source_faults held sink_faults seen disk_faults moment left_at before after read end)
-      → after.source ≡ before.source
-      → ((l r : List ℕ) → seen before.left ≡ Some l → seen before.right ≡ Some r → (start : State) → state_on l r ≡ Ok start → P l r start)
-      → ((l r : List ℕ) → seen before.left ≡ Some l → seen before.right ≡ Some r → (side : Side) (damage : Damage) → state_on l r ≡ Err (side, damage)
-      → (halt : Halt) × (end ≡ Err halt) × EndsDamaged seen side damage (Err halt) after.left after.right
-      × Adds [] (last halt) (Rose (sink_faults before.sink) (sink_faults after.sink)) (held before.sink) (held after.sink))
+      → after.source ≡ before.source → OfState seen before.left before.right P → OfDamage seen before.left before.right (TellsDamage end)
       → Contains (statuses_of read) (status_of end) → end ≢ Err ReadFault → LastCause end (sink_faults before.sink) (sink_faults after.sink)
-      → DiskCause end (counts_of disk_faults before.left before.right) (counts_of disk_faults after.left after.right)
-      → GoesOn moment left_at before.left after.left → GoesOn moment left_at before.right after.right
+      → DisksGoOn disk_faults moment left_at before.left before.right end after.left after.right
       → Ends unread source_faults held sink_faults seen disk_faults moment left_at before after (status_of end) words
-  telling_ends words read end P is leaves same told damaged status no_source sink disks left_time right_time =
+  telling_ends words read end P is leaves same told damaged status no_source sink disks =
       word_ends words read end is (leaves (same, opens_first end P told (λ l r told_l told_r side damage at. (same, damaged l r told_l told_r side damage at))))
+      status
       (record {
         source = subst (λ (s : S). ReadCause end (source_faults before.source) (source_faults s)) (sym same) (unread_causes end (source_faults before.source) no_source);
         sink = sink;
         disks = disks;
-        status = status;
-        left_time = left_time;
-        right_time = right_time;
       })
       (subst (λ (s : S). ReadsAtMost (most_taken read) (unread before.source) (unread s)) (sym same) (none_taken (most_taken read) (unread before.source)))
 
@@ -216,11 +203,32 @@ module _
       → EndsDamaged seen side damage (Err NoMemory) before.left before.right
   still side damage l r told_l told_r is a b told_a told_b = same_disks seen before.left before.right l r a b (Err (side, damage)) told_l told_r told_a told_b state_on is
 
+  -- the disks stay for the state for which they stood, whatever a stop leaves of them
+  abbrev Stays : List ℕ → List ℕ → State → Type 0
+  Stays l r start =
+      DisksStay seen (Err NoMemory) l r start before.left before.right
+      × LeavesOfRun seen moment left_at before.left before.right (IsFaultOfTelling (Err NoMemory)) l r start [] before.left before.right
+
+  -- a word that opens the disks before it reads
+  opens_nothing :
+      (P : List ℕ → List ℕ → State → Type 0) → Writes (last NoMemory)
+      → ((l r : List ℕ) (start : State) → state_on l r ≡ Ok start → Stays l r start → P l r start)
+      → (after.source ≡ before.source) × OpensFirst unread source_faults held sink_faults seen disk_faults moment left_at before after (Err NoMemory) P
+  opens_nothing P written stood = (
+    refl,
+    λ l r told_l told_r. by_found (state_on l r) _ _
+        (λ start is. stood l r start is (
+          untouched seen before.left before.right l r start told_l told_r is,
+          untouched_past seen moment left_at stays before.left before.right l r start _ refl told_l told_r,
+        ))
+        (λ side damage is. (refl, still side damage l r told_l told_r is, written)),
+  )
+
   -- whatever the words ask for
   nothing_done : Writes (last NoMemory) → (read : Word) → Leaves unread source_faults held sink_faults seen disk_faults moment left_at before after read (Err NoMemory)
   nothing_done written word.Run =
-      λ l r told_l told_r. by_found (state_on l r) _ _
-      (λ start is bytes told. record {
+      (opens_nothing _ written
+      (λ l r start is stay bytes told. record {
         requests = [];
         few = omega arith;
         statuses = (5, lit< tt, refl);
@@ -228,46 +236,16 @@ module _
         memory = λ is. inl (refl, told);
         written = written;
         cut = λ is. absurd cc;
-        disks = standing_still seen before.left before.right bytes l r (unread before.source) start told is (untouched seen before.left before.right l r start told_l told_r is);
-        past = untouched_past seen moment left_at stays before.left before.right l r start _ refl told_l told_r;
+        disks = standing_still seen before.left before.right bytes l r (unread before.source) start told is stay.0;
+        past = stay.1;
         shares = all_shares start [] (state_formed l r start is);
-      })
-      (λ side damage is. (refl, still side damage l r told_l told_r is, written))
+      })).1
   nothing_done written word.Serve = serves_nothing written
   nothing_done written word.Staking = lines_nothing stakes.Spells staked_text written
   nothing_done written word.Rewards = lines_nothing tags.Spells rewarded_text written
-  nothing_done written word.State = (
-    refl,
-    λ l r told_l told_r. by_found (state_on l r) _ _
-        (λ start is. (
-          (3, lit< tt, refl),
-          written,
-          untouched seen before.left before.right l r start told_l told_r is,
-          untouched_past seen moment left_at stays before.left before.right l r start _ refl told_l told_r,
-        ))
-        (λ side damage is. (refl, still side damage l r told_l told_r is, written)),
-  )
-  nothing_done written word.Report = (
-    refl,
-    λ l r told_l told_r. by_found (state_on l r) _ _
-        (λ start is. (
-          (3, lit< tt, refl),
-          written,
-          untouched seen before.left before.right l r start told_l told_r is,
-          untouched_past seen moment left_at stays before.left before.right l r start _ refl told_l told_r,
-        ))
-        (λ side damage is. (refl, still side damage l r told_l told_r is, written)),
-  )
-  nothing_done written word.Audit = (
-    refl,
-    λ l r told_l told_r. by_found (state_on l r) _ _
-        (λ start is. (
-          ([], (1, lit< tt, refl), written),
-          untouched seen before.left before.right l r start told_l told_r is,
-          untouched_past seen moment left_at stays before.left before.right l r start _ refl told_l told_r,
-        ))
-        (λ side damage is. (refl, still side damage l r told_l told_r is, written)),
-  )
+  nothing_done written word.State = opens_nothing _ written (λ l r start is stay. ((3, lit< tt, refl), written, stay.0, stay.1))
+  nothing_done written word.Report = opens_nothing _ written (λ l r start is stay. ((3, lit< tt, refl), written, stay.0, stay.1))
+  nothing_done written word.Audit = opens_nothing _ written (λ l r start is stay. (([], (1, lit< tt, refl), written), stay.0, stay.1))
   nothing_done written word.Follow = (refl, ([], reads_nothing (unread before.source), ([], (omega arith, inl none_goes_on), written)))
   nothing_done written (word.Gen seed count) = (refl, (2, lit< tt, refl), written)
 

@@ -1,5 +1,5 @@
 -- What the words `staking` and `rewards` leave: lines are answered beside the commands on the disks.
-use Rattle.std.specs.Prelude.{ℕ, ◌≡◌, ◌≤◌, ◌⊎◌, List, [], ◌∷◌, length, Contains}
+use Rattle.std.specs.Prelude.{ℕ, ◌≡◌, ◌≢◌, ◌≤◌, ◌⊎◌, List, [], ◌∷◌, length, Contains}
 use Rattle.std.specs.Prelude.{Option, Some, Result, Ok, Err, MatchResult}
 use Rattle.liq_outside.specs.Faults.{Rose}
 use Rattle.liq_types.specs.declared.amounts.TheConstants.{LINES_MOST}
@@ -11,7 +11,7 @@ use Rattle.liq_ends.specs.Disks.{DisksStay, EndsDamaged, IsFaultOfTelling, Leave
 use Rattle.liq_ends.specs.Reading.{ReadsTo}
 use Rattle.liq_ends.specs.Stops.{TellsBehind}
 use Rattle.liq_tell.specs.Answers.{IsAnswerOf}
-use Rattle.liq_serve.specs.Outside.{Outside}
+use Rattle.liq_ends.specs.Outside.{Outside}
 
 -- The functions say what the source has left and the sink holds, its count of faults, and what a disk holds; the last
 -- two at which moment a disk is, and what a crash at a moment may have left of it.
@@ -31,16 +31,22 @@ module _
       (after.left ≡ before.left) × (after.right ≡ before.right) × TellsText [] end
       × ((n : ℕ) × Contains (Err (BadLine n) ∷ Err ReadFault ∷ Err NoMemory ∷ Err (Limit LINES_MOST) ∷ []) end)
 
-  -- Lines to which this text answers were answered beside the commands that lead to the state for which the disks stood,
-  -- from the opening under its limit on, and the disks stay so. Of damaged disks nothing is told but the first damage.
+  -- Lines to which this text answers were answered beside the commands that lead to the state for which the disks
+  -- stood, from the opening under its limit on, and the disks stay so. Of damaged disks nothing is told but the first
+  -- damage.
   abbrev pub AnswersBeside : (ℕ → List Command → List ℕ) → Result (Unit {0}) Halt → Type 0
   AnswersBeside text end =
       OfBoth seen before.left before.right (λ l r. MatchResult (state_on l r) (λ start.
       IsAnswerOf start end × TellsText (text start.limit (commands_on l r)) end
       × DisksStay seen end l r start after.left after.right
-      × LeavesOfRun seen moment left_at before.left before.right (IsFaultOfTelling end) l r start [] after.left after.right)
+      × LeavesOfRun seen moment left_at before.left before.right (IsFaultOfTelling end) l r start []
+      after.left after.right)
       -- a side and its first damage
       (λ first. EndsDamaged seen first.0 first.1 end after.left after.right × TellsText [] end))
+
+  -- it stopped for neither a line nor the source
+  abbrev pub IsOfNoInput : Result (Unit {0}) Halt → Type 0
+  IsOfNoInput end = (end ≢ Err ReadFault) × ((number : ℕ) → end ≢ Err (BadLine number))
 
   -- The whole input is read first: each line says something of one kind, in order, or reading stops. `text` is what
   -- is answered to lines, beside commands from the opening under a limit on.
@@ -54,4 +60,6 @@ module _
     pub reading : Result (Unit {0}) Halt
     pub read :
         (bytes : List ℕ) → unread before.source ≡ Some bytes → ReadsTo Says bytes (unread after.source) asked reading
-    pub came : ((reading ≡ end) × StopsUnopened end) ⊎ ((reading ≡ Ok tt) × AnswersBeside (λ limit commands. text limit commands asked) end)
+    pub came :
+        ((reading ≡ end) × StopsUnopened end)
+        ⊎ ((reading ≡ Ok tt) × IsOfNoInput end × AnswersBeside (λ limit commands. text limit commands asked) end)

@@ -6,9 +6,7 @@ use Rattle.liq_types.specs.declared.amounts.TheConstants.{LINES_MOST}
 use Rattle.liq_types.specs.declared.requests.Request.{Request}
 use Rattle.liq_types.specs.State.{State, opening_with}
 use Rattle.liq_rules.specs.Events.{events}
-use Rattle.liq_fees.specs.declared.lines.StakeLine.{StakeLine}
 use Rattle.liq_fees.specs.Lines as stakes
-use Rattle.liq_rewards.specs.declared.lines.TagLine.{TagLine}
 use Rattle.liq_rewards.specs.Lines as tags
 use Rattle.liq_lines.specs.Lines.{lines_in}
 use Rattle.liq_pairs.specs.Pair.{commands_on, state_on}
@@ -26,7 +24,7 @@ use Rattle.liq_ends.specs.Stops.{Adds}
 use Rattle.liq_follower.specs.Fed.{AreDamagedAt, AreTurnedTo, GoOn}
 use Rattle.liq_follow.specs.declared.feeding.TheConstants.{FED_MOST}
 use Rattle.liq_follow.specs.Followed.{FaultIn}
-use Rattle.liq_serve.specs.Outside.{Outside}
+use Rattle.liq_ends.specs.Outside.{Outside}
 
 -- The arguments are those of `Ends`.
 module _
@@ -59,6 +57,20 @@ module _
       let fault = Rose (sink_faults before.sink) (sink_faults after.sink) in
       ((status ≡ wanted) × Adds [] (last halt) fault (held before.sink) (held after.sink)) ⊎ (status ≡ 7)
 
+  -- Lines that all say something of one kind are answered beside disks of the first generation.
+  abbrev pub AnswersFirst : {X : Type 0} → (List ℕ → X → Type 0) → ℕ → Type 0
+  AnswersFirst {X} Says status =
+      (bytes l r : List ℕ) (start : State) (asked : List X)
+      → unread before.source ≡ Some bytes → StoodFor l r start → AllZip Says (lines_in bytes) asked
+      → length asked ≤ LINES_MOST → start.generation ≡ 1 → IsReadWell → IsCalm → IsDone status
+
+  -- beside those of a later one they have no answer
+  abbrev pub RefusesLater : {X : Type 0} → (List ℕ → X → Type 0) → ℕ → Type 0
+  RefusesLater {X} Says status =
+      (bytes l r : List ℕ) (start : State) (asked : List X)
+      → unread before.source ≡ Some bytes → StoodFor l r start → AllZip Says (lines_in bytes) asked
+      → length asked ≤ LINES_MOST → 1 < start.generation → IsReadWell → AreKeptWell → (status ≡ 9) ⊎ (status ≡ 7)
+
   -- Each word is done then, unless there was no memory. An audit stops where the generation is above the first: only
   -- that one has all commands.
   pub record IsComplete (status : ℕ) (words : List (List ℕ)) : Type 0 where
@@ -71,23 +83,11 @@ module _
         → unread before.source ≡ Some bytes → StoodFor l r start → AllZip Asks (lines_in bytes) asked
         → length asked ≤ LINES_MOST → IsReadWell → IsCalm → IsDone status
     -- Stakers too are answered beside the first generation alone, and so are those who name front ends.
-    pub staking :
-        Ask words word.Staking → (bytes l r : List ℕ) (start : State) (asked : List StakeLine)
-        → unread before.source ≡ Some bytes → StoodFor l r start → AllZip stakes.Spells (lines_in bytes) asked
-        → length asked ≤ LINES_MOST → start.generation ≡ 1 → IsReadWell → IsCalm → IsDone status
-    pub rewards :
-        Ask words word.Rewards → (bytes l r : List ℕ) (start : State) (asked : List TagLine)
-        → unread before.source ≡ Some bytes → StoodFor l r start → AllZip tags.Spells (lines_in bytes) asked
-        → length asked ≤ LINES_MOST → start.generation ≡ 1 → IsReadWell → IsCalm → IsDone status
+    pub staking : Ask words word.Staking → AnswersFirst stakes.Spells status
+    pub rewards : Ask words word.Rewards → AnswersFirst tags.Spells status
     -- behind a rotation there is no answer for either
-    pub staking_rotated :
-        Ask words word.Staking → (bytes l r : List ℕ) (start : State) (asked : List StakeLine)
-        → unread before.source ≡ Some bytes → StoodFor l r start → AllZip stakes.Spells (lines_in bytes) asked
-        → length asked ≤ LINES_MOST → 1 < start.generation → IsReadWell → AreKeptWell → (status ≡ 9) ⊎ (status ≡ 7)
-    pub rewards_rotated :
-        Ask words word.Rewards → (bytes l r : List ℕ) (start : State) (asked : List TagLine)
-        → unread before.source ≡ Some bytes → StoodFor l r start → AllZip tags.Spells (lines_in bytes) asked
-        → length asked ≤ LINES_MOST → 1 < start.generation → IsReadWell → AreKeptWell → (status ≡ 9) ⊎ (status ≡ 7)
+    pub staking_rotated : Ask words word.Staking → RefusesLater stakes.Spells status
+    pub rewards_rotated : Ask words word.Rewards → RefusesLater tags.Spells status
     pub state :
         Ask words word.State → (l r : List ℕ) (start : State) → StoodFor l r start → IsCalm → IsDone status
     pub report :

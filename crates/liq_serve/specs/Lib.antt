@@ -1,9 +1,8 @@
--- A reader of the top call's clause needs Answered, Outside and Top. Calm and Twice are what follows from that clause
+-- A reader of the top call's clause needs Answered and Top. Calm and Twice are what follows from that clause
 -- (`laws`).
 -- Finishing is for the contracts below it.
 pub mod Answered
 pub mod Calm
 pub mod Finishing
-pub mod Outside
 pub mod Top
 pub mod Twice

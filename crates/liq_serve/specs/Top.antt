@@ -48,7 +48,7 @@ use Rattle.liq_load.specs.Load.{load, summary}
 use Rattle.liq_follow.specs.declared.feeding.TheConstants.{FED_MOST}
 use Rattle.liq_follow.specs.Followed.{FollowsTo}
 use Rattle.liq_serve.specs.Answered.{AnswersLines}
-use Rattle.liq_serve.specs.Outside.{Outside}
+use Rattle.liq_ends.specs.Outside.{Outside}
 
 -- the first requests of the session are answered in the history, in order, and these are left
 abbrev pub AreLeft : List (ℕ × Request) → List Entry → ℕ → List Request → Type 0
@@ -221,7 +221,8 @@ module _
       ((text : List ℕ) × IsAuditOf start (commands_on l r) end text × Tells [] text end)
       × DisksStay seen end l r start after.left after.right
       × Leave (IsFaultOfTelling end) l r start [])
-  -- The disks are not asked. The bytes that come in are followed, and at their end the state is told to which they lead.
+  -- The disks are not asked. The bytes that come in are followed, and at their end the state is told to which they
+  -- lead.
   Leaves word.Follow end =
       (after ≡ record before { source = after.source; sink = after.sink })
       × ((read : List ℕ) × Reads (unread before.source) read (unread after.source)

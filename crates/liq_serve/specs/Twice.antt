@@ -15,7 +15,7 @@ use Rattle.liq_ends.specs.declared.halts.Halt.{Halt}
 use Rattle.liq_ends.specs.declared.halts.Halt.TheVariants.{DiskFault}
 use Rattle.liq_ends.specs.Requests.{IsNext}
 use Rattle.liq_ends.specs.Statuses.{status_of}
-use Rattle.liq_serve.specs.Outside.{Outside}
+use Rattle.liq_ends.specs.Outside.{Outside}
 use Rattle.liq_serve.specs.Top.{RunsTo}
 
 -- What disks hold behind the requests that a run answered: nothing; or, where a disk met a fault, one command more. It
@@ -27,8 +27,8 @@ AreMore bytes l r start requests end (c ∷ []) = (end ≡ Err DiskFault)
     ⊎ ((requests ≡ []) × HoldsUnfinished l r start c))
 AreMore bytes l r start requests end (c ∷ more) = ⊥
 
--- Two disks of this content are kept for the state after the requests and after these: so the next run begins there, and
--- what was acknowledged is in it.
+-- Two disks of this content are kept for the state after the requests and after these: so the next run begins there,
+-- and what was acknowledged is in it.
 abbrev pub BeginsBehind :
     List ℕ → List ℕ → List ℕ → State → List Request → Result (Unit {0}) Halt → List ℕ → List ℕ → Type 0
 BeginsBehind bytes l r start requests end a b =

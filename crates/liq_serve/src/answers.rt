@@ -1,18 +1,14 @@
 //! The words `staking` and `rewards`: lines are answered beside the commands on two disks.
 
-ghost use Rattle.std.specs.Prelude.{◌≡◌, ◌≤◌, [], Err};
-ghost use Rattle.liq_outside.specs.Disk.{GoesOn};
+ghost use Rattle.std.specs.Prelude.{◌≡◌, ◌≤◌, ℕ, List, [], Err, length};
 ghost use Rattle.liq_outside.specs.Faults.{Rose};
 ghost use Rattle.liq_types.specs.declared.amounts.TheConstants.{LINES_MOST};
+ghost use Rattle.liq_types.specs.declared.requests.Command.{Command};
 ghost use Rattle.liq_lines.specs.Reading.{taken_most, ReadsAtMost};
-ghost use Rattle.liq_store.specs.Causes.{counts_of};
-ghost use Rattle.liq_ends.specs.Causes.{DiskCause, LastCause, ReadCause};
+ghost use Rattle.liq_ends.specs.Causes.{DisksGoOn, HasCauses, LastCause};
 ghost use Rattle.liq_ends.specs.Output.{last};
 ghost use Rattle.liq_ends.specs.Stops.{Adds};
-ghost use Rattle.liq_fees.specs.Lines as stakes;
-ghost use Rattle.liq_staking.specs.Staked.{staked_text};
-ghost use Rattle.liq_rewards.specs.Lines as tags;
-ghost use Rattle.liq_rewarding.specs.Rewarded.{rewarded_text};
+ghost use Rattle.liq_tell.specs.Answers.{AreFew, asked_text};
 ghost use Rattle.liq_serve.specs.Answered.{AnswersLines};
 ghost use Rattle.liq_serve.specs.Finishing.{halt_at};
 
@@ -26,60 +22,46 @@ use liq_rewards::{TagLine, read_tag_line};
 use liq_tell::{Asked, Told, tell_on};
 use std::alloc::Global;
 
-/// Answers the stakers of the input, which is read to its end before a disk is touched, and writes the last line where
-/// that stops.
-pub fn stake_on<S: Source, K: Sink, D: Disk>(
-    alloc: Global,
-    input: &mut S,
-    out: &mut K,
-    left: D,
-    right: D,
-) -> Ending<D>
-    ensures answered { AnswersLines S.left K.held K.faults D.seen D.moment D.left_at
-        (record { source = input.old; sink = out.old; left = left; right = right })
-        (record { source = input.new; sink = out.new; left = result.left; right = result.right })
-        stakes.Spells staked_text result.end }
-    ensures takes { ReadsAtMost (taken_most LINES_MOST) (S.left input.old) (S.left input.new) }
-    ensures source { ReadCause result.end (S.faults input.old) (S.faults input.new) }
-    ensures sink { LastCause result.end (K.faults out.old) (K.faults out.new) }
-    ensures disks { DiskCause result.end (counts_of D.faults left right) (counts_of D.faults result.left result.right) }
-    ensures left_time { GoesOn D.moment D.left_at left result.left }
-    ensures right_time { GoesOn D.moment D.left_at right result.right }
-{
-    match gather::<StakeForm, S>(alloc, input) {
-        Ok(lines) => tell_on(alloc, Told::Answers(Asked::Stakes(lines)), out, left, right),
-        Err(stop) => stopped(stop, out, left, right),
-    }
+/// A form of lines that are answered beside the commands on two disks.
+pub(crate) trait Asking: Form {
+    /// What is answered to lines, beside these commands from the opening under a limit on.
+    ghost text: { ℕ → List Command → List Self.Item → List ℕ };
+
+    /// Asks these lines.
+    fn asked(lines: Vec<Self::Item>) -> Asked
+        ensures text { (limit : ℕ) (commands : List Command)
+            → asked_text result limit commands ≡ text limit commands lines.items }
+        ensures few { length lines.items ≤ LINES_MOST → AreFew result };
 }
 
-/// Answers the depositors of the input who name front ends, and tells all rewards. The input is read to its end before a
-/// disk is touched, and the last line is written where that stops.
-pub fn reward_on<S: Source, K: Sink, D: Disk>(
+/// Answers the lines of the input, each of this form. It is read to its end before a disk is touched, and the last line
+/// is written where that stops.
+pub(crate) fn answer_on<F: Asking, S: Source, K: Sink, D: Disk>(
     alloc: Global,
     input: &mut S,
     out: &mut K,
     left: D,
     right: D,
 ) -> Ending<D>
+where
+    F::Item: Drop,
     ensures answered { AnswersLines S.left K.held K.faults D.seen D.moment D.left_at
         (record { source = input.old; sink = out.old; left = left; right = right })
         (record { source = input.new; sink = out.new; left = result.left; right = result.right })
-        tags.Spells rewarded_text result.end }
+        F.says F.text result.end }
     ensures takes { ReadsAtMost (taken_most LINES_MOST) (S.left input.old) (S.left input.new) }
-    ensures source { ReadCause result.end (S.faults input.old) (S.faults input.new) }
-    ensures sink { LastCause result.end (K.faults out.old) (K.faults out.new) }
-    ensures disks { DiskCause result.end (counts_of D.faults left right) (counts_of D.faults result.left result.right) }
-    ensures left_time { GoesOn D.moment D.left_at left result.left }
-    ensures right_time { GoesOn D.moment D.left_at right result.right }
+    ensures causes { HasCauses S.faults K.faults D.faults D.moment D.left_at
+        (record { source = input.old; sink = out.old; left = left; right = right })
+        (record { source = input.new; sink = out.new; left = result.left; right = result.right }) result.end }
 {
-    match gather::<TagForm, S>(alloc, input) {
-        Ok(lines) => tell_on(alloc, Told::Answers(Asked::Tags(lines)), out, left, right),
+    match gather::<F, S>(alloc, input) {
+        Ok(lines) => tell_on(alloc, Told::Answers(F::asked(lines)), out, left, right),
         Err(stop) => stopped(stop, out, left, right),
     }
 }
 
 /// The lines on which stakers ask.
-struct StakeForm;
+pub(crate) struct StakeForm;
 
 impl Form for StakeForm {
     ghost use Rattle.liq_fees.specs.Lines.{Spells};
@@ -96,8 +78,23 @@ impl Form for StakeForm {
     ghost short = { stake_line_short };
 }
 
+/// Each line has its reply, and then it is told what each staker has.
+impl Asking for StakeForm {
+    ghost use Rattle.liq_staking.specs.Staked.{staked_text};
+
+    ghost text = { staked_text };
+
+    fn asked(lines: Vec<StakeLine>) -> Asked
+        ensures text { (limit : ℕ) (commands : List Command)
+            → asked_text result limit commands ≡ staked_text limit commands lines.items }
+        ensures few { length lines.items ≤ LINES_MOST → AreFew result }
+    {
+        Asked::Stakes(lines)
+    }
+}
+
 /// The lines on which depositors name front ends.
-struct TagForm;
+pub(crate) struct TagForm;
 
 impl Form for TagForm {
     ghost use Rattle.liq_rewards.specs.Lines.{Spells};
@@ -114,14 +111,28 @@ impl Form for TagForm {
     ghost short = { tag_line_short };
 }
 
+/// All rewards are told.
+impl Asking for TagForm {
+    ghost use Rattle.liq_rewarding.specs.Rewarded.{rewarded_text};
+
+    ghost text = { rewarded_text };
+
+    fn asked(lines: Vec<TagLine>) -> Asked
+        ensures text { (limit : ℕ) (commands : List Command)
+            → asked_text result limit commands ≡ rewarded_text limit commands lines.items }
+        ensures few { length lines.items ≤ LINES_MOST → AreFew result }
+    {
+        Asked::Tags(lines)
+    }
+}
+
 /// Ends a word whose input was not read to its end: its last line is written, and the disks are as they were.
 fn stopped<K: Sink, D: Disk>(stop: Stop, out: &mut K, left: D, right: D) -> Ending<D>
     ensures ending { result ≡ record { end = Err (halt_at stop); left = left; right = right } }
-    ensures written { Adds [] (last (halt_at stop)) (Rose (K.faults out.old) (K.faults out.new)) (K.held out.old) (K.held out.new) }
+    ensures written { Adds [] (last (halt_at stop)) (Rose (K.faults out.old) (K.faults out.new))
+        (K.held out.old) (K.held out.new) }
     ensures sink { LastCause result.end (K.faults out.old) (K.faults out.new) }
-    ensures disks { DiskCause result.end (counts_of D.faults left right) (counts_of D.faults result.left result.right) }
-    ensures left_time { GoesOn D.moment D.left_at left result.left }
-    ensures right_time { GoesOn D.moment D.left_at right result.right }
+    ensures disks { DisksGoOn D.faults D.moment D.left_at left right result.end result.left result.right }
 {
     let halt = halt_at(stop);
     write_last(out, halt);

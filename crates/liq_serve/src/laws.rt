@@ -7,7 +7,7 @@ ghost use Rattle.liq_pairs.specs.Pair.{state_on};
 ghost use Rattle.liq_words.specs.declared.words.Word.{Word};
 ghost use Rattle.liq_words.specs.Words.{Ask};
 ghost use Rattle.liq_serve.specs.Calm.{IsComplete};
-ghost use Rattle.liq_serve.specs.Outside.{Outside};
+ghost use Rattle.liq_ends.specs.Outside.{Outside};
 ghost use Rattle.liq_serve.specs.Top.{Ends};
 ghost use Rattle.liq_serve.specs.Twice.{AreBehind, FollowOn};
 
@@ -41,5 +41,6 @@ pub fn runs_follow_on<S: Source, K: Sink, D: Disk>()
         → D.seen before.left ≡ Some l → D.seen before.right ≡ Some r → state_on l r ≡ Ok start → IsKept l r start
         → D.seen again.left ≡ Some a → D.seen again.right ≡ Some b
         → AreBehind S.left S.faults K.held K.faults D.seen D.faults D.moment D.left_at before middle l r a b
-        → FollowOn S.left S.faults K.held K.faults D.seen D.faults D.moment D.left_at before middle again after status later bytes lines l r a b start }
+        → FollowOn S.left S.faults K.held K.faults D.seen D.faults D.moment D.left_at before middle again after status later
+        bytes lines l r a b start }
 {}

@@ -1,12 +1,10 @@
 //! The word `serve`: what the lines of all sessions ask is answered at once.
 
 ghost use Rattle.std.specs.Prelude.{◌≡◌, ◌≢◌, ℕ, Err};
-ghost use Rattle.liq_outside.specs.Disk.{GoesOn};
 ghost use Rattle.liq_types.specs.declared.amounts.TheConstants.{LINES_MOST};
 ghost use Rattle.liq_lines.specs.Reading.{taken_most, ReadsAtMost};
-ghost use Rattle.liq_store.specs.Causes.{counts_of};
 ghost use Rattle.liq_ends.specs.declared.halts.Halt.{Halt};
-ghost use Rattle.liq_ends.specs.Causes.{DiskCause, LastCause, ReadCause};
+ghost use Rattle.liq_ends.specs.Causes.{HasCauses};
 ghost use Rattle.liq_serve.specs.Finishing.{end_of, halt_at};
 ghost use Rattle.liq_serve.specs.Top.{ServesTo};
 
@@ -34,11 +32,9 @@ pub fn serve_on<S: Source, K: Sink, D: Disk + Send, G: Gate + Sync, R: Threads +
         (record { source = input.old; sink = out.old; left = left; right = right })
         (record { source = input.new; sink = out.new; left = result.left; right = result.right }) result.end }
     ensures takes { ReadsAtMost (taken_most LINES_MOST) (S.left input.old) (S.left input.new) }
-    ensures source { ReadCause result.end (S.faults input.old) (S.faults input.new) }
-    ensures sink { LastCause result.end (K.faults out.old) (K.faults out.new) }
-    ensures disks { DiskCause result.end (counts_of D.faults left right) (counts_of D.faults result.left result.right) }
-    ensures left_time { GoesOn D.moment D.left_at left result.left }
-    ensures right_time { GoesOn D.moment D.left_at right result.right }
+    ensures causes { HasCauses S.faults K.faults D.faults D.moment D.left_at
+        (record { source = input.old; sink = out.old; left = left; right = right })
+        (record { source = input.new; sink = out.new; left = result.left; right = result.right }) result.end }
     // It goes on in whatever generation.
     ensures goes_on { (generation : ℕ) → result.end ≢ Err (Halt.Rotated generation) }
 {

@@ -12,7 +12,7 @@ ghost use Rattle.liq_ends.specs.Statuses.{status_of};
 ghost use Rattle.liq_ends.specs.Stops.{Adds};
 ghost use Rattle.liq_serve.specs.Top.{Ends};
 
-use crate::answers::{reward_on, stake_on};
+use crate::answers::{StakeForm, TagForm, answer_on};
 use crate::serve::serve_on;
 use liq_ends::{Ending, Halt, status, write_last, write_usage};
 use liq_follow::follow_on;
@@ -132,7 +132,8 @@ fn answered<S: Source, K: Sink, D: Disk>(
     requires range { IfOk read IsInRange }
     requires other { read ≢ Ok Word.Serve }
     requires word { IfOk read (Ask (map string_bytes _words.now)) }
-    requires only { (word : Word) → Ask (map string_bytes _words.now) word → (read ≡ Ok word) ⊎ (read ≡ Err WordsFault.NoMemory) }
+    requires only { (word : Word) → Ask (map string_bytes _words.now) word
+        → (read ≡ Ok word) ⊎ (read ≡ Err WordsFault.NoMemory) }
     requires usage { (read ≡ Err WordsFault.Usage) ↔ ((word : Word) → Ask (map string_bytes _words.now) word → ⊥) }
     ensures { Ends S.left S.faults K.held K.faults D.seen D.faults D.moment D.left_at
         (record { source = input.old; sink = out.old; left = left; right = right })
@@ -172,8 +173,8 @@ fn carry_out<S: Source, K: Sink, D: Disk>(
     match word {
         Word::Run => run_on(alloc, input, out, left, right),
         Word::Serve => unreachable!(),
-        Word::Staking => stake_on(alloc, input, out, left, right),
-        Word::Rewards => reward_on(alloc, input, out, left, right),
+        Word::Staking => answer_on::<StakeForm, S, K, D>(alloc, input, out, left, right),
+        Word::Rewards => answer_on::<TagForm, S, K, D>(alloc, input, out, left, right),
         Word::State => tell_on(alloc, Told::State, out, left, right),
         Word::Audit => tell_on(alloc, Told::Audit, out, left, right),
         Word::Report => tell_on(alloc, Told::Report, out, left, right),

@@ -89,10 +89,12 @@ module _ {D : Type 0} (seen : D → Option (List ℕ)) (faults : D → ℕ) (mom
         memory = it.memory;
         sessions = it.sessions;
         disks = disks_alike scripts entries (run_alike (requests_of entries) alike) served.end served.left served.right it.disks;
-        cause = it.cause;
-        left_time = it.left_time;
-        right_time = it.right_time;
-        past = from_alike alike left_origin right_origin (requests_of entries) (halt_of served.end) served.left served.right it.past;
+        since = record {
+          cause = it.since.cause;
+          left_time = it.since.left_time;
+          right_time = it.since.right_time;
+          past = from_alike alike left_origin right_origin (requests_of entries) (halt_of served.end) served.left served.right it.since.past;
+        };
       }
 
   pub at_itself : (disk : D) → IsDiskAt (disk_at seen faults moment left_at disk) seen faults moment left_at disk

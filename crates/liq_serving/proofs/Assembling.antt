@@ -234,10 +234,7 @@ module _ {D : Type 0} (seen : D → Option (List ℕ)) (faults : D → ℕ) (mom
         memory = λ is. lacks scripts numbered total served.history within fronts (subst (LacksReply scripts) entries (short (lacking_end (halt_of served.end) all (sym l.end ∙ is))));
         sessions = all_to (λ (e : Entry). (1 ≤ e.session) × (e.session ≤ length scripts)) served.history within;
         disks = disks_by all seats served numbered l (all_to (IsTold (chronicle_of served)) scripts told) served.end refl;
-        cause = l.cause;
-        left_time = l.left_time;
-        right_time = l.right_time;
-        past = l.past;
+        since = l.since;
       }
 
   -- where there was no memory for a book
@@ -251,12 +248,14 @@ module _ {D : Type 0} (seen : D → Option (List ℕ)) (faults : D → ℕ) (mom
     memory = λ is. inl (ap (map recorded) history_is);
     sessions = rw history_is (λ k d within. absurd (omega arith));
     disks = rw (end_is, history_is, left_is, right_is) (settles seen faults moment left_at store base order going at.state);
-    cause = rw (end_is, left_is, right_is, at.left.faults, at.right.faults) refl;
-    left_time = rw left_is at.left.time;
-    right_time = rw right_is at.right.time;
-    past =
-        rw (end_is, history_is, left_is, right_is) (past_left seen moment left_at left_origin right_origin base [] None store order going
-        (begins_past seen moment left_at left_origin right_origin may_stay faults base store going at order));
+    since = record {
+      cause = rw (end_is, left_is, right_is, at.left.faults, at.right.faults) refl;
+      left_time = rw left_is at.left.time;
+      right_time = rw right_is at.right.time;
+      past =
+          rw (end_is, history_is, left_is, right_is) (past_left seen moment left_at left_origin right_origin base [] None store order going
+          (begins_past seen moment left_at left_origin right_origin may_stay faults base store going at order));
+    };
   }
 
 -- ---- what serving owes at each step

@@ -264,10 +264,10 @@ module _ {D : Type 0} (seen : D → Option (List ℕ)) (faults : D → ℕ) (mom
 
   -- time went on, in the opening and since
   pub left_time_by : (s : State) → ServesAt s → (left : D) → GoesOn moment left_at left store.left → GoesOn moment left_at left served.left
-  left_time_by s serves left opening = joined moment left_at left store.left served.left opening (time_since seen faults moment left_at store.left served.left serves.left_time)
+  left_time_by s serves left opening = joined moment left_at left store.left served.left opening (time_since seen faults moment left_at store.left served.left serves.since.left_time)
 
   pub right_time_by : (s : State) → ServesAt s → (right : D) → GoesOn moment left_at right store.right → GoesOn moment left_at right served.right
-  right_time_by s serves right opening = joined moment left_at right store.right served.right opening (time_since seen faults moment left_at store.right served.right serves.right_time)
+  right_time_by s serves right opening = joined moment left_at right store.right served.right opening (time_since seen faults moment left_at store.right served.right serves.since.right_time)
 
   -- a count rose exactly where a call met a fault
   pub cause_by : (left right : D) (s : State) → ServesAt s → OpensOn seen faults left right store → (how : Finish) → IsFinishOf served.end how
@@ -276,7 +276,7 @@ module _ {D : Type 0} (seen : D → Option (List ℕ)) (faults : D → ℕ) (mom
       by_finish (λ (h : Finish). DiskCause h (counts_of faults left right) (counts_of faults served.left served.right)) served.end how how_is
       (λ is. let calm = rw is at cause in (calm, calm)) (λ is. rw is at cause) (λ halt is. rw is at cause) where
         cause : CausesHalt (halt_of served.end) (counts_of faults left right) (counts_of faults served.left served.right)
-        cause = subst (λ (counts : Faults). CausesHalt (halt_of served.end) counts (counts_of faults served.left served.right)) opened.counts serves.cause
+        cause = subst (λ (counts : Faults). CausesHalt (halt_of served.end) counts (counts_of faults served.left served.right)) opened.counts serves.since.cause
 
   module _ {K : Type 0} (held : K → Option (List ℕ)) (before unread : Option (List ℕ)) (out out_now : K) (left right : D) where
     pub serves_input : length asked ≤ LINES_MOST → ((bytes : List ℕ) → before ≡ Some bytes → EndsAfter {T = Unit {0}} (Ok tt) bytes unread asked)
@@ -302,7 +302,7 @@ module _ {D : Type 0} (seen : D → Option (List ℕ)) (faults : D → ℕ) (mom
         disks = λ l r start told_l told_r is. disks_by start (serves_at start (stands_at l r start told_l told_r is)) how how_is l r;
         past =
             leaves_served seen moment left_at may_stay left right faults store scripts served opening opened order left_telling right_telling
-            (time_since seen faults moment left_at store.left served.left serves.left_time) (time_since seen faults moment left_at store.right served.right serves.right_time)
+            (time_since seen faults moment left_at store.left served.left serves.since.left_time) (time_since seen faults moment left_at store.right served.right serves.since.right_time)
             (λ l r start told_l told_r is. serves_at start (stands_at l r start told_l told_r is)) how how_is;
         damaged = λ l r side damage told_l told_r is. absurd (cc ((opened.state l r told_l told_r).1, is));
       };

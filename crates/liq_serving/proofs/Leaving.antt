@@ -65,8 +65,10 @@ module _ {D : Type 0} (seen : D → Option (List ℕ)) (faults : D → ℕ) (mom
           within = subst (λ items. Within session_of most items) (sym items_are) within;
           back = subst (λ (items : List Item). All (λ seat. Behind session_of items (session_at seat ∷ []) (items_seen seat)) seats) (sym items_are) back;
           disks = rw (halt_is, history_is, left_is, right_is) (keeps store history halt order book);
-          cause = rw (halt_is, left_is, right_is) book.cause;
-          left_time = rw left_is book.left;
-          right_time = rw right_is book.right;
-          past = rw (halt_is, history_is, left_is, right_is) (past_left seen moment left_at left_origin right_origin base (requests_of (map recorded history)) halt store order book.halt book.past);
+          since = record {
+            cause = rw (halt_is, left_is, right_is) book.cause;
+            left_time = rw left_is book.left;
+            right_time = rw right_is book.right;
+            past = rw (halt_is, history_is, left_is, right_is) (past_left seen moment left_at left_origin right_origin base (requests_of (map recorded history)) halt store order book.halt book.past);
+          };
         }

@@ -145,7 +145,7 @@ module _ {D : Type 0} (seen : D → Option (List ℕ)) (moment : D → ℕ) (lef
         → Serves seen faults moment left_at start (disk_at seen faults moment left_at store.left) (disk_at seen faults moment left_at store.right) scripts served)
         → (how : Finish) → IsFinishOf served.end how → At how (halted_in served.end) entries served.left served.right
     leaves_served opening opened order left_telling right_telling left_time right_time serves how how_is l r start told_l told_r only_l only_r is kept =
-        let from = (serves l r start told_l told_r is).past a.0 b.0 a.1 b.1 in
+        let from = (serves l r start told_l told_r is).since.past a.0 b.0 a.1 b.1 in
         by_end served.end (from.0, from.1, (from.2, from.3)) how how_is where
           past : Past seen moment left_at (λ side. moment (on side left right)) l r start [] store
           past =

@@ -1,21 +1,19 @@
 -- What a book leaves that is closed when its sessions have ended.
 use Rattle.std.specs.Prelude.{ℕ, ◌≡◌, List, [], ◌∷◌, map, All, Bool, Option, Some, None}
 use Rattle.liq_types.specs.State.{State}
-use Rattle.liq_rules.specs.History.{IsLegal, requests_of, state_after}
+use Rattle.liq_rules.specs.History.{IsLegal, state_after}
 use Rattle.liq_lock.specs.History.{Behind, Within}
 use Rattle.liq_book.specs.declared.items.Halt.{Halt}
 use Rattle.liq_book.specs.declared.items.Item.{Item}
 use Rattle.liq_book.specs.declared.origin.Origin.{Ghosts}
 use Rattle.liq_book.specs.declared.seat.BookSeat.{BookSeat}
-use Rattle.liq_book.specs.Booked.{CausesHalt}
 use Rattle.liq_rules.specs.Recorded.{recorded}
 use Rattle.liq_book.specs.Items.{chronicle, session_of}
-use Rattle.liq_book.specs.Origin.{DiskAt, GoesOnFrom, faults_at}
-use Rattle.liq_book.specs.Past.{LeavesFrom}
+use Rattle.liq_book.specs.Origin.{DiskAt}
 use Rattle.liq_book.specs.Seats.{items_seen, session_at}
 use Rattle.liq_serving.specs.declared.served.Served.{Served}
 use Rattle.liq_serving.specs.Ends.{end_of, halt_of}
-use Rattle.liq_serving.specs.Serves.{AreKeptAround, AreSettled}
+use Rattle.liq_serving.specs.Serves.{AreKeptAround, AreSettled, HasGoneOn}
 
 -- the chronicle that is left
 abbrev pub chronicle_of : {D : Type 0} → Served D → List Item
@@ -40,11 +38,4 @@ pub record Leaves
   pub disks :
       KeepsBehind seen moment left_at (halt_of served.end) (state_after base (map recorded served.history)) served.left
       served.right
-  pub cause :
-      CausesHalt (halt_of served.end) (faults_at left_origin right_origin)
-      (record { left = faults served.left; right = faults served.right })
-  pub left_time : GoesOnFrom left_origin moment left_at served.left
-  pub right_time : GoesOnFrom right_origin moment left_at served.right
-  pub past :
-      LeavesFrom seen moment left_at left_origin right_origin base (requests_of (map recorded served.history))
-      (halt_of served.end) served.left served.right
+  pub since : HasGoneOn seen faults moment left_at base left_origin right_origin served

@@ -1,6 +1,6 @@
 -- What serving scripts leaves.
 use Rattle.std.specs.Prelude.{ℕ, ◌≡◌, ◌≤◌, ◌<◌, ◌+◌, List, map, length, slice_index_or}
-use Rattle.std.specs.Prelude.{All, Contains, Option, Some}
+use Rattle.std.specs.Prelude.{All, Contains, Option, Some, None, sum_by}
 use Rattle.liq_outside.specs.Disk.{LeftNow}
 use Rattle.liq_types.specs.declared.requests.Request.{Request}
 use Rattle.liq_types.specs.State.{State}
@@ -9,10 +9,12 @@ use Rattle.liq_rules.specs.History.{IsLegal, requests_of, state_after}
 use Rattle.liq_pairs.specs.declared.side.Side.{Side}
 use Rattle.liq_pairs.specs.Kept.{IsSettledFor}
 use Rattle.liq_store.specs.Keeping.{IsAtRest, IsKeptAround}
+use Rattle.liq_store.specs.Stored.{Stored}
 use Rattle.liq_sessions.specs.declared.script.Script.{Script}
 use Rattle.liq_book.specs.Booked.{CausesHalt}
 use Rattle.liq_rules.specs.Recorded.{recorded}
-use Rattle.liq_book.specs.Origin.{DiskAt, GoesOnFrom, faults_at}
+use Rattle.liq_book.specs.declared.items.TheConstants.{ENTRIES_MOST}
+use Rattle.liq_book.specs.Origin.{DiskAt, GoesOnFrom, TellsList, faults_at}
 use Rattle.liq_book.specs.Past.{LeavesFrom}
 use Rattle.liq_serving.specs.declared.served.End.{End}
 use Rattle.liq_serving.specs.declared.served.End.TheVariants as end
@@ -23,6 +25,16 @@ use Rattle.liq_serving.specs.Ends.{halt_of}
 -- scripts of the sessions from 1 on
 abbrev pub AreNumbered : List Script → Type 0
 AreNumbered scripts = (k : ℕ) (d : Script) → k < length scripts → (slice_index_or scripts k d).session ≡ k + 1
+
+-- Scripts that are served over a store: one to eight, of the sessions from 1 on, whose requests all have room in the
+-- book. The store goes on, and tells its list.
+pub record IsServable {D : Type 0} (scripts : List Script) (store : Stored D) : Type 0 where
+  pub some : 1 ≤ length scripts
+  pub few : length scripts ≤ 8
+  pub numbered : AreNumbered scripts
+  pub total : sum_by (λ (script : Script). length script.requests) scripts ≤ ENTRIES_MOST
+  pub going : store.stopped ≡ None
+  pub listed : TellsList store
 
 -- ---- disks at the end
 
@@ -54,9 +66,24 @@ module _
       × IsNextOf entries halt.request script)
       × AreKeptAround s halt.request left right
 
+-- What became of the disks since the service began. A count of faults rose exactly where a call met the fault, time
+-- went on at both, and what a stop may have left of them is of a run of the history's requests.
+pub record HasGoneOn
+    {D : Type 0} (seen : D → Option (List ℕ)) (faults : D → ℕ) (moment : D → ℕ)
+    (left_at : D → ℕ → List ℕ → Type 0) (base : State) (left_origin right_origin : DiskAt)
+    (served : Served D) : Type 0 where
+  pub cause :
+      CausesHalt (halt_of served.end) (faults_at left_origin right_origin)
+      (record { left = faults served.left; right = faults served.right })
+  pub left_time : GoesOnFrom left_origin moment left_at served.left
+  pub right_time : GoesOnFrom right_origin moment left_at served.right
+  pub past :
+      LeavesFrom seen moment left_at left_origin right_origin base (requests_of (map recorded served.history))
+      (halt_of served.end) served.left served.right
+
 -- The history is legal from the state with which the service began. Each session's entries in it are the first requests
 -- of its script, in order, and all of them where the service ended with all; no other session is in it. It ended so, or
--- by a fault, unless memory was wanted. What a crash may have left of the disks is of a run of the history's requests.
+-- by a fault, unless memory was wanted.
 pub record Serves
     {D : Type 0} (seen : D → Option (List ℕ)) (faults : D → ℕ) (moment : D → ℕ)
     (left_at : D → ℕ → List ℕ → Type 0) (base : State) (left_origin right_origin : DiskAt)
@@ -69,14 +96,7 @@ pub record Serves
   pub disks :
       LeavesDisks seen moment left_at scripts (map recorded served.history)
       (state_after base (map recorded served.history)) served.end served.left served.right
-  pub cause :
-      CausesHalt (halt_of served.end) (faults_at left_origin right_origin)
-      (record { left = faults served.left; right = faults served.right })
-  pub left_time : GoesOnFrom left_origin moment left_at served.left
-  pub right_time : GoesOnFrom right_origin moment left_at served.right
-  pub past :
-      LeavesFrom seen moment left_at left_origin right_origin base (requests_of (map recorded served.history))
-      (halt_of served.end) served.left served.right
+  pub since : HasGoneOn seen faults moment left_at base left_origin right_origin served
 
 -- a disk as it is
 abbrev pub disk_at :

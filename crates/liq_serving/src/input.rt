@@ -61,8 +61,10 @@ pub fn serve_input<S: Source, K: Sink, D: Disk + Send, G: Gate + Sync, R: Thread
     left: D,
     right: D,
 ) -> Finished<D>
-    ensures served { ServesInput K.held D.seen D.moment D.left_at (S.left input.old) (S.left input.new) out.old out.new left right result }
-    ensures unread { (stop : Stop) → result.finish ≡ Finish.NotRead stop → (result.left ≡ left) × (result.right ≡ right) }
+    ensures served { ServesInput K.held D.seen D.moment D.left_at (S.left input.old) (S.left input.new)
+        out.old out.new left right result }
+    ensures unread { (stop : Stop) → result.finish ≡ Finish.NotRead stop
+        → (result.left ≡ left) × (result.right ≡ right) }
 
     // At most as many lines are taken from the source as are read, and what one read asks for.
     ensures takes { ReadsAtMost (taken_most LINES_MOST) (S.left input.old) (S.left input.new) }
@@ -70,7 +72,8 @@ pub fn serve_input<S: Source, K: Sink, D: Disk + Send, G: Gate + Sync, R: Thread
     // A fault has its cause, and none is passed over.
     ensures source { ReadCause (reading_of result.finish) (S.faults input.old) (S.faults input.new) }
     ensures sink { WriteCause result.finish (K.faults out.old) (K.faults out.new) }
-    ensures disks { DiskCause result.finish (counts_of D.faults left right) (counts_of D.faults result.left result.right) }
+    ensures disks { DiskCause result.finish
+        (counts_of D.faults left right) (counts_of D.faults result.left result.right) }
 
     // Time goes on at both disks, and what a crash may have left of them before stays what it was.
     ensures left_time { GoesOn D.moment D.left_at left result.left }

@@ -34,7 +34,8 @@ where
     requires as_many { length hinters.items ≡ length scripts.items }
     requires belong { All (K.belongs desk.now) seats.items }
     requires short { All (λ script. length script.requests ≤ REQUESTS_MOST) scripts.items }
-    ensures { ComesTo K H (K.belongs desk.now) K.number K.own K.knows_end K.faulted scripts.items seats.items result.0.items result.1 }
+    ensures { ComesTo K H (K.belongs desk.now) K.number K.own K.knows_end K.faulted
+        scripts.items seats.items result.0.items result.1 }
 {
     let count = scripts.len();
     let Ok(room) = Vec::with_capacity(alloc, count) else {

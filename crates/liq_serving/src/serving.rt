@@ -1,14 +1,13 @@
 //! All scripts are served.
 
-ghost use Rattle.std.specs.Prelude.{◌≡◌, ◌≤◌, None, All, [], length, sum_by};
+ghost use Rattle.std.specs.Prelude.{◌≡◌, ◌≤◌, All, [], length};
 ghost use Rattle.liq_types.specs.State.{State};
 ghost use Rattle.liq_core.specs.Core.{StandsFor};
 ghost use Rattle.liq_store.specs.Keeping.{IsInOrder};
-ghost use Rattle.liq_book.specs.declared.items.TheConstants.{ENTRIES_MOST};
-ghost use Rattle.liq_book.specs.Origin.{IsAtOrigin, TellsList};
+ghost use Rattle.liq_book.specs.Origin.{IsAtOrigin};
 ghost use Rattle.liq_book.specs.Seats.{IsSeatOf, sessions_of};
 ghost use Rattle.liq_serving.specs.Leaves.{Leaves};
-ghost use Rattle.liq_serving.specs.Serves.{AreNumbered, Serves, disk_at};
+ghost use Rattle.liq_serving.specs.Serves.{IsServable, Serves, disk_at};
 
 use crate::seats::run_at;
 use crate::served::{End, Served, ended};
@@ -36,13 +35,10 @@ pub fn serve_sessions<D: Disk + Send, G: Gate + Sync, R: Threads + Wait + Sync>(
     scripts: Vec<Script>,
     store: Store<D>,
 ) -> Served<D>
-    requires some { 1 ≤ length scripts.items }
-    requires few { length scripts.items ≤ 8 }
-    requires numbered { AreNumbered scripts.items }
-    requires total { sum_by (λ script. length script.requests) scripts.items ≤ ENTRIES_MOST }
-    requires going { store.stopped ≡ None }
-    requires listed { TellsList store }
-    ensures { (s : State) → StandsFor store.core s → Serves D.seen D.faults D.moment D.left_at s (disk_at D.seen D.faults D.moment D.left_at store.left) (disk_at D.seen D.faults D.moment D.left_at store.right) scripts.items result }
+    requires servable { IsServable scripts.items store }
+    ensures { (s : State) → StandsFor store.core s → Serves D.seen D.faults D.moment D.left_at s
+        (disk_at D.seen D.faults D.moment D.left_at store.left) (disk_at D.seen D.faults D.moment D.left_at store.right)
+        scripts.items result }
 {
     protocols_stand(store.protocol());
     serve_from::<D, Brand, G, R>(rt, alloc, gate, scripts, store)
@@ -56,13 +52,8 @@ fn serve_from<D: Disk + Send, O: Origin + Send + Sync, G: Gate + Sync, R: Thread
     scripts: Vec<Script>,
     store: Store<D>,
 ) -> Served<D>
-    requires some { 1 ≤ length scripts.items }
-    requires few { length scripts.items ≤ 8 }
-    requires numbered { AreNumbered scripts.items }
-    requires total { sum_by (λ script. length script.requests) scripts.items ≤ ENTRIES_MOST }
-    requires going { store.stopped ≡ None }
+    requires servable { IsServable scripts.items store }
     requires origin { IsAtOrigin D.seen D.faults D.moment D.left_at O.state O.left O.right store }
-    requires listed { TellsList store }
     ensures { Serves D.seen D.faults D.moment D.left_at O.state O.left O.right scripts.items result }
 {
     let count = scripts.len() as u8;
@@ -84,7 +75,8 @@ fn finished<D: Disk, O: Origin, W: Wait>(
 ) -> Served<D>
     requires own { All (IsSeatOf service) seats.items }
     requires all { sessions_of service ≤ length seats.items }
-    ensures { Leaves D.seen D.faults D.moment D.left_at O.state O.left O.right (sessions_of service) whole seats.items result }
+    ensures { Leaves D.seen D.faults D.moment D.left_at O.state O.left O.right
+        (sessions_of service) whole seats.items result }
 {
     match service.close(rt, seats) {
         Ok(closed) => ended(closed, whole),

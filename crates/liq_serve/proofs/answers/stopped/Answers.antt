@@ -1,9 +1,9 @@
 use Rattle.std.proofs.Common.{sym, subst, Err}
-use Rattle.liq_outside.proofs.Moments.{unmoved}
 use Rattle.liq_store.specs.Causes.{counts_of}
 use Rattle.liq_ends.specs.declared.halts.Halt.{Halt}
-use Rattle.liq_ends.specs.Causes.{DiskCause, LastCause}
+use Rattle.liq_ends.specs.Causes.{DisksGoOn, LastCause}
 use Rattle.liq_serve.proofs.Gathered.{stop_disks, stop_sink}
+use Rattle.liq_serve.proofs.Telling.{same_go_on}
 use Rattle.liq_serve.proofs.answers.stopped.Goals as goal
 
 pub returns-clause-sink : goal.returns-clause-sink
@@ -13,11 +13,5 @@ returns-clause-sink g c =
 
 pub returns-clause-disks : goal.returns-clause-disks
 returns-clause-disks g c =
-    let counts = counts_of g.D.Disk.faults c.args.left c.args.right in
-    subst (λ (halt : Halt). DiskCause {T = Unit {0}} (Err halt) counts counts) (sym c.halt_at-halt.ensures) (stop_disks c.args.stop counts)
-
-pub returns-clause-left_time : goal.returns-clause-left_time
-returns-clause-left_time g c = unmoved g.D.Disk.moment g.D.Disk.left_at c.args.left
-
-pub returns-clause-right_time : goal.returns-clause-right_time
-returns-clause-right_time g c = unmoved g.D.Disk.moment g.D.Disk.left_at c.args.right
+    subst (λ (halt : Halt). DisksGoOn g.D.Disk.faults g.D.Disk.moment g.D.Disk.left_at c.args.left c.args.right (Err halt) c.args.left c.args.right) (sym c.halt_at-halt.ensures)
+    (same_go_on g.D.Disk.faults g.D.Disk.moment g.D.Disk.left_at c.args.left c.args.right _ (stop_disks c.args.stop (counts_of g.D.Disk.faults c.args.left c.args.right)))

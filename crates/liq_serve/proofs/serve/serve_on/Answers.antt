@@ -1,10 +1,10 @@
 use Rattle.liq_rules.specs.History.{requests_of}
 use Rattle.liq_serve.specs.Finishing.{end_of}
-use Rattle.liq_serve.specs.Outside.{Outside}
+use Rattle.liq_ends.specs.Outside.{Outside}
 use Rattle.liq_ends.proofs.Causes.{write_no_fewer}
 use Rattle.liq_pairs.specs.Pair.{state_on}
 use Rattle.liq_scripts.specs.Output.{served as text_of}
-use Rattle.liq_serve.proofs.Served.{all_served, came_by, disk_cause, fault_of, if_found, never_rotated, sink_cause, source_cause}
+use Rattle.liq_serve.proofs.Served.{all_served, came_by, causes_kept, fault_of, if_found, never_rotated}
 use Rattle.liq_ends.proofs.Opened.{state_formed}
 use Rattle.liq_ends.proofs.Shares.{all_shares}
 use Rattle.liq_serve.proofs.serve.serve_on.Goals as goal
@@ -19,7 +19,7 @@ returns-clause-served g c =
     let served = ran.ensures.served in
     let start = c.args.out.now in
     let middle = ran.new.out in
-    let fewer = write_no_fewer (end_of how) (faults start) (faults middle) (sink_cause how (faults start) (faults middle) ran.ensures.sink) in
+    let fewer = write_no_fewer (end_of how) (faults start) (faults middle) (causes_kept how _ _ (faults start) (faults middle) _ _ ran.ensures.source ran.ensures.sink ran.ensures.disks).1 in
     let answered = served.answered in
     let before : Outside g.row.S.Denot g.row.K.Denot g.row.D.Denot = record { source = c.args.input.now; sink = start; left = c.args.left; right = c.args.right } in
     let after : Outside g.row.S.Denot g.row.K.Denot g.row.D.Denot = record { source = ran.new.input; sink = c.tell_last.new.out; left = ran.result.left; right = ran.result.right } in
@@ -45,15 +45,16 @@ returns-clause-served g c =
       lawful = λ l r told_l told_r. if_found (state_on l r) _ (λ start is. (answered.legal l r start told_l told_r is, all_shares start (requests_of served.history) (state_formed l r start is)));
     }
 
-pub returns-clause-source : goal.returns-clause-source
-returns-clause-source g c = rw c.end_of-end.ensures (source_cause c.serve_input-left.result.finish _ _ c.serve_input-left.ensures.source)
-
-pub returns-clause-sink : goal.returns-clause-sink
-returns-clause-sink g c =
-    c.tell_last.ensures.sink (g.K.Sink.faults c.args.out.now) (rw c.end_of-end.ensures (sink_cause c.serve_input-left.result.finish _ _ c.serve_input-left.ensures.sink))
-
-pub returns-clause-disks : goal.returns-clause-disks
-returns-clause-disks g c = rw c.end_of-end.ensures (disk_cause c.serve_input-left.result.finish _ _ c.serve_input-left.ensures.disks)
+pub returns-clause-causes : goal.returns-clause-causes
+returns-clause-causes g c =
+    let ran = c.serve_input-left in
+    let is = c.end_of-end.ensures in
+    let causes = causes_kept ran.result.finish _ _ _ _ _ _ ran.ensures.source ran.ensures.sink ran.ensures.disks in
+    record {
+      source = rw is causes.0;
+      sink = c.tell_last.ensures.sink (g.K.Sink.faults c.args.out.now) (rw is causes.1);
+      disks = record { count = rw is causes.2; left_time = ran.ensures.left_time; right_time = ran.ensures.right_time };
+    }
 
 pub returns-clause-goes_on : goal.returns-clause-goes_on
 returns-clause-goes_on g c generation = rw c.end_of-end.ensures (never_rotated c.serve_input-left.result.finish generation)

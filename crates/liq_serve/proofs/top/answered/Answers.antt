@@ -5,7 +5,7 @@ use Rattle.liq_words.specs.declared.words.Word.{Word}
 use Rattle.liq_words.specs.declared.words.WordsFault.{WordsFault}
 use Rattle.liq_words.specs.declared.words.WordsFault.TheVariants.{Usage}
 use Rattle.liq_words.specs.Words.{Ask}
-use Rattle.liq_serve.specs.Outside.{Outside}
+use Rattle.liq_ends.specs.Outside.{Outside}
 use Rattle.liq_serve.specs.Top.{Ends}
 use Rattle.liq_serve.specs.declared.top.Ended.{Ended}
 use Rattle.liq_serve.proofs.Words.{is_read, unread_ends}

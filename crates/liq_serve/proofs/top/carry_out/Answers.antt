@@ -2,14 +2,13 @@ use Rattle.std.proofs.Common.{refl, subst, inl, inr}
 use Rattle.liq_words.specs.declared.words.Word.{Word}
 use Rattle.liq_words.specs.declared.words.Word.TheVariants as word
 use Rattle.liq_words.specs.Reading.{IsInRange}
-use Rattle.liq_serve.specs.Outside.{Outside}
+use Rattle.liq_ends.specs.Outside.{Outside}
 use Rattle.liq_serve.proofs.Ran.{runs_to}
 use Rattle.liq_serve.proofs.Words.{IsRead, opens_first, telling_ends, word_ends}
 use Rattle.liq_serve.proofs.top.carry_out.Goals as goal
 use Rattle.liq_lines.proofs.Readings.{takes_none}
-use Rattle.liq_outside.proofs.Moments.{unmoved}
 use Rattle.liq_serve.proofs.StatusLaws.{audit_known, follow_known, goes_on_known, answers_known, state_known}
-use Rattle.liq_serve.proofs.Telling.{disks_unasked, disks_unfollowed, source_unasked, taken_followed}
+use Rattle.liq_serve.proofs.Telling.{disks_unasked, disks_unfollowed, same_go_on, source_unasked, taken_followed}
 
 pub returns-in-Run : goal.returns-in-Run
 returns-in-Run g c words asks only =
@@ -19,53 +18,27 @@ returns-in-Run g c words asks only =
     let read = subst (λ (w : Word). IsRead words w) c.in-Run.is (record { asks = asks; only = only }) in
     word_ends g.S.Source.left g.S.Source.faults g.K.Sink.held g.K.Sink.faults g.D.Disk.seen g.D.Disk.faults g.D.Disk.moment g.D.Disk.left_at before after words word.Run ran.result.end read
     (opens_first g.S.Source.left g.S.Source.faults g.K.Sink.held g.K.Sink.faults g.D.Disk.seen g.D.Disk.faults g.D.Disk.moment g.D.Disk.left_at before after ran.result.end _
-    (λ l r told_l told_r start is bytes told. runs_to g.S.Source.left g.S.Source.faults g.K.Sink.held g.K.Sink.faults g.D.Disk.seen g.D.Disk.faults g.D.Disk.moment g.D.Disk.left_at before after start ran.result.end bytes l r (ran.ensures.run bytes l r told told_l told_r start is))
+    (λ l r told_l told_r start is bytes told. runs_to g.S.Source.left g.S.Source.faults g.K.Sink.held g.K.Sink.faults g.D.Disk.seen g.D.Disk.faults g.D.Disk.moment g.D.Disk.left_at before after start ran.result.end bytes l r (ran.ensures.run l r told_l told_r start is bytes told))
     ran.ensures.damaged)
-    (record {
-      source = ran.ensures.source;
-      sink = ran.ensures.sink;
-      disks = ran.ensures.disks;
-      status = goes_on_known ran.result.end ran.ensures.goes_on;
-      left_time = ran.ensures.left_time;
-      right_time = ran.ensures.right_time;
-    })
-    ran.ensures.few
+    (goes_on_known ran.result.end ran.ensures.goes_on) ran.ensures.causes ran.ensures.few
 
 pub returns-in-Staking : goal.returns-in-Staking
 returns-in-Staking g c words asks only =
-    let ran = c.stake_on in
+    let ran = c.answer_on in
     let before : Outside g.row.S.Denot g.row.K.Denot g.row.D.Denot = record { source = c.args.input.now; sink = c.args.out.now; left = c.args.left; right = c.args.right } in
     let after : Outside g.row.S.Denot g.row.K.Denot g.row.D.Denot = record { source = ran.new.input; sink = ran.new.out; left = ran.result.left; right = ran.result.right } in
     let read = subst (λ (w : Word). IsRead words w) c.in-Staking.is (record { asks = asks; only = only }) in
     word_ends g.S.Source.left g.S.Source.faults g.K.Sink.held g.K.Sink.faults g.D.Disk.seen g.D.Disk.faults g.D.Disk.moment g.D.Disk.left_at before after words word.Staking ran.result.end read
-    ran.ensures.answered
-    (record {
-      source = ran.ensures.source;
-      sink = ran.ensures.sink;
-      disks = ran.ensures.disks;
-      status = answers_known ran.result.end;
-      left_time = ran.ensures.left_time;
-      right_time = ran.ensures.right_time;
-    })
-    ran.ensures.takes
+    ran.ensures.answered (answers_known ran.result.end) ran.ensures.causes ran.ensures.takes
 
 pub returns-in-Rewards : goal.returns-in-Rewards
 returns-in-Rewards g c words asks only =
-    let ran = c.reward_on in
+    let ran = c.answer_on-in-Rewards in
     let before : Outside g.row.S.Denot g.row.K.Denot g.row.D.Denot = record { source = c.args.input.now; sink = c.args.out.now; left = c.args.left; right = c.args.right } in
     let after : Outside g.row.S.Denot g.row.K.Denot g.row.D.Denot = record { source = ran.new.input; sink = ran.new.out; left = ran.result.left; right = ran.result.right } in
     let read = subst (λ (w : Word). IsRead words w) c.in-Rewards.is (record { asks = asks; only = only }) in
     word_ends g.S.Source.left g.S.Source.faults g.K.Sink.held g.K.Sink.faults g.D.Disk.seen g.D.Disk.faults g.D.Disk.moment g.D.Disk.left_at before after words word.Rewards ran.result.end read
-    ran.ensures.answered
-    (record {
-      source = ran.ensures.source;
-      sink = ran.ensures.sink;
-      disks = ran.ensures.disks;
-      status = answers_known ran.result.end;
-      left_time = ran.ensures.left_time;
-      right_time = ran.ensures.right_time;
-    })
-    ran.ensures.takes
+    ran.ensures.answered (answers_known ran.result.end) ran.ensures.causes ran.ensures.takes
 
 pub returns-in-State : goal.returns-in-State
 returns-in-State g c words asks only =
@@ -75,7 +48,7 @@ returns-in-State g c words asks only =
     let read = subst (λ (w : Word). IsRead words w) c.in-State.is (record { asks = asks; only = only }) in
     telling_ends g.S.Source.left g.S.Source.faults g.K.Sink.held g.K.Sink.faults g.D.Disk.seen g.D.Disk.faults g.D.Disk.moment g.D.Disk.left_at before after words word.State ran.result.end _ read
     (λ leaves. leaves) refl (λ l r told_l told_r start is. let so = ran.ensures.told l r told_l told_r start is in (so.0.0, so.0.1, so.1, ran.ensures.past l r told_l told_r start is)) ran.ensures.damaged
-    (state_known ran.result.end ran.ensures.no_source ran.ensures.no_line (ran.ensures.no_limit (inl refl))) ran.ensures.no_source ran.ensures.sink ran.ensures.disks ran.ensures.left_time ran.ensures.right_time
+    (state_known ran.result.end ran.ensures.ends.no_source ran.ensures.ends.no_line (ran.ensures.ends.no_limit (inl refl))) ran.ensures.ends.no_source ran.ensures.sink ran.ensures.disks
 
 pub returns-in-Report : goal.returns-in-Report
 returns-in-Report g c words asks only =
@@ -85,7 +58,7 @@ returns-in-Report g c words asks only =
     let read = subst (λ (w : Word). IsRead words w) c.in-Report.is (record { asks = asks; only = only }) in
     telling_ends g.S.Source.left g.S.Source.faults g.K.Sink.held g.K.Sink.faults g.D.Disk.seen g.D.Disk.faults g.D.Disk.moment g.D.Disk.left_at before after words word.Report ran.result.end _ read
     (λ leaves. leaves) refl (λ l r told_l told_r start is. let so = ran.ensures.told l r told_l told_r start is in (so.0.0, so.0.1, so.1, ran.ensures.past l r told_l told_r start is)) ran.ensures.damaged
-    (state_known ran.result.end ran.ensures.no_source ran.ensures.no_line (ran.ensures.no_limit (inr refl))) ran.ensures.no_source ran.ensures.sink ran.ensures.disks ran.ensures.left_time ran.ensures.right_time
+    (state_known ran.result.end ran.ensures.ends.no_source ran.ensures.ends.no_line (ran.ensures.ends.no_limit (inr refl))) ran.ensures.ends.no_source ran.ensures.sink ran.ensures.disks
 
 pub returns-in-Audit : goal.returns-in-Audit
 returns-in-Audit g c words asks only =
@@ -95,7 +68,7 @@ returns-in-Audit g c words asks only =
     let read = subst (λ (w : Word). IsRead words w) c.in-Audit.is (record { asks = asks; only = only }) in
     telling_ends g.S.Source.left g.S.Source.faults g.K.Sink.held g.K.Sink.faults g.D.Disk.seen g.D.Disk.faults g.D.Disk.moment g.D.Disk.left_at before after words word.Audit ran.result.end _ read
     (λ leaves. leaves) refl (λ l r told_l told_r start is. let so = ran.ensures.told l r told_l told_r start is in (so.0, so.1, ran.ensures.past l r told_l told_r start is)) ran.ensures.damaged
-    (audit_known ran.result.end ran.ensures.no_source ran.ensures.no_line) ran.ensures.no_source ran.ensures.sink ran.ensures.disks ran.ensures.left_time ran.ensures.right_time
+    (audit_known ran.result.end ran.ensures.ends.no_source ran.ensures.ends.no_line) ran.ensures.ends.no_source ran.ensures.sink ran.ensures.disks
 
 pub returns-in-Follow : goal.returns-in-Follow
 returns-in-Follow g c words asks only =
@@ -107,13 +80,11 @@ returns-in-Follow g c words asks only =
     let left = g.S.Source.left ran.new.input in
     word_ends g.S.Source.left g.S.Source.faults g.K.Sink.held g.K.Sink.faults g.D.Disk.seen g.D.Disk.faults g.D.Disk.moment g.D.Disk.left_at before after words word.Follow ran.result read
     (refl, so)
+    (follow_known ran.result so.0 left so.2.0 so.2.1)
     (record {
       source = ran.ensures.source;
       sink = ran.ensures.sink;
-      disks = disks_unfollowed ran.result so.0 left so.2.0 so.2.1 _;
-      status = follow_known ran.result so.0 left so.2.0 so.2.1;
-      left_time = unmoved g.D.Disk.moment g.D.Disk.left_at c.args.left;
-      right_time = unmoved g.D.Disk.moment g.D.Disk.left_at c.args.right;
+      disks = same_go_on g.D.Disk.faults g.D.Disk.moment g.D.Disk.left_at c.args.left c.args.right ran.result (disks_unfollowed ran.result so.0 left so.2.0 so.2.1 _);
     })
     (so.0, so.1, taken_followed ran.result so.0 left so.2.0 so.2.1)
 
@@ -125,13 +96,11 @@ returns-in-Gen g c words asks only =
     let read = subst (λ (w : Word). IsRead words w) c.in-Gen.is (record { asks = asks; only = only }) in
     word_ends g.S.Source.left g.S.Source.faults g.K.Sink.held g.K.Sink.faults g.D.Disk.seen g.D.Disk.faults g.D.Disk.moment g.D.Disk.left_at before after words (word.Gen c.in-Gen.seed c.in-Gen.count) ran.result read
     (refl, ran.ensures.ends, ran.ensures.told)
+    ran.ensures.ends
     (record {
       source = source_unasked ran.result _ ran.ensures.ends;
       sink = ran.ensures.sink;
-      disks = disks_unasked ran.result _ ran.ensures.ends;
-      status = ran.ensures.ends;
-      left_time = unmoved g.D.Disk.moment g.D.Disk.left_at c.args.left;
-      right_time = unmoved g.D.Disk.moment g.D.Disk.left_at c.args.right;
+      disks = same_go_on g.D.Disk.faults g.D.Disk.moment g.D.Disk.left_at c.args.left c.args.right ran.result (disks_unasked ran.result _ ran.ensures.ends);
     })
     (takes_none (g.S.Source.left c.args.input.now))
 

@@ -2,7 +2,7 @@ use Rattle.std.proofs.Common.{sym, subst}
 use Rattle.std.specs.Prelude.{map}
 use Rattle.std.specs.String.{string_bytes}
 use Rattle.liq_words.specs.declared.words.Word.TheVariants.{Serve}
-use Rattle.liq_serve.specs.Outside.{Outside}
+use Rattle.liq_ends.specs.Outside.{Outside}
 use Rattle.liq_serve.specs.Top.{Ends}
 use Rattle.liq_serve.specs.declared.top.Ended.{Ended}
 use Rattle.liq_serve.proofs.StatusLaws.{goes_on_known}
@@ -18,11 +18,4 @@ returns-then-is_serve g c =
     subst (λ (e : Ended g.row.D.Denot). Ends g.S.Source.left g.S.Source.faults g.K.Sink.held g.K.Sink.faults g.D.Disk.seen g.D.Disk.faults g.D.Disk.moment g.D.Disk.left_at before (record { source = ran.new.input; sink = ran.new.out; left = e.left; right = e.right }) e.status words)
     (sym c.with_status.ensures)
     (word_ends g.S.Source.left g.S.Source.faults g.K.Sink.held g.K.Sink.faults g.D.Disk.seen g.D.Disk.faults g.D.Disk.moment g.D.Disk.left_at before _ words Serve ran.result.end read
-    ran.ensures.served (record {
-      source = ran.ensures.source;
-      sink = ran.ensures.sink;
-      disks = ran.ensures.disks;
-      status = goes_on_known ran.result.end ran.ensures.goes_on;
-      left_time = ran.ensures.left_time;
-      right_time = ran.ensures.right_time;
-    }) ran.ensures.takes)
+    ran.ensures.served (goes_on_known ran.result.end ran.ensures.goes_on) ran.ensures.causes ran.ensures.takes)
