@@ -15,13 +15,11 @@ use liq_outside::{Disk, Sink, Source};
 use std::alloc::Global;
 
 /// Answers the input's lines, and writes the last line of a run that stops.
-pub fn run_on<S: Source, K: Sink, D: Disk>(
-    alloc: Global,
-    input: &mut S,
-    out: &mut K,
-    left: D,
-    right: D,
-) -> Ending<D>
+pub fn run_on<S, K, D>(alloc: Global, input: &mut S, out: &mut K, left: D, right: D) -> Ending<D>
+where
+    S: Source,
+    K: Sink,
+    D: Disk,
     ensures run { OfState D.seen left right (λ l r start. (bytes : List ℕ) → S.left input.old ≡ Some bytes
         → EndsIn D.seen D.moment D.left_at left right start result.end bytes l r (S.left input.new)
         (Rose (K.faults out.old) (K.faults out.new)) (K.held out.old) (K.held out.new) result.left result.right) }
