@@ -4,6 +4,7 @@ use crate::rule::{Published, Sight};
 use crate::shelf::Shelf;
 use left_right::reader::Reader;
 
+mod enter;
 mod look;
 mod number;
 mod window;

@@ -42,9 +42,15 @@ fn numbered(number: u64, call: Call) -> Command
     }
 }
 
-// Calls of client 1, each under the number behind the last that was accepted. Answers the number that comes next.
-fn make_calls<L: Ledger>(protocol: &mut Protocol, calls: &[Call], steps: &mut Steps<L>) -> u64 {
-    let mut number: u64 = 1;
+// Calls of client 1, each under the number behind the last that was accepted, of which the first is given. Answers the
+// number that comes next.
+fn make_calls<L: Ledger>(
+    protocol: &mut Protocol,
+    first: u64,
+    calls: &[Call],
+    steps: &mut Steps<L>,
+) -> u64 {
+    let mut number = first;
     for call in calls {
         if accept(protocol, &numbered(number, *call), steps) {
             number = number.saturating_add(1);
@@ -88,14 +94,13 @@ struct Pair {
 }
 
 fn pair_of(alloc: Global, run: &Run) -> Result<Pair, AllocError> {
-    let mut after = run.image;
-    after.tables[5] = run.rotated;
-    let mut rotated = checkpoint(alloc, Version::Two, &after)?;
+    let mut image = run.image;
+    image.tables[5] = run.client;
+    let before = checkpoint(alloc, run.version, &image)?;
+    image.tables[5] = run.rotated;
+    let mut rotated = checkpoint(alloc, Version::Two, &image)?;
     set_second(rotated.as_mut_slice());
-    Ok(Pair {
-        before: checkpoint(alloc, run.version, &run.image)?,
-        rotated,
-    })
+    Ok(Pair { before, rotated })
 }
 
 fn see<L: Ledger>(
@@ -139,7 +144,8 @@ fn see_run<L: Ledger>(alloc: Global, run: &Run, blank: Blank) -> Option<Seen>
         return None;
     };
     let mut protocol = begun(alloc, run.version);
-    let number = make_calls(&mut protocol, run.calls, &mut steps);
+    let number = make_calls(&mut protocol, 1, run.first, &mut steps);
+    let number = make_calls(&mut protocol, number, run.calls, &mut steps);
     Some(see(alloc, &mut protocol, number, &pair, &mut steps))
 }
 

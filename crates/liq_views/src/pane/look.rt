@@ -7,7 +7,7 @@ ghost use Rattle.liq_views.specs.Panes.{seen_by};
 ghost use Rattle.liq_views.specs.Windows.{count_most};
 
 use super::Pane;
-use crate::rule::{Published, Sees, Sight};
+use crate::rule::{Published, Sight};
 use crate::shelf::Shelf;
 use crate::window::Shut;
 use left_right::reader::Reader;
@@ -33,21 +33,9 @@ impl Pane {
         ensures open { OnOk result (self.new.shut ≡ self.old.shut) }
         ensures shut { OnErr result (self.new.shut ≡ min (self.old.shut + 1) count_most) }
     {
-        let Some(reader) = self.reader.take() else {
-            self.shut = self.shut.saturating_add(1);
-            return Err(Shut);
-        };
-        match reader.enter_as::<Sees>() {
-            Ok(reading) => {
-                let hint = reading.get().version.answer(ask);
-                self.reader = Some(reading.leave());
-                Ok(hint)
-            }
-            Err(reader) => {
-                self.reader = Some(reader);
-                self.shut = self.shut.saturating_add(1);
-                Err(Shut)
-            }
-        }
+        let reading = self.enter()?;
+        let hint = reading.get().version.answer(ask);
+        self.reader = Some(reading.leave());
+        Ok(hint)
     }
 }

@@ -6,7 +6,6 @@ ghost use Rattle.liq_views.specs.Panes.{seen_by};
 ghost use Rattle.liq_views.specs.Windows.{count_most};
 
 use super::Pane;
-use crate::rule::Sees;
 use crate::window::Shut;
 
 impl Pane {
@@ -19,21 +18,9 @@ impl Pane {
         ensures open { OnOk result (self.new.shut ≡ self.old.shut) }
         ensures shut { OnErr result (self.new.shut ≡ min (self.old.shut + 1) count_most) }
     {
-        let Some(reader) = self.reader.take() else {
-            self.shut = self.shut.saturating_add(1);
-            return Err(Shut);
-        };
-        match reader.enter_as::<Sees>() {
-            Ok(reading) => {
-                let number = reading.get().version.number();
-                self.reader = Some(reading.leave());
-                Ok(number)
-            }
-            Err(reader) => {
-                self.reader = Some(reader);
-                self.shut = self.shut.saturating_add(1);
-                Err(Shut)
-            }
-        }
+        let reading = self.enter()?;
+        let number = reading.get().version.number();
+        self.reader = Some(reading.leave());
+        Ok(number)
     }
 }
