@@ -1,64 +1,34 @@
-//! Stores over disks in memory: opened, called and closed.
+//! Calls on stores over disks in memory.
 ghost use Rattle.std.specs.Prelude.{◌≡◌};
 ghost use Rattle.liq_types.specs.declared.requests.Call.TheVariants.{Fund};
 ghost use Rattle.liq_types.specs.declared.requests.Request.TheVariants.{Do};
 
-use crate::disks::disk;
-use crate::found::{Found, of_damage};
-use crate::journals::fund;
 use liq_outside::MemoryDisk;
-use liq_store::{Side, Store, StoreWhy};
-use liq_types::{Answer, Hint, Request};
+use liq_store::Store;
+use liq_types::{Answer, Call, Command, Hint, Request};
 use std::alloc::{AllocError, Global};
 
+/// A disk that holds these bytes, and whose device calls of these numbers fail.
+pub fn disk(alloc: Global, bytes: &[u8], failing: &[u64]) -> Result<MemoryDisk, AllocError> {
+    Ok(MemoryDisk::new(alloc, bytes.to_vec(alloc)?, failing.to_vec(alloc)?))
+}
+
 /// `1 NUMBER fund 1 10000000000`
+pub fn fund(number: u64) -> Command
+    ensures { result ≡ record { client = 1; number = number; call = Fund 1 10000000000 } }
+{
+    Command {
+        client: 1,
+        number,
+        call: Call::Fund(1, 10_000_000_000),
+    }
+}
+
+/// The same as a request.
 pub fn funding(number: u64) -> Request
     ensures { result ≡ Do (record { client = 1; number = number; call = Fund 1 10000000000 }) }
 {
     Request::Do(fund(number))
-}
-
-/// Two disks, and what was found on them: how many commands were accepted, or why there is no store, and whether it is the right
-/// disk that says so.
-#[derive(Drop)]
-pub struct Opened {
-    pub left: MemoryDisk,
-    pub right: MemoryDisk,
-    pub found: Found,
-    pub is_right: bool,
-}
-
-fn of_store(why: &StoreWhy) -> (Found, bool) {
-    match why {
-        StoreWhy::DiskFault => (Found::DiskFault, false),
-        StoreWhy::Damaged { side, damage } => (of_damage(damage), matches!(side, Side::Right)),
-        StoreWhy::NoMemory => (Found::NoMemory, false),
-    }
-}
-
-/// Opens the store and closes it.
-pub fn open(alloc: Global, left: MemoryDisk, right: MemoryDisk) -> Opened {
-    match Store::open(alloc, left, right) {
-        Ok(store) => {
-            let found = Found::Records(store.protocol().records());
-            let (left, right) = store.close();
-            Opened {
-                left,
-                right,
-                found,
-                is_right: false,
-            }
-        }
-        Err(fault) => {
-            let (found, is_right) = of_store(&fault.why);
-            Opened {
-                left: fault.left,
-                right: fault.right,
-                found,
-                is_right,
-            }
-        }
-    }
 }
 
 /// How many calls a run makes at most.

@@ -1,8 +1,7 @@
 //! A store that is closed and opened again.
 
 use crate::checks::shows;
-use crate::journals::fund;
-use crate::runs::{Made, funding, make_calls, run};
+use crate::runs::{Made, fund, funding, make_calls, run};
 use liq_outside::MemoryDisk;
 use liq_store::{Side, Store};
 use liq_types::{Answer, Command, Hint, Info, Query, Reply, Request};

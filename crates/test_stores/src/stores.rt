@@ -1,10 +1,9 @@
 //! Stores whose disks fail.
 
 use crate::checks::shows;
-use crate::disks::disk;
-use crate::found::Found;
-use crate::runs::{CALLS, open, run};
-use liq_outside::Disk;
+use crate::runs::{CALLS, disk, run};
+use liq_outside::{Disk, MemoryDisk};
+use liq_store::{Store, StoreWhy};
 use liq_types::{Answer, Done, Reply};
 use std::alloc::{AllocError, Global};
 use std::test::Fail;
@@ -57,19 +56,30 @@ fn the_second_sync_of_the_fifth_call_fails(rt: HostRuntime) -> Result<(), Fail> 
     Ok(())
 }
 
-// What is found where the left disk has these bytes and the right one fails, and the faults of both.
-fn find_beside_fault(alloc: Global, bytes: &[u8]) -> Result<(Found, u64, u64), AllocError> {
+// Whether an opening of these disks tells a fault of a disk, and the faults of both then.
+fn open_failing(alloc: Global, left: MemoryDisk, right: MemoryDisk) -> (bool, u64, u64) {
+    match Store::open(alloc, left, right) {
+        Ok(_) => (false, 0, 0),
+        Err(fault) => (
+            matches!(fault.why, StoreWhy::DiskFault),
+            fault.left.faults(),
+            fault.right.faults(),
+        ),
+    }
+}
+
+// The same where the left disk has these bytes and the right one fails.
+fn open_beside_fault(alloc: Global, bytes: &[u8]) -> Result<(bool, u64, u64), AllocError> {
     let right = disk(alloc, &[], &[0])?;
-    let opened = open(alloc, disk(alloc, bytes, &[])?, right);
-    Ok((opened.found, opened.left.faults(), opened.right.faults()))
+    Ok(open_failing(alloc, disk(alloc, bytes, &[])?, right))
 }
 
 #[test]
 fn the_right_disk_fails(rt: HostRuntime) -> Result<(), Fail> {
     // The right disk is synced although the left one is damaged, and its fault is told.
     for bytes in [[].as_slice(), [1; 57].as_slice()] {
-        let told = find_beside_fault(rt.alloc(), bytes)?;
-        let is_told = told == (Found::DiskFault, 0, 1);
+        let told = open_beside_fault(rt.alloc(), bytes)?;
+        let is_told = told == (true, 0, 1);
         shows(&rt, "the right disk's fault is told", is_told);
     }
     Ok(())

@@ -1,0 +1,11 @@
+//! What stops a test.
+
+use std::process::Abort;
+
+/// Where nothing is found.
+pub const NOWHERE: u64 = u64::MAX;
+
+/// Stops the test where this does not hold.
+pub fn shows(rt: &impl Abort, what: &str, holds: bool) {
+    assert!(rt; holds, "{what}");
+}
