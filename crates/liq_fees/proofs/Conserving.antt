@@ -4,12 +4,13 @@ use Rattle.std.proofs.Math.Nat.{le_of_mul-le-mul_right, mul-le-mul_right}
 use Rattle.std.proofs.lemmas.Bool.{eqb-false, eq-eqb}
 use Rattle.liq_num.specs.Quotient.{floor_of}
 use Rattle.liq_num.specs.declared.power.TheConstants.{ONE}
+use Rattle.liq_num.proofs.Floors.{floor_low}
 use Rattle.liq_types.specs.PlainLedger.{over_accounts}
 use Rattle.liq_types.proofs.Accounts.{over-same, over-plus, over-times, over-le, over-term, over-one, over-none}
 use Rattle.liq_fees.specs.Happened.{Happened, Put, Out, Fee, Asset, stake_of, staked_of, fees_of, unshared_of, AreCovered, AreOwnedBelow}
 use Rattle.liq_fees.specs.Gains.{sum_of, mark_of, got_of, gained, gain_of}
 use Rattle.liq_fees.proofs.Steps.{more_held}
-use Rattle.liq_fees.proofs.Holding.{held, stands, floor_low, no_rise}
+use Rattle.liq_fees.proofs.Holding.{held, stands, no_rise}
 
 abbrev pub held_of : Asset → List Happened → ℕ → ℕ
 held_of asset past account = held (got_of asset account past) (stake_of account past) (sum_of asset past) (mark_of asset account past)

@@ -1,10 +1,11 @@
 -- One account beside its exact share, whatever happened: before anything is rounded it holds at most the share, and less by at most
 -- its weight and one for each rounding.
 use Rattle.std.proofs.Common.{◌≡◌, ℕ, ◌+◌, ◌-◌, ◌*◌, ◌<◌, ◌≤◌, ◌⊎◌, inl, inr, Bool, true, false, cond, eqb, List, [], ◌∷◌, refl, ap, sym, subst, arith, lit<}
-use Rattle.std.proofs.Math.Nat.{div-mul-le_self, le_of_mul-le-mul_right}
+use Rattle.std.proofs.Math.Nat.{le_of_mul-le-mul_right}
 use Rattle.std.proofs.lemmas.Bool.{eqb-false}
 use Rattle.std.proofs.lemmas.Grind.{div_ceil_times}
 use Rattle.liq_num.specs.Quotient.{floor_of, ceiling_of}
+use Rattle.liq_num.proofs.Floors.{floor_low, floor_high}
 use Rattle.liq_num.specs.declared.power.TheConstants.{ONE}
 use Rattle.liq_fees.specs.Happened.{Happened, Put, Out, Fee, Asset, stake_of, staked_of, changes_of}
 use Rattle.liq_fees.specs.Exact.{den_of, share_of, weight_of, allowance_of, IsWithinAllowance}
@@ -21,13 +22,6 @@ pub record Stands (got stake sum mark den share weight changes lost : ℕ) : Typ
   pub lower : share * ONE ≤ (held got stake sum mark + weight + lost * ONE) * den
   -- the first change rounds nothing
   pub begun : (changes ≡ lost + 1) ⊎ ((changes ≡ 0) × (lost ≡ 0) × (held got stake sum mark ≡ 0) × (stake ≡ 0) × (got ≡ 0))
-
--- a quotient that is rounded down
-pub floor_low : (a b c : ℕ) → floor_of a b c * c ≤ a * b
-floor_low a b c = div-mul-le_self (a * b) c
-
-pub floor_high : (a b c : ℕ) → 0 < c → a * b ≤ floor_of a b c * c + c
-floor_high a b c pos = grind arith
 
 -- a stake holds nothing of a sum that has not risen
 pub no_rise : (stake sum : ℕ) → stake * (sum - sum) ≡ 0

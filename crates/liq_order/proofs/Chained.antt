@@ -7,10 +7,11 @@ use Rattle.std.proofs.lemmas.List.{get_or_at, length-take-le}
 use Rattle.liq_types.specs.Ranked.{Ranked, IsAscending}
 use Rattle.liq_order.specs.Chained.{before, below, chained_node, chained, paired, numbered}
 use Rattle.liq_order.specs.Listed.{AreDistinct}
-use Rattle.liq_order.specs.Pairs.{row_of}
+use Rattle.liq_order.specs.Pairs.{Row, row_of}
 use Rattle.liq_order.specs.declared.places.Node.{Node}
 use Rattle.liq_order.specs.declared.places.NodeNo.{NodeNo}
 use Rattle.liq_order.specs.Nodes.{Memory, memory, nobody, entry_of, entries_at, first_or, last_or, IsOff, AreApart, AreWithin, Linked, node_of, IsRing}
+use Rattle.liq_order.proofs.Kept.{along_order, come}
 
 -- ---- one more
 
@@ -38,11 +39,12 @@ chained_next n at es d less =
     ∙ sym (chained_more n 0 (take at es) (get_or es at d))
     ∙ ap (λ l. chained n 0 l) (sym (take-suc es at d less) ∙ ap (λ k. take k es) next)
 
-pub paired_next : (at : ℕ) (es : List Ranked) (d : Ranked) → at < length es → paired 0 (take at es) ++ ((get_or es at d).1, record { 0 = at }) ∷ [] ≡ paired 0 (take (at + 1) es)
-paired_next at es d less =
+pub paired_next : (at : ℕ) (es : List Ranked) (d : Ranked) → at < length es → (rows : List Row) → rows ≡ paired 0 (take at es) → rows ++ ((get_or es at d).1, record { 0 = at }) ∷ [] ≡ paired 0 (take (at + 1) es)
+paired_next at es d less rows so_far =
     let long : 0 + length (take at es) ≡ at = omega (arith, length-take-le at es (omega (arith, less))) in
     let next : suc at ≡ at + 1 = omega arith in
-    ap (λ k. paired 0 (take at es) ++ ((get_or es at d).1, record { 0 = k }) ∷ []) (sym long)
+    ap (λ (l : List Row). l ++ ((get_or es at d).1, record { 0 = at }) ∷ []) so_far
+    ∙ ap (λ k. paired 0 (take at es) ++ ((get_or es at d).1, record { 0 = k }) ∷ []) (sym long)
     ∙ sym (paired_more 0 (take at es) (get_or es at d))
     ∙ ap (λ l. paired 0 l) (sym (take-suc es at d less) ∙ ap (λ k. take k es) next)
 
@@ -121,10 +123,11 @@ chained_told f n i (e ∷ es) h account =
 
 -- ---- all together
 
+-- the places to which one comes along the links are those of the entries
 pub record Chain (es : List Ranked) (nodes : List Node) (place : ℕ → Option NodeNo) (first last : Option NodeNo) : Type 0 where
-  pub ring : IsRing nodes (numbered 0 es) [] place first last
-  pub listed : entries_at (memory nodes) (numbered 0 es) ≡ es
-  pub long : length (numbered 0 es) ≡ length es
+  pub ring : IsRing nodes (come nodes first) [] place first last
+  pub listed : entries_at (memory nodes) (come nodes first) ≡ es
+  pub long : length (come nodes first) ≡ length es
   pub nodes_long : length nodes ≡ length es
 
 pub chain : (es : List Ranked) (nodes : List Node) (place : ℕ → Option NodeNo) (first last : Option NodeNo) → IsAscending es → AreDistinct es → nodes ≡ chained (length es) 0 es → ((account : ℕ) → place account ≡ row_of (paired 0 es) account) → first ≡ below (length es) 0 → last ≡ before (length es) → Chain es nodes place first last
@@ -139,19 +142,21 @@ chain es nodes place first last up apart made told first_is last_is =
     let none = append-nil places in
     let all : 0 + n ≡ n = omega arith in
     let inside : AreWithin (length nodes) places = numbered_within (length nodes) 0 es (omega (arith, nodes_long)) in
+    let ring : IsRing nodes places [] place first last = record {
+      linked = chained_linked f n 0 es (omega arith) h;
+      first_is = first_is ∙ sym (numbered_first n 0 es (omega arith));
+      last_is = last_is ∙ sym (numbered_last 0 es ∙ ap before all);
+      apart = subst AreApart (sym none) (numbered_apart 0 es);
+      within = subst (AreWithin (length nodes)) (sym none) inside;
+      shared = omega (arith, long, nodes_long);
+      told = λ account. told account ∙ chained_told f n 0 es h account;
+      ascending = subst IsAscending (sym listed) up;
+      distinct = subst AreDistinct (sym listed) apart;
+    } in
+    let same : come nodes first ≡ places = along_order nodes places [] place first last ring in
     record {
-      ring = record {
-        linked = chained_linked f n 0 es (omega arith) h;
-        first_is = first_is ∙ sym (numbered_first n 0 es (omega arith));
-        last_is = last_is ∙ sym (numbered_last 0 es ∙ ap before all);
-        apart = subst AreApart (sym none) (numbered_apart 0 es);
-        within = subst (AreWithin (length nodes)) (sym none) inside;
-        shared = omega (arith, long, nodes_long);
-        told = λ account. told account ∙ chained_told f n 0 es h account;
-        ascending = subst IsAscending (sym listed) up;
-        distinct = subst AreDistinct (sym listed) apart;
-      };
-      listed = listed;
-      long = long;
+      ring = subst (λ l. IsRing nodes l [] place first last) (sym same) ring;
+      listed = ap (λ l. entries_at f l) same ∙ listed;
+      long = ap (λ l. length l) same ∙ long;
       nodes_long = nodes_long;
     }

@@ -4,6 +4,7 @@ use Rattle.std.specs.Prelude.{◌==◌, ◌&&◌, not}
 use Rattle.std.proofs.Math.Nat.{mul-le-mul_right, le_of_mul-le-mul_right}
 use Rattle.std.proofs.lemmas.Grind.{div_ceil_times}
 use Rattle.liq_num.specs.Quotient.{floor_of, ceiling_of}
+use Rattle.liq_num.proofs.Floors.{floor_low}
 use Rattle.liq_types.specs.declared.amounts.TheConstants.{LIM, P_OPENING, RISES_MOST}
 use Rattle.liq_types.specs.declared.events.PoolEvent.{PoolEvent}
 use Rattle.liq_types.specs.declared.events.PoolEvent.TheVariants as event
@@ -24,7 +25,7 @@ use Rattle.liq_stability.specs.Words.{words_of}
 use Rattle.liq_stability.proofs.LawfulLists.{lawful_first, lawful_rest}
 use Rattle.liq_stability.proofs.Pool.{balance_within, owned-total, offset_now, words-snoc}
 use Rattle.liq_stability.proofs.Promise.{pool_stands}
-use Rattle.liq_stability.proofs.Reading.{floor_low, some_power}
+use Rattle.liq_stability.proofs.Reading.{some_power}
 use Rattle.liq_stability.proofs.Whole.{PoolStands}
 use Rattle.liq_rewards.specs.declared.issuance.TheConstants.{SHARED_LEAST, UNITS_MOST}
 use Rattle.liq_rewards.specs.Timed.{Timed, events_of, state_of, total_of, words_at, place_at, AreInOrder, due_at, is_shared_at, shared_of, shared_at, unshared_at}

@@ -4,6 +4,7 @@ use Rattle.std.specs.Prelude.{◌⊎◌, ◌==◌}
 use Rattle.std.proofs.Math.Nat.{div-lt_iff_lt-mul}
 use Rattle.std.proofs.lemmas.Bool.{cases_lt}
 use Rattle.std.proofs.lemmas.Bool.Decides.{nat_tests}
+use Rattle.liq_num.proofs.Floors.{floor_low, floor_high}
 use Rattle.liq_types.specs.declared.amounts.TheConstants.{P_LEAST, RISES_MOST}
 use Rattle.liq_types.specs.Product.{ScaledProduct, IsWithinRange, TakesPartUpTo, after_offset, product_after, rise_of, sum_growth, place_of, is_place}
 use Rattle.liq_types.specs.State.{PoolOffset, PoolMark}
@@ -12,7 +13,7 @@ use Rattle.liq_types.proofs.Ranges.{rise_no_more}
 use Rattle.liq_types.proofs.Rounding.{worth_below, worth_near, gain_below, gain_near, little_left}
 use Rattle.liq_types.proofs.Sums.{LeavesPart, TakesAll, leaves_part, takes_all}
 use Rattle.liq_stability.specs.Worth.{base_of, reach}
-use Rattle.liq_stability.proofs.Reading.{IsLive, IsPast, reach_split, reach_low, some_power, floor_low, floor_high}
+use Rattle.liq_stability.proofs.Reading.{IsLive, IsPast, reach_split, reach_low, some_power}
 
 -- what a unit of the amount was worth, and is worth now, beside the part of the pool that is left
 pub record StaysLive (now : ScaledProduct) (o : PoolOffset) (mark : PoolMark) (j k : ℕ) : Type 0 where

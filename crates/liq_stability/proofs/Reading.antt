@@ -1,10 +1,11 @@
 -- What is read of a deposit, beside what it is worth and has gained before anything is rounded.
 use Rattle.std.proofs.Common.{◌≡◌, ℕ, zero, suc, ◌+◌, ◌-◌, ◌*◌, ◌^◌, ◌≤◌, ◌<◌, Bool, true, false, cond, nat_le, refl, ap, ◌∙◌, arith, inl, inr}
 use Rattle.std.specs.Prelude.{◌⊎◌, ◌==◌, ◌&&◌}
-use Rattle.std.proofs.Math.Nat.{div-mul-le_self, lt-div-mul-add, mul-le-mul_right, pow-le-pow_right}
+use Rattle.std.proofs.Math.Nat.{mul-le-mul_right, pow-le-pow_right}
 use Rattle.std.proofs.lemmas.Nat.{pow-add}
 use Rattle.std.proofs.lemmas.Bool.Decides.{nat_tests}
 use Rattle.liq_num.specs.Quotient.{floor_of}
+use Rattle.liq_num.proofs.Floors.{floor_low, floor_high}
 use Rattle.liq_types.specs.Product.{ScaledProduct}
 use Rattle.liq_types.specs.State.{PoolMark}
 use Rattle.liq_stability.specs.Position.{balance_by, gain_by, growth}
@@ -72,13 +73,6 @@ pub worth-past : (now : ScaledProduct) (mark : PoolMark) → IsPast now mark →
 worth-past now mark h = ap (λ b. cond b (now.p * reach (now.scale - mark.scale)) 0) (past_counts now mark h)
 
 -- ---- the balance
-
--- a quotient, times its divisor
-pub floor_low : (a b c : ℕ) → floor_of a b c * c ≤ a * b
-floor_low a b c = div-mul-le_self (a * b) c
-
-pub floor_high : (a b c : ℕ) → 0 < c → a * b ≤ floor_of a b c * c + c
-floor_high a b c pos = let less = lt-div-mul-add {a = a * b} {b = c} pos in omega arith
 
 read_below : (b a p p0 power h all : ℕ) → power * h ≡ all → b * (p0 * power) ≤ a * p → b * (p0 * all) ≤ a * (p * h)
 read_below b a p p0 power h all split low =

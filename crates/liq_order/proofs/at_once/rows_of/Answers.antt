@@ -1,8 +1,7 @@
-use Rattle.std.proofs.Common.{◌<◌, List, [], ◌∷◌, ◌++◌, length, get_or, pos, ap, ◌∙◌, arith}
+use Rattle.std.proofs.Common.{List, pos, ap, ◌∙◌, arith}
 use Rattle.std.proofs.lemmas.List.{take_all}
 use Rattle.liq_types.specs.Ranked.{Ranked}
 use Rattle.liq_order.specs.Chained.{paired}
-use Rattle.liq_order.specs.Pairs.{Row}
 use Rattle.liq_order.proofs.Chained.{paired_next}
 use Rattle.liq_order.proofs.at_once.rows_of.Goals as goal
 
@@ -10,16 +9,13 @@ pub push_reserved-requires : goal.push_reserved-requires
 push_reserved-requires c = omega (arith, c.loop-at.invariant.count, c.loop-at.invariant.room, c.loop-at-test.true, c.loop-at.auto.at-end)
 
 pub loop-at-preserved : goal.loop-at-preserved
-loop-at-preserved c =
-    let es = c.args.entries.now in
-    let at = c.loop-at.at in
-    let less : at < length es = omega (arith, c.loop-at-test.true, c.loop-at.auto.at-end) in
-    let d : Ranked = (pos 0, 0) in
-    record {
-      rows = c.push_reserved.ensures.items ∙ ap (λ (l : List Row). l ++ ((get_or es at d).1, record { 0 = at }) ∷ []) c.loop-at.invariant.rows ∙ paired_next at es d less;
-      count = omega (arith, c.push_reserved.ensures.len, c.loop-at.invariant.count);
-      room = omega (arith, c.push_reserved.ensures.capacity, c.loop-at.invariant.room);
-    }
+loop-at-preserved c = record {
+  rows =
+      c.push_reserved.ensures.items
+      ∙ paired_next c.loop-at.at c.args.entries.now (pos 0, 0) (omega (arith, c.loop-at-test.true, c.loop-at.auto.at-end)) c.loop-at.rows.items c.loop-at.invariant.rows;
+  count = omega (arith, c.push_reserved.ensures.len, c.loop-at.invariant.count);
+  room = omega (arith, c.push_reserved.ensures.capacity, c.loop-at.invariant.room);
+}
 
 pub returns : goal.returns
 returns c = c.loop-at.invariant.rows ∙ ap (λ (es : List Ranked). paired 0 es) (take_all c.loop-at.at c.args.entries.now (omega (arith, c.loop-at-test.false, c.loop-at.auto.at-end)))

@@ -1,10 +1,10 @@
-use Rattle.std.proofs.Common.{◌≡◌, ◌<◌, ℕ, ◌-◌, length, List, Option, Some, None, IsSome, refl, ap, sym, ◌∙◌, subst, arith}
+use Rattle.std.proofs.Common.{◌≡◌, ◌<◌, ℕ, ◌-◌, length, get_or, List, Option, Some, None, IsSome, refl, ap, sym, ◌∙◌, subst, arith}
 use Rattle.std.proofs.lemmas.List.{get_or_read}
 use Rattle.liq_types.specs.Ranked.{key_in, without_ranked}
 use Rattle.liq_order.specs.declared.linked.Nodes.TheInside.{Inside}
 use Rattle.liq_order.specs.declared.places.Node.{Node}
 use Rattle.liq_order.specs.declared.places.NodeNo.{NodeNo}
-use Rattle.liq_order.specs.Nodes.{Ring, IsRing, memory, nobody, at_place, entries, node_of}
+use Rattle.liq_order.specs.Nodes.{Ring, IsRing, IsWithin, memory, nobody, at_place, entries, node_of}
 use Rattle.liq_order.specs.Pairs.{place_of}
 use Rattle.liq_order.proofs.Chains.{all_front, in_within}
 use Rattle.liq_order.proofs.Kept.{Out, come, out_within, out_whole}
@@ -19,8 +19,22 @@ placed : (v : Ring) (id : ℕ) → IsSome (key_in (entries v) id) → (o : Optio
 placed v id there None is = absurd (has_node v id is there)
 placed v id there (Some p) is = refl
 
-within : (v : Ring) (free : List NodeNo) (place : ℕ → Option NodeNo) (first last : Option NodeNo) → IsRing v.nodes v.order free place first last → (id : ℕ) (at : NodeNo) → Some at ≡ node_of (memory v.nodes) v.order id → at.0 < length v.nodes
-within v free place first last r id at found = in_within (length v.nodes) at v.order (all_front (λ (q : NodeNo). q.0 < length v.nodes) v.order free r.within) (at_there v id (Some at) found).0
+-- the place that goes, of which the node is read
+module _ (i : Inside) (r : IsRing i.nodes.items (come i.nodes.items i.first) i.free.items (place_of i.pairs) i.first i.last) (id : ℕ) (at : NodeNo) (found : Some at ≡ place_of i.pairs id) where
+  known : Some at ≡ node_of (memory i.nodes.items) (come i.nodes.items i.first) id
+  known = found ∙ r.told id
+
+  within : at.0 < length i.nodes.items
+  within =
+      in_within (length i.nodes.items) at (come i.nodes.items i.first) (all_front (λ (q : NodeNo). q.0 < length i.nodes.items) (come i.nodes.items i.first) i.free.items r.within) (at_there (ring i) id (Some at) known).0
+
+  module _ (node : Node) (read : node ≡ get_or i.nodes.items at.0 node) where
+    is : node ≡ at_place (ring i) at
+    is = get_or_read i.nodes.items at.0 node within read nobody
+
+    beside : IsWithin i.nodes.items node.previous × IsWithin i.nodes.items node.next
+    beside =
+        out_within (ring i) i.free.items (place_of i.pairs) i.first i.last r id at known node.previous node.next (ap (λ (n : Node). n.previous) is) (ap (λ (n : Node). n.next) is)
 
 pub take-at-requires : goal.take-at-requires
 take-at-requires c =
@@ -29,39 +43,26 @@ take-at-requires c =
 
 pub index-requires : goal.index-requires
 index-requires c =
-    let i = c.self.inside in
-    let less = within (ring i) i.free.items (place_of i.pairs) i.first i.last c.self.invariant.0 c.args.id c.take-at.result (c.take-at.ensures.place ∙ c.self.invariant.0.told c.args.id) in
-    omega (arith, less, i.nodes.ok.0)
+    let less = within c.self.inside c.self.invariant.0 c.args.id c.take-at.result c.take-at.ensures.place in
+    omega (arith, less, c.self.inside.nodes.ok.0)
 
 pub join-requires-clause-before : goal.join-requires-clause-before
 join-requires-clause-before c =
-    let i = c.self.inside in
-    let v = ring i in
-    let at = c.take-at.result in
-    let found = c.take-at.ensures.place ∙ c.self.invariant.0.told c.args.id in
-    let less = within v i.free.items (place_of i.pairs) i.first i.last c.self.invariant.0 c.args.id at found in
-    let node : c.index.result.now ≡ at_place v at = get_or_read v.nodes at.0 c.index.result.now less c.index.ensures nobody in
-    (out_within v i.free.items (place_of i.pairs) i.first i.last c.self.invariant.0 c.args.id at found c.index.result.now.previous c.index.result.now.next (ap (λ (n : Node). n.previous) node) (ap (λ (n : Node). n.next) node)).0
+    (beside c.self.inside c.self.invariant.0 c.args.id c.take-at.result c.take-at.ensures.place c.index.result.now c.index.ensures).0
 
 pub join-requires-clause-behind : goal.join-requires-clause-behind
 join-requires-clause-behind c =
-    let i = c.self.inside in
-    let v = ring i in
-    let at = c.take-at.result in
-    let found = c.take-at.ensures.place ∙ c.self.invariant.0.told c.args.id in
-    let less = within v i.free.items (place_of i.pairs) i.first i.last c.self.invariant.0 c.args.id at found in
-    let node : c.index.result.now ≡ at_place v at = get_or_read v.nodes at.0 c.index.result.now less c.index.ensures nobody in
-    (out_within v i.free.items (place_of i.pairs) i.first i.last c.self.invariant.0 c.args.id at found c.index.result.now.previous c.index.result.now.next (ap (λ (n : Node). n.previous) node) (ap (λ (n : Node). n.next) node)).1
+    (beside c.self.inside c.self.invariant.0 c.args.id c.take-at.result c.take-at.ensures.place c.index.result.now c.index.ensures).1
 
 whole : (c : goal.After-join) → Out (ring c.self.inside) c.args.id c.join.new.nodes.items c.push_reserved.new.self.items (place_of c.take-at.new.self) c.join.new.first c.join.new.last
 whole c =
     let i = c.self.inside in
-    let v = ring i in
+    let r = c.self.invariant.0 in
     let at = c.take-at.result in
-    let found = c.take-at.ensures.place ∙ c.self.invariant.0.told c.args.id in
-    let less = within v i.free.items (place_of i.pairs) i.first i.last c.self.invariant.0 c.args.id at found in
-    let node : c.index.result.now ≡ at_place v at = get_or_read v.nodes at.0 c.index.result.now less c.index.ensures nobody in
-    out_whole v i.free.items (place_of i.pairs) i.first i.last c.self.invariant.0 c.args.id at found c.index.result.now.previous c.index.result.now.next (ap (λ (n : Node). n.previous) node) (ap (λ (n : Node). n.next) node) c.push_reserved.new.self.items c.push_reserved.ensures.items (place_of c.take-at.new.self) c.take-at.ensures.places c.join.new.nodes.items c.join.ensures.nodes c.join.new.first c.join.new.last c.join.ensures.first c.join.ensures.last
+    let node = c.index.result.now in
+    let found = c.take-at.ensures.place in
+    let here = is i r c.args.id at found node c.index.ensures in
+    out_whole (ring i) i.free.items (place_of i.pairs) i.first i.last r c.args.id at (known i r c.args.id at found) node.previous node.next (ap (λ (n : Node). n.previous) here) (ap (λ (n : Node). n.next) here) c.push_reserved.new.self.items c.push_reserved.ensures.items (place_of c.take-at.new.self) c.take-at.ensures.places c.join.new.nodes.items c.join.ensures.nodes c.join.new.first c.join.new.last c.join.ensures.first c.join.ensures.last
 
 pub invariant_of-self : goal.invariant_of-self
 invariant_of-self c =
