@@ -1,28 +1,18 @@
 -- A line of a staker and its words.
-use Rattle.std.proofs.Common.{◌≡◌, ℕ, ◌^◌, ◌<◌, inl, inr, Bool, true, false, cond, List, [], ◌∷◌, Option, Some, None, refl, sym, ap, subst, ◌∙◌, arith}
-use Rattle.std.specs.Prelude.{IfSome, decimal, codes}
+use Rattle.std.proofs.Common.{◌≡◌, ℕ, ◌^◌, ◌<◌, inl, inr, Bool, true, false, cond, List, [], ◌∷◌, Some, None, refl, ap, subst, ◌∙◌, arith}
+use Rattle.std.specs.Prelude.{decimal, codes}
 use Rattle.std.specs.List.{join_with_byte, AllByRecursion}
-use Rattle.std.specs.Borrow.{Bor}
-use Rattle.std.specs.Option.{is_some}
 use Rattle.std.specs.Str.{bytes_eq}
-use Rattle.std.proofs.lemmas.Option.{none-some, same_Some, cond_some}
+use Rattle.std.proofs.lemmas.Option.{same_Some, cond_some}
 use Rattle.std.proofs.lemmas.Slice.Eq.{bytes_eq-Decides}
-use Rattle.liq_text.specs.Spelling as word
-use Rattle.liq_text.specs.Reading.{◌>>=◌, pieces_of, is_empty, number_of, account_of}
-use Rattle.liq_text.proofs.PieceLaws.{is_empty-pieces_of}
-use Rattle.liq_text.proofs.ReadingLaws.{none_from, number_of-decimal, number_of-some}
-use Rattle.liq_text.proofs.SpellingLaws.{bind_some, either_some, account_takes, account_again, IsPlain, plain_spelled}
+use Rattle.liq_text.specs.Reading.{◌>>=◌, pieces_of, number_of, account_of}
+use Rattle.liq_text.proofs.PieceLaws.{same_four}
+use Rattle.liq_text.proofs.ReadingLaws.{number_of-decimal, number_of-some}
+use Rattle.liq_text.proofs.SpellingLaws.{bind_some, either_some, account_takes, account_again, IsPlain, decimal_plain}
 use Rattle.liq_text.proofs.LineLaws.{pieces_of-join, join-pieces_of}
 use Rattle.liq_fees.specs.Lines.{verb_of, words_of, Spells}
-use Rattle.liq_fees.specs.Reading.{words_left, out_of, line_by, line_of}
+use Rattle.liq_fees.specs.Reading.{out_of, line_by, line_of}
 use Rattle.liq_fees.specs.declared.lines.StakeLine.{StakeLine}
-
--- a word that is read as no number, and one that is read as one
-pub none_read : (word : List ℕ) (read : Option ℕ) → read ≡ None → ((n : ℕ) → n < 2 ^ 64 → word ≡ decimal n → read ≡ Some n) → None ≡ number_of word
-none_read word read none only = none_from (number_of word) (λ n e. let s = number_of-some word n e in none-some n (sym none ∙ only n s.0 s.1))
-
-pub some_read : (word : List ℕ) (read : Option ℕ) (n : ℕ) → read ≡ Some n → n < 2 ^ 64 → IfSome read (λ n. word ≡ decimal n) → Some n ≡ number_of word
-some_read word read n some small found = sym (number_of-decimal word n small (subst (λ (r : Option ℕ). IfSome r (λ n. word ≡ decimal n)) some found))
 
 -- ---- the verb
 
@@ -42,9 +32,6 @@ out_again word false e = rw e refl
 
 -- ---- four words
 
-four : {a b c d p q r s : List ℕ} → a ≡ p → b ≡ q → c ≡ r → d ≡ s → (a ∷ b ∷ c ∷ d ∷ []) ≡ (p ∷ q ∷ r ∷ s ∷ [])
-four e f g h = rw (e, f, g, h) refl
-
 takes : (at account verb amount : List ℕ) (l : StakeLine) → line_by (number_of at) (account_of account) (out_of verb) (number_of amount) ≡ Some l
     → (l.at < 2 ^ 64) × (l.account < 2 ^ 32) × (l.amount < 2 ^ 64) × ((at ∷ account ∷ verb ∷ amount ∷ []) ≡ words_of l)
 unfolding line_by
@@ -58,7 +45,7 @@ takes at account verb amount l e =
     let account_is = account_takes account b.0 b.1 in
     let amount_is = number_of-some amount n.0 n.1 in
     subst (λ (l : StakeLine). (l.at < 2 ^ 64) × (l.account < 2 ^ 32) × (l.amount < 2 ^ 64) × ((at ∷ account ∷ verb ∷ amount ∷ []) ≡ words_of l)) is
-    (at_is.0, account_is.0, amount_is.0, four at_is.1 account_is.1 (out_takes verb o.0 o.1) amount_is.1)
+    (at_is.0, account_is.0, amount_is.0, same_four at_is.1 account_is.1 (out_takes verb o.0 o.1) amount_is.1)
 
 pub line_takes : (words : List (List ℕ)) (l : StakeLine) → line_of words ≡ Some l → (l.at < 2 ^ 64) × (l.account < 2 ^ 32) × (l.amount < 2 ^ 64) × (words ≡ words_of l)
 unfolding line_of
@@ -74,17 +61,6 @@ unfolding line_of line_by
 line_again l at account amount =
     rw (number_of-decimal (decimal l.at) l.at at refl, account_again (decimal l.account) l.account account refl, out_again (verb_of l.out) l.out refl, number_of-decimal (decimal l.amount) l.amount amount refl) refl
 
--- where a fifth word stands
-more_words : (at account verb amount : List ℕ) (more : List (List ℕ)) → is_empty more ≡ false → None ≡ line_of (at ∷ account ∷ verb ∷ amount ∷ more)
-unfolding line_of is_empty
-more_words at account verb amount [] some = absurd cc
-more_words at account verb amount (word ∷ words) some = refl
-
-pub too_many : (line at account verb amount : List ℕ) (rest : Option (Bor (List ℕ))) → pieces_of line ≡ at ∷ account ∷ verb ∷ amount ∷ words_left rest → is_some rest ≡ true → None ≡ line_of (pieces_of line)
-unfolding words_left
-too_many line at account verb amount None e some = absurd cc
-too_many line at account verb amount (Some rest) e some = rw e (more_words at account verb amount (pieces_of rest.now) (is_empty-pieces_of rest.now))
-
 -- ---- the line
 
 pub read_is_spelled : (line : List ℕ) (l : StakeLine) → line_of (pieces_of line) ≡ Some l → Spells line l
@@ -96,11 +72,8 @@ verb_plain : (out : Bool) → IsPlain (verb_of out)
 verb_plain true = refl
 verb_plain false = refl
 
-number_plain : (n : ℕ) → n < 2 ^ 64 → IsPlain (decimal n)
-number_plain n small = plain_spelled (decimal n) (word.number n) tt (small, refl)
-
 words_plain : (l : StakeLine) → l.at < 2 ^ 64 → l.account < 2 ^ 32 → l.amount < 2 ^ 64 → AllByRecursion IsPlain (words_of l)
-words_plain l at account amount = (number_plain l.at at, (number_plain l.account (omega (arith, account)), (verb_plain l.out, (number_plain l.amount amount, tt))))
+words_plain l at account amount = (decimal_plain (decimal l.at) l.at at refl, (decimal_plain (decimal l.account) l.account (omega (arith, account)) refl, (verb_plain l.out, (decimal_plain (decimal l.amount) l.amount amount refl, tt))))
 
 pub spelled_is_read : (line : List ℕ) (l : StakeLine) → Spells line l → line_of (pieces_of line) ≡ Some l
 spelled_is_read line l s =

@@ -1,14 +1,8 @@
 -- A line of a staker, read word by word.
 use Rattle.std.specs.Prelude.{ℕ, List, [], ◌∷◌, Option, Some, None, Bool, true, false, codes, if◌then◌else◌}
-use Rattle.std.specs.Borrow.{Bor}
 use Rattle.std.specs.Str.{bytes_eq}
-use Rattle.liq_text.specs.Reading.{◌>>=◌, pieces_of, number_of, account_of}
+use Rattle.liq_text.specs.Reading.{◌>>=◌, number_of, account_of}
 use Rattle.liq_fees.specs.declared.lines.StakeLine.{StakeLine}
-
--- the words behind the first
-unfoldable pub words_left : Option (Bor (List ℕ)) → List (List ℕ)
-words_left None = []
-words_left (Some rest) = pieces_of rest.now
 
 -- whether an amount is taken out
 unfoldable pub out_of : List ℕ → Option Bool

@@ -1,12 +1,12 @@
 //! Lines on which stakers ask, read.
 
-ghost use Rattle.std.specs.Prelude.{◌≡◌, ◌∷◌, ◌==◌, ◌<◌, [], Ok, IfOk, OnErr, IfSome, length, position};
+ghost use Rattle.std.specs.Prelude.{◌≡◌, ◌∷◌, [], Ok, IfOk, OnErr};
 ghost use Rattle.liq_fees.specs.declared.lines.StakeLine.{StakeLine};
 ghost use Rattle.liq_fees.specs.Lines.{Spells};
-ghost use Rattle.liq_text.specs.Reading.{pieces_of, number_of, account_of};
-ghost use Rattle.liq_fees.specs.Reading.{words_left, out_of, line_of};
+ghost use Rattle.liq_text.specs.Reading.{pieces_of};
+ghost use Rattle.liq_fees.specs.Reading.{out_of, line_of};
 
-use liq_text::read_number;
+use liq_text::{four_words, read_account, read_number};
 use thiserror::Error;
 
 /// What a staker asks for on a line.
@@ -38,17 +38,10 @@ pub fn read_stake_line(line: &[u8]) -> Result<StakeLine, BadStakeLine>
     stake_line(line).ok_or(BadStakeLine)
 }
 
-#[tactic(auto, unfolding(crate::specs::Reading::words_left, crate::specs::Reading::line_of))]
 fn stake_line(line: &[u8]) -> Option<StakeLine>
     ensures { result ≡ line_of (pieces_of line.now) }
 {
-    let (at, rest) = split_first(line);
-    let (account, rest) = split_first(rest?);
-    let (verb, rest) = split_first(rest?);
-    let (amount, rest) = split_first(rest?);
-    if rest.is_some() {
-        return None;
-    }
+    let (at, account, verb, amount) = four_words(line)?;
     asked(at, account, verb, amount)
 }
 
@@ -57,30 +50,16 @@ fn stake_line(line: &[u8]) -> Option<StakeLine>
 fn asked(at: &[u8], account: &[u8], verb: &[u8], amount: &[u8]) -> Option<StakeLine>
     ensures { result ≡ line_of (at.now ∷ account.now ∷ verb.now ∷ amount.now ∷ []) }
 {
-    let at = number(at)?;
-    let account = account_in(account)?;
+    let at = read_number(at)?;
+    let account = read_account(account)?;
     let out = is_out(verb)?;
-    let amount = number(amount)?;
+    let amount = read_number(amount)?;
     Some(StakeLine {
         at,
         account,
         amount,
         out,
     })
-}
-
-fn number(word: &[u8]) -> Option<u64>
-    ensures { result ≡ number_of word.now }
-{
-    let number = read_number(word)?;
-    Some(number)
-}
-
-#[tactic(auto, unfolding(liq_text::specs::Reading::account_of))]
-fn account_in(word: &[u8]) -> Option<u32>
-    ensures { result ≡ account_of word.now }
-{
-    u32::try_from(number(word)?).ok()
 }
 
 #[tactic(auto, unfolding(crate::specs::Reading::out_of))]
@@ -94,21 +73,4 @@ fn is_out(verb: &[u8]) -> Option<bool>
         return Some(true);
     }
     None
-}
-
-/// The first word, and what stands behind its space where there is one.
-fn split_first(line: &[u8]) -> (&[u8], Option<&[u8]>)
-    ensures { pieces_of line.now ≡ result.0.now ∷ words_left result.1 }
-{
-    match space_in(line) {
-        None => (line, None),
-        Some(at) => (&line[..at], Some(&line[at + 1..])),
-    }
-}
-
-fn space_in(line: &[u8]) -> Option<usize>
-    ensures first { result ≡ position (λ b. b == 32) line.now }
-    ensures within { IfSome result (λ at. at < length line.now) }
-{
-    line.iter().position(|b| *b == b' ')
 }

@@ -7,12 +7,13 @@ use Rattle.liq_types.specs.State.{opening_with}
 use Rattle.liq_types.specs.Tables.{at}
 use Rattle.liq_audit.specs.Auditable.{owners_of}
 use Rattle.liq_rules.specs.Events.{events}
+use Rattle.liq_text.specs.Writing.{words_line}
 use Rattle.liq_rewards.specs.declared.lines.TagLine.{TagLine}
 use Rattle.liq_rewards.specs.declared.rewards.RewardRow.{RewardRow}
 use Rattle.liq_rewards.specs.Issued.{issued}
 use Rattle.liq_rewards.specs.Timed.{Timed, unshared_at}
 use Rattle.liq_rewards.specs.Kept.{row_of}
-use Rattle.liq_rewarding.specs.Tagged.{Tags, tags_of, replies, line_of, kept_of, given_of, front_word}
+use Rattle.liq_rewarding.specs.Tagged.{Tags, tags_of, replies, kept_of, given_of, front_word}
 use Rattle.liq_rewarding.specs.Happened.{past_after, minute_after}
 
 -- the account, its reward and the allowance, what it keeps, its front end and what that is given
@@ -22,7 +23,7 @@ row_words row tag =
     ++ front_word tag ∷ decimal (given_of row.reward tag) ∷ []
 
 abbrev pub row_line : Tags → ℕ → List Timed → ℕ → List ℕ
-row_line tags minute past account = line_of (row_words (row_of account minute past) (at tags account))
+row_line tags minute past account = words_line (row_words (row_of account minute past) (at tags account))
 
 abbrev pub issued_words : ℕ → List Timed → List (List ℕ)
 issued_words minute past =
@@ -33,7 +34,7 @@ abbrev pub told : List TagLine → ℕ → List Timed → List ℕ → List ℕ
 told lines minute past accounts =
     replies [] lines
     ++ flat_map (row_line (tags_of lines) minute past) accounts
-    ++ line_of (issued_words minute past)
+    ++ words_line (issued_words minute past)
 
 -- the text for these commands of a journal, from the opening under its limit on, and these lines: of each account with
 -- an own operation, ascending

@@ -1,11 +1,11 @@
 -- What depositors say of front ends, line by line.
 use Rattle.std.specs.Prelude.{ℕ, ◌-◌, nat_le, nat_lt, List, [], ◌∷◌, ◌++◌, Option, None, Some}
 use Rattle.std.specs.Prelude.{fold, map, codes, decimal, if◌then◌else◌}
-use Rattle.std.specs.List.{join_with_byte}
 use Rattle.std.specs.Option.{is_some}
 use Rattle.liq_num.specs.Quotient.{floor_of}
 use Rattle.liq_types.specs.declared.amounts.TheConstants.{ACCOUNTS, ONE}
 use Rattle.liq_types.specs.Tables.{Table, at, put}
+use Rattle.liq_text.specs.Writing.{words_line}
 use Rattle.liq_rewards.specs.declared.lines.TagLine.{TagLine}
 use Rattle.liq_rewarding.specs.declared.tags.TagRefusal.{TagRefusal}
 use Rattle.liq_rewarding.specs.declared.tags.TagRefusal.TheVariants.{AccountRange, TagRate, TagTwice}
@@ -45,13 +45,10 @@ abbrev pub reply_words : Option TagRefusal → List (List ℕ)
 reply_words None = codes "ok" ∷ []
 reply_words (Some refusal) = codes "no" ∷ map decimal (numbers_of refusal)
 
-abbrev pub line_of : List (List ℕ) → List ℕ
-line_of words = join_with_byte 32 words ++ 10 ∷ []
-
 -- a line for each of these, where so many were accepted before
 abbrev pub replies : Tags → List TagLine → List ℕ
 replies tags [] = []
-replies tags (t ∷ ts) = line_of (reply_words (refusal_of tags t)) ++ replies (with_tag tags t) ts
+replies tags (t ∷ ts) = words_line (reply_words (refusal_of tags t)) ++ replies (with_tag tags t) ts
 
 -- ---- what a tag does
 

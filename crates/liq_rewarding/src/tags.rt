@@ -2,11 +2,13 @@
 
 ghost use Rattle.std.specs.Prelude.{◌≡◌, ◌++◌, [], IfOk, OnOk};
 ghost use Rattle.liq_num.specs.Quotient.{floor_of};
-ghost use Rattle.liq_rewarding.specs.Tagged.{refusal_of, reply_words, line_of, tags_of, replies, with_tag, kept_of};
+ghost use Rattle.liq_text.specs.Writing.{words_line};
+ghost use Rattle.liq_rewarding.specs.Tagged.{refusal_of, reply_words, tags_of, replies, with_tag, kept_of};
 
-use crate::told::{put_line, put_refusal};
+use crate::told::put_refusal;
 use liq_num::mul_div;
 use liq_rewards::TagLine;
+use liq_text::append_line;
 use liq_types::NoMemory;
 use liq_types::amounts::{ACCOUNTS, ONE};
 use std::alloc::Global;
@@ -46,14 +48,14 @@ fn answer(
 ) -> Result<(), NoMemory>
     ensures tags { OnOk result (tags.new.entries ≡ with_tag tags.old.entries line.now) }
     ensures text { OnOk result (text.new.items
-        ≡ text.old.items ++ line_of (reply_words (refusal_of tags.old.entries line.now))) }
+        ≡ text.old.items ++ words_line (reply_words (refusal_of tags.old.entries line.now))) }
 {
     match refusal(tags, line) {
         None => {
             let Ok(_) = tags.insert(line.account, *line) else {
                 return Err(NoMemory);
             };
-            put_line(text, b"ok", &[])?;
+            append_line(text, b"ok", &[])?;
         }
         Some(refusal) => put_refusal(text, &refusal)?,
     }

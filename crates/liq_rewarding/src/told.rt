@@ -1,26 +1,27 @@
 //! Lines of the text that tells rewards.
 
 ghost use Rattle.std.specs.Prelude.{◌≡◌, ◌++◌, ◌∷◌, [], codes, decimal, map, OnOk};
-ghost use Rattle.liq_text.specs.Writing.{spaced};
-ghost use Rattle.liq_rewarding.specs.Tagged.{line_of, numbers_of, front_word};
+ghost use Rattle.liq_text.specs.Writing.{words_line};
+ghost use Rattle.liq_rewarding.specs.Tagged.{numbers_of, front_word};
 ghost use Rattle.liq_rewarding.specs.Rewarded.{row_words};
 
 use crate::tags::{TagRefusal, kept};
 use itoa::Buffer;
 use liq_rewards::{RewardRow, TagLine};
+use liq_text::{append_line, append_number, append_numbers};
 use std::alloc::AllocError;
 
 /// Appends the reply to a tag that is refused: the refusal's code and its values.
 pub(crate) fn put_refusal(text: &mut Vec<u8>, refusal: &TagRefusal) -> Result<(), AllocError>
     ensures { OnOk result (text.new.items
-        ≡ text.old.items ++ line_of (codes "no" ∷ map decimal (numbers_of refusal.now))) }
+        ≡ text.old.items ++ words_line (codes "no" ∷ map decimal (numbers_of refusal.now))) }
 {
     match *refusal {
-        TagRefusal::AccountRange { value } => put_line(text, b"no", &[13, u128::from(value)]),
+        TagRefusal::AccountRange { value } => append_line(text, b"no", &[13, u128::from(value)]),
         TagRefusal::TagRate { rate, limit } => {
-            put_line(text, b"no", &[45, u128::from(rate), u128::from(limit)])
+            append_line(text, b"no", &[45, u128::from(rate), u128::from(limit)])
         }
-        TagRefusal::TagTwice { account } => put_line(text, b"no", &[46, u128::from(account)]),
+        TagRefusal::TagTwice { account } => append_line(text, b"no", &[46, u128::from(account)]),
     }
 }
 
@@ -31,15 +32,15 @@ pub(crate) fn put_row(
     row: RewardRow,
     tag: Option<TagLine>,
 ) -> Result<(), AllocError>
-    ensures { OnOk result (text.new.items ≡ text.old.items ++ line_of (row_words row tag)) }
+    ensures { OnOk result (text.new.items ≡ text.old.items ++ words_line (row_words row tag)) }
 {
     let reward = u128::from(row.reward);
     let kept = kept(row.reward, tag);
     text.extend_from_slice(Buffer::new().format(row.account).as_bytes())?;
-    put_numbers(text, &[reward, row.allow, kept])?;
+    append_numbers(text, &[reward, row.allow, kept])?;
     put_front(text, tag)?;
     // An accepted tag keeps no more than all.
-    put_number(text, reward.saturating_sub(kept))?;
+    append_number(text, reward.saturating_sub(kept))?;
     text.extend_from_slice(b"\n")
 }
 
@@ -49,44 +50,18 @@ fn put_front(text: &mut Vec<u8>, tag: Option<TagLine>) -> Result<(), AllocError>
 {
     match tag {
         None => text.extend_from_slice(b" -"),
-        Some(tag) => put_number(text, u128::from(tag.front)),
+        Some(tag) => append_number(text, u128::from(tag.front)),
     }
 }
 
 /// Appends the last line.
 pub(crate) fn put_issued(text: &mut Vec<u8>, issued: u64, unshared: u64) -> Result<(), AllocError>
     ensures { OnOk result (text.new.items ≡ text.old.items
-        ++ line_of (codes "issued" ∷ decimal issued ∷ codes "unshared" ∷ decimal unshared ∷ [])) }
+        ++ words_line (codes "issued" ∷ decimal issued ∷ codes "unshared" ∷ decimal unshared ∷ [])) }
 {
     text.extend_from_slice(b"issued")?;
-    put_number(text, u128::from(issued))?;
+    append_number(text, u128::from(issued))?;
     text.extend_from_slice(b" unshared")?;
-    put_number(text, u128::from(unshared))?;
+    append_number(text, u128::from(unshared))?;
     text.extend_from_slice(b"\n")
-}
-
-/// Appends a line: a word, and numbers behind it with one space before each.
-pub(crate) fn put_line(text: &mut Vec<u8>, word: &[u8], numbers: &[u128]) -> Result<(), AllocError>
-    ensures { OnOk result (text.new.items ≡ text.old.items ++ line_of (word.now ∷ map decimal numbers.now)) }
-{
-    text.extend_from_slice(word)?;
-    put_numbers(text, numbers)?;
-    text.extend_from_slice(b"\n")
-}
-
-/// Appends numbers with one space before each.
-fn put_numbers(text: &mut Vec<u8>, numbers: &[u128]) -> Result<(), AllocError>
-    ensures { OnOk result (text.new.items ≡ text.old.items ++ spaced (map decimal numbers.now)) }
-{
-    for number in numbers {
-        put_number(text, *number)?;
-    }
-    Ok(())
-}
-
-fn put_number(text: &mut Vec<u8>, number: u128) -> Result<(), AllocError>
-    ensures { OnOk result (text.new.items ≡ text.old.items ++ (32 ∷ decimal number)) }
-{
-    text.extend_from_slice(b" ")?;
-    text.extend_from_slice(Buffer::new().format(number).as_bytes())
 }

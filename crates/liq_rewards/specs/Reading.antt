@@ -1,14 +1,8 @@
 -- A line that names a front end, read word by word.
 use Rattle.std.specs.Prelude.{ℕ, List, [], ◌∷◌, Option, Some, None, codes, if◌then◌else◌}
-use Rattle.std.specs.Borrow.{Bor}
 use Rattle.std.specs.Str.{bytes_eq}
-use Rattle.liq_text.specs.Reading.{◌>>=◌, pieces_of, number_of, account_of}
+use Rattle.liq_text.specs.Reading.{◌>>=◌, number_of, account_of}
 use Rattle.liq_rewards.specs.declared.lines.TagLine.{TagLine}
-
--- the words behind the first
-unfoldable pub words_left : Option (Bor (List ℕ)) → List (List ℕ)
-words_left None = []
-words_left (Some rest) = pieces_of rest.now
 
 -- whether a line begins as it must
 unfoldable pub tag_of : List ℕ → Option (Unit {0})

@@ -1,12 +1,12 @@
 //! Lines on which depositors name a front end, read.
 
-ghost use Rattle.std.specs.Prelude.{◌≡◌, ◌∷◌, ◌==◌, ◌<◌, [], Ok, IfOk, OnErr, IfSome, length, position};
+ghost use Rattle.std.specs.Prelude.{◌≡◌, ◌∷◌, [], Ok, IfOk, OnErr};
 ghost use Rattle.liq_rewards.specs.declared.lines.TagLine.{TagLine};
 ghost use Rattle.liq_rewards.specs.Lines.{Spells};
-ghost use Rattle.liq_text.specs.Reading.{pieces_of, number_of, account_of};
-ghost use Rattle.liq_rewards.specs.Reading.{words_left, tag_of, line_of};
+ghost use Rattle.liq_text.specs.Reading.{pieces_of};
+ghost use Rattle.liq_rewards.specs.Reading.{tag_of, line_of};
 
-use liq_text::read_number;
+use liq_text::{four_words, read_account, read_number};
 
 /// What a depositor says on a line: through whom it came, and what it keeps of its rewards.
 #[derive(Clone, Copy, PartialEq, Eq)]
@@ -34,17 +34,10 @@ pub fn read_tag_line(line: &[u8]) -> Result<TagLine, BadTagLine>
     tag_line(line).ok_or(BadTagLine)
 }
 
-#[tactic(auto, unfolding(crate::specs::Reading::words_left, crate::specs::Reading::line_of))]
 fn tag_line(line: &[u8]) -> Option<TagLine>
     ensures { result ≡ line_of (pieces_of line.now) }
 {
-    let (verb, rest) = split_first(line);
-    let (account, rest) = split_first(rest?);
-    let (front, rest) = split_first(rest?);
-    let (rate, rest) = split_first(rest?);
-    if rest.is_some() {
-        return None;
-    }
+    let (verb, account, front, rate) = four_words(line)?;
     tagged(verb, account, front, rate)
 }
 
@@ -54,28 +47,14 @@ fn tagged(verb: &[u8], account: &[u8], front: &[u8], rate: &[u8]) -> Option<TagL
     ensures { result ≡ line_of (verb.now ∷ account.now ∷ front.now ∷ rate.now ∷ []) }
 {
     tag_in(verb)?;
-    let account = account_in(account)?;
-    let front = account_in(front)?;
-    let rate = number(rate)?;
+    let account = read_account(account)?;
+    let front = read_account(front)?;
+    let rate = read_number(rate)?;
     Some(TagLine {
         account,
         front,
         rate,
     })
-}
-
-fn number(word: &[u8]) -> Option<u64>
-    ensures { result ≡ number_of word.now }
-{
-    let number = read_number(word)?;
-    Some(number)
-}
-
-#[tactic(auto, unfolding(liq_text::specs::Reading::account_of))]
-fn account_in(word: &[u8]) -> Option<u32>
-    ensures { result ≡ account_of word.now }
-{
-    u32::try_from(number(word)?).ok()
 }
 
 #[tactic(auto, unfolding(crate::specs::Reading::tag_of))]
@@ -87,21 +66,4 @@ fn tag_in(verb: &[u8]) -> Option<()>
     } else {
         None
     }
-}
-
-/// The first word, and what stands behind its space where there is one.
-fn split_first(line: &[u8]) -> (&[u8], Option<&[u8]>)
-    ensures { pieces_of line.now ≡ result.0.now ∷ words_left result.1 }
-{
-    match space_in(line) {
-        None => (line, None),
-        Some(at) => (&line[..at], Some(&line[at + 1..])),
-    }
-}
-
-fn space_in(line: &[u8]) -> Option<usize>
-    ensures first { result ≡ position (λ b. b == 32) line.now }
-    ensures within { IfSome result (λ at. at < length line.now) }
-{
-    line.iter().position(|b| *b == b' ')
 }

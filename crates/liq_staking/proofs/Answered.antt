@@ -1,12 +1,13 @@
 -- What stakers are answered at a line, and at the end.
 use Rattle.std.proofs.Common.{◌≡◌, ℕ, ◌-◌, ◌<◌, ◌≤◌, Bool, true, false, cond, ltb, leb, List, [], ◌∷◌, ◌++◌, length, take, drop, Option, Some, None, Result, Ok, Err, refl, sym, ap, subst, ◌∙◌, arith}
-use Rattle.std.specs.Prelude.{fold, ◌||◌, OnOk, IfOk, is_ok, codes, decimal, map}
+use Rattle.std.specs.Prelude.{fold, ◌||◌, OnOk, IfOk, codes, decimal, map}
 use Rattle.std.specs.List.{flat_map}
 use Rattle.std.specs.BTreeSet.{insert_key}
 use Rattle.std.specs.Ordering.{nat_cmp}
 use Rattle.std.proofs.lemmas.Bool.{leb-false}
 use Rattle.std.proofs.lemmas.Bool.Decides.{nat_tests}
 use Rattle.liq_types.specs.declared.amounts.TheConstants.{ACCOUNTS}
+use Rattle.liq_text.specs.Writing.{words_line}
 use Rattle.liq_fees.specs.Happened.{Happened, of_coll, of_lusd, unshared_of, changes_in, stake_of, staked_of, IsLawful}
 use Rattle.liq_fees.specs.Kept.{Kept, IsKeptOf, change_by, refusal_of}
 use Rattle.liq_fees.specs.declared.changes.StakeRefusal.{StakeRefusal}
@@ -15,7 +16,7 @@ use Rattle.liq_fees.specs.declared.lines.StakeLine.{StakeLine}
 use Rattle.liq_staking.specs.declared.answering.Answering.{Answering}
 use Rattle.liq_staking.specs.Paid.{Fees}
 use Rattle.liq_staking.specs.Asked.{Asked, shared, shared_up_to, numbers_of, refused, changed, in_place, answered}
-use Rattle.liq_staking.specs.Staked.{line_of, row_line, reply_lines, stakers, told, told_of}
+use Rattle.liq_staking.specs.Staked.{row_line, reply_lines, stakers, told, told_of}
 use Rattle.liq_staking.specs.Answering.{CanBeShared, IsAsked, IsOnTheWay}
 use Rattle.liq_staking.proofs.Lines.{reply_more}
 use Rattle.liq_staking.proofs.Sharing.{all_add}
@@ -31,11 +32,6 @@ on_ok (Err e) f h = h
 pub if_ok : {T E : Type 0} (P Q : T → Type 0) (r : Result T E) → ((x : T) → P x → Q x) → IfOk r P → IfOk r Q
 if_ok P Q (Ok x) f h = f x h
 if_ok P Q (Err e) f h = h
-
--- what is so at Ok, and else not, is so on Ok
-pub on_same : {T E : Type 0} {Q : Type 0} (r : Result T E) (now more same : List ℕ) → now ≡ cond (is_ok r) more same → (now ≡ more → Q) → OnOk r Q
-on_same (Ok x) now more same is f = f is
-on_same (Err e) now more same is f = tt
 
 -- what is made is not refused
 pub not_refused : (o : Option StakeRefusal) → ((refusal : StakeRefusal) → o ≡ Some refusal → ⊥) → o ≡ None
@@ -58,7 +54,7 @@ module _ (kept next : Answering) (a : Asked) (l : StakeLine) (h : IsAsked kept a
   moved = record a { least = l.at }
 
   pub made : asked_for ≡ None → IsKeptOf next.fees (change_by l.account l.amount l.out ∷ a.past) → next.stakers.keys ≡ insert_key nat_cmp kept.stakers.keys l.account
-      → next.least ≡ l.at → next.text.items ≡ kept.text.items ++ line_of (codes "ok" ∷ [])
+      → next.least ≡ l.at → next.text.items ≡ kept.text.items ++ words_line (codes "ok" ∷ [])
       → IsAsked next (changed moved l asked_for)
   made none fees keys least text =
       let low = in_range l.account l.amount l.out (staked_of a.past) (stake_of l.account a.past) none in
@@ -67,11 +63,11 @@ module _ (kept next : Answering) (a : Asked) (l : StakeLine) (h : IsAsked kept a
         fees = fees;
         stakers = keys ∙ ap (λ (ks : List ℕ). insert_key nat_cmp ks l.account) h.stakers ∙ one_more_staker ACCOUNTS l.account l.amount l.out a.past low;
         least = least;
-        text = text ∙ ap (λ (t : List ℕ). t ++ line_of (codes "ok" ∷ [])) h.text ∙ sym (reply_more a.replies (codes "ok"));
+        text = text ∙ ap (λ (t : List ℕ). t ++ words_line (codes "ok" ∷ [])) h.text ∙ sym (reply_more a.replies (codes "ok"));
       })
 
   pub refused_only : (refusal : StakeRefusal) → asked_for ≡ Some refusal → next.fees ≡ kept.fees → next.stakers.keys ≡ kept.stakers.keys
-      → next.least ≡ l.at → next.text.items ≡ kept.text.items ++ line_of (codes "no" ∷ map decimal (numbers_of refusal))
+      → next.least ≡ l.at → next.text.items ≡ kept.text.items ++ words_line (codes "no" ∷ map decimal (numbers_of refusal))
       → IsAsked next (changed moved l asked_for)
   refused_only refusal some fees keys least text =
       subst (λ (o : Option StakeRefusal). IsAsked next (changed moved l o)) (sym some)
@@ -80,7 +76,7 @@ module _ (kept next : Answering) (a : Asked) (l : StakeLine) (h : IsAsked kept a
         stakers = keys ∙ h.stakers;
         least = least;
         text =
-            text ∙ ap (λ (t : List ℕ). t ++ line_of (codes "no" ∷ map decimal (numbers_of refusal))) h.text
+            text ∙ ap (λ (t : List ℕ). t ++ words_line (codes "no" ∷ map decimal (numbers_of refusal))) h.text
             ∙ sym (reply_more a.replies (refused (numbers_of refusal)));
       })
 
@@ -129,13 +125,13 @@ module _ (fees : List Fees) (kept : Answering) (a : Asked) (h : IsAsked kept a) 
   can_share_last way all = subst IsLawful (sym up_to_last) (shared_happens fees a way (length fees) way.least (omega arith) h.fees.lawful all)
 
   pub told_last : (rows whole : List ℕ) (coll lusd : ℕ) → rows ≡ kept.text.items ++ flat_map (row_line last_past) kept.stakers.keys
-      → whole ≡ rows ++ line_of (codes "unshared" ∷ map decimal (coll ∷ lusd ∷ [])) → coll ≡ unshared_of of_coll last_past → lusd ≡ unshared_of of_lusd last_past
+      → whole ≡ rows ++ words_line (codes "unshared" ∷ map decimal (coll ∷ lusd ∷ [])) → coll ≡ unshared_of of_coll last_past → lusd ≡ unshared_of of_lusd last_past
       → whole ≡ told_of fees a
   told_last rows whole coll lusd first second same_coll same_lusd =
       second
-      ∙ ap (λ n. rows ++ line_of (codes "unshared" ∷ map decimal (n ∷ lusd ∷ []))) same_coll
-      ∙ ap (λ n. rows ++ line_of (codes "unshared" ∷ map decimal (unshared_of of_coll last_past ∷ n ∷ []))) same_lusd
-      ∙ ap (λ (t : List ℕ). t ++ line_of (codes "unshared" ∷ map decimal (unshared_of of_coll last_past ∷ unshared_of of_lusd last_past ∷ []))) (
+      ∙ ap (λ n. rows ++ words_line (codes "unshared" ∷ map decimal (n ∷ lusd ∷ []))) same_coll
+      ∙ ap (λ n. rows ++ words_line (codes "unshared" ∷ map decimal (unshared_of of_coll last_past ∷ n ∷ []))) same_lusd
+      ∙ ap (λ (t : List ℕ). t ++ words_line (codes "unshared" ∷ map decimal (unshared_of of_coll last_past ∷ unshared_of of_lusd last_past ∷ []))) (
       first
       ∙ ap (λ (t : List ℕ). t ++ flat_map (row_line last_past) kept.stakers.keys) h.text
       ∙ ap (λ (ks : List ℕ). reply_lines a.replies ++ flat_map (row_line last_past) ks)

@@ -1,9 +1,10 @@
 -- The text that answers stakers: a reply for each line, what each account has, and what stayed unshared.
 use Rattle.std.specs.Prelude.{ℕ, nat_lt, List, [], ◌∷◌, ◌++◌, length, map, filter, codes, decimal}
-use Rattle.std.specs.List.{flat_map, join_with_byte, range_with_len}
+use Rattle.std.specs.List.{flat_map, range_with_len}
 use Rattle.liq_types.specs.declared.amounts.TheConstants.{ACCOUNTS}
 use Rattle.liq_types.specs.declared.requests.Command.{Command}
 use Rattle.liq_types.specs.State.{opening_with}
+use Rattle.liq_text.specs.Writing.{words_line}
 use Rattle.liq_fees.specs.Happened.{Happened, of_coll, of_lusd, changes_of, unshared_of}
 use Rattle.liq_fees.specs.Kept.{row_of}
 use Rattle.liq_fees.specs.declared.gains.StakeRow.{StakeRow}
@@ -18,9 +19,6 @@ stakers_below n past = filter (λ account. nat_lt 0 (changes_of account past)) (
 abbrev pub stakers : List Happened → List ℕ
 stakers past = stakers_below ACCOUNTS past
 
-abbrev pub line_of : List (List ℕ) → List ℕ
-line_of words = join_with_byte 32 words ++ 10 ∷ []
-
 abbrev pub row_words : StakeRow → List (List ℕ)
 row_words row = map decimal (row.account ∷ row.stake ∷ row.coll ∷ row.lusd ∷ row.allow ∷ [])
 
@@ -28,14 +26,14 @@ abbrev pub unshared_words : List Happened → List (List ℕ)
 unshared_words past = codes "unshared" ∷ map decimal (unshared_of of_coll past ∷ unshared_of of_lusd past ∷ [])
 
 abbrev pub row_line : List Happened → ℕ → List ℕ
-row_line past account = line_of (row_words (row_of account past))
+row_line past account = words_line (row_words (row_of account past))
 
 abbrev pub reply_lines : List (List ℕ) → List ℕ
 reply_lines replies = flat_map (λ reply. reply ++ 10 ∷ []) replies
 
 -- what is told at the end, once the fees of all records are shared
 abbrev pub told : List (List ℕ) → List Happened → List ℕ
-told replies past = reply_lines replies ++ flat_map (row_line past) (stakers past) ++ line_of (unshared_words past)
+told replies past = reply_lines replies ++ flat_map (row_line past) (stakers past) ++ words_line (unshared_words past)
 
 abbrev pub told_of : List Fees → Asked → List ℕ
 told_of fees a = told a.replies (shared_up_to fees a.past a.least (length fees))

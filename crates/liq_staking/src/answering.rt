@@ -9,8 +9,9 @@ ghost use Rattle.liq_staking.specs.Answering.{CanBeShared, IsAsked, IsOnTheWay};
 ghost use Rattle.liq_staking.specs.Asked.{Asked, nothing_asked, shared, changed, answered, answered_all, shared_up_to};
 ghost use Rattle.liq_staking.specs.Staked.{told_of, row_line};
 
-use crate::told::{put_line, put_out_of_place, put_refusal, put_row};
+use crate::told::{put_out_of_place, put_refusal, put_row};
 use liq_fees::{CHANGES_MOST, ChangeFault, Fees, StakeLine};
+use liq_text::append_line;
 use liq_types::NoMemory;
 use std::alloc::{AllocError, Global};
 use std::collections::BTreeSet;
@@ -85,7 +86,7 @@ impl Answering {
                 let Ok(_) = self.stakers.insert(line.account) else {
                     return Err(NoMemory);
                 };
-                put_line(&mut self.text, b"ok", &[])?;
+                append_line(&mut self.text, b"ok", &[])?;
             }
             Err(ChangeFault::No(refusal)) => put_refusal(&mut self.text, &refusal)?,
             Err(ChangeFault::NoMemory) => return Err(NoMemory),
@@ -110,7 +111,7 @@ impl Answering {
         share_all(&mut kept, fees_between(fees, least, fees.len() as u64));
         put_rows(&mut text, &kept, &stakers)?;
         let (coll, lusd) = kept.unshared();
-        put_line(
+        append_line(
             &mut text,
             b"unshared",
             &[u128::from(coll), u128::from(lusd)],

@@ -1,13 +1,10 @@
 -- How long a line is on which a staker asks.
-use Rattle.std.proofs.Common.{ℕ, ◌^◌, ◌<◌, ◌≤◌, List, ◌∷◌, ◌++◌, Bool, true, false, length, ap, length-append, arith, lit≤, lit<}
+use Rattle.std.proofs.Common.{ℕ, ◌≤◌, List, ◌∷◌, ◌++◌, Bool, true, false, length, ap, length-append, arith, lit≤}
 use Rattle.std.specs.Prelude.{decimal}
-use Rattle.std.proofs.lemmas.Fmt.{length-decimal-le_wide}
 use Rattle.liq_types.specs.declared.amounts.TheConstants.{LINE_BYTES}
+use Rattle.liq_text.proofs.WritingLaws.{number_short}
 use Rattle.liq_fees.specs.declared.lines.StakeLine.{StakeLine}
 use Rattle.liq_fees.specs.Lines.{Spells, verb_of}
-
-pub number_short : (n : ℕ) → n < 2 ^ 64 → length (decimal n) ≤ 20
-number_short n h = length-decimal-le_wide 20 n (lit< tt) (omega (arith, h)) (omega (arith, h))
 
 verb_short : (out : Bool) → length (verb_of out) ≤ 7
 verb_short true = lit≤ tt

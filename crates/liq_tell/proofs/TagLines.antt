@@ -2,9 +2,9 @@
 use Rattle.std.proofs.Common.{ℕ, ◌≤◌, List, ◌∷◌, ◌++◌, length, ap, length-append, arith}
 use Rattle.std.specs.Prelude.{decimal, codes}
 use Rattle.liq_types.specs.declared.amounts.TheConstants.{LINE_BYTES}
+use Rattle.liq_text.proofs.WritingLaws.{number_short}
 use Rattle.liq_rewards.specs.declared.lines.TagLine.{TagLine}
 use Rattle.liq_rewards.specs.Lines.{Spells}
-use Rattle.liq_tell.proofs.StakeLines.{number_short}
 
 -- it is shorter than a line may be
 pub tag_line_short : (line : List ℕ) (l : TagLine) → Spells line l → length line ≤ LINE_BYTES

@@ -1,5 +1,5 @@
 -- The words of a line, taken one after the other.
-use Rattle.std.proofs.Common.{◌≡◌, ℕ, ◌+◌, ◌-◌, ◌≤◌, Bool, true, false, cond, eqb, ltb, List, [], ◌∷◌, length, take, drop, Option, Some, None, refl, sym, subst, arith}
+use Rattle.std.proofs.Common.{◌≡◌, ℕ, ◌+◌, ◌-◌, ◌<◌, ◌≤◌, Bool, true, false, cond, eqb, ltb, List, [], ◌∷◌, length, take, drop, Option, Some, None, refl, sym, ap, subst, arith}
 use Rattle.std.specs.Borrow.{Bor}
 use Rattle.std.specs.Option.{is_some}
 use Rattle.std.specs.Prelude.{position, not, ◌&&◌}
@@ -79,3 +79,30 @@ word_some rest line piece some e = rw (some, e) refl
 pub left_some : (rest : Option (Bor (List ℕ))) (line : Bor (List ℕ)) (piece : List ℕ) {pieces : List (List ℕ)} → rest ≡ Some line → pieces_of line.now ≡ piece ∷ pieces → pieces ≡ others (rest_pieces rest)
 unfolding others rest_pieces
 left_some rest line piece some e = rw (some, e) refl
+
+-- ---- how many words there are
+
+nonempty : (parts : List (List ℕ)) → is_empty parts ≡ false → 0 < length parts
+unfolding is_empty
+nonempty [] e = absurd cc
+nonempty (part ∷ parts) e = omega arith
+
+one_more : (line word : List ℕ) (rest : Option (Bor (List ℕ))) → pieces_of line ≡ word ∷ rest_pieces rest → length (pieces_of line) ≡ length (rest_pieces rest) + 1
+one_more line word rest e = omega (arith, ap (λ (parts : List (List ℕ)). length parts) e)
+
+-- as its first word leaves nothing, something, or these
+pub one_word : (line word : List ℕ) (rest : Option (Bor (List ℕ))) → pieces_of line ≡ word ∷ rest_pieces rest → rest ≡ None → length (pieces_of line) ≡ 1
+unfolding rest_pieces
+one_word line word rest e none = let left : length (rest_pieces rest) ≡ 0 = rw none refl in omega (arith, left, one_more line word rest e)
+
+pub more_words : (line word : List ℕ) (rest : Option (Bor (List ℕ))) → pieces_of line ≡ word ∷ rest_pieces rest → is_some rest ≡ true → 1 < length (pieces_of line)
+unfolding rest_pieces
+more_words line word None e some = absurd cc
+more_words line word (Some left) e some = omega (arith, nonempty (pieces_of left.now) (is_empty-pieces_of left.now), one_more line word (Some left) e)
+
+pub words_behind : (line word : List ℕ) (rest : Option (Bor (List ℕ))) (left : Bor (List ℕ)) → pieces_of line ≡ word ∷ rest_pieces rest → rest ≡ Some left → length (pieces_of line) ≡ length (pieces_of left.now) + 1
+unfolding rest_pieces
+words_behind line word rest left e some = let same : length (rest_pieces rest) ≡ length (pieces_of left.now) = rw some refl in omega (arith, same, one_more line word rest e)
+
+pub same_four : {a b c d p q r s : List ℕ} → a ≡ p → b ≡ q → c ≡ r → d ≡ s → (a ∷ b ∷ c ∷ d ∷ []) ≡ (p ∷ q ∷ r ∷ s ∷ [])
+same_four e f g h = rw (e, f, g, h) refl

@@ -158,7 +158,7 @@ digits_plain : (ds : List ℕ) → AllDigits 10 ds → plain ds ≡ true
 digits_plain [] h = refl
 digits_plain (c ∷ cs) h = and_from _ _ (digit_not_space c h.0) (digits_plain cs h.1)
 
-decimal_plain : (piece : List ℕ) (n : ℕ) → n < 2 ^ 64 → piece ≡ decimal n → plain piece ≡ true
+pub decimal_plain : (piece : List ℕ) (n : ℕ) → n < 2 ^ 64 → piece ≡ decimal n → plain piece ≡ true
 decimal_plain piece n small e = ap plain e ∙ digits_plain (decimal n) (decimal_is_IsNumeral n small).0.1
 
 pub plain_spelled : (piece : List ℕ) (word : Word) → IsPlainWord word → Spell piece word → plain piece ≡ true

@@ -1,6 +1,6 @@
 -- Words written one after the other.
-use Rattle.std.proofs.Common.{Option, Some, None, inl, suc, ◌≡◌, ℕ, ◌+◌, ◌*◌, ◌-◌, ◌<◌, ◌≤◌, List, [], ◌∷◌, ◌++◌, length, get_or, set, take, drop, refl, sym, ap, ◌∙◌, append_assoc, drop-cons, add-one, mul-le-mul_right, ◌^◌, lit<, arith}
-use Rattle.std.specs.Prelude.{decimal, map}
+use Rattle.std.proofs.Common.{Option, Some, None, Result, Ok, Err, cond, inl, suc, ◌≡◌, ℕ, ◌+◌, ◌*◌, ◌-◌, ◌<◌, ◌≤◌, List, [], ◌∷◌, ◌++◌, length, get_or, set, take, drop, refl, sym, ap, ◌∙◌, append_assoc, drop-cons, add-one, mul-le-mul_right, ◌^◌, lit<, arith}
+use Rattle.std.specs.Prelude.{decimal, map, is_ok, OnOk}
 use Rattle.std.specs.List.{join_with_byte, AllByRecursion}
 use Rattle.std.proofs.lemmas.Fmt.{length-decimal-le_wide}
 use Rattle.std.proofs.lemmas.List.{append-nil, drop-set, take_all}
@@ -8,7 +8,7 @@ use Rattle.std.proofs.Math.ListN.{drop_of_length-le}
 use Rattle.liq_types.specs.declared.requests.Request.{Request}
 use Rattle.liq_types.specs.declared.hints.HintWords.{HintWords}
 use Rattle.liq_text.specs.Spelling.{Word, text, account, number, hint, SpellEach, request_words, CanBeHint, HasSpelling, AppendsLine}
-use Rattle.liq_text.specs.Writing.{spaced, written, piece_of, hint_words, IsInRange}
+use Rattle.liq_text.specs.Writing.{spaced, words_line, written, piece_of, hint_words, IsInRange}
 
 -- ---- a loop over numbers
 
@@ -61,6 +61,16 @@ join_spaced piece (next ∷ pieces) = ap (λ (rest : List ℕ). piece ++ (32 ∷
 pub put_behind : (out mid new piece : List ℕ) (pieces : List (List ℕ)) → mid ≡ out ++ piece → new ≡ mid ++ spaced pieces → new ≡ out ++ join_with_byte 32 (piece ∷ pieces)
 put_behind out mid new piece pieces first second =
     second ∙ ap (λ (m : List ℕ). m ++ spaced pieces) first ∙ append_assoc out piece (spaced pieces) ∙ ap (λ (t : List ℕ). out ++ t) (sym (join_spaced piece pieces))
+
+-- and the line end behind them
+pub line_put : (out a b c word : List ℕ) (pieces : List (List ℕ)) → a ≡ out ++ word → b ≡ a ++ spaced pieces → c ≡ b ++ 10 ∷ [] → c ≡ out ++ words_line (word ∷ pieces)
+line_put out a b c word pieces first second third =
+    third ∙ ap (λ (t : List ℕ). t ++ 10 ∷ []) (put_behind out a b word pieces first second) ∙ append_assoc out (join_with_byte 32 (word ∷ pieces)) (10 ∷ [])
+
+-- what is so at Ok, and else not, is so on Ok
+pub on_same : {T E : Type 0} {Q : Type 0} (r : Result T E) (now more same : List ℕ) → now ≡ cond (is_ok r) more same → (now ≡ more → Q) → OnOk r Q
+on_same (Ok x) now more same is f = f is
+on_same (Err e) now more same is f = tt
 
 pub list_before : (buf rest numbers : List ℕ) (start : ℕ) → 1 ≤ length numbers → drop start buf ≡ decimal (get_or numbers 0 0) ++ rest → rest ≡ spaced (map decimal (take (length numbers - 1) (drop 1 numbers)))
     → drop start buf ≡ join_with_byte 32 (map decimal numbers)

@@ -11,6 +11,10 @@ use Rattle.liq_text.specs.Spelling.{Word, text, account, number, hint, request_w
 abbrev pub spaced : List (List ℕ) → List ℕ
 spaced pieces = flat_map (λ piece. 32 ∷ piece) pieces
 
+-- words with one space between two, and the line end
+abbrev pub words_line : List (List ℕ) → List ℕ
+words_line words = join_with_byte 32 words ++ 10 ∷ []
+
 -- how a word is written
 abbrev pub piece_of : Word → List ℕ
 piece_of (text t) = t

@@ -1,6 +1,7 @@
 //! Lines of text: the grammar of requests, read and written, and the texts of replies.
 #![tactic(auto)]
 
+mod appending;
 mod bad_line;
 mod calls;
 pub mod laws;
@@ -13,8 +14,10 @@ mod requests;
 mod values;
 mod writing;
 
+pub use appending::{append_line, append_number, append_numbers};
 pub use bad_line::BadLine;
 pub use lines::{read_line, read_query, read_session_line};
+pub use pieces::four_words;
 pub use replies::write_reply;
 pub use requests::write_request;
-pub use values::read_number;
+pub use values::{read_account, read_number};

@@ -1,6 +1,6 @@
 //! A line, word by word.
 
-ghost use Rattle.std.specs.Prelude.{◌≡◌, ◌==◌, ◌<◌, ◌∷◌, ◌&&◌, false, not, length, position, IfSome};
+ghost use Rattle.std.specs.Prelude.{◌≡◌, ◌≢◌, ◌==◌, ◌<◌, ◌∷◌, ◌&&◌, [], false, not, length, position, IfSome, MatchOption};
 ghost use Rattle.liq_text.specs.Reading.{an_account, a_number, a_hint, pieces_of, is_empty, others};
 ghost use Rattle.liq_text.specs.Pieces.{pieces_left, rest_pieces, first_word, value_read, fails};
 
@@ -94,6 +94,22 @@ impl<'a> Pieces<'a> {
             }
         }
     }
+}
+
+/// The words of a line that has four, with one space between two: none exactly where it has fewer or more.
+#[tactic(auto, unfolding(crate::specs::Pieces::rest_pieces))]
+pub fn four_words(line: &[u8]) -> Option<(&[u8], &[u8], &[u8], &[u8])>
+    ensures { MatchOption result (length (pieces_of line.now) ≢ 4)
+        (λ words. pieces_of line.now ≡ words.0.now ∷ words.1.now ∷ words.2.now ∷ words.3.now ∷ []) }
+{
+    let (first, rest) = split_first(line);
+    let (second, rest) = split_first(rest?);
+    let (third, rest) = split_first(rest?);
+    let (fourth, rest) = split_first(rest?);
+    if rest.is_some() {
+        return None;
+    }
+    Some((first, second, third, fourth))
 }
 
 /// The first word, and what stands behind its space where there is one.

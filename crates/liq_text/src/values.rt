@@ -9,8 +9,19 @@ ghost use Rattle.liq_text.specs.Reading.{number_of, account_of, hint_of};
 pub fn read_number(word: &[u8]) -> Option<u64>
     ensures number { IfSome result (λ n. word.now ≡ decimal n) }
     ensures only { (n : ℕ) → n < 2 ^ 64 → word.now ≡ decimal n → result ≡ Some n }
+    ensures value { result ≡ number_of word.now }
 {
     number(word)
+}
+
+/// The account that a word stands for: none exactly where the word is not how a number below 2^32 is written, without a sign and
+/// without leading zeros.
+pub fn read_account(word: &[u8]) -> Option<u32>
+    ensures account { IfSome result (λ a. word.now ≡ decimal a) }
+    ensures only { (a : ℕ) → a < 2 ^ 32 → word.now ≡ decimal a → result ≡ Some a }
+    ensures value { result ≡ account_of word.now }
+{
+    account(word)
 }
 
 pub(crate) fn number(word: &[u8]) -> Option<u64>

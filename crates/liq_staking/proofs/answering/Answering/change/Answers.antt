@@ -5,11 +5,11 @@ use Rattle.liq_fees.specs.declared.changes.StakeRefusal.{StakeRefusal}
 use Rattle.liq_staking.proofs.Answered.{made, refused_only, not_refused}
 use Rattle.liq_staking.proofs.answering.Answering.change.Goals as goal
 
-pub returns-in_ok-put_line-in-Ok-clause-asked : goal.returns-in_ok-put_line-in-Ok-clause-asked
-returns-in_ok-put_line-in-Ok-clause-asked c a h few =
-    made c.args.self.now (record { fees = c.change.new.self; stakers = c.insert.new.self; least = c.args.line.now.at; text = c.put_line.new.text }) a c.args.line.now h
+pub returns-in_ok-append_line-in-Ok-clause-asked : goal.returns-in_ok-append_line-in-Ok-clause-asked
+returns-in_ok-append_line-in-Ok-clause-asked c a h few =
+    made c.args.self.now (record { fees = c.change.new.self; stakers = c.insert.new.self; least = c.args.line.now.at; text = c.append_line.new.text }) a c.args.line.now h
     (not_refused _ (λ refusal some. absurd (no_error refusal ((c.in-Ok.ensures.refused a.past h.fees refusal).1 some))))
-    (c.in-Ok.ensures.changed a.past h.fees few) c.in-Ok-insert.ensures.keys refl c.in_ok-put_line-in-Ok.ensures where
+    (c.in-Ok.ensures.changed a.past h.fees few) c.in-Ok-insert.ensures.keys refl c.in_ok-append_line-in-Ok.ensures where
       no_error : (refusal : StakeRefusal) → Ok c.in-Ok.field-0 ≡ Err (No refusal) → ⊥
       no_error refusal e = cc
 

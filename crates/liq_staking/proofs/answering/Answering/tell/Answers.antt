@@ -13,5 +13,5 @@ returns c a h way =
     let past = last_past fees c.args.self a h in
     let kept = part_shared c.share_all.new.kept a.past _ _ c.fees_between.ensures (can_share_last fees c.args.self a h way c.requires.fees) (c.share_all.ensures a.past h.fees) in
     let pots = c.unshared-coll.ensures.unshared past kept in
-    told_last fees c.args.self a h c.put_rows.new.text.items c.put_line.new.text.items c.from.result c.from-2.result
-    (c.in_ok-put_rows.ensures past kept) c.in_ok-put_line.ensures (c.from.ensures ∙ ap (λ (p : ℕ × ℕ). p.0) pots) (c.from-2.ensures ∙ ap (λ (p : ℕ × ℕ). p.1) pots)
+    told_last fees c.args.self a h c.put_rows.new.text.items c.append_line.new.text.items c.from.result c.from-2.result
+    (c.in_ok-put_rows.ensures past kept) c.in_ok-append_line.ensures (c.from.ensures ∙ ap (λ (p : ℕ × ℕ). p.0) pots) (c.from-2.ensures ∙ ap (λ (p : ℕ × ℕ). p.1) pots)

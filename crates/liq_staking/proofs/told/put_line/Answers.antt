@@ -1,9 +1,0 @@
-use Rattle.liq_staking.proofs.Answered.{on_same}
-use Rattle.liq_staking.proofs.Lines.{line_put}
-use Rattle.liq_staking.proofs.told.put_line.Goals as goal
-
-pub returns : goal.returns
-returns c =
-    on_same c.extend_from_slice-2.result _ _ _ c.extend_from_slice-2.ensures.items
-    (λ third. line_put c.args.text.now.items c.extend_from_slice.new.self.items c.put_numbers.new.text.items c.extend_from_slice-2.new.self.items c.args.word.now c.args.numbers.now
-    c.in_ok-extend_from_slice.ensures.items c.in_ok-put_numbers.ensures third)
