@@ -5,13 +5,13 @@ ghost use Rattle.test_plans.specs.World.{AreFresh, AreOpened, fresh};
 
 use crate::tests::agreement::{same, shows};
 use crate::tests::read;
-use crate::tests::world::{BEFORE, FIRST, SECOND, World, two};
+use crate::tests::world::{BEFORE, FIRST, SECOND, World, market, two};
 use liq_ledger::{Pools, Surplus, Wallets};
 use liq_liquidation::{Victim, apply_one, plan_one};
 use liq_stability::Stability;
 use liq_troves::Trove;
 use liq_types::amounts::LIM;
-use liq_types::{Market, NoMemory, Steps};
+use liq_types::{NoMemory, Steps};
 use std::alloc::Global;
 use std::process::Abort;
 use std::sync::ledger::Ledger;
@@ -73,16 +73,7 @@ fn liquidate<R: Abort>(rt: &R, world: &mut World, homes: &mut Homes, price: u64)
     requires price_least { 100000000 ≤ price }
     requires price_most { price ≤ 1000000000000 }
 {
-    let m = Market {
-        price,
-        minute: 0,
-        base: 0,
-        fee_minute: 0,
-        limit: LIM,
-        total_coll: 21_100_000_000,
-        total_debt: 8_440_000_000,
-        troves: 2,
-    };
+    let m = market(price, 21_100_000_000, 8_440_000_000, 2);
     let total = homes.stability.words().total;
     let trove = Trove {
         coll: FIRST.0,

@@ -57,6 +57,7 @@ apply_one-requires-clause-planned g c =
     let told : one_by m sums (fresh FIRST) total ≡ Ok c.in-Ok.one =
     ap (λ (s : Sums). one_by m s (fresh FIRST) total) (sym c.sums.ensures.sums)
     ∙ ap (λ (w : PoolWords). one_by m c.sums.result.now (fresh FIRST) w.total) (sym c.words.ensures.words)
+    ∙ ap (λ (m : Market). one_by m c.sums.result.now (fresh FIRST) c.words.result.now.total) (sym c.market-m.ensures)
     ∙ sym c.plan_one.ensures
     ∙ c.in-Ok.is in
     record {
