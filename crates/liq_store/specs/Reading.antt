@@ -1,8 +1,12 @@
--- The count of faults where records are read: it rose exactly where a fault is the answer.
-use Rattle.std.specs.Prelude.{◌≡◌, ℕ, Result, Ok, Err}
+-- The number of a record that is read, and the count of faults over reading: it rose exactly where a fault is the answer.
+use Rattle.std.specs.Prelude.{◌≡◌, ◌≤◌, ℕ, Result, Ok, Err}
 use Rattle.liq_journal.specs.Causes.{Counted}
 use Rattle.liq_store.specs.declared.answers.AcceptedFault.{AcceptedFault}
 use Rattle.liq_store.specs.declared.answers.AcceptedFault.TheVariants.{DiskFault, Damaged, NoMemory}
+
+-- one of so many records, counted from 1
+abbrev pub IsNumbered : ℕ → ℕ → Type 0
+IsNumbered records index = (1 ≤ index) × (index ≤ records)
 
 abbrev pub CountsFault : AcceptedFault → ℕ → ℕ → Type 0
 CountsFault DiskFault before after = Counted before after

@@ -8,7 +8,7 @@ ghost use Rattle.liq_journal.specs.Looked.{Looked};
 ghost use Rattle.liq_journal.specs.Parts.{IsPartOf};
 ghost use Rattle.liq_journal.specs.Written.{Written, is_rotate};
 ghost use Rattle.liq_store.specs.Answering.{IsReadable, IsUnreadable};
-ghost use Rattle.liq_store.specs.Reading.{CountsReading};
+ghost use Rattle.liq_store.specs.Reading.{CountsReading, IsNumbered};
 ghost use Rattle.liq_store.specs.Within.{HasRecords};
 
 use crate::answers::AcceptedFault;
@@ -20,8 +20,7 @@ use std::alloc::Global;
 
 // The command of the record of this number.
 pub fn read_command<D: Disk>(journal: &mut Journal<D>, index: u64) -> Result<Command, AcceptedFault>
-    requires from_one { 1 ≤ index }
-    requires there { index ≤ journal.old.count }
+    requires there { IsNumbered journal.old.count index }
     ensures looked { Looked D.seen D.moment D.left_at journal.old.disk journal.new.disk }
     ensures same { journal.new ≡ record journal.old { disk = journal.new.disk } }
     ensures command { IfOk result (λ c. (held : List ℕ) (w : Written) → D.seen journal.old.disk ≡ Some held → IsJournalOf journal.old.generation journal.old.start held w → index ≤ length w.commands
@@ -48,8 +47,7 @@ pub fn tested_command<D: Disk>(
     block: &mut Block,
     index: u64,
 ) -> Result<Command, AcceptedFault>
-    requires from_one { 1 ≤ index }
-    requires there { index ≤ journal.old.count }
+    requires there { IsNumbered journal.old.count index }
     requires part { IfSome (D.seen journal.old.disk) (IsPartOf block.old) }
     ensures part { IfSome (D.seen journal.new.disk) (IsPartOf block.new) }
     ensures looked { Looked D.seen D.moment D.left_at journal.old.disk journal.new.disk }

@@ -9,7 +9,7 @@ ghost use Rattle.liq_journal.specs.Bodies.{IsJournalOf};
 ghost use Rattle.liq_journal.specs.Looked.{Looked};
 ghost use Rattle.liq_journal.specs.Parts.{IsPartOf};
 ghost use Rattle.liq_journal.specs.Written.{Written, is_rotate};
-ghost use Rattle.liq_store.specs.Reading.{CountsReading};
+ghost use Rattle.liq_store.specs.Reading.{CountsReading, IsNumbered};
 ghost use Rattle.liq_store.specs.Replays.{IsOutcome, Replays};
 
 use crate::answers::AcceptedFault;
@@ -58,8 +58,7 @@ fn redo_record<D: Disk, L: Ledger>(
     index: u64,
     steps: &mut Steps<L>,
 ) -> Result<(), AcceptedFault>
-    requires from_one { 1 ≤ index }
-    requires there { index ≤ journal.old.count }
+    requires there { IsNumbered journal.old.count index }
     requires part { IfSome (D.seen journal.old.disk) (IsPartOf block.old) }
     ensures part { IfSome (D.seen journal.new.disk) (IsPartOf block.new) }
     ensures looked { Looked D.seen D.moment D.left_at journal.old.disk journal.new.disk }
