@@ -4,14 +4,4 @@
 #![tactic(auto)]
 
 #[cfg(test)]
-mod again;
-#[cfg(test)]
-mod checks;
-#[cfg(test)]
-mod followed;
-#[cfg(test)]
-mod full_journal;
-#[cfg(test)]
-mod runs;
-#[cfg(test)]
-mod stores;
+mod tests;

@@ -1,7 +1,7 @@
 //! What a store tells to whoever follows its list.
 
-use crate::checks::{NOWHERE, shows};
-use crate::runs::{disk, funding};
+use crate::tests::checks::{NOWHERE, shows};
+use crate::tests::runs::{disk, funding};
 use liq_outside::MemoryDisk;
 use liq_store::Store;
 use liq_types::{Call, Command, Hint, HintWords, ListChange, Request};

@@ -1,7 +1,7 @@
 //! Stores whose disks fail.
 
-use crate::checks::shows;
-use crate::runs::{CALLS, disk, run};
+use crate::tests::checks::shows;
+use crate::tests::runs::{CALLS, disk, run};
 use liq_outside::{Disk, MemoryDisk};
 use liq_store::{Store, StoreWhy};
 use liq_types::{Answer, Done, Reply};

@@ -1,7 +1,7 @@
 //! A store that is closed and opened again.
 
-use crate::checks::shows;
-use crate::runs::{Made, fund, funding, make_calls, run};
+use crate::tests::checks::shows;
+use crate::tests::runs::{Made, funding, make_calls, run};
 use liq_outside::MemoryDisk;
 use liq_store::{Side, Store};
 use liq_types::{Answer, Command, Hint, Info, Query, Reply, Request};
@@ -36,10 +36,15 @@ fn ask(store: &mut Store<MemoryDisk>) -> Asked {
     Asked { answers, accepted }
 }
 
+// Whether this is the command of this number.
+fn is_asked(command: &Command, number: u64) -> bool {
+    Request::Do(*command) == funding(number)
+}
+
 // Whether these are the three commands.
 fn are_three(commands: &[Command]) -> bool {
     match commands {
-        [one, two, three] => *one == fund(1) && *two == fund(2) && *three == fund(3),
+        [one, two, three] => is_asked(one, 1) && is_asked(two, 2) && is_asked(three, 3),
         _ => false,
     }
 }

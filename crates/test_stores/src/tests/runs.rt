@@ -14,21 +14,14 @@ pub fn disk(alloc: Global, bytes: &[u8], failing: &[u64]) -> Result<MemoryDisk, 
 }
 
 /// `1 NUMBER fund 1 10000000000`
-pub fn fund(number: u64) -> Command
-    ensures { result ≡ record { client = 1; number = number; call = Fund 1 10000000000 } }
-{
-    Command {
-        client: 1,
-        number,
-        call: Call::Fund(1, 10_000_000_000),
-    }
-}
-
-/// The same as a request.
 pub fn funding(number: u64) -> Request
     ensures { result ≡ Do (record { client = 1; number = number; call = Fund 1 10000000000 }) }
 {
-    Request::Do(fund(number))
+    Request::Do(Command {
+        client: 1,
+        number,
+        call: Call::Fund(1, 10_000_000_000),
+    })
 }
 
 /// How many calls a run makes at most.

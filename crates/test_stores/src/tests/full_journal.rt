@@ -2,7 +2,7 @@
 
 ghost use Rattle.std.specs.Prelude.{◌≡◌};
 
-use crate::checks::shows;
+use crate::tests::checks::shows;
 use liq_core::{PlanFault, Protocol, Turn};
 use liq_types::{Call, Command, Done, Hint, NoMemory, Query, Refusal, Reply, Steps};
 use std::alloc::Global;

@@ -1,5 +1,5 @@
 use Rattle.std.proofs.Common.{sym, ◌∙◌}
-use Rattle.test_stores.proofs.full_journal.accept.Goals as goal
+use Rattle.test_stores.proofs.tests.full_journal.accept.Goals as goal
 
 pub apply-requires-clause-planned : goal.apply-requires-clause-planned
 apply-requires-clause-planned g c s h =
