@@ -6,7 +6,7 @@ ghost use Rattle.liq_text.specs.Pieces.{pieces_left, finished, unless};
 
 use crate::names::Verb;
 use crate::pieces::Pieces;
-use liq_types::{Call, HintWords};
+use liq_types::Call;
 
 /// The call that a verb makes of the words behind it: one that counts only where the reader is then done.
 pub(crate) fn arguments(verb: Verb, words: &mut Pieces<'_>) -> Call
@@ -23,10 +23,7 @@ pub(crate) fn arguments(verb: Verb, words: &mut Pieces<'_>) -> Call
             words.number(),
             words.number(),
             words.number(),
-            HintWords {
-                prev: words.hint(),
-                next: words.hint(),
-            },
+            words.hints(),
         ),
         Verb::Adjust => Call::Adjust(
             words.account(),
@@ -35,31 +32,19 @@ pub(crate) fn arguments(verb: Verb, words: &mut Pieces<'_>) -> Call
             words.number(),
             words.number(),
             words.number(),
-            HintWords {
-                prev: words.hint(),
-                next: words.hint(),
-            },
+            words.hints(),
         ),
         Verb::Close => Call::Close(words.account()),
         Verb::Provide => Call::Provide(words.account(), words.number()),
         Verb::Withdraw => Call::Withdraw(words.account(), words.number()),
-        Verb::GainToTrove => Call::GainToTrove(
-            words.account(),
-            HintWords {
-                prev: words.hint(),
-                next: words.hint(),
-            },
-        ),
+        Verb::GainToTrove => Call::GainToTrove(words.account(), words.hints()),
         Verb::Liquidate => Call::Liquidate(words.account(), words.account()),
         Verb::LiquidateLowest => Call::LiquidateLowest(words.account(), words.number()),
         Verb::Redeem => Call::Redeem(
             words.account(),
             words.number(),
             words.number(),
-            HintWords {
-                prev: words.hint(),
-                next: words.hint(),
-            },
+            words.hints(),
         ),
         Verb::Claim => Call::Claim(words.account()),
         Verb::Rotate => Call::Rotate,

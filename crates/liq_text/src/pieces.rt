@@ -5,6 +5,7 @@ ghost use Rattle.liq_text.specs.Reading.{an_account, a_number, a_hint, pieces_of
 ghost use Rattle.liq_text.specs.Pieces.{pieces_left, rest_pieces, first_word, value_read, fails};
 
 use crate::values;
+use liq_types::HintWords;
 
 /// The words of a line that have not been read yet.
 #[derive(Drop)]
@@ -92,6 +93,18 @@ impl<'a> Pieces<'a> {
                 self.has_failed = true;
                 None
             }
+        }
+    }
+
+    /// The next two as hints: the trove before and the one after.
+    pub(crate) fn hints(&mut self) -> HintWords
+        ensures value { result ≡ record { prev = value_read a_hint (pieces_left self.old); next = value_read a_hint (others (pieces_left self.old)) } }
+        ensures left { pieces_left self.new ≡ others (others (pieces_left self.old)) }
+        ensures failed { self.new.has_failed ≡ fails a_hint (fails a_hint self.old.has_failed (pieces_left self.old)) (others (pieces_left self.old)) }
+    {
+        HintWords {
+            prev: self.hint(),
+            next: self.hint(),
         }
     }
 }
