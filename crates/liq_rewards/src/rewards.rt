@@ -84,14 +84,7 @@ impl Rewards {
             minute: 0,
             due: 0,
             unshared: 0,
-            words: PoolWords {
-                p: P_OPENING,
-                scale: 0,
-                epoch: 0,
-                sum: 0,
-                total: 0,
-                coll: 0,
-            },
+            words: PoolWords::OPENING,
             earners: Vec::new(alloc),
         }
     }

@@ -58,14 +58,7 @@ impl Stability {
         ensures deposits { result.deposits.rows ≡ [] }
     {
         Stability {
-            words: PoolWords {
-                p: P_OPENING,
-                scale: 0,
-                epoch: 0,
-                sum: 0,
-                total: 0,
-                coll: 0,
-            },
+            words: PoolWords::OPENING,
             finished: Vec::new(alloc),
             deposits: Reserved::new(alloc),
         }

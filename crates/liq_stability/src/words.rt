@@ -1,5 +1,7 @@
 //! The plain data of the Stability Pool.
 
+use liq_types::amounts::P_OPENING;
+
 /// The words of the Stability Pool. LUSD is in micro-LUSD, collateral in gwei.
 #[derive(Clone, Copy)]
 pub struct PoolWords {
@@ -15,4 +17,16 @@ pub struct PoolWords {
     pub total: u64,
     /// Collateral in the pool.
     pub coll: u64,
+}
+
+impl PoolWords {
+    /// Those of a pool in which nothing has happened: the product is whole.
+    pub const OPENING: PoolWords = PoolWords {
+        p: P_OPENING,
+        scale: 0,
+        epoch: 0,
+        sum: 0,
+        total: 0,
+        coll: 0,
+    };
 }
