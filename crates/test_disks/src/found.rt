@@ -37,7 +37,7 @@ pub fn of_header(header: u64, at: u64, bit: u8) -> Found {
     }
 }
 
-pub fn of_damage(damage: &Damage) -> Found {
+fn of_damage(damage: &Damage) -> Found {
     let index = damage.index;
     match damage.what {
         What::Digest { .. } => Found::OtherDigest(index),
