@@ -1,0 +1,11 @@
+//! Which command acts, by its number, and what a generation of the journal takes: how much collateral, how many records,
+//! and what a rotation makes of it.
+#![tactic(auto)]
+
+mod clients;
+mod generation;
+mod numbers;
+
+pub use clients::clients_with;
+pub use generation::Generation;
+pub use numbers::kept;
