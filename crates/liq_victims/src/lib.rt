@@ -1,9 +1,11 @@
-//! Victims: troves that are liquidated one after the other, as it was planned. What others follow of them, room for what they
-//! write, and their effect.
+//! Victims: troves that are liquidated one after the other, as it was planned. The lowest of them, what others follow of them,
+//! room for what they write, and their effect.
 #![tactic(auto)]
 
 mod course;
 mod liquidations;
+mod lowest;
 
 pub use course::Course;
 pub use liquidations::{Told, lowest_done, reserve_owners, strike};
+pub use lowest::plan_victims;
