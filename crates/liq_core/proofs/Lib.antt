@@ -10,6 +10,7 @@ pub mod KeptReplies
 pub mod Lending
 pub mod Liquidating
 pub mod Noting
+pub mod Numbering
 pub mod Paying
 pub mod Placing
 pub mod Planning

@@ -1,13 +1,11 @@
 -- What the plans of liquidations are told of a protocol.
-use Rattle.std.proofs.Common.{◌≡◌, ℕ, ◌+◌, ◌^◌, ◌≤◌, ◌<◌, refl, ap, sym, ◌∙◌, subst, arith, false, cond, nat_lt, List, [], ◌∷◌, length, Some, None, Option}
-use Rattle.std.specs.Prelude.{◌==◌, IfSome, IsOk, Result, Ok, sum_by}
-use Rattle.std.proofs.lemmas.Bool.Decides.{nat_tests}
+use Rattle.std.proofs.Common.{◌≡◌, ℕ, ◌+◌, ◌^◌, ◌≤◌, ◌<◌, refl, ap, sym, ◌∙◌, subst, arith, List, [], ◌∷◌, length, Some, Option}
+use Rattle.std.specs.Prelude.{IfSome, Result, Ok, sum_by}
 use Rattle.liq_types.specs.declared.amounts.TheConstants.{LOWEST_MOST}
 use Rattle.liq_types.specs.declared.replies.Done.{Done}
 use Rattle.liq_types.specs.declared.replies.Refusal.{Refusal}
-use Rattle.liq_types.specs.declared.replies.Refusal.TheVariants.{AmountLimit, AmountZero}
 use Rattle.liq_types.specs.declared.requests.Call.TheVariants.{Liquidate, LiquidateLowest}
-use Rattle.liq_types.specs.Rules.{first_refusal, outcome, where_above}
+use Rattle.liq_types.specs.Rules.{first_refusal}
 use Rattle.liq_types.specs.declared.figures.Market.{Market}
 use Rattle.liq_types.specs.declared.figures.Trove.{Trove}
 use Rattle.liq_types.specs.declared.image.Image.{Image}
@@ -22,7 +20,7 @@ use Rattle.liq_order.specs.Order.{order_by}
 use Rattle.liq_stability.specs.declared.words.PoolWords.{PoolWords}
 use Rattle.liq_stability.specs.Words.{pool_words}
 use Rattle.liq_liquidation.specs.Given.{IsTroveOf, IsStruckOf}
-use Rattle.liq_liquidation.specs.Lowest.{AreParts, lowest, lowest_plan, lowest_rules, refusal_of, victim_by}
+use Rattle.liq_liquidation.specs.Lowest.{AreParts, lowest, refusal_of, victim_by}
 use Rattle.liq_liquidation.specs.declared.one.One.{One}
 use Rattle.liq_liquidation.specs.declared.one.Victim.{Victim}
 use Rattle.liq_liquidation.specs.Moment.{IsSoundMoment, TrovesAreSound, moment_of, moment_by}
@@ -36,17 +34,17 @@ use Rattle.liq_core.specs.Sound.{IsSound, core_of}
 use Rattle.liq_victims.specs.declared.course.Course.{Course}
 use Rattle.liq_core.specs.declared.turns.Forecast.{Forecast}
 use Rattle.liq_rules.specs.Liquidation.{listed, lowest_values, offset_events, one_values, victim_changes}
-use Rattle.liq_rules.specs.Row.{not_zero}
 use Rattle.liq_rules.specs.Rules.{six}
 use Rattle.liq_core.specs.Terms.{victims_in}
 use Rattle.liq_core.specs.Told.{events_in, changes_in}
 use Rattle.liq_core.specs.Turn.{IsRuled}
 use Rattle.liq_soundness.specs.SoundState.{IsSoundState}
+use Rattle.liq_victims.specs.Lowest.{AreLowest}
 use Rattle.liq_victims.specs.Victims.{AreVictims, course_of}
 use Rattle.liq_rules.proofs.AlikeReads.{sums_by}
 use Rattle.liq_core.specs.Parts.{words_by}
 use Rattle.liq_core.proofs.SoundCores.{core_finds, image_back}
-use Rattle.liq_rules.proofs.Counting.{lowest_count}
+use Rattle.liq_rules.proofs.Counting.{lowest_count, lowest_within}
 use Rattle.liq_soundness.proofs.SoundFacts.{Finds}
 use Rattle.liq_soundness.proofs.SoundStep.{finds}
 use Rattle.liq_soundness.proofs.SoundTests.{sound_facts}
@@ -136,27 +134,6 @@ liquidate_ruled s liquidator account made is forecast done terms events changes 
   },
 )
 
--- the lowest troves, where the first may be liquidated
-pub lowest_made : (s : State) (count : ℕ) (vs : List Victim) → lowest_plan s count ≡ Ok vs → (first_refusal (lowest_rules s) ≡ None) × (lowest s count ≡ vs)
-lowest_made s count vs h = by (first_refusal (lowest_rules s)) h where
-  by : (o : Option Refusal) → outcome o (lowest s count) ≡ Ok vs → (o ≡ None) × (lowest s count ≡ vs)
-  by None e = (refl, cc)
-  by (Some refusal) e = cc
-
--- there may be no memory for them only where the first may be liquidated
-pub lowest_passes : (s : State) (count : ℕ) → IsOk (lowest_plan s count) → first_refusal (lowest_rules s) ≡ None
-lowest_passes s count h = by (first_refusal (lowest_rules s)) h where
-  by : (o : Option Refusal) → IsOk (outcome o (lowest s count)) → o ≡ None
-  by None e = refl
-  by (Some refusal) e = cc
-
-pub lowest_tests : (s : State) (count : ℕ) → 1 ≤ count → count ≤ LOWEST_MOST → first_refusal (not_zero count ∷ where_above count LOWEST_MOST AmountLimit ∷ lowest_rules s) ≡ first_refusal (lowest_rules s)
-lowest_tests s count some most =
-    let not_none : (count == 0) ≡ false = grind (arith, nat_tests, some) in
-    let few : nat_lt LOWEST_MOST count ≡ false = grind (arith, nat_tests, most) in
-    ap (λ b. cond b (Some AmountZero) (cond (nat_lt LOWEST_MOST count) (Some (AmountLimit count LOWEST_MOST)) (first_refusal (lowest_rules s)))) not_none
-    ∙ ap (λ b. cond b (Some (AmountLimit count LOWEST_MOST)) (first_refusal (lowest_rules s))) few
-
 -- what the reply adds up fits, and the list is one that is told
 pub record LowestFits (s : State) (vs : List Victim) : Type 0 where
   pub few : length vs ≤ LOWEST_MOST
@@ -165,13 +142,14 @@ pub record LowestFits (s : State) (vs : List Victim) : Type 0 where
   pub debt : sum_by (λ (v : Victim). v.one.offset_debt) vs < 2 ^ 64
   pub coll : sum_by (λ (v : Victim). v.one.offset_coll) vs < 2 ^ 64
 
-pub lowest_fits : (s : State) → IsSoundState s → (count : ℕ) (vs : List Victim) → count ≤ LOWEST_MOST → lowest_plan s count ≡ Ok vs → LowestFits s vs
-lowest_fits s h count vs most plan =
+pub lowest_fits : (s : State) → IsSoundState s → (count : ℕ) (vs : List Victim) → AreLowest s count vs → LowestFits s vs
+lowest_fits s h count vs are =
+    let most = lowest_within s 0 count are.0 in
     let f = finds s (sound_facts s h) in
     let few = lowest_count count s in
     let sums = sums_within (lowest s count) s f (lowest_victims count s f 0 (omega arith)) in
     let coll = f.balanced.homes.coll in
-    subst (λ (l : List Victim). LowestFits s l) (lowest_made s count vs plan).1
+    subst (λ (l : List Victim). LowestFits s l) are.1
     (record {
       few = omega (arith, few, most);
       victims = lowest_victims count s f 0 (omega arith);
@@ -180,17 +158,16 @@ lowest_fits s h count vs most plan =
       coll = omega (arith, sums.coll, coll, f.balanced.coll_limit);
     })
 
-pub lowest_ruled : (s : State) (liquidator count : ℕ) (vs : List Victim) → 1 ≤ count → count ≤ LOWEST_MOST → lowest_plan s count ≡ Ok vs → (forecast : Forecast)
+pub lowest_ruled : (s : State) (liquidator count : ℕ) (vs : List Victim) → AreLowest s count vs → (forecast : Forecast)
     → forecast.done ≡ record { kind = 13; values = six (lowest_values vs) } → victims_in forecast.terms ≡ vs
     → events_in forecast.events ≡ offset_events s vs → changes_in forecast.changes ≡ victim_changes s vs
     → IsRuled s (LiquidateLowest liquidator count) (Ok forecast)
-lowest_ruled s liquidator count vs some most h forecast done terms events changes =
-    let made = lowest_made s count vs h in (
-      lowest_tests s count some most ∙ made.0,
-      record {
-        done = done ∙ sym (ap (λ (l : List Victim). record { kind = 13; values = six (lowest_values l) }) made.1);
-        terms = terms ∙ sym made.1;
-        events = events ∙ sym (ap (λ (l : List Victim). offset_events s l) made.1);
-        changes = changes ∙ sym (ap (λ (l : List Victim). victim_changes s l) made.1);
-      },
-    )
+lowest_ruled s liquidator count vs are forecast done terms events changes = (
+  are.0,
+  record {
+    done = done ∙ sym (ap (λ (l : List Victim). record { kind = 13; values = six (lowest_values l) }) are.1);
+    terms = terms ∙ sym are.1;
+    events = events ∙ sym (ap (λ (l : List Victim). offset_events s l) are.1);
+    changes = changes ∙ sym (ap (λ (l : List Victim). victim_changes s l) are.1);
+  },
+)

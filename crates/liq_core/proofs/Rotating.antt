@@ -1,17 +1,12 @@
 -- What a rotation makes of a protocol and of its image, and which limits of the journal refuse it.
 use Rattle.std.proofs.Common.{◌≡◌, ℕ, zero, suc, ◌+◌, ◌≤◌, ◌<◌, true, false, cond, nat_le, nat_lt, List, [], ◌∷◌, length, get_or, Some, None, refl, ap, sym, ◌∙◌, subst, arith}
 use Rattle.std.proofs.lemmas.Bool.Decides.{nat_tests}
-use Rattle.std.proofs.lemmas.Cmp.{nat_cmp_total}
-use Rattle.std.proofs.lemmas.Map.{lookup-none}
-use Rattle.std.proofs.lemmas.Map.Entries.{length-keys_of, none_below_head}
-use Rattle.std.proofs.lemmas.Map.Keys.{below_from_sorted, sorted_tail}
-use Rattle.std.specs.BTreeMap.{is_at}
+use Rattle.std.proofs.lemmas.Map.Entries.{length-keys_of}
+use Rattle.std.proofs.lemmas.Map.Keys.{below_from_sorted}
 use Rattle.std.specs.List.{AllByRecursion}
 use Rattle.std.specs.List.Sorted.{IsStrictlySortedBy}
 use Rattle.std.specs.Map.{keys_of}
-use Rattle.std.specs.Ordering.{nat_cmp, is_eq, match_ordering}
-use Rattle.std.specs.declared.cmp.Ordering.{Ordering}
-use Rattle.std.specs.declared.cmp.Ordering.TheVariants.{Less, Equal, Greater}
+use Rattle.std.specs.Ordering.{nat_cmp}
 use Rattle.liq_types.specs.declared.amounts.TheConstants.{ACCOUNTS, LIM, CHECKPOINT_BYTES_MOST, GENERATIONS_MOST, RECORDS_MOST}
 use Rattle.liq_types.specs.declared.figures.Client.{Client}
 use Rattle.liq_types.specs.declared.image.Image.{Image}
@@ -24,9 +19,10 @@ use Rattle.liq_types.specs.Length.{checkpoint_length}
 use Rattle.liq_types.specs.Rules.{Rule, first_refusal, where_above}
 use Rattle.liq_types.specs.Soundness.{IsSoundImage}
 use Rattle.liq_types.specs.State.{State, is_used_client}
-use Rattle.liq_types.specs.Tables.{Table, at, put}
-use Rattle.liq_types.specs.WellFormed.{Ascends}
+use Rattle.liq_types.specs.Tables.{Table, put}
 use Rattle.liq_tables.specs.WithRoom.{WithRoom, written}
+use Rattle.liq_turns.specs.declared.generation.Generation.{Generation}
+use Rattle.liq_turns.specs.Generations.{next_generation}
 use Rattle.liq_rules.specs.Image.{image}
 use Rattle.liq_rules.specs.Rules.{effect, done_of}
 use Rattle.liq_rules.specs.Step.{Allowed, after, noted, room_rules, ruling}
@@ -35,7 +31,7 @@ use Rattle.liq_rules.proofs.Allowed.{allowed_number}
 use Rattle.liq_soundness.proofs.SoundStart.{started_with}
 use Rattle.liq_soundness.proofs.SoundStep.{after_sound}
 use Rattle.liq_core.specs.declared.engine.Protocol.TheInside.{Inside}
-use Rattle.liq_core.specs.Core.{Core, StandsFor, state_of}
+use Rattle.liq_core.specs.Core.{Core, StandsFor, current, state_of}
 use Rattle.liq_core.specs.Plan.{IsPlannedOn, Plan}
 use Rattle.liq_core.specs.Sound.{IsSound, core_of}
 use Rattle.liq_core.proofs.Noting.{kept_rows, made_sound, made_stands}
@@ -101,17 +97,6 @@ pub generation_within : (p : Inside) → IsSound p → p.generation ≤ GENERATI
 generation_within p sound = (core_facts (core_of p) sound.image).ranges.last_generation
 
 -- ---- how many clients there are
-
-module _ {X : Type 0} where
-  pub length_again : (table : Table X) (key : ℕ) (x y : X) → Ascends table → at table key ≡ Some y → length (put table key x) ≡ length table
-  length_again [] key x y s h = cc
-  length_again (e ∷ es) key x y s h = by (nat_cmp key e.0) refl (length_again es key x y (sorted_tail nat_cmp e.0 (keys_of es) s)) where
-    by : (o : Ordering) → nat_cmp key e.0 ≡ o → (at es key ≡ Some y → length (put es key x) ≡ length es) → length (match_ordering o ((key, x) ∷ e ∷ es) ((e.0, x) ∷ es) (e ∷ put es key x)) ≡ length (e ∷ es)
-    by Less is more = absurd (none (sym (lookup-none (is_at (nat_cmp key)) (e ∷ es) (none_below_head nat_cmp_total key e es s is)) ∙ h)) where
-      none : None ≡ Some y → ⊥
-      none k = cc
-    by Equal is more = refl
-    by Greater is more = ap suc (more (sym (ap (λ o. cond (is_eq o) (Some e.1) (at es key)) is) ∙ h))
 
 -- ascending numbers below a bound are no more than it
 module _ (keys : List ℕ) (bound : ℕ) (ascend : IsStrictlySortedBy nat_cmp keys) (below : AllByRecursion (λ key. key < bound) keys) where
@@ -187,23 +172,27 @@ module _ (s : State) (c : Command) (is : c.call ≡ Rotate) (generation bytes : 
 
 -- ---- the rotation is made
 
-abbrev turned_inside : Inside → WithRoom Client → Inside
-turned_inside p clients = record p { generation = p.generation + 1; limit = LIM; records = 0; clients = clients }
+abbrev turned_inside : Inside → Generation → WithRoom Client → Inside
+turned_inside p next clients = record p { generation = next.number; limit = next.limit; records = next.records; clients = clients }
 
 module _ (p : Inside) (sound : IsSound p) (c : Command) (done : Done) (is : c.call ≡ Rotate) (allowed : ruling (state_of (core_of p)) c ≡ Allowed)
-    (made : done ≡ done_of (state_of (core_of p)) c.call) (clients : WithRoom Client)
+    (made : done ≡ done_of (state_of (core_of p)) c.call) (next : Generation) (follows : next ≡ next_generation (current (core_of p))) (clients : WithRoom Client)
     (wrote : clients.rows ≡ written is_used_client p.clients.rows c.client (record { last = c.number; kept = done })) where
-  next_image : (core_of (turned_inside p clients)).image ≡ image (after (state_of (core_of p)) c)
+  next_image : (core_of (turned_inside p next clients)).image ≡ image (after (state_of (core_of p)) c)
   next_image =
       let row : Client = record { last = c.number; kept = done } in
       let number = allowed_number (state_of (core_of p)) c allowed in
       let rows = wrote ∙ kept_rows p.clients.rows c.client row (omega (arith, number)) in
-      ap (λ (t : Table Client). record (core_of p).image { generation = p.generation + 1; limit = LIM; clients = t }) rows
+      ap (λ (g : Generation). record (core_of p).image { generation = g.number; limit = g.limit; clients = clients.rows }) follows
+      ∙ ap (λ (t : Table Client). record (core_of p).image { generation = p.generation + 1; limit = LIM; clients = t }) rows
       ∙ ap (λ (d : Done). turned (core_of p).image c.client (record { last = c.number; kept = d })) made
       ∙ sym (turned_core (core_of p) sound.image c is)
 
-  pub turned_stands : (old : Core) → core_of p ≡ old → StandsFor (core_of (turned_inside p clients)) (after (state_of old) c)
-  turned_stands = made_stands p (turned_inside p clients) sound c allowed next_image (turned_records (state_of (core_of p)) c is)
+  next_records : (after (state_of (core_of p)) c).records ≡ next.records
+  next_records = turned_records (state_of (core_of p)) c is ∙ sym (ap (λ (g : Generation). g.records) follows)
 
-  pub turned_sound : IsSound (turned_inside p clients)
-  turned_sound = made_sound p (turned_inside p clients) sound c allowed next_image (turned_records (state_of (core_of p)) c is) sound.order
+  pub turned_stands : (old : Core) → core_of p ≡ old → StandsFor (core_of (turned_inside p next clients)) (after (state_of old) c)
+  turned_stands = made_stands p (turned_inside p next clients) sound c allowed next_image next_records
+
+  pub turned_sound : IsSound (turned_inside p next clients)
+  turned_sound = made_sound p (turned_inside p next clients) sound c allowed next_image next_records sound.order

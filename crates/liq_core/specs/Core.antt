@@ -6,6 +6,7 @@ use Rattle.liq_types.specs.declared.image.Image.{Image}
 use Rattle.liq_types.specs.Ranked.{Ranked}
 use Rattle.liq_types.specs.State.{State, started}
 use Rattle.liq_types.specs.WellFormed.{IsWellFormed}
+use Rattle.liq_turns.specs.declared.generation.Generation.{Generation}
 use Rattle.liq_rules.specs.Image.{image}
 use Rattle.liq_rules.specs.Rules.{effect}
 
@@ -44,6 +45,10 @@ pub record Core : Type 0 where
 -- the state that begins with the core's image
 abbrev pub state_of : Core → State
 state_of core = record (started core.image) { records = core.records }
+
+-- the generation of its journal, as far as it has come
+abbrev pub current : Core → Generation
+current core = record { number = core.image.generation; limit = core.image.limit; records = core.records }
 
 -- the core has the state's image and its records, and the state is one that the rules can reach
 pub record StandsFor (core : Core) (s : State) : Type 0 where

@@ -9,7 +9,7 @@ ghost use Rattle.liq_types.specs.State.{State, opening, opening_with, client_of}
 ghost use Rattle.liq_order.specs.Order.{trove_order};
 ghost use Rattle.liq_standing.specs.Steps.{TakesFew};
 ghost use Rattle.liq_stability.specs.Words.{pool_words};
-ghost use Rattle.liq_core.specs.Core.{AreAmong, Changes, StandsFor, state_of};
+ghost use Rattle.liq_core.specs.Core.{AreAmong, Changes, StandsFor, current, state_of};
 ghost use Rattle.liq_core.specs.Sound.{IsKeptRow};
 ghost use Rattle.liq_core.specs.Steps.{entry_put, last_put, used_hint, words_of};
 ghost use Rattle.liq_core.specs.Terms.{AreTerms, claimants};
@@ -27,7 +27,8 @@ use liq_rate::Rate;
 use liq_stability::{PoolWords, Stability};
 use liq_tables::Reserved;
 use liq_troves::Troves;
-use liq_types::amounts::{ACCOUNTS, LIM, PRICE_OPENING, RECORDS_MOST};
+use liq_turns::{Generation, kept};
+use liq_types::amounts::{ACCOUNTS, GENERATIONS_MOST, LIM, PRICE_OPENING, RECORDS_MOST};
 use liq_types::{Call, Client, Command, Done, Hint, HintWords, Query, Refusal, Reply, Steps};
 use std::alloc::Global;
 use std::marker::Model;
@@ -168,6 +169,18 @@ impl Protocol {
         self.limit
     }
 
+    /// The journal's generation, as far as it has come.
+    pub(crate) fn current(&self) -> Generation
+        ensures counts { result ≡ current self.now }
+        ensures within { result.number ≤ GENERATIONS_MOST }
+    {
+        Generation {
+            number: self.generation,
+            limit: self.limit,
+            records: self.records,
+        }
+    }
+
     /// The six words of the Stability Pool.
     pub fn pool_words(&self) -> &PoolWords
         ensures { (s : State) → StandsFor self.now s → result.now ≡ pool_words s }
@@ -219,15 +232,7 @@ impl Protocol {
             let value = command.client;
             return Err(Refusal::AccountRange { value });
         }
-        let client = self.client(command.client);
-        if command.number == client.last && command.number != 0 {
-            return Ok(Some(client.kept));
-        }
-        if command.number == 0 || command.number - 1 != client.last {
-            let expected = client.last.saturating_add(1);
-            return Err(Refusal::OutOfTurn { expected });
-        }
-        Ok(None)
+        kept(&self.client(command.client), command.number)
     }
 
     /// Rules on a call, whatever its client and number: first on its accounts.

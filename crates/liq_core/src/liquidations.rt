@@ -1,13 +1,11 @@
 //! Liquidation: one trove or the last ones of the list, one after the other.
 
-ghost use Rattle.std.specs.Prelude.{◌≡◌, ◌≤◌, ◌<◌, length, map, false, unwrap_or, option_map, IfOk, IsOk, OnOk, MatchResult, Ok};
+ghost use Rattle.std.specs.Prelude.{◌≡◌, ◌≤◌, ◌<◌, length, map, false, unwrap_or, option_map, IfOk, IsOk, OnOk, MatchResult};
 ghost use Rattle.std.specs.List.{AllByRecursion, Contains};
 ghost use Rattle.liq_types.specs.declared.events.ListChange.TheVariants.{Gone};
 ghost use Rattle.liq_types.specs.declared.requests.Call.TheVariants as call;
 ghost use Rattle.liq_types.specs.Tables.{at};
 ghost use Rattle.liq_troves.specs.StakeSums.{trove_rows};
-ghost use Rattle.liq_liquidation.specs.Lowest.{lowest_plan};
-ghost use Rattle.liq_liquidation.specs.Moment.{IsFaultOf};
 ghost use Rattle.liq_liquidation.specs.One as rules;
 ghost use Rattle.liq_core.specs.Core.{AreAmong, IsWithin, SameContent, StandsFor, state_of};
 ghost use Rattle.liq_rules.specs.Liquidation.{all_liquidated, offset_events, victim_changes};
@@ -15,16 +13,17 @@ ghost use Rattle.liq_rules.specs.Rules.{done_of, effect};
 ghost use Rattle.liq_rules.specs.Step.{Allowed, after, ruling};
 ghost use Rattle.liq_core.specs.Turn.{Forecasts, IsRuled};
 ghost use Rattle.liq_rules.specs.Verbs.{rotates};
+ghost use Rattle.liq_victims.specs.Lowest.{AreLowest, IsNoPlan};
 ghost use Rattle.liq_victims.specs.Victims.{AreVictims, course_of};
 
 use crate::engine::Protocol;
 use crate::told::{ListChanges, PoolEvents};
 use crate::turns::{Forecast, PlanFault, Terms};
-use liq_liquidation::{LowestFault, One, Victim, plan_lowest, plan_one};
+use liq_liquidation::{LowestFault, One, Victim, plan_one};
 use liq_stability::Stability;
 use liq_types::amounts::{ACCOUNTS, LOWEST_MOST};
 use liq_types::{Client, Command, Done, ListChange, NoMemory, Refusal};
-use liq_victims::{Course, Told, lowest_done, reserve_owners, strike};
+use liq_victims::{Course, Told, lowest_done, plan_victims, reserve_owners, strike};
 
 impl Protocol {
     /// Rules on the liquidation of one trove.
@@ -62,13 +61,6 @@ impl Protocol {
     ) -> Result<Forecast, PlanFault>
         ensures { Forecasts (state_of self.now) (call.LiquidateLowest liquidator count) result }
     {
-        if count == 0 {
-            return Err(PlanFault::No(Refusal::AmountZero));
-        }
-        if count > LOWEST_MOST {
-            let (sum, limit) = (u128::from(count), LOWEST_MOST);
-            return Err(PlanFault::No(Refusal::AmountLimit { sum, limit }));
-        }
         // Where no field is used, nothing is known of the protocol.
         let _ = &self.records;
         let victims = match self.lowest(count) {
@@ -102,11 +94,9 @@ impl Protocol {
     }
 
     fn lowest(&self, count: u64) -> Result<Vec<Victim>, LowestFault>
-        requires some { 1 ≤ count }
-        requires most { count ≤ LOWEST_MOST }
-        ensures { MatchResult result (λ victims. lowest_plan (state_of self.now) count ≡ Ok victims.items) (IsFaultOf (lowest_plan (state_of self.now) count)) }
+        ensures { MatchResult result (λ victims. AreLowest (state_of self.now) count victims.items) (IsNoPlan (state_of self.now) count) }
     {
-        plan_lowest(
+        plan_victims(
             self.alloc,
             &self.market(),
             &self.troves,

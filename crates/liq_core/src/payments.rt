@@ -40,15 +40,10 @@ impl Protocol {
     pub(crate) fn plan_fund(&self, account: u32, coll: u64) -> Result<Forecast, Refusal>
         ensures { IsRuled (state_of self.now) (call.Fund account coll) result }
     {
-        if coll == 0 {
-            return Err(Refusal::AmountZero);
+        match self.current().no_inflow(self.brought, coll) {
+            Some(refusal) => Err(refusal),
+            None => Ok(Forecast::plain(done(3))),
         }
-        let sum = u128::from(self.brought) + u128::from(coll);
-        let limit = self.limit;
-        if sum > u128::from(limit) {
-            return Err(Refusal::AmountLimit { sum, limit });
-        }
-        Ok(Forecast::plain(done(3)))
     }
 
     pub(crate) fn plan_take(&self, account: u32, coll: u64) -> Result<Forecast, Refusal>

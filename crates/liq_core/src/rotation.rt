@@ -1,11 +1,9 @@
 //! Rotation: the next generation of the journal begins with a checkpoint of the protocol. Only the journal's limits
 //! refuse it, which come after all other rules.
 
-ghost use Rattle.std.specs.Prelude.{◌≡◌, ◌<◌, nat_le, [], ◌∷◌, length, IfOk, Ok, None};
+ghost use Rattle.std.specs.Prelude.{◌≡◌, ◌<◌, IfOk, Ok, None};
 ghost use Rattle.std.specs.List.{Contains};
-ghost use Rattle.liq_types.specs.declared.amounts.TheConstants.{LIM, RECORDS_MOST};
-ghost use Rattle.liq_types.specs.declared.figures.Client.{Client as client_row};
-ghost use Rattle.liq_types.specs.declared.replies.Refusal.TheVariants.{JournalFull};
+ghost use Rattle.liq_types.specs.declared.amounts.TheConstants.{LIM};
 ghost use Rattle.liq_types.specs.declared.requests.Call.TheVariants.{Rotate};
 ghost use Rattle.liq_types.specs.Length.{checkpoint_length};
 ghost use Rattle.liq_types.specs.Soundness.{HasTables, first_unsound};
@@ -21,7 +19,8 @@ use crate::engine::Protocol;
 use crate::image::client_rows;
 use crate::turns::{Forecast, Planned};
 use liq_tables::Reserved;
-use liq_types::amounts::{CHECKPOINT_BYTES_MOST, GENERATIONS_MOST, LIM, RECORDS_MOST};
+use liq_turns::clients_with;
+use liq_types::amounts::{CHECKPOINT_BYTES_MOST, GENERATIONS_MOST};
 use liq_types::{Call, Client, ClientRows, Command, Done, Image, NoMemory, Refusal, RowCounts};
 
 impl Protocol {
@@ -31,7 +30,7 @@ impl Protocol {
     {
         Forecast::plain(Done {
             kind: 16,
-            values: [self.generation + 1, 0, 0, 0, 0, 0],
+            values: [self.current().next().number, 0, 0, 0, 0, 0],
         })
     }
 
@@ -42,19 +41,8 @@ impl Protocol {
     {
         match command.call {
             Call::Rotate => self.no_generation(command),
-            _ => self.no_record(),
+            _ => self.current().no_record(),
         }
-    }
-
-    /// Why the journal takes no more records.
-    fn no_record(&self) -> Option<Refusal>
-        ensures { result ≡ first_refusal ((nat_le RECORDS_MOST self.now.records, JournalFull RECORDS_MOST) ∷ []) }
-    {
-        if self.records >= RECORDS_MOST {
-            let records = RECORDS_MOST;
-            return Some(Refusal::JournalFull { records });
-        }
-        None
     }
 
     /// Why no generation may follow. The checkpoint is measured only where there may be one more.
@@ -87,20 +75,9 @@ impl Protocol {
             surplus_rows: self.surplus.count(),
             finished: self.pool.finished_count(),
             deposits: self.pool.count(),
-            clients: self.clients_with(command.client),
+            clients: clients_with(&self.clients, command.client),
         };
         rows.checkpoint_bytes()
-    }
-
-    /// How many clients there are once this one has a row.
-    fn clients_with(&self, client: u32) -> u64
-        ensures { (row : client_row) → result ≡ length (put self.now.image.clients client row) }
-    {
-        let count = self.clients.count();
-        match self.clients.get(client) {
-            Some(_) => count,
-            None => count + 1,
-        }
     }
 
     /// The image that a planned rotation leaves: what the checkpoint of the next generation holds, which breaks no rule.
@@ -123,8 +100,9 @@ impl Protocol {
         };
         let clients = self.clients_after(command.client, row)?;
         let mut image = self.image_with(clients)?;
-        image.generation += 1;
-        image.limit = LIM;
+        let next = self.current().next();
+        image.generation = next.number;
+        image.limit = next.limit;
         Ok(image)
     }
 
@@ -150,9 +128,10 @@ impl Protocol {
         ensures state { StandsFor self.new (after (state_of self.old) command.now) }
         ensures list { self.new.list ≡ self.old.list }
     {
-        self.generation += 1;
-        self.limit = LIM;
-        self.records = 0;
+        let next = self.current().next();
+        self.generation = next.number;
+        self.limit = next.limit;
+        self.records = next.records;
         let last = command.number;
         self.clients
             .write(command.client, Client { last, kept: done });
