@@ -2,6 +2,7 @@ pub mod Beside
 pub mod Following
 pub mod Holding
 pub mod Members
-pub mod Ranges
+pub mod Nearest
+pub mod Runs
 pub mod Standing
 pub mod Stands

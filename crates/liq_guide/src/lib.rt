@@ -2,6 +2,7 @@
 #![tactic(auto)]
 
 mod guide;
+mod places;
 mod rows;
 mod sides;
 
