@@ -18,12 +18,13 @@ use Rattle.liq_types.specs.declared.figures.Deposit.{Deposit}
 use Rattle.liq_types.specs.declared.image.Image.{Image}
 use Rattle.liq_checkpoint.specs.declared.image_bytes.ImageBytes.{ImageBytes}
 use Rattle.liq_types.specs.Image.{IsLimit}
+use Rattle.liq_layout.specs.Keys.{follows, epoch_follows, place_follows}
 use Rattle.liq_types.specs.Product.{place_order}
 use Rattle.liq_types.specs.Soundness.{IsClientRow, HasTables}
 use Rattle.liq_types.specs.State.{is_used_wallet}
 use Rattle.liq_types.specs.Tables.{Place, Table}
 use Rattle.liq_checkpoint.specs.Spelling.{Field, spelled, Fit, eights, wallet, trove, surplus, finished, deposit, client, words, name, spelling, table, contents, HasCheckpoint}
-use Rattle.liq_checkpoint.specs.Reading.{◌>>=◌, Gives, number_at, tested, numbers_at, some_at, follows, key_at, epoch_follows, place_follows, is_kind, wallet_at, trove_at, surplus_at, finished_at, deposit_at, client_at, limit_named, limit_at, words_at, image_at}
+use Rattle.liq_checkpoint.specs.Reading.{◌>>=◌, Gives, number_at, tested, numbers_at, some_at, key_at, is_kind, wallet_at, trove_at, surplus_at, finished_at, deposit_at, client_at, limit_named, limit_at, words_at, image_at}
 use Rattle.liq_checkpoint.proofs.Fields.{IsBytes, IsBytes-drop, bind_ok, ok_is, passed, passed_then, Takes, Takes-then, spelled-append, Fit-front, Fit-back, number_takes, number_then, number_again, numbers_then, numbers_again}
 use Rattle.liq_checkpoint.proofs.Rows.{IsRow, IsOrder, table_then, table_again, ascends, ascend_from}
 

@@ -1,10 +1,15 @@
 -- A fault is told at a place of the bytes, or at their end.
-use Rattle.std.proofs.Common.{◌≡◌, ℕ, zero, suc, ◌-◌, ◌≤◌, ◌==◌, List, [], ◌∷◌, length, take, drop, not, nat_lt, Option, Some, None, Bool, true, false, Result, Ok, Err, subst, arith, if◌then◌else◌}
+use Rattle.std.proofs.Common.{◌≡◌, ℕ, zero, suc, ◌-◌, ◌≤◌, ◌==◌, ◌&&◌, List, [], ◌∷◌, length, take, drop, not, nat_lt, Option, Some, None, Bool, true, false, Result, Ok, Err, ap, subst, arith, if◌then◌else◌}
 use Rattle.std.specs.Str.{bytes_eq}
 use Rattle.liq_types.specs.declared.image.Image.{Image}
+use Rattle.liq_layout.specs.Keys.{follows}
 use Rattle.liq_checkpoint.specs.declared.image_bytes.ImageBytes.{ImageBytes}
 use Rattle.liq_checkpoint.specs.declared.image_bytes.ImageBytes.TheVariants.{Bad}
 use Rattle.liq_checkpoint.specs.Spelling.{name}
+use Rattle.std.proofs.lemmas.Bool.Decides.{nat_tests}
+use Rattle.std.proofs.lemmas.List.{length-drop}
+use Rattle.byteorder.specs.Endian.{big_number}
+use Rattle.liq_checkpoint.proofs.Fields.{bind_ok, ok_is, passed}
 use Rattle.liq_checkpoint.specs.Reading.{◌>>=◌, Gives, tested, number_at, numbers_at, some_at, key_at, wallet_at, trove_at, surplus_at, finished_at, deposit_at, client_at, rows_at, table_at, limit_named, limit_at, words_at, image_at}
 
 record Within {X : Type 0} (end : ℕ) (read : Result X ℕ) : Type 0 where
@@ -165,3 +170,32 @@ place_within end place at is = (image_within end at).told place is
 -- what decode ensures of a fault
 pub told_within : (end place : ℕ) (at : List ℕ) (r : Result Image ImageBytes) → Gives (λ i. i) r (image_at end at) → r ≡ Err (Bad place) → place ≤ end
 told_within end place at r given is = place_within end place at (subst (λ (q : Result Image ImageBytes). Gives (λ i. i) q (image_at end at)) is given)
+
+-- ---- a wallet of nothing
+
+-- behind a number
+number_behind : (end count : ℕ) (at : List ℕ) (x : ℕ × List ℕ) → number_at end count at ≡ Ok x → length x.1 ≡ length at - count
+unfolding number_at
+number_behind end count at x e =
+    by (nat_lt (length at) count) e where
+      by : (short : Bool) → (if short then Err end else Ok (big_number count at, drop count at)) ≡ Ok x → length x.1 ≡ length at - count
+      by true e = absurd cc
+      by false e = subst (λ (y : ℕ × List ℕ). length y.1 ≡ length at - count) (ok_is (big_number count at, drop count at) x e) (length-drop count at)
+
+key_behind : (end : ℕ) (last : Option ℕ) (at : List ℕ) (x : ℕ × List ℕ) → key_at end last at ≡ Ok x → length x.1 ≡ length at - 4
+unfolding key_at
+key_behind end last at x e =
+    let a = bind_ok (number_at end 4 at) _ x e in
+    let p = passed (follows last a.0.0) end at a.0 x a.2 in
+    subst (λ (y : ℕ × List ℕ). length y.1 ≡ length at - 4) p.1 (number_behind end 4 at a.0 a.1)
+
+-- its fault is told where its second amount begins
+pub empty_wallet : (end : ℕ) (last : Option ℕ) (row : List ℕ) (account coll lusd : ℕ × List ℕ) → key_at end last row ≡ Ok account → number_at end 8 account.1 ≡ Ok coll → number_at end 8 coll.1 ≡ Ok lusd → coll.0 ≡ 0 → lusd.0 ≡ 0
+    → (place : ℕ) → place ≡ end - (length row - 12) → wallet_at end last row ≡ Err place
+unfolding wallet_at
+empty_wallet end last row account coll lusd key first second no_coll no_lusd place is =
+    let a = key_behind end last row account key in
+    let b = number_behind end 8 account.1 coll first in
+    let here : end - length coll.1 ≡ place = omega (arith, a, b, is) in
+    let nothing : not (coll.0 == 0 && lusd.0 == 0) ≡ false = grind (arith, nat_tests, no_coll, no_lusd) in
+    rw (key, first, second, nothing) (ap (λ (n : ℕ). Err n) here)

@@ -14,7 +14,7 @@ use Rattle.liq_types.specs.declared.figures.Deposit.{Deposit}
 use Rattle.liq_types.specs.declared.image.Image.{Image}
 use Rattle.liq_types.specs.Image.{opening_image_with}
 use Rattle.liq_types.specs.Tables.{Place}
-pub use Rattle.liq_layout.specs.Keys.{follows, epoch_follows, place_follows}
+use Rattle.liq_layout.specs.Keys.{follows, epoch_follows, place_follows}
 use Rattle.liq_checkpoint.specs.declared.image_bytes.ImageBytes.{ImageBytes}
 use Rattle.liq_checkpoint.specs.declared.image_bytes.ImageBytes.TheVariants.{Bad, NoMemory}
 use Rattle.liq_checkpoint.specs.Spelling.{name}
@@ -205,17 +205,16 @@ words_at end limit at = do
     deposited.1,
   )
 
-unfoldable pub image_at : ℕ → List ℕ → Result Image ℕ
-image_at end at = do
-  limit ← limit_at end at
-  words ← words_at end limit.0 limit.1
-  wallets ← table_at (wallet_at end) end words.1
+-- the tables behind an image's words, up to the end
+abbrev pub tables_at : ℕ → Image → List ℕ → Result Image ℕ
+tables_at end words at = do
+  wallets ← table_at (wallet_at end) end at
   troves ← table_at (trove_at end) end wallets.1
   surplus ← table_at (surplus_at end) end troves.1
   finished ← table_at (finished_at end) end surplus.1
   deposits ← table_at (deposit_at end) end finished.1
   clients ← table_at (client_at end) end deposits.1
-  tested (length clients.1 == 0) end clients.1 (record words.0 {
+  tested (length clients.1 == 0) end clients.1 (record words {
     wallets = wallets.0;
     troves = troves.0;
     surplus_rows = surplus.0;
@@ -223,3 +222,9 @@ image_at end at = do
     deposits = deposits.0;
     clients = clients.0;
   })
+
+unfoldable pub image_at : ℕ → List ℕ → Result Image ℕ
+image_at end at = do
+  limit ← limit_at end at
+  words ← words_at end limit.0 limit.1
+  tables_at end words.0 words.1

@@ -3,7 +3,7 @@
 ghost use Rattle.std.specs.Prelude.{◌≡◌, ◌≤◌, ◌<◌, ◌^◌, ℕ, Ok, Err, IfOk, length};
 ghost use Rattle.liq_types.specs.declared.image.Image.{Image};
 ghost use Rattle.liq_checkpoint.specs.declared.image_bytes.ImageBytes.TheVariants.{Bad};
-ghost use Rattle.liq_checkpoint.specs.Reading.{Gives, words_at, image_at};
+ghost use Rattle.liq_checkpoint.specs.Reading.{Gives, words_at, tables_at, image_at};
 ghost use Rattle.liq_checkpoint.specs.Spelling.{HasCheckpoint, spelling};
 
 use crate::image_bytes::ImageBytes;
@@ -33,25 +33,31 @@ fn image_at(alloc: Global, end: u64, at: &[u8]) -> Result<Image, ImageBytes>
     ensures { Gives (λ i. i) result (image_at end at.now) }
 {
     let (limit, at) = limit_at(end, at)?;
-    let (words, at) = words_at(alloc, end, limit, at)?;
+    let (mut image, at) = words_at(alloc, end, limit, at)?;
+    read_tables(alloc, end, &mut image, at)?;
+    Ok(image)
+}
+
+// The tables behind the words, up to the end. Each is the image's before the next is read, so that a fault leaves none behind.
+fn read_tables(alloc: Global, end: u64, image: &mut Image, at: &[u8]) -> Result<(), ImageBytes>
+    ensures { Gives (λ _. image.new) result (tables_at end image.old at.now) }
+{
     let (wallets, at) = wallets_at(alloc, end, at)?;
+    image.wallets = wallets;
     let (troves, at) = troves_at(alloc, end, at)?;
+    image.troves = troves;
     let (surplus_rows, at) = surpluses_at(alloc, end, at)?;
+    image.surplus_rows = surplus_rows;
     let (finished, at) = sums_at(alloc, end, at)?;
+    image.finished = finished;
     let (deposits, at) = deposits_at(alloc, end, at)?;
+    image.deposits = deposits;
     let (clients, at) = clients_at(alloc, end, at)?;
+    image.clients = clients;
     if !at.is_empty() {
         return Err(bad(end, at));
     }
-    Ok(Image {
-        wallets,
-        troves,
-        surplus_rows,
-        finished,
-        deposits,
-        clients,
-        ..words
-    })
+    Ok(())
 }
 
 // An image without rows.

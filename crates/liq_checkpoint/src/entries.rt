@@ -6,7 +6,7 @@ ghost use Rattle.liq_checkpoint.specs.Reading.{Gives, key_at, some_at, wallet_at
 
 use crate::image_bytes::ImageBytes;
 use crate::numbers::{bad, numbers_at, u8_at, u32_at, u64_at, u128_at};
-use liq_layout::{epoch_follows, follows, place_follows};
+use liq_layout::{epoch_follows, follows, place_follows, place_of_empty_wallet};
 use liq_types::{ClientRow, DepositRow, FinishedSum, SurplusRow, TroveRow, WalletRow};
 
 #[tactic(auto, unfolding(crate::specs::Reading::key_at))]
@@ -32,21 +32,23 @@ fn some_at(end: u64, at: &[u8]) -> Result<(u64, &[u8]), ImageBytes>
 }
 
 #[tactic(auto, unfolding(crate::specs::Reading::wallet_at))]
-pub fn wallet_at(end: u64, last: Option<u32>, at: &[u8]) -> Result<(WalletRow, &[u8]), ImageBytes>
-    ensures { Gives (λ x. (wallet_row x.0, x.1.now)) result (wallet_at end last at.now) }
+pub fn wallet_at(end: u64, last: Option<u32>, row: &[u8]) -> Result<(WalletRow, &[u8]), ImageBytes>
+    ensures { Gives (λ x. (wallet_row x.0, x.1.now)) result (wallet_at end last row.now) }
 {
-    let (account, at) = key_at(end, last, at)?;
+    let (account, at) = key_at(end, last, row)?;
     let (coll, at) = u64_at(end, at)?;
     let (lusd, rest) = u64_at(end, at)?;
     if coll == 0 && lusd == 0 {
-        return Err(bad(end, at));
+        return Err(ImageBytes::Bad {
+            place: place_of_empty_wallet(end, row),
+        });
     }
-    let row = WalletRow {
+    let wallet = WalletRow {
         account,
         coll,
         lusd,
     };
-    Ok((row, rest))
+    Ok((wallet, rest))
 }
 
 #[tactic(auto, unfolding(crate::specs::Reading::trove_at))]

@@ -1,5 +1,5 @@
-//! How the bytes of a checkpoint are laid out: the name that they begin with, which key may follow which, and where a fault
-//! is told.
+//! Rules for the bytes of a checkpoint, by which they are read and written: the name that they begin with, which key may stand
+//! behind the one before it, and where a fault is told.
 #![tactic(auto)]
 
 mod keys;
@@ -8,4 +8,4 @@ mod places;
 
 pub use keys::{epoch_follows, follows, place_follows};
 pub use names::name;
-pub use places::place_of;
+pub use places::{place_of, place_of_empty_wallet};
