@@ -38,7 +38,8 @@ fn image_at(alloc: Global, end: u64, at: &[u8]) -> Result<Image, ImageBytes>
     Ok(image)
 }
 
-// The tables behind the words, up to the end. Each is the image's before the next is read, so that a fault leaves none behind.
+// The tables behind the words, up to the end. Each is put into the image before the next is read, so that none is held
+// beside it over a fault.
 fn read_tables(alloc: Global, end: u64, image: &mut Image, at: &[u8]) -> Result<(), ImageBytes>
     ensures { Gives (λ _. image.new) result (tables_at end image.old at.now) }
 {
