@@ -12,6 +12,7 @@ use crate::items::{ENTRIES_MOST, Halt};
 use crate::origin::Origin;
 use crate::service::Closed;
 use liq_core::laws::protocols_are_sound;
+use liq_entries::{enter, publish};
 use liq_outside::Disk;
 use liq_store::Store;
 use liq_types::{Answer, Entry, Hint, NoMemory, Request};
@@ -173,16 +174,15 @@ impl<D: Disk, O: Origin> Book<D, O> {
         }
         forget_opening(&mut self.store, self.entries.as_slice());
         protocols_are_sound(self.store.protocol());
-        match self.store.call(request, hint) {
-            Answer::Reply(reply) => {
-                self.entries.push_reserved(Entry {
-                    session,
-                    index: calls + 1,
-                    request: *request,
-                    reply,
-                });
-                Answer::Reply(reply)
-            }
+        match enter(
+            &mut self.store,
+            &mut self.entries,
+            session,
+            calls,
+            request,
+            hint,
+        ) {
+            Answer::Reply(reply) => Answer::Reply(reply),
             Answer::DiskFault => {
                 self.halt = halt_by(session, request, self.store.stopped());
                 Answer::DiskFault
@@ -202,11 +202,8 @@ impl<D: Disk, O: Origin> Book<D, O> {
             × ((self.new.waiting ≡ self.old.waiting) ⊎ (self.new.waiting ≡ self.old.waiting ++ batch_of self.old.book ∷ []))) }
     {
         let number = self.entries.len() as u64;
-        match self.publisher.publish(rt, self.store.changes(), number) {
-            Ok(()) => {
-                self.store.clear_changes();
-                Ok(())
-            }
+        match publish(&mut self.store, &mut self.publisher, rt, number) {
+            Ok(()) => Ok(()),
             Err(NoMemory) => Err(NoMemory),
         }
     }

@@ -4,21 +4,22 @@ use Rattle.liq_types.specs.declared.replies.Answer.TheVariants as answer
 use Rattle.liq_types.specs.Soundness.{IsSoundImage}
 use Rattle.liq_core.specs.Core.{Core}
 use Rattle.liq_store.specs.Causes.{stopped_after, sum_of}
+use Rattle.liq_entries.proofs.Unentered.{entries_stay}
 use Rattle.liq_book.specs.Booked.{state_of_book}
 use Rattle.liq_book.proofs.Calling.{enters, forgets, goes, halts, no_halt, others, others_answer, own_few}
 use Rattle.liq_book.proofs.Telling.{entry_more, nothing_more, nothing_told}
 use Rattle.liq_book.proofs.book.Book.call.Goals as goal
 
-pub overflow_add-calls : goal.overflow_add-calls
-overflow_add-calls g c =
+pub enter-requires-clause-calls : goal.enter-requires-clause-calls
+enter-requires-clause-calls g c =
     let most = own_few c.args.session c.self.inside.entries.items in
-    record { fits = omega (arith, most, c.self.invariant.0.few, rw (← c.self.view_is) at c.requires.calls) }
+    omega (arith, most, c.self.invariant.0.few, rw (← c.self.view_is) at c.requires.calls)
 
 pub invariant_of-self-in-Reply : goal.invariant_of-self-in-Reply
 invariant_of-self-in-Reply g c =
     let going : c.forget_opening.new.store.stopped ≡ None = goes _ (λ sum is. let no = (c.in-Reply.ensures.stopped sum is).0 in cc) in
     let book = forgets _ _ _ _ g.met.D.Disk.seen_may_stay _ _ _ _ _ _ _ _ c.forget_opening.ensures.store c.self.invariant.0 in
-    rw (c.push_reserved.ensures.items, c.try_reserve.ensures.items) (
+    rw (c.in-Reply.ensures.entered, c.try_reserve.ensures.items) (
       enters _ _ _ _ g.met.D.Disk.seen_may_stay _ _ _ _ _ _ _ _ _ _ _
           book (omega (arith, c.if-len-eq-ENTRIES_MOST.false, c.len.ensures, c.self.invariant.0.few, c.self.inside.entries.ok.0)) (rw (← c.self.view_is) at c.requires.calls) going
           (record {
@@ -38,10 +39,10 @@ pub invariant_of-self-in-DiskFault : goal.invariant_of-self-in-DiskFault
 invariant_of-self-in-DiskFault g c =
     let going : c.forget_opening.new.store.stopped ≡ None = goes _ (λ sum is. let no = (c.in-DiskFault.ensures.stopped sum is).0 in cc) in
     let book = forgets _ _ _ _ g.met.D.Disk.seen_may_stay _ _ _ _ _ _ _ _ c.forget_opening.ensures.store c.self.invariant.0 in
-    let sum : ℕ = sum_of (record { left = g.D.Disk.faults c.call.new.self.left; right = g.D.Disk.faults c.call.new.self.right }) in
-    let stopped : c.call.new.self.stopped ≡ Some sum = c.in-DiskFault.ensures.stops ∙ ap (λ o. stopped_after o answer.DiskFault (record { left = g.D.Disk.faults c.call.new.self.left; right = g.D.Disk.faults c.call.new.self.right })) going in
+    let sum : ℕ = sum_of (record { left = g.D.Disk.faults c.enter.new.store.left; right = g.D.Disk.faults c.enter.new.store.right }) in
+    let stopped : c.enter.new.store.stopped ≡ Some sum = c.in-DiskFault.ensures.stops ∙ ap (λ o. stopped_after o answer.DiskFault (record { left = g.D.Disk.faults c.enter.new.store.left; right = g.D.Disk.faults c.enter.new.store.right })) going in
     let halt = c.halt_by-self-inside.ensures ∙ ap (option_map (λ sum. record { session = c.args.session; request = c.args.request.now; faults = sum })) (c.stopped.ensures.sum ∙ stopped) in
-    rw (c.try_reserve.ensures.items, halt) (
+    rw (c.in-DiskFault.ensures.entered, c.try_reserve.ensures.items, halt) (
       halts _ _ _ _ g.met.D.Disk.seen_may_stay _ _ _ _ _ _ _ c.args.request.now c.args.session sum book going
           (record {
             stopped = c.in-DiskFault.ensures.stopped;
@@ -52,26 +53,26 @@ invariant_of-self-in-DiskFault g c =
             ordered = c.forget_opening.ensures.order;
             order = c.in-DiskFault.ensures.order;
           }) stopped,
-      nothing_more _ c.forget_opening.new.store c.call.new.self _ c.self.inside.halt _ _ _ (nothing_more _ _ c.forget_opening.new.store _ _ c.self.inside.halt _ _ c.self.invariant.1 (rw (c.as_slice.ensures.value, c.try_reserve.ensures.items) at c.forget_opening.ensures.changes))
-          (inl (nothing_told c.forget_opening.new.store c.call.new.self (state_of_book g.O.Origin.state (record { store = c.forget_opening.new.store; entries = c.self.inside.entries.items; halt = c.self.inside.halt })) c.args.request.now answer.DiskFault (λ reply is. cc) (c.in-DiskFault.ensures.told _ book.state))),
+      nothing_more _ c.forget_opening.new.store c.enter.new.store _ c.self.inside.halt _ _ _ (nothing_more _ _ c.forget_opening.new.store _ _ c.self.inside.halt _ _ c.self.invariant.1 (rw (c.as_slice.ensures.value, c.try_reserve.ensures.items) at c.forget_opening.ensures.changes))
+          (inl (nothing_told c.forget_opening.new.store c.enter.new.store (state_of_book g.O.Origin.state (record { store = c.forget_opening.new.store; entries = c.self.inside.entries.items; halt = c.self.inside.halt })) c.args.request.now answer.DiskFault (λ reply is. cc) (c.in-DiskFault.ensures.told _ book.state))),
     )
 
 pub invariant_of-self-in_default : goal.invariant_of-self-in_default
 invariant_of-self-in_default g c =
     let book = forgets _ _ _ _ g.met.D.Disk.seen_may_stay _ _ _ _ _ _ _ _ c.forget_opening.ensures.store c.self.invariant.0 in
-    rw c.try_reserve.ensures.items (
-      others _ _ _ _ g.met.D.Disk.seen_may_stay _ _ _ _ _ _ _ c.args.request.now c.call.result
+    rw (entries_stay c.args.session c.args.calls c.args.request.now c.enter.result _ _ c.in_default.not-Reply c.enter.ensures.entered, c.try_reserve.ensures.items) (
+      others _ _ _ _ g.met.D.Disk.seen_may_stay _ _ _ _ _ _ _ c.args.request.now c.enter.result
           book (record {
-            stopped = c.call.ensures.stopped;
-            step_is = c.call.ensures.step;
-            stops = c.call.ensures.stops;
-            cause = c.call.ensures.cause;
-            disks = c.call.ensures.disks;
+            stopped = c.enter.ensures.stopped;
+            step_is = c.enter.ensures.step;
+            stops = c.enter.ensures.stops;
+            cause = c.enter.ensures.cause;
+            disks = c.enter.ensures.disks;
             ordered = c.forget_opening.ensures.order;
-            order = c.call.ensures.order;
+            order = c.enter.ensures.order;
           }) c.in_default.not-Reply c.in_default.not-DiskFault,
-      nothing_more _ c.forget_opening.new.store c.call.new.self _ c.self.inside.halt _ _ _ (nothing_more _ _ c.forget_opening.new.store _ _ c.self.inside.halt _ _ c.self.invariant.1 (rw (c.as_slice.ensures.value, c.try_reserve.ensures.items) at c.forget_opening.ensures.changes))
-          (inl (nothing_told c.forget_opening.new.store c.call.new.self (state_of_book g.O.Origin.state (record { store = c.forget_opening.new.store; entries = c.self.inside.entries.items; halt = c.self.inside.halt })) c.args.request.now c.call.result c.in_default.not-Reply (c.call.ensures.told _ book.state))),
+      nothing_more _ c.forget_opening.new.store c.enter.new.store _ c.self.inside.halt _ _ _ (nothing_more _ _ c.forget_opening.new.store _ _ c.self.inside.halt _ _ c.self.invariant.1 (rw (c.as_slice.ensures.value, c.try_reserve.ensures.items) at c.forget_opening.ensures.changes))
+          (inl (nothing_told c.forget_opening.new.store c.enter.new.store (state_of_book g.O.Origin.state (record { store = c.forget_opening.new.store; entries = c.self.inside.entries.items; halt = c.self.inside.halt })) c.args.request.now c.enter.result c.in_default.not-Reply (c.enter.ensures.told _ book.state))),
     )
 
 pub returns-in-Reply-clause-enters : goal.returns-in-Reply-clause-enters
@@ -79,7 +80,7 @@ returns-in-Reply-clause-enters g c =
     let going : c.forget_opening.new.store.stopped ≡ None = goes _ (λ sum is. let no = (c.in-Reply.ensures.stopped sum is).0 in cc) in
     let book = forgets _ _ _ _ g.met.D.Disk.seen_may_stay _ _ _ _ _ _ _ _ c.forget_opening.ensures.store c.self.invariant.0 in
     let none = no_halt c.self.inside.halt c.forget_opening.new.store.stopped book.halt going in
-    rw (← c.self.view_is, c.push_reserved.ensures.items, c.try_reserve.ensures.items) (none, none, refl, sym (c.in-Reply.ensures.step going _ book.state).1)
+    rw (← c.self.view_is, c.in-Reply.ensures.entered, c.try_reserve.ensures.items) (none, none, refl, sym (c.in-Reply.ensures.step going _ book.state).1)
 
 pub returns-in-Reply-clause-legal : goal.returns-in-Reply-clause-legal
 returns-in-Reply-clause-legal g c = (invariant_of-self-in-Reply g c).0.legal
@@ -88,26 +89,26 @@ pub returns-in-DiskFault-clause-enters : goal.returns-in-DiskFault-clause-enters
 returns-in-DiskFault-clause-enters g c =
     let going : c.forget_opening.new.store.stopped ≡ None = goes _ (λ sum is. let no = (c.in-DiskFault.ensures.stopped sum is).0 in cc) in
     let book = forgets _ _ _ _ g.met.D.Disk.seen_may_stay _ _ _ _ _ _ _ _ c.forget_opening.ensures.store c.self.invariant.0 in
-    let sum : ℕ = sum_of (record { left = g.D.Disk.faults c.call.new.self.left; right = g.D.Disk.faults c.call.new.self.right }) in
-    let stopped : c.call.new.self.stopped ≡ Some sum = c.in-DiskFault.ensures.stops ∙ ap (λ o. stopped_after o answer.DiskFault (record { left = g.D.Disk.faults c.call.new.self.left; right = g.D.Disk.faults c.call.new.self.right })) going in
+    let sum : ℕ = sum_of (record { left = g.D.Disk.faults c.enter.new.store.left; right = g.D.Disk.faults c.enter.new.store.right }) in
+    let stopped : c.enter.new.store.stopped ≡ Some sum = c.in-DiskFault.ensures.stops ∙ ap (λ o. stopped_after o answer.DiskFault (record { left = g.D.Disk.faults c.enter.new.store.left; right = g.D.Disk.faults c.enter.new.store.right })) going in
     let halt = c.halt_by-self-inside.ensures ∙ ap (option_map (λ sum. record { session = c.args.session; request = c.args.request.now; faults = sum })) (c.stopped.ensures.sum ∙ stopped) in
-    rw (← c.self.view_is) (no_halt c.self.inside.halt c.forget_opening.new.store.stopped book.halt going, c.try_reserve.ensures.items, (sum, halt))
+    rw (← c.self.view_is) (no_halt c.self.inside.halt c.forget_opening.new.store.stopped book.halt going, c.in-DiskFault.ensures.entered ∙ c.try_reserve.ensures.items, (sum, halt))
 
 pub returns-in_default : goal.returns-in_default
 returns-in_default g c =
     let book = forgets _ _ _ _ g.met.D.Disk.seen_may_stay _ _ _ _ _ _ _ _ c.forget_opening.ensures.store c.self.invariant.0 in
     let says =
-    others_answer _ _ _ _ g.met.D.Disk.seen_may_stay _ _ _ c.self.inside.store _ c.call.new.self _ _
-    c.args.request.now c.call.result c.args.session c.args.calls book
+    others_answer _ _ _ _ g.met.D.Disk.seen_may_stay _ _ _ c.self.inside.store _ c.enter.new.store _ _
+    c.args.request.now c.enter.result c.args.session c.args.calls book
     (record {
-      stopped = c.call.ensures.stopped;
-      step_is = c.call.ensures.step;
-      stops = c.call.ensures.stops;
-      cause = c.call.ensures.cause;
-      disks = c.call.ensures.disks;
+      stopped = c.enter.ensures.stopped;
+      step_is = c.enter.ensures.step;
+      stops = c.enter.ensures.stops;
+      cause = c.enter.ensures.cause;
+      disks = c.enter.ensures.disks;
       ordered = c.forget_opening.ensures.order;
-      order = c.call.ensures.order;
+      order = c.enter.ensures.order;
     })
     (omega (arith, c.if-len-eq-ENTRIES_MOST.false, c.len.ensures, c.self.invariant.0.few, c.self.inside.entries.ok.0))
     c.in_default.not-Reply c.in_default.not-DiskFault in
-    rw (← c.self.view_is, c.try_reserve.ensures.items) (record { enters = says.0; first = says.1; legal = book.legal; few = book.few })
+    rw (← c.self.view_is, entries_stay c.args.session c.args.calls c.args.request.now c.enter.result _ _ c.in_default.not-Reply c.enter.ensures.entered, c.try_reserve.ensures.items) (record { enters = says.0; first = says.1; legal = book.legal; few = book.few })

@@ -13,14 +13,15 @@ publish-requires g c =
 pub invariant_of-self : goal.invariant_of-self
 invariant_of-self g c =
     let count : c.len-number.result ≡ length c.self.inside.entries.items = omega (arith, c.len-number.ensures, c.self.inside.entries.ok.0) in
-    let cleared : c.clear_changes.new.self.changes ≡ [] = rw c.clear_changes.ensures.cleared refl in (
-      forgets _ _ _ _ g.met.D.Disk.seen_may_stay _ _ _ _ _ _ _ _ c.clear_changes.ensures.cleared c.self.invariant.0,
-      goes_out _ c.self.inside.store c.clear_changes.new.self _ c.self.inside.halt _ _ _ _ c.self.invariant.1 (rw (c.changes.ensures, count) at c.in-Ok.ensures.sent.0) c.in-Ok.ensures.sent.1 cleared,
+    let cleared : c.publish.new.store.changes ≡ [] = rw c.in-Ok.ensures.told refl in (
+      forgets _ _ _ _ g.met.D.Disk.seen_may_stay _ _ _ _ _ _ _ _ c.in-Ok.ensures.told c.self.invariant.0,
+      goes_out _ c.self.inside.store c.publish.new.store _ c.self.inside.halt _ _ _ _ c.self.invariant.1 (rw count at c.in-Ok.ensures.sent.0) c.in-Ok.ensures.sent.1 cleared,
     )
 
 pub invariant_of-self-in-Err : goal.invariant_of-self-in-Err
 invariant_of-self-in-Err g c =
-    let count : c.len-number.result ≡ length c.self.inside.entries.items = omega (arith, c.len-number.ensures, c.self.inside.entries.ok.0) in (
+    let count : c.len-number.result ≡ length c.self.inside.entries.items = omega (arith, c.len-number.ensures, c.self.inside.entries.ok.0) in
+    rw c.in-Err.ensures.told (
       c.self.invariant.0,
-      waits _ c.self.inside.store _ c.self.inside.halt _ _ _ _ c.self.invariant.1 c.in-Err.ensures.sent.0 (rw (c.changes.ensures, count) at c.in-Err.ensures.sent.1),
+      waits _ c.self.inside.store _ c.self.inside.halt _ _ _ _ c.self.invariant.1 c.in-Err.ensures.sent.0 (rw count at c.in-Err.ensures.sent.1),
     )
