@@ -1,11 +1,9 @@
 //! Deposits and troves, as lists of objects.
 
-ghost use Rattle.std.specs.Prelude.{◌≡◌, ℕ, IfOk, map};
+ghost use Rattle.std.specs.Prelude.{◌≡◌, IfOk, map};
 ghost use Rattle.std.specs.List.{AllByRecursion};
 ghost use Rattle.liq_types.specs.declared.image.DepositRow.{DepositRow};
 ghost use Rattle.liq_types.specs.declared.image.TroveRow.{TroveRow};
-ghost use Rattle.liq_types.specs.declared.replies.Info.TheVariants as info;
-ghost use Rattle.liq_types.specs.declared.replies.Reply.TheVariants.{Told};
 ghost use Rattle.liq_types.specs.ImageRows.{trove_row};
 ghost use Rattle.liq_troves.specs.Rows.{entire_by};
 ghost use Rattle.liq_troves.specs.StakeSums.{sums_words};
@@ -18,7 +16,8 @@ ghost use Rattle.liq_report.specs.Values.{HasDeposit, HasText, HasTrove};
 use crate::objects::{deposit_object, trove_object};
 use liq_core::Protocol;
 use liq_core::laws::protocols_stand;
-use liq_types::{DepositRow, Info, Query, Reply, TroveRow};
+use liq_replies::{deposit_in, trove_in};
+use liq_types::{DepositRow, Query, TroveRow};
 use serde_json::Value;
 use std::alloc::{AllocError, Global};
 
@@ -86,24 +85,4 @@ fn entire(protocol: &Protocol, row: &TroveRow) -> (u64, u64)
     protocols_stand(protocol);
     let reply = protocol.query(&Query::Trove(row.account));
     trove_in(&reply)
-}
-
-/// Balance and gain that a reply tells; of another reply nothing.
-fn deposit_in(reply: &Reply) -> (u64, u64)
-    ensures { (balance gain : ℕ) → reply.now ≡ Told (info.Deposit balance gain) → result ≡ (balance, gain) }
-{
-    match *reply {
-        Reply::Told(Info::Deposit { balance, gain }) => (balance, gain),
-        _ => (0, 0),
-    }
-}
-
-/// Collateral and debt that a reply tells; of another reply nothing.
-fn trove_in(reply: &Reply) -> (u64, u64)
-    ensures { (coll debt stake : ℕ) → reply.now ≡ Told (info.Trove coll debt stake) → result ≡ (coll, debt) }
-{
-    match *reply {
-        Reply::Told(Info::Trove { coll, debt, .. }) => (coll, debt),
-        _ => (0, 0),
-    }
 }

@@ -1,8 +1,6 @@
 //! The Stability Pool's words and the totals, as objects.
 
 ghost use Rattle.std.specs.Prelude.{◌≡◌, ◌∷◌, [], IfOk, codes, decimal};
-ghost use Rattle.liq_types.specs.declared.replies.Info.TheVariants as info;
-ghost use Rattle.liq_types.specs.declared.replies.Reply.TheVariants.{Told};
 ghost use Rattle.liq_types.specs.State.{State};
 ghost use Rattle.liq_rules.specs.Queries.{system};
 ghost use Rattle.liq_core.specs.Core.{state_of};
@@ -13,7 +11,8 @@ ghost use Rattle.liq_report.specs.Values.{HasText, totals_of};
 use crate::objects::{Totals, pool_object, system_object};
 use liq_core::Protocol;
 use liq_core::laws::protocols_stand;
-use liq_types::{Info, Query, Reply};
+use liq_replies::system_in;
+use liq_types::Query;
 use serde_json::Value;
 use std::alloc::{AllocError, Global};
 
@@ -58,17 +57,7 @@ fn totals(protocol: &Protocol) -> Totals
 {
     protocols_stand(protocol);
     let reply = protocol.query(&Query::System);
-    totals_in(&reply)
-}
-
-/// The ten words that a reply tells, by their names; of another reply nothing.
-fn totals_in(reply: &Reply) -> Totals
-    ensures { (s : State) → reply.now ≡ Told (info.System (system s)) → result ≡ totals_of s }
-{
-    match *reply {
-        Reply::Told(Info::System { words }) => named(words),
-        _ => named([0; 10]),
-    }
+    named(system_in(&reply))
 }
 
 /// Ten words by their names.
