@@ -14,8 +14,8 @@ use Rattle.liq_pairs.specs.declared.side.Side.{Side}
 use Rattle.liq_pairs.specs.Pair.{state_on}
 use Rattle.liq_words.specs.declared.words.Word.{Word}
 use Rattle.liq_words.specs.declared.words.Word.TheVariants as word
-use Rattle.liq_words.specs.declared.words.WordsFault.{WordsFault}
-use Rattle.liq_words.specs.declared.words.WordsFault.TheVariants as fault
+use Rattle.liq_arguments.specs.declared.reading.WordsFault.{WordsFault}
+use Rattle.liq_arguments.specs.declared.reading.WordsFault.TheVariants as fault
 use Rattle.liq_words.specs.Words.{Ask}
 use Rattle.liq_ends.specs.declared.halts.Halt.{Halt}
 use Rattle.liq_ends.specs.declared.halts.Halt.TheVariants.{BadLine, ReadFault, WriteFault, DiskFault, Damaged, DamagedInput, NoMemory, Limit, Rotated}

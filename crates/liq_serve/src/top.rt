@@ -4,8 +4,7 @@ ghost use Rattle.std.specs.Prelude.{◌≡◌, ◌≢◌, ◌↔◌, ◌⊎◌, 
 ghost use Rattle.std.specs.String.{string_bytes};
 ghost use Rattle.liq_outside.specs.Faults.{Rose};
 ghost use Rattle.liq_words.specs.declared.words.Word.{Word};
-ghost use Rattle.liq_words.specs.Reading.{IsInRange};
-ghost use Rattle.liq_words.specs.Words.{Ask};
+ghost use Rattle.liq_words.specs.Words.{Ask, IsInRange};
 ghost use Rattle.liq_ends.specs.declared.halts.Halt.{Halt};
 ghost use Rattle.liq_ends.specs.Output.{last, usage};
 ghost use Rattle.liq_ends.specs.Statuses.{status_of};
@@ -14,6 +13,7 @@ ghost use Rattle.liq_serve.specs.Top.{Ends};
 
 use crate::answers::{StakeForm, TagForm, answer_on};
 use crate::serve::serve_on;
+use liq_arguments::{WordsFault, read_words};
 use liq_ends::{Ending, Halt, status, write_last, write_usage};
 use liq_follow::follow_on;
 use liq_load::tell_load;
@@ -21,7 +21,7 @@ use liq_outside::{Disk, Sink, Source};
 use liq_run::run_on;
 use liq_sessions::Gate;
 use liq_tell::{Told, tell_on};
-use liq_words::{Word, WordsFault, read_words};
+use liq_words::Word;
 use std::alloc::Global;
 use std::io::ErrorKind;
 use std::marker::Brand;

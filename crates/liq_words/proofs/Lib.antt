@@ -1,4 +1,1 @@
-mod Asked
-mod Found
 mod Given
-mod Taken

@@ -22,3 +22,8 @@ abbrev pub UsesDisks : Word → Type 0
 UsesDisks (Gen seed count) = ⊥
 UsesDisks Follow = ⊥
 UsesDisks _ = Unit {0}
+
+-- the numbers of a word are in their ranges
+abbrev pub IsInRange : Word → Type 0
+IsInRange (Gen seed count) = (seed < 2 ^ 64) × (1 ≤ count) × (count ≤ 1000000)
+IsInRange _ = Unit {0}

@@ -1,7 +1,6 @@
-//! The command line: what its words ask the program to do.
+//! The words of the command line: what they ask the program to do.
 #![tactic(auto)]
 
-mod line;
 mod words;
 
-pub use words::{COUNT_MOST, Word, WordsFault, read_words, takes_disks};
+pub use words::{COUNT_MOST, Word, alone, are_understood, gen_of, takes_disks};

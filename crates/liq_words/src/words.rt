@@ -1,17 +1,11 @@
 //! What the words of a command line ask for.
 
-ghost use Rattle.std.specs.Prelude.{◌≡◌, ◌↔◌, ◌⊎◌, ◌∷◌, [], Err, Ok, Some, IsTrue, IfOk, IfSome, codes, map};
+ghost use Rattle.std.specs.Prelude.{◌≡◌, ◌∷◌, [], Some, IsTrue, IfSome, codes, map};
 ghost use Rattle.std.specs.String.{string_bytes};
-ghost use Rattle.clap.specs.Words.{subcommand_rows_of};
-ghost use Rattle.liq_words.specs.Reading.{HasRead, IsInRange};
 ghost use Rattle.liq_words.specs.Words.{Ask, UsesDisks};
 ghost use Rattle.liq_words.specs.declared.words.Word.{Word};
 
-use crate::line::line;
-use clap::error::ErrorKind;
-use clap::{ArgMatches, Error};
 use liq_text::read_number;
-use std::alloc::{AllocError, Global};
 
 /// The greatest count of drawn calls.
 pub const COUNT_MOST: u64 = 1_000_000;
@@ -39,30 +33,6 @@ pub enum Word {
     Gen { seed: u64, count: u64 },
 }
 
-/// Why words ask for nothing.
-#[derive(Clone, Copy)]
-pub enum WordsFault {
-    /// They are not understood.
-    Usage,
-    /// There was no memory to read them.
-    NoMemory,
-}
-
-/// What the words ask for: of a number no sign and no leading zero is understood, and a count is from 1 to 1,000,000.
-pub fn read_words(alloc: Global, words: &[String]) -> Result<Word, WordsFault>
-    ensures word { IfOk result (Ask (map string_bytes words.now)) }
-    ensures only { (word : Word) → Ask (map string_bytes words.now) word → (result ≡ Ok word) ⊎ (result ≡ Err WordsFault.NoMemory) }
-    // So memory is asked for only where the words are understood.
-    ensures usage { (result ≡ Err WordsFault.Usage) ↔ ((word : Word) → Ask (map string_bytes words.now) word → ⊥) }
-{
-    // clap would take more: calls for help, `--`, and other spellings of numbers.
-    if !are_understood(words) {
-        return Err(WordsFault::Usage);
-    }
-    let matches = line(alloc)?.try_get_matches_from(words)?;
-    word_of(&matches).ok_or(WordsFault::Usage)
-}
-
 /// Whether the words ask for something that uses the disks, which is all but `follow` and `gen`. It takes no memory.
 pub fn takes_disks(words: &[String]) -> bool
     ensures asks { IsTrue result → (word : Word) × Ask (map string_bytes words.now) word × UsesDisks word }
@@ -83,8 +53,8 @@ fn uses_disks(name: &str) -> bool
     }
 }
 
-/// Whether the words ask for something.
-fn are_understood(words: &[String]) -> bool
+/// Whether the words ask for something. It takes no memory.
+pub fn are_understood(words: &[String]) -> bool
     ensures asks { IsTrue result → (word : Word) × Ask (map string_bytes words.now) word }
     ensures all { (word : Word) → Ask (map string_bytes words.now) word → IsTrue result }
 {
@@ -95,18 +65,8 @@ fn are_understood(words: &[String]) -> bool
     }
 }
 
-/// What clap has read.
-fn word_of(matches: &ArgMatches) -> Option<Word>
-    ensures { (word : Word) → IsInRange word → HasRead (subcommand_rows_of matches.now) word → result ≡ Some word }
-{
-    match matches.subcommand()? {
-        ("gen", values) => gen_of(values.get_str("seed")?, values.get_str("count")?),
-        (name, _) => alone(name),
-    }
-}
-
-/// The word that stands alone.
-fn alone(name: &str) -> Option<Word>
+/// The word that stands alone under this name.
+pub fn alone(name: &str) -> Option<Word>
     ensures word { IfSome result (Ask (name.now ∷ [])) }
     ensures only { (word : Word) → Ask (name.now ∷ []) word → result ≡ Some word }
 {
@@ -124,7 +84,7 @@ fn alone(name: &str) -> Option<Word>
 }
 
 /// The word `gen` with its two numbers, where they are numbers in their ranges.
-fn gen_of(seed: &str, count: &str) -> Option<Word>
+pub fn gen_of(seed: &str, count: &str) -> Option<Word>
     ensures word { IfSome result (Ask (codes "gen" ∷ seed.now ∷ count.now ∷ [])) }
     ensures only { (word : Word) → Ask (codes "gen" ∷ seed.now ∷ count.now ∷ []) word → result ≡ Some word }
 {
@@ -134,31 +94,5 @@ fn gen_of(seed: &str, count: &str) -> Option<Word>
         Some(Word::Gen { seed, count })
     } else {
         None
-    }
-}
-
-impl From<AllocError> for WordsFault {
-    ghost use Rattle.liq_words.specs.declared.words.WordsFault.{WordsFault};
-
-    ghost from_gives = { λ _ fault. fault ≡ WordsFault.NoMemory };
-
-    fn from(_: AllocError) -> WordsFault {
-        WordsFault::NoMemory
-    }
-}
-
-impl From<Error> for WordsFault {
-    ghost use Rattle.std.specs.Prelude.{◌≡◌};
-    ghost use Rattle.clap.specs.Words.{kind_of};
-    ghost use Rattle.clap.specs.declared.error.kind.ErrorKind.{ErrorKind};
-    ghost use Rattle.liq_words.specs.declared.words.WordsFault.{WordsFault};
-
-    ghost from_gives = { λ error fault. kind_of error ≡ ErrorKind.OutOfMemory → fault ≡ WordsFault.NoMemory };
-
-    fn from(error: Error) -> WordsFault {
-        match error.kind() {
-            ErrorKind::OutOfMemory => WordsFault::NoMemory,
-            _ => WordsFault::Usage,
-        }
     }
 }

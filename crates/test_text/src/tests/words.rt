@@ -1,7 +1,8 @@
 //! Command lines, read: those that no case asks for.
 
 use crate::tests::checks::shows;
-use liq_words::{Word, read_words};
+use liq_arguments::read_words;
+use liq_words::Word;
 use std::alloc::{AllocError, Global};
 use std::test::Fail;
 

@@ -2,8 +2,8 @@ use Rattle.std.proofs.Common.{◌≡◌, Err, Result, sym, subst}
 use Rattle.std.specs.Prelude.{◌↔◌, map}
 use Rattle.std.specs.String.{string_bytes}
 use Rattle.liq_words.specs.declared.words.Word.{Word}
-use Rattle.liq_words.specs.declared.words.WordsFault.{WordsFault}
-use Rattle.liq_words.specs.declared.words.WordsFault.TheVariants.{Usage}
+use Rattle.liq_arguments.specs.declared.reading.WordsFault.{WordsFault}
+use Rattle.liq_arguments.specs.declared.reading.WordsFault.TheVariants.{Usage}
 use Rattle.liq_words.specs.Words.{Ask}
 use Rattle.liq_ends.specs.Outside.{Outside}
 use Rattle.liq_serve.specs.Top.{Ends}

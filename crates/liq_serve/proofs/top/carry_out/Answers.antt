@@ -1,7 +1,7 @@
 use Rattle.std.proofs.Common.{refl, subst, inl, inr}
 use Rattle.liq_words.specs.declared.words.Word.{Word}
 use Rattle.liq_words.specs.declared.words.Word.TheVariants as word
-use Rattle.liq_words.specs.Reading.{IsInRange}
+use Rattle.liq_words.specs.Words.{IsInRange}
 use Rattle.liq_ends.specs.Outside.{Outside}
 use Rattle.liq_serve.proofs.Ran.{runs_to}
 use Rattle.liq_serve.proofs.Words.{IsRead, opens_first, telling_ends, word_ends}

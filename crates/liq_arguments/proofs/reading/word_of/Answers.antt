@@ -1,7 +1,7 @@
 use Rattle.std.proofs.Common.{◌≡◌, Some, None, rules, codes, option_map}
 use Rattle.clap.specs.Words.{subcommand_rows_of, first_value, found_of, rows_of}
-use Rattle.liq_words.proofs.Found.{asks, stands_alone, values_found}
-use Rattle.liq_words.proofs.words.word_of.Goals as goal
+use Rattle.liq_arguments.proofs.Found.{asks, stands_alone, values_found}
+use Rattle.liq_arguments.proofs.reading.word_of.Goals as goal
 
 pub returns-in_err-get_str-in-gen-default : goal.returns-in_err-get_str-in-gen-default
 returns-in_err-get_str-in-gen-default c word within read =

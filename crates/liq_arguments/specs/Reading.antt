@@ -1,13 +1,8 @@
 -- What clap has read of a word.
-use Rattle.std.specs.Prelude.{◌≡◌, ◌≤◌, ◌<◌, ◌^◌, List, Option, Some, option_map, codes, decimal}
+use Rattle.std.specs.Prelude.{◌≡◌, List, Option, Some, option_map, codes, decimal}
 use Rattle.clap.specs.Words.{Text, Row, first_of}
 use Rattle.liq_words.specs.declared.words.Word.{Word}
 use Rattle.liq_words.specs.declared.words.Word.TheVariants.{Run, Serve, Staking, Rewards, State, Audit, Report, Follow, Gen}
-
--- the numbers of a word are in their ranges
-abbrev pub IsInRange : Word → Type 0
-IsInRange (Gen seed count) = (seed < 2 ^ 64) × (1 ≤ count) × (count ≤ 1000000)
-IsInRange _ = Unit {0}
 
 -- the subcommand is that of the word, and it has the word's values
 abbrev pub HasRead : Option (Text × List Row) → Word → Type 0

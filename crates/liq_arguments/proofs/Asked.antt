@@ -10,12 +10,12 @@ use Rattle.std.proofs.lemmas.Fmt.{decimal_is_IsNumeral}
 use Rattle.clap.specs.Words.{Text, first_of, subcommand_of, takes}
 use Rattle.liq_words.specs.declared.words.Word.{Word}
 use Rattle.liq_words.specs.declared.words.Word.TheVariants.{Run, Serve, Staking, Rewards, State, Audit, Report, Follow, Gen}
-use Rattle.liq_words.specs.declared.words.WordsFault.{WordsFault}
-use Rattle.liq_words.specs.declared.words.WordsFault.TheVariants.{Usage, NoMemory}
-use Rattle.liq_words.specs.Line.{line}
-use Rattle.liq_words.specs.Reading.{HasRead, IsInRange}
-use Rattle.liq_words.specs.Words.{Ask}
-use Rattle.liq_words.proofs.Taken.{run_is_taken, run_is_read, serve_is_taken, serve_is_read, staking_is_taken, staking_is_read, rewards_is_taken, rewards_is_read, state_is_taken, state_is_read, audit_is_taken, audit_is_read, report_is_taken, report_is_read, follow_is_taken, follow_is_read, gen_is_taken, gen_is_read, seed_is_read, count_is_read}
+use Rattle.liq_arguments.specs.declared.reading.WordsFault.{WordsFault}
+use Rattle.liq_arguments.specs.declared.reading.WordsFault.TheVariants.{Usage, NoMemory}
+use Rattle.liq_arguments.specs.Line.{line}
+use Rattle.liq_arguments.specs.Reading.{HasRead}
+use Rattle.liq_words.specs.Words.{Ask, IsInRange}
+use Rattle.liq_arguments.proofs.Taken.{run_is_taken, run_is_read, serve_is_taken, serve_is_read, staking_is_taken, staking_is_read, rewards_is_taken, rewards_is_read, state_is_taken, state_is_read, audit_is_taken, audit_is_read, report_is_taken, report_is_read, follow_is_taken, follow_is_read, gen_is_taken, gen_is_read, seed_is_read, count_is_read}
 
 -- ---- what words are that ask for something
 

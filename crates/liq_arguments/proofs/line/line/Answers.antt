@@ -3,8 +3,8 @@ use Rattle.std.specs.Prelude.{IfOk}
 use Rattle.clap.specs.Words.{App, AddsSubcommand, app_of, new_app, shape_of, with_subcommand}
 use Rattle.clap.specs.declared.builder.command.Command.{Command}
 use Rattle.clap.specs.declared.builder.command.Command.TheViews.{out-Command}
-use Rattle.liq_words.specs.Line.{load}
-use Rattle.liq_words.proofs.line.line.Goals as goal
+use Rattle.liq_arguments.specs.Line.{load}
+use Rattle.liq_arguments.proofs.line.line.Goals as goal
 
 added : {E : Type 0} (result : Result Command E) (old sub : Command) (before more : App) → IfOk result (λ command. AddsSubcommand old sub command) → (out-Command sub).has_globals ≡ false → app_of old ≡ before → app_of sub ≡ more → IfOk result (λ command. app_of command ≡ with_subcommand before more.top)
 added (Ok command) old sub before more adds local old_is sub_is =

@@ -2,7 +2,7 @@
 use Rattle.std.proofs.Common.{◌≡◌, ℕ, [], ◌∷◌, refl, true, false, Some, codes, option_map, ◌==◌}
 use Rattle.clap.specs.Words.{Text, is_simple, first_of, subcommand_of, takes}
 use Rattle.clap.proofs.OnLiterals.{clap_on_literals}
-use Rattle.liq_words.specs.Line.{line}
+use Rattle.liq_arguments.specs.Line.{line}
 
 pub line_is_simple : is_simple line ≡ true
 line_is_simple = refl

@@ -3,12 +3,12 @@ use Rattle.std.specs.Prelude.{IfOk}
 use Rattle.std.specs.String.{string_bytes}
 use Rattle.clap.specs.Words.{subcommand_of, subcommand_rows_of, takes, is_simple}
 use Rattle.liq_words.specs.Words.{Ask}
-use Rattle.liq_words.specs.declared.words.WordsFault.TheVariants.{NoMemory}
-use Rattle.liq_words.specs.Line.{line}
-use Rattle.liq_words.specs.Reading.{HasRead}
-use Rattle.liq_words.proofs.Asked.{are_taken, in_range, is_read, no_memory, is_word, one_word}
-use Rattle.liq_words.proofs.Taken.{line_is_simple}
-use Rattle.liq_words.proofs.words.read_words.Goals as goal
+use Rattle.liq_arguments.specs.declared.reading.WordsFault.TheVariants.{NoMemory}
+use Rattle.liq_arguments.specs.Line.{line}
+use Rattle.liq_arguments.specs.Reading.{HasRead}
+use Rattle.liq_arguments.proofs.Asked.{are_taken, in_range, is_read, no_memory, is_word, one_word}
+use Rattle.liq_arguments.proofs.Taken.{line_is_simple}
+use Rattle.liq_arguments.proofs.reading.read_words.Goals as goal
 
 -- where clap fails, it does so for want of memory
 failed : (c : goal.After-from_residual-in_err-matches) → c.from_residual-in_err-matches.result ≡ Err NoMemory

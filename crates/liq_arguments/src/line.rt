@@ -3,7 +3,7 @@
 ghost use Rattle.std.specs.Prelude.{◌≡◌, IfOk, false};
 ghost use Rattle.clap.specs.Words.{app_of, new_app, with_subcommand};
 ghost use Rattle.clap.specs.declared.builder.command.Command.TheViews.{out-Command};
-ghost use Rattle.liq_words.specs.Line.{base, line, load};
+ghost use Rattle.liq_arguments.specs.Line.{base, line, load};
 
 use clap::{Arg, Command};
 use std::alloc::{AllocError, Global};

@@ -6,8 +6,8 @@ use Rattle.clap.specs.Words.{Text, Row, first_of, first_value, rows_of}
 use Rattle.clap.proofs.WalkLemmas.{first_value-rows}
 use Rattle.liq_words.specs.declared.words.Word.{Word}
 use Rattle.liq_words.specs.declared.words.Word.TheVariants.{Run, Serve, Staking, Rewards, State, Audit, Report, Follow, Gen}
-use Rattle.liq_words.specs.Reading.{HasRead, IsInRange}
-use Rattle.liq_words.specs.Words.{Ask}
+use Rattle.liq_arguments.specs.Reading.{HasRead}
+use Rattle.liq_words.specs.Words.{Ask, IsInRange}
 
 -- a subcommand's value is that of its rows
 value_found : (found : Option (Text × List Row)) (f : Found) (id text : Text) → Some (rows_of f) ≡ option_map (λ p. p.1) found → option_map (λ p. first_of id p.1) found ≡ Some (Some text) → first_value f id ≡ Some text
