@@ -10,13 +10,14 @@ ghost use Rattle.liq_ends.specs.Stops.{Adds};
 ghost use Rattle.liq_ends.specs.Telling.{TellsAll};
 ghost use Rattle.liq_ends.specs.Unsaid.{WritesAll};
 ghost use Rattle.liq_lines.specs.Writing.{Writes, WritesPart};
+ghost use Rattle.liq_store.specs.Keeping.{IsInOrder};
 
 use crate::halts::Halt;
 use itoa::Buffer;
 use liq_lines::write_all;
-use liq_outside::{Failed, Sink};
+use liq_outside::{Disk, Failed, Sink};
 use liq_pairs::Side;
-use liq_store::StoreFault;
+use liq_store::{Store, StoreFault};
 
 /// What is written where the words are not understood.
 const USAGE: &[u8] = b"usage: liq run, serve, state, audit or gen SEED COUNT\n";
@@ -35,6 +36,15 @@ pub fn unopened<D>(fault: StoreFault<D>) -> Ending<D>
 {
     let StoreFault { left, right, why } = fault;
     let end = Err(Halt::from(why));
+    Ending { end, left, right }
+}
+
+/// How a word ends over a store, which is closed: with the disks as the store leaves them.
+pub fn closed<D: Disk>(store: Store<D>, end: Result<(), Halt>) -> Ending<D>
+    ensures is { result ≡ record { end = end; left = store.left; right = store.right } }
+    ensures order { IsInOrder D.seen D.moment D.left_at store }
+{
+    let (left, right) = store.close();
     Ending { end, left, right }
 }
 

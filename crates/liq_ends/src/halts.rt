@@ -1,7 +1,9 @@
 //! Why a run stops.
 
-ghost use Rattle.std.specs.Prelude.{◌≡◌};
+ghost use Rattle.std.specs.Prelude.{◌≡◌, ◌↔◌, ◌≤◌, ◌<◌, ◌+◌, ◌^◌, IsTrue};
+ghost use Rattle.liq_ends.specs.Fed.{end_of_feed};
 
+use liq_follower::FedEnd;
 use liq_pairs::Side;
 use liq_store::StoreWhy;
 use liq_types::NoMemory;
@@ -28,6 +30,36 @@ pub enum Halt {
     Limit(u128),
     /// The journal is of this generation, above the first, so that the commands before it are gone.
     Rotated(u64),
+}
+
+impl Halt {
+    /// The line behind so many is no request. Lines are counted from 1.
+    pub fn bad_line(before: u64) -> Halt
+        requires { before + 1 < 2 ^ 64 }
+        ensures { result ≡ Halt.BadLine (before + 1) }
+    {
+        Halt::BadLine(before + 1)
+    }
+}
+
+/// Whether a journal of this generation has all commands since the opening. A later one begins with a checkpoint in place of
+/// those before it.
+pub fn has_all_commands(generation: u64) -> bool
+    ensures { IsTrue result ↔ generation ≤ 1 }
+{
+    generation <= 1
+}
+
+/// How following goes on where a feed ended so.
+pub fn end_of_feed(end: FedEnd) -> Result<(), Halt>
+    ensures { result ≡ end_of_feed end }
+{
+    match end {
+        FedEnd::All => Ok(()),
+        FedEnd::NoMemory => Err(Halt::NoMemory),
+        FedEnd::Damaged { index } => Err(Halt::DamagedInput(index)),
+        FedEnd::Rotated { generation } => Err(Halt::Rotated(generation)),
+    }
 }
 
 impl From<NoMemory> for Halt {

@@ -2,10 +2,12 @@
 #![tactic(auto)]
 
 mod ending;
+mod further;
 mod halts;
 pub mod laws;
 mod texts;
 
-pub use ending::{Ending, status, tell_last, unopened, write_last, write_usage};
-pub use halts::Halt;
-pub use texts::write_text;
+pub use ending::{Ending, closed, status, tell_last, unopened, write_last, write_usage};
+pub use further::look_further;
+pub use halts::{Halt, end_of_feed, has_all_commands};
+pub use texts::{write_rest, write_text};

@@ -1,8 +1,9 @@
 //! A text, written whole.
 
-ghost use Rattle.std.specs.Prelude.{◌≡◌, OnOk, IfErr};
+ghost use Rattle.std.specs.Prelude.{◌≡◌, ◌≢◌, ℕ, Err, OnOk, IfErr};
 ghost use Rattle.liq_lines.specs.Writing.{Writes, WritesPart};
 ghost use Rattle.liq_ends.specs.Causes.{WriteCause};
+ghost use Rattle.liq_ends.specs.Rest.{WritesRest};
 
 use crate::halts::Halt;
 use liq_lines::write_all;
@@ -17,5 +18,20 @@ pub fn write_text<K: Sink>(out: &mut K, text: &[u8]) -> Result<(), Halt>
     match write_all(out, text) {
         Ok(()) => Ok(()),
         Err(Failed) => Err(Halt::WriteFault),
+    }
+}
+
+/// Writes what waits where a word ends, and says how it ends then. Behind a fault of the sink nothing is written.
+pub fn write_rest<K: Sink>(out: &mut K, rest: &[u8], end: Result<(), Halt>) -> Result<(), Halt>
+    ensures written { end ≢ Err Halt.WriteFault → WritesRest end rest.now (K.held out.old) (K.held out.new) result }
+    ensures shut { end ≡ Err Halt.WriteFault → (result ≡ end) × (out.new ≡ out.old) }
+    ensures sink { (count : ℕ) → WriteCause end count (K.faults out.old) → WriteCause result count (K.faults out.new) }
+{
+    match end {
+        Err(Halt::WriteFault) => Err(Halt::WriteFault),
+        _ => match write_all(out, rest) {
+            Ok(()) => end,
+            Err(Failed) => Err(Halt::WriteFault),
+        },
     }
 }

@@ -8,7 +8,8 @@ use Rattle.liq_follower.specs.Following.{Followed, IsFed}
 use Rattle.liq_follower.specs.declared.answers.FedEnd.{FedEnd}
 use Rattle.liq_follower.specs.declared.answers.FedEnd.TheVariants as fed_end
 use Rattle.liq_follow.proofs.Ended.{damage_ends, turning_ends}
-use Rattle.liq_follow.specs.Feeding.{FedPiece, end_of}
+use Rattle.liq_ends.specs.Fed.{end_of_feed}
+use Rattle.liq_follow.specs.Feeding.{FedPiece}
 use Rattle.liq_follow.specs.Followed.{IsFirstFault}
 
 -- what one read took
@@ -34,7 +35,7 @@ module _ (taken : ℕ) (fed piece : List ℕ) where
   split = sym (append_assoc fed (take taken piece) (drop taken piece) ∙ ap (λ (xs : List ℕ). fed ++ xs) (take-append-drop taken piece))
 
   pub fed_piece : (end : FedEnd) (follower : Followed) → IsFed front follower → EndsWith end front → (end ≡ fed_end.All → taken ≡ length piece) → (AreOver front → IsFirstFault front)
-      → (end ≡ fed_end.NoMemory → taken < length piece) → (end ≡ fed_end.NoMemory → Completes (get_or piece taken 0) front) → FedPiece (end_of end) (fed ++ piece) follower
+      → (end ≡ fed_end.NoMemory → taken < length piece) → (end ≡ fed_end.NoMemory → Completes (get_or piece taken 0) front) → FedPiece (end_of_feed end) (fed ++ piece) follower
   fed_piece fed_end.All follower is ends all first less right =
       let size = all refl in
       let same : front ≡ fed ++ piece = ap (λ (xs : List ℕ). fed ++ xs) (take_all taken piece (omega (arith, size))) in

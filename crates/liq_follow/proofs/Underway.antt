@@ -10,7 +10,8 @@ use Rattle.liq_ends.specs.declared.halts.Halt.{Halt}
 use Rattle.liq_ends.specs.declared.halts.Halt.TheVariants.{BadLine, ReadFault, WriteFault, DiskFault, Damaged, DamagedInput, NoMemory, Limit, Rotated}
 use Rattle.liq_ends.specs.Causes.{ReadCause}
 use Rattle.liq_follow.specs.declared.feeding.TheConstants.{FED_MOST}
-use Rattle.liq_follow.specs.Feeding.{FedAll, FedNext, IsFurther}
+use Rattle.liq_ends.specs.Further.{IsFurther}
+use Rattle.liq_follow.specs.Feeding.{FedAll, FedNext}
 use Rattle.liq_follow.specs.Followed.{FollowsTo, StopsWithin}
 use Rattle.liq_follow.proofs.Beginning.{none_goes_on}
 
@@ -74,7 +75,7 @@ module _ (start left : Option (List ℕ)) (room : ℕ) (follower : Followed) (u 
     comes_to_stop halt few h = (all, whole_read, stopped_within halt all left' (let size = u.size in omega (arith, long, few, size)) h)
 
     -- behind the most that are followed
-    pub looks_further : (end : Result (Unit {0}) Halt) → room ≡ 0 → IsFurther end more left' → Came end start left' follower
+    pub looks_further : (end : Result (Unit {0}) Halt) → room ≡ 0 → IsFurther FED_MOST end more left' → Came end start left' follower
     looks_further (Ok done) none h =
         let same : all ≡ u.read = ap (λ (t : List ℕ). u.read ++ t) h.0 ∙ append-nil u.read in
         (all, whole_read, (let size = u.size in let l = ap length same in omega (arith, size), h.1, subst (λ (t : List ℕ). IsFed t follower) (sym same) u.fed, subst GoOn (sym same) u.goes))

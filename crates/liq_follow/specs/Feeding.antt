@@ -3,19 +3,9 @@ use Rattle.std.specs.Prelude.{ℕ, ◌≡◌, ◌≤◌, List, [], ◌++◌, len
 use Rattle.liq_lines.specs.Reading.{IsOver}
 use Rattle.liq_follower.specs.Fed.{GoOn}
 use Rattle.liq_follower.specs.Following.{Followed, IsFed}
-use Rattle.liq_follower.specs.declared.answers.FedEnd.{FedEnd}
-use Rattle.liq_follower.specs.declared.answers.FedEnd.TheVariants as fed
 use Rattle.liq_ends.specs.declared.halts.Halt.{Halt}
-use Rattle.liq_ends.specs.declared.halts.Halt.TheVariants.{DamagedInput, Limit, NoMemory, ReadFault, Rotated}
 use Rattle.liq_follow.specs.declared.feeding.TheConstants.{FED_MOST}
 use Rattle.liq_follow.specs.Followed.{FollowsTo, StopsWithin}
-
--- how following goes on where a feed ended so
-abbrev pub end_of : FedEnd → Result (Unit {0}) Halt
-end_of fed.All = Ok tt
-end_of fed.NoMemory = Err NoMemory
-end_of (fed.Damaged index) = Err (DamagedInput index)
-end_of (fed.Rotated generation) = Err (Rotated generation)
 
 -- A piece was fed: these are all bytes with those of the piece.
 abbrev pub FedPiece : Result (Unit {0}) Halt → List ℕ → Followed → Type 0
@@ -27,13 +17,6 @@ abbrev pub FedNext : Result ℕ Halt → List ℕ → List ℕ → Option (List 
 FedNext (Ok count) fed read left follower =
     (length read ≡ count) × IsFed (fed ++ read) follower × GoOn (fed ++ read) × (count ≡ 0 → IsOver left)
 FedNext (Err halt) fed read left follower = StopsWithin halt (fed ++ read)
-
--- a byte behind the most that are followed was looked for
-abbrev pub IsFurther : Result (Unit {0}) Halt → List ℕ → Option (List ℕ) → Type 0
-IsFurther (Ok done) read left = (read ≡ []) × IsOver left
-IsFurther (Err ReadFault) read left = read ≡ []
-IsFurther (Err (Limit number)) read left = (number ≡ FED_MOST) × (length read ≡ 1)
-IsFurther (Err _) read left = ⊥
 
 -- the whole input was fed, or feeding it stopped
 abbrev pub FedAll : Result (Unit {0}) Halt → List ℕ → Option (List ℕ) → Followed → Type 0

@@ -3,12 +3,12 @@
 ghost use Rattle.std.specs.Prelude.{◌≡◌, ◌≢◌, ◌≤◌, ◌+◌, ◌++◌, [], List, ℕ, length, Ok, Err, IfOk, vec_len};
 ghost use Rattle.liq_follower.specs.Fed.{GoOn};
 ghost use Rattle.liq_follower.specs.Following.{IsFed};
-ghost use Rattle.liq_lines.specs.Reading.{IsOver, Reads};
+ghost use Rattle.liq_lines.specs.Reading.{Reads};
 ghost use Rattle.liq_ends.specs.Causes.{ReadCause};
-ghost use Rattle.liq_follow.specs.Feeding.{FedAll, FedNext, FedPiece, IsFurther, end_of};
+ghost use Rattle.liq_follow.specs.Feeding.{FedAll, FedNext, FedPiece};
 
-use liq_ends::Halt;
-use liq_follower::{FedEnd, Follower};
+use liq_ends::{Halt, end_of_feed, look_further};
+use liq_follower::Follower;
 use liq_outside::{Failed, Source};
 use liq_types::NoMemory;
 use std::alloc::Global;
@@ -42,7 +42,7 @@ pub fn feed_input<S: Source>(
         }
         room -= count;
     }
-    look_further(input)
+    look_further(input, FED_MOST as u128)
 }
 
 /// Room for what one read asks for.
@@ -83,31 +83,5 @@ fn feed_piece(follower: &mut Follower, piece: &[u8]) -> Result<(), Halt>
     ensures no_sink { result ≢ Err Halt.WriteFault }
 {
     let end = follower.feed(piece).end;
-    end_of(end)
-}
-
-/// How following goes on where a feed ended so.
-fn end_of(end: FedEnd) -> Result<(), Halt>
-    ensures { result ≡ end_of end }
-{
-    match end {
-        FedEnd::All => Ok(()),
-        FedEnd::NoMemory => Err(Halt::NoMemory),
-        FedEnd::Damaged { index } => Err(Halt::DamagedInput(index)),
-        FedEnd::Rotated { generation } => Err(Halt::Rotated(generation)),
-    }
-}
-
-/// Looks whether the source has a byte more, which is too much.
-fn look_further<S: Source>(input: &mut S) -> Result<(), Halt>
-    ensures further { (read : List ℕ) × Reads (S.left input.old) read (S.left input.new)
-        × IsFurther result read (S.left input.new) }
-    ensures source { ReadCause result (S.faults input.old) (S.faults input.new) }
-{
-    let mut byte = [0];
-    match input.read(&mut byte) {
-        Ok(0) => Ok(()),
-        Ok(_) => Err(Halt::Limit(FED_MOST as u128)),
-        Err(Failed) => Err(Halt::ReadFault),
-    }
+    end_of_feed(end)
 }

@@ -13,7 +13,7 @@ use Rattle.liq_run.specs.Progress.{Answered, Turns}
 
 -- Where a run has come to: its store, the bytes that were taken from the source and not answered yet, what it still
 -- tells, the replies that wait, and what the sink holds.
-pub record Place (D : Type 0) : Type 0 where
+pub record Reached (D : Type 0) : Type 0 where
   pub store : Stored D
   pub taken : List ℕ
   pub left : Option (List ℕ)
@@ -24,7 +24,7 @@ pub record Place (D : Type 0) : Type 0 where
 -- so is one more, or the run comes to its end; and no more bytes were taken than a line has.
 pub record TakesTurn
     {D : Type 0} (seen : D → Option (List ℕ)) (moment : D → ℕ) (left_at : D → ℕ → List ℕ → Type 0) (n : ℕ)
-    (old new : Place D) (result : Result Bool Halt) : Type 0 where
+    (old new : Reached D) (result : Result Bool Halt) : Type 0 where
   pub turn :
       (start : State) (bytes : List ℕ) (before : Option (List ℕ)) (old_left old_right : D) (l r : List ℕ)
       → Answered start bytes n old.store.core (unread old.taken old.left) old.waiting before old.held

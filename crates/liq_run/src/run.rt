@@ -16,7 +16,6 @@ ghost use Rattle.liq_core.specs.Core.{StandsFor};
 ghost use Rattle.liq_pairs.specs.Pair.{state_on};
 ghost use Rattle.liq_store.specs.Causes.{Faults, counts_of};
 ghost use Rattle.liq_store.specs.Opening.{IsNotOpened, OpensOn};
-ghost use Rattle.liq_store.specs.Keeping.{IsInOrder};
 ghost use Rattle.liq_lines.specs.declared.reader.TheConstants.{READ_BYTES};
 ghost use Rattle.liq_lines.specs.Lines.{IsWholeLine};
 ghost use Rattle.liq_lines.specs.Reading.{unread, ReadsAtMost, taken_most};
@@ -27,7 +26,7 @@ ghost use Rattle.liq_ends.specs.Unopened.{halt_of};
 
 use crate::calls::{call, tell};
 use crate::waiting::{WAITING_MOST, catch_up, flush, keep, make_room};
-use liq_ends::{Ending, Halt, unopened};
+use liq_ends::{Ending, Halt, closed, unopened, write_rest};
 use liq_lines::{LineEnd, Reader};
 use liq_outside::{Disk, Failed, Sink, Source};
 use liq_store::{Store, StoreFault, StoreWhy};
@@ -47,17 +46,19 @@ enum Next {
     End,
 }
 
-/// Reads the next line's request: of this size where it was taken whole already. Behind a bad line nothing is read.
+/// Reads the next line's request, of which there are so many before it: of this size where it was taken whole already. Behind a
+/// bad line nothing is read.
 fn next_request<S: Source>(
     reader: &mut Reader,
     whole: Option<usize>,
     line: &mut Vec<u8>,
     input: &mut S,
-    number: u64,
+    before: u64,
 ) -> Result<Next, Halt>
+    requires few { before < LINES_MOST }
     requires room { LINE_BYTES ≤ vec_capacity line.old }
     requires whole { IfSome whole (λ size. IsWholeLine size reader.old) }
-    ensures request { ReadsRequest (unread reader.old (S.left input.old)) (unread reader.new (S.left input.new)) reader.new number result }
+    ensures request { ReadsRequest (unread reader.old (S.left input.old)) (unread reader.new (S.left input.new)) reader.new (before + 1) result }
     ensures few { ReadsAtMost (LINE_BYTES + 1) (unread reader.old (S.left input.old)) (unread reader.new (S.left input.new)) }
     ensures held { length reader.new ≤ READ_BYTES }
     // Where the line was taken already, nothing is read.
@@ -66,8 +67,8 @@ fn next_request<S: Source>(
     ensures cause { ReadCause result (S.faults input.old) (S.faults input.new) }
 {
     match whole {
-        Some(size) => taken_request(reader, size, number),
-        None => read_request(reader, line, input, number),
+        Some(size) => taken_request(reader, size, before),
+        None => read_request(reader, line, input, before),
     }
 }
 
@@ -86,14 +87,15 @@ fn next_query(reader: &mut Reader, whole: Option<usize>) -> Option<Query>
 }
 
 /// The request on the line of this size, which was taken whole.
-fn taken_request(reader: &mut Reader, size: usize, number: u64) -> Result<Next, Halt>
-    requires { IsWholeLine size reader.old }
-    ensures request { (left : Option (List ℕ)) → ReadsRequest (unread reader.old left) (unread reader.new left) reader.new number result }
+fn taken_request(reader: &mut Reader, size: usize, before: u64) -> Result<Next, Halt>
+    requires few { before < LINES_MOST }
+    requires whole { IsWholeLine size reader.old }
+    ensures request { (left : Option (List ℕ)) → ReadsRequest (unread reader.old left) (unread reader.new left) reader.new (before + 1) result }
     ensures few { (left : Option (List ℕ)) → ReadsAtMost (LINE_BYTES + 1) (unread reader.old left) (unread reader.new left) }
     ensures held { length reader.new ≤ READ_BYTES }
     ensures taken { result ≢ Err Halt.ReadFault }
 {
-    let request = request_on(reader.line(size), number);
+    let request = request_on(reader.line(size), before);
     reader.pass(size);
     match request {
         Ok(request) => Ok(Next::Line(request)),
@@ -106,10 +108,11 @@ fn read_request<S: Source>(
     reader: &mut Reader,
     line: &mut Vec<u8>,
     input: &mut S,
-    number: u64,
+    before: u64,
 ) -> Result<Next, Halt>
-    requires { LINE_BYTES ≤ vec_capacity line.old }
-    ensures request { ReadsRequest (unread reader.old (S.left input.old)) (unread reader.new (S.left input.new)) reader.new number result }
+    requires few { before < LINES_MOST }
+    requires room { LINE_BYTES ≤ vec_capacity line.old }
+    ensures request { ReadsRequest (unread reader.old (S.left input.old)) (unread reader.new (S.left input.new)) reader.new (before + 1) result }
     ensures few { ReadsAtMost (LINE_BYTES + 1) (unread reader.old (S.left input.old)) (unread reader.new (S.left input.new)) }
     ensures held { length reader.new ≤ READ_BYTES }
     ensures capacity { vec_capacity line.new ≡ vec_capacity line.old }
@@ -118,19 +121,20 @@ fn read_request<S: Source>(
     match reader.next_line(input, line) {
         Err(Failed) => Err(Halt::ReadFault),
         Ok(LineEnd::Nothing) => Ok(Next::End),
-        Ok(LineEnd::TooLong) => Err(Halt::BadLine(number)),
-        Ok(LineEnd::Ended) => Ok(Next::Line(request_on(line, number)?)),
-        Ok(LineEnd::Unended) => Ok(Next::LastLine(request_on(line, number)?)),
+        Ok(LineEnd::TooLong) => Err(Halt::bad_line(before)),
+        Ok(LineEnd::Ended) => Ok(Next::Line(request_on(line, before)?)),
+        Ok(LineEnd::Unended) => Ok(Next::LastLine(request_on(line, before)?)),
     }
 }
 
-/// The request on the line of this number.
-fn request_on(line: &[u8], number: u64) -> Result<Request, Halt>
-    ensures { RequestOn line.now number result }
+/// The request on the line behind so many.
+fn request_on(line: &[u8], before: u64) -> Result<Request, Halt>
+    requires { before < LINES_MOST }
+    ensures { RequestOn line.now (before + 1) result }
 {
     match read_line(line) {
         Ok(request) => Ok(request),
-        Err(_) => Err(Halt::BadLine(number)),
+        Err(_) => Err(Halt::bad_line(before)),
     }
 }
 
@@ -160,8 +164,7 @@ pub fn answer_input<S: Source, K: Sink, D: Disk>(
         Err(fault) => return unopened(fault),
     };
     let end = run.answer_all(input, out);
-    let (left, right) = run.close();
-    Ending { end, left, right }
+    closed(run.into_store(), end)
 }
 
 /// What a run reads into and gathers replies in.
@@ -236,11 +239,9 @@ impl<D: Disk> Run<D> {
         }
     }
 
-    /// The disks, as the run leaves them.
-    pub fn close(self) -> (D, D)
-        ensures left { result.0 ≡ self.store.left }
-        ensures right { result.1 ≡ self.store.right }
-        ensures order { IsInOrder D.seen D.moment D.left_at self.store }
+    /// The store, as the run leaves it.
+    pub fn into_store(self) -> Store<D>
+        ensures { result ≡ self.store }
     {
         let Run {
             store,
@@ -248,7 +249,7 @@ impl<D: Disk> Run<D> {
             line: _,
             waiting: _,
         } = self;
-        store.close()
+        store
     }
 
     /// Answers the input's lines, to its end or to where the run stops, and writes all replies.
@@ -309,13 +310,7 @@ impl<D: Disk> Run<D> {
         ensures stopped { (stopped : Option ℕ) → (end ≡ Err Halt.DiskFault → self.old.waiting.items ≡ []) → IsStopped end stopped → IsStopped result stopped }
         ensures store { self.new.store ≡ self.old.store }
     {
-        match end {
-            Err(Halt::WriteFault) => Err(Halt::WriteFault),
-            _ => {
-                flush(&mut self.waiting, out)?;
-                end
-            }
-        }
+        write_rest(out, &self.waiting, end)
     }
 
     /// Answers the next line, of which there are `answered` before it, and says whether another may follow. Before the source
@@ -356,7 +351,7 @@ impl<D: Disk> Run<D> {
         ensures shows { PartShows D.faults D.moment D.left_at self.old.store self.new.store self.new.waiting.items (S.faults input.old) (S.faults input.new) (K.faults out.old) (K.faults out.new) result }
     {
         catch_up(whole, &mut self.waiting, out)?;
-        match next_request(&mut self.reader, whole, &mut self.line, input, answered + 1)? {
+        match next_request(&mut self.reader, whole, &mut self.line, input, answered)? {
             Next::End => Ok(false),
             Next::Line(request) => {
                 self.answer(&request, out)?;

@@ -11,7 +11,7 @@ ghost use Rattle.liq_tell.specs.Whole.{FindsWhole, OfJournal, OnlyLooks};
 
 use liq_core::Protocol;
 use liq_core::laws::protocols_are_sound_states;
-use liq_ends::Halt;
+use liq_ends::{Halt, has_all_commands};
 use liq_outside::Disk;
 use liq_store::{AcceptedFault, Side, Store};
 use liq_types::Command;
@@ -39,7 +39,7 @@ pub(crate) fn whole_journal<D: Disk>(store: &mut Store<D>) -> Result<Whole, Halt
     ensures disks { OnlyLooks D.seen D.faults D.moment D.left_at store.old store.new result }
 {
     let generation = store.protocol().generation();
-    if generation > 1 {
+    if !has_all_commands(generation) {
         return Err(Halt::Rotated(generation));
     }
     let limit = limit_of(store.protocol());

@@ -1,4 +1,6 @@
-use Rattle.std.proofs.Common.{sym, subst}
+use Rattle.std.proofs.Common.{◌≡◌, sym, subst}
+use Rattle.liq_store.specs.Keeping.{IsInOrder}
+use Rattle.liq_store.specs.Stored.{Stored}
 use Rattle.liq_ends.specs.declared.ending.Ending.{Ending}
 use Rattle.liq_ends.proofs.Opened.{opened_at}
 use Rattle.liq_run.specs.Progress.{GivesBack}
@@ -30,10 +32,14 @@ returns-clause-run g c l r told_l told_r start is bytes told =
     let now = g.K.Sink.held ran.new.out in
     let moment = g.D.Disk.moment in
     let left_at = g.D.Disk.left_at in
-    let ends = gives_back seen g.D.Disk.faults moment left_at c.args.left c.args.right store end bytes l r unread before now start ran.ensures.stopped c.close-left.ensures.order
+    let whole = c.closed.ensures.order in
+    let kept : IsInOrder seen moment left_at store = subst (λ (s : Stored g.row.D.Denot). IsInOrder seen moment left_at s) c.into_store.ensures whole in
+    let ends = gives_back seen g.D.Disk.faults moment left_at c.args.left c.args.right store end bytes l r unread before now start ran.ensures.stopped kept
     (ran.ensures.run start stands bytes told c.args.left c.args.right l r (c.in-Ok.ensures.past l r start told_l told_r is)) in
-    subst (λ (left : g.row.D.Denot). GivesBack seen moment left_at c.args.left c.args.right start end bytes l r unread before now left c.close-left.result.1) (sym c.close-left.ensures.left)
-    (subst (λ (right : g.row.D.Denot). GivesBack seen moment left_at c.args.left c.args.right start end bytes l r unread before now store.left right) (sym c.close-left.ensures.right) ends)
+    let given : (s : Stored g.row.D.Denot) → s ≡ store → GivesBack seen moment left_at c.args.left c.args.right start end bytes l r unread before now s.left s.right =
+    λ s same. subst (λ (s : Stored g.row.D.Denot). GivesBack seen moment left_at c.args.left c.args.right start end bytes l r unread before now s.left s.right) (sym same) ends in
+    subst (λ (e : Ending g.row.D.Denot). GivesBack seen moment left_at c.args.left c.args.right start e.end bytes l r unread before now e.left e.right) (sym c.closed.ensures.is)
+    (given c.into_store.result c.into_store.ensures)
 
 pub returns-clause-damaged : goal.returns-clause-damaged
 returns-clause-damaged g c l r told_l told_r side damage is =

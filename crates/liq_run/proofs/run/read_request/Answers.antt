@@ -1,4 +1,4 @@
-use Rattle.std.proofs.Common.{◌≡◌, ℕ, List, Option, Err, Result, refl, sym, subst}
+use Rattle.std.proofs.Common.{◌≡◌, ◌+◌, ℕ, List, Option, Err, Result, refl, sym, subst}
 use Rattle.liq_ends.specs.declared.halts.Halt.{Halt}
 use Rattle.liq_ends.specs.declared.halts.Halt.TheVariants.{BadLine}
 use Rattle.liq_ends.specs.Requests.{IsRequest}
@@ -15,13 +15,14 @@ bad_request before after taken number end halt is at bad = subst (λ (e : Result
 pub returns-in-Ok-TooLong-clause-request : goal.returns-in-Ok-TooLong-clause-request
 returns-in-Ok-TooLong-clause-request g c =
     let line = rw c.in-Ok-TooLong.field-0-is at c.in-Ok-TooLong.ensures.line in
-    (refl, too_long c.next_line.new.line.items line.0 line.2 line.3 line.4 line.1)
+    bad_request (unread c.args.reader.now (g.S.Source.left c.args.input.now)) (unread c.next_line.new.self (g.S.Source.left c.next_line.new.input)) c.next_line.new.self (c.args.before + 1) (Err c.bad_line.result) c.bad_line.result refl c.bad_line.ensures
+    (too_long c.next_line.new.line.items line.0 line.2 line.3 line.4 line.1)
 
 pub returns-in_err-request_on-in-Ok-Ended-clause-request : goal.returns-in_err-request_on-in-Ok-Ended-clause-request
 returns-in_err-request_on-in-Ok-Ended-clause-request g c =
     let line = rw c.in-Ok-Ended.field-0-is at c.in-Ok-Ended.ensures.line in
     let bad = c.in_err-request_on-in-Ok-Ended.ensures in
-    bad_request (unread c.args.reader.now (g.S.Source.left c.args.input.now)) (unread c.next_line.new.self (g.S.Source.left c.next_line.new.input)) c.next_line.new.self c.args.number c.from_residual.result c.in_err-request_on-in-Ok-Ended.field-0.0
+    bad_request (unread c.args.reader.now (g.S.Source.left c.args.input.now)) (unread c.next_line.new.self (g.S.Source.left c.next_line.new.input)) c.next_line.new.self (c.args.before + 1) c.from_residual.result c.in_err-request_on-in-Ok-Ended.field-0.0
     (handed_on c.from_residual.result c.in_err-request_on-in-Ok-Ended.field-0.0 c.from_residual.ensures.1) bad.0
     (with_end c.next_line.new.line.items (subst (IsBadLine IsRequest) c.deref.ensures.value bad.1) line.1 line.0)
 
@@ -29,6 +30,6 @@ pub returns-in_err-request_on-in-Ok-Unended-clause-request : goal.returns-in_err
 returns-in_err-request_on-in-Ok-Unended-clause-request g c =
     let line = rw c.in-Ok-Unended.field-0-is at c.in-Ok-Unended.ensures.line in
     let bad = c.in_err-request_on-in-Ok-Unended.ensures in
-    bad_request (unread c.args.reader.now (g.S.Source.left c.args.input.now)) (unread c.next_line.new.self (g.S.Source.left c.next_line.new.input)) c.next_line.new.self c.args.number c.from_residual-in_err-request_on-in-Ok-Unended.result c.in_err-request_on-in-Ok-Unended.field-0.0
+    bad_request (unread c.args.reader.now (g.S.Source.left c.args.input.now)) (unread c.next_line.new.self (g.S.Source.left c.next_line.new.input)) c.next_line.new.self (c.args.before + 1) c.from_residual-in_err-request_on-in-Ok-Unended.result c.in_err-request_on-in-Ok-Unended.field-0.0
     (handed_on c.from_residual-in_err-request_on-in-Ok-Unended.result c.in_err-request_on-in-Ok-Unended.field-0.0 c.from_residual-in_err-request_on-in-Ok-Unended.ensures.1) bad.0
     (without_end c.next_line.new.line.items (subst (IsBadLine IsRequest) c.deref-in-Ok-Unended.ensures.value bad.1) line.1 line.2 line.0 line.3)

@@ -1,5 +1,4 @@
-use Rattle.std.proofs.Common.{refl}
 use Rattle.liq_run.proofs.run.request_on.Goals as goal
 
 pub returns-in-Err : goal.returns-in-Err
-returns-in-Err c = (refl, λ request h. cc (c.in-Err.is, c.read_line.ensures.only request h))
+returns-in-Err c = (c.bad_line.ensures, λ request h. cc (c.in-Err.is, c.read_line.ensures.only request h))
