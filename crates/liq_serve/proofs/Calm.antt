@@ -36,7 +36,7 @@ use Rattle.liq_follow.proofs.Ended.{damaged_so, long_so, turned_so, whole_so}
 use Rattle.liq_serve.specs.Calm.{AnswersFirst, IsComplete, RefusesLater}
 use Rattle.liq_ends.specs.Outside.{Outside}
 use Rattle.liq_serve.specs.Answered.{AnswersBeside, AnswersLines, IsOfNoInput, StopsUnopened}
-use Rattle.liq_serve.specs.Top.{Answers, Ends, Leaves, OpensNone, ServesTo, Tells}
+use Rattle.liq_serve.specs.Top.{Answers, Ends, OpensNone, ServesTo, Tells}
 use Rattle.liq_serve.proofs.Served.{IsStopping}
 use Rattle.liq_serve.proofs.StatusLaws.{neither, run_done}
 use Rattle.liq_serve.proofs.Telling.{audit_done, load_done, rotated_done, state_done}

@@ -14,8 +14,8 @@ use Rattle.liq_ends.specs.declared.halts.Halt.{Halt}
 use Rattle.liq_ends.specs.declared.halts.Halt.TheVariants.{DiskFault, NoMemory, Rotated}
 use Rattle.liq_tell.specs.declared.journal.Whole.{Whole}
 
--- Where the disk that a store took tells its journal, this holds of the state for which the store stands, and of the
--- journal's commands. Those of a first generation lead to this state from the opening.
+-- Where the disk that a store took tells its journal, and the commands of a first generation lead from the opening to
+-- the state for which the store stands, this holds of that state and of the journal's commands.
 abbrev pub OfJournal : {D : Type 0} → (D → Option (List ℕ)) → Stored D → (State → List Command → Type 0) → Type 0
 OfJournal seen store P =
     (held : List ℕ) (w : Written) (s : State) → seen (taken_disk store) ≡ Some held
