@@ -24,12 +24,19 @@ fn file<F: Files<File = File>>(files: &F, name: &str) -> io::Result<File> {
         .open(files, name)
 }
 
-/// How many records an opening of both files finds.
-fn opened(alloc: Global, left: File, right: File) -> u64 {
-    match Store::open(alloc, FileDisk::new(Some(left)), FileDisk::new(Some(right))) {
+/// How many records an opening of both disks finds.
+fn opened(alloc: Global, left: FileDisk, right: FileDisk) -> u64 {
+    match Store::open(alloc, left, right) {
         Ok(store) => store.protocol().records(),
         Err(_) => 0,
     }
+}
+
+/// The same of both files.
+fn opened_files<F: Files<File = File>>(files: &F, alloc: Global) -> io::Result<u64> {
+    let left = FileDisk::new(Some(file(files, "left.liq")?));
+    let right = FileDisk::new(Some(file(files, "right.liq")?));
+    Ok(opened(alloc, left, right))
 }
 
 /// Feeds what was read, in pieces of this size.
@@ -55,12 +62,16 @@ fn followed(alloc: Global, file: &File, size: usize) -> io::Result<u64> {
     Ok(follower.protocol().records())
 }
 
+/// The same of the left file.
+fn followed_file<F: Files<File = File>>(files: &F, alloc: Global, size: usize) -> io::Result<u64> {
+    let left = file(files, "left.liq")?;
+    followed(alloc, &left, size)
+}
+
 /// The records of an opening and how long it took.
 fn opening<R: Clock + Files<File = File>>(rt: &R, alloc: Global) -> io::Result<(u64, Duration)> {
-    let left = file(rt, "left.liq")?;
-    let right = file(rt, "right.liq")?;
     let start = Instant::now(rt)?;
-    let records = opened(alloc, left, right);
+    let records = opened_files(rt, alloc)?;
     Ok((records, start.elapsed(rt)?))
 }
 
@@ -69,9 +80,8 @@ fn following<R>(rt: &R, alloc: Global, size: usize) -> io::Result<(u64, Duration
 where
     R: Clock + Files<File = File>,
 {
-    let left = file(rt, "left.liq")?;
     let start = Instant::now(rt)?;
-    let records = followed(alloc, &left, size)?;
+    let records = followed_file(rt, alloc, size)?;
     Ok((records, start.elapsed(rt)?))
 }
 

@@ -2,8 +2,7 @@
 //! functions, `journal RECORDS` a journal on a file of the current folder, `follow SIZE` a follower that is fed the folder's left file
 //! in pieces of this size, or for 0 the opening of both files, `pool OFFSETS` an offset of the Stability Pool with few and with many
 //! deposits, `image ROUNDS` a checkpoint of many accounts and the protocol that begins with it, `lock TURNS` the lock beside a plain
-//! mutex, `serve LINES` sessions over disks in memory. With no word it does a little of each and prints what comes of it, which is
-//! the same each time.
+//! mutex. With no word it does a little of each and prints what comes of it, which is the same each time.
 #![tactic(auto)]
 
 mod follow;
@@ -12,7 +11,6 @@ mod journal;
 mod lock;
 mod num;
 mod pool;
-mod serve;
 
 use std::alloc::Global;
 use std::fs::{File, Files};
@@ -37,8 +35,7 @@ where
     follow::a_few(rt, alloc)?;
     pool::a_few(rt, alloc)?;
     image::a_few(rt, alloc)?;
-    lock::a_few(rt, alloc)?;
-    serve::a_few(rt, alloc)
+    lock::a_few(rt, alloc)
 }
 
 /// What the word names, so many times.
@@ -53,8 +50,7 @@ where
         "pool" => pool::measure(rt, alloc, count),
         "image" => image::measure(rt, alloc, count),
         "lock" => lock::measure(rt, alloc, count),
-        "serve" => serve::measure(rt, alloc, count),
-        _ => println!(rt; "num, journal, follow, pool, image, lock or serve, and a count"),
+        _ => println!(rt; "num, journal, follow, pool, image or lock, and a count"),
     }
 }
 
