@@ -3,11 +3,9 @@
 mod checks;
 mod clerk;
 mod desk;
-mod full;
 mod gates;
 mod ledger;
 mod lock;
 mod looks;
-mod seats;
 mod sessions;
-mod stores;
+mod views;

@@ -11,12 +11,15 @@ const TWO: &[u8] = b"1 ? pools\n2 ? system\n";
 const EIGHT: &[u8] =
     b"1 ? pools\n2 ? pools\n3 ? pools\n4 ? pools\n5 ? pools\n6 ? pools\n7 ? pools\n8 ? pools\n";
 
+/// The session that is held, and the one that it waits for.
+const ORDERS: [(u8, u8); 2] = [(1, 2), (2, 1)];
+
 /// A session whose first call is held until the first call of another has left is let go by that call, whichever of the two comes
 /// first: so the other was not waiting for its end.
 #[test]
 fn at_once(rt: HostRuntime) -> Result<(), Fail> {
-    for (held, awaited) in [(1, 2), (2, 1)] {
-        let gate = Holding::new(held, awaited);
+    for (held, awaited) in &ORDERS {
+        let gate = Holding::new(*held, *awaited);
         let status = serve(&rt, rt.alloc(), &gate, TWO)?;
         same(&rt, status, 0, "the status");
         shows(&rt, "the other session's call has left", !gate.has_missed());

@@ -5,6 +5,7 @@ use crate::tests::drip::Drip;
 use crate::tests::program::status;
 use liq_sessions::OpenGate;
 use std::alloc::{AllocError, Global};
+use std::process::Abort;
 use std::sync::Wait;
 use std::test::Fail;
 use std::thread::Threads;
@@ -107,20 +108,28 @@ fn first_odd_cut<R: Threads + Wait + Sync>(
     Ok(NOWHERE)
 }
 
-#[test]
-fn limit(rt: HostRuntime) -> Result<(), Fail> {
-    let alloc = rt.alloc();
-    let long = long_run(alloc)?;
+fn check<R: Abort + Threads + Wait + Sync>(
+    rt: &R,
+    alloc: Global,
+    long: &Long,
+) -> Result<(), AllocError> {
     let most = long.lines.get(..11 * LINES).unwrap_or(&[]);
     let replies = long.text.get(..4 * LINES).unwrap_or(&[]);
-    let ran = run_on(&rt, alloc, most, 65_536, usize::MAX, replies)?;
-    same(&rt, ran.status, 0, "as many lines as there may be");
-    shows(&rt, "a reply to each", ran.is_text);
+    let ran = run_on(rt, alloc, most, 65_536, usize::MAX, replies)?;
+    same(rt, ran.status, 0, "as many lines as there may be");
+    shows(rt, "a reply to each", ran.is_text);
     // One more line has begun with its first byte.
-    let ran = run_on(&rt, alloc, &long.lines, 65_536, usize::MAX, &long.text)?;
-    same(&rt, ran.status, 8, "one line more");
-    shows(&rt, "the limit behind the replies", ran.is_text);
-    let cut = first_odd_cut(&rt, alloc, &long)?;
-    same(&rt, cut, NOWHERE, "the last line, in small pieces and cut");
+    let ran = run_on(rt, alloc, &long.lines, 65_536, usize::MAX, &long.text)?;
+    same(rt, ran.status, 8, "one line more");
+    shows(rt, "the limit behind the replies", ran.is_text);
+    let cut = first_odd_cut(rt, alloc, long)?;
+    same(rt, cut, NOWHERE, "the last line, in small pieces and cut");
+    Ok(())
+}
+
+#[test]
+fn limit(rt: HostRuntime) -> Result<(), Fail> {
+    let long = long_run(rt.alloc())?;
+    check(&rt, rt.alloc(), &long)?;
     Ok(())
 }

@@ -220,7 +220,7 @@ fn accepted(rt: HostRuntime) {
         kind: 0,
         values: SHOWN,
     };
-    for text in ACCEPTED {
+    for text in &ACCEPTED {
         done.kind = done.kind.saturating_add(1);
         let written = is_written(rt.alloc(), &Reply::Said(done), text);
         shows(&rt, text, written);

@@ -48,8 +48,8 @@ fn stops(alloc: Global, lines: &str, index: u64, code: u8) -> Result<bool, Fail>
 
 #[test]
 fn refused(rt: HostRuntime) -> Result<(), Fail> {
-    for (what, lines, index, code) in STOPPED {
-        let stopped = stops(rt.alloc(), lines, index, code)?;
+    for (what, lines, index, code) in &STOPPED {
+        let stopped = stops(rt.alloc(), lines, *index, *code)?;
         shows(&rt, what, stopped);
     }
     Ok(())

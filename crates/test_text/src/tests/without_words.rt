@@ -5,6 +5,7 @@ use liq_outside::MemorySink;
 use liq_serve::without_words;
 use std::alloc::{AllocError, Global};
 use std::io::ErrorKind;
+use std::process::Abort;
 use std::test::Fail;
 
 const USAGE: &[u8] = b"usage: liq run, serve, state, audit or gen SEED COUNT\n";
@@ -22,19 +23,25 @@ fn told(
 }
 
 // The line that says why, whole and lost.
+fn check<R: Abort>(
+    rt: &R,
+    alloc: Global,
+    fault: ErrorKind,
+    line: &[u8],
+    expected: u64,
+) -> Result<(), AllocError> {
+    let (status, is_line) = told(alloc, fault, &[], line)?;
+    same(rt, status, expected, "without words");
+    shows(rt, "the line that says why", is_line);
+    let (status, is_nothing) = told(alloc, fault, &[0], b"")?;
+    same(rt, status, expected, "the line is lost");
+    shows(rt, "nothing is written", is_nothing);
+    Ok(())
+}
+
 #[test]
 fn no_words(rt: HostRuntime) -> Result<(), Fail> {
-    let alloc = rt.alloc();
-    for (fault, line, expected) in [
-        (ErrorKind::OutOfMemory, b"no memory\n".as_slice(), 7),
-        (ErrorKind::InvalidData, USAGE, 1),
-    ] {
-        let (status, is_line) = told(alloc, fault, &[], line)?;
-        same(&rt, status, expected, "without words");
-        shows(&rt, "the line that says why", is_line);
-        let (status, is_nothing) = told(alloc, fault, &[0], b"")?;
-        same(&rt, status, expected, "the line is lost");
-        shows(&rt, "nothing is written", is_nothing);
-    }
+    check(&rt, rt.alloc(), ErrorKind::OutOfMemory, b"no memory\n", 7)?;
+    check(&rt, rt.alloc(), ErrorKind::InvalidData, USAGE, 1)?;
     Ok(())
 }

@@ -1,6 +1,6 @@
 use Rattle.liq_book.specs.Seats.{IsSeatOf}
 use Rattle.liq_book.proofs.Gathering.{all_with}
-use Rattle.test_sessions.proofs.tests.seats.call_by_last.Goals as goal
+use Rattle.test_text.proofs.tests.seats.call_by_last.Goals as goal
 
 pub returns : goal.returns
 returns g c =

@@ -7,14 +7,15 @@ ghost use Rattle.liq_book.specs.Seats.{IsSeatOf};
 
 use crate::tests::checks::same;
 use crate::tests::seats::{part, put_back};
-use crate::tests::sessions::script;
 use crate::tests::stores::new_store;
 use liq_book::{BookSeat, Origin, Service};
 use liq_core::laws::protocols_stand;
 use liq_outside::Disk;
-use liq_sessions::{NoHints, OpenGate, Script, SessionDone, SessionEnd, Work, run_sessions};
+use liq_sessions::{
+    NoHints, OpenGate, Requests, Script, SessionDone, SessionEnd, Work, run_sessions,
+};
 use liq_store::Store;
-use liq_types::{Answer, Desk};
+use liq_types::{Answer, Desk, Query, Request};
 use std::alloc::Global;
 use std::marker::Brand;
 use std::process::Abort;
@@ -23,6 +24,24 @@ use std::thread::Threads;
 
 /// How many entries a history has at the most.
 const ENTRIES: usize = 1_000_000;
+
+/// A script of so many requests.
+fn script(rt: &impl Abort, alloc: Global, session: u8, requests: usize) -> Script
+    requires { requests ≤ REQUESTS_MOST }
+    ensures { length result.requests ≤ REQUESTS_MOST }
+{
+    let mut list = Requests::new(alloc);
+    for before in 0..requests {
+        let asked = Query::NextNumber((before % 1_000) as u32);
+        if list.push(Request::Ask(asked)).is_err() {
+            panic!(rt; "no memory");
+        }
+    }
+    Script {
+        session,
+        requests: list,
+    }
+}
 
 /// A seat gets a script. The test stops where there is no memory for it.
 fn give<D: Disk, O: Origin>(

@@ -1,9 +1,9 @@
 use Rattle.liq_core.specs.Core.{state_of}
 use Rattle.liq_serving.specs.Serves.{disk_at}
-use Rattle.test_sessions.proofs.tests.seats.two_seats_over.Given as goal
+use Rattle.test_text.proofs.tests.full.run_two_over.Given as goal
 
-abbrev pub ghosts-two_seats : goal.ghosts-two_seats
-ghosts-two_seats g a = record {
+abbrev pub ghosts-run_two : goal.ghosts-run_two
+ghosts-run_two g a = record {
   state = state_of a.store.core;
   left = disk_at g.D.Disk.seen g.D.Disk.faults g.D.Disk.moment g.D.Disk.left_at a.store.left;
   right = disk_at g.D.Disk.seen g.D.Disk.faults g.D.Disk.moment g.D.Disk.left_at a.store.right;

@@ -1,6 +1,6 @@
 use Rattle.liq_book.specs.Seats.{IsSeatOf}
 use Rattle.liq_book.proofs.Gathering.{all_with}
-use Rattle.test_sessions.proofs.tests.seats.close_late.Goals as goal
+use Rattle.test_text.proofs.tests.seats.close_late.Goals as goal
 
 pub close-requires-2 : goal.close-requires-2
 close-requires-2 g c =

@@ -1,5 +1,5 @@
-use Rattle.test_sessions.proofs.Back.{seats_belong}
-use Rattle.test_sessions.proofs.tests.full.run_two.Goals as goal
+use Rattle.test_text.proofs.Back.{seats_belong}
+use Rattle.test_text.proofs.tests.full.run_two.Goals as goal
 
 pub end-requires : goal.end-requires
 end-requires g c =

@@ -1,5 +1,0 @@
-//! The tests.
-
-mod at_once;
-mod checks;
-mod row;
