@@ -9,12 +9,11 @@ use Rattle.liq_types.specs.declared.requests.Command.{Command}
 use Rattle.liq_types.specs.declared.requests.Request.{Request}
 use Rattle.liq_types.specs.declared.requests.Request.TheVariants.{Do}
 use Rattle.liq_types.specs.State.{State}
-use Rattle.liq_wire.specs.Fields.{command_of, heard}
 use Rattle.liq_core.specs.Core.{Core, StandsFor}
 use Rattle.liq_core.specs.Plan.{Plan, IsPlan}
 use Rattle.liq_rules.specs.Step.{Allowed, after, after_ruling, ruling, step}
 use Rattle.liq_guided.proofs.Steps.{planned_allowed}
-use Rattle.liq_journal.specs.Crash.{BeforeOrAfter, IsBodyOf, Stands, is_odd}
+use Rattle.liq_journal.specs.Crash.{BeforeOrAfter, Stands, is_odd}
 use Rattle.liq_journal.specs.Settled.{IsSettled, JournalOn}
 use Rattle.liq_journal.specs.Written.{Open, Written, and_then, found_on, is_rotate, start_of}
 use Rattle.liq_pairs.specs.declared.side.Side.{Side}
@@ -23,8 +22,8 @@ use Rattle.liq_pairs.specs.Sides.{has_odd, on}
 use Rattle.liq_rules.proofs.AlikeReads.{Alike}
 use Rattle.liq_pairs.proofs.Alike.{core_alike, settled_alike}
 use Rattle.liq_pairs.proofs.Around.{kept_around, settled_after}
-use Rattle.liq_pairs.proofs.Hints.{heard_after, heard_rotate, heard_ruling}
-use Rattle.liq_store.specs.Answering.{read_back}
+use Rattle.liq_pairs.proofs.Hints.{heard_after, heard_ruling}
+use Rattle.liq_records.specs.Bodies.{read_back}
 use Rattle.liq_store.specs.Calling.{WritesOn}
 use Rattle.liq_store.specs.Keeping.{IsAtRest, IsKeptAround, IsKeptNear}
 use Rattle.liq_store.specs.Rotating.{is_rotation}
@@ -71,25 +70,23 @@ around_has generation start count held image c is (inr (inr stands)) =
     one_record (is_odd generation) generation start count image (and_then is.written c) refl stands.found is.generation_is is.start_is (let n = length-append is.written.commands (c ∷ []) in omega (arith, is.count_is, n))
 
 -- a call that appends the record of an allowed command, on a store that was not stopped
-pub record Appends {D : Type 0} (seen : D → Option (List ℕ)) (moment : D → ℕ) (left_at : D → ℕ → List ℕ → Type 0) (side : Side) (taken new : JournalOn D) (b : D) (core : Core) (c : Command) (body : List ℕ) : Type 0 where
-  pub of : IsBodyOf body (read_back c)
+pub record Appends {D : Type 0} (seen : D → Option (List ℕ)) (moment : D → ℕ) (left_at : D → ℕ → List ℕ → Type 0) (side : Side) (taken new : JournalOn D) (b : D) (core : Core) (c : Command) : Type 0 where
   pub going : Going seen moment left_at side taken.disk b core
   pub parity : is_odd taken.generation ≡ has_odd side
   pub settled : IfSome (seen taken.disk) (IsSettled taken.generation taken.start taken.count)
   pub allowed : (s : State) → StandsFor core s → ruling s c ≡ Allowed
   pub telling : IsSome (seen new.disk) ↔ IsSome (seen taken.disk)
-  pub crash : (held : List ℕ) (w : Written) (command : Command) → seen taken.disk ≡ Some held → Only held (LeftNow moment left_at taken.disk) → Stands (is_odd taken.generation) held w → IsBodyOf body command
-      → LeavesOnly moment left_at taken.disk new.disk (BeforeOrAfter (is_odd taken.generation) w command)
+  pub crash : (held : List ℕ) (w : Written) → seen taken.disk ≡ Some held → Only held (LeftNow moment left_at taken.disk) → Stands (is_odd taken.generation) held w
+      → LeavesOnly moment left_at taken.disk new.disk (BeforeOrAfter (is_odd taken.generation) w (read_back c))
 
-pub appends : {D : Type 0} {changes : List ListChange} (seen : D → Option (List ℕ)) (moment : D → ℕ) (left_at : D → ℕ → List ℕ → Type 0) (side : Side) (taken new : JournalOn D) (b : D) (core : Core) (stopped : Option ℕ) (c : Command) (body : List ℕ) (plan : Plan)
-    → stopped ≡ None → IsWithin seen moment left_at side taken b core stopped changes → is_rotate c.call ≡ false → command_of body ≡ Ok (record c { call = heard c.call })
+pub appends : {D : Type 0} {changes : List ListChange} (seen : D → Option (List ℕ)) (moment : D → ℕ) (left_at : D → ℕ → List ℕ → Type 0) (side : Side) (taken new : JournalOn D) (b : D) (core : Core) (stopped : Option ℕ) (c : Command) (plan : Plan)
+    → stopped ≡ None → IsWithin seen moment left_at side taken b core stopped changes
     → ((s : State) → StandsFor core s → (plan.command ≡ c) × IsPlan s plan)
     → (IsSome (seen new.disk) ↔ IsSome (seen taken.disk))
-    → ((held : List ℕ) (w : Written) (command : Command) → seen taken.disk ≡ Some held → Only held (LeftNow moment left_at taken.disk) → Stands (is_odd taken.generation) held w → IsBodyOf body command
-    → LeavesOnly moment left_at taken.disk new.disk (BeforeOrAfter (is_odd taken.generation) w command))
-    → Appends seen moment left_at side taken new b core c body
-appends {D} {changes} seen moment left_at side taken new b core stopped c body plan none within stays read planned telling crash = record {
-  of = record { spelled = read; no_rotation = heard_rotate c ∙ stays };
+    → ((held : List ℕ) (w : Written) → seen taken.disk ≡ Some held → Only held (LeftNow moment left_at taken.disk) → Stands (is_odd taken.generation) held w
+    → LeavesOnly moment left_at taken.disk new.disk (BeforeOrAfter (is_odd taken.generation) w (read_back c)))
+    → Appends seen moment left_at side taken new b core c
+appends {D} {changes} seen moment left_at side taken new b core stopped c plan none within planned telling crash = record {
   going = going_by seen moment left_at changes side taken b core stopped none within.order;
   parity = within.parity_is;
   settled = within.settled none;
@@ -98,8 +95,8 @@ appends {D} {changes} seen moment left_at side taken new b core stopped c body p
   crash = crash;
 }
 
-module _ {D : Type 0} (seen : D → Option (List ℕ)) (moment : D → ℕ) (left_at : D → ℕ → List ℕ → Type 0) (side : Side) (taken new : JournalOn D) (b : D) (core : Core) (c : Command) (body : List ℕ)
-    (app : Appends seen moment left_at side taken new b core c body) where
+module _ {D : Type 0} (seen : D → Option (List ℕ)) (moment : D → ℕ) (left_at : D → ℕ → List ℕ → Type 0) (side : Side) (taken new : JournalOn D) (b : D) (core : Core) (c : Command)
+    (app : Appends seen moment left_at side taken new b core c) where
   pub settled_on : (held : List ℕ) → seen taken.disk ≡ Some held → IsSettled taken.generation taken.start taken.count held
   settled_on held told = subst (λ (o : Option (List ℕ)). IfSome o (IsSettled taken.generation taken.start taken.count)) told app.settled
 
@@ -107,7 +104,7 @@ module _ {D : Type 0} (seen : D → Option (List ℕ)) (moment : D → ℕ) (lef
   pub leaves : (held : List ℕ) (told : seen taken.disk ≡ Some held) → LeavesOnly moment left_at taken.disk new.disk (BeforeOrAfter (is_odd taken.generation) (settled_on held told).written (read_back c))
   leaves held told =
       let only : Only held (LeftNow moment left_at taken.disk) = subst (λ (o : Option (List ℕ)). IfSome o (λ l. Only l (LeftNow moment left_at taken.disk))) told app.going.taken_rests in
-      app.crash held (settled_on held told).written (read_back c) told only (settled_on held told).stands app.of
+      app.crash held (settled_on held told).written told only (settled_on held told).stands
 
   around : (held other image : List ℕ) (told : seen taken.disk ≡ Some held) → seen b ≡ Some other → (s : State) → StandsFor core s
       → BeforeOrAfter (is_odd taken.generation) (settled_on held told).written (read_back c) image → IsKept (on side image other) (on side other image) s ⊎ IsKept (on side image other) (on side other image) (after s (read_back c))
@@ -191,7 +188,7 @@ module _ {D : Type 0} (seen : D → Option (List ℕ)) (moment : D → ℕ) (lef
   -- ---- the record is on the disk, and the step is made
 
   pub went_on : (then : Core) (s : State) → StandsFor core s → ((t : State) → StandsFor core t → StandsFor then (after t c)) → IsAtRest seen moment left_at new.disk
-      → ((held : List ℕ) (w : Written) (command : Command) → seen taken.disk ≡ Some held → Stands (is_odd taken.generation) held w → IsBodyOf body command → (now : List ℕ) × (seen new.disk ≡ Some now) × Stands (is_odd taken.generation) now (and_then w command))
+      → ((held : List ℕ) (w : Written) → seen taken.disk ≡ Some held → Stands (is_odd taken.generation) held w → (now : List ℕ) × (seen new.disk ≡ Some now) × Stands (is_odd taken.generation) now (and_then w (read_back c)))
       → Going seen moment left_at side new.disk b then
   went_on then s stands steps rests appended = record {
     taken_rests = rests;
@@ -199,7 +196,7 @@ module _ {D : Type 0} (seen : D → Option (List ℕ)) (moment : D → ℕ) (lef
     settled = λ now other tn to t so.
         let before = told_too (seen new.disk) (seen taken.disk) (app.telling.1, app.telling.0) now tn in
         let is = settled_on before.0 before.1 in
-        let one = appended before.0 is.written (read_back c) before.1 is.stands app.of in
+        let one = appended before.0 is.written before.1 is.stands in
         let same : one.0 ≡ now = some_same one.0 now (seen new.disk) one.1 tn in
         let last : Stands (has_odd side) now (and_then is.written (read_back c)) = subst (λ (o : Bool). Stands o now (and_then is.written (read_back c))) app.parity (subst (λ (l : List ℕ). Stands (is_odd taken.generation) l (and_then is.written (read_back c))) same one.2) in
         let settled = settled_after side before.0 other now s is.written (read_back c) (app.going.settled before.0 other before.1 to s stands)

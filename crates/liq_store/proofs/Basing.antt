@@ -11,9 +11,9 @@ use Rattle.liq_header.specs.Layout.{header_size, layout_with}
 use Rattle.liq_journal.specs.Written.{Written}
 use Rattle.liq_pairs.specs.Replay.{bad_checkpoint, base_of, is_image_of, read_base, sound_base}
 use Rattle.liq_pairs.proofs.Basing.{base_later}
-use Rattle.liq_store.specs.declared.answers.AcceptedFault.{AcceptedFault}
-use Rattle.liq_store.specs.declared.answers.AcceptedFault.TheVariants.{Damaged}
-use Rattle.liq_store.specs.Replays.{BeginsTo}
+use Rattle.liq_records.specs.declared.answers.AcceptedFault.{AcceptedFault}
+use Rattle.liq_records.specs.declared.answers.AcceptedFault.TheVariants.{Damaged}
+use Rattle.liq_store.specs.Bases.{BeginsTo}
 
 -- a later generation than the first
 pub begins_later : (w : Written) (generation : ℕ) (checkpoint : List ℕ) (read : Result Image ℕ) (result : Result Core AcceptedFault) → (generation ≡ 1 → ⊥) → w.generation ≡ generation → w.checkpoint ≡ checkpoint

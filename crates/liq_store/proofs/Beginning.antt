@@ -25,7 +25,8 @@ use Rattle.liq_store.specs.declared.standing.Stood.{Stood}
 use Rattle.liq_store.specs.declared.standing.Stood.TheVariants.{Nothing, Holding}
 use Rattle.liq_store.specs.Beginning.{IsEarlier, IsStanding, IsStoodOn}
 use Rattle.liq_store.specs.Causes.{counts_of}
-use Rattle.liq_store.specs.Judging.{disk_of, later_side}
+use Rattle.liq_records.specs.Choosing.{later_side}
+use Rattle.liq_store.specs.Judging.{disk_of}
 use Rattle.liq_store.specs.Keeping.{IsAtRest}
 use Rattle.liq_store.specs.Opening.{HoldsCommands, OpensOn}
 use Rattle.liq_store.specs.Standing.{HasCounts, IsCounted, IsHeldOn}

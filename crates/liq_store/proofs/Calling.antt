@@ -23,7 +23,7 @@ use Rattle.liq_pairs.specs.declared.side.Side.TheVariants.{Left, Right}
 use Rattle.liq_pairs.specs.Kept.{IsKept}
 use Rattle.liq_pairs.specs.Sides.{has_odd, on, other}
 use Rattle.liq_pairs.proofs.Keeping.{settled_kept}
-use Rattle.liq_store.specs.Answering.{read_back}
+use Rattle.liq_records.specs.Bodies.{read_back}
 use Rattle.liq_store.specs.Calling.{WritesOn}
 use Rattle.liq_store.specs.Keeping.{IsKeptAround}
 use Rattle.liq_store.specs.Memory.{IsAccepted}

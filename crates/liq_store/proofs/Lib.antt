@@ -12,7 +12,6 @@ pub mod OneDisk
 pub mod Opening
 pub mod Past
 pub mod Recovered
-pub mod Replaying
 pub mod Steps
 pub mod Turning
 pub mod Verbs

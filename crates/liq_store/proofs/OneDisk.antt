@@ -11,13 +11,14 @@ use Rattle.liq_journal.specs.declared.damage.Damage.{Damage}
 use Rattle.liq_journal.proofs.Parity.{parity_of}
 use Rattle.liq_pairs.specs.Replay.{base_of, outcome, replay_from}
 use Rattle.liq_pairs.proofs.Standings.{standing_faulty}
-use Rattle.liq_store.specs.declared.answers.AcceptedFault.{AcceptedFault}
-use Rattle.liq_store.specs.declared.answers.AcceptedFault.TheVariants.{DiskFault, Damaged, NoMemory}
+use Rattle.liq_records.specs.declared.answers.AcceptedFault.{AcceptedFault}
+use Rattle.liq_records.specs.declared.answers.AcceptedFault.TheVariants.{DiskFault, Damaged, NoMemory}
 use Rattle.liq_store.specs.declared.standing.StandFault.{StandFault}
 use Rattle.liq_store.specs.declared.standing.Stood.{Stood}
 use Rattle.liq_store.specs.declared.standing.Stood.TheVariants.{Nothing, Holding}
-use Rattle.liq_store.specs.Reading.{CountsFault}
-use Rattle.liq_store.specs.Replays.{BeginsTo, Replays}
+use Rattle.liq_records.specs.Reading.{CountsFault}
+use Rattle.liq_records.specs.Replays.{Replays}
+use Rattle.liq_store.specs.Bases.{BeginsTo}
 use Rattle.liq_store.specs.Standing.{Continues, FailsTo, HoldsTo, IsFoundOn, IsWhyOn}
 
 -- ---- from its beginning

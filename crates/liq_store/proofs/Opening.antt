@@ -21,15 +21,15 @@ use Rattle.liq_pairs.proofs.Standings.{standing_absent, standing_open, state_ali
 use Rattle.liq_store.specs.declared.answers.StoreFault.{StoreFault}
 use Rattle.liq_store.specs.declared.answers.StoreWhy.{StoreWhy}
 use Rattle.liq_store.specs.declared.answers.StoreWhy.TheVariants as why
-use Rattle.liq_store.specs.declared.answers.AcceptedFault.{AcceptedFault}
-use Rattle.liq_store.specs.declared.answers.AcceptedFault.TheVariants as fault
+use Rattle.liq_records.specs.declared.answers.AcceptedFault.{AcceptedFault}
+use Rattle.liq_records.specs.declared.answers.AcceptedFault.TheVariants as fault
 use Rattle.liq_store.specs.declared.standing.StandFault.{StandFault}
 use Rattle.liq_store.specs.declared.standing.Stood.{Stood}
 use Rattle.liq_store.specs.declared.standing.Stood.TheVariants.{Nothing, Holding}
 use Rattle.liq_store.specs.Beginning.{BeginsLeft, Creates, IsStanding, IsStoodOn, IsUnbegun, IsUnbegunBy}
 use Rattle.liq_store.specs.Causes.{CausesWhy, Faults, OneRose, counts_of}
 use Rattle.liq_store.specs.Judging.{IsDamagedBy, IsFine, IsJudged, MetFault, disk_of}
-use Rattle.liq_store.specs.Reading.{CountsFault}
+use Rattle.liq_records.specs.Reading.{CountsFault}
 use Rattle.liq_store.specs.Keeping.{IsAtRest}
 use Rattle.liq_store.specs.Opening.{IsNotOpened, IsWhyOf, OpensOn, left_after, right_after}
 use Rattle.liq_store.specs.Standing.{CountsStand, IsCounted, IsFaultless, IsFoundOn, IsLeftOn, IsWhyOn, disk_in}
@@ -192,9 +192,8 @@ module _ {D : Type 0} (seen : D → Option (List ℕ)) (moment : D → ℕ) (lef
       ap₂ both (ap faults (sym (disk_same stood_left)) ∙ cl) (ap faults (sym (disk_same stood_right)) ∙ cr)
 
   pub begun_opened : (left right : D) (stood_left stood_right : Stood D) → StandsAs seen moment left_at faults true left (Ok stood_left) → StandsAs seen moment left_at faults false right (Ok stood_right)
-      → CountsStand (Ok stood_left) (faults left) (faults (disk_in (Ok stood_left))) → CountsStand (Ok stood_right) (faults right) (faults (disk_in (Ok stood_right)))
       → (result : Result (Stored D) (StoreFault D)) → IfOk result (OpensOn seen faults (disk_of stood_left) (disk_of stood_right)) → IfOk result (OpensOn seen faults left right)
-  begun_opened left right stood_left stood_right sl sr cl cr (Ok store) is =
+  begun_opened left right stood_left stood_right sl sr (Ok store) is =
       let on_left : (m : List ℕ) → seen (disk_in (Ok stood_left)) ≡ Some m → seen (disk_of stood_left) ≡ Some m = λ m told. ap seen (sym (disk_same stood_left)) ∙ told in
       let on_right : (n : List ℕ) → seen (disk_in (Ok stood_right)) ≡ Some n → seen (disk_of stood_right) ≡ Some n = λ n told. ap seen (sym (disk_same stood_right)) ∙ told in
       record {
@@ -210,27 +209,26 @@ module _ {D : Type 0} (seen : D → Option (List ℕ)) (moment : D → ℕ) (lef
               are = holds.are ∙ commands_alike l r m.0 n.0 (sl.same tt l m.0 tl m.1) (sr.same tt r n.0 tr n.1);
             };
         going = is.going;
-        counts = is.counts ∙ same_counts left right stood_left stood_right cl cr;
+        counts = is.counts ∙ same_counts left right stood_left stood_right sl.cause sr.cause;
         stays = λ l r x y tl tr tx ty. still_before left right (Ok stood_left) (Ok stood_right) sl sr tt tt x y (λ m n tm tn. is.stays m n x y (on_left m tm) (on_right n tn) tx ty) l r tl tr;
       }
-  begun_opened left right stood_left stood_right sl sr cl cr (Err e) is = tt
+  begun_opened left right stood_left stood_right sl sr (Err e) is = tt
 
   -- ---- none was opened: the first generation was not created
 
   pub begun_not : (left right : D) (stood_left stood_right : Stood D) → StandsAs seen moment left_at faults true left (Ok stood_left) → StandsAs seen moment left_at faults false right (Ok stood_right)
-      → CountsStand (Ok stood_left) (faults left) (faults (disk_in (Ok stood_left))) → CountsStand (Ok stood_right) (faults right) (faults (disk_in (Ok stood_right)))
       → (result : Result (Stored D) (StoreFault D)) → BeginsLeft seen moment left_at stood_left stood_right (left_after result) → right_after result ≡ disk_of stood_right
       → IfErr result (IsUnbegun seen faults (disk_of stood_left) (disk_of stood_right)) → IfErr result (IsNotOpened seen faults left right)
-  begun_not left right stood_left stood_right sl sr cl cr (Ok store) begins same unbegun = tt
-  begun_not left right stood_left stood_right sl sr cl cr (Err e) begins same unbegun = by e.why refl unbegun
+  begun_not left right stood_left stood_right sl sr (Ok store) begins same unbegun = tt
+  begun_not left right stood_left stood_right sl sr (Err e) begins same unbegun = by e.why refl unbegun
     where
       reads_kept : (l r x y : List ℕ) (s : State) → seen left ≡ Some l → seen right ≡ Some r → IsKept l r s → seen e.left ≡ Some x → seen e.right ≡ Some y → IsRecovered l r s x y
       reads_kept = begun_recovered left right stood_left stood_right e.left e.right sl sr begins same
 
       by : (y : StoreWhy) → e.why ≡ y → IsUnbegunBy seen faults (disk_of stood_left) (disk_of stood_right) e y → IsNotOpened seen faults left right e
       by why.DiskFault fault counted =
-          let left_is : faults (disk_of stood_left) ≡ faults left = ap faults (sym (disk_same stood_left)) ∙ cl in
-          let right_is : faults e.right ≡ faults right = ap faults (same ∙ sym (disk_same stood_right)) ∙ cr in
+          let left_is : faults (disk_of stood_left) ≡ faults left = ap faults (sym (disk_same stood_left)) ∙ sl.cause in
+          let right_is : faults e.right ≡ faults right = ap faults (same ∙ sym (disk_same stood_right)) ∙ sr.cause in
           let rose : Counted (faults left) (faults e.left) = subst (λ (n : ℕ). Counted n (faults e.left)) left_is counted in
           let one : OneRose (counts_of faults left right) (counts_of faults e.left e.right) = record { left = rose.later; right = omega arith; rose = inl rose.rose } in
           record {
@@ -242,7 +240,7 @@ module _ {D : Type 0} (seen : D → Option (List ℕ)) (moment : D → ℕ) (lef
       by (why.Damaged side damage) fault unbegun = absurd unbegun
       by why.NoMemory fault still =
           record {
-            cause = subst (λ (y : StoreWhy). CausesWhy y (counts_of faults left right) (counts_of faults e.left e.right)) (sym fault) (still.counts ∙ same_counts left right stood_left stood_right cl cr);
+            cause = subst (λ (y : StoreWhy). CausesWhy y (counts_of faults left right) (counts_of faults e.left e.right)) (sym fault) (still.counts ∙ same_counts left right stood_left stood_right sl.cause sr.cause);
             is_why = λ l r tl tr. subst (λ (y : StoreWhy). IsWhyOf l r y) (sym fault) tt;
             stays = λ other l r x y tl tr tx ty.
                 still_before left right (Ok stood_left) (Ok stood_right) sl sr tt tt x y
@@ -316,11 +314,10 @@ module _ {D : Type 0} (lr rr : Result (Stood D) (StandFault D)) (before after : 
 
 module _ {D : Type 0} (seen : D → Option (List ℕ)) (moment : D → ℕ) (left_at : D → ℕ → List ℕ → Type 0) (faults : D → ℕ) where
   pub judged_not : (left right : D) (lr rr : Result (Stood D) (StandFault D)) → StandsAs seen moment left_at faults true left lr → StandsAs seen moment left_at faults false right rr
-      → CountsStand lr (faults left) (faults (disk_in lr)) → CountsStand rr (faults right) (faults (disk_in rr))
       → (e : StoreFault D) → e.left ≡ disk_in lr → e.right ≡ disk_in rr → IsJudged lr rr e.why → IsNotOpened seen faults left right e
-  judged_not left right lr rr sl sr cl cr e is_left is_right judged = record {
+  judged_not left right lr rr sl sr e is_left is_right judged = record {
     cause = judged_cause lr rr (counts_of faults left right) (counts_of faults e.left e.right)
-        (subst (λ (n : ℕ). CountsStand lr (faults left) n) (ap faults (sym is_left)) cl) (subst (λ (n : ℕ). CountsStand rr (faults right) n) (ap faults (sym is_right)) cr) e.why judged;
+        (subst (λ (n : ℕ). CountsStand lr (faults left) n) (ap faults (sym is_left)) sl.cause) (subst (λ (n : ℕ). CountsStand rr (faults right) n) (ap faults (sym is_right)) sr.cause) e.why judged;
     is_why = λ l r tl tr. judged_why l r lr rr e.why judged (sl.found l tl) (sr.found r tr);
     stays = λ other l r x y tl tr tx ty.
         let faultless = judged_faultless lr rr e.why judged other in

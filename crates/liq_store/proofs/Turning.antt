@@ -25,7 +25,7 @@ use Rattle.liq_pairs.specs.Kept.{IsKept, IsRotationOf, IsSettledFor}
 use Rattle.liq_pairs.specs.Sides.{has_odd, on, other}
 use Rattle.liq_pairs.proofs.Alike.{core_alike, settled_alike}
 use Rattle.liq_pairs.proofs.Turning.{rotation_kept, rotation_settled}
-use Rattle.liq_store.specs.Answering.{read_back}
+use Rattle.liq_records.specs.Bodies.{read_back}
 use Rattle.liq_store.specs.Calling.{WritesOn}
 use Rattle.liq_store.specs.Keeping.{IsAtRest, IsKeptAround, IsKeptNear}
 use Rattle.liq_store.specs.Rotating.{is_rotation, rotation_of, side_after, start_after}

@@ -1,17 +1,15 @@
 -- What a call of a store answers.
 use Rattle.std.specs.Prelude.{◌≡◌, ℕ, ◌≤◌}
-use Rattle.liq_types.specs.declared.requests.Command.{Command}
 use Rattle.liq_types.specs.declared.requests.Request.{Request}
 use Rattle.liq_types.specs.declared.replies.Answer.{Answer}
 use Rattle.liq_types.specs.declared.replies.Answer.TheVariants as answer
 use Rattle.liq_types.specs.State.{State}
-use Rattle.liq_wire.specs.Fields.{heard}
 use Rattle.liq_core.specs.Core.{Core, StandsFor}
 use Rattle.liq_rules.specs.Step.{step}
 use Rattle.liq_journal.specs.declared.answers.LookFault.TheVariants as look
 use Rattle.liq_journal.specs.Bodies.{IsBodyFault, body_at}
-use Rattle.liq_store.specs.declared.answers.AcceptedFault.{AcceptedFault}
-use Rattle.liq_store.specs.declared.answers.AcceptedFault.TheVariants as accepted
+use Rattle.liq_records.specs.declared.answers.AcceptedFault.{AcceptedFault}
+use Rattle.liq_records.specs.declared.answers.AcceptedFault.TheVariants as accepted
 use Rattle.liq_store.specs.Memory.{IsAccepted, TakesMemory}
 
 -- A request in this state, and the protocol after it, of a store that was not stopped: the step's reply; or no memory,
@@ -23,10 +21,6 @@ Answers s request answer.NoMemory core = StandsFor core s × TakesMemory s reque
 Answers s request answer.DiskFault core = StandsFor core s × IsAccepted s request
 Answers s request _ core = ⊥
 
--- a command as its record is read back: the greatest hint word is none
-abbrev pub read_back : Command → Command
-read_back c = record c { call = heard c.call }
-
 -- A record that was read is no record: its number is among those of the accepted commands, and its bytes, where the
 -- journal has it, have another digest than the one behind them, or are no command.
 abbrev pub IsUnreadable : (generation start count : ℕ) → AcceptedFault → Type 0
@@ -36,9 +30,3 @@ IsUnreadable generation start count (accepted.Damaged damage) =
     × (damage.index ≤ count)
     × IsBodyFault generation damage.index (body_at start damage.index) (look.Damaged damage)
 IsUnreadable generation start count accepted.NoMemory = Unit {0}
-
--- never damaged
-abbrev pub IsReadable : AcceptedFault → Type 0
-IsReadable accepted.DiskFault = Unit {0}
-IsReadable (accepted.Damaged damage) = ⊥
-IsReadable accepted.NoMemory = Unit {0}

@@ -11,7 +11,7 @@ use Rattle.liq_core.specs.Core.{StandsFor}
 use Rattle.liq_journal.specs.Crash.{BeforeOrAfter, CreateLeaves}
 use Rattle.liq_journal.specs.Written.{Open, Written, found_on}
 use Rattle.liq_pairs.specs.Sides.{beside, has_odd, on, other}
-use Rattle.liq_store.specs.Answering.{read_back}
+use Rattle.liq_records.specs.Bodies.{read_back}
 use Rattle.liq_store.specs.Keeping.{IsKeptAround, LeavesPairs}
 use Rattle.liq_store.specs.Memory.{IsAccepted}
 use Rattle.liq_store.specs.Rotating.{is_rotation, rotation_of, side_after, start_after}

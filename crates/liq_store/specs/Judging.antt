@@ -1,12 +1,12 @@
 -- Which of two disks' faults is told.
-use Rattle.std.specs.Prelude.{◌≡◌, ◌⊎◌, ℕ, Result, Ok, Err, nat_lt, if◌then◌else◌}
+use Rattle.std.specs.Prelude.{◌≡◌, ◌⊎◌, Result, Ok, Err}
 use Rattle.liq_journal.specs.declared.damage.Damage.{Damage}
 use Rattle.liq_pairs.specs.declared.side.Side.{Side}
 use Rattle.liq_pairs.specs.declared.side.Side.TheVariants.{Left, Right}
 use Rattle.liq_store.specs.declared.answers.StoreWhy.{StoreWhy}
 use Rattle.liq_store.specs.declared.answers.StoreWhy.TheVariants as why
-use Rattle.liq_store.specs.declared.answers.AcceptedFault.{AcceptedFault}
-use Rattle.liq_store.specs.declared.answers.AcceptedFault.TheVariants as fault
+use Rattle.liq_records.specs.declared.answers.AcceptedFault.{AcceptedFault}
+use Rattle.liq_records.specs.declared.answers.AcceptedFault.TheVariants as fault
 use Rattle.liq_store.specs.declared.standing.StandFault.{StandFault}
 use Rattle.liq_store.specs.declared.standing.Stood.{Stood}
 use Rattle.liq_store.specs.declared.standing.Stood.TheVariants.{Nothing, Holding}
@@ -46,7 +46,3 @@ IsJudged left right (why.Damaged Left damage) = IsDamagedBy damage left × IsFau
 IsJudged left right (why.Damaged Right damage) =
     IsFine left × IsDamagedBy damage right × IsFaultless left × IsFaultless right
 IsJudged left right why.NoMemory = IsFaultless left × IsFaultless right
-
--- Of two journals that of the greater generation is taken.
-abbrev pub later_side : (left right : ℕ) → Side
-later_side left right = if nat_lt left right then Right else Left

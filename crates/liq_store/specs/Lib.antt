@@ -1,4 +1,5 @@
 pub mod Answering
+pub mod Bases
 pub mod Beginning
 pub mod Calling
 pub mod Causes
@@ -9,8 +10,6 @@ pub mod Memory
 pub mod Opening
 pub mod Past
 pub mod Preparing
-pub mod Reading
-pub mod Replays
 pub mod Rotating
 pub mod Standing
 pub mod Stored

@@ -19,11 +19,3 @@ pub struct StoreFault<D> {
     pub right: D,
     pub why: StoreWhy,
 }
-
-/// Why the accepted commands could not be read, or not be made again.
-#[derive(Clone, Copy)]
-pub enum AcceptedFault {
-    DiskFault,
-    Damaged(Damage),
-    NoMemory,
-}

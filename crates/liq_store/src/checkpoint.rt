@@ -1,18 +1,18 @@
 // What a journal begins with: the first one with the opening under its limit, each later one with its checkpoint.
-ghost use Rattle.std.specs.Prelude.{◌≡◌, ◌≢◌, ◌+◌, ◌<◌, ◌^◌, ◌==◌, ◌&&◌, Ok, Err, IfOk};
+ghost use Rattle.std.specs.Prelude.{◌≡◌, ◌≢◌, ◌+◌, ◌<◌, ◌^◌, Ok, Err, IfOk};
 ghost use Rattle.liq_types.specs.Image.{IsLimit};
 ghost use Rattle.liq_types.specs.Soundness.{HasTables};
 ghost use Rattle.liq_header.specs.Layout.{header_size, layout_with};
 ghost use Rattle.liq_journal.specs.Written.{Written};
 ghost use Rattle.liq_pairs.specs.Replay.{base_of, read_base};
-ghost use Rattle.liq_store.specs.Replays.{BeginsTo};
+ghost use Rattle.liq_store.specs.Bases.{BeginsTo};
 
-use crate::answers::AcceptedFault;
 use liq_checkpoint::{ImageBytes, decode};
 use liq_core::laws::protocols_are_sound;
 use liq_core::{ImageFault, Protocol};
 use liq_guided::Guided;
 use liq_journal::{Damage, What, header_size};
+use liq_records::{AcceptedFault, is_of};
 use liq_types::Image;
 use std::alloc::Global;
 
@@ -49,13 +49,6 @@ pub fn base(
         Err(ImageBytes::Bad { place }) => Err(misshapen(limit, place)),
         Err(ImageBytes::NoMemory) => Err(AcceptedFault::NoMemory),
     }
-}
-
-// Whether the protocol is of this generation and of this limit.
-fn is_of(protocol: &Protocol, generation: u64, limit: u64) -> bool
-    ensures { result ≡ (protocol.now.image.generation == generation && protocol.now.image.limit == limit) }
-{
-    protocol.generation() == generation && protocol.limit() == limit
 }
 
 // The protocol of a checkpoint's image, which has to be that of this generation and this limit.

@@ -1,13 +1,13 @@
 // Two disks, once each of them was tested whole.
 ghost use Rattle.std.specs.Prelude.{◌≡◌, Ok, IfOk, IfErr};
-ghost use Rattle.liq_store.specs.Judging.{IsJudged, disk_of, first_of, later_side, on_side};
+ghost use Rattle.liq_store.specs.Judging.{IsJudged, disk_of, first_of, on_side};
 ghost use Rattle.liq_store.specs.Standing.{disk_in};
 
-use crate::answers::{AcceptedFault, StoreFault, StoreWhy};
+use crate::answers::{StoreFault, StoreWhy};
 use crate::standing::{StandFault, Stood};
-use liq_guided::Guided;
 use liq_outside::Disk;
 use liq_pairs::Side;
+use liq_records::AcceptedFault;
 
 pub fn disk_of<D: Disk>(stood: Stood<D>) -> D
     ensures { result ≡ disk_of stood }
@@ -71,16 +71,5 @@ fn first_of(left: AcceptedFault, right: AcceptedFault) -> StoreWhy
     match right {
         AcceptedFault::DiskFault => StoreWhy::DiskFault,
         _ => on_side(Side::Left, left),
-    }
-}
-
-// Of two journals the one that is taken: that of the greater generation.
-pub fn later_side(left: &Guided, right: &Guided) -> Side
-    ensures { result ≡ later_side left.now.image.generation right.now.image.generation }
-{
-    if left.generation() < right.generation() {
-        Side::Right
-    } else {
-        Side::Left
     }
 }

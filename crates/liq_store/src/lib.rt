@@ -7,12 +7,12 @@ mod checkpoint;
 mod judging;
 mod preparing;
 mod reading;
-mod replay;
 mod rotating;
 mod standing;
 mod store;
 mod telling;
 
-pub use answers::{AcceptedFault, StoreFault, StoreWhy};
+pub use answers::{StoreFault, StoreWhy};
 pub use liq_pairs::Side;
+pub use liq_records::AcceptedFault;
 pub use store::Store;

@@ -8,12 +8,11 @@ ghost use Rattle.liq_journal.specs.Written.{Written, found_on, is_generation};
 ghost use Rattle.liq_store.specs.Keeping.{IsAtRest};
 ghost use Rattle.liq_store.specs.Standing.{Continues, CountsStand, HoldsTo, IsCounted, IsFaultless, IsFoundOn, IsLeftOn, disk_in};
 
-use crate::answers::AcceptedFault;
 use crate::checkpoint::base;
-use crate::replay::replay;
 use liq_guided::Guided;
 use liq_journal::{Journal, OpenFault, OpenWhy};
 use liq_outside::Disk;
+use liq_records::{AcceptedFault, replay};
 use std::alloc::Global;
 use std::marker::Brand;
 use std::sync::ledger::Blank;

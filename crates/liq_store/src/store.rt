@@ -20,7 +20,8 @@ ghost use Rattle.liq_pairs.specs.Kept.{IsKept};
 ghost use Rattle.liq_pairs.specs.Pair.{StandFor, state_on};
 ghost use Rattle.liq_pairs.specs.Sides.{has_odd, on, other};
 ghost use Rattle.liq_pairs.specs.Unfinished.{IsRecovered, LeftLeaves};
-ghost use Rattle.liq_store.specs.Answering.{Answers, IsReadable, IsUnreadable};
+ghost use Rattle.liq_records.specs.Reading.{IsReadable};
+ghost use Rattle.liq_store.specs.Answering.{Answers, IsUnreadable};
 ghost use Rattle.liq_store.specs.Beginning.{BeginsLeft, Creates, IsEarlier, IsStoodOn, IsUnbegun};
 ghost use Rattle.liq_store.specs.Calling.{WritesOn};
 ghost use Rattle.liq_store.specs.Causes.{CausesAccepted, CausesAnswer, stopped_after, stopped_after_reading};
@@ -32,8 +33,8 @@ ghost use Rattle.liq_store.specs.Stored.{disk_beside, taken_disk};
 ghost use Rattle.liq_store.specs.Telling.{told};
 ghost use Rattle.liq_store.specs.Within.{IsWithin, stored};
 
-use crate::answers::{AcceptedFault, StoreFault, StoreWhy};
-use crate::judging::{disk_of, judge, later_side};
+use crate::answers::{StoreFault, StoreWhy};
+use crate::judging::{disk_of, judge};
 use crate::preparing::{Prepared, make, prepare};
 use crate::reading::read_commands;
 use crate::rotating::checkpoint_after;
@@ -44,8 +45,8 @@ use liq_guided::Guided;
 use liq_journal::Journal;
 use liq_outside::Disk;
 use liq_pairs::Side;
+use liq_records::{AcceptedFault, later_side, turn, write_record};
 use liq_types::{Answer, Call, Command, Hint, ListChange, Reply, Request};
-use liq_wire::encode;
 use std::alloc::Global;
 use std::marker::{Brand, Model};
 use std::sync::ledger::Blank;
@@ -204,19 +205,19 @@ impl<D: Disk> Store<D> {
             else {
                 return Answer::NoMemory;
             };
-            match self.taken.turn(&mut self.beside, &checkpoint) {
-                Ok(()) => {}
+            let side = match turn(&mut self.taken, &mut self.beside, self.side, &checkpoint) {
+                Ok(side) => side,
                 Err(_) => {
                     self.stopped = Some(sum_of_faults(&self.taken, &self.beside));
                     return Answer::DiskFault;
                 }
-            }
-            self.side = self.side.other();
+            };
+            self.side = side;
             // A rotation changes nothing in the list.
             let done = make::<Brand>(&mut self.protocol, planned, hint, Blank::new(1));
             return Answer::Reply(Reply::Said(done));
         }
-        match self.taken.append(&encode(command)) {
+        match write_record(&mut self.taken, command) {
             Ok(()) => {}
             Err(_) => {
                 self.stopped = Some(sum_of_faults(&self.taken, &self.beside));

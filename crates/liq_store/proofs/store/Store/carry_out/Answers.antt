@@ -13,7 +13,6 @@ use Rattle.liq_journal.proofs.Testing.{not_rotate}
 use Rattle.liq_pairs.specs.declared.side.Side.{Side}
 use Rattle.liq_pairs.specs.Sides.{other}
 use Rattle.liq_pairs.proofs.Generations.{never_rotates}
-use Rattle.liq_store.specs.Answering.{read_back}
 use Rattle.liq_store.specs.Calling.{WritesOn}
 use Rattle.liq_store.specs.Keeping.{IsInOrder}
 use Rattle.liq_store.specs.Rotating.{is_rotation}
@@ -104,34 +103,34 @@ returns-in-Err-clause-disks g c =
 
 pub invariant_of-self-in-Rotate : goal.invariant_of-self-in-Rotate
 invariant_of-self-in-Rotate g c =
-    let t = turns_by g.D.Disk.seen g.D.Disk.moment g.D.Disk.left_at c.self.inside.side c.self.inside.taken c.self.inside.beside c.turn.new.self.disk c.self.inside.protocol c.self.inside.stopped c.in-Do.command c.deref.result.now (ap (λ (o : Stored g.row.D.Denot). o.stopped) c.self.view_is ∙ c.requires.going) c.self.invariant
+    let t = turns_by g.D.Disk.seen g.D.Disk.moment g.D.Disk.left_at c.self.inside.side c.self.inside.taken c.self.inside.beside c.turn.new.taken.disk c.self.inside.protocol c.self.inside.stopped c.in-Do.command c.deref.result.now (ap (λ (o : Stored g.row.D.Denot). o.stopped) c.self.view_is ∙ c.requires.going) c.self.invariant
     (rotation_from c.self.inside.protocol c.prepare.new.protocol c.protocol.result.now c.in-Ready.planned c.in-Do.command c.in-Ok.checkpoint.items c.deref.result.now c.prepare.ensures.same c.protocol.ensures c.in-Ready.ensures.ready.0 c.deref.ensures.value c.in-Ok.ensures.rotation)
     c.in-Ok-turn.ensures.telling c.in-Ok-turn.ensures.crash c.in-Ok-turn.ensures.time in
-    subst (λ (x : Side). IsWithin g.D.Disk.seen g.D.Disk.moment g.D.Disk.left_at x c.turn.new.self c.turn.new.beside c.make-done.new.protocol c.self.inside.stopped c.prepare.new.changes.items) (sym c.other-self-inside.ensures)
-    (subst (λ (d : g.row.D.Denot). IsWithin g.D.Disk.seen g.D.Disk.moment g.D.Disk.left_at (other c.self.inside.side) c.turn.new.self d c.make-done.new.protocol c.self.inside.stopped c.prepare.new.changes.items) (sym c.in-Ok-turn.ensures.exchanged)
-    (subst (λ (o : Option ℕ). IsWithin g.D.Disk.seen g.D.Disk.moment g.D.Disk.left_at (other c.self.inside.side) c.turn.new.self c.self.inside.taken.disk c.make-done.new.protocol o c.prepare.new.changes.items) (sym (ap (λ (o : Stored g.row.D.Denot). o.stopped) c.self.view_is ∙ c.requires.going))
-    (turning_within g.D.Disk.seen g.D.Disk.moment g.D.Disk.left_at c.self.inside.side c.self.inside.taken c.self.inside.beside c.turn.new.self.disk c.self.inside.protocol c.in-Do.command c.deref.result.now t c.make-done.new.protocol (state_of c.self.inside.protocol) c.prepare.ensures.stands (λ t so. let is = c.in-Ready.ensures.prepared t so in stepped c.make-done.new.protocol t c.in-Do.command c.in-Ready.planned is (c.make-done.ensures.state t (stands_after c.self.inside.protocol c.prepare.new.protocol t c.prepare.ensures.same so))) c.in-Ok-turn.ensures.durable c.in-Ok-turn.ensures.created
-    c.turn.new.self.generation c.turn.new.self.limit c.turn.new.self.start c.turn.new.self.count c.in-Ok-turn.ensures.known.0 c.in-Ok-turn.ensures.known.3 c.in-Ok-turn.ensures.settled)))
+    subst (λ (x : Side). IsWithin g.D.Disk.seen g.D.Disk.moment g.D.Disk.left_at x c.turn.new.taken c.turn.new.beside c.make-done.new.protocol c.self.inside.stopped c.prepare.new.changes.items) (sym c.in-Ok-turn.ensures.side)
+    (subst (λ (d : g.row.D.Denot). IsWithin g.D.Disk.seen g.D.Disk.moment g.D.Disk.left_at (other c.self.inside.side) c.turn.new.taken d c.make-done.new.protocol c.self.inside.stopped c.prepare.new.changes.items) (sym c.in-Ok-turn.ensures.exchanged)
+    (subst (λ (o : Option ℕ). IsWithin g.D.Disk.seen g.D.Disk.moment g.D.Disk.left_at (other c.self.inside.side) c.turn.new.taken c.self.inside.taken.disk c.make-done.new.protocol o c.prepare.new.changes.items) (sym (ap (λ (o : Stored g.row.D.Denot). o.stopped) c.self.view_is ∙ c.requires.going))
+    (turning_within g.D.Disk.seen g.D.Disk.moment g.D.Disk.left_at c.self.inside.side c.self.inside.taken c.self.inside.beside c.turn.new.taken.disk c.self.inside.protocol c.in-Do.command c.deref.result.now t c.make-done.new.protocol (state_of c.self.inside.protocol) c.prepare.ensures.stands (λ t so. let is = c.in-Ready.ensures.prepared t so in stepped c.make-done.new.protocol t c.in-Do.command c.in-Ready.planned is (c.make-done.ensures.state t (stands_after c.self.inside.protocol c.prepare.new.protocol t c.prepare.ensures.same so))) c.in-Ok-turn.ensures.durable c.in-Ok-turn.ensures.created
+    c.turn.new.taken.generation c.turn.new.taken.limit c.turn.new.taken.start c.turn.new.taken.count c.in-Ok-turn.ensures.known.0 c.in-Ok-turn.ensures.known.3 c.in-Ok-turn.ensures.settled)))
 
 pub returns-in-Rotate-clause-order : goal.returns-in-Rotate-clause-order
 returns-in-Rotate-clause-order g c =
-    let t = turns_by g.D.Disk.seen g.D.Disk.moment g.D.Disk.left_at c.self.inside.side c.self.inside.taken c.self.inside.beside c.turn.new.self.disk c.self.inside.protocol c.self.inside.stopped c.in-Do.command c.deref.result.now (ap (λ (o : Stored g.row.D.Denot). o.stopped) c.self.view_is ∙ c.requires.going) c.self.invariant
+    let t = turns_by g.D.Disk.seen g.D.Disk.moment g.D.Disk.left_at c.self.inside.side c.self.inside.taken c.self.inside.beside c.turn.new.taken.disk c.self.inside.protocol c.self.inside.stopped c.in-Do.command c.deref.result.now (ap (λ (o : Stored g.row.D.Denot). o.stopped) c.self.view_is ∙ c.requires.going) c.self.invariant
     (rotation_from c.self.inside.protocol c.prepare.new.protocol c.protocol.result.now c.in-Ready.planned c.in-Do.command c.in-Ok.checkpoint.items c.deref.result.now c.prepare.ensures.same c.protocol.ensures c.in-Ready.ensures.ready.0 c.deref.ensures.value c.in-Ok.ensures.rotation)
     c.in-Ok-turn.ensures.telling c.in-Ok-turn.ensures.crash c.in-Ok-turn.ensures.time in
-    subst (λ (x : Side). IsInOrder g.D.Disk.seen g.D.Disk.moment g.D.Disk.left_at (stored x c.turn.new.self c.turn.new.beside c.make-done.new.protocol c.self.inside.stopped c.prepare.new.changes.items)) (sym c.other-self-inside.ensures)
-    (subst (λ (d : g.row.D.Denot). IsInOrder g.D.Disk.seen g.D.Disk.moment g.D.Disk.left_at (stored (other c.self.inside.side) c.turn.new.self d c.make-done.new.protocol c.self.inside.stopped c.prepare.new.changes.items)) (sym c.in-Ok-turn.ensures.exchanged)
-    (subst (λ (o : Option ℕ). IsInOrder g.D.Disk.seen g.D.Disk.moment g.D.Disk.left_at (stored (other c.self.inside.side) c.turn.new.self c.self.inside.taken.disk c.make-done.new.protocol o c.prepare.new.changes.items)) (sym (ap (λ (o : Stored g.row.D.Denot). o.stopped) c.self.view_is ∙ c.requires.going))
-    (turning_within g.D.Disk.seen g.D.Disk.moment g.D.Disk.left_at c.self.inside.side c.self.inside.taken c.self.inside.beside c.turn.new.self.disk c.self.inside.protocol c.in-Do.command c.deref.result.now t {changes = c.prepare.new.changes.items} c.make-done.new.protocol (state_of c.self.inside.protocol) c.prepare.ensures.stands (λ t so. let is = c.in-Ready.ensures.prepared t so in stepped c.make-done.new.protocol t c.in-Do.command c.in-Ready.planned is (c.make-done.ensures.state t (stands_after c.self.inside.protocol c.prepare.new.protocol t c.prepare.ensures.same so))) c.in-Ok-turn.ensures.durable c.in-Ok-turn.ensures.created
-    c.turn.new.self.generation c.turn.new.self.limit c.turn.new.self.start c.turn.new.self.count c.in-Ok-turn.ensures.known.0 c.in-Ok-turn.ensures.known.3 c.in-Ok-turn.ensures.settled).order))
+    subst (λ (x : Side). IsInOrder g.D.Disk.seen g.D.Disk.moment g.D.Disk.left_at (stored x c.turn.new.taken c.turn.new.beside c.make-done.new.protocol c.self.inside.stopped c.prepare.new.changes.items)) (sym c.in-Ok-turn.ensures.side)
+    (subst (λ (d : g.row.D.Denot). IsInOrder g.D.Disk.seen g.D.Disk.moment g.D.Disk.left_at (stored (other c.self.inside.side) c.turn.new.taken d c.make-done.new.protocol c.self.inside.stopped c.prepare.new.changes.items)) (sym c.in-Ok-turn.ensures.exchanged)
+    (subst (λ (o : Option ℕ). IsInOrder g.D.Disk.seen g.D.Disk.moment g.D.Disk.left_at (stored (other c.self.inside.side) c.turn.new.taken c.self.inside.taken.disk c.make-done.new.protocol o c.prepare.new.changes.items)) (sym (ap (λ (o : Stored g.row.D.Denot). o.stopped) c.self.view_is ∙ c.requires.going))
+    (turning_within g.D.Disk.seen g.D.Disk.moment g.D.Disk.left_at c.self.inside.side c.self.inside.taken c.self.inside.beside c.turn.new.taken.disk c.self.inside.protocol c.in-Do.command c.deref.result.now t {changes = c.prepare.new.changes.items} c.make-done.new.protocol (state_of c.self.inside.protocol) c.prepare.ensures.stands (λ t so. let is = c.in-Ready.ensures.prepared t so in stepped c.make-done.new.protocol t c.in-Do.command c.in-Ready.planned is (c.make-done.ensures.state t (stands_after c.self.inside.protocol c.prepare.new.protocol t c.prepare.ensures.same so))) c.in-Ok-turn.ensures.durable c.in-Ok-turn.ensures.created
+    c.turn.new.taken.generation c.turn.new.taken.limit c.turn.new.taken.start c.turn.new.taken.count c.in-Ok-turn.ensures.known.0 c.in-Ok-turn.ensures.known.3 c.in-Ok-turn.ensures.settled).order))
 
 pub returns-in-Rotate-clause-disks : goal.returns-in-Rotate-clause-disks
 returns-in-Rotate-clause-disks g c =
-    let t = turns_by g.D.Disk.seen g.D.Disk.moment g.D.Disk.left_at c.self.inside.side c.self.inside.taken c.self.inside.beside c.turn.new.self.disk c.self.inside.protocol c.self.inside.stopped c.in-Do.command c.deref.result.now (ap (λ (o : Stored g.row.D.Denot). o.stopped) c.self.view_is ∙ c.requires.going) c.self.invariant
+    let t = turns_by g.D.Disk.seen g.D.Disk.moment g.D.Disk.left_at c.self.inside.side c.self.inside.taken c.self.inside.beside c.turn.new.taken.disk c.self.inside.protocol c.self.inside.stopped c.in-Do.command c.deref.result.now (ap (λ (o : Stored g.row.D.Denot). o.stopped) c.self.view_is ∙ c.requires.going) c.self.invariant
     (rotation_from c.self.inside.protocol c.prepare.new.protocol c.protocol.result.now c.in-Ready.planned c.in-Do.command c.in-Ok.checkpoint.items c.deref.result.now c.prepare.ensures.same c.protocol.ensures c.in-Ready.ensures.ready.0 c.deref.ensures.value c.in-Ok.ensures.rotation)
     c.in-Ok-turn.ensures.telling c.in-Ok-turn.ensures.crash c.in-Ok-turn.ensures.time in
-    subst (λ (x : Side). WritesOn g.D.Disk.seen g.D.Disk.moment g.D.Disk.left_at c.args.self.now c.args.request.now (answer.Reply (Said c.make-done.result)) (stored x c.turn.new.self c.turn.new.beside c.make-done.new.protocol c.self.inside.stopped c.prepare.new.changes.items)) (sym c.other-self-inside.ensures)
-    (subst (λ (d : g.row.D.Denot). WritesOn g.D.Disk.seen g.D.Disk.moment g.D.Disk.left_at c.args.self.now c.args.request.now (answer.Reply (Said c.make-done.result)) (stored (other c.self.inside.side) c.turn.new.self d c.make-done.new.protocol c.self.inside.stopped c.prepare.new.changes.items)) (sym c.in-Ok-turn.ensures.exchanged)
-    (turning_done g.D.Disk.seen g.D.Disk.moment g.D.Disk.left_at c.self.inside.side c.self.inside.taken c.self.inside.beside c.turn.new.self.disk c.self.inside.protocol c.in-Do.command c.deref.result.now t c.self.inside.stopped c.self.inside.changes.items c.self.invariant c.args.self.now c.self.view_is c.args.request.now c.in-Do.is (Said c.make-done.result) c.make-done.new.protocol c.self.inside.stopped c.prepare.new.changes.items c.turn.new.self.generation c.turn.new.self.limit c.turn.new.self.start c.turn.new.self.count c.in-Ok-turn.ensures.known.2))
+    subst (λ (x : Side). WritesOn g.D.Disk.seen g.D.Disk.moment g.D.Disk.left_at c.args.self.now c.args.request.now (answer.Reply (Said c.make-done.result)) (stored x c.turn.new.taken c.turn.new.beside c.make-done.new.protocol c.self.inside.stopped c.prepare.new.changes.items)) (sym c.in-Ok-turn.ensures.side)
+    (subst (λ (d : g.row.D.Denot). WritesOn g.D.Disk.seen g.D.Disk.moment g.D.Disk.left_at c.args.self.now c.args.request.now (answer.Reply (Said c.make-done.result)) (stored (other c.self.inside.side) c.turn.new.taken d c.make-done.new.protocol c.self.inside.stopped c.prepare.new.changes.items)) (sym c.in-Ok-turn.ensures.exchanged)
+    (turning_done g.D.Disk.seen g.D.Disk.moment g.D.Disk.left_at c.self.inside.side c.self.inside.taken c.self.inside.beside c.turn.new.taken.disk c.self.inside.protocol c.in-Do.command c.deref.result.now t c.self.inside.stopped c.self.inside.changes.items c.self.invariant c.args.self.now c.self.view_is c.args.request.now c.in-Do.is (Said c.make-done.result) c.make-done.new.protocol c.self.inside.stopped c.prepare.new.changes.items c.turn.new.taken.generation c.turn.new.taken.limit c.turn.new.taken.start c.turn.new.taken.count c.in-Ok-turn.ensures.known.2))
 
 pub returns-in-Rotate-clause-step : goal.returns-in-Rotate-clause-step
 returns-in-Rotate-clause-step g c s stands =
@@ -145,36 +144,39 @@ returns-clause-step g c s stands =
     let there = stands_after c.self.inside.protocol c.prepare.new.protocol s c.prepare.ensures.same here in
     replied c.make-done-2.new.protocol s c.in-Do.command c.in-Ready.planned c.args.request.now c.make-done-2.result c.in-Do.is (c.in-Ready.ensures.prepared s here).0 (c.make-done-2.ensures.state s there) (c.make-done-2.ensures.reply s there)
 
-pub append-requires-clause-few : goal.append-requires-clause-few
-append-requires-clause-few g c =
+pub write_record-requires-clause-stays : goal.write_record-requires-clause-stays
+write_record-requires-clause-stays g c = not_rotate c.in-Do.command.call c.in_default.not-Rotate
+
+pub write_record-requires-clause-few : goal.write_record-requires-clause-few
+write_record-requires-clause-few g c =
     let few = c.in-Ready.ensures.ready.2 (not_rotate c.in-Do.command.call c.in_default.not-Rotate) in omega (arith, few, c.prepare.ensures.same.records, c.self.invariant.count_is)
 
-pub invariant_of-self-in-Err-append : goal.invariant_of-self-in-Err-append
-invariant_of-self-in-Err-append g c =
-    let a = appends g.D.Disk.seen g.D.Disk.moment g.D.Disk.left_at c.self.inside.side c.self.inside.taken c.append.new.self c.self.inside.beside c.self.inside.protocol c.self.inside.stopped c.in-Do.command c.encode.result c.in-Ready.planned (ap (λ (o : Stored g.row.D.Denot). o.stopped) c.self.view_is ∙ c.requires.going) c.self.invariant (not_rotate c.in-Do.command.call c.in_default.not-Rotate) c.encode.ensures.read c.in-Ready.ensures.prepared c.append.ensures.telling c.append.ensures.crash in
+pub invariant_of-self-in-Err-write_record : goal.invariant_of-self-in-Err-write_record
+invariant_of-self-in-Err-write_record g c =
+    let a = appends g.D.Disk.seen g.D.Disk.moment g.D.Disk.left_at c.self.inside.side c.self.inside.taken c.write_record.new.taken c.self.inside.beside c.self.inside.protocol c.self.inside.stopped c.in-Do.command c.in-Ready.planned (ap (λ (o : Stored g.row.D.Denot). o.stopped) c.self.view_is ∙ c.requires.going) c.self.invariant c.in-Ready.ensures.prepared c.write_record.ensures.telling c.write_record.ensures.crash in
     record {
-      order = order_same g.D.Disk.seen g.D.Disk.moment g.D.Disk.left_at c.self.inside.changes.items _ c.self.inside.side c.append.new.self c.self.inside.beside c.self.inside.protocol c.prepare.new.protocol (Some c.sum_of_faults-in-Err-append.result) c.prepare.ensures.same (order_halted g.D.Disk.seen g.D.Disk.moment g.D.Disk.left_at c.self.inside.side c.append.new.self c.self.inside.beside c.self.inside.protocol c.sum_of_faults-in-Err-append.result g.met.D.Disk.seen_may_stay (kept_near g.D.Disk.seen g.D.Disk.moment g.D.Disk.left_at c.self.inside.side c.self.inside.taken c.append.new.self c.self.inside.beside c.self.inside.protocol c.in-Do.command c.encode.result a));
-      generation_is = c.append.ensures.generation ∙ c.self.invariant.generation_is ∙ sym (ap (λ (i : Image). i.generation) c.prepare.ensures.same.image);
-      parity_is = ap is_odd c.append.ensures.generation ∙ c.self.invariant.parity_is;
-      count_is = c.in-Err-append.ensures.no_more ∙ c.self.invariant.count_is ∙ sym c.prepare.ensures.same.records;
-      told = has_same (g.D.Disk.seen c.append.new.self.disk) c.self.inside.taken.generation c.self.inside.taken.start c.self.inside.taken.count c.append.new.self.generation c.append.new.self.start c.append.new.self.count c.append.ensures.generation c.append.ensures.start c.in-Err-append.ensures.no_more (still_has g.D.Disk.seen g.D.Disk.moment g.D.Disk.left_at c.self.inside.side c.self.inside.taken c.append.new.self c.self.inside.beside c.self.inside.protocol c.in-Do.command c.encode.result a g.met.D.Disk.seen_may_stay);
-      settled = λ no. absurd (some_isnt_none c.sum_of_faults-in-Err-append.result no);
+      order = order_same g.D.Disk.seen g.D.Disk.moment g.D.Disk.left_at c.self.inside.changes.items _ c.self.inside.side c.write_record.new.taken c.self.inside.beside c.self.inside.protocol c.prepare.new.protocol (Some c.sum_of_faults-in-Err-write_record.result) c.prepare.ensures.same (order_halted g.D.Disk.seen g.D.Disk.moment g.D.Disk.left_at c.self.inside.side c.write_record.new.taken c.self.inside.beside c.self.inside.protocol c.sum_of_faults-in-Err-write_record.result g.met.D.Disk.seen_may_stay (kept_near g.D.Disk.seen g.D.Disk.moment g.D.Disk.left_at c.self.inside.side c.self.inside.taken c.write_record.new.taken c.self.inside.beside c.self.inside.protocol c.in-Do.command a));
+      generation_is = c.write_record.ensures.generation ∙ c.self.invariant.generation_is ∙ sym (ap (λ (i : Image). i.generation) c.prepare.ensures.same.image);
+      parity_is = ap is_odd c.write_record.ensures.generation ∙ c.self.invariant.parity_is;
+      count_is = c.in-Err-write_record.ensures.no_more ∙ c.self.invariant.count_is ∙ sym c.prepare.ensures.same.records;
+      told = has_same (g.D.Disk.seen c.write_record.new.taken.disk) c.self.inside.taken.generation c.self.inside.taken.start c.self.inside.taken.count c.write_record.new.taken.generation c.write_record.new.taken.start c.write_record.new.taken.count c.write_record.ensures.generation c.write_record.ensures.start c.in-Err-write_record.ensures.no_more (still_has g.D.Disk.seen g.D.Disk.moment g.D.Disk.left_at c.self.inside.side c.self.inside.taken c.write_record.new.taken c.self.inside.beside c.self.inside.protocol c.in-Do.command a g.met.D.Disk.seen_may_stay);
+      settled = λ no. absurd (some_isnt_none c.sum_of_faults-in-Err-write_record.result no);
     }
 
-pub returns-in-Err-append-clause-order : goal.returns-in-Err-append-clause-order
-returns-in-Err-append-clause-order g c =
-    let a = appends g.D.Disk.seen g.D.Disk.moment g.D.Disk.left_at c.self.inside.side c.self.inside.taken c.append.new.self c.self.inside.beside c.self.inside.protocol c.self.inside.stopped c.in-Do.command c.encode.result c.in-Ready.planned (ap (λ (o : Stored g.row.D.Denot). o.stopped) c.self.view_is ∙ c.requires.going) c.self.invariant (not_rotate c.in-Do.command.call c.in_default.not-Rotate) c.encode.ensures.read c.in-Ready.ensures.prepared c.append.ensures.telling c.append.ensures.crash in
-    order_same g.D.Disk.seen g.D.Disk.moment g.D.Disk.left_at c.self.inside.changes.items _ c.self.inside.side c.append.new.self c.self.inside.beside c.self.inside.protocol c.prepare.new.protocol (Some c.sum_of_faults-in-Err-append.result) c.prepare.ensures.same (order_halted g.D.Disk.seen g.D.Disk.moment g.D.Disk.left_at c.self.inside.side c.append.new.self c.self.inside.beside c.self.inside.protocol c.sum_of_faults-in-Err-append.result g.met.D.Disk.seen_may_stay (kept_near g.D.Disk.seen g.D.Disk.moment g.D.Disk.left_at c.self.inside.side c.self.inside.taken c.append.new.self c.self.inside.beside c.self.inside.protocol c.in-Do.command c.encode.result a))
+pub returns-in-Err-write_record-clause-order : goal.returns-in-Err-write_record-clause-order
+returns-in-Err-write_record-clause-order g c =
+    let a = appends g.D.Disk.seen g.D.Disk.moment g.D.Disk.left_at c.self.inside.side c.self.inside.taken c.write_record.new.taken c.self.inside.beside c.self.inside.protocol c.self.inside.stopped c.in-Do.command c.in-Ready.planned (ap (λ (o : Stored g.row.D.Denot). o.stopped) c.self.view_is ∙ c.requires.going) c.self.invariant c.in-Ready.ensures.prepared c.write_record.ensures.telling c.write_record.ensures.crash in
+    order_same g.D.Disk.seen g.D.Disk.moment g.D.Disk.left_at c.self.inside.changes.items _ c.self.inside.side c.write_record.new.taken c.self.inside.beside c.self.inside.protocol c.prepare.new.protocol (Some c.sum_of_faults-in-Err-write_record.result) c.prepare.ensures.same (order_halted g.D.Disk.seen g.D.Disk.moment g.D.Disk.left_at c.self.inside.side c.write_record.new.taken c.self.inside.beside c.self.inside.protocol c.sum_of_faults-in-Err-write_record.result g.met.D.Disk.seen_may_stay (kept_near g.D.Disk.seen g.D.Disk.moment g.D.Disk.left_at c.self.inside.side c.self.inside.taken c.write_record.new.taken c.self.inside.beside c.self.inside.protocol c.in-Do.command a))
 
-pub returns-in-Err-append-clause-disks : goal.returns-in-Err-append-clause-disks
-returns-in-Err-append-clause-disks g c =
-    let a = appends g.D.Disk.seen g.D.Disk.moment g.D.Disk.left_at c.self.inside.side c.self.inside.taken c.append.new.self c.self.inside.beside c.self.inside.protocol c.self.inside.stopped c.in-Do.command c.encode.result c.in-Ready.planned (ap (λ (o : Stored g.row.D.Denot). o.stopped) c.self.view_is ∙ c.requires.going) c.self.invariant (not_rotate c.in-Do.command.call c.in_default.not-Rotate) c.encode.ensures.read c.in-Ready.ensures.prepared c.append.ensures.telling c.append.ensures.crash in
-    appends_on g.D.Disk.seen g.D.Disk.moment g.D.Disk.left_at c.self.inside.side c.self.inside.taken c.append.new.self c.self.inside.beside c.self.inside.protocol c.in-Do.command c.encode.result a c.args.self.now c.self.inside.stopped c.self.view_is c.args.request.now c.in-Do.is (not_rotate c.in-Do.command.call c.in_default.not-Rotate) c.append.ensures.start c.append.ensures.time answer.DiskFault (λ none. absurd (cc (none))) c.prepare.new.protocol (Some c.sum_of_faults-in-Err-append.result) c.prepare.new.changes.items
+pub returns-in-Err-write_record-clause-disks : goal.returns-in-Err-write_record-clause-disks
+returns-in-Err-write_record-clause-disks g c =
+    let a = appends g.D.Disk.seen g.D.Disk.moment g.D.Disk.left_at c.self.inside.side c.self.inside.taken c.write_record.new.taken c.self.inside.beside c.self.inside.protocol c.self.inside.stopped c.in-Do.command c.in-Ready.planned (ap (λ (o : Stored g.row.D.Denot). o.stopped) c.self.view_is ∙ c.requires.going) c.self.invariant c.in-Ready.ensures.prepared c.write_record.ensures.telling c.write_record.ensures.crash in
+    appends_on g.D.Disk.seen g.D.Disk.moment g.D.Disk.left_at c.self.inside.side c.self.inside.taken c.write_record.new.taken c.self.inside.beside c.self.inside.protocol c.in-Do.command a c.args.self.now c.self.inside.stopped c.self.view_is c.args.request.now c.in-Do.is (not_rotate c.in-Do.command.call c.in_default.not-Rotate) c.write_record.ensures.start c.write_record.ensures.time answer.DiskFault (λ none. absurd (cc (none))) c.prepare.new.protocol (Some c.sum_of_faults-in-Err-write_record.result) c.prepare.new.changes.items
 
 pub invariant_of-self-2 : goal.invariant_of-self-2
 invariant_of-self-2 g c =
-    let a = appends g.D.Disk.seen g.D.Disk.moment g.D.Disk.left_at c.self.inside.side c.self.inside.taken c.append.new.self c.self.inside.beside c.self.inside.protocol c.self.inside.stopped c.in-Do.command c.encode.result c.in-Ready.planned (ap (λ (o : Stored g.row.D.Denot). o.stopped) c.self.view_is ∙ c.requires.going) c.self.invariant (not_rotate c.in-Do.command.call c.in_default.not-Rotate) c.encode.ensures.read c.in-Ready.ensures.prepared c.append.ensures.telling c.append.ensures.crash in
-    let settled = c.in-Ok-append.ensures.settled (read_back c.in-Do.command) a.of in
+    let a = appends g.D.Disk.seen g.D.Disk.moment g.D.Disk.left_at c.self.inside.side c.self.inside.taken c.write_record.new.taken c.self.inside.beside c.self.inside.protocol c.self.inside.stopped c.in-Do.command c.in-Ready.planned (ap (λ (o : Stored g.row.D.Denot). o.stopped) c.self.view_is ∙ c.requires.going) c.self.invariant c.in-Ready.ensures.prepared c.write_record.ensures.telling c.write_record.ensures.crash in
+    let settled = c.in-Ok-write_record.ensures.settled in
     let s = state_of c.self.inside.protocol in
     let stands = c.prepare.ensures.stands in
     let steps : (t : State) → StandsFor c.self.inside.protocol t → StandsFor c.make-done-2.new.protocol (after t c.in-Do.command) = (λ t so. let is = c.in-Ready.ensures.prepared t so in stepped c.make-done-2.new.protocol t c.in-Do.command c.in-Ready.planned is (c.make-done-2.ensures.state t (stands_after c.self.inside.protocol c.prepare.new.protocol t c.prepare.ensures.same so))) in
@@ -182,20 +184,20 @@ invariant_of-self-2 g c =
     let stays = never_rotates c.in-Do.command.call (not_rotate c.in-Do.command.call c.in_default.not-Rotate) in
     let counted = counts_on c.self.inside.protocol c.make-done-2.new.protocol s c.in-Do.command stays stands step in
     record {
-      order = subst (λ (o : Option ℕ). IsInOrder g.D.Disk.seen g.D.Disk.moment g.D.Disk.left_at (stored c.self.inside.side c.append.new.self c.self.inside.beside c.make-done-2.new.protocol o c.note.new.changes.items)) (sym (ap (λ (o : Stored g.row.D.Denot). o.stopped) c.self.view_is ∙ c.requires.going)) (order_going g.D.Disk.seen g.D.Disk.moment g.D.Disk.left_at c.self.inside.side c.append.new.self c.self.inside.beside c.make-done-2.new.protocol (went_on g.D.Disk.seen g.D.Disk.moment g.D.Disk.left_at c.self.inside.side c.self.inside.taken c.append.new.self c.self.inside.beside c.self.inside.protocol c.in-Do.command c.encode.result a c.make-done-2.new.protocol (state_of c.self.inside.protocol) c.prepare.ensures.stands (λ t so. let is = c.in-Ready.ensures.prepared t so in stepped c.make-done-2.new.protocol t c.in-Do.command c.in-Ready.planned is (c.make-done-2.ensures.state t (stands_after c.self.inside.protocol c.prepare.new.protocol t c.prepare.ensures.same so))) c.in-Ok-append.ensures.durable c.in-Ok-append.ensures.appended));
-      generation_is = c.append.ensures.generation ∙ c.self.invariant.generation_is ∙ sym (generation_stays c.self.inside.protocol c.make-done-2.new.protocol s c.in-Do.command stays stands step);
-      parity_is = ap is_odd c.append.ensures.generation ∙ c.self.invariant.parity_is;
-      count_is = omega (arith, c.in-Ok-append.ensures.one_more, c.self.invariant.count_is, counted);
-      told = all_has (g.D.Disk.seen c.append.new.self.disk) c.append.new.self.generation c.append.new.self.start c.append.new.self.count settled;
+      order = subst (λ (o : Option ℕ). IsInOrder g.D.Disk.seen g.D.Disk.moment g.D.Disk.left_at (stored c.self.inside.side c.write_record.new.taken c.self.inside.beside c.make-done-2.new.protocol o c.note.new.changes.items)) (sym (ap (λ (o : Stored g.row.D.Denot). o.stopped) c.self.view_is ∙ c.requires.going)) (order_going g.D.Disk.seen g.D.Disk.moment g.D.Disk.left_at c.self.inside.side c.write_record.new.taken c.self.inside.beside c.make-done-2.new.protocol (went_on g.D.Disk.seen g.D.Disk.moment g.D.Disk.left_at c.self.inside.side c.self.inside.taken c.write_record.new.taken c.self.inside.beside c.self.inside.protocol c.in-Do.command a c.make-done-2.new.protocol (state_of c.self.inside.protocol) c.prepare.ensures.stands (λ t so. let is = c.in-Ready.ensures.prepared t so in stepped c.make-done-2.new.protocol t c.in-Do.command c.in-Ready.planned is (c.make-done-2.ensures.state t (stands_after c.self.inside.protocol c.prepare.new.protocol t c.prepare.ensures.same so))) c.in-Ok-write_record.ensures.durable c.in-Ok-write_record.ensures.appended));
+      generation_is = c.write_record.ensures.generation ∙ c.self.invariant.generation_is ∙ sym (generation_stays c.self.inside.protocol c.make-done-2.new.protocol s c.in-Do.command stays stands step);
+      parity_is = ap is_odd c.write_record.ensures.generation ∙ c.self.invariant.parity_is;
+      count_is = omega (arith, c.in-Ok-write_record.ensures.one_more, c.self.invariant.count_is, counted);
+      told = all_has (g.D.Disk.seen c.write_record.new.taken.disk) c.write_record.new.taken.generation c.write_record.new.taken.start c.write_record.new.taken.count settled;
       settled = λ none. settled;
     }
 
 pub returns-clause-order : goal.returns-clause-order
 returns-clause-order g c =
-    let a = appends g.D.Disk.seen g.D.Disk.moment g.D.Disk.left_at c.self.inside.side c.self.inside.taken c.append.new.self c.self.inside.beside c.self.inside.protocol c.self.inside.stopped c.in-Do.command c.encode.result c.in-Ready.planned (ap (λ (o : Stored g.row.D.Denot). o.stopped) c.self.view_is ∙ c.requires.going) c.self.invariant (not_rotate c.in-Do.command.call c.in_default.not-Rotate) c.encode.ensures.read c.in-Ready.ensures.prepared c.append.ensures.telling c.append.ensures.crash in
-    subst (λ (o : Option ℕ). IsInOrder g.D.Disk.seen g.D.Disk.moment g.D.Disk.left_at (stored c.self.inside.side c.append.new.self c.self.inside.beside c.make-done-2.new.protocol o c.note.new.changes.items)) (sym (ap (λ (o : Stored g.row.D.Denot). o.stopped) c.self.view_is ∙ c.requires.going)) (order_going g.D.Disk.seen g.D.Disk.moment g.D.Disk.left_at c.self.inside.side c.append.new.self c.self.inside.beside c.make-done-2.new.protocol (went_on g.D.Disk.seen g.D.Disk.moment g.D.Disk.left_at c.self.inside.side c.self.inside.taken c.append.new.self c.self.inside.beside c.self.inside.protocol c.in-Do.command c.encode.result a c.make-done-2.new.protocol (state_of c.self.inside.protocol) c.prepare.ensures.stands (λ t so. let is = c.in-Ready.ensures.prepared t so in stepped c.make-done-2.new.protocol t c.in-Do.command c.in-Ready.planned is (c.make-done-2.ensures.state t (stands_after c.self.inside.protocol c.prepare.new.protocol t c.prepare.ensures.same so))) c.in-Ok-append.ensures.durable c.in-Ok-append.ensures.appended))
+    let a = appends g.D.Disk.seen g.D.Disk.moment g.D.Disk.left_at c.self.inside.side c.self.inside.taken c.write_record.new.taken c.self.inside.beside c.self.inside.protocol c.self.inside.stopped c.in-Do.command c.in-Ready.planned (ap (λ (o : Stored g.row.D.Denot). o.stopped) c.self.view_is ∙ c.requires.going) c.self.invariant c.in-Ready.ensures.prepared c.write_record.ensures.telling c.write_record.ensures.crash in
+    subst (λ (o : Option ℕ). IsInOrder g.D.Disk.seen g.D.Disk.moment g.D.Disk.left_at (stored c.self.inside.side c.write_record.new.taken c.self.inside.beside c.make-done-2.new.protocol o c.note.new.changes.items)) (sym (ap (λ (o : Stored g.row.D.Denot). o.stopped) c.self.view_is ∙ c.requires.going)) (order_going g.D.Disk.seen g.D.Disk.moment g.D.Disk.left_at c.self.inside.side c.write_record.new.taken c.self.inside.beside c.make-done-2.new.protocol (went_on g.D.Disk.seen g.D.Disk.moment g.D.Disk.left_at c.self.inside.side c.self.inside.taken c.write_record.new.taken c.self.inside.beside c.self.inside.protocol c.in-Do.command a c.make-done-2.new.protocol (state_of c.self.inside.protocol) c.prepare.ensures.stands (λ t so. let is = c.in-Ready.ensures.prepared t so in stepped c.make-done-2.new.protocol t c.in-Do.command c.in-Ready.planned is (c.make-done-2.ensures.state t (stands_after c.self.inside.protocol c.prepare.new.protocol t c.prepare.ensures.same so))) c.in-Ok-write_record.ensures.durable c.in-Ok-write_record.ensures.appended))
 
 pub returns-clause-disks : goal.returns-clause-disks
 returns-clause-disks g c =
-    let a = appends g.D.Disk.seen g.D.Disk.moment g.D.Disk.left_at c.self.inside.side c.self.inside.taken c.append.new.self c.self.inside.beside c.self.inside.protocol c.self.inside.stopped c.in-Do.command c.encode.result c.in-Ready.planned (ap (λ (o : Stored g.row.D.Denot). o.stopped) c.self.view_is ∙ c.requires.going) c.self.invariant (not_rotate c.in-Do.command.call c.in_default.not-Rotate) c.encode.ensures.read c.in-Ready.ensures.prepared c.append.ensures.telling c.append.ensures.crash in
-    appends_on g.D.Disk.seen g.D.Disk.moment g.D.Disk.left_at c.self.inside.side c.self.inside.taken c.append.new.self c.self.inside.beside c.self.inside.protocol c.in-Do.command c.encode.result a c.args.self.now c.self.inside.stopped c.self.view_is c.args.request.now c.in-Do.is (not_rotate c.in-Do.command.call c.in_default.not-Rotate) c.append.ensures.start c.append.ensures.time (answer.Reply (Said c.make-done-2.result)) (λ none. absurd (cc (none))) c.make-done-2.new.protocol c.self.inside.stopped c.note.new.changes.items
+    let a = appends g.D.Disk.seen g.D.Disk.moment g.D.Disk.left_at c.self.inside.side c.self.inside.taken c.write_record.new.taken c.self.inside.beside c.self.inside.protocol c.self.inside.stopped c.in-Do.command c.in-Ready.planned (ap (λ (o : Stored g.row.D.Denot). o.stopped) c.self.view_is ∙ c.requires.going) c.self.invariant c.in-Ready.ensures.prepared c.write_record.ensures.telling c.write_record.ensures.crash in
+    appends_on g.D.Disk.seen g.D.Disk.moment g.D.Disk.left_at c.self.inside.side c.self.inside.taken c.write_record.new.taken c.self.inside.beside c.self.inside.protocol c.in-Do.command a c.args.self.now c.self.inside.stopped c.self.view_is c.args.request.now c.in-Do.is (not_rotate c.in-Do.command.call c.in_default.not-Rotate) c.write_record.ensures.start c.write_record.ensures.time (answer.Reply (Said c.make-done-2.result)) (λ none. absurd (cc (none))) c.make-done-2.new.protocol c.self.inside.stopped c.note.new.changes.items

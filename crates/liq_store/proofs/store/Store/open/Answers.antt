@@ -19,8 +19,8 @@ returns-in-Ok g c =
     let left_leaves = left_begun g.D.Disk.seen g.D.Disk.moment g.D.Disk.left_at g.D.Disk.faults c.args.left c.args.right c.in-Ok.left c.in-Ok.right (left_after c.begin_told.result) both.0 both.1 c.begin_told.ensures.left in
     let right_leaves = (λ (r : List ℕ) (tr : g.D.Disk.seen c.args.right ≡ Some r) (only : Only r (LeftNow g.D.Disk.moment g.D.Disk.left_at c.args.right)). right_opened g.D.Disk.seen g.D.Disk.moment g.D.Disk.left_at g.D.Disk.faults c.args.left c.args.right (Ok c.in-Ok.left) (Ok c.in-Ok.right) both.0 both.1 r tr only (right_after c.begin_told.result) (same_disk g.D.Disk.seen g.D.Disk.moment g.D.Disk.left_at g.D.Disk.faults c.in-Ok.right (right_after c.begin_told.result) c.begin_told.ensures.right)) in
     record {
-      opened = begun_opened g.D.Disk.seen g.D.Disk.moment g.D.Disk.left_at g.D.Disk.faults c.args.left c.args.right c.in-Ok.left c.in-Ok.right both.0 both.1 both.0.cause both.1.cause c.begin_told.result c.begin_told.ensures.opened;
-      not_opened = begun_not g.D.Disk.seen g.D.Disk.moment g.D.Disk.left_at g.D.Disk.faults c.args.left c.args.right c.in-Ok.left c.in-Ok.right both.0 both.1 both.0.cause both.1.cause c.begin_told.result c.begin_told.ensures.left c.begin_told.ensures.right c.begin_told.ensures.cause;
+      opened = begun_opened g.D.Disk.seen g.D.Disk.moment g.D.Disk.left_at g.D.Disk.faults c.args.left c.args.right c.in-Ok.left c.in-Ok.right both.0 both.1 c.begin_told.result c.begin_told.ensures.opened;
+      not_opened = begun_not g.D.Disk.seen g.D.Disk.moment g.D.Disk.left_at g.D.Disk.faults c.args.left c.args.right c.in-Ok.left c.in-Ok.right both.0 both.1 c.begin_told.result c.begin_told.ensures.left c.begin_told.ensures.right c.begin_told.ensures.cause;
       order = c.begin_told.ensures.order;
       told = c.begin_told.ensures.told;
       followed = c.begin_told.ensures.followed;
@@ -42,7 +42,7 @@ returns-in-Err g c =
     let right_leaves = (λ (r : List ℕ) (tr : g.D.Disk.seen c.args.right ≡ Some r) (only : Only r (LeftNow g.D.Disk.moment g.D.Disk.left_at c.args.right)). right_opened g.D.Disk.seen g.D.Disk.moment g.D.Disk.left_at g.D.Disk.faults c.args.left c.args.right c.stand-left.result c.stand-right.result c.stand-left.ensures c.stand-right.ensures r tr only c.in-Err.fault.right c.in-Err.ensures.right) in
     record {
       opened = tt;
-      not_opened = judged_not g.D.Disk.seen g.D.Disk.moment g.D.Disk.left_at g.D.Disk.faults c.args.left c.args.right c.stand-left.result c.stand-right.result c.stand-left.ensures c.stand-right.ensures c.stand-left.ensures.cause c.stand-right.ensures.cause c.in-Err.fault c.in-Err.ensures.left c.in-Err.ensures.right c.in-Err.ensures.why;
+      not_opened = judged_not g.D.Disk.seen g.D.Disk.moment g.D.Disk.left_at g.D.Disk.faults c.args.left c.args.right c.stand-left.result c.stand-right.result c.stand-left.ensures c.stand-right.ensures c.in-Err.fault c.in-Err.ensures.left c.in-Err.ensures.right c.in-Err.ensures.why;
       order = tt;
       told = tt;
       followed = tt;

@@ -10,10 +10,10 @@ use Rattle.liq_journal.specs.Bodies.{IsJournalOf}
 use Rattle.liq_journal.specs.Written.{Written}
 use Rattle.liq_journal.specs.declared.damage.Damage.{Damage}
 use Rattle.liq_pairs.specs.Replay.{replay}
-use Rattle.liq_store.specs.declared.answers.AcceptedFault.{AcceptedFault}
-use Rattle.liq_store.specs.declared.answers.AcceptedFault.TheVariants.{DiskFault, Damaged, NoMemory}
-use Rattle.liq_store.specs.Answering.{IsReadable}
-use Rattle.liq_store.specs.Replays.{IsDamageBy, IsOutcome, Replays}
+use Rattle.liq_records.specs.declared.answers.AcceptedFault.{AcceptedFault}
+use Rattle.liq_records.specs.declared.answers.AcceptedFault.TheVariants.{DiskFault, Damaged, NoMemory}
+use Rattle.liq_records.specs.Reading.{IsReadable}
+use Rattle.liq_records.specs.Replays.{IsDamageBy, IsOutcome, Replays}
 use Rattle.liq_pairs.proofs.Replaying.{replay_none, replay_allowed}
 
 -- one command is the record's

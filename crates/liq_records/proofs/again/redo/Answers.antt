@@ -1,5 +1,5 @@
 use Rattle.liq_pairs.proofs.Generations.{never_rotates}
-use Rattle.liq_store.proofs.replay.redo.Goals as goal
+use Rattle.liq_records.proofs.again.redo.Goals as goal
 
 pub returns-in-Ok-clause-counted : goal.returns-in-Ok-clause-counted
 returns-in-Ok-clause-counted g c = c.in-Ok.ensures.counted (never_rotates c.args.command.now.call c.requires)

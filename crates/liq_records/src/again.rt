@@ -1,4 +1,4 @@
-// A journal's commands, made again one after the other.
+//! A journal's commands, made again one after the other.
 ghost use Rattle.std.specs.Prelude.{◌≡◌, ◌≢◌, ◌≤◌, ◌<◌, ◌+◌, ◌-◌, Some, Ok, Err, false, List, ℕ, length};
 ghost use Rattle.std.specs.Prelude.{slice_get, drop, OnOk, IfSome};
 ghost use Rattle.std.specs.Result.{MatchResult};
@@ -9,8 +9,8 @@ ghost use Rattle.liq_journal.specs.Bodies.{IsJournalOf};
 ghost use Rattle.liq_journal.specs.Looked.{Looked};
 ghost use Rattle.liq_journal.specs.Parts.{IsPartOf};
 ghost use Rattle.liq_journal.specs.Written.{Written, is_rotate};
-ghost use Rattle.liq_store.specs.Reading.{CountsReading, IsNumbered};
-ghost use Rattle.liq_store.specs.Replays.{IsOutcome, Replays};
+ghost use Rattle.liq_records.specs.Reading.{CountsReading, IsRecordNumber};
+ghost use Rattle.liq_records.specs.Replays.{IsOutcome, Replays};
 
 use crate::answers::AcceptedFault;
 use crate::reading::tested_command;
@@ -58,7 +58,7 @@ fn redo_record<D: Disk, L: Ledger>(
     index: u64,
     steps: &mut Steps<L>,
 ) -> Result<(), AcceptedFault>
-    requires there { IsNumbered journal.old.count index }
+    requires there { IsRecordNumber journal.old.count index }
     requires part { IfSome (D.seen journal.old.disk) (IsPartOf block.old) }
     ensures part { IfSome (D.seen journal.new.disk) (IsPartOf block.new) }
     ensures looked { Looked D.seen D.moment D.left_at journal.old.disk journal.new.disk }
@@ -76,7 +76,7 @@ fn redo_record<D: Disk, L: Ledger>(
     redo(protocol, &command, index, steps)
 }
 
-// Makes the steps of all of a journal's records, on the protocol with which it begins.
+/// Makes the steps of all of a journal's records, on the protocol with which it begins.
 pub fn replay<D: Disk, L: Ledger>(
     protocol: &mut Guided,
     journal: &mut Journal<D>,

@@ -1,4 +1,4 @@
--- What becomes of a journal's beginning, and of its commands where they are made again.
+-- What becomes of a journal's commands where they are made again.
 use Rattle.std.specs.Prelude.{◌≡◌, ℕ, List, Result, Ok, Err}
 use Rattle.liq_types.specs.declared.requests.Command.{Command}
 use Rattle.liq_types.specs.State.{State}
@@ -6,15 +6,8 @@ use Rattle.liq_core.specs.Core.{Core, StandsFor}
 use Rattle.liq_rules.specs.Step.{Allowed, ruling, after}
 use Rattle.liq_journal.specs.declared.damage.Damage.{Damage}
 use Rattle.liq_pairs.specs.Replay.{replay, replayed}
-use Rattle.liq_store.specs.declared.answers.AcceptedFault.{AcceptedFault}
-use Rattle.liq_store.specs.declared.answers.AcceptedFault.TheVariants as fault
-
--- What becomes of a beginning: a protocol for the state, or the damage of the checkpoint.
-abbrev pub BeginsTo : Result State Damage → Result Core AcceptedFault → Type 0
-BeginsTo base (Ok core) = (s : State) × (base ≡ Ok s) × StandsFor core s
-BeginsTo base (Err fault.DiskFault) = Unit {0}
-BeginsTo base (Err (fault.Damaged damage)) = base ≡ Err damage
-BeginsTo base (Err fault.NoMemory) = Unit {0}
+use Rattle.liq_records.specs.declared.answers.AcceptedFault.{AcceptedFault}
+use Rattle.liq_records.specs.declared.answers.AcceptedFault.TheVariants as fault
 
 -- a command that is not accepted damages its record, whichever it is and whatever follows it
 abbrev pub IsDamageBy : State → Command → ℕ → Damage → Type 0

@@ -5,8 +5,8 @@ use Rattle.liq_journal.specs.Bodies.{IsJournalOf}
 use Rattle.liq_journal.specs.Looked.{Looked}
 use Rattle.liq_journal.specs.Parts.{IsPartOf}
 use Rattle.liq_journal.specs.Written.{Written}
-use Rattle.liq_store.proofs.Replaying.{Reached}
-use Rattle.liq_store.proofs.replay.replay.Given as goal
+use Rattle.liq_records.proofs.Replaying.{Reached}
+use Rattle.liq_records.proofs.again.replay.Given as goal
 
 abbrev pub invariant-loop-done : goal.invariant-loop-done
 invariant-loop-done g l = record {

@@ -1,9 +1,9 @@
 use Rattle.std.proofs.Common.{◌-◌, ◌≤◌, length, subst, arith}
 use Rattle.std.proofs.lemmas.Option.{slice_get_within}
 use Rattle.liq_types.specs.declared.requests.Command.{Command}
-use Rattle.liq_store.specs.Replays.{IsOutcome}
-use Rattle.liq_store.proofs.Replaying.{same_record, unread}
-use Rattle.liq_store.proofs.replay.redo_record.Goals as goal
+use Rattle.liq_records.specs.Replays.{IsOutcome}
+use Rattle.liq_records.proofs.Replaying.{same_record, unread}
+use Rattle.liq_records.proofs.again.redo_record.Goals as goal
 
 pub returns-in-Err-clause-replayed : goal.returns-in-Err-clause-replayed
 returns-in-Err-clause-replayed g c held w s k told journal recorded stands =

@@ -1,8 +1,8 @@
 use Rattle.std.proofs.Common.{◌∙◌, ◌<◌, ap, length, arith}
 use Rattle.liq_journal.specs.Settled.{JournalOn}
 use Rattle.liq_journal.proofs.Looks.{looked_on}
-use Rattle.liq_store.proofs.Replaying.{goes_on, stops_there, reached_all, journal_still}
-use Rattle.liq_store.proofs.replay.replay.Goals as goal
+use Rattle.liq_records.proofs.Replaying.{goes_on, stops_there, reached_all, journal_still}
+use Rattle.liq_records.proofs.again.replay.Goals as goal
 
 pub returns-in-Err-clause-looked : goal.returns-in-Err-clause-looked
 returns-in-Err-clause-looked g c = looked_on g.D.Disk.seen g.D.Disk.moment g.D.Disk.left_at c.args.journal.now.disk c.loop-done.journal.disk c.redo_record.new.journal.disk c.loop-done.invariant.looked c.redo_record.ensures.looked

@@ -1,0 +1,4 @@
+pub mod Bodies
+pub mod Choosing
+pub mod Reading
+pub mod Replays

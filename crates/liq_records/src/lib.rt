@@ -1,0 +1,16 @@
+//! Commands and their records: each is written before its step is made, and those of a journal are made again. And what decides
+//! which disk, of which generation and limit, goes on.
+#![tactic(auto)]
+
+mod again;
+mod answers;
+mod choosing;
+mod reading;
+mod turning;
+mod writing;
+
+pub use again::replay;
+pub use answers::AcceptedFault;
+pub use choosing::{is_of, later_side};
+pub use turning::turn;
+pub use writing::write_record;

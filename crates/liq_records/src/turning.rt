@@ -1,0 +1,61 @@
+//! How a rotation turns to the other disk.
+ghost use Rattle.std.specs.Prelude.{◌≡◌, ◌≤◌, ◌<◌, ◌^◌, ◌+◌, ◌↔◌, Some, List, ℕ, length, true, MatchResult, IfOk};
+ghost use Rattle.std.specs.Prelude.{IfSome, IsSome, OnErr, OnOk};
+ghost use Rattle.liq_outside.specs.Disk.{GoesOn, LeftNow, Only};
+ghost use Rattle.liq_types.specs.declared.amounts.TheConstants.{LIM};
+ghost use Rattle.liq_journal.specs.Causes.{Counted};
+ghost use Rattle.liq_journal.specs.Crash.{CrashOfCreate, Stands, beginning, is_odd};
+ghost use Rattle.liq_journal.specs.Settled.{IsSettled};
+ghost use Rattle.liq_journal.specs.Written.{is_size, start_of};
+ghost use Rattle.liq_pairs.specs.Sides.{other};
+
+use liq_journal::{DiskFault, Journal};
+use liq_outside::Disk;
+use liq_pairs::Side;
+
+/// Begins the next generation with this checkpoint on the disk beside the one that is taken, as `Journal::turn` does, and tells
+/// the side that is taken from then on: the other one. After `DiskFault` the same disk is taken, and its journal is as it was.
+pub fn turn<D: Disk>(
+    taken: &mut Journal<D>,
+    beside: &mut D,
+    side: Side,
+    checkpoint: &[u8],
+) -> Result<Side, DiskFault>
+    requires more { taken.old.generation + 1 < 2 ^ 64 }
+    requires limit { length checkpoint.now ≤ 2 ^ 36 }
+    requires size { is_size (taken.old.generation + 1) (length checkpoint.now) ≡ true }
+    ensures side { IfOk result (λ now. now ≡ other side) }
+
+    ensures exchanged { OnOk result (beside.new ≡ taken.old.disk) }
+    ensures kept { OnErr result (taken.new ≡ taken.old) }
+    ensures known { OnOk result ((taken.new.generation ≡ taken.old.generation + 1) × (taken.new.limit ≡ LIM)
+        × (taken.new.start ≡ start_of (beginning (taken.old.generation + 1) checkpoint.now)) × (taken.new.count ≡ 0)) }
+
+    // The disk that was beside is the journal's at `Ok`, and still beside after a fault.
+    ensures created { OnOk result ((held : List ℕ) → D.seen beside.old ≡ Some held
+        → (after : List ℕ) × (D.seen taken.new.disk ≡ Some after)
+        × Stands (is_odd (taken.old.generation + 1)) after (beginning (taken.old.generation + 1) checkpoint.now)) }
+    ensures settled { OnOk result (IfSome (D.seen taken.new.disk)
+        (IsSettled taken.new.generation taken.new.start taken.new.count)) }
+    ensures durable { OnOk result (IfSome (D.seen taken.new.disk)
+        (λ after. Only after (LeftNow D.moment D.left_at taken.new.disk))) }
+    ensures telling { MatchResult result
+        (λ _. IsSome (D.seen taken.new.disk) ↔ IsSome (D.seen beside.old))
+        (λ _. IsSome (D.seen beside.new) ↔ IsSome (D.seen beside.old)) }
+    ensures crash { MatchResult result
+        (λ _. CrashOfCreate D.seen D.moment D.left_at beside.old taken.new.disk
+        (taken.old.generation + 1) checkpoint.now)
+        (λ _. CrashOfCreate D.seen D.moment D.left_at beside.old beside.new
+        (taken.old.generation + 1) checkpoint.now) }
+    ensures time { MatchResult result
+        (λ _. GoesOn D.moment D.left_at beside.old taken.new.disk)
+        (λ _. GoesOn D.moment D.left_at beside.old beside.new) }
+    ensures cause { MatchResult result
+        (λ _. D.faults taken.new.disk ≡ D.faults beside.old)
+        (λ _. Counted (D.faults beside.old) (D.faults beside.new)) }
+{
+    match taken.turn(beside, checkpoint) {
+        Ok(()) => Ok(side.other()),
+        Err(fault) => Err(fault),
+    }
+}
