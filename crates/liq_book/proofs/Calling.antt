@@ -1,5 +1,6 @@
 -- What a call of the store leaves of a book.
-use Rattle.std.proofs.Common.{◌≡◌, ℕ, ◌+◌, ◌≤◌, ◌<◌, List, [], ◌∷◌, ◌++◌, map, length, Option, Some, None, Bool, ◌==◌, sym, refl, ap, ◌∙◌, subst, arith, length-append}
+use Rattle.std.proofs.Common.{◌≡◌, ℕ, ◌+◌, ◌≤◌, ◌<◌, List, [], ◌∷◌, ◌++◌, map, length, Option, Some, None, Result, Ok, Err, Bool, ◌==◌, sym, refl, ap, ◌∙◌, subst, arith, length-append}
+use Rattle.std.specs.Result.{MatchResult}
 use Rattle.std.specs.Option.{IsSomeAnd, option_map}
 use Rattle.std.proofs.lemmas.List.{length-map, map-append}
 use Rattle.std.proofs.lemmas.List.Sums.{count_by-le-length, length-filter}
@@ -132,6 +133,11 @@ module _ {D : Type 0} (seen : D → Option (List ℕ)) (faults : D → ℕ) (mom
         at : (h : Option Halt) → KeepsDisks seen moment left_at h (state_after base (map recorded entries)) old → KeepsDisks seen moment left_at h (state_after base (map recorded entries)) (record old { changes = changes })
         at None k = k
         at (Some h) k = k
+
+    -- the same whether the changes are let go or kept
+    pub forgets_or_keeps : {X Y : Type 0} (r : Result X Y) (old new : Stored D) (entries : List Entry) (halt : Option Halt) → MatchResult r (λ _. new ≡ record old { changes = [] }) (λ _. new ≡ old) → Booking old entries halt → Booking new entries halt
+    forgets_or_keeps (Ok x) old new entries halt same b = forgets old new entries halt [] same b
+    forgets_or_keeps (Err y) old new entries halt same b = subst (λ (s : Stored D). Booking s entries halt) (sym same) b
 
     -- a reply is entered
     pub enters : (old new : Stored D) (entries : List Entry) (halt : Option Halt) (request : Request) (reply : Reply) (session calls : ℕ)

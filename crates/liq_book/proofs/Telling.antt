@@ -1,6 +1,7 @@
 -- What a store tells leads from the last version on, and what a book publishes stays true.
-use Rattle.std.proofs.Common.{◌≡◌, ℕ, ◌≤◌, List, [], ◌∷◌, ◌++◌, map, length, ◌⊎◌, inl, inr, Option, None, refl, sym, ap, ◌∙◌, subst, append-nil, append_assoc}
+use Rattle.std.proofs.Common.{◌≡◌, ℕ, ◌≤◌, List, [], ◌∷◌, ◌++◌, map, length, ◌⊎◌, inl, inr, Option, None, Result, Ok, Err, refl, sym, ap, ◌∙◌, subst, append-nil, append_assoc}
 use Rattle.std.specs.List.Sorted.{IsStrictlySortedBy}
+use Rattle.std.specs.Result.{MatchResult}
 use Rattle.std.specs.Ordering.{nat_cmp}
 use Rattle.std.proofs.lemmas.List.{length-map, map-append}
 use Rattle.std.proofs.lemmas.Map.Made.{keys_of-map_values}
@@ -171,3 +172,13 @@ module _ {D : Type 0} (base : State) where
         each = views_with base [] [] store.changes listed (views_none base []);
         folds = folds_again [] store.changes 0 (view_of base) listed;
       }))
+
+  -- what went out is let go, and what did not is kept
+  pub goes_or_waits : {X Y : Type 0} (r : Result X Y) (old new : Stored D) (entries : List Entry) (halt : Option Halt) (published waiting published' waiting' : List Given) (number : ℕ) → number ≡ length entries → Publishes old entries halt published waiting
+      → MatchResult r (λ _. (published' ≡ published ++ (waiting ++ record { changes = old.changes; number = number } ∷ [])) × (waiting' ≡ [])) (λ _. (published' ≡ published) × ((waiting' ≡ waiting) ⊎ (waiting' ≡ waiting ++ record { changes = old.changes; number = number } ∷ [])))
+      → MatchResult r (λ _. new ≡ record old { changes = [] }) (λ _. new ≡ old)
+      → Publishes new entries halt published' waiting'
+  goes_or_waits (Ok x) old new entries halt published waiting published' waiting' number count h sent told =
+      goes_out old new entries halt published waiting published' waiting' h (rw count at sent.0) sent.1 (rw told refl)
+  goes_or_waits (Err y) old new entries halt published waiting published' waiting' number count h sent told =
+      subst (λ (store : Stored D). Publishes store entries halt published' waiting') (sym told) (waits old entries halt published waiting published' waiting' h sent.0 (rw count at sent.1))

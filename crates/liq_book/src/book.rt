@@ -202,10 +202,7 @@ impl<D: Disk, O: Origin> Book<D, O> {
             × ((self.new.waiting ≡ self.old.waiting) ⊎ (self.new.waiting ≡ self.old.waiting ++ batch_of self.old.book ∷ []))) }
     {
         let number = self.entries.len() as u64;
-        match publish(&mut self.store, &mut self.publisher, rt, number) {
-            Ok(()) => Ok(()),
-            Err(NoMemory) => Err(NoMemory),
-        }
+        publish(&mut self.store, &mut self.publisher, rt, number)
     }
 }
 
