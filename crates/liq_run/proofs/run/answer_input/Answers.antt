@@ -2,6 +2,9 @@ use Rattle.std.proofs.Common.{◌≡◌, sym, subst}
 use Rattle.liq_store.specs.Keeping.{IsInOrder}
 use Rattle.liq_store.specs.Stored.{Stored}
 use Rattle.liq_ends.specs.declared.ending.Ending.{Ending}
+use Rattle.liq_outside.proofs.Moments.{joined}
+use Rattle.liq_store.specs.Causes.{Faults, counts_of}
+use Rattle.liq_ends.specs.Causes.{DiskCause, DisksGoOn}
 use Rattle.liq_ends.proofs.Opened.{opened_at}
 use Rattle.liq_run.specs.Progress.{GivesBack}
 use Rattle.liq_run.proofs.Leaving.{gives_back, unopened_by}
@@ -39,6 +42,25 @@ returns-clause-run g c l r told_l told_r start is bytes told =
     let given : (s : Stored g.row.D.Denot) → s ≡ store → GivesBack seen moment left_at c.args.left c.args.right start end bytes l r unread before now s.left s.right =
     λ s same. subst (λ (s : Stored g.row.D.Denot). GivesBack seen moment left_at c.args.left c.args.right start end bytes l r unread before now s.left s.right) (sym same) ends in
     subst (λ (e : Ending g.row.D.Denot). GivesBack seen moment left_at c.args.left c.args.right start e.end bytes l r unread before now e.left e.right) (sym c.closed.ensures.is)
+    (given c.into_store.result c.into_store.ensures)
+
+pub returns-clause-disks : goal.returns-clause-disks
+returns-clause-disks g c =
+    let opened = c.in-Ok.ensures in
+    let ran = c.answer_all-end in
+    let end = ran.result in
+    let store = ran.new.self.store in
+    let faults = g.D.Disk.faults in
+    let moment = g.D.Disk.moment in
+    let left_at = g.D.Disk.left_at in
+    let goes_on : DisksGoOn faults moment left_at c.args.left c.args.right end store.left store.right = record {
+      count = subst (λ (before : Faults). DiskCause end before (counts_of faults store.left store.right)) opened.opened.0.counts ran.ensures.disks;
+      left_time = joined moment left_at _ _ _ opened.time.0 ran.ensures.time.left;
+      right_time = joined moment left_at _ _ _ opened.time.1 ran.ensures.time.right;
+    } in
+    let given : (s : Stored g.row.D.Denot) → s ≡ store → DisksGoOn faults moment left_at c.args.left c.args.right end s.left s.right =
+    λ s same. subst (λ (s : Stored g.row.D.Denot). DisksGoOn faults moment left_at c.args.left c.args.right end s.left s.right) (sym same) goes_on in
+    subst (λ (e : Ending g.row.D.Denot). DisksGoOn faults moment left_at c.args.left c.args.right e.end e.left e.right) (sym c.closed.ensures.is)
     (given c.into_store.result c.into_store.ensures)
 
 pub returns-clause-damaged : goal.returns-clause-damaged
