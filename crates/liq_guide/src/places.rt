@@ -132,7 +132,7 @@ fn run_of(firsts: &[Entry], entry: Entry) -> usize
     low
 }
 
-// How many entries of a run stand before one.
+// How many of the entries behind a run's first stand before one.
 fn place_in(rest: &[Entry], entry: Entry) -> usize
     ensures within { result ≤ length rest.now }
     ensures low { (d : Ranked) → 0 < result → is_lt (rank_order (slice_index_or rest.now (result - 1) d) entry) ≡ true }

@@ -6,7 +6,7 @@ ghost use Rattle.liq_types.specs.declared.replies.Reply.TheVariants.{Told};
 
 use liq_types::{Info, Reply};
 
-/// Balance (micro-LUSD) and gain (gwei) of a deposit; of another reply nothing.
+/// Balance (micro-LUSD) and gain (gwei) of a deposit, for the reply to a query for one.
 pub fn deposit_in(reply: &Reply) -> (u64, u64)
     ensures { (balance gain : ℕ) → reply.now ≡ Told (info.Deposit balance gain) → result ≡ (balance, gain) }
 {
@@ -16,7 +16,7 @@ pub fn deposit_in(reply: &Reply) -> (u64, u64)
     }
 }
 
-/// Collateral (gwei) and debt (micro-LUSD) of a trove; of another reply nothing.
+/// Collateral (gwei) and debt (micro-LUSD) of a trove, for the reply to a query for one.
 pub fn trove_in(reply: &Reply) -> (u64, u64)
     ensures { (coll debt stake : ℕ) → reply.now ≡ Told (info.Trove coll debt stake) → result ≡ (coll, debt) }
 {
@@ -26,7 +26,7 @@ pub fn trove_in(reply: &Reply) -> (u64, u64)
     }
 }
 
-/// The ten words of the totals, in their order; of another reply nothing.
+/// The ten words of the totals, in their order, for the reply to a query for them.
 pub fn system_in(reply: &Reply) -> [u64; 10]
     ensures { (words : List ℕ) → reply.now ≡ Told (info.System words) → result ≡ words }
 {

@@ -5,7 +5,7 @@ use Rattle.liq_types.specs.declared.replies.Refusal.TheVariants.{AmountLimit, Am
 use Rattle.liq_types.specs.Rules.{Rule, where_above}
 use Rattle.liq_turns.specs.declared.generation.Generation.{Generation}
 
--- collateral that comes in is some, and with what was brought before it passes no limit
+-- collateral that comes in is some, and with what is inside it passes no limit
 abbrev pub inflow_rules : Generation → ℕ → ℕ → List Rule
 inflow_rules g brought coll = (coll == 0, AmountZero) ∷ where_above (brought + coll) g.limit AmountLimit ∷ []
 

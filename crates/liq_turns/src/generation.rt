@@ -19,7 +19,7 @@ pub struct Generation {
 }
 
 impl Generation {
-    /// Why collateral may not come in (gwei) beside what was brought before: there is none, or it passes the limit.
+    /// Why collateral may not come in (gwei) beside what is inside: there is none, or it passes the limit.
     pub fn no_inflow(&self, brought: u64, coll: u64) -> Option<Refusal>
         ensures { result ≡ first_refusal (inflow_rules self.now brought coll) }
     {

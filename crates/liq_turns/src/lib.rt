@@ -1,5 +1,5 @@
 //! Which command acts, by its number, and what a generation of the journal takes: how much collateral, how many records,
-//! and what a rotation makes of it.
+//! what a rotation makes of it, and how many clients its checkpoint counts.
 #![tactic(auto)]
 
 mod clients;

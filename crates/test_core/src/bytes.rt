@@ -39,8 +39,16 @@ const ROWS: [&[u64]; 6] = [
 /// Where the checkpoint has the last byte of the generation.
 const GENERATION: usize = 47;
 
-/// The checkpoint of what is told.
-pub fn checkpoint(alloc: Global, version: Version, told: &Told) -> Result<Vec<u8>, AllocError> {
+/// The table of clients.
+const CLIENTS: usize = 5;
+
+/// The checkpoint of what is told, and of one more client, which may be none.
+pub fn checkpoint(
+    alloc: Global,
+    version: Version,
+    told: &Told,
+    client: &str,
+) -> Result<Vec<u8>, AllocError> {
     let mut out = match version {
         Version::One => Vec::from_slice(alloc, b"LIQSTAT1")?,
         Version::Two => Vec::from_slice(alloc, b"LIQSTAT2")?,
@@ -48,15 +56,17 @@ pub fn checkpoint(alloc: Global, version: Version, told: &Told) -> Result<Vec<u8
     for (widths, line) in WORDS.iter().zip(told.words) {
         put_line(&mut out, widths, line)?;
     }
-    for (widths, rows) in ROWS.iter().zip(told.tables) {
-        put_table(&mut out, widths, rows)?;
+    for (table, (widths, rows)) in ROWS.iter().zip(told.tables).enumerate() {
+        let last = if table == CLIENTS { client } else { "" };
+        put_table(&mut out, widths, rows, last)?;
     }
     Ok(out)
 }
 
-fn put_table(out: &mut Vec<u8>, widths: &[u64], rows: &str) -> Result<(), AllocError> {
-    put(out, 8, rows.lines().count() as u64)?;
-    for row in rows.lines() {
+fn put_table(out: &mut Vec<u8>, widths: &[u64], rows: &str, last: &str) -> Result<(), AllocError> {
+    let count = rows.lines().count().saturating_add(last.lines().count());
+    put(out, 8, count as u64)?;
+    for row in rows.lines().chain(last.lines()) {
         put_line(out, widths, row)?;
     }
     Ok(())

@@ -96,9 +96,9 @@ struct Pair {
 fn pair_of(alloc: Global, run: &Run) -> Result<Pair, AllocError> {
     let mut image = run.image;
     image.tables[5] = run.client;
-    let before = checkpoint(alloc, run.version, &image)?;
+    let before = checkpoint(alloc, run.version, &image, "")?;
     image.tables[5] = run.rotated;
-    let mut rotated = checkpoint(alloc, Version::Two, &image)?;
+    let mut rotated = checkpoint(alloc, Version::Two, &image, "")?;
     set_second(rotated.as_mut_slice());
     Ok(Pair { before, rotated })
 }
@@ -168,11 +168,62 @@ fn a_run_leaves_its_image(rt: HostRuntime) {
     }
 }
 
+// The row of the client that begins the second generation.
+const ROTATED: &str = "2 1 16 2 0 0 0 0 0";
+
+// What comes of the image that a run leaves in the second generation, and of the protocol that begins with it.
+fn see_second<L: Ledger>(alloc: Global, run: &Run, blank: Blank) -> Option<(Outcome, Outcome)>
+    requires name { blank.name ≡ L.name }
+    requires parts { blank.parts ≡ L.parts }
+    requires one { L.parts ≡ 1 }
+{
+    let mut steps = Steps::<L>::new(blank);
+    let mut image = run.image;
+    image.tables[5] = run.client;
+    let Ok(mut bytes) = checkpoint(alloc, Version::Two, &image, ROTATED) else {
+        return None;
+    };
+    set_second(bytes.as_mut_slice());
+    let mut protocol = Protocol::new(alloc);
+    let rotation = Command {
+        client: 2,
+        number: 1,
+        call: Call::Rotate,
+    };
+    let _ = accept(&mut protocol, &rotation, &mut steps);
+    let number = make_calls(&mut protocol, 1, run.first, &mut steps);
+    let _ = make_calls(&mut protocol, number, run.calls, &mut steps);
+    let left = of_protocol(alloc, &protocol, &bytes);
+    Some((left, of_checkpoint(alloc, &bytes)))
+}
+
+// In a later generation the image of each run is one with which a protocol begins, also amid the generation.
+#[test]
+fn a_run_of_the_second_generation_begins_again(rt: HostRuntime) {
+    for wanted in RUNS {
+        if wanted.version == Version::One {
+            continue;
+        }
+        let what = wanted.what;
+        let Some((left, begins)) = see_second::<Brand>(rt.alloc(), &wanted, Blank::new(1)) else {
+            shows(&rt, what, "memory", false);
+            continue;
+        };
+        shows(
+            &rt,
+            what,
+            "its image in the second generation",
+            left == Outcome::Same,
+        );
+        shows(&rt, what, "what begins with it", begins == Outcome::Same);
+    }
+}
+
 // What comes of the opening's checkpoint with other words of the Stability Pool.
 fn of_pool(alloc: Global, words: &'static str) -> Outcome {
     let mut told = OPENING;
     told.words[3] = words;
-    match checkpoint(alloc, Version::Two, &told) {
+    match checkpoint(alloc, Version::Two, &told, "") {
         Ok(bytes) => of_checkpoint(alloc, &bytes),
         Err(_) => Outcome::NoMemory,
     }
