@@ -2,7 +2,6 @@ pub mod Beside
 pub mod Following
 pub mod Holding
 pub mod Members
-pub mod Nearest
-pub mod Runs
+pub mod Ranges
 pub mod Standing
 pub mod Stands

@@ -1,4 +1,3 @@
 pub mod Followed
-pub mod Places
 pub mod Rows
 pub mod Sides

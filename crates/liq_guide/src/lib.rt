@@ -2,7 +2,6 @@
 #![tactic(auto)]
 
 mod guide;
-mod places;
 mod rows;
 mod sides;
 
