@@ -1,6 +1,6 @@
 -- The places of a list, while accounts give up keys and take others.
 use Rattle.std.proofs.Common.{◌≡◌, ℕ, ℤ, Bool, true, false, cond, List, refl, sym, ap, ◌∙◌, Some, None, Option}
-use Rattle.std.specs.Prelude.{◌==◌, ◌≢◌, ◌||◌}
+use Rattle.std.specs.Prelude.{◌==◌, ◌≢◌, ◌||◌, unwrap_or}
 use Rattle.std.specs.Ordering.{int_cmp, is_eq}
 use Rattle.std.proofs.lemmas.Bool.{eqb-true}
 use Rattle.std.proofs.lemmas.Cmp.{tied_itself}
@@ -13,6 +13,13 @@ use Rattle.liq_guide.proofs.Members.{is_tied, same_entry, same_list}
 pub key_is : (o : Option ℤ) (key : ℤ) → is_key o key ≡ true → o ≡ Some key
 key_is None key h = cc
 key_is (Some k) key h = ap (λ (z : ℤ). Some z) (sym (exact_signed key k (is_tied (int_cmp key k) h)))
+
+-- the entry of an account is the one under its key
+pub own_entry : (next : ℕ → Option ℤ) (place : ℤ) (account : ℕ) (e : Ranked) → next account ≡ Some place → (account == e.1) ≡ true → is_key (next e.1) e.0 ≡ true → (place, account) ≡ e
+own_entry next place account e is own its =
+    let it : account ≡ e.1 = eqb-true account e.1 own in
+    let has : Some place ≡ Some e.0 = sym is ∙ ap (λ a. next a) it ∙ key_is (next e.1) e.0 its in
+    ap (λ (k : ℤ). (k, account)) (ap (λ (o : Option ℤ). unwrap_or o place) has) ∙ ap (λ (a : ℕ). (e.0, a)) it
 
 alike : (a b : Bool) → (a ≡ true → b ≡ true) → (b ≡ true → a ≡ true) → a ≡ b
 alike true b to from = sym (to refl)

@@ -1,3 +1,4 @@
 pub mod Followed
+pub mod Places
 pub mod Rows
 pub mod Sides

@@ -6,7 +6,7 @@ ghost use Rattle.liq_types.specs.Views.{View, all_followed};
 ghost use Rattle.liq_guide.specs.Followed.{last_put, hint_of_last};
 
 use crate::rows::Rows;
-use crate::sides::{Side, account_aside, first_account};
+use crate::sides::{accounts_aside, first_account};
 use liq_types::{Hint, ListChange, NoMemory};
 use std::alloc::Global;
 use std::marker::Model;
@@ -24,9 +24,9 @@ impl Model for Guide {
 
     ghost Value = { List Ranked };
 
-    ghost view = { λ g. g.rows.places.keys };
+    ghost view = { λ g. g.rows.places };
 
-    ghost invariant = { λ g. Follows (key_at g.rows.stands.rows) g.rows.places.keys × AreSettledBeside g.rows.stands.rows [] };
+    ghost invariant = { λ g. Follows (key_at g.rows.stands.rows) g.rows.places × AreSettledBeside g.rows.stands.rows [] };
 }
 
 impl Guide {
@@ -68,12 +68,7 @@ impl Guide {
     pub fn neighbours(&self, key: i128, account: u32) -> (Option<u32>, Option<u32>)
         ensures { result ≡ neighbours self.now (key, account) }
     {
-        let place = (key, account);
-        let places = &self.rows.places;
-        (
-            account_aside(places, place, Side::Before),
-            account_aside(places, place, Side::After),
-        )
+        accounts_aside(&self.rows.places, (key, account))
     }
 
     /// The same where the key is below all that an `i128` can be.
@@ -91,7 +86,8 @@ impl Guide {
     }
 }
 
-fn last_put(changes: &[ListChange]) -> Option<(i128, u32)>
+/// The entry that changes put last, if they put any.
+pub fn last_put(changes: &[ListChange]) -> Option<(i128, u32)>
     ensures { result ≡ last_put changes.now }
 {
     let mut put = None;

@@ -2,7 +2,8 @@
 #![tactic(auto)]
 
 mod guide;
+mod places;
 mod rows;
 mod sides;
 
-pub use guide::Guide;
+pub use guide::{Guide, last_put};

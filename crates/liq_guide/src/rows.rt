@@ -7,10 +7,10 @@ ghost use Rattle.liq_tables.specs.WithRoom.{HasRoom};
 ghost use Rattle.liq_guide.specs.Followed.{listed, all_listed};
 ghost use Rattle.liq_guide.specs.Rows.{Follows, Holds, AreSettledBeside, names, named_by, key_at, next_at, side_at, stand_at, nowhere, is_used_stand, is_in, is_key};
 
+use crate::places::Places;
 use liq_tables::{Reserved, Row};
 use liq_types::{ListChange, NoMemory};
 use std::alloc::Global;
-use std::collections::BTreeSet;
 
 // Where an account stands.
 #[derive(Clone, Copy)]
@@ -56,17 +56,17 @@ impl Row for Stand {
 // The entries of the ordered list, by key and account, and where each account stands.
 #[derive(Drop)]
 pub(crate) struct Rows {
-    pub(crate) places: BTreeSet<(i128, u32)>,
+    pub(crate) places: Places,
     pub(crate) stands: Reserved<Stand>,
 }
 
 impl Rows {
     pub(crate) fn new(alloc: Global) -> Rows
-        ensures places { result.places.keys ≡ [] }
+        ensures places { result.places ≡ [] }
         ensures stands { result.stands.rows ≡ [] }
     {
         Rows {
-            places: BTreeSet::new(alloc),
+            places: Places::new(alloc),
             stands: Reserved::new(alloc),
         }
     }
@@ -87,7 +87,7 @@ impl Rows {
     fn set(&mut self, account: u32, stand: Stand)
         requires room { is_used_stand stand ≡ true → HasRoom self.old.stands account }
         requires ascend { Ascends self.old.stands.rows }
-        ensures places { self.new.places.keys ≡ self.old.places.keys }
+        ensures places { self.new.places ≡ self.old.places }
         ensures stands { (a : ℕ) → stand_at self.new.stands.rows a ≡ (if a == account then stand else stand_at self.old.stands.rows a) }
     {
         let _ = self.stands.write(account, stand);
@@ -98,8 +98,8 @@ impl Rows {
         ensures key { (a : ℕ) → key_at self.new.stands.rows a ≡ key_at self.old.stands.rows a }
         ensures next { OnOk result ((list : List Ranked) → Follows (next_at self.old.stands.rows) list → Follows (next_at self.new.stands.rows) (all_listed list changes.now)) }
         ensures settled { AreSettledBeside self.old.stands.rows [] → AreSettledBeside self.new.stands.rows changes.now }
-        ensures holds { AreSettledBeside self.old.stands.rows [] → Holds (key_at self.old.stands.rows) (next_at self.old.stands.rows) self.old.places.keys
-            → Holds (side_at (is_ok result) self.new.stands.rows) (side_at (not (is_ok result)) self.new.stands.rows) self.new.places.keys }
+        ensures holds { AreSettledBeside self.old.stands.rows [] → Holds (key_at self.old.stands.rows) (next_at self.old.stands.rows) self.old.places
+            → Holds (side_at (is_ok result) self.new.stands.rows) (side_at (not (is_ok result)) self.new.stands.rows) self.new.places }
     {
         self.aim(changes)?;
         self.enter(changes)
@@ -107,7 +107,7 @@ impl Rows {
 
     // Notes where each account will stand.
     fn aim(&mut self, changes: &[ListChange]) -> Result<(), NoMemory>
-        ensures places { self.new.places.keys ≡ self.old.places.keys }
+        ensures places { self.new.places ≡ self.old.places }
         ensures key { (a : ℕ) → key_at self.new.stands.rows a ≡ key_at self.old.stands.rows a }
         ensures next { OnOk result ((list : List Ranked) → Follows (next_at self.old.stands.rows) list → Follows (next_at self.new.stands.rows) (all_listed list changes.now)) }
         ensures others { (a : ℕ) → names changes.now a ≡ false → stand_at self.new.stands.rows a ≡ stand_at self.old.stands.rows a }
@@ -119,7 +119,7 @@ impl Rows {
     }
 
     fn aim_one(&mut self, change: &ListChange) -> Result<(), NoMemory>
-        ensures places { self.new.places.keys ≡ self.old.places.keys }
+        ensures places { self.new.places ≡ self.old.places }
         ensures key { (a : ℕ) → key_at self.new.stands.rows a ≡ key_at self.old.stands.rows a }
         ensures next { OnOk result ((list : List Ranked) → Follows (next_at self.old.stands.rows) list → Follows (next_at self.new.stands.rows) (listed list change.now)) }
         ensures others { (a : ℕ) → named_by a change.now ≡ false → stand_at self.new.stands.rows a ≡ stand_at self.old.stands.rows a }
@@ -138,7 +138,7 @@ impl Rows {
     // Notes where an account will stand. There is room for one that will.
     fn send(&mut self, account: u32, next: Option<i128>)
         requires { is_some next ≡ true → HasRoom self.old.stands account }
-        ensures places { self.new.places.keys ≡ self.old.places.keys }
+        ensures places { self.new.places ≡ self.old.places }
         ensures key { (a : ℕ) → key_at self.new.stands.rows a ≡ key_at self.old.stands.rows a }
         ensures next { (a : ℕ) → next_at self.new.stands.rows a ≡ (if a == account then next else next_at self.old.stands.rows a) }
         ensures others { (a : ℕ) → (a == account) ≡ false → stand_at self.new.stands.rows a ≡ stand_at self.old.stands.rows a }
@@ -150,9 +150,9 @@ impl Rows {
     // Puts in the entries that will stand. None is taken out.
     fn enter(&mut self, changes: &[ListChange]) -> Result<(), NoMemory>
         ensures stands { self.new.stands.rows ≡ self.old.stands.rows }
-        ensures holds { Holds (key_at self.old.stands.rows) (next_at self.old.stands.rows) self.old.places.keys → Holds (key_at self.old.stands.rows) (next_at self.old.stands.rows) self.new.places.keys }
-        ensures entered { Holds (key_at self.old.stands.rows) (next_at self.old.stands.rows) self.old.places.keys
-            → OnOk result ((e : Ranked) → names changes.now e.1 ≡ true → is_key (next_at self.old.stands.rows e.1) e.0 ≡ true → is_in self.new.places.keys e ≡ true) }
+        ensures holds { Holds (key_at self.old.stands.rows) (next_at self.old.stands.rows) self.old.places → Holds (key_at self.old.stands.rows) (next_at self.old.stands.rows) self.new.places }
+        ensures entered { Holds (key_at self.old.stands.rows) (next_at self.old.stands.rows) self.old.places
+            → OnOk result ((e : Ranked) → names changes.now e.1 ≡ true → is_key (next_at self.old.stands.rows e.1) e.0 ≡ true → is_in self.new.places e ≡ true) }
     {
         for change in changes {
             if let Some(account) = account_of(change) {
@@ -164,19 +164,14 @@ impl Rows {
 
     fn enter_one(&mut self, account: u32) -> Result<(), NoMemory>
         ensures stands { self.new.stands.rows ≡ self.old.stands.rows }
-        ensures holds { Holds (key_at self.old.stands.rows) (next_at self.old.stands.rows) self.old.places.keys → Holds (key_at self.old.stands.rows) (next_at self.old.stands.rows) self.new.places.keys }
-        ensures kept { (e : Ranked) → is_in self.old.places.keys e ≡ true → is_in self.new.places.keys e ≡ true }
-        ensures entered { Holds (key_at self.old.stands.rows) (next_at self.old.stands.rows) self.old.places.keys
-            → OnOk result ((e : Ranked) → (account == e.1) ≡ true → is_key (next_at self.old.stands.rows e.1) e.0 ≡ true → is_in self.new.places.keys e ≡ true) }
+        ensures holds { Holds (key_at self.old.stands.rows) (next_at self.old.stands.rows) self.old.places → Holds (key_at self.old.stands.rows) (next_at self.old.stands.rows) self.new.places }
+        ensures kept { (e : Ranked) → is_in self.old.places e ≡ true → is_in self.new.places e ≡ true }
+        ensures entered { Holds (key_at self.old.stands.rows) (next_at self.old.stands.rows) self.old.places
+            → OnOk result ((e : Ranked) → (account == e.1) ≡ true → is_key (next_at self.old.stands.rows e.1) e.0 ≡ true → is_in self.new.places e ≡ true) }
     {
         let Stand { key, next } = self.stand(account);
         match next {
-            Some(place) if key != next => {
-                let Ok(_) = self.places.insert((place, account)) else {
-                    return Err(NoMemory);
-                };
-                Ok(())
-            }
+            Some(place) if key != next => self.places.insert((place, account)),
             _ => Ok(()),
         }
     }
@@ -185,8 +180,8 @@ impl Rows {
     pub(crate) fn settle(&mut self, changes: &[ListChange], made: bool)
         ensures same { (a : ℕ) → side_at made self.new.stands.rows a ≡ side_at made self.old.stands.rows a }
         ensures settled { AreSettledBeside self.old.stands.rows changes.now → AreSettledBeside self.new.stands.rows [] }
-        ensures holds { Holds (side_at made self.old.stands.rows) (side_at (not made) self.old.stands.rows) self.old.places.keys
-            → Holds (side_at made self.new.stands.rows) (side_at (not made) self.new.stands.rows) self.new.places.keys }
+        ensures holds { Holds (side_at made self.old.stands.rows) (side_at (not made) self.old.stands.rows) self.old.places
+            → Holds (side_at made self.new.stands.rows) (side_at (not made) self.new.stands.rows) self.new.places }
     {
         for change in changes {
             if let Some(account) = account_of(change) {
@@ -199,8 +194,8 @@ impl Rows {
         ensures same { (a : ℕ) → side_at made self.new.stands.rows a ≡ side_at made self.old.stands.rows a }
         ensures settled { next_at self.new.stands.rows account ≡ key_at self.new.stands.rows account }
         ensures others { (a : ℕ) → (account == a) ≡ false → stand_at self.new.stands.rows a ≡ stand_at self.old.stands.rows a }
-        ensures holds { Holds (side_at made self.old.stands.rows) (side_at (not made) self.old.stands.rows) self.old.places.keys
-            → Holds (side_at made self.new.stands.rows) (side_at (not made) self.new.stands.rows) self.new.places.keys }
+        ensures holds { Holds (side_at made self.old.stands.rows) (side_at (not made) self.old.stands.rows) self.old.places
+            → Holds (side_at made self.new.stands.rows) (side_at (not made) self.new.stands.rows) self.new.places }
     {
         let (stays, goes) = self.stand(account).sides(made);
         if stays == goes {
@@ -217,11 +212,11 @@ impl Rows {
     // Takes out the entry of an account under a key, if there is a key.
     fn clear(&mut self, account: u32, key: Option<i128>)
         ensures stands { self.new.stands ≡ self.old.stands }
-        ensures none { key ≡ None → self.new.places.keys ≡ self.old.places.keys }
-        ensures some { (k : ℤ) → key ≡ Some k → IsAscending self.new.places.keys × ((e : Ranked) → is_in self.new.places.keys e ≡ (if is_eq (rank_order (k, account) e) then false else is_in self.old.places.keys e)) }
+        ensures none { key ≡ None → self.new.places ≡ self.old.places }
+        ensures some { (k : ℤ) → key ≡ Some k → IsAscending self.new.places × ((e : Ranked) → is_in self.new.places e ≡ (if is_eq (rank_order (k, account) e) then false else is_in self.old.places e)) }
     {
         if let Some(key) = key {
-            let _ = self.places.remove(&(key, account));
+            self.places.remove((key, account));
         }
     }
 }

@@ -8,5 +8,5 @@ use Rattle.liq_guide.proofs.guide.Guide.key_of.Goals as goal
 pub returns : goal.returns
 returns c =
     ap (λ (s : Stand). s.key) c.stand.ensures.stand
-    ∙ key_found (key_at c.self.inside.rows.stands.rows) c.self.inside.rows.places.keys c.args.account c.self.invariant.0
+    ∙ key_found (key_at c.self.inside.rows.stands.rows) c.self.inside.rows.places c.args.account c.self.invariant.0
     ∙ ap (λ (l : List Ranked). key_in l c.args.account) c.self.view_is

@@ -8,11 +8,11 @@ use Rattle.liq_guide.proofs.Standing.{stand_once}
 use Rattle.liq_guide.proofs.guide.Guide.neighbours_below_all.Goals as goal
 
 pub first_account-requires-clause-once : goal.first_account-requires-clause-once
-first_account-requires-clause-once c = stand_once (key_at c.self.inside.rows.stands.rows) c.self.inside.rows.places.keys c.self.invariant.0
+first_account-requires-clause-once c = stand_once (key_at c.self.inside.rows.stands.rows) c.self.inside.rows.places c.self.invariant.0
 
 pub returns : goal.returns
 returns c key low =
-    let list = c.self.inside.rows.places.keys in
+    let list = c.self.inside.rows.places in
     let e : Ranked = (key, c.args.account) in
     ap (λ (a : Option ℕ). (a, c.first_account.result)) (sym (c.first_account.ensures.prev key low))
     ∙ ap (λ (a : Option ℕ). (account_aside Before list e, a)) (c.first_account.ensures.next key low)

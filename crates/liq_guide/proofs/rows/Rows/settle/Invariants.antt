@@ -7,5 +7,5 @@ abbrev pub invariant-loop-change : goal.invariant-loop-change
 invariant-loop-change l =
     ((a : ℕ) → side_at l.made l.self.stands.rows a ≡ side_at l.made l.fn.self.stands.rows a)
     × (AreSettledBeside l.fn.self.stands.rows l.changes → AreSettledBeside l.self.stands.rows (drop l.change-index l.changes))
-    × (Holds (side_at l.made l.fn.self.stands.rows) (side_at (not l.made) l.fn.self.stands.rows) l.fn.self.places.keys
-    → Holds (side_at l.made l.self.stands.rows) (side_at (not l.made) l.self.stands.rows) l.self.places.keys)
+    × (Holds (side_at l.made l.fn.self.stands.rows) (side_at (not l.made) l.fn.self.stands.rows) l.fn.self.places
+    → Holds (side_at l.made l.self.stands.rows) (side_at (not l.made) l.self.stands.rows) l.self.places)

@@ -20,6 +20,6 @@ returns-clause-holds c h =
     let written : (a : ℕ) → stand_at c.set.new.self.stands.rows a ≡ cond (a == c.args.account) (record { key = stays; next = stays }) (stand_at stands a) = λ a. c.set.ensures.stands a ∙ ap (λ (t : WithRoom Stand). cond (a == c.args.account) (record { key = stays; next = stays }) (stand_at t.rows a)) c.clear.ensures.stands in
     let differ : stays ≢ goes = λ same. apart (c.if-eq.ensures ∙ ap (λ (o : Option ℤ). option_eq int_eq stays o) (sym same) ∙ (options_equiv int_eq_equiv).refl stays) in
     subst (Holds (side_at c.args.made c.set.new.self.stands.rows) (side_at (not c.args.made) c.set.new.self.stands.rows)) (sym c.set.ensures.places)
-    (settled c.args.made stands c.set.new.self.stands.rows c.args.account stays goes c.args.self.now.places.keys c.clear.new.self.places.keys sides differ written c.clear.ensures.none c.clear.ensures.some h) where
+    (settled c.args.made stands c.set.new.self.stands.rows c.args.account stays goes c.args.self.now.places c.clear.new.self.places sides differ written c.clear.ensures.none c.clear.ensures.some h) where
       apart : false ≡ true → ⊥
       apart clash = cc

@@ -1,0 +1,26 @@
+use Rattle.std.proofs.Common.{sym, ap, ◌∙◌, subst, map}
+use Rattle.std.specs.Prelude.{List}
+use Rattle.std.specs.BTreeMap.{is_at}
+use Rattle.liq_types.specs.Ranked.{Ranked}
+use Rattle.liq_guide.specs.declared.places.Entry.{Entry}
+use Rattle.liq_guide.specs.Places.{left, ranked, AreHalved}
+use Rattle.liq_guide.proofs.Halves.{halved_order, halved_removed, removed_is, stored_ascending}
+use Rattle.liq_guide.proofs.places.Places.remove.Goals as goal
+
+halved : (c : goal.After-remove) → AreHalved c.remove.new.self.keys
+halved c = subst AreHalved (sym c.remove.ensures.keys) (halved_removed c.self.inside.entries.keys (is_at (halved_order c.of.result)) c.self.invariant.0)
+
+pub invariant_of-self : goal.invariant_of-self
+invariant_of-self c =
+    (halved c, stored_ascending c.remove.new.self.keys (halved c) c.remove.ensures.ordered)
+
+pub returns-clause-ascending : goal.returns-clause-ascending
+returns-clause-ascending c = stored_ascending c.remove.new.self.keys (halved c) c.remove.ensures.ordered
+
+pub returns-clause-left : goal.returns-clause-left
+returns-clause-left c =
+    let es = c.self.inside.entries.keys in
+    ap (λ (l : List Entry). map ranked l) c.remove.ensures.keys
+    ∙ removed_is es c.of.result c.self.invariant.0 c.of.ensures.low c.self.invariant.1
+    ∙ ap (λ (e : Ranked). left (map ranked es) e) c.of.ensures.same
+    ∙ ap (λ (l : List Ranked). left l c.args.place) c.self.view_is

@@ -1,0 +1,129 @@
+// The entries of the ordered list.
+ghost use Rattle.std.specs.Prelude.{◌≡◌, ◌<◌, ◌^◌, [], ℤ, ◌<ℤ◌, IfSome, option_map, OnOk, OnErr};
+ghost use Rattle.liq_types.specs.Ranked.{IsAscending, first_of};
+ghost use Rattle.liq_guide.specs.Places.{entered, left, ranked};
+ghost use Rattle.liq_guide.specs.Sides.{entry_before, entry_after};
+
+use liq_types::NoMemory;
+use std::alloc::Global;
+use std::collections::BTreeSet;
+use std::marker::Model;
+use std::ops::Bound;
+
+// A key and an account.
+pub(crate) type Place = (i128, u32);
+
+// How much the upper half of a key counts for each of the lower half.
+const UPPER: i128 = 1 << 64;
+
+// An entry: its key in two halves, so that it takes 24 bytes where a key of 128 bits beside an account takes 32.
+#[derive(Clone, Copy, PartialEq, Eq, PartialOrd, Ord)]
+struct Entry {
+    high: i64,
+    low: u64,
+    account: u32,
+}
+
+impl Entry {
+    fn of(place: Place) -> Entry
+        ensures same { ranked result ≡ place }
+        ensures low { result.low < 2 ^ 64 }
+    {
+        let (key, account) = place;
+        let high = key >> 64;
+        Entry {
+            high: high as i64,
+            low: (key - high * UPPER) as u64,
+            account,
+        }
+    }
+
+    fn place(self) -> Place
+        ensures { result ≡ ranked self }
+    {
+        (self.high as i128 * UPPER + self.low as i128, self.account)
+    }
+}
+
+// The entries in their order. Contracts see the list.
+#[derive(Drop)]
+pub(crate) struct Places {
+    entries: BTreeSet<Entry>,
+}
+
+impl Model for Places {
+    ghost use Rattle.std.specs.Prelude.{List, map};
+    ghost use Rattle.liq_types.specs.Ranked.{Ranked, IsAscending};
+    ghost use Rattle.liq_guide.specs.Places.{ranked, AreHalved};
+
+    ghost Value = { List Ranked };
+
+    ghost view = { λ p. map ranked p.entries.keys };
+
+    ghost invariant = { λ p. AreHalved p.entries.keys × IsAscending (map ranked p.entries.keys) };
+}
+
+impl Places {
+    // No entries.
+    pub(crate) fn new(alloc: Global) -> Places
+        ensures { result ≡ [] }
+    {
+        Places {
+            entries: BTreeSet::new(alloc),
+        }
+    }
+
+    // Puts an entry in. Where there is no memory all is as before.
+    pub(crate) fn insert(&mut self, place: Place) -> Result<(), NoMemory>
+        ensures ascending { IsAscending self.new }
+        ensures entered { OnOk result (self.new ≡ entered self.old place) }
+        ensures err { OnErr result (self.new ≡ self.old) }
+    {
+        let Ok(_) = self.entries.insert(Entry::of(place)) else {
+            return Err(NoMemory);
+        };
+        Ok(())
+    }
+
+    // Takes an entry out, if it is there.
+    pub(crate) fn remove(&mut self, place: Place)
+        ensures ascending { IsAscending self.new }
+        ensures left { self.new ≡ left self.old place }
+    {
+        let _ = self.entries.remove(&Entry::of(place));
+    }
+
+    // The entry next before a place.
+    pub(crate) fn before(&self, place: Place) -> Option<Place>
+        ensures { result ≡ entry_before self.now place }
+    {
+        let range = (Bound::Unbounded, Bound::Excluded(Entry::of(place)));
+        place_of(self.entries.range(range).next_back().copied())
+    }
+
+    // The entry next after a place.
+    pub(crate) fn after(&self, place: Place) -> Option<Place>
+        ensures { result ≡ entry_after self.now place }
+    {
+        let range = (Bound::Excluded(Entry::of(place)), Bound::Unbounded);
+        place_of(self.entries.range(range).next().copied())
+    }
+
+    // The first of all.
+    pub(crate) fn first(&self) -> Option<Place>
+        ensures first { result ≡ first_of self.now }
+        ensures least { (key : ℤ) → key <ℤ i128.MIN → IfSome result (λ e. key <ℤ e.0) }
+    {
+        place_of(self.entries.first().copied())
+    }
+}
+
+fn place_of(found: Option<Entry>) -> Option<Place>
+    ensures place { result ≡ option_map ranked found }
+    ensures least { (key : ℤ) → key <ℤ i128.MIN → IfSome result (λ e. key <ℤ e.0) }
+{
+    match found {
+        Some(entry) => Some(entry.place()),
+        None => None,
+    }
+}
