@@ -19,14 +19,12 @@ use Rattle.liq_rules.specs.History.{own_entries, requests_of, state_after}
 use Rattle.liq_rules.proofs.Histories.{legal-empty, legal-snoc, state-snoc}
 use Rattle.liq_pairs.specs.Past.{AtCommand}
 use Rattle.liq_pairs.proofs.Keeping.{settled_kept}
-use Rattle.liq_store.specs.Answering.{Answers}
-use Rattle.liq_store.specs.Calling.{WritesOn}
-use Rattle.liq_store.specs.Causes.{CausesAnswer, Faults, stopped_after}
 use Rattle.liq_store.specs.Keeping.{IsInOrder, IsInOrderWith}
 use Rattle.liq_store.specs.Memory.{IsAccepted}
 use Rattle.liq_store.specs.Stored.{Stored}
 use Rattle.liq_store.proofs.Past.{goes_on, stops, stops_kept, waits}
 use Rattle.liq_types.specs.declared.entries.Entry.{Entry}
+use Rattle.liq_entries.specs.Entering.{Calls}
 use Rattle.liq_book.specs.declared.items.Halt.{Halt}
 use Rattle.liq_book.specs.declared.items.TheConstants.{ENTRIES_MOST}
 use Rattle.liq_book.specs.Booked.{IsBook, KeepsDisks}
@@ -64,9 +62,6 @@ a_halt None stopped sum is some = absurd (let e : Some sum ≡ None = sym some �
 a_halt (Some halt) stopped sum is some = let e : Some halt.faults ≡ Some sum = sym is ∙ some in cc
 
 module _ {D : Type 0} (seen : D → Option (List ℕ)) (faults : D → ℕ) (moment : D → ℕ) (left_at : D → ℕ → List ℕ → Type 0) where
-  abbrev pub faults_in : Stored D → Faults
-  faults_in store = record { left = faults store.left; right = faults store.right }
-
   pub goes_from : (origin : DiskAt) (old new : D) → GoesOnFrom origin moment left_at old → GoesOn moment left_at old new → GoesOnFrom origin moment left_at new
   goes_from origin old new from on = record {
     later = omega (arith, from.later, on.later);
@@ -74,15 +69,9 @@ module _ {D : Type 0} (seen : D → Option (List ℕ)) (faults : D → ℕ) (mom
     kept = λ k image early there. on.kept k image (omega (arith, from.later, early)) (from.kept k image early there);
   }
 
-  -- what the clauses of the store say of a call that a book makes
-  pub record Calls (old : Stored D) (request : Request) (a : Answer) (new : Stored D) : Type 0 where
-    pub stopped : (sum : ℕ) → old.stopped ≡ Some sum → (a ≡ answer.Stopped sum) × (new ≡ old)
-    pub step_is : old.stopped ≡ None → (s : State) → StandsFor old.core s → Answers s request a new.core
-    pub stops : new.stopped ≡ stopped_after old.stopped a (faults_in new)
-    pub cause : CausesAnswer a (faults_in old) (faults_in new)
-    pub disks : WritesOn seen moment left_at old request a new
-    pub ordered : IsInOrder seen moment left_at old
-    pub order : IsInOrder seen moment left_at new
+  -- a call at the book's store
+  abbrev pub Called : Stored D → Request → Answer → Stored D → Type 0
+  Called old request a new = Calls seen faults moment left_at old request a new
 
   -- a store that goes on keeps its disks for its state
   pub going_keeps : (store : Stored D) (s : State) → IsInOrder seen moment left_at store → store.stopped ≡ None → StandsFor store.core s → KeepsDisks seen moment left_at None s store
@@ -142,9 +131,9 @@ module _ {D : Type 0} (seen : D → Option (List ℕ)) (faults : D → ℕ) (mom
     -- a reply is entered
     pub enters : (old new : Stored D) (entries : List Entry) (halt : Option Halt) (request : Request) (reply : Reply) (session calls : ℕ)
         → Booking old entries halt → length entries < ENTRIES_MOST → length (own_entries session (map recorded entries)) ≡ calls
-        → old.stopped ≡ None → Calls old request (answer.Reply reply) new
+        → old.stopped ≡ None → IsInOrder seen moment left_at old → Called old request (answer.Reply reply) new
         → Booking new (entries ++ record { session = session; index = calls + 1; request = request; reply = reply } ∷ []) halt
-    enters old new entries halt request reply session calls b few counted going c =
+    enters old new entries halt request reply session calls b few counted going ordered c =
         let e : Entry = record { session = session; index = calls + 1; request = request; reply = reply } in
         let s : State = state_after base (map recorded entries) in
         let none : halt ≡ None = no_halt halt old.stopped b.halt going in
@@ -165,13 +154,13 @@ module _ {D : Type 0} (seen : D → Option (List ℕ)) (faults : D → ℕ) (mom
               subst (λ requests. KeepsPast seen moment left_at left_origin right_origin base requests None new) (sym (requests_more entries e))
               (λ l r told_left told_right.
               goes_on seen moment left_at may_stay (since_origin left_origin right_origin) l r base (requests_of (map recorded entries)) old new
-              (past_of old entries halt none b l r told_left told_right) c.ordered request reply still (c.step_is going) c.disks);
+              (past_of old entries halt none b l r told_left told_right) ordered request reply still (c.step_is going) c.disks);
         })
 
     -- without memory nothing happened
     pub stays : (old new : Stored D) (entries : List Entry) (halt : Option Halt) (request : Request)
-        → Booking old entries halt → old.stopped ≡ None → Calls old request answer.NoMemory new → Booking new entries halt
-    stays old new entries halt request b going c =
+        → Booking old entries halt → old.stopped ≡ None → IsInOrder seen moment left_at old → Called old request answer.NoMemory new → Booking new entries halt
+    stays old new entries halt request b going ordered c =
         let s : State = state_after base (map recorded entries) in
         let none : halt ≡ None = no_halt halt old.stopped b.halt going in
         let stands = (c.step_is going s b.state).0 in
@@ -187,14 +176,14 @@ module _ {D : Type 0} (seen : D → Option (List ℕ)) (faults : D → ℕ) (mom
           right = goes_from right_origin old.right new.right b.right c.disks.right_time;
           past = λ l r told_left told_right.
               waits seen moment left_at may_stay (since_origin left_origin right_origin) l r base (requests_of (map recorded entries)) old new
-              (past_of old entries halt none b l r told_left told_right) c.ordered request still (c.step_is going) c.disks;
+              (past_of old entries halt none b l r told_left told_right) ordered request still (c.step_is going) c.disks;
         })
 
     -- a fault of a disk is the halt
     pub halts : (old new : Stored D) (entries : List Entry) (halt : Option Halt) (request : Request) (session sum : ℕ)
-        → Booking old entries halt → old.stopped ≡ None → Calls old request answer.DiskFault new → new.stopped ≡ Some sum
+        → Booking old entries halt → old.stopped ≡ None → IsInOrder seen moment left_at old → Called old request answer.DiskFault new → new.stopped ≡ Some sum
         → Booking new entries (Some (record { session = session; request = request; faults = sum }))
-    halts old new entries halt request session sum b going c stopped =
+    halts old new entries halt request session sum b going ordered c stopped =
         let s : State = state_after base (map recorded entries) in
         let none : halt ≡ None = no_halt halt old.stopped b.halt going in
         let stands = (c.step_is going s b.state).0 in
@@ -219,20 +208,20 @@ module _ {D : Type 0} (seen : D → Option (List ℕ)) (faults : D → ℕ) (mom
               let earlier = past_of old entries halt none b l r told_left told_right in (
                 AtCommand failed.0,
                 (failed.0, failed.1, refl),
-                stops seen moment left_at may_stay (since_origin left_origin right_origin) l r base (requests_of (map recorded entries)) old new earlier c.ordered request failed.0 failed.1 (c.step_is going) c.disks,
-                stops_kept seen moment left_at may_stay (since_origin left_origin right_origin) l r base (requests_of (map recorded entries)) old new earlier c.ordered request failed.0 failed.1 (c.step_is going) c.disks,
+                stops seen moment left_at may_stay (since_origin left_origin right_origin) l r base (requests_of (map recorded entries)) old new earlier ordered request failed.0 failed.1 (c.step_is going) c.disks,
+                stops_kept seen moment left_at may_stay (since_origin left_origin right_origin) l r base (requests_of (map recorded entries)) old new earlier ordered request failed.0 failed.1 (c.step_is going) c.disks,
               );
         }
 
     -- any other answer leaves the book as it was
     pub others : (old new : Stored D) (entries : List Entry) (halt : Option Halt) (request : Request) (a : Answer)
-        → Booking old entries halt → Calls old request a new
+        → Booking old entries halt → IsInOrder seen moment left_at old → Called old request a new
         → ((reply : Reply) → a ≡ answer.Reply reply → ⊥) → (a ≡ answer.DiskFault → ⊥)
         → Booking new entries halt
-    others old new entries halt request a b c no_reply no_fault = by_stop old.stopped refl where
+    others old new entries halt request a b ordered c no_reply no_fault = by_stop old.stopped refl where
       going_on : (a' : Answer) → a ≡ a' → old.stopped ≡ None → Booking new entries halt
       going_on (answer.Reply reply) is going = absurd (no_reply reply is)
-      going_on answer.NoMemory is going = stays old new entries halt request b going (rw is at c)
+      going_on answer.NoMemory is going = stays old new entries halt request b going ordered (rw is at c)
       going_on answer.DiskFault is going = absurd (no_fault is)
       going_on (answer.Stopped faults) is going = absurd (rw is at (c.step_is going (state_after base (map recorded entries)) b.state))
       going_on (answer.HistoryFull most) is going = absurd (rw is at (c.step_is going (state_after base (map recorded entries)) b.state))
@@ -243,7 +232,7 @@ module _ {D : Type 0} (seen : D → Option (List ℕ)) (faults : D → ℕ) (mom
 
     -- what any other answer says of the book
     pub others_answer : (first old new : Stored D) (entries : List Entry) (halt : Option Halt) (request : Request) (a : Answer) (session calls : ℕ)
-        → Booking old entries halt → Calls old request a new → length entries < ENTRIES_MOST
+        → Booking old entries halt → Called old request a new → length entries < ENTRIES_MOST
         → ((reply : Reply) → a ≡ answer.Reply reply → ⊥) → (a ≡ answer.DiskFault → ⊥)
         → Enters base session calls request a (record { store = first; entries = entries; halt = halt }) (record { store = new; entries = entries; halt = halt }) × IsTestedFirst entries a
     others_answer first old new entries halt request a session calls b c few no_reply no_fault = by_stop old.stopped refl where

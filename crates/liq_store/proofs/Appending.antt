@@ -1,5 +1,5 @@
 -- What an append leaves of a store.
-use Rattle.std.proofs.Common.{◌≡◌, ◌⊎◌, ◌↔◌, inl, inr, ⊎_elim, ℕ, ◌≤◌, List, [], ◌∷◌, length, Bool, true, false, Option, Some, None, Ok, IfSome, IsSome, refl, sym, ◌∙◌, ap, subst, arith, length-append}
+use Rattle.std.proofs.Common.{◌≡◌, ◌⊎◌, ◌↔◌, inl, inr, ⊎_elim, ℕ, ◌≤◌, List, [], ◌∷◌, length, Bool, true, false, Option, Some, None, IfSome, IsSome, refl, sym, ◌∙◌, ap, subst, arith, length-append}
 use Rattle.liq_outside.specs.Disk.{GoesOn, LeavesOnly, LeftNow, LeftSince, Only}
 use Rattle.liq_outside.proofs.Moments.{at_last, unmoved}
 use Rattle.liq_types.specs.declared.events.ListChange.{ListChange}

@@ -17,44 +17,28 @@ enter-requires-clause-calls g c =
 
 pub invariant_of-self-in-Reply : goal.invariant_of-self-in-Reply
 invariant_of-self-in-Reply g c =
-    let going : c.forget_opening.new.store.stopped ≡ None = goes _ (λ sum is. let no = (c.in-Reply.ensures.stopped sum is).0 in cc) in
+    let going : c.forget_opening.new.store.stopped ≡ None = goes _ (λ sum is. let no = (c.in-Reply.ensures.store.stopped sum is).0 in cc) in
     let book = forgets _ _ _ _ g.met.D.Disk.seen_may_stay _ _ _ _ _ _ _ _ c.forget_opening.ensures.store c.self.invariant.0 in
     rw (c.in-Reply.ensures.entered, c.try_reserve.ensures.items) (
       enters _ _ _ _ g.met.D.Disk.seen_may_stay _ _ _ _ _ _ _ _ _ _ _
           book (omega (arith, c.if-len-eq-ENTRIES_MOST.false, c.len.ensures, c.self.invariant.0.few, c.self.inside.entries.ok.0)) (rw (← c.self.view_is) at c.requires.calls) going
-          (record {
-            stopped = c.in-Reply.ensures.stopped;
-            step_is = c.in-Reply.ensures.step;
-            stops = c.in-Reply.ensures.stops;
-            cause = c.in-Reply.ensures.cause;
-            disks = c.in-Reply.ensures.disks;
-            ordered = c.forget_opening.ensures.order;
-            order = c.in-Reply.ensures.order;
-          }),
+          c.forget_opening.ensures.order c.in-Reply.ensures.store,
       entry_more _ c.forget_opening.new.store _ _ _ c.self.inside.halt _ _ _ (nothing_more _ _ c.forget_opening.new.store _ _ c.self.inside.halt _ _ c.self.invariant.1 (rw (c.as_slice.ensures.value, c.try_reserve.ensures.items) at c.forget_opening.ensures.changes))
-          (subst (λ (core : Core). IsSoundImage core.image core.records) c.protocol.ensures c.protocols_are_sound.ensures) book.state (c.in-Reply.ensures.told _ book.state),
+          (subst (λ (core : Core). IsSoundImage core.image core.records) c.protocol.ensures c.protocols_are_sound.ensures) book.state (c.in-Reply.ensures.store.tells _ book.state),
     )
 
 pub invariant_of-self-in-DiskFault : goal.invariant_of-self-in-DiskFault
 invariant_of-self-in-DiskFault g c =
-    let going : c.forget_opening.new.store.stopped ≡ None = goes _ (λ sum is. let no = (c.in-DiskFault.ensures.stopped sum is).0 in cc) in
+    let going : c.forget_opening.new.store.stopped ≡ None = goes _ (λ sum is. let no = (c.in-DiskFault.ensures.store.stopped sum is).0 in cc) in
     let book = forgets _ _ _ _ g.met.D.Disk.seen_may_stay _ _ _ _ _ _ _ _ c.forget_opening.ensures.store c.self.invariant.0 in
     let sum : ℕ = sum_of (record { left = g.D.Disk.faults c.enter.new.store.left; right = g.D.Disk.faults c.enter.new.store.right }) in
-    let stopped : c.enter.new.store.stopped ≡ Some sum = c.in-DiskFault.ensures.stops ∙ ap (λ o. stopped_after o answer.DiskFault (record { left = g.D.Disk.faults c.enter.new.store.left; right = g.D.Disk.faults c.enter.new.store.right })) going in
+    let stopped : c.enter.new.store.stopped ≡ Some sum = c.in-DiskFault.ensures.store.stops ∙ ap (λ o. stopped_after o answer.DiskFault (record { left = g.D.Disk.faults c.enter.new.store.left; right = g.D.Disk.faults c.enter.new.store.right })) going in
     let halt = c.halt_by-self-inside.ensures ∙ ap (option_map (λ sum. record { session = c.args.session; request = c.args.request.now; faults = sum })) (c.stopped.ensures.sum ∙ stopped) in
     rw (c.in-DiskFault.ensures.entered, c.try_reserve.ensures.items, halt) (
       halts _ _ _ _ g.met.D.Disk.seen_may_stay _ _ _ _ _ _ _ c.args.request.now c.args.session sum book going
-          (record {
-            stopped = c.in-DiskFault.ensures.stopped;
-            step_is = c.in-DiskFault.ensures.step;
-            stops = c.in-DiskFault.ensures.stops;
-            cause = c.in-DiskFault.ensures.cause;
-            disks = c.in-DiskFault.ensures.disks;
-            ordered = c.forget_opening.ensures.order;
-            order = c.in-DiskFault.ensures.order;
-          }) stopped,
+          c.forget_opening.ensures.order c.in-DiskFault.ensures.store stopped,
       nothing_more _ c.forget_opening.new.store c.enter.new.store _ c.self.inside.halt _ _ _ (nothing_more _ _ c.forget_opening.new.store _ _ c.self.inside.halt _ _ c.self.invariant.1 (rw (c.as_slice.ensures.value, c.try_reserve.ensures.items) at c.forget_opening.ensures.changes))
-          (inl (nothing_told c.forget_opening.new.store c.enter.new.store (state_of_book g.O.Origin.state (record { store = c.forget_opening.new.store; entries = c.self.inside.entries.items; halt = c.self.inside.halt })) c.args.request.now answer.DiskFault (λ reply is. cc) (c.in-DiskFault.ensures.told _ book.state))),
+          (inl (nothing_told c.forget_opening.new.store c.enter.new.store (state_of_book g.O.Origin.state (record { store = c.forget_opening.new.store; entries = c.self.inside.entries.items; halt = c.self.inside.halt })) c.args.request.now answer.DiskFault (λ reply is. cc) (c.in-DiskFault.ensures.store.tells _ book.state))),
     )
 
 pub invariant_of-self-in_default : goal.invariant_of-self-in_default
@@ -62,35 +46,27 @@ invariant_of-self-in_default g c =
     let book = forgets _ _ _ _ g.met.D.Disk.seen_may_stay _ _ _ _ _ _ _ _ c.forget_opening.ensures.store c.self.invariant.0 in
     rw (entries_stay c.args.session c.args.calls c.args.request.now c.enter.result _ _ c.in_default.not-Reply c.enter.ensures.entered, c.try_reserve.ensures.items) (
       others _ _ _ _ g.met.D.Disk.seen_may_stay _ _ _ _ _ _ _ c.args.request.now c.enter.result
-          book (record {
-            stopped = c.enter.ensures.stopped;
-            step_is = c.enter.ensures.step;
-            stops = c.enter.ensures.stops;
-            cause = c.enter.ensures.cause;
-            disks = c.enter.ensures.disks;
-            ordered = c.forget_opening.ensures.order;
-            order = c.enter.ensures.order;
-          }) c.in_default.not-Reply c.in_default.not-DiskFault,
+          book c.forget_opening.ensures.order c.enter.ensures.store c.in_default.not-Reply c.in_default.not-DiskFault,
       nothing_more _ c.forget_opening.new.store c.enter.new.store _ c.self.inside.halt _ _ _ (nothing_more _ _ c.forget_opening.new.store _ _ c.self.inside.halt _ _ c.self.invariant.1 (rw (c.as_slice.ensures.value, c.try_reserve.ensures.items) at c.forget_opening.ensures.changes))
-          (inl (nothing_told c.forget_opening.new.store c.enter.new.store (state_of_book g.O.Origin.state (record { store = c.forget_opening.new.store; entries = c.self.inside.entries.items; halt = c.self.inside.halt })) c.args.request.now c.enter.result c.in_default.not-Reply (c.enter.ensures.told _ book.state))),
+          (inl (nothing_told c.forget_opening.new.store c.enter.new.store (state_of_book g.O.Origin.state (record { store = c.forget_opening.new.store; entries = c.self.inside.entries.items; halt = c.self.inside.halt })) c.args.request.now c.enter.result c.in_default.not-Reply (c.enter.ensures.store.tells _ book.state))),
     )
 
 pub returns-in-Reply-clause-enters : goal.returns-in-Reply-clause-enters
 returns-in-Reply-clause-enters g c =
-    let going : c.forget_opening.new.store.stopped ≡ None = goes _ (λ sum is. let no = (c.in-Reply.ensures.stopped sum is).0 in cc) in
+    let going : c.forget_opening.new.store.stopped ≡ None = goes _ (λ sum is. let no = (c.in-Reply.ensures.store.stopped sum is).0 in cc) in
     let book = forgets _ _ _ _ g.met.D.Disk.seen_may_stay _ _ _ _ _ _ _ _ c.forget_opening.ensures.store c.self.invariant.0 in
     let none = no_halt c.self.inside.halt c.forget_opening.new.store.stopped book.halt going in
-    rw (← c.self.view_is, c.in-Reply.ensures.entered, c.try_reserve.ensures.items) (none, none, refl, sym (c.in-Reply.ensures.step going _ book.state).1)
+    rw (← c.self.view_is, c.in-Reply.ensures.entered, c.try_reserve.ensures.items) (none, none, refl, sym (c.in-Reply.ensures.store.step_is going _ book.state).1)
 
 pub returns-in-Reply-clause-legal : goal.returns-in-Reply-clause-legal
 returns-in-Reply-clause-legal g c = (invariant_of-self-in-Reply g c).0.legal
 
 pub returns-in-DiskFault-clause-enters : goal.returns-in-DiskFault-clause-enters
 returns-in-DiskFault-clause-enters g c =
-    let going : c.forget_opening.new.store.stopped ≡ None = goes _ (λ sum is. let no = (c.in-DiskFault.ensures.stopped sum is).0 in cc) in
+    let going : c.forget_opening.new.store.stopped ≡ None = goes _ (λ sum is. let no = (c.in-DiskFault.ensures.store.stopped sum is).0 in cc) in
     let book = forgets _ _ _ _ g.met.D.Disk.seen_may_stay _ _ _ _ _ _ _ _ c.forget_opening.ensures.store c.self.invariant.0 in
     let sum : ℕ = sum_of (record { left = g.D.Disk.faults c.enter.new.store.left; right = g.D.Disk.faults c.enter.new.store.right }) in
-    let stopped : c.enter.new.store.stopped ≡ Some sum = c.in-DiskFault.ensures.stops ∙ ap (λ o. stopped_after o answer.DiskFault (record { left = g.D.Disk.faults c.enter.new.store.left; right = g.D.Disk.faults c.enter.new.store.right })) going in
+    let stopped : c.enter.new.store.stopped ≡ Some sum = c.in-DiskFault.ensures.store.stops ∙ ap (λ o. stopped_after o answer.DiskFault (record { left = g.D.Disk.faults c.enter.new.store.left; right = g.D.Disk.faults c.enter.new.store.right })) going in
     let halt = c.halt_by-self-inside.ensures ∙ ap (option_map (λ sum. record { session = c.args.session; request = c.args.request.now; faults = sum })) (c.stopped.ensures.sum ∙ stopped) in
     rw (← c.self.view_is) (no_halt c.self.inside.halt c.forget_opening.new.store.stopped book.halt going, c.in-DiskFault.ensures.entered ∙ c.try_reserve.ensures.items, (sum, halt))
 
@@ -100,15 +76,7 @@ returns-in_default g c =
     let says =
     others_answer _ _ _ _ g.met.D.Disk.seen_may_stay _ _ _ c.self.inside.store _ c.enter.new.store _ _
     c.args.request.now c.enter.result c.args.session c.args.calls book
-    (record {
-      stopped = c.enter.ensures.stopped;
-      step_is = c.enter.ensures.step;
-      stops = c.enter.ensures.stops;
-      cause = c.enter.ensures.cause;
-      disks = c.enter.ensures.disks;
-      ordered = c.forget_opening.ensures.order;
-      order = c.enter.ensures.order;
-    })
+    c.enter.ensures.store
     (omega (arith, c.if-len-eq-ENTRIES_MOST.false, c.len.ensures, c.self.invariant.0.few, c.self.inside.entries.ok.0))
     c.in_default.not-Reply c.in_default.not-DiskFault in
     rw (← c.self.view_is, entries_stay c.args.session c.args.calls c.args.request.now c.enter.result _ _ c.in_default.not-Reply c.enter.ensures.entered, c.try_reserve.ensures.items) (record { enters = says.0; first = says.1; legal = book.legal; few = book.few })
