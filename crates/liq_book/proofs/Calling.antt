@@ -24,7 +24,7 @@ use Rattle.liq_store.specs.Memory.{IsAccepted}
 use Rattle.liq_store.specs.Stored.{Stored}
 use Rattle.liq_store.proofs.Past.{goes_on, stops, stops_kept, waits}
 use Rattle.liq_types.specs.declared.entries.Entry.{Entry}
-use Rattle.liq_entries.specs.Entering.{Calls}
+use Rattle.liq_entries.specs.Entering.{IsCalled}
 use Rattle.liq_book.specs.declared.items.Halt.{Halt}
 use Rattle.liq_book.specs.declared.items.TheConstants.{ENTRIES_MOST}
 use Rattle.liq_book.specs.Booked.{IsBook, KeepsDisks}
@@ -71,7 +71,7 @@ module _ {D : Type 0} (seen : D → Option (List ℕ)) (faults : D → ℕ) (mom
 
   -- a call at the book's store
   abbrev pub Called : Stored D → Request → Answer → Stored D → Type 0
-  Called old request a new = Calls seen faults moment left_at old request a new
+  Called old request a new = IsCalled seen faults moment left_at old request a new
 
   -- a store that goes on keeps its disks for its state
   pub going_keeps : (store : Stored D) (s : State) → IsInOrder seen moment left_at store → store.stopped ≡ None → StandsFor store.core s → KeepsDisks seen moment left_at None s store

@@ -5,7 +5,6 @@
 mod book;
 mod boxed;
 mod items;
-mod looking;
 mod origin;
 mod publishing;
 mod seat;

@@ -21,12 +21,14 @@ IsEntered session calls request _ old new = new ≡ old
 
 -- ---- the store
 
-module _ {D : Type 0} (seen : D → Option (List ℕ)) (faults : D → ℕ) (moment : D → ℕ) (left_at : D → ℕ → List ℕ → Type 0) where
+module _
+    {D : Type 0} (seen : D → Option (List ℕ)) (faults : D → ℕ) (moment : D → ℕ)
+    (left_at : D → ℕ → List ℕ → Type 0) where
   abbrev pub faults_in : Stored D → Faults
   faults_in store = record { left = faults store.left; right = faults store.right }
 
-  -- what the store answers, and what it leaves
-  pub record Calls (old : Stored D) (request : Request) (a : Answer) (new : Stored D) : Type 0 where
+  -- what is answered, and what the store is left as
+  pub record IsCalled (old : Stored D) (request : Request) (a : Answer) (new : Stored D) : Type 0 where
     pub stopped : (sum : ℕ) → old.stopped ≡ Some sum → (a ≡ answer.Stopped sum) × (new ≡ old)
     pub step_is : old.stopped ≡ None → (s : State) → StandsFor old.core s → Answers s request a new.core
     pub stops : new.stopped ≡ stopped_after old.stopped a (faults_in new)

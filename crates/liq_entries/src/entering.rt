@@ -1,27 +1,25 @@
 //! A call that is entered.
 ghost use Rattle.std.specs.Prelude.{◌<◌, ◌+◌, ◌^◌, vec_capacity, vec_len};
-ghost use Rattle.liq_entries.specs.Entering.{Calls, IsEntered};
+ghost use Rattle.liq_entries.specs.Entering.{IsCalled, IsEntered};
 
 use liq_outside::Disk;
-use liq_store::{HintAt, Store};
-use liq_types::{Answer, Entry, Request};
+use liq_store::Store;
+use liq_types::{Answer, Entry, Hint, Request};
 
 /// Answers a session's request as `Store::call` does, and enters a reply behind all entries, as the session's next one: so many of
 /// its calls got one before. With any other answer the entries stay. There is room for the entry.
-pub fn enter<D: Disk, H: HintAt + Drop>(
+pub fn enter<D: Disk>(
     store: &mut Store<D>,
     entries: &mut Vec<Entry>,
     session: u8,
     calls: u32,
     request: &Request,
-    hint: H,
+    hint: &Hint,
 ) -> Answer
     requires room { vec_len entries.old < vec_capacity entries.old }
     requires calls { calls + 1 < 2 ^ 32 }
     ensures entered { IsEntered session calls request.now result entries.old.items entries.new.items }
-
-    // What the store answers, and what it leaves.
-    ensures store { Calls D.seen D.faults D.moment D.left_at store.old request.now result store.new }
+    ensures store { IsCalled D.seen D.faults D.moment D.left_at store.old request.now result store.new }
 {
     match store.call(request, hint) {
         Answer::Reply(reply) => {

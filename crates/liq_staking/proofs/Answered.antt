@@ -1,6 +1,6 @@
 -- What stakers are answered at a line, and at the end.
 use Rattle.std.proofs.Common.{◌≡◌, ℕ, ◌-◌, ◌<◌, ◌≤◌, Bool, true, false, cond, ltb, leb, List, [], ◌∷◌, ◌++◌, length, take, drop, Option, Some, None, Result, Ok, Err, refl, sym, ap, subst, ◌∙◌, arith}
-use Rattle.std.specs.Prelude.{fold, ◌||◌, OnOk, IfOk, codes, decimal, map}
+use Rattle.std.specs.Prelude.{fold, ◌||◌, IfOk, codes, decimal, map}
 use Rattle.std.specs.List.{flat_map}
 use Rattle.std.specs.BTreeSet.{insert_key}
 use Rattle.std.specs.Ordering.{nat_cmp}
@@ -24,10 +24,6 @@ use Rattle.liq_staking.proofs.Stakers.{all_same_stakers, one_more_staker}
 use Rattle.liq_staking.proofs.Ways.{shared_happens}
 
 -- ---- what follows of a result
-
-pub on_ok : {T E : Type 0} {P Q : Type 0} (r : Result T E) → (P → Q) → OnOk r P → OnOk r Q
-on_ok (Ok x) f h = f h
-on_ok (Err e) f h = h
 
 pub if_ok : {T E : Type 0} (P Q : T → Type 0) (r : Result T E) → ((x : T) → P x → Q x) → IfOk r P → IfOk r Q
 if_ok P Q (Ok x) f h = f x h

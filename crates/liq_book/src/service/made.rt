@@ -43,17 +43,14 @@ impl<D: Disk, O: Origin> Service<D, O> {
         let Ok(room) = Vec::with_capacity(alloc, sessions as usize) else {
             return Err(store);
         };
-        let Ok((mut publisher, mut finders)) = Publisher::new(alloc, u32::from(sessions) + 1) else {
+        let Ok((mut publisher, finders)) = Publisher::new(alloc, u32::from(sessions)) else {
             return Err(store);
         };
         let Ok(()) = publisher.publish(rt, store.changes(), 0) else {
             publisher.close(rt);
             return Err(store);
         };
-        let Some(finder) = finders.pop() else {
-            unreachable!();
-        };
-        let book = match BoxedBook::new(alloc, Book::new(alloc, store, publisher, finder)) {
+        let book = match BoxedBook::new(alloc, Book::new(alloc, store, publisher)) {
             Ok(book) => book,
             Err(book) => return Err(unused(rt, book)),
         };

@@ -1,10 +1,11 @@
-use Rattle.std.proofs.Common.{◌<◌, List, sym, subst}
+use Rattle.std.proofs.Common.{◌<◌, List, Result, Ok, Err, sym, subst}
+use Rattle.std.specs.Prelude.{OnOk}
 use Rattle.std.proofs.Math.Logic.{∥∥₁_map}
 use Rattle.liq_fees.specs.Happened.{Happened}
 use Rattle.liq_fees.specs.declared.changes.TheConstants.{CHANGES_MOST}
 use Rattle.liq_staking.specs.Answering.{IsAsked}
 use Rattle.liq_staking.specs.Asked.{Asked}
-use Rattle.liq_staking.proofs.Answered.{answered_in, can_share, keys_now, now_past, on_ok, same_count}
+use Rattle.liq_staking.proofs.Answered.{answered_in, can_share, keys_now, now_past, same_count}
 use Rattle.liq_staking.proofs.Sharing.{part_lawful, part_shared}
 use Rattle.liq_staking.proofs.answering.Answering.answer.Goals as goal
 
@@ -27,7 +28,7 @@ change-requires c = record {
 
 pub returns : goal.returns
 returns c =
-    on_ok c.change.result
+    by c.change.result
     (λ changed a h way few.
     let lawful = can_share c.args.fees.now c.args.self.now a c.args.line.now h c.if-line-self.false c.if-most-line.false way c.requires.fees in
     let past : List Happened = now_past c.args.fees.now c.args.self.now a c.args.line.now h in
@@ -40,4 +41,7 @@ returns c =
       text = h.text;
     })
     (subst (λ n. n < CHANGES_MOST) (sym (same_count c.args.fees.now c.args.self.now a c.args.line.now h)) few)))
-    c.change.ensures.asked
+    c.change.ensures.asked where
+      by : {T E : Type 0} {P Q : Type 0} (r : Result T E) → (P → Q) → OnOk r P → OnOk r Q
+      by (Ok x) f h = f h
+      by (Err e) f h = h
