@@ -12,20 +12,22 @@ ghost use Rattle.liq_rules.specs.Step.{step};
 ghost use Rattle.liq_rules.specs.Verbs.{rotates};
 ghost use Rattle.liq_guided.specs.Redone.{IsRedone};
 
+use crate::hint_at::HintAt;
 use crate::redone::RedoFault;
 use liq_core::laws::protocols_stand;
 use liq_core::{PlanFault, Planned, Protocol, Turn, unhinted};
-use liq_guide::Guide;
+use liq_guide::{Guide, last_put};
 use liq_types::{Command, Done, Hint, NoMemory, Query, Reply, Steps};
 use std::alloc::Global;
 use std::marker::Model;
 use std::sync::ledger::Ledger;
 
-/// A protocol whose list is asked with the hint of its guide, as long as that has one. Contracts see the protocol: no hint
+/// A protocol whose list is asked with the hint of its guide, as long as it has one. Contracts see the protocol: no hint
 /// changes it.
 pub struct Guided {
     protocol: Protocol,
-    guide: Guide,
+    // None once it was let go.
+    guide: Option<Guide>,
     // Where the trove stands that the reserved command puts last.
     hint: Option<Hint>,
 }
@@ -57,7 +59,7 @@ impl Guided {
     {
         Guided {
             protocol: Protocol::with_limit(alloc, limit),
-            guide: Guide::new(alloc),
+            guide: Some(Guide::new(alloc)),
             hint: None,
         }
     }
@@ -70,7 +72,7 @@ impl Guided {
         guide.follow(&protocol.list(alloc)?)?;
         Ok(Guided {
             protocol,
-            guide,
+            guide: Some(guide),
             hint: None,
         })
     }
@@ -102,6 +104,14 @@ impl Guided {
             hint: _,
         } = self;
         protocol
+    }
+
+    /// Lets its guide go, for good. Then each hint is the one that is given with a command.
+    pub fn leave_guide(&mut self)
+        ensures { self.new ≡ self.old }
+    {
+        self.guide = None;
+        self.hint = None;
     }
 
     /// The generation of its journal.
@@ -138,20 +148,41 @@ impl Guided {
         ensures room { OnOk result (HasRoom self.new planned.now) }
     {
         self.protocol.reserve(planned)?;
-        self.guide.follow(planned.list_changes())?;
-        self.hint = self.guide.hint(planned.list_changes());
+        self.hint = match &mut self.guide {
+            Some(guide) => {
+                guide.follow(planned.list_changes())?;
+                guide.hint(planned.list_changes())
+            }
+            None => None,
+        };
         Ok(())
     }
 
     /// Makes the planned command's step, for which room was reserved. The hint that is given counts where the guide has none.
-    pub fn apply<L: Ledger>(&mut self, planned: Planned, hint: &Hint, steps: &mut Steps<L>) -> Done
+    pub fn apply<L: Ledger, H: HintAt + Drop>(
+        &mut self,
+        planned: Planned,
+        hint: H,
+        steps: &mut Steps<L>,
+    ) -> Done
         requires planned { IsPlannedOn self.old planned }
         requires room { HasRoom self.old planned }
         ensures state { (s : State) → StandsFor self.old s → StandsFor self.new (step s (Do planned.command)).0 }
         ensures reply { (s : State) → StandsFor self.old s → (step s (Do planned.command)).1 ≡ Said result }
     {
-        let hint = self.hint.unwrap_or(*hint);
+        let hint = self.hint_or(&planned, hint);
         self.protocol.apply(planned, &hint, steps)
+    }
+
+    // The guide's hint, or the one that is given for the trove that the command puts last.
+    fn hint_or<H: HintAt + Drop>(&self, planned: &Planned, given: H) -> Hint {
+        if let Some(hint) = self.hint {
+            return hint;
+        }
+        match last_put(planned.list_changes()) {
+            Some((key, account)) => given.hint_at(key, account),
+            None => Hint::NONE,
+        }
     }
 
     /// Makes the step of a command that was accepted long ago, without its own hint words. Where it makes none all is as

@@ -2,7 +2,9 @@
 #![tactic(auto)]
 
 mod guided;
+mod hint_at;
 mod redone;
 
 pub use guided::Guided;
+pub use hint_at::HintAt;
 pub use redone::RedoFault;

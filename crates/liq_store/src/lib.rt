@@ -13,6 +13,7 @@ mod store;
 mod telling;
 
 pub use answers::{StoreFault, StoreWhy};
+pub use liq_guided::HintAt;
 pub use liq_pairs::Side;
 pub use liq_records::AcceptedFault;
 pub use store::Store;

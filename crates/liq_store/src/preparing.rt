@@ -10,8 +10,8 @@ ghost use Rattle.liq_store.specs.Preparing.{HasRoomBehind, IsPrepared, IsReady};
 
 use liq_core::laws::protocols_stand;
 use liq_core::{PlanFault, Planned, Turn};
-use liq_guided::Guided;
-use liq_types::{Command, Done, Hint, ListChange, Refusal, Steps};
+use liq_guided::{Guided, HintAt};
+use liq_types::{Command, Done, ListChange, Refusal, Steps};
 use std::sync::ledger::{Blank, Ledger};
 
 // What comes of a command before anything is written.
@@ -53,7 +53,12 @@ pub fn prepare(protocol: &mut Guided, changes: &mut Vec<ListChange>, command: &C
 }
 
 // Makes the step of a planned command. Its steps are counted on a ledger of their own.
-pub fn make<L: Ledger>(protocol: &mut Guided, planned: Planned, hint: &Hint, blank: Blank) -> Done
+pub fn make<L: Ledger, H: HintAt + Drop>(
+    protocol: &mut Guided,
+    planned: Planned,
+    hint: H,
+    blank: Blank,
+) -> Done
     requires name { blank.name ≡ L.name }
     requires parts { blank.parts ≡ L.parts }
     requires one { L.parts ≡ 1 }
