@@ -17,7 +17,7 @@ use crate::redone::RedoFault;
 use liq_core::laws::protocols_stand;
 use liq_core::{PlanFault, Planned, Protocol, Turn, unhinted};
 use liq_guide::{Guide, last_put};
-use liq_types::{Command, Done, Hint, NoMemory, Query, Reply, Steps};
+use liq_types::{Command, Done, Hint, ListChange, NoMemory, Query, Reply, Steps};
 use std::alloc::Global;
 use std::marker::Model;
 use std::sync::ledger::Ledger;
@@ -158,11 +158,13 @@ impl Guided {
         Ok(())
     }
 
-    /// Makes the planned command's step, for which room was reserved. The hint that is given counts where the guide has none.
+    /// Makes the planned command's step, for which room was reserved. The hint that is given counts where the guide has none: it
+    /// is asked with all that changed in the list since what is known there, the planned changes last.
     pub fn apply<L: Ledger, H: HintAt + Drop>(
         &mut self,
         planned: Planned,
         hint: H,
+        changes: &[ListChange],
         steps: &mut Steps<L>,
     ) -> Done
         requires planned { IsPlannedOn self.old planned }
@@ -170,17 +172,22 @@ impl Guided {
         ensures state { (s : State) → StandsFor self.old s → StandsFor self.new (step s (Do planned.command)).0 }
         ensures reply { (s : State) → StandsFor self.old s → (step s (Do planned.command)).1 ≡ Said result }
     {
-        let hint = self.hint_or(&planned, hint);
+        let hint = self.hint_or(&planned, hint, changes);
         self.protocol.apply(planned, &hint, steps)
     }
 
     // The guide's hint, or the one that is given for the trove that the command puts last.
-    fn hint_or<H: HintAt + Drop>(&self, planned: &Planned, given: H) -> Hint {
+    fn hint_or<H: HintAt + Drop>(
+        &self,
+        planned: &Planned,
+        given: H,
+        changes: &[ListChange],
+    ) -> Hint {
         if let Some(hint) = self.hint {
             return hint;
         }
         match last_put(planned.list_changes()) {
-            Some((key, account)) => given.hint_at(key, account),
+            Some(_) => given.hint_at(changes),
             None => Hint::NONE,
         }
     }
@@ -205,7 +212,7 @@ impl Guided {
         };
         match self.reserve(&planned) {
             Ok(()) => {
-                let _ = self.apply(planned, &Hint::NONE, steps);
+                let _ = self.apply(planned, &Hint::NONE, &[], steps);
                 Ok(())
             }
             Err(NoMemory) => Err(RedoFault::NoMemory),

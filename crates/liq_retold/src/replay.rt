@@ -83,7 +83,7 @@ fn make<O: Onlooker, L: Ledger>(
     let planned = plan(protocol, command, index)?;
     onlooker.see(protocol.protocol(), &planned)?;
     protocol.reserve(&planned)?;
-    protocol.apply(planned, &Hint::NONE, steps);
+    protocol.apply(planned, &Hint::NONE, &[], steps);
     Ok(())
 }
 

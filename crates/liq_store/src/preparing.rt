@@ -52,11 +52,12 @@ pub fn prepare(protocol: &mut Guided, changes: &mut Vec<ListChange>, command: &C
     }
 }
 
-// Makes the step of a planned command. Its steps are counted on a ledger of their own.
+// Makes the step of a planned command, behind changes of the list with its own last. Its steps are counted on a ledger of their own.
 pub fn make<L: Ledger, H: HintAt + Drop>(
     protocol: &mut Guided,
     planned: Planned,
     hint: H,
+    changes: &[ListChange],
     blank: Blank,
 ) -> Done
     requires name { blank.name ≡ L.name }
@@ -68,5 +69,5 @@ pub fn make<L: Ledger, H: HintAt + Drop>(
     ensures reply { (s : State) → StandsFor protocol.old s → (step s (Do planned.command)).1 ≡ Said result }
 {
     let mut steps = Steps::<L>::new(blank);
-    protocol.apply(planned, hint, &mut steps)
+    protocol.apply(planned, hint, changes, &mut steps)
 }

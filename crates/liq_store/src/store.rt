@@ -214,7 +214,13 @@ impl<D: Disk> Store<D> {
             };
             self.side = side;
             // A rotation changes nothing in the list.
-            let done = make::<Brand, H>(&mut self.protocol, planned, hint, Blank::new(1));
+            let done = make::<Brand, H>(
+                &mut self.protocol,
+                planned,
+                hint,
+                &self.changes,
+                Blank::new(1),
+            );
             return Answer::Reply(Reply::Said(done));
         }
         match write_record(&mut self.taken, command) {
@@ -225,7 +231,13 @@ impl<D: Disk> Store<D> {
             }
         }
         note(&mut self.changes, planned.list_changes());
-        let done = make::<Brand, H>(&mut self.protocol, planned, hint, Blank::new(1));
+        let done = make::<Brand, H>(
+            &mut self.protocol,
+            planned,
+            hint,
+            &self.changes,
+            Blank::new(1),
+        );
         Answer::Reply(Reply::Said(done))
     }
 
