@@ -9,6 +9,7 @@ ghost use Rattle.liq_views.specs.Publishers.{published, waiting};
 ghost use Rattle.liq_book.specs.Items.{chronicle};
 
 use crate::items::{ENTRIES_MOST, Halt};
+use crate::looking::Looking;
 use crate::origin::Origin;
 use crate::service::Closed;
 use liq_core::laws::protocols_are_sound;
@@ -16,7 +17,7 @@ use liq_entries::{enter, publish};
 use liq_outside::Disk;
 use liq_store::Store;
 use liq_types::{Answer, Entry, Hint, NoMemory, Request};
-use liq_views::Publisher;
+use liq_views::{Finder, Publisher};
 use std::alloc::Global;
 use std::marker::{Model, PhantomData};
 use std::sync::Wait;
@@ -65,6 +66,8 @@ impl History {
 pub struct Book<D: Disk, O: Origin> {
     pub(crate) store: Store<D>,
     pub(crate) publisher: Publisher,
+    // It looks at what was published last.
+    pub(crate) finder: Finder,
     pub(crate) entries: Vec<Entry>,
     pub(crate) halt: Option<Halt>,
     pub(crate) of: PhantomData<O>,
@@ -91,7 +94,12 @@ impl<D: Disk, O: Origin> Book<D, O> {
     ghost use Rattle.liq_book.specs.Publishing.{batch_of, open_book};
 
     /// A book without entries, over a store that was never stopped, whose opened list was published.
-    pub(crate) fn new(alloc: Global, store: Store<D>, publisher: Publisher) -> Book<D, O>
+    pub(crate) fn new(
+        alloc: Global,
+        store: Store<D>,
+        publisher: Publisher,
+        finder: Finder,
+    ) -> Book<D, O>
         requires going { store.stopped ≡ None }
         requires origin { IsAtOrigin D.seen D.faults D.moment D.left_at O.state O.left O.right store }
         requires listed { TellsList store }
@@ -104,6 +112,7 @@ impl<D: Disk, O: Origin> Book<D, O> {
         Book {
             store,
             publisher,
+            finder,
             entries: Vec::new(alloc),
             halt: None,
             of: PhantomData,
@@ -128,6 +137,7 @@ impl<D: Disk, O: Origin> Book<D, O> {
         let Book {
             store,
             publisher,
+            finder: _,
             entries: _,
             halt: _,
             of: _,
@@ -143,6 +153,7 @@ impl<D: Disk, O: Origin> Book<D, O> {
         let Book {
             store,
             publisher,
+            finder: _,
             entries,
             halt,
             of,
@@ -174,13 +185,17 @@ impl<D: Disk, O: Origin> Book<D, O> {
         }
         forget_opening(&mut self.store, self.entries.as_slice());
         protocols_are_sound(self.store.protocol());
+        let looking = Looking {
+            finder: &mut self.finder,
+            given: hint,
+        };
         match enter(
             &mut self.store,
             &mut self.entries,
             session,
             calls,
             request,
-            hint,
+            looking,
         ) {
             Answer::Reply(reply) => Answer::Reply(reply),
             Answer::DiskFault => {

@@ -5,6 +5,7 @@
 mod book;
 mod boxed;
 mod items;
+mod looking;
 mod origin;
 mod publishing;
 mod seat;
@@ -13,6 +14,7 @@ mod service;
 pub use book::{Book, History};
 pub use items::{ENTRIES_MOST, Halt, Item};
 pub use liq_types::Entry;
+pub use looking::Looking;
 pub use origin::Origin;
 pub use publishing::Publishing;
 pub use seat::BookSeat;

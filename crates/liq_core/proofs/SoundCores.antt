@@ -1,8 +1,7 @@
 -- A sound core: what is read of it, and what a change leaves of it.
-use Rattle.std.proofs.Common.{◌≡◌, ℕ, ◌+◌, ◌≤◌, true, nat_le, List, [], ◌∷◌, refl, ap, sym, subst, arith}
-use Rattle.std.specs.Prelude.{◌&&◌, sum_by}
+use Rattle.std.proofs.Common.{◌≡◌, ℕ, ◌+◌, ◌≤◌, refl, ap, sym, subst, arith}
+use Rattle.std.specs.Prelude.{sum_by}
 use Rattle.std.specs.BTreeMap.{is_at}
-use Rattle.std.specs.List.{AllByRecursion, list_all}
 use Rattle.std.specs.Map.{values_of}
 use Rattle.std.specs.Ordering.{nat_cmp}
 use Rattle.std.proofs.lemmas.Map.Entries.{sum_by-remove_entry}
@@ -12,10 +11,9 @@ use Rattle.liq_types.specs.declared.requests.Call.{Call}
 use Rattle.liq_types.specs.declared.image.Image.{Image}
 use Rattle.liq_types.specs.Image.{IsLimit}
 use Rattle.liq_types.specs.Payments.{charged_in}
-use Rattle.liq_types.specs.Soundness.{IsSoundImage, is_before}
+use Rattle.liq_types.specs.Soundness.{IsSoundImage}
 use Rattle.liq_types.specs.State.{State, wallet_in}
-use Rattle.liq_types.specs.Tables.{Place, Table, at}
-use Rattle.liq_types.specs.WellFormed.{IsBefore}
+use Rattle.liq_types.specs.Tables.{Table, at}
 use Rattle.liq_order.specs.Order.{order_by}
 use Rattle.liq_core.specs.declared.engine.Protocol.TheInside.{Inside}
 use Rattle.liq_core.specs.Core.{Core, Changes, StandsFor, state_of}
@@ -24,20 +22,11 @@ use Rattle.liq_rules.specs.Rules.{effect}
 use Rattle.liq_core.specs.Sound.{IsSound, core_of}
 use Rattle.liq_rules.proofs.Moving.{read_or, charged_lusd}
 use Rattle.liq_soundness.proofs.SoundFacts.{Finds, Leaves, balanced_by, limit_most}
-use Rattle.liq_rules.proofs.SoundRules.{both_first, both_second}
 use Rattle.liq_soundness.proofs.SoundStart.{started_with, finished_before}
 use Rattle.liq_soundness.proofs.SoundTests.{SoundFacts, sound_facts, facts_sound, stakes_added}
 use Rattle.liq_rules.proofs.Started.{started_image, started_formed}
-use Rattle.liq_stability.proofs.Tests.{before_in}
 
 -- ---- the state that begins with a sound image
-
-all_earlier : (most : ℕ) (place : Place) (table : List (Place × ℕ)) → list_all (λ (row : Place × ℕ). nat_le row.1 most && is_before row.0 place) table ≡ true → AllByRecursion (λ (row : Place × ℕ). IsBefore row.0 place) table
-all_earlier most place [] h = tt
-all_earlier most place (row ∷ table) h = (
-  before_in row.0 place (both_second (nat_le row.1 most) _ (both_first _ _ h)),
-  all_earlier most place table (both_second (nat_le row.1 most && is_before row.0 place) _ h),
-)
 
 module _ (core : Core) (h : IsSoundImage core.image core.records) where
   pub image_back : image (state_of core) ≡ core.image
@@ -69,9 +58,6 @@ module _ (core : Core) (h : IsSoundImage core.image core.records) where
 
   pub limit_within : core.image.limit ≤ LIM
   limit_within = limit_most core.image.limit limit_is
-
-  pub brought_within : core.image.brought ≤ LIM
-  brought_within = core_facts.balanced.coll_limit
 
   pub wallets_within : sum_by (λ (w : Wallet). w.lusd) (values_of core.image.wallets) ≤ LIM
   wallets_within =

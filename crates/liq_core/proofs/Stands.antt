@@ -1,6 +1,6 @@
 -- The states for which a core stands: what is ruled, planned and done for one of them is so for each.
 use Rattle.std.proofs.Common.{◌≡◌, ℕ, true, subst, Option, refl, ap, sym, ◌∙◌}
-use Rattle.std.specs.Prelude.{false, Result}
+use Rattle.std.specs.Prelude.{Result}
 use Rattle.liq_types.specs.declared.replies.Refusal.{Refusal}
 use Rattle.liq_types.specs.declared.figures.Market.{Market}
 use Rattle.liq_types.specs.declared.requests.Call.{Call}

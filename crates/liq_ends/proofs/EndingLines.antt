@@ -35,11 +35,6 @@ pub rose_later : (a b c : ℕ) → a ≤ b → Rose b c → Rose a c
 rose_later a b c le (inl lt) = inl (omega (arith, le, lt))
 rose_later a b c le (inr most) = inr most
 
--- and a fault of a part of a call is one of the whole
-pub rose_earlier : (a b c : ℕ) → b ≤ c → Rose a b → Rose a c
-rose_earlier a b c le (inl lt) = inl (omega (arith, le, lt))
-rose_earlier a b c le (inr most) = inr (omega (arith, le, most))
-
 pub adds_weaker : (line : List ℕ) (F G : Type 0) (before now : Option (List ℕ)) → (F → G) → Adds [] line F before now → Adds [] line G before now
 adds_weaker line F G before now f a = (a.0, a.1, by a.2) where
   by : (a.0 ≡ line) ⊎ (F × IsFrontOf a.0 line) → (a.0 ≡ line) ⊎ (G × IsFrontOf a.0 line)

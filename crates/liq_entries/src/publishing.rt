@@ -9,8 +9,8 @@ use liq_types::NoMemory;
 use liq_views::Publisher;
 use std::sync::Wait;
 
-/// Publishes what the store has to tell of its list, as this version, and lets it go. Without memory the store keeps it, and it goes
-/// out with the next publication.
+/// Publishes what the store has to tell of its list, as this version, and lets that go, with the guide of the list: what was published
+/// last and the changes since are as good a guide. Without memory the store keeps both, and tells the same at the next publication.
 pub fn publish<D: Disk, W: Wait>(
     store: &mut Store<D>,
     publisher: &mut Publisher,
@@ -29,6 +29,7 @@ pub fn publish<D: Disk, W: Wait>(
     match publisher.publish(rt, store.changes(), number) {
         Ok(()) => {
             store.clear_changes();
+            store.drop_guide();
             Ok(())
         }
         Err(NoMemory) => Err(NoMemory),

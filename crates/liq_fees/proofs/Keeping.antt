@@ -103,9 +103,6 @@ module _ (k : Kept) (past : List Happened) (h : IsKeptOf k past) where
   pub few_shares : k.shares ≤ FEES_MOST
   few_shares = let most = shares_most past in omega (arith, most, h.shares, h.lawful.fees)
 
-  pub small_staked : k.staked ≤ STAKED_MOST
-  small_staked = let most = staked_least STAKED_MOST past h.lawful.staked in omega (arith, most, h.staked)
-
   pub small_stake : (account : ℕ) → (staker_in k.stakers account).stake ≤ k.staked
   small_stake account =
       let n = ACCOUNTS + account + 1 in
@@ -150,25 +147,6 @@ reads k some account = record {
   later = ∥∥₁_elim some (search props) (λ p. (can_be_read k p.0 p.1 account).later);
   weight = ∥∥₁_elim some (search props) (λ p. (can_be_read k p.0 p.1 account).weight);
   changes = ∥∥₁_elim some (search props) (λ p. (can_be_read k p.0 p.1 account).changes);
-}
-
--- ---- nothing
-
-pub nothing_kept : IsKeptOf (record { staked = 0; shares = 0; coll = record { sum = 0; unshared = 0 }; lusd = record { sum = 0; unshared = 0 }; stakers = [] }) []
-nothing_kept = record {
-  lawful = record { covered = tt; staked = tt; owners = tt; coll = omega arith; lusd = omega arith; changes = omega arith; fees = omega arith };
-  staked = refl;
-  shares = refl;
-  coll = record { sum = refl; unshared = refl };
-  lusd = record { sum = refl; unshared = refl };
-  stakers = λ account. record {
-    stake = refl;
-    coll = record { mark = refl; got = refl };
-    lusd = record { mark = refl; got = refl };
-    changes = refl;
-    shares = omega arith;
-    weight = refl;
-  };
 }
 
 -- ---- a fee

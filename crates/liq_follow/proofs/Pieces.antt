@@ -1,8 +1,8 @@
 -- The bytes of the input, piece by piece.
-use Rattle.std.proofs.Common.{◌≡◌, inr, ℕ, ◌+◌, ◌≤◌, ◌<◌, List, [], ◌++◌, length, take, drop, get_or, Option, Some, None, refl, sym, ap, subst, ◌∙◌, append_assoc, arith}
+use Rattle.std.proofs.Common.{◌≡◌, inr, ℕ, ◌+◌, ◌≤◌, ◌<◌, List, ◌++◌, length, take, drop, get_or, Option, Some, None, refl, sym, ap, subst, ◌∙◌, append_assoc, arith}
 use Rattle.std.specs.Prelude.{option_map, IfSome}
 use Rattle.std.proofs.lemmas.List.{drop_more, take-append-drop, take_all}
-use Rattle.liq_lines.specs.Reading.{IsOver, Reads}
+use Rattle.liq_lines.specs.Reading.{Reads}
 use Rattle.liq_follower.specs.Fed.{AreOver, Completes, EndsWith, GoOn}
 use Rattle.liq_follower.specs.Following.{Followed, IsFed}
 use Rattle.liq_follower.specs.declared.answers.FedEnd.{FedEnd}
@@ -19,11 +19,6 @@ taken None after n held rest bytes = sym (ap (λ (o : Option (List ℕ)). option
 taken (Some all) after n held rest bytes =
     ap Some (sym (ap (λ (xs : List ℕ). xs ++ drop n all) bytes.1 ∙ take-append-drop n all))
     ∙ sym (ap (λ (o : Option (List ℕ)). option_map (λ left. take n held ++ left) o) rest)
-
--- a source of which nothing was left
-pub still_over : (before after : Option (List ℕ)) → after ≡ option_map (drop 0) before → IfSome before (λ bytes. bytes ≡ []) → IsOver after
-still_over None after rest none = subst IsOver (sym rest) tt
-still_over (Some all) after rest none = subst IsOver (sym rest) none
 
 -- ---- a piece that was fed
 

@@ -8,7 +8,6 @@ use Rattle.liq_follower.specs.Fed.{GoOn}
 use Rattle.liq_follower.specs.Following.{Followed, IsFed}
 use Rattle.liq_ends.specs.declared.halts.Halt.{Halt}
 use Rattle.liq_ends.specs.declared.halts.Halt.TheVariants.{BadLine, ReadFault, WriteFault, DiskFault, Damaged, DamagedInput, NoMemory, Limit, Rotated}
-use Rattle.liq_ends.specs.Causes.{ReadCause}
 use Rattle.liq_follow.specs.declared.feeding.TheConstants.{FED_MOST}
 use Rattle.liq_ends.specs.Further.{IsFurther}
 use Rattle.liq_follow.specs.Feeding.{FedAll, FedNext}
@@ -94,17 +93,3 @@ module _ (start left : Option (List ℕ)) (room : ℕ) (follower : Followed) (u 
     looks_further (Err (DamagedInput index)) none h = absurd h
     looks_further (Err NoMemory) none h = absurd h
     looks_further (Err (Rotated generation)) none h = absurd h
-
--- ---- the source's count
-
--- what stopped a read stops the whole
-pub same_cause : (halt : Halt) (before mid after : ℕ) → mid ≡ before → (let r : Result ℕ Halt = Err halt in ReadCause r mid after) → (let r : Result (Unit {0}) Halt = Err halt in ReadCause r before after)
-same_cause ReadFault before mid after same c = subst (λ (n : ℕ). ReadCause {T = Unit {0}} (Err ReadFault) n after) same c
-same_cause (BadLine n) before mid after same c = c ∙ same
-same_cause WriteFault before mid after same c = c ∙ same
-same_cause DiskFault before mid after same c = c ∙ same
-same_cause (Damaged side number) before mid after same c = c ∙ same
-same_cause (DamagedInput index) before mid after same c = c ∙ same
-same_cause NoMemory before mid after same c = c ∙ same
-same_cause (Limit number) before mid after same c = c ∙ same
-same_cause (Rotated generation) before mid after same c = c ∙ same

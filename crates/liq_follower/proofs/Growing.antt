@@ -1,9 +1,8 @@
 -- A header and a record, as their bytes come.
-use Rattle.std.proofs.Common.{◌≡◌, ◌⊎◌, inl, inr, ℕ, ◌+◌, ◌<◌, ◌≤◌, List, [], ◌∷◌, ◌++◌, length, take, drop, get_or, Bool, true, false, if◌then◌else◌, sym, ◌∙◌, ap, arith, length-append, length-take}
+use Rattle.std.proofs.Common.{◌≡◌, ◌⊎◌, inl, inr, ℕ, ◌+◌, ◌<◌, ◌≤◌, List, [], ◌∷◌, ◌++◌, length, take, get_or, Bool, true, false, if◌then◌else◌, sym, ◌∙◌, ap, arith, length-append, length-take}
 use Rattle.std.specs.Prelude.{◌&&◌, ◌==◌, set}
 use Rattle.std.specs.Str.{bytes_eq}
 use Rattle.std.proofs.lemmas.List.{drop_all, set_split, take-append-le}
-use Rattle.std.proofs.lemmas.Slice.Eq.{bytes_eq-Decides}
 use Rattle.liq_header.specs.Layout.{header_size, layout_named, layout_on, name_on, version_1, version_2}
 use Rattle.liq_journal.proofs.Reading.{byte_alike, piece_alike}
 use Rattle.liq_types.specs.declared.amounts.TheConstants.{LIM, LIM_OF_VERSION_1}
@@ -17,10 +16,6 @@ greatest bytes = by (bytes_eq (name_on bytes) version_2.name) where
   by : (b : Bool) → header_size (if b then version_2 else version_1) ≤ 65
   by true = omega arith
   by false = omega arith
-
--- bytes that are too few for a name have none
-pub short_name : (bytes name : List ℕ) → length name ≡ 8 → length bytes < 9 → bytes_eq (take 8 (drop 1 bytes)) name ≡ false
-short_name bytes name size few = grind (arith, bytes_eq-Decides)
 
 -- a record whose last byte is written behind those that are held
 pub with_last : (bytes held : List ℕ) (count last : ℕ) → length bytes ≡ 128 → held ≡ take count bytes → length held ≡ 127 → set bytes 127 last ≡ held ++ last ∷ []

@@ -8,8 +8,8 @@ use Rattle.std.proofs.lemmas.Cmp.{tied_itself}
 use Rattle.std.proofs.lemmas.Map.Views.{any-filter_same}
 use Rattle.std.specs.BTreeMap.{is_at}
 use Rattle.liq_types.specs.Ranked.{Ranked, rank_order, IsAscending}
-use Rattle.liq_types.proofs.RankedLists.{rank_total, Behind, behind_more, ascending_kept}
-use Rattle.liq_guide.specs.Places.{entered, left}
+use Rattle.liq_types.proofs.RankedLists.{rank_total, Behind, behind_more}
+use Rattle.liq_guide.specs.Places.{with_entry, without_entry}
 use Rattle.liq_guide.specs.Rows.{is_in}
 use Rattle.liq_guide.proofs.Members.{same_entry}
 
@@ -24,10 +24,10 @@ or_cond : (a b c : Bool) → a ≡ b → (a || c) ≡ cond b true c
 or_cond true b c h = ap (λ d. cond d true c) h
 or_cond false b c h = ap (λ d. cond d true c) h
 
-pub entered_is_in : (list : List Ranked) (f e : Ranked) → is_in (entered list f) e ≡ cond (is_eq (rank_order f e)) true (is_in list e)
+pub entered_is_in : (list : List Ranked) (f e : Ranked) → is_in (with_entry list f) e ≡ cond (is_eq (rank_order f e)) true (is_in list e)
 entered_is_in [] f e = or_cond (is_eq (rank_order e f)) (is_eq (rank_order f e)) false (swapped e f)
 entered_is_in (g ∷ gs) f e = by (rank_order f g) refl (entered_is_in gs f e) where
-  by : (o : Ordering) → rank_order f g ≡ o → is_in (entered gs f) e ≡ cond (is_eq (rank_order f e)) true (is_in gs e) → is_in (match_ordering o (f ∷ g ∷ gs) (g ∷ gs) (g ∷ entered gs f)) e ≡ cond (is_eq (rank_order f e)) true (is_in (g ∷ gs) e)
+  by : (o : Ordering) → rank_order f g ≡ o → is_in (with_entry gs f) e ≡ cond (is_eq (rank_order f e)) true (is_in gs e) → is_in (match_ordering o (f ∷ g ∷ gs) (g ∷ gs) (g ∷ with_entry gs f)) e ≡ cond (is_eq (rank_order f e)) true (is_in (g ∷ gs) e)
   by Less is more = or_cond (is_eq (rank_order e f)) (is_eq (rank_order f e)) (is_in (g ∷ gs) e) (swapped e f)
   by Equal is more =
       held (is_eq (rank_order f e)) refl where
@@ -44,37 +44,37 @@ entered_is_in (g ∷ gs) f e = by (rank_order f g) refl (entered_is_in gs f e) w
     past false true c = refl
     past false false c = refl
 
-pub entered_ascending : (list : List Ranked) (e : Ranked) → IsAscending list → IsAscending (entered list e)
+pub entered_ascending : (list : List Ranked) (e : Ranked) → IsAscending list → IsAscending (with_entry list e)
 entered_ascending [] e h = (tt, tt)
 entered_ascending (f ∷ fs) e h = by (rank_order e f) refl (entered_ascending fs e h.1) where
-  past : (gs : List Ranked) → rank_order f e ≡ Less → Behind f gs → Behind f (entered gs e)
+  past : (gs : List Ranked) → rank_order f e ≡ Less → Behind f gs → Behind f (with_entry gs e)
   past [] less k = (less, tt)
   past (g ∷ gs) less k = at (rank_order e g) (past gs less k.1) where
-    at : (o : Ordering) → Behind f (entered gs e) → Behind f (match_ordering o (e ∷ g ∷ gs) (g ∷ gs) (g ∷ entered gs e))
+    at : (o : Ordering) → Behind f (with_entry gs e) → Behind f (match_ordering o (e ∷ g ∷ gs) (g ∷ gs) (g ∷ with_entry gs e))
     at Less more = (less, k)
     at Equal more = k
     at Greater more = (k.0, more)
 
-  by : (o : Ordering) → rank_order e f ≡ o → IsAscending (entered fs e) → IsAscending (match_ordering o (e ∷ f ∷ fs) (f ∷ fs) (f ∷ entered fs e))
+  by : (o : Ordering) → rank_order e f ≡ o → IsAscending (with_entry fs e) → IsAscending (match_ordering o (e ∷ f ∷ fs) (f ∷ fs) (f ∷ with_entry fs e))
   by Less is more = ((is, behind_more e f fs is h.0), h)
   by Equal is more = h
   by Greater is more = (past fs (rank_total.antisymm f e ∙ ap ordering_reverse is) h.0, more)
 
-left_behind : (back : List Ranked) (e : Ranked) → Behind e back → left back e ≡ back
+left_behind : (back : List Ranked) (e : Ranked) → Behind e back → without_entry back e ≡ back
 left_behind [] e h = refl
 left_behind (b ∷ back) e h =
-    ap (λ o. cond (not (is_eq o)) (b ∷ left back e) (left back e)) h.0
+    ap (λ o. cond (not (is_eq o)) (b ∷ without_entry back e) (without_entry back e)) h.0
     ∙ ap (λ (l : List Ranked). b ∷ l) (left_behind back e h.1)
 
 -- the first one leaves
-pub left_first : (f : Ranked) (fs : List Ranked) (e : Ranked) → IsAscending (f ∷ fs) → is_eq (rank_order e f) ≡ true → left (f ∷ fs) e ≡ fs
+pub left_first : (f : Ranked) (fs : List Ranked) (e : Ranked) → IsAscending (f ∷ fs) → is_eq (rank_order e f) ≡ true → without_entry (f ∷ fs) e ≡ fs
 left_first f fs e h is =
-    ap (λ b. cond (not b) (f ∷ left fs e) (left fs e)) is
+    ap (λ b. cond (not b) (f ∷ without_entry fs e) (without_entry fs e)) is
     ∙ left_behind fs e (ap_behind (sym (same_entry e f is)) h.0) where
       ap_behind : f ≡ e → Behind f fs → Behind e fs
       ap_behind same k = subst (λ (g : Ranked). Behind g fs) same k
 
-pub left_is_in : (list : List Ranked) (f e : Ranked) → is_in (left list f) e ≡ cond (is_eq (rank_order f e)) false (is_in list e)
+pub left_is_in : (list : List Ranked) (f e : Ranked) → is_in (without_entry list f) e ≡ cond (is_eq (rank_order f e)) false (is_in list e)
 left_is_in list f e =
     any-filter_same (is_at (rank_order e)) (λ (g : Ranked). not (is_eq (rank_order f g))) (not (is_eq (rank_order f e)))
     (λ g same. ap (λ (x : Ranked). not (is_eq (rank_order f x))) (sym (same_entry e g same))) list
@@ -82,9 +82,6 @@ left_is_in list f e =
       by : (b : Bool) → (not b && is_in list e) ≡ cond b false (is_in list e)
       by true = refl
       by false = refl
-
-pub left_ascending : (list : List Ranked) (e : Ranked) → IsAscending list → IsAscending (left list e)
-left_ascending list e h = ascending_kept (λ (f : Ranked). not (is_eq (rank_order e f))) list h
 
 pub on_ok : {T E : Type 0} {P Q : Type 0} (r : Result T E) → (P → Q) → OnOk r P → OnOk r Q
 on_ok (Ok x) f h = f h

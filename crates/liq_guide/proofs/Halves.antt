@@ -16,7 +16,7 @@ use Rattle.std.specs.declared.cmp.Ordering.TheVariants.{Less, Equal, Greater}
 use Rattle.liq_types.specs.Ranked.{Ranked, rank_order, IsAscending, first_of}
 use Rattle.liq_types.proofs.RankedLists.{rank_total, Behind}
 use Rattle.liq_guide.specs.declared.places.Entry.{Entry}
-use Rattle.liq_guide.specs.Places.{entered, left, ranked, AreHalved}
+use Rattle.liq_guide.specs.Places.{with_entry, without_entry, ranked, AreHalved}
 use Rattle.liq_guide.specs.Sides.{entry_before, entry_after}
 use Rattle.liq_guide.proofs.Entering.{left_first}
 
@@ -81,12 +81,12 @@ halved_inserted (f ∷ fs) e h low = by (halved_order e f) (halved_inserted fs e
   by Equal more = h
   by Greater more = (h.0, more)
 
-pub inserted_is : (es : List Entry) (e : Entry) → AreHalved es → e.low < 2 ^ 64 → map ranked (insert_key halved_order es e) ≡ entered (map ranked es) (ranked e)
+pub inserted_is : (es : List Entry) (e : Entry) → AreHalved es → e.low < 2 ^ 64 → map ranked (insert_key halved_order es e) ≡ with_entry (map ranked es) (ranked e)
 inserted_is [] e h low = refl
 inserted_is (f ∷ fs) e h low =
     by (halved_order e f) (inserted_is fs e h.1 low)
-    ∙ ap (λ o. match_ordering o (ranked e ∷ ranked f ∷ map ranked fs) (ranked f ∷ map ranked fs) (ranked f ∷ entered (map ranked fs) (ranked e))) (same_order e f low h.0) where
-      by : (o : Ordering) → map ranked (insert_key halved_order fs e) ≡ entered (map ranked fs) (ranked e) → map ranked (match_ordering o (e ∷ f ∷ fs) (f ∷ fs) (f ∷ insert_key halved_order fs e)) ≡ match_ordering o (ranked e ∷ ranked f ∷ map ranked fs) (ranked f ∷ map ranked fs) (ranked f ∷ entered (map ranked fs) (ranked e))
+    ∙ ap (λ o. match_ordering o (ranked e ∷ ranked f ∷ map ranked fs) (ranked f ∷ map ranked fs) (ranked f ∷ with_entry (map ranked fs) (ranked e))) (same_order e f low h.0) where
+      by : (o : Ordering) → map ranked (insert_key halved_order fs e) ≡ with_entry (map ranked fs) (ranked e) → map ranked (match_ordering o (e ∷ f ∷ fs) (f ∷ fs) (f ∷ insert_key halved_order fs e)) ≡ match_ordering o (ranked e ∷ ranked f ∷ map ranked fs) (ranked f ∷ map ranked fs) (ranked f ∷ with_entry (map ranked fs) (ranked e))
       by Less more = refl
       by Equal more = refl
       by Greater more = ap (λ (l : List Ranked). ranked f ∷ l) more
@@ -98,14 +98,14 @@ halved_removed (f ∷ fs) test h = by (test f) (halved_removed fs test h.1) wher
   by true more = h.1
   by false more = (h.0, more)
 
-pub removed_is : (es : List Entry) (e : Entry) → AreHalved es → e.low < 2 ^ 64 → IsAscending (map ranked es) → map ranked (remove_key (is_at (halved_order e)) es) ≡ left (map ranked es) (ranked e)
+pub removed_is : (es : List Entry) (e : Entry) → AreHalved es → e.low < 2 ^ 64 → IsAscending (map ranked es) → map ranked (remove_key (is_at (halved_order e)) es) ≡ without_entry (map ranked es) (ranked e)
 removed_is [] e h low k = refl
 removed_is (f ∷ fs) e h low k = by (is_eq (halved_order e f)) (ap is_eq (same_order e f low h.0)) (removed_is fs e h.1 low k.1) where
-  by : (b : Bool) → b ≡ is_eq (rank_order (ranked e) (ranked f)) → map ranked (remove_key (is_at (halved_order e)) fs) ≡ left (map ranked fs) (ranked e) → map ranked (cond b fs (f ∷ remove_key (is_at (halved_order e)) fs)) ≡ left (ranked f ∷ map ranked fs) (ranked e)
+  by : (b : Bool) → b ≡ is_eq (rank_order (ranked e) (ranked f)) → map ranked (remove_key (is_at (halved_order e)) fs) ≡ without_entry (map ranked fs) (ranked e) → map ranked (cond b fs (f ∷ remove_key (is_at (halved_order e)) fs)) ≡ without_entry (ranked f ∷ map ranked fs) (ranked e)
   by true is more = sym (left_first (ranked f) (map ranked fs) (ranked e) k (sym is))
   by false is more =
       ap (λ (l : List Ranked). ranked f ∷ l) more
-      ∙ ap (λ b. cond (not b) (ranked f ∷ left (map ranked fs) (ranked e)) (left (map ranked fs) (ranked e))) is
+      ∙ ap (λ b. cond (not b) (ranked f ∷ without_entry (map ranked fs) (ranked e)) (without_entry (map ranked fs) (ranked e))) is
 
 -- ---- what a part shows first and last
 

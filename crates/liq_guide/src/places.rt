@@ -1,7 +1,7 @@
 // The entries of the ordered list.
 ghost use Rattle.std.specs.Prelude.{◌≡◌, ◌<◌, ◌^◌, [], ℤ, ◌<ℤ◌, IfSome, option_map, OnOk, OnErr};
 ghost use Rattle.liq_types.specs.Ranked.{IsAscending, first_of};
-ghost use Rattle.liq_guide.specs.Places.{entered, left, ranked};
+ghost use Rattle.liq_guide.specs.Places.{with_entry, without_entry, ranked};
 ghost use Rattle.liq_guide.specs.Sides.{entry_before, entry_after};
 
 use liq_types::NoMemory;
@@ -13,7 +13,7 @@ use std::ops::Bound;
 // A key and an account.
 pub(crate) type Place = (i128, u32);
 
-// How much the upper half of a key counts for each of the lower half.
+// One of the upper half of a key counts so many of the lower half.
 const UPPER: i128 = 1 << 64;
 
 // An entry: its key in two halves, so that it takes 24 bytes where a key of 128 bits beside an account takes 32.
@@ -76,7 +76,7 @@ impl Places {
     // Puts an entry in. Where there is no memory all is as before.
     pub(crate) fn insert(&mut self, place: Place) -> Result<(), NoMemory>
         ensures ascending { IsAscending self.new }
-        ensures entered { OnOk result (self.new ≡ entered self.old place) }
+        ensures entered { OnOk result (self.new ≡ with_entry self.old place) }
         ensures err { OnErr result (self.new ≡ self.old) }
     {
         let Ok(_) = self.entries.insert(Entry::of(place)) else {
@@ -88,7 +88,7 @@ impl Places {
     // Takes an entry out, if it is there.
     pub(crate) fn remove(&mut self, place: Place)
         ensures ascending { IsAscending self.new }
-        ensures left { self.new ≡ left self.old place }
+        ensures left { self.new ≡ without_entry self.old place }
     {
         let _ = self.entries.remove(&Entry::of(place));
     }

@@ -15,17 +15,18 @@ ghost use Rattle.liq_guided.specs.Redone.{IsRedone};
 use crate::redone::RedoFault;
 use liq_core::laws::protocols_stand;
 use liq_core::{PlanFault, Planned, Protocol, Turn, unhinted};
-use liq_guide::Guide;
+use liq_guide::{Guide, last_put};
 use liq_types::{Command, Done, Hint, NoMemory, Query, Reply, Steps};
 use std::alloc::Global;
 use std::marker::Model;
 use std::sync::ledger::Ledger;
 
-/// A protocol whose list is asked with the hint of its guide, as long as that has one. Contracts see the protocol: no hint
+/// A protocol whose list is asked with the hint of its guide, as long as it has one. Contracts see the protocol: no hint
 /// changes it.
 pub struct Guided {
     protocol: Protocol,
-    guide: Guide,
+    // None once it was let go.
+    guide: Option<Guide>,
     // Where the trove stands that the reserved command puts last.
     hint: Option<Hint>,
 }
@@ -57,7 +58,7 @@ impl Guided {
     {
         Guided {
             protocol: Protocol::with_limit(alloc, limit),
-            guide: Guide::new(alloc),
+            guide: Some(Guide::new(alloc)),
             hint: None,
         }
     }
@@ -70,7 +71,7 @@ impl Guided {
         guide.follow(&protocol.list(alloc)?)?;
         Ok(Guided {
             protocol,
-            guide,
+            guide: Some(guide),
             hint: None,
         })
     }
@@ -102,6 +103,14 @@ impl Guided {
             hint: _,
         } = self;
         protocol
+    }
+
+    /// Lets its guide go, for good. From then on each hint is the one that is given with a command.
+    pub fn drop_guide(&mut self)
+        ensures { self.new ≡ self.old }
+    {
+        self.guide = None;
+        self.hint = None;
     }
 
     /// The generation of its journal.
@@ -138,9 +147,19 @@ impl Guided {
         ensures room { OnOk result (HasRoom self.new planned.now) }
     {
         self.protocol.reserve(planned)?;
-        self.guide.follow(planned.list_changes())?;
-        self.hint = self.guide.hint(planned.list_changes());
+        self.hint = match &mut self.guide {
+            Some(guide) => {
+                guide.follow(planned.list_changes())?;
+                guide.hint(planned.list_changes())
+            }
+            None => None,
+        };
         Ok(())
+    }
+
+    /// Whether a command for which room was reserved puts a trove for which no guide has a hint.
+    pub fn needs_hint(&self, planned: &Planned) -> bool {
+        self.hint.is_none() && last_put(planned.list_changes()).is_some()
     }
 
     /// Makes the planned command's step, for which room was reserved. The hint that is given counts where the guide has none.

@@ -230,10 +230,6 @@ gate_shut None gate = tt
 gate_shut (Some []) gate = absurd (let n = gate.there in omega arith)
 gate_shut (Some (x ∷ held)) gate = ap (λ (n : ℕ). n ∷ []) gate.shut
 
-pub one_at_least : (held : List ℕ) → IsShut held → 1 ≤ length held
-one_at_least [] is = absurd (cc (is))
-one_at_least (x ∷ held) is = omega arith
-
 pub some_of : (o : Option (List ℕ)) → IsSome o → (x : List ℕ) × (o ≡ Some x)
 some_of None is = absurd (search rules)
 some_of (Some x) is = (x, refl)

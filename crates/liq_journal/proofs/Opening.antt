@@ -8,7 +8,7 @@ use Rattle.liq_journal.specs.Written.{Written, Open, Absent, most_records, found
 use Rattle.liq_journal.specs.Crash.{HasGate, SettleLeaves, Stands}
 use Rattle.liq_header.specs.Header.{is_odd}
 use Rattle.liq_journal.specs.Settled.{IsSettled}
-use Rattle.liq_journal.specs.Opened.{IsOpened, IsScanOf, OpenLeaves, AbsentLeaves}
+use Rattle.liq_journal.specs.Opened.{IsScanOf, OpenLeaves, AbsentLeaves}
 use Rattle.liq_journal.proofs.Reading.{records_long, records_few}
 use Rattle.liq_journal.proofs.Heading.{has_generation, is_open, of_records}
 use Rattle.liq_journal.proofs.Appending.{held_on}
@@ -69,10 +69,6 @@ module _ {D : Type 0} (moment : D → ℕ) (left_at : D → ℕ → List ℕ →
 
 parity : (odd : Bool) (held : List ℕ) (w : Written) → found_on odd held ≡ Open w → is_odd w.generation ≡ odd
 parity odd held w found = parity_of odd w.generation (has_generation odd held w found)
-
-pub told_opened : (told : Option (List ℕ)) (odd : Bool) (s : Scanned) → IfSome told (λ held. IsScanOf odd held s) → IfSome told (λ held. IsOpened odd held s.generation s.limit s.start s.count s.checkpoint.items)
-told_opened None odd s scan = tt
-told_opened (Some held) odd s scan = record { written = scan.written; found = scan.found; generation_is = scan.generation_is; limit_is = scan.limit_is; start_is = scan.start_is; count_is = scan.count_is; checkpoint_is = scan.checkpoint_is }
 
 pub told_settled : (told now : Option (List ℕ)) (odd : Bool) (s : Scanned) → (IsSome now ↔ IsSome told) → IfSome told (λ held. IsScanOf odd held s) → ((held : List ℕ) (w : Written) → told ≡ Some held → found_on odd held ≡ Open w → IfSome now (λ after. Stands odd after w)) → IfSome now (IsSettled s.generation s.start s.count)
 told_settled told None odd s telling scan stands = tt

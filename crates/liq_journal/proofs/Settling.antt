@@ -1,7 +1,7 @@
 -- What a shut gate behind the records leaves.
-use Rattle.std.proofs.Common.{◌≡◌, ◌⊎◌, inl, inr, ⊎_elim, ℕ, ◌+◌, ◌-◌, ◌<◌, ◌≤◌, min, List, [], ◌∷◌, ◌++◌, length, take, drop, get_or, Option, Some, IfSome, Bool, true, false, IsTrue, ◌↔◌, rules, sym, ◌∙◌, ap, subst, arith, length-take, length-drop, length-append, append_assoc, take-append-drop}
-use Rattle.std.proofs.lemmas.List.{take_all, drop_more, get_or-append_right}
-use Rattle.liq_outside.specs.Disk.{Torn, overwritten, Only, LeftNow, LeavesOnly}
+use Rattle.std.proofs.Common.{◌≡◌, ◌⊎◌, inl, inr, ⊎_elim, ℕ, ◌+◌, ◌<◌, ◌≤◌, List, [], ◌∷◌, ◌++◌, length, take, drop, get_or, Option, Some, IfSome, Bool, true, false, IsTrue, ◌↔◌, rules, sym, ◌∙◌, ap, subst, arith, append_assoc, take-append-drop}
+use Rattle.std.proofs.lemmas.List.{take_all, drop_more}
+use Rattle.liq_outside.specs.Disk.{Torn, Only, LeftNow, LeavesOnly}
 use Rattle.liq_outside.proofs.Moments.{chained, weaker}
 use Rattle.liq_journal.specs.Crash.{HasByteAt, HasGate, SettleLeaves}
 use Rattle.liq_journal.specs.Opened.{IsUnshut, AbsentLeaves}
@@ -19,36 +19,6 @@ torn_byte place held image inside torn = elim (order place (length image)) [
   where
     order : (a b : ℕ) → (a < b) ⊎ (b ≤ a)
     order a b = grind arith
-
-pub written_gate : (place : ℕ) (held : List ℕ) → place ≤ length held → HasGate place (overwritten held place (0 ∷ []))
-written_gate place held inside =
-    let size : length (take place held) ≡ place = length-take place held ∙ omega arith in
-    let whole = append_assoc (take place held) (0 ∷ []) (drop (place + 1) held) in
-    record {
-      there = simp (length-append, length-take, length-drop) (omega arith);
-      shut = ap (λ (l : List ℕ). get_or l place 0) whole ∙ get_or-append_right (take place held) (0 ∷ drop (place + 1) held) place place 0 size (omega arith) ∙ (let z : place - place ≡ 0 = omega arith in ap (λ (k : ℕ). get_or (0 ∷ drop (place + 1) held) k 0) z);
-    }
-
--- a gate that was read
-module _ (place n : ℕ) (buf held : List ℕ) (some : 0 < length buf) (count : n ≡ min 1 (length held - place)) (same : take n buf ≡ take n (drop place held)) where
-  byte_is : n ≡ 1 → (place < length held) × (get_or held place 0 ≡ get_or buf 0 0)
-  byte_is one =
-      let there : place < length held = omega arith in
-      let first : take 1 buf ≡ get_or held place 0 ∷ [] = subst (λ (k : ℕ). take k buf ≡ take k (drop place held)) one same ∙ ap (take 1) (drop_more held place 0 there) in
-      (there, is buf (get_or held place 0) first)
-    where
-      is : (l : List ℕ) (v : ℕ) → take 1 l ≡ v ∷ [] → v ≡ get_or l 0 0
-      is [] v e = absurd (cc (e))
-      is (x ∷ l) v e = cc
-
-  pub gate_read : n ≡ 1 → get_or buf 0 0 ≡ 0 → HasGate place held
-  gate_read one zero_is = let b = byte_is one in record { there = b.0; shut = b.1 ∙ zero_is }
-
-  pub gate_not_short : (n ≡ 1 → ⊥) → HasGate place held → ⊥
-  gate_not_short isnt has = isnt (let t = has.there in omega arith)
-
-  pub gate_not_other : n ≡ 1 → (get_or buf 0 0 ≡ 0 → ⊥) → HasGate place held → ⊥
-  gate_not_other one other has = other (sym (byte_is one).1 ∙ has.shut)
 
 not_true : (b : Bool) → b ≡ false → IsTrue b → ⊥
 not_true true is so = absurd (cc (is))

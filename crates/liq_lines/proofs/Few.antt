@@ -22,12 +22,6 @@ ended_few old line new left is short = (line ++ 10 ∷ [], by left, omega (arith
   by None = refl
   by (Some more) = ap (λ (t : List ℕ). Some (t ++ more)) (is ∙ sym (append_assoc line (10 ∷ []) new)) ∙ ap Some (append_assoc (line ++ 10 ∷ []) new more)
 
-pub few_begun : (held : List ℕ) (left : Option (List ℕ)) → held ≡ [] → ReadsAtMost 0 left (unread held left)
-few_begun held left fresh = ([], by left fresh, omega arith) where
-  by : (left : Option (List ℕ)) → held ≡ [] → Reads left [] (unread held left)
-  by None fresh = refl
-  by (Some more) fresh = ap (λ (t : List ℕ). Some (t ++ more)) (sym fresh)
-
 pub few_within : (before after : Option (List ℕ)) (m n : ℕ) → ReadsAtMost m before after → m ≤ n → ReadsAtMost n before after
 few_within before after m n h most = (h.0, h.1, omega (arith, h.2, most))
 

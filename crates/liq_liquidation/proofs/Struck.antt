@@ -78,9 +78,6 @@ module _ (m : Market) (b : Books) (total : ℕ) (account : ℕ) (t : Trove) (the
       }
 
   module _ (made : One) (p : IsPlanned m b.sums t total made) (counted : m.troves ≡ length b.troves) where
-    struck_row : Books
-    struck_row = snap (spread (lifted_row b account (Some t)) made.spread_coll made.spread_debt)
-
     some_left : 1 ≤ stakes_in (without b.troves account)
     some_left = others_stake (omega (arith, counted, p.several))
 

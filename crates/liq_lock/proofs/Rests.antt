@@ -1,5 +1,5 @@
 -- What the tests on a seat's view mean.
-use Rattle.std.proofs.Common.{◌≡◌, ℕ, zero, suc, ◌≤◌, Bool, true, false, List, [], ◌∷◌, length, refl, sym, ap, ◌∙◌, arith}
+use Rattle.std.proofs.Common.{◌≡◌, ℕ, zero, suc, ◌≤◌, Bool, true, false, List, [], ◌∷◌, refl, sym, ap, ◌∙◌, arith}
 use Rattle.std.specs.Prelude.{Option, Some, None}
 use Rattle.liq_lock.specs.declared.view.View.{View}
 use Rattle.liq_lock.specs.Views.{resting, turning, is_at_rest, is_turn, is_empty_hand, view_in}
@@ -36,11 +36,6 @@ module _ {I : Type 0} where
 
   pub at_turn : (v : View I) → is_turn v ≡ true → AtTurn v
   at_turn v e = let f = turning_is v.ticket v.inside v.splitting v.shares e in record { ticket = f.0; inside = f.1; whole = f.2; alive = f.3 }
-
-  pub one_view : (l : List (View I)) → length l ≡ 1 → l ≡ view_in l ∷ []
-  one_view [] e = absurd (omega arith)
-  one_view (v ∷ []) e = refl
-  one_view (v ∷ w ∷ l) e = absurd (omega arith)
 
 pub one_hand : {T : Type 0} (l : List (ℕ × Option T)) → is_empty_hand l ≡ true → l ≡ (0, None) ∷ []
 one_hand [] e = absurd (cc)

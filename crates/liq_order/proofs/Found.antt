@@ -1,10 +1,9 @@
 -- Where an account is in the list, and what its neighbours are.
 use Rattle.std.proofs.Common.{◌≡◌, ℕ, ℤ, suc, ◌+◌, ◌-◌, ◌<◌, Bool, true, false, cond, List, [], ◌∷◌, ◌++◌, length, get_or, map, refl, sym, ap, ◌∙◌, subst, Some, None, Option, inl, inr, arith, append-nil}
 use Rattle.std.specs.Prelude.{◌≢◌, ◌⊎◌, ◌==◌, not, nat_lt, reverse, filter, find, position, option_map, IsSome, is_some}
-use Rattle.std.specs.List.{position_or_len, remove}
+use Rattle.std.specs.List.{position_or_len}
 use Rattle.std.proofs.lemmas.Bool.Decides.{nat_tests}
-use Rattle.std.proofs.lemmas.List.{reverse-append, get_or_append_left, get_or-reverse, length-append, length-reverse, append_assoc}
-use Rattle.std.proofs.lemmas.List.Elements.{filter-append}
+use Rattle.std.proofs.lemmas.List.{reverse-append, get_or-reverse, length-append, length-reverse, append_assoc}
 use Rattle.liq_types.specs.Ranked.{Ranked, key_in, without_ranked, before_in, after_account, first_of}
 use Rattle.liq_types.proofs.RankedLists.{all_kept}
 use Rattle.liq_order.specs.Listed.{IsAbsent, AreDistinct}
@@ -22,8 +21,6 @@ pub record IsAt (list : List Ranked) (account index : ℕ) : Type 0 where
   pub place : length front ≡ index
   pub same : (entry.1 == account) ≡ true
   pub first : IsAbsent account front
-
--- ---- tests of accounts
 
 -- ---- an account is absent, or at some index
 
@@ -145,20 +142,6 @@ without_absent [] account h = refl
 without_absent (e ∷ es) account h =
     ap (λ b. cond (not b) (e ∷ without_ranked es account) (without_ranked es account)) (ne_eqb e.1 account h.0) ∙ ap (λ l. e ∷ l) (without_absent es account h.1)
 
-removed_middle : (front back : List Ranked) (e : Ranked) → remove (front ++ e ∷ back) (length front) ≡ front ++ back
-removed_middle [] back e = refl
-removed_middle (f ∷ fs) back e = ap (λ l. f ∷ l) (removed_middle fs back e)
-
-pub removed : (list : List Ranked) (account index : ℕ) → IsAt list account index → AreDistinct list → remove list index ≡ without_ranked list account
-removed list account index s h =
-    let back = without_absent s.back account (absent_back list account index s h) in
-    let front = without_absent s.front account s.first in
-    let here : without_ranked (s.entry ∷ s.back) account ≡ s.back = ap (λ b. cond (not b) (s.entry ∷ without_ranked s.back account) (without_ranked s.back account)) s.same ∙ back in
-    ap (λ l. remove l index) s.whole
-    ∙ ap (λ i. remove (s.front ++ s.entry ∷ s.back) i) (sym s.place)
-    ∙ removed_middle s.front s.back s.entry
-    ∙ sym (ap (λ l. without_ranked l account) s.whole ∙ filter-append (λ (e : Ranked). not (e.1 == account)) s.front (s.entry ∷ s.back) ∙ ap (λ l. l ++ without_ranked (s.entry ∷ s.back) account) front ∙ ap (λ l. s.front ++ l) here)
-
 pub distinct_kept : (q : Ranked → Bool) (list : List Ranked) → AreDistinct list → AreDistinct (filter q list)
 distinct_kept q [] h = tt
 distinct_kept q (e ∷ es) h = by (q e) (distinct_kept q es h.1) where
@@ -204,22 +187,3 @@ last_is list d h =
     let long : 0 < length (reverse list) = omega (arith, h, length-reverse list) in
     let same : length list - 1 - 0 ≡ length list - 1 = omega arith in
     first_is (reverse list) d long ∙ ap (λ (e : Ranked). Some e.1) (get_or-reverse list 0 d h ∙ ap (λ k. get_or list k d) same)
-
--- the account next nearer the front is at the index before
-pub before_at : (list : List Ranked) (account index : ℕ) (d : Ranked) → IsAt list account index → AreDistinct list → 0 < index → before_in list account ≡ Some (get_or list (index - 1) d).1
-before_at list account index d s h some =
-    let long : 0 < length s.front = omega (arith, some, s.place) in
-    let near : get_or list (index - 1) d ≡ get_or s.front (length s.front - 1) d =
-    ap (λ l. get_or l (index - 1) d) s.whole ∙ get_or_append_left s.front (s.entry ∷ s.back) d (index - 1) (omega (arith, some, s.place)) ∙ ap (λ k. get_or s.front (k - 1) d) (sym s.place) in
-    before_found list account index s h ∙ last_is s.front d long ∙ ap (λ (e : Ranked). Some e.1) (sym near)
-
-pub before_first : (list : List Ranked) (account : ℕ) → IsAt list account 0 → AreDistinct list → before_in list account ≡ None
-before_first list account s h = before_found list account 0 s h ∙ ap (λ l. first_of (accounts (reverse l))) (none s.front s.place) where
-  none : (l : List Ranked) → length l ≡ 0 → l ≡ []
-  none [] e = refl
-  none (x ∷ xs) e = absurd (omega (arith, e))
-
-pub at_within : (list : List Ranked) (account index : ℕ) → IsAt list account index → index < length list
-at_within list account index s =
-    let long : length list ≡ length s.front + length (s.entry ∷ s.back) = ap (λ l. length l) s.whole ∙ length-append s.front (s.entry ∷ s.back) in
-    omega (arith, long, s.place)

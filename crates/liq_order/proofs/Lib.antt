@@ -12,3 +12,4 @@ pub mod Rows
 pub mod Seen
 pub mod Sorted
 pub mod Sorting
+pub mod Windows

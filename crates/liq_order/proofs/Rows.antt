@@ -5,9 +5,8 @@ use Rattle.std.specs.List.Sorted.{IsSearchInRange, IsBinarySearchResult, IsNonDe
 use Rattle.std.specs.Ordering.{nat_cmp, ordering_index}
 use Rattle.std.proofs.lemmas.Cmp.{ranked}
 use Rattle.std.proofs.lemmas.List.Sorted.{IsNonDecreasingBy-from_default}
-use Rattle.std.proofs.lemmas.List.Edits.{length-insert, get_or-insert_below, get_or-insert_at, get_or-insert_above, length-remove, get_or-remove_below, get_or-remove_above}
+use Rattle.std.proofs.lemmas.List.Edits.{length-insert, get_or-insert_below, get_or-insert_at, get_or-insert_above}
 use Rattle.std.proofs.lemmas.Bool.Decides.{nat_tests}
-use Rattle.std.proofs.lemmas.Grind.{common_steps}
 use Rattle.liq_order.specs.declared.places.NodeNo.{NodeNo}
 use Rattle.liq_order.specs.Pairs.{Row, row_of, account_at, IsStrict, IsPairAt, IsGapFor}
 
@@ -89,20 +88,8 @@ module _ (l : List Row) (strict : IsStrict l) (k at : ℕ) (is_at : IsPairAt l k
   pub over : (v : NodeNo) → Puts l (set l at (k, v)) k v
   over v = put_over l k v at is_at none_before
 
-  pub strict_set : (v : NodeNo) → IsStrict (set l at (k, v))
-  strict_set v i j lt in_range = grind (arith, common_steps, strict i j, strict i at, strict at j, is_at.in_range, is_at.has_account)
-
   pub without : (q : ℕ) → row_of (remove l at) q ≡ cond (eqb k q) None (row_of l q)
   without = taken_out l k at is_at none_before none_after
-
-  pub strict_removed : IsStrict (remove l at)
-  strict_removed i j lt in_range =
-      let new = remove l at in
-      let long = length-remove l at is_at.in_range in
-      let account = λ (row : Row). row.0 in
-      let below : (i : ℕ) → i < at → account_at new i ≡ account_at l i = λ i less. ap account (get_or-remove_below l at nowhere i less is_at.in_range) in
-      let above : (i : ℕ) → at ≤ i → account_at new i ≡ account_at l (i + 1) = λ i le. ap account (get_or-remove_above l at nowhere i le is_at.in_range) in
-      grind (arith, below i, above i, below j, above j, strict i j, strict i (j + 1), strict (i + 1) (j + 1), is_at.in_range, long)
 
 module _ (l : List Row) (k at : ℕ) (gap : IsGapFor l k at) where
   pub row_gap : row_of l k ≡ None

@@ -3,7 +3,7 @@
 ghost use Rattle.std.specs.Prelude.{◌≡◌, ℕ, ◌+◌, ◌<◌, ◌≤◌, ◌^◌, ◌==◌, false, length, None, Some, IsSome, IfSome, IfNone, IfOk, IfErr, OnOk, if◌then◌else◌};
 ghost use Rattle.liq_order.specs.Chained.{paired};
 ghost use Rattle.liq_order.specs.Listed.{AreDistinct};
-ghost use Rattle.liq_order.specs.Pairs.{IsPaired, IsPairAt, IsGapFor, IsGoneAt, place_of, is_gone, row_of};
+ghost use Rattle.liq_order.specs.Pairs.{IsPaired, IsPairAt, IsGapFor, IsGoneAt, IsStrict, account_at, place_of, is_gone, row_of};
 
 use crate::at_once::rows_of;
 use crate::places::NodeNo;
@@ -169,6 +169,35 @@ impl Pairs {
         ensures absent { IfErr result (IsGapFor self.now.rows account) }
         ensures kept { IsPaired self.now.rows self.now.gone }
     {
-        self.rows.binary_search_by_key(&account, |&(a, _)| a)
+        let (low, high) = self.window(account);
+        let part = &self.rows[low..high];
+        match part.binary_search_by_key(&account, |&(a, _)| a) {
+            Ok(at) => Ok(low + at),
+            Err(at) => Err(low + at),
+        }
+    }
+
+    // Between which indices the account's pair is, or would go. It is no further from the first pair than the account is from the
+    // first one, and so with the last: where accounts lie close together little is left to search.
+    fn window(&self, account: u32) -> (usize, usize)
+        ensures ordered { result.0 ≤ result.1 }
+        ensures inside { result.1 ≤ length self.now.rows }
+        ensures smaller { (j : ℕ) → j < result.0 → account_at self.now.rows j < account }
+        ensures greater { (j : ℕ) → result.1 ≤ j → j < length self.now.rows → account < account_at self.now.rows j }
+        ensures strict { IsStrict self.now.rows }
+    {
+        let (Some(&(first, _)), Some(&(last, _))) = (self.rows.first(), self.rows.last()) else {
+            return (0, 0);
+        };
+        let count = self.rows.len();
+        if account < first {
+            return (0, 0);
+        }
+        if last < account {
+            return (count, count);
+        }
+        let behind = (last - account) as usize;
+        let before = (account - first) as usize;
+        (count.saturating_sub(behind + 1), count.min(before + 1))
     }
 }

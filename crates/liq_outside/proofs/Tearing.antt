@@ -101,9 +101,6 @@ cut held (Synced ∷ steps) image m writes long may = ap (take m) may ∙ take_a
 pub torn_more : (at count : ℕ) (old now : List ℕ) (p v : ℕ) → at ≤ p → p < at + count → StaysLeft at count old now → StaysLeft at count old (set now p v)
 torn_more at count old now p v from to so_far held steps writes reached may = altered held steps now p v writes (reached p from to) (so_far held steps writes reached may)
 
-pub torn_none : (at count : ℕ) (old : List ℕ) → StaysLeft at count old old
-torn_none at count old held steps writes reached may = may
-
 -- how far back the walk over the notes has come, and what it left
 pub record IsBackTo (held : List ℕ) (steps : List Step) (image : List ℕ) (rest : List Step) (least : ℕ) : Type 0 where
   pub may : MayBeLeft held steps image

@@ -10,7 +10,7 @@ use Rattle.liq_pairs.specs.declared.side.Side.TheVariants.{Left, Right}
 use Rattle.liq_pairs.specs.Kept.{IsKept, IsRotationOf, IsSettledFor}
 use Rattle.liq_pairs.specs.Sides.{has_odd, on, other}
 use Rattle.liq_pairs.proofs.Keeping.{append_kept, append_settled}
-use Rattle.liq_pairs.proofs.Turning.{rotation_kept, rotation_settled}
+use Rattle.liq_pairs.proofs.Turning.{rotation_kept}
 
 one_found : (side : Side) (held : List ℕ) (v w : Written) → found_on (has_odd side) held ≡ Open v → found_on (has_odd side) held ≡ Open w → w ≡ v
 one_found side held v w first second = let both : Open w ≡ Open v = sym second ∙ first in cc (both)
@@ -37,12 +37,3 @@ turn_kept Left held aside image s w c settled rotation none left =
     rotation_kept Left held aside held image s c w settled rotation refl none left
 turn_kept Right held aside image s w c settled rotation none left =
     rotation_kept Right aside held image held s c w settled rotation refl none left
-
-pub turn_settled : (side : Side) (held aside image : List ℕ) (s : State) (w : Written) (c : Command)
-    → IsSettledFor side (on side held aside) (on side aside held) s → IsRotationOf s w c
-    → Stands (has_odd (other side)) image w
-    → IsSettledFor (other side) (on side held image) (on side image held) (after s c)
-turn_settled Left held aside image s w c settled rotation stands =
-    rotation_settled Left held aside held image s c w settled rotation refl stands
-turn_settled Right held aside image s w c settled rotation stands =
-    rotation_settled Right aside held image held s c w settled rotation refl stands

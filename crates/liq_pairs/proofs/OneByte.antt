@@ -1,6 +1,6 @@
 -- One byte written over another, or behind the last one.
-use Rattle.std.proofs.Common.{◌≡◌, ℕ, ◌+◌, ◌-◌, ◌<◌, ◌≤◌, List, [], ◌∷◌, ◌++◌, length, take, drop, get_or, sym, ◌∙◌, ap, arith, length-take, append_assoc, take-append-drop}
-use Rattle.std.proofs.lemmas.List.{drop_more, get_or-append_right, get_or-drop}
+use Rattle.std.proofs.Common.{◌≡◌, ℕ, ◌+◌, ◌-◌, ◌<◌, ◌≤◌, List, [], ◌∷◌, ◌++◌, length, take, drop, get_or, sym, ◌∙◌, ap, arith, length-take, append_assoc}
+use Rattle.std.proofs.lemmas.List.{get_or-append_right, get_or-drop}
 use Rattle.liq_outside.specs.Disk.{Torn, overwritten}
 use Rattle.liq_outside.proofs.Steps.{torn_whole}
 
@@ -40,10 +40,3 @@ module _ (place byte : ℕ) (bytes : List ℕ) (inside : place ≤ length bytes)
       ap (λ (n : ℕ). get_or with_byte n 0) (sym k) ∙ sym (get_or-drop (place + 1) with_byte (later - (place + 1)) 0)
       ∙ ap (λ (l : List ℕ). get_or l (later - (place + 1)) 0) rest_stays
       ∙ get_or-drop (place + 1) bytes (later - (place + 1)) 0 ∙ ap (λ (n : ℕ). get_or bytes n 0) k
-
--- a byte written over itself
-pub same_byte : (place : ℕ) (bytes : List ℕ) → place < length bytes → overwritten bytes place (get_or bytes place 0 ∷ []) ≡ bytes
-same_byte place bytes there =
-    append_assoc (take place bytes) (get_or bytes place 0 ∷ []) (drop (place + 1) bytes)
-    ∙ ap (λ (l : List ℕ). take place bytes ++ l) (sym (drop_more bytes place 0 there))
-    ∙ take-append-drop place bytes

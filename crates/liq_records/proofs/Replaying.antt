@@ -1,5 +1,5 @@
 -- How a replay goes on from record to record.
-use Rattle.std.proofs.Common.{◌≡◌, ℕ, ◌+◌, ◌-◌, ◌<◌, ◌≤◌, List, [], ◌∷◌, length, drop, slice_get, slice_index_or, Some, Ok, Err, sym, ◌∙◌, ap, subst, arith, refl}
+use Rattle.std.proofs.Common.{◌≡◌, ℕ, ◌+◌, ◌-◌, ◌<◌, ◌≤◌, List, [], ◌∷◌, length, drop, slice_get, slice_index_or, Some, Ok, Err, sym, ◌∙◌, ap, subst, arith}
 use Rattle.std.proofs.lemmas.List.{drop_more, drop_all}
 use Rattle.std.proofs.lemmas.Option.{slice_get-get_or}
 use Rattle.liq_types.specs.declared.requests.Command.{Command}
@@ -31,9 +31,6 @@ pub record Reached (s : State) (commands : List Command) (done : ℕ) (core : Co
   pub state : State
   pub stands : StandsFor core state
   pub rest : replay 1 s commands ≡ replay (done + 1) state (drop done commands)
-
-pub reached_none : (s : State) (commands : List Command) (core : Core) → StandsFor core s → Reached s commands 0 core
-reached_none s commands core h = record { state = s; stands = h; rest = refl }
 
 -- the next record's command
 pub next_recorded : (commands : List Command) (done : ℕ) → done < length commands → (c : Command) × (slice_get commands (done + 1 - 1) ≡ Some c) × (drop done commands ≡ c ∷ drop (done + 1) commands)

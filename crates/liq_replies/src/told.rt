@@ -1,14 +1,13 @@
 //! The numbers that a reply tells, by the query that it answers.
 
-ghost use Rattle.std.specs.Prelude.{◌≡◌, ℕ, List};
-ghost use Rattle.liq_types.specs.declared.replies.Info.TheVariants as info;
-ghost use Rattle.liq_types.specs.declared.replies.Reply.TheVariants.{Told};
+ghost use Rattle.std.specs.Prelude.{◌≡◌};
+ghost use Rattle.liq_replies.specs.Told.{deposit_words, trove_words, system_words};
 
 use liq_types::{Info, Reply};
 
-/// Balance (micro-LUSD) and gain (gwei) of a deposit, for the reply to a query for one.
+/// Balance (micro-LUSD) and gain (gwei) of a deposit, by the reply to a query for one; zeros by any other reply.
 pub fn deposit_in(reply: &Reply) -> (u64, u64)
-    ensures { (balance gain : ℕ) → reply.now ≡ Told (info.Deposit balance gain) → result ≡ (balance, gain) }
+    ensures { result ≡ deposit_words reply.now }
 {
     match *reply {
         Reply::Told(Info::Deposit { balance, gain }) => (balance, gain),
@@ -16,9 +15,9 @@ pub fn deposit_in(reply: &Reply) -> (u64, u64)
     }
 }
 
-/// Collateral (gwei) and debt (micro-LUSD) of a trove, for the reply to a query for one.
+/// Collateral (gwei) and debt (micro-LUSD) of a trove, by the reply to a query for one; zeros by any other reply.
 pub fn trove_in(reply: &Reply) -> (u64, u64)
-    ensures { (coll debt stake : ℕ) → reply.now ≡ Told (info.Trove coll debt stake) → result ≡ (coll, debt) }
+    ensures { result ≡ trove_words reply.now }
 {
     match *reply {
         Reply::Told(Info::Trove { coll, debt, .. }) => (coll, debt),
@@ -26,9 +25,9 @@ pub fn trove_in(reply: &Reply) -> (u64, u64)
     }
 }
 
-/// The ten words of the totals, in their order, for the reply to a query for them.
+/// The ten words of the totals, in their order, by the reply to a query for them; zeros by any other reply.
 pub fn system_in(reply: &Reply) -> [u64; 10]
-    ensures { (words : List ℕ) → reply.now ≡ Told (info.System words) → result ≡ words }
+    ensures { result ≡ system_words reply.now }
 {
     match *reply {
         Reply::Told(Info::System { words }) => words,

@@ -43,9 +43,6 @@ pub record AreListed (values : List Value) (wanted : List (List ℕ)) : Type 0 w
   pub floats : items_have_float (items_view values) ≡ false
   pub texts : map compact_text (map view values) ≡ wanted
 
-pub none_listed : AreListed [] []
-none_listed = record { floats = refl; texts = refl }
-
 one_listed : (values : List Value) (value : Value) (texts : List (List ℕ)) (text : List ℕ) → AreListed values texts → HasText text value → AreListed (values ++ value ∷ []) (texts ++ text ∷ [])
 one_listed values value texts text so has =
     let seen : map view (values ++ value ∷ []) ≡ map view values ++ view value ∷ [] = map-append view values (value ∷ []) in

@@ -27,11 +27,6 @@ use Rattle.liq_core.specs.Core.{Core, StandsFor}
 use Rattle.liq_review.specs.Engine.{engine_row, engine_rows, paid_row, Pays}
 use Rattle.liq_review.specs.Paid.{with_gain, paid_table}
 
--- ---- one more event
-
-pub table_more : (events : List PoolEvent) (i : ℕ) (d : PoolEvent) → i < length events → paid_table (take (i + 1) events) ≡ with_gain (paid_table (take i events)) (get_or events i d)
-table_more events i d lt = ap paid_table (take_more events i d lt) ∙ fold-append with_gain [] (take i events) (get_or events i d ∷ [])
-
 -- ---- what is paid
 
 same_account : (j k : ℕ) → (j == k) ≡ true → j ≡ k

@@ -1,11 +1,11 @@
 -- Rows gone through one by one.
-use Rattle.std.proofs.Common.{◌≡◌, ℕ, zero, suc, ◌+◌, ◌<◌, ◌≤◌, true, false, cond, List, [], ◌∷◌, length, map, get_or, set, drop, refl, ap, ◌∙◌, arith}
+use Rattle.std.proofs.Common.{◌≡◌, ℕ, zero, suc, ◌+◌, ◌<◌, ◌≤◌, true, cond, List, [], ◌∷◌, length, map, get_or, set, drop, refl, ap, ◌∙◌, arith}
 use Rattle.std.specs.Prelude.{◌==◌, ◌||◌}
 use Rattle.std.specs.List.{AllByRecursion}
 use Rattle.std.proofs.lemmas.Bool.Decides.{nat_tests}
 use Rattle.std.proofs.lemmas.List.{drop_more}
 use Rattle.liq_rewards.specs.declared.earner.Earner.{Earner}
-use Rattle.liq_rewards.specs.Kept.{earner_in, has_row}
+use Rattle.liq_rewards.specs.Kept.{earner_in}
 
 -- the first rows are changed already
 abbrev pub changed : ℕ → (Earner → Earner) → List Earner → List Earner
@@ -52,33 +52,6 @@ row_here es n account d low same =
 
       by : (e : Earner) → e.account ≡ account → earner_in (e ∷ drop (n + 1) es) account ≡ e
       by e k = ap (λ b. cond b e (earner_in (drop (n + 1) es) account)) (itself e.account account k)
-
-pub row_later : (es : List Earner) (n account : ℕ) (d : Earner) → n < length es → ((get_or es n d).account ≡ account → ⊥) → earner_in (drop n es) account ≡ earner_in (drop (n + 1) es) account
-row_later es n account d low other =
-    ap (λ (t : List Earner). earner_in t account) (drop_more es n d low) ∙ by (get_or es n d) other where
-      apart : (a b : ℕ) → (a ≡ b → ⊥) → (a == b) ≡ false
-      apart a b e = grind (arith, nat_tests, e)
-
-      by : (e : Earner) → (e.account ≡ account → ⊥) → earner_in (e ∷ drop (n + 1) es) account ≡ earner_in (drop (n + 1) es) account
-      by e k = ap (λ b. cond b e (earner_in (drop (n + 1) es) account)) (apart e.account account k)
-
-pub room_here : (es : List Earner) (n account : ℕ) (d : Earner) → n < length es → (get_or es n d).account ≡ account → has_row (drop n es) account ≡ true
-room_here es n account d low same =
-    ap (λ (t : List Earner). has_row t account) (drop_more es n d low) ∙ by (get_or es n d) same where
-      itself : (a b : ℕ) → a ≡ b → (a == b) ≡ true
-      itself a b e = grind (arith, nat_tests, e)
-
-      by : (e : Earner) → e.account ≡ account → has_row (e ∷ drop (n + 1) es) account ≡ true
-      by e k = ap (λ b. b || has_row (drop (n + 1) es) account) (itself e.account account k)
-
-pub room_later : (es : List Earner) (n account : ℕ) (d : Earner) → n < length es → ((get_or es n d).account ≡ account → ⊥) → has_row (drop n es) account ≡ has_row (drop (n + 1) es) account
-room_later es n account d low other =
-    ap (λ (t : List Earner). has_row t account) (drop_more es n d low) ∙ by (get_or es n d) other where
-      apart : (a b : ℕ) → (a ≡ b → ⊥) → (a == b) ≡ false
-      apart a b e = grind (arith, nat_tests, e)
-
-      by : (e : Earner) → (e.account ≡ account → ⊥) → has_row (e ∷ drop (n + 1) es) account ≡ has_row (drop (n + 1) es) account
-      by e k = ap (λ b. b || has_row (drop (n + 1) es) account) (apart e.account account k)
 
 empty-drop : (n : ℕ) (none : List Earner) → none ≡ [] → drop n none ≡ []
 empty-drop zero none e = e

@@ -4,7 +4,7 @@ use Rattle.std.specs.Prelude.{option_map, unwrap_or, is_some, is_none}
 use Rattle.liq_types.specs.declared.image.Image.{Image}
 use Rattle.liq_types.specs.State.{State, no_wallet, no_client, wallet_of, client_of, surplus_of}
 use Rattle.liq_types.specs.Tables.{at}
-use Rattle.liq_types.specs.Totals.{market_of, total_debt, trove_count, stakes_of, pool_total, pool_coll}
+use Rattle.liq_types.specs.Totals.{market_of, trove_count, pool_total}
 use Rattle.liq_troves.specs.StakeSums.{sums_now, trove_row, entire_of}
 use Rattle.liq_troves.specs.declared.sums.Sums.{Sums}
 use Rattle.liq_troves.specs.Rows.{entire_in}
@@ -42,20 +42,11 @@ module _ {s t : State} (h : Alike s t) where
       ap (λ (i : Image). record { price = i.price; minute = i.minute; base = i.base; fee_minute = i.fee_minute; limit = i.limit; total_coll = i.active_coll + i.default_coll; total_debt = i.active_debt + i.default_debt; troves = trove_count s }) h.image
       ∙ ap (λ n. record (market_of t) { troves = n }) count_alike
 
-  pub total_debt_alike : total_debt s ≡ total_debt t
-  total_debt_alike = ap (λ (i : Image). i.active_debt + i.default_debt) h.image
-
   pub sums_alike : sums_now s ≡ sums_now t
   sums_alike = ap (λ (i : Image). record { coll = i.sum_coll; debt = i.sum_debt }) h.image
 
-  pub stakes_alike : stakes_of s ≡ stakes_of t
-  stakes_alike = ap (λ (i : Image). i.stakes) h.image
-
   pub pool_total_alike : pool_total s ≡ pool_total t
   pool_total_alike = ap (λ (i : Image). i.total) h.image
-
-  pub pool_coll_alike : pool_coll s ≡ pool_coll t
-  pool_coll_alike = ap (λ (i : Image). i.pool_coll) h.image
 
 -- ---- troves
 

@@ -2,10 +2,10 @@
 use Rattle.std.proofs.Common.{◌≡◌, ℕ, ◌+◌, ◌-◌, ◌≤◌, Bool, true, false, nat_lt, cond, List, [], ◌∷◌, ◌++◌, Some, None, Option, refl, ap, subst, ◌<◌, nat_le, ◌∙◌, arith}
 use Rattle.std.specs.Prelude.{map, ◌==◌, fold}
 use Rattle.std.proofs.lemmas.Bool.Decides.{nat_tests}
-use Rattle.liq_types.specs.declared.amounts.TheConstants.{RESERVE, MINUTE_MOST, RECORDS_MOST, GENERATIONS_MOST, CHECKPOINT_BYTES_MOST}
+use Rattle.liq_types.specs.declared.amounts.TheConstants.{RESERVE, RECORDS_MOST, GENERATIONS_MOST, CHECKPOINT_BYTES_MOST}
 use Rattle.liq_types.specs.declared.replies.Done.{Done}
 use Rattle.liq_types.specs.declared.replies.Refusal.{Refusal}
-use Rattle.liq_types.specs.declared.replies.Refusal.TheVariants.{AmountZero, AmountLimit, ShortCollateral, ShortTokens, JournalFull}
+use Rattle.liq_types.specs.declared.replies.Refusal.TheVariants.{AmountZero, AmountLimit, ShortCollateral, JournalFull}
 use Rattle.liq_types.specs.declared.requests.Call.{Call}
 use Rattle.liq_types.specs.declared.requests.Call.TheVariants.{Price, Advance, Fund, Take, Send, Open, Adjust, Close, Provide, Withdraw, GainToTrove, Liquidate, LiquidateLowest, Redeem, Claim, Rotate}
 use Rattle.liq_types.specs.declared.requests.Command.{Command}
@@ -96,17 +96,6 @@ pub take_enough : (s : State) (account coll : ℕ) → first_refusal (rules s (T
 take_enough s account coll h =
     let have = (wallet_of s account).coll in
     let enough : nat_lt have coll ≡ false = second_false (coll == 0, AmountZero) (nat_lt have coll, ShortCollateral coll have) h in
-    grind (arith, nat_tests, enough)
-
-pub advance_within : (s : State) (minutes : ℕ) → first_refusal (rules s (Advance minutes)) ≡ None → s.minute + minutes ≤ MINUTE_MOST
-advance_within s minutes h =
-    let fits : nat_lt MINUTE_MOST (s.minute + minutes) ≡ false = second_false (minutes == 0, AmountZero) (nat_lt MINUTE_MOST (s.minute + minutes), AmountLimit (s.minute + minutes) MINUTE_MOST) h in
-    grind (arith, nat_tests, fits)
-
-pub send_enough : (s : State) (from to lusd : ℕ) → first_refusal (rules s (Send from to lusd)) ≡ None → lusd ≤ (wallet_of s from).lusd
-send_enough s from to lusd h =
-    let have = (wallet_of s from).lusd in
-    let enough : nat_lt have lusd ≡ false = second_false (lusd == 0, AmountZero) (nat_lt have lusd, ShortTokens lusd have) h in
     grind (arith, nat_tests, enough)
 
 pub lifted-records : (s : State) (account : ℕ) (o : Option TroveEntry) → (lifted_entry s account o).records ≡ s.records

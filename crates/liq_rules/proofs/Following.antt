@@ -163,9 +163,6 @@ placed_other s account coll debt q n =
     ap (λ (t : Table Trove). at t q) (map-put (trove_row s) s.troves account _)
     ∙ at-put_other (troves_in s) account q _ n
 
-placed_changes : (s : State) (account coll debt : ℕ) → Changed s (placed s account coll debt) (account ∷ [])
-placed_changes s account coll debt = record { words = refl; others = λ q away. placed_other s account coll debt q away.0 }
-
 set_changes : (s : State) (account coll debt : ℕ) → Ascends s.troves → Changed s (set_trove s account coll debt) (account ∷ [])
 set_changes s account coll debt h =
     let left = lifted_changes s account h in

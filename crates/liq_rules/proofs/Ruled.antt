@@ -1,17 +1,13 @@
 -- Rulings from what is tested.
-use Rattle.std.proofs.Common.{◌≡◌, ℕ, ◌+◌, ◌≤◌, ◌<◌, Bool, true, false, cond, nat_le, List, [], ◌∷◌, ◌++◌, Some, None, Option, refl, ap, ◌∙◌, arith}
+use Rattle.std.proofs.Common.{◌≡◌, ℕ, ◌+◌, ◌<◌, Bool, true, false, cond, nat_le, List, [], ◌∷◌, ◌++◌, Some, None, Option, refl, ap, ◌∙◌, arith}
 use Rattle.std.specs.Prelude.{map, ◌==◌, ◌&&◌, not}
 use Rattle.std.specs.List.{AllByRecursion}
 use Rattle.std.proofs.lemmas.Bool.Decides.{nat_tests}
-use Rattle.liq_types.specs.declared.amounts.TheConstants.{ACCOUNTS, RECORDS_MOST, GENERATIONS_MOST, CHECKPOINT_BYTES_MOST}
+use Rattle.liq_types.specs.declared.amounts.TheConstants.{ACCOUNTS}
 use Rattle.liq_types.specs.declared.replies.Refusal.{Refusal}
-use Rattle.liq_types.specs.declared.replies.Refusal.TheVariants.{AccountRange, AmountLimit, OutOfTurn, JournalFull}
+use Rattle.liq_types.specs.declared.replies.Refusal.TheVariants.{AccountRange, OutOfTurn}
 use Rattle.liq_types.specs.declared.requests.Command.{Command}
-use Rattle.liq_types.specs.Rules.{Rule, first_refusal, where_above}
-use Rattle.liq_rules.specs.Image.{image}
-use Rattle.liq_types.specs.Length.{checkpoint_length}
-use Rattle.liq_rules.specs.Step.{after}
-use Rattle.liq_rules.specs.Verbs.{rotates}
+use Rattle.liq_types.specs.Rules.{Rule, first_refusal}
 use Rattle.liq_types.specs.State.{State, client_of}
 use Rattle.liq_rules.specs.Queries.{next_number}
 use Rattle.liq_rules.specs.Step.{Refused, Repeated, Allowed, unless_refused, ruling, rules, accounts, in_range, is_repeated, tests, room_rules}
@@ -55,20 +51,6 @@ pub refused_room : (s : State) (c : Command) (refusal : Refusal) → c.client < 
 refused_room s c refusal within next passed h =
     next_ruling s c within next
     ∙ ap (λ (o : Option Refusal). unless_refused o Allowed) (none_first_of (map in_range (accounts c.call) ++ rules s c.call) (room_rules s c) passed ∙ h)
-
--- there is room for a command that is no rotation, in a journal that is not full
-pub room_left : (s : State) (c : Command) → rotates c.call ≡ false → s.records < RECORDS_MOST → first_refusal (room_rules s c) ≡ None
-room_left s c stays few =
-    let free : nat_le RECORDS_MOST s.records ≡ false = grind (arith, nat_tests, few) in
-    ap (λ b. first_refusal (cond b (where_above (s.generation + 1) GENERATIONS_MOST AmountLimit ∷ where_above (checkpoint_length (image (after s c))) CHECKPOINT_BYTES_MOST AmountLimit ∷ []) ((nat_le RECORDS_MOST s.records, JournalFull RECORDS_MOST) ∷ []))) stays
-    ∙ ap (λ b. cond b (Some (JournalFull RECORDS_MOST)) None) free
-
--- there is none in a journal that is full
-pub room_full : (s : State) (c : Command) → rotates c.call ≡ false → RECORDS_MOST ≤ s.records → first_refusal (room_rules s c) ≡ Some (JournalFull RECORDS_MOST)
-room_full s c stays many =
-    let full : nat_le RECORDS_MOST s.records ≡ true = grind (arith, nat_tests, many) in
-    ap (λ b. first_refusal (cond b (where_above (s.generation + 1) GENERATIONS_MOST AmountLimit ∷ where_above (checkpoint_length (image (after s c))) CHECKPOINT_BYTES_MOST AmountLimit ∷ []) ((nat_le RECORDS_MOST s.records, JournalFull RECORDS_MOST) ∷ []))) stays
-    ∙ ap (λ b. cond b (Some (JournalFull RECORDS_MOST)) None) full
 
 -- the accounts of a call that nothing refuses
 pub accounts_within : (numbers : List ℕ) (more : List Rule) → first_refusal (map in_range numbers ++ more) ≡ None → AllByRecursion (λ account. account < ACCOUNTS) numbers

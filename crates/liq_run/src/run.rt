@@ -298,17 +298,16 @@ impl<D: Disk> Run<D> {
     }
 
     /// Writes what waits at the run's end. Where the sink meets a fault at it, that is the end.
-    fn catch_up_at<K: Sink>(&mut self, end: Result<(), Halt>, out: &mut K) -> Result<(), Halt>
+    fn catch_up_at<K: Sink>(&self, end: Result<(), Halt>, out: &mut K) -> Result<(), Halt>
         ensures run { (start : State) (bytes : List ℕ) (left before : Option (List ℕ)) (old_left old_right : D) (l r : List ℕ)
-            → Comes start end self.old.store.core (λ requests. IsPastOf D.seen D.moment D.left_at old_left old_right l r start requests self.old.store) (KeepsAround D.seen self.old.store.left self.old.store.right)
-            (λ requests request. IsStoppedPastOf D.seen D.moment D.left_at old_left old_right l r start requests request self.old.store) bytes left self.old.waiting.items before (K.held out.old)
-            → Ends start result self.new.store.core (λ requests. IsPastOf D.seen D.moment D.left_at old_left old_right l r start requests self.new.store) (KeepsAround D.seen self.new.store.left self.new.store.right)
-            (λ requests request. IsStoppedPastOf D.seen D.moment D.left_at old_left old_right l r start requests request self.new.store) bytes left before (K.held out.new) }
-        ensures source { (old new : ℕ) → (end ≡ Err Halt.ReadFault → self.old.waiting.items ≡ []) → ReadCause end old new → ReadCause result old new }
+            → Comes start end self.now.store.core (λ requests. IsPastOf D.seen D.moment D.left_at old_left old_right l r start requests self.now.store) (KeepsAround D.seen self.now.store.left self.now.store.right)
+            (λ requests request. IsStoppedPastOf D.seen D.moment D.left_at old_left old_right l r start requests request self.now.store) bytes left self.now.waiting.items before (K.held out.old)
+            → Ends start result self.now.store.core (λ requests. IsPastOf D.seen D.moment D.left_at old_left old_right l r start requests self.now.store) (KeepsAround D.seen self.now.store.left self.now.store.right)
+            (λ requests request. IsStoppedPastOf D.seen D.moment D.left_at old_left old_right l r start requests request self.now.store) bytes left before (K.held out.new) }
+        ensures source { (old new : ℕ) → (end ≡ Err Halt.ReadFault → self.now.waiting.items ≡ []) → ReadCause end old new → ReadCause result old new }
         ensures sink { (old : ℕ) → WriteCause end old (K.faults out.old) → WriteCause result old (K.faults out.new) }
-        ensures disks { (old new : Faults) → (end ≡ Err Halt.DiskFault → self.old.waiting.items ≡ []) → DiskCause end old new → DiskCause result old new }
-        ensures stopped { (stopped : Option ℕ) → (end ≡ Err Halt.DiskFault → self.old.waiting.items ≡ []) → IsStopped end stopped → IsStopped result stopped }
-        ensures store { self.new.store ≡ self.old.store }
+        ensures disks { (old new : Faults) → (end ≡ Err Halt.DiskFault → self.now.waiting.items ≡ []) → DiskCause end old new → DiskCause result old new }
+        ensures stopped { (stopped : Option ℕ) → (end ≡ Err Halt.DiskFault → self.now.waiting.items ≡ []) → IsStopped end stopped → IsStopped result stopped }
     {
         write_rest(out, &self.waiting, end)
     }

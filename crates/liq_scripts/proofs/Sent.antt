@@ -29,11 +29,6 @@ sends_more (Err fault) w xs w1 ys w2 before mid after h k =
 pub sends_cut : (fault : Failed) (w xs w1 ys w2 : List ℕ) (before after : Option (List ℕ)) → Sends (Err fault) w xs w1 before after → Sends (Err fault) w (xs ++ ys) w2 before after
 sends_cut fault w xs w1 ys w2 before after h = subst (λ (t : List ℕ). WritesPart before t after) (append_assoc w xs ys) (part_first before after (w ++ xs) ys h)
 
--- the line goes behind what waits
-pub sends_line : (w w1 line w2 : List ℕ) (before after : Option (List ℕ)) → Sends (Ok tt) w [] w1 before after → w2 ≡ w1 ++ line → Sends (Ok tt) w line w2 before after
-sends_line w w1 line w2 before after h is =
-    sends_more (Ok tt) w [] w1 line w2 before after after h ([], writes_nothing after, sym is)
-
 -- ---- a piece for each item
 
 module _ {X : Type 0} (piece : X → List ℕ) (items : List X) where

@@ -1,5 +1,5 @@
 -- The verbs that touch no trove leave what stands.
-use Rattle.std.proofs.Common.{◌≡◌, ℕ, ◌+◌, ◌-◌, ◌≤◌, ◌<◌, false, refl, sym, ◌∙◌, subst, arith, nat_lt, None}
+use Rattle.std.proofs.Common.{◌≡◌, ℕ, ◌+◌, ◌-◌, ◌≤◌, ◌<◌, false, refl, sym, subst, arith, nat_lt, None}
 use Rattle.std.specs.Prelude.{◌||◌, min}
 use Rattle.std.proofs.lemmas.Bool.Decides.{nat_tests}
 use Rattle.liq_types.specs.declared.amounts.TheConstants.{ACCOUNTS, LIM, PRICE_LEAST, PRICE_MOST, MINUTE_MOST}

@@ -62,10 +62,6 @@ module _ {K X : Type 0} where
   have_rows P [] h = tt
   have_rows P (e ∷ es) h = (h.0, have_rows P es h.1)
 
-  rows_both : (P Q : X → Type 0) (table : List (K × X)) → AllByRecursion (λ (row : K × X). P row.1) table → AllByRecursion (λ (row : K × X). Q row.1) table → AllByRecursion (λ (row : K × X). P row.1 × Q row.1) table
-  rows_both P Q [] h k = tt
-  rows_both P Q (e ∷ es) h k = ((h.0, k.0), rows_both P Q es h.1 k.1)
-
   rows_to : (P Q : X → Type 0) → ((x : X) → P x → Q x) → (table : List (K × X)) → AllByRecursion (λ (row : K × X). P row.1) table → AllByRecursion (λ (row : K × X). Q row.1) table
   rows_to P Q more [] h = tt
   rows_to P Q more (e ∷ es) h = (more e.1 h.0, rows_to P Q more es h.1)

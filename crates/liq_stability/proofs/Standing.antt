@@ -9,7 +9,7 @@ use Rattle.liq_types.specs.declared.events.PoolEvent.TheVariants as event
 use Rattle.liq_types.specs.Allowance.{cost_of}
 use Rattle.liq_types.specs.PlainLedger.{Share, share_after}
 use Rattle.liq_types.specs.Product.{ScaledProduct, IsWithinRange, TakesPartUpTo, after_offset, sum_growth, place_of, is_place, sumat, start_words, mark_after}
-use Rattle.liq_types.specs.State.{State, PoolMark, After, DepositEntry, PoolOffset}
+use Rattle.liq_types.specs.State.{State, PoolMark, After, DepositEntry}
 use Rattle.liq_types.specs.Tables.{Table, at, put, without}
 use Rattle.liq_types.specs.Totals.{pool_total}
 use Rattle.liq_types.specs.WellFormed.{IsMoment, AreFinished, Ascends}
@@ -113,9 +113,6 @@ weighs w now mark j sum amount lost is m h =
       tested amount epoch then_epoch some e = grind (arith, nat_tests, some, e)
 
 module _ (most : ℕ) (served : most ≤ 10 ^ (9 * RISES_MOST)) (s : State) (debt coll rise : ℕ) (range : IsWithinRange (words_of s)) (takes : TakesPartUpTo most (offset_now s debt coll)) (worth_less : coll ≤ 11 * debt) (account : ℕ) (share : Share) (w : Watch) (got : ℕ) (now_is : w.now ≡ words_of s) where
-  now_offset : PoolOffset
-  now_offset = offset_now s debt coll
-
   abbrev share_then : Share
   share_then = share_after account share (event.Offset debt coll (pool_total s) rise)
 

@@ -14,7 +14,7 @@ use Rattle.liq_types.specs.declared.replies.Reply.{Reply}
 use Rattle.liq_types.specs.declared.replies.Answer.TheVariants as answer
 use Rattle.liq_types.specs.State.{State}
 use Rattle.liq_core.specs.Core.{Core, StandsFor}
-use Rattle.liq_rules.specs.Step.{Allowed, Refused, Repeated, Ruling, is_allowed, ruling}
+use Rattle.liq_rules.specs.Step.{Refused, Repeated, Ruling, is_allowed, ruling}
 use Rattle.liq_journal.specs.Crash.{BeforeOrAfter, CreateLeaves, Stands}
 use Rattle.liq_journal.specs.Settled.{IsSettled, JournalOn}
 use Rattle.liq_journal.specs.Written.{Open, Written, found_on, is_rotate, start_of}
@@ -33,16 +33,6 @@ use Rattle.liq_store.specs.Within.{IsWithin, stored}
 use Rattle.liq_store.proofs.Going.{going_by, rest_now, rest_only}
 
 -- ---- which calls are no rotation
-
--- one that the state doesn't accept
-pub unaccepted_stays : (s : State) (request : Request) → (IsAccepted s request → ⊥) → is_rotation s request ≡ false
-unaccepted_stays s (Do c) refused = by (ruling s c) refl
-  where
-    by : (r : Ruling) → ruling s c ≡ r → (is_rotate c.call && is_allowed (ruling s c)) ≡ false
-    by (Refused refusal) is = ap (λ (r : Ruling). is_rotate c.call && is_allowed r) is ∙ and-false (is_rotate c.call)
-    by (Repeated kept) is = ap (λ (r : Ruling). is_rotate c.call && is_allowed r) is ∙ and-false (is_rotate c.call)
-    by Allowed is = absurd (refused is)
-unaccepted_stays s (Ask query) refused = refl
 
 pub repeated_stays : (s : State) (c : Command) (kept : Done) → ruling s c ≡ Repeated kept → is_rotation s (Do c) ≡ false
 repeated_stays s c kept is = ap (λ (r : Ruling). is_rotate c.call && is_allowed r) is ∙ and-false (is_rotate c.call)

@@ -1,28 +1,14 @@
 -- What a call tells of the ordered list, and what an opening tells.
 use Rattle.std.proofs.Common.{◌≡◌, ◌≢◌, ◌∙◌, ℕ, List, Option, None, Result, Ok, Err, IfOk, IfErr, sym, ap, ap₂, subst}
 use Rattle.liq_types.specs.declared.events.ListChange.{ListChange}
-use Rattle.liq_types.specs.declared.requests.Command.{Command}
-use Rattle.liq_types.specs.declared.requests.Request.TheVariants.{Do}
-use Rattle.liq_types.specs.State.{State}
-use Rattle.liq_core.specs.Plan.{Plan, IsPlan}
-use Rattle.liq_rules.specs.Rules.{call_changes}
-use Rattle.liq_rules.specs.Step.{Ruling}
-use Rattle.liq_guided.proofs.Steps.{planned_allowed}
-use Rattle.liq_journal.specs.Causes.{Counted}
 use Rattle.liq_store.specs.declared.answers.StoreFault.{StoreFault}
 use Rattle.liq_store.specs.declared.answers.StoreWhy.TheVariants as why
 use Rattle.liq_store.specs.Beginning.{IsUnbegun, IsUnbegunBy}
 use Rattle.liq_store.specs.Causes.{counts_of}
 use Rattle.liq_store.specs.Keeping.{IsAtRest, IsGoing, IsInOrder}
-use Rattle.liq_store.specs.Opening.{OpensOn, left_after, right_after}
+use Rattle.liq_store.specs.Opening.{OpensOn}
 use Rattle.liq_store.specs.Stored.{Stored}
-use Rattle.liq_store.specs.Telling.{told_by, told_of}
 use Rattle.liq_store.proofs.Going.{going_of}
-
--- what is planned is told
-pub tells_planned : (s : State) (c : Command) (plan : Plan) → (plan.command ≡ c) × IsPlan s plan → plan.changes ≡ told_of s (Do c)
-tells_planned s c plan is =
-    is.1.changes ∙ ap (λ (k : Command). call_changes s k.call) is.0 ∙ sym (ap (λ (r : Ruling). told_by r (call_changes s c.call)) (planned_allowed s c plan is))
 
 -- ---- the store that begins, with its list
 
@@ -35,22 +21,6 @@ module _ {D : Type 0} (store : Stored D) (result : Result (Stored D) (StoreFault
       by : (r : Result (Stored D) (StoreFault D)) → IfOk r (λ listed. listed ≡ record store { changes = listed.changes }) → IfOk r P
       by (Ok listed) so = subst P (sym so) (is listed.changes)
       by (Err e) so = tt
-
-  pub left_still : left_after result ≡ store.left
-  left_still = by result same refused
-    where
-      by : (r : Result (Stored D) (StoreFault D)) → IfOk r (λ listed. listed ≡ record store { changes = listed.changes })
-          → IfErr r (λ e. (e.left ≡ store.left) × (e.right ≡ store.right) × (e.why ≡ why.NoMemory)) → left_after r ≡ store.left
-      by (Ok listed) so refuses = ap (λ (s : Stored D). s.left) so
-      by (Err e) so refuses = refuses.0
-
-  pub right_still : right_after result ≡ store.right
-  right_still = by result same refused
-    where
-      by : (r : Result (Stored D) (StoreFault D)) → IfOk r (λ listed. listed ≡ record store { changes = listed.changes })
-          → IfErr r (λ e. (e.left ≡ store.left) × (e.right ≡ store.right) × (e.why ≡ why.NoMemory)) → right_after r ≡ store.right
-      by (Ok listed) so refuses = ap (λ (s : Stored D). s.right) so
-      by (Err e) so refuses = refuses.1
 
   module _ (seen : D → Option (List ℕ)) (faults : D → ℕ) (left right : D) (opened : OpensOn seen faults left right store) where
     pub listed_opened : IfOk result (OpensOn seen faults left right)
@@ -85,6 +55,3 @@ module _ {D : Type 0} (store : Stored D) (result : Result (Stored D) (StoreFault
           subst (IsAtRest seen moment left_at) (sym refuses.0) going.left,
           subst (IsAtRest seen moment left_at) (sym refuses.1) going.right,
         )
-
-pub uncreated : {D : Type 0} (seen : D → Option (List ℕ)) (faults : D → ℕ) (left right : D) (e : StoreFault D) → e.why ≡ why.DiskFault → Counted (faults left) (faults e.left) → IsUnbegun seen faults left right e
-uncreated seen faults left right e fault counted = subst (IsUnbegunBy seen faults left right e) (sym fault) counted

@@ -1,19 +1,17 @@
 -- A store by its side: the disk that is taken, and the one beside it.
-use Rattle.std.proofs.Common.{◌≡◌, inl, ℕ, List, Option, Some, None, IfSome, refl, sym, ◌∙◌, ap, subst, arith}
+use Rattle.std.proofs.Common.{◌≡◌, ℕ, List, Option, Some, None, IfSome, refl, sym, ◌∙◌, ap, subst, arith}
 use Rattle.liq_outside.specs.Disk.{LeftNow, LeftSince, Only}
 use Rattle.liq_types.specs.declared.events.ListChange.{ListChange}
-use Rattle.liq_types.specs.declared.requests.Request.{Request}
 use Rattle.liq_types.specs.declared.image.Image.{Image}
 use Rattle.liq_types.specs.State.{State}
 use Rattle.liq_core.specs.Core.{Core, SameContent, StandsFor}
 use Rattle.liq_journal.specs.Settled.{JournalOn}
 use Rattle.liq_pairs.specs.declared.side.Side.{Side}
 use Rattle.liq_pairs.specs.declared.side.Side.TheVariants.{Left, Right}
-use Rattle.liq_pairs.specs.Kept.{IsKept, IsSettledFor}
+use Rattle.liq_pairs.specs.Kept.{IsSettledFor}
 use Rattle.liq_pairs.specs.Pair.{StandFor}
 use Rattle.liq_pairs.specs.Sides.{on}
-use Rattle.liq_pairs.proofs.Keeping.{settled_kept}
-use Rattle.liq_store.specs.Keeping.{IsAtRest, IsGoing, IsInOrder, IsInOrderWith, IsKeptAround, IsKeptNear, LeavesPairs}
+use Rattle.liq_store.specs.Keeping.{IsAtRest, IsGoing, IsInOrder, IsInOrderWith, IsKeptNear}
 use Rattle.liq_store.specs.Stored.{Stored}
 use Rattle.liq_store.specs.Within.{IsWithin, stored}
 use Rattle.liq_core.proofs.SameContents.{stands_before}
@@ -53,16 +51,6 @@ module _ {D : Type 0} (seen : D → Option (List ℕ)) (moment : D → ℕ) (lef
     settled = within.settled;
   }
 
-  -- ---- and with other changes
-
-  pub order_told : (before now : List ListChange) (side : Side) (taken : JournalOn D) (b : D) (core : Core) (stopped : Option ℕ) → IsInOrder seen moment left_at (stored side taken b core stopped before)
-      → IsInOrder seen moment left_at (stored side taken b core stopped now)
-  order_told before now side taken b core stopped order = order_same before now side taken b core core stopped (record { image = refl; records = refl; list = refl }) order
-
-  pub within_told : {before now : List ListChange} (side : Side) (taken : JournalOn D) (b : D) (core : Core) (stopped : Option ℕ) → IsWithin seen moment left_at side taken b core stopped before
-      → IsWithin seen moment left_at side taken b core stopped now
-  within_told side taken b core stopped within = within_same side taken b core core stopped (record { image = refl; records = refl; list = refl }) within
-
   -- ---- what a crash leaves of a disk at rest
 
   pub rest_only : (disk : D) (held : List ℕ) → seen disk ≡ Some held → IsAtRest seen moment left_at disk → (image : List ℕ) → LeftSince moment left_at disk (moment disk) image → image ≡ held
@@ -86,22 +74,6 @@ module _ {D : Type 0} (seen : D → Option (List ℕ)) (moment : D → ℕ) (lef
       let going = going_of store (ap (λ (o : Stored D). o.stopped) same ∙ none) order in
       let here : StandsFor store.core s = subst (λ (o : Stored D). StandsFor o.core s) (sym same) stands in
       (going.settled l r (ap seen (sym same_left) ∙ tl) (ap seen (sym same_right) ∙ tr) s here).stands
-
-  -- both disks as they were
-  pub pairs_at_rest : (store : Stored D) → IsGoing seen moment left_at store → (l r : List ℕ) → seen store.left ≡ Some l → seen store.right ≡ Some r → (s : State) → StandsFor store.core s → (request : Request)
-      → LeavesPairs moment left_at store.left store.right store.left store.right (IsKeptAround s request)
-  pairs_at_rest store going l r tl tr s stands request a b la lb =
-      let ea : a ≡ l = rest_only store.left l tl going.left a la in
-      let eb : b ≡ r = rest_only store.right r tr going.right b lb in
-      let kept : IsKept l r s = settled_kept store.side l r s (going.settled l r tl tr s stands) in
-      inl (subst (λ (x : List ℕ). IsKept x b s) (sym ea) (subst (λ (y : List ℕ). IsKept l y s) (sym eb) kept))
-
-  pub unchanged_pairs : (old store : Stored D) → store ≡ old → IsInOrder seen moment left_at store → old.stopped ≡ None → (l r : List ℕ) (s : State) → seen old.left ≡ Some l → seen old.right ≡ Some r → StandsFor old.core s → (request : Request)
-      → LeavesPairs moment left_at old.left old.right store.left store.right (IsKeptAround s request)
-  unchanged_pairs old store same order =
-      let P : Stored D → Type 0 = λ o. o.stopped ≡ None → (l r : List ℕ) (s : State) → seen o.left ≡ Some l → seen o.right ≡ Some r → StandsFor o.core s → (request : Request)
-      → LeavesPairs moment left_at o.left o.right store.left store.right (IsKeptAround s request) in
-      subst P same (λ none l r s tl tr stands request. pairs_at_rest store (going_of store none order) l r tl tr s stands request)
 
   -- ---- by the side
 
@@ -134,8 +106,3 @@ module _ {D : Type 0} (seen : D → Option (List ℕ)) (moment : D → ℕ) (lef
     read = λ l r tl tr s stands. near r l r l tr tl (stays taken.disk r tr) (stays b l tl) s stands;
     left_so = λ l r x y tl tr lx ly s stands. near r l y x tr tl ly lx s stands;
   }
-
-  pub pairs_by : (side : Side) (t new b : D) (P : List ℕ → List ℕ → Type 0) → ((x y : List ℕ) → LeftSince moment left_at new (moment t) x → LeftSince moment left_at b (moment b) y → P (on side x y) (on side y x))
-      → LeavesPairs moment left_at (on side t b) (on side b t) (on side new b) (on side b new) P
-  pairs_by Left t new b P h x y lx ly = h x y lx ly
-  pairs_by Right t new b P h x y lx ly = h y x ly lx

@@ -8,6 +8,7 @@ ghost use Rattle.liq_core.specs.Plan.{HasRoom, IsPlannedOn};
 ghost use Rattle.liq_rules.specs.Step.{step};
 ghost use Rattle.liq_store.specs.Preparing.{HasRoomBehind, IsPrepared, IsReady};
 
+use crate::hint_source::HintSource;
 use liq_core::laws::protocols_stand;
 use liq_core::{PlanFault, Planned, Turn};
 use liq_guided::Guided;
@@ -52,8 +53,14 @@ pub fn prepare(protocol: &mut Guided, changes: &mut Vec<ListChange>, command: &C
     }
 }
 
-// Makes the step of a planned command. Its steps are counted on a ledger of their own.
-pub fn make<L: Ledger>(protocol: &mut Guided, planned: Planned, hint: &Hint, blank: Blank) -> Done
+// Makes the step of a planned command, behind changes of the list with its own last. Its steps are counted on a ledger of their own.
+pub fn make<L: Ledger, H: HintSource + Drop>(
+    protocol: &mut Guided,
+    planned: Planned,
+    source: H,
+    changes: &[ListChange],
+    blank: Blank,
+) -> Done
     requires name { blank.name ≡ L.name }
     requires parts { blank.parts ≡ L.parts }
     requires one { L.parts ≡ 1 }
@@ -62,6 +69,11 @@ pub fn make<L: Ledger>(protocol: &mut Guided, planned: Planned, hint: &Hint, bla
     ensures state { (s : State) → StandsFor protocol.old s → StandsFor protocol.new (step s (Do planned.command)).0 }
     ensures reply { (s : State) → StandsFor protocol.old s → (step s (Do planned.command)).1 ≡ Said result }
 {
+    let hint = if protocol.needs_hint(&planned) {
+        source.hint(changes)
+    } else {
+        Hint::NONE
+    };
     let mut steps = Steps::<L>::new(blank);
-    protocol.apply(planned, hint, &mut steps)
+    protocol.apply(planned, &hint, &mut steps)
 }

@@ -40,11 +40,6 @@ module _ {X : Type 0} where
   get-push_other (y ∷ ys) zero x apart = refl
   get-push_other (y ∷ ys) (suc n) x apart = get-push_other ys n x (λ e. apart (ap suc e))
 
-  get_some : (xs : List X) (n : ℕ) → n < length xs → slice_get xs n ≡ None → ⊥
-  get_some [] n less h = omega (arith, less)
-  get_some (y ∷ ys) zero less h = cc
-  get_some (y ∷ ys) (suc n) less h = get_some ys n (omega (arith, less)) h
-
   -- what a look-up by number gives
   found_by : {B : Type 0} (f : B → X) (o : Option B) (xs : List X) (n : ℕ) → is_some o ≡ ltb n (length xs) → IfSome o (λ x. f x ≡ get_or xs n (f x)) → option_map f o ≡ slice_get xs n
   found_by f None xs n is v = sym (slice_get_past xs n (grind (arith, nat_tests, is)))
@@ -93,13 +88,6 @@ module _ {X : Type 0} where
   entries-same new old rows few same =
       same_rows (entries new rows) (entries old rows) (ascends-entries new rows) (ascends-entries old rows)
       (λ key. at-entries new rows few key ∙ ap (λ n. slice_get rows n) (same key) ∙ sym (at-entries old rows few key))
-
-  pub index-same : (new old : List (List ℕ)) (rows : List X) → ((k : ℕ) → place new k ≡ place old k) → IsIndex old rows → IsIndex new rows
-  index-same new old rows same h = record {
-    few = h.few;
-    known = λ key. subst (λ n. (n < length rows) ⊎ (n ≡ NONE)) (sym (same key)) (h.known key);
-    apart = λ j k less e. h.apart j k (subst (λ n. n < length rows) (same j) less) (sym (same j) ∙ e ∙ same k);
-  }
 
   -- ---- another row at a key
 

@@ -1,15 +1,13 @@
 -- What is told of the commands on two disks, which are only looked at.
-use Rattle.std.proofs.Common.{◌≡◌, ◌≢◌, ℕ, List, Option, Some, None, Result, Ok, Err, inl, inr, refl, sym, ap, subst, ◌∙◌}
+use Rattle.std.proofs.Common.{◌≡◌, ◌≢◌, ℕ, List, Option, Some, None, Result, Ok, Err, inl, inr, refl, sym, ap, ◌∙◌}
 use Rattle.std.specs.Prelude.{◌⊎◌, ◌↔◌, IsSome}
 use Rattle.liq_types.specs.declared.requests.Command.{Command}
 use Rattle.liq_types.specs.State.{State, opening_with}
 use Rattle.liq_rules.specs.Events.{events}
-use Rattle.liq_journal.specs.Looked.{Looked}
-use Rattle.liq_journal.proofs.Looks.{looked_none}
 use Rattle.liq_pairs.specs.declared.side.Side.{Side}
 use Rattle.liq_pairs.specs.declared.side.Side.TheVariants.{Left, Right}
 use Rattle.liq_pairs.specs.Replay.{replay}
-use Rattle.liq_pairs.specs.Sides.{beside, on}
+use Rattle.liq_pairs.specs.Sides.{on}
 use Rattle.liq_review.specs.declared.fault.ReviewFault.{ReviewFault}
 use Rattle.liq_review.specs.declared.fault.ReviewFault.TheVariants as review
 use Rattle.liq_review.specs.Engine.{rows_of}
@@ -74,13 +72,6 @@ audit_holds (Err halt) s commands h = tt
 -- ---- the disks
 
 module _ {D : Type 0} (seen : D → Option (List ℕ)) where
-  -- both tell what they told where one was looked at
-  pub both_seen : (side now : Side) (ol or nl nr : D) → now ≡ side → seen (on now nl nr) ≡ seen (on side ol or) → beside now nl nr ≡ beside side ol or → (seen nl ≡ seen ol) × (seen nr ≡ seen or)
-  both_seen Left Left ol or nl nr is same other = (same, ap seen other)
-  both_seen Right Right ol or nl nr is same other = (ap seen other, same)
-  both_seen Left Right ol or nl nr is same other = absurd cc
-  both_seen Right Left ol or nl nr is same other = absurd cc
-
   pub stand_too : (l r : List ℕ) (start : State) (ol or nl nr : D) → seen nl ≡ seen ol → seen nr ≡ seen or → DisksStay seen (Ok tt) l r start ol or → DisksStay seen (Ok tt) l r start nl nr
   stand_too l r start ol or nl nr left right stand a b told_a told_b = stand a b (sym left ∙ told_a) (sym right ∙ told_b)
 
@@ -92,11 +83,3 @@ module _ {D : Type 0} (seen : D → Option (List ℕ)) where
   pub taken_tells : (side : Side) (ol or nl nr : D) → (IsSome (seen nl) ↔ IsSome (seen ol)) → (IsSome (seen nr) ↔ IsSome (seen or)) → (l r : List ℕ) → seen ol ≡ Some l → seen or ≡ Some r → (now : List ℕ) × (seen (on side nl nr) ≡ Some now)
   taken_tells side ol or nl nr left right l r told_l told_r =
       some_of (seen (on side nl nr)) (on_tells side nl nr (left.1 (is_some_of (seen ol) l told_l)) (right.1 (is_some_of (seen or) r told_r)))
-
--- of both disks one was looked at, and the other stays
-pub both_looked : {D : Type 0} (seen : D → Option (List ℕ)) (moment : D → ℕ) (left_at : D → ℕ → List ℕ → Type 0) (side now : Side) (ol or nl nr : D) → now ≡ side → Looked seen moment left_at (on side ol or) (on now nl nr) → beside now nl nr ≡ beside side ol or
-    → Looked seen moment left_at ol nl × Looked seen moment left_at or nr
-both_looked seen moment left_at Left Left ol or nl nr is looked other = (looked, subst (Looked seen moment left_at or) (sym other) (looked_none seen moment left_at or))
-both_looked seen moment left_at Right Right ol or nl nr is looked other = (subst (Looked seen moment left_at ol) (sym other) (looked_none seen moment left_at ol), looked)
-both_looked seen moment left_at Left Right ol or nl nr is looked other = absurd cc
-both_looked seen moment left_at Right Left ol or nl nr is looked other = absurd cc

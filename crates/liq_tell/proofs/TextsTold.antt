@@ -19,7 +19,6 @@ use Rattle.liq_tell.specs.Audit.{IsAuditOf}
 use Rattle.liq_tell.specs.Report.{reported}
 use Rattle.liq_tell.specs.State.{standing}
 use Rattle.liq_tell.specs.Told.{EndsTelling, MayEnd, WritesTold}
-use Rattle.liq_tell.specs.Whole.{FindsWhole}
 use Rattle.liq_tell.specs.Writing.{AuditHolds, WritesAudit, WritesAnswers, WritesText}
 
 pub text_written : (told : Result (List ℕ) ReviewFault) (text : List ℕ) (end : Result (Unit {0}) Halt) (before now : Option (List ℕ)) → told ≡ Ok text → OnOk end (Writes before text now) → IfErr end (λ halt. (halt ≡ WriteFault) × WritesPart before text now) → WritesText told end before now
@@ -104,20 +103,6 @@ answers_written s commands asked (Err DiskFault) before now first wrote = wrote
 answers_written s commands asked (Err NoMemory) before now first wrote = wrote
 answers_written s commands asked (Err (Limit number)) before now first wrote = (wrote, first)
 answers_written s commands asked (Err _) before now first wrote = absurd wrote
-
--- ---- where not all commands are found
-
-pub whole_audit : (s : State) (commands : List Command) (halt : Halt) (held : Option (List ℕ)) → FindsWhole s commands (Err halt) → WritesAudit s commands (Err halt) held held
-whole_audit s commands (Rotated generation) held h = (refl, h.0, h.1)
-whole_audit s commands DiskFault held h = refl
-whole_audit s commands NoMemory held h = refl
-whole_audit s commands _ held h = absurd h
-
-pub whole_answers : (s : State) (commands : List Command) (asked : Asked) (halt : Halt) (held : Option (List ℕ)) → FindsWhole s commands (Err halt) → WritesAnswers s commands asked (Err halt) held held
-whole_answers s commands asked (Rotated generation) held h = (refl, h.0, h.1)
-whole_answers s commands asked DiskFault held h = refl
-whole_answers s commands asked NoMemory held h = refl
-whole_answers s commands asked _ held h = absurd h
 
 -- ---- of each
 

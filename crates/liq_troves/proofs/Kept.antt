@@ -23,7 +23,7 @@ use Rattle.liq_tables.specs.WithRoom.{written}
 use Rattle.liq_types.proofs.MapRows.{all-put, all-without, all-weaken}
 use Rattle.liq_troves.specs.declared.sums.Sums.{Sums}
 use Rattle.liq_troves.specs.Kept.{IsKept, AreKept, AreSoundRows, coll_in}
-use Rattle.liq_troves.specs.Rows.{stakes_in, set_row, set_in, beside, sums_spread, sums_snapped, sum_after}
+use Rattle.liq_troves.specs.Rows.{stakes_in, set_row, set_in, beside, sums_snapped}
 use Rattle.liq_troves.proofs.Added.{sum_taken, sums_within}
 use Rattle.liq_troves.proofs.Standing.{stake_within}
 use Rattle.liq_tables.proofs.Filling.{rows_all}
@@ -149,12 +149,6 @@ without_kept troves sums count account h =
 kept_under : (troves : Table Trove) (sums made : Sums) (count : ℕ) → AreKept troves sums count → made.stakes ≡ sums.stakes → AllByRecursion (λ (row : ℕ × Trove). IsKept made.coll made.debt row.1) troves → made.coll ≤ SUM_MOST → made.debt ≤ SUM_MOST → made.snap_stakes ≤ made.snap_coll → AreKept troves made count
 kept_under troves sums made count h same each coll_fits debt_fits snap =
     record { ascend = h.ascend; each = each; sum_coll = coll_fits; sum_debt = debt_fits; stakes = same ∙ h.stakes; snap = snap; limit = h.limit; counted = h.counted }
-
-pub spread_kept : (troves : Table Trove) (sums : Sums) (count coll debt : ℕ) → AreKept troves sums count → sum_after sums.coll coll sums.stakes ≤ SUM_MOST → sum_after sums.debt debt sums.stakes ≤ SUM_MOST → AreKept troves (sums_spread sums coll debt) count
-spread_kept troves sums count coll debt h coll_fits debt_fits =
-    let each = all-weaken (IsKept sums.coll sums.debt) (IsKept (sum_after sums.coll coll sums.stakes) (sum_after sums.debt debt sums.stakes))
-    (λ t k. record { some = k.some; within = k.within; mark_coll = omega (arith, k.mark_coll); mark_debt = omega (arith, k.mark_debt) }) troves h.each in
-    kept_under troves sums (sums_spread sums coll debt) count h refl each coll_fits debt_fits h.snap
 
 pub snapped_kept : (troves : Table Trove) (sums : Sums) (count total : ℕ) → AreKept troves sums count → coll_in troves ≤ total → AreKept troves (sums_snapped sums total) count
 snapped_kept troves sums count total h enough =

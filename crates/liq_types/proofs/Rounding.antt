@@ -216,15 +216,6 @@ finished_within s x p top debt total coll some worth_less low h =
     let third : (s + 11 * p) * total ≤ 11 * top * total = mul-le-mul_right total h in
     omega arith
 
--- held is what the default pool keeps: default ≡ held + pending
-pub due_lifted : (due due1 own held pending one : ℕ) → due1 + own ≡ due → pending * one ≤ own → due ≤ (held + pending) * one → due1 ≤ held * one
-due_lifted due due1 own held pending one left low h =
-    omega arith
-
-pub due_spread : (due held stakes rise amount one : ℕ) → rise * stakes ≤ amount * one → due ≤ held * one → due + stakes * rise ≤ (held + amount) * one
-due_spread due held stakes rise amount one low h =
-    omega arith
-
 -- rest is the collateral less the gas; then cancel debt
 pub offset_worth : (debt offset_debt offset_coll rest : ℕ) → offset_coll * debt ≤ rest * offset_debt → rest ≤ 11 * debt → offset_coll * debt ≤ 11 * offset_debt * debt
 offset_worth debt offset_debt offset_coll rest low ratio =

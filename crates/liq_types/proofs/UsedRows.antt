@@ -1,7 +1,6 @@
 -- Tables of which only the used rows are seen, and what writing a row does to what is seen.
-use Rattle.std.proofs.Common.{◌≡◌, ℕ, Bool, true, false, cond, [], ◌∷◌, refl, ap, sym, subst, ◌∙◌, Some, None, Option, arith, inl, inr}
-use Rattle.std.specs.BTreeMap.{is_at}
-use Rattle.std.specs.Prelude.{unwrap_or, sum_by, ◌+◌, IsSome}
+use Rattle.std.proofs.Common.{◌≡◌, ℕ, Bool, true, false, cond, [], ◌∷◌, refl, ap, sym, subst, ◌∙◌, Some, None, Option, arith}
+use Rattle.std.specs.Prelude.{unwrap_or, sum_by, ◌+◌}
 use Rattle.std.specs.Option.{option_map}
 use Rattle.std.specs.List.{AllByRecursion}
 use Rattle.std.specs.List.Sorted.{IsStrictlySortedBy}
@@ -10,11 +9,10 @@ use Rattle.std.specs.declared.cmp.Ordering.TheVariants.{Less, Equal, Greater}
 use Rattle.std.specs.Ordering.{nat_cmp, is_eq, match_ordering}
 use Rattle.std.specs.Cmp.{nat_cmp_total, eq_by_cmp_equiv}
 use Rattle.std.proofs.lemmas.Cmp.{tied_itself}
-use Rattle.std.specs.Map.{keys_of, values_of, set_value}
+use Rattle.std.specs.Map.{keys_of, values_of}
 use Rattle.std.proofs.lemmas.Map.Keys.{sorted_head, sorted_tail, IsDistinct-from_sorted}
 use Rattle.std.proofs.lemmas.Map.Entries.{option_filter, lookup-filter-values, sum_by-insert_entry}
 use Rattle.std.proofs.lemmas.Map.Lookups.{exact_unsigned}
-use Rattle.liq_types.specs.Rows.{Reserves}
 use Rattle.liq_types.proofs.Ascending.{below_more}
 use Rattle.liq_types.specs.Tables.{Table, at, put, without, rows}
 
@@ -76,22 +74,6 @@ module _ {X : Type 0} where
   rows-put test [] key x s = refl
   rows-put test (e ∷ es) key x s =
       rows-put_cons test e es key x (sorted_head nat_cmp e.0 (keys_of es) s) (rows-put test es key x (sorted_tail nat_cmp e.0 (keys_of es) s)) (nat_cmp key e.0) refl
-
-  at_below : (key : ℕ) (table : Table X) → Below key table → at table key ≡ None
-  at_below key [] h = refl
-  at_below key (e ∷ es) h = ap (λ o. cond (is_eq o) (Some e.1) (at es key)) h.0 ∙ at_below key es h.1
-
-  -- to write over the row that is there is to put it
-  put_again : (table : Table X) (key : ℕ) (x : X) → IsStrictlySortedBy nat_cmp (keys_of table) → IsSome (at table key) → set_value (is_at (nat_cmp key)) table x ≡ put table key x
-  put_again [] key x s h = cc
-  put_again (e ∷ es) key x s h = by (sorted_head nat_cmp e.0 (keys_of es) s) (put_again es key x (sorted_tail nat_cmp e.0 (keys_of es) s)) (nat_cmp key e.0) refl h where
-    by : Below e.0 es → (IsSome (at es key) → set_value (is_at (nat_cmp key)) es x ≡ put es key x) → (o : Ordering) → nat_cmp key e.0 ≡ o → IsSome (cond (is_eq o) (Some e.1) (at es key)) → cond (is_eq o) ((e.0, x) ∷ es) (e ∷ set_value (is_at (nat_cmp key)) es x) ≡ match_ordering o ((key, x) ∷ e ∷ es) ((e.0, x) ∷ es) (e ∷ put es key x)
-    by head later Less l i = let none = subst (λ (o : Option X). IsSome o) (at_below key es (below_more nat_cmp_total key e.0 es l head)) i in cc
-    by head later Equal q i = refl
-    by head later Greater g i = ap (λ (t : Table X). e ∷ t) (later i)
-
-  pub rows-put_again : (test : X → Bool) (table : Table X) (key : ℕ) (x : X) → IsStrictlySortedBy nat_cmp (keys_of table) → IsSome (at table key) → rows test (set_value (is_at (nat_cmp key)) table x) ≡ written test (rows test table) key x
-  rows-put_again test table key x s h = ap (λ (t : Table X). rows test t) (put_again table key x s h) ∙ rows-put test table key x s
 
   put_twice : (table : Table X) (key : ℕ) (x y : X) → put (put table key x) key y ≡ put table key y
   put_twice [] key x y = ap (λ o. match_ordering o ((key, y) ∷ (key, x) ∷ []) ((key, y) ∷ []) ((key, x) ∷ (key, y) ∷ [])) (tied_itself nat_cmp_total key)
@@ -162,27 +144,6 @@ module _ {X : Type 0} where
   pub at-rows : (test : X → Bool) (table : Table X) (key : ℕ) → IsStrictlySortedBy nat_cmp (keys_of table) → at (rows test table) key ≡ option_filter test (at table key)
   at-rows test table key s =
       lookup-filter-values (eq_by_cmp_equiv nat_cmp_total) test key table (IsDistinct-from_sorted nat_cmp (keys_of table) s)
-
-  -- of a row that is not used nothing is read but what nothing has
-  pub seen_or : {Y : Type 0} (test : X → Bool) (f : X → Y) (none : X) → ((x : X) → test x ≡ false → f x ≡ f none) → (o : Option X) → f (unwrap_or (option_filter test o) none) ≡ f (unwrap_or o none)
-  seen_or test f none same None = refl
-  seen_or test f none same (Some x) = by (test x) refl where
-    by : (b : Bool) → test x ≡ b → f (unwrap_or (cond b (Some x) None) none) ≡ f x
-    by true h = refl
-    by false h = sym (same x h)
-
-  -- reserving changes nothing that is seen
-  pub rows-reserve : (test : X → Bool) (old new : Table X) (key : ℕ) (empty : X) → test empty ≡ false → Reserves old new key empty → rows test new ≡ rows test old
-  rows-reserve test old new key empty u (inl same) = ap (λ (t : Table X). rows test t) same
-  rows-reserve test old new key empty u (inr made) = ap (λ (t : Table X). rows test t) made.1 ∙ rows-put_unused test old key empty u made.0
-
-  -- nor a sum in which an empty row counts nothing
-  pub sum_by-reserve : (f : X → ℕ) (old new : Table X) (key : ℕ) (empty : X) → f empty ≡ 0 → IsStrictlySortedBy nat_cmp (keys_of old) → Reserves old new key empty → sum_by f (values_of new) ≡ sum_by f (values_of old)
-  sum_by-reserve f old new key empty z s (inl same) = ap (λ (t : Table X). sum_by f (values_of t)) same
-  sum_by-reserve f old new key empty z s (inr made) =
-      let law = sum_by-insert_entry f nat_cmp_total old key empty s in
-      let none : unwrap_or (option_map f (at old key)) 0 ≡ 0 = ap (λ o. unwrap_or (option_map f o) 0) made.0 in
-      ap (λ (t : Table X). sum_by f (values_of t)) made.1 ∙ omega (arith, law, none, z)
 
   -- what a sum counts after a row is written
   pub sum_by-put : (f : X → ℕ) (table : Table X) (key : ℕ) (x none : X) → f none ≡ 0 → IsStrictlySortedBy nat_cmp (keys_of table) → sum_by f (values_of (put table key x)) + f (unwrap_or (at table key) none) ≡ sum_by f (values_of table) + f x

@@ -79,9 +79,6 @@ module _ (t : State) (f : Finds t) (v : Victim) (made : one t v.account ≡ Ok v
   pub row_here : at (trove_rows t) v.account ≡ Some (trove_row t x.has.entry)
   row_here = at-map (trove_row t) t.troves v.account ∙ ap (λ (o : Option TroveEntry). option_map (trove_row t) o) x.has.there
 
-  pub stake_here : unwrap_or (option_map (λ (r : Trove). r.stake) (at (trove_rows t) v.account)) 0 ≡ x.has.entry.stake
-  stake_here = ap (λ (o : Option Trove). unwrap_or (option_map (λ (r : Trove). r.stake) o) 0) row_here
-
   pub others_stake : x.has.entry.stake < stakes_of t
   others_stake =
       let some = some_left t f 0 none v.account v.one x in

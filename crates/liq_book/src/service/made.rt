@@ -43,14 +43,17 @@ impl<D: Disk, O: Origin> Service<D, O> {
         let Ok(room) = Vec::with_capacity(alloc, sessions as usize) else {
             return Err(store);
         };
-        let Ok((mut publisher, finders)) = Publisher::new(alloc, u32::from(sessions)) else {
+        let Ok((mut publisher, mut finders)) = Publisher::new(alloc, u32::from(sessions) + 1) else {
             return Err(store);
         };
         let Ok(()) = publisher.publish(rt, store.changes(), 0) else {
             publisher.close(rt);
             return Err(store);
         };
-        let book = match BoxedBook::new(alloc, Book::new(alloc, store, publisher)) {
+        let Some(finder) = finders.pop() else {
+            unreachable!();
+        };
+        let book = match BoxedBook::new(alloc, Book::new(alloc, store, publisher, finder)) {
             Ok(book) => book,
             Err(book) => return Err(unused(rt, book)),
         };

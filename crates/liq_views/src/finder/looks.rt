@@ -1,7 +1,7 @@
 //! What a finder tells of one look.
 
 ghost use Rattle.std.specs.Prelude.{◌≡◌, ◌≤◌, IfOk, IfSome, IsSome, IfNone, OnOk, OnErr, MatchOption, MatchResult};
-ghost use Rattle.liq_version.specs.declared.asks.Ask.TheVariants.{At};
+ghost use Rattle.liq_version.specs.declared.asks.Ask.TheVariants.{At, Own};
 ghost use Rattle.liq_version.specs.Versions.{answer_of};
 ghost use Rattle.liq_views.specs.Windows.{GoesOn, Looked, Rose};
 
@@ -35,6 +35,24 @@ impl<V: Window + Drop> Finder<V> {
         ensures rising { IsSome (V.shown self.old.window) → self.old.last ≤ self.new.last }
     {
         self.look(&Ask::At { key, id }).ok()
+    }
+
+    /// The neighbours of an account in the version that is shown; where it doesn't stand there, those of (0, id). Both are absent
+    /// where no other account stands in it. None comes only where the window's count of shut looks rose in this call.
+    ///
+    /// Takes no memory, and doesn't wait. The versions that a finder sees never go back.
+    pub fn own(&mut self, id: u32) -> Option<Hint>
+        ensures later { GoesOn (V.shown self.old.window) (V.shown self.new.window) }
+        ensures leads { V.leads self.old.window self.new.window }
+        ensures rising { IsSome (V.shown self.old.window) → self.old.last ≤ self.new.last }
+        ensures hint { MatchOption result
+            (Rose (V.shut self.old.window) (V.shut self.new.window))
+            (λ hint. IfSome (V.shown self.new.window) (λ v. hint ≡ answer_of v (Own id))) }
+        ensures open { IfSome result (λ _. V.shut self.new.window ≡ V.shut self.old.window) }
+        ensures stays { IfNone result (V.shown self.new.window ≡ V.shown self.old.window) }
+        ensures last { MatchOption result (self.new.last ≡ self.old.last) (λ hint. self.new.last ≡ hint.version) }
+    {
+        self.look(&Ask::Own { account: id }).ok()
     }
 
     /// The number of the version that is shown; that of the last version that was seen only where the window's count of

@@ -1,4 +1,4 @@
-use Rattle.std.proofs.Common.{ap, sym, ◌∙◌}
+use Rattle.std.proofs.Common.{ap, ◌∙◌}
 use Rattle.liq_types.specs.declared.requests.Call.{Call}
 use Rattle.liq_rules.specs.Rules.{call_events}
 use Rattle.liq_rules.specs.Step.{after, ruling}

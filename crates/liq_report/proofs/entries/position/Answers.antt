@@ -1,9 +1,10 @@
-use Rattle.std.proofs.Common.{sym, ◌∙◌}
+use Rattle.std.proofs.Common.{sym, ◌∙◌, ap}
 use Rattle.liq_core.specs.Core.{state_of}
+use Rattle.liq_replies.specs.Told.{deposit_words}
 use Rattle.liq_report.proofs.Stands.{deposit_told}
 use Rattle.liq_report.proofs.entries.position.Goals as goal
 
 pub returns : goal.returns
 returns c =
     let s = state_of c.args.protocol.now in
-    c.deposit_in.ensures _ _ (sym (c.query-reply.ensures s c.protocols_stand.ensures) ∙ deposit_told s c.args.account c.requires)
+    c.deposit_in.ensures ∙ ap deposit_words (sym (c.query-reply.ensures s c.protocols_stand.ensures) ∙ deposit_told s c.args.account c.requires)

@@ -2,7 +2,7 @@ use Rattle.std.proofs.Common.{sym, ap, ◌∙◌, subst, map}
 use Rattle.std.specs.Prelude.{List}
 use Rattle.liq_types.specs.Ranked.{Ranked}
 use Rattle.liq_guide.specs.declared.places.Entry.{Entry}
-use Rattle.liq_guide.specs.Places.{entered, ranked, AreHalved}
+use Rattle.liq_guide.specs.Places.{with_entry, ranked, AreHalved}
 use Rattle.liq_guide.proofs.Halves.{halved_inserted, inserted_is, stored_ascending}
 use Rattle.liq_guide.proofs.places.Places.insert.Goals as goal
 
@@ -25,5 +25,5 @@ returns-clause-entered c =
     let es = c.self.inside.entries.keys in
     ap (λ (l : List Entry). map ranked l) c.in-Ok.ensures.keys
     ∙ inserted_is es c.of.result c.self.invariant.0 c.of.ensures.low
-    ∙ ap (λ (e : Ranked). entered (map ranked es) e) c.of.ensures.same
-    ∙ ap (λ (l : List Ranked). entered l c.args.place) c.self.view_is
+    ∙ ap (λ (e : Ranked). with_entry (map ranked es) e) c.of.ensures.same
+    ∙ ap (λ (l : List Ranked). with_entry l c.args.place) c.self.view_is

@@ -3,7 +3,7 @@ use Rattle.std.specs.Prelude.{List}
 use Rattle.std.specs.BTreeMap.{is_at}
 use Rattle.liq_types.specs.Ranked.{Ranked}
 use Rattle.liq_guide.specs.declared.places.Entry.{Entry}
-use Rattle.liq_guide.specs.Places.{left, ranked, AreHalved}
+use Rattle.liq_guide.specs.Places.{without_entry, ranked, AreHalved}
 use Rattle.liq_guide.proofs.Halves.{halved_order, halved_removed, removed_is, stored_ascending}
 use Rattle.liq_guide.proofs.places.Places.remove.Goals as goal
 
@@ -22,5 +22,5 @@ returns-clause-left c =
     let es = c.self.inside.entries.keys in
     ap (λ (l : List Entry). map ranked l) c.remove.ensures.keys
     ∙ removed_is es c.of.result c.self.invariant.0 c.of.ensures.low c.self.invariant.1
-    ∙ ap (λ (e : Ranked). left (map ranked es) e) c.of.ensures.same
-    ∙ ap (λ (l : List Ranked). left l c.args.place) c.self.view_is
+    ∙ ap (λ (e : Ranked). without_entry (map ranked es) e) c.of.ensures.same
+    ∙ ap (λ (l : List Ranked). without_entry l c.args.place) c.self.view_is

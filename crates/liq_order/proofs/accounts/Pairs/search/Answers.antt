@@ -1,17 +1,23 @@
-use Rattle.std.proofs.Common.{ap, rules}
+use Rattle.std.proofs.Common.{◌≡◌, Ok, Err, ap, sym, ◌∙◌, rules}
 use Rattle.std.proofs.lemmas.List.Sorted.{answers_always}
 use Rattle.liq_order.specs.Pairs.{Paired, Row}
-use Rattle.liq_order.proofs.Rows.{searched}
+use Rattle.liq_order.proofs.Windows.{searched_within}
 use Rattle.liq_order.proofs.accounts.Pairs.search.Goals as goal
 
-pub returns-clause-found : goal.returns-clause-found
-returns-clause-found c =
-    let facts = c.binary_search_by_key.ensures in
+pub returns-in-Ok-clause-found : goal.returns-in-Ok-clause-found
+returns-in-Ok-clause-found c =
+    let facts = c.in-Ok.ensures in
+    let w = c.window-low in
     let by_key = facts.position (λ (row : Row). row.0) (answers_always _ _ _ (λ f a r g called. search rules)) in
-    rw (← ap (λ (p : Paired). p.rows) c.self.view_is, ← c.deref.ensures.value) (searched c.deref.result.now (rw c.deref.ensures.value c.self.invariant.strict) c.args.account c.binary_search_by_key.result facts.bound by_key).found
+    let value : c.args.self.now.rows ≡ c.deref.result.now = sym (c.deref.ensures.value ∙ ap (λ (p : Paired). p.rows) c.self.view_is) in
+    rw value (searched_within c.deref.result.now (rw value at w.ensures.strict) c.args.account w.result.0 w.result.1 w.ensures.ordered (rw value at w.ensures.inside)
+    (rw value at w.ensures.smaller) (rw value at w.ensures.greater) (Ok c.in-Ok.at) facts.bound by_key).found
 
-pub returns-clause-absent : goal.returns-clause-absent
-returns-clause-absent c =
-    let facts = c.binary_search_by_key.ensures in
+pub returns-in-Err-clause-absent : goal.returns-in-Err-clause-absent
+returns-in-Err-clause-absent c =
+    let facts = c.in-Err.ensures in
+    let w = c.window-low in
     let by_key = facts.position (λ (row : Row). row.0) (answers_always _ _ _ (λ f a r g called. search rules)) in
-    rw (← ap (λ (p : Paired). p.rows) c.self.view_is, ← c.deref.ensures.value) (searched c.deref.result.now (rw c.deref.ensures.value c.self.invariant.strict) c.args.account c.binary_search_by_key.result facts.bound by_key).absent
+    let value : c.args.self.now.rows ≡ c.deref.result.now = sym (c.deref.ensures.value ∙ ap (λ (p : Paired). p.rows) c.self.view_is) in
+    rw value (searched_within c.deref.result.now (rw value at w.ensures.strict) c.args.account w.result.0 w.result.1 w.ensures.ordered (rw value at w.ensures.inside)
+    (rw value at w.ensures.smaller) (rw value at w.ensures.greater) (Err c.in-Err.at) facts.bound by_key).absent
