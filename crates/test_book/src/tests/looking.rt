@@ -13,11 +13,11 @@ use std::sync::Wait;
 /// A change of the list: the account that stands at this key from now on, or that is gone.
 type Told = (Option<i128>, u32);
 
-/// Behind so many changes the given hint counts.
-const MOST: usize = 1025;
+/// Behind so many changes the given hint counts, though only the last one puts a trove.
+const TOO_MANY: usize = 1025;
 
-/// And behind so many that put a trove.
-const MANY: usize = 33;
+/// So it does behind so many that put one.
+const TOO_MANY_PUTS: usize = 33;
 
 const PUBLISHED: [Told; 6] = [
     (Some(10), 1),
@@ -109,12 +109,12 @@ const ROWS: [Row; 12] = [
     },
     Row {
         what: "behind more than it looks among",
-        changes: &[(Some(25), 9); MANY],
+        changes: &[(Some(25), 9); TOO_MANY_PUTS],
         between: (Some(77), Some(78)),
     },
     Row {
         what: "behind as many as it looks among",
-        changes: &[(Some(25), 9); MANY - 1],
+        changes: &[(Some(25), 9); TOO_MANY_PUTS - 1],
         between: (Some(4), Some(5)),
     },
 ];
@@ -130,13 +130,13 @@ fn change_of(told: Told) -> ListChange {
 /// So many changes at most, and how many they are.
 #[derive(Clone, Copy)]
 struct Changes {
-    all: [ListChange; MOST],
+    all: [ListChange; TOO_MANY],
     count: usize,
 }
 
 impl Changes {
     fn of(told: &[Told]) -> Changes {
-        let mut all = [ListChange::Gone { account: 0 }; MOST];
+        let mut all = [ListChange::Gone { account: 0 }; TOO_MANY];
         for (change, told) in all.iter_mut().zip(told) {
             *change = change_of(*told);
         }
@@ -144,6 +144,15 @@ impl Changes {
             all,
             count: told.len(),
         }
+    }
+
+    /// So many of these changes, with this one as the last.
+    fn ending(mut self, count: usize, last: Told) -> Changes {
+        if let Some(place) = self.all.get_mut(count.wrapping_sub(1)) {
+            *place = change_of(last);
+        }
+        self.count = count;
+        self
     }
 
     fn as_slice(&self) -> &[ListChange] {
@@ -173,7 +182,7 @@ fn opened() -> Changes {
             account,
         };
     }
-    changes.count = MOST;
+    changes.count = TOO_MANY;
     changes
 }
 
@@ -183,18 +192,26 @@ fn redeemed(count: usize) -> Changes {
     for (change, account) in changes.all.iter_mut().skip(2).zip(RUN) {
         *change = ListChange::Gone { account };
     }
-    if let Some(last) = changes.all.get_mut(count.wrapping_sub(1)) {
-        *last = change_of((Some(25), 4));
-    }
-    changes.count = count;
-    changes
+    changes.ending(count, (Some(25), 4))
+}
+
+/// So many changes, of which two put a trove.
+fn with_two_puts(count: usize) -> Changes {
+    Changes::of(&[(Some(21), 8)]).ending(count, (Some(25), 9))
 }
 
 /// Whether the most changes are looked through, and one more are not.
 fn most_are_looked_through(finder: &mut Finder) -> bool {
-    let most = found(finder, redeemed(MOST - 1).as_slice());
-    let more = found(finder, redeemed(MOST).as_slice());
-    (most, more) == ((Some(3), None), (Some(77), Some(78)))
+    let given = (GIVEN.prev, GIVEN.next);
+    let redeemed = [
+        found(finder, redeemed(TOO_MANY - 1).as_slice()),
+        found(finder, redeemed(TOO_MANY).as_slice()),
+    ];
+    let with_two_puts = [
+        found(finder, with_two_puts(512).as_slice()),
+        found(finder, with_two_puts(513).as_slice()),
+    ];
+    redeemed == [(Some(3), None), given] && with_two_puts == [(Some(8), Some(5)), given]
 }
 
 /// The first row for which something else is found.
@@ -207,7 +224,7 @@ fn odd_row(finder: &mut Finder) -> Option<&'static str> {
     None
 }
 
-/// Numbers that follow from one another in no order.
+/// Numbers in no order, each made of the one before.
 #[derive(Clone, Copy)]
 struct Numbers {
     last: u64,

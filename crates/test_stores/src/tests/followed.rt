@@ -103,7 +103,8 @@ impl<'a> HintSource for Noting<'a> {
     }
 }
 
-// How many changes whoever gives a hint is told, for a command that puts no trove and for one that does. None without memory.
+// How many changes whoever gives a hint is told, for a command that puts no trove and for one that does: 0 where nobody is
+// asked. None without memory.
 fn ask_for_hints(alloc: Global, has_guide: bool) -> Option<[u64; 2]> {
     let left = disk(alloc, &[], &[]).ok()?;
     let right = disk(alloc, &[], &[]).ok()?;
@@ -130,7 +131,8 @@ fn ask_for_hints(alloc: Global, has_guide: bool) -> Option<[u64; 2]> {
     Some([with_funding, with_opening])
 }
 
-// The guide is asked first. Behind it whoever gives a hint is told all changes, those of the command among them.
+// While there is a guide nobody is asked. Once it was let go, whoever gives a hint is told all changes that wait, the command's
+// own last.
 #[test]
 fn hints_are_asked_for(rt: HostRuntime) {
     let alloc = rt.alloc();
