@@ -1,37 +1,23 @@
 -- What stands next to a place in an ascending list, and next to it without an account.
-use Rattle.std.proofs.Common.{◌≡◌, ℕ, ℤ, Bool, true, false, cond, List, [], ◌∷◌, ◌++◌, refl, sym, ap, ◌∙◌, Some, None, Option, subst, arith}
+use Rattle.std.proofs.Common.{◌≡◌, ℕ, ℤ, Bool, true, false, cond, List, [], ◌∷◌, ◌++◌, refl, sym, ap, ◌∙◌, Some, None, Option, subst}
 use Rattle.std.specs.Prelude.{◌==◌, ◌≢◌, ◌<ℤ◌, not, reverse, filter, unwrap_or, IfSome}
 use Rattle.std.specs.List.{AllByRecursion}
-use Rattle.std.specs.Ordering.{nat_cmp, int_cmp, is_lt, ordering_then, ordering_reverse, MatchOrdering}
+use Rattle.std.specs.Ordering.{is_lt, ordering_reverse}
 use Rattle.std.specs.declared.cmp.Ordering.{Ordering}
 use Rattle.std.specs.declared.cmp.Ordering.TheVariants.{Less, Equal, Greater}
 use Rattle.std.proofs.lemmas.Bool.{eqb-true}
-use Rattle.std.proofs.lemmas.Cmp.{tied_itself, int_ranked}
-use Rattle.std.proofs.lemmas.Int.{ints}
+use Rattle.std.proofs.lemmas.Cmp.{tied_itself}
 use Rattle.std.proofs.lemmas.List.Elements.{filter-append}
 use Rattle.std.proofs.lemmas.List.{reverse-append, append-nil}
 use Rattle.liq_types.proofs.RankedLists.{rank_total, Behind, behind_more, all_kept}
 use Rattle.liq_types.specs.Ranked.{Ranked, rank_order, IsAscending, first_of, account_of, without_ranked}
 use Rattle.liq_guide.specs.Rows.{StandOnce}
 use Rattle.liq_guide.specs.Sides.{account_aside, entry_after, entry_before, entry_beside, past_own}
+use Rattle.liq_guide.proofs.Parts.{all_pass, none_pass, each, lower_key}
 use Rattle.liq_guide.specs.declared.sides.Side.{Side}
 use Rattle.liq_guide.specs.declared.sides.Side.TheVariants.{Before, After}
 
 -- ---- filters
-
-all_pass : (q : Ranked → Bool) (list : List Ranked) → AllByRecursion (λ f. q f ≡ true) list → filter q list ≡ list
-all_pass q [] h = refl
-all_pass q (g ∷ gs) h = by (q g) h.0 (all_pass q gs h.1) where
-  by : (b : Bool) → b ≡ true → filter q gs ≡ gs → cond b (g ∷ filter q gs) (filter q gs) ≡ g ∷ gs
-  by true is more = ap (λ (l : List Ranked). g ∷ l) more
-  by false is more = cc
-
-none_pass : (q : Ranked → Bool) (list : List Ranked) → AllByRecursion (λ f. q f ≡ false) list → filter q list ≡ []
-none_pass q [] h = refl
-none_pass q (g ∷ gs) h = by (q g) h.0 (none_pass q gs h.1) where
-  by : (b : Bool) → b ≡ false → filter q gs ≡ [] → cond b (g ∷ filter q gs) (filter q gs) ≡ []
-  by true is more = cc
-  by false is more = more
 
 first_passes : (q : Ranked → Bool) (list : List Ranked) (h : Ranked) → first_of (filter q list) ≡ Some h → q h ≡ true
 first_passes q [] h is = cc
@@ -72,10 +58,6 @@ stepped next e (Some g) = cond (g.1 == e.1) (account_of (next g)) (Some g.1)
 
 abbrev beyond : (Ranked → Ranked → Bool) → List Ranked → Ranked → Option Ranked
 beyond R list e = first_of (filter (R e) list)
-
-each : (P Q : Ranked → Type 0) → ((f : Ranked) → P f → Q f) → (list : List Ranked) → AllByRecursion P list → AllByRecursion Q list
-each P Q so [] h = tt
-each P Q so (g ∷ gs) h = (so g h.0, each P Q so gs h.1)
 
 not_equal : (a b : ℕ) → a ≢ b → (a == b) ≡ false
 not_equal a b n = by (a == b) refl where
@@ -217,14 +199,6 @@ none_before list e h =
       turn Less k = refl
       turn Equal k = refl
       turn Greater k = cc
-
--- a lower key comes before
-lower_key : (e f : Ranked) → e.0 <ℤ f.0 → rank_order e f ≡ Less
-lower_key e f h = ap (λ o. ordering_then o (nat_cmp e.1 f.1)) (lower (int_cmp e.0 f.0) (int_ranked e.0 f.0 (int_cmp e.0 f.0) refl)) where
-  lower : (o : Ordering) → MatchOrdering o (e.0 <ℤ f.0) (e.0 ≡ f.0) (f.0 <ℤ e.0) → o ≡ Less
-  lower Less k = refl
-  lower Equal k = absurd (omega (arith, ints, h, k))
-  lower Greater k = absurd (omega (arith, ints, h, k))
 
 -- a key below the first, if there is one, is below all
 pub below_all : (list : List Ranked) (key : ℤ) (account : ℕ) (first : Option Ranked) → first ≡ first_of list → IfSome first (λ f. key <ℤ f.0) → IsAscending list → Behind (key, account) list

@@ -3,6 +3,8 @@ pub mod Following
 pub mod Halves
 pub mod Holding
 pub mod Members
+pub mod Parts
 pub mod Entering
 pub mod Standing
 pub mod Stands
+pub mod Stored

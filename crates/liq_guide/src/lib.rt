@@ -2,8 +2,10 @@
 #![tactic(auto)]
 
 mod guide;
+mod longs;
 mod places;
 mod rows;
+mod shorts;
 mod sides;
 
 pub use guide::{Guide, last_put};

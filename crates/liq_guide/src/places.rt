@@ -1,66 +1,45 @@
 // The entries of the ordered list.
-ghost use Rattle.std.specs.Prelude.{◌≡◌, ◌<◌, ◌^◌, [], ℤ, ◌<ℤ◌, IfSome, option_map, OnOk, OnErr};
+ghost use Rattle.std.specs.Prelude.{◌≡◌, [], ◌++◌, reverse, ℤ, ◌<ℤ◌, IfSome, OnOk, OnErr};
 ghost use Rattle.liq_types.specs.Ranked.{IsAscending, first_of};
-ghost use Rattle.liq_guide.specs.Places.{with_entry, without_entry, ranked};
+ghost use Rattle.liq_guide.specs.Places.{with_entry, without_entry, IsPartOf};
 ghost use Rattle.liq_guide.specs.Sides.{entry_before, entry_after};
 
+use crate::longs::Longs;
+use crate::shorts::{Short, Shorts};
 use liq_types::NoMemory;
 use std::alloc::Global;
-use std::collections::BTreeSet;
 use std::marker::Model;
-use std::ops::Bound;
 
 // A key and an account.
 pub(crate) type Place = (i128, u32);
 
-// One of the upper half of a key counts so many of the lower half.
-const UPPER: i128 = 1 << 64;
-
-// An entry: its key in two halves, so that it takes 24 bytes where a key of 128 bits beside an account takes 32.
-#[derive(Clone, Copy, PartialEq, Eq, PartialOrd, Ord)]
-struct Entry {
-    high: i64,
-    low: u64,
-    account: u32,
+// Where an entry is kept.
+#[derive(Clone, Copy)]
+pub(crate) enum Part {
+    Below,
+    Short(Short),
+    Above,
 }
 
-impl Entry {
-    fn of(place: Place) -> Entry
-        ensures same { ranked result ≡ place }
-        ensures low { result.low < 2 ^ 64 }
-    {
-        let (key, account) = place;
-        let high = key >> 64;
-        Entry {
-            high: high as i64,
-            low: (key - high * UPPER) as u64,
-            account,
-        }
-    }
-
-    fn place(self) -> Place
-        ensures { result ≡ ranked self }
-    {
-        (self.high as i128 * UPPER + self.low as i128, self.account)
-    }
-}
-
-// The entries in their order. Contracts see the list.
+// The entries in their order. Contracts see the list. Nearly all keys take 64 bits, and their entries 16 bytes.
 #[derive(Drop)]
 pub(crate) struct Places {
-    entries: BTreeSet<Entry>,
+    // Those whose keys are below all that an i64 can be, and those whose keys are above.
+    below: Longs,
+    shorts: Shorts,
+    above: Longs,
 }
 
 impl Model for Places {
-    ghost use Rattle.std.specs.Prelude.{List, map};
-    ghost use Rattle.liq_types.specs.Ranked.{Ranked, IsAscending};
-    ghost use Rattle.liq_guide.specs.Places.{ranked, AreHalved};
+    ghost use Rattle.std.specs.Prelude.{List, ◌++◌};
+    ghost use Rattle.liq_types.specs.Ranked.{Ranked};
+    ghost use Rattle.liq_guide.specs.Places.{AreParted};
 
     ghost Value = { List Ranked };
 
-    ghost view = { λ p. map ranked p.entries.keys };
+    ghost view = { λ p. p.below ++ (p.shorts ++ p.above) };
 
-    ghost invariant = { λ p. AreHalved p.entries.keys × IsAscending (map ranked p.entries.keys) };
+    ghost invariant = { λ p. AreParted p.below p.shorts p.above };
 }
 
 impl Places {
@@ -69,7 +48,9 @@ impl Places {
         ensures { result ≡ [] }
     {
         Places {
-            entries: BTreeSet::new(alloc),
+            below: Longs::new(alloc),
+            shorts: Shorts::new(alloc),
+            above: Longs::new(alloc),
         }
     }
 
@@ -79,10 +60,11 @@ impl Places {
         ensures entered { OnOk result (self.new ≡ with_entry self.old place) }
         ensures err { OnErr result (self.new ≡ self.old) }
     {
-        let Ok(_) = self.entries.insert(Entry::of(place)) else {
-            return Err(NoMemory);
-        };
-        Ok(())
+        match part_of(place) {
+            Part::Below => self.below.insert(place),
+            Part::Short(entry) => self.shorts.insert(entry),
+            Part::Above => self.above.insert(place),
+        }
     }
 
     // Takes an entry out, if it is there.
@@ -90,23 +72,45 @@ impl Places {
         ensures ascending { IsAscending self.new }
         ensures left { self.new ≡ without_entry self.old place }
     {
-        let _ = self.entries.remove(&Entry::of(place));
+        match part_of(place) {
+            Part::Below => self.below.remove(place),
+            Part::Short(entry) => self.shorts.remove(entry),
+            Part::Above => self.above.remove(place),
+        }
     }
 
     // The entry next before a place.
     pub(crate) fn before(&self, place: Place) -> Option<Place>
         ensures { result ≡ entry_before self.now place }
     {
-        let range = (Bound::Unbounded, Bound::Excluded(Entry::of(place)));
-        place_of(self.entries.range(range).next_back().copied())
+        match part_of(place) {
+            Part::Below => self.below.before(place),
+            Part::Short(entry) => match self.shorts.before(entry) {
+                None => self.below.last(),
+                found => found,
+            },
+            Part::Above => match self.above.before(place) {
+                None => last_up_to(&self.below, &self.shorts),
+                found => found,
+            },
+        }
     }
 
     // The entry next after a place.
     pub(crate) fn after(&self, place: Place) -> Option<Place>
         ensures { result ≡ entry_after self.now place }
     {
-        let range = (Bound::Excluded(Entry::of(place)), Bound::Unbounded);
-        place_of(self.entries.range(range).next().copied())
+        match part_of(place) {
+            Part::Below => match self.below.after(place) {
+                None => first_from(&self.shorts, &self.above),
+                found => found,
+            },
+            Part::Short(entry) => match self.shorts.after(entry) {
+                None => self.above.first(),
+                found => found,
+            },
+            Part::Above => self.above.after(place),
+        }
     }
 
     // The first of all.
@@ -114,16 +118,42 @@ impl Places {
         ensures first { result ≡ first_of self.now }
         ensures least { (key : ℤ) → key <ℤ i128.MIN → IfSome result (λ e. key <ℤ e.0) }
     {
-        place_of(self.entries.first().copied())
+        match self.below.first() {
+            None => first_from(&self.shorts, &self.above),
+            found => found,
+        }
     }
 }
 
-fn place_of(found: Option<Entry>) -> Option<Place>
-    ensures place { result ≡ option_map ranked found }
+// The first of all whose keys are not below.
+fn first_from(shorts: &Shorts, above: &Longs) -> Option<Place>
+    ensures first { result ≡ first_of (shorts.now ++ above.now) }
     ensures least { (key : ℤ) → key <ℤ i128.MIN → IfSome result (λ e. key <ℤ e.0) }
 {
-    match found {
-        Some(entry) => Some(entry.place()),
-        None => None,
+    match shorts.first() {
+        None => above.first(),
+        found => found,
+    }
+}
+
+// The last of all whose keys are not above.
+fn last_up_to(below: &Longs, shorts: &Shorts) -> Option<Place>
+    ensures { result ≡ first_of (reverse (below.now ++ shorts.now)) }
+{
+    match shorts.last() {
+        None => below.last(),
+        found => found,
+    }
+}
+
+// Where an entry is kept.
+fn part_of(place: Place) -> Part
+    ensures { IsPartOf place result }
+{
+    let (key, account) = place;
+    match i64::try_from(key) {
+        Ok(key) => Part::Short(Short { key, account }),
+        Err(_) if key < 0 => Part::Below,
+        Err(_) => Part::Above,
     }
 }

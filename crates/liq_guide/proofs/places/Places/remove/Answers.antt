@@ -1,26 +1,66 @@
-use Rattle.std.proofs.Common.{sym, ap, ◌∙◌, subst, map}
-use Rattle.std.specs.Prelude.{List}
-use Rattle.std.specs.BTreeMap.{is_at}
+use Rattle.std.proofs.Common.{◌≡◌, List, ◌++◌, sym, ap, ◌∙◌, subst}
+use Rattle.std.specs.List.{AllByRecursion}
 use Rattle.liq_types.specs.Ranked.{Ranked}
-use Rattle.liq_guide.specs.declared.places.Entry.{Entry}
-use Rattle.liq_guide.specs.Places.{without_entry, ranked, AreHalved}
-use Rattle.liq_guide.proofs.Halves.{halved_order, halved_removed, removed_is, stored_ascending}
+use Rattle.liq_guide.specs.Places.{without_entry, ranked_short, IsPartOf, IsBelow, IsBetween, IsAbove}
+use Rattle.liq_guide.proofs.Parts.{all_left, parts_ascend, below_left, shorts_left, above_left}
 use Rattle.liq_guide.proofs.places.Places.remove.Goals as goal
 
-halved : (c : goal.After-remove) → AreHalved c.remove.new.self.keys
-halved c = subst AreHalved (sym c.remove.ensures.keys) (halved_removed c.self.inside.entries.keys (is_at (halved_order c.of.result)) c.self.invariant.0)
+is_below : (c : goal.After-remove) → IsBelow c.args.place
+is_below c = subst (IsPartOf c.args.place) c.in-Below.is c.part_of.ensures
 
 pub invariant_of-self : goal.invariant_of-self
-invariant_of-self c =
-    (halved c, stored_ascending c.remove.new.self.keys (halved c) c.remove.ensures.ordered)
+invariant_of-self c = record {
+  below_ascend = c.remove.ensures.ascending;
+  shorts_ascend = c.self.invariant.shorts_ascend;
+  above_ascend = c.self.invariant.above_ascend;
+  low = subst (λ (l : List Ranked). AllByRecursion IsBelow l) (sym c.remove.ensures.left) (all_left IsBelow c.self.inside.below c.args.place c.self.invariant.low);
+  mid = c.self.invariant.mid;
+  high = c.self.invariant.high;
+}
 
-pub returns-clause-ascending : goal.returns-clause-ascending
-returns-clause-ascending c = stored_ascending c.remove.new.self.keys (halved c) c.remove.ensures.ordered
+pub returns-in-Below-clause-ascending : goal.returns-in-Below-clause-ascending
+returns-in-Below-clause-ascending c = parts_ascend (c.remove.new.self) (c.self.inside.shorts) (c.self.inside.above) (invariant_of-self c)
 
-pub returns-clause-left : goal.returns-clause-left
-returns-clause-left c =
-    let es = c.self.inside.entries.keys in
-    ap (λ (l : List Entry). map ranked l) c.remove.ensures.keys
-    ∙ removed_is es c.of.result c.self.invariant.0 c.of.ensures.low c.self.invariant.1
-    ∙ ap (λ (e : Ranked). without_entry (map ranked es) e) c.of.ensures.same
-    ∙ ap (λ (l : List Ranked). without_entry l c.args.place) c.self.view_is
+pub returns-in-Below-clause-left : goal.returns-in-Below-clause-left
+returns-in-Below-clause-left c = ap (λ (l : List Ranked). l ++ (c.self.inside.shorts ++ c.self.inside.above)) c.remove.ensures.left ∙ sym (below_left c.self.inside.below c.self.inside.shorts c.self.inside.above c.self.invariant c.args.place (is_below c)) ∙ ap (λ (l : List Ranked). without_entry l c.args.place) c.self.view_is
+
+is_short : (c : goal.After-remove-in-Short) → (ranked_short c.in-Short.entry ≡ c.args.place) × IsBetween c.args.place
+is_short c = subst (IsPartOf c.args.place) c.in-Short.is c.part_of.ensures
+
+between : (c : goal.After-remove-in-Short) → IsBetween (ranked_short c.in-Short.entry)
+between c = subst IsBetween (sym (is_short c).0) (is_short c).1
+
+pub invariant_of-self-in-Short : goal.invariant_of-self-in-Short
+invariant_of-self-in-Short c = record {
+  below_ascend = c.self.invariant.below_ascend;
+  shorts_ascend = c.remove-in-Short.ensures.ascending;
+  above_ascend = c.self.invariant.above_ascend;
+  low = c.self.invariant.low;
+  mid = subst (λ (l : List Ranked). AllByRecursion IsBetween l) (sym c.remove-in-Short.ensures.left) (all_left IsBetween c.self.inside.shorts (ranked_short c.in-Short.entry) c.self.invariant.mid);
+  high = c.self.invariant.high;
+}
+
+pub returns-in-Short-clause-ascending : goal.returns-in-Short-clause-ascending
+returns-in-Short-clause-ascending c = parts_ascend (c.self.inside.below) (c.remove-in-Short.new.self) (c.self.inside.above) (invariant_of-self-in-Short c)
+
+pub returns-in-Short-clause-left : goal.returns-in-Short-clause-left
+returns-in-Short-clause-left c = ap (λ (l : List Ranked). c.self.inside.below ++ (l ++ c.self.inside.above)) c.remove-in-Short.ensures.left ∙ sym (shorts_left c.self.inside.below c.self.inside.shorts c.self.inside.above c.self.invariant (ranked_short c.in-Short.entry) (between c)) ∙ ap (λ (f : Ranked). without_entry (c.self.inside.below ++ (c.self.inside.shorts ++ c.self.inside.above)) f) (is_short c).0 ∙ ap (λ (l : List Ranked). without_entry l c.args.place) c.self.view_is
+
+is_above : (c : goal.After-remove-in-Above) → IsAbove c.args.place
+is_above c = subst (IsPartOf c.args.place) c.in-Above.is c.part_of.ensures
+
+pub invariant_of-self-in-Above : goal.invariant_of-self-in-Above
+invariant_of-self-in-Above c = record {
+  below_ascend = c.self.invariant.below_ascend;
+  shorts_ascend = c.self.invariant.shorts_ascend;
+  above_ascend = c.remove-in-Above.ensures.ascending;
+  low = c.self.invariant.low;
+  mid = c.self.invariant.mid;
+  high = subst (λ (l : List Ranked). AllByRecursion IsAbove l) (sym c.remove-in-Above.ensures.left) (all_left IsAbove c.self.inside.above c.args.place c.self.invariant.high);
+}
+
+pub returns-in-Above-clause-ascending : goal.returns-in-Above-clause-ascending
+returns-in-Above-clause-ascending c = parts_ascend (c.self.inside.below) (c.self.inside.shorts) (c.remove-in-Above.new.self) (invariant_of-self-in-Above c)
+
+pub returns-in-Above-clause-left : goal.returns-in-Above-clause-left
+returns-in-Above-clause-left c = ap (λ (l : List Ranked). c.self.inside.below ++ (c.self.inside.shorts ++ l)) c.remove-in-Above.ensures.left ∙ sym (above_left c.self.inside.below c.self.inside.shorts c.self.inside.above c.self.invariant c.args.place (is_above c)) ∙ ap (λ (l : List Ranked). without_entry l c.args.place) c.self.view_is

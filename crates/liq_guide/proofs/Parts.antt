@@ -1,0 +1,261 @@
+-- Ranked lists that lie one behind the other: what an entry makes of them that comes or leaves, and what stands beside it.
+use Rattle.std.proofs.Common.{◌≡◌, Bool, true, false, cond, List, [], ◌∷◌, ◌++◌, refl, sym, ap, ◌∙◌, arith, Some, None, Option}
+use Rattle.std.proofs.lemmas.Cmp.{int_ranked}
+use Rattle.std.proofs.lemmas.Int.{ints}
+use Rattle.std.proofs.lemmas.List.{reverse-append, append_assoc}
+use Rattle.std.proofs.lemmas.List.Elements.{filter-append}
+use Rattle.std.specs.Prelude.{◌<ℤ◌, ◌≢◌, not, reverse, filter}
+use Rattle.std.specs.List.{AllByRecursion}
+use Rattle.std.specs.Ordering.{MatchOrdering, match_ordering, nat_cmp, int_cmp, is_eq, is_lt, ordering_then, ordering_reverse}
+use Rattle.std.specs.declared.cmp.Ordering.{Ordering}
+use Rattle.std.specs.declared.cmp.Ordering.TheVariants.{Less, Equal, Greater}
+use Rattle.liq_types.specs.Ranked.{Ranked, rank_order, IsAscending, first_of, before_entry, after_entry}
+use Rattle.liq_types.proofs.RankedLists.{rank_total, Behind, all_kept}
+use Rattle.liq_guide.specs.Places.{with_entry, without_entry, IsBelow, IsBetween, IsAbove, AreParted}
+use Rattle.liq_guide.specs.Sides.{entry_before, entry_after}
+
+-- all of a list come before an entry
+abbrev pub Ahead : Ranked → List Ranked → Type 0
+Ahead e list = AllByRecursion (λ (f : Ranked). rank_order f e ≡ Less) list
+
+-- ---- by their keys
+
+-- a lower key comes before
+pub lower_key : (e f : Ranked) → e.0 <ℤ f.0 → rank_order e f ≡ Less
+lower_key e f h = ap (λ o. ordering_then o (nat_cmp e.1 f.1)) (lower (int_cmp e.0 f.0) (int_ranked e.0 f.0 (int_cmp e.0 f.0) refl)) where
+  lower : (o : Ordering) → MatchOrdering o (e.0 <ℤ f.0) (e.0 ≡ f.0) (f.0 <ℤ e.0) → o ≡ Less
+  lower Less k = refl
+  lower Equal k = absurd (omega (arith, ints, h, k))
+  lower Greater k = absurd (omega (arith, ints, h, k))
+
+pub each : (P Q : Ranked → Type 0) → ((f : Ranked) → P f → Q f) → (list : List Ranked) → AllByRecursion P list → AllByRecursion Q list
+each P Q so [] h = tt
+each P Q so (g ∷ gs) h = (so g h.0, each P Q so gs h.1)
+
+pub ahead_of_between : (e : Ranked) (list : List Ranked) → IsBetween e → AllByRecursion IsBelow list → Ahead e list
+ahead_of_between e list is h =
+    each IsBelow (λ (f : Ranked). rank_order f e ≡ Less) (λ f k. lower_key f e (omega (arith, ints, is.0, k))) list h
+
+pub behind_between : (e : Ranked) (list : List Ranked) → IsBetween e → AllByRecursion IsAbove list → Behind e list
+behind_between e list is h =
+    each IsAbove (λ (f : Ranked). rank_order e f ≡ Less) (λ f k. lower_key e f (omega (arith, ints, is.1, k))) list h
+
+pub ahead_of_above : (e : Ranked) (list : List Ranked) → IsAbove e → AllByRecursion IsBelow list → Ahead e list
+ahead_of_above e list is h =
+    each IsBelow (λ (f : Ranked). rank_order f e ≡ Less) (λ f k. lower_key f e (omega (arith, ints, is, k))) list h
+
+pub between_ahead : (e : Ranked) (list : List Ranked) → IsAbove e → AllByRecursion IsBetween list → Ahead e list
+between_ahead e list is h =
+    each IsBetween (λ (f : Ranked). rank_order f e ≡ Less) (λ f k. lower_key f e (omega (arith, ints, is, k.1))) list h
+
+pub behind_below : (e : Ranked) (list : List Ranked) → IsBelow e → AllByRecursion IsAbove list → Behind e list
+behind_below e list is h =
+    each IsAbove (λ (f : Ranked). rank_order e f ≡ Less) (λ f k. lower_key e f (omega (arith, ints, is, k))) list h
+
+pub between_behind : (e : Ranked) (list : List Ranked) → IsBelow e → AllByRecursion IsBetween list → Behind e list
+between_behind e list is h =
+    each IsBetween (λ (f : Ranked). rank_order e f ≡ Less) (λ f k. lower_key e f (omega (arith, ints, is, k.0))) list h
+
+-- ---- one behind the other
+
+pub all_appended : (P : Ranked → Type 0) (xs ys : List Ranked) → AllByRecursion P xs → AllByRecursion P ys → AllByRecursion P (xs ++ ys)
+all_appended P [] ys h k = k
+all_appended P (x ∷ xs) ys h k = (h.0, all_appended P xs ys h.1 k)
+
+-- each of the one comes before each of the other
+abbrev Apart : List Ranked → List Ranked → Type 0
+Apart xs ys = AllByRecursion (λ (x : Ranked). Behind x ys) xs
+
+pub appended_ascend : (xs ys : List Ranked) → IsAscending xs → IsAscending ys → Apart xs ys → IsAscending (xs ++ ys)
+appended_ascend [] ys h k apart = k
+appended_ascend (x ∷ xs) ys h k apart =
+    (all_appended (λ (f : Ranked). rank_order x f ≡ Less) xs ys h.0 apart.0, appended_ascend xs ys h.1 k apart.1)
+
+pub below_apart : (xs shorts above : List Ranked) → AllByRecursion IsBelow xs → AllByRecursion IsBetween shorts → AllByRecursion IsAbove above → Apart xs (shorts ++ above)
+below_apart xs shorts above h mid high =
+    each IsBelow (λ (x : Ranked). Behind x (shorts ++ above)) (λ x is. all_appended (λ (f : Ranked). rank_order x f ≡ Less) shorts above (between_behind x shorts is mid) (behind_below x above is high)) xs h
+
+pub shorts_apart : (xs above : List Ranked) → AllByRecursion IsBetween xs → AllByRecursion IsAbove above → Apart xs above
+shorts_apart xs above h high = each IsBetween (λ (x : Ranked). Behind x above) (λ x is. behind_between x above is high) xs h
+
+-- ---- an entry comes in
+
+turned : (e f : Ranked) (o : Ordering) → rank_order f e ≡ o → rank_order e f ≡ ordering_reverse o
+turned e f o h = rank_total.antisymm e f ∙ ap ordering_reverse h
+
+pub entered_past : (xs ys : List Ranked) (e : Ranked) → Ahead e xs → with_entry (xs ++ ys) e ≡ xs ++ with_entry ys e
+entered_past [] ys e h = refl
+entered_past (x ∷ xs) ys e h =
+    ap (λ o. match_ordering o (e ∷ x ∷ (xs ++ ys)) (x ∷ (xs ++ ys)) (x ∷ with_entry (xs ++ ys) e)) (turned e x Less h.0)
+    ∙ ap (λ (l : List Ranked). x ∷ l) (entered_past xs ys e h.1)
+
+pub entered_ahead : (xs ys : List Ranked) (e : Ranked) → Behind e ys → with_entry (xs ++ ys) e ≡ with_entry xs e ++ ys
+entered_ahead [] [] e h = refl
+entered_ahead [] (y ∷ ys) e h = ap (λ o. match_ordering o (e ∷ y ∷ ys) (y ∷ ys) (y ∷ with_entry ys e)) h.0
+entered_ahead (x ∷ xs) ys e h = by (rank_order e x) (entered_ahead xs ys e h) where
+  by : (o : Ordering) → with_entry (xs ++ ys) e ≡ with_entry xs e ++ ys → match_ordering o (e ∷ x ∷ (xs ++ ys)) (x ∷ (xs ++ ys)) (x ∷ with_entry (xs ++ ys) e) ≡ match_ordering o (e ∷ x ∷ xs) (x ∷ xs) (x ∷ with_entry xs e) ++ ys
+  by Less more = refl
+  by Equal more = refl
+  by Greater more = ap (λ (l : List Ranked). x ∷ l) more
+
+pub all_entered : (P : Ranked → Type 0) (list : List Ranked) (e : Ranked) → AllByRecursion P list → P e → AllByRecursion P (with_entry list e)
+all_entered P [] e h is = (is, tt)
+all_entered P (f ∷ fs) e h is = by (rank_order e f) (all_entered P fs e h.1 is) where
+  by : (o : Ordering) → AllByRecursion P (with_entry fs e) → AllByRecursion P (match_ordering o (e ∷ f ∷ fs) (f ∷ fs) (f ∷ with_entry fs e))
+  by Less more = (is, h)
+  by Equal more = h
+  by Greater more = (h.0, more)
+
+-- ---- an entry leaves
+
+pub all_left : (P : Ranked → Type 0) (list : List Ranked) (e : Ranked) → AllByRecursion P list → AllByRecursion P (without_entry list e)
+all_left P list e h = all_kept P (λ (f : Ranked). not (is_eq (rank_order e f))) list h
+
+none_leaves : (list : List Ranked) (e : Ranked) → AllByRecursion (λ (f : Ranked). is_eq (rank_order e f) ≡ false) list → without_entry list e ≡ list
+none_leaves [] e h = refl
+none_leaves (f ∷ fs) e h =
+    ap (λ b. cond (not b) (f ∷ without_entry fs e) (without_entry fs e)) h.0
+    ∙ ap (λ (l : List Ranked). f ∷ l) (none_leaves fs e h.1)
+
+pub left_past : (xs ys : List Ranked) (e : Ranked) → Ahead e xs → without_entry (xs ++ ys) e ≡ xs ++ without_entry ys e
+left_past xs ys e h =
+    filter-append (λ (f : Ranked). not (is_eq (rank_order e f))) xs ys
+    ∙ ap (λ (l : List Ranked). l ++ without_entry ys e) (none_leaves xs e (each (λ (f : Ranked). rank_order f e ≡ Less) (λ (f : Ranked). is_eq (rank_order e f) ≡ false) (λ f k. ap is_eq (turned e f Less k)) xs h))
+
+pub left_ahead : (xs ys : List Ranked) (e : Ranked) → Behind e ys → without_entry (xs ++ ys) e ≡ without_entry xs e ++ ys
+left_ahead xs ys e h =
+    filter-append (λ (f : Ranked). not (is_eq (rank_order e f))) xs ys
+    ∙ ap (λ (l : List Ranked). without_entry xs e ++ l) (none_leaves ys e (each (λ (f : Ranked). rank_order e f ≡ Less) (λ (f : Ranked). is_eq (rank_order e f) ≡ false) (λ f k. ap is_eq k) ys h))
+
+-- ---- what stands beside an entry
+
+-- what was found, or else another
+abbrev pub or_else : Option Ranked → Option Ranked → Option Ranked
+or_else None other = other
+or_else (Some e) other = Some e
+
+pub first_appended : (xs ys : List Ranked) → first_of (xs ++ ys) ≡ or_else (first_of xs) (first_of ys)
+first_appended [] ys = refl
+first_appended (x ∷ xs) ys = refl
+
+pub last_appended : (xs ys : List Ranked) → first_of (reverse (xs ++ ys)) ≡ or_else (first_of (reverse ys)) (first_of (reverse xs))
+last_appended xs ys =
+    ap (λ (l : List Ranked). first_of l) (reverse-append xs ys) ∙ first_appended (reverse ys) (reverse xs)
+
+pub all_pass : (q : Ranked → Bool) (list : List Ranked) → AllByRecursion (λ f. q f ≡ true) list → filter q list ≡ list
+all_pass q [] h = refl
+all_pass q (g ∷ gs) h =
+    ap (λ b. cond b (g ∷ filter q gs) (filter q gs)) h.0 ∙ ap (λ (l : List Ranked). g ∷ l) (all_pass q gs h.1)
+
+pub none_pass : (q : Ranked → Bool) (list : List Ranked) → AllByRecursion (λ f. q f ≡ false) list → filter q list ≡ []
+none_pass q [] h = refl
+none_pass q (g ∷ gs) h = ap (λ b. cond b (g ∷ filter q gs) (filter q gs)) h.0 ∙ none_pass q gs h.1
+
+whole_before : (xs : List Ranked) (e : Ranked) → Ahead e xs → before_entry xs e ≡ xs
+whole_before xs e h =
+    all_pass (λ (f : Ranked). is_lt (rank_order f e)) xs (each (λ (f : Ranked). rank_order f e ≡ Less) (λ (f : Ranked). is_lt (rank_order f e) ≡ true) (λ f k. ap is_lt k) xs h)
+
+nothing_before : (ys : List Ranked) (e : Ranked) → Behind e ys → before_entry ys e ≡ []
+nothing_before ys e h =
+    none_pass (λ (f : Ranked). is_lt (rank_order f e)) ys (each (λ (f : Ranked). rank_order e f ≡ Less) (λ (f : Ranked). is_lt (rank_order f e) ≡ false) (λ f k. ap is_lt (turned f e Less k)) ys h)
+
+whole_after : (ys : List Ranked) (e : Ranked) → Behind e ys → after_entry ys e ≡ ys
+whole_after ys e h =
+    all_pass (λ (f : Ranked). is_lt (rank_order e f)) ys (each (λ (f : Ranked). rank_order e f ≡ Less) (λ (f : Ranked). is_lt (rank_order e f) ≡ true) (λ f k. ap is_lt k) ys h)
+
+nothing_after : (xs : List Ranked) (e : Ranked) → Ahead e xs → after_entry xs e ≡ []
+nothing_after xs e h =
+    none_pass (λ (f : Ranked). is_lt (rank_order e f)) xs (each (λ (f : Ranked). rank_order f e ≡ Less) (λ (f : Ranked). is_lt (rank_order e f) ≡ false) (λ f k. ap is_lt (turned e f Less k)) xs h)
+
+pub before_past : (xs ys : List Ranked) (e : Ranked) → Ahead e xs → entry_before (xs ++ ys) e ≡ or_else (entry_before ys e) (first_of (reverse xs))
+before_past xs ys e h =
+    ap (λ (l : List Ranked). first_of (reverse l)) (filter-append (λ (f : Ranked). is_lt (rank_order f e)) xs ys ∙ ap (λ (l : List Ranked). l ++ before_entry ys e) (whole_before xs e h))
+    ∙ last_appended xs (before_entry ys e)
+
+pub before_ahead : (xs ys : List Ranked) (e : Ranked) → Behind e ys → entry_before (xs ++ ys) e ≡ entry_before xs e
+before_ahead xs ys e h =
+    ap (λ (l : List Ranked). first_of (reverse l)) (filter-append (λ (f : Ranked). is_lt (rank_order f e)) xs ys ∙ ap (λ (l : List Ranked). before_entry xs e ++ l) (nothing_before ys e h))
+    ∙ last_appended (before_entry xs e) []
+
+pub after_past : (xs ys : List Ranked) (e : Ranked) → Ahead e xs → entry_after (xs ++ ys) e ≡ entry_after ys e
+after_past xs ys e h =
+    ap (λ (l : List Ranked). first_of l) (filter-append (λ (f : Ranked). is_lt (rank_order e f)) xs ys ∙ ap (λ (l : List Ranked). l ++ after_entry ys e) (nothing_after xs e h))
+
+pub after_ahead : (xs ys : List Ranked) (e : Ranked) → Behind e ys → entry_after (xs ++ ys) e ≡ or_else (entry_after xs e) (first_of ys)
+after_ahead xs ys e h =
+    ap (λ (l : List Ranked). first_of l) (filter-append (λ (f : Ranked). is_lt (rank_order e f)) xs ys ∙ ap (λ (l : List Ranked). after_entry xs e ++ l) (whole_after ys e h))
+    ∙ first_appended (after_entry xs e) ys
+
+-- ---- three parts
+
+both_behind : (e : Ranked) (shorts above : List Ranked) → IsBelow e → AllByRecursion IsBetween shorts → AllByRecursion IsAbove above → Behind e (shorts ++ above)
+both_behind e shorts above is mid high =
+    all_appended (λ (f : Ranked). rank_order e f ≡ Less) shorts above (between_behind e shorts is mid) (behind_below e above is high)
+
+both_ahead : (e : Ranked) (below shorts : List Ranked) → IsAbove e → AllByRecursion IsBelow below → AllByRecursion IsBetween shorts → Ahead e (below ++ shorts)
+both_ahead e below shorts is low mid =
+    all_appended (λ (f : Ranked). rank_order f e ≡ Less) below shorts (ahead_of_above e below is low) (between_ahead e shorts is mid)
+
+module _ (below shorts above : List Ranked) (p : AreParted below shorts above) where
+  pub parts_ascend : IsAscending (below ++ (shorts ++ above))
+  parts_ascend =
+      appended_ascend below (shorts ++ above) p.below_ascend (appended_ascend shorts above p.shorts_ascend p.above_ascend (shorts_apart shorts above p.mid p.high)) (below_apart below shorts above p.low p.mid p.high)
+
+  module _ (e : Ranked) where
+    pub below_entered : IsBelow e → with_entry (below ++ (shorts ++ above)) e ≡ with_entry below e ++ (shorts ++ above)
+    below_entered is = entered_ahead below (shorts ++ above) e (both_behind e shorts above is p.mid p.high)
+
+    pub shorts_entered : IsBetween e → with_entry (below ++ (shorts ++ above)) e ≡ below ++ (with_entry shorts e ++ above)
+    shorts_entered is =
+        entered_past below (shorts ++ above) e (ahead_of_between e below is p.low)
+        ∙ ap (λ (l : List Ranked). below ++ l) (entered_ahead shorts above e (behind_between e above is p.high))
+
+    pub above_entered : IsAbove e → with_entry (below ++ (shorts ++ above)) e ≡ below ++ (shorts ++ with_entry above e)
+    above_entered is =
+        entered_past below (shorts ++ above) e (ahead_of_above e below is p.low)
+        ∙ ap (λ (l : List Ranked). below ++ l) (entered_past shorts above e (between_ahead e shorts is p.mid))
+
+    pub below_left : IsBelow e → without_entry (below ++ (shorts ++ above)) e ≡ without_entry below e ++ (shorts ++ above)
+    below_left is = left_ahead below (shorts ++ above) e (both_behind e shorts above is p.mid p.high)
+
+    pub shorts_left : IsBetween e → without_entry (below ++ (shorts ++ above)) e ≡ below ++ (without_entry shorts e ++ above)
+    shorts_left is =
+        left_past below (shorts ++ above) e (ahead_of_between e below is p.low)
+        ∙ ap (λ (l : List Ranked). below ++ l) (left_ahead shorts above e (behind_between e above is p.high))
+
+    pub above_left : IsAbove e → without_entry (below ++ (shorts ++ above)) e ≡ below ++ (shorts ++ without_entry above e)
+    above_left is =
+        left_past below (shorts ++ above) e (ahead_of_above e below is p.low)
+        ∙ ap (λ (l : List Ranked). below ++ l) (left_past shorts above e (between_ahead e shorts is p.mid))
+
+    pub below_before : IsBelow e → entry_before (below ++ (shorts ++ above)) e ≡ entry_before below e
+    below_before is = before_ahead below (shorts ++ above) e (both_behind e shorts above is p.mid p.high)
+
+    pub shorts_before : IsBetween e → entry_before (below ++ (shorts ++ above)) e ≡ or_else (entry_before shorts e) (first_of (reverse below))
+    shorts_before is =
+        before_past below (shorts ++ above) e (ahead_of_between e below is p.low)
+        ∙ ap (λ (o : Option Ranked). or_else o (first_of (reverse below))) (before_ahead shorts above e (behind_between e above is p.high))
+
+    pub above_before : IsAbove e → entry_before (below ++ (shorts ++ above)) e ≡ or_else (entry_before above e) (first_of (reverse (below ++ shorts)))
+    above_before is =
+        ap (λ (l : List Ranked). entry_before l e) (sym (append_assoc below shorts above))
+        ∙ before_past (below ++ shorts) above e (both_ahead e below shorts is p.low p.mid)
+
+    pub below_after : IsBelow e → entry_after (below ++ (shorts ++ above)) e ≡ or_else (entry_after below e) (first_of (shorts ++ above))
+    below_after is = after_ahead below (shorts ++ above) e (both_behind e shorts above is p.mid p.high)
+
+    pub shorts_after : IsBetween e → entry_after (below ++ (shorts ++ above)) e ≡ or_else (entry_after shorts e) (first_of above)
+    shorts_after is =
+        after_past below (shorts ++ above) e (ahead_of_between e below is p.low)
+        ∙ after_ahead shorts above e (behind_between e above is p.high)
+
+    pub above_after : IsAbove e → entry_after (below ++ (shorts ++ above)) e ≡ entry_after above e
+    above_after is =
+        ap (λ (l : List Ranked). entry_after l e) (sym (append_assoc below shorts above))
+        ∙ after_past (below ++ shorts) above e (both_ahead e below shorts is p.low p.mid)
+
+-- ---- found, or else another
+
+pub something_found : (r other : Option Ranked) → r ≢ None → or_else r other ≡ r
+something_found None other some = absurd (some refl)
+something_found (Some e) other some = refl
