@@ -21,7 +21,7 @@ use std::alloc::Global;
 use std::marker::Model;
 use std::sync::ledger::Ledger;
 
-/// A protocol whose list is asked with the hint of its guide, as long as it has one. Contracts see the protocol: no hint
+/// A protocol whose list is asked with the hint of its guide, as long as there is one. Contracts see the protocol: no hint
 /// changes it.
 pub struct Guided {
     protocol: Protocol,

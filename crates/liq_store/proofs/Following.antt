@@ -1,4 +1,4 @@
--- What a call tells of the ordered list, and what an opening tells.
+-- A store that begins tells its list: what was known of it still holds.
 use Rattle.std.proofs.Common.{◌≡◌, ◌≢◌, ◌∙◌, ℕ, List, Option, None, Result, Ok, Err, IfOk, IfErr, sym, ap, ap₂, subst}
 use Rattle.liq_types.specs.declared.events.ListChange.{ListChange}
 use Rattle.liq_store.specs.declared.answers.StoreFault.{StoreFault}
@@ -9,8 +9,6 @@ use Rattle.liq_store.specs.Keeping.{IsAtRest, IsGoing, IsInOrder}
 use Rattle.liq_store.specs.Opening.{OpensOn}
 use Rattle.liq_store.specs.Stored.{Stored}
 use Rattle.liq_store.proofs.Going.{going_of}
-
--- ---- the store that begins, with its list
 
 -- the same store but for its changes, or its disks
 module _ {D : Type 0} (store : Stored D) (result : Result (Stored D) (StoreFault D)) (same : IfOk result (λ listed. listed ≡ record store { changes = listed.changes }))

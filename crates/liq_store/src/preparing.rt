@@ -53,7 +53,7 @@ pub fn prepare(protocol: &mut Guided, changes: &mut Vec<ListChange>, command: &C
     }
 }
 
-// Makes the step of a planned command, behind changes of the list with its own last. Its steps are counted on a ledger of their own.
+// Makes the step of a planned command. The changes are all that wait, its own last. Its steps are counted on a ledger of their own.
 pub fn make<L: Ledger, H: HintSource + Drop>(
     protocol: &mut Guided,
     planned: Planned,
