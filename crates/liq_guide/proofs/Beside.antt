@@ -2,7 +2,7 @@
 use Rattle.std.proofs.Common.{◌≡◌, ℕ, ℤ, Bool, true, false, cond, List, [], ◌∷◌, ◌++◌, refl, sym, ap, ◌∙◌, Some, None, Option, subst}
 use Rattle.std.specs.Prelude.{◌==◌, ◌≢◌, ◌<ℤ◌, not, reverse, filter, unwrap_or, IfSome}
 use Rattle.std.specs.List.{AllByRecursion}
-use Rattle.std.specs.Ordering.{is_lt, ordering_reverse}
+use Rattle.std.specs.Ordering.{is_lt}
 use Rattle.std.specs.declared.cmp.Ordering.{Ordering}
 use Rattle.std.specs.declared.cmp.Ordering.TheVariants.{Less, Equal, Greater}
 use Rattle.std.proofs.lemmas.Bool.{eqb-true}
@@ -13,7 +13,7 @@ use Rattle.liq_types.proofs.RankedLists.{rank_total, Behind, behind_more, all_ke
 use Rattle.liq_types.specs.Ranked.{Ranked, rank_order, IsAscending, first_of, account_of, without_ranked}
 use Rattle.liq_guide.specs.Rows.{StandOnce}
 use Rattle.liq_guide.specs.Sides.{account_aside, entry_after, entry_before, entry_beside, past_own}
-use Rattle.liq_guide.proofs.Parts.{all_pass, none_pass, each, lower_key}
+use Rattle.liq_guide.proofs.Parts.{all_appended, all_pass, each, lower_key, nothing_before, whole_after}
 use Rattle.liq_guide.specs.declared.sides.Side.{Side}
 use Rattle.liq_guide.specs.declared.sides.Side.TheVariants.{Before, After}
 
@@ -139,17 +139,13 @@ lies_before = record {
   apart = λ a. ap is_lt (tied_itself rank_total a);
 }
 
-all_last : (P : Ranked → Type 0) (list : List Ranked) (x : Ranked) → AllByRecursion P list → P x → AllByRecursion P (list ++ x ∷ [])
-all_last P [] x h k = (k, tt)
-all_last P (f ∷ fs) x h k = (h.0, all_last P fs x h.1 k)
-
 all_reverse : (P : Ranked → Type 0) (list : List Ranked) → AllByRecursion P list → AllByRecursion P (reverse list)
 all_reverse P [] h = tt
-all_reverse P (f ∷ fs) h = subst (AllByRecursion P) (sym (first_last f fs)) (all_last P (reverse fs) f (all_reverse P fs h.1) h.0)
+all_reverse P (f ∷ fs) h = subst (AllByRecursion P) (sym (first_last f fs)) (all_appended P (reverse fs) (f ∷ []) (all_reverse P fs h.1) (h.0, tt))
 
 goes_last : (R : Ranked → Ranked → Bool) (list : List Ranked) (x : Ranked) → Goes R list → AllByRecursion (λ (f : Ranked). (R f x ≡ true) × (x.1 ≢ f.1)) list → Goes R (list ++ x ∷ [])
 goes_last R [] x h k = (tt, tt)
-goes_last R (f ∷ fs) x h k = (all_last (λ (g : Ranked). (R f g ≡ true) × (g.1 ≢ f.1)) fs x h.0 k.0, goes_last R fs x h.1 k.1)
+goes_last R (f ∷ fs) x h k = (all_appended (λ (g : Ranked). (R f g ≡ true) × (g.1 ≢ f.1)) fs (x ∷ []) h.0 (k.0, tt), goes_last R fs x h.1 k.1)
 
 goes_before : (list : List Ranked) → IsAscending list → StandOnce list → Goes (λ (a b : Ranked). is_lt (rank_order b a)) (reverse list)
 goes_before [] h k = tt
@@ -188,17 +184,10 @@ before_all : (list : List Ranked) (e : Ranked) → IsAscending list → ((f : Ra
 before_all [] e h first = tt
 before_all (f ∷ fs) e h first = (first f refl, behind_more e f fs (first f refl) h.0)
 
-first_after : (list : List Ranked) (e : Ranked) → Behind e list → entry_after list e ≡ first_of list
-first_after list e h =
-    ap (λ (l : List Ranked). first_of l) (all_pass (λ (f : Ranked). is_lt (rank_order e f)) list (each (λ (f : Ranked). rank_order e f ≡ Less) (λ (f : Ranked). is_lt (rank_order e f) ≡ true) (λ f k. ap is_lt k) list h))
-
 pub none_before : (list : List Ranked) (e : Ranked) → Behind e list → account_aside Before list e ≡ None
 none_before list e h =
-    ap (λ (l : List Ranked). account_of (first_of (reverse l))) (none_pass (λ (f : Ranked). is_lt (rank_order f e)) (without_ranked list e.1) (each (λ (f : Ranked). rank_order e f ≡ Less) (λ (f : Ranked). is_lt (rank_order f e) ≡ false) (λ f k. ap is_lt (rank_total.antisymm f e) ∙ turn (rank_order e f) k) (without_ranked list e.1) (all_kept (λ (f : Ranked). rank_order e f ≡ Less) (λ (f : Ranked). not (f.1 == e.1)) list h))) where
-      turn : (o : Ordering) → o ≡ Less → is_lt (ordering_reverse o) ≡ false
-      turn Less k = refl
-      turn Equal k = refl
-      turn Greater k = cc
+    ap (λ (l : List Ranked). account_of (first_of (reverse l)))
+    (nothing_before (without_ranked list e.1) e (all_kept (λ (f : Ranked). rank_order e f ≡ Less) (λ (f : Ranked). not (f.1 == e.1)) list h))
 
 -- a key below the first, if there is one, is below all
 pub below_all : (list : List Ranked) (key : ℤ) (account : ℕ) (first : Option Ranked) → first ≡ first_of list → IfSome first (λ f. key <ℤ f.0) → IsAscending list → Behind (key, account) list
@@ -206,7 +195,7 @@ below_all list key account first is least h =
     before_all list (key, account) h (λ f here. lower_key (key, account) f (subst (λ (o : Option Ranked). IfSome o (λ g. key <ℤ g.0)) (is ∙ here) least))
 
 after_all : (list : List Ranked) (key : ℤ) (account : ℕ) (first : Option Ranked) → first ≡ first_of list → IfSome first (λ f. key <ℤ f.0) → IsAscending list → entry_after list (key, account) ≡ first
-after_all list key account first is least h = first_after list (key, account) (below_all list key account first is least h) ∙ sym is
+after_all list key account first is least h = ap (λ (l : List Ranked). first_of l) (whole_after list (key, account) (below_all list key account first is least h)) ∙ sym is
 
 -- the account after a key that is below all
 pub first_is : (list : List Ranked) (key : ℤ) (account : ℕ) (first : Option Ranked) → first ≡ first_of list → IfSome first (λ f. key <ℤ f.0) → IsAscending list → StandOnce list → past_own After list account first ≡ account_aside After list (key, account)

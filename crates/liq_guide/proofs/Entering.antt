@@ -5,7 +5,9 @@ use Rattle.std.specs.Ordering.{is_eq, match_ordering, ordering_reverse}
 use Rattle.std.specs.declared.cmp.Ordering.{Ordering}
 use Rattle.std.specs.declared.cmp.Ordering.TheVariants.{Less, Equal, Greater}
 use Rattle.std.proofs.lemmas.Cmp.{tied_itself}
-use Rattle.std.proofs.lemmas.Map.Views.{any-filter_same}
+use Rattle.std.proofs.lemmas.List.Elements.{All-from_recursion, recursion_from_All}
+use Rattle.std.proofs.lemmas.Map.Views.{any-filter_same, All-insert_key}
+use Rattle.std.specs.List.{AllByRecursion}
 use Rattle.std.specs.BTreeMap.{is_at}
 use Rattle.liq_types.specs.Ranked.{Ranked, rank_order, IsAscending}
 use Rattle.liq_types.proofs.RankedLists.{rank_total, Behind, behind_more}
@@ -44,23 +46,18 @@ entered_is_in (g ∷ gs) f e = by (rank_order f g) refl (entered_is_in gs f e) w
     past false true c = refl
     past false false c = refl
 
+pub all_entered : (P : Ranked → Type 0) (list : List Ranked) (e : Ranked) → AllByRecursion P list → P e → AllByRecursion P (with_entry list e)
+all_entered P list e h is = recursion_from_All P (with_entry list e) (All-insert_key rank_order e P list (All-from_recursion P list h) is)
+
 pub entered_ascending : (list : List Ranked) (e : Ranked) → IsAscending list → IsAscending (with_entry list e)
 entered_ascending [] e h = (tt, tt)
 entered_ascending (f ∷ fs) e h = by (rank_order e f) refl (entered_ascending fs e h.1) where
-  past : (gs : List Ranked) → rank_order f e ≡ Less → Behind f gs → Behind f (with_entry gs e)
-  past [] less k = (less, tt)
-  past (g ∷ gs) less k = at (rank_order e g) (past gs less k.1) where
-    at : (o : Ordering) → Behind f (with_entry gs e) → Behind f (match_ordering o (e ∷ g ∷ gs) (g ∷ gs) (g ∷ with_entry gs e))
-    at Less more = (less, k)
-    at Equal more = k
-    at Greater more = (k.0, more)
-
   by : (o : Ordering) → rank_order e f ≡ o → IsAscending (with_entry fs e) → IsAscending (match_ordering o (e ∷ f ∷ fs) (f ∷ fs) (f ∷ with_entry fs e))
   by Less is more = ((is, behind_more e f fs is h.0), h)
   by Equal is more = h
-  by Greater is more = (past fs (rank_total.antisymm f e ∙ ap ordering_reverse is) h.0, more)
+  by Greater is more = (all_entered (λ (g : Ranked). rank_order f g ≡ Less) fs e h.0 (rank_total.antisymm f e ∙ ap ordering_reverse is), more)
 
-left_behind : (back : List Ranked) (e : Ranked) → Behind e back → without_entry back e ≡ back
+pub left_behind : (back : List Ranked) (e : Ranked) → Behind e back → without_entry back e ≡ back
 left_behind [] e h = refl
 left_behind (b ∷ back) e h =
     ap (λ o. cond (not (is_eq o)) (b ∷ without_entry back e) (without_entry back e)) h.0

@@ -10,7 +10,7 @@ use Rattle.std.specs.declared.cmp.Ordering.TheVariants.{Less, Equal, Greater}
 use Rattle.liq_types.specs.Ranked.{rank_order}
 use Rattle.liq_guide.specs.declared.longs.Long.{Long}
 use Rattle.liq_guide.specs.declared.shorts.Short.{Short}
-use Rattle.liq_guide.specs.Places.{ranked_long, ranked_short}
+use Rattle.liq_guide.specs.Places.{IsHalved, ranked_long, ranked_short}
 
 -- ---- in halves
 
@@ -49,9 +49,6 @@ then_then Less p q = refl
 then_then Equal p q = refl
 then_then Greater p q = refl
 
-abbrev pub IsHalved : Long → Type 0
-IsHalved e = e.low < 2 ^ 64
-
 pub long_order : (a b : Long) → IsHalved a → IsHalved b → halved_order a b ≡ rank_order (ranked_long a) (ranked_long b)
 long_order a b below beneath =
     then_then (int_cmp a.high b.high) (nat_cmp a.low b.low) (nat_cmp a.account b.account)
@@ -63,12 +60,13 @@ long_order a b below beneath =
 abbrev pub narrow_order : Short → Short → Ordering
 narrow_order a b = ordering_then (int_cmp a.key b.key) (nat_cmp a.account b.account)
 
-abbrev pub IsShort : Short → Type 0
-IsShort e = Unit {0}
+-- each is fine
+abbrev pub AnyShort : Short → Type 0
+AnyShort e = Unit {0}
 
-pub short_order : (a b : Short) → IsShort a → IsShort b → narrow_order a b ≡ rank_order (ranked_short a) (ranked_short b)
+pub short_order : (a b : Short) → AnyShort a → AnyShort b → narrow_order a b ≡ rank_order (ranked_short a) (ranked_short b)
 short_order a b h k = refl
 
-pub all_short : (es : List Short) → AllByRecursion IsShort es
+pub all_short : (es : List Short) → AllByRecursion AnyShort es
 all_short [] = tt
 all_short (e ∷ es) = (tt, all_short es)

@@ -79,8 +79,3 @@ same_list list more a b same =
     let one : BTreeSet Ranked = record { keys = list } in
     let other : BTreeSet Ranked = record { keys = more } in
     btree_set_from_contains rank_total one other (strict list a) (strict more b) same exact_rank
-
-pub ascends : (list : List Ranked) → IsStrictlySortedBy rank_order list → IsAscending list
-unfolding IsStrictlySortedBy
-ascends [] h = tt
-ascends (e ∷ es) h = (h.0, ascends es h.1)

@@ -3,9 +3,10 @@ use Rattle.std.proofs.Common.{◌≡◌, Bool, true, false, cond, List, [], ◌�
 use Rattle.std.proofs.lemmas.Cmp.{int_ranked}
 use Rattle.std.proofs.lemmas.Int.{ints}
 use Rattle.std.proofs.lemmas.List.{reverse-append, append_assoc}
-use Rattle.std.proofs.lemmas.List.Elements.{filter-append}
+use Rattle.std.proofs.lemmas.List.Elements.{filter-append, All-append, All-from_recursion, All-weaker, recursion_from_All}
 use Rattle.std.specs.Prelude.{◌<ℤ◌, ◌≢◌, not, reverse, filter}
 use Rattle.std.specs.List.{AllByRecursion}
+use Rattle.std.specs.Option.{option_or}
 use Rattle.std.specs.Ordering.{MatchOrdering, match_ordering, nat_cmp, int_cmp, is_eq, is_lt, ordering_then, ordering_reverse}
 use Rattle.std.specs.declared.cmp.Ordering.{Ordering}
 use Rattle.std.specs.declared.cmp.Ordering.TheVariants.{Less, Equal, Greater}
@@ -13,6 +14,7 @@ use Rattle.liq_types.specs.Ranked.{Ranked, rank_order, IsAscending, first_of, be
 use Rattle.liq_types.proofs.RankedLists.{rank_total, Behind, all_kept}
 use Rattle.liq_guide.specs.Places.{with_entry, without_entry, IsBelow, IsBetween, IsAbove, AreParted}
 use Rattle.liq_guide.specs.Sides.{entry_before, entry_after}
+use Rattle.liq_guide.proofs.Entering.{left_behind}
 
 -- all of a list come before an entry
 abbrev pub Ahead : Ranked → List Ranked → Type 0
@@ -29,8 +31,7 @@ lower_key e f h = ap (λ o. ordering_then o (nat_cmp e.1 f.1)) (lower (int_cmp e
   lower Greater k = absurd (omega (arith, ints, h, k))
 
 pub each : (P Q : Ranked → Type 0) → ((f : Ranked) → P f → Q f) → (list : List Ranked) → AllByRecursion P list → AllByRecursion Q list
-each P Q so [] h = tt
-each P Q so (g ∷ gs) h = (so g h.0, each P Q so gs h.1)
+each P Q so list h = recursion_from_All Q list (All-weaker P Q so list (All-from_recursion P list h))
 
 pub ahead_of_between : (e : Ranked) (list : List Ranked) → IsBetween e → AllByRecursion IsBelow list → Ahead e list
 ahead_of_between e list is h =
@@ -59,8 +60,7 @@ between_behind e list is h =
 -- ---- one behind the other
 
 pub all_appended : (P : Ranked → Type 0) (xs ys : List Ranked) → AllByRecursion P xs → AllByRecursion P ys → AllByRecursion P (xs ++ ys)
-all_appended P [] ys h k = k
-all_appended P (x ∷ xs) ys h k = (h.0, all_appended P xs ys h.1 k)
+all_appended P xs ys h k = recursion_from_All P (xs ++ ys) (All-append P xs ys (All-from_recursion P xs h) (All-from_recursion P ys k))
 
 -- each of the one comes before each of the other
 abbrev Apart : List Ranked → List Ranked → Type 0
@@ -71,9 +71,13 @@ appended_ascend [] ys h k apart = k
 appended_ascend (x ∷ xs) ys h k apart =
     (all_appended (λ (f : Ranked). rank_order x f ≡ Less) xs ys h.0 apart.0, appended_ascend xs ys h.1 k apart.1)
 
+both_behind : (e : Ranked) (shorts above : List Ranked) → IsBelow e → AllByRecursion IsBetween shorts → AllByRecursion IsAbove above → Behind e (shorts ++ above)
+both_behind e shorts above is mid high =
+    all_appended (λ (f : Ranked). rank_order e f ≡ Less) shorts above (between_behind e shorts is mid) (behind_below e above is high)
+
 pub below_apart : (xs shorts above : List Ranked) → AllByRecursion IsBelow xs → AllByRecursion IsBetween shorts → AllByRecursion IsAbove above → Apart xs (shorts ++ above)
 below_apart xs shorts above h mid high =
-    each IsBelow (λ (x : Ranked). Behind x (shorts ++ above)) (λ x is. all_appended (λ (f : Ranked). rank_order x f ≡ Less) shorts above (between_behind x shorts is mid) (behind_below x above is high)) xs h
+    each IsBelow (λ (x : Ranked). Behind x (shorts ++ above)) (λ x is. both_behind x shorts above is mid high) xs h
 
 pub shorts_apart : (xs above : List Ranked) → AllByRecursion IsBetween xs → AllByRecursion IsAbove above → Apart xs above
 shorts_apart xs above h high = each IsBetween (λ (x : Ranked). Behind x above) (λ x is. behind_between x above is high) xs h
@@ -98,47 +102,34 @@ entered_ahead (x ∷ xs) ys e h = by (rank_order e x) (entered_ahead xs ys e h) 
   by Equal more = refl
   by Greater more = ap (λ (l : List Ranked). x ∷ l) more
 
-pub all_entered : (P : Ranked → Type 0) (list : List Ranked) (e : Ranked) → AllByRecursion P list → P e → AllByRecursion P (with_entry list e)
-all_entered P [] e h is = (is, tt)
-all_entered P (f ∷ fs) e h is = by (rank_order e f) (all_entered P fs e h.1 is) where
-  by : (o : Ordering) → AllByRecursion P (with_entry fs e) → AllByRecursion P (match_ordering o (e ∷ f ∷ fs) (f ∷ fs) (f ∷ with_entry fs e))
-  by Less more = (is, h)
-  by Equal more = h
-  by Greater more = (h.0, more)
-
 -- ---- an entry leaves
 
 pub all_left : (P : Ranked → Type 0) (list : List Ranked) (e : Ranked) → AllByRecursion P list → AllByRecursion P (without_entry list e)
 all_left P list e h = all_kept P (λ (f : Ranked). not (is_eq (rank_order e f))) list h
 
-none_leaves : (list : List Ranked) (e : Ranked) → AllByRecursion (λ (f : Ranked). is_eq (rank_order e f) ≡ false) list → without_entry list e ≡ list
-none_leaves [] e h = refl
-none_leaves (f ∷ fs) e h =
-    ap (λ b. cond (not b) (f ∷ without_entry fs e) (without_entry fs e)) h.0
-    ∙ ap (λ (l : List Ranked). f ∷ l) (none_leaves fs e h.1)
+left_before : (xs : List Ranked) (e : Ranked) → Ahead e xs → without_entry xs e ≡ xs
+left_before [] e h = refl
+left_before (f ∷ fs) e h =
+    ap (λ o. cond (not (is_eq o)) (f ∷ without_entry fs e) (without_entry fs e)) (turned e f Less h.0)
+    ∙ ap (λ (l : List Ranked). f ∷ l) (left_before fs e h.1)
 
 pub left_past : (xs ys : List Ranked) (e : Ranked) → Ahead e xs → without_entry (xs ++ ys) e ≡ xs ++ without_entry ys e
 left_past xs ys e h =
     filter-append (λ (f : Ranked). not (is_eq (rank_order e f))) xs ys
-    ∙ ap (λ (l : List Ranked). l ++ without_entry ys e) (none_leaves xs e (each (λ (f : Ranked). rank_order f e ≡ Less) (λ (f : Ranked). is_eq (rank_order e f) ≡ false) (λ f k. ap is_eq (turned e f Less k)) xs h))
+    ∙ ap (λ (l : List Ranked). l ++ without_entry ys e) (left_before xs e h)
 
 pub left_ahead : (xs ys : List Ranked) (e : Ranked) → Behind e ys → without_entry (xs ++ ys) e ≡ without_entry xs e ++ ys
 left_ahead xs ys e h =
     filter-append (λ (f : Ranked). not (is_eq (rank_order e f))) xs ys
-    ∙ ap (λ (l : List Ranked). without_entry xs e ++ l) (none_leaves ys e (each (λ (f : Ranked). rank_order e f ≡ Less) (λ (f : Ranked). is_eq (rank_order e f) ≡ false) (λ f k. ap is_eq k) ys h))
+    ∙ ap (λ (l : List Ranked). without_entry xs e ++ l) (left_behind ys e h)
 
 -- ---- what stands beside an entry
 
--- what was found, or else another
-abbrev pub or_else : Option Ranked → Option Ranked → Option Ranked
-or_else None other = other
-or_else (Some e) other = Some e
-
-pub first_appended : (xs ys : List Ranked) → first_of (xs ++ ys) ≡ or_else (first_of xs) (first_of ys)
+pub first_appended : (xs ys : List Ranked) → first_of (xs ++ ys) ≡ option_or (first_of xs) (first_of ys)
 first_appended [] ys = refl
 first_appended (x ∷ xs) ys = refl
 
-pub last_appended : (xs ys : List Ranked) → first_of (reverse (xs ++ ys)) ≡ or_else (first_of (reverse ys)) (first_of (reverse xs))
+pub last_appended : (xs ys : List Ranked) → first_of (reverse (xs ++ ys)) ≡ option_or (first_of (reverse ys)) (first_of (reverse xs))
 last_appended xs ys =
     ap (λ (l : List Ranked). first_of l) (reverse-append xs ys) ∙ first_appended (reverse ys) (reverse xs)
 
@@ -147,7 +138,7 @@ all_pass q [] h = refl
 all_pass q (g ∷ gs) h =
     ap (λ b. cond b (g ∷ filter q gs) (filter q gs)) h.0 ∙ ap (λ (l : List Ranked). g ∷ l) (all_pass q gs h.1)
 
-pub none_pass : (q : Ranked → Bool) (list : List Ranked) → AllByRecursion (λ f. q f ≡ false) list → filter q list ≡ []
+none_pass : (q : Ranked → Bool) (list : List Ranked) → AllByRecursion (λ f. q f ≡ false) list → filter q list ≡ []
 none_pass q [] h = refl
 none_pass q (g ∷ gs) h = ap (λ b. cond b (g ∷ filter q gs) (filter q gs)) h.0 ∙ none_pass q gs h.1
 
@@ -155,11 +146,11 @@ whole_before : (xs : List Ranked) (e : Ranked) → Ahead e xs → before_entry x
 whole_before xs e h =
     all_pass (λ (f : Ranked). is_lt (rank_order f e)) xs (each (λ (f : Ranked). rank_order f e ≡ Less) (λ (f : Ranked). is_lt (rank_order f e) ≡ true) (λ f k. ap is_lt k) xs h)
 
-nothing_before : (ys : List Ranked) (e : Ranked) → Behind e ys → before_entry ys e ≡ []
+pub nothing_before : (ys : List Ranked) (e : Ranked) → Behind e ys → before_entry ys e ≡ []
 nothing_before ys e h =
     none_pass (λ (f : Ranked). is_lt (rank_order f e)) ys (each (λ (f : Ranked). rank_order e f ≡ Less) (λ (f : Ranked). is_lt (rank_order f e) ≡ false) (λ f k. ap is_lt (turned f e Less k)) ys h)
 
-whole_after : (ys : List Ranked) (e : Ranked) → Behind e ys → after_entry ys e ≡ ys
+pub whole_after : (ys : List Ranked) (e : Ranked) → Behind e ys → after_entry ys e ≡ ys
 whole_after ys e h =
     all_pass (λ (f : Ranked). is_lt (rank_order e f)) ys (each (λ (f : Ranked). rank_order e f ≡ Less) (λ (f : Ranked). is_lt (rank_order e f) ≡ true) (λ f k. ap is_lt k) ys h)
 
@@ -167,7 +158,7 @@ nothing_after : (xs : List Ranked) (e : Ranked) → Ahead e xs → after_entry x
 nothing_after xs e h =
     none_pass (λ (f : Ranked). is_lt (rank_order e f)) xs (each (λ (f : Ranked). rank_order f e ≡ Less) (λ (f : Ranked). is_lt (rank_order e f) ≡ false) (λ f k. ap is_lt (turned e f Less k)) xs h)
 
-pub before_past : (xs ys : List Ranked) (e : Ranked) → Ahead e xs → entry_before (xs ++ ys) e ≡ or_else (entry_before ys e) (first_of (reverse xs))
+pub before_past : (xs ys : List Ranked) (e : Ranked) → Ahead e xs → entry_before (xs ++ ys) e ≡ option_or (entry_before ys e) (first_of (reverse xs))
 before_past xs ys e h =
     ap (λ (l : List Ranked). first_of (reverse l)) (filter-append (λ (f : Ranked). is_lt (rank_order f e)) xs ys ∙ ap (λ (l : List Ranked). l ++ before_entry ys e) (whole_before xs e h))
     ∙ last_appended xs (before_entry ys e)
@@ -181,16 +172,12 @@ pub after_past : (xs ys : List Ranked) (e : Ranked) → Ahead e xs → entry_aft
 after_past xs ys e h =
     ap (λ (l : List Ranked). first_of l) (filter-append (λ (f : Ranked). is_lt (rank_order e f)) xs ys ∙ ap (λ (l : List Ranked). l ++ after_entry ys e) (nothing_after xs e h))
 
-pub after_ahead : (xs ys : List Ranked) (e : Ranked) → Behind e ys → entry_after (xs ++ ys) e ≡ or_else (entry_after xs e) (first_of ys)
+pub after_ahead : (xs ys : List Ranked) (e : Ranked) → Behind e ys → entry_after (xs ++ ys) e ≡ option_or (entry_after xs e) (first_of ys)
 after_ahead xs ys e h =
     ap (λ (l : List Ranked). first_of l) (filter-append (λ (f : Ranked). is_lt (rank_order e f)) xs ys ∙ ap (λ (l : List Ranked). after_entry xs e ++ l) (whole_after ys e h))
     ∙ first_appended (after_entry xs e) ys
 
 -- ---- three parts
-
-both_behind : (e : Ranked) (shorts above : List Ranked) → IsBelow e → AllByRecursion IsBetween shorts → AllByRecursion IsAbove above → Behind e (shorts ++ above)
-both_behind e shorts above is mid high =
-    all_appended (λ (f : Ranked). rank_order e f ≡ Less) shorts above (between_behind e shorts is mid) (behind_below e above is high)
 
 both_ahead : (e : Ranked) (below shorts : List Ranked) → IsAbove e → AllByRecursion IsBelow below → AllByRecursion IsBetween shorts → Ahead e (below ++ shorts)
 both_ahead e below shorts is low mid =
@@ -199,63 +186,63 @@ both_ahead e below shorts is low mid =
 module _ (below shorts above : List Ranked) (p : AreParted below shorts above) where
   pub parts_ascend : IsAscending (below ++ (shorts ++ above))
   parts_ascend =
-      appended_ascend below (shorts ++ above) p.below_ascend (appended_ascend shorts above p.shorts_ascend p.above_ascend (shorts_apart shorts above p.mid p.high)) (below_apart below shorts above p.low p.mid p.high)
+      appended_ascend below (shorts ++ above) p.below_ascend (appended_ascend shorts above p.shorts_ascend p.above_ascend (shorts_apart shorts above p.all_short p.all_above)) (below_apart below shorts above p.all_below p.all_short p.all_above)
 
   module _ (e : Ranked) where
     pub below_entered : IsBelow e → with_entry (below ++ (shorts ++ above)) e ≡ with_entry below e ++ (shorts ++ above)
-    below_entered is = entered_ahead below (shorts ++ above) e (both_behind e shorts above is p.mid p.high)
+    below_entered is = entered_ahead below (shorts ++ above) e (both_behind e shorts above is p.all_short p.all_above)
 
     pub shorts_entered : IsBetween e → with_entry (below ++ (shorts ++ above)) e ≡ below ++ (with_entry shorts e ++ above)
     shorts_entered is =
-        entered_past below (shorts ++ above) e (ahead_of_between e below is p.low)
-        ∙ ap (λ (l : List Ranked). below ++ l) (entered_ahead shorts above e (behind_between e above is p.high))
+        entered_past below (shorts ++ above) e (ahead_of_between e below is p.all_below)
+        ∙ ap (λ (l : List Ranked). below ++ l) (entered_ahead shorts above e (behind_between e above is p.all_above))
 
     pub above_entered : IsAbove e → with_entry (below ++ (shorts ++ above)) e ≡ below ++ (shorts ++ with_entry above e)
     above_entered is =
-        entered_past below (shorts ++ above) e (ahead_of_above e below is p.low)
-        ∙ ap (λ (l : List Ranked). below ++ l) (entered_past shorts above e (between_ahead e shorts is p.mid))
+        entered_past below (shorts ++ above) e (ahead_of_above e below is p.all_below)
+        ∙ ap (λ (l : List Ranked). below ++ l) (entered_past shorts above e (between_ahead e shorts is p.all_short))
 
     pub below_left : IsBelow e → without_entry (below ++ (shorts ++ above)) e ≡ without_entry below e ++ (shorts ++ above)
-    below_left is = left_ahead below (shorts ++ above) e (both_behind e shorts above is p.mid p.high)
+    below_left is = left_ahead below (shorts ++ above) e (both_behind e shorts above is p.all_short p.all_above)
 
     pub shorts_left : IsBetween e → without_entry (below ++ (shorts ++ above)) e ≡ below ++ (without_entry shorts e ++ above)
     shorts_left is =
-        left_past below (shorts ++ above) e (ahead_of_between e below is p.low)
-        ∙ ap (λ (l : List Ranked). below ++ l) (left_ahead shorts above e (behind_between e above is p.high))
+        left_past below (shorts ++ above) e (ahead_of_between e below is p.all_below)
+        ∙ ap (λ (l : List Ranked). below ++ l) (left_ahead shorts above e (behind_between e above is p.all_above))
 
     pub above_left : IsAbove e → without_entry (below ++ (shorts ++ above)) e ≡ below ++ (shorts ++ without_entry above e)
     above_left is =
-        left_past below (shorts ++ above) e (ahead_of_above e below is p.low)
-        ∙ ap (λ (l : List Ranked). below ++ l) (left_past shorts above e (between_ahead e shorts is p.mid))
+        left_past below (shorts ++ above) e (ahead_of_above e below is p.all_below)
+        ∙ ap (λ (l : List Ranked). below ++ l) (left_past shorts above e (between_ahead e shorts is p.all_short))
 
     pub below_before : IsBelow e → entry_before (below ++ (shorts ++ above)) e ≡ entry_before below e
-    below_before is = before_ahead below (shorts ++ above) e (both_behind e shorts above is p.mid p.high)
+    below_before is = before_ahead below (shorts ++ above) e (both_behind e shorts above is p.all_short p.all_above)
 
-    pub shorts_before : IsBetween e → entry_before (below ++ (shorts ++ above)) e ≡ or_else (entry_before shorts e) (first_of (reverse below))
+    pub shorts_before : IsBetween e → entry_before (below ++ (shorts ++ above)) e ≡ option_or (entry_before shorts e) (first_of (reverse below))
     shorts_before is =
-        before_past below (shorts ++ above) e (ahead_of_between e below is p.low)
-        ∙ ap (λ (o : Option Ranked). or_else o (first_of (reverse below))) (before_ahead shorts above e (behind_between e above is p.high))
+        before_past below (shorts ++ above) e (ahead_of_between e below is p.all_below)
+        ∙ ap (λ (o : Option Ranked). option_or o (first_of (reverse below))) (before_ahead shorts above e (behind_between e above is p.all_above))
 
-    pub above_before : IsAbove e → entry_before (below ++ (shorts ++ above)) e ≡ or_else (entry_before above e) (first_of (reverse (below ++ shorts)))
+    pub above_before : IsAbove e → entry_before (below ++ (shorts ++ above)) e ≡ option_or (entry_before above e) (first_of (reverse (below ++ shorts)))
     above_before is =
         ap (λ (l : List Ranked). entry_before l e) (sym (append_assoc below shorts above))
-        ∙ before_past (below ++ shorts) above e (both_ahead e below shorts is p.low p.mid)
+        ∙ before_past (below ++ shorts) above e (both_ahead e below shorts is p.all_below p.all_short)
 
-    pub below_after : IsBelow e → entry_after (below ++ (shorts ++ above)) e ≡ or_else (entry_after below e) (first_of (shorts ++ above))
-    below_after is = after_ahead below (shorts ++ above) e (both_behind e shorts above is p.mid p.high)
+    pub below_after : IsBelow e → entry_after (below ++ (shorts ++ above)) e ≡ option_or (entry_after below e) (first_of (shorts ++ above))
+    below_after is = after_ahead below (shorts ++ above) e (both_behind e shorts above is p.all_short p.all_above)
 
-    pub shorts_after : IsBetween e → entry_after (below ++ (shorts ++ above)) e ≡ or_else (entry_after shorts e) (first_of above)
+    pub shorts_after : IsBetween e → entry_after (below ++ (shorts ++ above)) e ≡ option_or (entry_after shorts e) (first_of above)
     shorts_after is =
-        after_past below (shorts ++ above) e (ahead_of_between e below is p.low)
-        ∙ after_ahead shorts above e (behind_between e above is p.high)
+        after_past below (shorts ++ above) e (ahead_of_between e below is p.all_below)
+        ∙ after_ahead shorts above e (behind_between e above is p.all_above)
 
     pub above_after : IsAbove e → entry_after (below ++ (shorts ++ above)) e ≡ entry_after above e
     above_after is =
         ap (λ (l : List Ranked). entry_after l e) (sym (append_assoc below shorts above))
-        ∙ after_past (below ++ shorts) above e (both_ahead e below shorts is p.low p.mid)
+        ∙ after_past (below ++ shorts) above e (both_ahead e below shorts is p.all_below p.all_short)
 
 -- ---- found, or else another
 
-pub something_found : (r other : Option Ranked) → r ≢ None → or_else r other ≡ r
+pub something_found : (r other : Option Ranked) → r ≢ None → option_or r other ≡ r
 something_found None other some = absurd (some refl)
 something_found (Some e) other some = refl

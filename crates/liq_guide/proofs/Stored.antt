@@ -1,6 +1,8 @@
 -- Entries as they are stored stand for ranked ones: their order, and what is done to them.
 use Rattle.std.proofs.Common.{◌≡◌, Bool, true, false, cond, List, [], ◌∷◌, ◌++◌, refl, sym, ap, ◌∙◌, arith, Some, None, Option, map, Bor}
 use Rattle.std.proofs.lemmas.List.{map-append, reverse-append, length-reverse}
+use Rattle.std.proofs.lemmas.List.Elements.{All-from_recursion, recursion_from_All}
+use Rattle.std.proofs.lemmas.Map.Views.{All-insert_key, All-remove_key}
 use Rattle.std.specs.Prelude.{not, ◌&&◌, ◌-◌, ◌<◌, reverse, filter, option_map, ◌↔◌, IsSome, IfSome, length, slice_get}
 use Rattle.std.specs.BTreeMap.{is_at}
 use Rattle.std.specs.BTreeSet.{insert_key}
@@ -32,12 +34,7 @@ module _ {E : Type 0} (order : E → E → Ordering) (ranked : E → Ranked) (Fi
   -- ---- an entry comes in or leaves
 
   pub fine_inserted : (es : List E) (e : E) → AllByRecursion Fine es → Fine e → AllByRecursion Fine (insert_key order es e)
-  fine_inserted [] e h fine = (fine, tt)
-  fine_inserted (f ∷ fs) e h fine = by (order e f) (fine_inserted fs e h.1 fine) where
-    by : (o : Ordering) → AllByRecursion Fine (insert_key order fs e) → AllByRecursion Fine (match_ordering o (e ∷ f ∷ fs) (f ∷ fs) (f ∷ insert_key order fs e))
-    by Less more = (fine, h)
-    by Equal more = h
-    by Greater more = (h.0, more)
+  fine_inserted es e h fine = recursion_from_All Fine (insert_key order es e) (All-insert_key order e Fine es (All-from_recursion Fine es h) fine)
 
   pub inserted_is : (es : List E) (e : E) → AllByRecursion Fine es → Fine e → map ranked (insert_key order es e) ≡ with_entry (map ranked es) (ranked e)
   inserted_is [] e h fine = refl
@@ -50,11 +47,7 @@ module _ {E : Type 0} (order : E → E → Ordering) (ranked : E → Ranked) (Fi
         by Greater more = ap (λ (l : List Ranked). ranked f ∷ l) more
 
   pub fine_removed : (es : List E) (test : E → Bool) → AllByRecursion Fine es → AllByRecursion Fine (remove_key test es)
-  fine_removed [] test h = tt
-  fine_removed (f ∷ fs) test h = by (test f) (fine_removed fs test h.1) where
-    by : (b : Bool) → AllByRecursion Fine (remove_key test fs) → AllByRecursion Fine (cond b fs (f ∷ remove_key test fs))
-    by true more = h.1
-    by false more = (h.0, more)
+  fine_removed es test h = recursion_from_All Fine (remove_key test es) (All-remove_key test Fine es (All-from_recursion Fine es h))
 
   pub removed_is : (es : List E) (e : E) → AllByRecursion Fine es → Fine e → IsAscending (map ranked es) → map ranked (remove_key (is_at (order e)) es) ≡ without_entry (map ranked es) (ranked e)
   removed_is [] e h fine k = refl
@@ -65,7 +58,7 @@ module _ {E : Type 0} (order : E → E → Ordering) (ranked : E → Ranked) (Fi
         ap (λ (l : List Ranked). ranked f ∷ l) more
         ∙ ap (λ b. cond (not b) (ranked f ∷ without_entry (map ranked fs) (ranked e)) (without_entry (map ranked fs) (ranked e))) is
 
-  -- ---- what a part shows first and last
+  -- ---- what a range shows first and last
 
   kept_is : (P : E → Bool) (Q : Ranked → Bool) (es : List E) → AllByRecursion Fine es → ((f : E) → Fine f → P f ≡ Q (ranked f)) → map ranked (filter P es) ≡ filter Q (map ranked es)
   kept_is P Q [] h agree = refl

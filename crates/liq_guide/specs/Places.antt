@@ -1,7 +1,8 @@
 -- Entries in order, each as it is stored, and the three parts that they are kept in.
-use Rattle.std.specs.Prelude.{◌≡◌, ◌<◌, ◌^◌, pos, ◌+ℤ◌, ◌*ℤ◌, ◌<ℤ◌, ◌≤ℤ◌, List, [], ◌∷◌, filter, not}
+use Rattle.std.specs.Prelude.{◌≡◌, ◌<◌, ◌^◌, pos, neg_ℤ, ◌+ℤ◌, ◌*ℤ◌, ◌<ℤ◌, ◌≤ℤ◌, List, filter, not}
+use Rattle.std.specs.BTreeSet.{insert_key}
 use Rattle.std.specs.List.{AllByRecursion}
-use Rattle.std.specs.Ordering.{match_ordering, is_eq}
+use Rattle.std.specs.Ordering.{is_eq}
 use Rattle.liq_types.specs.Ranked.{Ranked, rank_order, IsAscending}
 use Rattle.liq_guide.specs.declared.longs.Long.{Long}
 use Rattle.liq_guide.specs.declared.shorts.Short.{Short}
@@ -10,8 +11,7 @@ use Rattle.liq_guide.specs.declared.places.Part.TheVariants as part
 
 -- ascending entries with one more, which may be there
 abbrev pub with_entry : List Ranked → Ranked → List Ranked
-with_entry [] e = e ∷ []
-with_entry (f ∷ fs) e = match_ordering (rank_order e f) (e ∷ f ∷ fs) (f ∷ fs) (f ∷ with_entry fs e)
+with_entry list e = insert_key rank_order list e
 
 -- entries without one
 abbrev pub without_entry : List Ranked → Ranked → List Ranked
@@ -19,7 +19,7 @@ without_entry list e = filter (λ (f : Ranked). not (is_eq (rank_order e f))) li
 
 -- ---- as they are stored
 
--- what an entry stands for whose key takes 64 bits
+-- what an entry stands for whose key fits an i64
 abbrev pub ranked_short : Short → Ranked
 ranked_short e = (e.key, e.account)
 
@@ -27,31 +27,38 @@ ranked_short e = (e.key, e.account)
 abbrev pub ranked_long : Long → Ranked
 ranked_long e = (e.high *ℤ pos (2 ^ 64) +ℤ pos e.low, e.account)
 
--- the lower half of each key is below 2^64, which one of the upper half counts
+-- the lower half of a key is below 2^64, which one of the upper half counts
+abbrev pub IsHalved : Long → Type 0
+IsHalved e = e.low < 2 ^ 64
+
 abbrev pub AreHalved : List Long → Type 0
-AreHalved entries = AllByRecursion (λ (e : Long). e.low < 2 ^ 64) entries
+AreHalved entries = AllByRecursion IsHalved entries
 
 -- ---- three parts
 
--- keys below and above those that take 64 bits
+-- an entry whose key is below all that an i64 can be
 abbrev pub IsBelow : Ranked → Type 0
-IsBelow e = (e.0 +ℤ pos (2 ^ 63)) <ℤ pos 0
+IsBelow e = e.0 <ℤ neg_ℤ (pos (2 ^ 63))
 
+-- one whose key fits an i64
+abbrev pub IsBetween : Ranked → Type 0
+IsBetween e = (neg_ℤ (pos (2 ^ 63)) ≤ℤ e.0) × (e.0 <ℤ pos (2 ^ 63))
+
+-- one whose key is above all that an i64 can be
 abbrev pub IsAbove : Ranked → Type 0
 IsAbove e = pos (2 ^ 63) ≤ℤ e.0
 
-abbrev pub IsBetween : Ranked → Type 0
-IsBetween e = (pos 0 ≤ℤ (e.0 +ℤ pos (2 ^ 63))) × (e.0 <ℤ pos (2 ^ 63))
-
+-- where an entry is kept
 abbrev pub IsPartOf : Ranked → Part → Type 0
 IsPartOf e part.Below = IsBelow e
 IsPartOf e (part.Short short) = (ranked_short short ≡ e) × IsBetween e
 IsPartOf e part.Above = IsAbove e
 
+-- three ascending parts, each of its own keys
 pub record AreParted (below : List Ranked) (shorts : List Ranked) (above : List Ranked) : Type 0 where
   pub below_ascend : IsAscending below
   pub shorts_ascend : IsAscending shorts
   pub above_ascend : IsAscending above
-  pub low : AllByRecursion IsBelow below
-  pub mid : AllByRecursion IsBetween shorts
-  pub high : AllByRecursion IsAbove above
+  pub all_below : AllByRecursion IsBelow below
+  pub all_short : AllByRecursion IsBetween shorts
+  pub all_above : AllByRecursion IsAbove above

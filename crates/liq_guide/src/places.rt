@@ -14,19 +14,20 @@ use std::marker::Model;
 pub(crate) type Place = (i128, u32);
 
 // Where an entry is kept.
-#[derive(Clone, Copy)]
-pub(crate) enum Part {
+enum Part {
     Below,
     Short(Short),
     Above,
 }
 
-// The entries in their order. Contracts see the list. Nearly all keys take 64 bits, and their entries 16 bytes.
+// The entries in their order. Contracts see the list. A key is what a trove owes over its stake, with 18 decimals, less what was spread
+// since: it fits an i64 up to 9,223 LUSD for each ether, so nearly all entries are short.
 #[derive(Drop)]
 pub(crate) struct Places {
-    // Those whose keys are below all that an i64 can be, and those whose keys are above.
+    // Those whose keys are below all that an i64 can be.
     below: Longs,
     shorts: Shorts,
+    // Those whose keys are above.
     above: Longs,
 }
 
@@ -90,7 +91,7 @@ impl Places {
                 found => found,
             },
             Part::Above => match self.above.before(place) {
-                None => last_up_to(&self.below, &self.shorts),
+                None => last_not_above(&self.below, &self.shorts),
                 found => found,
             },
         }
@@ -102,7 +103,7 @@ impl Places {
     {
         match part_of(place) {
             Part::Below => match self.below.after(place) {
-                None => first_from(&self.shorts, &self.above),
+                None => first_not_below(&self.shorts, &self.above),
                 found => found,
             },
             Part::Short(entry) => match self.shorts.after(entry) {
@@ -119,14 +120,14 @@ impl Places {
         ensures least { (key : ℤ) → key <ℤ i128.MIN → IfSome result (λ e. key <ℤ e.0) }
     {
         match self.below.first() {
-            None => first_from(&self.shorts, &self.above),
+            None => first_not_below(&self.shorts, &self.above),
             found => found,
         }
     }
 }
 
 // The first of all whose keys are not below.
-fn first_from(shorts: &Shorts, above: &Longs) -> Option<Place>
+fn first_not_below(shorts: &Shorts, above: &Longs) -> Option<Place>
     ensures first { result ≡ first_of (shorts.now ++ above.now) }
     ensures least { (key : ℤ) → key <ℤ i128.MIN → IfSome result (λ e. key <ℤ e.0) }
 {
@@ -137,7 +138,7 @@ fn first_from(shorts: &Shorts, above: &Longs) -> Option<Place>
 }
 
 // The last of all whose keys are not above.
-fn last_up_to(below: &Longs, shorts: &Shorts) -> Option<Place>
+fn last_not_above(below: &Longs, shorts: &Shorts) -> Option<Place>
     ensures { result ≡ first_of (reverse (below.now ++ shorts.now)) }
 {
     match shorts.last() {

@@ -1,4 +1,4 @@
-// Entries of the ordered list whose keys take 64 bits.
+// Entries of the ordered list whose keys fit an i64.
 ghost use Rattle.std.specs.Prelude.{◌≡◌, [], ℤ, ◌<ℤ◌, IfSome, reverse, option_map, OnOk, OnErr};
 ghost use Rattle.liq_types.specs.Ranked.{IsAscending, first_of};
 ghost use Rattle.liq_guide.specs.Places.{with_entry, without_entry, ranked_short};
@@ -79,7 +79,7 @@ impl Shorts {
         ensures { result ≡ entry_before self.now (ranked_short entry) }
     {
         let range = (Bound::Unbounded, Bound::Excluded(entry));
-        place_of(self.entries.range(range).next_back().copied())
+        place_found(self.entries.range(range).next_back().copied())
     }
 
     // The entry next after one.
@@ -87,14 +87,7 @@ impl Shorts {
         ensures { result ≡ entry_after self.now (ranked_short entry) }
     {
         let range = (Bound::Excluded(entry), Bound::Unbounded);
-        place_of(self.entries.range(range).next().copied())
-    }
-
-    // The last of all.
-    pub(crate) fn last(&self) -> Option<Place>
-        ensures { result ≡ first_of (reverse self.now) }
-    {
-        place_of(self.entries.last().copied())
+        place_found(self.entries.range(range).next().copied())
     }
 
     // The first of all.
@@ -102,11 +95,18 @@ impl Shorts {
         ensures first { result ≡ first_of self.now }
         ensures least { (key : ℤ) → key <ℤ i128.MIN → IfSome result (λ e. key <ℤ e.0) }
     {
-        place_of(self.entries.first().copied())
+        place_found(self.entries.first().copied())
+    }
+
+    // The last of all.
+    pub(crate) fn last(&self) -> Option<Place>
+        ensures { result ≡ first_of (reverse self.now) }
+    {
+        place_found(self.entries.last().copied())
     }
 }
 
-fn place_of(found: Option<Short>) -> Option<Place>
+fn place_found(found: Option<Short>) -> Option<Place>
     ensures place { result ≡ option_map ranked_short found }
     ensures least { (key : ℤ) → key <ℤ i128.MIN → IfSome result (λ e. key <ℤ e.0) }
 {

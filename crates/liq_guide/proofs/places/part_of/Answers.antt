@@ -1,7 +1,7 @@
-use Rattle.std.proofs.Common.{◌≡◌, ℤ, pos, ◌^◌, ◌+ℤ◌, rules, arith, refl, ap, ◌∙◌}
+use Rattle.std.proofs.Common.{◌≡◌, ℤ, pos, ◌^◌, rules, arith, refl, ap, ◌∙◌}
 use Rattle.std.proofs.lemmas.Cmp.{int_ranked}
 use Rattle.std.proofs.lemmas.Int.{to_z-of_z, ints}
-use Rattle.std.specs.Prelude.{◌<ℤ◌, ◌≤ℤ◌}
+use Rattle.std.specs.Prelude.{◌<ℤ◌, ◌≤ℤ◌, neg_ℤ}
 use Rattle.std.specs.Ordering.{MatchOrdering, int_cmp}
 use Rattle.std.specs.declared.cmp.Ordering.{Ordering}
 use Rattle.std.specs.declared.cmp.Ordering.TheVariants.{Less, Equal, Greater}
@@ -10,9 +10,9 @@ use mir.Syntax.{w64, w128}
 use mir.Val.{SFits}
 
 -- what does not fit is below or above
-not_above : (key : ℤ) → (SFits w64 key → ⊥) → key <ℤ pos 0 → (key +ℤ pos (2 ^ 63)) <ℤ pos 0
-not_above key out low = by (int_cmp (key +ℤ pos (2 ^ 63)) (pos 0)) (int_ranked (key +ℤ pos (2 ^ 63)) (pos 0) (int_cmp (key +ℤ pos (2 ^ 63)) (pos 0)) refl) where
-  by : (o : Ordering) → MatchOrdering o ((key +ℤ pos (2 ^ 63)) <ℤ pos 0) ((key +ℤ pos (2 ^ 63)) ≡ pos 0) (pos 0 <ℤ (key +ℤ pos (2 ^ 63))) → (key +ℤ pos (2 ^ 63)) <ℤ pos 0
+not_above : (key : ℤ) → (SFits w64 key → ⊥) → key <ℤ pos 0 → key <ℤ neg_ℤ (pos (2 ^ 63))
+not_above key out low = by (int_cmp key (neg_ℤ (pos (2 ^ 63)))) (int_ranked key (neg_ℤ (pos (2 ^ 63))) (int_cmp key (neg_ℤ (pos (2 ^ 63)))) refl) where
+  by : (o : Ordering) → MatchOrdering o (key <ℤ neg_ℤ (pos (2 ^ 63))) (key ≡ neg_ℤ (pos (2 ^ 63))) (neg_ℤ (pos (2 ^ 63)) <ℤ key) → key <ℤ neg_ℤ (pos (2 ^ 63))
   by Less h = h
   by Equal h = absurd (out (record { sfits = omega (arith, ints, h, low) }))
   by Greater h = absurd (out (record { sfits = omega (arith, ints, h, low) }))

@@ -2,8 +2,8 @@ use Rattle.std.proofs.Common.{ap, ◌∙◌, Option}
 use Rattle.std.specs.Prelude.{List, reverse, option_map}
 use Rattle.liq_types.specs.Ranked.{Ranked, first_of}
 use Rattle.liq_guide.specs.declared.longs.Long.{Long}
-use Rattle.liq_guide.specs.Places.{ranked_long}
-use Rattle.liq_guide.proofs.Halves.{halved_order, IsHalved, long_order}
+use Rattle.liq_guide.specs.Places.{ranked_long, IsHalved}
+use Rattle.liq_guide.proofs.Halves.{halved_order, long_order}
 use Rattle.liq_guide.proofs.Stored.{last_is}
 use Rattle.liq_guide.proofs.longs.Longs.last.Goals as goal
 

@@ -2,8 +2,8 @@ use Rattle.std.proofs.Common.{◌≡◌, List, ◌++◌, sym, ap, ◌∙◌, sub
 use Rattle.std.specs.List.{AllByRecursion}
 use Rattle.liq_types.specs.Ranked.{Ranked}
 use Rattle.liq_guide.specs.Places.{with_entry, ranked_short, IsPartOf, IsBelow, IsBetween, IsAbove}
-use Rattle.liq_guide.proofs.Entering.{either, on_ok}
-use Rattle.liq_guide.proofs.Parts.{all_entered, parts_ascend, below_entered, shorts_entered, above_entered}
+use Rattle.liq_guide.proofs.Entering.{all_entered, either, on_ok}
+use Rattle.liq_guide.proofs.Parts.{parts_ascend, below_entered, shorts_entered, above_entered}
 use Rattle.liq_guide.proofs.places.Places.insert.Goals as goal
 
 is_below : (c : goal.After-insert) → IsBelow c.args.place
@@ -14,9 +14,9 @@ invariant_of-self c = record {
   below_ascend = c.insert.ensures.ascending;
   shorts_ascend = c.self.invariant.shorts_ascend;
   above_ascend = c.self.invariant.above_ascend;
-  low = either (λ (l : List Ranked). AllByRecursion IsBelow l) c.insert.result c.self.inside.below (with_entry c.self.inside.below c.args.place) c.insert.new.self c.insert.ensures.entered c.insert.ensures.err c.self.invariant.low (all_entered IsBelow c.self.inside.below c.args.place c.self.invariant.low (is_below c));
-  mid = c.self.invariant.mid;
-  high = c.self.invariant.high;
+  all_below = either (λ (l : List Ranked). AllByRecursion IsBelow l) c.insert.result c.self.inside.below (with_entry c.self.inside.below c.args.place) c.insert.new.self c.insert.ensures.entered c.insert.ensures.err c.self.invariant.all_below (all_entered IsBelow c.self.inside.below c.args.place c.self.invariant.all_below (is_below c));
+  all_short = c.self.invariant.all_short;
+  all_above = c.self.invariant.all_above;
 }
 
 pub returns-in-Below-clause-ascending : goal.returns-in-Below-clause-ascending
@@ -37,9 +37,9 @@ invariant_of-self-in-Short c = record {
   below_ascend = c.self.invariant.below_ascend;
   shorts_ascend = c.insert-in-Short.ensures.ascending;
   above_ascend = c.self.invariant.above_ascend;
-  low = c.self.invariant.low;
-  mid = either (λ (l : List Ranked). AllByRecursion IsBetween l) c.insert-in-Short.result c.self.inside.shorts (with_entry c.self.inside.shorts (ranked_short c.in-Short.entry)) c.insert-in-Short.new.self c.insert-in-Short.ensures.entered c.insert-in-Short.ensures.err c.self.invariant.mid (all_entered IsBetween c.self.inside.shorts (ranked_short c.in-Short.entry) c.self.invariant.mid (between c));
-  high = c.self.invariant.high;
+  all_below = c.self.invariant.all_below;
+  all_short = either (λ (l : List Ranked). AllByRecursion IsBetween l) c.insert-in-Short.result c.self.inside.shorts (with_entry c.self.inside.shorts (ranked_short c.in-Short.entry)) c.insert-in-Short.new.self c.insert-in-Short.ensures.entered c.insert-in-Short.ensures.err c.self.invariant.all_short (all_entered IsBetween c.self.inside.shorts (ranked_short c.in-Short.entry) c.self.invariant.all_short (between c));
+  all_above = c.self.invariant.all_above;
 }
 
 pub returns-in-Short-clause-ascending : goal.returns-in-Short-clause-ascending
@@ -57,9 +57,9 @@ invariant_of-self-in-Above c = record {
   below_ascend = c.self.invariant.below_ascend;
   shorts_ascend = c.self.invariant.shorts_ascend;
   above_ascend = c.insert-in-Above.ensures.ascending;
-  low = c.self.invariant.low;
-  mid = c.self.invariant.mid;
-  high = either (λ (l : List Ranked). AllByRecursion IsAbove l) c.insert-in-Above.result c.self.inside.above (with_entry c.self.inside.above c.args.place) c.insert-in-Above.new.self c.insert-in-Above.ensures.entered c.insert-in-Above.ensures.err c.self.invariant.high (all_entered IsAbove c.self.inside.above c.args.place c.self.invariant.high (is_above c));
+  all_below = c.self.invariant.all_below;
+  all_short = c.self.invariant.all_short;
+  all_above = either (λ (l : List Ranked). AllByRecursion IsAbove l) c.insert-in-Above.result c.self.inside.above (with_entry c.self.inside.above c.args.place) c.insert-in-Above.new.self c.insert-in-Above.ensures.entered c.insert-in-Above.ensures.err c.self.invariant.all_above (all_entered IsAbove c.self.inside.above c.args.place c.self.invariant.all_above (is_above c));
 }
 
 pub returns-in-Above-clause-ascending : goal.returns-in-Above-clause-ascending

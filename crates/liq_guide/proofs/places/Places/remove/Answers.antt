@@ -13,9 +13,9 @@ invariant_of-self c = record {
   below_ascend = c.remove.ensures.ascending;
   shorts_ascend = c.self.invariant.shorts_ascend;
   above_ascend = c.self.invariant.above_ascend;
-  low = subst (λ (l : List Ranked). AllByRecursion IsBelow l) (sym c.remove.ensures.left) (all_left IsBelow c.self.inside.below c.args.place c.self.invariant.low);
-  mid = c.self.invariant.mid;
-  high = c.self.invariant.high;
+  all_below = subst (λ (l : List Ranked). AllByRecursion IsBelow l) (sym c.remove.ensures.left) (all_left IsBelow c.self.inside.below c.args.place c.self.invariant.all_below);
+  all_short = c.self.invariant.all_short;
+  all_above = c.self.invariant.all_above;
 }
 
 pub returns-in-Below-clause-ascending : goal.returns-in-Below-clause-ascending
@@ -35,9 +35,9 @@ invariant_of-self-in-Short c = record {
   below_ascend = c.self.invariant.below_ascend;
   shorts_ascend = c.remove-in-Short.ensures.ascending;
   above_ascend = c.self.invariant.above_ascend;
-  low = c.self.invariant.low;
-  mid = subst (λ (l : List Ranked). AllByRecursion IsBetween l) (sym c.remove-in-Short.ensures.left) (all_left IsBetween c.self.inside.shorts (ranked_short c.in-Short.entry) c.self.invariant.mid);
-  high = c.self.invariant.high;
+  all_below = c.self.invariant.all_below;
+  all_short = subst (λ (l : List Ranked). AllByRecursion IsBetween l) (sym c.remove-in-Short.ensures.left) (all_left IsBetween c.self.inside.shorts (ranked_short c.in-Short.entry) c.self.invariant.all_short);
+  all_above = c.self.invariant.all_above;
 }
 
 pub returns-in-Short-clause-ascending : goal.returns-in-Short-clause-ascending
@@ -54,9 +54,9 @@ invariant_of-self-in-Above c = record {
   below_ascend = c.self.invariant.below_ascend;
   shorts_ascend = c.self.invariant.shorts_ascend;
   above_ascend = c.remove-in-Above.ensures.ascending;
-  low = c.self.invariant.low;
-  mid = c.self.invariant.mid;
-  high = subst (λ (l : List Ranked). AllByRecursion IsAbove l) (sym c.remove-in-Above.ensures.left) (all_left IsAbove c.self.inside.above c.args.place c.self.invariant.high);
+  all_below = c.self.invariant.all_below;
+  all_short = c.self.invariant.all_short;
+  all_above = subst (λ (l : List Ranked). AllByRecursion IsAbove l) (sym c.remove-in-Above.ensures.left) (all_left IsAbove c.self.inside.above c.args.place c.self.invariant.all_above);
 }
 
 pub returns-in-Above-clause-ascending : goal.returns-in-Above-clause-ascending

@@ -3,15 +3,15 @@ use Rattle.std.specs.Prelude.{List, option_map}
 use Rattle.liq_types.specs.Ranked.{Ranked, first_of}
 use Rattle.liq_guide.specs.declared.shorts.Short.{Short}
 use Rattle.liq_guide.specs.Places.{ranked_short}
-use Rattle.liq_guide.proofs.Halves.{narrow_order, IsShort, short_order}
+use Rattle.liq_guide.proofs.Halves.{narrow_order, AnyShort, short_order}
 use Rattle.liq_guide.proofs.Stored.{first_is}
 use Rattle.liq_guide.proofs.shorts.Shorts.first.Goals as goal
 
 pub returns : goal.returns
 returns c = record {
-  first = c.place_of.ensures.place
+  first = c.place_found.ensures.place
       ∙ ap (λ (o : Option Short). option_map ranked_short o) c.copied.ensures
-      ∙ first_is narrow_order ranked_short IsShort short_order c.self.inside.entries.keys c.first.result c.first.ensures.variant c.first.ensures.first
+      ∙ first_is narrow_order ranked_short AnyShort short_order c.self.inside.entries.keys c.first.result c.first.ensures.variant c.first.ensures.first
       ∙ ap (λ (l : List Ranked). first_of l) c.self.view_is;
-  least = c.place_of.ensures.least;
+  least = c.place_found.ensures.least;
 }
