@@ -11,9 +11,11 @@ use Rattle.std.proofs.lemmas.List.Elements.{filter-append}
 use Rattle.std.proofs.lemmas.List.{reverse-append, append-nil}
 use Rattle.liq_types.proofs.RankedLists.{rank_total, Behind, behind_more, all_kept}
 use Rattle.liq_types.specs.Ranked.{Ranked, rank_order, IsAscending, first_of, account_of, without_ranked}
+use Rattle.liq_chunks.proofs.Lists.{all_pass, each, nothing_before, whole_after}
 use Rattle.liq_guide.specs.Rows.{StandOnce}
-use Rattle.liq_guide.specs.Sides.{account_aside, entry_after, entry_before, entry_beside, past_own}
-use Rattle.liq_guide.proofs.Parts.{all_appended, all_pass, each, lower_key, nothing_before, whole_after}
+use Rattle.liq_guide.specs.Sides.{account_aside, entry_beside, past_own}
+use Rattle.liq_chunks.specs.Entries.{entry_after, entry_before}
+use Rattle.liq_guide.proofs.Parts.{all_appended, lower_key}
 use Rattle.liq_guide.specs.declared.sides.Side.{Side}
 use Rattle.liq_guide.specs.declared.sides.Side.TheVariants.{Before, After}
 

@@ -29,7 +29,7 @@ list_of_views v (change ∷ changes) =
 
 -- ---- one change
 
-abbrev Sent : (ℕ → Option ℤ) → (ℕ → Option ℤ) → ℕ → Option ℤ → Type 0
+abbrev pub Sent : (ℕ → Option ℤ) → (ℕ → Option ℤ) → ℕ → Option ℤ → Type 0
 Sent key other account next = (a : ℕ) → other a ≡ cond (a == account) next (key a)
 
 is_eq-then : (o p : Ordering) → is_eq (ordering_then o p) ≡ (is_eq o && is_eq p)

@@ -1,18 +1,14 @@
--- The order of stored entries is the one of what they stand for, also where their keys are in halves.
-use Rattle.std.proofs.Common.{◌≡◌, ℕ, ℤ, pos, ◌<◌, ◌^◌, ◌*ℤ◌, ◌+ℤ◌, List, [], ◌∷◌, refl, ap, ◌∙◌, arith}
+-- The order of entries whose keys are in halves is the one of what they stand for.
+use Rattle.std.proofs.Common.{◌≡◌, ℕ, ℤ, pos, ◌<◌, ◌^◌, ◌*ℤ◌, ◌+ℤ◌, refl, ap, ◌∙◌, arith}
 use Rattle.std.proofs.lemmas.Cmp.{ranked as nat_ranked, int_ranked}
 use Rattle.std.proofs.lemmas.Int.{ints}
 use Rattle.std.specs.Prelude.{◌<ℤ◌}
-use Rattle.std.specs.List.{AllByRecursion}
 use Rattle.std.specs.Ordering.{MatchOrdering, ordering_then, int_cmp, nat_cmp}
 use Rattle.std.specs.declared.cmp.Ordering.{Ordering}
 use Rattle.std.specs.declared.cmp.Ordering.TheVariants.{Less, Equal, Greater}
 use Rattle.liq_types.specs.Ranked.{rank_order}
 use Rattle.liq_guide.specs.declared.longs.Long.{Long}
-use Rattle.liq_guide.specs.declared.shorts.Short.{Short}
-use Rattle.liq_guide.specs.Places.{IsHalved, ranked_long, ranked_short}
-
--- ---- in halves
+use Rattle.liq_guide.specs.Places.{IsHalved, ranked_long}
 
 -- the order that `Long` derives
 abbrev pub halved_order : Long → Long → Ordering
@@ -53,20 +49,3 @@ pub long_order : (a b : Long) → IsHalved a → IsHalved b → halved_order a b
 long_order a b below beneath =
     then_then (int_cmp a.high b.high) (nat_cmp a.low b.low) (nat_cmp a.account b.account)
     ∙ ap (λ o. ordering_then o (nat_cmp a.account b.account)) (key_order a.high b.high a.low b.low below beneath)
-
--- ---- in one
-
--- the order that `Short` derives
-abbrev pub narrow_order : Short → Short → Ordering
-narrow_order a b = ordering_then (int_cmp a.key b.key) (nat_cmp a.account b.account)
-
--- each is fine
-abbrev pub AnyShort : Short → Type 0
-AnyShort e = Unit {0}
-
-pub short_order : (a b : Short) → AnyShort a → AnyShort b → narrow_order a b ≡ rank_order (ranked_short a) (ranked_short b)
-short_order a b h k = refl
-
-pub all_short : (es : List Short) → AllByRecursion AnyShort es
-all_short [] = tt
-all_short (e ∷ es) = (tt, all_short es)

@@ -7,8 +7,9 @@ use Rattle.std.proofs.lemmas.Cmp.{tied_itself}
 use Rattle.std.proofs.lemmas.Map.Lookups.{exact_signed}
 use Rattle.liq_types.proofs.RankedLists.{rank_total}
 use Rattle.liq_types.specs.Ranked.{Ranked, rank_order, IsAscending}
+use Rattle.liq_chunks.proofs.Lists.{is_tied, same_entry}
 use Rattle.liq_guide.specs.Rows.{is_in, is_key, Follows, Holds}
-use Rattle.liq_guide.proofs.Members.{is_tied, same_entry, same_list}
+use Rattle.liq_guide.proofs.Members.{same_list}
 
 pub key_is : (o : Option ℤ) (key : ℤ) → is_key o key ≡ true → o ≡ Some key
 key_is None key h = cc

@@ -4,7 +4,7 @@ pub mod Halves
 pub mod Holding
 pub mod Members
 pub mod Parts
-pub mod Entering
+pub mod Shifting
 pub mod Standing
 pub mod Stands
 pub mod Stored

@@ -1,24 +1,20 @@
--- Ranked lists that lie one behind the other: what an entry makes of them that comes or leaves, and what stands beside it.
-use Rattle.std.proofs.Common.{◌≡◌, Bool, true, false, cond, List, [], ◌∷◌, ◌++◌, refl, sym, ap, ◌∙◌, arith, Some, None, Option}
+-- The three parts of the entries make one list: what an entry makes of it that comes or leaves, and what stands beside one.
+use Rattle.std.proofs.Common.{◌≡◌, List, [], ◌∷◌, ◌++◌, refl, sym, ap, ◌∙◌, arith, Some, None, Option}
 use Rattle.std.proofs.lemmas.Cmp.{int_ranked}
 use Rattle.std.proofs.lemmas.Int.{ints}
-use Rattle.std.proofs.lemmas.List.{reverse-append, append_assoc}
-use Rattle.std.proofs.lemmas.List.Elements.{filter-append, All-append, All-from_recursion, All-weaker, recursion_from_All}
-use Rattle.std.specs.Prelude.{◌<ℤ◌, ◌≢◌, not, reverse, filter}
+use Rattle.std.proofs.lemmas.List.{append_assoc}
+use Rattle.std.proofs.lemmas.List.Elements.{All-append, All-from_recursion, recursion_from_All}
+use Rattle.std.specs.Prelude.{◌<ℤ◌, ◌≢◌, not, reverse}
 use Rattle.std.specs.List.{AllByRecursion}
 use Rattle.std.specs.Option.{option_or}
-use Rattle.std.specs.Ordering.{MatchOrdering, match_ordering, nat_cmp, int_cmp, is_eq, is_lt, ordering_then, ordering_reverse}
+use Rattle.std.specs.Ordering.{MatchOrdering, nat_cmp, int_cmp, is_eq, ordering_then}
 use Rattle.std.specs.declared.cmp.Ordering.{Ordering}
 use Rattle.std.specs.declared.cmp.Ordering.TheVariants.{Less, Equal, Greater}
-use Rattle.liq_types.specs.Ranked.{Ranked, rank_order, IsAscending, first_of, before_entry, after_entry}
-use Rattle.liq_types.proofs.RankedLists.{rank_total, Behind, all_kept}
-use Rattle.liq_guide.specs.Places.{with_entry, without_entry, IsBelow, IsBetween, IsAbove, AreParted}
-use Rattle.liq_guide.specs.Sides.{entry_before, entry_after}
-use Rattle.liq_guide.proofs.Entering.{left_behind}
-
--- all of a list come before an entry
-abbrev pub Ahead : Ranked → List Ranked → Type 0
-Ahead e list = AllByRecursion (λ (f : Ranked). rank_order f e ≡ Less) list
+use Rattle.liq_types.specs.Ranked.{Ranked, rank_order, IsAscending, first_of}
+use Rattle.liq_types.proofs.RankedLists.{Behind, all_kept}
+use Rattle.liq_chunks.proofs.Lists.{Ahead, after_ahead, after_past, before_ahead, before_past, each, entered_ahead, entered_past, left_ahead, left_ascending, left_past}
+use Rattle.liq_guide.specs.Places.{IsBelow, IsBetween, IsAbove, AreParted}
+use Rattle.liq_chunks.specs.Entries.{with_entry, without_entry, entry_before, entry_after}
 
 -- ---- by their keys
 
@@ -29,9 +25,6 @@ lower_key e f h = ap (λ o. ordering_then o (nat_cmp e.1 f.1)) (lower (int_cmp e
   lower Less k = refl
   lower Equal k = absurd (omega (arith, ints, h, k))
   lower Greater k = absurd (omega (arith, ints, h, k))
-
-pub each : (P Q : Ranked → Type 0) → ((f : Ranked) → P f → Q f) → (list : List Ranked) → AllByRecursion P list → AllByRecursion Q list
-each P Q so list h = recursion_from_All Q list (All-weaker P Q so list (All-from_recursion P list h))
 
 pub ahead_of_between : (e : Ranked) (list : List Ranked) → IsBetween e → AllByRecursion IsBelow list → Ahead e list
 ahead_of_between e list is h =
@@ -84,98 +77,12 @@ shorts_apart xs above h high = each IsBetween (λ (x : Ranked). Behind x above) 
 
 -- ---- an entry comes in
 
-turned : (e f : Ranked) (o : Ordering) → rank_order f e ≡ o → rank_order e f ≡ ordering_reverse o
-turned e f o h = rank_total.antisymm e f ∙ ap ordering_reverse h
-
-pub entered_past : (xs ys : List Ranked) (e : Ranked) → Ahead e xs → with_entry (xs ++ ys) e ≡ xs ++ with_entry ys e
-entered_past [] ys e h = refl
-entered_past (x ∷ xs) ys e h =
-    ap (λ o. match_ordering o (e ∷ x ∷ (xs ++ ys)) (x ∷ (xs ++ ys)) (x ∷ with_entry (xs ++ ys) e)) (turned e x Less h.0)
-    ∙ ap (λ (l : List Ranked). x ∷ l) (entered_past xs ys e h.1)
-
-pub entered_ahead : (xs ys : List Ranked) (e : Ranked) → Behind e ys → with_entry (xs ++ ys) e ≡ with_entry xs e ++ ys
-entered_ahead [] [] e h = refl
-entered_ahead [] (y ∷ ys) e h = ap (λ o. match_ordering o (e ∷ y ∷ ys) (y ∷ ys) (y ∷ with_entry ys e)) h.0
-entered_ahead (x ∷ xs) ys e h = by (rank_order e x) (entered_ahead xs ys e h) where
-  by : (o : Ordering) → with_entry (xs ++ ys) e ≡ with_entry xs e ++ ys → match_ordering o (e ∷ x ∷ (xs ++ ys)) (x ∷ (xs ++ ys)) (x ∷ with_entry (xs ++ ys) e) ≡ match_ordering o (e ∷ x ∷ xs) (x ∷ xs) (x ∷ with_entry xs e) ++ ys
-  by Less more = refl
-  by Equal more = refl
-  by Greater more = ap (λ (l : List Ranked). x ∷ l) more
-
 -- ---- an entry leaves
 
 pub all_left : (P : Ranked → Type 0) (list : List Ranked) (e : Ranked) → AllByRecursion P list → AllByRecursion P (without_entry list e)
 all_left P list e h = all_kept P (λ (f : Ranked). not (is_eq (rank_order e f))) list h
 
-left_before : (xs : List Ranked) (e : Ranked) → Ahead e xs → without_entry xs e ≡ xs
-left_before [] e h = refl
-left_before (f ∷ fs) e h =
-    ap (λ o. cond (not (is_eq o)) (f ∷ without_entry fs e) (without_entry fs e)) (turned e f Less h.0)
-    ∙ ap (λ (l : List Ranked). f ∷ l) (left_before fs e h.1)
-
-pub left_past : (xs ys : List Ranked) (e : Ranked) → Ahead e xs → without_entry (xs ++ ys) e ≡ xs ++ without_entry ys e
-left_past xs ys e h =
-    filter-append (λ (f : Ranked). not (is_eq (rank_order e f))) xs ys
-    ∙ ap (λ (l : List Ranked). l ++ without_entry ys e) (left_before xs e h)
-
-pub left_ahead : (xs ys : List Ranked) (e : Ranked) → Behind e ys → without_entry (xs ++ ys) e ≡ without_entry xs e ++ ys
-left_ahead xs ys e h =
-    filter-append (λ (f : Ranked). not (is_eq (rank_order e f))) xs ys
-    ∙ ap (λ (l : List Ranked). without_entry xs e ++ l) (left_behind ys e h)
-
 -- ---- what stands beside an entry
-
-pub first_appended : (xs ys : List Ranked) → first_of (xs ++ ys) ≡ option_or (first_of xs) (first_of ys)
-first_appended [] ys = refl
-first_appended (x ∷ xs) ys = refl
-
-pub last_appended : (xs ys : List Ranked) → first_of (reverse (xs ++ ys)) ≡ option_or (first_of (reverse ys)) (first_of (reverse xs))
-last_appended xs ys =
-    ap (λ (l : List Ranked). first_of l) (reverse-append xs ys) ∙ first_appended (reverse ys) (reverse xs)
-
-pub all_pass : (q : Ranked → Bool) (list : List Ranked) → AllByRecursion (λ f. q f ≡ true) list → filter q list ≡ list
-all_pass q [] h = refl
-all_pass q (g ∷ gs) h =
-    ap (λ b. cond b (g ∷ filter q gs) (filter q gs)) h.0 ∙ ap (λ (l : List Ranked). g ∷ l) (all_pass q gs h.1)
-
-none_pass : (q : Ranked → Bool) (list : List Ranked) → AllByRecursion (λ f. q f ≡ false) list → filter q list ≡ []
-none_pass q [] h = refl
-none_pass q (g ∷ gs) h = ap (λ b. cond b (g ∷ filter q gs) (filter q gs)) h.0 ∙ none_pass q gs h.1
-
-whole_before : (xs : List Ranked) (e : Ranked) → Ahead e xs → before_entry xs e ≡ xs
-whole_before xs e h =
-    all_pass (λ (f : Ranked). is_lt (rank_order f e)) xs (each (λ (f : Ranked). rank_order f e ≡ Less) (λ (f : Ranked). is_lt (rank_order f e) ≡ true) (λ f k. ap is_lt k) xs h)
-
-pub nothing_before : (ys : List Ranked) (e : Ranked) → Behind e ys → before_entry ys e ≡ []
-nothing_before ys e h =
-    none_pass (λ (f : Ranked). is_lt (rank_order f e)) ys (each (λ (f : Ranked). rank_order e f ≡ Less) (λ (f : Ranked). is_lt (rank_order f e) ≡ false) (λ f k. ap is_lt (turned f e Less k)) ys h)
-
-pub whole_after : (ys : List Ranked) (e : Ranked) → Behind e ys → after_entry ys e ≡ ys
-whole_after ys e h =
-    all_pass (λ (f : Ranked). is_lt (rank_order e f)) ys (each (λ (f : Ranked). rank_order e f ≡ Less) (λ (f : Ranked). is_lt (rank_order e f) ≡ true) (λ f k. ap is_lt k) ys h)
-
-nothing_after : (xs : List Ranked) (e : Ranked) → Ahead e xs → after_entry xs e ≡ []
-nothing_after xs e h =
-    none_pass (λ (f : Ranked). is_lt (rank_order e f)) xs (each (λ (f : Ranked). rank_order f e ≡ Less) (λ (f : Ranked). is_lt (rank_order e f) ≡ false) (λ f k. ap is_lt (turned e f Less k)) xs h)
-
-pub before_past : (xs ys : List Ranked) (e : Ranked) → Ahead e xs → entry_before (xs ++ ys) e ≡ option_or (entry_before ys e) (first_of (reverse xs))
-before_past xs ys e h =
-    ap (λ (l : List Ranked). first_of (reverse l)) (filter-append (λ (f : Ranked). is_lt (rank_order f e)) xs ys ∙ ap (λ (l : List Ranked). l ++ before_entry ys e) (whole_before xs e h))
-    ∙ last_appended xs (before_entry ys e)
-
-pub before_ahead : (xs ys : List Ranked) (e : Ranked) → Behind e ys → entry_before (xs ++ ys) e ≡ entry_before xs e
-before_ahead xs ys e h =
-    ap (λ (l : List Ranked). first_of (reverse l)) (filter-append (λ (f : Ranked). is_lt (rank_order f e)) xs ys ∙ ap (λ (l : List Ranked). before_entry xs e ++ l) (nothing_before ys e h))
-    ∙ last_appended (before_entry xs e) []
-
-pub after_past : (xs ys : List Ranked) (e : Ranked) → Ahead e xs → entry_after (xs ++ ys) e ≡ entry_after ys e
-after_past xs ys e h =
-    ap (λ (l : List Ranked). first_of l) (filter-append (λ (f : Ranked). is_lt (rank_order e f)) xs ys ∙ ap (λ (l : List Ranked). l ++ after_entry ys e) (nothing_after xs e h))
-
-pub after_ahead : (xs ys : List Ranked) (e : Ranked) → Behind e ys → entry_after (xs ++ ys) e ≡ option_or (entry_after xs e) (first_of ys)
-after_ahead xs ys e h =
-    ap (λ (l : List Ranked). first_of l) (filter-append (λ (f : Ranked). is_lt (rank_order e f)) xs ys ∙ ap (λ (l : List Ranked). after_entry xs e ++ l) (whole_after ys e h))
-    ∙ first_appended (after_entry xs e) ys
 
 -- ---- three parts
 
@@ -209,6 +116,17 @@ module _ (below shorts above : List Ranked) (p : AreParted below shorts above) w
     shorts_left is =
         left_past below (shorts ++ above) e (ahead_of_between e below is p.all_below)
         ∙ ap (λ (l : List Ranked). below ++ l) (left_ahead shorts above e (behind_between e above is p.all_above))
+
+    pub shorts_without : AreParted below (without_entry shorts e) above
+    shorts_without =
+        record {
+          below_ascend = p.below_ascend;
+          shorts_ascend = left_ascending shorts e p.shorts_ascend;
+          above_ascend = p.above_ascend;
+          all_below = p.all_below;
+          all_short = all_left IsBetween shorts e p.all_short;
+          all_above = p.all_above;
+        }
 
     pub above_left : IsAbove e → without_entry (below ++ (shorts ++ above)) e ≡ below ++ (shorts ++ without_entry above e)
     above_left is =

@@ -8,9 +8,9 @@ use Rattle.std.proofs.lemmas.Bool.{eqb-true, eq-eqb}
 use Rattle.std.proofs.lemmas.Cmp.{int_cmp_total, tied_itself}
 use Rattle.liq_types.proofs.RankedLists.{rank_total, Behind}
 use Rattle.liq_types.specs.Ranked.{Ranked, rank_order, IsAscending, key_in}
+use Rattle.liq_chunks.proofs.Lists.{same_entry}
 use Rattle.liq_guide.specs.Rows.{is_in, is_key, Follows, StandOnce}
 use Rattle.liq_guide.proofs.Holding.{key_is}
-use Rattle.liq_guide.proofs.Members.{same_entry}
 
 -- ---- no account twice
 

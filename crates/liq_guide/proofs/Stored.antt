@@ -15,9 +15,8 @@ use Rattle.std.specs.declared.cmp.Ordering.{Ordering}
 use Rattle.std.specs.declared.cmp.Ordering.TheVariants.{Less, Equal, Greater}
 use Rattle.liq_types.specs.Ranked.{Ranked, rank_order, IsAscending, first_of}
 use Rattle.liq_types.proofs.RankedLists.{rank_total, Behind}
-use Rattle.liq_guide.specs.Places.{with_entry, without_entry}
-use Rattle.liq_guide.specs.Sides.{entry_before, entry_after}
-use Rattle.liq_guide.proofs.Entering.{left_first}
+use Rattle.liq_chunks.specs.Entries.{with_entry, without_entry, entry_before, entry_after}
+use Rattle.liq_chunks.proofs.Lists.{left_first}
 
 -- an order of stored entries that is, for those that are fine, the one of what they stand for
 module _ {E : Type 0} (order : E → E → Ordering) (ranked : E → Ranked) (Fine : E → Type 0)

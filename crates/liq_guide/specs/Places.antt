@@ -1,27 +1,12 @@
 -- Entries in order, each as it is stored, and the three parts that they are kept in.
-use Rattle.std.specs.Prelude.{◌≡◌, ◌<◌, ◌^◌, pos, neg_ℤ, ◌+ℤ◌, ◌*ℤ◌, ◌<ℤ◌, ◌≤ℤ◌, List, filter, not}
-use Rattle.std.specs.BTreeSet.{insert_key}
+use Rattle.std.specs.Prelude.{◌≡◌, ◌<◌, ◌^◌, pos, neg_ℤ, ◌+ℤ◌, ◌*ℤ◌, ◌<ℤ◌, ◌≤ℤ◌, List}
 use Rattle.std.specs.List.{AllByRecursion}
-use Rattle.std.specs.Ordering.{is_eq}
-use Rattle.liq_types.specs.Ranked.{Ranked, rank_order, IsAscending}
+use Rattle.liq_types.specs.Ranked.{Ranked, IsAscending}
 use Rattle.liq_guide.specs.declared.longs.Long.{Long}
-use Rattle.liq_guide.specs.declared.shorts.Short.{Short}
 use Rattle.liq_guide.specs.declared.places.Part.{Part}
 use Rattle.liq_guide.specs.declared.places.Part.TheVariants as part
 
--- ascending entries with one more, which may be there
-abbrev pub with_entry : List Ranked → Ranked → List Ranked
-with_entry list e = insert_key rank_order list e
-
--- entries without one
-abbrev pub without_entry : List Ranked → Ranked → List Ranked
-without_entry list e = filter (λ (f : Ranked). not (is_eq (rank_order e f))) list
-
 -- ---- as they are stored
-
--- what an entry stands for whose key fits an i64
-abbrev pub ranked_short : Short → Ranked
-ranked_short e = (e.key, e.account)
 
 -- what an entry stands for whose key is in two halves
 abbrev pub ranked_long : Long → Ranked
@@ -51,7 +36,7 @@ IsAbove e = pos (2 ^ 63) ≤ℤ e.0
 -- where an entry is kept
 abbrev pub IsPartOf : Ranked → Part → Type 0
 IsPartOf e part.Below = IsBelow e
-IsPartOf e (part.Short short) = (ranked_short short ≡ e) × IsBetween e
+IsPartOf e (part.Short short) = (short ≡ e) × IsBetween e
 IsPartOf e part.Above = IsAbove e
 
 -- three ascending parts, each of its own keys

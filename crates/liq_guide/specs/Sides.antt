@@ -1,16 +1,11 @@
 -- What stands on either side of a place in the ordered list.
-use Rattle.std.specs.Prelude.{◌==◌, ℕ, List, reverse, Option, Some, None, if◌then◌else◌}
-use Rattle.liq_types.specs.Ranked.{Ranked, first_of, account_of, without_ranked, before_entry, after_entry}
+use Rattle.std.specs.Prelude.{◌==◌, ℕ, List, Option, Some, None, if◌then◌else◌}
+use Rattle.liq_types.specs.Ranked.{Ranked, account_of, without_ranked}
+use Rattle.liq_chunks.specs.Entries.{entry_before, entry_after}
 use Rattle.liq_guide.specs.declared.sides.Side.{Side}
 use Rattle.liq_guide.specs.declared.sides.Side.TheVariants.{Before, After}
 
--- the entry next before a place, and the one next after it
-abbrev pub entry_before : List Ranked → Ranked → Option Ranked
-entry_before list e = first_of (reverse (before_entry list e))
-
-abbrev pub entry_after : List Ranked → Ranked → Option Ranked
-entry_after list e = first_of (after_entry list e)
-
+-- the entry next before a place or next after it
 abbrev pub entry_beside : Side → List Ranked → Ranked → Option Ranked
 entry_beside Before list e = entry_before list e
 entry_beside After list e = entry_after list e

@@ -46,6 +46,9 @@ impl Guide {
         ensures list { OnOk result ((v : View) → v.list ≡ self.old → self.new ≡ (all_followed v changes.now).list) }
         ensures err { OnErr result (self.new ≡ self.old) }
     {
+        if self.rows.shift(changes) {
+            return Ok(());
+        }
         let ready = self.rows.prepare(changes);
         self.rows.settle(changes, ready.is_ok());
         ready

@@ -5,7 +5,6 @@ mod guide;
 mod longs;
 mod places;
 mod rows;
-mod shorts;
 mod sides;
 
 pub use guide::{Guide, last_put};

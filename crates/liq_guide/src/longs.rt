@@ -1,8 +1,8 @@
 // Entries of the ordered list, of any keys.
 ghost use Rattle.std.specs.Prelude.{◌≡◌, ◌<◌, ◌^◌, [], ℤ, ◌<ℤ◌, IfSome, reverse, option_map, OnOk, OnErr};
 ghost use Rattle.liq_types.specs.Ranked.{IsAscending, first_of};
-ghost use Rattle.liq_guide.specs.Places.{with_entry, without_entry, ranked_long};
-ghost use Rattle.liq_guide.specs.Sides.{entry_before, entry_after};
+ghost use Rattle.liq_chunks.specs.Entries.{with_entry, without_entry, entry_before, entry_after};
+ghost use Rattle.liq_guide.specs.Places.{ranked_long};
 
 use crate::places::Place;
 use liq_types::NoMemory;

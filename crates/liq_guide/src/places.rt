@@ -1,11 +1,12 @@
 // The entries of the ordered list.
-ghost use Rattle.std.specs.Prelude.{◌≡◌, [], ◌++◌, reverse, ℤ, ◌<ℤ◌, IfSome, OnOk, OnErr};
+ghost use Rattle.std.specs.Prelude.{◌≡◌, [], ◌++◌, reverse, true, false, ℤ, ◌<ℤ◌, IfSome, OnOk, OnErr};
+ghost use Rattle.std.specs.Option.{option_or};
 ghost use Rattle.liq_types.specs.Ranked.{IsAscending, first_of};
-ghost use Rattle.liq_guide.specs.Places.{with_entry, without_entry, IsPartOf};
-ghost use Rattle.liq_guide.specs.Sides.{entry_before, entry_after};
+ghost use Rattle.liq_chunks.specs.Entries.{with_entry, without_entry, entry_before, entry_after};
+ghost use Rattle.liq_guide.specs.Places.{IsPartOf};
 
 use crate::longs::Longs;
-use crate::shorts::{Short, Shorts};
+use liq_chunks::{Chunks, Entry};
 use liq_types::NoMemory;
 use std::alloc::Global;
 use std::marker::Model;
@@ -14,9 +15,10 @@ use std::marker::Model;
 pub(crate) type Place = (i128, u32);
 
 // Where an entry is kept.
+#[derive(Clone, Copy)]
 enum Part {
     Below,
-    Short(Short),
+    Short(Entry),
     Above,
 }
 
@@ -26,7 +28,7 @@ enum Part {
 pub(crate) struct Places {
     // Those whose keys are below all that an i64 can be.
     below: Longs,
-    shorts: Shorts,
+    shorts: Chunks,
     // Those whose keys are above.
     above: Longs,
 }
@@ -50,7 +52,7 @@ impl Places {
     {
         Places {
             below: Longs::new(alloc),
-            shorts: Shorts::new(alloc),
+            shorts: Chunks::new(alloc),
             above: Longs::new(alloc),
         }
     }
@@ -80,37 +82,40 @@ impl Places {
         }
     }
 
-    // The entry next before a place.
-    pub(crate) fn before(&self, place: Place) -> Option<Place>
-        ensures { result ≡ entry_before self.now place }
+    // Puts an entry in another's place, where that takes no memory and both are short. Tells whether it did.
+    pub(crate) fn shift(&mut self, from: Place, to: Place) -> bool
+        ensures ascending { IsAscending self.new }
+        ensures shifted { result ≡ true → self.new ≡ with_entry (without_entry self.old from) to }
+        ensures stays { result ≡ false → self.new ≡ self.old }
     {
-        match part_of(place) {
-            Part::Below => self.below.before(place),
-            Part::Short(entry) => match self.shorts.before(entry) {
-                None => self.below.last(),
-                found => found,
-            },
-            Part::Above => match self.above.before(place) {
-                None => last_not_above(&self.below, &self.shorts),
-                found => found,
-            },
+        match (part_of(from), part_of(to)) {
+            (Part::Short(from), Part::Short(to)) => self.shorts.shift(from, to),
+            _ => false,
         }
     }
 
-    // The entry next after a place.
-    pub(crate) fn after(&self, place: Place) -> Option<Place>
-        ensures { result ≡ entry_after self.now place }
+    // The entries next before a place and next after it.
+    pub(crate) fn beside(&self, place: Place) -> (Option<Place>, Option<Place>)
+        ensures { result ≡ (entry_before self.now place, entry_after self.now place) }
     {
+        let Places {
+            below,
+            shorts,
+            above,
+        } = self;
         match part_of(place) {
-            Part::Below => match self.below.after(place) {
-                None => first_not_below(&self.shorts, &self.above),
-                found => found,
-            },
-            Part::Short(entry) => match self.shorts.after(entry) {
-                None => self.above.first(),
-                found => found,
-            },
-            Part::Above => self.above.after(place),
+            Part::Below => (
+                below.before(place),
+                or_first_not_below(below.after(place), shorts, above),
+            ),
+            Part::Short(entry) => {
+                let (before, after) = shorts.beside(entry);
+                (or_last_below(before, below), or_first_above(after, above))
+            }
+            Part::Above => (
+                or_last_not_above(above.before(place), below, shorts),
+                above.after(place),
+            ),
         }
     }
 
@@ -119,31 +124,49 @@ impl Places {
         ensures first { result ≡ first_of self.now }
         ensures least { (key : ℤ) → key <ℤ i128.MIN → IfSome result (λ e. key <ℤ e.0) }
     {
-        match self.below.first() {
-            None => first_not_below(&self.shorts, &self.above),
-            found => found,
-        }
+        or_first_not_below(self.below.first(), &self.shorts, &self.above)
     }
 }
 
-// The first of all whose keys are not below.
-fn first_not_below(shorts: &Shorts, above: &Longs) -> Option<Place>
-    ensures first { result ≡ first_of (shorts.now ++ above.now) }
+// An entry, or where there is none the first whose key is not below.
+fn or_first_not_below(found: Option<Place>, shorts: &Chunks, above: &Longs) -> Option<Place>
+    ensures first { result ≡ option_or found (first_of (shorts.now ++ above.now)) }
+    ensures least { (key : ℤ) → key <ℤ i128.MIN → IfSome found (λ e. key <ℤ e.0) → IfSome result (λ e. key <ℤ e.0) }
+{
+    match found {
+        None => or_first_above(shorts.first(), above),
+        found => found,
+    }
+}
+
+// A short entry, or where there is none the first whose key is above.
+fn or_first_above(found: Option<Entry>, above: &Longs) -> Option<Place>
+    ensures first { result ≡ option_or found (first_of above.now) }
     ensures least { (key : ℤ) → key <ℤ i128.MIN → IfSome result (λ e. key <ℤ e.0) }
 {
-    match shorts.first() {
+    match found {
+        Some((key, account)) => Some((i128::from(key), account)),
         None => above.first(),
+    }
+}
+
+// An entry, or where there is none the last whose key is not above.
+fn or_last_not_above(found: Option<Place>, below: &Longs, shorts: &Chunks) -> Option<Place>
+    ensures { result ≡ option_or found (first_of (reverse (below.now ++ shorts.now))) }
+{
+    match found {
+        None => or_last_below(shorts.last(), below),
         found => found,
     }
 }
 
-// The last of all whose keys are not above.
-fn last_not_above(below: &Longs, shorts: &Shorts) -> Option<Place>
-    ensures { result ≡ first_of (reverse (below.now ++ shorts.now)) }
+// A short entry, or where there is none the last whose key is below.
+fn or_last_below(found: Option<Entry>, below: &Longs) -> Option<Place>
+    ensures { result ≡ option_or found (first_of (reverse below.now)) }
 {
-    match shorts.last() {
+    match found {
+        Some((key, account)) => Some((i128::from(key), account)),
         None => below.last(),
-        found => found,
     }
 }
 
@@ -153,7 +176,7 @@ fn part_of(place: Place) -> Part
 {
     let (key, account) = place;
     match i64::try_from(key) {
-        Ok(key) => Part::Short(Short { key, account }),
+        Ok(key) => Part::Short((key, account)),
         Err(_) if key < 0 => Part::Below,
         Err(_) => Part::Above,
     }

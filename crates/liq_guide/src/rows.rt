@@ -22,6 +22,13 @@ pub(crate) struct Stand {
 }
 
 impl Stand {
+    // Where an account stands that no change moves.
+    fn settled(key: Option<i128>) -> Stand
+        ensures { result ≡ record { key = key; next = key } }
+    {
+        Stand { key, next: key }
+    }
+
     // The key that is kept and the one that is given up, where the changes are made and where they are not.
     fn sides(self, made: bool) -> (Option<i128>, Option<i128>)
         ensures { result ≡ (if made then (self.next, self.key) else (self.key, self.next)) }
@@ -91,6 +98,38 @@ impl Rows {
         ensures stands { (a : ℕ) → stand_at self.new.stands.rows a ≡ (if a == account then stand else stand_at self.old.stands.rows a) }
     {
         let _ = self.stands.write(account, stand);
+    }
+
+    // Follows a change that gives one account another key, where its entry moves without memory. Tells whether it did.
+    pub(crate) fn shift(&mut self, changes: &[ListChange]) -> bool
+        ensures shifted { result ≡ true → Follows (key_at self.old.stands.rows) self.old.places
+            → Follows (key_at self.new.stands.rows) self.new.places × (self.new.places ≡ all_listed self.old.places changes.now) }
+        ensures settled { AreSettledBeside self.old.stands.rows [] → AreSettledBeside self.new.stands.rows [] }
+        ensures stays { result ≡ false → (self.new.places ≡ self.old.places) × (self.new.stands.rows ≡ self.old.stands.rows) }
+    {
+        match changes {
+            [change] => self.shift_one(change),
+            _ => false,
+        }
+    }
+
+    fn shift_one(&mut self, change: &ListChange) -> bool
+        ensures shifted { result ≡ true → Follows (key_at self.old.stands.rows) self.old.places
+            → Follows (key_at self.new.stands.rows) self.new.places × (self.new.places ≡ listed self.old.places change.now) }
+        ensures settled { AreSettledBeside self.old.stands.rows [] → AreSettledBeside self.new.stands.rows [] }
+        ensures stays { result ≡ false → (self.new.places ≡ self.old.places) × (self.new.stands.rows ≡ self.old.stands.rows) }
+    {
+        let ListChange::Put { key, account } = *change else {
+            return false;
+        };
+        let Some(stood) = self.stand(account).key else {
+            return false;
+        };
+        if !self.places.shift((stood, account), (key, account)) {
+            return false;
+        }
+        self.set(account, Stand::settled(Some(key)));
+        true
     }
 
     // Makes ready for changes: notes where each account will stand, and puts in the entries that will. None is taken out.
@@ -202,11 +241,7 @@ impl Rows {
             return;
         }
         self.clear(account, goes);
-        let settled = Stand {
-            key: stays,
-            next: stays,
-        };
-        self.set(account, settled);
+        self.set(account, Stand::settled(stays));
     }
 
     // Takes out the entry of an account under a key, if there is a key.

@@ -20,8 +20,7 @@ pub(crate) fn accounts_aside(places: &Places, place: Place) -> (Option<u32>, Opt
     requires once { StandOnce places.now }
     ensures { result ≡ (account_aside Before places.now place, account_aside After places.now place) }
 {
-    let before = places.before(place);
-    let after = places.after(place);
+    let (before, after) = places.beside(place);
     (
         past_own(places, before, place.1, Side::Before),
         past_own(places, after, place.1, Side::After),
@@ -51,9 +50,10 @@ fn past_own(places: &Places, found: Option<Place>, own: u32, side: Side) -> Opti
 fn entry_beside(places: &Places, place: Place, side: Side) -> Option<Place>
     ensures { result ≡ entry_beside side places.now place }
 {
+    let (before, after) = places.beside(place);
     match side {
-        Side::Before => places.before(place),
-        Side::After => places.after(place),
+        Side::Before => before,
+        Side::After => after,
     }
 }
 

@@ -3,7 +3,7 @@ use Rattle.std.specs.Prelude.{List, option_map}
 use Rattle.liq_types.specs.Ranked.{Ranked}
 use Rattle.liq_guide.specs.declared.longs.Long.{Long}
 use Rattle.liq_guide.specs.Places.{ranked_long, IsHalved}
-use Rattle.liq_guide.specs.Sides.{entry_before}
+use Rattle.liq_chunks.specs.Entries.{entry_before}
 use Rattle.liq_guide.proofs.Halves.{halved_order, long_order}
 use Rattle.liq_guide.proofs.Stored.{before_is}
 use Rattle.liq_guide.proofs.longs.Longs.before.Goals as goal

@@ -2,7 +2,8 @@ use Rattle.std.proofs.Common.{sym, ap, ◌∙◌, subst, map}
 use Rattle.std.specs.Prelude.{List}
 use Rattle.liq_types.specs.Ranked.{Ranked}
 use Rattle.liq_guide.specs.declared.longs.Long.{Long}
-use Rattle.liq_guide.specs.Places.{with_entry, ranked_long, AreHalved, IsHalved}
+use Rattle.liq_guide.specs.Places.{ranked_long, AreHalved, IsHalved}
+use Rattle.liq_chunks.specs.Entries.{with_entry}
 use Rattle.liq_guide.proofs.Halves.{halved_order, long_order}
 use Rattle.liq_guide.proofs.Stored.{fine_inserted, inserted_is, stored_ascending}
 use Rattle.liq_guide.proofs.longs.Longs.insert.Goals as goal

@@ -3,7 +3,8 @@ use Rattle.std.specs.Prelude.{List}
 use Rattle.std.specs.BTreeMap.{is_at}
 use Rattle.liq_types.specs.Ranked.{Ranked}
 use Rattle.liq_guide.specs.declared.longs.Long.{Long}
-use Rattle.liq_guide.specs.Places.{without_entry, ranked_long, AreHalved, IsHalved}
+use Rattle.liq_guide.specs.Places.{ranked_long, AreHalved, IsHalved}
+use Rattle.liq_chunks.specs.Entries.{without_entry}
 use Rattle.liq_guide.proofs.Halves.{halved_order, long_order}
 use Rattle.liq_guide.proofs.Stored.{fine_removed, removed_is, stored_ascending}
 use Rattle.liq_guide.proofs.longs.Longs.remove.Goals as goal

@@ -1,8 +1,9 @@
 use Rattle.std.proofs.Common.{◌≡◌, List, ◌++◌, sym, ap, ◌∙◌, subst}
 use Rattle.std.specs.List.{AllByRecursion}
 use Rattle.liq_types.specs.Ranked.{Ranked}
-use Rattle.liq_guide.specs.Places.{with_entry, ranked_short, IsPartOf, IsBelow, IsBetween, IsAbove}
-use Rattle.liq_guide.proofs.Entering.{all_entered, either, on_ok}
+use Rattle.liq_chunks.proofs.Lists.{all_entered, either, on_ok}
+use Rattle.liq_guide.specs.Places.{IsPartOf, IsBelow, IsBetween, IsAbove}
+use Rattle.liq_chunks.specs.Entries.{with_entry}
 use Rattle.liq_guide.proofs.Parts.{parts_ascend, below_entered, shorts_entered, above_entered}
 use Rattle.liq_guide.proofs.places.Places.insert.Goals as goal
 
@@ -26,10 +27,10 @@ pub returns-in-Below-clause-entered : goal.returns-in-Below-clause-entered
 returns-in-Below-clause-entered c =
     on_ok c.insert.result (λ is. ap (λ (l : List Ranked). l ++ (c.self.inside.shorts ++ c.self.inside.above)) is ∙ sym (below_entered c.self.inside.below c.self.inside.shorts c.self.inside.above c.self.invariant c.args.place (is_below c)) ∙ ap (λ (l : List Ranked). with_entry l c.args.place) c.self.view_is) c.insert.ensures.entered
 
-is_short : (c : goal.After-insert-in-Short) → (ranked_short c.in-Short.entry ≡ c.args.place) × IsBetween c.args.place
+is_short : (c : goal.After-insert-in-Short) → (c.in-Short.entry ≡ c.args.place) × IsBetween c.args.place
 is_short c = subst (IsPartOf c.args.place) c.in-Short.is c.part_of.ensures
 
-between : (c : goal.After-insert-in-Short) → IsBetween (ranked_short c.in-Short.entry)
+between : (c : goal.After-insert-in-Short) → IsBetween c.in-Short.entry
 between c = subst IsBetween (sym (is_short c).0) (is_short c).1
 
 pub invariant_of-self-in-Short : goal.invariant_of-self-in-Short
@@ -38,7 +39,7 @@ invariant_of-self-in-Short c = record {
   shorts_ascend = c.insert-in-Short.ensures.ascending;
   above_ascend = c.self.invariant.above_ascend;
   all_below = c.self.invariant.all_below;
-  all_short = either (λ (l : List Ranked). AllByRecursion IsBetween l) c.insert-in-Short.result c.self.inside.shorts (with_entry c.self.inside.shorts (ranked_short c.in-Short.entry)) c.insert-in-Short.new.self c.insert-in-Short.ensures.entered c.insert-in-Short.ensures.err c.self.invariant.all_short (all_entered IsBetween c.self.inside.shorts (ranked_short c.in-Short.entry) c.self.invariant.all_short (between c));
+  all_short = either (λ (l : List Ranked). AllByRecursion IsBetween l) c.insert-in-Short.result c.self.inside.shorts (with_entry c.self.inside.shorts c.in-Short.entry) c.insert-in-Short.new.self c.insert-in-Short.ensures.entered c.insert-in-Short.ensures.err c.self.invariant.all_short (all_entered IsBetween c.self.inside.shorts c.in-Short.entry c.self.invariant.all_short (between c));
   all_above = c.self.invariant.all_above;
 }
 
@@ -47,7 +48,7 @@ returns-in-Short-clause-ascending c = parts_ascend (c.self.inside.below) (c.inse
 
 pub returns-in-Short-clause-entered : goal.returns-in-Short-clause-entered
 returns-in-Short-clause-entered c =
-    on_ok c.insert-in-Short.result (λ is. ap (λ (l : List Ranked). c.self.inside.below ++ (l ++ c.self.inside.above)) is ∙ sym (shorts_entered c.self.inside.below c.self.inside.shorts c.self.inside.above c.self.invariant (ranked_short c.in-Short.entry) (between c)) ∙ ap (λ (f : Ranked). with_entry (c.self.inside.below ++ (c.self.inside.shorts ++ c.self.inside.above)) f) (is_short c).0 ∙ ap (λ (l : List Ranked). with_entry l c.args.place) c.self.view_is) c.insert-in-Short.ensures.entered
+    on_ok c.insert-in-Short.result (λ is. ap (λ (l : List Ranked). c.self.inside.below ++ (l ++ c.self.inside.above)) is ∙ sym (shorts_entered c.self.inside.below c.self.inside.shorts c.self.inside.above c.self.invariant c.in-Short.entry (between c)) ∙ ap (λ (f : Ranked). with_entry (c.self.inside.below ++ (c.self.inside.shorts ++ c.self.inside.above)) f) (is_short c).0 ∙ ap (λ (l : List Ranked). with_entry l c.args.place) c.self.view_is) c.insert-in-Short.ensures.entered
 
 is_above : (c : goal.After-insert-in-Above) → IsAbove c.args.place
 is_above c = subst (IsPartOf c.args.place) c.in-Above.is c.part_of.ensures

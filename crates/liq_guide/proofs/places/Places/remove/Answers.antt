@@ -1,7 +1,8 @@
 use Rattle.std.proofs.Common.{◌≡◌, List, ◌++◌, sym, ap, ◌∙◌, subst}
 use Rattle.std.specs.List.{AllByRecursion}
 use Rattle.liq_types.specs.Ranked.{Ranked}
-use Rattle.liq_guide.specs.Places.{without_entry, ranked_short, IsPartOf, IsBelow, IsBetween, IsAbove}
+use Rattle.liq_guide.specs.Places.{IsPartOf, IsBelow, IsBetween, IsAbove}
+use Rattle.liq_chunks.specs.Entries.{without_entry}
 use Rattle.liq_guide.proofs.Parts.{all_left, parts_ascend, below_left, shorts_left, above_left}
 use Rattle.liq_guide.proofs.places.Places.remove.Goals as goal
 
@@ -24,10 +25,10 @@ returns-in-Below-clause-ascending c = parts_ascend (c.remove.new.self) (c.self.i
 pub returns-in-Below-clause-left : goal.returns-in-Below-clause-left
 returns-in-Below-clause-left c = ap (λ (l : List Ranked). l ++ (c.self.inside.shorts ++ c.self.inside.above)) c.remove.ensures.left ∙ sym (below_left c.self.inside.below c.self.inside.shorts c.self.inside.above c.self.invariant c.args.place (is_below c)) ∙ ap (λ (l : List Ranked). without_entry l c.args.place) c.self.view_is
 
-is_short : (c : goal.After-remove-in-Short) → (ranked_short c.in-Short.entry ≡ c.args.place) × IsBetween c.args.place
+is_short : (c : goal.After-remove-in-Short) → (c.in-Short.entry ≡ c.args.place) × IsBetween c.args.place
 is_short c = subst (IsPartOf c.args.place) c.in-Short.is c.part_of.ensures
 
-between : (c : goal.After-remove-in-Short) → IsBetween (ranked_short c.in-Short.entry)
+between : (c : goal.After-remove-in-Short) → IsBetween c.in-Short.entry
 between c = subst IsBetween (sym (is_short c).0) (is_short c).1
 
 pub invariant_of-self-in-Short : goal.invariant_of-self-in-Short
@@ -36,7 +37,7 @@ invariant_of-self-in-Short c = record {
   shorts_ascend = c.remove-in-Short.ensures.ascending;
   above_ascend = c.self.invariant.above_ascend;
   all_below = c.self.invariant.all_below;
-  all_short = subst (λ (l : List Ranked). AllByRecursion IsBetween l) (sym c.remove-in-Short.ensures.left) (all_left IsBetween c.self.inside.shorts (ranked_short c.in-Short.entry) c.self.invariant.all_short);
+  all_short = subst (λ (l : List Ranked). AllByRecursion IsBetween l) (sym c.remove-in-Short.ensures.left) (all_left IsBetween c.self.inside.shorts c.in-Short.entry c.self.invariant.all_short);
   all_above = c.self.invariant.all_above;
 }
 
@@ -44,7 +45,7 @@ pub returns-in-Short-clause-ascending : goal.returns-in-Short-clause-ascending
 returns-in-Short-clause-ascending c = parts_ascend (c.self.inside.below) (c.remove-in-Short.new.self) (c.self.inside.above) (invariant_of-self-in-Short c)
 
 pub returns-in-Short-clause-left : goal.returns-in-Short-clause-left
-returns-in-Short-clause-left c = ap (λ (l : List Ranked). c.self.inside.below ++ (l ++ c.self.inside.above)) c.remove-in-Short.ensures.left ∙ sym (shorts_left c.self.inside.below c.self.inside.shorts c.self.inside.above c.self.invariant (ranked_short c.in-Short.entry) (between c)) ∙ ap (λ (f : Ranked). without_entry (c.self.inside.below ++ (c.self.inside.shorts ++ c.self.inside.above)) f) (is_short c).0 ∙ ap (λ (l : List Ranked). without_entry l c.args.place) c.self.view_is
+returns-in-Short-clause-left c = ap (λ (l : List Ranked). c.self.inside.below ++ (l ++ c.self.inside.above)) c.remove-in-Short.ensures.left ∙ sym (shorts_left c.self.inside.below c.self.inside.shorts c.self.inside.above c.self.invariant c.in-Short.entry (between c)) ∙ ap (λ (f : Ranked). without_entry (c.self.inside.below ++ (c.self.inside.shorts ++ c.self.inside.above)) f) (is_short c).0 ∙ ap (λ (l : List Ranked). without_entry l c.args.place) c.self.view_is
 
 is_above : (c : goal.After-remove-in-Above) → IsAbove c.args.place
 is_above c = subst (IsPartOf c.args.place) c.in-Above.is c.part_of.ensures

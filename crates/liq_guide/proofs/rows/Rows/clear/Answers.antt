@@ -4,7 +4,7 @@ use Rattle.std.specs.Ordering.{is_eq}
 use Rattle.std.specs.Prelude.{unwrap_or}
 use Rattle.liq_types.specs.Ranked.{Ranked, rank_order}
 use Rattle.liq_guide.specs.Rows.{is_in}
-use Rattle.liq_guide.proofs.Entering.{left_is_in}
+use Rattle.liq_guide.proofs.Members.{left_is_in}
 use Rattle.liq_guide.proofs.rows.Rows.clear.Goals as goal
 use mir.Syntax.{w128}
 use mir.Val.{SFits}

@@ -4,12 +4,13 @@ use Rattle.std.proofs.lemmas.Int.{to_z-of_z}
 use Rattle.std.specs.Ordering.{is_eq}
 use Rattle.liq_types.specs.Ranked.{Ranked, rank_order}
 use Rattle.liq_types.proofs.RankedLists.{rank_total}
-use Rattle.liq_guide.specs.Places.{with_entry}
+use Rattle.liq_chunks.specs.Entries.{with_entry}
+use Rattle.liq_chunks.proofs.Lists.{either, entered_ascending, on_ok}
 use Rattle.liq_guide.specs.Rows.{Holds, is_in, is_key, key_at, next_at}
 use Rattle.liq_guide.specs.declared.rows.Stand.{Stand}
 use Rattle.liq_guide.proofs.Holding as holding
 use Rattle.liq_guide.proofs.Holding.{own_entry}
-use Rattle.liq_guide.proofs.Entering.{either, entered_ascending, entered_is_in, on_ok}
+use Rattle.liq_guide.proofs.Members.{entered_is_in}
 use Rattle.liq_guide.proofs.rows.Rows.enter_one.Goals as goal
 use mir.Syntax.{w128}
 use mir.Val.{SFits}

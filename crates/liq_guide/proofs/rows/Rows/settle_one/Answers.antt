@@ -17,7 +17,7 @@ returns-clause-holds c h =
     let goes = c.sides-stays.result.1 in
     let own = sides_are c.args.made c.stand.result c.sides-stays.result c.sides-stays.ensures in
     let sides = subst (λ (s : Stand). (stays ≡ side_of c.args.made s) × (goes ≡ side_of (not c.args.made) s)) c.stand.ensures.stand own in
-    let written : (a : ℕ) → stand_at c.set.new.self.stands.rows a ≡ cond (a == c.args.account) (record { key = stays; next = stays }) (stand_at stands a) = λ a. c.set.ensures.stands a ∙ ap (λ (t : WithRoom Stand). cond (a == c.args.account) (record { key = stays; next = stays }) (stand_at t.rows a)) c.clear.ensures.stands in
+    let written : (a : ℕ) → stand_at c.set.new.self.stands.rows a ≡ cond (a == c.args.account) (record { key = stays; next = stays }) (stand_at stands a) = λ a. c.set.ensures.stands a ∙ ap (λ (s : Stand). cond (a == c.args.account) s (stand_at c.clear.new.self.stands.rows a)) c.settled.ensures ∙ ap (λ (t : WithRoom Stand). cond (a == c.args.account) (record { key = stays; next = stays }) (stand_at t.rows a)) c.clear.ensures.stands in
     let differ : stays ≢ goes = λ same. apart (c.if-eq.ensures ∙ ap (λ (o : Option ℤ). option_eq int_eq stays o) (sym same) ∙ (options_equiv int_eq_equiv).refl stays) in
     subst (Holds (side_at c.args.made c.set.new.self.stands.rows) (side_at (not c.args.made) c.set.new.self.stands.rows)) (sym c.set.ensures.places)
     (settled c.args.made stands c.set.new.self.stands.rows c.args.account stays goes c.args.self.now.places c.clear.new.self.places sides differ written c.clear.ensures.none c.clear.ensures.some h) where

@@ -1,0 +1,5 @@
+pub mod Around
+pub mod Lists
+pub mod Nearest
+pub mod Standing
+pub mod Stored

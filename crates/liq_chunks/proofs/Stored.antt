@@ -1,0 +1,60 @@
+-- Chunks as vectors have them: what is read of one, and what the lists are once one is cut in two or taken out.
+use Rattle.std.proofs.Common.{◌≡◌, ℕ, ◌<◌, ◌+◌, suc, zero, List, [], ◌∷◌, ◌++◌, length, get_or, set, take, drop, refl, sym, ap, ◌∙◌, arith, map}
+use Rattle.std.proofs.lemmas.List.{take-append-drop, get_or-map, get_or_read, length-map, map-set, drop_more}
+use Rattle.std.proofs.lemmas.List.Edits.{get_or-insert_below}
+use Rattle.std.specs.Prelude.{insert, remove, Vec}
+use Rattle.liq_types.specs.Ranked.{Ranked}
+use Rattle.liq_chunks.specs.Chunks.{joined}
+use Rattle.liq_chunks.proofs.Around.{cut}
+
+module _ {Z : Type 0} where
+  abbrev pub items_of : Vec Ranked Z → List Ranked
+  items_of v = v.items
+
+  pub read_rest : (rests : List (Vec Ranked Z)) (i : ℕ) (r : Vec Ranked Z) → i < length rests → r ≡ get_or rests i r → r.items ≡ get_or (map items_of rests) i []
+  read_rest rests i r h is = ap items_of is ∙ sym (get_or-map items_of rests i r [] h)
+
+  -- a chunk and its first, as they are read
+  pub read_chunk : (fs : List Ranked) (rests : List (Vec Ranked Z)) (i : ℕ) (e f : Ranked) (r : Vec Ranked Z) → i < length fs → length fs ≡ length rests → f ≡ get_or fs i f → r ≡ get_or rests i r → f ∷ r.items ≡ get_or fs i e ∷ get_or (map items_of rests) i []
+  read_chunk fs rests i e f r h k is was =
+      ap (λ (g : Ranked). g ∷ r.items) (get_or_read fs i f h is e)
+      ∙ ap (λ (l : List Ranked). get_or fs i e ∷ l) (read_rest rests i r (omega arith) was)
+
+  map_insert : (rests : List (Vec Ranked Z)) (j : ℕ) (r : Vec Ranked Z) → map items_of (insert rests j r) ≡ insert (map items_of rests) j r.items
+  map_insert [] zero r = refl
+  map_insert [] (suc j) r = refl
+  map_insert (q ∷ rests) zero r = refl
+  map_insert (q ∷ rests) (suc j) r = ap (λ (l : List (List Ranked)). q.items ∷ l) (map_insert rests j r)
+
+  pub map_remove : (rests : List (Vec Ranked Z)) (i : ℕ) → map items_of (remove rests i) ≡ remove (map items_of rests) i
+  map_remove [] zero = refl
+  map_remove [] (suc i) = refl
+  map_remove (q ∷ rests) zero = refl
+  map_remove (q ∷ rests) (suc i) = ap (λ (l : List (List Ranked)). q.items ∷ l) (map_remove rests i)
+
+  pub cut_in_two : (fs more : List Ranked) (rests others : List (Vec Ranked Z)) (i : ℕ) (f : Ranked) (chunk second seen half : Vec Ranked Z) → i < length fs → length fs ≡ length rests → chunk ≡ get_or rests i chunk → 31 < length chunk.items → f ≡ get_or chunk.items 31 f → second.items ≡ drop 32 chunk.items → more ≡ insert fs (i + 1) f → others ≡ insert rests (i + 1) second → seen ≡ get_or others i seen → half.items ≡ take 31 seen.items → joined more (map items_of (set others i half)) ≡ joined fs (map items_of rests)
+  cut_in_two fs more rests others i f chunk second seen half h k was full first_is second_is more_is others_is seen_is half_is =
+      ap (λ (l : List Ranked). joined l (map items_of (set others i half))) (more_is ∙ ap (λ n. insert fs n f) next)
+      ∙ ap (λ (l : List (List Ranked)). joined (insert fs (suc i) f) l) lists_are
+      ∙ cut fs (map items_of rests) i f half.items second.items h (k ∙ sym (length-map rests items_of)) whole where
+        next : i + 1 ≡ suc i
+        next = omega arith
+
+        lists_are : map items_of (set others i half) ≡ set (insert (map items_of rests) (suc i) second.items) i half.items
+        lists_are =
+            map-set items_of others i half
+            ∙ ap (λ (l : List (List Ranked)). set l i half.items) (ap (λ (l : List (Vec Ranked Z)). map items_of l) (others_is ∙ ap (λ n. insert rests n second) next) ∙ map_insert rests (suc i) second)
+
+        seen_chunk : seen ≡ chunk
+        seen_chunk =
+            seen_is
+            ∙ ap (λ (l : List (Vec Ranked Z)). get_or l i seen) others_is
+            ∙ get_or-insert_below rests (i + 1) second seen i (omega arith) (omega arith)
+            ∙ sym (get_or_read rests i chunk (omega arith) was seen)
+
+        whole : get_or (map items_of rests) i [] ≡ half.items ++ (f ∷ second.items)
+        whole =
+            sym (read_rest rests i chunk (omega arith) was)
+            ∙ sym (take-append-drop 31 chunk.items)
+            ∙ ap (λ (l : List Ranked). take 31 chunk.items ++ l) (drop_more chunk.items 31 f full ∙ ap (λ (g : Ranked). g ∷ drop 32 chunk.items) (sym first_is) ∙ ap (λ (l : List Ranked). f ∷ l) (sym second_is))
+            ∙ ap (λ (l : List Ranked). l ++ (f ∷ second.items)) (ap (λ (v : Vec Ranked Z). take 31 v.items) (sym seen_chunk) ∙ sym half_is)

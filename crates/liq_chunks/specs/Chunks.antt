@@ -1,0 +1,33 @@
+-- Entries in chunks: the first of each chunk, and beside it those that follow it.
+use Rattle.std.specs.Prelude.{◌<◌, ◌≤◌, ◌-◌, ◌≡◌, ℕ, true, false, List, [], ◌∷◌, ◌++◌, length, map, reverse, slice_index_or, Option, Vec}
+use Rattle.std.specs.Ordering.{is_lt}
+use Rattle.liq_types.specs.Ranked.{Ranked, rank_order, first_of}
+
+-- all entries, chunk by chunk
+abbrev pub joined : List Ranked → List (List Ranked) → List Ranked
+joined [] rests = []
+joined (f ∷ fs) [] = []
+joined (f ∷ fs) (r ∷ rs) = f ∷ (r ++ joined fs rs)
+
+-- the chunks' entries behind the first
+abbrev pub lists : {Z : Type 0} → Vec (Vec Ranked Z) Z → List (List Ranked)
+lists rests = map (λ rest. rest.items) rests.items
+
+abbrev pub entries : {Z : Type 0} → Vec Ranked Z → Vec (Vec Ranked Z) Z → List Ranked
+entries firsts rests = joined firsts.items (lists rests)
+
+-- ---- reading
+
+abbrev pub last_of : List Ranked → Option Ranked
+last_of list = first_of (reverse list)
+
+-- the last of a chunk
+abbrev pub last_or : Ranked → List Ranked → Ranked
+last_or first [] = first
+last_or first (e ∷ es) = last_or e es
+
+-- so many entries stand before one, and the next one does not
+pub record IsPlace (list : List Ranked) (e : Ranked) (at : ℕ) : Type 0 where
+  pub within : at ≤ length list
+  pub low : (d : Ranked) → 0 < at → is_lt (rank_order (slice_index_or list (at - 1) d) e) ≡ true
+  pub high : (d : Ranked) → at < length list → is_lt (rank_order (slice_index_or list at d) e) ≡ false

@@ -1,0 +1,8 @@
+//! A list of entries in ascending order that stays near in memory: it is kept in chunks.
+#![tactic(auto)]
+
+mod chunks;
+#[cfg(test)]
+mod tests;
+
+pub use chunks::{Chunks, Entry};

@@ -1,0 +1,166 @@
+//! Many entries that come, move and leave, beside a plain sorted list.
+
+ghost use Rattle.std.specs.Prelude.{IsTrue};
+
+use crate::{Chunks, Entry};
+use std::process::Abort;
+
+// How many accounts come and go: many times what a chunk holds.
+const MANY: u32 = 2_000;
+
+// The rounds: all come, move a little, move far, two of three leave, those come back, all but a few leave, and the last of them.
+const ROUNDS: u32 = 7;
+
+// A value is what the plain list has.
+fn same<R: Abort, T: PartialEq>(rt: &R, got: &T, want: &T, what: &str) {
+    assert!(rt; *got == *want, "{what}");
+}
+
+// Something holds.
+fn shows<R: Abort>(rt: &R, what: &str, holds: bool)
+    ensures { IsTrue holds }
+{
+    assert!(rt; holds, "{what}");
+}
+
+// Who stands in the list in a round.
+fn stands(account: u32, round: u32) -> bool {
+    match round {
+        3 => account % 3 == 0,
+        5 => account < 40,
+        6 => false,
+        _ => true,
+    }
+}
+
+// A key for a number. Some are equal.
+fn drawn(number: i64) -> i64 {
+    number.wrapping_mul(7_919) % 1_511 - 700
+}
+
+// A key for each account and round. In round 1 each is near that of round 0.
+fn key_of(account: u32, round: u32) -> i64 {
+    let number = i64::from(account);
+    match round {
+        0 => drawn(number),
+        1 => drawn(number) + number % 3 - 1,
+        _ => drawn(number + i64::from(round) * 977),
+    }
+}
+
+// The entry of an account in a round, if it stands then.
+fn entry_of(account: u32, round: u32) -> Option<Entry> {
+    if stands(account, round) {
+        Some((key_of(account, round), account))
+    } else {
+        None
+    }
+}
+
+fn put<R: Abort>(rt: &R, chunks: &mut Chunks, entry: Entry) {
+    shows(rt, "memory", chunks.insert(entry).is_ok());
+}
+
+// Brings an account's entry from where it was to where it will be. Tells whether it was shifted.
+fn bring<R: Abort>(rt: &R, chunks: &mut Chunks, was: Option<Entry>, will: Option<Entry>) -> bool {
+    match (was, will) {
+        (None, None) => {}
+        (None, Some(to)) => put(rt, chunks, to),
+        (Some(from), None) => chunks.remove(from),
+        (Some(from), Some(to)) => {
+            if chunks.shift(from, to) {
+                return true;
+            }
+            chunks.remove(from);
+            put(rt, chunks, to);
+        }
+    }
+    false
+}
+
+// The entries before and after a place in a sorted list, by going along it.
+fn beside(list: &[Entry], place: Entry) -> (Option<Entry>, Option<Entry>) {
+    let mut before = None;
+    for other in list {
+        if *other > place {
+            return (before, Some(*other));
+        }
+        if *other < place {
+            before = Some(*other);
+        }
+    }
+    (before, None)
+}
+
+// The chunks have the ends of a sorted list, and beside each of its entries and beside another place what it has there.
+fn agree<R: Abort>(rt: &R, chunks: &Chunks, list: &[Entry]) {
+    same(rt, &chunks.first(), &list.first().copied(), "the first");
+    same(rt, &chunks.last(), &list.last().copied(), "the last");
+    for entry in list {
+        let (key, account) = *entry;
+        same(
+            rt,
+            &chunks.beside(*entry),
+            &beside(list, *entry),
+            "beside one of many",
+        );
+        let other = (key, account ^ 1);
+        same(
+            rt,
+            &chunks.beside(other),
+            &beside(list, other),
+            "beside a place",
+        );
+    }
+}
+
+// Brings all to where they stand in a round, and tells how many were shifted.
+fn follow<R: Abort>(rt: &R, chunks: &mut Chunks, round: u32, list: &mut Vec<Entry>) -> u32 {
+    let mut shifted: u32 = 0;
+    for account in 0..MANY {
+        let was = match round {
+            0 => None,
+            _ => entry_of(account, round - 1),
+        };
+        let will = entry_of(account, round);
+        if bring(rt, chunks, was, will) {
+            shifted = shifted.wrapping_add(1);
+        }
+        if let Some(entry) = will {
+            shows(rt, "memory", list.push(entry).is_ok());
+        }
+    }
+    shifted
+}
+
+#[test]
+fn many(rt: HostRuntime) {
+    let mut chunks = Chunks::new(rt.alloc());
+    for round in 0..ROUNDS {
+        let mut list = Vec::new(rt.alloc());
+        let shifted = follow(&rt, &mut chunks, round, &mut list);
+        if round == 1 {
+            shows(&rt, "most are shifted", shifted > MANY / 2);
+            shows(&rt, "not all are shifted", shifted < MANY);
+        }
+        list.sort_unstable();
+        agree(&rt, &chunks, &list);
+    }
+}
+
+// What is there comes in but once, what isn't there neither leaves nor is shifted, and an entry is shifted behind the first alone.
+#[test]
+fn few(rt: HostRuntime) {
+    let mut chunks = Chunks::new(rt.alloc());
+    for entry in [(5, 1), (5, 2), (9, 1), (5, 1), (9, 1)] {
+        put(&rt, &mut chunks, entry);
+    }
+    chunks.remove((5, 3));
+    agree(&rt, &chunks, &[(5, 1), (5, 2), (9, 1)]);
+    shows(&rt, "not there", !chunks.shift((5, 3), (7, 7)));
+    shows(&rt, "the first", !chunks.shift((5, 1), (7, 7)));
+    shows(&rt, "before the first", !chunks.shift((9, 1), (5, 0)));
+    agree(&rt, &chunks, &[(5, 1), (5, 2), (9, 1)]);
+    shows(&rt, "shifted", chunks.shift((5, 2), (i64::MAX, 0)));
+    agree(&rt, &chunks, &[(5, 1), (9, 1), (i64::MAX, 0)]);
+}

@@ -1,0 +1,50 @@
+-- An account that stands is put elsewhere: its entry leaves, and another comes.
+use Rattle.std.proofs.Common.{◌≡◌, ℕ, ℤ, Bool, true, false, cond, List, refl, sym, ap, ◌∙◌, Some, Option}
+use Rattle.std.specs.Prelude.{◌==◌, not, ◌&&◌}
+use Rattle.std.specs.Ordering.{is_eq}
+use Rattle.std.proofs.lemmas.Bool.{eqb-true, eq-eqb}
+use Rattle.std.proofs.lemmas.Cmp.{tied_itself}
+use Rattle.liq_types.specs.Ranked.{Ranked, rank_order, IsAscending, with_ranked, without_ranked}
+use Rattle.liq_types.proofs.RankedLists.{rank_total, ascending_kept}
+use Rattle.liq_chunks.specs.Entries.{with_entry, without_entry}
+use Rattle.liq_chunks.proofs.Lists.{entered_ascending, left_ascending, same_entry}
+use Rattle.liq_guide.specs.Rows.{is_in, Follows}
+use Rattle.liq_guide.proofs.Holding.{own_entry}
+use Rattle.liq_guide.proofs.Members.{entered_is_in, left_is_in, or_cond, same_list, swapped, with_ascending, with_is_in, without_is_in}
+
+-- an entry that isn't there comes
+came : (list : List Ranked) (e : Ranked) → IsAscending list → is_in list e ≡ false → with_entry list e ≡ with_ranked list e
+came list e h out =
+    same_list (with_entry list e) (with_ranked list e) (entered_ascending list e h) (with_ascending list e out h)
+    (λ f. entered_is_in list e f ∙ sym (or_cond (is_eq (rank_order f e)) (is_eq (rank_order e f)) (is_in list f) (swapped f e)) ∙ sym (with_is_in list e f))
+
+module _ (key : ℕ → Option ℤ) (list : List Ranked) (account : ℕ) (stood : ℤ) (stands : key account ≡ Some stood) (h : Follows key list) where
+  -- an account's entry is the one under its key
+  left_own : (e : Ranked) → is_in (without_entry list (stood, account)) e ≡ is_in (without_ranked list account) e
+  left_own e =
+      left_is_in list (stood, account) e ∙ by (is_eq (rank_order (stood, account) e)) refl (e.1 == account) refl ∙ sym (without_is_in list account e) where
+        own : (e.1 == account) ≡ true → (b : Bool) → is_in list e ≡ b → is_eq (rank_order (stood, account) e) ≡ false → b ≡ false
+        own its false is other = refl
+        own its true is other =
+            let it : (stood, account) ≡ e = own_entry key stood account e stands (eq-eqb account e.1 (sym (eqb-true e.1 account its))) (sym (h.keyed e) ∙ is) in
+            sym (ap (λ (f : Ranked). is_eq (rank_order (stood, account) f)) (sym it) ∙ ap is_eq (tied_itself rank_total (stood, account))) ∙ other
+
+        by : (b : Bool) → is_eq (rank_order (stood, account) e) ≡ b → (c : Bool) → (e.1 == account) ≡ c → cond b false (is_in list e) ≡ (not c && is_in list e)
+        by true is true its = refl
+        by true is false its =
+            let it : (stood, account) ≡ e = same_entry (stood, account) e is in
+            let clash : true ≡ false = sym (eq-eqb e.1 account (sym (ap (λ (f : Ranked). f.1) it))) ∙ its in cc
+        by false is true its = own its (is_in list e) refl is
+        by false is false its = refl
+
+  pub left_account : without_entry list (stood, account) ≡ without_ranked list account
+  left_account =
+      same_list (without_entry list (stood, account)) (without_ranked list account)
+      (left_ascending list (stood, account) h.ascending)
+      (ascending_kept (λ (f : Ranked). not (f.1 == account)) list h.ascending) left_own
+
+  pub shifted : (place : ℤ) → with_entry (without_entry list (stood, account)) (place, account) ≡ with_ranked (without_ranked list account) (place, account)
+  shifted place =
+      ap (λ (l : List Ranked). with_entry l (place, account)) left_account
+      ∙ came (without_ranked list account) (place, account) (ascending_kept (λ (f : Ranked). not (f.1 == account)) list h.ascending)
+      (without_is_in list account (place, account) ∙ ap (λ b. not b && is_in list (place, account)) (eq-eqb account account refl))
