@@ -11,7 +11,7 @@ use Rattle.liq_types.specs.Ranked.{Ranked, rank_order, IsAscending, first_of}
 use Rattle.liq_types.proofs.RankedLists.{Behind}
 use Rattle.liq_chunks.specs.Chunks.{joined, last_of}
 use Rattle.liq_chunks.specs.Entries.{with_entry, without_entry, entry_before, entry_after}
-use Rattle.liq_chunks.proofs.Lists.{Ahead, after_ahead, after_past, before_ahead, before_past, entered_ahead, entered_past, left_ahead, left_past, lt_is, turned}
+use Rattle.liq_chunks.proofs.Lists.{Ahead, after_ahead, after_past, before_ahead, before_past, entered_ahead, entered_past, left_ahead, left_past, is_less, turned}
 use Rattle.liq_chunks.proofs.Standing.{Leads, before_middle, before_more, behind_from, first_half, last_half}
 
 pub around : (fs : List Ranked) (rs : List (List Ranked)) (i : ℕ) (d : Ranked) → i < length fs → length fs ≡ length rs → joined fs rs ≡ joined (take i fs) (take i rs) ++ ((get_or fs i d ∷ get_or rs i []) ++ joined (drop (suc i) fs) (drop (suc i) rs))
@@ -57,7 +57,7 @@ leads_joined : (fs : List Ranked) (rs : List (List Ranked)) (j : ℕ) (e : Ranke
 leads_joined [] rs zero e k high = tt
 leads_joined [] rs (suc j) e k high = tt
 leads_joined (f ∷ fs) [] j e k high = absurd (omega arith)
-leads_joined (f ∷ fs) (r ∷ rs) zero e k high = lt_is (rank_order e f) (high e (omega arith))
+leads_joined (f ∷ fs) (r ∷ rs) zero e k high = is_less (rank_order e f) (high e (omega arith))
 leads_joined (f ∷ fs) (r ∷ rs) (suc j) e k high = leads_joined fs rs j e (omega arith) (λ d h. high d (omega arith))
 
 module _ (fs : List Ranked) (rs : List (List Ranked)) (i : ℕ) (d : Ranked)
@@ -153,7 +153,7 @@ module _ (fs : List Ranked) (rs : List (List Ranked)) (i : ℕ) (d : Ranked)
         let first = get_or fs i d in
         let rest = without_entry (get_or rs i []) from in
         let from_behind : rank_order first from ≡ Less = All-contains (λ (f : Ranked). rank_order first f ≡ Less) (get_or rs i []) from (All-from_recursion (λ (f : Ranked). rank_order first f ≡ Less) (get_or rs i []) chunk_ascending.0) there in
-        let to_behind : rank_order first to ≡ Less = lt_is (rank_order first to) behind_first in
+        let to_behind : rank_order first to ≡ Less = is_less (rank_order first to) behind_first in
         ap (λ (l : List Ranked). joined l (set rs i r)) (sym (set-get_or fs i d))
         ∙ set_around fs rs i first r within lengths
         ∙ ap (λ (l : List Ranked). front_of ++ ((first ∷ l) ++ back_of)) is
@@ -164,4 +164,4 @@ module _ (fs : List Ranked) (rs : List (List Ranked)) (i : ℕ) (d : Ranked)
           to_low : (g : Ranked) → 0 < i → is_lt (rank_order to (get_or fs i g)) ≡ false
           to_low g k =
               ap (λ (f : Ranked). is_lt (rank_order to f)) (get_or_default fs i g d within)
-              ∙ ap is_lt (turned to (get_or fs i d) Less (lt_is (rank_order (get_or fs i d) to) behind_first))
+              ∙ ap is_lt (turned to (get_or fs i d) Less (is_less (rank_order (get_or fs i d) to) behind_first))

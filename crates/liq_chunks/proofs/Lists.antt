@@ -30,10 +30,10 @@ same_entry e f h = exact_rank e f (is_tied (rank_order e f) h)
 pub turned : (e f : Ranked) (o : Ordering) → rank_order f e ≡ o → rank_order e f ≡ ordering_reverse o
 turned e f o h = rank_total.antisymm e f ∙ ap ordering_reverse h
 
-pub lt_is : (o : Ordering) → is_lt o ≡ true → o ≡ Less
-lt_is Less h = refl
-lt_is Equal h = cc
-lt_is Greater h = cc
+pub is_less : (o : Ordering) → is_lt o ≡ true → o ≡ Less
+is_less Less h = refl
+is_less Equal h = cc
+is_less Greater h = cc
 
 -- all of a list come before an entry
 abbrev pub Ahead : Ranked → List Ranked → Type 0
@@ -166,13 +166,3 @@ on_ok (Err x) f h = tt
 pub on_err : {T E : Type 0} {P Q : Type 0} (r : Result T E) → (P → Q) → OnErr r P → OnErr r Q
 on_err (Ok x) f h = tt
 on_err (Err x) f h = f h
-
--- what holds of a list with the entry and of the one as it was holds of what is left
-pub either : (P : List Ranked → Type 0) {T E : Type 0} (r : Result T E) (old some new : List Ranked) → OnOk r (new ≡ some) → OnErr r (new ≡ old) → P old → P some → P new
-either P (Ok x) old some new ok err p q = subst P (sym ok) q
-either P (Err x) old some new ok err p q = subst P (sym err) p
-
--- the same where a call tells whether the entry came
-pub either_way : (P : List Ranked → Type 0) (b : Bool) (old some new : List Ranked) → (b ≡ true → new ≡ some) → (b ≡ false → new ≡ old) → P old → P some → P new
-either_way P true old some new done stays p q = subst P (sym (done refl)) q
-either_way P false old some new done stays p q = subst P (sym (stays refl)) p

@@ -10,7 +10,7 @@ use Rattle.liq_types.specs.Ranked.{Ranked, rank_order, IsAscending}
 use Rattle.liq_types.proofs.RankedLists.{rank_total, Behind, behind_more}
 use Rattle.liq_chunks.specs.Chunks.{IsPlace}
 use Rattle.liq_chunks.specs.Entries.{with_entry, without_entry}
-use Rattle.liq_chunks.proofs.Lists.{Ahead, entered_ahead, entered_past, is_tied, left_ahead, left_before, left_first, lt_is, same_entry, turned}
+use Rattle.liq_chunks.proofs.Lists.{Ahead, entered_ahead, entered_past, is_tied, left_ahead, left_before, left_first, is_less, same_entry, turned}
 
 -- ---- halves of a list
 
@@ -43,7 +43,7 @@ before_more (a ∷ front) f e h k = (by (rank_order e f) refl h, before_more fro
 
 take_before : (list : List Ranked) (p : ℕ) (e d : Ranked) → IsAscending list → p < length list → is_lt (rank_order (get_or list p d) e) ≡ true → Ahead e (take (suc p) list)
 take_before [] p e d h k lt = absurd (omega arith)
-take_before (f ∷ fs) zero e d h k lt = (lt_is (rank_order f e) lt, tt)
+take_before (f ∷ fs) zero e d h k lt = (is_less (rank_order f e) lt, tt)
 take_before (f ∷ []) (suc p) e d h k lt = absurd (omega arith)
 take_before (f ∷ g ∷ fs) (suc p) e d h k lt =
     let more : Ahead e (take (suc p) (g ∷ fs)) = take_before (g ∷ fs) p e d h.1 (omega arith) lt in

@@ -1,5 +1,5 @@
 -- Entries in chunks: the first of each chunk, and beside it those that follow it.
-use Rattle.std.specs.Prelude.{◌<◌, ◌≤◌, ◌-◌, ◌≡◌, ℕ, true, false, List, [], ◌∷◌, ◌++◌, length, map, reverse, slice_index_or, Option, Vec}
+use Rattle.std.specs.Prelude.{◌+◌, ◌<◌, ◌≤◌, ◌-◌, ◌≡◌, ℕ, true, false, List, [], ◌∷◌, ◌++◌, length, map, reverse, slice_index_or, Option, Vec}
 use Rattle.std.specs.Ordering.{is_lt}
 use Rattle.liq_types.specs.Ranked.{Ranked, rank_order, first_of}
 
@@ -31,3 +31,9 @@ pub record IsPlace (list : List Ranked) (e : Ranked) (at : ℕ) : Type 0 where
   pub within : at ≤ length list
   pub low : (d : Ranked) → 0 < at → is_lt (rank_order (slice_index_or list (at - 1) d) e) ≡ true
   pub high : (d : Ranked) → at < length list → is_lt (rank_order (slice_index_or list at d) e) ≡ false
+
+-- an entry stands in a chunk or would: no chunk behind it begins before the entry, or with it
+pub record BelongsTo (firsts : List Ranked) (e : Ranked) (chunk : ℕ) : Type 0 where
+  pub within : chunk < length firsts
+  pub low : (d : Ranked) → 0 < chunk → is_lt (rank_order e (slice_index_or firsts chunk d)) ≡ false
+  pub high : (d : Ranked) → chunk + 1 < length firsts → is_lt (rank_order e (slice_index_or firsts (chunk + 1) d)) ≡ true

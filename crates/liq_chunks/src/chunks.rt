@@ -6,7 +6,7 @@ ghost use Rattle.std.specs.Option.{option_or};
 ghost use Rattle.std.specs.Ordering.{is_eq, is_lt};
 ghost use Rattle.liq_types.specs.Ranked.{Ranked, rank_order, IsAscending, first_of};
 ghost use Rattle.liq_chunks.specs.Entries.{with_entry, without_entry, entry_before, entry_after};
-ghost use Rattle.liq_chunks.specs.Chunks.{lists, entries, joined, last_of, last_or, IsPlace};
+ghost use Rattle.liq_chunks.specs.Chunks.{BelongsTo, lists, entries, joined, last_of, last_or, IsPlace};
 
 use liq_types::NoMemory;
 use std::alloc::Global;
@@ -55,6 +55,7 @@ impl Chunks {
     }
 
     /// Puts an entry in, if it isn't there. Where there is no memory all is as before.
+    #[tactic(auto, using(crate::proofs::Lists::entered_ascending))]
     pub fn insert(&mut self, entry: Entry) -> Result<(), NoMemory>
         ensures ascending { IsAscending self.new }
         ensures entered { OnOk result (self.new ≡ with_entry self.old entry) }
@@ -73,6 +74,7 @@ impl Chunks {
     }
 
     /// Takes an entry out, if it is there.
+    #[tactic(auto, using(crate::proofs::Lists::left_ascending))]
     pub fn remove(&mut self, entry: Entry)
         ensures ascending { IsAscending self.new }
         ensures left { self.new ≡ without_entry self.old entry }
@@ -86,6 +88,7 @@ impl Chunks {
 
     /// Puts an entry in another's place, where both belong behind the first of one chunk: that takes no memory and is one search. Tells
     /// whether it did; where it didn't, all is as before.
+    #[tactic(auto, using(crate::proofs::Lists::entered_ascending, crate::proofs::Lists::left_ascending))]
     pub fn shift(&mut self, from: Entry, to: Entry) -> bool
         ensures ascending { IsAscending self.new }
         ensures shifted { result ≡ true → self.new ≡ with_entry (without_entry self.old from) to }
@@ -143,9 +146,7 @@ fn is_same(a: Entry, b: Entry) -> bool
 // The chunk in which an entry stands, or would.
 fn chunk_of(firsts: &[Entry], entry: Entry) -> usize
     requires { 0 < length firsts.now }
-    ensures within { result < length firsts.now }
-    ensures low { (d : Ranked) → 0 < result → is_lt (rank_order entry (slice_index_or firsts.now result d)) ≡ false }
-    ensures high { (d : Ranked) → result + 1 < length firsts.now → is_lt (rank_order entry (slice_index_or firsts.now (result + 1) d)) ≡ true }
+    ensures { BelongsTo firsts.now entry result }
 {
     let mut low = 0;
     let mut high = firsts.len();
@@ -244,9 +245,7 @@ fn enter(
 ) -> Result<(), NoMemory>
     requires len { length firsts.old.items ≡ length rests.old.items }
     requires ascending { IsAscending (entries firsts.old rests.old) }
-    requires within { chunk < length firsts.old.items }
-    requires low { (d : Ranked) → 0 < chunk → is_lt (rank_order entry (slice_index_or firsts.old.items chunk d)) ≡ false }
-    requires high { (d : Ranked) → chunk + 1 < length firsts.old.items → is_lt (rank_order entry (slice_index_or firsts.old.items (chunk + 1) d)) ≡ true }
+    requires belongs { BelongsTo firsts.old.items entry chunk }
     ensures len { length firsts.new.items ≡ length rests.new.items }
     ensures ok { OnOk result (entries firsts.new rests.new ≡ with_entry (entries firsts.old rests.old) entry) }
     ensures err { OnErr result (entries firsts.new rests.new ≡ entries firsts.old rests.old) }
@@ -292,9 +291,7 @@ fn enter_rest(rest: &mut Vec<Entry>, entry: Entry) -> Result<(), NoMemory>
 fn take_out(firsts: &mut Vec<Entry>, rests: &mut Vec<Vec<Entry>>, chunk: usize, entry: Entry)
     requires len { length firsts.old.items ≡ length rests.old.items }
     requires ascending { IsAscending (entries firsts.old rests.old) }
-    requires within { chunk < length firsts.old.items }
-    requires low { (d : Ranked) → 0 < chunk → is_lt (rank_order entry (slice_index_or firsts.old.items chunk d)) ≡ false }
-    requires high { (d : Ranked) → chunk + 1 < length firsts.old.items → is_lt (rank_order entry (slice_index_or firsts.old.items (chunk + 1) d)) ≡ true }
+    requires belongs { BelongsTo firsts.old.items entry chunk }
     ensures len { length firsts.new.items ≡ length rests.new.items }
     ensures left { entries firsts.new rests.new ≡ without_entry (entries firsts.old rests.old) entry }
 {
@@ -363,9 +360,7 @@ fn shift_in_chunk(
 ) -> bool
     requires len { length firsts.now.items ≡ length rests.old.items }
     requires ascending { IsAscending (entries firsts.now rests.old) }
-    requires within { chunk < length firsts.now.items }
-    requires low { (d : Ranked) → 0 < chunk → is_lt (rank_order from (slice_index_or firsts.now.items chunk d)) ≡ false }
-    requires high { (d : Ranked) → chunk + 1 < length firsts.now.items → is_lt (rank_order from (slice_index_or firsts.now.items (chunk + 1) d)) ≡ true }
+    requires belongs { BelongsTo firsts.now.items from chunk }
     ensures len { length firsts.now.items ≡ length rests.new.items }
     ensures shifted { result ≡ true → entries firsts.now rests.new ≡ with_entry (without_entry (entries firsts.now rests.old) from) to }
     ensures stays { result ≡ false → entries firsts.now rests.new ≡ entries firsts.now rests.old }
@@ -377,6 +372,7 @@ fn shift_in_chunk(
 }
 
 // Puts an entry in another's place, if that one is there.
+#[tactic(auto, using(crate::proofs::Lists::left_ascending))]
 fn shift_in(rest: &mut Vec<Entry>, from: Entry, to: Entry) -> bool
     requires { IsAscending rest.old.items }
     ensures shifted { result ≡ true → rest.new.items ≡ with_entry (without_entry rest.old.items from) to }
@@ -401,9 +397,7 @@ fn beside_chunk(
 ) -> (Option<Entry>, Option<Entry>)
     requires len { length firsts.now.items ≡ length rests.now.items }
     requires ascending { IsAscending (entries firsts.now rests.now) }
-    requires within { chunk < length firsts.now.items }
-    requires low { (d : Ranked) → 0 < chunk → is_lt (rank_order place (slice_index_or firsts.now.items chunk d)) ≡ false }
-    requires high { (d : Ranked) → chunk + 1 < length firsts.now.items → is_lt (rank_order place (slice_index_or firsts.now.items (chunk + 1) d)) ≡ true }
+    requires belongs { BelongsTo firsts.now.items place chunk }
     ensures { result ≡ (entry_before (entries firsts.now rests.now) place, entry_after (entries firsts.now rests.now) place) }
 {
     let first = firsts[chunk];

@@ -43,7 +43,7 @@ fn key_of(account: u32, round: u32) -> i64 {
     let number = i64::from(account);
     match round {
         0 => drawn(number),
-        1 => drawn(number) + number % 3 - 1,
+        1 => drawn(number).wrapping_add(number % 3 - 1),
         _ => drawn(number + i64::from(round) * 977),
     }
 }

@@ -3,15 +3,14 @@ use Rattle.std.proofs.Common.{◌≡◌, ℕ, ℤ, Bool, true, false, cond, List
 use Rattle.std.specs.Prelude.{◌==◌, ◌≢◌, ◌<ℤ◌, not, reverse, filter, unwrap_or, IfSome}
 use Rattle.std.specs.List.{AllByRecursion}
 use Rattle.std.specs.Ordering.{is_lt}
-use Rattle.std.specs.declared.cmp.Ordering.{Ordering}
-use Rattle.std.specs.declared.cmp.Ordering.TheVariants.{Less, Equal, Greater}
+use Rattle.std.specs.declared.cmp.Ordering.TheVariants.{Less}
 use Rattle.std.proofs.lemmas.Bool.{eqb-true}
 use Rattle.std.proofs.lemmas.Cmp.{tied_itself}
 use Rattle.std.proofs.lemmas.List.Elements.{filter-append}
 use Rattle.std.proofs.lemmas.List.{reverse-append, append-nil}
 use Rattle.liq_types.proofs.RankedLists.{rank_total, Behind, behind_more, all_kept}
 use Rattle.liq_types.specs.Ranked.{Ranked, rank_order, IsAscending, first_of, account_of, without_ranked}
-use Rattle.liq_chunks.proofs.Lists.{all_pass, each, nothing_before, whole_after}
+use Rattle.liq_chunks.proofs.Lists.{all_pass, each, nothing_before, whole_after, is_less}
 use Rattle.liq_guide.specs.Rows.{StandOnce}
 use Rattle.liq_guide.specs.Sides.{account_aside, entry_beside, past_own}
 use Rattle.liq_chunks.specs.Entries.{entry_after, entry_before}
@@ -110,11 +109,6 @@ stepped_same next other same e x y is = by x ∙ ap (λ (o : Option Ranked). ste
   by (Some g) = ap (λ (o : Option Ranked). cond (g.1 == e.1) (account_of o) (Some g.1)) (same g)
 
 -- ---- to the end
-
-is_less : (o : Ordering) → is_lt o ≡ true → o ≡ Less
-is_less Less h = refl
-is_less Equal h = cc
-is_less Greater h = cc
 
 lies_after : Lies (λ (a b : Ranked). is_lt (rank_order a b))
 lies_after = record {

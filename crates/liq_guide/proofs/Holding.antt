@@ -140,6 +140,14 @@ module _ (keeps gives kept given : ℕ → Option ℤ) (places other : List Rank
             ∙ ap (λ k. is_key (keeps e.1) e.0 || is_key k e.0) (others e.1 its)
             ∙ h.only e there
 
+pub same_sides : (keeps gives kept given : ℕ → Option ℤ) (places : List Ranked) → ((a : ℕ) → kept a ≡ keeps a) → ((a : ℕ) → given a ≡ gives a) → Holds keeps gives places → Holds kept given places
+same_sides keeps gives kept given places same alike h =
+    record {
+      ascending = h.ascending;
+      held = λ e is. h.held e (ap (λ k. is_key k e.0) (sym (same e.1)) ∙ is);
+      only = λ e is. ap (λ k. is_key k e.0 || is_key (given e.1) e.0) (same e.1) ∙ ap (λ k. is_key (keeps e.1) e.0 || is_key k e.0) (alike e.1) ∙ h.only e is;
+    }
+
 -- where no account gives up any, the places are the list
 pub ended : (keeps gives : ℕ → Option ℤ) (places list : List Ranked) → ((a : ℕ) → gives a ≡ keeps a) → Holds keeps gives places → Follows keeps list → places ≡ list
 ended keeps gives places list settled h k =

@@ -1,10 +1,10 @@
 -- The three parts of the entries make one list: what an entry makes of it that comes or leaves, and what stands beside one.
-use Rattle.std.proofs.Common.{◌≡◌, List, [], ◌∷◌, ◌++◌, refl, sym, ap, ◌∙◌, arith, Some, None, Option}
+use Rattle.std.proofs.Common.{Bool, true, false, Result, Ok, Err, subst, ◌≡◌, List, [], ◌∷◌, ◌++◌, refl, sym, ap, ◌∙◌, arith, Option}
 use Rattle.std.proofs.lemmas.Cmp.{int_ranked}
 use Rattle.std.proofs.lemmas.Int.{ints}
 use Rattle.std.proofs.lemmas.List.{append_assoc}
 use Rattle.std.proofs.lemmas.List.Elements.{All-append, All-from_recursion, recursion_from_All}
-use Rattle.std.specs.Prelude.{◌<ℤ◌, ◌≢◌, not, reverse}
+use Rattle.std.specs.Prelude.{OnOk, OnErr, ◌<ℤ◌, not, reverse}
 use Rattle.std.specs.List.{AllByRecursion}
 use Rattle.std.specs.Option.{option_or}
 use Rattle.std.specs.Ordering.{MatchOrdering, nat_cmp, int_cmp, is_eq, ordering_then}
@@ -159,8 +159,13 @@ module _ (below shorts above : List Ranked) (p : AreParted below shorts above) w
         ap (λ (l : List Ranked). entry_after l e) (sym (append_assoc below shorts above))
         ∙ after_past (below ++ shorts) above e (both_ahead e below shorts is p.all_below p.all_short)
 
--- ---- found, or else another
+-- ---- as it was, or with a change
 
-pub something_found : (r other : Option Ranked) → r ≢ None → option_or r other ≡ r
-something_found None other some = absurd (some refl)
-something_found (Some e) other some = refl
+-- what holds of a list as it was and of what it may have become holds of what it is
+pub either : (P : List Ranked → Type 0) {T E : Type 0} (r : Result T E) (old some new : List Ranked) → OnOk r (new ≡ some) → OnErr r (new ≡ old) → P old → P some → P new
+either P (Ok x) old some new ok err p q = subst P (sym ok) q
+either P (Err x) old some new ok err p q = subst P (sym err) p
+
+pub either_way : (P : List Ranked → Type 0) (b : Bool) (old some new : List Ranked) → (b ≡ true → new ≡ some) → (b ≡ false → new ≡ old) → P old → P some → P new
+either_way P true old some new done kept p q = subst P (sym (done refl)) q
+either_way P false old some new done kept p q = subst P (sym (kept refl)) p

@@ -1,36 +1,27 @@
 -- The rows of a guide: the entries of the list, and for each account its key and its next one, which it has after the
 -- changes that are being followed.
-use Rattle.std.specs.Prelude.{◌≡◌, ◌≢◌, ◌==◌, ◌||◌, ℕ, ℤ, Bool, true, false, if◌then◌else◌}
-use Rattle.std.specs.Prelude.{List, [], ◌∷◌, Option, Some, None, unwrap_or, is_some}
+use Rattle.std.specs.Prelude.{◌≡◌, ◌≢◌, ◌==◌, ◌||◌, ℕ, ℤ, Bool, true, false}
+use Rattle.std.specs.Prelude.{List, [], ◌∷◌, Option, Some, None}
 use Rattle.std.specs.List.{AllByRecursion, list_any}
 use Rattle.std.specs.BTreeMap.{is_at}
 use Rattle.std.specs.Ordering.{int_cmp, is_eq}
 use Rattle.liq_types.specs.declared.events.ListChange.{ListChange}
 use Rattle.liq_types.specs.declared.events.ListChange.TheVariants.{Put, Gone, Words}
 use Rattle.liq_types.specs.Ranked.{Ranked, rank_order, IsAscending}
-use Rattle.liq_types.specs.Tables.{Table, at}
-use Rattle.liq_guide.specs.declared.rows.Stand.{Stand}
+use Rattle.liq_stands.specs.Parts.{Parts, stand_of}
+use Rattle.liq_stands.specs.Stands.{side_of}
 
 -- ---- an account
 
-abbrev pub nowhere : Stand
-nowhere = record { key = None; next = None }
+abbrev pub key_at : Parts → ℕ → Option ℤ
+key_at stands account = (stand_of stands account).key
 
-abbrev pub is_used_stand : Stand → Bool
-is_used_stand s = is_some s.key || is_some s.next
-
-abbrev pub stand_at : Table Stand → ℕ → Stand
-stand_at stands account = unwrap_or (at stands account) nowhere
-
-abbrev pub key_at : Table Stand → ℕ → Option ℤ
-key_at stands account = (stand_at stands account).key
-
-abbrev pub next_at : Table Stand → ℕ → Option ℤ
-next_at stands account = (stand_at stands account).next
+abbrev pub next_at : Parts → ℕ → Option ℤ
+next_at stands account = (stand_of stands account).next
 
 -- the next key, or the key as it is
-abbrev pub side_at : Bool → Table Stand → ℕ → Option ℤ
-side_at made stands account = if made then next_at stands account else key_at stands account
+abbrev pub side_at : Bool → Parts → ℕ → Option ℤ
+side_at made stands account = side_of made (stand_of stands account)
 
 -- whether a change moves an account, and whether any of a list does
 abbrev pub named_by : ℕ → ListChange → Bool
@@ -42,7 +33,7 @@ abbrev pub names : List ListChange → ℕ → Bool
 names changes account = list_any (named_by account) changes
 
 -- an account that no change moves stands where it will
-abbrev pub AreSettledBeside : Table Stand → List ListChange → Type 0
+abbrev pub AreSettledBeside : Parts → List ListChange → Type 0
 AreSettledBeside stands changes =
     (account : ℕ) → names changes account ≡ false → next_at stands account ≡ key_at stands account
 

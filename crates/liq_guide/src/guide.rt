@@ -26,7 +26,7 @@ impl Model for Guide {
 
     ghost view = { λ g. g.rows.places };
 
-    ghost invariant = { λ g. Follows (key_at g.rows.stands.rows) g.rows.places × AreSettledBeside g.rows.stands.rows [] };
+    ghost invariant = { λ g. Follows (key_at g.rows.stands) g.rows.places × AreSettledBeside g.rows.stands [] };
 }
 
 impl Guide {
@@ -85,7 +85,7 @@ impl Guide {
     pub fn key_of(&self, account: u32) -> Option<i128>
         ensures { result ≡ key_in self.now account }
     {
-        self.rows.stand(account).key
+        self.rows.stands.stand(account).key
     }
 }
 

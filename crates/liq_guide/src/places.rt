@@ -15,7 +15,6 @@ use std::marker::Model;
 pub(crate) type Place = (i128, u32);
 
 // Where an entry is kept.
-#[derive(Clone, Copy)]
 enum Part {
     Below,
     Short(Entry),
@@ -82,16 +81,13 @@ impl Places {
         }
     }
 
-    // Puts an entry in another's place, where that takes no memory and both are short. Tells whether it did.
-    pub(crate) fn shift(&mut self, from: Place, to: Place) -> bool
+    // Puts a short entry in another's place, where that takes no memory. Tells whether it did.
+    pub(crate) fn shift(&mut self, from: Entry, to: Entry) -> bool
         ensures ascending { IsAscending self.new }
         ensures shifted { result ≡ true → self.new ≡ with_entry (without_entry self.old from) to }
         ensures stays { result ≡ false → self.new ≡ self.old }
     {
-        match (part_of(from), part_of(to)) {
-            (Part::Short(from), Part::Short(to)) => self.shorts.shift(from, to),
-            _ => false,
-        }
+        self.shorts.shift(from, to)
     }
 
     // The entries next before a place and next after it.

@@ -12,8 +12,8 @@ pub enter_chunk-requires : goal.enter_chunk-requires
 enter_chunk-requires c =
     let fs = c.args.firsts.now.items in
     let rs = c.args.rests.now.items in
-    subst IsAscending (sym (read_chunk fs rs c.args.chunk c.args.entry c.index_mut.result.now c.index_mut-2.result.now c.requires.within c.requires.len c.index_mut.ensures.value c.index_mut-2.ensures.value))
-    (chunk_ascending fs (lists c.args.rests.now) c.args.chunk c.args.entry c.requires.within (c.requires.len ∙ sym (length-map rs items_of)) c.requires.ascending)
+    subst IsAscending (sym (read_chunk fs rs c.args.chunk c.args.entry c.index_mut.result.now c.index_mut-2.result.now c.requires.belongs.within c.requires.len c.index_mut.ensures.value c.index_mut-2.ensures.value))
+    (chunk_ascending fs (lists c.args.rests.now) c.args.chunk c.args.entry c.requires.belongs.within (c.requires.len ∙ sym (length-map rs items_of)) c.requires.ascending)
 
 pub returns-clause-ok : goal.returns-clause-ok
 returns-clause-ok c =
@@ -21,9 +21,9 @@ returns-clause-ok c =
     let rs = c.args.rests.now.items in
     let i = c.args.chunk in
     let e = c.args.entry in
-    let was = read_chunk fs rs i e c.index_mut.result.now c.index_mut-2.result.now c.requires.within c.requires.len c.index_mut.ensures.value c.index_mut-2.ensures.value in
+    let was = read_chunk fs rs i e c.index_mut.result.now c.index_mut-2.result.now c.requires.belongs.within c.requires.len c.index_mut.ensures.value c.index_mut-2.ensures.value in
     on_ok c.enter_chunk.result
-    (λ is. ap (λ (l : List (List Ranked)). joined (set fs i c.enter_chunk.new.first) l) (map-set items_of rs i c.enter_chunk.new.rest) ∙ chunk_entered fs (lists c.args.rests.now) i e c.requires.within (c.requires.len ∙ sym (length-map rs items_of)) c.requires.ascending e c.requires.low c.requires.high c.enter_chunk.new.first c.enter_chunk.new.rest.items (is ∙ ap (λ (l : List Ranked). with_entry l e) was))
+    (λ is. ap (λ (l : List (List Ranked)). joined (set fs i c.enter_chunk.new.first) l) (map-set items_of rs i c.enter_chunk.new.rest) ∙ chunk_entered fs (lists c.args.rests.now) i e c.requires.belongs.within (c.requires.len ∙ sym (length-map rs items_of)) c.requires.ascending e c.requires.belongs.low c.requires.belongs.high c.enter_chunk.new.first c.enter_chunk.new.rest.items (is ∙ ap (λ (l : List Ranked). with_entry l e) was))
     c.enter_chunk.ensures.ok
 
 pub returns-clause-err : goal.returns-clause-err
@@ -32,7 +32,7 @@ returns-clause-err c =
     let rs = c.args.rests.now.items in
     let i = c.args.chunk in
     let e = c.args.entry in
-    let was = read_chunk fs rs i e c.index_mut.result.now c.index_mut-2.result.now c.requires.within c.requires.len c.index_mut.ensures.value c.index_mut-2.ensures.value in
+    let was = read_chunk fs rs i e c.index_mut.result.now c.index_mut-2.result.now c.requires.belongs.within c.requires.len c.index_mut.ensures.value c.index_mut-2.ensures.value in
     on_err c.enter_chunk.result
-    (λ is. ap (λ (l : List (List Ranked)). joined (set fs i c.enter_chunk.new.first) l) (map-set items_of rs i c.enter_chunk.new.rest) ∙ chunk_kept fs (lists c.args.rests.now) i e c.requires.within (c.requires.len ∙ sym (length-map rs items_of)) c.requires.ascending c.enter_chunk.new.first c.enter_chunk.new.rest.items (is ∙ was))
+    (λ is. ap (λ (l : List (List Ranked)). joined (set fs i c.enter_chunk.new.first) l) (map-set items_of rs i c.enter_chunk.new.rest) ∙ chunk_kept fs (lists c.args.rests.now) i e c.requires.belongs.within (c.requires.len ∙ sym (length-map rs items_of)) c.requires.ascending c.enter_chunk.new.first c.enter_chunk.new.rest.items (is ∙ was))
     c.enter_chunk.ensures.err

@@ -1,10 +1,9 @@
 use Rattle.std.proofs.Common.{◌≡◌, List, [], sym, ap, ◌∙◌, subst}
 use Rattle.std.specs.Prelude.{not}
 use Rattle.liq_types.specs.Ranked.{Ranked}
-use Rattle.liq_types.specs.Tables.{Table}
+use Rattle.liq_stands.specs.Parts.{Parts}
 use Rattle.liq_guide.specs.Followed.{all_listed}
 use Rattle.liq_guide.specs.Rows.{AreSettledBeside, Follows, Holds, key_at, next_at, side_at}
-use Rattle.liq_guide.specs.declared.rows.Stand.{Stand}
 use Rattle.liq_guide.proofs.Following.{list_of_views}
 use Rattle.liq_guide.proofs.Holding.{begun}
 use Rattle.liq_guide.proofs.Stands.{IsEnded, followed, kept_if_err, listed_if_ok}
@@ -23,28 +22,28 @@ returns-then-shift-clause-list c v same =
 
 -- ---- any changes
 
-stays : (c : goal.After-settle) → (c.shift.new.self.places ≡ c.self.inside.rows.places) × (c.shift.new.self.stands.rows ≡ c.self.inside.rows.stands.rows)
+stays : (c : goal.After-settle) → (c.shift.new.self.places ≡ c.self.inside.rows.places) × (c.shift.new.self.stands ≡ c.self.inside.rows.stands)
 stays c = c.shift.ensures.stays c.if-shift.false
 
-stands : (c : goal.After-settle) → Follows (key_at c.shift.new.self.stands.rows) c.shift.new.self.places
+stands : (c : goal.After-settle) → Follows (key_at c.shift.new.self.stands) c.shift.new.self.places
 stands c =
-    subst (λ (rows : Table Stand). Follows (key_at rows) c.shift.new.self.places) (sym (stays c).1)
-    (subst (Follows (key_at c.self.inside.rows.stands.rows)) (sym (stays c).0) c.self.invariant.0)
+    subst (λ (rows : Parts). Follows (key_at rows) c.shift.new.self.places) (sym (stays c).1)
+    (subst (Follows (key_at c.self.inside.rows.stands)) (sym (stays c).0) c.self.invariant.0)
 
-settled : (c : goal.After-settle) → AreSettledBeside c.shift.new.self.stands.rows []
+settled : (c : goal.After-settle) → AreSettledBeside c.shift.new.self.stands []
 settled c = c.shift.ensures.settled c.self.invariant.1
 
-rests : (c : goal.After-settle) → AreSettledBeside c.settle.new.self.stands.rows []
+rests : (c : goal.After-settle) → AreSettledBeside c.settle.new.self.stands []
 rests c = c.settle.ensures.settled (c.prepare-ready.ensures.settled (settled c))
 
-ends : (c : goal.After-settle) → IsEnded c.prepare-ready.result c.settle.new.self.stands.rows c.shift.new.self.places c.settle.new.self.places c.args.changes.now
+ends : (c : goal.After-settle) → IsEnded c.prepare-ready.result c.settle.new.self.stands c.shift.new.self.places c.settle.new.self.places c.args.changes.now
 ends c =
-    let rows = c.shift.new.self.stands.rows in
+    let rows = c.shift.new.self.stands in
     let list = c.shift.new.self.places in
-    let ready = c.prepare-ready.new.self.stands.rows in
+    let ready = c.prepare-ready.new.self.stands in
     let made = subst (λ b. Holds (side_at b ready) (side_at (not b) ready) c.prepare-ready.new.self.places) (sym c.is_ok.ensures.value)
     (c.prepare-ready.ensures.holds (settled c) (begun (key_at rows) (next_at rows) list (stands c))) in
-    followed c.is_ok.result rows ready c.settle.new.self.stands.rows list c.settle.new.self.places c.args.changes.now
+    followed c.is_ok.result rows ready c.settle.new.self.stands list c.settle.new.self.places c.args.changes.now
     c.prepare-ready.result c.is_ok.ensures.value (stands c) (settled c) c.prepare-ready.ensures.key c.prepare-ready.ensures.next c.settle.ensures.same (rests c) (c.settle.ensures.holds made)
 
 pub invariant_of-self-2 : goal.invariant_of-self-2

@@ -6,7 +6,7 @@ use Rattle.liq_guide.proofs.Standing.{stand_once}
 use Rattle.liq_guide.proofs.guide.Guide.neighbours.Goals as goal
 
 pub accounts_aside-requires-clause-once : goal.accounts_aside-requires-clause-once
-accounts_aside-requires-clause-once c = stand_once (key_at c.self.inside.rows.stands.rows) c.self.inside.rows.places c.self.invariant.0
+accounts_aside-requires-clause-once c = stand_once (key_at c.self.inside.rows.stands) c.self.inside.rows.places c.self.invariant.0
 
 pub returns : goal.returns
 returns c =

@@ -1,10 +1,10 @@
 use Rattle.std.proofs.Common.{◌≡◌, List, ◌++◌, sym, ap, ◌∙◌, subst}
 use Rattle.std.specs.List.{AllByRecursion}
 use Rattle.liq_types.specs.Ranked.{Ranked}
-use Rattle.liq_chunks.proofs.Lists.{all_entered, either, on_ok}
+use Rattle.liq_chunks.proofs.Lists.{all_entered, on_ok}
 use Rattle.liq_guide.specs.Places.{IsPartOf, IsBelow, IsBetween, IsAbove}
 use Rattle.liq_chunks.specs.Entries.{with_entry}
-use Rattle.liq_guide.proofs.Parts.{parts_ascend, below_entered, shorts_entered, above_entered}
+use Rattle.liq_guide.proofs.Parts.{either, parts_ascend, below_entered, shorts_entered, above_entered}
 use Rattle.liq_guide.proofs.places.Places.insert.Goals as goal
 
 is_below : (c : goal.After-insert) → IsBelow c.args.place

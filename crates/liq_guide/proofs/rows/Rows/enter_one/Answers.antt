@@ -5,9 +5,10 @@ use Rattle.std.specs.Ordering.{is_eq}
 use Rattle.liq_types.specs.Ranked.{Ranked, rank_order}
 use Rattle.liq_types.proofs.RankedLists.{rank_total}
 use Rattle.liq_chunks.specs.Entries.{with_entry}
-use Rattle.liq_chunks.proofs.Lists.{either, entered_ascending, on_ok}
+use Rattle.liq_chunks.proofs.Lists.{entered_ascending, on_ok}
 use Rattle.liq_guide.specs.Rows.{Holds, is_in, is_key, key_at, next_at}
-use Rattle.liq_guide.specs.declared.rows.Stand.{Stand}
+use Rattle.liq_stands.specs.declared.stands.Stand.{Stand}
+use Rattle.liq_guide.proofs.Parts.{either}
 use Rattle.liq_guide.proofs.Holding as holding
 use Rattle.liq_guide.proofs.Holding.{own_entry}
 use Rattle.liq_guide.proofs.Members.{entered_is_in}
@@ -15,12 +16,12 @@ use Rattle.liq_guide.proofs.rows.Rows.enter_one.Goals as goal
 use mir.Syntax.{w128}
 use mir.Val.{SFits}
 
-next_is : (c : goal.After-insert) → next_at c.args.self.now.stands.rows c.args.account ≡ Some c.in-Some.place
-next_is c = ap (λ (s : Stand). s.next) (sym c.stand-key.ensures.stand) ∙ c.in-Some.is
+next_is : (c : goal.After-insert) → next_at c.args.self.now.stands c.args.account ≡ Some c.in-Some.place
+next_is c = ap (λ (s : Stand). s.next) (sym c.stand-key.ensures) ∙ c.in-Some.is
 
 pub returns-in-Some-clause-holds : goal.returns-in-Some-clause-holds
 returns-in-Some-clause-holds c h =
-    let stands = c.args.self.now.stands.rows in
+    let stands = c.args.self.now.stands in
     let places = c.args.self.now.places in
     let place = c.in-Some.place in
     let f : Ranked = (place, c.args.account) in
@@ -49,5 +50,5 @@ returns-in-Some-clause-entered c h =
     let fits : SFits w128 c.in-Some.place = search rules in
     let ok = simp to_z-of_z at c.insert.ensures.entered in
     on_ok c.insert.result
-    (λ (is : c.insert.new.self ≡ with_entry places f) (e : Ranked) own its. ap (λ (l : List Ranked). is_in l e) is ∙ entered_is_in places f e ∙ ap (λ o. cond (is_eq o) true (is_in places e)) (ap (λ (g : Ranked). rank_order g e) (own_entry (next_at c.args.self.now.stands.rows) c.in-Some.place c.args.account e (next_is c) own its) ∙ tied_itself rank_total e))
+    (λ (is : c.insert.new.self ≡ with_entry places f) (e : Ranked) own its. ap (λ (l : List Ranked). is_in l e) is ∙ entered_is_in places f e ∙ ap (λ o. cond (is_eq o) true (is_in places e)) (ap (λ (g : Ranked). rank_order g e) (own_entry (next_at c.args.self.now.stands) c.in-Some.place c.args.account e (next_is c) own its) ∙ tied_itself rank_total e))
     ok

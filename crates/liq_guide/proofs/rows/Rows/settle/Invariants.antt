@@ -5,7 +5,7 @@ use Rattle.liq_guide.proofs.rows.Rows.settle.Given as goal
 
 abbrev pub invariant-loop-change : goal.invariant-loop-change
 invariant-loop-change l =
-    ((a : ℕ) → side_at l.made l.self.stands.rows a ≡ side_at l.made l.fn.self.stands.rows a)
-    × (AreSettledBeside l.fn.self.stands.rows l.changes → AreSettledBeside l.self.stands.rows (drop l.change-index l.changes))
-    × (Holds (side_at l.made l.fn.self.stands.rows) (side_at (not l.made) l.fn.self.stands.rows) l.fn.self.places
-    → Holds (side_at l.made l.self.stands.rows) (side_at (not l.made) l.self.stands.rows) l.self.places)
+    ((a : ℕ) → side_at l.made l.self.stands a ≡ side_at l.made l.fn.self.stands a)
+    × (AreSettledBeside l.fn.self.stands l.changes → AreSettledBeside l.self.stands (drop l.change-index l.changes))
+    × (Holds (side_at l.made l.fn.self.stands) (side_at (not l.made) l.fn.self.stands) l.fn.self.places
+    → Holds (side_at l.made l.self.stands) (side_at (not l.made) l.self.stands) l.self.places)

@@ -1,25 +1,56 @@
-use Rattle.std.proofs.Common.{◌≡◌, ℕ, ℤ, true, false, cond, Option, sym, ap, ◌∙◌, subst}
-use Rattle.std.proofs.lemmas.Cmp.{int_eq_equiv}
-use Rattle.std.specs.Cmp.Lexicographic.{options_equiv}
+use Rattle.std.proofs.Common.{◌≡◌, ℕ, ℤ, Bool, true, false, cond, List, Option, refl, sym, ap, ◌∙◌, subst}
 use Rattle.std.specs.Option.{option_eq}
-use Rattle.std.specs.Ordering.{int_eq}
-use Rattle.std.specs.Prelude.{◌==◌, ◌≢◌, not}
-use Rattle.liq_tables.specs.WithRoom.{WithRoom}
-use Rattle.liq_guide.specs.Rows.{Holds, side_at, stand_at}
-use Rattle.liq_guide.specs.declared.rows.Stand.{Stand}
-use Rattle.liq_guide.proofs.Stands.{settled, side_of, sides_are}
+use Rattle.std.specs.Ordering.{int_eq, is_eq}
+use Rattle.std.specs.Prelude.{◌==◌, not}
+use Rattle.liq_types.specs.Ranked.{Ranked, rank_order, IsAscending}
+use Rattle.liq_stands.specs.Parts.{Parts, stand_of}
+use Rattle.liq_stands.specs.Stands.{settled_at, side_of}
+use Rattle.liq_stands.specs.declared.stands.Stand.{Stand}
+use Rattle.liq_guide.specs.declared.rows.Rows.{Rows}
+use Rattle.liq_guide.specs.Rows.{Holds, side_at, is_in}
+use Rattle.liq_guide.proofs.Stands.{option_Decides, settled, settled_as_it_was}
 use Rattle.liq_guide.proofs.rows.Rows.settle_one.Goals as goal
+use Rattle.liq_guide.proofs.rows.Rows.settle_one.Goals.{then-ne, else-ne}
+
+-- where the account stands then
+moves : (c : goal.After-settle) → c.if-ne.self.stands ≡ c.args.self.now.stands → (a : ℕ) → stand_of c.settle.new.self a ≡ cond (a == c.args.account) (settled_at (side_of c.args.made (stand_of c.args.self.now.stands c.args.account))) (stand_of c.args.self.now.stands a)
+moves c same =
+    subst (λ (stands : Parts). (a : ℕ) → stand_of c.settle.new.self a ≡ cond (a == c.args.account) (settled_at (side_of c.args.made (stand_of stands c.args.account))) (stand_of stands a)) same c.settle.ensures
+
+stays : (c : goal.After-settle) → c.sides-stays.result.0 ≡ side_at c.args.made c.args.self.now.stands c.args.account
+stays c = ap (λ (p : Option ℤ × Option ℤ). p.0) c.sides-stays.ensures ∙ ap (λ (s : Stand). side_of c.args.made s) c.stand.ensures
+
+goes : (c : goal.After-settle) → c.sides-stays.result.1 ≡ side_at (not c.args.made) c.args.self.now.stands c.args.account
+goes c = ap (λ (p : Option ℤ × Option ℤ). p.1) c.sides-stays.ensures ∙ ap (λ (s : Stand). side_of (not c.args.made) s) c.stand.ensures
+
+not_true : (b : Bool) → b ≡ true → true ≡ not b → ⊥
+not_true true h k = cc
+not_true false h k = cc
+
+not_false : (b : Bool) → false ≡ not b → b ≡ true
+not_false true h = refl
+not_false false h = cc
 
 pub returns-clause-holds : goal.returns-clause-holds
-returns-clause-holds c h =
-    let stands = c.args.self.now.stands.rows in
-    let stays = c.sides-stays.result.0 in
-    let goes = c.sides-stays.result.1 in
-    let own = sides_are c.args.made c.stand.result c.sides-stays.result c.sides-stays.ensures in
-    let sides = subst (λ (s : Stand). (stays ≡ side_of c.args.made s) × (goes ≡ side_of (not c.args.made) s)) c.stand.ensures.stand own in
-    let written : (a : ℕ) → stand_at c.set.new.self.stands.rows a ≡ cond (a == c.args.account) (record { key = stays; next = stays }) (stand_at stands a) = λ a. c.set.ensures.stands a ∙ ap (λ (s : Stand). cond (a == c.args.account) s (stand_at c.clear.new.self.stands.rows a)) c.settled.ensures ∙ ap (λ (t : WithRoom Stand). cond (a == c.args.account) (record { key = stays; next = stays }) (stand_at t.rows a)) c.clear.ensures.stands in
-    let differ : stays ≢ goes = λ same. apart (c.if-eq.ensures ∙ ap (λ (o : Option ℤ). option_eq int_eq stays o) (sym same) ∙ (options_equiv int_eq_equiv).refl stays) in
-    subst (Holds (side_at c.args.made c.set.new.self.stands.rows) (side_at (not c.args.made) c.set.new.self.stands.rows)) (sym c.set.ensures.places)
-    (settled c.args.made stands c.set.new.self.stands.rows c.args.account stays goes c.args.self.now.places c.clear.new.self.places sides differ written c.clear.ensures.none c.clear.ensures.some h) where
-      apart : false ≡ true → ⊥
-      apart clash = cc
+returns-clause-holds c h = elim c.if-ne.branch [
+  | then-ne w ↦
+      let old = c.args.self.now in
+      let kept = c.sides-stays.result.0 in
+      let given = c.sides-stays.result.1 in
+      let places : c.if-ne.self.places ≡ w.clear.new.self.places = ap (λ (r : Rows). r.places) w.self-is in
+      let stands : c.if-ne.self.stands ≡ old.stands = ap (λ (r : Rows). r.stands) w.self-is ∙ w.clear.ensures.stands in
+      settled c.args.made old.stands c.settle.new.self c.args.account (moves c stands) old.places c.if-ne.self.places given (goes c)
+      (λ same. not_true (option_eq int_eq kept given) ((option_Decides kept given).1 (stays c ∙ same)) w.if-ne.ensures)
+      (λ none. places ∙ w.clear.ensures.none none)
+      (λ k is. subst (λ (l : List Ranked). IsAscending l × ((e : Ranked) → is_in l e ≡ cond (is_eq (rank_order (k, c.args.account) e)) false (is_in old.places e))) (sym places) (w.clear.ensures.some k is))
+      h
+  | else-ne w ↦
+      let old = c.args.self.now in
+      let kept = c.sides-stays.result.0 in
+      let given = c.sides-stays.result.1 in
+      let places : c.if-ne.self.places ≡ old.places = ap (λ (r : Rows). r.places) w.self-is in
+      let stands : c.if-ne.self.stands ≡ old.stands = ap (λ (r : Rows). r.stands) w.self-is in
+      let same : kept ≡ given = (option_Decides kept given).0 (not_false (option_eq int_eq kept given) w.if-ne.ensures) in
+      subst (Holds (side_at c.args.made c.settle.new.self) (side_at (not c.args.made) c.settle.new.self)) (sym places)
+      (settled_as_it_was c.args.made old.stands c.settle.new.self c.args.account (moves c stands) old.places (sym (stays c) ∙ same ∙ goes c) h)
+]

@@ -1,0 +1,10 @@
+use Rattle.std.proofs.Common.{ap, None}
+use Rattle.liq_types.specs.Tables.{Table, at}
+use Rattle.liq_stands.specs.declared.kept.Kept.{Kept}
+use Rattle.liq_stands.specs.declared.stands.Stand.{Stand}
+use Rattle.liq_stands.proofs.Moving.{found}
+use Rattle.liq_stands.proofs.stands.Stands.new.Goals as goal
+
+pub returns : goal.returns
+returns c a =
+    found (record { kept = c.new.result.rows; apart = c.new-2.result.entries }) a None None (ap (λ (t : Table Kept). at t a) c.new.ensures) (ap (λ (t : Table Stand). at t a) c.new-2.ensures.empty)
