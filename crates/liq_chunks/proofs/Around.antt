@@ -47,6 +47,16 @@ cut (g ∷ fs) (p ∷ rs) zero f r q h k is =
 cut (g ∷ fs) (p ∷ rs) (suc i) f r q h k is =
     ap (λ (l : List Ranked). g ∷ (p ++ l)) (cut fs rs i f r q (omega arith) (omega arith) is)
 
+-- two chunks that become one: the list is the same
+pub together : (fs : List Ranked) (rs : List (List Ranked)) (i : ℕ) (d : Ranked) → suc i < length fs → length fs ≡ length rs → joined (remove fs (suc i)) (set (remove rs (suc i)) i (get_or rs i [] ++ (get_or fs (suc i) d ∷ get_or rs (suc i) []))) ≡ joined fs rs
+together [] rs i d h k = absurd (omega arith)
+together (f ∷ fs) [] i d h k = absurd (omega arith)
+together (f ∷ []) (r ∷ rs) zero d h k = absurd (omega arith)
+together (f ∷ g ∷ fs) (r ∷ []) zero d h k = absurd (omega arith)
+together (f ∷ g ∷ fs) (r ∷ q ∷ rs) zero d h k = ap (λ (l : List Ranked). f ∷ l) (append_assoc r (g ∷ q) (joined fs rs))
+together (f ∷ fs) (r ∷ rs) (suc i) d h k =
+    ap (λ (l : List Ranked). f ∷ (r ++ l)) (together fs rs i d (omega arith) (omega arith))
+
 before_chunk : (fs : List Ranked) (rs : List (List Ranked)) (i : ℕ) (d e : Ranked) (back : List Ranked) → ((d : Ranked) → 0 < i → is_lt (rank_order e (get_or fs i d)) ≡ false) → IsAscending (joined (take i fs) (take i rs) ++ ((get_or fs i d ∷ get_or rs i []) ++ back)) → Ahead e (joined (take i fs) (take i rs))
 before_chunk fs rs zero d e back low h = tt
 before_chunk fs rs (suc i) d e back low h =

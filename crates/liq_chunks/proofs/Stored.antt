@@ -1,11 +1,11 @@
 -- Chunks as vectors have them: what is read of one, and what the lists are once one is cut in two or taken out.
 use Rattle.std.proofs.Common.{◌≡◌, ℕ, ◌<◌, ◌+◌, suc, zero, List, [], ◌∷◌, ◌++◌, length, get_or, set, take, drop, refl, sym, ap, ◌∙◌, arith, map}
-use Rattle.std.proofs.lemmas.List.{take-append-drop, get_or-map, get_or_read, length-map, map-set, drop_more}
-use Rattle.std.proofs.lemmas.List.Edits.{get_or-insert_below}
+use Rattle.std.proofs.lemmas.List.{take-append-drop, get_or-map, get_or_read, length-map, map-set, drop_more, set-get_or}
+use Rattle.std.proofs.lemmas.List.Edits.{get_or-insert_below, get_or-remove_below}
 use Rattle.std.specs.Prelude.{insert, remove, Vec}
 use Rattle.liq_types.specs.Ranked.{Ranked}
 use Rattle.liq_chunks.specs.Chunks.{joined}
-use Rattle.liq_chunks.proofs.Around.{cut}
+use Rattle.liq_chunks.proofs.Around.{cut, together}
 
 module _ {Z : Type 0} where
   abbrev pub items_of : Vec Ranked Z → List Ranked
@@ -58,3 +58,51 @@ module _ {Z : Type 0} where
             ∙ sym (take-append-drop 31 chunk.items)
             ∙ ap (λ (l : List Ranked). take 31 chunk.items ++ l) (drop_more chunk.items 31 f full ∙ ap (λ (g : Ranked). g ∷ drop 32 chunk.items) (sym first_is) ∙ ap (λ (l : List Ranked). f ∷ l) (sym second_is))
             ∙ ap (λ (l : List Ranked). l ++ (f ∷ second.items)) (ap (λ (v : Vec Ranked Z). take 31 v.items) (sym seen_chunk) ∙ sym half_is)
+
+  -- a chunk that got more room
+  pub same_chunks : (rests : List (Vec Ranked Z)) (i : ℕ) (chunk held : Vec Ranked Z) → i < length rests → chunk ≡ get_or rests i chunk → held.items ≡ chunk.items → map items_of (set rests i held) ≡ map items_of rests
+  same_chunks rests i chunk held h was is =
+      map-set items_of rests i held
+      ∙ ap (λ (l : List Ranked). set (map items_of rests) i l) (is ∙ read_rest rests i chunk h was)
+      ∙ set-get_or (map items_of rests) i []
+
+  pub made_one : (fs : List Ranked) (rests others : List (Vec Ranked Z)) (i j : ℕ) (f : Ranked) (chunk held second seen whole : Vec Ranked Z) → j ≡ suc i → j < length fs → length fs ≡ length rests → chunk ≡ get_or rests i chunk → held.items ≡ chunk.items → f ≡ get_or fs j f → second ≡ get_or (set rests i held) j second → others ≡ remove (set rests i held) j → seen ≡ get_or others i seen → whole.items ≡ seen.items ++ (f ∷ second.items) → joined (remove fs j) (map items_of (set others i whole)) ≡ joined fs (map items_of rests)
+  made_one fs rests others i j f chunk held second seen whole next h k was held_is first_is second_is others_is seen_is whole_is =
+      ap (λ n. joined (remove fs n) (map items_of (set others i whole))) next
+      ∙ ap (λ (l : List (List Ranked)). joined (remove fs (suc i)) l) lists_are
+      ∙ together fs rs i f (omega arith) (k ∙ sym (length-map rests items_of)) where
+        rs : List (List Ranked)
+        rs = map items_of rests
+
+        held_rests : List (Vec Ranked Z)
+        held_rests = set rests i held
+
+        same : map items_of held_rests ≡ rs
+        same = same_chunks rests i chunk held (omega arith) was held_is
+
+        count : length held_rests ≡ length rests
+        count = sym (length-map held_rests items_of) ∙ ap (λ (l : List (List Ranked)). length l) same ∙ length-map rests items_of
+
+        second_read : second.items ≡ get_or rs (suc i) []
+        second_read =
+            read_rest held_rests j second (omega (arith, count)) second_is
+            ∙ ap (λ n. get_or (map items_of held_rests) n []) next
+            ∙ ap (λ (l : List (List Ranked)). get_or l (suc i) []) same
+
+        seen_read : seen.items ≡ get_or rs i []
+        seen_read =
+            read_rest held_rests i seen (omega (arith, count)) (seen_is ∙ ap (λ (l : List (Vec Ranked Z)). get_or l i seen) others_is ∙ get_or-remove_below held_rests j seen i (omega arith) (omega (arith, count)))
+            ∙ ap (λ (l : List (List Ranked)). get_or l i []) same
+
+        whole_read : whole.items ≡ get_or rs i [] ++ (get_or fs (suc i) f ∷ get_or rs (suc i) [])
+        whole_read =
+            whole_is
+            ∙ ap (λ (l : List Ranked). l ++ (f ∷ second.items)) seen_read
+            ∙ ap (λ (l : List Ranked). get_or rs i [] ++ (f ∷ l)) second_read
+            ∙ ap (λ (g : Ranked). get_or rs i [] ++ (g ∷ get_or rs (suc i) [])) (first_is ∙ ap (λ n. get_or fs n f) next)
+
+        lists_are : map items_of (set others i whole) ≡ set (remove rs (suc i)) i (get_or rs i [] ++ (get_or fs (suc i) f ∷ get_or rs (suc i) []))
+        lists_are =
+            map-set items_of others i whole
+            ∙ ap (λ (l : List (List Ranked)). set l i whole.items) (ap (λ (l : List (Vec Ranked Z)). map items_of l) others_is ∙ map_remove held_rests j ∙ ap (λ n. remove (map items_of held_rests) n) next ∙ ap (λ (l : List (List Ranked)). remove l (suc i)) same)
+            ∙ ap (λ (l : List Ranked). set (remove rs (suc i)) i l) whole_read

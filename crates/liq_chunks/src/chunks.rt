@@ -1,6 +1,6 @@
 //! Entries in ascending order, in chunks.
 
-ghost use Rattle.std.specs.Prelude.{◌≡◌, ◌+◌, ◌-◌, ◌<◌, ◌≤◌, [], ◌∷◌, true, false, List, length, slice_index_or, ℤ, ◌<ℤ◌, take, drop, vec_len, vec_capacity, IfSome, IfOk, IsOk, OnOk, OnErr};
+ghost use Rattle.std.specs.Prelude.{◌≡◌, ◌+◌, ◌++◌, ◌-◌, ◌<◌, ◌≤◌, [], ◌∷◌, true, false, List, length, slice_index_or, ℤ, ◌<ℤ◌, take, drop, vec_len, vec_capacity, IfSome, IfOk, IsOk, OnOk, OnErr};
 ghost use Rattle.std.specs.List.{Contains};
 ghost use Rattle.std.specs.Option.{option_or};
 ghost use Rattle.std.specs.Ordering.{is_eq, is_lt};
@@ -24,7 +24,8 @@ const HALF: usize = 31;
 /// Entries in ascending order, by key and then by account. Contracts see the list.
 ///
 /// They stand in chunks of at most 64, each in its own memory. The first of each chunk stands apart: among those a chunk is found, and
-/// they are few enough to stay near the processor. A chunk leaves with its last entry; chunks are not joined.
+/// they are few enough to stay near the processor. A full chunk is cut in two, and where entries leave, two
+/// chunks beside each other that have at most 32 together become one.
 #[derive(Drop)]
 pub struct Chunks {
     firsts: Vec<Entry>,
@@ -84,6 +85,8 @@ impl Chunks {
         }
         let chunk = chunk_of(&self.firsts, entry);
         take_out(&mut self.firsts, &mut self.rests, chunk, entry);
+        join(&mut self.firsts, &mut self.rests, chunk + 1);
+        join(&mut self.firsts, &mut self.rests, chunk);
     }
 
     /// Puts an entry in another's place, where both belong behind the first of one chunk: that takes no memory and is one search. Tells
@@ -234,6 +237,42 @@ fn split(firsts: &mut Vec<Entry>, rests: &mut Vec<Vec<Entry>>, chunk: usize) -> 
     };
     rests[chunk].truncate(HALF);
     Ok(())
+}
+
+// Makes one of a chunk and the one before it, where together they have no more entries than a half of a chunk that was cut and there is
+// memory for it. All entries stay.
+fn join(firsts: &mut Vec<Entry>, rests: &mut Vec<Vec<Entry>>, chunk: usize)
+    requires len { length firsts.old.items ≡ length rests.old.items }
+    ensures same { entries firsts.new rests.new ≡ entries firsts.old rests.old }
+    ensures len { length firsts.new.items ≡ length rests.new.items }
+{
+    if chunk == 0 || chunk >= rests.len() {
+        return;
+    }
+    let more = rests[chunk].len() + 1;
+    if rests[chunk - 1].len() + more > HALF {
+        return;
+    }
+    let Ok(()) = rests[chunk - 1].try_reserve(more) else {
+        return;
+    };
+    let first = firsts.remove(chunk);
+    let second = rests.remove(chunk);
+    append(&mut rests[chunk - 1], first, second);
+}
+
+// Puts a chunk's entries behind those of another.
+fn append(rest: &mut Vec<Entry>, first: Entry, second: Vec<Entry>)
+    requires room { vec_len rest.old + (vec_len second + 1) ≤ vec_capacity rest.old }
+    ensures { rest.new.items ≡ rest.old.items ++ (first ∷ second.items) }
+{
+    let mut second = second;
+    let Ok(()) = rest.push(first) else {
+        unreachable!();
+    };
+    let Ok(()) = rest.append(&mut second) else {
+        unreachable!();
+    };
 }
 
 // Puts an entry into its chunk, if it isn't there.
