@@ -66,43 +66,47 @@ module _ {Z : Type 0} where
       ∙ ap (λ (l : List Ranked). set (map items_of rests) i l) (is ∙ read_rest rests i chunk h was)
       ∙ set-get_or (map items_of rests) i []
 
-  pub made_one : (fs : List Ranked) (rests others : List (Vec Ranked Z)) (i j : ℕ) (f : Ranked) (chunk held second seen whole : Vec Ranked Z) → j ≡ suc i → j < length fs → length fs ≡ length rests → chunk ≡ get_or rests i chunk → held.items ≡ chunk.items → f ≡ get_or fs j f → second ≡ get_or (set rests i held) j second → others ≡ remove (set rests i held) j → seen ≡ get_or others i seen → whole.items ≡ seen.items ++ (f ∷ second.items) → joined (remove fs j) (map items_of (set others i whole)) ≡ joined fs (map items_of rests)
-  made_one fs rests others i j f chunk held second seen whole next h k was held_is first_is second_is others_is seen_is whole_is =
-      ap (λ n. joined (remove fs n) (map items_of (set others i whole))) next
-      ∙ ap (λ (l : List (List Ranked)). joined (remove fs (suc i)) l) lists_are
-      ∙ together fs rs i f (omega arith) (k ∙ sym (length-map rests items_of)) where
-        rs : List (List Ranked)
-        rs = map items_of rests
+  -- a chunk that got more room, and the one behind it that is taken out
+  module _ (rests others : List (Vec Ranked Z)) (i j : ℕ) (chunk held second seen : Vec Ranked Z) (next : j ≡ suc i) (h : j < length rests)
+      (was : chunk ≡ get_or rests i chunk) (held_is : held.items ≡ chunk.items)
+      (second_is : second ≡ get_or (set rests i held) j second) (others_is : others ≡ remove (set rests i held) j) (seen_is : seen ≡ get_or others i seen) where
+    abbrev held_rests : List (Vec Ranked Z)
+    held_rests = set rests i held
 
-        held_rests : List (Vec Ranked Z)
-        held_rests = set rests i held
+    pub same : map items_of held_rests ≡ map items_of rests
+    same = same_chunks rests i chunk held (omega arith) was held_is
 
-        same : map items_of held_rests ≡ rs
-        same = same_chunks rests i chunk held (omega arith) was held_is
+    count : length held_rests ≡ length rests
+    count = sym (length-map held_rests items_of) ∙ ap (λ (l : List (List Ranked)). length l) same ∙ length-map rests items_of
 
-        count : length held_rests ≡ length rests
-        count = sym (length-map held_rests items_of) ∙ ap (λ (l : List (List Ranked)). length l) same ∙ length-map rests items_of
+    pub second_read : second.items ≡ get_or (map items_of rests) j []
+    second_read =
+        read_rest held_rests j second (omega (arith, count)) second_is
+        ∙ ap (λ (l : List (List Ranked)). get_or l j []) same
 
-        second_read : second.items ≡ get_or rs (suc i) []
-        second_read =
-            read_rest held_rests j second (omega (arith, count)) second_is
-            ∙ ap (λ n. get_or (map items_of held_rests) n []) next
-            ∙ ap (λ (l : List (List Ranked)). get_or l (suc i) []) same
+    pub seen_read : seen.items ≡ get_or (map items_of rests) i []
+    seen_read =
+        read_rest held_rests i seen (omega (arith, count)) (seen_is ∙ ap (λ (l : List (Vec Ranked Z)). get_or l i seen) others_is ∙ get_or-remove_below held_rests j seen i (omega arith) (omega (arith, count)))
+        ∙ ap (λ (l : List (List Ranked)). get_or l i []) same
 
-        seen_read : seen.items ≡ get_or rs i []
-        seen_read =
-            read_rest held_rests i seen (omega (arith, count)) (seen_is ∙ ap (λ (l : List (Vec Ranked Z)). get_or l i seen) others_is ∙ get_or-remove_below held_rests j seen i (omega arith) (omega (arith, count)))
-            ∙ ap (λ (l : List (List Ranked)). get_or l i []) same
+    -- it goes behind the first one's
+    pub made_one : (fs : List Ranked) (f : Ranked) (whole : Vec Ranked Z) → length fs ≡ length rests → f ≡ get_or fs j f → whole.items ≡ seen.items ++ (f ∷ second.items) → joined (remove fs j) (map items_of (set others i whole)) ≡ joined fs (map items_of rests)
+    made_one fs f whole k first_is whole_is =
+        ap (λ n. joined (remove fs n) (map items_of (set others i whole))) next
+        ∙ ap (λ (l : List (List Ranked)). joined (remove fs (suc i)) l) lists_are
+        ∙ together fs rs i f (omega arith) (k ∙ sym (length-map rests items_of)) where
+          rs : List (List Ranked)
+          rs = map items_of rests
 
-        whole_read : whole.items ≡ get_or rs i [] ++ (get_or fs (suc i) f ∷ get_or rs (suc i) [])
-        whole_read =
-            whole_is
-            ∙ ap (λ (l : List Ranked). l ++ (f ∷ second.items)) seen_read
-            ∙ ap (λ (l : List Ranked). get_or rs i [] ++ (f ∷ l)) second_read
-            ∙ ap (λ (g : Ranked). get_or rs i [] ++ (g ∷ get_or rs (suc i) [])) (first_is ∙ ap (λ n. get_or fs n f) next)
+          whole_read : whole.items ≡ get_or rs i [] ++ (get_or fs (suc i) f ∷ get_or rs (suc i) [])
+          whole_read =
+              whole_is
+              ∙ ap (λ (l : List Ranked). l ++ (f ∷ second.items)) seen_read
+              ∙ ap (λ (l : List Ranked). get_or rs i [] ++ (f ∷ l)) (second_read ∙ ap (λ n. get_or rs n []) next)
+              ∙ ap (λ (g : Ranked). get_or rs i [] ++ (g ∷ get_or rs (suc i) [])) (first_is ∙ ap (λ n. get_or fs n f) next)
 
-        lists_are : map items_of (set others i whole) ≡ set (remove rs (suc i)) i (get_or rs i [] ++ (get_or fs (suc i) f ∷ get_or rs (suc i) []))
-        lists_are =
-            map-set items_of others i whole
-            ∙ ap (λ (l : List (List Ranked)). set l i whole.items) (ap (λ (l : List (Vec Ranked Z)). map items_of l) others_is ∙ map_remove held_rests j ∙ ap (λ n. remove (map items_of held_rests) n) next ∙ ap (λ (l : List (List Ranked)). remove l (suc i)) same)
-            ∙ ap (λ (l : List Ranked). set (remove rs (suc i)) i l) whole_read
+          lists_are : map items_of (set others i whole) ≡ set (remove rs (suc i)) i (get_or rs i [] ++ (get_or fs (suc i) f ∷ get_or rs (suc i) []))
+          lists_are =
+              map-set items_of others i whole
+              ∙ ap (λ (l : List (List Ranked)). set l i whole.items) (ap (λ (l : List (Vec Ranked Z)). map items_of l) others_is ∙ map_remove held_rests j ∙ ap (λ n. remove (map items_of held_rests) n) next ∙ ap (λ (l : List (List Ranked)). remove l (suc i)) same)
+              ∙ ap (λ (l : List Ranked). set (remove rs (suc i)) i l) whole_read

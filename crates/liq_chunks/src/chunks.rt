@@ -1,12 +1,12 @@
 //! Entries in ascending order, in chunks.
 
-ghost use Rattle.std.specs.Prelude.{◌≡◌, ◌+◌, ◌++◌, ◌-◌, ◌<◌, ◌≤◌, [], ◌∷◌, true, false, List, length, slice_index_or, ℤ, ◌<ℤ◌, take, drop, vec_len, vec_capacity, IfSome, IfOk, IsOk, OnOk, OnErr};
+ghost use Rattle.std.specs.Prelude.{◌≡◌, ◌+◌, ◌++◌, ◌-◌, ◌<◌, ◌≤◌, [], ◌∷◌, true, false, List, length, slice_index_or, ℕ, ℤ, ◌<ℤ◌, take, drop, vec_len, vec_capacity, IfSome, IfOk, IsOk, OnOk, OnErr};
 ghost use Rattle.std.specs.List.{Contains};
 ghost use Rattle.std.specs.Option.{option_or};
 ghost use Rattle.std.specs.Ordering.{is_eq, is_lt};
 ghost use Rattle.liq_types.specs.Ranked.{Ranked, rank_order, IsAscending, first_of};
 ghost use Rattle.liq_chunks.specs.Entries.{with_entry, without_entry, entry_before, entry_after};
-ghost use Rattle.liq_chunks.specs.Chunks.{BelongsTo, lists, entries, joined, last_of, last_or, IsPlace};
+ghost use Rattle.liq_chunks.specs.Chunks.{BelongsTo, lists, entries, joined, last_of, last_or, IsPlace, AreShort, BelongsToEither};
 
 use liq_types::NoMemory;
 use std::alloc::Global;
@@ -35,13 +35,13 @@ pub struct Chunks {
 impl Model for Chunks {
     ghost use Rattle.std.specs.Prelude.{◌≡◌, List, length};
     ghost use Rattle.liq_types.specs.Ranked.{Ranked, IsAscending};
-    ghost use Rattle.liq_chunks.specs.Chunks.{entries};
+    ghost use Rattle.liq_chunks.specs.Chunks.{entries, lists, AreShort};
 
     ghost Value = { List Ranked };
 
     ghost view = { λ p. entries p.firsts p.rests };
 
-    ghost invariant = { λ p. (length p.firsts.items ≡ length p.rests.items) × IsAscending (entries p.firsts p.rests) };
+    ghost invariant = { λ p. (length p.firsts.items ≡ length p.rests.items) × IsAscending (entries p.firsts p.rests) × AreShort (lists p.rests) };
 }
 
 impl Chunks {
@@ -69,8 +69,8 @@ impl Chunks {
         if self.rests[chunk].len() < MOST {
             return enter(&mut self.firsts, &mut self.rests, chunk, entry);
         }
-        split(&mut self.firsts, &mut self.rests, chunk)?;
-        let chunk = chunk_of(&self.firsts, entry);
+        split(&mut self.firsts, &mut self.rests, chunk, entry)?;
+        let chunk = half_of(&self.firsts, chunk, entry);
         enter(&mut self.firsts, &mut self.rests, chunk, entry)
     }
 
@@ -164,6 +164,19 @@ fn chunk_of(firsts: &[Entry], entry: Entry) -> usize
     low
 }
 
+// Which of a chunk and the one behind it.
+fn half_of(firsts: &[Entry], chunk: usize, entry: Entry) -> usize
+    requires { BelongsToEither firsts.now entry chunk }
+    ensures belongs { BelongsTo firsts.now entry result }
+    ensures either { (chunk ≤ result) × (result ≤ chunk + 1) }
+{
+    if is_before(entry, firsts[chunk + 1]) {
+        chunk
+    } else {
+        chunk + 1
+    }
+}
+
 // How many entries of a chunk stand before one.
 fn place_in(rest: &[Entry], entry: Entry) -> usize
     ensures within { result ≤ length rest.now }
@@ -193,6 +206,7 @@ fn begin(firsts: &mut Vec<Entry>, rests: &mut Vec<Vec<Entry>>, entry: Entry) -> 
     requires firsts { firsts.old.items ≡ [] }
     requires rests { rests.old.items ≡ [] }
     ensures len { length firsts.new.items ≡ length rests.new.items }
+    ensures short { AreShort (lists rests.new) }
     ensures ok { OnOk result (entries firsts.new rests.new ≡ entry ∷ []) }
     ensures err { OnErr result (firsts.new.items ≡ []) }
 {
@@ -216,14 +230,22 @@ fn behind_half(rest: &Vec<Entry>) -> Result<Vec<Entry>, NoMemory>
     Ok(half)
 }
 
-// Cuts a chunk in two. All entries stay.
-fn split(firsts: &mut Vec<Entry>, rests: &mut Vec<Vec<Entry>>, chunk: usize) -> Result<(), NoMemory>
-    requires within { chunk < length firsts.old.items }
+// Cuts a chunk in two. All entries stay, and another that belongs to the chunk then belongs to one of the two.
+fn split(
+    firsts: &mut Vec<Entry>,
+    rests: &mut Vec<Vec<Entry>>,
+    chunk: usize,
+    entry: Entry,
+) -> Result<(), NoMemory>
+    requires belongs { BelongsTo firsts.old.items entry chunk }
+    requires short { AreShort (lists rests.old) }
     requires len { length firsts.old.items ≡ length rests.old.items }
     requires full { (d : List Ranked) → HALF < length (slice_index_or (lists rests.old) chunk d) }
     ensures same { entries firsts.new rests.new ≡ entries firsts.old rests.old }
     ensures len { length firsts.new.items ≡ length rests.new.items }
-    ensures some { 0 < length firsts.new.items }
+    ensures either { OnOk result (BelongsToEither firsts.new.items entry chunk) }
+    ensures short { AreShort (lists rests.new) }
+    ensures room { OnOk result ((at : ℕ) (d : List Ranked) → chunk ≤ at → at ≤ chunk + 1 → length (slice_index_or (lists rests.new) at d) < MOST) }
 {
     let rest = &rests[chunk];
     let first = rest[HALF];
@@ -243,8 +265,10 @@ fn split(firsts: &mut Vec<Entry>, rests: &mut Vec<Vec<Entry>>, chunk: usize) -> 
 // memory for it. All entries stay.
 fn join(firsts: &mut Vec<Entry>, rests: &mut Vec<Vec<Entry>>, chunk: usize)
     requires len { length firsts.old.items ≡ length rests.old.items }
+    requires short { AreShort (lists rests.old) }
     ensures same { entries firsts.new rests.new ≡ entries firsts.old rests.old }
     ensures len { length firsts.new.items ≡ length rests.new.items }
+    ensures short { AreShort (lists rests.new) }
 {
     if chunk == 0 || chunk >= rests.len() {
         return;
@@ -285,7 +309,10 @@ fn enter(
     requires len { length firsts.old.items ≡ length rests.old.items }
     requires ascending { IsAscending (entries firsts.old rests.old) }
     requires belongs { BelongsTo firsts.old.items entry chunk }
+    requires short { AreShort (lists rests.old) }
+    requires room { (d : List Ranked) → length (slice_index_or (lists rests.old) chunk d) < MOST }
     ensures len { length firsts.new.items ≡ length rests.new.items }
+    ensures short { AreShort (lists rests.new) }
     ensures ok { OnOk result (entries firsts.new rests.new ≡ with_entry (entries firsts.old rests.old) entry) }
     ensures err { OnErr result (entries firsts.new rests.new ≡ entries firsts.old rests.old) }
 {
@@ -294,6 +321,7 @@ fn enter(
 
 fn enter_chunk(first: &mut Entry, rest: &mut Vec<Entry>, entry: Entry) -> Result<(), NoMemory>
     requires { IsAscending (first.old ∷ rest.old.items) }
+    ensures more { length rest.new.items ≤ length rest.old.items + 1 }
     ensures ok { OnOk result ((first.new ∷ rest.new.items) ≡ with_entry (first.old ∷ rest.old.items) entry) }
     ensures err { OnErr result ((first.new ∷ rest.new.items) ≡ (first.old ∷ rest.old.items)) }
 {
@@ -312,6 +340,7 @@ fn enter_chunk(first: &mut Entry, rest: &mut Vec<Entry>, entry: Entry) -> Result
 
 fn enter_rest(rest: &mut Vec<Entry>, entry: Entry) -> Result<(), NoMemory>
     requires { IsAscending rest.old.items }
+    ensures more { length rest.new.items ≤ length rest.old.items + 1 }
     ensures ok { OnOk result (rest.new.items ≡ with_entry rest.old.items entry) }
     ensures err { OnErr result (rest.new.items ≡ rest.old.items) }
     ensures room { vec_len rest.old < vec_capacity rest.old → IsOk result }
@@ -331,7 +360,9 @@ fn take_out(firsts: &mut Vec<Entry>, rests: &mut Vec<Vec<Entry>>, chunk: usize, 
     requires len { length firsts.old.items ≡ length rests.old.items }
     requires ascending { IsAscending (entries firsts.old rests.old) }
     requires belongs { BelongsTo firsts.old.items entry chunk }
+    requires short { AreShort (lists rests.old) }
     ensures len { length firsts.new.items ≡ length rests.new.items }
+    ensures short { AreShort (lists rests.new) }
     ensures left { entries firsts.new rests.new ≡ without_entry (entries firsts.old rests.old) entry }
 {
     if rests[chunk].is_empty() && is_same(entry, firsts[chunk]) {
@@ -345,7 +376,8 @@ fn take_out(firsts: &mut Vec<Entry>, rests: &mut Vec<Vec<Entry>>, chunk: usize, 
 fn take_out_of_chunk(first: &mut Entry, rest: &mut Vec<Entry>, entry: Entry)
     requires ascending { IsAscending (first.old ∷ rest.old.items) }
     requires more { rest.old.items ≡ [] → is_eq (rank_order entry first.old) ≡ false }
-    ensures { (first.new ∷ rest.new.items) ≡ without_entry (first.old ∷ rest.old.items) entry }
+    ensures less { length rest.new.items ≤ length rest.old.items }
+    ensures left { (first.new ∷ rest.new.items) ≡ without_entry (first.old ∷ rest.old.items) entry }
 {
     if is_same(entry, *first) {
         *first = rest.remove(0);
@@ -360,6 +392,7 @@ fn take_out_of_rest(rest: &mut Vec<Entry>, entry: Entry) -> bool
     ensures left { rest.new.items ≡ without_entry rest.old.items entry }
     ensures there { result ≡ true → Contains rest.old.items entry }
     ensures room { result ≡ true → vec_len rest.new < vec_capacity rest.new }
+    ensures less { result ≡ true → length rest.new.items + 1 ≡ length rest.old.items }
     ensures stays { result ≡ false → rest.new.items ≡ rest.old.items }
 {
     let at = place_in(rest, entry);
@@ -400,7 +433,9 @@ fn shift_in_chunk(
     requires len { length firsts.now.items ≡ length rests.old.items }
     requires ascending { IsAscending (entries firsts.now rests.old) }
     requires belongs { BelongsTo firsts.now.items from chunk }
+    requires short { AreShort (lists rests.old) }
     ensures len { length firsts.now.items ≡ length rests.new.items }
+    ensures short { AreShort (lists rests.new) }
     ensures shifted { result ≡ true → entries firsts.now rests.new ≡ with_entry (without_entry (entries firsts.now rests.old) from) to }
     ensures stays { result ≡ false → entries firsts.now rests.new ≡ entries firsts.now rests.old }
 {
@@ -416,6 +451,7 @@ fn shift_in(rest: &mut Vec<Entry>, from: Entry, to: Entry) -> bool
     requires { IsAscending rest.old.items }
     ensures shifted { result ≡ true → rest.new.items ≡ with_entry (without_entry rest.old.items from) to }
     ensures there { result ≡ true → Contains rest.old.items from }
+    ensures less { length rest.new.items ≤ length rest.old.items }
     ensures stays { result ≡ false → rest.new.items ≡ rest.old.items }
 {
     if !take_out_of_rest(rest, from) {

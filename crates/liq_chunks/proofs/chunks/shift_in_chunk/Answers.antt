@@ -7,6 +7,7 @@ use Rattle.liq_chunks.specs.Chunks.{joined, lists}
 use Rattle.liq_chunks.specs.Entries.{with_entry, without_entry}
 use Rattle.liq_chunks.proofs.Around.{chunk_ascending, chunk_shifted}
 use Rattle.liq_chunks.proofs.Stored.{items_of, read_rest}
+use Rattle.liq_chunks.proofs.Short.{short_read, short_set}
 use Rattle.liq_chunks.proofs.chunks.shift_in_chunk.Goals as goal
 
 pub shift_in-requires : goal.shift_in-requires
@@ -40,3 +41,8 @@ returns-clause-stays c done =
     let i = c.args.chunk in
     let seen = read_rest rests i c.index_mut.result.now (omega (arith, c.requires.belongs.within, c.requires.len)) c.index_mut.ensures.value in
     ap (λ (l : List (List Ranked)). joined fs l) (map-set items_of rests i c.shift_in.new.rest ∙ ap (λ (l : List Ranked). set rs i l) (c.shift_in.ensures.stays done ∙ seen) ∙ set-get_or rs i [])
+
+pub returns-clause-short : goal.returns-clause-short
+returns-clause-short c =
+    let was = short_read c.args.rests.now.items c.args.chunk c.index_mut.result.now c.requires.short (omega (arith, c.requires.belongs.within, c.requires.len)) c.index_mut.ensures.value in
+    short_set c.args.rests.now.items c.args.chunk c.shift_in.new.rest c.requires.short (omega (arith, was, c.shift_in.ensures.less))
