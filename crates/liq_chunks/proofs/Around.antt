@@ -1,7 +1,7 @@
 -- The list around a chunk, and what an entry that comes into the chunk or leaves it makes of the list.
 use Rattle.std.proofs.Common.{◌≡◌, ℕ, ◌<◌, ◌+◌, suc, zero, true, false, List, [], ◌∷◌, ◌++◌, length, get_or, set, take, drop, refl, sym, ap, ◌∙◌, arith, append_assoc, subst, Option}
 use Rattle.std.proofs.lemmas.List.{get_or_default, set-get_or}
-use Rattle.std.proofs.lemmas.List.Elements.{All-contains, All-from_recursion}
+use Rattle.std.proofs.lemmas.List.Elements.{All-contains, All-from_recursion, Contains-append_left, Contains-append_right}
 use Rattle.std.specs.Prelude.{insert, remove}
 use Rattle.std.specs.List.{Contains}
 use Rattle.std.specs.Option.{option_or}
@@ -150,6 +150,12 @@ module _ (fs : List Ranked) (rs : List (List Ranked)) (i : ℕ) (d : Ranked)
         ap (λ (l : List Ranked). entry_after l e) (around fs rs i d within lengths)
         ∙ after_past front_of (chunk_at ++ back_of) e front_ahead
         ∙ after_ahead chunk_at back_of e back_behind
+
+  -- what stands behind the first of the chunk
+  pub chunk_has : (e : Ranked) → Contains (get_or rs i []) e → Contains (joined fs rs) e
+  chunk_has e there =
+      subst (λ (l : List Ranked). Contains l e) (sym (around fs rs i d within lengths))
+      (Contains-append_right front_of (chunk_at ++ back_of) e (Contains-append_left chunk_at back_of e (Contains-append_right (get_or fs i d ∷ []) (get_or rs i []) e there)))
 
   -- one entry leaves and another comes in, both behind the first of the chunk
   module _ (from to : Ranked)

@@ -95,6 +95,7 @@ impl Chunks {
     pub fn shift(&mut self, from: Entry, to: Entry) -> bool
         ensures ascending { IsAscending self.new }
         ensures shifted { result ≡ true → self.new ≡ with_entry (without_entry self.old from) to }
+        ensures there { result ≡ true → Contains self.old from }
         ensures stays { result ≡ false → self.new ≡ self.old }
     {
         if self.firsts.is_empty() {
@@ -118,7 +119,7 @@ impl Chunks {
     /// The first of all.
     pub fn first(&self) -> Option<Entry>
         ensures first { result ≡ first_of self.now }
-        ensures least { (key : ℤ) → key <ℤ i128.MIN → IfSome result (λ e. key <ℤ e.0) }
+        ensures least { (key : ℤ) → key <ℤ i64.MIN → IfSome result (λ e. key <ℤ e.0) }
     {
         self.firsts.first().copied()
     }
@@ -179,9 +180,7 @@ fn half_of(firsts: &[Entry], chunk: usize, entry: Entry) -> usize
 
 // How many entries of a chunk stand before one.
 fn place_in(rest: &[Entry], entry: Entry) -> usize
-    ensures within { result ≤ length rest.now }
-    ensures low { (d : Ranked) → 0 < result → is_lt (rank_order (slice_index_or rest.now (result - 1) d) entry) ≡ true }
-    ensures high { (d : Ranked) → result < length rest.now → is_lt (rank_order (slice_index_or rest.now result d) entry) ≡ false }
+    ensures { IsPlace rest.now entry result }
 {
     let mut at = 0;
     while at < rest.len() && is_before(rest[at], entry) {
@@ -437,6 +436,7 @@ fn shift_in_chunk(
     ensures len { length firsts.now.items ≡ length rests.new.items }
     ensures short { AreShort (lists rests.new) }
     ensures shifted { result ≡ true → entries firsts.now rests.new ≡ with_entry (without_entry (entries firsts.now rests.old) from) to }
+    ensures there { result ≡ true → Contains (entries firsts.now rests.old) from }
     ensures stays { result ≡ false → entries firsts.now rests.new ≡ entries firsts.now rests.old }
 {
     if !is_behind_first(firsts, chunk, to) {
