@@ -1,4 +1,4 @@
--- Chunks that have no more than a chunk may have, and one of them that changes, comes or leaves.
+-- Chunks none of which has more entries than a chunk may have, and one of them that changes, comes or leaves.
 use Rattle.std.proofs.Common.{◌≡◌, ℕ, ◌<◌, ◌≤◌, ◌+◌, suc, zero, List, [], ◌∷◌, length, get_or, set, map, arith, subst, ap, sym, ◌∙◌}
 use Rattle.std.specs.Prelude.{insert, remove, Vec}
 use Rattle.liq_types.specs.Ranked.{Ranked}

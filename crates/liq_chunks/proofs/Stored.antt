@@ -1,4 +1,5 @@
--- Chunks as vectors have them: what is read of one, and what the lists are once one is cut in two or taken out.
+-- Chunks as vectors have them: what is read of one, and what the lists are once one is cut in two or taken out, or two
+-- are made one.
 use Rattle.std.proofs.Common.{◌≡◌, ℕ, ◌<◌, ◌+◌, suc, zero, List, [], ◌∷◌, ◌++◌, length, get_or, set, take, drop, refl, sym, ap, ◌∙◌, arith, map}
 use Rattle.std.proofs.lemmas.List.{take-append-drop, get_or-map, get_or_read, length-map, map-set, drop_more, set-get_or}
 use Rattle.std.proofs.lemmas.List.Edits.{get_or-insert_below, get_or-remove_below}

@@ -12,6 +12,9 @@ use liq_types::NoMemory;
 use std::alloc::Global;
 use std::marker::Model;
 
+#[cfg(test)]
+mod tests;
+
 /// A key and an account.
 pub type Entry = (i64, u32);
 
@@ -24,8 +27,8 @@ const HALF: usize = 31;
 /// Entries in ascending order, by key and then by account. Contracts see the list.
 ///
 /// They stand in chunks of at most 64, each in its own memory. The first of each chunk stands apart: among those a chunk is found, and
-/// they are few enough to stay near the processor. A full chunk is cut in two, and where entries leave, two
-/// chunks beside each other that have at most 32 together become one.
+/// they are few enough to stay near the processor. A full chunk is cut in two. Where an entry leaves, chunks beside each other that have
+/// at most 32 together become one, if there is memory for it; a chunk leaves with its last entry.
 #[derive(Drop)]
 pub struct Chunks {
     firsts: Vec<Entry>,
@@ -260,8 +263,7 @@ fn split(
     Ok(())
 }
 
-// Makes one of a chunk and the one before it, where together they have no more entries than a half of a chunk that was cut and there is
-// memory for it. All entries stay.
+// Makes one of a chunk and the one before it, where they have at most 32 entries together and there is memory for it. All entries stay.
 fn join(firsts: &mut Vec<Entry>, rests: &mut Vec<Vec<Entry>>, chunk: usize)
     requires len { length firsts.old.items ≡ length rests.old.items }
     requires short { AreShort (lists rests.old) }
