@@ -1,6 +1,6 @@
 //! Where each account stands.
 
-ghost use Rattle.std.specs.Prelude.{◌≡◌, ℕ, true, Some, IsSome, IfSome, OnOk, OnErr};
+ghost use Rattle.std.specs.Prelude.{◌≡◌, ℕ, true, None, Some, IsSome, IfSome, OnOk, OnErr};
 ghost use Rattle.liq_types.specs.Tables.{at};
 ghost use Rattle.liq_stands.specs.Kept.{is_kept};
 ghost use Rattle.liq_stands.specs.Parts.{stand_of};
@@ -126,6 +126,26 @@ impl Stands {
         ensures { (a : ℕ) → stand_of self.new a ≡ moved (stand_of self.old) account (settled_at (Some key.key)) a }
     {
         let _ = self.kept.write(account, key);
+    }
+
+    /// Takes out an account that is kept: it stands nowhere then. Takes no memory.
+    pub fn leave(&mut self, account: u32)
+        requires { IsSome (at self.old.kept account) }
+        ensures { (a : ℕ) → stand_of self.new a ≡ moved (stand_of self.old) account (settled_at None) a }
+    {
+        self.kept.take(account);
+    }
+
+    /// Keeps an account under a key, wherever it stood. After `NoMemory` all is as before.
+    pub fn open(&mut self, account: u32, kept: Kept) -> Result<(), NoMemory>
+        requires { is_kept kept ≡ true }
+        ensures ok { OnOk result ((a : ℕ) → stand_of self.new a ≡ moved (stand_of self.old) account (settled_at (Some kept.key)) a) }
+        ensures err { OnErr result (self.new ≡ self.old) }
+    {
+        self.kept.reserve(account)?;
+        let _ = self.apart.remove(&account);
+        let _ = self.kept.write(account, kept);
+        Ok(())
     }
 }
 
