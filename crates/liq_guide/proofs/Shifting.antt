@@ -105,3 +105,22 @@ opened key list account place out h =
         by : (b : Bool) → (e.1 == account) ≡ b → (not b && is_in list e) ≡ is_in list e
         by true its = sym (h.keyed e ∙ ap (λ a. is_key (key a) e.0) (eqb-true e.1 account its) ∙ ap (λ k. is_key k e.0) out)
         by false its = refl
+
+-- and leaves again
+pub left_again : (key : ℕ → Option ℤ) (list : List Ranked) (account : ℕ) (place : ℤ) → key account ≡ None → Follows key list → without_entry (with_entry list (place, account)) (place, account) ≡ list
+left_again key list account place out h =
+    same_list (without_entry (with_entry list e) e) list (left_ascending (with_entry list e) e (entered_ascending list e h.ascending)) h.ascending same where
+      e : Ranked
+      e = (place, account)
+
+      is_out : is_in list e ≡ false
+      is_out = h.keyed e ∙ ap (λ k. is_key k place) out
+
+      same : (f : Ranked) → is_in (without_entry (with_entry list e) e) f ≡ is_in list f
+      same f =
+          left_is_in (with_entry list e) e f
+          ∙ ap (λ b. cond (is_eq (rank_order e f)) false b) (entered_is_in list e f)
+          ∙ by (is_eq (rank_order e f)) refl where
+            by : (b : Bool) → is_eq (rank_order e f) ≡ b → cond b false (cond b true (is_in list f)) ≡ is_in list f
+            by true own = sym (ap (λ (g : Ranked). is_in list g) (sym (same_entry e f own)) ∙ is_out)
+            by false other = refl

@@ -31,19 +31,35 @@ impl Rows {
         }
     }
 
-    // Follows one change alone, of an account that is kept before and after, or opened or closed. Others it does not follow: then, and
-    // where there is no memory, all is as before.
+    // Follows one change alone without notes: one that puts an account under a key that can be kept, where it is kept or stands nowhere,
+    // and one that takes out an account that is kept. Another is not followed. Then, and where there is no memory, all is as before.
     pub(crate) fn follow_one(&mut self, changes: &[ListChange]) -> Option<Result<(), NoMemory>>
         ensures followed { IfSome result (λ r. OnOk r (Follows (key_at self.old.stands) self.old.places
             → Follows (key_at self.new.stands) self.new.places × (self.new.places ≡ all_listed self.old.places changes.now))) }
         ensures settled { AreSettledBeside self.old.stands [] → AreSettledBeside self.new.stands [] }
-        ensures err { IfSome result (λ r. OnErr r ((self.new.places ≡ self.old.places) × (self.new.stands ≡ self.old.stands))) }
+        ensures err { IfSome result (λ r. OnErr r (Follows (key_at self.old.stands) self.old.places
+            → (self.new.places ≡ self.old.places) × (self.new.stands ≡ self.old.stands))) }
         ensures stays { IfNone result ((self.new.places ≡ self.old.places) × (self.new.stands ≡ self.old.stands)) }
     {
         match *changes {
-            [ListChange::Put { key, account }] => self.put_kept(key, account),
+            [ListChange::Put { key, account }] => self.put_one(key, account),
             [ListChange::Gone { account }] => self.take_kept(account),
             _ => None,
+        }
+    }
+
+    // Puts an account under a key that can be kept, where it is kept or stands nowhere.
+    fn put_one(&mut self, key: i128, account: u32) -> Option<Result<(), NoMemory>>
+        ensures followed { IfSome result (λ r. OnOk r (Follows (key_at self.old.stands) self.old.places
+            → Follows (key_at self.new.stands) self.new.places × (self.new.places ≡ listed self.old.places (Put key account)))) }
+        ensures settled { AreSettledBeside self.old.stands [] → AreSettledBeside self.new.stands [] }
+        ensures err { IfSome result (λ r. OnErr r (Follows (key_at self.old.stands) self.old.places
+            → (self.new.places ≡ self.old.places) × (self.new.stands ≡ self.old.stands))) }
+        ensures stays { IfNone result ((self.new.places ≡ self.old.places) × (self.new.stands ≡ self.old.stands)) }
+    {
+        match self.put_kept(key, account) {
+            None => self.open_kept(key, account),
+            met => met,
         }
     }
 
@@ -52,7 +68,8 @@ impl Rows {
         ensures followed { IfSome result (λ r. OnOk r (Follows (key_at self.old.stands) self.old.places
             → Follows (key_at self.new.stands) self.new.places × (self.new.places ≡ listed self.old.places (Put key account)))) }
         ensures settled { AreSettledBeside self.old.stands [] → AreSettledBeside self.new.stands [] }
-        ensures err { IfSome result (λ r. OnErr r ((self.new.places ≡ self.old.places) × (self.new.stands ≡ self.old.stands))) }
+        ensures err { IfSome result (λ r. OnErr r (Follows (key_at self.old.stands) self.old.places
+            → (self.new.places ≡ self.old.places) × (self.new.stands ≡ self.old.stands))) }
         ensures stays { IfNone result ((self.new.places ≡ self.old.places) × (self.new.stands ≡ self.old.stands)) }
     {
         let (Some(stood), Some(kept)) = (self.stands.kept(account), Kept::of(key)) else {
@@ -65,6 +82,29 @@ impl Rows {
             return Some(Err(NoMemory));
         }
         self.stands.keep(account, kept);
+        Some(Ok(()))
+    }
+
+    // Puts an account that stands nowhere under a key that can be kept.
+    fn open_kept(&mut self, key: i128, account: u32) -> Option<Result<(), NoMemory>>
+        ensures followed { IfSome result (λ r. OnOk r (Follows (key_at self.old.stands) self.old.places
+            → Follows (key_at self.new.stands) self.new.places × (self.new.places ≡ listed self.old.places (Put key account)))) }
+        ensures settled { AreSettledBeside self.old.stands [] → AreSettledBeside self.new.stands [] }
+        ensures err { IfSome result (λ r. OnErr r (Follows (key_at self.old.stands) self.old.places
+            → (self.new.places ≡ self.old.places) × (self.new.stands ≡ self.old.stands))) }
+        ensures stays { IfNone result ((self.new.places ≡ self.old.places) × (self.new.stands ≡ self.old.stands)) }
+    {
+        let kept = Kept::of(key)?;
+        if self.stands.stand(account).key.is_some() {
+            return None;
+        }
+        if let Err(NoMemory) = self.places.insert((key, account)) {
+            return Some(Err(NoMemory));
+        }
+        if let Err(NoMemory) = self.stands.open(account, kept) {
+            self.places.remove((key, account));
+            return Some(Err(NoMemory));
+        }
         Some(Ok(()))
     }
 
