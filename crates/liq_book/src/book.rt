@@ -9,6 +9,7 @@ ghost use Rattle.liq_views.specs.Publishers.{published, waiting};
 ghost use Rattle.liq_book.specs.Items.{chronicle};
 
 use crate::items::{ENTRIES_MOST, Halt};
+use crate::kinds::changes_list;
 use crate::looking::Looking;
 use crate::origin::Origin;
 use crate::service::Closed;
@@ -16,7 +17,7 @@ use liq_core::laws::protocols_are_sound;
 use liq_entries::{enter, publish};
 use liq_outside::Disk;
 use liq_store::Store;
-use liq_types::{Answer, Entry, Hint, NoMemory, Request};
+use liq_types::{Answer, Entry, Hint, NoMemory, Reply, Request};
 use liq_views::{Finder, Publisher};
 use std::alloc::Global;
 use std::marker::{Model, PhantomData};
@@ -203,6 +204,33 @@ impl<D: Disk, O: Origin> Book<D, O> {
                 Answer::DiskFault
             }
             other => other,
+        }
+    }
+
+    /// As [`Book::call`]. Where it is asked to, it publishes the list behind an accepted command that may have changed it. A publication
+    /// for which there is no memory is passed over: the next one makes up for it.
+    pub(crate) fn call_in_turn<W: Wait>(
+        &mut self,
+        rt: &W,
+        session: u8,
+        calls: u32,
+        request: &Request,
+        hint: &Hint,
+        publishes: bool,
+    ) -> Answer
+        requires calls { length (own_entries session (map recorded self.old.book.entries)) ≡ calls }
+        ensures enters { Enters O.state session calls request.now result self.old.book self.new.book }
+        ensures first { IsTestedFirst self.old.book.entries result }
+        ensures legal { IsLegal O.state (map recorded self.new.book.entries) }
+        ensures few { length self.new.book.entries ≤ ENTRIES_MOST }
+    {
+        let answer = self.call(session, calls, request, hint);
+        match answer {
+            Answer::Reply(Reply::Said(done)) if publishes && changes_list(done.kind) => {
+                let _ = self.publish(rt);
+                answer
+            }
+            _ => answer,
         }
     }
 

@@ -64,15 +64,24 @@ impl<D: Disk, O: Origin> BoxedBook<D, O> {
         self.into_book().close(rt)
     }
 
-    /// As [`Book::call`].
-    pub(crate) fn call(&mut self, session: u8, calls: u32, request: &Request, hint: &Hint) -> Answer
+    /// As [`Book::call_in_turn`].
+    pub(crate) fn call_in_turn<W: Wait>(
+        &mut self,
+        rt: &W,
+        session: u8,
+        calls: u32,
+        request: &Request,
+        hint: &Hint,
+        publishes: bool,
+    ) -> Answer
         requires calls { length (own_entries session (map recorded self.old.boxed.value.book.entries)) ≡ calls }
         ensures enters { Enters O.state session calls request.now result self.old.boxed.value.book self.new.boxed.value.book }
         ensures first { IsTestedFirst self.old.boxed.value.book.entries result }
         ensures legal { IsLegal O.state (map recorded self.new.boxed.value.book.entries) }
         ensures few { length self.new.boxed.value.book.entries ≤ ENTRIES_MOST }
     {
-        self.boxed.call(session, calls, request, hint)
+        self.boxed
+            .call_in_turn(rt, session, calls, request, hint, publishes)
     }
 
     /// As [`Book::publish`].

@@ -5,6 +5,7 @@
 mod book;
 mod boxed;
 mod items;
+mod kinds;
 mod looking;
 mod origin;
 mod publishing;

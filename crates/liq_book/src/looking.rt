@@ -1,5 +1,5 @@
 //! A look for the hint of a call. Under the lock the list is what was published last, with the changes made that nobody has published
-//! since: those of other sessions' calls, and last those of the command itself.
+//! since: those of earlier calls, and last those of the command itself.
 
 use self::place::Place;
 use self::since::{are_few, key_left, names};

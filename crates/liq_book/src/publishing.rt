@@ -1,7 +1,5 @@
 //! A desk that publishes the list behind each call that changed it.
-ghost use Rattle.std.specs.Prelude.{◌≡◌, ◌==◌};
-ghost use Rattle.std.specs.List.{list_any};
-ghost use Rattle.liq_rules.specs.View.{list_kinds};
+ghost use Rattle.std.specs.Prelude.{◌≡◌};
 ghost use Rattle.liq_types.specs.Desks.{own_after, faulted_after, EndsKnown};
 ghost use Rattle.liq_book.specs.Items.{ShowsEnd, calls_of, faulted_in};
 ghost use Rattle.liq_book.specs.Seats.{IsSeatOf, items_seen, session_at};
@@ -10,21 +8,11 @@ use crate::origin::Origin;
 use crate::seat::BookSeat;
 use crate::service::Service;
 use liq_outside::Disk;
-use liq_types::{Answer, Desk, Hint, Reply, Request};
+use liq_types::{Answer, Desk, Hint, Request};
 use std::sync::Wait;
 
-/// The kinds of accepted commands that change the ordered list.
-const LIST_KINDS: [u8; 7] = [6, 7, 8, 11, 12, 13, 14];
-
-/// Whether an accepted command of this kind may have changed the ordered list.
-fn changes_list(kind: u8) -> bool
-    ensures { result ≡ list_any (λ k. k == kind) list_kinds }
-{
-    LIST_KINDS.contains(&kind)
-}
-
-/// A service as a desk that publishes the list behind each accepted command that may have changed it. A publication for which there
-/// is no memory is passed over: the next one makes up for it.
+/// A service as a desk that publishes the list behind each accepted command that may have changed it, before the command's turn ends: no
+/// other session's call comes between. A publication for which there is no memory is passed over: the next one makes up for it.
 #[derive(Drop)]
 pub struct Publishing<'a, D: Disk, O: Origin> {
     service: &'a Service<D, O>,
@@ -59,13 +47,6 @@ impl<'a, D: Disk, O: Origin> Desk for Publishing<'a, D, O> {
         request: &Request,
         hint: &Hint,
     ) -> (BookSeat<O>, Answer) {
-        let (seat, answer) = Desk::call(self.service, rt, seat, request, hint);
-        match answer {
-            Answer::Reply(Reply::Said(done)) if changes_list(done.kind) => {
-                let (seat, _) = self.service.publish(rt, seat);
-                (seat, answer)
-            }
-            _ => (seat, answer),
-        }
+        self.service.turn(rt, seat, request, hint, true)
     }
 }

@@ -1,7 +1,7 @@
 -- The list around a chunk, and what an entry that comes into the chunk or leaves it makes of the list.
 use Rattle.std.proofs.Common.{◌≡◌, ℕ, ◌<◌, ◌+◌, suc, zero, true, false, List, [], ◌∷◌, ◌++◌, length, get_or, set, take, drop, refl, sym, ap, ◌∙◌, arith, append_assoc, subst, Option}
 use Rattle.std.proofs.lemmas.List.{get_or_default, set-get_or}
-use Rattle.std.proofs.lemmas.List.Elements.{All-contains, All-from_recursion}
+use Rattle.std.proofs.lemmas.List.Elements.{All-contains, All-from_recursion, Contains-append_left, Contains-append_right}
 use Rattle.std.specs.Prelude.{insert, remove}
 use Rattle.std.specs.List.{Contains}
 use Rattle.std.specs.Option.{option_or}
@@ -46,6 +46,16 @@ cut (g ∷ fs) (p ∷ rs) zero f r q h k is =
     ap (λ (l : List Ranked). g ∷ l) (sym (append_assoc r (f ∷ q) (joined fs rs)) ∙ ap (λ (l : List Ranked). l ++ joined fs rs) (sym is))
 cut (g ∷ fs) (p ∷ rs) (suc i) f r q h k is =
     ap (λ (l : List Ranked). g ∷ (p ++ l)) (cut fs rs i f r q (omega arith) (omega arith) is)
+
+-- two chunks that become one: the list is the same
+pub together : (fs : List Ranked) (rs : List (List Ranked)) (i : ℕ) (d : Ranked) → suc i < length fs → length fs ≡ length rs → joined (remove fs (suc i)) (set (remove rs (suc i)) i (get_or rs i [] ++ (get_or fs (suc i) d ∷ get_or rs (suc i) []))) ≡ joined fs rs
+together [] rs i d h k = absurd (omega arith)
+together (f ∷ fs) [] i d h k = absurd (omega arith)
+together (f ∷ []) (r ∷ rs) zero d h k = absurd (omega arith)
+together (f ∷ g ∷ fs) (r ∷ []) zero d h k = absurd (omega arith)
+together (f ∷ g ∷ fs) (r ∷ q ∷ rs) zero d h k = ap (λ (l : List Ranked). f ∷ l) (append_assoc r (g ∷ q) (joined fs rs))
+together (f ∷ fs) (r ∷ rs) (suc i) d h k =
+    ap (λ (l : List Ranked). f ∷ (r ++ l)) (together fs rs i d (omega arith) (omega arith))
 
 before_chunk : (fs : List Ranked) (rs : List (List Ranked)) (i : ℕ) (d e : Ranked) (back : List Ranked) → ((d : Ranked) → 0 < i → is_lt (rank_order e (get_or fs i d)) ≡ false) → IsAscending (joined (take i fs) (take i rs) ++ ((get_or fs i d ∷ get_or rs i []) ++ back)) → Ahead e (joined (take i fs) (take i rs))
 before_chunk fs rs zero d e back low h = tt
@@ -140,6 +150,12 @@ module _ (fs : List Ranked) (rs : List (List Ranked)) (i : ℕ) (d : Ranked)
         ap (λ (l : List Ranked). entry_after l e) (around fs rs i d within lengths)
         ∙ after_past front_of (chunk_at ++ back_of) e front_ahead
         ∙ after_ahead chunk_at back_of e back_behind
+
+  -- what stands behind the first of the chunk
+  pub chunk_has : (e : Ranked) → Contains (get_or rs i []) e → Contains (joined fs rs) e
+  chunk_has e there =
+      subst (λ (l : List Ranked). Contains l e) (sym (around fs rs i d within lengths))
+      (Contains-append_right front_of (chunk_at ++ back_of) e (Contains-append_left chunk_at back_of e (Contains-append_right (get_or fs i d ∷ []) (get_or rs i []) e there)))
 
   -- one entry leaves and another comes in, both behind the first of the chunk
   module _ (from to : Ranked)

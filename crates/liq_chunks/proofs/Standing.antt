@@ -137,9 +137,8 @@ first_back (r ∷ rs) more x some is left_over =
 
 -- ---- the place of an entry in a list, which is the one that was seen
 
-pub place_of : (seen list : List Ranked) (e : Ranked) (at : ℕ) → seen ≡ list → at ≤ length seen → ((d : Ranked) → 0 < at → is_lt (rank_order (get_or seen (at - 1) d) e) ≡ true) → ((d : Ranked) → at < length seen → is_lt (rank_order (get_or seen at d) e) ≡ false) → IsPlace list e at
-place_of seen list e at is within low high =
-    subst (λ (l : List Ranked). IsPlace l e at) is (record { within = within; low = low; high = high })
+pub place_of : (seen list : List Ranked) (e : Ranked) (at : ℕ) → seen ≡ list → IsPlace seen e at → IsPlace list e at
+place_of seen list e at is place = subst (λ (l : List Ranked). IsPlace l e at) is place
 
 pub is_there : (seen list : List Ranked) (e : Ranked) (at : ℕ) (b : Bool) → seen ≡ list → ((d : Ranked) → at < length seen → is_eq (rank_order e (get_or seen at d)) ≡ b) → (d : Ranked) → at < length list → is_eq (rank_order e (get_or list at d)) ≡ b
 is_there seen list e at b is h =

@@ -1,16 +1,19 @@
 //! Entries in ascending order, in chunks.
 
-ghost use Rattle.std.specs.Prelude.{◌≡◌, ◌+◌, ◌-◌, ◌<◌, ◌≤◌, [], ◌∷◌, true, false, List, length, slice_index_or, ℤ, ◌<ℤ◌, take, drop, vec_len, vec_capacity, IfSome, IfOk, IsOk, OnOk, OnErr};
+ghost use Rattle.std.specs.Prelude.{◌≡◌, ◌+◌, ◌++◌, ◌-◌, ◌<◌, ◌≤◌, [], ◌∷◌, true, false, List, length, slice_index_or, ℕ, ℤ, ◌<ℤ◌, take, drop, vec_len, vec_capacity, IfSome, IfOk, IsOk, OnOk, OnErr};
 ghost use Rattle.std.specs.List.{Contains};
 ghost use Rattle.std.specs.Option.{option_or};
 ghost use Rattle.std.specs.Ordering.{is_eq, is_lt};
 ghost use Rattle.liq_types.specs.Ranked.{Ranked, rank_order, IsAscending, first_of};
 ghost use Rattle.liq_chunks.specs.Entries.{with_entry, without_entry, entry_before, entry_after};
-ghost use Rattle.liq_chunks.specs.Chunks.{BelongsTo, lists, entries, joined, last_of, last_or, IsPlace};
+ghost use Rattle.liq_chunks.specs.Chunks.{BelongsTo, lists, entries, joined, last_of, last_or, IsPlace, AreShort, BelongsToEither};
 
 use liq_types::NoMemory;
 use std::alloc::Global;
 use std::marker::Model;
+
+#[cfg(test)]
+mod tests;
 
 /// A key and an account.
 pub type Entry = (i64, u32);
@@ -18,13 +21,14 @@ pub type Entry = (i64, u32);
 // The most entries of a chunk behind its first.
 const MOST: usize = 63;
 
-// How many of them stay where a chunk is cut in two.
+// How many of them stay where a chunk is cut in two, and the most of a chunk that two are joined to.
 const HALF: usize = 31;
 
 /// Entries in ascending order, by key and then by account. Contracts see the list.
 ///
 /// They stand in chunks of at most 64, each in its own memory. The first of each chunk stands apart: among those a chunk is found, and
-/// they are few enough to stay near the processor. A chunk leaves with its last entry; chunks are not joined.
+/// they are few enough to stay near the processor. A full chunk is cut in two. Where an entry leaves, chunks beside each other that have
+/// at most 32 together become one, if there is memory for it; a chunk leaves with its last entry.
 #[derive(Drop)]
 pub struct Chunks {
     firsts: Vec<Entry>,
@@ -34,13 +38,13 @@ pub struct Chunks {
 impl Model for Chunks {
     ghost use Rattle.std.specs.Prelude.{◌≡◌, List, length};
     ghost use Rattle.liq_types.specs.Ranked.{Ranked, IsAscending};
-    ghost use Rattle.liq_chunks.specs.Chunks.{entries};
+    ghost use Rattle.liq_chunks.specs.Chunks.{entries, lists, AreShort};
 
     ghost Value = { List Ranked };
 
     ghost view = { λ p. entries p.firsts p.rests };
 
-    ghost invariant = { λ p. (length p.firsts.items ≡ length p.rests.items) × IsAscending (entries p.firsts p.rests) };
+    ghost invariant = { λ p. (length p.firsts.items ≡ length p.rests.items) × IsAscending (entries p.firsts p.rests) × AreShort (lists p.rests) };
 }
 
 impl Chunks {
@@ -68,12 +72,12 @@ impl Chunks {
         if self.rests[chunk].len() < MOST {
             return enter(&mut self.firsts, &mut self.rests, chunk, entry);
         }
-        split(&mut self.firsts, &mut self.rests, chunk)?;
-        let chunk = chunk_of(&self.firsts, entry);
+        split(&mut self.firsts, &mut self.rests, chunk, entry)?;
+        let chunk = half_of(&self.firsts, chunk, entry);
         enter(&mut self.firsts, &mut self.rests, chunk, entry)
     }
 
-    /// Takes an entry out, if it is there.
+    /// Takes an entry out, if it is there. That needs no memory.
     #[tactic(auto, using(crate::proofs::Lists::left_ascending))]
     pub fn remove(&mut self, entry: Entry)
         ensures ascending { IsAscending self.new }
@@ -84,14 +88,17 @@ impl Chunks {
         }
         let chunk = chunk_of(&self.firsts, entry);
         take_out(&mut self.firsts, &mut self.rests, chunk, entry);
+        join(&mut self.firsts, &mut self.rests, chunk + 1);
+        join(&mut self.firsts, &mut self.rests, chunk);
     }
 
-    /// Puts an entry in another's place, where both belong behind the first of one chunk: that takes no memory and is one search. Tells
+    /// Puts an entry in another's place, where both belong behind the first of one chunk: that takes no memory. Tells
     /// whether it did; where it didn't, all is as before.
     #[tactic(auto, using(crate::proofs::Lists::entered_ascending, crate::proofs::Lists::left_ascending))]
     pub fn shift(&mut self, from: Entry, to: Entry) -> bool
         ensures ascending { IsAscending self.new }
         ensures shifted { result ≡ true → self.new ≡ with_entry (without_entry self.old from) to }
+        ensures there { result ≡ true → Contains self.old from }
         ensures stays { result ≡ false → self.new ≡ self.old }
     {
         if self.firsts.is_empty() {
@@ -115,7 +122,7 @@ impl Chunks {
     /// The first of all.
     pub fn first(&self) -> Option<Entry>
         ensures first { result ≡ first_of self.now }
-        ensures least { (key : ℤ) → key <ℤ i128.MIN → IfSome result (λ e. key <ℤ e.0) }
+        ensures least { (key : ℤ) → key <ℤ i64.MIN → IfSome result (λ e. key <ℤ e.0) }
     {
         self.firsts.first().copied()
     }
@@ -161,11 +168,22 @@ fn chunk_of(firsts: &[Entry], entry: Entry) -> usize
     low
 }
 
+// To which of a chunk and the one behind it an entry belongs.
+fn half_of(firsts: &[Entry], chunk: usize, entry: Entry) -> usize
+    requires { BelongsToEither firsts.now entry chunk }
+    ensures belongs { BelongsTo firsts.now entry result }
+    ensures either { (chunk ≤ result) × (result ≤ chunk + 1) }
+{
+    if is_before(entry, firsts[chunk + 1]) {
+        chunk
+    } else {
+        chunk + 1
+    }
+}
+
 // How many entries of a chunk stand before one.
 fn place_in(rest: &[Entry], entry: Entry) -> usize
-    ensures within { result ≤ length rest.now }
-    ensures low { (d : Ranked) → 0 < result → is_lt (rank_order (slice_index_or rest.now (result - 1) d) entry) ≡ true }
-    ensures high { (d : Ranked) → result < length rest.now → is_lt (rank_order (slice_index_or rest.now result d) entry) ≡ false }
+    ensures { IsPlace rest.now entry result }
 {
     let mut at = 0;
     while at < rest.len() && is_before(rest[at], entry) {
@@ -190,6 +208,7 @@ fn begin(firsts: &mut Vec<Entry>, rests: &mut Vec<Vec<Entry>>, entry: Entry) -> 
     requires firsts { firsts.old.items ≡ [] }
     requires rests { rests.old.items ≡ [] }
     ensures len { length firsts.new.items ≡ length rests.new.items }
+    ensures short { AreShort (lists rests.new) }
     ensures ok { OnOk result (entries firsts.new rests.new ≡ entry ∷ []) }
     ensures err { OnErr result (firsts.new.items ≡ []) }
 {
@@ -213,14 +232,22 @@ fn behind_half(rest: &Vec<Entry>) -> Result<Vec<Entry>, NoMemory>
     Ok(half)
 }
 
-// Cuts a chunk in two. All entries stay.
-fn split(firsts: &mut Vec<Entry>, rests: &mut Vec<Vec<Entry>>, chunk: usize) -> Result<(), NoMemory>
-    requires within { chunk < length firsts.old.items }
+// Cuts a chunk in two. All entries stay, and another that belongs to the chunk then belongs to one of the two.
+fn split(
+    firsts: &mut Vec<Entry>,
+    rests: &mut Vec<Vec<Entry>>,
+    chunk: usize,
+    entry: Entry,
+) -> Result<(), NoMemory>
+    requires belongs { BelongsTo firsts.old.items entry chunk }
+    requires short { AreShort (lists rests.old) }
     requires len { length firsts.old.items ≡ length rests.old.items }
     requires full { (d : List Ranked) → HALF < length (slice_index_or (lists rests.old) chunk d) }
     ensures same { entries firsts.new rests.new ≡ entries firsts.old rests.old }
     ensures len { length firsts.new.items ≡ length rests.new.items }
-    ensures some { 0 < length firsts.new.items }
+    ensures either { OnOk result (BelongsToEither firsts.new.items entry chunk) }
+    ensures short { AreShort (lists rests.new) }
+    ensures room { OnOk result ((at : ℕ) (d : List Ranked) → chunk ≤ at → at ≤ chunk + 1 → length (slice_index_or (lists rests.new) at d) < MOST) }
 {
     let rest = &rests[chunk];
     let first = rest[HALF];
@@ -236,6 +263,43 @@ fn split(firsts: &mut Vec<Entry>, rests: &mut Vec<Vec<Entry>>, chunk: usize) -> 
     Ok(())
 }
 
+// Makes one of a chunk and the one before it, where they have at most 32 entries together and there is memory for it. All entries stay.
+fn join(firsts: &mut Vec<Entry>, rests: &mut Vec<Vec<Entry>>, chunk: usize)
+    requires len { length firsts.old.items ≡ length rests.old.items }
+    requires short { AreShort (lists rests.old) }
+    ensures same { entries firsts.new rests.new ≡ entries firsts.old rests.old }
+    ensures len { length firsts.new.items ≡ length rests.new.items }
+    ensures short { AreShort (lists rests.new) }
+{
+    if chunk == 0 || chunk >= rests.len() {
+        return;
+    }
+    let more = rests[chunk].len() + 1;
+    if rests[chunk - 1].len() + more > HALF {
+        return;
+    }
+    let Ok(()) = rests[chunk - 1].try_reserve(more) else {
+        return;
+    };
+    let first = firsts.remove(chunk);
+    let second = rests.remove(chunk);
+    append(&mut rests[chunk - 1], first, second);
+}
+
+// Puts a chunk's entries behind those of another.
+fn append(rest: &mut Vec<Entry>, first: Entry, second: Vec<Entry>)
+    requires room { vec_len rest.old + (vec_len second + 1) ≤ vec_capacity rest.old }
+    ensures { rest.new.items ≡ rest.old.items ++ (first ∷ second.items) }
+{
+    let mut second = second;
+    let Ok(()) = rest.push(first) else {
+        unreachable!();
+    };
+    let Ok(()) = rest.append(&mut second) else {
+        unreachable!();
+    };
+}
+
 // Puts an entry into its chunk, if it isn't there.
 fn enter(
     firsts: &mut Vec<Entry>,
@@ -246,7 +310,10 @@ fn enter(
     requires len { length firsts.old.items ≡ length rests.old.items }
     requires ascending { IsAscending (entries firsts.old rests.old) }
     requires belongs { BelongsTo firsts.old.items entry chunk }
+    requires short { AreShort (lists rests.old) }
+    requires room { (d : List Ranked) → length (slice_index_or (lists rests.old) chunk d) < MOST }
     ensures len { length firsts.new.items ≡ length rests.new.items }
+    ensures short { AreShort (lists rests.new) }
     ensures ok { OnOk result (entries firsts.new rests.new ≡ with_entry (entries firsts.old rests.old) entry) }
     ensures err { OnErr result (entries firsts.new rests.new ≡ entries firsts.old rests.old) }
 {
@@ -255,6 +322,7 @@ fn enter(
 
 fn enter_chunk(first: &mut Entry, rest: &mut Vec<Entry>, entry: Entry) -> Result<(), NoMemory>
     requires { IsAscending (first.old ∷ rest.old.items) }
+    ensures more { length rest.new.items ≤ length rest.old.items + 1 }
     ensures ok { OnOk result ((first.new ∷ rest.new.items) ≡ with_entry (first.old ∷ rest.old.items) entry) }
     ensures err { OnErr result ((first.new ∷ rest.new.items) ≡ (first.old ∷ rest.old.items)) }
 {
@@ -273,6 +341,7 @@ fn enter_chunk(first: &mut Entry, rest: &mut Vec<Entry>, entry: Entry) -> Result
 
 fn enter_rest(rest: &mut Vec<Entry>, entry: Entry) -> Result<(), NoMemory>
     requires { IsAscending rest.old.items }
+    ensures more { length rest.new.items ≤ length rest.old.items + 1 }
     ensures ok { OnOk result (rest.new.items ≡ with_entry rest.old.items entry) }
     ensures err { OnErr result (rest.new.items ≡ rest.old.items) }
     ensures room { vec_len rest.old < vec_capacity rest.old → IsOk result }
@@ -292,7 +361,9 @@ fn take_out(firsts: &mut Vec<Entry>, rests: &mut Vec<Vec<Entry>>, chunk: usize, 
     requires len { length firsts.old.items ≡ length rests.old.items }
     requires ascending { IsAscending (entries firsts.old rests.old) }
     requires belongs { BelongsTo firsts.old.items entry chunk }
+    requires short { AreShort (lists rests.old) }
     ensures len { length firsts.new.items ≡ length rests.new.items }
+    ensures short { AreShort (lists rests.new) }
     ensures left { entries firsts.new rests.new ≡ without_entry (entries firsts.old rests.old) entry }
 {
     if rests[chunk].is_empty() && is_same(entry, firsts[chunk]) {
@@ -306,7 +377,8 @@ fn take_out(firsts: &mut Vec<Entry>, rests: &mut Vec<Vec<Entry>>, chunk: usize, 
 fn take_out_of_chunk(first: &mut Entry, rest: &mut Vec<Entry>, entry: Entry)
     requires ascending { IsAscending (first.old ∷ rest.old.items) }
     requires more { rest.old.items ≡ [] → is_eq (rank_order entry first.old) ≡ false }
-    ensures { (first.new ∷ rest.new.items) ≡ without_entry (first.old ∷ rest.old.items) entry }
+    ensures less { length rest.new.items ≤ length rest.old.items }
+    ensures left { (first.new ∷ rest.new.items) ≡ without_entry (first.old ∷ rest.old.items) entry }
 {
     if is_same(entry, *first) {
         *first = rest.remove(0);
@@ -321,6 +393,7 @@ fn take_out_of_rest(rest: &mut Vec<Entry>, entry: Entry) -> bool
     ensures left { rest.new.items ≡ without_entry rest.old.items entry }
     ensures there { result ≡ true → Contains rest.old.items entry }
     ensures room { result ≡ true → vec_len rest.new < vec_capacity rest.new }
+    ensures less { result ≡ true → length rest.new.items + 1 ≡ length rest.old.items }
     ensures stays { result ≡ false → rest.new.items ≡ rest.old.items }
 {
     let at = place_in(rest, entry);
@@ -361,8 +434,11 @@ fn shift_in_chunk(
     requires len { length firsts.now.items ≡ length rests.old.items }
     requires ascending { IsAscending (entries firsts.now rests.old) }
     requires belongs { BelongsTo firsts.now.items from chunk }
+    requires short { AreShort (lists rests.old) }
     ensures len { length firsts.now.items ≡ length rests.new.items }
+    ensures short { AreShort (lists rests.new) }
     ensures shifted { result ≡ true → entries firsts.now rests.new ≡ with_entry (without_entry (entries firsts.now rests.old) from) to }
+    ensures there { result ≡ true → Contains (entries firsts.now rests.old) from }
     ensures stays { result ≡ false → entries firsts.now rests.new ≡ entries firsts.now rests.old }
 {
     if !is_behind_first(firsts, chunk, to) {
@@ -377,6 +453,7 @@ fn shift_in(rest: &mut Vec<Entry>, from: Entry, to: Entry) -> bool
     requires { IsAscending rest.old.items }
     ensures shifted { result ≡ true → rest.new.items ≡ with_entry (without_entry rest.old.items from) to }
     ensures there { result ≡ true → Contains rest.old.items from }
+    ensures less { length rest.new.items ≤ length rest.old.items }
     ensures stays { result ≡ false → rest.new.items ≡ rest.old.items }
 {
     if !take_out_of_rest(rest, from) {

@@ -2,7 +2,5 @@
 #![tactic(auto)]
 
 mod chunks;
-#[cfg(test)]
-mod tests;
 
 pub use chunks::{Chunks, Entry};

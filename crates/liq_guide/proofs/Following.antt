@@ -11,8 +11,11 @@ use Rattle.liq_types.specs.Ranked.{Ranked, rank_order, with_ranked, without_rank
 use Rattle.liq_types.specs.Views.{View, followed, all_followed}
 use Rattle.liq_types.specs.declared.events.ListChange.{ListChange}
 use Rattle.liq_types.specs.declared.events.ListChange.TheVariants.{Put, Gone, Words}
+use Rattle.liq_stands.specs.Parts.{Parts, stand_of}
+use Rattle.liq_stands.specs.Stands.{moved, settled_at}
+use Rattle.liq_stands.specs.declared.stands.Stand.{Stand}
 use Rattle.liq_guide.specs.Followed.{listed, all_listed}
-use Rattle.liq_guide.specs.Rows.{is_in, is_key, Follows}
+use Rattle.liq_guide.specs.Rows.{is_in, is_key, key_at, Follows}
 use Rattle.liq_guide.proofs.Members.{with_is_in, without_is_in, with_ascending}
 
 -- ---- the list of a view
@@ -40,6 +43,13 @@ is_eq-then Greater p = refl
 pub ranked_is_eq : (e f : Ranked) → is_eq (rank_order e f) ≡ (is_eq (int_cmp e.0 f.0) && (e.1 == f.1))
 ranked_is_eq e f =
     is_eq-then (int_cmp e.0 f.0) (nat_cmp e.1 f.1) ∙ ap (λ b. is_eq (int_cmp e.0 f.0) && b) (nat_cmp-eq e.1 f.1)
+
+-- an account was settled
+pub sent : (stands after : Parts) (account : ℕ) (key : Option ℤ) → ((a : ℕ) → stand_of after a ≡ moved (stand_of stands) account (settled_at key) a) → Sent (key_at stands) (key_at after) account key
+sent stands after account key h a = ap (λ (s : Stand). s.key) (h a) ∙ by (a == account) where
+  by : (b : Bool) → (cond b (settled_at key) (stand_of stands a)).key ≡ cond b key (key_at stands a)
+  by true = refl
+  by false = refl
 
 -- an account is taken out
 pub gone : (key other : ℕ → Option ℤ) (list : List Ranked) (account : ℕ) → Sent key other account None → Follows key list → Follows other (without_ranked list account)

@@ -110,6 +110,12 @@ module _ (made : Bool) (stands ready after : Parts) (list places : List Ranked) 
       let it = ended (key_at after) (next_at after) places list (λ a. rests a refl) (subst (λ b. Holds (side_at b after) (side_at (not b) after) places) not_made holds) stood in
       (it, subst (Follows (key_at after)) (sym it) stood)
 
+-- one change alone, without notes
+pub followed_alone : {T E : Type 0} (r : Result T E) (stands after : Parts) (list places : List Ranked) (changes : List ListChange) → Follows (key_at stands) list → OnOk r (Follows (key_at stands) list → Follows (key_at after) places × (places ≡ all_listed list changes)) → OnErr r (Follows (key_at stands) list → (places ≡ list) × (after ≡ stands)) → IsEnded r after list places changes
+followed_alone (Ok x) stands after list places changes h ok err = let it = ok h in (it.1, it.0)
+followed_alone (Err e) stands after list places changes h ok err =
+    let same = err h in (same.0, subst (λ (rows : Parts). Follows (key_at rows) places) (sym same.1) (subst (Follows (key_at stands)) (sym same.0) h))
+
 -- as contracts say it
 pub listed_if_ok : {T E : Type 0} (r : Result T E) (list places old : List Ranked) (changes : List ListChange) → list ≡ old → places ≡ outcome r list changes → OnOk r ((v : View) → v.list ≡ old → places ≡ (all_followed v changes).list)
 listed_if_ok (Ok x) list places old changes is h =

@@ -46,8 +46,8 @@ impl Guide {
         ensures list { OnOk result ((v : View) → v.list ≡ self.old → self.new ≡ (all_followed v changes.now).list) }
         ensures err { OnErr result (self.new ≡ self.old) }
     {
-        if self.rows.shift(changes) {
-            return Ok(());
+        if let Some(met) = self.rows.follow_one(changes) {
+            return met;
         }
         let ready = self.rows.prepare(changes);
         self.rows.settle(changes, ready.is_ok());

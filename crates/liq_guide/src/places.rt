@@ -81,8 +81,24 @@ impl Places {
         }
     }
 
-    // Puts a short entry in another's place, where that takes no memory. Tells whether it did.
-    pub(crate) fn shift(&mut self, from: Entry, to: Entry) -> bool
+    // Puts a short entry in another's place. Where there is no memory all is as before.
+    pub(crate) fn replace(&mut self, from: Entry, to: Entry) -> Result<(), NoMemory>
+        ensures replaced { OnOk result (self.new ≡ with_entry (without_entry self.old from) to) }
+        ensures err { OnErr result (self.new ≡ self.old) }
+    {
+        if self.shift(from, to) {
+            return Ok(());
+        }
+        self.insert(wide(to))?;
+        if from != to {
+            self.remove(wide(from));
+        }
+        Ok(())
+    }
+
+    // Puts a short entry in another's place where both are behind the first of one chunk, which takes no memory. Tells whether it did;
+    // where it didn't, all is as before.
+    fn shift(&mut self, from: Entry, to: Entry) -> bool
         ensures ascending { IsAscending self.new }
         ensures shifted { result ≡ true → self.new ≡ with_entry (without_entry self.old from) to }
         ensures stays { result ≡ false → self.new ≡ self.old }
@@ -122,6 +138,12 @@ impl Places {
     {
         or_first_not_below(self.below.first(), &self.shorts, &self.above)
     }
+}
+
+fn wide(entry: Entry) -> Place
+    ensures { result ≡ entry }
+{
+    (i128::from(entry.0), entry.1)
 }
 
 // An entry, or where there is none the first whose key is not below.

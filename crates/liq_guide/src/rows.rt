@@ -1,9 +1,10 @@
 // The entries of the ordered list, and where each account stands.
-ghost use Rattle.std.specs.Prelude.{◌≡◌, ◌==◌, ℕ, ℤ, true, false, [], Some, None, List, is_some, is_ok, not, refl, if◌then◌else◌, OnOk, MatchOption};
+ghost use Rattle.std.specs.Prelude.{◌≡◌, ◌==◌, ℕ, ℤ, true, false, [], Some, None, List, is_ok, not, if◌then◌else◌, OnOk, OnErr, IsOk, IfSome, IfNone, MatchOption};
 ghost use Rattle.std.specs.Ordering.{is_eq};
 ghost use Rattle.liq_types.specs.Ranked.{Ranked, rank_order, IsAscending};
 ghost use Rattle.liq_stands.specs.Parts.{stand_of};
 ghost use Rattle.liq_stands.specs.Stands.{nowhere, side_of};
+ghost use Rattle.liq_types.specs.declared.events.ListChange.TheVariants.{Put, Gone};
 ghost use Rattle.liq_guide.specs.Followed.{listed, all_listed};
 ghost use Rattle.liq_guide.specs.Rows.{Follows, Holds, AreSettledBeside, names, named_by, key_at, next_at, side_at, is_in, is_key};
 
@@ -30,36 +31,97 @@ impl Rows {
         }
     }
 
-    // Follows a change that gives one account another key, where its entry moves without memory. Tells whether it did.
-    pub(crate) fn shift(&mut self, changes: &[ListChange]) -> bool
-        ensures shifted { result ≡ true → Follows (key_at self.old.stands) self.old.places
-            → Follows (key_at self.new.stands) self.new.places × (self.new.places ≡ all_listed self.old.places changes.now) }
+    // Follows one change alone without notes: one that puts an account under a key that can be kept, where it is kept or stands nowhere,
+    // and one that takes out an account that is kept, also with new words behind it, as where a trove is liquidated. Others are not
+    // followed. Then, and where there is no memory, all is as before.
+    pub(crate) fn follow_one(&mut self, changes: &[ListChange]) -> Option<Result<(), NoMemory>>
+        ensures followed { IfSome result (λ r. OnOk r (Follows (key_at self.old.stands) self.old.places
+            → Follows (key_at self.new.stands) self.new.places × (self.new.places ≡ all_listed self.old.places changes.now))) }
         ensures settled { AreSettledBeside self.old.stands [] → AreSettledBeside self.new.stands [] }
-        ensures stays { result ≡ false → (self.new.places ≡ self.old.places) × (self.new.stands ≡ self.old.stands) }
+        ensures err { IfSome result (λ r. OnErr r (Follows (key_at self.old.stands) self.old.places
+            → (self.new.places ≡ self.old.places) × (self.new.stands ≡ self.old.stands))) }
+        ensures stays { IfNone result ((self.new.places ≡ self.old.places) × (self.new.stands ≡ self.old.stands)) }
     {
-        match changes {
-            [change] => self.shift_one(change),
-            _ => false,
+        match *changes {
+            [ListChange::Put { key, account }] => self.put_one(key, account),
+            [ListChange::Gone { account }]
+            | [ListChange::Gone { account }, ListChange::Words { .. }] => self.take_kept(account),
+            _ => None,
         }
     }
 
-    fn shift_one(&mut self, change: &ListChange) -> bool
-        ensures shifted { result ≡ true → Follows (key_at self.old.stands) self.old.places
-            → Follows (key_at self.new.stands) self.new.places × (self.new.places ≡ listed self.old.places change.now) }
+    // Puts an account under a key that can be kept, where it is kept or stands nowhere.
+    fn put_one(&mut self, key: i128, account: u32) -> Option<Result<(), NoMemory>>
+        ensures followed { IfSome result (λ r. OnOk r (Follows (key_at self.old.stands) self.old.places
+            → Follows (key_at self.new.stands) self.new.places × (self.new.places ≡ listed self.old.places (Put key account)))) }
         ensures settled { AreSettledBeside self.old.stands [] → AreSettledBeside self.new.stands [] }
-        ensures stays { result ≡ false → (self.new.places ≡ self.old.places) × (self.new.stands ≡ self.old.stands) }
+        ensures err { IfSome result (λ r. OnErr r (Follows (key_at self.old.stands) self.old.places
+            → (self.new.places ≡ self.old.places) × (self.new.stands ≡ self.old.stands))) }
+        ensures stays { IfNone result ((self.new.places ≡ self.old.places) × (self.new.stands ≡ self.old.stands)) }
     {
-        let ListChange::Put { key, account } = *change else {
-            return false;
-        };
+        match self.put_kept(key, account) {
+            None => self.open_kept(key, account),
+            met => met,
+        }
+    }
+
+    // Gives an account that is kept another key that can be kept.
+    fn put_kept(&mut self, key: i128, account: u32) -> Option<Result<(), NoMemory>>
+        ensures followed { IfSome result (λ r. OnOk r (Follows (key_at self.old.stands) self.old.places
+            → Follows (key_at self.new.stands) self.new.places × (self.new.places ≡ listed self.old.places (Put key account)))) }
+        ensures settled { AreSettledBeside self.old.stands [] → AreSettledBeside self.new.stands [] }
+        ensures err { IfSome result (λ r. OnErr r (Follows (key_at self.old.stands) self.old.places
+            → (self.new.places ≡ self.old.places) × (self.new.stands ≡ self.old.stands))) }
+        ensures stays { IfNone result ((self.new.places ≡ self.old.places) × (self.new.stands ≡ self.old.stands)) }
+    {
         let (Some(stood), Some(kept)) = (self.stands.kept(account), Kept::of(key)) else {
-            return false;
+            return None;
         };
-        if !self.places.shift((stood.key, account), (kept.key, account)) {
-            return false;
+        if let Err(NoMemory) = self
+            .places
+            .replace((stood.key, account), (kept.key, account))
+        {
+            return Some(Err(NoMemory));
         }
         self.stands.keep(account, kept);
-        true
+        Some(Ok(()))
+    }
+
+    // Puts an account that stands nowhere under a key that can be kept.
+    fn open_kept(&mut self, key: i128, account: u32) -> Option<Result<(), NoMemory>>
+        ensures followed { IfSome result (λ r. OnOk r (Follows (key_at self.old.stands) self.old.places
+            → Follows (key_at self.new.stands) self.new.places × (self.new.places ≡ listed self.old.places (Put key account)))) }
+        ensures settled { AreSettledBeside self.old.stands [] → AreSettledBeside self.new.stands [] }
+        ensures err { IfSome result (λ r. OnErr r (Follows (key_at self.old.stands) self.old.places
+            → (self.new.places ≡ self.old.places) × (self.new.stands ≡ self.old.stands))) }
+        ensures stays { IfNone result ((self.new.places ≡ self.old.places) × (self.new.stands ≡ self.old.stands)) }
+    {
+        let kept = Kept::of(key)?;
+        if self.stands.stand(account).key.is_some() {
+            return None;
+        }
+        if let Err(NoMemory) = self.places.insert((key, account)) {
+            return Some(Err(NoMemory));
+        }
+        if let Err(NoMemory) = self.stands.open(account, kept) {
+            self.places.remove((key, account));
+            return Some(Err(NoMemory));
+        }
+        Some(Ok(()))
+    }
+
+    // Takes out an account that is kept. That needs no memory.
+    fn take_kept(&mut self, account: u32) -> Option<Result<(), NoMemory>>
+        ensures followed { IfSome result (λ r. OnOk r (Follows (key_at self.old.stands) self.old.places
+            → Follows (key_at self.new.stands) self.new.places × (self.new.places ≡ listed self.old.places (Gone account)))) }
+        ensures settled { AreSettledBeside self.old.stands [] → AreSettledBeside self.new.stands [] }
+        ensures ok { IfSome result (λ r. IsOk r) }
+        ensures stays { IfNone result ((self.new.places ≡ self.old.places) × (self.new.stands ≡ self.old.stands)) }
+    {
+        let stood = self.stands.kept(account)?;
+        self.places.remove((i128::from(stood.key), account));
+        self.stands.leave(account);
+        Some(Ok(()))
     }
 
     // Makes ready for changes: notes where each account will stand, and puts in the entries that will. None is taken out.

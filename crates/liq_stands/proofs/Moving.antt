@@ -42,7 +42,7 @@ pub over : {T E X : Type 0} (r : Result T E) (P : Type 0) (o : Option X) (x : X)
 over (Ok t) P o x there absent h = h
 over (Err e) P o x there absent h = absurd (none-some x (sym absent ∙ there))
 
-puts : (old new : Table Kept) (account : ℕ) (kept : Kept) → is_kept kept ≡ true → new ≡ written is_kept old account kept → new ≡ put old account kept
+pub puts : (old new : Table Kept) (account : ℕ) (kept : Kept) → is_kept kept ≡ true → new ≡ written is_kept old account kept → new ≡ put old account kept
 puts old new account kept used is = is ∙ ap (λ b. cond b (put old account kept) (without old account)) used
 
 pub as_put : (old new : Table Kept) (account : ℕ) (kept : Kept) → is_kept kept ≡ true → new ≡ written is_kept old account kept → IsWritten account (Some kept) old new

@@ -1,6 +1,6 @@
 //! Where each account stands.
 
-ghost use Rattle.std.specs.Prelude.{◌≡◌, ℕ, true, Some, IsSome, IfSome, OnOk, OnErr};
+ghost use Rattle.std.specs.Prelude.{◌≡◌, ℕ, true, None, Some, IsSome, IfSome, OnOk, OnErr};
 ghost use Rattle.liq_types.specs.Tables.{at};
 ghost use Rattle.liq_stands.specs.Kept.{is_kept};
 ghost use Rattle.liq_stands.specs.Parts.{stand_of};
@@ -27,8 +27,8 @@ pub struct Stand {
 
 /// Where each account stands. Contracts see it account by account.
 ///
-/// An account that no change moves takes 12 bytes, where its key fits an i64. The others are kept apart, and those that changes move
-/// while they are followed.
+/// An account takes 12 bytes where its key fits an i64 and is not the least of all, and nothing is noted of it. The others are kept
+/// apart, and so are those of which something is noted.
 #[derive(Drop)]
 pub struct Stands {
     // Each account that is kept apart has room here.
@@ -123,9 +123,31 @@ impl Stands {
     pub fn keep(&mut self, account: u32, key: Kept)
         requires kept { IsSome (at self.old.kept account) }
         requires key { is_kept key ≡ true }
-        ensures { (a : ℕ) → stand_of self.new a ≡ moved (stand_of self.old) account (settled_at (Some key.key)) a }
+        ensures moved { (a : ℕ) → stand_of self.new a ≡ moved (stand_of self.old) account (settled_at (Some key.key)) a }
+        ensures kept { at self.new.kept account ≡ Some key }
     {
         let _ = self.kept.write(account, key);
+    }
+
+    /// Takes out an account that is kept: it stands nowhere then. Takes no memory.
+    pub fn leave(&mut self, account: u32)
+        requires { IsSome (at self.old.kept account) }
+        ensures { (a : ℕ) → stand_of self.new a ≡ moved (stand_of self.old) account (settled_at None) a }
+    {
+        self.kept.take(account);
+    }
+
+    /// Keeps an account under a key, wherever it stood. After `NoMemory` all is as before.
+    pub fn open(&mut self, account: u32, kept: Kept) -> Result<(), NoMemory>
+        requires { is_kept kept ≡ true }
+        ensures ok { OnOk result ((a : ℕ) → stand_of self.new a ≡ moved (stand_of self.old) account (settled_at (Some kept.key)) a) }
+        ensures kept { OnOk result (at self.new.kept account ≡ Some kept) }
+        ensures err { OnErr result (self.new ≡ self.old) }
+    {
+        self.kept.reserve(account)?;
+        let _ = self.apart.remove(&account);
+        let _ = self.kept.write(account, kept);
+        Ok(())
     }
 }
 

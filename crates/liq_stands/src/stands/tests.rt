@@ -1,4 +1,4 @@
-//! Accounts that are aimed, settled and kept, beside a plain map.
+//! Accounts that are aimed, settled, kept, opened and taken out, beside a plain map.
 
 ghost use Rattle.std.specs.Prelude.{IsTrue};
 
@@ -82,9 +82,39 @@ fn keep<R: Abort>(rt: &R, stands: &mut Stands, account: u32, old: Known, number:
     }
 }
 
+// Keeps an account at once under a near key, wherever it stood.
+fn opened<R: Abort>(rt: &R, stands: &mut Stands, account: u32, old: Known, number: u32) -> Known {
+    let Some(key) = key_of(number) else {
+        return old;
+    };
+    let Some(kept) = Kept::of(key) else {
+        return old;
+    };
+    shows(rt, "memory", stands.open(account, kept).is_ok());
+    Known {
+        key: Some(key),
+        next: Some(key),
+        aimed: false,
+    }
+}
+
+// Takes out an account, where it is kept.
+fn left<R: Abort>(rt: &R, stands: &mut Stands, account: u32, old: Known) -> Known {
+    let Some(_) = stands.kept(account) else {
+        return old;
+    };
+    shows(rt, "kept", !old.aimed && is_near(old.key));
+    stands.leave(account);
+    Known {
+        key: None,
+        next: None,
+        aimed: false,
+    }
+}
+
 // One change, and where the account stands then.
 fn change<R: Abort>(rt: &R, stands: &mut Stands, account: u32, old: Known, number: u32) -> Known {
-    match number / 64 % 4 {
+    match number / 64 % 6 {
         0 => {
             let next = key_of(number);
             shows(rt, "memory", stands.aim(account, next).is_ok());
@@ -95,9 +125,11 @@ fn change<R: Abort>(rt: &R, stands: &mut Stands, account: u32, old: Known, numbe
             }
         }
         1 => keep(rt, stands, account, old, number),
+        2 => opened(rt, stands, account, old, number),
+        3 => left(rt, stands, account, old),
         side => {
-            stands.settle(account, side == 2);
-            let key = if side == 2 { old.next } else { old.key };
+            stands.settle(account, side == 4);
+            let key = if side == 4 { old.next } else { old.key };
             Known {
                 key,
                 next: key,

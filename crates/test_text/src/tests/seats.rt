@@ -72,11 +72,13 @@ fn call_by_last<D: Disk, O: Origin, R: Abort + Wait>(
     (seats, answer)
 }
 
-/// What is seen of two seats, of which the first funds a wallet and then the second looks at it.
+/// What is seen of two seats, of which the first funds a wallet and then the second looks at it and publishes the list.
 #[derive(Clone, Copy)]
 struct Seen {
     is_funded: bool,
     is_looked: bool,
+    /// Whether a finder is shown the version after both calls, which the second publishes.
+    is_published: bool,
     /// The second's calls, and the entries that it has seen.
     calls: u32,
     entries: u64,
@@ -138,7 +140,7 @@ fn close_late<D: Disk + Drop, O: Origin, R: Abort + Wait>(
     }
 }
 
-/// Two seats over a store: each makes a call; the service does not close without the second.
+/// Two seats over a store: each makes a call, and the second publishes; the service does not close without the second.
 fn two_seats<D: Disk + Drop, O: Origin, R: Abort + Wait>(
     rt: &R,
     alloc: Global,
@@ -148,17 +150,20 @@ fn two_seats<D: Disk + Drop, O: Origin, R: Abort + Wait>(
     requires origin { IsAtOrigin D.seen D.faults D.moment D.left_at O.state O.left O.right store }
     requires listed { TellsList store }
 {
-    let Ok((service, seats, _)) = Service::<D, O>::new(rt, alloc, store, 2) else {
+    let Ok((service, seats, mut finders)) = Service::<D, O>::new(rt, alloc, store, 2) else {
         panic!(rt; "no memory");
     };
     let (seats, other) = part(rt, &service, seats);
     let (seats, funded) = call_by_last(rt, &service, seats, &FUND);
     let (other, looked) = service.call(rt, other, &LOOK, &Hint::NONE);
+    let (other, published) = service.publish(rt, other);
+    let version = finders.pop().map(|mut finder| finder.version());
     let (calls, entries) = (other.calls(), other.seen());
     let end = close_late(rt, service, seats, other);
     Seen {
         is_funded: funded == Answer::Reply(FUNDED),
         is_looked: looked == Answer::Reply(LOOKED),
+        is_published: published.is_ok() && version == Some(2),
         calls,
         entries,
         end,
@@ -180,6 +185,7 @@ fn a_seat_is_out(rt: HostRuntime) {
     let seen = two_seats_over(&rt, rt.alloc(), store);
     shows(&rt, "the first funds", seen.is_funded);
     shows(&rt, "the second looks", seen.is_looked);
+    shows(&rt, "it is published", seen.is_published);
     same(&rt, u64::from(seen.calls), 1, "the second's calls");
     same(&rt, seen.entries, 2, "entries that it has seen");
     same(&rt, u64::from(seen.end.missing), 1, "a missing seat");

@@ -1,7 +1,11 @@
-use Rattle.std.proofs.Common.{◌+◌, ◌<◌, List, [], length, arith, ap, ◌∙◌}
-use Rattle.std.specs.Prelude.{insert}
+use Rattle.std.proofs.Common.{◌≡◌, ◌-◌, take, map, subst, sym, ◌+◌, ◌<◌, List, [], length, arith, ap, ◌∙◌}
+use Rattle.std.specs.Prelude.{insert, Vec}
 use Rattle.liq_types.specs.Ranked.{Ranked}
-use Rattle.liq_chunks.proofs.Stored.{cut_in_two, read_rest}
+use Rattle.liq_chunks.proofs.Stored.{cut_in_two, items_of, read_rest}
+use Rattle.std.proofs.lemmas.List.{length-drop, length-take}
+use Rattle.std.specs.Global.{Global}
+use Rattle.liq_chunks.specs.Chunks.{AreShort}
+use Rattle.liq_chunks.proofs.Short.{both_have_room, short_insert, short_read, short_set}
 use Rattle.liq_chunks.proofs.chunks.split.Goals as goal
 
 pub index-first-requires : goal.index-first-requires
@@ -25,6 +29,33 @@ returns-clause-same c =
     let full = c.requires.full [] in
     let long : 31 < length chunk.items = omega (arith, ap length read, full) in
     cut_in_two c.args.firsts.now.items c.insert-2.new.self.items c.args.rests.now.items c.insert.new.self.items i first chunk c.in_ok-second.second c.index_mut.result.now c.truncate.new.self
-    c.requires.within c.requires.len c.index-rest.ensures long c.index-first.ensures c.in_ok-second.ensures
+    c.requires.belongs.within c.requires.len c.index-rest.ensures long c.index-first.ensures c.in_ok-second.ensures
     (c.in-Ok-insert.ensures.items ∙ ap (λ (l : List Ranked). insert l (i + 1) first) c.try_reserve.ensures.items)
     c.in-Ok.ensures.items c.index_mut.ensures.value c.truncate.ensures.items
+
+pub returns-clause-short : goal.returns-clause-short
+returns-clause-short c =
+    let rests = c.args.rests.now.items in
+    let i = c.args.chunk in
+    let chunk = c.index-rest.result.now in
+    let second = c.in_ok-second.second in
+    let seen = c.index_mut.result.now in
+    let whole = short_read rests i chunk c.requires.short (omega (arith, c.requires.belongs.within, c.requires.len)) c.index-rest.ensures in
+    let behind : length second.items ≡ length chunk.items - 32 = ap (λ (l : List Ranked). length l) c.in_ok-second.ensures ∙ length-drop 32 chunk.items in
+    let front : length c.truncate.new.self.items ≡ length (take 31 seen.items) = ap (λ (l : List Ranked). length l) c.truncate.ensures.items in
+    short_set c.insert.new.self.items i c.truncate.new.self
+    (subst AreShort (ap (λ (l : List (Vec Ranked Global)). map items_of l) (sym c.in-Ok.ensures.items)) (short_insert rests (i + 1) second c.requires.short (omega (arith, behind, whole))))
+    (omega (arith, front, length-take 31 seen.items))
+
+pub returns-clause-room : goal.returns-clause-room
+returns-clause-room c at d low high =
+    let rests = c.args.rests.now.items in
+    let i = c.args.chunk in
+    let chunk = c.index-rest.result.now in
+    let second = c.in_ok-second.second in
+    let seen = c.index_mut.result.now in
+    let whole = short_read rests i chunk c.requires.short (omega (arith, c.requires.belongs.within, c.requires.len)) c.index-rest.ensures in
+    let behind : length second.items ≡ length chunk.items - 32 = ap (λ (l : List Ranked). length l) c.in_ok-second.ensures ∙ length-drop 32 chunk.items in
+    let front : length c.truncate.new.self.items ≡ length (take 31 seen.items) = ap (λ (l : List Ranked). length l) c.truncate.ensures.items in
+    both_have_room rests c.insert.new.self.items i at second c.truncate.new.self d (omega (arith, c.requires.belongs.within, c.requires.len)) c.in-Ok.ensures.items
+    (omega (arith, front, length-take 31 seen.items)) (omega (arith, behind, whole)) low high

@@ -1,4 +1,4 @@
-use Rattle.std.proofs.Common.{◌≡◌, true, List, [], ◌∷◌, map, set, sym, ap, subst, ◌∙◌}
+use Rattle.std.proofs.Common.{◌≡◌, arith, true, List, [], ◌∷◌, map, set, sym, ap, subst, ◌∙◌}
 use Rattle.std.proofs.lemmas.Bool.{eqb-true}
 use Rattle.std.proofs.lemmas.List.{length-map, map-set, nil_from_length}
 use Rattle.std.specs.Ordering.{is_eq}
@@ -10,6 +10,8 @@ use Rattle.liq_chunks.specs.Entries.{without_entry}
 use Rattle.liq_chunks.proofs.Around.{chunk_ascending, chunk_gone, chunk_left}
 use Rattle.liq_chunks.proofs.Lists.{left_first}
 use Rattle.liq_chunks.proofs.Stored.{items_of, map_remove, read_chunk}
+use Rattle.liq_chunks.specs.Chunks.{AreShort}
+use Rattle.liq_chunks.proofs.Short.{short_read, short_remove, short_set}
 use Rattle.liq_chunks.proofs.chunks.take_out.Goals as goal
 
 pub returns-then-is_same-clause-left : goal.returns-then-is_same-clause-left
@@ -44,4 +46,14 @@ returns-clause-left c =
     let was = read_chunk fs rs i e c.index_mut.result.now c.index_mut-2.result.now c.requires.belongs.within c.requires.len c.index_mut.ensures.value c.index_mut-2.ensures.value in
     let new = c.take_out_of_chunk.new in
     ap (λ (l : List (List Ranked)). joined (set fs i new.first) l) (map-set items_of rs i new.rest)
-    ∙ chunk_left fs (lists c.args.rests.now) i e c.requires.belongs.within (c.requires.len ∙ sym (length-map rs items_of)) c.requires.ascending e c.requires.belongs.low c.requires.belongs.high new.first new.rest.items (c.take_out_of_chunk.ensures ∙ ap (λ (l : List Ranked). without_entry l e) was)
+    ∙ chunk_left fs (lists c.args.rests.now) i e c.requires.belongs.within (c.requires.len ∙ sym (length-map rs items_of)) c.requires.ascending e c.requires.belongs.low c.requires.belongs.high new.first new.rest.items (c.take_out_of_chunk.ensures.left ∙ ap (λ (l : List Ranked). without_entry l e) was)
+
+pub returns-then-is_same-clause-short : goal.returns-then-is_same-clause-short
+returns-then-is_same-clause-short c =
+    subst AreShort (ap (λ (l : List (Vec Ranked Global)). map items_of l) (sym c.remove-then-is_same.ensures.items))
+    (short_remove c.args.rests.now.items c.args.chunk c.requires.short)
+
+pub returns-clause-short : goal.returns-clause-short
+returns-clause-short c =
+    let was = short_read c.args.rests.now.items c.args.chunk c.index_mut-2.result.now c.requires.short (omega (arith, c.requires.belongs.within, c.requires.len)) c.index_mut-2.ensures.value in
+    short_set c.args.rests.now.items c.args.chunk c.take_out_of_chunk.new.rest c.requires.short (omega (arith, was, c.take_out_of_chunk.ensures.less))

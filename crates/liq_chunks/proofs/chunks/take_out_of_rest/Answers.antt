@@ -13,7 +13,7 @@ returns-clause-left c =
     let list = c.args.rest.now.items in
     let at = c.place_in-at.result in
     let e = c.args.entry in
-    let place = place_of c.deref.result.now list e at c.deref.ensures.value c.place_in-at.ensures.within c.place_in-at.ensures.low c.place_in-at.ensures.high in
+    let place = place_of c.deref.result.now list e at c.deref.ensures.value c.place_in-at.ensures in
     let there = subst (λ (l : List Ranked). at < length l) c.deref-2.ensures.value (c.stands_at.ensures.within c.if-not-stands_at.false) in
     let same = is_there c.deref-2.result.now list e at c.stands_at.result c.deref-2.ensures.value c.stands_at.ensures.same in
     c.remove.ensures.items ∙ left_at list e at c.requires place there (same e there ∙ c.if-not-stands_at.false)
@@ -23,6 +23,6 @@ returns-then-not-stands_at-clause-left c =
     let list = c.args.rest.now.items in
     let at = c.place_in-at.result in
     let e = c.args.entry in
-    let place = place_of c.deref.result.now list e at c.deref.ensures.value c.place_in-at.ensures.within c.place_in-at.ensures.low c.place_in-at.ensures.high in
+    let place = place_of c.deref.result.now list e at c.deref.ensures.value c.place_in-at.ensures in
     let same = is_there c.deref-2.result.now list e at c.stands_at.result c.deref-2.ensures.value c.stands_at.ensures.same in
     left_absent list e at c.requires place (λ d k. same d k ∙ c.if-not-stands_at.true)

@@ -1,13 +1,9 @@
-use Rattle.std.proofs.Common.{◌∙◌}
-use Rattle.liq_book.specs.Seats.{items_seen, session_at}
-use Rattle.liq_book.proofs.Chronicles.{faulted_behind}
-use Rattle.liq_book.proofs.Learning.{calls_behind}
+use Rattle.liq_book.specs.Seats.{calls_at, items_seen, session_at}
+use Rattle.liq_book.proofs.Learning.{calls_after, faults_after}
 use Rattle.liq_book.proofs.publishing.PublishingDesk.call.Goals as goal
 
-pub returns-in-Reply-Said-clause-own : goal.returns-in-Reply-Said-clause-own
-returns-in-Reply-Said-clause-own g c =
-    rw c.publish-seat.ensures.session (calls_behind (session_at c.call-seat.result.0) (items_seen c.publish-seat.result.0) (items_seen c.call-seat.result.0) c.publish-seat.ensures.others ∙ c.call-seat.ensures.own)
+pub returns-clause-own : goal.returns-clause-own
+returns-clause-own g c = rw c.turn.ensures.session (calls_after g.O.Origin.state (session_at c.args.seat) (calls_at c.args.seat) c.args.request.now c.turn.result.1 (items_seen c.args.seat) (items_seen c.turn.result.0) c.turn.ensures.answered)
 
-pub returns-in-Reply-Said-clause-faulted : goal.returns-in-Reply-Said-clause-faulted
-returns-in-Reply-Said-clause-faulted g c =
-    rw c.publish-seat.ensures.session (faulted_behind (session_at c.call-seat.result.0) (items_seen c.publish-seat.result.0) (items_seen c.call-seat.result.0) c.publish-seat.ensures.others ∙ c.call-seat.ensures.faulted)
+pub returns-clause-faulted : goal.returns-clause-faulted
+returns-clause-faulted g c = rw c.turn.ensures.session (faults_after g.O.Origin.state (session_at c.args.seat) (calls_at c.args.seat) c.args.request.now c.turn.result.1 (items_seen c.args.seat) (items_seen c.turn.result.0) c.turn.ensures.answered)

@@ -4,7 +4,7 @@ use Rattle.liq_types.specs.Tables.{at}
 use Rattle.liq_stands.specs.declared.kept.Kept.{Kept}
 use Rattle.liq_stands.specs.Parts.{Parts, stand_of}
 use Rattle.liq_stands.specs.Stands.{settled_at, moved}
-use Rattle.liq_stands.proofs.Moving.{as_before, as_put, kept_parted, moves}
+use Rattle.liq_stands.proofs.Moving.{IsWritten, as_before, as_put, kept_parted, moves}
 use Rattle.liq_stands.proofs.stands.Stands.keep.Goals as goal
 
 was_kept : (c : goal.After-write) → IsSome (at c.self.inside.kept.rows c.args.account)
@@ -18,11 +18,16 @@ invariant_of-self c =
     (λ h. let clash : IsSome {T = Kept} None = subst (λ (o : Option Kept). IsSome o) (c.self.invariant.once c.args.account h) (was_kept c) in cc)
     (as_before c.args.account apart (at apart c.args.account) refl)
 
-pub returns : goal.returns
-returns c a =
+written : (c : goal.After-write) → IsWritten c.args.account (Some c.args.key) c.self.inside.kept.rows c.write.new.self.rows
+written c = as_put c.self.inside.kept.rows c.write.new.self.rows c.args.account c.args.key c.requires.key c.write.ensures.rows
+
+pub returns-clause-kept : goal.returns-clause-kept
+returns-clause-kept c = (written c).own
+
+pub returns-clause-moved : goal.returns-clause-moved
+returns-clause-moved c a =
     let apart = c.self.inside.apart.entries in
     let old : Parts = record { kept = c.self.inside.kept.rows; apart = apart } in
     let new : Parts = record { kept = c.write.new.self.rows; apart = apart } in
-    let written = as_put c.self.inside.kept.rows c.write.new.self.rows c.args.account c.args.key c.requires.key c.write.ensures.rows in
     subst (λ (p : Parts). stand_of new a ≡ moved (stand_of p) c.args.account (settled_at (Some c.args.key.key)) a) c.self.view_is
-    (moves c.args.account (Some c.args.key) (at apart c.args.account) old new written (as_before c.args.account apart (at apart c.args.account) refl) a)
+    (moves c.args.account (Some c.args.key) (at apart c.args.account) old new (written c) (as_before c.args.account apart (at apart c.args.account) refl) a)

@@ -2,11 +2,11 @@
 
 ghost use Rattle.std.specs.Prelude.{IsTrue};
 
-use crate::{Chunks, Entry};
+use super::{Chunks, Entry};
 use std::process::Abort;
 
-// How many accounts come and go: many times what a chunk holds.
-const MANY: u32 = 2_000;
+// How many accounts come and go: six times what a chunk holds.
+const MANY: u32 = 400;
 
 // The rounds: all come, move a little, move far, two of three leave, those come back, all but a few leave, and the last of them.
 const ROUNDS: u32 = 7;
@@ -163,4 +163,41 @@ fn few(rt: HostRuntime) {
     agree(&rt, &chunks, &[(5, 1), (5, 2), (9, 1)]);
     shows(&rt, "shifted", chunks.shift((5, 2), (i64::MAX, 0)));
     agree(&rt, &chunks, &[(5, 1), (9, 1), (i64::MAX, 0)]);
+}
+
+// Moves one of the entries to the end. Two chunks beside each other have more than 32 entries together then.
+fn to_end<R: Abort>(rt: &R, chunks: &mut Chunks, list: &mut [Entry], at: usize, key: i64) {
+    if let Some(entry) = list.get_mut(at) {
+        chunks.remove(*entry);
+        entry.0 = key;
+        put(rt, chunks, *entry);
+    }
+    shows(rt, "few chunks", chunks.firsts.len() / 2 <= list.len() / 33);
+}
+
+// Entries that move to the end, drawn one after another: those that stay grow few in their chunks.
+#[test]
+fn sparse(rt: HostRuntime) {
+    let mut chunks = Chunks::new(rt.alloc());
+    let mut list = Vec::new(rt.alloc());
+    for account in 0..200 {
+        let entry = (i64::from(account), account);
+        put(&rt, &mut chunks, entry);
+        shows(&rt, "memory", list.push(entry).is_ok());
+    }
+    let mut drawn: usize = 1;
+    for key in 200..2_000 {
+        drawn = drawn
+            .wrapping_mul(6_364_136_223_846_793_005)
+            .wrapping_add(1);
+        to_end(
+            &rt,
+            &mut chunks,
+            &mut list,
+            drawn / 4_294_967_296 % 200,
+            key,
+        );
+    }
+    list.sort_unstable();
+    agree(&rt, &chunks, &list);
 }
