@@ -1,4 +1,4 @@
--- What the header of a disk is found to be, before its digest is tested.
+-- What the header of a disk is found to be, before its digest is tested and behind it.
 use Rattle.std.specs.Prelude.{◌≡◌, ◌≤◌, ℕ, List, length, Bool, false, Option, Some, None, Ok, Err}
 use Rattle.liq_wire.specs.Fields.{first_place}
 use Rattle.liq_header.specs.declared.head.Head.{Head}
@@ -8,6 +8,7 @@ use Rattle.liq_journal.specs.declared.answers.LookFault.{LookFault}
 use Rattle.liq_journal.specs.declared.answers.LookFault.TheVariants as fault
 use Rattle.liq_header.specs.Layout.{Layout, layout_on, layout_with, start_on}
 use Rattle.liq_header.specs.Header.{HasFields, is_absent, place_tests}
+use Rattle.liq_journal.specs.Written.{first_fault, header_tests}
 
 -- an open header of this version, whose fields are right and whose checkpoint is there
 pub record IsHeadOf (layout : Layout) (odd : Bool) (held : List ℕ) (head : Head) : Type 0 where
@@ -21,6 +22,16 @@ pub record IsHeadOf (layout : Layout) (odd : Bool) (held : List ℕ) (head : Hea
 abbrev pub MaybeHeadOf : Bool → List ℕ → Option Head → Type 0
 MaybeHeadOf odd held None = look_on odd held ≡ Ok Absent
 MaybeHeadOf odd held (Some head) = IsHeadOf (layout_with head.limit) odd held head
+
+-- such a header without any fault: the digest over it and its checkpoint is right too
+pub record IsSoundHeadOf (odd : Bool) (held : List ℕ) (head : Head) : Type 0 where
+  pub is_head : IsHeadOf (layout_with head.limit) odd held head
+  pub no_fault : first_fault (header_tests (layout_with head.limit) odd held) ≡ None
+
+-- a sound header, or none
+abbrev pub MaybeSoundHeadOf : Bool → List ℕ → Option Head → Type 0
+MaybeSoundHeadOf odd held None = look_on odd held ≡ Ok Absent
+MaybeSoundHeadOf odd held (Some head) = IsSoundHeadOf odd held head
 
 -- the damage of the header
 abbrev pub IsDamageOf : Bool → List ℕ → LookFault → Type 0

@@ -1,6 +1,8 @@
 -- What an opening finds, and what it leaves.
-use Rattle.std.specs.Prelude.{◌≡◌, ◌⊎◌, ◌<◌, ℕ, List, length, get_or, Bool, Option, Some}
+use Rattle.std.specs.Prelude.{◌≡◌, ◌⊎◌, ◌<◌, ℕ, List, length, get_or, Bool, Option, Some, Ok}
 use Rattle.liq_outside.specs.Disk.{LeavesOnly, LeftNow, Only}
+use Rattle.liq_journal.specs.Look.{look_on}
+use Rattle.liq_journal.specs.declared.answers.Look.TheVariants as told
 use Rattle.liq_journal.specs.declared.answers.LookFault.{LookFault}
 use Rattle.liq_journal.specs.declared.answers.LookFault.TheVariants as look
 use Rattle.liq_journal.specs.declared.answers.OpenWhy.{OpenWhy}
@@ -24,12 +26,13 @@ pub record IsScanOf (odd : Bool) (held : List ℕ) (scanned : Scanned) : Type 0 
   pub start_is : start_of written ≡ scanned.start
   pub count_is : length written.commands ≡ scanned.count
 
--- why nothing was opened
+-- Why nothing was opened. Memory is wanting only behind a header in which a look finds no fault: it never stands for damage of
+-- a header or of a checkpoint's digest.
 abbrev pub IsWhyOf : Bool → List ℕ → OpenWhy → Type 0
 IsWhyOf odd held why.Absent = found_on odd held ≡ Absent
 IsWhyOf odd held why.DiskFault = Unit {0}
 IsWhyOf odd held (why.Damaged damage) = found_on odd held ≡ Damaged damage
-IsWhyOf odd held why.NoMemory = Unit {0}
+IsWhyOf odd held why.NoMemory = (generation : ℕ) × (look_on odd held ≡ Ok (told.Open generation))
 
 -- a byte other than 0 at place 0
 pub record IsUnshut (bytes : List ℕ) : Type 0 where

@@ -1,16 +1,19 @@
 // A disk looked at: its header, and the digest over the checkpoint, without memory.
-ghost use Rattle.std.specs.Prelude.{◌≡◌, ◌≤◌, ◌+◌, ◌^◌, ◌⊎◌, Err, length, IfOk, IfSome};
+ghost use Rattle.std.specs.Prelude.{◌≡◌, ◌≤◌, ◌+◌, ◌^◌, ◌⊎◌, Err, true, length, IfErr, IfOk, IfSome};
+ghost use Rattle.liq_types.specs.Image.{IsLimit};
 ghost use Rattle.liq_outside.specs.Faults.{HasCause};
 ghost use Rattle.liq_journal.specs.Causes.{CountsLook};
+ghost use Rattle.liq_journal.specs.Header.{IsDamageOf, MaybeSoundHeadOf};
 ghost use Rattle.liq_journal.specs.Look.{look_on};
 ghost use Rattle.liq_journal.specs.Looked.{Looked};
+ghost use Rattle.liq_header.specs.Header.{is_generation};
 ghost use Rattle.liq_header.specs.Layout.{header_digest, piece};
 
 use crate::answers::{Look, LookFault};
 use crate::damage::{Damage, What};
 use crate::header::read_header;
-use crate::reads::read_at;
-use liq_header::{fields_size, header_size};
+use crate::reads::{PIECE, read_at};
+use liq_header::{Head, fields_size, header_size};
 use liq_outside::{Disk, Failed};
 use sha2::{Digest, Sha256};
 
@@ -24,9 +27,29 @@ pub fn look<D: Disk>(disk: &mut D, odd: bool) -> Result<Look, LookFault>
     ensures looked { Looked D.seen D.moment D.left_at disk.old disk.new }
     ensures cause { CountsLook result (D.faults disk.old) (D.faults disk.new) }
 {
+    match sound_header(disk, odd) {
+        Ok(Some(head)) => Ok(Look::Open {
+            generation: head.generation,
+        }),
+        Ok(None) => Ok(Look::Absent),
+        Err(why) => Err(why),
+    }
+}
+
+// The header of the disk, if it is open: sound, with the right digest over its checkpoint, which was read piece by piece. So
+// no memory is taken for a checkpoint before its digest is tested, however long the header says that it is.
+pub fn sound_header<D: Disk>(disk: &mut D, odd: bool) -> Result<Option<Head>, LookFault>
+    ensures looked { Looked D.seen D.moment D.left_at disk.old disk.new }
+    ensures sound { IfOk result (λ head. IfSome (D.seen disk.old) (λ held. MaybeSoundHeadOf odd held head)) }
+    ensures size { IfOk result (λ head. IfSome head (λ h. h.size ≤ 68719476736)) }
+    ensures generation { IfOk result (λ head. IfSome head (λ h. is_generation odd h.generation ≡ true)) }
+    ensures limit { IfOk result (λ head. IfSome head (λ h. IsLimit h.limit)) }
+    ensures fault { IfErr result (λ why. IfSome (D.seen disk.old) (λ held. IsDamageOf odd held why)) }
+    ensures cause { CountsLook result (D.faults disk.old) (D.faults disk.new) }
+{
     let head = match read_header(disk, odd) {
         Ok(Some(head)) => head,
-        Ok(None) => return Ok(Look::Absent),
+        Ok(None) => return Ok(None),
         Err(why) => return Err(why),
     };
     let fields = &head.fields[..fields_size(head.limit)];
@@ -43,9 +66,7 @@ pub fn look<D: Disk>(disk: &mut D, odd: bool) -> Result<Look, LookFault>
             },
         }));
     }
-    Ok(Look::Open {
-        generation: head.generation,
-    })
+    Ok(Some(head))
 }
 
 // The digest of a header's fields and of the checkpoint, which stands at the place and is read piece by piece.
@@ -62,10 +83,10 @@ fn digest_behind<D: Disk>(
 {
     let mut hasher = Sha256::new();
     hasher.update(fields);
+    let mut chunk = [0; PIECE];
     let mut done = 0;
     while done < size {
-        let mut chunk = [0; 512];
-        let want = (size - done).min(512) as usize;
+        let want = (size - done).min(PIECE as u64) as usize;
         let part = &mut chunk[..want];
         let count = read_at(disk, place + done, part)?;
         if count == 0 {

@@ -14,18 +14,19 @@ ghost use Rattle.liq_header.specs.Header.{is_generation};
 
 use crate::answers::{LookFault, OpenWhy};
 use crate::bytes::write_synced;
-use crate::damage::{Damage, What};
+use crate::damage::Damage;
 use crate::gate::settle;
-use crate::header::read_header;
 use crate::journal::RECORD;
-use crate::reads::read_at;
+use crate::looking::sound_header;
+use crate::reads::{PIECE, read_at};
 use crate::records::count_records;
 use crate::scanned::Scanned;
-use liq_header::{fields_size, header_digest, header_size};
+use liq_header::header_size;
 use liq_outside::{Disk, Failed};
 use std::alloc::Global;
 
-// The bytes of the checkpoint, which stands at the place. A disk whose content is told has them all.
+// The bytes of the checkpoint, which stands at the place, read into memory: that of a sound header, whose digest over the same
+// bytes was tested. A disk whose content is told has them all, and tells the same twice.
 fn read_checkpoint<D: Disk>(
     alloc: Global,
     disk: &mut D,
@@ -41,10 +42,10 @@ fn read_checkpoint<D: Disk>(
 {
     let mut checkpoint = Vec::new(alloc);
     let end = place + size;
+    let mut chunk = [0; PIECE];
     let mut at = place;
     while at < end {
-        let mut chunk = [0; 512];
-        let want = (end - at).min(512) as usize;
+        let want = (end - at).min(PIECE as u64) as usize;
         let part = &mut chunk[..want];
         let count = match read_at(disk, at, part) {
             Ok(count) => count,
@@ -71,7 +72,7 @@ fn why_of(why: LookFault) -> OpenWhy
     }
 }
 
-// Reads and tests all of a disk, in the order of its faults.
+// Reads and tests all of a disk, in the order of its faults. Memory is taken behind a sound header alone.
 fn scan<D: Disk>(alloc: Global, disk: &mut D, odd: bool) -> Result<Scanned, OpenWhy>
     ensures looked { Looked D.seen D.moment D.left_at disk.old disk.new }
     ensures bounds { IfOk result (λ s. StartsWithin s.limit s.start × (s.count ≤ 1000001)) }
@@ -80,7 +81,7 @@ fn scan<D: Disk>(alloc: Global, disk: &mut D, odd: bool) -> Result<Scanned, Open
     ensures why { IfErr result (λ why. IfSome (D.seen disk.old) (λ held. IsWhyOf odd held why)) }
     ensures cause { CountsOpen result (D.faults disk.old) (D.faults disk.new) }
 {
-    let head = match read_header(disk, odd) {
+    let head = match sound_header(disk, odd) {
         Ok(Some(head)) => head,
         Ok(None) => return Err(OpenWhy::Absent),
         Err(why) => return Err(why_of(why)),
@@ -90,17 +91,6 @@ fn scan<D: Disk>(alloc: Global, disk: &mut D, odd: bool) -> Result<Scanned, Open
         Ok(checkpoint) => checkpoint,
         Err(why) => return Err(why),
     };
-    let fields = &head.fields[..fields_size(head.limit)];
-    let computed = header_digest(fields, &checkpoint);
-    if head.stored != computed {
-        return Err(OpenWhy::Damaged(Damage {
-            index: 0,
-            what: What::Digest {
-                stored: head.stored,
-                computed,
-            },
-        }));
-    }
     let start = header + head.size;
     match count_records(disk, head.generation, start) {
         Ok(count) => Ok(Scanned {

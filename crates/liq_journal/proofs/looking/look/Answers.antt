@@ -1,21 +1,8 @@
-use Rattle.std.proofs.Common.{◌∙◌, Option, IfSome, sym, subst}
+use Rattle.std.proofs.Common.{Option, IfSome, subst}
 use Rattle.liq_header.specs.declared.head.Head.{Head}
-use Rattle.liq_journal.specs.Header.{MaybeHeadOf}
-use Rattle.liq_journal.proofs.Looks.{looked_on}
-use Rattle.liq_journal.proofs.Scanning.{told_digest_at, told_look_damaged, told_look_open}
+use Rattle.liq_journal.specs.Header.{MaybeSoundHeadOf}
+use Rattle.liq_journal.proofs.Scanning.{told_look}
 use Rattle.liq_journal.proofs.looking.look.Goals as goal
 
-pub returns-then-ne-clause-told : goal.returns-then-ne-clause-told
-returns-then-ne-clause-told g c = told_look_damaged c.args.odd c.in-Ok-Some.head c.in-Ok.computed (g.D.Disk.seen c.args.disk.now) (g.D.Disk.seen c.read_header.new.disk) c.read_header.ensures.looked.same (subst (λ (h : Option Head). IfSome (g.D.Disk.seen c.args.disk.now) (λ held. MaybeHeadOf c.args.odd held h)) c.in-Ok-Some.field-0-is c.in-Ok-Some.ensures.read) (told_digest_at c.in-Ok-Some.head c.in-Ok.computed (g.D.Disk.seen c.read_header.new.disk) c.header_size.result c.fields_size.result c.header_size.ensures.known c.fields_size.ensures c.in-Ok.ensures.told) (sym c.ne.ensures ∙ c.if-ne.true)
-
-pub returns-clause-told : goal.returns-clause-told
-returns-clause-told g c = told_look_open c.args.odd c.in-Ok-Some.head c.in-Ok.computed (g.D.Disk.seen c.args.disk.now) (g.D.Disk.seen c.read_header.new.disk) c.read_header.ensures.looked.same (subst (λ (h : Option Head). IfSome (g.D.Disk.seen c.args.disk.now) (λ held. MaybeHeadOf c.args.odd held h)) c.in-Ok-Some.field-0-is c.in-Ok-Some.ensures.read) (told_digest_at c.in-Ok-Some.head c.in-Ok.computed (g.D.Disk.seen c.read_header.new.disk) c.header_size.result c.fields_size.result c.header_size.ensures.known c.fields_size.ensures c.in-Ok.ensures.told) (sym c.ne.ensures ∙ c.if-ne.false)
-
-pub returns-in-Err-digest_behind-clause-looked : goal.returns-in-Err-digest_behind-clause-looked
-returns-in-Err-digest_behind-clause-looked g c = looked_on g.D.Disk.seen g.D.Disk.moment g.D.Disk.left_at c.args.disk.now c.read_header.new.disk c.digest_behind.new.disk c.read_header.ensures.looked c.digest_behind.ensures.looked
-
-pub returns-then-ne-clause-looked : goal.returns-then-ne-clause-looked
-returns-then-ne-clause-looked g c = looked_on g.D.Disk.seen g.D.Disk.moment g.D.Disk.left_at c.args.disk.now c.read_header.new.disk c.digest_behind.new.disk c.read_header.ensures.looked c.digest_behind.ensures.looked
-
-pub returns-clause-looked : goal.returns-clause-looked
-returns-clause-looked g c = looked_on g.D.Disk.seen g.D.Disk.moment g.D.Disk.left_at c.args.disk.now c.read_header.new.disk c.digest_behind.new.disk c.read_header.ensures.looked c.digest_behind.ensures.looked
+pub returns-in-Ok-Some-clause-told : goal.returns-in-Ok-Some-clause-told
+returns-in-Ok-Some-clause-told g c = told_look c.args.odd c.in-Ok-Some.head (g.D.Disk.seen c.args.disk.now) (subst (λ (h : Option Head). IfSome (g.D.Disk.seen c.args.disk.now) (λ held. MaybeSoundHeadOf c.args.odd held h)) c.in-Ok-Some.field-0-is c.in-Ok-Some.ensures.sound)
