@@ -1,9 +1,7 @@
 //! The program: the top call over the real streams, and over the two disks of the directory in which it runs.
 #![tactic(auto)]
 
-mod files;
-
-use files::{disks, no_disks};
+use liq_files::{disks, no_disks, standard_output};
 use liq_outside::{StdSink, StdSource};
 use liq_serve::{OpenGate, protocol, takes_disks, without_words};
 use std::fs::{File, Files};
@@ -28,7 +26,7 @@ fn streams<F: Files<File = File>>(files: &F) -> [io::Result<File>; 3] {
 
 fn main(rt: HostRuntime) -> ExitCode {
     let _streams = streams(&rt);
-    let mut out = StdSink::new(io::writer(&rt));
+    let mut out = StdSink::new(standard_output(&rt, io::writer(&rt)));
     let status = match words(&rt) {
         Ok(words) => {
             let mut input = StdSource::new(rt.reader());

@@ -1,13 +1,17 @@
-//! The two files of the directory in which the program runs, each held for this process alone.
+// The two files, each taken and held for this process alone.
 ghost use Rattle.std.specs.Prelude.{◌↔◌, IsTrue};
-ghost use Rattle.liq_main.specs.Held.{IsHeld};
+ghost use Rattle.liq_files.specs.Held.{IsHeld};
 
+use crate::found::{FileId, Found, may_be_taken};
+use crate::names::{LEFT, RIGHT, led_to};
+use crate::streams::{errors, input, output};
 use liq_outside::FileDisk;
 use std::fs::{self, File, Files, TryLockError};
 use std::io::{self, ErrorKind};
 use std::os::unix::fs::OpenOptionsExt;
 
-/// The disks over both files, or two without one: once the left file is refused the right one is not tried.
+/// The disks over both files, or two without one: once the left file is refused the right one is not tried. No file stands for two of
+/// the standard streams, the left file and the right one. Nothing is written, and no folder synced, before both are taken.
 pub fn disks<R: Files<File = File> + AllocGlobal>(rt: &R) -> (FileDisk, FileDisk) {
     match both(rt) {
         Some(disks) => disks,
@@ -21,21 +25,32 @@ pub fn no_disks() -> (FileDisk, FileDisk) {
 }
 
 fn both<R: Files<File = File> + AllocGlobal>(rt: &R) -> Option<(FileDisk, FileDisk)> {
-    let left = disk(rt, "left.liq")?;
-    let right = disk(rt, "right.liq")?;
+    let streams = [input(rt).ok()?, output(rt).ok()?, errors(rt).ok()?];
+    let [input, output, errors] = streams;
+    let (left, left_id) = taken(rt, LEFT, &streams)?;
+    let (right, _) = taken(rt, RIGHT, &[input, output, errors, Some(left_id)])?;
+    sync_folder(rt, LEFT).ok()?;
+    sync_folder(rt, RIGHT).ok()?;
     Some((left, right))
 }
 
-/// The disk over the file of this name. There is none where the file cannot be opened, is no regular file (a device tells no length),
-/// stands in the place of a standard stream or is not held, or its folder cannot be synced.
-fn disk<R: Files<File = File> + AllocGlobal>(rt: &R, name: &str) -> Option<FileDisk> {
+/// The disk over the file of this name, and which file it is. There is none where the file cannot be opened or may not be taken, stands
+/// in the place of a standard stream, or is held by another process. What the name leads to is looked at once the file is open, so the
+/// file that is judged is the one that is used.
+fn taken<R: Files<File = File> + AllocGlobal>(
+    rt: &R,
+    name: &str,
+    others: &[Option<FileId>],
+) -> Option<(FileDisk, FileId)> {
+    let user = libc::geteuid();
     let file = opened(rt, name).ok()?;
-    if !file.metadata().ok()?.is_file() || !is_held(&file.try_lock()) {
+    let found = Found::of(&file.metadata().ok()?);
+    let is_named = led_to(rt, name, user)?.id == found.id;
+    if !is_named || !may_be_taken(&found, user, others) || !is_held(&file.try_lock()) {
         return None;
     }
-    sync_folder(rt, name).ok()?;
     let disk = FileDisk::new(Some(file));
-    disk.is_there().then_some(disk)
+    disk.is_there().then_some((disk, found.id))
 }
 
 /// The file of this name, to be read and written. Where there is none it is made; where one came meanwhile, that one is opened.
@@ -50,7 +65,11 @@ fn opened<F: Files<File = File>>(files: &F, name: &str) -> io::Result<File> {
     }
 }
 
+/// The file that is there. What is no regular file is not opened: a device may do something when it is.
 fn existing<F: Files<File = File>>(files: &F, name: &str) -> io::Result<File> {
+    if !fs::metadata(files, name)?.is_file() {
+        return Err(io::Error::from(ErrorKind::InvalidInput));
+    }
     File::options().read(true).write(true).open(files, name)
 }
 
