@@ -12,7 +12,7 @@ use Rattle.liq_types.specs.State.{State}
 use Rattle.liq_core.specs.Core.{Core, StandsFor}
 use Rattle.liq_core.specs.Plan.{Plan, IsPlan}
 use Rattle.liq_rules.specs.Step.{Allowed, after, after_ruling, ruling, step}
-use Rattle.liq_guided.proofs.Steps.{planned_allowed}
+use Rattle.liq_rules.specs.Verbs.{unhinted}
 use Rattle.liq_journal.specs.Crash.{BeforeOrAfter, Stands, is_odd}
 use Rattle.liq_journal.specs.Settled.{IsSettled, JournalOn}
 use Rattle.liq_journal.specs.Written.{Open, Written, and_then, found_on, is_rotate, start_of}
@@ -32,6 +32,7 @@ use Rattle.liq_store.specs.Within.{HasRecords, IsWithin, stored}
 use Rattle.liq_store.proofs.Calling.{answer_stays, other_stays, writes_on}
 use Rattle.liq_store.proofs.Going.{Going, going_by, rest_now, rest_only}
 use Rattle.liq_store.proofs.OneDisk.{some_same, told_too}
+use Rattle.liq_store.proofs.Steps.{prepared_allowed}
 
 pub some_isnt_none : (n : ℕ) → Some n ≡ None → ⊥
 some_isnt_none n is = cc
@@ -81,7 +82,7 @@ pub record Appends {D : Type 0} (seen : D → Option (List ℕ)) (moment : D →
 
 pub appends : {D : Type 0} {changes : List ListChange} (seen : D → Option (List ℕ)) (moment : D → ℕ) (left_at : D → ℕ → List ℕ → Type 0) (side : Side) (taken new : JournalOn D) (b : D) (core : Core) (stopped : Option ℕ) (c : Command) (plan : Plan)
     → stopped ≡ None → IsWithin seen moment left_at side taken b core stopped changes
-    → ((s : State) → StandsFor core s → (plan.command ≡ c) × IsPlan s plan)
+    → ((s : State) → StandsFor core s → (plan.command ≡ unhinted c) × IsPlan s plan)
     → (IsSome (seen new.disk) ↔ IsSome (seen taken.disk))
     → ((held : List ℕ) (w : Written) → seen taken.disk ≡ Some held → Only held (LeftNow moment left_at taken.disk) → Stands (is_odd taken.generation) held w
     → LeavesOnly moment left_at taken.disk new.disk (BeforeOrAfter (is_odd taken.generation) w (read_back c)))
@@ -90,7 +91,7 @@ appends {D} {changes} seen moment left_at side taken new b core stopped c plan n
   going = going_by seen moment left_at changes side taken b core stopped none within.order;
   parity = within.parity_is;
   settled = within.settled none;
-  allowed = λ s stands. planned_allowed s c plan (planned s stands);
+  allowed = λ s stands. prepared_allowed s c plan (planned s stands);
   telling = telling;
   crash = crash;
 }

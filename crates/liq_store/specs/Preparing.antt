@@ -7,14 +7,15 @@ use Rattle.liq_types.specs.State.{State}
 use Rattle.liq_core.specs.Core.{Core}
 use Rattle.liq_core.specs.Plan.{HasRoom, IsPlan}
 use Rattle.liq_rules.specs.Step.{Refused, Repeated, ruling}
+use Rattle.liq_rules.specs.Verbs.{unhinted}
 use Rattle.liq_journal.specs.Written.{is_rotate}
 use Rattle.liq_store.specs.Memory.{TakesMemory}
 use Rattle.liq_store.specs.declared.preparing.Prepared.{Prepared}
 use Rattle.liq_store.specs.declared.preparing.Prepared.TheVariants.{Ready, Again, No, NoMemory}
 
--- It is planned; or it comes again, or is refused; or memory was asked for.
+-- It is planned without its own hint words; or it comes again, or is refused; or memory was asked for.
 abbrev pub IsPrepared : State → Command → Prepared → Type 0
-IsPrepared s c (Ready plan) = (plan.command ≡ c) × IsPlan s plan
+IsPrepared s c (Ready plan) = (plan.command ≡ unhinted c) × IsPlan s plan
 IsPrepared s c (Again kept) = ruling s c ≡ Repeated kept
 IsPrepared s c (No refusal) = ruling s c ≡ Refused refusal
 IsPrepared s c NoMemory = TakesMemory s (Do c)
@@ -22,7 +23,7 @@ IsPrepared s c NoMemory = TakesMemory s (Do c)
 -- for what is planned there is room, and in the journal for one record more, unless it is a rotation
 abbrev pub IsReady : Command → Core → Prepared → Type 0
 IsReady c core (Ready plan) =
-    (plan.command ≡ c) × HasRoom core plan × (is_rotate c.call ≡ false → core.records < RECORDS_MOST)
+    (plan.command ≡ unhinted c) × HasRoom core plan × (is_rotate c.call ≡ false → core.records < RECORDS_MOST)
 IsReady c core _ = Unit {0}
 
 -- behind so many changes there is room for those of what is planned

@@ -10,7 +10,7 @@ ghost use Rattle.liq_store.specs.Preparing.{HasRoomBehind, IsPrepared, IsReady};
 
 use crate::hint_source::HintSource;
 use liq_core::laws::protocols_stand;
-use liq_core::{PlanFault, Planned, Turn};
+use liq_core::{PlanFault, Planned, Turn, unhinted};
 use liq_guided::Guided;
 use liq_types::{Command, Done, Hint, ListChange, Refusal, Steps};
 use std::sync::ledger::{Blank, Ledger};
@@ -27,7 +27,8 @@ pub enum Prepared {
     NoMemory,
 }
 
-// Plans a command, and makes room for it, also behind the changes that others follow. What is seen of these and of the protocol stays.
+// Plans a command without its own hint words, which change nothing but how far the list is walked, and makes room for it, also
+// behind the changes that others follow. What is seen of these and of the protocol stays.
 pub fn prepare(protocol: &mut Guided, changes: &mut Vec<ListChange>, command: &Command) -> Prepared
     ensures same { SameContent protocol.old protocol.new }
     ensures changes { changes.new.items ≡ changes.old.items }
@@ -37,7 +38,7 @@ pub fn prepare(protocol: &mut Guided, changes: &mut Vec<ListChange>, command: &C
     ensures stands { StandsFor protocol.old (state_of protocol.old) }
 {
     protocols_stand(protocol.protocol());
-    let planned = match protocol.plan(command) {
+    let planned = match protocol.plan(&unhinted(command)) {
         Ok(Turn::New(planned)) => planned,
         Ok(Turn::Again(done)) => return Prepared::Again(done),
         Err(PlanFault::No(refusal)) => return Prepared::No(refusal),

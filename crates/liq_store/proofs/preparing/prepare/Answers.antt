@@ -1,4 +1,4 @@
-use Rattle.std.proofs.Common.{arith, subst}
+use Rattle.std.proofs.Common.{◌∙◌, arith, inl, subst, sym}
 use Rattle.liq_core.specs.Core.{Core, StandsFor, state_of}
 use Rattle.liq_rules.proofs.Allowed.{allowed_few}
 use Rattle.liq_guided.proofs.Steps.{planned_allowed}
@@ -9,9 +9,20 @@ pub returns-in-Ok-reserve-clause-ready : goal.returns-in-Ok-reserve-clause-ready
 returns-in-Ok-reserve-clause-ready c =
     let s = state_of c.args.protocol.now in
     let is = (rw c.in-Ok-New.field-0-is at c.in-Ok-New.ensures) s (subst (λ (p : Core). StandsFor p (state_of p)) c.protocol.ensures c.protocols_stand.ensures) in (
-      is.0,
+      is.0 ∙ c.unhinted.ensures.same,
       c.in-Ok-reserve.ensures.room,
       λ stays.
-          let few = allowed_few s c.args.command.now (planned_allowed s c.args.command.now c.in-Ok-New.planned is) (never_rotates c.args.command.now.call stays) in
+          let allowed = sym (c.unhinted.ensures.ruling s) ∙ planned_allowed s c.unhinted.result c.in-Ok-New.planned is in
+          let few = allowed_few s c.args.command.now allowed (never_rotates c.args.command.now.call stays) in
           omega (arith, few, c.reserve.ensures.same.records),
     )
+
+pub returns-in_default-clause-prepared : goal.returns-in_default-clause-prepared
+returns-in_default-clause-prepared c s stands =
+    let is = (rw c.in-Ok-New.field-0-is at c.in-Ok-New.ensures) s stands in
+    inl (sym (c.unhinted.ensures.ruling s) ∙ planned_allowed s c.unhinted.result c.in-Ok-New.planned is)
+
+pub returns-in-Err-clause-prepared : goal.returns-in-Err-clause-prepared
+returns-in-Err-clause-prepared c s stands =
+    let is = (rw c.in-Ok-New.field-0-is at c.in-Ok-New.ensures) s stands in
+    inl (sym (c.unhinted.ensures.ruling s) ∙ planned_allowed s c.unhinted.result c.in-Ok-New.planned is)

@@ -1,4 +1,4 @@
-use Rattle.std.proofs.Common.{◌∙◌, ℕ, Option, Some, refl, sym, ap, subst, arith}
+use Rattle.std.proofs.Common.{◌∙◌, ◌++◌, ℕ, Option, Some, refl, sym, ap, subst, arith}
 use Rattle.liq_types.specs.declared.image.Image.{Image}
 use Rattle.liq_types.specs.declared.replies.Answer.TheVariants as answer
 use Rattle.liq_types.specs.declared.replies.Reply.TheVariants.{No, Said}
@@ -6,7 +6,7 @@ use Rattle.liq_types.specs.State.{State}
 use Rattle.liq_core.specs.Core.{StandsFor, state_of}
 use Rattle.liq_core.proofs.SameContents.{stands_after}
 use Rattle.liq_rules.specs.Step.{after}
-use Rattle.liq_guided.proofs.Steps.{counts_on, generation_stays, stepped}
+use Rattle.liq_guided.proofs.Steps.{counts_on, generation_stays}
 use Rattle.liq_journal.specs.Settled.{JournalOn}
 use Rattle.liq_journal.specs.Written.{is_odd}
 use Rattle.liq_journal.proofs.Testing.{not_rotate}
@@ -15,13 +15,14 @@ use Rattle.liq_pairs.specs.Sides.{other}
 use Rattle.liq_pairs.proofs.Generations.{never_rotates}
 use Rattle.liq_store.specs.Calling.{WritesOn}
 use Rattle.liq_store.specs.Keeping.{IsInOrder}
+use Rattle.liq_store.specs.Memory.{IsAccepted}
 use Rattle.liq_store.specs.Rotating.{is_rotation}
 use Rattle.liq_store.specs.Stored.{Stored}
 use Rattle.liq_store.specs.Within.{IsWithin, stored}
 use Rattle.liq_store.proofs.Appending.{all_has, appends, appends_on, has_same, kept_near, some_isnt_none, still_has, went_on}
 use Rattle.liq_store.proofs.Calling.{refused_stays, repeated_stays, reply_stays, stays_on}
 use Rattle.liq_store.proofs.Going.{order_going, order_halted, order_same, within_same}
-use Rattle.liq_store.proofs.Steps.{replied}
+use Rattle.liq_store.proofs.Steps.{prepared_allowed, prepared_steps, prepared_told, replied, unhinted_rotation}
 use Rattle.liq_store.proofs.Turning.{rotation_from, turning_done, turning_failed, turning_halts, turning_within, turns_by}
 use Rattle.liq_store.proofs.store.Store.carry_out.Goals as goal
 
@@ -80,7 +81,7 @@ returns-in_default-checkpoint_after-clause-disks g c =
 pub invariant_of-self-in-Err : goal.invariant_of-self-in-Err
 invariant_of-self-in-Err g c =
     let t = turns_by g.D.Disk.seen g.D.Disk.moment g.D.Disk.left_at c.self.inside.side c.self.inside.taken c.self.inside.beside c.turn.new.beside c.self.inside.protocol c.self.inside.stopped c.in-Do.command c.deref.result.now (ap (λ (o : Stored g.row.D.Denot). o.stopped) c.self.view_is ∙ c.requires.going) c.self.invariant
-    (rotation_from c.self.inside.protocol c.prepare.new.protocol c.protocol.result.now c.in-Ready.planned c.in-Do.command c.in-Ok.checkpoint.items c.deref.result.now c.prepare.ensures.same c.protocol.ensures c.in-Ready.ensures.ready.0 c.deref.ensures.value c.in-Ok.ensures.rotation)
+    (rotation_from c.self.inside.protocol c.prepare.new.protocol c.protocol.result.now c.in-Ready.planned c.in-Do.command c.in-Ok.checkpoint.items c.deref.result.now c.prepare.ensures.same c.protocol.ensures (c.in-Ready.ensures.ready.0 ∙ unhinted_rotation c.in-Do.command c.in-Rotate.is) c.deref.ensures.value c.in-Ok.ensures.rotation)
     c.in-Err.ensures.telling c.in-Err.ensures.crash c.in-Err.ensures.time in
     subst (λ (j : JournalOn g.row.D.Denot). IsWithin g.D.Disk.seen g.D.Disk.moment g.D.Disk.left_at c.self.inside.side j c.turn.new.beside c.prepare.new.protocol (Some c.sum_of_faults.result) c.prepare.new.changes.items) (sym c.in-Err.ensures.kept)
     (turning_halts g.D.Disk.seen g.D.Disk.moment g.D.Disk.left_at c.self.inside.side c.self.inside.taken c.self.inside.beside c.turn.new.beside c.self.inside.protocol c.in-Do.command c.deref.result.now t g.met.D.Disk.seen_may_stay c.self.inside.stopped c.self.invariant c.prepare.new.protocol c.prepare.ensures.same c.sum_of_faults.result)
@@ -88,7 +89,7 @@ invariant_of-self-in-Err g c =
 pub returns-in-Err-clause-order : goal.returns-in-Err-clause-order
 returns-in-Err-clause-order g c =
     let t = turns_by g.D.Disk.seen g.D.Disk.moment g.D.Disk.left_at c.self.inside.side c.self.inside.taken c.self.inside.beside c.turn.new.beside c.self.inside.protocol c.self.inside.stopped c.in-Do.command c.deref.result.now (ap (λ (o : Stored g.row.D.Denot). o.stopped) c.self.view_is ∙ c.requires.going) c.self.invariant
-    (rotation_from c.self.inside.protocol c.prepare.new.protocol c.protocol.result.now c.in-Ready.planned c.in-Do.command c.in-Ok.checkpoint.items c.deref.result.now c.prepare.ensures.same c.protocol.ensures c.in-Ready.ensures.ready.0 c.deref.ensures.value c.in-Ok.ensures.rotation)
+    (rotation_from c.self.inside.protocol c.prepare.new.protocol c.protocol.result.now c.in-Ready.planned c.in-Do.command c.in-Ok.checkpoint.items c.deref.result.now c.prepare.ensures.same c.protocol.ensures (c.in-Ready.ensures.ready.0 ∙ unhinted_rotation c.in-Do.command c.in-Rotate.is) c.deref.ensures.value c.in-Ok.ensures.rotation)
     c.in-Err.ensures.telling c.in-Err.ensures.crash c.in-Err.ensures.time in
     subst (λ (j : JournalOn g.row.D.Denot). IsInOrder g.D.Disk.seen g.D.Disk.moment g.D.Disk.left_at (stored c.self.inside.side j c.turn.new.beside c.prepare.new.protocol (Some c.sum_of_faults.result) c.prepare.new.changes.items)) (sym c.in-Err.ensures.kept)
     (turning_halts g.D.Disk.seen g.D.Disk.moment g.D.Disk.left_at c.self.inside.side c.self.inside.taken c.self.inside.beside c.turn.new.beside c.self.inside.protocol c.in-Do.command c.deref.result.now t {changes = c.prepare.new.changes.items} g.met.D.Disk.seen_may_stay c.self.inside.stopped c.self.invariant c.prepare.new.protocol c.prepare.ensures.same c.sum_of_faults.result).order
@@ -96,7 +97,7 @@ returns-in-Err-clause-order g c =
 pub returns-in-Err-clause-disks : goal.returns-in-Err-clause-disks
 returns-in-Err-clause-disks g c =
     let t = turns_by g.D.Disk.seen g.D.Disk.moment g.D.Disk.left_at c.self.inside.side c.self.inside.taken c.self.inside.beside c.turn.new.beside c.self.inside.protocol c.self.inside.stopped c.in-Do.command c.deref.result.now (ap (λ (o : Stored g.row.D.Denot). o.stopped) c.self.view_is ∙ c.requires.going) c.self.invariant
-    (rotation_from c.self.inside.protocol c.prepare.new.protocol c.protocol.result.now c.in-Ready.planned c.in-Do.command c.in-Ok.checkpoint.items c.deref.result.now c.prepare.ensures.same c.protocol.ensures c.in-Ready.ensures.ready.0 c.deref.ensures.value c.in-Ok.ensures.rotation)
+    (rotation_from c.self.inside.protocol c.prepare.new.protocol c.protocol.result.now c.in-Ready.planned c.in-Do.command c.in-Ok.checkpoint.items c.deref.result.now c.prepare.ensures.same c.protocol.ensures (c.in-Ready.ensures.ready.0 ∙ unhinted_rotation c.in-Do.command c.in-Rotate.is) c.deref.ensures.value c.in-Ok.ensures.rotation)
     c.in-Err.ensures.telling c.in-Err.ensures.crash c.in-Err.ensures.time in
     subst (λ (j : JournalOn g.row.D.Denot). WritesOn g.D.Disk.seen g.D.Disk.moment g.D.Disk.left_at c.args.self.now c.args.request.now answer.DiskFault (stored c.self.inside.side j c.turn.new.beside c.prepare.new.protocol (Some c.sum_of_faults.result) c.prepare.new.changes.items)) (sym c.in-Err.ensures.kept)
     (turning_failed g.D.Disk.seen g.D.Disk.moment g.D.Disk.left_at c.self.inside.side c.self.inside.taken c.self.inside.beside c.turn.new.beside c.self.inside.protocol c.in-Do.command c.deref.result.now t c.self.inside.stopped c.self.inside.changes.items c.self.invariant c.args.self.now c.self.view_is c.args.request.now c.in-Do.is c.prepare.new.protocol (Some c.sum_of_faults.result) c.prepare.new.changes.items)
@@ -104,29 +105,29 @@ returns-in-Err-clause-disks g c =
 pub invariant_of-self-in-Rotate : goal.invariant_of-self-in-Rotate
 invariant_of-self-in-Rotate g c =
     let t = turns_by g.D.Disk.seen g.D.Disk.moment g.D.Disk.left_at c.self.inside.side c.self.inside.taken c.self.inside.beside c.turn.new.taken.disk c.self.inside.protocol c.self.inside.stopped c.in-Do.command c.deref.result.now (ap (λ (o : Stored g.row.D.Denot). o.stopped) c.self.view_is ∙ c.requires.going) c.self.invariant
-    (rotation_from c.self.inside.protocol c.prepare.new.protocol c.protocol.result.now c.in-Ready.planned c.in-Do.command c.in-Ok.checkpoint.items c.deref.result.now c.prepare.ensures.same c.protocol.ensures c.in-Ready.ensures.ready.0 c.deref.ensures.value c.in-Ok.ensures.rotation)
+    (rotation_from c.self.inside.protocol c.prepare.new.protocol c.protocol.result.now c.in-Ready.planned c.in-Do.command c.in-Ok.checkpoint.items c.deref.result.now c.prepare.ensures.same c.protocol.ensures (c.in-Ready.ensures.ready.0 ∙ unhinted_rotation c.in-Do.command c.in-Rotate.is) c.deref.ensures.value c.in-Ok.ensures.rotation)
     c.in-Ok-turn.ensures.telling c.in-Ok-turn.ensures.crash c.in-Ok-turn.ensures.time in
     subst (λ (x : Side). IsWithin g.D.Disk.seen g.D.Disk.moment g.D.Disk.left_at x c.turn.new.taken c.turn.new.beside c.make-done.new.protocol c.self.inside.stopped c.prepare.new.changes.items) (sym c.in-Ok-turn.ensures.side)
     (subst (λ (d : g.row.D.Denot). IsWithin g.D.Disk.seen g.D.Disk.moment g.D.Disk.left_at (other c.self.inside.side) c.turn.new.taken d c.make-done.new.protocol c.self.inside.stopped c.prepare.new.changes.items) (sym c.in-Ok-turn.ensures.exchanged)
     (subst (λ (o : Option ℕ). IsWithin g.D.Disk.seen g.D.Disk.moment g.D.Disk.left_at (other c.self.inside.side) c.turn.new.taken c.self.inside.taken.disk c.make-done.new.protocol o c.prepare.new.changes.items) (sym (ap (λ (o : Stored g.row.D.Denot). o.stopped) c.self.view_is ∙ c.requires.going))
-    (turning_within g.D.Disk.seen g.D.Disk.moment g.D.Disk.left_at c.self.inside.side c.self.inside.taken c.self.inside.beside c.turn.new.taken.disk c.self.inside.protocol c.in-Do.command c.deref.result.now t c.make-done.new.protocol (state_of c.self.inside.protocol) c.prepare.ensures.stands (λ t so. let is = c.in-Ready.ensures.prepared t so in stepped c.make-done.new.protocol t c.in-Do.command c.in-Ready.planned is (c.make-done.ensures.state t (stands_after c.self.inside.protocol c.prepare.new.protocol t c.prepare.ensures.same so))) c.in-Ok-turn.ensures.durable c.in-Ok-turn.ensures.created
+    (turning_within g.D.Disk.seen g.D.Disk.moment g.D.Disk.left_at c.self.inside.side c.self.inside.taken c.self.inside.beside c.turn.new.taken.disk c.self.inside.protocol c.in-Do.command c.deref.result.now t c.make-done.new.protocol (state_of c.self.inside.protocol) c.prepare.ensures.stands (λ t so. let is = c.in-Ready.ensures.prepared t so in prepared_steps c.make-done.new.protocol t c.in-Do.command c.in-Ready.planned is (c.make-done.ensures.state t (stands_after c.self.inside.protocol c.prepare.new.protocol t c.prepare.ensures.same so))) c.in-Ok-turn.ensures.durable c.in-Ok-turn.ensures.created
     c.turn.new.taken.generation c.turn.new.taken.limit c.turn.new.taken.start c.turn.new.taken.count c.in-Ok-turn.ensures.known.0 c.in-Ok-turn.ensures.known.3 c.in-Ok-turn.ensures.settled)))
 
 pub returns-in-Rotate-clause-order : goal.returns-in-Rotate-clause-order
 returns-in-Rotate-clause-order g c =
     let t = turns_by g.D.Disk.seen g.D.Disk.moment g.D.Disk.left_at c.self.inside.side c.self.inside.taken c.self.inside.beside c.turn.new.taken.disk c.self.inside.protocol c.self.inside.stopped c.in-Do.command c.deref.result.now (ap (λ (o : Stored g.row.D.Denot). o.stopped) c.self.view_is ∙ c.requires.going) c.self.invariant
-    (rotation_from c.self.inside.protocol c.prepare.new.protocol c.protocol.result.now c.in-Ready.planned c.in-Do.command c.in-Ok.checkpoint.items c.deref.result.now c.prepare.ensures.same c.protocol.ensures c.in-Ready.ensures.ready.0 c.deref.ensures.value c.in-Ok.ensures.rotation)
+    (rotation_from c.self.inside.protocol c.prepare.new.protocol c.protocol.result.now c.in-Ready.planned c.in-Do.command c.in-Ok.checkpoint.items c.deref.result.now c.prepare.ensures.same c.protocol.ensures (c.in-Ready.ensures.ready.0 ∙ unhinted_rotation c.in-Do.command c.in-Rotate.is) c.deref.ensures.value c.in-Ok.ensures.rotation)
     c.in-Ok-turn.ensures.telling c.in-Ok-turn.ensures.crash c.in-Ok-turn.ensures.time in
     subst (λ (x : Side). IsInOrder g.D.Disk.seen g.D.Disk.moment g.D.Disk.left_at (stored x c.turn.new.taken c.turn.new.beside c.make-done.new.protocol c.self.inside.stopped c.prepare.new.changes.items)) (sym c.in-Ok-turn.ensures.side)
     (subst (λ (d : g.row.D.Denot). IsInOrder g.D.Disk.seen g.D.Disk.moment g.D.Disk.left_at (stored (other c.self.inside.side) c.turn.new.taken d c.make-done.new.protocol c.self.inside.stopped c.prepare.new.changes.items)) (sym c.in-Ok-turn.ensures.exchanged)
     (subst (λ (o : Option ℕ). IsInOrder g.D.Disk.seen g.D.Disk.moment g.D.Disk.left_at (stored (other c.self.inside.side) c.turn.new.taken c.self.inside.taken.disk c.make-done.new.protocol o c.prepare.new.changes.items)) (sym (ap (λ (o : Stored g.row.D.Denot). o.stopped) c.self.view_is ∙ c.requires.going))
-    (turning_within g.D.Disk.seen g.D.Disk.moment g.D.Disk.left_at c.self.inside.side c.self.inside.taken c.self.inside.beside c.turn.new.taken.disk c.self.inside.protocol c.in-Do.command c.deref.result.now t {changes = c.prepare.new.changes.items} c.make-done.new.protocol (state_of c.self.inside.protocol) c.prepare.ensures.stands (λ t so. let is = c.in-Ready.ensures.prepared t so in stepped c.make-done.new.protocol t c.in-Do.command c.in-Ready.planned is (c.make-done.ensures.state t (stands_after c.self.inside.protocol c.prepare.new.protocol t c.prepare.ensures.same so))) c.in-Ok-turn.ensures.durable c.in-Ok-turn.ensures.created
+    (turning_within g.D.Disk.seen g.D.Disk.moment g.D.Disk.left_at c.self.inside.side c.self.inside.taken c.self.inside.beside c.turn.new.taken.disk c.self.inside.protocol c.in-Do.command c.deref.result.now t {changes = c.prepare.new.changes.items} c.make-done.new.protocol (state_of c.self.inside.protocol) c.prepare.ensures.stands (λ t so. let is = c.in-Ready.ensures.prepared t so in prepared_steps c.make-done.new.protocol t c.in-Do.command c.in-Ready.planned is (c.make-done.ensures.state t (stands_after c.self.inside.protocol c.prepare.new.protocol t c.prepare.ensures.same so))) c.in-Ok-turn.ensures.durable c.in-Ok-turn.ensures.created
     c.turn.new.taken.generation c.turn.new.taken.limit c.turn.new.taken.start c.turn.new.taken.count c.in-Ok-turn.ensures.known.0 c.in-Ok-turn.ensures.known.3 c.in-Ok-turn.ensures.settled).order))
 
 pub returns-in-Rotate-clause-disks : goal.returns-in-Rotate-clause-disks
 returns-in-Rotate-clause-disks g c =
     let t = turns_by g.D.Disk.seen g.D.Disk.moment g.D.Disk.left_at c.self.inside.side c.self.inside.taken c.self.inside.beside c.turn.new.taken.disk c.self.inside.protocol c.self.inside.stopped c.in-Do.command c.deref.result.now (ap (λ (o : Stored g.row.D.Denot). o.stopped) c.self.view_is ∙ c.requires.going) c.self.invariant
-    (rotation_from c.self.inside.protocol c.prepare.new.protocol c.protocol.result.now c.in-Ready.planned c.in-Do.command c.in-Ok.checkpoint.items c.deref.result.now c.prepare.ensures.same c.protocol.ensures c.in-Ready.ensures.ready.0 c.deref.ensures.value c.in-Ok.ensures.rotation)
+    (rotation_from c.self.inside.protocol c.prepare.new.protocol c.protocol.result.now c.in-Ready.planned c.in-Do.command c.in-Ok.checkpoint.items c.deref.result.now c.prepare.ensures.same c.protocol.ensures (c.in-Ready.ensures.ready.0 ∙ unhinted_rotation c.in-Do.command c.in-Rotate.is) c.deref.ensures.value c.in-Ok.ensures.rotation)
     c.in-Ok-turn.ensures.telling c.in-Ok-turn.ensures.crash c.in-Ok-turn.ensures.time in
     subst (λ (x : Side). WritesOn g.D.Disk.seen g.D.Disk.moment g.D.Disk.left_at c.args.self.now c.args.request.now (answer.Reply (Said c.make-done.result)) (stored x c.turn.new.taken c.turn.new.beside c.make-done.new.protocol c.self.inside.stopped c.prepare.new.changes.items)) (sym c.in-Ok-turn.ensures.side)
     (subst (λ (d : g.row.D.Denot). WritesOn g.D.Disk.seen g.D.Disk.moment g.D.Disk.left_at c.args.self.now c.args.request.now (answer.Reply (Said c.make-done.result)) (stored (other c.self.inside.side) c.turn.new.taken d c.make-done.new.protocol c.self.inside.stopped c.prepare.new.changes.items)) (sym c.in-Ok-turn.ensures.exchanged)
@@ -143,6 +144,20 @@ returns-clause-step g c s stands =
     let here : StandsFor c.self.inside.protocol s = subst (λ (o : Stored g.row.D.Denot). StandsFor o.core s) (sym c.self.view_is) stands in
     let there = stands_after c.self.inside.protocol c.prepare.new.protocol s c.prepare.ensures.same here in
     replied c.make-done-2.new.protocol s c.in-Do.command c.in-Ready.planned c.args.request.now c.make-done-2.result c.in-Do.is (c.in-Ready.ensures.prepared s here).0 (c.make-done-2.ensures.state s there) (c.make-done-2.ensures.reply s there)
+
+pub returns-in-Err-write_record-clause-step : goal.returns-in-Err-write_record-clause-step
+returns-in-Err-write_record-clause-step g c s stands =
+    let here : StandsFor c.self.inside.protocol s = subst (λ (o : Stored g.row.D.Denot). StandsFor o.core s) (sym c.self.view_is) stands in (
+      stands_after c.self.inside.protocol c.prepare.new.protocol s c.prepare.ensures.same here,
+      subst (IsAccepted s) (sym c.in-Do.is) (prepared_allowed s c.in-Do.command c.in-Ready.planned (c.in-Ready.ensures.prepared s here)),
+    )
+
+pub returns-clause-told : goal.returns-clause-told
+returns-clause-told g c s stands =
+    let here : StandsFor c.self.inside.protocol s = subst (λ (o : Stored g.row.D.Denot). StandsFor o.core s) (sym c.self.view_is) stands in
+    let was = c.prepare.ensures.changes ∙ ap (λ (o : Stored g.row.D.Denot). o.changes) c.self.view_is in
+    let more = c.list_changes.ensures ∙ prepared_told s c.in-Do.command c.in-Ready.planned c.args.request.now c.in-Do.is (c.in-Ready.ensures.prepared s here) in
+    c.note.ensures ∙ (λ i. was i ++ more i)
 
 pub write_record-requires-clause-stays : goal.write_record-requires-clause-stays
 write_record-requires-clause-stays g c = not_rotate c.in-Do.command.call c.in_default.not-Rotate
@@ -179,12 +194,12 @@ invariant_of-self-2 g c =
     let settled = c.in-Ok-write_record.ensures.settled in
     let s = state_of c.self.inside.protocol in
     let stands = c.prepare.ensures.stands in
-    let steps : (t : State) → StandsFor c.self.inside.protocol t → StandsFor c.make-done-2.new.protocol (after t c.in-Do.command) = (λ t so. let is = c.in-Ready.ensures.prepared t so in stepped c.make-done-2.new.protocol t c.in-Do.command c.in-Ready.planned is (c.make-done-2.ensures.state t (stands_after c.self.inside.protocol c.prepare.new.protocol t c.prepare.ensures.same so))) in
+    let steps : (t : State) → StandsFor c.self.inside.protocol t → StandsFor c.make-done-2.new.protocol (after t c.in-Do.command) = (λ t so. let is = c.in-Ready.ensures.prepared t so in prepared_steps c.make-done-2.new.protocol t c.in-Do.command c.in-Ready.planned is (c.make-done-2.ensures.state t (stands_after c.self.inside.protocol c.prepare.new.protocol t c.prepare.ensures.same so))) in
     let step = steps s stands in
     let stays = never_rotates c.in-Do.command.call (not_rotate c.in-Do.command.call c.in_default.not-Rotate) in
     let counted = counts_on c.self.inside.protocol c.make-done-2.new.protocol s c.in-Do.command stays stands step in
     record {
-      order = subst (λ (o : Option ℕ). IsInOrder g.D.Disk.seen g.D.Disk.moment g.D.Disk.left_at (stored c.self.inside.side c.write_record.new.taken c.self.inside.beside c.make-done-2.new.protocol o c.note.new.changes.items)) (sym (ap (λ (o : Stored g.row.D.Denot). o.stopped) c.self.view_is ∙ c.requires.going)) (order_going g.D.Disk.seen g.D.Disk.moment g.D.Disk.left_at c.self.inside.side c.write_record.new.taken c.self.inside.beside c.make-done-2.new.protocol (went_on g.D.Disk.seen g.D.Disk.moment g.D.Disk.left_at c.self.inside.side c.self.inside.taken c.write_record.new.taken c.self.inside.beside c.self.inside.protocol c.in-Do.command a c.make-done-2.new.protocol (state_of c.self.inside.protocol) c.prepare.ensures.stands (λ t so. let is = c.in-Ready.ensures.prepared t so in stepped c.make-done-2.new.protocol t c.in-Do.command c.in-Ready.planned is (c.make-done-2.ensures.state t (stands_after c.self.inside.protocol c.prepare.new.protocol t c.prepare.ensures.same so))) c.in-Ok-write_record.ensures.durable c.in-Ok-write_record.ensures.appended));
+      order = subst (λ (o : Option ℕ). IsInOrder g.D.Disk.seen g.D.Disk.moment g.D.Disk.left_at (stored c.self.inside.side c.write_record.new.taken c.self.inside.beside c.make-done-2.new.protocol o c.note.new.changes.items)) (sym (ap (λ (o : Stored g.row.D.Denot). o.stopped) c.self.view_is ∙ c.requires.going)) (order_going g.D.Disk.seen g.D.Disk.moment g.D.Disk.left_at c.self.inside.side c.write_record.new.taken c.self.inside.beside c.make-done-2.new.protocol (went_on g.D.Disk.seen g.D.Disk.moment g.D.Disk.left_at c.self.inside.side c.self.inside.taken c.write_record.new.taken c.self.inside.beside c.self.inside.protocol c.in-Do.command a c.make-done-2.new.protocol (state_of c.self.inside.protocol) c.prepare.ensures.stands (λ t so. let is = c.in-Ready.ensures.prepared t so in prepared_steps c.make-done-2.new.protocol t c.in-Do.command c.in-Ready.planned is (c.make-done-2.ensures.state t (stands_after c.self.inside.protocol c.prepare.new.protocol t c.prepare.ensures.same so))) c.in-Ok-write_record.ensures.durable c.in-Ok-write_record.ensures.appended));
       generation_is = c.write_record.ensures.generation ∙ c.self.invariant.generation_is ∙ sym (generation_stays c.self.inside.protocol c.make-done-2.new.protocol s c.in-Do.command stays stands step);
       parity_is = ap is_odd c.write_record.ensures.generation ∙ c.self.invariant.parity_is;
       count_is = omega (arith, c.in-Ok-write_record.ensures.one_more, c.self.invariant.count_is, counted);
@@ -195,7 +210,7 @@ invariant_of-self-2 g c =
 pub returns-clause-order : goal.returns-clause-order
 returns-clause-order g c =
     let a = appends g.D.Disk.seen g.D.Disk.moment g.D.Disk.left_at c.self.inside.side c.self.inside.taken c.write_record.new.taken c.self.inside.beside c.self.inside.protocol c.self.inside.stopped c.in-Do.command c.in-Ready.planned (ap (λ (o : Stored g.row.D.Denot). o.stopped) c.self.view_is ∙ c.requires.going) c.self.invariant c.in-Ready.ensures.prepared c.write_record.ensures.telling c.write_record.ensures.crash in
-    subst (λ (o : Option ℕ). IsInOrder g.D.Disk.seen g.D.Disk.moment g.D.Disk.left_at (stored c.self.inside.side c.write_record.new.taken c.self.inside.beside c.make-done-2.new.protocol o c.note.new.changes.items)) (sym (ap (λ (o : Stored g.row.D.Denot). o.stopped) c.self.view_is ∙ c.requires.going)) (order_going g.D.Disk.seen g.D.Disk.moment g.D.Disk.left_at c.self.inside.side c.write_record.new.taken c.self.inside.beside c.make-done-2.new.protocol (went_on g.D.Disk.seen g.D.Disk.moment g.D.Disk.left_at c.self.inside.side c.self.inside.taken c.write_record.new.taken c.self.inside.beside c.self.inside.protocol c.in-Do.command a c.make-done-2.new.protocol (state_of c.self.inside.protocol) c.prepare.ensures.stands (λ t so. let is = c.in-Ready.ensures.prepared t so in stepped c.make-done-2.new.protocol t c.in-Do.command c.in-Ready.planned is (c.make-done-2.ensures.state t (stands_after c.self.inside.protocol c.prepare.new.protocol t c.prepare.ensures.same so))) c.in-Ok-write_record.ensures.durable c.in-Ok-write_record.ensures.appended))
+    subst (λ (o : Option ℕ). IsInOrder g.D.Disk.seen g.D.Disk.moment g.D.Disk.left_at (stored c.self.inside.side c.write_record.new.taken c.self.inside.beside c.make-done-2.new.protocol o c.note.new.changes.items)) (sym (ap (λ (o : Stored g.row.D.Denot). o.stopped) c.self.view_is ∙ c.requires.going)) (order_going g.D.Disk.seen g.D.Disk.moment g.D.Disk.left_at c.self.inside.side c.write_record.new.taken c.self.inside.beside c.make-done-2.new.protocol (went_on g.D.Disk.seen g.D.Disk.moment g.D.Disk.left_at c.self.inside.side c.self.inside.taken c.write_record.new.taken c.self.inside.beside c.self.inside.protocol c.in-Do.command a c.make-done-2.new.protocol (state_of c.self.inside.protocol) c.prepare.ensures.stands (λ t so. let is = c.in-Ready.ensures.prepared t so in prepared_steps c.make-done-2.new.protocol t c.in-Do.command c.in-Ready.planned is (c.make-done-2.ensures.state t (stands_after c.self.inside.protocol c.prepare.new.protocol t c.prepare.ensures.same so))) c.in-Ok-write_record.ensures.durable c.in-Ok-write_record.ensures.appended))
 
 pub returns-clause-disks : goal.returns-clause-disks
 returns-clause-disks g c =
