@@ -1,5 +1,5 @@
 // The two files, each taken and held for this process alone.
-ghost use Rattle.std.specs.Prelude.{◌↔◌, IsTrue};
+ghost use Rattle.std.specs.Prelude.{◌↔◌, ◌≡◌, None, IfSome, IsSome, IsTrue};
 ghost use Rattle.liq_files.specs.Held.{IsHeld};
 
 use crate::found::{FileId, Found, may_be_taken};
@@ -12,7 +12,9 @@ use std::os::unix::fs::OpenOptionsExt;
 
 /// The disks over both files, or two without one: once the left file is refused the right one is not tried. No file stands for two of
 /// the standard streams, the left file and the right one. Nothing is written, and no folder synced, before both are taken.
-pub fn disks<R: Files<File = File> + AllocGlobal>(rt: &R) -> (FileDisk, FileDisk) {
+pub fn disks<R: Files<File = File> + AllocGlobal>(rt: &R) -> (FileDisk, FileDisk)
+    ensures { IsSome result.0.device ↔ IsSome result.1.device }
+{
     match both(rt) {
         Some(disks) => disks,
         None => no_disks(),
@@ -20,11 +22,17 @@ pub fn disks<R: Files<File = File> + AllocGlobal>(rt: &R) -> (FileDisk, FileDisk
 }
 
 /// Two disks without a file, on which every call fails.
-pub fn no_disks() -> (FileDisk, FileDisk) {
+pub fn no_disks() -> (FileDisk, FileDisk)
+    ensures left { result.0.device ≡ None }
+    ensures right { result.1.device ≡ None }
+{
     (FileDisk::new(None), FileDisk::new(None))
 }
 
-fn both<R: Files<File = File> + AllocGlobal>(rt: &R) -> Option<(FileDisk, FileDisk)> {
+fn both<R: Files<File = File> + AllocGlobal>(rt: &R) -> Option<(FileDisk, FileDisk)>
+    ensures left { IfSome result (λ disks. IsSome disks.0.device) }
+    ensures right { IfSome result (λ disks. IsSome disks.1.device) }
+{
     let streams = [input(rt).ok()?, output(rt).ok()?, errors(rt).ok()?];
     let [input, output, errors] = streams;
     let (left, left_id) = taken(rt, LEFT, &streams)?;
@@ -41,7 +49,9 @@ fn taken<R: Files<File = File> + AllocGlobal>(
     rt: &R,
     name: &str,
     others: &[Option<FileId>],
-) -> Option<(FileDisk, FileId)> {
+) -> Option<(FileDisk, FileId)>
+    ensures { IfSome result (λ taken. IsSome taken.0.device) }
+{
     let user = libc::geteuid();
     let file = opened(rt, name).ok()?;
     let found = Found::of(&file.metadata().ok()?);
