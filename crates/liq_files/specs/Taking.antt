@@ -1,5 +1,5 @@
 -- Which files are taken, by what the system says of them.
-use Rattle.std.specs.Prelude.{◌≡◌, ◌⊎◌, ℕ, List, Option, Some, Result, Ok, Err, Contains, bit_and}
+use Rattle.std.specs.Prelude.{◌≡◌, ◌⊎◌, ℕ, List, Result, Ok, Err, Contains, bit_and}
 use Rattle.liq_files.specs.declared.found.FileId.{FileId}
 use Rattle.liq_files.specs.declared.found.Found.{Found}
 
@@ -16,15 +16,15 @@ abbrev pub IsOnesOwn : ℕ → Found → Type 0
 IsOnesOwn user file = (file.owner ≡ user) ⊎ (user ≡ 0)
 
 -- a regular file of the user's own, which others may not write, and which stands for nothing else
-abbrev pub MayBeTaken : ℕ → List (Option FileId) → Found → Type 0
+abbrev pub MayBeTaken : ℕ → List FileId → Found → Type 0
 MayBeTaken user taken file =
-    IsRegular file.mode × (IsOnesOwn user file × (IsClosedToOthers file.mode × (Contains taken (Some file.id) → ⊥)))
+    IsRegular file.mode × (IsOnesOwn user file × (IsClosedToOthers file.mode × (Contains taken file.id → ⊥)))
 
 -- a link of the user's own, or of root's
 abbrev pub MayBeFollowed : ℕ → ℕ → Type 0
 MayBeFollowed user owner = (owner ≡ user) ⊎ (owner ≡ 0)
 
 -- a standard stream is this file, or the system has not said which file it is
-abbrev pub MayBe : {E : Type 0} → Result (Option FileId) E → FileId → Type 0
-MayBe (Ok found) file = found ≡ Some file
+abbrev pub MayBe : {E : Type 0} → Result FileId E → FileId → Type 0
+MayBe (Ok found) file = found ≡ file
 MayBe (Err fault) file = Unit {0}

@@ -5,6 +5,7 @@ ghost use Rattle.liq_files.specs.Held.{IsHeld};
 use crate::found::{FileId, Found, may_be_taken};
 use crate::names::{LEFT, RIGHT, led_to};
 use crate::streams::{errors, input, output};
+use crate::user::effective_user;
 use liq_outside::FileDisk;
 use std::fs::{self, File, Files, TryLockError};
 use std::io::{self, ErrorKind};
@@ -33,10 +34,10 @@ fn both<R: Files<File = File> + AllocGlobal>(rt: &R) -> Option<(FileDisk, FileDi
     ensures left { IfSome result (λ disks. IsSome disks.0.device) }
     ensures right { IfSome result (λ disks. IsSome disks.1.device) }
 {
-    let streams = [input(rt).ok()?, output(rt).ok()?, errors(rt).ok()?];
-    let [input, output, errors] = streams;
-    let (left, left_id) = taken(rt, LEFT, &streams)?;
-    let (right, _) = taken(rt, RIGHT, &[input, output, errors, Some(left_id)])?;
+    let user = effective_user(rt)?;
+    let [input, output, errors] = [input(rt).ok()?, output(rt).ok()?, errors(rt).ok()?];
+    let (left, left_id) = taken(rt, LEFT, user, &[input, output, errors])?;
+    let (right, _) = taken(rt, RIGHT, user, &[input, output, errors, left_id])?;
     sync_folder(rt, LEFT).ok()?;
     sync_folder(rt, RIGHT).ok()?;
     Some((left, right))
@@ -48,11 +49,11 @@ fn both<R: Files<File = File> + AllocGlobal>(rt: &R) -> Option<(FileDisk, FileDi
 fn taken<R: Files<File = File> + AllocGlobal>(
     rt: &R,
     name: &str,
-    others: &[Option<FileId>],
+    user: u32,
+    others: &[FileId],
 ) -> Option<(FileDisk, FileId)>
     ensures { IfSome result (λ taken. IsSome taken.0.device) }
 {
-    let user = libc::geteuid();
     let file = opened(rt, name).ok()?;
     let found = Found::of(&file.metadata().ok()?);
     let is_named = led_to(rt, name, user)?.id == found.id;

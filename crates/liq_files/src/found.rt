@@ -43,13 +43,13 @@ impl Found {
 
 /// Whether the user may take the file for one of the two: a regular one (a device tells no length) that is the user's own, or
 /// anybody's where the user is root; that others may not write; and that stands for none of what is taken.
-pub fn may_be_taken(file: &Found, user: u32, taken: &[Option<FileId>]) -> bool
+pub fn may_be_taken(file: &Found, user: u32, taken: &[FileId]) -> bool
     ensures { IsTrue result ↔ MayBeTaken user taken.now file.now }
 {
     file.mode & KIND == REGULAR
         && (file.owner == user || user == 0)
         && file.mode & OTHERS_WRITE == 0
-        && !taken.contains(&Some(file.id))
+        && !taken.contains(&file.id)
 }
 
 /// Whether the user follows a link of this owner: the user's own or root's.
@@ -77,17 +77,14 @@ mod tests {
             owner: 1000,
             mode,
         };
-        let apart = [
-            None,
-            Some(FileId {
-                device: 2,
-                number: 7,
-            }),
-        ];
+        let apart = [FileId {
+            device: 2,
+            number: 7,
+        }];
         assert_eq!(rt; may_be_taken(&file, 1000, &apart), wanted[0]);
         assert_eq!(rt; may_be_taken(&file, 1001, &apart), wanted[1]);
         assert_eq!(rt; may_be_taken(&file, 0, &apart), wanted[2]);
-        assert!(rt; !may_be_taken(&file, 1000, &[None, None, Some(ID)]));
+        assert!(rt; !may_be_taken(&file, 1000, &[apart[0], ID]));
     }
 
     #[test]

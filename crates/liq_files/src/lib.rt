@@ -5,6 +5,7 @@ mod files;
 mod found;
 mod names;
 mod streams;
+mod user;
 mod written;
 
 pub use files::{disks, no_disks};

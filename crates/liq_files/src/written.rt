@@ -33,11 +33,11 @@ fn is_output<F: Files>(files: &F, name: &str) -> bool {
 }
 
 /// Whether a stream is this file, or may be it, since the system has not said which file the stream is.
-fn may_be(stream: &io::Result<Option<FileId>>, file: FileId) -> bool
+fn may_be(stream: &io::Result<FileId>, file: FileId) -> bool
     ensures { IsTrue result ↔ MayBe stream.now file }
 {
     match stream {
-        Ok(found) => *found == Some(file),
+        Ok(found) => *found == file,
         Err(_) => true,
     }
 }
