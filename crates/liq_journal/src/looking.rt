@@ -12,7 +12,7 @@ ghost use Rattle.liq_header.specs.Layout.{header_digest, piece};
 use crate::answers::{Look, LookFault};
 use crate::damage::{Damage, What};
 use crate::header::read_header;
-use crate::reads::{PIECE, read_at};
+use crate::reads::{PIECE_BYTES, read_at};
 use liq_header::{Head, fields_size, header_size};
 use liq_outside::{Disk, Failed};
 use sha2::{Digest, Sha256};
@@ -83,10 +83,10 @@ fn digest_behind<D: Disk>(
 {
     let mut hasher = Sha256::new();
     hasher.update(fields);
-    let mut chunk = [0; PIECE];
+    let mut chunk = [0; PIECE_BYTES];
     let mut done = 0;
     while done < size {
-        let want = (size - done).min(PIECE as u64) as usize;
+        let want = (size - done).min(PIECE_BYTES as u64) as usize;
         let part = &mut chunk[..want];
         let count = read_at(disk, place + done, part)?;
         if count == 0 {

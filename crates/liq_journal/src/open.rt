@@ -18,7 +18,7 @@ use crate::damage::Damage;
 use crate::gate::settle;
 use crate::journal::RECORD;
 use crate::looking::sound_header;
-use crate::reads::{PIECE, read_at};
+use crate::reads::{PIECE_BYTES, read_at};
 use crate::records::count_records;
 use crate::scanned::Scanned;
 use liq_header::header_size;
@@ -42,10 +42,10 @@ fn read_checkpoint<D: Disk>(
 {
     let mut checkpoint = Vec::new(alloc);
     let end = place + size;
-    let mut chunk = [0; PIECE];
+    let mut chunk = [0; PIECE_BYTES];
     let mut at = place;
     while at < end {
-        let want = (end - at).min(PIECE as u64) as usize;
+        let want = (end - at).min(PIECE_BYTES as u64) as usize;
         let part = &mut chunk[..want];
         let count = match read_at(disk, at, part) {
             Ok(count) => count,

@@ -6,7 +6,7 @@ ghost use Rattle.liq_journal.specs.Looked.{IsRead, Looked};
 use liq_outside::{Disk, Failed};
 
 // As many bytes of a checkpoint are read at once.
-pub const PIECE: usize = 65536;
+pub const PIECE_BYTES: usize = 65536;
 
 // Reads from a place on into the front of `buf`, and says how many bytes.
 pub fn read_at<D: Disk>(disk: &mut D, at: u64, buf: &mut [u8]) -> Result<usize, Failed>
