@@ -26,8 +26,7 @@ pub record IsScanOf (odd : Bool) (held : List ℕ) (scanned : Scanned) : Type 0 
   pub start_is : start_of written ≡ scanned.start
   pub count_is : length written.commands ≡ scanned.count
 
--- Why nothing was opened. Memory is wanting only behind a header in which a look finds no fault: it never stands for damage of
--- a header or of a checkpoint's digest.
+-- Why nothing was opened. Memory is wanting only where a look finds no fault, in the header and the digest over its checkpoint.
 abbrev pub IsWhyOf : Bool → List ℕ → OpenWhy → Type 0
 IsWhyOf odd held why.Absent = found_on odd held ≡ Absent
 IsWhyOf odd held why.DiskFault = Unit {0}

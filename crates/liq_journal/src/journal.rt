@@ -158,7 +158,8 @@ impl<D: Disk> Journal<D> {
     /// this disk has the odd generations. It begins with a sync, tests all of the disk, and shuts the byte
     /// behind the last whole record, or place 0 of a disk on which none is open.
     ///
-    /// `Absent` comes where none is open, `Damaged` with the disk's first fault, `NoMemory` for want of it.
+    /// `Absent` comes where none is open, `Damaged` with the disk's first fault, `NoMemory` for want of it. Memory is asked for only
+    /// behind a sound header and the right digest over its checkpoint, so want of it never stands for damage of these.
     pub fn open(alloc: Global, disk: D, odd: bool) -> Result<(Journal<D>, Vec<u8>), OpenFault<D>>
         ensures found { IfOk result (λ r. IfSome (D.seen disk) (λ held. IsOpened odd held r.0.generation r.0.limit r.0.start r.0.count r.1.items)) }
         // It is one that this disk may have, also where the disk tells nothing.

@@ -14,7 +14,6 @@ ghost use Rattle.liq_header.specs.Header.{is_generation};
 
 use crate::answers::{LookFault, OpenWhy};
 use crate::bytes::write_synced;
-use crate::damage::Damage;
 use crate::gate::settle;
 use crate::journal::RECORD;
 use crate::looking::sound_header;
