@@ -6,12 +6,30 @@ from typing import Dict, Optional, Type, Union
 Folder = Union[str, Path]
 
 
-class NoJournal(Exception):
+class Unfit(Exception):
+    """A folder is not read, or not judged; its classes say why. liq itself has not ended."""
+
+
+class TooMuch(Unfit):
+    """It would take more than a stated bound: of bytes, of rows, of memory or of time."""
+
+    def __init__(self, what: str, most: int, unit: str) -> None:
+        super().__init__(what, most, unit)
+        self.what, self.most, self.unit = what, most, unit
+
+    def __str__(self) -> str:
+        return f"{self.what} more than {self.most:,} {self.unit}"
+
+
+class NoJournal(Unfit):
     """Neither file of the folder holds a journal. `Service(.., create=True)` lets liq begin a new market."""
 
     def __init__(self, folder: Folder) -> None:
-        super().__init__(f"no journal in {folder}: liq would begin a new market there")
+        super().__init__(folder)
         self.folder = folder
+
+    def __str__(self) -> str:
+        return f"no journal in {self.folder}: liq would begin a new market there"
 
 
 class End(Exception):

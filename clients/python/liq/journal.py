@@ -3,14 +3,18 @@
 It needs no program, and leaves the files alone. Read copies, or files that no liq has open: a record that is being
 written may be missing. A reader of journals does not know the rules: it finds out damage to the bytes, and no command
 that liq would refuse.
+
+It waits for nothing, and takes no more than stated: what is no regular file is not read (`NoRegularFile`), and neither
+is one of more than `BYTES_MOST` bytes, or of as many as a call is told (`TooMuch`), be they holes or not.
 """
 import hashlib
-import shutil
+import os
+import stat
 import struct
 from pathlib import Path
-from typing import Dict, Iterator, List, NamedTuple, Optional, Tuple, Union
+from typing import BinaryIO, Dict, Iterator, List, NamedTuple, Optional, Tuple
 
-from .ends import Folder, NoJournal
+from .ends import Folder, NoJournal, TooMuch, Unfit
 
 VERBS: Dict[str, str] = {  # in the order of their kinds; a for an account, v for an amount, h for a hint
     "price": "v", "advance": "v", "fund": "av", "take": "av", "send": "aav", "open": "avvvhh", "adjust": "avvvvvhh",
@@ -24,16 +28,32 @@ COMMAND = struct.Struct(">B3xIQ2I5Q2I24x")
 RECORD_BYTES = 129
 HEADER_BYTES = {b"LIQJRNL1": 57, b"LIQJRNL2": 65}
 CHECKPOINT_BYTES_MOST = 2**36
+BYTES_MOST = 2**28  # of a file that is read, unless a call is told another number: twice a full journal
+PIECE_BYTES = 2**20
 LIMITS = {1: 10**18, 2: 10**19}
 SIDES = ("left", "right")
 
 
-class DamagedFile(Exception):
+class DamagedFile(Unfit):
     """A file's bytes are not as liq wrote them: at record `record`, or in its header or checkpoint where that is 0."""
 
     def __init__(self, path: Path, record: int, why: str) -> None:
-        super().__init__(f"{path.name} is damaged at {record}: {why}")
+        super().__init__(path, record, why)
         self.path, self.record, self.why = path, record, why
+
+    def __str__(self) -> str:
+        return f"{self.path.name} is damaged at {self.record}: {self.why}"
+
+
+class NoRegularFile(Unfit):
+    """What has the name of a file is a folder, a pipe, a device or a socket. It is not read."""
+
+    def __init__(self, path: Folder) -> None:
+        super().__init__(path)
+        self.path = Path(path)
+
+    def __str__(self) -> str:
+        return f"{self.path} is no regular file"
 
 
 class Unknown(Exception):
@@ -64,11 +84,12 @@ class Command(NamedTuple):
 
 
 class Disk:
-    """One of the two files, whole: its header, its checkpoint, if it has one, and its records."""
+    """One of the two files, whole: its header, its checkpoint, if it has one, and its records. It has at most `most`
+    bytes."""
 
-    def __init__(self, path: Folder) -> None:
+    def __init__(self, path: Folder, most: int = BYTES_MOST) -> None:
         self.path = Path(path)
-        self.data = self.path.read_bytes() if self.path.exists() else b""
+        self.data = read_file(self.path, most) if self.path.exists() else b""
         self.open = is_open(self.data)
         if self.open:
             self._read_header()
@@ -117,11 +138,12 @@ class Disk:
 
 
 class Journal:
-    """Both files of a market. `current` counts, `earlier` is the generation before it, where its file still has it."""
+    """Both files of a market, each of at most `most` bytes. `current` counts, `earlier` is the generation before it,
+    where its file still has it."""
 
-    def __init__(self, folder: Folder) -> None:
+    def __init__(self, folder: Folder, most: int = BYTES_MOST) -> None:
         self.folder = Path(folder)
-        disks = [disk for disk in (Disk(self.folder / f"{side}.liq") for side in SIDES) if disk.open]
+        disks = [disk for disk in (Disk(self.folder / f"{side}.liq", most) for side in SIDES) if disk.open]
         if not disks:
             raise FileNotFoundError(f"no journal in {folder}")
         disks.sort(key=lambda disk: disk.generation)
@@ -300,22 +322,71 @@ def is_open(data: bytes) -> bool:
 
 def holds_journal(folder: Folder) -> bool:
     """Whether one of the folder's files holds a journal. Where none does, liq begins a new market."""
-    for side in SIDES:
-        path = Path(folder) / f"{side}.liq"
-        if path.is_file():
-            with path.open("rb") as file:
-                if is_open(file.read(57)):
-                    return True
+    for path in files_of(folder):
+        with open_file(path) as file:
+            if is_open(file.read(57)):
+                return True
     return False
 
 
-def copy_market(folder: Folder, to: Folder) -> None:
-    """Copies both files. A running liq may go on meanwhile, but for a rotation."""
+def files_of(folder: Folder) -> List[Path]:
+    """Those of a market's two files that are there, whatever they are."""
+    return [path for path in (Path(folder, f"{side}.liq") for side in SIDES) if path.exists()]
+
+
+def open_file(path: Folder) -> BinaryIO:
+    """A regular file, opened to be read. It never waits, as for the writer of a pipe: what is none is refused."""
+    descriptor = os.open(path, os.O_RDONLY | os.O_NONBLOCK | os.O_NOCTTY)
+    if not stat.S_ISREG(os.fstat(descriptor).st_mode):
+        os.close(descriptor)
+        raise NoRegularFile(path)
+    return open(descriptor, "rb", buffering=0)
+
+
+def pieces_of(path: Folder, most: int = BYTES_MOST) -> Iterator[bytes]:
+    """A regular file's bytes, piece by piece. More than `most` are refused before any is given, by the length that the
+    file states; or, where it grows meanwhile or states none, once so many have come."""
+    with open_file(path) as file:
+        left = most
+        fits = os.fstat(file.fileno()).st_size <= most
+        while fits:
+            piece = file.read(min(PIECE_BYTES, left + 1))
+            if not piece:
+                return
+            left -= len(piece)
+            fits = left >= 0
+            if fits:
+                yield piece
+        raise TooMuch(f"{path} has", most, "bytes")
+
+
+def read_file(path: Folder, most: int = BYTES_MOST) -> bytes:
+    """A regular file's bytes, of which there may be at most `most`."""
+    return b"".join(pieces_of(path, most))
+
+
+def copy_file(path: Folder, to: Folder, most: int = BYTES_MOST) -> int:
+    """Copies a regular file of at most `most` bytes to a place where nothing is, and gives how many they are.
+
+    The copy is its owner's alone, as liq makes its files. Where the copying ends early no copy is left."""
+    count = 0
+    with open(os.open(to, os.O_WRONLY | os.O_CREAT | os.O_EXCL, 0o600), "wb") as copy:
+        try:
+            for piece in pieces_of(path, most):
+                count += copy.write(piece)
+            copy.flush()
+        except BaseException:
+            os.unlink(to)
+            raise
+    return count
+
+
+def copy_market(folder: Folder, to: Folder, most: int = BYTES_MOST) -> None:
+    """Copies both files, each of at most `most` bytes. A running liq may go on meanwhile, but for a rotation."""
     if not holds_journal(folder):
         raise NoJournal(folder)
-    for side in SIDES:
-        if Path(folder, f"{side}.liq").exists():
-            shutil.copy(Path(folder, f"{side}.liq"), to)
+    for path in files_of(folder):
+        copy_file(path, Path(to, path.name), most)
 
 
 def read_command(data: bytes) -> Optional[Command]:

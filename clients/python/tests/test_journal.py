@@ -1,14 +1,71 @@
 """Journals as bytes: made by scripts/forge, which knows the formats alone, and by the program."""
+import os
 import subprocess
 import sys
 import unittest
+from pathlib import Path
 
-from liq import Journal
-from liq.journal import DamagedFile, KeptReply, Unknown
+from liq import Journal, journal
+from liq.ends import TooMuch
+from liq.journal import DamagedFile, KeptReply, NoRegularFile, Unknown, copy_file, read_file
 
 from .market import TOP, InFolder, OverProgram
 
 LINES = ["1 1 fund 1 10000000000", "2 1 advance 5", "1 2 fund 2 7"]
+
+
+class Bounded(InFolder):
+    """What a foreign folder may have in the place of a file."""
+
+    def refusals(self, folder: Path, kind: type) -> list:
+        """How each way to come to the bytes of `left.liq` is refused."""
+        path, copies = folder / "left.liq", folder / "copies"
+        copies.mkdir()
+        found = []
+        for read in (
+            lambda: Journal(folder), lambda: read_file(path), lambda: copy_file(path, copies / "left.liq"),
+            lambda: journal.copy_market(folder, copies),
+        ):
+            with self.assertRaises(kind) as refused:
+                read()
+            found.append(refused.exception)
+        self.assertEqual(list(copies.iterdir()), [])
+        return found
+
+    def test_what_is_no_regular_file_is_neither_read_nor_waited_for(self) -> None:
+        for name, make in (
+            ("pipe", os.mkfifo), ("folder", os.mkdir), ("zeros", lambda path: os.symlink("/dev/zero", path)),
+        ):
+            with self.subTest(name):
+                folder = self.folder / name
+                folder.mkdir()
+                make(folder / "left.liq")
+                for refusal in self.refusals(folder, NoRegularFile):
+                    self.assertEqual(refusal.path, folder / "left.liq")
+                self.assertRaises(NoRegularFile, journal.holds_journal, folder)
+
+    def test_a_hole_is_not_read(self) -> None:
+        path = self.folder / "left.liq"
+        path.write_bytes(b"\1LIQJRNL2" + bytes(60))
+        os.truncate(path, 2**42)
+        self.assertTrue(journal.holds_journal(self.folder))
+        for refusal in self.refusals(self.folder, TooMuch):
+            self.assertEqual((refusal.most, refusal.unit), (2**28, "bytes"))
+
+    def test_as_many_bytes_as_a_call_is_told(self) -> None:
+        path, to = self.folder / "file", self.folder / "copy"
+        path.write_bytes(bytes(range(200)))
+        self.assertEqual((read_file(path, 200), copy_file(path, to, 200)), (bytes(range(200)), 200))
+        self.assertEqual((to.read_bytes(), to.stat().st_mode & 0o777), (bytes(range(200)), 0o600))
+        self.assertRaises(FileExistsError, copy_file, path, to)
+        to.unlink()
+        self.assertRaises(TooMuch, read_file, path, 199)
+        self.assertRaises(TooMuch, copy_file, path, to, 199)
+        self.assertFalse(to.exists())
+
+    def test_a_file_that_states_no_length(self) -> None:
+        self.assertRaises(TooMuch, read_file, "/proc/self/status", 100)
+        self.assertGreater(len(read_file("/proc/self/status")), 100)
 
 
 @unittest.skipIf(sys.version_info < (3, 10), "scripts/forge wants Python 3.10")
