@@ -32,6 +32,20 @@ class NoJournal(Unfit):
         return f"no journal in {self.folder}: liq would begin a new market there"
 
 
+class MarketExists(Unfit):
+    """A new market was asked for, by `create=True`, where a journal is already. Nothing was begun or changed."""
+
+    def __init__(self, folder: Folder) -> None:
+        super().__init__(folder)
+        self.folder = folder
+
+    def __str__(self) -> str:
+        return (
+            f"a market is in {self.folder} already: take another folder for a new one; to go on with it leave `create` "
+            "out, or say `create=\"if missing\"` to go on or begin"
+        )
+
+
 class End(Exception):
     """liq has ended before its time. What it answered stands.
 

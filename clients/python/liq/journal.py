@@ -28,7 +28,9 @@ COMMAND = struct.Struct(">B3xIQ2I5Q2I24x")
 RECORD_BYTES = 129
 HEADER_BYTES = {b"LIQJRNL1": 57, b"LIQJRNL2": 65}
 CHECKPOINT_BYTES_MOST = 2**36
+RECORDS_MOST = 1_000_000
 BYTES_MOST = 2**28  # of a file that is read, unless a call is told another number: twice a full journal
+ROWS_MOST = 2**20  # of a checkpoint's table that is read: as many as there are accounts
 PIECE_BYTES = 2**20
 LIMITS = {1: 10**18, 2: 10**19}
 SIDES = ("left", "right")
@@ -123,6 +125,8 @@ class Disk:
         head = self.generation.to_bytes(8, "big")
         while self.data[self.end : self.end + 1] == b"\1" and len(self.data) >= self.end + RECORD_BYTES:
             index = (self.end - self.begin) // RECORD_BYTES + 1
+            if index > RECORDS_MOST:
+                raise DamagedFile(self.path, index, f"a generation has at most {RECORDS_MOST:,} records")
             body = self.data[self.end + 1 : self.end + RECORD_BYTES]
             if hashlib.sha256(head + index.to_bytes(8, "big") + body[:96]).digest() != body[96:]:
                 raise DamagedFile(self.path, index, "its digest is another")
@@ -272,8 +276,12 @@ class _Reader:
 
     def table(self, key: int, *sizes: int) -> Iterator[Tuple[int, List[int]]]:
         """The rows of a table, each as its key and the rest. Keys ascend."""
-        last = -1
-        for _ in range(self.numbers(8)[0]):
+        last, (count,) = -1, self.numbers(8)
+        if count * (key + sum(sizes)) > len(self.data) - self.at:
+            raise self.fault("bytes are missing")
+        if count > ROWS_MOST:
+            raise TooMuch(f"a table of {self.path}'s checkpoint has", ROWS_MOST, "rows")
+        for _ in range(count):
             found, *rest = self.numbers(key, *sizes)
             if found <= last:
                 raise self.fault("a key does not ascend")
@@ -294,15 +302,29 @@ def read_checkpoint(path: Path, data: bytes, header: int) -> Optional[Checkpoint
     made = Checkpoint(
         names[data[:8]], *words,
         wallets={account: (coll, lusd) for account, (coll, lusd) in reader.table(4, 8, 8)},
-        troves={account: TroveRow(*row) for account, row in reader.table(4, 8, 8, 8, 16, 16)},
+        troves={account: _trove(reader, row) for account, row in reader.table(4, 8, 8, 8, 16, 16)},
         surpluses={account: coll for account, (coll,) in reader.table(4, 8)},
         finished={(place >> 64, place % 2**64): grown for place, (grown,) in reader.table(16, 16)},
-        deposits={account: DepositRow(*row) for account, row in reader.table(4, 8, 16, 16, 8, 8)},
+        deposits={account: _deposit(reader, row) for account, row in reader.table(4, 8, 16, 16, 8, 8)},
         clients={client: _kept(reader, row) for client, row in reader.table(4, 8, 1, *[8] * 6)},
     )
     if reader.at != len(data):
         raise reader.fault("something follows")
     return made
+
+
+def _trove(reader: _Reader, row: List[int]) -> TroveRow:
+    found = TroveRow(*row)
+    if found.stake == 0:
+        raise reader.fault("a stake is 0")
+    return found
+
+
+def _deposit(reader: _Reader, row: List[int]) -> DepositRow:
+    found = DepositRow(*row)
+    if found.p == 0:
+        raise reader.fault("a product is 0")
+    return found
 
 
 def _kept(reader: _Reader, row: List[int]) -> KeptReply:

@@ -1,26 +1,27 @@
 """A market on one page of HTML, without scripts and without parts from elsewhere.
 
-usage: python3 -m liq.page FOLDER > page.html
+usage: python3 -m liq.page [--seconds N] FOLDER > page.html
 
 It works on copies, so liq may run meanwhile. What it shows is what `liq report` tells, beside the pools; the order of
 the list of troves is read from a checkpoint, which the copy is made to write.
 """
 import sys
-import tempfile
 from fractions import Fraction
 from html import escape
 from pathlib import Path
 from typing import Dict, Iterator, List, NamedTuple, Optional, Sequence
 
 from .chart import Panel, chart
-from .ends import End, Folder, NoJournal, Usage
-from .journal import DamagedFile, copy_market
-from .recheck import Differs, market, roomy
+from .ends import End, Folder, Unfit, Usage
+from .journal import copy_market
+from .recheck import market
 from .replies import Pools, System
+from .scratch import bounded, scratch, words_of
 from .service import Service
 from .units import GWEI, show_ether, show_lusd
 from .words import Report, ReportedTrove, report
 
+SECONDS = 3600
 ROWS_MOST = 1000
 PRICE_LEAST = 100 * 10**6
 LEAST_RATIO, CRITICAL_RATIO = 110, 150
@@ -55,12 +56,12 @@ class Market(NamedTuple):
 
 def read_market(folder: Folder, program: Optional[Folder] = None) -> Market:
     """A market, read from copies of a folder's files."""
-    with tempfile.TemporaryDirectory(dir=roomy(Path(folder)), prefix="liq-page-") as scratch:
-        copy_market(folder, scratch)
-        reported = report(scratch, program)
-        with Service(scratch, program) as service:
+    with scratch(folder, "liq-page") as room:
+        copy_market(folder, room)
+        reported = report(room, program)
+        with Service(room, program) as service:
             pools = service.pools()
-        return Market(reported, pools, market(Path(scratch), program).list_of_troves)
+        return Market(reported, pools, market(room, program).list_of_troves)
 
 
 # ---- who can be liquidated at which price
@@ -241,16 +242,23 @@ def _grouped(text: str, places: int) -> str:
 
 
 def main(words: List[str]) -> int:
-    if len(words) != 1:
-        print("usage: python3 -m liq.page FOLDER > page.html", file=sys.stderr)
+    asked = words_of(words, SECONDS)
+    if asked is None:
+        print("usage: python3 -m liq.page [--seconds N] FOLDER > page.html", file=sys.stderr)
         return 2
+    folder, seconds = asked
     try:
-        sys.stdout.write(page(read_market(words[0])))
+        with bounded(seconds):
+            made = page(read_market(folder))
+        sys.stdout.write(made)
     except Usage:
         print("page: this program does not have the word report", file=sys.stderr)
         return 1
-    except (NoJournal, OSError, DamagedFile, Differs, End) as fault:
+    except (Unfit, OSError, End) as fault:
         print(f"page: {fault}", file=sys.stderr)
+        return 1
+    except MemoryError:
+        print("page: there is not enough memory", file=sys.stderr)
         return 1
     return 0
 

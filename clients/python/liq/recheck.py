@@ -1,6 +1,6 @@
 """An audit with arithmetic of its own, beside that of `liq audit`.
 
-usage: python3 -m liq.recheck FOLDER
+usage: python3 -m liq.recheck [--seconds N] FOLDER
 
 It copies both files, reads the commands, and has the program carry them out again in a folder of its own. From the
 replies it takes what each depositor put in and was paid, and what each liquidation took from the Stability Pool and
@@ -10,27 +10,35 @@ for it beside them. A `liquidate_lowest` is carried out as single ones, since it
 It refuses where the market that it comes to is not the one on the files, word for word. It ends with 0 where all
 holds, with 1 where something does not or cannot be read, and with 2 where the words are not understood.
 
+The folder may be anybody's. Each file may have 2^28 bytes, the exact shares may take 2^30 bytes and 2^22 binary places,
+and the whole may take N seconds, an hour unless another number is said: what passes that is refused (`TooMuch`).
+The copies are gone behind it, also where a signal ends it.
+
 It writes a line `ACCOUNT BALANCE EXACT ALLOWANCE GAIN EXACT ALLOWANCE` for each depositor, the exact values cut off
 behind three places, and then what that comes to.
 """
-import itertools
-import shutil
 import sys
-import tempfile
 from fractions import Fraction
 from pathlib import Path
-from typing import Container, Dict, Iterator, List, NamedTuple, Optional, Tuple
+from typing import Any, Container, Dict, Iterator, List, NamedTuple, Optional, Tuple
 
-from .ends import End, Folder, Limit, NoJournal, Rotated
-from .journal import Checkpoint, Command, DamagedFile, DepositRow, Disk, Journal, copy_market
-from .service import MEMORY, Service
+from .client import ACCOUNTS
+from .ends import End, Folder, Limit, Rotated, TooMuch, Unfit
+from .journal import Checkpoint, Command, DepositRow, Disk, Journal, copy_market
+from .refusals import Refusal
+from .scratch import bounded, scratch, words_of
+from .service import Service
 from .shares import PlainLedger, Share
 from .words import Audit, AuditRow, audit
 
 SAME = ("generation", "clients")  # the fields of a checkpoint in which a replay may differ
+SECONDS = 3600
+LOWEST_MOST = 64  # the most troves of one `liquidate_lowest`
+RISES_MOST = 16  # of the scale, behind which what is left of a share counts as nothing: less than 10^-100
+SHARES_BYTES_MOST, SHARES_PLACES_MOST = 2**30, 2**22
 
 
-class Differs(Exception):
+class Differs(Unfit):
     """The commands do not lead where the files say."""
 
 
@@ -80,7 +88,8 @@ class Allowances:
         """The pool takes over a debt."""
         for account, (amount, scale, epoch) in self.recorded.items():
             if epoch == self.epoch and amount:
-                cost = -(-amount // 10 ** (9 * (self.scale - scale)))
+                rise = min(self.scale - scale, 3)  # an amount is below 10^27, so behind three the cost stays 1
+                cost = -(-amount // 10 ** (9 * rise))
                 self.weights[account] = self.weights.get(account, 0) + cost
         if debt == total:
             self.p, self.scale, self.epoch = 10**18, 0, self.epoch + 1
@@ -108,7 +117,7 @@ class Replay:
         self.numbers = {client: row.last + 1 for client, row in self.start.clients.items()} if self.start else {}
         if self.start:
             self._begin(chain[0], folder)
-        with Service(folder, program, create=True) as self.service:
+        with Service(folder, program, create=self.start is None) as self.service:
             for at, disk in enumerate(chain):
                 if at > 0 and disk.checkpoint:
                     self._ask(rotating_client(disk.checkpoint), "rotate")
@@ -146,6 +155,8 @@ class Replay:
         return words
 
     def _carry_out(self, command: Command) -> None:
+        if command.verb == "liquidate_lowest" and not 1 <= command.amounts[0] <= LOWEST_MOST:
+            raise Differs(f"command {self.commands + 1}, {command.line}: a count is from 1 to {LOWEST_MOST}")
         for at, call in enumerate(single_calls(command)):
             words = self._ask(command.client, call)
             if words[0] == "ok":
@@ -179,6 +190,10 @@ class Replay:
     def _follow_offset(self, debt: int, coll: int) -> None:
         if debt == 0:
             return
+        if self.ledger.size > SHARES_BYTES_MOST:
+            raise TooMuch("the exact shares take", SHARES_BYTES_MOST, "bytes")
+        if self.ledger.denominator.bit_length() > SHARES_PLACES_MOST:
+            raise TooMuch("the exact shares have", SHARES_PLACES_MOST, "binary places")
         self.ledger.offset(debt, coll, self.pool)
         if not self.start:
             self.allowances.offset(debt, self.pool)
@@ -195,17 +210,17 @@ def single_calls(command: Command) -> List[str]:
 
 
 def share_in(start: Checkpoint, deposit: DepositRow) -> Share:
-    """What a deposit has and has gained by the words of a checkpoint, without rounding."""
-    rise = start.scale - deposit.scale
-    balance = Fraction(0)
-    grown = {scale: grown for (epoch, scale), grown in start.finished.items() if epoch == deposit.epoch}
-    if start.epoch == deposit.epoch:
-        balance = Fraction(deposit.amount * start.p, deposit.p * 10 ** (9 * rise))
-        grown[start.scale] = start.sum
-    gain = Fraction(-deposit.sum * deposit.amount, deposit.p)
-    for scale, sum_there in grown.items():
-        if scale >= deposit.scale:
-            gain += Fraction(sum_there * deposit.amount, deposit.p * 10 ** (9 * (scale - deposit.scale)))
+    """What a deposit has and has gained by the words of a checkpoint, without rounding.
+
+    What more than 16 rises of the scale have left, each a part of 10^-9, counts as nothing: less than 10^-100."""
+    balance, gain = Fraction(0), Fraction(-deposit.sum * deposit.amount, deposit.p)
+    for rise in range(RISES_MOST + 1):
+        place, over = (deposit.epoch, deposit.scale + rise), deposit.p * 10 ** (9 * rise)
+        grown = start.finished.get(place, 0)
+        if place == (start.epoch, start.scale):
+            balance, grown = Fraction(deposit.amount * start.p, over), start.sum
+        if grown:
+            gain += Fraction(grown * deposit.amount, over)
     return Share(balance, gain)
 
 
@@ -231,15 +246,19 @@ class Result(NamedTuple):
 
 
 def recheck(folder: Folder, program: Optional[Folder] = None) -> Result:
-    """Rechecks the market of a folder, on copies. Raises `Differs` where its replay does not lead there."""
-    with tempfile.TemporaryDirectory(dir=roomy(Path(folder)), prefix="liq-recheck-") as scratch:
-        copied, again = Path(scratch, "copy"), Path(scratch, "again")
+    """Rechecks the market of a folder, on copies. Raises `Differs` where its replay does not lead there.
+
+    The program opens the copies before they are followed, and refuses what the rules do not allow. There is no bound on
+    time here: `main` calls it within `scratch.bounded`.
+    """
+    with scratch(folder, "liq-recheck") as room:
+        copied, again = room / "copy", room / "again"
         copied.mkdir()
         again.mkdir()
         copy_market(folder, copied)
         chain = Journal(copied).chain
-        replay = Replay(chain, again, program)
         found, why = audited(copied, program)
+        replay = Replay(chain, again, program)
         compare_markets(market(copied, program), market(again, program), last_numbers(chain))
     rows = replay.rows()
     faults = [f"does not hold: {row}" for row in rows if not row.holds]
@@ -259,7 +278,10 @@ def market(folder: Path, program: Optional[Folder]) -> Checkpoint:
     """All that the files stand for: a rotation by a client that is not in use writes it down."""
     unused = unused_client(last_numbers(Journal(folder).chain))
     with Service(folder, program) as service:
-        service.client(unused).rotate()
+        try:
+            service.client(unused).rotate()
+        except Refusal as refusal:
+            raise Differs(f"no checkpoint can be written: {refusal}") from None
     found = Journal(folder).current.checkpoint
     assert found
     del found.clients[unused]
@@ -277,17 +299,28 @@ def last_numbers(chain: List[Disk]) -> Dict[int, int]:
 
 def unused_client(used: Container[int]) -> int:
     """The lowest client that is not in use."""
-    return next(client for client in itertools.count(1) if client not in used)
+    for client in range(1, ACCOUNTS):
+        if client not in used:
+            return client
+    raise Differs("every client is in use, and none is left for a rotation")
 
 
 def compare_markets(stands: Checkpoint, comes: Checkpoint, numbers: Dict[int, int]) -> None:
     """Refuses where the replay comes to another market than the one that stands on the files."""
     for name, here, there in zip(Checkpoint._fields, stands, comes):
-        if name not in SAME and here != there:
-            raise Differs(f"{name}: the files stand for {here}, the replay comes to {there}")
-    lasts = {client: row.last for client, row in stands.clients.items()}
-    if lasts != numbers:
-        raise Differs(f"clients: the files stand for {lasts}, the records come to {numbers}")
+        if name not in SAME:
+            compare(name, here, there, "replay comes")
+    compare("clients", {client: row.last for client, row in stands.clients.items()}, numbers, "records come")
+
+
+def compare(name: str, here: Any, there: Any, other: str) -> None:
+    """Refuses where two fields of a market are not the same. Of tables it tells the first row that is another."""
+    if here == there:
+        return
+    if isinstance(here, dict):
+        key = min(key for key in here.keys() | there.keys() if here.get(key) != there.get(key))
+        name, here, there = f"{name} of {key}", here.get(key), there.get(key)
+    raise Differs(f"{name}: the files stand for {here}, the {other} to {there}")
 
 
 def compare_sums(replay: Replay, rows: List[Row]) -> List[str]:
@@ -314,12 +347,6 @@ def compare_audit(rows: List[Row], found: Audit) -> List[str]:
     if len(rows) != len(found.rows) or found.within != found.of:
         faults.append(f"audit has {len(found.rows)} rows, within {found.within} of {found.of}, beside {len(rows)} here")
     return faults
-
-
-def roomy(folder: Path) -> Optional[Path]:
-    """Memory, where there is room for the files many times over; else where temporary files go."""
-    size = sum(path.stat().st_size for path in folder.glob("*.liq"))
-    return MEMORY if MEMORY.is_dir() and shutil.disk_usage(MEMORY).free > 8 * size + 2**26 else None
 
 
 def counted(count: int, what: str) -> str:
@@ -357,15 +384,22 @@ def said_of(result: Result) -> Iterator[str]:
 
 
 def main(words: List[str]) -> int:
-    if len(words) != 1:
-        print("usage: python3 -m liq.recheck FOLDER", file=sys.stderr)
+    asked = words_of(words, SECONDS)
+    if asked is None:
+        print("usage: python3 -m liq.recheck [--seconds N] FOLDER", file=sys.stderr)
         return 2
+    folder, seconds = asked
     try:
-        result = recheck(words[0])
-    except (NoJournal, OSError, DamagedFile, Differs, End) as fault:
+        with bounded(seconds):
+            result = recheck(folder)
+            said = list(said_of(result))
+    except (Unfit, OSError, End) as fault:
         print(f"recheck refuses: {fault}")
         return 1
-    for line in said_of(result):
+    except MemoryError:
+        print("recheck refuses: there is not enough memory")
+        return 1
+    for line in said:
         print(line)
     return 1 if result.faults else 0
 

@@ -1,10 +1,11 @@
 """A plain ledger of the Stability Pool: each depositor's share in exact fractions.
 
 It knows no product, sum, scale or epoch, by which liq keeps the pool: an offset takes the same part of each balance,
-and gives ether by the balances before it. All shares are whole numbers over one denominator, so nothing is rounded.
+and gives ether by the balances before it. All shares are whole numbers over one denominator, and over that of the share
+with which an account began, so nothing is rounded.
 """
 from fractions import Fraction
-from math import gcd
+from math import gcd, lcm
 from typing import Dict, NamedTuple
 
 
@@ -22,18 +23,23 @@ class PlainLedger:
         self.denominator = 1
         self.balances: Dict[int, int] = {}
         self.gains: Dict[int, int] = {}
+        self.begun: Dict[int, int] = {}  # the denominator of the share with which an account began
+
+    @property
+    def size(self) -> int:
+        """How many bytes the shares take, nearly."""
+        return len(self.balances) * self.denominator.bit_length() // 4
 
     def change(self, account: int, put: int = 0, paid: int = 0) -> None:
         """An operation of the depositor's own: LUSD in, LUSD out."""
-        self.balances[account] = self.balances.get(account, 0) + (put - paid) * self.denominator
+        self.balances[account] = self.balances.get(account, 0) + (put - paid) * self._denominator(account)
         self.gains.setdefault(account, 0)
 
     def begin(self, account: int, share: Share) -> None:
         """A depositor that has a share already."""
-        shared = share.balance.denominator * share.gain.denominator
-        self._widen(shared // gcd(shared, self.denominator))
-        self.balances[account] = int(share.balance * self.denominator)
-        self.gains[account] = int(share.gain * self.denominator)
+        self.begun[account] = lcm(share.balance.denominator, share.gain.denominator)
+        self.balances[account] = int(share.balance * self._denominator(account))
+        self.gains[account] = int(share.gain * self._denominator(account))
 
     def offset(self, debt: int, coll: int, total: int) -> None:
         """The pool, of `total` LUSD, takes over a debt and receives ether."""
@@ -46,11 +52,8 @@ class PlainLedger:
 
     def share(self, account: int) -> Share:
         """The exact share of a depositor."""
-        balance, gain = self.balances[account], self.gains[account]
-        return Share(Fraction(balance, self.denominator), Fraction(gain, self.denominator))
+        over = self._denominator(account)
+        return Share(Fraction(self.balances[account], over), Fraction(self.gains[account], over))
 
-    def _widen(self, factor: int) -> None:
-        self.denominator *= factor
-        for account in self.balances:
-            self.balances[account] *= factor
-            self.gains[account] *= factor
+    def _denominator(self, account: int) -> int:
+        return self.denominator * self.begun.get(account, 1)
