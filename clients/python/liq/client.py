@@ -12,7 +12,7 @@ if TYPE_CHECKING:
 Row = TypeVar("Row", bound=Tuple[Any, ...])
 Hints = Tuple[Optional[int], Optional[int]]
 NO_HINTS: Hints = (None, None)
-ACCOUNTS = 2**32
+ACCOUNTS = 2**20  # accounts, and clients, are below it
 AMOUNTS = 2**64
 
 
@@ -21,7 +21,9 @@ class Client:
 
     An accepted command gives a named tuple of its values (`replies`); a refused one raises its refusal (`refusals`)
     and leaves its number to the next. Amounts are whole numbers: ether in gwei, LUSD and prices in millionths;
-    `units` makes them of decimal text. Hints are two accounts or None; liq finds the place by itself.
+    `units` makes them of decimal text. Hints are two accounts or None; liq finds the place by itself. An account or a
+    hint of 2^20 or more, or an amount of 2^64 or more, is a `ValueError`, what is no whole number a `TypeError`: then
+    nothing is sent.
 
     Where liq ends without a reply to the last command, start the service again and `resend`.
 
@@ -129,9 +131,9 @@ class Client:
     ) -> Row:
         if self._unanswered is not None:
             raise RuntimeError(f"a command has no reply yet, resend() it first: {self._unanswered[0]}")
-        call = verb + _spelt(accounts, ACCOUNTS) + _spelt(amounts, AMOUNTS)
+        call = verb + spelt(accounts, ACCOUNTS) + spelt(amounts, AMOUNTS)
         for hint in hints:
-            call += " -" if hint is None else _spelt((hint,), ACCOUNTS)
+            call += " -" if hint is None else spelt((hint,), ACCOUNTS)
         try:
             return self._ask(f"{self.client} {self.next_number} {call}", row)
         except JournalFull:
@@ -150,7 +152,7 @@ class Client:
         return row(*[int(word) for word in words[1:]])
 
 
-def _spelt(numbers: Sequence[int], limit: int) -> str:
+def spelt(numbers: Sequence[int], limit: int) -> str:
     """Numbers as words of a line, each with a space in front.
 
     What is no whole number in its range is an error here, for liq would end at such a line."""

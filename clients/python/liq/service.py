@@ -5,10 +5,10 @@ import shutil
 import subprocess
 from pathlib import Path
 from types import TracebackType
-from typing import Iterable, Iterator, List, Optional, Sequence, Type
+from typing import Iterable, Iterator, List, Optional, Sequence, Type, Union
 
-from .client import Client
-from .ends import End, Folder, NoJournal, is_reply, read_end
+from .client import ACCOUNTS, Client, spelt
+from .ends import End, Folder, MarketExists, NoJournal, is_reply, read_end
 from .journal import holds_journal
 from .refusals import read_refusal
 from .replies import Deposit, Pools, System, Trove, Wallet
@@ -17,6 +17,8 @@ LINES_OF_A_RUN = 1_000_000
 BYTES_AT_ONCE = 10_000
 MEMORY = Path("/dev/shm")  # where files cost no wait for a disk, and outlast no restart of the machine
 PIPE_SIZE = 1032  # fcntl.F_GETPIPE_SZ, which Python has a name for from 3.10 on
+IF_MISSING = "if missing"
+Create = Union[bool, str]  # False, True or "if missing"
 
 
 def find_program(program: Optional[Folder] = None) -> str:
@@ -25,28 +27,45 @@ def find_program(program: Optional[Folder] = None) -> str:
     return os.path.abspath(named or Path(__file__).resolve().parents[3] / "bin" / "liq")
 
 
+def prepare(folder: Folder, create: Create) -> None:
+    """Sees that a folder has what `create` says: a journal where it is False; none where it is True; either where it is
+    "if missing". Makes the folder where a market may begin. Raises `NoJournal` or `MarketExists`."""
+    if create not in (False, True, IF_MISSING):
+        raise ValueError(f"create is False, True or {IF_MISSING!r}, and not {create!r}")
+    there = holds_journal(folder)
+    if not create and not there:
+        raise NoJournal(folder)
+    if create is True and there:
+        raise MarketExists(folder)
+    if create:
+        Path(folder).mkdir(parents=True, exist_ok=True)
+
+
 class Service:
     """A run of liq over the files of a folder.
 
-    A folder without a journal is an error unless `create` is said, for liq would begin a new market there. After
-    1,000,000 lines the run is full, and another one begins by itself. Where liq ends, the call raises how (`ends`);
-    what was answered stands, and `start` begins again. A service is for one thread.
+    A folder without a journal is an error, for liq would begin a new market there. `create=True` begins one, and is an
+    error where a journal is; `create="if missing"` goes on with the journal that is there, or begins one.
+
+    After 1,000,000 lines the run is full, and another one begins by itself. Where liq ends, the call raises how
+    (`ends`); what was answered stands, and `start` begins again. A service is for one thread.
     """
 
-    def __init__(self, folder: Folder, program: Optional[Folder] = None, create: bool = False) -> None:
+    def __init__(self, folder: Folder, program: Optional[Folder] = None, create: Create = False) -> None:
+        self._process: Optional["subprocess.Popen[bytes]"] = None
         self.folder = Path(folder)
         self.program = find_program(program)
         self.pending: Optional[str] = None
-        self._process: Optional["subprocess.Popen[bytes]"] = None
-        self._may_create = create
-        if create:
-            self.folder.mkdir(parents=True, exist_ok=True)
+        prepare(folder, create)
+        self._may_create = bool(create)
         self.start()
 
     # ---- the process
 
     def start(self) -> None:
-        """Begins a run, where none goes on. Files that were there before may not be missing."""
+        """Begins a run, where none goes on. Files that were there before may not be missing.
+
+        After an end it goes on with the market of this service, also where that was created by it."""
         if self._process is not None:
             return
         if not self._may_create and not holds_journal(self.folder):
@@ -153,7 +172,7 @@ class Service:
         batch: List[str] = []
         size = 0
         for query in queries:
-            if not query.startswith("? ") or "\n" in query:
+            if not query.startswith("? ") or "\n" in query or not query.isascii():
                 raise ValueError(f"no query: {query!r}")
         for query in queries:
             if size + len(query) + 1 > self._room or len(batch) == self._lines_left:
@@ -225,7 +244,7 @@ class Service:
 
     def next_number(self, client: int) -> int:
         """The number of the client's next new command."""
-        words = self.ask(f"? next_number {client:d}")
+        words = self.ask("? next_number" + spelt((client,), ACCOUNTS))
         if words[0] == "no":
             raise read_refusal(words)
         return int(words[0])
@@ -233,7 +252,7 @@ class Service:
     def _rows(self, query: str, accounts: Iterable[int]) -> List[Optional[List[int]]]:
         """The numbers of the replies, None for `none`."""
         rows: List[Optional[List[int]]] = []
-        for words in self.ask_many(f"? {query} {account:d}" for account in accounts):
+        for words in self.ask_many(f"? {query}" + spelt((account,), ACCOUNTS) for account in accounts):
             if words[0] == "no":
                 raise read_refusal(words)
             rows.append(None if words == ["none"] else [int(word) for word in words])

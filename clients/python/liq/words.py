@@ -5,14 +5,12 @@ have a word it ends with `Usage`.
 """
 import json
 import subprocess
-from pathlib import Path
-from typing import Dict, Iterator, List, Mapping, NamedTuple, Optional, Sequence, Tuple
+from typing import Dict, Iterable, Iterator, List, Mapping, NamedTuple, Optional, Sequence, Tuple
 
-from .ends import Folder, NoJournal, is_reply, read_end
-from .journal import holds_journal
+from .ends import Folder, is_reply, read_end
 from .refusals import Refusal, read_refusal
 from .replies import Pools, System
-from .service import find_program
+from .service import Create, find_program, prepare
 
 
 class Served(NamedTuple):
@@ -147,14 +145,14 @@ class Rewards(NamedTuple):
 
 
 def serve(
-    folder: Folder, scripts: Mapping[int, Sequence[str]], program: Optional[Folder] = None, create: bool = False
+    folder: Folder, scripts: Mapping[int, Sequence[str]], program: Optional[Folder] = None, create: Create = False
 ) -> Served:
     """Runs the scripts of sessions 1 to 8 at once, each a list of request lines, and gives the replies and an order
-    of all."""
-    lines = [f"{session} {line}\n" for session, script in sorted(scripts.items()) for line in script]
+    of all. `create` is that of `Service`."""
+    given = joined(f"{session} {line}" for session, script in sorted(scripts.items()) for line in script)
     served = Served({}, [])
     replies: Optional[List[List[str]]] = []
-    for line in _lines(folder, ["serve"], "".join(lines), program, create):
+    for line in _lines(folder, ["serve"], given, program, create):
         words = line.split(" ")
         if words[0] == "session":
             replies = served.replies.setdefault(int(words[1]), [])
@@ -169,7 +167,7 @@ def serve(
 
 def state(folder: Folder, program: Optional[Folder] = None) -> State:
     """What stands on the files."""
-    return read_state(list(_lines(folder, ["state"], "", program)))
+    return read_state(list(_lines(folder, ["state"], b"", program)))
 
 
 def follow(journal: bytes, program: Optional[Folder] = None) -> State:
@@ -179,7 +177,7 @@ def follow(journal: bytes, program: Optional[Folder] = None) -> State:
 
 def audit(folder: Folder, program: Optional[Folder] = None) -> Audit:
     """Each depositor's balance and gain beside its exact share."""
-    *rows, last = _lines(folder, ["audit"], "", program)
+    *rows, last = _lines(folder, ["audit"], b"", program)
     _, within, _, of = last.split(" ")
     return Audit([AuditRow(*_numbers(row)) for row in rows], int(within), int(of))
 
@@ -192,18 +190,18 @@ def generate(seed: int, count: int, program: Optional[Folder] = None) -> Generat
 
 def report(folder: Folder, program: Optional[Folder] = None) -> Report:
     """The market as a whole."""
-    return read_report("\n".join(_lines(folder, ["report"], "", program)))
+    return read_report("\n".join(_lines(folder, ["report"], b"", program)))
 
 
 def staking(folder: Folder, lines: Sequence[str], program: Optional[Folder] = None) -> Staking:
     """How stakers share the fees, by lines `AT ACCOUNT stake AMOUNT` and `AT ACCOUNT unstake AMOUNT`."""
-    told = list(_lines(folder, ["staking"], "".join(f"{line}\n" for line in lines), program))
+    told = list(_lines(folder, ["staking"], joined(lines), program))
     return read_staking(told, len(lines))
 
 
 def rewards(folder: Folder, lines: Sequence[str], program: Optional[Folder] = None) -> Rewards:
     """How depositors earn rewards, by lines `tag ACCOUNT FRONT RATE`."""
-    told = list(_lines(folder, ["rewards"], "".join(f"{line}\n" for line in lines), program))
+    told = list(_lines(folder, ["rewards"], joined(lines), program))
     return read_rewards(told, len(lines))
 
 
@@ -260,15 +258,22 @@ def _numbers(line: str) -> List[int]:
 # ---- the program
 
 
+def joined(lines: Iterable[str]) -> bytes:
+    """Lines as the input of a word. One with a line end in it would be two, and shift the replies: it is an error, as
+    is one that is not ASCII. What else is no line the program says, by `BadLine`."""
+    given = list(lines)
+    for line in given:
+        if "\n" in line or not line.isascii():
+            raise ValueError(f"no line: {line!r}")
+    return "".join(f"{line}\n" for line in given).encode("ascii")
+
+
 def _lines(
-    folder: Folder, words: List[str], given: str, program: Optional[Folder], create: bool = False
+    folder: Folder, words: List[str], given: bytes, program: Optional[Folder], create: Create = False
 ) -> Iterator[str]:
     """What a word writes over a folder's files, line by line."""
-    if create:
-        Path(folder).mkdir(parents=True, exist_ok=True)
-    elif not holds_journal(folder):
-        raise NoJournal(folder)
-    return iter(_run(folder, words, given.encode("ascii"), program))
+    prepare(folder, create)
+    return iter(_run(folder, words, given, program))
 
 
 def _run(folder: Optional[Folder], words: List[str], given: bytes, program: Optional[Folder]) -> List[str]:

@@ -7,7 +7,7 @@ import unittest
 from pathlib import Path
 from typing import List
 
-from liq.service import MEMORY, Service, find_program
+from liq.service import MEMORY, Create, Service, find_program
 
 TOP = Path(__file__).resolve().parents[3]
 PROGRAM = find_program()
@@ -33,7 +33,7 @@ class InFolder(unittest.TestCase):
 class OverProgram(InFolder):
     """A case over the built program."""
 
-    def service(self, name: str = "market", create: bool = True) -> Service:
+    def service(self, name: str = "market", create: Create = "if missing") -> Service:
         made = Service(self.folder / name, create=create)
         self.addCleanup(made.kill)
         return made

@@ -110,11 +110,19 @@ class Refused(OverProgram):
         self.assertRaises(TypeError, client.fund, 1, "5")
         self.assertRaises(TypeError, client.fund, True, 5)
         self.assertRaises(ValueError, client.fund, 1, -1)
-        self.assertRaises(ValueError, client.fund, 2**32, 1)
+        self.assertRaises(ValueError, client.fund, 2**20, 1)
         self.assertRaises(ValueError, client.fund, 1, 2**64)
+        self.assertRaises(ValueError, client.open, 1, 10**10, 4 * 10**9, hints=(2**20, None))
         client.fund(1, 10**18)
-        self.assertRaises(refusals.AccountRange, client.fund, 2**20, 1)
-        self.assertRaises(refusals.AccountRange, service.wallet, 2**20)
+        client.fund(2**20 - 1, 1)
+        for ask in (service.wallet, service.trove, service.deposit, service.next_number, service.client):
+            for account, kind in ((2**20, ValueError), (-1, ValueError), (1.0, TypeError), ("1", TypeError)):
+                self.assertRaises(kind, ask, account)
+        self.assertEqual(service.wallet(2**20 - 1).coll, 1)
+
+    def test_lines_of_ones_own_may_name_any_account(self) -> None:
+        """The program refuses one that is out of range; the typed calls don't come to that."""
+        self.assertEqual(self.service().ask("1 1 fund 1048576 5"), ["no", "13", "1048576"])
 
     def test_a_number_that_another_has_used(self) -> None:
         service = self.service()

@@ -5,7 +5,8 @@ import signal
 import unittest
 from unittest import mock
 
-from liq import Journal, NoJournal, Service, ends, refusals, service
+from liq import Journal, MarketExists, NoJournal, Service, ends, refusals, service
+from liq.journal import NoRegularFile
 from liq.refusals import JournalFull
 
 from .market import InFolder, OverProgram, document
@@ -26,6 +27,40 @@ class NewMarkets(OverProgram):
         for file in (self.folder / "market").iterdir():
             file.unlink()
         self.assertRaises(NoJournal, market.start)
+
+    def test_a_new_market_is_asked_for_where_one_is(self) -> None:
+        """A script that makes a market and is run twice does not go on with the first one without a word."""
+        folder = self.folder / "market"
+        with Service(folder, create=True) as first:
+            first.client(1).fund(1, 5)
+        before = (folder / "left.liq").read_bytes()
+        with self.assertRaises(MarketExists) as refused:
+            Service(folder, create=True)
+        self.assertEqual(refused.exception.folder, folder)
+        self.assertIn('create="if missing"', str(refused.exception))
+        self.assertEqual((folder / "left.liq").read_bytes(), before)
+        with Service(folder, create="if missing") as second:
+            self.assertEqual(second.client(1).next_number, 2)
+        with Service(self.folder / "other", create="if missing") as third:
+            self.assertEqual(third.client(1).next_number, 1)
+        for create in ("yes", "", None, 2):
+            self.assertRaises(ValueError, Service, self.folder / "more", create=create)
+        self.assertFalse((self.folder / "more").exists())
+
+    def test_a_created_market_goes_on_behind_a_crash(self) -> None:
+        market = Service(self.folder / "market", create=True)
+        self.addCleanup(market.kill)
+        market.kill()
+        market.start()
+        market.client(1).fund(1, 5)
+        market.kill()
+        market.start()
+        self.assertEqual(market.wallet(1).coll, 5)
+
+    def test_a_pipe_in_the_place_of_a_file(self) -> None:
+        os.mkfifo(self.folder / "left.liq")
+        for create in (False, True, "if missing"):
+            self.assertRaises(NoRegularFile, Service, self.folder, create=create)
 
     def test_a_market_goes_on(self) -> None:
         with Service(self.folder / "market", create=True) as first:
@@ -65,7 +100,15 @@ class Ends(OverProgram):
         self.assertEqual((end.exception.last, end.exception.number), ("damaged left 1", 1))
 
     def test_two_lines_are_not_sent_as_one(self) -> None:
-        self.assertRaises(ValueError, self.service().ask, "? pools\n? pools")
+        market = self.service()
+        for line in ("? pools\n? pools", "? wallet 1\n", "? wallet \u0661"):
+            self.assertRaises(ValueError, market.ask, line)
+            self.assertRaises(ValueError, market.ask_many, ["? pools", line])
+        self.assertEqual(len(market.ask_many(["? pools", "? wallet 1"])), 2)
+        for ask in (lambda: market.ask("? pools\r"), lambda: market.ask_many(["? pools\r"])):
+            with self.assertRaises(ends.BadLine):
+                ask()
+            market.start()
 
 
 class StandIns(InFolder):

@@ -1,7 +1,8 @@
 """The other words of the command line: as rows by their formats, and over the built program where it has them."""
 import unittest
+from unittest import mock
 
-from liq import NoJournal, ends, refusals, words
+from liq import MarketExists, NoJournal, ends, refusals, words
 
 from .market import OverProgram, document
 
@@ -100,6 +101,38 @@ class OfProgram(OverProgram):
         with self.assertRaises(ends.BadLine) as end:
             words.serve(self.folder / "market", {1: ["? pools", "pools"]})
         self.assertEqual(end.exception.number, 2)
+
+    def test_serve_makes_a_new_market_or_goes_on(self) -> None:
+        folder, scripts = self.folder / "market", {1: ["1 1 fund 1 5"]}
+        self.assertRaises(NoJournal, words.serve, folder, scripts)
+        self.assertEqual(words.serve(folder, scripts, create=True).replies, {1: [["ok"]]})
+        self.assertRaises(MarketExists, words.serve, folder, scripts, create=True)
+        more = {1: ["1 2 fund 1 5", "? wallet 1"]}
+        self.assertEqual(words.serve(folder, more, create="if missing").replies, {1: [["ok"], ["10", "0"]]})
+
+    def test_lines_that_would_be_two(self) -> None:
+        """Nothing is run, nor made, where a line has an end of its own in it, which would shift the replies."""
+        self.borrow()
+        folder = self.folder / "market"
+        for word, line in ((words.staking, "0 1 stake 3\n0 2 stake 4"), (words.rewards, "tag 1 2 3\n")):
+            for bad in (line, "\u0661"):
+                with mock.patch.object(words, "_run") as run:
+                    self.assertRaises(ValueError, word, folder, [bad])
+                run.assert_not_called()
+        for bad in ("1 1 fund 1 5\n2 ? pools", "? pools\n", "\u0661"):
+            self.assertRaises(ValueError, words.serve, self.folder / "new", {1: ["? pools", bad]}, create=True)
+        self.assertFalse((self.folder / "new").exists())
+
+    def test_a_carriage_return_is_told_by_the_program(self) -> None:
+        self.borrow()
+        folder = self.folder / "market"
+        for word, line in (("staking", "0 1 stake 3\r"), ("rewards", "tag 1 2 3\r")):
+            self.has(word)
+            with self.assertRaises(ends.BadLine) as end:
+                getattr(words, word)(folder, [line])
+            self.assertEqual(end.exception.number, 1)
+        with self.assertRaises(ends.BadLine):
+            words.serve(folder, {1: ["? pools\r"]})
 
     def test_a_generated_load(self) -> None:
         told = document("SIMULATING.md").partition("$ liq gen 7 20000\n")[2].partition("\n")[0]

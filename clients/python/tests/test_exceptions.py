@@ -1,0 +1,69 @@
+"""Every exception of the package goes to another process and back, as a pool of processes sends it."""
+import copy
+import importlib
+import multiprocessing
+import pickle
+import pkgutil
+import unittest
+from pathlib import Path
+from typing import Iterator, Type
+
+import liq
+from liq import refusals
+from liq.ends import End, MarketExists, NoJournal, TooMuch
+from liq.journal import DamagedFile, NoRegularFile
+from liq.refusals import Refusal, read_refusal
+
+MADE = {  # by what an exception is made where that is not a message alone
+    NoJournal: (Path("a"),), MarketExists: ("a",), NoRegularFile: (Path("a/left.liq"),),
+    DamagedFile: (Path("a/left.liq"), 3, "its digest is another"), TooMuch: ("a/left.liq has", 5, "bytes"),
+}
+
+
+def classes() -> Iterator[Type[BaseException]]:
+    """The exceptions that the modules of the package define."""
+    for module in pkgutil.iter_modules(liq.__path__, "liq."):
+        for name, each in sorted(vars(importlib.import_module(module.name)).items()):
+            if isinstance(each, type) and issubclass(each, BaseException) and each.__module__ == module.name:
+                yield each
+
+
+def sample(kind: Type[BaseException]) -> BaseException:
+    """An exception of a kind. A bare refusal is that of a code which only a later program has."""
+    if kind is Refusal:
+        return read_refusal(["no", "99", "1"])
+    if issubclass(kind, End):
+        return kind(5, "disk fault", "1 1 fund 1 5")
+    if issubclass(kind, Refusal):
+        return kind(*range(7, 7 + len(kind.fields)))
+    return kind(*MADE.get(kind, ("it differs",)))
+
+
+def fail(kind: Type[BaseException]) -> None:
+    raise sample(kind)
+
+
+class Sent(unittest.TestCase):
+    def check_same(self, there: BaseException, here: BaseException) -> None:
+        self.assertIs(type(there), type(here))
+        self.assertEqual((str(there), there.args, vars(there)), (str(here), here.args, vars(here)))
+
+    def test_each_class_is_copied_whole(self) -> None:
+        found = list(classes())
+        self.assertGreater(len(found), 50)
+        self.assertLessEqual(set(MADE), set(found))
+        for kind in found:
+            with self.subTest(kind=kind.__name__):
+                made = sample(kind)
+                for protocol in range(pickle.HIGHEST_PROTOCOL + 1):
+                    self.check_same(pickle.loads(pickle.dumps(made, protocol)), made)
+                self.check_same(copy.copy(made), made)
+                self.check_same(copy.deepcopy(made), made)
+
+    def test_a_pool_of_processes(self) -> None:
+        """Where an exception can't be made again the pool waits for ever."""
+        with multiprocessing.Pool(2) as pool:
+            for kind in (DamagedFile, NoJournal, TooMuch, End, refusals.NotLiquidatable, refusals.NoChange):
+                with self.assertRaises(kind) as raised:
+                    pool.apply_async(fail, (kind,)).get(timeout=30)
+                self.assertEqual(str(raised.exception), str(sample(kind)))
