@@ -10,11 +10,13 @@ WIDTH, PANEL, LEFT, RIGHT, TOP, GAP = 760, 190, 84, 16, 34, 46
 
 
 class Panel(NamedTuple):
-    """Some lines over one scale: their names and points, and what the scale is of."""
+    """Some lines over one scale: their names and points, and what the scale is of; with a dot at each point where the
+    line between two says nothing."""
 
     title: str
     lines: Mapping[str, Points]
     zero: bool = True
+    dots: bool = False
 
 
 def chart(title: str, across: str, panels: Sequence[Panel]) -> str:
@@ -58,6 +60,8 @@ def _panel(panel: Panel, top: float, low: float, high: float) -> Iterable[str]:
         colour, dash = COLOURS[at % len(COLOURS)], DASHES[at % len(DASHES)]
         path = "L".join(f"{x:.1f} {y:.1f}" for x, y in (place(*point) for point in points))
         yield f'<path d="M{path}" fill="none" stroke="{colour}" stroke-width="1.6" stroke-dasharray="{dash}"/>'
+        for x, y in (place(*point) for point in points if panel.dots):
+            yield f'<circle cx="{x:.1f}" cy="{y:.1f}" r="2.2" fill="{colour}"/>'
         x = right - 150 * (len(panel.lines) - at)
         yield f'<path d="M{x} {top - 10}h22" stroke="{colour}" stroke-width="1.6" stroke-dasharray="{dash}"/>'
         yield _text(x + 27, top - 6, name, "11px sans-serif")

@@ -14,6 +14,7 @@ Hints = Tuple[Optional[int], Optional[int]]
 NO_HINTS: Hints = (None, None)
 ACCOUNTS = 2**20  # accounts, and clients, are below it
 AMOUNTS = 2**64
+LOWEST_MOST = 64  # the most troves of one `liquidate_lowest`
 
 
 class Client:

@@ -3,19 +3,24 @@
 usage: python3 -m liq.page [--seconds N] FOLDER > page.html
 
 It works on copies, so liq may run meanwhile. What it shows is what `liq report` tells, beside the pools; the order of
-the list of troves is read from a checkpoint, which the copy is made to write.
+the list of troves is read from a checkpoint, which the copy is made to write. What is liquidated at other prices is
+tried out on further copies (`risk`).
+
+The folder may be anybody's. Each file may have 2^28 bytes, and the whole may take N seconds, an hour unless another
+number is said: what passes that is refused (`TooMuch`). The copies are gone behind it, also where a signal ends it.
 """
 import sys
 from fractions import Fraction
 from html import escape
 from pathlib import Path
-from typing import Dict, Iterator, List, NamedTuple, Optional, Sequence
+from typing import Dict, Iterator, List, NamedTuple, Optional, Sequence, Tuple
 
 from .chart import Panel, chart
 from .ends import End, Folder, Unfit, Usage
-from .journal import copy_market
-from .recheck import market
+from .journal import SIDES, copy_market
+from .recheck import market, unused_client
 from .replies import Pools, System
+from .risk import Tried, try_prices
 from .scratch import bounded, scratch, words_of
 from .service import Service
 from .units import GWEI, show_ether, show_lusd
@@ -23,7 +28,7 @@ from .words import Report, ReportedTrove, report
 
 SECONDS = 3600
 ROWS_MOST = 1000
-PRICE_LEAST = 100 * 10**6
+PRICE_LEAST, PRICE_MOST = 100 * 10**6, 10**6 * 10**6
 LEAST_RATIO, CRITICAL_RATIO = 110, 150
 STYLE = """
 body { font: 15px/1.5 system-ui, sans-serif; color: #1b1f24; background: #fff }
@@ -47,11 +52,24 @@ svg { max-width: 100%; height: auto }
 
 
 class Market(NamedTuple):
-    """What the page shows: the report, the pools, and the accounts of all troves in the list's order."""
+    """What the page shows: the report, the pools, the accounts of all troves in the list's order, and what
+    `liquidate_lowest` does at some prices, that of now among them; at none where no trove can be liquidated."""
 
     report: Report
     pools: Pools
     order: Sequence[int]
+    tried: Sequence[Tried] = ()
+
+    @property
+    def prices(self) -> Dict[int, Optional[int]]:
+        """The highest price at which each trove may be liquidated by itself."""
+        system, pool_lusd = self.report.system, self.pools.pool_lusd
+        return {trove.account: liquidation_price(trove, system, pool_lusd) for trove in self.report.troves}
+
+    @property
+    def taken_now(self) -> int:
+        """How many troves `liquidate_lowest` takes at the price of now."""
+        return sum(each.troves for each in self.tried if each.price == self.report.system.price)
 
 
 def read_market(folder: Folder, program: Optional[Folder] = None) -> Market:
@@ -61,7 +79,16 @@ def read_market(folder: Folder, program: Optional[Folder] = None) -> Market:
         reported = report(room, program)
         with Service(room, program) as service:
             pools = service.pools()
-        return Market(reported, pools, market(room, program).list_of_troves)
+        found = market(room, program)
+        shown = Market(reported, pools, found.list_of_troves)
+        if reported.system.troves < 2:
+            return shown
+        debts = {trove.account: trove.debt for trove in reported.troves}
+        file = room / f"{SIDES[(found.generation + 1) % 2]}.liq"
+        low, high = range_of_prices(shown)
+        return shown._replace(tried=try_prices(
+            file, [debts[account] for account in reversed(shown.order)], unused_client(found.clients), low, high,
+            reported.system.price, program))
 
 
 # ---- who can be liquidated at which price
@@ -92,20 +119,28 @@ def liquidation_price(trove: ReportedTrove, system: System, pool_lusd: int) -> O
     return own
 
 
+def range_of_prices(shown: Market) -> Tuple[int, int]:
+    """From where all troves but one are below 110 percent to where none can be liquidated, or to now. There are two
+    troves at least."""
+    now = shown.report.system.price
+    own = sorted(highest_price_below(LEAST_RATIO, trove.coll, trove.debt) for trove in shown.report.troves)
+    high = max(price for price in shown.prices.values() if price is not None)
+    return max(PRICE_LEAST, min(own[1], now)), min(PRICE_MOST, max(high, now))
+
+
 # ---- the page
 
 
 def page(shown: Market) -> str:
     """The page."""
-    found, system = shown.report, shown.report.system
-    prices = {trove.account: liquidation_price(trove, system, shown.pools.pool_lusd) for trove in found.troves}
+    prices = shown.prices
     parts = [
         '<!DOCTYPE html><html lang="en"><head><meta charset="utf-8">',
         '<meta name="viewport" content="width=device-width"><title>A liq market</title>',
         f"<style>{STYLE}</style></head><body>",
-        *_head(shown, prices),
-        *_risk(found, prices),
-        *_by_ratio(found, prices),
+        *_head(shown),
+        *_risk(shown),
+        *_by_ratio(shown, prices),
         *_by_list(shown),
         *_pool(shown),
         *_totals(shown),
@@ -114,9 +149,8 @@ def page(shown: Market) -> str:
     return "\n".join(parts) + "\n"
 
 
-def _head(shown: Market, prices: Dict[int, Optional[int]]) -> Iterator[str]:
+def _head(shown: Market) -> Iterator[str]:
     system = shown.report.system
-    now = sum(price is not None and price >= system.price for price in prices.values())
     mode = "Recovery Mode" if system.recovery else "Normal Mode"
     ratio = percent(system.coll, system.debt, system.price) if system.debt else "no debt"
     yield "<h1>The market</h1>"
@@ -124,44 +158,49 @@ def _head(shown: Market, prices: Dict[int, Optional[int]]) -> Iterator[str]:
     yield '<div class="words">'
     for name, value in [
         ("LUSD for one ether", _lusd(system.price)), (mode, ratio), ("troves", f"{system.troves:,}"),
-        ("can be liquidated now", f"{now:,}"), ("LUSD in the Stability Pool", _lusd(shown.pools.pool_lusd)),
+        ("that liquidate_lowest takes now", f"{shown.taken_now:,}"),
+        ("LUSD in the Stability Pool", _lusd(shown.pools.pool_lusd)),
     ]:
         yield f"<div><b>{value}</b><span>{escape(name)}</span></div>"
     yield "</div>"
 
 
-def _risk(found: Report, prices: Dict[int, Optional[int]]) -> Iterator[str]:
-    """What debt can be liquidated at which price."""
-    falls = sorted(((prices[trove.account] or 0, trove.debt) for trove in found.troves), reverse=True)
-    if not falls or falls[0][0] == 0:
+def _risk(shown: Market) -> Iterator[str]:
+    """What is liquidated at which price."""
+    if not shown.tried:
         return
-    points, debt = [(max(falls[0][0], found.system.price) / 10**6, 0.0)], 0
-    for price, more in falls:
-        points.append((price / 10**6, debt / 10**6))
-        debt += more
-        points.append((price / 10**6, debt / 10**6))
-    yield "<h2>Who can be liquidated at which price</h2>"
-    yield "<p>The debt of all troves that can be liquidated where the price is so low, "
-    yield "each taken alone and all else as it is.</p>"
-    yield chart("", "LUSD for one ether", [Panel("LUSD of debt", {"can be liquidated": points[::-1]})])
+    yield "<h2>What is liquidated at which price</h2>"
+    yield f"<p>Each of the {len(shown.tried)} dots was tried on a copy: the price was set, and <code>liquidate_lowest"
+    yield "</code> sent until it was refused. A dot shows how many troves it liquidated, and the debt that these have "
+    yield "now. Between two dots nothing was tried; they are closer where more changes. Where <code>liquidate_lowest"
+    yield "</code> stops, a <code>liquidate</code> of a single trove may still be accepted.</p>"
+    debts = [(each.price / 10**6, each.debt / 10**6) for each in shown.tried]
+    counts = [(each.price / 10**6, float(each.troves)) for each in shown.tried]
+    yield chart("", "LUSD for one ether", [
+        Panel("LUSD of debt", {"liquidated": debts}, dots=True), Panel("troves", {"liquidated": counts}, dots=True),
+    ])
 
 
-def _by_ratio(found: Report, prices: Dict[int, Optional[int]]) -> Iterator[str]:
-    system = found.system
+def _by_ratio(shown: Market, prices: Dict[int, Optional[int]]) -> Iterator[str]:
+    found, system = shown.report, shown.report.system
+    can_be = sum(price is not None and price >= system.price for price in prices.values())
     yield "<h2>Troves by ratio</h2>"
-    yield "<p>The lowest ratio first. The last column is the highest price at which the trove can be liquidated.</p>"
+    yield "<p>The lowest ratio first. The last column is the highest price at which the trove can be liquidated by "
+    yield f"itself, all else as it is. Marked ones can be now, each as the first one: there are {can_be:,}. Each one "
+    yield "that is liquidated changes the pool, the other troves and the mode for the next, so the prices do not add "
+    yield f"up: <code>liquidate_lowest</code> takes {shown.taken_now:,} now.</p>"
     rows, marked = [], []
     ordered = sorted(found.troves, key=lambda trove: Fraction(trove.coll, trove.debt))
     for trove in ordered[:ROWS_MOST]:
         price = prices[trove.account]
         now = price is not None and price >= system.price
-        shown = "the last one stays" if price is None else _price(price)
+        told = "the last one stays" if price is None else _price(price)
         marked.append(now)
         rows.append([
             str(trove.account), _ether(trove.coll), _lusd(trove.debt),
-            percent(trove.coll, trove.debt, system.price), f'<span class="mark">now,</span> {shown}' if now else shown,
+            percent(trove.coll, trove.debt, system.price), f'<span class="mark">now,</span> {told}' if now else told,
         ])
-    yield from _table(["account", "ether", "LUSD owed", "ratio", "liquidated at most at"], rows, len(ordered), marked)
+    yield from _table(["account", "ether", "LUSD owed", "ratio", "by itself at most at"], rows, len(ordered), marked)
 
 
 def _by_list(shown: Market) -> Iterator[str]:

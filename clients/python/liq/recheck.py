@@ -22,7 +22,7 @@ from fractions import Fraction
 from pathlib import Path
 from typing import Any, Container, Dict, Iterator, List, NamedTuple, Optional, Tuple
 
-from .client import ACCOUNTS
+from .client import ACCOUNTS, LOWEST_MOST
 from .ends import End, Folder, Limit, Rotated, TooMuch, Unfit
 from .journal import Checkpoint, Command, DepositRow, Disk, Journal, copy_market
 from .refusals import Refusal
@@ -33,7 +33,6 @@ from .words import Audit, AuditRow, audit
 
 SAME = ("generation", "clients")  # the fields of a checkpoint in which a replay may differ
 SECONDS = 3600
-LOWEST_MOST = 64  # the most troves of one `liquidate_lowest`
 RISES_MOST = 16  # of the scale, behind which what is left of a share counts as nothing: less than 10^-100
 SHARES_BYTES_MOST, SHARES_PLACES_MOST = 2**30, 2**22
 

@@ -11,7 +11,8 @@ WORDS = [8] * 14 + [16, 16, 8, 8, 8, 16, 8, 8, 16, 8, 8]
 def bytes_of(checkpoint: Checkpoint) -> bytes:
     """A checkpoint as docs/FORMATS.md has it."""
     words = zip(WORDS, checkpoint[1:26])
-    data = b"LIQSTAT%d" % checkpoint.version + b"".join(word.to_bytes(size, "big") for size, word in words)
+    data = bytearray(b"LIQSTAT%d" % checkpoint.version)
+    data += b"".join(word.to_bytes(size, "big") for size, word in words)
     clients = {client: (row.last, KINDS.index(row.verb) + 1, *row.values) for client, row in checkpoint.clients.items()}
     for size, sizes, rows in (
         (4, (8, 8), checkpoint.wallets), (4, (8, 8, 8, 16, 16), checkpoint.troves),
@@ -23,7 +24,7 @@ def bytes_of(checkpoint: Checkpoint) -> bytes:
         for key, row in sorted(rows.items()):
             data += key.to_bytes(size, "big")
             data += b"".join(field.to_bytes(each, "big") for each, field in zip(sizes, row))
-    return data
+    return bytes(data)
 
 
 def header(generation: int, checkpoint: bytes = b"") -> bytes:

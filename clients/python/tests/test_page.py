@@ -1,12 +1,19 @@
-"""The page, and who it says can be liquidated at which price."""
+"""The page, and what it says is liquidated at which price."""
+import random
 import re
+import shutil
 import unittest
 from html.parser import HTMLParser
+from pathlib import Path
+from typing import List, Tuple
+from unittest import mock
 
-from liq import Refusal, Service, page, words
+from liq import Refusal, Service, page, risk, words
 from liq.chart import Panel, chart, ticks
 from liq.ends import Usage
+from liq.refusals import NotLiquidatable
 from liq.replies import Pools, System
+from liq.risk import Tried, choose_prices
 from liq.words import Report, ReportedDeposit, ReportedTrove
 
 from .market import OverProgram
@@ -18,7 +25,8 @@ def market_of(price: int = 10**9, pool: int = 3 * 10**9) -> page.Market:
     system = System(price, 0, 0, 0, 0, 2, 11 * 10**10, 11 * 10**10, 8440000000, 5)
     pools = Pools(11 * 10**10, 8440000000, 0, 0, 4 * 10**8, 0, 0, 4 * 10**7, pool, 0)
     deposits = [ReportedDeposit(2, pool, 0)]
-    return page.Market(Report(system, 10**18, 0, 0, 0, TROVES, deposits), pools, [2, 1])
+    tried = [Tried(price, int(price < 464200000), 4220000000 * int(price < 464200000)), Tried(10**10, 0, 0)]
+    return page.Market(Report(system, 10**18, 0, 0, 0, TROVES, deposits), pools, [2, 1], tried)
 
 
 class Tags(HTMLParser):
@@ -62,8 +70,23 @@ class Pages(unittest.TestCase):
         self.assertIn("<td>2</td><td>2</td><td>100.0000</td>", listed)
 
     def test_troves_that_can_be_liquidated_now_are_marked(self) -> None:
-        self.assertIn('class="now"', page.page(market_of(price=464199999)))
-        self.assertNotIn('class="now"', page.page(market_of(price=464200000)))
+        below, at = page.page(market_of(price=464199999)), page.page(market_of(price=464200000))
+        self.assertIn('class="now"', below)
+        self.assertIn("each as the first one: there are 1.", below)
+        self.assertIn("<b>1</b><span>that liquidate_lowest takes now</span>", below)
+        self.assertNotIn('class="now"', at)
+        self.assertIn("each as the first one: there are 0.", at)
+        self.assertIn("<b>0</b><span>that liquidate_lowest takes now</span>", at)
+
+    def test_each_price_that_was_tried_is_a_dot(self) -> None:
+        text = page.page(market_of())
+        self.assertEqual(text.count("<circle "), 4)
+        self.assertIn("Each of the 2 dots was tried on a copy", text)
+
+    def test_nothing_is_drawn_where_no_trove_can_be_liquidated(self) -> None:
+        text = page.page(market_of()._replace(tried=()))
+        self.assertNotIn("<circle ", text)
+        self.assertIn("<b>0</b><span>that liquidate_lowest takes now</span>", text)
 
 
 class Prices(OverProgram):
@@ -119,6 +142,145 @@ class Prices(OverProgram):
         self.assertEqual(found.order, [1, 2])
         self.assertEqual(found.report, words.report(self.folder / "market"))
         self.assertIn("<td>2</td><td>10.0000</td><td>4,220.00</td>", page.page(found))
+
+
+class Chosen(unittest.TestCase):
+    """Which prices are tried."""
+
+    def chosen(self, steps: List[Tuple[int, int]], low: int, high: int, now: int, most: int = 64) -> List[Tried]:
+        """Of a market in which `liquidate_lowest` takes one trove more below each of some prices, of so much debt."""
+        self.asked = 0
+
+        def at(price: int) -> Tried:
+            self.asked += 1
+            fallen = [debt for below, debt in steps if price < below]
+            return Tried(price, len(fallen), sum(fallen))
+
+        return choose_prices(at, low, high, now, most)
+
+    def test_both_ends_and_now_are_among_them(self) -> None:
+        found = [each.price for each in self.chosen([(500, 3)], 100, 900, 333)]
+        self.assertEqual((found[0], found[-1], 333 in found, found == sorted(set(found))), (100, 900, True, True))
+
+    def test_a_step_is_closed_in_upon(self) -> None:
+        found = self.chosen([(500_123_456, 7)], 10**8, 10**9, 10**9)
+        (gap,) = [(a.price, b.price) for a, b in zip(found, found[1:]) if a.troves != b.troves]
+        self.assertTrue(gap[0] < 500_123_456 <= gap[1])
+        self.assertLessEqual(gap[1] - gap[0], 9 * 10**5)
+        self.assertLess(self.asked, 30)
+
+    def test_no_more_are_tried_than_stated(self) -> None:
+        steps = [(10**8 + 10**6 * step, step) for step in range(900)]
+        for most in (16, 64):
+            self.assertEqual((len(self.chosen(steps, 10**8, 10**9, 10**9, most)), self.asked), (most, most))
+
+    def test_one_price_alone(self) -> None:
+        self.assertEqual(self.chosen([], 10**8, 10**8, 10**8), [Tried(10**8, 0, 0)])
+
+    def test_fewer_in_a_large_market(self) -> None:
+        for troves, most in ((2, 64), (10**4, 64), (31_250, 32), (10**5, 16), (2**20, 16)):
+            with mock.patch.object(risk, "choose_prices") as choose:
+                risk.try_prices(Path("left.liq"), [1] * troves, 1, 1, 2, 1)
+            self.assertEqual(choose.call_args[0][-1], most)
+
+
+class Liquidated(OverProgram):
+    """The prices that were tried, beside copies of the files themselves on which one trove after the other goes."""
+
+    def one_by_one(self, name: str, price: int) -> Tuple[int, int, Refusal]:
+        """How many troves go, the debt that they had, and the refusal of the next one."""
+        copy = self.folder / "one-by-one"
+        shutil.copytree(self.folder / name, copy)
+        try:
+            with Service(copy) as market:
+                client = market.client(77)
+                client.price(price)
+                before = {account: trove.debt for account, trove in enumerate(market.troves(range(100))) if trove}
+                try:
+                    while True:
+                        client.liquidate_lowest(5, 1)
+                except Refusal as refusal:
+                    gone = [account for account, trove in enumerate(market.troves(range(100))) if not trove]
+                    debts = [before[account] for account in gone if account in before]
+                    return len(debts), sum(debts), refusal
+        finally:
+            shutil.rmtree(copy)
+
+    def drawn(self, name: str) -> page.Market:
+        try:
+            return page.read_market(self.folder / name)
+        except Usage:
+            self.skipTest("the program does not have the word report")
+
+    def random_market(self, seed: int) -> System:
+        """Owners of all ratios, some of them depositors; then prices, liquidations, and a total ratio from 105 to 190
+        percent."""
+        chance = random.Random(seed)
+        with Service(self.folder / str(seed), create=True) as market:
+            client = market.client(1)
+
+            def attempt(call, *words) -> None:
+                try:
+                    call(*words)
+                except Refusal:
+                    pass
+
+            for account in range(1, chance.randrange(4, 40)):
+                client.fund(account, 10**11)
+                coll = chance.randrange(10**10, 5 * 10**10)
+                borrowed = max(18 * 10**8, int(coll / chance.choice((1.2, 1.4, 1.7, 2.5, 6.0))))
+                attempt(client.open, account, coll, borrowed)
+                if chance.random() < 0.5:
+                    attempt(client.provide, account, chance.randrange(1, borrowed))
+            for _ in range(chance.randrange(8)):
+                client.price(chance.randrange(600, 1100) * 10**6)
+                attempt(client.liquidate_lowest, 0, chance.randrange(1, 4))
+                attempt(client.withdraw, chance.randrange(1, 40), chance.randrange(10**9))
+            found = market.system()
+            client.price(min(10**12, max(10**8, int(chance.uniform(1.05, 1.9) * found.debt * 10**9 / found.coll))))
+            return market.system()
+
+    def test_in_markets_of_both_modes(self) -> None:
+        modes = set()
+        for seed in range(6):
+            system = self.random_market(seed)
+            modes.add(system.recovery)
+            shown = self.drawn(str(seed))
+            self.assertIn(system.price, [each.price for each in shown.tried])
+            for each in shown.tried[seed % 6 :: 6]:
+                count, debt, _ = self.one_by_one(str(seed), each.price)
+                self.assertEqual((each.price, each.troves, each.debt), (each.price, count, debt))
+        self.assertEqual(modes, {False, True})
+
+    def test_one_trove_ends_recovery_mode(self) -> None:
+        """Sixty owners at 150.43 percent. A little lower each of many can be liquidated by itself, and one or two are:
+        then all together are above 150 percent again."""
+        chance = random.Random(3)
+        with self.service() as market:
+            client = market.client(1)
+            for account in range(1, 61):
+                client.fund(account, 10**12)
+                net = chance.randrange(4000, 12000) * 10**6
+                debt = net + net // 200 + 2 * 10**8
+                client.open(account, int(debt * chance.uniform(1.24, 1.78) * 1000 / 480), net)
+            for account in range(1, 6):
+                client.provide(account, min(4202 * 10**6, market.wallet(account).lusd))
+            system = market.system()
+            price = -(-15043 * system.debt * 10**9 // (10_000 * system.coll))
+            client.price(price)
+        shown = self.drawn("market")
+        lower = price * 1496 // 1504
+        by_itself = [trove.debt for trove in shown.report.troves if (shown.prices[trove.account] or 0) >= lower]
+        self.assertGreater(len(by_itself), 20)
+        count, debt, last = self.one_by_one("market", lower)
+        self.assertIn(count, (1, 2))
+        self.assertGreater(sum(by_itself), 10 * debt)
+        self.assertIsInstance(last, NotLiquidatable)
+        self.assertEqual(shown.taken_now, 0)
+        for each in shown.tried[::8]:
+            self.assertEqual((each.troves, each.debt), self.one_by_one("market", each.price)[:2])
+        near = [each for each in shown.tried if lower <= each.price]
+        self.assertLessEqual(max(each.troves for each in near), count)
 
 
 class Charts(unittest.TestCase):
