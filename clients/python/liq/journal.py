@@ -280,7 +280,7 @@ class _Reader:
         if count * (key + sum(sizes)) > len(self.data) - self.at:
             raise self.fault("bytes are missing")
         if count > ROWS_MOST:
-            raise TooMuch(f"a table of {self.path}'s checkpoint has", ROWS_MOST, "rows")
+            raise TooMuch(f"a table of {self.path.name}'s checkpoint has", ROWS_MOST, "rows")
         for _ in range(count):
             found, *rest = self.numbers(key, *sizes)
             if found <= last:

@@ -146,8 +146,10 @@ class Replay:
         """The reply to a call under the client's next number."""
         number = self.numbers.get(client, 1)
         words = self.service.ask(f"{client} {number} {call}")
-        if words[:2] == ["no", "81"]:  # single liquidations take more records than the journal had
-            self._ask(unused_client(self.numbers), "rotate")
+        if words[:2] == ["no", "81"] and call != "rotate":  # single liquidations take more records than the journal had
+            rotated = self._ask(unused_client(self.numbers), "rotate")
+            if rotated[0] != "ok":
+                raise Differs(f"command {self.commands + 1}: the replay's journal is full: {' '.join(rotated)}")
             return self._ask(client, call)
         if words[0] == "ok":
             self.numbers[client] = number + 1
@@ -189,6 +191,8 @@ class Replay:
     def _follow_offset(self, debt: int, coll: int) -> None:
         if debt == 0:
             return
+        if debt > self.pool:
+            raise Differs(f"command {self.commands + 1}: the pool takes over {debt}, and has {self.pool}")
         if self.ledger.size > SHARES_BYTES_MOST:
             raise TooMuch("the exact shares take", SHARES_BYTES_MOST, "bytes")
         if self.ledger.denominator.bit_length() > SHARES_PLACES_MOST:

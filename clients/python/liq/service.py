@@ -30,7 +30,7 @@ def find_program(program: Optional[Folder] = None) -> str:
 def prepare(folder: Folder, create: Create) -> None:
     """Sees that a folder has what `create` says: a journal where it is False; none where it is True; either where it is
     "if missing". Makes the folder where a market may begin. Raises `NoJournal` or `MarketExists`."""
-    if create not in (False, True, IF_MISSING):
+    if not isinstance(create, bool) and create != IF_MISSING:
         raise ValueError(f"create is False, True or {IF_MISSING!r}, and not {create!r}")
     there = holds_journal(folder)
     if not create and not there:

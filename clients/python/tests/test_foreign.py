@@ -110,6 +110,17 @@ class Small(OverProgram):
         folder = self.made("last", foreign.bytes_of(last), generation=2**36)
         self.assertEqual(run("recheck", folder)[1][:52], "recheck refuses: no checkpoint can be written: no 12")
 
+    def test_a_program_whose_replies_cannot_be(self) -> None:
+        """A full journal that is not rotated, and an offset of more than the pool has, end the replay at once."""
+        foreign.write(self.folder / "two", 1, b"", ["1 1 liquidate 1 2"])
+        chain = Journal(self.folder / "two").chain
+        for reply, said in (("no 81 1000000", "journal is full: no 81 1000000"), ("ok 1 5 1 0 0 0", "takes over 5")):
+            program = self.stand_in(f"import sys\nfor line in sys.stdin: print({reply!r}, flush=True)")
+            again = self.folder / said[:4]
+            with self.assertRaises(recheck.Differs) as differs:
+                recheck.Replay(chain, again, program)
+            self.assertIn(said, str(differs.exception))
+
     def test_exact_shares_take_no_more_than_stated(self) -> None:
         with self.service("offset") as market:
             client = market.client(1)

@@ -43,7 +43,7 @@ class NewMarkets(OverProgram):
             self.assertEqual(second.client(1).next_number, 2)
         with Service(self.folder / "other", create="if missing") as third:
             self.assertEqual(third.client(1).next_number, 1)
-        for create in ("yes", "", None, 2):
+        for create in ("yes", "", None, 1):
             self.assertRaises(ValueError, Service, self.folder / "more", create=create)
         self.assertFalse((self.folder / "more").exists())
 
