@@ -7,6 +7,7 @@ import unittest
 from pathlib import Path
 from typing import List
 
+from liq import scratch
 from liq.service import MEMORY, Create, Service, find_program
 
 TOP = Path(__file__).resolve().parents[3]
@@ -20,6 +21,12 @@ class InFolder(unittest.TestCase):
     def setUp(self) -> None:
         self.folder = Path(tempfile.mkdtemp(dir=MEMORY if MEMORY.is_dir() else None, prefix="liq-test-"))
         self.addCleanup(shutil.rmtree, self.folder)
+
+    def bounded(self, seconds: int = 60) -> None:
+        """Makes the case an error where it takes more seconds, as one that waits for ever would."""
+        bound = scratch.bounded(seconds)
+        bound.__enter__()
+        self.addCleanup(bound.__exit__, None, None, None)
 
     def stand_in(self, text: str) -> Path:
         """A program of these lines of Python, in the place of liq."""

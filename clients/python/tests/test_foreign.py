@@ -3,10 +3,11 @@ import os
 import signal
 import subprocess
 import sys
+import time
 import unittest
 from fractions import Fraction
 from pathlib import Path
-from typing import Dict, List, Optional, Tuple
+from typing import Dict, Optional, Sequence, Tuple
 from unittest import mock
 
 from liq import Journal, journal, recheck, scratch
@@ -40,6 +41,7 @@ class Small(OverProgram):
 
     def setUp(self) -> None:
         super().setUp()
+        self.bounded(2 * LATE)
         with self.service("small") as market:
             client = market.client(1)
             for account in (1, 2, 3):
@@ -52,7 +54,7 @@ class Small(OverProgram):
         assert found
         self.small = found
 
-    def made(self, name: str, checkpoint: bytes, lines: List[str] = [], generation: int = 2) -> str:
+    def made(self, name: str, checkpoint: bytes, lines: Sequence[str] = (), generation: int = 2) -> str:
         foreign.write(self.folder / name, generation, checkpoint, lines)
         return str(self.folder / name)
 
@@ -144,6 +146,10 @@ class Small(OverProgram):
 class Tables(InFolder):
     """Counts in a file are not believed."""
 
+    def setUp(self) -> None:
+        super().setUp()
+        self.bounded()
+
     def empty(self) -> Checkpoint:
         return Checkpoint(2, *[0] * 25, {}, {}, {}, {}, {}, {})
 
@@ -230,7 +236,7 @@ class Stopped(InFolder):
         self.addCleanup(process.kill)
         with scratch.bounded(LATE):
             while not self.told.exists() or len(self.told.read_text().split(" ")) < 2:
-                pass
+                time.sleep(0.01)
         return process
 
     def check_gone(self) -> None:

@@ -17,6 +17,10 @@ LINES = ["1 1 fund 1 10000000000", "2 1 advance 5", "1 2 fund 2 7"]
 class Bounded(InFolder):
     """What a foreign folder may have in the place of a file."""
 
+    def setUp(self) -> None:
+        super().setUp()
+        self.bounded()
+
     def refusals(self, folder: Path, kind: type) -> list:
         """How each way to come to the bytes of `left.liq` is refused."""
         path, copies = folder / "left.liq", folder / "copies"

@@ -240,17 +240,18 @@ class Liquidated(OverProgram):
             client.price(min(10**12, max(10**8, int(chance.uniform(1.05, 1.9) * found.debt * 10**9 / found.coll))))
             return market.system()
 
-    def test_in_markets_of_both_modes(self) -> None:
-        modes = set()
-        for seed in range(6):
+    def test_in_fifty_markets_of_both_modes(self) -> None:
+        modes = []
+        for seed in range(50):
             system = self.random_market(seed)
-            modes.add(system.recovery)
-            shown = self.drawn(str(seed))
+            modes.append(system.recovery)
+            with mock.patch.object(risk, "TRIED_MOST", 16):
+                shown = self.drawn(str(seed))
             self.assertIn(system.price, [each.price for each in shown.tried])
-            for each in shown.tried[seed % 6 :: 6]:
+            for each in shown.tried[seed % 4 :: 4]:
                 count, debt, _ = self.one_by_one(str(seed), each.price)
                 self.assertEqual((each.price, each.troves, each.debt), (each.price, count, debt))
-        self.assertEqual(modes, {False, True})
+        self.assertGreater(min(modes.count(False), modes.count(True)), 10)
 
     def test_one_trove_ends_recovery_mode(self) -> None:
         """Sixty owners at 150.43 percent. A little lower each of many can be liquidated by itself, and one or two are:

@@ -58,6 +58,7 @@ class NewMarkets(OverProgram):
         self.assertEqual(market.wallet(1).coll, 5)
 
     def test_a_pipe_in_the_place_of_a_file(self) -> None:
+        self.bounded()
         os.mkfifo(self.folder / "left.liq")
         for create in (False, True, "if missing"):
             self.assertRaises(NoRegularFile, Service, self.folder, create=create)
