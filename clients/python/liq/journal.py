@@ -14,7 +14,7 @@ import struct
 from pathlib import Path
 from typing import BinaryIO, Dict, Iterator, List, NamedTuple, Optional, Tuple
 
-from .ends import Folder, NoJournal, TooMuch, Unfit
+from .ends import Folder, TooMuch, Unfit
 
 VERBS: Dict[str, str] = {  # in the order of their kinds; a for an account, v for an amount, h for a hint
     "price": "v", "advance": "v", "fund": "av", "take": "av", "send": "aav", "open": "avvvhh", "adjust": "avvvvvhh",
@@ -401,14 +401,6 @@ def copy_file(path: Folder, to: Folder, most: int = BYTES_MOST) -> int:
             os.unlink(to)
             raise
     return count
-
-
-def copy_market(folder: Folder, to: Folder, most: int = BYTES_MOST) -> None:
-    """Copies both files, each of at most `most` bytes. A running liq may go on meanwhile, but for a rotation."""
-    if not holds_journal(folder):
-        raise NoJournal(folder)
-    for path in files_of(folder):
-        copy_file(path, Path(to, path.name), most)
 
 
 def read_command(data: bytes) -> Optional[Command]:

@@ -15,9 +15,10 @@ from html import escape
 from pathlib import Path
 from typing import Dict, Iterator, List, NamedTuple, Optional, Sequence, Tuple
 
+from .backup import backup
 from .chart import Panel, chart
 from .ends import End, Folder, Unfit, Usage
-from .journal import SIDES, copy_market
+from .journal import SIDES
 from .recheck import market, unused_client
 from .replies import Pools, System
 from .risk import Tried, try_prices
@@ -75,7 +76,7 @@ class Market(NamedTuple):
 def read_market(folder: Folder, program: Optional[Folder] = None) -> Market:
     """A market, read from copies of a folder's files."""
     with scratch(folder, "liq-page") as room:
-        copy_market(folder, room)
+        backup(folder, room)
         reported = report(room, program)
         with Service(room, program) as service:
             pools = service.pools()

@@ -22,9 +22,10 @@ from fractions import Fraction
 from pathlib import Path
 from typing import Any, Container, Dict, Iterator, List, NamedTuple, Optional, Tuple
 
+from .backup import backup
 from .client import ACCOUNTS, LOWEST_MOST
 from .ends import End, Folder, Limit, Rotated, TooMuch, Unfit
-from .journal import Checkpoint, Command, DepositRow, Disk, Journal, copy_market
+from .journal import Checkpoint, Command, DepositRow, Disk, Journal
 from .refusals import Refusal
 from .scratch import bounded, scratch, words_of
 from .service import Service
@@ -258,7 +259,7 @@ def recheck(folder: Folder, program: Optional[Folder] = None) -> Result:
         copied, again = room / "copy", room / "again"
         copied.mkdir()
         again.mkdir()
-        copy_market(folder, copied)
+        backup(folder, copied)
         chain = Journal(copied).chain
         found, why = audited(copied, program)
         replay = Replay(chain, again, program)

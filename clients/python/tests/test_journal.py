@@ -6,6 +6,7 @@ import unittest
 from pathlib import Path
 
 from liq import Journal, journal
+from liq.backup import backup
 from liq.ends import TooMuch
 from liq.journal import DamagedFile, KeptReply, NoRegularFile, Unknown, copy_file, read_file
 
@@ -28,7 +29,7 @@ class Bounded(InFolder):
         found = []
         for read in (
             lambda: Journal(folder), lambda: read_file(path), lambda: copy_file(path, copies / "left.liq"),
-            lambda: journal.copy_market(folder, copies),
+            lambda: backup(folder, copies),
         ):
             with self.assertRaises(kind) as refused:
                 read()
