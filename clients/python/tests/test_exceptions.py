@@ -11,12 +11,14 @@ from typing import Iterator, Type
 import liq
 from liq import refusals
 from liq.ends import End, MarketExists, NoJournal, TooMuch
+from liq.guard import Parted
 from liq.journal import DamagedFile, NoRegularFile
 from liq.refusals import Refusal, read_refusal
 
 MADE = {  # by what an exception is made where that is not a message alone
     NoJournal: (Path("a"),), MarketExists: ("a",), NoRegularFile: (Path("a/left.liq"),),
     DamagedFile: (Path("a/left.liq"), 3, "its digest is another"), TooMuch: ("a/left.liq has", 5, "bytes"),
+    Parted: (1, 2),
 }
 
 
