@@ -1,7 +1,12 @@
-# Completion of bash for liq. Of help it knows the words alone.
+# Completion of bash for liq: its words, and behind help, which bin/liq of a checkout has, the verbs.
 _liq() {
     case $COMP_CWORD in
         1) mapfile -t COMPREPLY < <(compgen -W 'run serve staking rewards state report audit follow gen help' -- "${COMP_WORDS[1]}") ;;
+        2)
+            COMPREPLY=()
+            [ "${COMP_WORDS[1]}" = help ] && mapfile -t COMPREPLY < <(compgen -W 'price advance fund take send open adjust close provide
+                withdraw gain_to_trove liquidate liquidate_lowest redeem claim rotate' -- "${COMP_WORDS[2]}")
+            ;;
         *) COMPREPLY=() ;;
     esac
 }
