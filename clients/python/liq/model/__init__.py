@@ -1,0 +1,18 @@
+"""The rules a second time: a model of liq in Python, written from the pages of docs/ alone.
+
+Each module has the name of a heading of docs/RULES.md. `Market` is the state, and `answer` gives the reply to a line:
+
+    market = Market()
+    answer(market, "1 1 fund 1 10000000000")    # "ok"
+
+It runs no part of liq, and it proves nothing. It is there to be compared with, and for whoever wants to follow a
+journal without the program.
+"""
+from .disks import Disks, begun_on, market_of, market_on
+from .requests import NoRequest, answer, carry_out, read_request, run
+from .state import Fee, Market, Offset, Own
+
+__all__ = [
+    "Disks", "Fee", "Market", "NoRequest", "Offset", "Own", "answer", "begun_on", "carry_out", "market_of",
+    "market_on", "read_request", "run",
+]

@@ -1,0 +1,256 @@
+"""Requests: the grammar of lines, the step of the rules, and the text of a reply."""
+import re
+from typing import Callable, Dict, Iterable, Iterator, List, NamedTuple, Optional, Tuple, Union
+
+from ..journal import NO_HINT, VERBS, Command, KeptReply
+from ..refusals import (
+    AccountRange, AmountLimit, AmountZero, OutOfTurn, PriceRange, Refusal, ShortCollateral, ShortTokens,
+)
+from .amounts import (
+    ACCOUNTS, CHECKPOINT_MOST, GENERATIONS_MOST, LIMIT, MINUTE_MOST, NUMBER_MOST, PRICE_LEAST, PRICE_MOST,
+)
+from .borrowing import adjust, close, gain_to_trove, open_trove
+from .disks import checkpoint_length
+from .liquidation import liquidate, liquidate_lowest
+from .pool import position, provide, withdraw
+from .redemption import claim, redeem
+from .state import Market
+from .troves import entire
+
+LINE_BYTES_MOST = 200
+IS_NUMBER = re.compile("0|[1-9][0-9]{0,19}").fullmatch
+QUERIES = {"wallet": 1, "trove": 1, "deposit": 1, "pools": 0, "system": 0, "next_number": 1}
+SYSTEM = ("price", "minute", "base", "fee_minute", "mode", "troves", "stakes", "coll", "debt", "records")
+
+
+class NoRequest(ValueError):
+    """A line is no request."""
+
+
+class Query(NamedTuple):
+    """A question, with the account or the client that it asks for."""
+
+    name: str
+    accounts: Tuple[int, ...]
+
+
+# ---- the grammar
+
+
+def read_number(word: str, most: int = NUMBER_MOST) -> int:
+    """A number without a sign or a zero in front. Raises NoRequest."""
+    if not IS_NUMBER(word) or int(word) > most:
+        raise NoRequest(word)
+    return int(word)
+
+
+def read_request(line: str) -> Union[Command, Query]:
+    """What a line asks for. Raises NoRequest."""
+    words = line.split(" ")
+    if len(line) > LINE_BYTES_MOST or len(words) < 2:
+        raise NoRequest(line)
+    if words[0] == "?":
+        if QUERIES.get(words[1]) != len(words) - 2:
+            raise NoRequest(line)
+        return Query(words[1], tuple([read_number(word, NO_HINT) for word in words[2:]]))
+    shape = VERBS.get(words[2]) if len(words) > 2 else None
+    if shape is None or len(shape) != len(words) - 3:
+        raise NoRequest(line)
+    client, number = read_number(words[0], NO_HINT), read_number(words[1])
+    accounts: List[int] = []
+    amounts: List[int] = []
+    hints: List[Optional[int]] = []
+    for letter, word in zip(shape, words[3:]):
+        if letter == "v":
+            amounts.append(read_number(word))
+        elif letter == "a":
+            accounts.append(read_number(word, NO_HINT))
+        else:
+            hint = None if word == "-" else read_number(word, NO_HINT)
+            hints.append(None if hint == NO_HINT else hint)
+    return Command(client, number, words[2], tuple(accounts), tuple(amounts), tuple(hints))
+
+
+# ---- the verbs of no other part
+
+
+def set_price(market: Market, price: int) -> Tuple[int, ...]:
+    """`price`: the price."""
+    if not PRICE_LEAST <= price <= PRICE_MOST:
+        raise PriceRange(price)
+    market.admit()
+    market.price = price
+    return ()
+
+
+def advance(market: Market, minutes: int) -> Tuple[int, ...]:
+    """`advance`: minutes pass. Gives the new minute."""
+    if minutes == 0:
+        raise AmountZero()
+    if market.minute + minutes > MINUTE_MOST:
+        raise AmountLimit(market.minute + minutes, MINUTE_MOST)
+    market.admit()
+    market.minute += minutes
+    return (market.minute,)
+
+
+def fund(market: Market, account: int, coll: int) -> Tuple[int, ...]:
+    """`fund`: collateral into a wallet."""
+    if coll == 0:
+        raise AmountZero()
+    if market.brought + coll > market.limit:
+        raise AmountLimit(market.brought + coll, market.limit)
+    market.admit()
+    market.brought += coll
+    market.pay(account, coll)
+    return ()
+
+
+def take(market: Market, account: int, coll: int) -> Tuple[int, ...]:
+    """`take`: collateral out of a wallet."""
+    if coll == 0:
+        raise AmountZero()
+    has = market.wallet(account)[0]
+    if has < coll:
+        raise ShortCollateral(coll, has)
+    market.admit()
+    market.brought -= coll
+    market.pay(account, -coll)
+    return ()
+
+
+def send(market: Market, payer: int, payee: int, lusd: int) -> Tuple[int, ...]:
+    """`send`: LUSD from one wallet to another."""
+    if lusd == 0:
+        raise AmountZero()
+    has = market.wallet(payer)[1]
+    if has < lusd:
+        raise ShortTokens(lusd, has)
+    market.admit()
+    market.pay(payer, 0, -lusd)
+    market.pay(payee, 0, lusd)
+    return ()
+
+
+def rotate(market: Market) -> Tuple[int, ...]:
+    """`rotate`: the next generation, without records, under the limit of today. Gives its number."""
+    if market.generation >= GENERATIONS_MOST:
+        raise AmountLimit(market.generation + 1, GENERATIONS_MOST)
+    if checkpoint_length(market) > CHECKPOINT_MOST:
+        raise AmountLimit(checkpoint_length(market), CHECKPOINT_MOST)
+    market.generation += 1
+    market.records = 0
+    market.limit = LIMIT
+    return (market.generation,)
+
+
+Verb = Callable[..., Tuple[int, ...]]
+BY_VERB: Dict[str, Verb] = {
+    "price": set_price, "advance": advance, "fund": fund, "take": take, "send": send, "open": open_trove,
+    "adjust": adjust, "close": close, "provide": provide, "withdraw": withdraw, "gain_to_trove": gain_to_trove,
+    "liquidate": liquidate, "liquidate_lowest": liquidate_lowest, "redeem": redeem, "claim": claim, "rotate": rotate,
+}
+
+
+# ---- the step
+
+
+def check_accounts(accounts: Iterable[int]) -> None:
+    """Raises AccountRange of the first account or client that is out of range."""
+    for account in accounts:
+        if account >= ACCOUNTS:
+            raise AccountRange(account)
+
+
+def next_number(market: Market, client: int) -> int:
+    """The number of a client's next new command."""
+    return market.clients[client].last + 1 if client in market.clients else 1
+
+
+def is_repeated(market: Market, command: Command) -> bool:
+    """Whether a command has the number that was last accepted of its client."""
+    return command.client in market.clients and market.clients[command.client].last == command.number
+
+
+def carry_out(market: Market, command: Command) -> Tuple[int, ...]:
+    """The values of a command's reply, which may be kept ones. Raises its refusal; then the market is as it was."""
+    client, number, verb, accounts, amounts, _ = command
+    if client >= ACCOUNTS:
+        raise AccountRange(client)
+    kept = market.clients.get(client)
+    if kept is not None and kept.last == number:
+        return kept.values
+    expected = kept.last + 1 if kept is not None else 1
+    if number != expected:
+        raise OutOfTurn(expected)
+    check_accounts(accounts)
+    values = BY_VERB[verb](market, *accounts, *amounts)
+    market.clients[client] = KeptReply(number, verb, tuple(values))
+    return values
+
+
+def ask(market: Market, query: Query) -> Tuple[int, ...]:
+    """The numbers of the reply to a query; none where it is `none`. Raises AccountRange."""
+    name, accounts = query
+    check_accounts(accounts)
+    if name == "wallet":
+        return market.wallet(accounts[0])
+    if name == "trove":
+        trove = market.troves.get(accounts[0])
+        return (*entire(market, trove), trove.stake) if trove else ()
+    if name == "deposit":
+        deposit = market.deposits.get(accounts[0])
+        return position(market, deposit) if deposit else ()
+    if name == "next_number":
+        return (next_number(market, accounts[0]),)
+    return pools(market) if name == "pools" else system(market)
+
+
+def pools(market: Market) -> Tuple[int, ...]:
+    """The ten words of `? pools`."""
+    return (
+        market.active_coll, market.active_debt, market.default_coll, market.default_debt, market.reserve,
+        market.surplus, market.fee_coll, market.fee_lusd, market.pool_lusd, market.pool_coll,
+    )
+
+
+def system(market: Market) -> Tuple[int, ...]:
+    """The ten words of `? system`."""
+    return (
+        market.price, market.minute, market.base_rate, market.fee_minute, int(market.is_recovery()),
+        len(market.troves), market.stakes, market.total_coll, market.total_debt, market.records,
+    )
+
+
+# ---- texts
+
+
+def refusal_text(refusal: Refusal) -> str:
+    """A refusal as a reply."""
+    return " ".join(["no", str(refusal.code), *map(str, refusal.values)])
+
+
+def reply_to(market: Market, request: Union[Command, Query]) -> str:
+    """The reply to a request, as text."""
+    try:
+        if isinstance(request, Query):
+            return " ".join(map(str, ask(market, request))) or "none"
+        values = carry_out(market, request)
+    except Refusal as refusal:
+        return refusal_text(refusal)
+    return " ".join(["ok", *map(str, values)])
+
+
+def answer(market: Market, line: str) -> str:
+    """The reply to a line. Raises NoRequest where it is none."""
+    return reply_to(market, read_request(line))
+
+
+def run(market: Market, lines: Iterable[str]) -> Iterator[str]:
+    """What `run` writes: the replies to lines, up to one that is no request."""
+    for at, line in enumerate(lines, 1):
+        try:
+            yield answer(market, line)
+        except NoRequest:
+            yield f"bad line {at}"
+            return

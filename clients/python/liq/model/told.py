@@ -1,0 +1,135 @@
+"""What the program's other words tell: `state`, `report`, `audit`, `follow`, `gen`, and `serve` along its history."""
+import json
+from typing import Dict, Iterable, Iterator, List, Sequence, Tuple
+
+from ..journal import HEADER_BYTES, RECORD_BYTES, Command, read_command
+from .amounts import LIMIT, LIMIT_OF_VERSION_1, ONE
+from .owed import audit_rows
+from .pool import position
+from .requests import SYSTEM, answer, carry_out, pools, reply_to, system
+from .state import Market, Offset
+from .troves import entire
+
+GENERATED_ACCOUNTS = 50
+
+
+def state_text(market: Market) -> List[str]:
+    """What `state` tells."""
+    return [
+        " ".join(map(str, system(market))), " ".join(map(str, pools(market))),
+        f"pool {market.p} {market.scale} {market.epoch} {market.sum}",
+        f"journal {market.generation} {market.records}",
+    ]
+
+
+def report_text(market: Market) -> str:
+    """What `report` tells."""
+    deposits, troves = [], []
+    for account, deposit in sorted(market.deposits.items()):
+        balance, gain = position(market, deposit)
+        deposits.append({"account": account, "balance": balance, "gain": gain})
+    for account, trove in sorted(market.troves.items()):
+        coll, debt = entire(market, trove)
+        troves.append({"account": account, "coll": coll, "debt": debt, "stake": trove.stake})
+    told = {
+        "deposits": deposits,
+        "pool": {"epoch": market.epoch, "p": str(market.p), "scale": market.scale, "sum": str(market.sum)},
+        "system": dict(zip(SYSTEM, system(market))),
+        "troves": troves,
+    }
+    return json.dumps(told, separators=(",", ":"), sort_keys=True)
+
+
+def audit_text(market: Market) -> List[str]:
+    """What `audit` tells, for a market whose events were kept since its beginning."""
+    rows = audit_rows(market)
+    within = sum(row.holds for row in rows)
+    return [*(" ".join(map(str, row)) for row in rows), f"within {within} of {len(rows)}"]
+
+
+def follow_text(data: bytes) -> List[str]:
+    """What `follow` tells of whole bytes that begin a journal of the first generation."""
+    market, at = Market(), HEADER_BYTES.get(data[1:9], 65)
+    if data[:1] == b"\1" and len(data) >= at:
+        market.limit = LIMIT if at == 65 else LIMIT_OF_VERSION_1
+        while data[at : at + 1] == b"\1" and len(data) >= at + RECORD_BYTES:
+            command = read_command(data[at + 1 : at + 97])
+            assert command
+            carry_out(market, command)
+            at += RECORD_BYTES
+    return state_text(market)
+
+
+# ---- a generated load
+
+
+def generated(seed: int, count: int) -> Iterator[Command]:
+    """The calls of `gen`, numbered by 1 and not as they would be sent: whoever carries them out numbers them."""
+    for account in range(1, GENERATED_ACCOUNTS + 1):
+        yield Command(1, 0, "fund", (account,), (10**12,), ())
+        yield Command(1, 0, "open", (account,), (10**11, 2 * 10**10, ONE), (None, None))
+        yield Command(1, 0, "provide", (account,), (10**10,), ())
+    state = seed
+
+    def draw() -> int:
+        nonlocal state
+        state = (state * 6364136223846793005 + 1442695040888963407) % 2**64
+        return state >> 33
+
+    for _ in range(count):
+        kind, a, v = draw() % 16, 1 + draw() % GENERATED_ACCOUNTS, draw()
+        verb, accounts, amounts = drawn_call(kind, a, v)
+        yield Command(1, 0, verb, accounts, amounts, ())
+
+
+def drawn_call(kind: int, a: int, v: int) -> Tuple[str, Tuple[int, ...], Tuple[int, ...]]:
+    """A drawn call: its verb, accounts and amounts."""
+    return (
+        ("price", (), (300_000_000 + v % 900_000_000,)),
+        ("advance", (), (1 + v % 600,)),
+        ("open", (a,), (10**11, 2_000_000_000 + v, ONE)),
+        ("adjust", (a,), (0, 0, v, 0, ONE)),
+        ("adjust", (a,), (0, 0, 0, v, 0)),
+        ("adjust", (a,), (v, 0, 0, 0, 0)),
+        ("adjust", (a,), (0, v, 0, 0, 0)),
+        ("close", (a,), ()),
+        ("provide", (a,), (1 + v,)),
+        ("withdraw", (a,), (v,)),
+        ("gain_to_trove", (a,), ()),
+        ("liquidate", (1000, a), ()),
+        ("liquidate_lowest", (1000,), (1 + v % 64,)),
+        ("redeem", (a,), (1 + v, ONE)),
+        ("claim", (a,), ()),
+        ("send", (a, 1 + v % GENERATED_ACCOUNTS), (1 + v,)),
+    )[kind]
+
+
+def gen_text(seed: int, count: int) -> str:
+    """The line that `gen` writes."""
+    market, accepted, refused = Market(), 0, 0
+    market.events = []
+    for command in generated(seed, count):
+        if reply_to(market, command._replace(number=accepted + 1)).startswith("ok"):
+            accepted += 1
+        else:
+            refused += 1
+    offsets = sum(isinstance(event, Offset) for event in market.events)
+    return (
+        f"accepted {accepted} refused {refused} offsets {offsets} epochs {market.epoch} scale {market.scale} "
+        f"p {market.p} total {market.pool_lusd} coll {market.pool_coll} supply {market.total_debt}"
+    )
+
+
+# ---- serve
+
+
+def replies_along(
+    market: Market, scripts: Dict[int, Sequence[str]], history: Iterable[Tuple[int, int]]
+) -> Dict[int, List[str]]:
+    """The replies of each session where the calls, each a session and a count from 1, are made in this order."""
+    replies: Dict[int, List[str]] = {session: [] for session in scripts}
+    for session, call in history:
+        if call != len(replies[session]) + 1:
+            raise ValueError(f"call {call} of session {session} is out of order")
+        replies[session].append(answer(market, scripts[session][call - 1]))
+    return replies
