@@ -20,7 +20,7 @@ class Depositor:
 
     def change(self, event: Own, place: Place) -> None:
         """An operation of its own."""
-        self.low += event.put - event.paid
+        self.low = max(0, self.low + event.put - event.paid)
         self.high += event.put - event.paid
         self.paid += event.gain
         self.operations += 1

@@ -5,12 +5,12 @@ from .state import Market
 
 
 def power_of(base: int, exponent: int) -> int:
-    """A rate to a power, by squaring from the lowest binary digit on; each product is rounded down."""
+    """A rate to a power, by squaring from the lowest binary digit on; each product is rounded to the nearest."""
     result = ONE
-    while exponent:
+    while exponent and result:
         if exponent & 1:
-            result = result * base // ONE
-        base = base * base // ONE
+            result = (result * base + ONE // 2) // ONE
+        base = (base * base + ONE // 2) // ONE
         exponent >>= 1
     return result
 
