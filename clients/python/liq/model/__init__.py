@@ -8,11 +8,11 @@ Each module has the name of a heading of docs/RULES.md. `Market` is the state, a
 It runs no part of liq, and it proves nothing. It is there to be compared with, and for whoever wants to follow a
 journal without the program.
 """
-from .disks import Disks, begun_on, market_of, market_on
+from .disks import Disks
 from .requests import NoRequest, answer, carry_out, read_request, run
 from .state import Fee, Market, Offset, Own
+from .told import market_on
 
 __all__ = [
-    "Disks", "Fee", "Market", "NoRequest", "Offset", "Own", "answer", "begun_on", "carry_out", "market_of",
-    "market_on", "read_request", "run",
+    "Disks", "Fee", "Market", "NoRequest", "Offset", "Own", "answer", "carry_out", "market_on", "read_request", "run",
 ]

@@ -3,20 +3,19 @@
 Debt and LUSD are in millionths, collateral is in gwei, a price in millionths of a LUSD for one ether, time in minutes.
 Rates, products and sums are over `ONE`.
 """
-from typing import Tuple
+from typing import Tuple, Type
 
-from ..journal import CHECKPOINT_BYTES_MOST, LIMITS
+from ..journal import LIMITS
+from ..refusals import Refusal
 
 ONE = 10**18
 ETHER = 10**9
 STEP = 10**9  # of the scale
-LIMIT = LIMITS[2]
-LIMIT_OF_VERSION_1 = LIMITS[1]
+LIMIT_OF_VERSION_1, LIMIT = LIMITS[1], LIMITS[2]
 PRICE_LEAST, PRICE_MOST, PRICE_OPENING = 10**8, 10**12, 10**9
 MINUTE_MOST = 10**12
 LEAST_RATIO, CRITICAL_RATIO = 110, 150
-RESERVE = 200_000_000
-LEAST_NET_DEBT = 1_800_000_000
+RESERVE, LEAST_NET_DEBT = 200_000_000, 1_800_000_000
 FLOOR_RATE, MAX_BORROW_RATE = 5 * 10**15, 5 * 10**16
 DECAY = 999037758833783000
 BOOTSTRAP = 20_160
@@ -26,7 +25,6 @@ ACCOUNTS = 2**20
 LOWEST_MOST = 64
 RECORDS_MOST = 1_000_000
 GENERATIONS_MOST = 2**36
-CHECKPOINT_MOST = CHECKPOINT_BYTES_MOST
 NUMBER_MOST = 2**64 - 1
 GAS_PART = 200
 CAP_WORTH = 1_100_000_000
@@ -43,12 +41,16 @@ def part_of(amount: int, rate: int) -> int:
     return amount * rate // ONE
 
 
-def sides(coll: int, debt: int, price: int, percent: int) -> Tuple[int, int]:
-    """What a ratio of collateral over debt is compared with so many percent by: it is below them where the first is
-    below the second."""
-    return coll * price * 100, percent * debt * ETHER
+def refuse(holds: object, refusal: Type[Refusal], *values: int) -> None:
+    """Raises a refusal with its values where its condition holds."""
+    if holds:
+        raise refusal(*values)
 
 
-def is_below(coll: int, debt: int, price: int, percent: int) -> bool:
-    """Whether the collateral is worth less than so many percent of the debt."""
-    return coll * price * 100 < percent * debt * ETHER
+def refuse_below(
+    refusal: Type[Refusal], coll: int, debt: int, price: int, percent: int, account: Tuple[int, ...] = ()
+) -> None:
+    """Raises a refusal with both sides, perhaps behind an account, where a ratio is below so many percent."""
+    worth, asked = coll * price * 100, percent * debt * ETHER
+    if worth < asked:
+        raise refusal(*account, worth, asked)

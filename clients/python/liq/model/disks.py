@@ -1,8 +1,8 @@
-"""Both files of a journal, as bytes: records, headers of both versions, checkpoints; and the market on them."""
+"""Both files of a journal, as bytes: records, headers of both versions, checkpoints."""
 import hashlib
-from typing import Iterable, List, Optional, Tuple
+from typing import List, Optional, Tuple
 
-from ..journal import COMMAND, FIELDS, KINDS, LIMITS, NO_HINT, Checkpoint, Command, Disk, Journal
+from ..journal import COMMAND, FIELDS, KINDS, LIMITS, NO_HINT, Checkpoint, Command
 from .state import Market
 
 
@@ -31,13 +31,6 @@ def header(version: int, generation: int, checkpoint: bytes = b"", limit: Option
     if version == 2:
         fields += big(8, LIMITS[2] if limit is None else limit)
     return b"\1" + fields + hashlib.sha256(fields + checkpoint).digest() + checkpoint
-
-
-def checkpoint_length(market: Market) -> int:
-    """How many bytes a checkpoint of the market has."""
-    wallets = sum(1 for row in market.wallets.values() if row != (0, 0))
-    length = 288 + 20 * wallets + 60 * len(market.troves) + 12 * len(market.surpluses)
-    return length + 32 * len(market.finished) + 60 * len(market.deposits) + 61 * len(market.clients)
 
 
 def checkpoint_bytes(checkpoint: Checkpoint) -> bytes:
@@ -100,21 +93,3 @@ class Disks:
         put = record(self.generation, self.index, command_bytes(command)) + b"\0"
         self.current[self.end : self.end + len(put)] = put
         self.end += len(put) - 1
-
-
-def begun_on(disk: Disk) -> Market:
-    """The market with which a file's generation begins."""
-    return Market.begun_with(disk.checkpoint) if disk.checkpoint else Market(LIMITS[disk.version])
-
-
-def market_of(commands: Iterable[Command], market: Market) -> Market:
-    """The market behind commands that were accepted."""
-    from .requests import carry_out
-    for command in commands:
-        carry_out(market, command)
-    return market
-
-
-def market_on(journal: Journal) -> Market:
-    """The market that stands on both files. Raises what refuses a record."""
-    return market_of(journal.current.commands, begun_on(journal.current))

@@ -1,71 +1,58 @@
 """Liquidation: what becomes of a trove whose ratio is too low."""
-from typing import NamedTuple, Tuple
+from typing import List
 
-from ..refusals import AmountLimit, AmountZero, LastTrove, NotLiquidatable, PoolTooSmall, SumLimit
-from .amounts import CAP_WORTH, GAS_PART, LEAST_RATIO, LOWEST_MOST, RESERVE, SUM_MOST, is_below, sides
+from ..refusals import AmountLimit, AmountZero, LastTrove, NoTrove, NotLiquidatable, PoolTooSmall, Refusal, SumLimit
+from ..replies import Liquidated
+from .amounts import CAP_WORTH, ETHER, GAS_PART, LEAST_RATIO, LOWEST_MOST, RESERVE, SUM_MOST, refuse
 from .pool import offset
-from .state import Market
-from .troves import entire, growth, lift, trove_of
+from .state import Market, Values, row_of
+from .troves import entire, growth, lift
 
 
-class Struck(NamedTuple):
-    """What becomes of one trove: the values of `liquidate`, in gwei and millionths of a LUSD."""
-
-    gas: int
-    pool_debt: int
-    pool_coll: int
-    spread_debt: int
-    spread_coll: int
-    surplus: int
-
-
-def plain(coll: int, debt: int, pool: int) -> Struck:
+def plain(coll: int, debt: int, pool: int) -> Liquidated:
     """A 200th for the liquidator; the pool takes over what it can, the other troves the rest."""
     gas = coll // GAS_PART
     rest, pool_debt = coll - gas, min(debt, pool)
     pool_coll = rest * pool_debt // debt
-    return Struck(gas, pool_debt, pool_coll, debt - pool_debt, rest - pool_coll, 0)
+    return Liquidated(gas, pool_debt, pool_coll, debt - pool_debt, rest - pool_coll, 0)
 
 
-def redistributed_whole(coll: int, debt: int) -> Struck:
+def redistributed_whole(coll: int, debt: int) -> Liquidated:
     """A 200th for the liquidator, all else for the other troves."""
     gas = coll // GAS_PART
-    return Struck(gas, 0, 0, debt, coll - gas, 0)
+    return Liquidated(gas, 0, 0, debt, coll - gas, 0)
 
 
-def capped(coll: int, debt: int, price: int) -> Struck:
+def capped(coll: int, debt: int, price: int) -> Liquidated:
     """Collateral worth 110 percent of the debt is used; the owner may claim what is left over."""
     used = debt * CAP_WORTH // price
     gas = used // GAS_PART
-    return Struck(gas, debt, used - gas, 0, 0, coll - used)
+    return Liquidated(gas, debt, used - gas, 0, 0, coll - used)
 
 
-def one_by(market: Market, account: int) -> Struck:
+def one_by(market: Market, account: int) -> Liquidated:
     """What becomes of a trove. Raises why it may not be liquidated."""
-    trove = trove_of(market, account)
-    if len(market.troves) == 1:
-        raise LastTrove(1)
-    (coll, debt), price, pool = entire(market, trove), market.price, market.pool_lusd
-    recovery, is_under = market.is_recovery(), is_below(coll, debt, price, LEAST_RATIO)
-    worth, whole = sides(coll, debt, price, 100)
-    if recovery and worth <= whole:
+    trove = row_of(market.troves, account, NoTrove)
+    refuse(len(market.troves) == 1, LastTrove, 1)
+    (coll, debt), price, pool, recovery = entire(market, trove), market.price, market.pool_lusd, market.is_recovery()
+    worth, hundredth = coll * price * 100, debt * ETHER  # worth as many percent as there are such hundredths in it
+    if recovery and worth <= 100 * hundredth:
         struck = redistributed_whole(coll, debt)
-    elif is_under:
+    elif worth < LEAST_RATIO * hundredth:
         struck = plain(coll, debt, pool)
-    elif recovery and coll * market.total_debt < market.total_coll * debt:
-        if pool < debt:
-            raise PoolTooSmall(pool, debt)
-        struck = capped(coll, debt, price)
     else:
-        raise NotLiquidatable(coll, debt, price, market.total_coll, market.total_debt)
+        is_kept = not recovery or coll * market.total_debt >= market.total_coll * debt
+        refuse(is_kept, NotLiquidatable, coll, debt, price, market.total_coll, market.total_debt)
+        refuse(pool < debt, PoolTooSmall, pool, debt)
+        struck = capped(coll, debt, price)
     others = market.stakes - trove.stake
     for reached, spread in ((market.sum_coll, struck.spread_coll), (market.sum_debt, struck.spread_debt)):
-        if reached + growth(spread, others) > SUM_MOST:
-            raise SumLimit(reached + growth(spread, others))
+        grown = reached + growth(spread, others)
+        refuse(grown > SUM_MOST, SumLimit, grown)
     return struck
 
 
-def strike(market: Market, liquidator: int, account: int, struck: Struck) -> None:
+def strike(market: Market, liquidator: int, account: int, struck: Liquidated) -> None:
     """The trove leaves, the pool offsets, the rest is redistributed, stakes are noted, and all are paid."""
     lift(market, account)
     if struck.pool_debt:
@@ -76,14 +63,12 @@ def strike(market: Market, liquidator: int, account: int, struck: Struck) -> Non
         market.default_coll += struck.spread_coll
         market.default_debt += struck.spread_debt
     market.snap_stakes, market.snap_coll = market.stakes, market.total_coll
-    if struck.surplus:
-        market.surplus += struck.surplus
-        market.surpluses[account] = market.surpluses.get(account, 0) + struck.surplus
+    market.leave(account, struck.surplus)
     market.reserve -= RESERVE
     market.pay(liquidator, struck.gas, RESERVE)
 
 
-def liquidate(market: Market, liquidator: int, account: int) -> Tuple[int, ...]:
+def liquidate(market: Market, liquidator: int, account: int) -> Values:
     """`liquidate`: one trove leaves. Gives what became of it."""
     struck = one_by(market, account)
     market.admit()
@@ -91,26 +76,21 @@ def liquidate(market: Market, liquidator: int, account: int) -> Tuple[int, ...]:
     return struck
 
 
-def liquidate_lowest(market: Market, liquidator: int, count: int) -> Tuple[int, ...]:
+def liquidate_lowest(market: Market, liquidator: int, count: int) -> Values:
     """`liquidate_lowest`: the trove at the list's end, again and again. Gives how many, and what the liquidator and
     the pool got and took over in all."""
-    if count == 0:
-        raise AmountZero()
-    if count > LOWEST_MOST:
-        raise AmountLimit(count, LOWEST_MOST)
-    if len(market.order) < 2:
-        raise LastTrove(len(market.order))
-    struck = one_by(market, market.order[-1][1])
+    refuse(count == 0, AmountZero)
+    refuse(count > LOWEST_MOST, AmountLimit, count, LOWEST_MOST)
+    refuse(len(market.order) < 2, LastTrove, len(market.order))
+    one_by(market, market.order[-1][1])
     market.admit()
-    done = gas = pool_debt = pool_coll = 0
-    while True:
-        strike(market, liquidator, market.order[-1][1], struck)
-        done, gas = done + 1, gas + struck.gas
-        pool_debt, pool_coll = pool_debt + struck.pool_debt, pool_coll + struck.pool_coll
-        if done == count:
-            break
+    done: List[Liquidated] = []
+    while len(done) < count:
         try:
             struck = one_by(market, market.order[-1][1])
-        except (LastTrove, NotLiquidatable, PoolTooSmall, SumLimit):
+        except Refusal:
             break
-    return done, gas, pool_debt, pool_coll
+        strike(market, liquidator, market.order[-1][1], struck)
+        done.append(struck)
+    gas, pool_debt, pool_coll = (sum(column) for column in list(zip(*done))[:3])
+    return len(done), gas, pool_debt, pool_coll

@@ -34,19 +34,9 @@ class Depositor:
         self.high = rounded_up(self.high * (event.total - event.debt), event.total)
         self.weight += weight_of(self.recorded, place)
 
-    @property
-    def balance_allowance(self) -> int:
-        """By how much its balance may fall short."""
-        return rounded_up(self.weight, STEP) + self.operations
-
-    @property
-    def gain_allowance(self) -> int:
-        """By how much its gain may fall short."""
-        return rounded_up(12 * self.weight, STEP) + 15 * self.operations
-
 
 def weight_of(recorded: DepositRow, place: Place) -> int:
-    """How much rounding an offset at a place may cost a recorded amount: a 10^9th for each scale between, rounded up."""
+    """How much rounding an offset may cost a recorded amount: a 10^9th of it for each scale between, rounded up."""
     if place.epoch != recorded.epoch:
         return 0
     return rounded_up(recorded.amount, STEP ** (place.scale - recorded.scale))
@@ -66,17 +56,17 @@ def depositors(events: Iterable[Event]) -> Dict[int, Depositor]:
     return dict(sorted(found.items()))
 
 
-def audit_rows(market: Market) -> List[AuditRow]:
-    """The rows of `audit`, for a market whose events were kept since its beginning."""
+def audit_text(market: Market) -> List[str]:
+    """What `audit` tells, for a market whose events were kept since its beginning."""
     rows = []
     for account, of in depositors(market.events or []).items():
         deposit = market.deposits.get(account)
         balance, gain = position(market, deposit) if deposit else (0, 0)
         rows.append(AuditRow(
-            account, of.low, of.high, balance, of.balance_allowance,
-            of.gain_low, of.gain_high, of.paid + gain, of.gain_allowance,
+            account, of.low, of.high, balance, rounded_up(of.weight, STEP) + of.operations,
+            of.gain_low, of.gain_high, of.paid + gain, rounded_up(12 * of.weight, STEP) + 15 * of.operations,
         ))
-    return rows
+    return [*(" ".join(map(str, row)) for row in rows), f"within {sum(row.holds for row in rows)} of {len(rows)}"]
 
 
 def exact_shares(events: Iterable[Event]) -> PlainLedger:

@@ -1,13 +1,11 @@
 """The Stability Pool: its product, its sums, and the position of a deposit."""
-from typing import Dict, NamedTuple, Optional, Tuple
+from typing import Dict, NamedTuple, Tuple
 
 from ..journal import DepositRow
 from ..refusals import AmountZero, NoDeposit, ShortTokens, TroveUnder
-from .amounts import LEAST_RATIO, ONE, PRODUCT_LEAST, SCALES_READ, STEP, is_below, sides
-from .state import Market, Offset, Own
+from .amounts import LEAST_RATIO, ONE, PRODUCT_LEAST, SCALES_READ, STEP, refuse, refuse_below
+from .state import Market, Offset, Own, Values, row_of
 from .troves import entire
-
-Sums = Dict[Tuple[int, int], int]
 
 
 class Place(NamedTuple):
@@ -41,7 +39,7 @@ def balance_by(deposit: DepositRow, place: Place) -> int:
     return deposit.amount * place.p // (deposit.p * STEP**rise)
 
 
-def gain_by(deposit: DepositRow, place: Place, current: int, finished: Sums) -> int:
+def gain_by(deposit: DepositRow, place: Place, current: int, finished: Dict[Tuple[int, int], int]) -> int:
     """What a deposit has gained by the sums, that of the pool's place and the finished ones."""
     grown = 0
     for rise in range(SCALES_READ):
@@ -89,37 +87,25 @@ def own(market: Market, account: int, put: int = 0, paid: int = 0, gain: int = 0
     return amount
 
 
-def deposit_of(market: Market, account: int) -> DepositRow:
-    """The deposit of an account. Raises NoDeposit."""
-    deposit = market.deposits.get(account)
-    if deposit is None:
-        raise NoDeposit(account)
-    return deposit
-
-
-def provide(market: Market, account: int, lusd: int) -> Tuple[int, ...]:
+def provide(market: Market, account: int, lusd: int) -> Values:
     """`provide`: LUSD into the pool, the gain out of it."""
-    if lusd == 0:
-        raise AmountZero()
+    refuse(lusd == 0, AmountZero)
     has = market.wallet(account)[1]
-    if has < lusd:
-        raise ShortTokens(lusd, has)
+    refuse(has < lusd, ShortTokens, lusd, has)
     market.admit()
-    deposit: Optional[DepositRow] = market.deposits.get(account)
+    deposit = market.deposits.get(account)
     balance, gain = position(market, deposit) if deposit else (0, 0)
     amount = own(market, account, lusd, 0, gain, balance)
     market.pay(account, gain, -lusd)
     return amount, gain
 
 
-def withdraw(market: Market, account: int, lusd: int) -> Tuple[int, ...]:
+def withdraw(market: Market, account: int, lusd: int) -> Values:
     """`withdraw`: LUSD, at most the balance, and the gain out of the pool."""
-    deposit = deposit_of(market, account)
+    deposit = row_of(market.deposits, account, NoDeposit)
     if lusd and market.order:
         lowest = market.order[-1][1]
-        coll, debt = entire(market, market.troves[lowest])
-        if is_below(coll, debt, market.price, LEAST_RATIO):
-            raise TroveUnder(lowest, *sides(coll, debt, market.price, LEAST_RATIO))
+        refuse_below(TroveUnder, *entire(market, market.troves[lowest]), market.price, LEAST_RATIO, (lowest,))
     market.admit()
     balance, gain = position(market, deposit)
     paid = min(lusd, balance)

@@ -1,6 +1,6 @@
 """The base rate and fees."""
 from ..refusals import FeeBound, FeeOver
-from .amounts import DECAY, FLOOR_RATE, MAX_BORROW_RATE, ONE, part_of
+from .amounts import DECAY, FLOOR_RATE, MAX_BORROW_RATE, ONE, part_of, refuse
 from .state import Market
 
 
@@ -17,7 +17,7 @@ def power_of(base: int, exponent: int) -> int:
 
 def decayed(base_rate: int, minutes: int) -> int:
     """What so many minutes leave of a base rate."""
-    return part_of(base_rate, power_of(DECAY, minutes))
+    return part_of(base_rate, power_of(DECAY, minutes)) if base_rate else 0
 
 
 def risen(base_rate: int, redeemed: int, supply: int) -> int:
@@ -37,24 +37,20 @@ def redeem_rate(base_rate: int) -> int:
 
 def base_rate_now(market: Market) -> int:
     """What is left of the base rate."""
-    if market.base_rate == 0:
-        return 0
     return decayed(market.base_rate, market.minute - market.fee_minute)
 
 
-def set_base_rate(market: Market, base_rate: int) -> None:
-    """Notes a base rate as of now."""
-    market.base_rate, market.fee_minute = base_rate, market.minute
+def fee_now(market: Market, lusd: int) -> int:
+    """The fee of borrowing so much; Recovery Mode waives it."""
+    return 0 if market.is_recovery() else part_of(lusd, borrow_rate(base_rate_now(market)))
 
 
 def check_bound(bound: int, is_waived: bool = False) -> None:
     """Raises FeeBound where the greatest fee that is accepted lies outside its range."""
     least = 0 if is_waived else FLOOR_RATE
-    if not least <= bound <= ONE:
-        raise FeeBound(bound, least)
+    refuse(not least <= bound <= ONE, FeeBound, bound, least)
 
 
 def check_fee(fee: int, bound: int, amount: int) -> None:
     """Raises FeeOver where the fee is a greater part of the amount than the bound."""
-    if fee * ONE > bound * amount:
-        raise FeeOver(fee * ONE, bound * amount)
+    refuse(fee * ONE > bound * amount, FeeOver, fee * ONE, bound * amount)

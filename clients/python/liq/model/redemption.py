@@ -2,9 +2,9 @@
 from typing import List, NamedTuple, Tuple
 
 from ..refusals import AmountZero, Bootstrap, FeeEatsAll, NothingRedeemed, NoSurplus, ShortTokens, SystemUnder
-from .amounts import BOOTSTRAP, ETHER, LEAST_NET_DEBT, LEAST_RATIO, RESERVE, is_below, part_of, sides
-from .rate import base_rate_now, check_bound, check_fee, redeem_rate, risen, set_base_rate
-from .state import Fee, Market
+from .amounts import BOOTSTRAP, ETHER, LEAST_NET_DEBT, LEAST_RATIO, RESERVE, part_of, refuse, refuse_below
+from .rate import base_rate_now, check_bound, check_fee, redeem_rate, risen
+from .state import Fee, Market, Values
 from .troves import entire, lift, place
 
 
@@ -31,7 +31,7 @@ def cuts_of(market: Market, lusd: int) -> Tuple[List[Cut], int]:
         if left == 0:
             break
         coll, debt = entire(market, market.troves[account])
-        if is_below(coll, debt, market.price, LEAST_RATIO):
+        if coll * market.price * 100 < LEAST_RATIO * debt * ETHER:
             continue
         first = first or debt - RESERVE
         taken = min(left, debt - RESERVE)
@@ -47,27 +47,20 @@ def cuts_of(market: Market, lusd: int) -> Tuple[List[Cut], int]:
     return cuts, first
 
 
-def redeem(market: Market, account: int, lusd: int, bound: int) -> Tuple[int, ...]:
+def redeem(market: Market, account: int, lusd: int, bound: int) -> Values:
     """`redeem`: LUSD burned, collateral drawn. Gives both, the fee in the latter, and the new base rate."""
-    if lusd == 0:
-        raise AmountZero()
+    refuse(lusd == 0, AmountZero)
     check_bound(bound)
-    if market.minute < BOOTSTRAP:
-        raise Bootstrap(market.minute, BOOTSTRAP)
-    coll, supply, price = market.total_coll, market.total_debt, market.price
-    if is_below(coll, supply, price, LEAST_RATIO):
-        raise SystemUnder(*sides(coll, supply, price, LEAST_RATIO))
-    has = market.wallet(account)[1]
-    if has < lusd:
-        raise ShortTokens(lusd, has)
+    refuse(market.minute < BOOTSTRAP, Bootstrap, market.minute, BOOTSTRAP)
+    supply, has = market.total_debt, market.wallet(account)[1]
+    refuse_below(SystemUnder, market.total_coll, supply, market.price, LEAST_RATIO)
+    refuse(has < lusd, ShortTokens, lusd, has)
     cuts, first = cuts_of(market, lusd)
-    if not cuts:
-        raise NothingRedeemed(lusd, first)
+    refuse(not cuts, NothingRedeemed, lusd, first)
     redeemed, drawn = sum(cut.taken for cut in cuts), sum(cut.drawn for cut in cuts)
     base_rate = risen(base_rate_now(market), redeemed, supply)
     fee = part_of(drawn, redeem_rate(base_rate))
-    if fee >= drawn:
-        raise FeeEatsAll(fee, drawn)
+    refuse(fee >= drawn, FeeEatsAll, fee, drawn)
     check_fee(fee, bound, drawn)
     market.admit()
     for cut in cuts:
@@ -75,12 +68,10 @@ def redeem(market: Market, account: int, lusd: int, bound: int) -> Tuple[int, ..
         left = cut.coll - cut.drawn
         if cut.is_whole:
             market.reserve -= RESERVE
-            if left:
-                market.surplus += left
-                market.surpluses[cut.account] = market.surpluses.get(cut.account, 0) + left
+            market.leave(cut.account, left)
         else:
             place(market, cut.account, left, cut.debt - cut.taken)
-    set_base_rate(market, base_rate)
+    market.base_rate, market.fee_minute = base_rate, market.minute
     market.fee_coll += fee
     if fee:
         market.tell(Fee(market.records, fee, 0))
@@ -88,11 +79,10 @@ def redeem(market: Market, account: int, lusd: int, bound: int) -> Tuple[int, ..
     return redeemed, drawn, fee, base_rate
 
 
-def claim(market: Market, account: int) -> Tuple[int, ...]:
+def claim(market: Market, account: int) -> Values:
     """`claim`: the surplus into the wallet."""
     coll = market.surpluses.get(account, 0)
-    if coll == 0:
-        raise NoSurplus(account)
+    refuse(coll == 0, NoSurplus, account)
     market.admit()
     del market.surpluses[account]
     market.surplus -= coll

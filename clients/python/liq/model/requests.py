@@ -1,20 +1,19 @@
 """Requests: the grammar of lines, the step of the rules, and the text of a reply."""
 import re
-from typing import Callable, Dict, Iterable, Iterator, List, NamedTuple, Optional, Tuple, Union
+from typing import Callable, Dict, Iterable, Iterator, List, NamedTuple, Tuple, Union
 
-from ..journal import NO_HINT, VERBS, Command, KeptReply
+from ..journal import CHECKPOINT_BYTES_MOST, NO_HINT, VERBS, Command, KeptReply
 from ..refusals import (
     AccountRange, AmountLimit, AmountZero, OutOfTurn, PriceRange, Refusal, ShortCollateral, ShortTokens,
 )
-from .amounts import (
-    ACCOUNTS, CHECKPOINT_MOST, GENERATIONS_MOST, LIMIT, MINUTE_MOST, NUMBER_MOST, PRICE_LEAST, PRICE_MOST,
-)
+from ..replies import Pools
+from .amounts import ACCOUNTS, GENERATIONS_MOST, LIMIT, MINUTE_MOST, NUMBER_MOST, PRICE_LEAST, PRICE_MOST, refuse
 from .borrowing import adjust, close, gain_to_trove, open_trove
-from .disks import checkpoint_length
+from .disks import checkpoint_bytes
 from .liquidation import liquidate, liquidate_lowest
 from .pool import position, provide, withdraw
 from .redemption import claim, redeem
-from .state import Market
+from .state import Market, Values
 from .troves import entire
 
 LINE_BYTES_MOST = 200
@@ -44,6 +43,14 @@ def read_number(word: str, most: int = NUMBER_MOST) -> int:
     return int(word)
 
 
+def read_words(line: str, at: int, *verbs: str) -> List[str]:
+    """The four words of a line, of which one is such a verb. Raises NoRequest."""
+    words = line.split(" ")
+    if len(line) > LINE_BYTES_MOST or len(words) != 4 or words[at] not in verbs:
+        raise NoRequest(line)
+    return words
+
+
 def read_request(line: str) -> Union[Command, Query]:
     """What a line asks for. Raises NoRequest."""
     words = line.split(" ")
@@ -57,94 +64,76 @@ def read_request(line: str) -> Union[Command, Query]:
     if shape is None or len(shape) != len(words) - 3:
         raise NoRequest(line)
     client, number = read_number(words[0], NO_HINT), read_number(words[1])
-    accounts: List[int] = []
-    amounts: List[int] = []
-    hints: List[Optional[int]] = []
+    found: Dict[str, List[int]] = {"a": [], "v": [], "h": []}
     for letter, word in zip(shape, words[3:]):
-        if letter == "v":
-            amounts.append(read_number(word))
-        elif letter == "a":
-            accounts.append(read_number(word, NO_HINT))
-        else:
-            hint = None if word == "-" else read_number(word, NO_HINT)
-            hints.append(None if hint == NO_HINT else hint)
-    return Command(client, number, words[2], tuple(accounts), tuple(amounts), tuple(hints))
+        is_none = letter == "h" and word == "-"
+        found[letter].append(NO_HINT if is_none else read_number(word, NUMBER_MOST if letter == "v" else NO_HINT))
+    hints = tuple([None if hint == NO_HINT else hint for hint in found["h"]])
+    return Command(client, number, words[2], tuple(found["a"]), tuple(found["v"]), hints)
 
 
 # ---- the verbs of no other part
 
 
-def set_price(market: Market, price: int) -> Tuple[int, ...]:
+def set_price(market: Market, price: int) -> Values:
     """`price`: the price."""
-    if not PRICE_LEAST <= price <= PRICE_MOST:
-        raise PriceRange(price)
+    refuse(not PRICE_LEAST <= price <= PRICE_MOST, PriceRange, price)
     market.admit()
     market.price = price
     return ()
 
 
-def advance(market: Market, minutes: int) -> Tuple[int, ...]:
+def advance(market: Market, minutes: int) -> Values:
     """`advance`: minutes pass. Gives the new minute."""
-    if minutes == 0:
-        raise AmountZero()
-    if market.minute + minutes > MINUTE_MOST:
-        raise AmountLimit(market.minute + minutes, MINUTE_MOST)
+    refuse(minutes == 0, AmountZero)
+    refuse(market.minute + minutes > MINUTE_MOST, AmountLimit, market.minute + minutes, MINUTE_MOST)
     market.admit()
     market.minute += minutes
     return (market.minute,)
 
 
-def fund(market: Market, account: int, coll: int) -> Tuple[int, ...]:
+def fund(market: Market, account: int, coll: int) -> Values:
     """`fund`: collateral into a wallet."""
-    if coll == 0:
-        raise AmountZero()
-    if market.brought + coll > market.limit:
-        raise AmountLimit(market.brought + coll, market.limit)
+    refuse(coll == 0, AmountZero)
+    refuse(market.brought + coll > market.limit, AmountLimit, market.brought + coll, market.limit)
     market.admit()
     market.brought += coll
     market.pay(account, coll)
     return ()
 
 
-def take(market: Market, account: int, coll: int) -> Tuple[int, ...]:
+def take(market: Market, account: int, coll: int) -> Values:
     """`take`: collateral out of a wallet."""
-    if coll == 0:
-        raise AmountZero()
+    refuse(coll == 0, AmountZero)
     has = market.wallet(account)[0]
-    if has < coll:
-        raise ShortCollateral(coll, has)
+    refuse(has < coll, ShortCollateral, coll, has)
     market.admit()
     market.brought -= coll
     market.pay(account, -coll)
     return ()
 
 
-def send(market: Market, payer: int, payee: int, lusd: int) -> Tuple[int, ...]:
+def send(market: Market, payer: int, payee: int, lusd: int) -> Values:
     """`send`: LUSD from one wallet to another."""
-    if lusd == 0:
-        raise AmountZero()
+    refuse(lusd == 0, AmountZero)
     has = market.wallet(payer)[1]
-    if has < lusd:
-        raise ShortTokens(lusd, has)
+    refuse(has < lusd, ShortTokens, lusd, has)
     market.admit()
     market.pay(payer, 0, -lusd)
     market.pay(payee, 0, lusd)
     return ()
 
 
-def rotate(market: Market) -> Tuple[int, ...]:
+def rotate(market: Market) -> Values:
     """`rotate`: the next generation, without records, under the limit of today. Gives its number."""
-    if market.generation >= GENERATIONS_MOST:
-        raise AmountLimit(market.generation + 1, GENERATIONS_MOST)
-    if checkpoint_length(market) > CHECKPOINT_MOST:
-        raise AmountLimit(checkpoint_length(market), CHECKPOINT_MOST)
-    market.generation += 1
-    market.records = 0
-    market.limit = LIMIT
-    return (market.generation,)
+    following, length = market.generation + 1, len(checkpoint_bytes(market.checkpoint()))
+    refuse(following > GENERATIONS_MOST, AmountLimit, following, GENERATIONS_MOST)
+    refuse(length > CHECKPOINT_BYTES_MOST, AmountLimit, length, CHECKPOINT_BYTES_MOST)
+    market.generation, market.records, market.limit = following, 0, LIMIT
+    return (following,)
 
 
-Verb = Callable[..., Tuple[int, ...]]
+Verb = Callable[..., Values]
 BY_VERB: Dict[str, Verb] = {
     "price": set_price, "advance": advance, "fund": fund, "take": take, "send": send, "open": open_trove,
     "adjust": adjust, "close": close, "provide": provide, "withdraw": withdraw, "gain_to_trove": gain_to_trove,
@@ -158,8 +147,7 @@ BY_VERB: Dict[str, Verb] = {
 def check_accounts(accounts: Iterable[int]) -> None:
     """Raises AccountRange of the first account or client that is out of range."""
     for account in accounts:
-        if account >= ACCOUNTS:
-            raise AccountRange(account)
+        refuse(account >= ACCOUNTS, AccountRange, account)
 
 
 def next_number(market: Market, client: int) -> int:
@@ -172,24 +160,21 @@ def is_repeated(market: Market, command: Command) -> bool:
     return command.client in market.clients and market.clients[command.client].last == command.number
 
 
-def carry_out(market: Market, command: Command) -> Tuple[int, ...]:
+def carry_out(market: Market, command: Command) -> Values:
     """The values of a command's reply, which may be kept ones. Raises its refusal; then the market is as it was."""
     client, number, verb, accounts, amounts, _ = command
-    if client >= ACCOUNTS:
-        raise AccountRange(client)
-    kept = market.clients.get(client)
-    if kept is not None and kept.last == number:
-        return kept.values
-    expected = kept.last + 1 if kept is not None else 1
-    if number != expected:
-        raise OutOfTurn(expected)
+    check_accounts((client,))
+    if is_repeated(market, command):
+        return market.clients[client].values
+    expected = next_number(market, client)
+    refuse(number != expected, OutOfTurn, expected)
     check_accounts(accounts)
     values = BY_VERB[verb](market, *accounts, *amounts)
     market.clients[client] = KeptReply(number, verb, tuple(values))
     return values
 
 
-def ask(market: Market, query: Query) -> Tuple[int, ...]:
+def ask(market: Market, query: Query) -> Values:
     """The numbers of the reply to a query; none where it is `none`. Raises AccountRange."""
     name, accounts = query
     check_accounts(accounts)
@@ -206,15 +191,12 @@ def ask(market: Market, query: Query) -> Tuple[int, ...]:
     return pools(market) if name == "pools" else system(market)
 
 
-def pools(market: Market) -> Tuple[int, ...]:
+def pools(market: Market) -> Values:
     """The ten words of `? pools`."""
-    return (
-        market.active_coll, market.active_debt, market.default_coll, market.default_debt, market.reserve,
-        market.surplus, market.fee_coll, market.fee_lusd, market.pool_lusd, market.pool_coll,
-    )
+    return tuple([getattr(market, name) for name in Pools._fields])
 
 
-def system(market: Market) -> Tuple[int, ...]:
+def system(market: Market) -> Values:
     """The ten words of `? system`."""
     return (
         market.price, market.minute, market.base_rate, market.fee_minute, int(market.is_recovery()),

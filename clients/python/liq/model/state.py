@@ -2,11 +2,13 @@
 
 The names are those of `liq.journal.Checkpoint`, which is the same as a tuple.
 """
-from typing import Any, Dict, List, NamedTuple, Optional, Tuple, Union
+from typing import Any, Dict, List, NamedTuple, Optional, Tuple, Type, TypeVar, Union
 
 from ..journal import VERBS, Checkpoint, DepositRow, KeptReply, TroveRow
-from ..refusals import JournalFull
-from .amounts import CRITICAL_RATIO, LIMIT, LIMIT_OF_VERSION_1, ONE, PRICE_OPENING, RECORDS_MOST, is_below
+from ..refusals import JournalFull, Refusal
+from .amounts import (
+    CRITICAL_RATIO, ETHER, LIMIT, LIMIT_OF_VERSION_1, ONE, PRICE_OPENING, RECORDS_MOST, refuse,
+)
 
 
 class Own(NamedTuple):
@@ -40,11 +42,19 @@ class Fee(NamedTuple):
 
 
 Event = Union[Own, Offset, Fee]
+Row = TypeVar("Row")
+Values = Tuple[int, ...]  # of a reply
 WORDS = tuple(name for name in Checkpoint._fields if name != "version")[:25]
 VALUES = {  # how many values stand behind `ok`
     **dict.fromkeys(VERBS, 0), "advance": 1, "open": 2, "adjust": 3, "close": 2, "provide": 2, "withdraw": 2,
     "gain_to_trove": 2, "liquidate": 6, "liquidate_lowest": 4, "redeem": 4, "claim": 1, "rotate": 1,
 }
+
+
+def row_of(table: Dict[int, Row], account: int, refusal: Type[Refusal]) -> Row:
+    """The row that an account has in a table. Raises the refusal where it has none."""
+    refuse(account not in table, refusal, account)
+    return table[account]
 
 
 class Market:
@@ -80,15 +90,14 @@ class Market:
         market.wallets, market.troves = dict(checkpoint.wallets), dict(checkpoint.troves)
         market.surpluses, market.finished = dict(checkpoint.surpluses), dict(checkpoint.finished)
         market.deposits = dict(checkpoint.deposits)
-        for client, (last, verb, values) in checkpoint.clients.items():
-            market.clients[client] = KeptReply(last, verb, values[: VALUES[verb]])
+        for client, row in checkpoint.clients.items():
+            market.clients[client] = row._replace(values=row.values[: VALUES[row.verb]])
         market.order = sorted((trove.key, account) for account, trove in market.troves.items())
         return market
 
     def checkpoint(self) -> Checkpoint:
         """The market as a checkpoint. Its tables ascend, and have no empty rows."""
         words: Dict[str, Any] = {name: getattr(self, name) for name in WORDS}
-        kept = {client: (last, verb, (*values, *(0,) * 6)[:6]) for client, (last, verb, values) in self.clients.items()}
         return Checkpoint(
             2 if self.limit == LIMIT else 1, **words,
             wallets={account: row for account, row in sorted(self.wallets.items()) if any(row)},
@@ -96,7 +105,10 @@ class Market:
             surpluses=dict(sorted(self.surpluses.items())),
             finished=dict(sorted(self.finished.items())),
             deposits=dict(sorted(self.deposits.items())),
-            clients={client: KeptReply(*row) for client, row in sorted(kept.items())},
+            clients={
+                client: row._replace(values=(*row.values, 0, 0, 0, 0, 0, 0)[:6])
+                for client, row in sorted(self.clients.items())
+            },
         )
 
     # ---- totals and the mode
@@ -113,9 +125,10 @@ class Market:
 
     def is_recovery(self) -> bool:
         """Whether it is Recovery Mode: all collateral is worth less than 150 percent of all debt."""
-        return is_below(self.total_coll, self.total_debt, self.price, CRITICAL_RATIO)
+        debt, coll = self.active_debt + self.default_debt, self.active_coll + self.default_coll
+        return coll * self.price * 100 < CRITICAL_RATIO * debt * ETHER
 
-    # ---- wallets
+    # ---- wallets and the surplus
 
     def wallet(self, account: int) -> Tuple[int, int]:
         """The collateral and the LUSD of an account."""
@@ -126,12 +139,17 @@ class Market:
         has_coll, has_lusd = self.wallets.get(account, (0, 0))
         self.wallets[account] = has_coll + coll, has_lusd + lusd
 
+    def leave(self, owner: int, coll: int) -> None:
+        """Collateral that an owner may claim."""
+        if coll:
+            self.surplus += coll
+            self.surpluses[owner] = self.surpluses.get(owner, 0) + coll
+
     # ---- what a command that is allowed does beside its effect
 
     def admit(self) -> None:
         """Counts a command that its verb allows. Raises JournalFull where the generation has as many as it takes."""
-        if self.records >= RECORDS_MOST:
-            raise JournalFull(self.records)
+        refuse(self.records >= RECORDS_MOST, JournalFull, self.records)
         self.records += 1
 
     def tell(self, event: Event) -> None:

@@ -1,16 +1,25 @@
-"""What the program's other words tell: `state`, `report`, `audit`, `follow`, `gen`, and `serve` along its history."""
+"""A journal's market, and what the words `state`, `report`, `follow` and `gen` tell. `serve` is answered as `run` is,
+in the order of its history."""
 import json
-from typing import Dict, Iterable, Iterator, List, Sequence, Tuple
+from typing import Iterator, List
 
-from ..journal import HEADER_BYTES, RECORD_BYTES, Command, read_command
-from .amounts import LIMIT, LIMIT_OF_VERSION_1, ONE
-from .owed import audit_rows
+from ..journal import HEADER_BYTES, LIMITS, RECORD_BYTES, Command, Disk, read_command
+from .amounts import ONE
 from .pool import position
-from .requests import SYSTEM, answer, carry_out, pools, reply_to, system
+from .requests import SYSTEM, carry_out, pools, reply_to, system
 from .state import Market, Offset
 from .troves import entire
 
 GENERATED_ACCOUNTS = 50
+
+
+def market_on(disk: Disk, keeps_events: bool = False) -> Market:
+    """The market that stands on a file. Raises what refuses a record."""
+    market = Market.begun_with(disk.checkpoint) if disk.checkpoint else Market(LIMITS[disk.version])
+    market.events = [] if keeps_events else None
+    for command in disk.commands:
+        carry_out(market, command)
+    return market
 
 
 def state_text(market: Market) -> List[str]:
@@ -40,18 +49,11 @@ def report_text(market: Market) -> str:
     return json.dumps(told, separators=(",", ":"), sort_keys=True)
 
 
-def audit_text(market: Market) -> List[str]:
-    """What `audit` tells, for a market whose events were kept since its beginning."""
-    rows = audit_rows(market)
-    within = sum(row.holds for row in rows)
-    return [*(" ".join(map(str, row)) for row in rows), f"within {within} of {len(rows)}"]
-
-
 def follow_text(data: bytes) -> List[str]:
     """What `follow` tells of whole bytes that begin a journal of the first generation."""
     market, at = Market(), HEADER_BYTES.get(data[1:9], 65)
     if data[:1] == b"\1" and len(data) >= at:
-        market.limit = LIMIT if at == 65 else LIMIT_OF_VERSION_1
+        market.limit = LIMITS[2 if at == 65 else 1]
         while data[at : at + 1] == b"\1" and len(data) >= at + RECORD_BYTES:
             command = read_command(data[at + 1 : at + 97])
             assert command
@@ -78,30 +80,25 @@ def generated(seed: int, count: int) -> Iterator[Command]:
 
     for _ in range(count):
         kind, a, v = draw() % 16, 1 + draw() % GENERATED_ACCOUNTS, draw()
-        verb, accounts, amounts = drawn_call(kind, a, v)
+        verb, accounts, amounts = (
+            ("price", (), (300_000_000 + v % 900_000_000,)),
+            ("advance", (), (1 + v % 600,)),
+            ("open", (a,), (10**11, 2_000_000_000 + v, ONE)),
+            ("adjust", (a,), (0, 0, v, 0, ONE)),
+            ("adjust", (a,), (0, 0, 0, v, 0)),
+            ("adjust", (a,), (v, 0, 0, 0, 0)),
+            ("adjust", (a,), (0, v, 0, 0, 0)),
+            ("close", (a,), ()),
+            ("provide", (a,), (1 + v,)),
+            ("withdraw", (a,), (v,)),
+            ("gain_to_trove", (a,), ()),
+            ("liquidate", (1000, a), ()),
+            ("liquidate_lowest", (1000,), (1 + v % 64,)),
+            ("redeem", (a,), (1 + v, ONE)),
+            ("claim", (a,), ()),
+            ("send", (a, 1 + v % GENERATED_ACCOUNTS), (1 + v,)),
+        )[kind]
         yield Command(1, 0, verb, accounts, amounts, ())
-
-
-def drawn_call(kind: int, a: int, v: int) -> Tuple[str, Tuple[int, ...], Tuple[int, ...]]:
-    """A drawn call: its verb, accounts and amounts."""
-    return (
-        ("price", (), (300_000_000 + v % 900_000_000,)),
-        ("advance", (), (1 + v % 600,)),
-        ("open", (a,), (10**11, 2_000_000_000 + v, ONE)),
-        ("adjust", (a,), (0, 0, v, 0, ONE)),
-        ("adjust", (a,), (0, 0, 0, v, 0)),
-        ("adjust", (a,), (v, 0, 0, 0, 0)),
-        ("adjust", (a,), (0, v, 0, 0, 0)),
-        ("close", (a,), ()),
-        ("provide", (a,), (1 + v,)),
-        ("withdraw", (a,), (v,)),
-        ("gain_to_trove", (a,), ()),
-        ("liquidate", (1000, a), ()),
-        ("liquidate_lowest", (1000,), (1 + v % 64,)),
-        ("redeem", (a,), (1 + v, ONE)),
-        ("claim", (a,), ()),
-        ("send", (a, 1 + v % GENERATED_ACCOUNTS), (1 + v,)),
-    )[kind]
 
 
 def gen_text(seed: int, count: int) -> str:
@@ -118,18 +115,3 @@ def gen_text(seed: int, count: int) -> str:
         f"accepted {accepted} refused {refused} offsets {offsets} epochs {market.epoch} scale {market.scale} "
         f"p {market.p} total {market.pool_lusd} coll {market.pool_coll} supply {market.total_debt}"
     )
-
-
-# ---- serve
-
-
-def replies_along(
-    market: Market, scripts: Dict[int, Sequence[str]], history: Iterable[Tuple[int, int]]
-) -> Dict[int, List[str]]:
-    """The replies of each session where the calls, each a session and a count from 1, are made in this order."""
-    replies: Dict[int, List[str]] = {session: [] for session in scripts}
-    for session, call in history:
-        if call != len(replies[session]) + 1:
-            raise ValueError(f"call {call} of session {session} is out of order")
-        replies[session].append(answer(market, scripts[session][call - 1]))
-    return replies

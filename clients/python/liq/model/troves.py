@@ -3,7 +3,6 @@ from bisect import bisect_left, insort
 from typing import Tuple
 
 from ..journal import TroveRow
-from ..refusals import NoTrove
 from .amounts import ONE
 from .state import Market
 
@@ -23,14 +22,6 @@ def entire(market: Market, trove: TroveRow) -> Tuple[int, int]:
     """A trove's collateral and debt with what is pending."""
     coll, debt = pending(market, trove)
     return trove.coll + coll, trove.debt + debt
-
-
-def trove_of(market: Market, account: int) -> TroveRow:
-    """The trove of an account. Raises NoTrove."""
-    trove = market.troves.get(account)
-    if trove is None:
-        raise NoTrove(account)
-    return trove
 
 
 def stake_by(coll: int, snap_stakes: int, snap_coll: int) -> int:
