@@ -151,8 +151,8 @@ def check_accounts(accounts: Iterable[int]) -> None:
 
 
 def next_number(market: Market, client: int) -> int:
-    """The number of a client's next new command."""
-    return market.clients[client].last + 1 if client in market.clients else 1
+    """The number of a client's next new command; behind the greatest one there is none, and it stays."""
+    return min(market.clients[client].last + 1, NUMBER_MOST) if client in market.clients else 1
 
 
 def is_repeated(market: Market, command: Command) -> bool:
