@@ -2,7 +2,6 @@
 import os
 import subprocess
 import sys
-import unittest
 from pathlib import Path
 
 from liq import Journal, journal
@@ -73,7 +72,6 @@ class Bounded(InFolder):
         self.assertGreater(len(read_file("/proc/self/status")), 100)
 
 
-@unittest.skipIf(sys.version_info < (3, 10), "scripts/forge wants Python 3.10")
 class OfForge(InFolder):
     """Cases over files that scripts/forge makes."""
 
