@@ -3,32 +3,23 @@
 Debt and LUSD are in millionths, collateral is in gwei, a price in millionths of a LUSD for one ether, time in minutes.
 Rates, products and sums are over `ONE`.
 """
-from typing import Tuple, Type
+from typing import Type
 
 from ..journal import LIMITS
 from ..refusals import Refusal
 
 ONE = 10**18
-ETHER = 10**9
-STEP = 10**9  # of the scale
+ETHER, STEP = 10**9, 10**9  # gwei for one ether; one step of the scale
 LIMIT_OF_VERSION_1, LIMIT = LIMITS[1], LIMITS[2]
 PRICE_LEAST, PRICE_MOST, PRICE_OPENING = 10**8, 10**12, 10**9
-MINUTE_MOST = 10**12
 LEAST_RATIO, CRITICAL_RATIO = 110, 150
 RESERVE, LEAST_NET_DEBT = 200_000_000, 1_800_000_000
 FLOOR_RATE, MAX_BORROW_RATE = 5 * 10**15, 5 * 10**16
-DECAY = 999037758833783000
-BOOTSTRAP = 20_160
-PRODUCT_LEAST = 10**9
-SUM_MOST = 10**37
-ACCOUNTS = 2**20
-LOWEST_MOST = 64
-RECORDS_MOST = 1_000_000
-GENERATIONS_MOST = 2**36
-NUMBER_MOST = 2**64 - 1
-GAS_PART = 200
-CAP_WORTH = 1_100_000_000
-SCALES_READ = 4
+DECAY, BOOTSTRAP, MINUTE_MOST = 999037758833783000, 20_160, 10**12
+PRODUCT_LEAST, SUM_MOST, SCALES_READ = 10**9, 10**37, 4
+ACCOUNTS, LOWEST_MOST = 2**20, 64
+RECORDS_MOST, GENERATIONS_MOST, NUMBER_MOST = 1_000_000, 2**36, 2**64 - 1
+GAS_PART, CAP_WORTH = 200, 1_100_000_000
 
 
 def rounded_up(amount: int, divisor: int) -> int:
@@ -47,10 +38,7 @@ def refuse(holds: object, refusal: Type[Refusal], *values: int) -> None:
         raise refusal(*values)
 
 
-def refuse_below(
-    refusal: Type[Refusal], coll: int, debt: int, price: int, percent: int, account: Tuple[int, ...] = ()
-) -> None:
+def refuse_below(refusal: Type[Refusal], coll: int, debt: int, price: int, percent: int, *front: int) -> None:
     """Raises a refusal with both sides, perhaps behind an account, where a ratio is below so many percent."""
     worth, asked = coll * price * 100, percent * debt * ETHER
-    if worth < asked:
-        raise refusal(*account, worth, asked)
+    refuse(worth < asked, refusal, *front, worth, asked)

@@ -8,6 +8,8 @@ from .amounts import ONE, STEP, rounded_up
 from .pool import Place, place_after, position
 from .state import Event, Market, Offset, Own
 
+OFFSET_COLL_MOST, OFFSETS_MOST, DEPOSITORS_MOST = 10**19, 10_000, 1_000
+
 
 class Depositor:
     """What is known of a depositor beside the protocol: its share from below and from above, its weight, and how
@@ -56,9 +58,19 @@ def depositors(events: Iterable[Event]) -> Dict[int, Depositor]:
     return dict(sorted(found.items()))
 
 
+def audit_limit(events: Iterable[Event]) -> int:
+    """The first number that is above a limit of `audit`: gwei of all offsets, offsets, depositors; 0 where none is."""
+    offsets = [event.coll for event in events if isinstance(event, Offset)]
+    accounts = {event.account for event in events if isinstance(event, Own)}
+    limited = ((sum(offsets), OFFSET_COLL_MOST), (len(offsets), OFFSETS_MOST), (len(accounts), DEPOSITORS_MOST))
+    return next((found for found, most in limited if found > most), 0)
+
+
 def audit_text(market: Market) -> List[str]:
     """What `audit` tells, for a market whose events were kept since its beginning."""
-    rows = []
+    rows, limit = [], audit_limit(market.events or [])
+    if limit:
+        return [f"limit {limit}"]
     for account, of in depositors(market.events or []).items():
         deposit = market.deposits.get(account)
         balance, gain = position(market, deposit) if deposit else (0, 0)

@@ -105,7 +105,7 @@ def withdraw(market: Market, account: int, lusd: int) -> Values:
     deposit = row_of(market.deposits, account, NoDeposit)
     if lusd and market.order:
         lowest = market.order[-1][1]
-        refuse_below(TroveUnder, *entire(market, market.troves[lowest]), market.price, LEAST_RATIO, (lowest,))
+        refuse_below(TroveUnder, *entire(market, market.troves[lowest]), market.price, LEAST_RATIO, lowest)
     market.admit()
     balance, gain = position(market, deposit)
     paid = min(lusd, balance)

@@ -6,9 +6,7 @@ from typing import Any, Dict, List, NamedTuple, Optional, Tuple, Type, TypeVar, 
 
 from ..journal import VERBS, Checkpoint, DepositRow, KeptReply, TroveRow
 from ..refusals import JournalFull, Refusal
-from .amounts import (
-    CRITICAL_RATIO, ETHER, LIMIT, LIMIT_OF_VERSION_1, ONE, PRICE_OPENING, RECORDS_MOST, refuse,
-)
+from .amounts import CRITICAL_RATIO, ETHER, LIMIT, LIMIT_OF_VERSION_1, ONE, PRICE_OPENING, RECORDS_MOST, refuse
 
 
 class Own(NamedTuple):
