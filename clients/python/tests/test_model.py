@@ -8,7 +8,7 @@ from fractions import Fraction
 from typing import Iterator, List, Tuple
 
 from liq import Journal, refusals
-from liq.journal import KeptReply
+from liq.journal import DepositRow, KeptReply
 from liq.model import Disks, Fee, Market, NoRequest, Offset, Own, answer, market_on, read_request, run
 from liq.model.amounts import NUMBER_MOST, ONE, SUM_MOST
 from liq.model.beside import exact_fees, exact_rewards, rewards_text, staking_text
@@ -111,7 +111,8 @@ class ByHand(unittest.TestCase):
 
     def test_the_base_rate(self) -> None:
         # 999037758833783000 squared is 998076443575627962.57..: to the nearest, and not down
-        self.assertEqual([power_of(999037758833783000, n) for n in (0, 1, 2)], [ONE, 999037758833783000, 998076443575627963])
+        self.assertEqual(power_of(999037758833783000, 2), 998076443575627963)
+        self.assertEqual([power_of(999037758833783000, minutes) for minutes in (0, 1)], [ONE, 999037758833783000])
         self.assertEqual(decayed(ONE, 10**12), 0)
         self.assertEqual((decayed(ONE, 720) + 5 * 10**12) // 10**13, 50000)  # it halves in 12 hours
         self.assertEqual((risen(ONE, 1, 1), risen(0, 1, 4)), (ONE, ONE // 8))
@@ -127,8 +128,7 @@ class ByHand(unittest.TestCase):
 
     def test_a_gain_over_scales(self) -> None:
         """Each of four scales is rounded down for itself, and the next one is out of reach."""
-        market = market_behind()
-        market.deposits[1] = deposit = read_row(3, ONE, 0, 0, 0)
+        deposit = DepositRow(3, ONE, 0, 0, 0)
         sums = {(0, 0): ONE // 2, (0, 1): ONE * 10**9 // 2, (0, 4): ONE * 10**36, (1, 1): ONE}
         self.assertEqual(gain_by(deposit, Place(ONE, 5, 0), 7, sums), 1 + 1)
 
@@ -156,19 +156,18 @@ class ByHand(unittest.TestCase):
             "1 1 fund 1 8440000000", f"1 2 open 1 8440000000 4000000000 {ANY} - -",
             "1 3 fund 2 42200000000", f"1 4 open 2 42200000000 4000000000 {ANY} - -", "1 5 price 500000000",
         )
-        grown = 4220000000 * ONE // 42200000000
-        market.sum_debt = market.troves[2]._replace().mark_debt + SUM_MOST - grown + 1
-        market.troves = {account: row._replace(mark_debt=market.sum_debt) for account, row in market.troves.items()}
-        market.order = sorted((row.key, account) for account, row in market.troves.items())
-        self.assertEqual(answer(market, "1 6 liquidate 3 1"), f"no 52 {SUM_MOST + 1}")
-        market.sum_debt -= 1
-        market.troves = {account: row._replace(mark_debt=market.sum_debt) for account, row in market.troves.items()}
-        market.order = sorted((row.key, account) for account, row in market.troves.items())
-        self.assertTrue(answer(market, "1 6 liquidate 3 1").startswith("ok"))
+        start, grown = market.checkpoint(), 4220000000 * ONE // 42200000000
+        for more, reply in ((1, f"no 52 {SUM_MOST + 1}"), (0, "ok 42200000 0 0 4220000000 8397800000 0")):
+            reached = SUM_MOST - grown + more
+            troves = {account: row._replace(mark_debt=reached) for account, row in start.troves.items()}
+            market = Market.begun_with(start._replace(sum_debt=reached, troves=troves))
+            self.assertEqual(answer(market, "1 6 liquidate 3 1"), reply)
 
     def test_what_is_no_request(self) -> None:
-        for line in ("", " ", "?", "? wallet", "? wallet 01", "1 1 fund 1", "1 1 fund 1 5 ", "1 1 fund 1 +5", "1 1 fund 1 \u0661",
-                     f"1 1 fund 1 {2**64}", "1 1 fund 4294967296 1", "1 1 FUND 1 5", "1 1 fund 1 5\r", "1 1 rotate" + " " * 200):
+        for line in (
+            "", " ", "?", "? wallet", "? wallet 01", "1 1 fund 1", "1 1 fund 1 5 ", "1 1 fund 1 +5",
+            "1 1 fund 1 \u0661", f"1 1 fund 1 {2**64}", "1 1 fund 4294967296 1", "1 1 FUND 1 5", "1 1 fund 1 5\r", "1 1 rotate" + " " * 200,
+        ):
             with self.subTest(line=line):
                 self.assertRaises(NoRequest, read_request, line)
         self.assertEqual(list(run(Market(), ["1 1 fund 1 5", "1 1", "1 2 fund 1 5"])), ["ok", "bad line 2"])
@@ -176,20 +175,22 @@ class ByHand(unittest.TestCase):
 
     def test_each_refusal_has_the_values_of_its_class(self) -> None:
         market = Market()
-        for line in ("1 1 price 1", "1 1 fund 1 0", "1 1 take 1 5", "1 2 take 1 5", "1 1 close 1", f"1 1 redeem 1 1 {ANY} - -"):
-            self.assertEqual(refusals.read_refusal(answer(market, line).split(" ")).code, int(answer(market, line).split(" ")[1]))
-
-
-def read_row(*words: int) -> "object":
-    from liq.journal import DepositRow
-    return DepositRow(*words)
+        for line, refusal in (
+            ("1 1 price 1", refusals.PriceRange(1)), ("1 1 fund 1 0", refusals.AmountZero()),
+            ("1 1 take 1 5", refusals.ShortCollateral(5, 0)), ("1 2 take 1 5", refusals.OutOfTurn(1)),
+            ("1 1 close 1", refusals.NoTrove(1)), (f"1 1 redeem 1 1 {ANY} - -", refusals.Bootstrap(0, 20160)),
+        ):
+            found = refusals.read_refusal(answer(market, line).split(" "))
+            self.assertEqual((type(found), found.values), (type(refusal), refusal.values))
 
 
 class OfBytes(InFolder):
     """Files that the model writes, read by `liq.journal`."""
 
     def test_both_versions_and_a_rotation(self) -> None:
-        lines = ["1 1 fund 1 9000000000", f"1 2 open 1 9000000000 4000000000 {ANY} 5 -", "1 3 provide 1 7", "2 1 advance 9"]
+        lines = [
+            "1 1 fund 1 9000000000", f"1 2 open 1 9000000000 4000000000 {ANY} 5 -", "1 3 provide 1 7", "2 1 advance 9",
+        ]
         for version in (1, 2):
             market = Market(10**18 if version == 1 else 10**19)
             disks = Disks(market, version)
