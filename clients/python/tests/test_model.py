@@ -166,7 +166,8 @@ class ByHand(unittest.TestCase):
     def test_what_is_no_request(self) -> None:
         for line in (
             "", " ", "?", "? wallet", "? wallet 01", "1 1 fund 1", "1 1 fund 1 5 ", "1 1 fund 1 +5",
-            "1 1 fund 1 \u0661", f"1 1 fund 1 {2**64}", "1 1 fund 4294967296 1", "1 1 FUND 1 5", "1 1 fund 1 5\r", "1 1 rotate" + " " * 200,
+            "1 1 fund 1 \u0661", f"1 1 fund 1 {2**64}", "1 1 fund 4294967296 1", "1 1 FUND 1 5",
+            "1 1 fund 1 5\r", "1 1 rotate" + " " * 200,
         ):
             with self.subTest(line=line):
                 self.assertRaises(NoRequest, read_request, line)
