@@ -106,6 +106,11 @@ class Forged(OfForge):
             self.assertEqual(found.clients[2], KeptReply(last=1, verb="advance", values=(5, 0, 0, 0, 0, 0)))
             self.assertEqual(found.clients[3].values[0], 2)
 
+    def test_a_fee_notes_its_minute(self) -> None:
+        opened = f"1 2 open 1 9000000000 4000000000 {10**18} - -"
+        found = self.forge("2", "1 1 fund 1 9000000000", "2 1 advance 5", opened, "2 2 rotate").current.checkpoint
+        self.assertEqual((found.minute, found.fee_minute, found.fee_lusd), (5, 5, 20000000))
+
     def test_what_stands_behind_the_records_has_no_meaning(self) -> None:
         self.forge("2", *LINES)
         file = self.folder / "left.liq"

@@ -8,12 +8,12 @@ from fractions import Fraction
 from typing import Iterator, List, Tuple
 
 from liq import Journal, refusals
-from liq.journal import DepositRow, KeptReply
+from liq.journal import DamagedFile, DepositRow, KeptReply
 from liq.model import Disks, Fee, Market, NoRequest, Offset, Own, answer, market_on, read_request, run
 from liq.model.amounts import NUMBER_MOST, ONE, SUM_MOST
 from liq.model.beside import exact_fees, exact_rewards, rewards_text, staking_text
 from liq.model.disks import checkpoint_bytes
-from liq.model.owed import audit_text, exact_shares
+from liq.model.owed import audit_text, depositors, exact_shares
 from liq.model.pool import Place, gain_by, place_after
 from liq.model.rate import borrow_rate, decayed, power_of, risen
 from liq.model.told import follow_text, gen_text, report_text, state_text
@@ -110,8 +110,9 @@ class ByHand(unittest.TestCase):
     """Values that were worked out by hand."""
 
     def test_the_base_rate(self) -> None:
-        # 999037758833783000 squared is 998076443575627962.57..: to the nearest, and not down
+        # the square ends with ..962.65 and that times the base with ..034.95: to the nearest, and not down
         self.assertEqual(power_of(999037758833783000, 2), 998076443575627963)
+        self.assertEqual(power_of(999037758833783000, 3), 997116053334588035)
         self.assertEqual([power_of(999037758833783000, minutes) for minutes in (0, 1)], [ONE, 999037758833783000])
         self.assertEqual(decayed(ONE, 10**12), 0)
         self.assertEqual((decayed(ONE, 720) + 5 * 10**12) // 10**13, 50000)  # it halves in 12 hours
@@ -131,6 +132,15 @@ class ByHand(unittest.TestCase):
         deposit = DepositRow(3, ONE, 0, 0, 0)
         sums = {(0, 0): ONE // 2, (0, 1): ONE * 10**9 // 2, (0, 4): ONE * 10**36, (1, 1): ONE}
         self.assertEqual(gain_by(deposit, Place(ONE, 5, 0), 7, sums), 1 + 1)
+
+    def test_the_lower_number_stops_at_0(self) -> None:
+        """10 of 16, of which 4 are taken twice: 7.5 and 5 are left, of which the lower number has 7 and 4."""
+        events = [Own(1, 0, 1, 10, 0, 0, 10), Own(2, 0, 2, 6, 0, 0, 6), Offset(3, 0, 4, 0, 16), Offset(4, 0, 4, 0, 12)]
+        one = depositors(events)[1]
+        self.assertEqual((one.low, one.high, one.weight), (4, 6, 20))
+        one = depositors([*events, Own(5, 0, 1, 0, 5, 0, 0)])[1]
+        self.assertEqual((one.low, one.high), (0, 1))
+        self.assertEqual(exact_shares(events).share(1).balance, 5)
 
     def test_a_ratio_of_just_the_whole_and_just_110(self) -> None:
         """Collateral of as many gwei as the debt has millionths is worth it at 1,000 LUSD for one ether."""
@@ -209,6 +219,18 @@ class OfBytes(InFolder):
             self.assertEqual(answer(before, "3 1 rotate"), "ok 2")
             self.assertEqual(before.checkpoint(), journal.current.checkpoint)
             self.assertEqual(len(checkpoint_bytes(before.checkpoint())), 288 + 20 + 60 + 60 + 3 * 61)
+
+
+    def test_a_record_that_comes_again(self) -> None:
+        market = Market()
+        disks = Disks(market)
+        for line in ("1 1 fund 1 5", "1 1 fund 1 5"):
+            answer(market, line)
+            disks.write(market, read_request(line))
+        (self.folder / "left.liq").write_bytes(disks.sides[0])
+        with self.assertRaises(DamagedFile) as damaged:
+            market_on(Journal(self.folder).current)
+        self.assertEqual(damaged.exception.record, 2)
 
 
 class OverTheProgram(OverProgram):

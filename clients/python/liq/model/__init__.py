@@ -1,6 +1,7 @@
 """The rules a second time: a model of liq in Python, written from the pages of docs/ alone.
 
-Each module has the name of a heading of docs/RULES.md. `Market` is the state, and `answer` gives the reply to a line:
+The modules have the names of the headings of docs/RULES.md; `disks` and `told` are docs/FORMATS.md, and `beside` has
+stakers and reward units. `Market` is the state, and `answer` gives the reply to a line:
 
     market = Market()
     answer(market, "1 1 fund 1 10000000000")    # "ok"

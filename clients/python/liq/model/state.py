@@ -81,7 +81,7 @@ class Market:
 
     @classmethod
     def begun_with(cls, checkpoint: Checkpoint) -> "Market":
-        """The market that a checkpoint is of."""
+        """The market that a checkpoint is of, which is taken to be sound."""
         market = cls(LIMIT if checkpoint.version == 2 else LIMIT_OF_VERSION_1)
         for name in WORDS:
             setattr(market, name, getattr(checkpoint, name))

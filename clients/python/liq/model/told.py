@@ -3,10 +3,10 @@ in the order of its history."""
 import json
 from typing import Iterator, List
 
-from ..journal import HEADER_BYTES, LIMITS, RECORD_BYTES, Command, Disk, read_command
+from ..journal import HEADER_BYTES, LIMITS, RECORD_BYTES, Command, DamagedFile, Disk, read_command
 from .amounts import ONE
 from .pool import position
-from .requests import SYSTEM, carry_out, pools, reply_to, system
+from .requests import SYSTEM, carry_out, is_repeated, pools, reply_to, system
 from .state import Market, Offset
 from .troves import entire
 
@@ -14,11 +14,12 @@ GENERATED_ACCOUNTS = 50
 
 
 def market_on(disk: Disk, keeps_events: bool = False) -> Market:
-    """The market that stands on a file. Raises what refuses a record."""
+    """The market that stands on a file. Raises DamagedFile at a record that the rules refuse, or that comes again."""
     market = Market.begun_with(disk.checkpoint) if disk.checkpoint else Market(LIMITS[disk.version])
     market.events = [] if keeps_events else None
-    for command in disk.commands:
-        carry_out(market, command)
+    for index, command in enumerate(disk.commands, 1):
+        if is_repeated(market, command) or not reply_to(market, command).startswith("ok"):
+            raise DamagedFile(disk.path, index, "the rules refuse it")
     return market
 
 
