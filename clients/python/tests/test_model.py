@@ -13,7 +13,7 @@ from liq.model import Disks, Fee, Market, NoRequest, Offset, Own, answer, market
 from liq.model.amounts import NUMBER_MOST, ONE, SUM_MOST
 from liq.model.beside import exact_fees, exact_rewards, rewards_text, staking_text
 from liq.model.disks import checkpoint_bytes
-from liq.model.owed import audit_text, depositors, exact_shares
+from liq.model.owed import audit_limit, audit_text, depositors, exact_shares
 from liq.model.pool import Place, gain_by, place_after
 from liq.model.rate import borrow_rate, decayed, power_of, risen
 from liq.model.told import follow_text, gen_text, report_text, state_text
@@ -141,6 +141,14 @@ class ByHand(unittest.TestCase):
         one = depositors([*events, Own(5, 0, 1, 0, 5, 0, 0)])[1]
         self.assertEqual((one.low, one.high), (0, 1))
         self.assertEqual(exact_shares(events).share(1).balance, 5)
+
+    def test_the_limits_of_an_audit(self) -> None:
+        """Gwei are told as of the first offset that passes the limit; depositors all."""
+        offsets = [Offset(1, 0, 1, coll * 10**18, 9) for coll in (6, 4, 1, 5)]
+        self.assertEqual((audit_limit(offsets[:2]), audit_limit(offsets)), (0, 11 * 10**18))
+        owners = [Own(1, 0, account, 1, 0, 0, 1) for account in range(1002)]
+        self.assertEqual((audit_limit(owners[:1000]), audit_limit(owners)), (0, 1002))
+        self.assertEqual(audit_limit([*owners, *offsets]), 11 * 10**18)
 
     def test_a_ratio_of_just_the_whole_and_just_110(self) -> None:
         """Collateral of as many gwei as the debt has millionths is worth it at 1,000 LUSD for one ether."""

@@ -111,12 +111,8 @@ def exact_fees(events: Iterable[Event], records: int, lines: Iterable[str]) -> D
 
 def issued(minute: int) -> int:
     """The units that were issued up to a minute: 30,000 in each one of the first year, then half as many a year."""
-    units = year = 0
-    while minute > 0 and UNITS_A_MINUTE >> year:
-        units += min(minute, YEAR) * (UNITS_A_MINUTE >> year)
-        minute -= YEAR
-        year += 1
-    return units
+    years = range(UNITS_A_MINUTE.bit_length())
+    return sum(min(max(0, minute - year * YEAR), YEAR) * (UNITS_A_MINUTE >> year) for year in years)
 
 
 class Earner:

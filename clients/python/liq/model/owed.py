@@ -1,4 +1,5 @@
 """What is owed: each depositor beside the plain ledger, in whole numbers around it and in exact fractions."""
+from itertools import accumulate
 from typing import Dict, Iterable, List
 
 from ..journal import DepositRow
@@ -59,11 +60,13 @@ def depositors(events: Iterable[Event]) -> Dict[int, Depositor]:
 
 
 def audit_limit(events: Iterable[Event]) -> int:
-    """The first number that is above a limit of `audit`: gwei of all offsets, offsets, depositors; 0 where none is."""
+    """The first number that is above a limit of `audit`: what offsets brought up to one that passes it, in gwei, how
+    many they are, how many depositors; 0 where none is."""
     offsets = [event.coll for event in events if isinstance(event, Offset)]
     accounts = {event.account for event in events if isinstance(event, Own)}
-    limited = ((sum(offsets), OFFSET_COLL_MOST), (len(offsets), OFFSETS_MOST), (len(accounts), DEPOSITORS_MOST))
-    return next((found for found, most in limited if found > most), 0)
+    passed = [reached for reached in accumulate(offsets) if reached > OFFSET_COLL_MOST][:1]
+    counted = ((len(offsets), OFFSETS_MOST), (len(accounts), DEPOSITORS_MOST))
+    return (passed + [found for found, most in counted if found > most] + [0])[0]
 
 
 def audit_text(market: Market) -> List[str]:
