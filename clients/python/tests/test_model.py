@@ -81,7 +81,7 @@ class OfPages(unittest.TestCase):
             "ok", "ok", "no 43 4 3", "no 44 1 2 2", "1 3 0 8571428 2", "2 4 0 11428571 2", "unshared 0 0",
         ])
         self.assertEqual(exact_fees(fees, 2, lines), {1: [0, Fraction(60000000, 7)], 2: [0, Fraction(80000000, 7)]})
-        self.assertRaises(NoRequest, staking_text, fees, 2, ["0 1 stake 03"])
+        self.assertRaises(NoRequest, staking_text, fees, 2, ["9 1 stake 03"])
 
     def test_reward_units(self) -> None:
         market = Market()

@@ -2,12 +2,12 @@
 from fractions import Fraction
 from typing import Any, Callable, Dict, Iterable, List, Tuple
 
-from ..journal import NO_HINT, DepositRow
+from ..journal import DepositRow
 from ..refusals import AmountLimit, AmountZero, OutOfPlace, Refusal, ShortStake, TagRate, TagTwice
 from .amounts import ONE, STEP, part_of, refuse, rounded_up
 from .owed import weight_of
 from .pool import Place, gain_by, place_after
-from .requests import check_accounts, read_number, read_words, refusal_text
+from .requests import check_accounts, read_words, refusal_text
 from .state import Event, Fee, Market, Offset, Own
 
 STAKED_MOST = 10**18
@@ -71,14 +71,13 @@ class Stakers:
         """The replies to lines beside these events of so many records. Raises NoRequest, of the first that is none."""
         fees = [event for event in events if isinstance(event, Fee)]
         told, least = [], 0
-        for at, account, verb, amount in [read_words(line, 2, "stake", "unstake") for line in lines]:
-            where = read_number(at)
+        for at, account, verb, amount in [read_words(line, "vawv", "stake", "unstake") for line in lines]:
             try:
-                refuse(not least <= where <= records, OutOfPlace, where, least, records)
-                least = where
+                refuse(not least <= at <= records, OutOfPlace, at, least, records)
+                least = at
                 while fees and fees[0].record <= least:
                     self.share(fees.pop(0))
-                self.change(read_number(account, NO_HINT), read_number(amount), verb == "unstake")
+                self.change(account, amount, verb == "unstake")
                 told.append("ok")
             except Refusal as refusal:
                 told.append(refusal_text(refusal))
@@ -173,8 +172,7 @@ def rewards_text(market: Market, lines: Iterable[str]) -> List[str]:
     """What `rewards` writes, for a market whose events were kept since its beginning. Raises NoRequest."""
     told, earners = [], Earners()
     tags: Dict[int, Tuple[int, int]] = {}
-    for words in [read_words(line, 0, "tag") for line in lines]:
-        account, front, rate = read_number(words[1], NO_HINT), read_number(words[2], NO_HINT), read_number(words[3])
+    for _, account, front, rate in [read_words(line, "waav", "tag") for line in lines]:
         try:
             check_accounts((account, front))
             refuse(rate > ONE, TagRate, rate, ONE)

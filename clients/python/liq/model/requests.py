@@ -1,6 +1,6 @@
 """Requests: the grammar of lines, the step of the rules, and the text of a reply."""
 import re
-from typing import Callable, Dict, Iterable, Iterator, List, NamedTuple, Tuple, Union
+from typing import Any, Callable, Dict, Iterable, Iterator, List, NamedTuple, Tuple, Union
 
 from ..journal import CHECKPOINT_BYTES_MOST, NO_HINT, VERBS, Command, KeptReply
 from ..refusals import (
@@ -43,12 +43,13 @@ def read_number(word: str, most: int = NUMBER_MOST) -> int:
     return int(word)
 
 
-def read_words(line: str, at: int, *verbs: str) -> List[str]:
-    """The four words of a line, of which one is such a verb. Raises NoRequest."""
+def read_words(line: str, shape: str, *verbs: str) -> List[Any]:
+    """A line's words by a shape: v for a number, a for an account, w for one of the verbs. Raises NoRequest."""
     words = line.split(" ")
-    if len(line) > LINE_BYTES_MOST or len(words) != 4 or words[at] not in verbs:
+    if len(line) > LINE_BYTES_MOST or len(words) != len(shape) or words[shape.index("w")] not in verbs:
         raise NoRequest(line)
-    return words
+    most = {"v": NUMBER_MOST, "a": NO_HINT}
+    return [word if letter == "w" else read_number(word, most[letter]) for letter, word in zip(shape, words)]
 
 
 def read_request(line: str) -> Union[Command, Query]:
