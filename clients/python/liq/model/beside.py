@@ -4,6 +4,7 @@ from typing import Any, Callable, Dict, Iterable, List, Tuple
 
 from ..journal import DepositRow
 from ..refusals import AmountLimit, AmountZero, OutOfPlace, Refusal, ShortStake, TagRate, TagTwice
+from ..shares import PlainLedger
 from .amounts import ONE, STEP, part_of, refuse, rounded_up
 from .owed import weight_of
 from .pool import Place, gain_by, place_after
@@ -193,22 +194,18 @@ def rewards_text(market: Market, lines: Iterable[str]) -> List[str]:
 
 
 def exact_rewards(market: Market) -> Dict[int, Fraction]:
-    """The exact share that each depositor has of all units, by exact balances."""
-    balances: Dict[int, Fraction] = {}
-    shares: Dict[int, Fraction] = {}
-    total = minute = 0
-    last = Offset(0, market.minute, 0, 0, 1)  # which takes nothing over, so that all is dealt with up to now
+    """The exact share that each depositor has of all units: by the plain ledger, in which a sharing gives as an offset
+    does that takes nothing over."""
+    ledger, total, minute = PlainLedger(), 0, 0
+    last = Offset(0, market.minute, 0, 0, 1)  # so that what is due by now is dealt with
     for event in [*(event for event in market.events or [] if not isinstance(event, Fee)), last]:
         due, minute = issued(event.minute) - issued(minute), event.minute
-        for account, balance in balances.items():
-            if due and total >= SHARED_LEAST:
-                shares[account] += due * balance / total
-            if isinstance(event, Offset):
-                balances[account] = balance * (event.total - event.debt) / event.total
+        if due and total >= SHARED_LEAST:
+            ledger.offset(0, due, total)
         if isinstance(event, Own):
-            balances[event.account] = balances.get(event.account, Fraction(0)) + event.put - event.paid
-            shares.setdefault(event.account, Fraction(0))
+            ledger.change(event.account, event.put, event.paid)
             total += event.put - event.paid
         else:
+            ledger.offset(event.debt, 0, event.total)
             total -= event.debt
-    return shares
+    return {account: ledger.share(account).gain for account in sorted(ledger.balances)}
