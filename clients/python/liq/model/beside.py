@@ -1,4 +1,5 @@
 """Accounts beside the protocol, which move nothing of it: stakers, and reward units."""
+from collections import deque
 from fractions import Fraction
 from typing import Any, Callable, Dict, Iterable, List, Tuple
 
@@ -70,14 +71,14 @@ class Stakers:
 
     def answer(self, events: Iterable[Event], records: int, lines: Iterable[str]) -> List[str]:
         """The replies to lines beside these events of so many records. Raises NoRequest, of the first that is none."""
-        fees = [event for event in events if isinstance(event, Fee)]
+        fees = deque(event for event in events if isinstance(event, Fee))
         told, least = [], 0
         for at, account, verb, amount in [read_words(line, "vawv", "stake", "unstake") for line in lines]:
             try:
                 refuse(not least <= at <= records, OutOfPlace, at, least, records)
                 least = at
                 while fees and fees[0].record <= least:
-                    self.share(fees.pop(0))
+                    self.share(fees.popleft())
                 self.change(account, amount, verb == "unstake")
                 told.append("ok")
             except Refusal as refusal:
