@@ -690,15 +690,21 @@ def held(folder: Folder) -> Iterator[None]:
 
 
 def guard(folder: Folder, note: Optional[Folder] = None) -> List[Line]:
-    """What is said of a market. A note is compared, and written anew where nothing is found."""
+    """What is said of a market. A note is compared, and written anew where nothing is found. It is read before the
+    look, since another guard may write a newer one meanwhile."""
+    if note is None:
+        return look(folder).lines
+    try:
+        noted = read_note(note)
+    except (Unfit, OSError) as fault:
+        return look(folder).lines + [Line(f"the note: {fault}")]
     found = look(folder)
-    return found.lines + (list(compared(found, note)) if note is not None else [])
+    return found.lines + list(compared(found, note, noted))
 
 
-def compared(found: Look, path: Folder) -> Iterator[Line]:
+def compared(found: Look, path: Folder, note: Optional[Note]) -> Iterator[Line]:
     """What is said of a market beside a note, which is written anew where nothing is found."""
     try:
-        note = read_note(path)
         why = behind(found, note) if note else None
         if why:
             yield Line(why)

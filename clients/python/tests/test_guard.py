@@ -336,6 +336,23 @@ class Notes(Looking):
         self.assertIn("the note has generation 1 with 6 records, which later rotations wrote over", said)
         self.assertEqual(Path(self.note).read_text().splitlines()[1:3], ["generation 3", "records 0"])
 
+    def test_a_note_that_another_guard_renews_meanwhile(self) -> None:
+        """The note is older than the look, so what was added since is no finding."""
+        self.put(forged(FUNDS[:4]))
+        self.run_guard("--note", self.note)
+
+        def slowly(folder: Path) -> guard.Look:
+            found = look(folder)
+            guard.write_note(self.note, newer)
+            return found
+
+        look = guard.look
+        found = look(self.folder)
+        newer = guard.Note(1, 6, "0" * 64)
+        self.assertIsNotNone(guard.behind(found, newer))
+        with mock.patch.object(guard, "look", slowly):
+            self.assertEqual(guard.guard(self.folder, self.note), [])
+
     def test_a_last_gate_that_rotted_stands_behind_the_note(self) -> None:
         self.put(forged(FUNDS))
         self.run_guard("--note", self.note)
