@@ -33,7 +33,7 @@ from typing import BinaryIO, Dict, Iterator, List, NamedTuple, Optional, Set, Tu
 from .backup import DAY, FRONT_BYTES, LARGEST, fronts, open_copy
 from .ends import End, Folder, TooMuch, Unfit
 from .journal import CHECKPOINT_BYTES_MOST, HEADER_BYTES, KINDS, LIMITS, PIECE_BYTES, RECORD_BYTES, SIDES
-from .journal import copy_file, files_of, open_file, read_checkpoint, read_command
+from .journal import DamagedFile, copy_file, files_of, open_file, read_checkpoint, read_command
 from .scratch import bounded, scratch
 
 RECORDS_READ = 1_000_001  # the gate behind a full journal's last record is that of this one, and liq reads no further
@@ -142,9 +142,12 @@ class Seen(NamedTuple):
         return self.header.begin + RECORD_BYTES * (record - 1)
 
     def body_of(self, record: int) -> bytes:
-        """A record's 96 bytes and its digest."""
+        """A record's 96 bytes and its digest. Raises `DamagedFile` where they are gone since the look."""
         with open_file(self.path) as file:
-            return read_at(file, self.gate_of(record) + 1, RECORD_BYTES - 1)
+            body = read_at(file, self.gate_of(record) + 1, RECORD_BYTES - 1)
+        if len(body) < RECORD_BYTES - 1:
+            raise DamagedFile(self.path, record, "it was cut short during the look")
+        return body
 
     def digest_of(self, record: int) -> bytes:
         """A record's digest, or the header's where `record` is 0."""
