@@ -367,7 +367,10 @@ def said_of_shut(seen: Seen, current: Optional[Seen]) -> Iterator[Line]:
         return
     counts, generation = generation_of(current), seen.header.generation
     stands = f"{seen.name}: behind its first byte, {seen.gate}, stands generation {generation} whole"
-    if header_rotted(seen, counts):
+    if header_rotted(seen, counts) and generation < counts:
+        mends = "see --mend" if seen.gate else "this older file may be moved away"
+        yield Line(f"{stands}. No stop leaves that. Generation {counts} counts and lacks nothing: {mends}")
+    elif header_rotted(seen, counts):
         beside = f"go on from generation {counts}" if counts else "begin a new market"
         yield Line(
             f"{stands}, with {counted(seen.whole, 'record')}. No stop leaves that, and liq would {beside}: {MEND}"

@@ -157,7 +157,7 @@ class Gates(Looking):
         self.assertEqual((found, len(stops)), ([], 1))
         self.assertIn("generation 1 whole. A stop as a rotation begins leaves that. Generation 2", stops[0])
         self.turn("left", 0, 7)
-        self.says("left.liq: behind its first byte, 7, stands generation 1 whole, with 6 records. No stop")
+        self.says("left.liq: behind its first byte, 7, stands generation 1 whole. No stop leaves that. Generation 2")
 
     def test_a_gate_of_the_older_generation_s_records(self) -> None:
         self.put(forged([*FUNDS, "2 1 rotate", "2 2 fund 1 1"]))
@@ -175,7 +175,7 @@ class Gates(Looking):
         self.put({"left": first["left"], "right": b"\0" + second["right"][1:]})
         self.says("right.liq: behind its first byte, 0, stands generation 4 whole, with 0 records. No stop")
         self.put({"left": b"\0" + first["left"][1:], "right": second["right"]})
-        self.says("left.liq: behind its first byte, 0, stands generation 1 whole, with 6 records. No stop")
+        self.says("left.liq: behind its first byte, 0, stands generation 1 whole. No stop leaves that. Generation 4")
 
     def test_bytes_of_an_older_generation_have_no_meaning(self) -> None:
         """A longer journal stood in the file before, and its records are at places of their own or at the same ones."""
