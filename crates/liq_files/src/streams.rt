@@ -19,6 +19,14 @@ pub fn errors<F: Files>(files: &F) -> io::Result<FileId> {
     behind(files, "/proc/self/fd/2")
 }
 
+/// Whether a regular file is behind standard output, or may be.
+pub fn is_output_regular<F: Files>(files: &F) -> bool {
+    match fs::metadata(files, "/proc/self/fd/1") {
+        Ok(told) => told.is_file(),
+        Err(_) => true,
+    }
+}
+
 fn behind<F: Files>(files: &F, path: &str) -> io::Result<FileId> {
     Ok(Found::of(&fs::metadata(files, path)?).id)
 }

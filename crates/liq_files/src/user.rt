@@ -1,18 +1,29 @@
 // Who runs the program.
 
-use std::fs::{self, Files};
+use std::fs::{File, Files};
+use std::io::Read;
 
-/// The number of the effective user, by which the system judges what the program may open; none where the system does not say it.
-pub fn effective_user<R: Files + AllocGlobal>(rt: &R) -> Option<u32> {
-    let status = fs::read_to_string(rt, "/proc/self/status").ok()?;
-    effective_user_in(&status)
+// The front of a process's status, in which the line stands: some ten short lines.
+const FRONT_BYTES: usize = 4096;
+
+/// The number of the effective user, by which the system judges what the program may open; none where the system does not say it. No
+/// memory is taken for it: want of memory is no fault of a disk.
+pub fn effective_user<F: Files<File = File>>(files: &F) -> Option<u32> {
+    let mut status = [0; FRONT_BYTES];
+    let count = File::open(files, "/proc/self/status")
+        .ok()?
+        .read(&mut status)
+        .ok()?;
+    effective_user_in(&status[..count])
 }
 
-// In a process's status the line `Uid:` has four numbers: the real user, the effective one, the saved one and that of files.
-fn effective_user_in(status: &str) -> Option<u32> {
+// In a process's status the line `Uid:` has four numbers: the real user, the effective one, the saved one and that of files. The
+// first line has the program's name, cut off behind 15 bytes: so it need not be UTF-8.
+fn effective_user_in(status: &[u8]) -> Option<u32> {
     let users = status
-        .split('\n')
-        .find_map(|line| line.strip_prefix("Uid:"))?;
+        .split(|byte| *byte == b'\n')
+        .find_map(|line| line.strip_prefix(b"Uid:"))?;
+    let users = str::from_utf8(users).ok()?;
     users.split_whitespace().nth(1)?.parse().ok()
 }
 
@@ -24,11 +35,11 @@ mod tests {
 
     #[test]
     fn the_effective_user_is_the_second(rt: HostRuntime) -> Result<(), Fail> {
-        let status = "Name:\tUid: 7\nPid:\t12\nUid:\t1000\t0\t2\t3\nGid:\t4\t5\t6\t7\n";
+        let status = b"Name:\tUid: \xc3\nPid:\t12\nUid:\t1000\t0\t2\t3\nGid:\t4\t5\t6\t7\n";
         assert_eq!(rt; effective_user_in(status), Some(0));
-        assert_eq!(rt; effective_user_in("Uid:\t1000\n"), None);
-        assert_eq!(rt; effective_user_in("Uid:\t1000\t4294967296\n"), None);
-        assert_eq!(rt; effective_user_in("Name:\tliq\n"), None);
+        assert_eq!(rt; effective_user_in(b"Uid:\t1000\n"), None);
+        assert_eq!(rt; effective_user_in(b"Uid:\t1000\t4294967296\n"), None);
+        assert_eq!(rt; effective_user_in(b"Name:\tliq\n"), None);
         Ok(())
     }
 }

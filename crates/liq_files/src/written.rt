@@ -5,7 +5,7 @@ ghost use Rattle.liq_files.specs.Taking.{MayBe};
 
 use crate::found::{FileId, Found};
 use crate::names::{LEFT, RIGHT};
-use crate::streams::output;
+use crate::streams::{is_output_regular, output};
 use std::fs::{self, Files};
 use std::io::{self, ErrorKind, Write};
 
@@ -28,7 +28,8 @@ pub fn standard_output<F: Files, W: Write + Drop>(files: &F, writer: W) -> Writt
 fn is_output<F: Files>(files: &F, name: &str) -> bool {
     match fs::metadata(files, name) {
         Ok(told) => may_be(&output(files), Found::of(&told).id),
-        Err(_) => false,
+        // Where the name may not be looked up, as in a folder of somebody else's, any regular file may be the one.
+        Err(fault) => fault.kind() == ErrorKind::PermissionDenied && is_output_regular(files),
     }
 }
 
